@@ -1,0 +1,51 @@
+-- What a refusal tells: where, of which name, and in which words.
+use Rattle.std.specs.Prelude.{◌≡◌, ℕ, List, [], ◌++◌, Option, Some, None, String, string_bytes, codes}
+use Rattle.std.specs.declared.alloc.Global.{Global}
+use Rattle.wit_tree.specs.declared.span.Span.{Span}
+use Rattle.wit_tree.specs.declared.error.ParseErrorKind.{ParseErrorKind}
+use Rattle.wit_tree.specs.declared.error.ParseErrorKind.TheVariants.{Syntax, ItemNotFound, TypeCycle, OutOfMemory}
+use Rattle.wit_tree.specs.declared.error.ParseError.{ParseError}
+
+-- where it is
+abbrev pub span_of : ParseErrorKind → Span
+span_of (Syntax span message) = span
+span_of (ItemNotFound span name kind hint) = span
+span_of (TypeCycle span name kind) = span
+span_of OutOfMemory = record { start = 0; end = 0 }
+
+-- the name that it is about, where its kind has one
+abbrev pub name_of : ParseErrorKind → Option (List ℕ)
+name_of (Syntax span message) = None
+name_of (ItemNotFound span name kind hint) = Some (string_bytes name)
+name_of (TypeCycle span name kind) = Some (string_bytes name)
+name_of OutOfMemory = None
+
+-- memory was wanted
+pub record IsWantOfMemory (e : ParseError) : Type 0 where
+  pub kind : e.kind ≡ OutOfMemory
+  pub rule : e.rule ≡ 45
+
+-- nothing of this sort has the name written at the span
+abbrev pub IsItemNotFound : Span → List ℕ → List ℕ → ParseErrorKind → Type 0
+IsItemNotFound at name sort (ItemNotFound s n k h) = (s ≡ at) × (string_bytes n ≡ name) × (string_bytes k ≡ sort)
+IsItemNotFound at name sort (Syntax s m) = ⊥
+IsItemNotFound at name sort (TypeCycle s n k) = ⊥
+IsItemNotFound at name sort OutOfMemory = ⊥
+
+-- what the name written at the span stands for depends on itself
+abbrev pub IsTypeCycle : Span → List ℕ → List ℕ → ParseErrorKind → Type 0
+IsTypeCycle at name sort (TypeCycle s n k) = (s ≡ at) × (string_bytes n ≡ name) × (string_bytes k ≡ sort)
+IsTypeCycle at name sort (Syntax s m) = ⊥
+IsTypeCycle at name sort (ItemNotFound s n k h) = ⊥
+IsTypeCycle at name sort OutOfMemory = ⊥
+
+abbrev pub hint_text : Option (String Global) → List ℕ
+hint_text None = []
+hint_text (Some hint) = codes "; " ++ string_bytes hint
+
+-- the words
+abbrev pub kind_text : ParseErrorKind → List ℕ
+kind_text (Syntax span message) = string_bytes message
+kind_text (ItemNotFound span name kind hint) = string_bytes kind ++ (codes " `" ++ (string_bytes name ++ codes "` does not exist")) ++ hint_text hint
+kind_text (TypeCycle span name kind) = string_bytes kind ++ (codes " `" ++ (string_bytes name ++ codes "` depends on itself"))
+kind_text OutOfMemory = codes "out of memory"
