@@ -1,1 +1,3 @@
+pub mod Marks
 pub mod Refusal
+pub mod Slices

@@ -1,0 +1,105 @@
+-- What was read in parts.
+use Rattle.std.proofs.Common.{◌≡◌, ℕ, ◌+◌, List, [], ◌∷◌, ◌++◌, length, ap, ◌∙◌, sym, subst, arith, refl}
+use Rattle.std.specs.List.{flat_map}
+use Rattle.std.proofs.lemmas.List.{append-nil}
+use Rattle.wit_tree.specs.declared.tree.Id.{Id}
+use Rattle.wit_tree.specs.declared.span.Span.{Span}
+use Rattle.wit_tree.specs.Marks.{Mark, named, spelled, joined}
+use Rattle.wit_tree.specs.Slices.{Rise, IsJoined, unescaped}
+use Rattle.wit_text.specs.declared.reader.Reader.{Reader}
+use Rattle.wit_text.specs.Reading.{IsRead, IsReadOn}
+use Rattle.wit_text.proofs.Rises.{rise_on, rise_sooner, rise_later, one_more, is_named, stands_at}
+
+-- one part, and then another
+pub then : {a b c : Reader} {xs ys : List Mark} → IsRead a xs b → IsRead b ys c → IsRead a (xs ++ ys) c
+then {a} {b} {c} {xs} {ys} p q =
+    let family : (s : ℕ) → Type 0 = λ s. Rise a.source.now s (s + b.token.start) ys (s + c.token.start) in
+    let second : Rise a.source.now b.offset (b.offset + b.token.start) ys (b.offset + c.token.start) =
+    rw (sym p.source) q.rise in
+    record {
+      source = q.source ∙ p.source;
+      offset = q.offset ∙ p.offset;
+      onward = omega arith;
+      past = omega arith;
+      rise = rise_on a.source.now a.offset _ _ _ xs ys p.rise (subst family p.offset second);
+    }
+
+pub on : {a b : Reader} {xs : List Mark} → IsRead a xs b → IsReadOn a xs b
+on p = record { source = p.source; offset = p.offset; rise = p.rise }
+
+pub nothing_on : (a : Reader) → IsReadOn a [] a
+nothing_on a = record { source = refl; offset = refl; rise = omega arith }
+
+pub then_on : {a b c : Reader} {xs ys : List Mark} → IsReadOn a xs b → IsReadOn b ys c → IsReadOn a (xs ++ ys) c
+then_on {a} {b} {c} {xs} {ys} p q =
+    let family : (s : ℕ) → Type 0 = λ s. Rise a.source.now s (s + b.token.start) ys (s + c.token.start) in
+    let second : Rise a.source.now b.offset (b.offset + b.token.start) ys (b.offset + c.token.start) =
+    rw (sym p.source) q.rise in
+    record {
+      source = q.source ∙ p.source;
+      offset = q.offset ∙ p.offset;
+      rise = rise_on a.source.now a.offset _ _ _ xs ys p.rise (subst family p.offset second);
+    }
+
+-- a source whole
+pub whole : {a b c : Reader} {xs ys : List Mark} → IsReadOn a xs b → IsReadOn b ys c → Rise a.source.now a.offset a.offset (xs ++ ys) (a.offset + length a.source.now)
+whole {a} {b} {c} {xs} {ys} p q =
+    let both = then_on p q in
+    let len : length c.source.now ≡ length a.source.now = ap (λ s. length s.now) both.source in
+    let order = c.within.order in
+    let within = c.within.within in
+    rise_later a.source.now a.offset a.offset _ _ (xs ++ ys) (rise_sooner a.source.now a.offset a.offset _ _ (xs ++ ys) (omega arith) both.rise) (omega arith)
+
+pub more_on : {A : Type 0} {a b c : Reader} (f : A → List Mark) (xs ys : List A) (x : A) → ys ≡ xs ++ x ∷ [] → IsReadOn a (flat_map f xs) b → IsRead b (f x) c → IsReadOn a (flat_map f ys) c
+more_on {A} {a} {b} {c} f xs ys x e p q = subst (λ marks. IsReadOn a marks c) (sym (ap (flat_map f) e ∙ one_more f xs x)) (then_on p (on q))
+
+-- with a part that has no marks before it, or behind it
+pub skip : {a b c : Reader} {xs : List Mark} → IsRead a [] b → IsRead b xs c → IsRead a xs c
+skip p q = then p q
+
+pub close : {a b c : Reader} {xs : List Mark} → IsRead a xs b → IsRead b [] c → IsRead a xs c
+close {a} {b} {c} {xs} p q = subst (λ marks. IsRead a marks c) (append-nil xs) (then p q)
+
+pub same_marks : {a b : Reader} {xs ys : List Mark} → ys ≡ xs → IsRead a xs b → IsRead a ys b
+same_marks {a} {b} e p = subst (λ marks. IsRead a marks b) (sym e) p
+
+-- one element more of a list
+pub more : {A : Type 0} {a b c : Reader} (f : A → List Mark) (xs ys : List A) (x : A) → ys ≡ xs ++ x ∷ [] → IsRead a (flat_map f xs) b → IsRead b (f x) c → IsRead a (flat_map f ys) c
+more f xs ys x e p q = same_marks (ap (flat_map f) e ∙ one_more f xs x) (then p q)
+
+-- a span over two names
+pub join : {a b : Reader} {xs : List Mark} (span first last : Span) → IsJoined span first last → IsRead a xs b → IsRead a (joined span first last ∷ xs) b
+join span first last h p = record {
+  source = p.source;
+  offset = p.offset;
+  onward = p.onward;
+  past = p.past;
+  rise = (h, p.rise);
+}
+
+-- the name that the token is
+pub name_read : {a b : Reader} (id : Id) (span : Span) (text : List ℕ) → IsRead a [] b → id.span ≡ span → span.start ≡ a.offset + a.token.start → span.end ≡ a.offset + a.token.end →
+    id.name.now ≡ text → text ≡ unescaped a.token.text.now → IsRead a (named id ∷ []) b
+name_read {a} {b} id span text p same first last name whole =
+    let start : id.span.start ≡ a.offset + a.token.start = ap (λ (s : Span). s.start) same ∙ first in
+    let end : id.span.end ≡ a.offset + a.token.end = ap (λ (s : Span). s.end) same ∙ last in
+    let past = p.past in
+    record {
+      source = p.source;
+      offset = p.offset;
+      onward = p.onward;
+      past = p.past;
+      rise = (omega arith, is_named a.source.now a.offset id a.token.start a.token.end a.token.text.now a.within.order a.within.within a.within.text start end (name ∙ whole), omega arith);
+    }
+
+-- the word that the token is
+pub word_read : {a b : Reader} (span : Span) → IsRead a [] b → span.start ≡ a.offset + a.token.start → span.end ≡ a.offset + a.token.end → IsRead a (spelled span a.token.text.now ∷ []) b
+word_read {a} {b} span p first last =
+    let past = p.past in
+    record {
+      source = p.source;
+      offset = p.offset;
+      onward = p.onward;
+      past = p.past;
+      rise = (omega arith, stands_at a.source.now a.offset span a.token.start a.token.end a.token.text.now a.within.order a.within.within a.within.text first last, omega arith);
+    }

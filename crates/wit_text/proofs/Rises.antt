@@ -1,0 +1,55 @@
+-- Marks of parts, one after another.
+use Rattle.std.proofs.Common.{◌≡◌, ℕ, ◌+◌, ◌-◌, ◌≤◌, List, [], ◌∷◌, ◌++◌, length, ap, ◌∙◌, sym, arith}
+use Rattle.std.specs.Prelude.{slice_range}
+use Rattle.std.specs.List.{flat_map}
+use Rattle.std.proofs.lemmas.List.Concat.{flat_map-append}
+use Rattle.std.proofs.lemmas.List.{append-nil}
+use Rattle.wit_tree.specs.declared.span.Span.{Span}
+use Rattle.wit_tree.specs.declared.tree.Id.{Id}
+use Rattle.wit_tree.specs.Marks.{Mark, named, spelled, joined}
+use Rattle.wit_tree.specs.Slices.{unescaped, IsNamed, StandsAt, Rise}
+
+pub is_named : (source : List ℕ) (offset : ℕ) (id : Id) (start end : ℕ) (text : List ℕ) → start ≤ end → end ≤ length source → text ≡ slice_range source start end →
+    id.span.start ≡ offset + start → id.span.end ≡ offset + end → id.name.now ≡ unescaped text → IsNamed source offset id
+is_named source offset id start end text order within whole first last name =
+    let a : id.span.start - offset ≡ start = omega arith in
+    let b : id.span.end - offset ≡ end = omega arith in
+    record {
+      order = omega arith;
+      first = omega arith;
+      last = omega arith;
+      name = rw (a, b) (name ∙ ap unescaped whole);
+    }
+
+pub stands_at : (source : List ℕ) (offset : ℕ) (span : Span) (start end : ℕ) (text : List ℕ) → start ≤ end → end ≤ length source → text ≡ slice_range source start end →
+    span.start ≡ offset + start → span.end ≡ offset + end → StandsAt source offset span text
+stands_at source offset span start end text order within whole first last =
+    let a : span.start - offset ≡ start = omega arith in
+    let b : span.end - offset ≡ end = omega arith in
+    record {
+      order = omega arith;
+      first = omega arith;
+      last = omega arith;
+      slice = rw (a, b) (sym whole);
+    }
+
+pub rise_later : (source : List ℕ) (offset a b c : ℕ) (marks : List Mark) → Rise source offset a marks b → b ≤ c → Rise source offset a marks c
+rise_later source offset a b c [] h le = omega arith
+rise_later source offset a b c (named id ∷ rest) h le = (h.0, h.1, rise_later source offset id.span.end b c rest h.2 le)
+rise_later source offset a b c (spelled span word ∷ rest) h le = (h.0, h.1, rise_later source offset span.end b c rest h.2 le)
+rise_later source offset a b c (joined span first last ∷ rest) h le = (h.0, rise_later source offset a b c rest h.1 le)
+
+pub rise_sooner : (source : List ℕ) (offset a b c : ℕ) (marks : List Mark) → a ≤ b → Rise source offset b marks c → Rise source offset a marks c
+rise_sooner source offset a b c [] le h = omega arith
+rise_sooner source offset a b c (named id ∷ rest) le h = let low = h.0 in (omega arith, h.1, h.2)
+rise_sooner source offset a b c (spelled span word ∷ rest) le h = let low = h.0 in (omega arith, h.1, h.2)
+rise_sooner source offset a b c (joined span first last ∷ rest) le h = (h.0, rise_sooner source offset a b c rest le h.1)
+
+pub rise_on : (source : List ℕ) (offset a b c : ℕ) (xs ys : List Mark) → Rise source offset a xs b → Rise source offset b ys c → Rise source offset a (xs ++ ys) c
+rise_on source offset a b c [] ys h k = rise_sooner source offset a b c ys h k
+rise_on source offset a b c (named id ∷ xs) ys h k = (h.0, h.1, rise_on source offset id.span.end b c xs ys h.2 k)
+rise_on source offset a b c (spelled span word ∷ xs) ys h k = (h.0, h.1, rise_on source offset span.end b c xs ys h.2 k)
+rise_on source offset a b c (joined span first last ∷ xs) ys h k = (h.0, rise_on source offset a b c xs ys h.1 k)
+
+pub one_more : {A : Type 0} (f : A → List Mark) (xs : List A) (x : A) → flat_map f (xs ++ x ∷ []) ≡ flat_map f xs ++ f x
+one_more f xs x = flat_map-append f xs (x ∷ []) ∙ ap (λ marks. flat_map f xs ++ marks) (append-nil (f x))

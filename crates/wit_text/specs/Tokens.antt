@@ -1,0 +1,10 @@
+-- Tokens of a source.
+use Rattle.std.specs.Prelude.{◌≡◌, ℕ, ◌≤◌, ◌<◌, List, length, slice_range}
+use Rattle.wit_text.specs.declared.token.Token.{Token}
+
+-- a part of the source, and empty only at its end
+pub record IsToken (source : List ℕ) (t : Token) : Type 0 where
+  pub order : t.start ≤ t.end
+  pub within : t.end ≤ length source
+  pub some : 0 < t.mark → t.start < t.end
+  pub text : t.text.now ≡ slice_range source t.start t.end

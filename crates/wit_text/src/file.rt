@@ -1,0 +1,104 @@
+//! Reading a file.
+ghost use Rattle.std.specs.Prelude.{◌≡◌, ◌+◌, ◌<◌, ◌^◌, [], ◌∷◌, length, IfOk, IfErr};
+ghost use Rattle.std.specs.List.{flat_map};
+ghost use Rattle.wit_tree.specs.Marks.{interface_marks, declaration_marks, header_marks, package_marks, file_marks};
+ghost use Rattle.wit_tree.specs.Slices.{Rise};
+ghost use Rattle.wit_text.specs.Faults.{IsRefusal};
+
+use crate::reader::Reader;
+use crate::token::next_token;
+use crate::word::Word;
+use std::alloc::Global;
+use wit_tree::tree::{AstItem, DeclList, Interface, PackageFile, PackageName};
+use wit_tree::{ParseResult, Span};
+
+impl<'a> Reader<'a> {
+    ghost use Rattle.wit_text.specs.Reading.{IsRead, IsReadOn, IsRefused};
+
+    /// Reads `interface name { .. }`.
+    fn read_interface(&mut self) -> ParseResult<Interface<'a>>
+        ensures read { IfOk result (λ i. IsRead self.old (interface_marks i) self.new) }
+        ensures refused { IfErr result (λ e. IsRefused self.old e) }
+    {
+        self.expect_word(Word::Interface)?;
+        let name = self.read_id()?;
+        let items = self.read_interface_items()?;
+        Ok(Interface { name, items })
+    }
+
+    /// Reads `package name:name;`.
+    fn read_header(&mut self) -> ParseResult<PackageName<'a>>
+        ensures read { IfOk result (λ p. IsRead self.old (header_marks p) self.new) }
+        ensures refused { IfErr result (λ e. IsRefused self.old e) }
+    {
+        self.expect_word(Word::Package)?;
+        let namespace = self.read_id()?;
+        self.expect_mark(b':')?;
+        let name = self.read_id()?;
+        self.expect_mark(b';')?;
+        let span = Span {
+            start: namespace.span.start,
+            end: name.span.end,
+        };
+        Ok(PackageName {
+            span,
+            namespace,
+            name,
+        })
+    }
+
+    /// Reads the header, if there is one.
+    fn read_package_id(&mut self) -> ParseResult<Option<PackageName<'a>>>
+        ensures read { IfOk result (λ p. IsReadOn self.old (package_marks p) self.new) }
+        ensures refused { IfErr result (λ e. IsRefused self.old e) }
+    {
+        if self.word() != Some(Word::Package) {
+            return Ok(None);
+        }
+        let header = self.read_header()?;
+        Ok(Some(header))
+    }
+
+    /// Reads the declarations up to the end of the source.
+    fn read_declarations(&mut self) -> ParseResult<DeclList<'a>>
+        ensures read { IfOk result (λ list. IsReadOn self.old (flat_map declaration_marks list.items.items) self.new) }
+        ensures refused { IfErr result (λ e. IsRefused self.old e) }
+    {
+        let mut items = Vec::new(self.alloc);
+        'items: while self.token.mark != 0 {
+            let interface = self.read_interface()?;
+            items.push(AstItem::Interface(interface))?;
+        }
+        Ok(DeclList { items })
+    }
+}
+
+/// The tree of a file whose first byte has the place `offset`.
+///
+/// Its names and words are slices of the source at their spans, which rise in the order of the
+/// tree's fields; a `%` in front of a name belongs to its span alone. Spans are shifted by `offset`.
+///
+/// A file that cannot be read is refused under the number and at the place of the first fault:
+/// 46 at a character that begins no token, 47 at a token that the grammar does not allow there or a
+/// name that is no label (twice the end of the source where it ends too soon), 48 at the first two
+/// bytes of a comment without end, 49 at the first word of a type that is the hundred and first of
+/// those in one another, and 45 for want of memory.
+pub fn read_file<'a>(alloc: Global, source: &'a str, offset: u32) -> ParseResult<PackageFile<'a>>
+    requires fits { offset + length source.now < 2 ^ 32 }
+    ensures read { IfOk result (λ file. Rise source.now offset offset (file_marks file) (offset + length source.now)) }
+    ensures refused { IfErr result (λ e. IsRefusal source.now offset e) }
+{
+    let token = next_token(alloc, source, offset, 0)?;
+    let mut reader = Reader {
+        alloc,
+        source,
+        offset,
+        token,
+    };
+    let package_id = reader.read_package_id()?;
+    let decl_list = reader.read_declarations()?;
+    Ok(PackageFile {
+        package_id,
+        decl_list,
+    })
+}

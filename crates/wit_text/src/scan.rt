@@ -1,0 +1,153 @@
+//! Where the tokens of a text begin and end.
+ghost use Rattle.std.specs.Prelude.{◌≡◌, ◌+◌, ◌-◌, ◌<◌, ◌≤◌, true, length, slice_index, slice_range};
+ghost use Rattle.wit_tree.specs.Slices.{unescaped};
+
+/// A letter.
+pub fn is_letter(c: u8) -> bool
+    ensures ascii { result ≡ true → c < 128 }
+    ensures some { result ≡ true → 0 < c }
+{
+    (c >= b'a' && c <= b'z') || (c >= b'A' && c <= b'Z')
+}
+
+fn is_digit(c: u8) -> bool
+    ensures ascii { result ≡ true → c < 128 }
+    ensures some { result ≡ true → 0 < c }
+{
+    c >= b'0' && c <= b'9'
+}
+
+/// A letter, a digit or `-`.
+fn is_word_byte(c: u8) -> bool
+    ensures ascii { result ≡ true → c < 128 }
+{
+    is_letter(c) || is_digit(c) || c == b'-'
+}
+
+/// A character that is a token by itself.
+fn is_sign(c: u8) -> bool
+    ensures ascii { result ≡ true → c < 128 }
+    ensures some { result ≡ true → 0 < c }
+{
+    matches!(
+        c,
+        b'=' | b','
+            | b':'
+            | b';'
+            | b'('
+            | b')'
+            | b'{'
+            | b'}'
+            | b'<'
+            | b'>'
+            | b'.'
+            | b'/'
+            | b'@'
+            | b'_'
+    )
+}
+
+/// The end of the run of letters, digits and `-` from a place on.
+fn word_end(bytes: &[u8], from: usize) -> usize
+    requires { from ≤ length bytes.now }
+    ensures after { from ≤ result }
+    ensures within { result ≤ length bytes.now }
+    ensures ascii { from < result → slice_index bytes.now (result - 1) < 128 }
+{
+    let len = bytes.len();
+    let mut at = from;
+    while at < len {
+        if !is_word_byte(bytes[at]) {
+            return at;
+        }
+        at += 1;
+    }
+    at
+}
+
+/// The end of the digits from a place on.
+fn digits_end(bytes: &[u8], from: usize) -> usize
+    requires { from ≤ length bytes.now }
+    ensures after { from ≤ result }
+    ensures within { result ≤ length bytes.now }
+    ensures ascii { from < result → slice_index bytes.now (result - 1) < 128 }
+{
+    let len = bytes.len();
+    let mut at = from;
+    while at < len {
+        if !is_digit(bytes[at]) {
+            return at;
+        }
+        at += 1;
+    }
+    at
+}
+
+/// The end of the token at a place, or that place where no token begins.
+pub fn token_end(bytes: &[u8], start: usize) -> usize
+    requires { start < length bytes.now }
+    ensures after { start ≤ result }
+    ensures within { result ≤ length bytes.now }
+    ensures first { start < result → slice_index bytes.now start < 128 }
+    ensures last { start < result → slice_index bytes.now (result - 1) < 128 }
+{
+    let mark = bytes[start];
+    if is_letter(mark) {
+        return word_end(bytes, start);
+    }
+    if is_sign(mark) {
+        return start + 1;
+    }
+    if is_digit(mark) {
+        return digits_end(bytes, start);
+    }
+    if bytes.len() - start < 2 {
+        return start;
+    }
+    let next = bytes[start + 1];
+    if mark == b'-' && next == b'>' {
+        return start + 2;
+    }
+    if mark == b'%' && is_letter(next) {
+        return word_end(bytes, start + 1);
+    }
+    start
+}
+
+/// How many bytes the character has whose first one is `c`.
+pub fn width(c: u8) -> usize
+    ensures some { 0 < result }
+    ensures most { result ≤ 4 }
+{
+    if c < 0xc0 {
+        1
+    } else if c < 0xe0 {
+        2
+    } else if c < 0xf0 {
+        3
+    } else {
+        4
+    }
+}
+
+/// A part of a text that begins with an ASCII character, and ends before or behind one, or with the text.
+pub fn cut(text: &str, start: usize, end: usize) -> &str
+    requires order { start < end }
+    requires within { end ≤ length text.now }
+    requires first { slice_index text.now start < 128 }
+    requires last { end < length text.now → 128 ≤ slice_index text.now end → slice_index text.now (end - 1) < 128 }
+    ensures { result.now ≡ slice_range text.now start end }
+{
+    &text[start..end]
+}
+
+/// A name without a front `%`.
+pub fn without_escape(text: &str) -> &str
+    ensures { result.now ≡ unescaped text.now }
+{
+    let bytes = text.as_bytes();
+    if bytes.len() == 0 {
+        return text;
+    }
+    if bytes[0] == b'%' { &text[1..] } else { text }
+}

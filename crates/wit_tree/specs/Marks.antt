@@ -1,0 +1,74 @@
+-- What a tree takes from its text: names, words, and spans over several of them, in the order of its fields.
+use Rattle.std.specs.Prelude.{ℕ, List, [], ◌∷◌, ◌++◌, Option, Some, None, codes}
+use Rattle.std.specs.List.{flat_map}
+use Rattle.wit_tree.specs.declared.span.Span.{Span}
+use Rattle.wit_tree.specs.declared.tree.Id.{Id}
+use Rattle.wit_tree.specs.declared.tree.Field.{Field}
+use Rattle.wit_tree.specs.declared.tree.TypeBody.{TypeBody}
+use Rattle.wit_tree.specs.declared.tree.TypeBody.TheVariants.{Record, Plain}
+use Rattle.wit_tree.specs.declared.tree.TypeDef.{TypeDef}
+use Rattle.wit_tree.specs.declared.tree.InterfaceItem.{InterfaceItem}
+use Rattle.wit_tree.specs.declared.tree.InterfaceItem.TheVariants.{TypeDef as TypeDefItem}
+use Rattle.wit_tree.specs.declared.tree.Interface.{Interface}
+use Rattle.wit_tree.specs.declared.tree.AstItem.{AstItem}
+use Rattle.wit_tree.specs.declared.tree.AstItem.TheVariants.{Interface as InterfaceItem'}
+use Rattle.wit_tree.specs.declared.tree.DeclList.{DeclList}
+use Rattle.wit_tree.specs.declared.tree.PackageName.{PackageName}
+use Rattle.wit_tree.specs.declared.tree.PackageFile.{PackageFile}
+use Rattle.wit_tree.specs.declared.tree.«Type».{«Type» as Written, Bool, U8, U16, U32, U64, S8, S16, S32, S64, F32, F64, Char, String, ErrorContext, Name, List'}
+
+pub data Mark : Type 0 where
+  -- a name of the tree
+  named : (id : Id) → Mark
+  -- a word of the language at a span
+  spelled : (span : Span) (word : List ℕ) → Mark
+  -- a span from the first name to the last
+  joined : (span : Span) (first last : Span) → Mark
+
+abbrev pub type_marks : Written → List Mark
+type_marks (Bool s) = spelled s (codes "bool") ∷ []
+type_marks (U8 s) = spelled s (codes "u8") ∷ []
+type_marks (U16 s) = spelled s (codes "u16") ∷ []
+type_marks (U32 s) = spelled s (codes "u32") ∷ []
+type_marks (U64 s) = spelled s (codes "u64") ∷ []
+type_marks (S8 s) = spelled s (codes "s8") ∷ []
+type_marks (S16 s) = spelled s (codes "s16") ∷ []
+type_marks (S32 s) = spelled s (codes "s32") ∷ []
+type_marks (S64 s) = spelled s (codes "s64") ∷ []
+type_marks (F32 s) = spelled s (codes "f32") ∷ []
+type_marks (F64 s) = spelled s (codes "f64") ∷ []
+type_marks (Char s) = spelled s (codes "char") ∷ []
+type_marks (String s) = spelled s (codes "string") ∷ []
+type_marks (ErrorContext s) = spelled s (codes "error-context") ∷ []
+type_marks (Name id) = named id ∷ []
+type_marks (List' s p t) = spelled s (codes "list") ∷ type_marks t
+
+abbrev pub field_marks : Field → List Mark
+field_marks f = named f.name ∷ type_marks f.ty
+
+-- a body that has a span has the span of the definition's name
+abbrev pub body_marks : Span → TypeBody → List Mark
+body_marks name (Record span fields) = joined span name name ∷ flat_map field_marks fields.items
+body_marks name (Plain t) = type_marks t
+
+abbrev pub definition_marks : TypeDef → List Mark
+definition_marks d = named d.name ∷ body_marks d.name.span d.body
+
+abbrev pub item_marks : InterfaceItem → List Mark
+item_marks (TypeDefItem d) = definition_marks d
+
+abbrev pub interface_marks : Interface → List Mark
+interface_marks i = named i.name ∷ flat_map item_marks i.items.items
+
+abbrev pub declaration_marks : AstItem → List Mark
+declaration_marks (InterfaceItem' i) = interface_marks i
+
+abbrev pub header_marks : PackageName → List Mark
+header_marks p = named p.namespace ∷ named p.name ∷ joined p.span p.namespace.span p.name.span ∷ []
+
+abbrev pub package_marks : Option PackageName → List Mark
+package_marks None = []
+package_marks (Some p) = header_marks p
+
+abbrev pub file_marks : PackageFile → List Mark
+file_marks f = package_marks f.package_id ++ flat_map declaration_marks f.decl_list.items.items

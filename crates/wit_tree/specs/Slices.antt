@@ -1,0 +1,35 @@
+-- A tree is taken from a source: its names and words are slices of it, one behind the other.
+use Rattle.std.specs.Prelude.{◌≡◌, ℕ, ◌+◌, ◌-◌, ◌≤◌, ◌==◌, List, [], ◌∷◌, drop, slice_index, slice_range, length, if◌then◌else◌}
+use Rattle.wit_tree.specs.declared.span.Span.{Span}
+use Rattle.wit_tree.specs.declared.tree.Id.{Id}
+use Rattle.wit_tree.specs.Marks.{Mark, named, spelled, joined}
+
+-- a front `%` taken off
+abbrev pub unescaped : List ℕ → List ℕ
+unescaped text = if slice_index text 0 == 37 then drop 1 text else text
+
+-- the text stands at the span in the source, whose first byte has the place `offset`
+pub record StandsAt (source : List ℕ) (offset : ℕ) (span : Span) (text : List ℕ) : Type 0 where
+  pub order : span.start ≤ span.end
+  pub first : offset ≤ span.start
+  pub last : span.end ≤ offset + length source
+  pub slice : slice_range source (span.start - offset) (span.end - offset) ≡ text
+
+-- the name stands at its span, perhaps behind a `%`
+pub record IsNamed (source : List ℕ) (offset : ℕ) (id : Id) : Type 0 where
+  pub order : id.span.start ≤ id.span.end
+  pub first : offset ≤ id.span.start
+  pub last : id.span.end ≤ offset + length source
+  pub name : id.name.now ≡ unescaped (slice_range source (id.span.start - offset) (id.span.end - offset))
+
+-- from the start of the first span to the end of the last
+pub record IsJoined (span first last : Span) : Type 0 where
+  pub start : span.start ≡ first.start
+  pub end : span.end ≡ last.end
+
+-- from the place `low` up to the place `high` names and words rise without overlap, each the slice at its span
+abbrev pub Rise : List ℕ → ℕ → ℕ → List Mark → ℕ → Type 0
+Rise source offset low [] high = low ≤ high
+Rise source offset low (named id ∷ rest) high = (low ≤ id.span.start) × IsNamed source offset id × Rise source offset id.span.end rest high
+Rise source offset low (spelled span word ∷ rest) high = (low ≤ span.start) × StandsAt source offset span word × Rise source offset span.end rest high
+Rise source offset low (joined span first last ∷ rest) high = IsJoined span first last × Rise source offset low rest high
