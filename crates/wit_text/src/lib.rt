@@ -3,11 +3,11 @@
 
 mod blank;
 mod definition;
-pub mod fault;
-pub mod file;
+mod fault;
+mod file;
 mod reader;
 mod scan;
-pub mod source;
+mod source;
 mod token;
 mod types;
 mod word;
@@ -15,3 +15,6 @@ mod word;
 pub use fault::ReadFault;
 pub use file::read_file;
 pub use source::{Source, SourceMap};
+
+#[cfg(test)]
+mod tests;

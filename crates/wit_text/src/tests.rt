@@ -1,0 +1,191 @@
+//! Worked files.
+
+use crate::{SourceMap, read_file};
+use std::alloc::{AllocError, Global};
+use std::process::Abort;
+use std::test::Fail;
+use wit_tree::Span;
+use wit_tree::tree::{AstItem, Interface, InterfaceItem, PackageFile, TypeBody};
+
+/// The number of the refusal and its place, or 0 where the text is read.
+fn answer(rt: &impl Abort, alloc: Global, text: &str) -> (u8, u32, u32) {
+    assert!(rt; text.len() < 1_000_000);
+    match read_file(alloc, text, 0) {
+        Ok(_) => (0, 0, 0),
+        Err(e) => {
+            let span = e.span();
+            (e.rule(), span.start, span.end)
+        }
+    }
+}
+
+/// The text with a part so many times between two others.
+fn repeated(
+    alloc: Global,
+    front: &str,
+    part: &str,
+    count: usize,
+    back: &str,
+) -> Result<String, AllocError> {
+    let mut text = String::from_str(alloc, front)?;
+    for _ in 0..count {
+        text.push_str(part)?;
+    }
+    text.push_str(back)?;
+    Ok(text)
+}
+
+#[test]
+fn reads_whole_files(rt: HostRuntime) -> Result<(), Fail> {
+    for text in [
+        "",
+        "package a:b;",
+        "package a:b; interface i {}",
+        "interface i {}",
+        "package a:b;\r\ninterface i {\r\n\ttype t = u8;\r\n}\r\n",
+        "// c\n/* a /* b */ c */ package/**/a:b; // no end of line",
+        "package %package:%get; interface %type { record %record { %u8: %list, } }",
+        "interface from { type set = list<list<error-context>>; record empty {} }",
+        "interface A-b1 { record r { a: bool, b: u8, c: u16, d: u32, e: u64 } }",
+        "interface i { record r { a: s8, b: s16, c: s32, d: s64, e: f32, f: f64, g: char, h: string, } }",
+    ] {
+        assert_eq!(rt; answer(&rt, rt.alloc(), text), (0, 0, 0), "at {text}");
+    }
+    Ok(())
+}
+
+#[test]
+fn refuses_at_the_first_fault(rt: HostRuntime) -> Result<(), Fail> {
+    for (text, rule, start, end) in [
+        ("package foo:foo; interface i {", 47, 30, 30),
+        ("package foo:foo; interface i { \n", 47, 32, 32),
+        ("/* a", 48, 0, 2),
+        ("interface i { /* /* */ }", 48, 14, 16),
+        ("$", 46, 0, 1),
+        ("interface é {}", 46, 10, 12),
+        ("interface i { - }", 46, 14, 15),
+        ("interface i { % }", 46, 14, 15),
+        ("interface %1 {}", 46, 10, 11),
+        ("package a:b@1.0.0;", 47, 11, 12),
+        ("package a:b", 47, 11, 11),
+        ("package a;", 47, 9, 10),
+        ("interface i {} package a:b;", 47, 15, 22),
+        ("use a:b/c;", 47, 0, 3),
+        ("world w {}", 47, 0, 5),
+        ("interface type {}", 47, 10, 14),
+        ("interface option {}", 47, 10, 16),
+        ("interface a--b {}", 47, 10, 14),
+        ("interface %a- {}", 47, 10, 13),
+        ("interface aB {}", 47, 10, 12),
+        ("interface 1a {}", 47, 10, 11),
+        ("interface i { type t = list<u8, 4>; }", 47, 30, 31),
+        ("interface i { type t = option<u8>; }", 47, 23, 29),
+        ("interface i { type t = u8 }", 47, 26, 27),
+        ("interface i { record r { a: u8 b: u8 } }", 47, 31, 32),
+        ("interface i { record r { a: u8,, } }", 47, 31, 32),
+        ("interface i { f: func(); }", 47, 14, 15),
+        ("/ interface i {}", 47, 0, 1),
+    ] {
+        assert_eq!(rt;
+            answer(&rt, rt.alloc(), text),
+            (rule, start, end),
+            "at {text}"
+        );
+    }
+    Ok(())
+}
+
+#[test]
+fn reads_a_hundred_levels(rt: HostRuntime) -> Result<(), Fail> {
+    let alloc = rt.alloc();
+    let front = "package a:b; interface i { type t = ";
+    for (levels, inner, rule, start, end) in [
+        (98, "u8", 0, 0, 0),
+        (99, "u8", 0, 0, 0),
+        (100, "u8", 49, 536, 538),
+        (100, "%u8", 49, 536, 539),
+        (100, "list<u8>", 49, 536, 540),
+        (100, "", 47, 536, 537),
+    ] {
+        let open = repeated(alloc, front, "list<", levels, inner)?;
+        let text = repeated(alloc, open.as_str(), ">", levels, "; }")?;
+        assert_eq!(rt;
+            answer(&rt, alloc, text.as_str()),
+            (rule, start, end),
+            "at {levels}, {inner}"
+        );
+    }
+    Ok(())
+}
+
+/// How many fields the file's first definition has.
+fn field_count(file: &PackageFile) -> usize {
+    match file.decl_list.items.first() {
+        Some(AstItem::Interface(interface)) => first_field_count(interface),
+        None => 0,
+    }
+}
+
+fn first_field_count(interface: &Interface) -> usize {
+    match interface.items.first() {
+        Some(InterfaceItem::TypeDef(definition)) => match &definition.body {
+            TypeBody::Record { fields, .. } => fields.len(),
+            TypeBody::Plain(_) => 0,
+        },
+        None => 0,
+    }
+}
+
+#[test]
+fn drops_nothing(rt: HostRuntime) -> Result<(), Fail> {
+    let alloc = rt.alloc();
+    let text = repeated(alloc, "interface i { record r { ", "f: u8, ", 300, "} }")?;
+    assert!(rt; text.as_str().len() < 1_000_000);
+    match read_file(alloc, text.as_str(), 0) {
+        Ok(file) => assert_eq!(rt; field_count(&file), 300),
+        Err(_) => assert!(rt; false, "refused"),
+    }
+    let small = "package foo:%b; interface i { type t = list<t>; record r { a: u8 } }";
+    match read_file(alloc, small, 1000) {
+        Ok(file) => {
+            let shown = format!(in alloc; "{file:?}")?;
+            assert_eq!(rt; shown.as_str(), SMALL_TREE);
+        }
+        Err(_) => assert!(rt; false, "refused"),
+    }
+    Ok(())
+}
+
+const SMALL_TREE: &str =
+    "PackageFile { package_id: Some(PackageName { span: Span { start: 1008, end: 1014 }, namespace: Id { name: \"foo\", span: Span { start: 1008, end: 1011 } }, name: Id { name: \"b\", span: Span { start: 1012, end: 1014 } } }), decl_list: DeclList { items: [Interface(Interface { name: Id { name: \"i\", span: Span { start: 1026, end: 1027 } }, items: [TypeDef(TypeDef { name: Id { name: \"t\", span: Span { start: 1035, end: 1036 } }, body: Plain(List(Span { start: 1039, end: 1043 }, Name(Id { name: \"t\", span: Span { start: 1044, end: 1045 } }))) }), TypeDef(TypeDef { name: Id { name: \"r\", span: Span { start: 1055, end: 1056 } }, body: Record { span: Span { start: 1055, end: 1056 }, fields: [Field { name: Id { name: \"a\", span: Span { start: 1059, end: 1060 } }, ty: U8(Span { start: 1062, end: 1064 }) }] } })] })] } }";
+
+#[test]
+fn locates_spans(rt: HostRuntime) -> Result<(), Fail> {
+    let alloc = rt.alloc();
+    let mut map = SourceMap::new(alloc);
+    assert_eq!(rt; map.locate(Span { start: 0, end: 0 }), None);
+    for (path, contents) in [("a.wit", "package foo:foo;"), ("", ""), ("b.wit", "é: u")] {
+        match map.push(alloc, path, contents) {
+            Ok(()) => {}
+            Err(_) => assert!(rt; false, "refused"),
+        }
+    }
+    assert_eq!(rt; map.sources().len(), 3);
+    for (start, end, found) in [
+        (0, 7, Some(("a.wit", "package"))),
+        (16, 16, Some(("a.wit", ""))),
+        (17, 17, Some(("", ""))),
+        (16, 17, None),
+        (18, 20, Some(("b.wit", "é"))),
+        (18, 19, None),
+        (19, 20, None),
+        (22, 23, Some(("b.wit", "u"))),
+        (23, 23, Some(("b.wit", ""))),
+        (23, 24, None),
+        (24, 24, None),
+        (7, 0, None),
+    ] {
+        assert_eq!(rt; map.locate(Span { start, end }), found, "at {start}, {end}");
+    }
+    Ok(())
+}
