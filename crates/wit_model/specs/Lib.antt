@@ -1,0 +1,4 @@
+pub mod FunctionKinds
+pub mod Names
+pub mod Sizes
+pub mod Words
