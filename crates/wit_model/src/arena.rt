@@ -78,6 +78,27 @@ impl<T, M> Arena<T, M> {
         self.items.len()
     }
 
+    /// The id that the next value will have.
+    pub fn next_id(&self) -> Id<M>
+        ensures { result ≡ length self.now }
+    {
+        Id {
+            place: self.items.len(),
+            of: PhantomData,
+        }
+    }
+
+    /// The id of the value at a place.
+    pub fn id_at(&self, place: usize) -> Id<M>
+        requires { place < length self.now }
+        ensures { result ≡ place }
+    {
+        Id {
+            place,
+            of: PhantomData,
+        }
+    }
+
     /// Puts a value behind the others, and answers its id.
     ///
     /// If a growth is refused, the arena stays as it was and the value comes back.
