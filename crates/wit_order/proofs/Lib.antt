@@ -8,3 +8,4 @@ pub mod Counts
 pub mod HeapState
 pub mod Forward
 pub mod Rows
+pub mod SameEdges

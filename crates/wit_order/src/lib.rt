@@ -2,6 +2,7 @@
 #![tactic(auto)]
 
 mod heap;
+pub mod laws;
 mod names;
 pub mod order;
 mod places;
