@@ -6,5 +6,7 @@ pub mod laws;
 mod names;
 pub mod order;
 mod places;
+#[cfg(test)]
+mod tests;
 
 pub use order::{order_places, toposort, toposort_heap, toposort_scan};
