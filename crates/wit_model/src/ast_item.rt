@@ -1,0 +1,10 @@
+//! The items of a file.
+
+use crate::ids::{InterfaceId, WorldId};
+
+/// An interface or a world, as an entry of its arena.
+#[derive(Debug, Clone, Copy, PartialEq, Eq)]
+pub enum AstItem {
+    Interface(InterfaceId),
+    World(WorldId),
+}

@@ -1,0 +1,27 @@
+//! Interfaces.
+
+use crate::docs::Docs;
+use crate::function::Function;
+use crate::ids::{InterfaceId, PackageId, TypeId};
+use crate::stability::Stability;
+use wit_tree::Span;
+use wit_values::{Text, TextTable};
+
+/// An interface: its types and functions by their names.
+#[derive(Debug, Clone, PartialEq, Eq, Drop)]
+pub struct Interface {
+    /// The name, unless the interface is written inside a world or in another package.
+    pub name: Option<Text>,
+    /// The names of types, used ones first.
+    pub types: TextTable<TypeId>,
+    /// The functions by their names with marks, as `[method]r.f`.
+    pub functions: TextTable<Function>,
+    pub docs: Docs,
+    pub stability: Stability,
+    /// The package, once packages are joined; `None` here.
+    pub package: Option<PackageId>,
+    /// The name's place.
+    pub span: Span,
+    /// The interface that this one is a copy of; `None` here.
+    pub clone_of: Option<InterfaceId>,
+}

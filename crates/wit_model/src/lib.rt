@@ -1,0 +1,36 @@
+//! The data of a resolved package: ids and arenas, types, functions, interfaces and worlds.
+//!
+//! Types, interfaces and worlds stand in arenas and refer to one another by ids. Spans are
+//! half-open ranges of bytes in the sources.
+#![tactic(auto)]
+
+pub mod abi;
+pub mod arena;
+pub mod ast_item;
+pub mod docs;
+pub mod function;
+pub mod ids;
+pub mod int;
+pub mod interface;
+pub mod package_name;
+pub mod stability;
+pub mod types;
+pub mod world;
+
+pub use abi::{AbiVariant, LiftLowerAbi, Mangling, ManglingAndAbi};
+pub use arena::{Arena, Id};
+pub use ast_item::AstItem;
+pub use docs::Docs;
+pub use function::{Function, FunctionKind, Param};
+pub use ids::{
+    InterfaceId, InterfacePlace, PackageId, PackagePlace, TypeId, TypePlace, WorldId, WorldPlace,
+};
+pub use int::{FlagsRepr, Int};
+pub use interface::Interface;
+pub use package_name::PackageName;
+pub use stability::Stability;
+pub use types::{
+    Case, Enum, EnumCase, Field, Flag, Flags, Handle, Record, Result_, Tuple, Type, TypeDef,
+    TypeDefKind, TypeOwner, Variant,
+};
+pub use world::{IncludeName, World, WorldInclude, WorldItem, WorldKey};

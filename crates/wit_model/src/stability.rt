@@ -1,0 +1,23 @@
+//! Since when an item is there, and how long.
+
+use wit_values::{Release, Text};
+
+/// How stable an item is, by its attributes; the default is `Unknown`.
+///
+/// The variants are ordered as they stand here, and then by their fields.
+#[derive(Debug, Clone, PartialEq, Eq, PartialOrd, Ord, Default, Drop)]
+pub enum Stability {
+    /// No attribute tells.
+    #[default]
+    Unknown,
+    /// There behind a feature, and from a version on deprecated.
+    Unstable {
+        feature: Text,
+        deprecated: Option<Release>,
+    },
+    /// There since a version, and from a version on deprecated.
+    Stable {
+        since: Release,
+        deprecated: Option<Release>,
+    },
+}

@@ -1,0 +1,68 @@
+-- What a map from texts finds and stores, on its entries as contracts see them.
+use Rattle.std.proofs.Common.{zero, Option, Some, None, slice_get, ◌&&◌, sym, ◌≡◌, ℕ, suc, Bool, List, [], ◌∷◌, String, string_bytes, nat_eq, length, refl, ap, ◌∙◌, inl, inr}
+use Rattle.std.proofs.lemmas.Bool.{cases_Bool}
+use Rattle.std.specs.Cmp.Lexicographic.{pointwise}
+use Rattle.std.specs.Str.{bytes_eq}
+use Rattle.std.specs.Map.{lookup, lookup_entry, keys_of}
+use Rattle.std.specs.HashMap.{entries_eq}
+use Rattle.std.specs.List.{AllZip, list_all}
+use Rattle.std.specs.Option.{option_eq, option_map}
+use Rattle.std.specs.declared.alloc.Global.{Global}
+use Rattle.indexmap.specs.IndexMap.{insert_entry}
+use Rattle.wit_values.specs.TextEntries.{text_entries}
+
+pub length-text_entries : {V : Type 0} (es : List (String Global × V)) → length (text_entries es) ≡ length es
+length-text_entries [] = refl
+length-text_entries (e ∷ es) = ap suc (length-text_entries es)
+
+pub lookup-text_entries : {V : Type 0} (bs : List ℕ) (es : List (String Global × V)) → lookup (λ k. bytes_eq bs (string_bytes k)) es ≡ lookup (pointwise nat_eq bs) (text_entries es)
+lookup-text_entries bs [] = refl
+lookup-text_entries bs (e ∷ es) = elim (cases_Bool (pointwise nat_eq bs (string_bytes e.0))) [
+  | inl hit ↦ rw hit refl
+  | inr miss ↦ rw miss (lookup-text_entries bs es)
+]
+
+pub text_entries-insert_entry : {V : Type 0} (es : List (String Global × V)) (k : String Global) (v : V) → text_entries (insert_entry (λ a b. pointwise nat_eq (string_bytes a) (string_bytes b)) es k v) ≡ insert_entry (pointwise nat_eq) (text_entries es) (string_bytes k) v
+text_entries-insert_entry [] k v = refl
+text_entries-insert_entry (e ∷ es) k v = elim (cases_Bool (pointwise nat_eq (string_bytes k) (string_bytes e.0))) [
+  | inl hit ↦ rw hit refl
+  | inr miss ↦ rw miss (ap (λ l. (string_bytes e.0, e.1) ∷ l) (text_entries-insert_entry es k v))
+]
+
+pub slice_get-text_entries : {V : Type 0} (es : List (String Global × V)) (i : ℕ) → slice_get (text_entries es) i ≡ option_map (λ e. (string_bytes e.0, e.1)) (slice_get es i)
+slice_get-text_entries [] i = refl
+slice_get-text_entries (e ∷ es) zero = refl
+slice_get-text_entries (e ∷ es) (suc i) = slice_get-text_entries es i
+
+pub AllZip-text_entries : {V : Type 0} (C : V → V → Type 0) (es fs : List (String Global × V)) → AllZip (λ p q. (string_bytes q.0 ≡ string_bytes p.0) × C p.1 q.1) es fs → AllZip (λ p q. (q.0 ≡ p.0) × C p.1 q.1) (text_entries es) (text_entries fs)
+AllZip-text_entries C [] [] h = h
+AllZip-text_entries C [] (f ∷ fs) h = h
+AllZip-text_entries C (e ∷ es) [] h = h
+AllZip-text_entries C (e ∷ es) (f ∷ fs) h = (h.0, AllZip-text_entries C es fs h.1)
+
+module _ {V : Type 0} (E : V → V → Bool) where
+  abbrev bytes_match : String Global → String Global → Bool
+  bytes_match a b = pointwise nat_eq (string_bytes a) (string_bytes b)
+
+  lookup_entry-text_entries : (k : String Global) (es : List (String Global × V)) → lookup_entry (pointwise nat_eq (string_bytes k)) (text_entries es) ≡ option_map (λ e. (string_bytes e.0, e.1)) (lookup_entry (bytes_match k) es)
+  lookup_entry-text_entries k [] = refl
+  lookup_entry-text_entries k (e ∷ es) = elim (cases_Bool (pointwise nat_eq (string_bytes k) (string_bytes e.0))) [
+    | inl hit ↦ rw hit refl
+    | inr miss ↦ rw miss (lookup_entry-text_entries k es)
+  ]
+
+  option_eq-text : (p q : Option (String Global × V)) → option_eq {T = List ℕ × V} (λ a b. E a.1 b.1) (option_map (λ e. (string_bytes e.0, e.1)) p) (option_map (λ e. (string_bytes e.0, e.1)) q) ≡ option_eq {T = String Global × V} (λ a b. E a.1 b.1) p q
+  option_eq-text None None = refl
+  option_eq-text None (Some y) = refl
+  option_eq-text (Some x) None = refl
+  option_eq-text (Some x) (Some y) = refl
+
+  agree-text : (ks es fs : List (String Global × V)) → list_all (λ k. option_eq {T = List ℕ × V} (λ a b. E a.1 b.1) (lookup_entry (pointwise nat_eq k) (text_entries es)) (lookup_entry (pointwise nat_eq k) (text_entries fs))) (keys_of (text_entries ks)) ≡ list_all (λ k. option_eq {T = String Global × V} (λ a b. E a.1 b.1) (lookup_entry (bytes_match k) es) (lookup_entry (bytes_match k) fs)) (keys_of ks)
+  agree-text [] es fs = refl
+  agree-text (k ∷ ks) es fs =
+      let here = (λ j. option_eq {T = List ℕ × V} (λ a b. E a.1 b.1) (lookup_entry-text_entries k.0 es j) (lookup_entry-text_entries k.0 fs j)) ∙ option_eq-text (lookup_entry (bytes_match k.0) es) (lookup_entry (bytes_match k.0) fs) in
+      λ j. here j && agree-text ks es fs j
+
+  pub entries_eq-text_entries : (es fs : List (String Global × V)) → entries_eq (λ a b. pointwise nat_eq (string_bytes a) (string_bytes b)) (λ p q. E p.1 q.1) es fs ≡ entries_eq (pointwise nat_eq) (λ p q. E p.1 q.1) (text_entries es) (text_entries fs)
+  unfolding entries_eq
+  entries_eq-text_entries es fs = sym (λ j. agree-text es es fs j && agree-text fs es fs j)

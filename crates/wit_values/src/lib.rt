@@ -1,0 +1,17 @@
+//! Small types over `String`, `Vec`, `IndexMap` and `Version`, which contracts see as plain lists.
+//!
+//! A copy of each equals its source, and each is made from what it holds and gives it back
+//! without taking memory.
+#![tactic(auto)]
+
+pub mod release;
+pub mod row;
+pub mod table;
+pub mod text;
+pub mod text_table;
+
+pub use release::{BuildText, PreText, Release};
+pub use row::Row;
+pub use table::Table;
+pub use text::Text;
+pub use text_table::TextTable;

@@ -1,0 +1,134 @@
+//! Maps from texts in insertion order, which contracts see as the list of their entries.
+ghost use Rattle.std.specs.Prelude.{◌≡◌, ◌↔◌, ◌<◌, OnOk, OnErr, IfErr, IfOk, IsSome, [], nat_eq, string_bytes, length, slice_get};
+ghost use Rattle.std.specs.Cmp.Lexicographic.{pointwise, nat_list_eq_equiv};
+ghost use Rattle.std.specs.Cmp.{equiv, partial_equiv_from_equiv};
+ghost use Rattle.std.specs.HashMap.{entries_eq};
+ghost use Rattle.std.specs.HashMap.Eq.{hash_map_eq_symm, hash_map_eq_trans, hash_map_eq_refl};
+ghost use Rattle.std.specs.List.{AllZip};
+ghost use Rattle.std.specs.Map.{lookup};
+ghost use Rattle.std.specs.Option.{option_copied, option_map};
+ghost use Rattle.indexmap.specs.IndexMap.{insert_entry};
+ghost use Rattle.indexmap.specs.Layout.{hash_map};
+ghost use Rattle.wit_values.specs.TextEntries.{text_entries};
+
+use indexmap::IndexMap;
+use std::alloc::{AllocError, AllocFailed, Global};
+use std::fmt;
+use std::marker::Model;
+
+/// A map from texts in insertion order, which contracts see as its entries.
+///
+/// Two are equal if they hold the same pairs, in any order; a copy has its source's order too.
+#[derive(Drop)]
+pub struct TextTable<V> {
+    map: IndexMap<String, V>,
+}
+
+impl<V> Model for TextTable<V> {
+    ghost use Rattle.std.specs.Prelude.{ℕ, List};
+    ghost use Rattle.wit_values.specs.TextEntries.{text_entries};
+
+    ghost Value = { List (List ℕ × V) };
+
+    ghost view = { λ t. text_entries t.map.entries };
+}
+
+impl<V> From<IndexMap<String, V>> for TextTable<V> {
+    ghost from_gives = { λ m t. t ≡ text_entries m.entries };
+
+    fn from(map: IndexMap<String, V>) -> TextTable<V> {
+        TextTable { map }
+    }
+}
+
+impl<V> TextTable<V> {
+    /// A map with nothing in it.
+    pub fn new(alloc: Global) -> TextTable<V>
+        ensures { result ≡ [] }
+    {
+        TextTable {
+            map: IndexMap::new(alloc),
+        }
+    }
+
+    /// How many entries there are.
+    pub fn len(&self) -> usize
+        ensures { result ≡ length self.now }
+    {
+        self.map.len()
+    }
+
+    /// The value at a text, if there is one.
+    pub fn get(&self, key: &str) -> Option<&V>
+        ensures { option_copied result ≡ lookup (pointwise nat_eq key.now) self.now }
+    {
+        self.map.get(key)
+    }
+
+    /// The entry at a place, counted from 0 in insertion order; `None` behind the last.
+    pub fn get_index(&self, place: usize) -> Option<(&str, &V)>
+        ensures { option_map (λ p. (p.0.now, p.1.now)) result ≡ slice_get self.now place }
+    {
+        match self.map.get_index(place) {
+            Some((key, value)) => Some((key.as_str(), value)),
+            None => None,
+        }
+    }
+
+    /// Puts a value at a text and gives back the one that was there.
+    ///
+    /// A new text stands last, one that is there keeps its place. If a growth is refused, the
+    /// map stays as it was.
+    pub fn insert(&mut self, key: String, value: V) -> Result<Option<V>, AllocFailed<(String, V)>>
+        ensures ok { OnOk result (self.new ≡ insert_entry (pointwise nat_eq) self.old (string_bytes key) value) }
+        ensures was { IfOk result (λ was. was ≡ lookup (pointwise nat_eq (string_bytes key)) self.old) }
+        ensures err { OnErr result (self.new ≡ self.old) }
+        ensures value_returned { IfErr result (λ e. e.value ≡ (key, value)) }
+    {
+        self.map.insert(key, value)
+    }
+
+    /// The map of `indexmap`.
+    pub fn as_map(&self) -> &IndexMap<String, V>
+        ensures { text_entries result.now.entries ≡ self.now }
+    {
+        &self.map
+    }
+
+    /// The map of `indexmap`, given back.
+    pub fn into_map(self) -> IndexMap<String, V>
+        ensures { text_entries result.entries ≡ self }
+    {
+        self.map
+    }
+}
+
+impl<V: Clone> Clone for TextTable<V> {
+    ghost is_clone = { AllZip (λ p q. (q.0 ≡ p.0) × V.is_clone p.1 q.1) };
+
+    fn clone(&self) -> Result<TextTable<V>, AllocError> {
+        Ok(TextTable {
+            map: self.map.clone()?,
+        })
+    }
+}
+
+impl<V: fmt::Debug> fmt::Debug for TextTable<V> {
+    fn fmt<W: fmt::Write>(&self, f: &mut fmt::Formatter<W>) -> fmt::Result {
+        fmt::Debug::fmt(&self.map, f)
+    }
+}
+
+impl<V: PartialEq> PartialEq for TextTable<V> {
+    ghost eq = { entries_eq (pointwise nat_eq) (λ p q. V.eq p.1 q.1) };
+
+    ghost laws = { let v = V.laws in record { symm = λ a b. hash_map_eq_symm (pointwise nat_eq) V.eq v.symm (hash_map {S = Unit {0}} a tt 0) (hash_map {S = Unit {0}} b tt 0); trans = λ a b c. hash_map_eq_trans (pointwise nat_eq) V.eq nat_list_eq_equiv v.trans (hash_map {S = Unit {0}} a tt 0) (hash_map {S = Unit {0}} b tt 0) (hash_map {S = Unit {0}} c tt 0) } };
+
+    fn eq(&self, other: &TextTable<V>) -> bool {
+        self.map == other.map
+    }
+}
+
+impl<V: Eq> Eq for TextTable<V> {
+    ghost laws = { let v = V.Eq.laws in equiv (record { symm = λ a b. hash_map_eq_symm (pointwise nat_eq) V.eq v.symm (hash_map {S = Unit {0}} a tt 0) (hash_map {S = Unit {0}} b tt 0); trans = λ a b c. hash_map_eq_trans (pointwise nat_eq) V.eq nat_list_eq_equiv (partial_equiv_from_equiv v).trans (hash_map {S = Unit {0}} a tt 0) (hash_map {S = Unit {0}} b tt 0) (hash_map {S = Unit {0}} c tt 0) }) (λ a. hash_map_eq_refl (pointwise nat_eq) V.eq v.refl (hash_map {S = Unit {0}} a tt 0)) };
+}
