@@ -13,6 +13,8 @@ pub mod ids;
 pub mod int;
 pub mod interface;
 pub mod package_name;
+mod package_name_text;
+mod package_name_track;
 pub mod stability;
 pub mod types;
 pub mod world;
