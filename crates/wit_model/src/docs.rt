@@ -1,4 +1,5 @@
 //! The docs of an item.
+ghost use Rattle.std.specs.Prelude.{◌≡◌, is_none};
 
 use wit_values::Text;
 
@@ -7,4 +8,13 @@ use wit_values::Text;
 pub struct Docs {
     /// The text without its comment marks, if docs are written.
     pub contents: Option<Text>,
+}
+
+impl Docs {
+    /// Whether no docs are written. Docs that are an empty text are written.
+    pub fn is_empty(&self) -> bool
+        ensures { result ≡ is_none self.now.contents }
+    {
+        self.contents.is_none()
+    }
 }

@@ -9,9 +9,12 @@ pub mod arena;
 pub mod ast_item;
 pub mod docs;
 pub mod function;
+pub mod function_kind;
+pub mod function_name;
 pub mod ids;
 pub mod int;
 pub mod interface;
+pub mod kind_word;
 pub mod package_name;
 mod package_name_text;
 mod package_name_track;
@@ -27,7 +30,7 @@ pub use function::{Function, FunctionKind, Param};
 pub use ids::{
     InterfaceId, InterfacePlace, PackageId, PackagePlace, TypeId, TypePlace, WorldId, WorldPlace,
 };
-pub use int::{FlagsRepr, Int};
+pub use int::{FlagsRepr, Int, discriminant_type};
 pub use interface::Interface;
 pub use package_name::PackageName;
 pub use stability::Stability;
