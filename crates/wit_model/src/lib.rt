@@ -15,6 +15,7 @@ pub mod ids;
 pub mod int;
 pub mod interface;
 pub mod kind_word;
+pub mod laws;
 pub mod package_name;
 mod package_name_text;
 mod package_name_track;
