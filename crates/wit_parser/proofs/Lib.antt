@@ -10,3 +10,6 @@ mod Seen
 mod Refusing
 mod Repeated
 mod Defining
+mod Tables
+mod Scoping
+mod Numbering

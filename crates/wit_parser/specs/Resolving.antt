@@ -1,5 +1,5 @@
 -- What resolving types and definitions does to the arena, from whatever was met before.
-use Rattle.std.specs.Prelude.{◌≡◌, ℕ, List, [], ◌∷◌, ◌++◌, length, map, cond, Option, Some, None, ◌⊎◌, slice_get, nat_eq, Contains}
+use Rattle.std.specs.Prelude.{◌≡◌, ℕ, List, [], ◌∷◌, ◌++◌, length, map, cond, Option, Some, None, ◌⊎◌, slice_get, nat_eq, Contains, IsSome}
 use Rattle.std.specs.Cmp.Lexicographic.{pointwise}
 use Rattle.std.specs.Map.{lookup}
 use Rattle.indexmap.specs.IndexMap.{insert_entry}
@@ -125,3 +125,16 @@ pub record IsUnknown (env : Env) (ids : List Id) (f : Fault) : Type 0 where
 -- what is wrong with a body that is resolved: a broken rule, or a name that stands for nothing yet
 abbrev pub IsWrongBody : Env → TypeBody → Fault → Type 0
 IsWrongBody env body f = IsBrokenBody body f ⊎ IsUnknown env (body_names body) f
+
+-- a name was put into a table
+pub record IsStored (names names' : Names) (name : List ℕ) : Type 0 where
+  pub place : ℕ
+  pub is : names' ≡ insert_entry (pointwise nat_eq) names name place
+
+-- no body of these breaks a rule
+pub record AreLegalBodies (ds : List Definition) : Type 0 where
+  pub legal : (i : ℕ) (d : Definition) (f : Fault) → slice_get ds i ≡ Some d → IsBrokenBody d.body f → ⊥
+
+-- each of these stands in a table of names
+pub record HasNames (env : Env) (ds : List Definition) : Type 0 where
+  pub has : (i : ℕ) (d : Definition) → slice_get ds i ≡ Some d → IsSome (env d.name.name.now)

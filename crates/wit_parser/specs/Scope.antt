@@ -7,6 +7,8 @@ use Rattle.wit_tree.specs.declared.tree.Field.{Field}
 use Rattle.wit_tree.specs.declared.tree.TypeBody.{TypeBody}
 use Rattle.wit_tree.specs.declared.tree.TypeBody.TheVariants.{Record, Plain}
 use Rattle.wit_tree.specs.declared.tree.TypeDef.{TypeDef}
+use Rattle.wit_tree.specs.declared.error.ParseErrorKind.{ParseErrorKind}
+use Rattle.wit_tree.specs.declared.error.ParseErrorKind.TheVariants.{ItemNotFound, TypeCycle, Syntax, OutOfMemory}
 use Rattle.wit_order.specs.Table.{Row}
 
 -- the names written in a type, in written order
@@ -40,3 +42,10 @@ at_place (Some d) = d ∷ []
 abbrev pub in_order : List TypeDef → List ℕ → List TypeDef
 in_order ds [] = []
 in_order ds (k ∷ ks) = at_place (slice_get ds k) ++ in_order ds ks
+
+-- the number under which a refusal of the order of definitions goes
+abbrev pub scope_rule : ParseErrorKind → ℕ
+scope_rule (ItemNotFound span name kind hint) = 15
+scope_rule (TypeCycle span name kind) = 16
+scope_rule (Syntax span message) = 45
+scope_rule OutOfMemory = 45

@@ -6,4 +6,5 @@ mod intern;
 mod records;
 mod refusal;
 mod repeats;
+mod scope;
 mod types;
