@@ -175,3 +175,7 @@ done_all files os es new is is' (w ∷ ws) there d a =
     let rest = λ (k : ℕ) (v : Written) (h : slice_get ws k ≡ Some v). subst (λ (m : ℕ). slice_get (interfaces files) m ≡ Some v) (let same : length os + suc k ≡ length (os ++ o ∷ []) + k = omega arith in same) (there (suc k) v h) in
     let it = done_all files (os ++ o ∷ []) a.0 new a.1 is' ws rest d' a.3 in
     (it.0, it.1 ∙ ap (λ (l : List Written). l ++ ws) (map-append (λ (o : Ordered). o.interface) os (o ∷ [])) ∙ append_assoc (map (λ (o : Ordered). o.interface) os) (w ∷ []) ws, it.2)
+
+-- all interfaces of files
+pub done_files : (files : List PackageFile) (es : List TypeDef) (is : List Interface) → AddsAll [] es [] is (interfaces files) → (os : List Ordered) × (map (λ (o : Ordered). o.interface) os ≡ interfaces files) × IsDone files os es is
+done_files files es is a = done_all files [] [] es [] is (interfaces files) (λ k w h. subst (λ (m : ℕ). slice_get (interfaces files) m ≡ Some w) (sym (zero-add k)) h) (done_none files) a

@@ -1,6 +1,7 @@
 -- The last header of files.
 use Rattle.std.specs.Prelude.{slice_get}
-use Rattle.std.proofs.Common.{◌≡◌, ℕ, suc, ◌⊎◌, inl, inr, Bool, true, false, IsTrue, List, [], ◌∷◌, ◌++◌, Option, Some, None, refl, sym, ap, ◌∙◌}
+use Rattle.std.proofs.Common.{◌≡◌, ℕ, zero, suc, ◌⊎◌, inl, inr, Bool, true, false, IsTrue, List, [], ◌∷◌, ◌++◌, Option, Some, None, refl, sym, ap, ◌∙◌}
+use Rattle.wit_tree.specs.declared.span.Span.{Span}
 use Rattle.wit_tree.specs.declared.tree.PackageName.{PackageName as Header}
 use Rattle.wit_tree.specs.declared.tree.PackageFile.{PackageFile}
 use Rattle.wit_parser.specs.Broken.{or_header, last_header}
@@ -36,3 +37,21 @@ some_header (f ∷ fs) h e = elim (header_cases (last_header fs)) [
       let it = some_header fs h (some.1 ∙ same) in
       (suc it.0, it.1, it.2, it.3))
 ]
+
+-- where no header is the last one, no file has one
+pub no_header : (fs : List PackageFile) → last_header fs ≡ None → (i : ℕ) (f : PackageFile) → slice_get fs i ≡ Some f → f.package_id ≡ None
+no_header [] e i f at = absurd (let wrong : ⊥ = cc in wrong)
+no_header (g ∷ fs) e i f at = elim (header_cases (last_header fs)) [
+  | inl none ↦ first g fs (sym (ap (λ o. or_header o g.package_id) none) ∙ e) (λ j h. no_header fs none j f h) i at
+  | inr some ↦ absurd (let wrong : Some some.0 ≡ None = sym (ap (λ o. or_header o g.package_id) some.1) ∙ e in let x : ⊥ = cc in x)
+]
+  where
+    first : (g : PackageFile) (fs : List PackageFile) → g.package_id ≡ None → ((j : ℕ) → slice_get fs j ≡ Some f → f.package_id ≡ None) → (i : ℕ) → slice_get (g ∷ fs) i ≡ Some f → f.package_id ≡ None
+    first g fs own rest zero at = (let same : g ≡ f = cc in ap (λ (x : PackageFile). x.package_id) (sym same) ∙ own)
+    first g fs own rest (suc i) at = rest i at
+
+abbrev ends : ℕ → ℕ → Span
+ends m n = record { start = m; end = n }
+
+pub span_of_ends : (s : Span) (a b : ℕ) → s.start ≡ a → s.end ≡ b → s ≡ record { start = a; end = b }
+span_of_ends s a b start end = ap (λ (n : ℕ). ends n s.end) start ∙ ap (λ (n : ℕ). ends a n) end

@@ -19,3 +19,4 @@ mod Adding
 mod Done
 mod Shape
 mod Depth
+mod Faithful

@@ -1,8 +1,10 @@
 -- Names, and tables of names.
-use Rattle.std.proofs.Common.{◌≡◌, ℕ, Bool, true, false, cond, List, [], ◌∷◌, ◌++◌, Some, None, ◌⊎◌, inl, inr, nat_eq, refl, sym, ap, ◌∙◌}
+use Rattle.std.proofs.Common.{◌≡◌, ℕ, zero, suc, arith, Bool, true, false, cond, List, [], ◌∷◌, ◌++◌, Some, None, ◌⊎◌, inl, inr, nat_eq, refl, sym, ap, ◌∙◌}
 use Rattle.std.specs.Cmp.Lexicographic.{pointwise}
 use Rattle.std.specs.Map.{lookup}
-use Rattle.std.specs.Prelude.{map}
+use Rattle.std.specs.Prelude.{map, slice_get}
+use Rattle.std.specs.Option.{option_map}
+use Rattle.std.proofs.lemmas.Option.{slice_get-map}
 use Rattle.std.proofs.lemmas.Slice.Eq.{bytes_eq-Decides}
 use Rattle.indexmap.specs.IndexMap.{insert_entry}
 
@@ -45,4 +47,32 @@ names-insert_entry [] k v none = refl
 names-insert_entry (e ∷ es) k v none = elim (name_cases k e.0) [
   | inl same ↦ absurd (let hit : pointwise nat_eq k e.0 ≡ true = ap (pointwise nat_eq k) (sym same) ∙ name_itself k in let wrong : Some e.1 ≡ None = rw hit at none in let f : ⊥ = cc in f)
   | inr miss ↦ (let rest = rw miss at none in rw miss (ap (λ ns. e.0 ∷ ns) (names-insert_entry es k v rest)))
+]
+
+-- the value that a name finds where no name stands twice
+pub lookup-at : (es : List (List ℕ × ℕ)) (k : ℕ) (name : List ℕ) (id : ℕ) → ((i j : ℕ) (n : List ℕ) → slice_get (map (λ p. p.0) es) i ≡ Some n → slice_get (map (λ p. p.0) es) j ≡ Some n → i ≡ j) → slice_get es k ≡ Some (name, id) → lookup (pointwise nat_eq name) es ≡ Some id
+lookup-at [] k name id once at = absurd (let f : ⊥ = cc in f)
+lookup-at (e ∷ es) zero name id once at =
+    let here : e ≡ (name, id) = cc in
+    let key : pointwise nat_eq name e.0 ≡ true = ap (λ (x : List ℕ × ℕ). pointwise nat_eq name x.0) here ∙ name_itself name in
+    rw key (ap (λ (x : List ℕ × ℕ). Some x.1) here)
+lookup-at (e ∷ es) (suc k) name id once at = elim (name_cases name e.0) [
+  | inl same ↦ absurd (
+      let there : slice_get (map (λ p. p.0) es) k ≡ Some name = slice_get-map (λ (p : List ℕ × ℕ). p.0) es k ∙ ap (option_map (λ (p : List ℕ × ℕ). p.0)) at in
+      let both = once 0 (suc k) name (ap Some (sym same)) there in
+      let f : ⊥ = omega arith in
+      f)
+  | inr other ↦ rw other (lookup-at es k name id (λ i j n ati atj. (let both = once (suc i) (suc j) n ati atj in omega arith)) at)
+]
+
+-- where a name that finds a value stands
+pub lookup-place : (es : List (List ℕ × ℕ)) (name : List ℕ) (id : ℕ) → lookup (pointwise nat_eq name) es ≡ Some id → (k : ℕ) × (slice_get es k ≡ Some (name, id))
+lookup-place [] name id h = absurd (let f : ⊥ = cc in f)
+lookup-place (e ∷ es) name id h = elim (name_cases name e.0) [
+  | inl same ↦ (
+      let hit : pointwise nat_eq name e.0 ≡ true = ap (λ n. pointwise nat_eq n e.0) same ∙ name_itself e.0 in
+      let value : Some e.1 ≡ Some id = rw hit at h in
+      let v : e.1 ≡ id = cc in
+      (0, ap (λ (n : List ℕ). Some (n, e.1)) (sym same) ∙ ap (λ (x : ℕ). Some (name, x)) v))
+  | inr other ↦ (let rest = lookup-place es name id (rw other at h) in (suc rest.0, rest.1))
 ]
