@@ -17,6 +17,8 @@ pub mod interface;
 pub mod kind_word;
 pub mod laws;
 pub mod package_name;
+#[cfg(test)]
+mod package_name_tests;
 mod package_name_text;
 mod package_name_track;
 pub mod stability;
