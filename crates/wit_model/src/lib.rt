@@ -21,11 +21,12 @@ pub mod package_name;
 mod package_name_tests;
 mod package_name_text;
 mod package_name_track;
+pub mod signature;
 pub mod stability;
 pub mod types;
 pub mod world;
 
-pub use abi::{AbiVariant, LiftLowerAbi, Mangling, ManglingAndAbi};
+pub use abi::{AbiVariant, LiftLowerAbi, Mangling, ManglingAndAbi, ManglingFault};
 pub use arena::{Arena, Id};
 pub use ast_item::AstItem;
 pub use docs::Docs;
@@ -36,9 +37,10 @@ pub use ids::{
 pub use int::{FlagsRepr, Int, discriminant_type};
 pub use interface::Interface;
 pub use package_name::PackageName;
+pub use signature::ParamResultTypes;
 pub use stability::Stability;
 pub use types::{
     Case, Enum, EnumCase, Field, Flag, Flags, Handle, Record, Result_, Tuple, Type, TypeDef,
-    TypeDefKind, TypeOwner, Variant,
+    TypeDefKind, TypeOwner, Types, Variant,
 };
-pub use world::{IncludeName, World, WorldInclude, WorldItem, WorldKey};
+pub use world::{IncludeName, World, WorldInclude, WorldItem, WorldKey, world_item_func};
