@@ -1,3 +1,4 @@
 pub mod Reading
 pub mod Tracks
 pub mod Labels
+mod Examples
