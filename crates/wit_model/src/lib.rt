@@ -11,12 +11,14 @@ pub mod docs;
 pub mod function;
 pub mod function_kind;
 pub mod function_name;
+pub mod futures;
 pub mod ids;
 pub mod int;
 pub mod interface;
 pub mod kind_word;
 pub mod package_name;
 pub mod signature;
+mod slots;
 pub mod stability;
 pub mod types;
 pub mod world;
@@ -26,6 +28,7 @@ pub use arena::{Arena, Id};
 pub use ast_item::AstItem;
 pub use docs::Docs;
 pub use function::{Function, FunctionKind, Param};
+pub use futures::reaches_unknown;
 pub use ids::{
     InterfaceId, InterfacePlace, PackageId, PackagePlace, TypeId, TypePlace, WorldId, WorldPlace,
 };
