@@ -7,6 +7,7 @@
 pub mod abi;
 pub mod arena;
 pub mod ast_item;
+pub mod backward;
 pub mod docs;
 pub mod function;
 pub mod function_kind;
@@ -26,6 +27,7 @@ pub mod world;
 pub use abi::{AbiVariant, LiftLowerAbi, Mangling, ManglingAndAbi, ManglingFault};
 pub use arena::{Arena, Id};
 pub use ast_item::AstItem;
+pub use backward::is_backward;
 pub use docs::Docs;
 pub use function::{Function, FunctionKind, Param};
 pub use futures::reaches_unknown;

@@ -20,7 +20,7 @@ loop-place-preserved t c = λ n h.
 pub returns-in_ok-push : goal.returns-in_ok-push
 returns-in_ok-push t c = λ n h.
     let last : itself (is_awaited c.get.result.now.kind) c.in-Some.id ≡ _ = rw (← c.is_awaited.ensures, c.if-is_awaited.true) refl in
-    futures_whole c.args.types.now c.args.in_slot c.in-Some.id c.get.result.now (sym c.place_of_slot.ensures ∙ c.in-Some.is) c.get.ensures n c.loop-place.place c.args.out.now.items c.loop-place.out.items _ h (omega (arith, c.loop-place-test.false, c.slot_count-place-end.ensures)) c.loop-place.invariant (c.in_ok-push.ensures.items ∙ ap (λ l. c.loop-place.out.items ++ l) (sym last))
+    futures_whole c.args.types.now c.args.in_slot c.in-Some.id c.get.result.now (sym c.place_of_slot.ensures ∙ c.in-Some.is) c.get.ensures n c.loop-place.place c.args.out.now.items c.loop-place.out.items c.push.new.self.items h (omega (arith, c.loop-place-test.false, c.slot_count-place-end.ensures)) c.loop-place.invariant (c.in_ok-push.ensures.items ∙ ap (λ l. c.loop-place.out.items ++ l) (sym last))
 
 pub returns-else-is_awaited : goal.returns-else-is_awaited
 returns-else-is_awaited t c = λ n h.
