@@ -7,10 +7,12 @@
 pub mod abi;
 pub mod arena;
 pub mod ast_item;
+pub mod backward;
 pub mod docs;
 pub mod function;
 pub mod function_kind;
 pub mod function_name;
+pub mod futures;
 pub mod ids;
 pub mod int;
 pub mod interface;
@@ -22,6 +24,7 @@ mod package_name_tests;
 mod package_name_text;
 mod package_name_track;
 pub mod signature;
+mod slots;
 pub mod stability;
 pub mod types;
 pub mod world;
@@ -29,8 +32,10 @@ pub mod world;
 pub use abi::{AbiVariant, LiftLowerAbi, Mangling, ManglingAndAbi, ManglingFault};
 pub use arena::{Arena, Id};
 pub use ast_item::AstItem;
+pub use backward::is_backward;
 pub use docs::Docs;
 pub use function::{Function, FunctionKind, Param};
+pub use futures::reaches_unknown;
 pub use ids::{
     InterfaceId, InterfacePlace, PackageId, PackagePlace, TypeId, TypePlace, WorldId, WorldPlace,
 };
