@@ -9,6 +9,7 @@ pub mod arena;
 pub mod ast_item;
 pub mod backward;
 pub mod docs;
+mod front;
 pub mod function;
 pub mod function_kind;
 pub mod function_name;
@@ -23,6 +24,7 @@ pub mod package_name;
 mod package_name_tests;
 mod package_name_text;
 mod package_name_track;
+pub mod setters;
 pub mod signature;
 mod slots;
 pub mod stability;
@@ -42,6 +44,7 @@ pub use ids::{
 pub use int::{FlagsRepr, Int, discriminant_type};
 pub use interface::Interface;
 pub use package_name::PackageName;
+pub use setters::place_setters_after_getters;
 pub use signature::ParamResultTypes;
 pub use stability::Stability;
 pub use types::{
