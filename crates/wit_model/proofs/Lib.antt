@@ -1,1 +1,5 @@
+pub mod InTurn
 pub mod Marks
+pub mod Walk
+pub mod Placing
+pub mod Pairs

@@ -57,6 +57,22 @@ resource_of (kind.StaticGetter r) = Some r
 resource_of (kind.StaticSetter r) = Some r
 resource_of (kind.Constructor r) = Some r
 
+-- the resource that it makes, of a constructor
+abbrev pub constructed : FunctionKind → Option ℕ
+constructed kind.Freestanding = None
+constructed kind.AsyncFreestanding = None
+constructed kind.Getter = None
+constructed kind.Setter = None
+constructed (kind.Method r) = None
+constructed (kind.AsyncMethod r) = None
+constructed (kind.MethodGetter r) = None
+constructed (kind.MethodSetter r) = None
+constructed (kind.Static r) = None
+constructed (kind.AsyncStatic r) = None
+constructed (kind.StaticGetter r) = None
+constructed (kind.StaticSetter r) = None
+constructed (kind.Constructor r) = Some r
+
 -- the same kind of another resource
 abbrev pub with_resource : FunctionKind → ℕ → FunctionKind
 with_resource kind.Freestanding i = kind.Freestanding

@@ -133,6 +133,13 @@ impl<T, M> Arena<T, M> {
         &mut self.items[id.place]
     }
 
+    /// The values, as a slice.
+    pub(crate) fn as_slice(&self) -> &[T]
+        ensures { result.now ≡ self.now }
+    {
+        self.items.as_slice()
+    }
+
     /// The values in order.
     pub fn iter(&self) -> slice::Iter<'_, T>
         ensures rest { iter_rest result ≡ self.now }

@@ -1,6 +1,7 @@
 //! The names of functions: the name of the item, and that of an export.
-ghost use Rattle.std.specs.Prelude.{◌≡◌, IfOk, None, string_bytes};
-ghost use Rattle.std.specs.Cow.{cow_str_bytes};
+ghost use Rattle.std.specs.Prelude.{◌≡◌, IfOk, IfNone, string_bytes};
+ghost use Rattle.std.specs.Cow.{IsBorrowedStr, cow_str_bytes};
+ghost use Rattle.std.specs.Result.{IsOkAnd};
 ghost use Rattle.std.specs.Option.{option_copied};
 ghost use Rattle.wit_model.specs.Names.{HasMark, HasMarkOf, behind_first, export_name, item_name, legacy_name, mark_of, standard_name};
 
@@ -71,7 +72,8 @@ impl Function {
         interface: Option<&str>,
         mangling: Mangling,
     ) -> Result<CowStr<'_>, AllocError>
-        ensures { IfOk result (λ t. cow_str_bytes t ≡ export_name mangling (option_copied interface.entry) self.now.name) }
+        ensures name { IfOk result (λ t. cow_str_bytes t ≡ export_name mangling (option_copied interface.entry) self.now.name) }
+        ensures borrowed { mangling ≡ Mangling.Legacy → IfNone interface.entry (IsOkAnd result IsBorrowedStr) }
     {
         match mangling {
             Mangling::Standard32 => self.standard32_core_export_name(alloc, interface),
@@ -98,7 +100,8 @@ impl Function {
         alloc: Global,
         interface: Option<&str>,
     ) -> Result<CowStr<'_>, AllocError>
-        ensures { IfOk result (λ t. cow_str_bytes t ≡ legacy_name (option_copied interface.entry) self.now.name) }
+        ensures name { IfOk result (λ t. cow_str_bytes t ≡ legacy_name (option_copied interface.entry) self.now.name) }
+        ensures borrowed { IfNone interface.entry (IsOkAnd result IsBorrowedStr) }
     {
         let name = self.name.as_str();
         match interface {

@@ -7,36 +7,48 @@
 pub mod abi;
 pub mod arena;
 pub mod ast_item;
+pub mod backward;
 pub mod docs;
+mod front;
 pub mod function;
 pub mod function_kind;
 pub mod function_name;
+pub mod futures;
 pub mod ids;
 pub mod int;
 pub mod interface;
 pub mod kind_word;
 pub mod laws;
 pub mod package_name;
+#[cfg(test)]
+mod package_name_tests;
 mod package_name_text;
 mod package_name_track;
+pub mod setters;
+pub mod signature;
+mod slots;
 pub mod stability;
 pub mod types;
 pub mod world;
 
-pub use abi::{AbiVariant, LiftLowerAbi, Mangling, ManglingAndAbi};
+pub use abi::{AbiVariant, LiftLowerAbi, Mangling, ManglingAndAbi, ManglingFault};
 pub use arena::{Arena, Id};
 pub use ast_item::AstItem;
+pub use backward::is_backward;
 pub use docs::Docs;
 pub use function::{Function, FunctionKind, Param};
+pub use futures::reaches_unknown;
 pub use ids::{
     InterfaceId, InterfacePlace, PackageId, PackagePlace, TypeId, TypePlace, WorldId, WorldPlace,
 };
 pub use int::{FlagsRepr, Int, discriminant_type};
 pub use interface::Interface;
 pub use package_name::PackageName;
+pub use setters::place_setters_after_getters;
+pub use signature::ParamResultTypes;
 pub use stability::Stability;
 pub use types::{
     Case, Enum, EnumCase, Field, Flag, Flags, Handle, Record, Result_, Tuple, Type, TypeDef,
-    TypeDefKind, TypeOwner, Variant,
+    TypeDefKind, TypeOwner, Types, Variant,
 };
-pub use world::{IncludeName, World, WorldInclude, WorldItem, WorldKey};
+pub use world::{IncludeName, World, WorldInclude, WorldItem, WorldKey, world_item_func};

@@ -55,7 +55,7 @@ impl PackageName {
         ensures track { IfOk result (λ r. parts_of r.0 ≡ track_parts (parts_of version.now)) }
         ensures suffix { IfOk result (λ r. option_map string_bytes r.1 ≡ suffix_of (parts_of version.now)) }
     {
-        let (_, suffix) = split_canonical(alloc, version)?;
+        let (_, suffix) = Self::version_compat_track_string(alloc, version)?;
         Ok((track_version(version)?, suffix))
     }
 

@@ -1,4 +1,6 @@
 //! Since when an item is there, and how long.
+ghost use Rattle.std.specs.Prelude.{◌≡◌};
+ghost use Rattle.wit_model.specs.Stabilities.{is_stable, is_unknown};
 
 use wit_values::{Release, Text};
 
@@ -20,4 +22,20 @@ pub enum Stability {
         since: Release,
         deprecated: Option<Release>,
     },
+}
+
+impl Stability {
+    /// Whether no attribute tells.
+    pub fn is_unknown(&self) -> bool
+        ensures { result ≡ is_unknown self.now }
+    {
+        matches!(self, Stability::Unknown)
+    }
+
+    /// Whether the item is there since a version.
+    pub fn is_stable(&self) -> bool
+        ensures { result ≡ is_stable self.now }
+    {
+        matches!(self, Stability::Stable { .. })
+    }
 }

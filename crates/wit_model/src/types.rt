@@ -1,7 +1,8 @@
 //! Types, and what they are made of.
 
+use crate::arena::Arena;
 use crate::docs::Docs;
-use crate::ids::{InterfaceId, TypeId, WorldId};
+use crate::ids::{InterfaceId, TypeId, TypePlace, WorldId};
 use crate::stability::Stability;
 use wit_tree::Span;
 use wit_values::{Row, Text};
@@ -41,6 +42,9 @@ pub struct TypeDef {
     pub span: Span,
     pub external_id: Option<Text>,
 }
+
+/// The arena of types.
+pub type Types = Arena<TypeDef, TypePlace>;
 
 /// What a type is.
 #[derive(Debug, Clone, PartialEq, Eq, Hash, Drop)]

@@ -1,9 +1,14 @@
 //! Worlds.
+ghost use Rattle.std.specs.Prelude.{◌≡◌, IfOk, IsSome, Some, string_bytes};
+ghost use Rattle.std.specs.Option.{option_copied};
+ghost use Rattle.wit_model.specs.Worlds.{IsWithin, function_of, key_text, name_of, span_of, stability_of};
 
 use crate::docs::Docs;
 use crate::function::Function;
 use crate::ids::{InterfaceId, PackageId, TypeId, WorldId};
 use crate::stability::Stability;
+use crate::types::Types;
+use std::alloc::{AllocError, Global};
 use wit_tree::Span;
 use wit_values::{Row, Table, Text};
 
@@ -65,4 +70,69 @@ pub enum WorldItem {
         /// The place of the name in this world.
         span: Span,
     },
+}
+
+impl WorldKey {
+    /// The name. The key is one.
+    pub fn unwrap_name(self) -> String
+        requires { IsSome (name_of self) }
+        ensures { name_of self ≡ Some (string_bytes result) }
+    {
+        match self {
+            WorldKey::Name(name) => name.into_string(),
+            WorldKey::Interface(_) => unreachable!(),
+        }
+    }
+
+    /// The name, or `interface-` and the place of the interface.
+    ///
+    /// The error is want of memory.
+    pub fn to_text(&self, alloc: Global) -> Result<String, AllocError>
+        ensures { IfOk result (λ t. string_bytes t ≡ key_text self.now) }
+    {
+        match self {
+            WorldKey::Name(name) => String::from_str(alloc, name.as_str()),
+            WorldKey::Interface(id) => {
+                let place = id.index();
+                format!(in alloc; "interface-{place}")
+            }
+        }
+    }
+}
+
+impl WorldItem {
+    /// How stable the item is: as an interface says itself, as a function or a type is.
+    ///
+    /// A type's id is one of `types`.
+    pub fn stability<'a>(&'a self, types: &'a Types) -> &'a Stability
+        requires { IsWithin self.now types.now }
+        ensures { stability_of self.now types.now ≡ Some result.now }
+    {
+        match self {
+            WorldItem::Interface { stability, .. } => stability,
+            WorldItem::Function(function) => &function.stability,
+            WorldItem::Type_ { id, .. } => &types.get(*id).stability,
+        }
+    }
+
+    /// The item's place, of a function that of its name.
+    pub fn span(&self) -> Span
+        ensures { result ≡ span_of self.now }
+    {
+        match self {
+            WorldItem::Interface { span, .. } => *span,
+            WorldItem::Function(function) => function.span,
+            WorldItem::Type_ { span, .. } => *span,
+        }
+    }
+}
+
+/// The function that an item of a world is, if it is one.
+pub fn world_item_func(item: &WorldItem) -> Option<&Function>
+    ensures { option_copied result ≡ function_of item.now }
+{
+    match item {
+        WorldItem::Function(function) => Some(function),
+        WorldItem::Interface { .. } | WorldItem::Type_ { .. } => None,
+    }
 }

@@ -25,8 +25,10 @@ fn labels(rt: HostRuntime) -> Result<(), Fail> {
     ] {
         assert_eq!(rt; validate_id(text).is_ok(), want, "{text}");
     }
-    let long = "a".repeat(rt.alloc(), 10_000)?;
-    assert!(rt; validate_id(long.as_str()).is_ok());
+    let label = "ab-c2".repeat(rt.alloc(), 2_000)?;
+    assert!(rt; validate_id(label.as_str()).is_ok());
+    let other = "ab-c-".repeat(rt.alloc(), 2_000)?;
+    assert!(rt; validate_id(other.as_str()).is_err());
     Ok(())
 }
 
@@ -50,6 +52,8 @@ fn mangled_names(rt: HostRuntime) {
         ("[method]r.f.g", false),
         ("[constructor]r.f", false),
         ("[METHOD]r.f", false),
+        ("[method]é.f", false),
+        ("[", false),
     ] {
         assert_eq!(rt; is_mangled(name), want, "{name}");
     }

@@ -1,0 +1,96 @@
+//! The futures and streams of a function's signature.
+ghost use Rattle.std.specs.Prelude.{◌≡◌, ◌≤◌, ◌++◌, ℕ, IfOk, OnOk, length};
+ghost use Rattle.wit_model.specs.Futures.{futures, futures_of, has_unknown, reaches_unknown};
+ghost use Rattle.wit_model.specs.Types.{IsBackward, IsOver, rank};
+
+use crate::function::Function;
+use crate::ids::TypeId;
+use crate::slots::{is_awaited, is_unknown, place_of_slot, slot, slot_count};
+use crate::types::{Type, Types};
+use std::alloc::{AllocError, Global};
+
+// Adds the futures and streams in a slot.
+fn add_futures(
+    types: &Types,
+    in_slot: Option<Type>,
+    out: &mut Vec<TypeId>,
+) -> Result<(), AllocError>
+    requires backward { IsBackward types.now }
+    requires within { rank in_slot ≤ length types.now }
+    ensures { OnOk result ((n : ℕ) → rank in_slot ≤ n → out.new.items ≡ out.old.items ++ futures types.now n in_slot) }
+{
+    let Some(id) = place_of_slot(in_slot) else {
+        return Ok(());
+    };
+    let kind = &types.get(id).kind;
+    for place in 0..slot_count(kind) {
+        add_futures(types, slot(kind, place), out)?;
+    }
+    if is_awaited(kind) {
+        out.push(id)?;
+    }
+    Ok(())
+}
+
+// Whether a type of another package is in a slot.
+fn is_unknown_in(types: &Types, in_slot: Option<Type>) -> bool
+    requires backward { IsBackward types.now }
+    requires within { rank in_slot ≤ length types.now }
+    ensures { (n : ℕ) → rank in_slot ≤ n → result ≡ has_unknown types.now n in_slot }
+{
+    let Some(id) = place_of_slot(in_slot) else {
+        return false;
+    };
+    let kind = &types.get(id).kind;
+    if is_unknown(kind) {
+        return true;
+    }
+    for place in 0..slot_count(kind) {
+        if is_unknown_in(types, slot(kind, place)) {
+            return true;
+        }
+    }
+    false
+}
+
+/// Whether a type of another package stands in a function's signature or below it.
+///
+/// Handles are not entered. `types` is the arena of the function's types, and each entry refers
+/// to earlier ones alone, as `is_backward` tells.
+pub fn reaches_unknown(types: &Types, function: &Function) -> bool
+    requires backward { IsBackward types.now }
+    requires within { IsOver types.now function.now }
+    ensures { result ≡ reaches_unknown types.now function.now }
+{
+    for param in function.params.as_slice() {
+        if is_unknown_in(types, Some(param.ty)) {
+            return true;
+        }
+    }
+    is_unknown_in(types, function.result)
+}
+
+impl Function {
+    /// The futures and streams in the parameters, and then in the result: each after those below
+    /// it, and as often as it stands there. Handles are not entered.
+    ///
+    /// `types` is the arena of the function's types, and each entry refers to earlier ones alone,
+    /// as `is_backward` tells. What is below a type of another package is not known, and none of
+    /// it is listed: `reaches_unknown` tells where that is so. The error is want of memory.
+    pub fn find_futures_and_streams(
+        &self,
+        alloc: Global,
+        types: &Types,
+    ) -> Result<Vec<TypeId>, AllocError>
+        requires backward { IsBackward types.now }
+        requires within { IsOver types.now self.now }
+        ensures { IfOk result (λ found. found.items ≡ futures_of types.now self.now) }
+    {
+        let mut found = Vec::new(alloc);
+        for param in self.params.as_slice() {
+            add_futures(types, Some(param.ty), &mut found)?;
+        }
+        add_futures(types, self.result, &mut found)?;
+        Ok(found)
+    }
+}
