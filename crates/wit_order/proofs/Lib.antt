@@ -9,3 +9,4 @@ pub mod HeapState
 pub mod Forward
 pub mod Rows
 pub mod SameEdges
+pub mod Decided
