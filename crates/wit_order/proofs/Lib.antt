@@ -10,3 +10,4 @@ pub mod Forward
 pub mod Rows
 pub mod SameEdges
 pub mod Decided
+pub mod Lookup

@@ -16,7 +16,7 @@ use Rattle.wit_order.proofs.Tables.{matched, some_from_map}
 abbrev pub key_eq : Bor (List ℕ) → Bor (List ℕ) → Bool
 key_eq a b = bytes_eq a.now b.now
 
-past_all : (p n : ℕ) → cond (nat_lt p n) (Some p) None ≡ None → n ≤ p
+pub past_all : (p n : ℕ) → cond (nat_lt p n) (Some p) None ≡ None → n ≤ p
 past_all p n e = elim (cases_lt p n) [
   | inl l ↦ absurd (none-some p (sym (sym (cond-true (nat_lt p n) (Some p) None (lt-ltb p n l)) ∙ e)))
   | inr ge ↦ ge
