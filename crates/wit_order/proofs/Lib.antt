@@ -9,3 +9,5 @@ pub mod HeapState
 pub mod Forward
 pub mod Rows
 pub mod SameEdges
+pub mod Decided
+pub mod Lookup

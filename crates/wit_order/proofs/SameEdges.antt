@@ -6,8 +6,9 @@ use Rattle.std.specs.Str.{bytes_eq}
 use Rattle.std.proofs.lemmas.List.{take_more, take_all, length-map}
 use Rattle.wit_order.specs.Order.{IsDependencyFirst, IsLeast}
 use Rattle.wit_order.specs.Table.{Row, place_of, IsMissing, IsCyclic, IsComplete, Leads, IsOrder}
-use Rattle.wit_order.specs.SameEdges.{NeedsAll, HaveSameEdges, HasEdgeThat, AreRefused, SameEdgesLaw}
+use Rattle.wit_order.specs.Laws.{NeedsAll, HaveSameEdges, HasEdgeThat, AreRefused, OneAnswerLaw, SameEdgesLaw}
 use Rattle.wit_order.proofs.Outcome.{cycle_to, order_from, least_to}
+use Rattle.wit_order.proofs.Decided.{accepted_or_refused, never_both}
 
 -- two least orders are one
 same_front : (leads : ℕ → ℕ → Type 0) (n : ℕ) (p q : List ℕ) → IsDependencyFirst leads n p → IsLeast leads n p → IsDependencyFirst leads n q → IsLeast leads n q
@@ -86,14 +87,23 @@ refused_onward : (rs ss : List Row) → HaveSameEdges rs ss → AreRefused rs �
 refused_onward rs ss h (inl missing) = inl (missing_onward rs ss h.names h.onward missing)
 refused_onward rs ss h (inr (complete, cyclic)) = inr (complete_back ss rs (sym h.names) h.back complete, cyclic_onward rs ss h.names h.onward cyclic)
 
-turned : (rs ss : List Row) → HaveSameEdges rs ss → HaveSameEdges ss rs
-turned rs ss h = record { names = sym h.names; onward = h.back; back = h.onward }
+orders_same : (rs ss : List Row) → HaveSameEdges rs ss → (places others : List ℕ) → IsOrder rs places → IsOrder ss others → places ≡ others
+orders_same rs ss h places others o o' =
+    let onto = order_onward rs ss h places o in
+    least_one (Leads ss) (length ss) places others onto.sorted onto.least o'.sorted o'.least
+
+pub one_answer : OneAnswerLaw
+one_answer rs = record {
+  either = accepted_or_refused rs;
+  never_both = never_both rs;
+  one = λ places others o o'. least_one (Leads rs) (length rs) places others o.sorted o.least o'.sorted o'.least;
+}
 
 pub same_edges : SameEdgesLaw
 same_edges rs ss h = record {
-  accepted = ((λ a. (a.0, order_onward rs ss h a.0 a.1)), (λ a. (a.0, order_onward ss rs (turned rs ss h) a.0 a.1)));
-  refused = (refused_onward rs ss h, refused_onward ss rs (turned rs ss h));
-  same = λ places others o o'.
-      let onto = order_onward rs ss h places o in
-      least_one (Leads ss) (length ss) places others onto.sorted onto.least o'.sorted o'.least;
+  alike = elim (accepted_or_refused rs) [
+    | inl a ↦ inl (a, (a.0, order_onward rs ss h a.0 a.1))
+    | inr r ↦ inr (r, refused_onward rs ss h r)
+  ];
+  same = orders_same rs ss h;
 }

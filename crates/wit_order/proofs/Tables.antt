@@ -51,7 +51,7 @@ place_by_key m name =
     let l : length (rows m) ≡ length (keys m) = length-map m.entries entry_row ∙ sym (length-map m.entries (λ e. e.0)) in
     ap (λ n. cond (nat_lt n (length (rows m))) (Some n) None) p ∙ ap (λ n. cond (nat_lt (position_or_len (λ (k : Bor (List ℕ)). bytes_eq name k.now) (keys m)) n) (Some (position_or_len (λ (k : Bor (List ℕ)). bytes_eq name k.now) (keys m))) None) l
 
-some_from_map : {A C : Type 0} (f : A → C) (o : Option A) (z : C) → option_map f o ≡ Some z → (x : A) × (o ≡ Some x) × (f x ≡ z)
+pub some_from_map : {A C : Type 0} (f : A → C) (o : Option A) (z : C) → option_map f o ≡ Some z → (x : A) × (o ≡ Some x) × (f x ≡ z)
 some_from_map f None z e = absurd (none-some z e)
 some_from_map f (Some x) z e = (x, refl, same_Some (f x) z e)
 

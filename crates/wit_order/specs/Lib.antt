@@ -5,4 +5,4 @@ pub mod Order
 pub mod Refused
 pub mod Resolved
 pub mod Table
-pub mod SameEdges
+pub mod Laws

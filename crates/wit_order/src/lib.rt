@@ -1,4 +1,8 @@
 //! The order in which the named items of a table can be defined.
+//!
+//! A table gives each name the names that it needs; a name's place is the index of its key.
+//! [`order`] puts the names into the least order in which each comes after those that it needs,
+//! or names the edge that forbids one. [`laws`] says what holds of every table.
 #![tactic(auto)]
 
 mod heap;

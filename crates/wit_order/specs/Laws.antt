@@ -1,5 +1,5 @@
--- Tables whose names stand in the same order and need the same names.
-use Rattle.std.specs.Prelude.{◌≡◌, ◌↔◌, ◌⊎◌, ℕ, List, map}
+-- Which tables have an order, and which have the same one.
+use Rattle.std.specs.Prelude.{◌≡◌, ◌⊎◌, ℕ, List, map}
 use Rattle.wit_tree.specs.declared.tree.Id.{Id}
 use Rattle.wit_order.specs.Table.{Row, IsEdge, IsMissing, IsCyclic, IsComplete, IsOrder}
 
@@ -17,7 +17,7 @@ pub record HaveSameEdges (rs ss : List Row) : Type 0 where
 abbrev pub HasEdgeThat : (ℕ → Id → Type 0) → List Row → Type 0
 HasEdgeThat P rs = (i : ℕ) × (k : ℕ) × (id : Id) × IsEdge rs i k id × P i id
 
--- the rows have an order
+-- the rows have a least dependency-first order
 abbrev pub AreAccepted : List Row → Type 0
 AreAccepted rs = (places : List ℕ) × IsOrder rs places
 
@@ -25,11 +25,20 @@ AreAccepted rs = (places : List ℕ) × IsOrder rs places
 abbrev pub AreRefused : List Row → Type 0
 AreRefused rs = HasEdgeThat (IsMissing rs) rs ⊎ (IsComplete rs × HasEdgeThat (IsCyclic rs) rs)
 
--- accepted alike, refused alike, and in the same order
+-- accepted in one order, or refused, and never both
+pub record AreDecided (rs : List Row) : Type 0 where
+  pub either : AreAccepted rs ⊎ AreRefused rs
+  pub never_both : AreAccepted rs → AreRefused rs → ⊥
+  pub one : (places others : List ℕ) → IsOrder rs places → IsOrder rs others → places ≡ others
+
+-- both accepted or both refused, and in the same order
 pub record AreOrderedAlike (rs ss : List Row) : Type 0 where
-  pub accepted : AreAccepted rs ↔ AreAccepted ss
-  pub refused : AreRefused rs ↔ AreRefused ss
+  pub alike : (AreAccepted rs × AreAccepted ss) ⊎ (AreRefused rs × AreRefused ss)
   pub same : (places others : List ℕ) → IsOrder rs places → IsOrder ss others → places ≡ others
+
+-- each table has one answer
+abbrev pub OneAnswerLaw : Type 0
+OneAnswerLaw = (rs : List Row) → AreDecided rs
 
 -- how often and in which order a row writes the names that it needs changes nothing
 abbrev pub SameEdgesLaw : Type 0
