@@ -1,2 +1,6 @@
+pub mod Functions
+pub mod Interfaces
 pub mod Kinds
+pub mod Lists
+pub mod Types
 pub mod Words
