@@ -2,5 +2,6 @@ pub mod Functions
 pub mod Interfaces
 pub mod Kinds
 pub mod Lists
+pub mod Output
 pub mod Types
 pub mod Words

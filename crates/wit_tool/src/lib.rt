@@ -1,8 +1,12 @@
 //! The listing of a package, and the line of a refusal.
 #![tactic(auto)]
 
+mod fault;
 mod functions;
 mod interfaces;
 mod kinds;
+mod output;
 mod types;
 mod words;
+
+pub use fault::RunFault;
