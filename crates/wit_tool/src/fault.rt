@@ -2,7 +2,6 @@
 
 use std::alloc::AllocError;
 
-
 /// Why a text was not written whole.
 #[derive(Clone, Copy, Debug, PartialEq, Eq)]
 pub enum RunFault {

@@ -79,7 +79,10 @@ fn push_interface(text: &mut String, place: usize, interface: &Interface) -> Res
 }
 
 /// The lines of all interfaces, in order.
-pub fn push_interfaces(text: &mut String, interfaces: &Arena<Interface, InterfacePlace>) -> Result<(), AllocError>
+pub fn push_interfaces(
+    text: &mut String,
+    interfaces: &Arena<Interface, InterfacePlace>,
+) -> Result<(), AllocError>
     ensures { OnOk result (Adds text.old text.new (numbered interface_lines 0 interfaces.now)) }
 {
     for place in 0..interfaces.len() {

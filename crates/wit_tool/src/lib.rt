@@ -1,6 +1,7 @@
 //! The listing of a package, and the line of a refusal.
 #![tactic(auto)]
 
+mod error_line;
 mod fault;
 mod functions;
 mod interfaces;

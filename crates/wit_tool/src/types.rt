@@ -40,7 +40,10 @@ fn push_type_line(text: &mut String, place: usize, def: &TypeDef) -> Result<(), 
 }
 
 /// The lines of all types, in order.
-pub fn push_type_lines(text: &mut String, types: &Arena<TypeDef, TypePlace>) -> Result<(), AllocError>
+pub fn push_type_lines(
+    text: &mut String,
+    types: &Arena<TypeDef, TypePlace>,
+) -> Result<(), AllocError>
     ensures { OnOk result (Adds text.old text.new (numbered type_line 0 types.now)) }
 {
     for place in 0..types.len() {
