@@ -6,8 +6,10 @@ mod fault;
 mod functions;
 mod interfaces;
 mod kinds;
+mod listing;
 mod output;
 mod types;
 mod words;
+mod worlds;
 
 pub use fault::RunFault;
