@@ -1,15 +1,20 @@
 //! The listing of a package, and the line of a refusal.
 #![tactic(auto)]
 
-mod error_line;
 mod fault;
 mod functions;
 mod interfaces;
 mod kinds;
-mod listing;
 mod output;
+mod package;
+mod refusal;
 mod types;
 mod words;
 mod worlds;
 
 pub use fault::RunFault;
+pub use package::write_listing;
+pub use refusal::error_line;
+
+#[cfg(test)]
+mod tests;

@@ -1,13 +1,17 @@
 //! The listing of a package.
 ghost use Rattle.std.specs.Prelude.{◌≡◌, ◌++◌, IfOk, OnOk, string_bytes};
 ghost use Rattle.wit_tool.specs.Words.{Adds};
+ghost use Rattle.wit_tool.specs.Output.{IsWritten};
 ghost use Rattle.wit_tool.specs.Listing.{count_line, header_text, interfaces_text, listing_text, types_text, worlds_text};
 
+use crate::fault::RunFault;
 use crate::interfaces::push_interfaces;
+use crate::output::put;
 use crate::types::push_type_lines;
 use crate::words::push_package_name;
 use crate::worlds::push_worlds;
 use std::alloc::{AllocError, Global};
+use std::io::Write;
 use wit_model::{
     Arena, Interface, InterfacePlace, PackageName, TypeDef, TypePlace, World, WorldPlace,
 };
@@ -59,7 +63,7 @@ fn push_header(text: &mut String, name: &PackageName) -> Result<(), AllocError>
 }
 
 /// The listing of a package: its name, its types, its interfaces and its worlds.
-pub fn listing_of(
+fn listing_of(
     alloc: Global,
     name: &PackageName,
     types: &Arena<TypeDef, TypePlace>,
@@ -75,4 +79,23 @@ pub fn listing_of(
     push_all_worlds(&mut text, interfaces, worlds)?;
     text.push_str("foreign 0\n")?;
     Ok(text)
+}
+
+/// Writes the listing of a package that uses no other: its name, its types, its interfaces and its
+/// worlds, a line for each and for what it holds.
+///
+/// Where a write fails or takes no byte, a beginning of the listing went out; for want of memory,
+/// nothing.
+pub fn write_listing<W: Write>(
+    alloc: Global,
+    name: &PackageName,
+    types: &Arena<TypeDef, TypePlace>,
+    interfaces: &Arena<Interface, InterfacePlace>,
+    worlds: &Arena<World, WorldPlace>,
+    out: &mut W,
+) -> Result<(), RunFault>
+    ensures { IsWritten (λ text. text ≡ listing_text name.now types.now interfaces.now worlds.now) (W.contents out.old) (W.contents out.new) result }
+{
+    let text = listing_of(alloc, name, types, interfaces, worlds)?;
+    put(out, text.as_bytes())
 }

@@ -1,7 +1,7 @@
 use Rattle.std.proofs.Common.{◌≡◌, ◌∙◌, sym, ap, true, rules}
 use Rattle.wit_tool.specs.ErrorLine.{has_place}
 use Rattle.wit_tool.proofs.Placing.{placed}
-use Rattle.wit_tool.proofs.error_line.place_of.Goals as goal
+use Rattle.wit_tool.proofs.refusal.place_of.Goals as goal
 
 pub returns-then-has_place : goal.returns-then-has_place
 returns-then-has_place c =
