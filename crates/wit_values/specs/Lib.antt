@@ -1,1 +1,2 @@
 pub mod TextEntries
+pub mod ReleaseText

@@ -5,6 +5,7 @@
 #![tactic(auto)]
 
 pub mod release;
+mod release_text;
 pub mod row;
 pub mod table;
 pub mod text;

@@ -1,0 +1,103 @@
+//! Folded names.
+ghost use Rattle.std.specs.Prelude.{◌≡◌, IfOk, IsTrue, nat_eq};
+ghost use Rattle.std.proofs.Common.{rules};
+ghost use Rattle.std.specs.Cmp.{partial_equiv_from_equiv};
+ghost use Rattle.std.specs.Cmp.Lexicographic.{nat_list_eq_equiv, pointwise};
+ghost use Rattle.std.specs.Cmp.Rules.{hashing};
+ghost use Rattle.std.specs.Hash as fed;
+ghost use Rattle.wit_names.specs.Folded.{folded_key, single, single_if_bare, without_kind};
+ghost use Rattle.wit_names.specs.Mangled.{is_mangled};
+
+use crate::front::behind;
+use std::alloc::{AllocError, Global};
+use std::hash::{Hash, Hasher};
+use std::marker::Model;
+
+fn without_kind(name: &str) -> &str
+    ensures { result.now ≡ without_kind name.now }
+{
+    match behind(name, "[method]") {
+        Some(rest) => rest,
+        None => match behind(name, "[static]") {
+            Some(rest) => rest,
+            None => name,
+        },
+    }
+}
+
+fn single(text: &str) -> &str
+    ensures { result.now ≡ single text.now }
+{
+    match text.split_once('.') {
+        Some((owner, member)) => if owner == member { owner } else { text },
+        None => text,
+    }
+}
+
+fn single_if_bare(text: &str) -> &str
+    ensures { result.now ≡ single_if_bare text.now }
+{
+    if behind(text, "[").is_some() {
+        text
+    } else {
+        single(text)
+    }
+}
+
+/// A mangled name by its key, which tells it apart from the other names beside it.
+///
+/// The key is the name in ASCII lower case without `[method]` or `[static]` in front;
+/// `[constructor]`, `[get]` and `[set]` stay. What is then `l.l` with no accessor in front is `l`.
+/// Two folded names are equal, and are fed to a hasher alike, exactly if their keys are equal.
+#[derive(Debug, Drop)]
+pub struct Folded {
+    key: String,
+}
+
+impl Model for Folded {
+    ghost use Rattle.std.specs.Prelude.{ℕ, List, string_bytes};
+
+    ghost Value = { List ℕ };
+
+    ghost view = { λ f. string_bytes f.key };
+}
+
+impl Folded {
+    /// The folded name of a mangled name.
+    ///
+    /// The error is want of memory.
+    pub fn new(alloc: Global, name: &str) -> Result<Folded, AllocError>
+        requires { IsTrue (is_mangled name.now) }
+        ensures { IfOk result (λ f. f ≡ folded_key name.now) }
+    {
+        let lower = name.to_ascii_lowercase(alloc)?;
+        let key = single_if_bare(without_kind(lower.as_str()));
+        Ok(Folded {
+            key: String::from_str(alloc, key)?,
+        })
+    }
+}
+
+impl PartialEq for Folded {
+    ghost eq = { pointwise nat_eq };
+
+    ghost laws = { partial_equiv_from_equiv nat_list_eq_equiv };
+
+    fn eq(&self, other: &Folded) -> bool {
+        self.key == other.key
+    }
+}
+
+impl Eq for Folded {
+    ghost laws = { nat_list_eq_equiv };
+}
+
+impl Hash for Folded {
+    ghost hash_input = { λ f. fed.str f };
+
+    ghost respects_eq = { Prim.search (hashing, rules) };
+
+    fn hash<H: Hasher>(&self, state: &mut H) {
+        self.key.as_str().hash(state);
+    }
+}

@@ -1,0 +1,11 @@
+pub mod Greedy
+pub mod Cycle
+pub mod Sorting
+pub mod Tables
+pub mod StuckEdges
+pub mod Outcome
+pub mod Counts
+pub mod HeapState
+pub mod Forward
+pub mod Rows
+pub mod SameEdges

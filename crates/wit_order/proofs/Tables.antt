@@ -1,0 +1,123 @@
+-- A table, its rows, and their graph have the same edges.
+use Rattle.std.proofs.Common.{◌≡◌, ℕ, zero, suc, ◌+◌, ◌<◌, Bool, not, cond, List, [], ◌∷◌, ◌++◌, length, take, map, arith, sym, ◌∙◌, ap, refl, subst, inl, inr, Option, Some, None, IsSome, Vec, Global, Bor, slice_get}
+use Rattle.std.specs.Prelude.{position, nat_lt}
+use Rattle.std.specs.List.{prefix_len, position_or_len}
+use Rattle.std.specs.Str.{bytes_eq}
+use Rattle.std.specs.Option.{option_map}
+use Rattle.std.proofs.lemmas.List.{take_more, map-append, length-map}
+use Rattle.std.proofs.lemmas.Option.{slice_get_within, get_or_from_slice_get, slice_get-map, same_Some, none-some}
+use Rattle.indexmap.specs.IndexMap.{IndexMap, keys, index_map_len}
+use Rattle.std.specs.Map.Iter.{deref_pair}
+use Rattle.std.proofs.lemmas.Bool.{false≢true}
+use Rattle.wit_tree.specs.declared.tree.Id.{Id}
+use Rattle.wit_tree.specs.declared.error.ParseErrorKind.{ParseErrorKind}
+use Rattle.wit_tree.specs.Refusal.{IsItemNotFound}
+use Rattle.wit_order.specs.Graph.{Graph}
+use Rattle.wit_order.specs.Table.{Row, Table, entry_row, rows, target, place_of}
+use Rattle.wit_order.specs.Refused.{RefusesMissing}
+use Rattle.wit_order.specs.Resolved.{RefusesFirst, Resolves}
+
+-- the step of a loop that maps a list
+pub map_step : {A B C : Type 0} (f : A → C) (g : B → C) (xs : List A) (ys : List B) (i : ℕ) (x : A) (y : B) → map f xs ≡ map g (take i ys) → slice_get ys i ≡ Some y → f x ≡ g y
+    → map f (xs ++ x ∷ []) ≡ map g (take (i + 1) ys)
+map_step f g xs ys i x y same at e =
+    let t : take (i + 1) ys ≡ take i ys ++ y ∷ [] = take_more ys i y (slice_get_within ys i y at) ∙ ap (λ z. take i ys ++ z ∷ []) (get_or_from_slice_get ys i y y at) in
+    map-append f xs (x ∷ []) ∙ ap (λ z. z ++ f x ∷ []) same ∙ ap (λ z. map g (take i ys) ++ z ∷ []) e ∙ sym (map-append g (take i ys) (y ∷ [])) ∙ ap (map g) (sym t)
+
+module _ {K V S : Type 0} (m : IndexMap K V S) (i : ℕ) (r : Option (Bor K × Bor V)) (p : Bor K × Bor V) (entry : option_map deref_pair r ≡ slice_get m.entries i) (some : r ≡ Some p) where
+  pub entry_at : slice_get m.entries i ≡ Some (deref_pair p)
+  entry_at = sym entry ∙ ap (option_map deref_pair) some
+
+  pub key_at : slice_get (keys m) i ≡ Some p.0.now
+  key_at = slice_get-map (λ e. e.0) m.entries i ∙ ap (option_map (λ e. e.0)) entry_at
+
+-- the row of what was got at a place
+pub row_at_place : (m : Table) (i : ℕ) (r : Option (Bor (Bor (List ℕ)) × Bor (Vec Id Global))) (p : Bor (Bor (List ℕ)) × Bor (Vec Id Global))
+    → option_map deref_pair r ≡ slice_get m.entries i → r ≡ Some p → slice_get (rows m) i ≡ Some (entry_row (deref_pair p))
+row_at_place m i r p entry some = slice_get-map entry_row m.entries i ∙ ap (option_map entry_row) (entry_at m i r p entry some)
+
+pub rows_long : (m : Table) → length (rows m) ≡ index_map_len m
+rows_long m = length-map m.entries entry_row
+
+-- where a test first passes by name, and by key
+same_prefix : (test : List ℕ → Bool) (es : List (Bor (List ℕ) × Vec Id Global)) → prefix_len (λ (row : Row). not (test row.name)) (map entry_row es) ≡ prefix_len (λ (k : Bor (List ℕ)). not (test k.now)) (map (λ e. e.0) es)
+same_prefix test [] = refl
+same_prefix test (e ∷ es) = ap (λ n. cond (not (test e.0.now)) (1 + n) 0) (same_prefix test es)
+
+-- a name's place among the rows is its key's index in the table
+pub place_by_key : (m : Table) (name : List ℕ) → place_of (rows m) name ≡ position (λ (k : Bor (List ℕ)). bytes_eq name k.now) (keys m)
+place_by_key m name =
+    let p : position_or_len (λ (row : Row). bytes_eq name row.name) (rows m) ≡ position_or_len (λ (k : Bor (List ℕ)). bytes_eq name k.now) (keys m) = same_prefix (bytes_eq name) m.entries in
+    let l : length (rows m) ≡ length (keys m) = length-map m.entries entry_row ∙ sym (length-map m.entries (λ e. e.0)) in
+    ap (λ n. cond (nat_lt n (length (rows m))) (Some n) None) p ∙ ap (λ n. cond (nat_lt (position_or_len (λ (k : Bor (List ℕ)). bytes_eq name k.now) (keys m)) n) (Some (position_or_len (λ (k : Bor (List ℕ)). bytes_eq name k.now) (keys m))) None) l
+
+some_from_map : {A C : Type 0} (f : A → C) (o : Option A) (z : C) → option_map f o ≡ Some z → (x : A) × (o ≡ Some x) × (f x ≡ z)
+some_from_map f None z e = absurd (none-some z e)
+some_from_map f (Some x) z e = (x, refl, same_Some (f x) z e)
+
+-- lists that map to the same list have elements at the same places
+pub matched : {A B C : Type 0} (f : A → C) (g : B → C) (xs : List A) (ys : List B) → map f xs ≡ map g ys → (k : ℕ) (y : B) → slice_get ys k ≡ Some y
+    → (x : A) × (slice_get xs k ≡ Some x) × (f x ≡ g y)
+matched {C} f g xs ys same k y at =
+    let there : slice_get (map g ys) k ≡ Some (g y) = slice_get-map g ys k ∙ ap (option_map g) at in
+    some_from_map f (slice_get xs k) (g y) (sym (slice_get-map f xs k) ∙ ap (λ (l : List C). slice_get l k) same ∙ there)
+
+pub slice_get-take : {A : Type 0} (xs : List A) (i k : ℕ) → k < i → slice_get (take i xs) k ≡ slice_get xs k
+slice_get-take xs zero k h = absurd (omega arith)
+slice_get-take [] (suc i) k h = refl
+slice_get-take (x ∷ xs) (suc i) zero h = refl
+slice_get-take (x ∷ xs) (suc i) (suc k) h = slice_get-take xs i k (omega (arith, h))
+
+pub known : (o : Option ℕ) (p : ℕ) → o ≡ Some p → IsSome o
+known o p e = subst (λ (x : Option ℕ). IsSome x) (sym e) refl
+
+-- the first id that is missing
+pub refuse_first : (rs : List Row) (ids : List Id) (sort row : List ℕ) (kind : ParseErrorKind) (i : ℕ) (id : Id)
+    → Resolves rs (take i ids) row → slice_get ids i ≡ Some id → target rs id ≡ None → IsItemNotFound id.span id.name.now sort kind → RefusesFirst rs ids sort kind
+refuse_first rs ids sort row kind i id r at gone says = record {
+  index = i;
+  id = id;
+  at = at;
+  missing = gone;
+  says = says;
+  earlier = λ k other h there. let x = matched Some (target rs) row (take i ids) r k other (slice_get-take ids i k h ∙ there) in known (target rs other) x.0 (sym x.2);
+}
+
+-- the places that a row wants, and those that a row of the graph has
+abbrev pub wants : List Row → Row → List (Option ℕ)
+wants rs row = map (target rs) row.needs
+
+abbrev pub has : Vec ℕ Global → List (Option ℕ)
+has row = map Some row.items
+
+-- an id of an earlier place is known
+pub known_edge : (rs : List Row) (g : Graph) (vs : List Row) → map has g ≡ map (wants rs) vs → (j l : ℕ) (row : Row) (id : Id) → slice_get vs j ≡ Some row → slice_get row.needs l ≡ Some id
+    → IsSome (target rs id)
+known_edge rs g vs same j l row id at there =
+    let found = matched has (wants rs) g vs same j row at in
+    let x = matched Some (target rs) found.0.items row.needs found.2 l id there in
+    known (target rs id) x.0 (sym x.2)
+
+pub not_missing : (o : Option ℕ) → IsSome o → o ≡ None → ⊥
+not_missing None h e = false≢true h
+not_missing (Some x) h e = none-some x (sym e)
+
+pub refuse_missing : (rs : List Row) (g : Graph) (sort : List ℕ) (kind : ParseErrorKind) (i : ℕ) (row : Row)
+    → map has g ≡ map (wants rs) (take i rs) → slice_get rs i ≡ Some row → RefusesFirst rs row.needs sort kind → RefusesMissing rs sort kind
+refuse_missing rs g sort kind i row same at r = record {
+  place = i;
+  index = r.index;
+  id = r.id;
+  says = r.says;
+  first = record {
+    is = (row, at, r.at);
+    holds = r.missing;
+    earlier = λ j l y e before gone. elim before [
+      | inl less ↦ not_missing (target rs y) (known_edge rs g (take i rs) same j l e.0 y (slice_get-take rs i j less ∙ e.1) e.2) gone
+      | inr here ↦
+          let same_row : Some e.0 ≡ Some row = sym e.1 ∙ ap (slice_get rs) here.0 ∙ at in
+          let there : e.0 ≡ row = same_Some e.0 row same_row in
+          not_missing (target rs y) (r.earlier l y here.1 (ap (λ (v : Row). slice_get v.needs l) (sym there) ∙ e.2)) gone
+    ];
+  };
+}

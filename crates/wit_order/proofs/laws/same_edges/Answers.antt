@@ -1,0 +1,5 @@
+use Rattle.wit_order.proofs.SameEdges.{same_edges}
+use Rattle.wit_order.proofs.laws.same_edges.Goals as goal
+
+pub returns : goal.returns
+returns c = same_edges

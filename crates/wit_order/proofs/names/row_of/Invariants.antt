@@ -1,0 +1,7 @@
+use Rattle.std.proofs.Common.{take}
+use Rattle.wit_order.specs.Table.{rows}
+use Rattle.wit_order.specs.Resolved.{Resolves}
+use Rattle.wit_order.proofs.names.row_of.Given as goal
+
+abbrev pub invariant-loop-id : goal.invariant-loop-id
+invariant-loop-id l = Resolves (rows l.deps) (take l.id-index l.ids) l.row.items

@@ -1,0 +1,18 @@
+use Rattle.std.proofs.Common.{ℕ, Vec, Global, Ok, Err}
+use Rattle.wit_order.specs.Table.{rows}
+use Rattle.wit_order.proofs.Forward.{fails_missing, fails_cycle}
+use Rattle.wit_order.proofs.order.order_places.Goals as goal
+
+pub returns-in-Ok-clause-missing : goal.returns-in-Ok-clause-missing
+returns-in-Ok-clause-missing c = fails_missing (rows c.args.deps.now) c.args.kind.now (Ok c.in-Ok.places) c.in-Ok.ensures.ok.complete tt
+
+pub returns-in-Ok-clause-cycle : goal.returns-in-Ok-clause-cycle
+returns-in-Ok-clause-cycle c = fails_cycle (rows c.args.deps.now) c.args.kind.now (Ok c.in-Ok.places) (c.in-Ok.places.items, c.in-Ok.ensures.ok) tt
+
+pub returns-in-Err-clause-missing : goal.returns-in-Err-clause-missing
+returns-in-Err-clause-missing c =
+    fails_missing {T = Vec ℕ Global} (rows c.args.deps.now) c.args.kind.now (Err c.with_rule.result) tt (rw c.with_rule.ensures.kind c.in-Err.ensures.err)
+
+pub returns-in-Err-clause-cycle : goal.returns-in-Err-clause-cycle
+returns-in-Err-clause-cycle c =
+    fails_cycle {T = Vec ℕ Global} (rows c.args.deps.now) c.args.kind.now (Err c.with_rule.result) tt (rw c.with_rule.ensures.kind c.in-Err.ensures.err)

@@ -1,0 +1,15 @@
+mod Lists
+mod Primitives
+mod Places
+mod Meeting
+mod UnnamedKinds
+mod Resolving
+mod Unknown
+mod Names
+mod Seen
+mod Refusing
+mod Repeated
+mod Defining
+mod Tables
+mod Scoping
+mod Numbering

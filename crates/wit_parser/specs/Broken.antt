@@ -1,0 +1,135 @@
+-- The rules, and what it is that breaks each.
+use Rattle.std.specs.Prelude.{◌≡◌, ℕ, ◌<◌, ◌⊎◌, List, [], length, map, Option, Some, None, Contains, slice_get}
+use Rattle.std.specs.Char.{to_ascii_lowercase}
+use Rattle.wit_tree.specs.declared.span.Span.{Span}
+use Rattle.wit_tree.specs.declared.error.ParseError.{ParseError}
+use Rattle.wit_tree.specs.Refusal.{IsWantOfMemory}
+use Rattle.wit_tree.specs.declared.tree.Id.{Id}
+use Rattle.wit_tree.specs.declared.tree.Field.{Field}
+use Rattle.wit_tree.specs.declared.tree.TypeBody.{TypeBody}
+use Rattle.wit_tree.specs.declared.tree.TypeBody.TheVariants.{Record, Plain}
+use Rattle.wit_tree.specs.declared.tree.TypeDef.{TypeDef}
+use Rattle.wit_tree.specs.declared.tree.Interface.{Interface}
+use Rattle.wit_tree.specs.declared.tree.PackageFile.{PackageFile}
+use Rattle.wit_order.specs.Table.{IsEdge, IsMissing, IsCyclic, IsOrder}
+use Rattle.wit_parser.specs.Fault.{Fault, fault_of}
+use Rattle.wit_parser.specs.Source.{interfaces, definitions}
+use Rattle.wit_parser.specs.Scope.{rows_of}
+
+-- a fault about no name
+abbrev pub fault : ℕ → Span → Fault
+fault number span = record { rule = number; span = span; name = None }
+
+-- a fault about a name where it is written
+abbrev pub fault_at : ℕ → Id → Fault
+fault_at number id = record { rule = number; span = id.span; name = Some id.name.now }
+
+-- the key by which labels are told apart: the label in lower case
+abbrev pub folded : List ℕ → List ℕ
+folded name = map to_ascii_lowercase name
+
+-- an earlier item of a list has the key of a later one
+pub record IsRepeated {X : Type 0} (key : X → List ℕ) (xs : List X) (later : X) : Type 0 where
+  pub first : ℕ
+  pub second : ℕ
+  pub earlier : X
+  pub before : first < second
+  pub at_first : slice_get xs first ≡ Some earlier
+  pub at_second : slice_get xs second ≡ Some later
+  pub same : key earlier ≡ key later
+
+-- no file has a header
+pub record IsHeaderless (files : List PackageFile) (f : Fault) : Type 0 where
+  pub none : (i : ℕ) (file : PackageFile) → slice_get files i ≡ Some file → file.package_id ≡ None
+  pub is : f ≡ fault 4 (record { start = 0; end = 0 })
+
+-- an earlier interface of the package has the name
+pub record IsDuplicateItem (files : List PackageFile) (f : Fault) : Type 0 where
+  pub later : Interface
+  pub repeated : IsRepeated (λ i. i.name.name.now) (interfaces files) later
+  pub is : f ≡ fault 5 later.name.span
+
+-- an earlier definition of the scope has the name
+pub record IsDefinedTwice (ds : List TypeDef) (f : Fault) : Type 0 where
+  pub later : TypeDef
+  pub repeated : IsRepeated (λ d. d.name.name.now) ds later
+  pub is : f ≡ fault 14 later.name.span
+
+-- a name written in a definition's body is not defined in the scope
+pub record IsMissingType (ds : List TypeDef) (f : Fault) : Type 0 where
+  pub place : ℕ
+  pub index : ℕ
+  pub id : Id
+  pub edge : IsEdge (rows_of ds) place index id
+  pub missing : IsMissing (rows_of ds) place id
+  pub is : f ≡ fault_at 15 id
+
+-- a name written in a definition's body is an edge, both of whose ends reach a cycle
+pub record IsCyclicType (ds : List TypeDef) (f : Fault) : Type 0 where
+  pub place : ℕ
+  pub index : ℕ
+  pub id : Id
+  pub edge : IsEdge (rows_of ds) place index id
+  pub cyclic : IsCyclic (rows_of ds) place id
+  pub is : f ≡ fault_at 16 id
+
+-- in the order in which they are resolved, an earlier definition has the name once case is folded
+pub record IsFoldedTwice (ds : List TypeDef) (f : Fault) : Type 0 where
+  pub order : List ℕ
+  pub least : IsOrder (rows_of ds) order
+  pub first : ℕ
+  pub second : ℕ
+  pub one : ℕ
+  pub other : ℕ
+  pub earlier : TypeDef
+  pub later : TypeDef
+  pub before : first < second
+  pub at_first : slice_get order first ≡ Some one
+  pub at_second : slice_get order second ≡ Some other
+  pub is_earlier : slice_get ds one ≡ Some earlier
+  pub is_later : slice_get ds other ≡ Some later
+  pub same : folded earlier.name.name.now ≡ folded later.name.name.now
+  pub is : f ≡ fault 17 later.name.span
+
+-- a record has no field
+pub record IsEmptyRecord (fields : List Field) (span : Span) (f : Fault) : Type 0 where
+  pub none : fields ≡ []
+  pub is : f ≡ fault 19 span
+
+-- an earlier field of a record has the name once case is folded
+pub record IsDuplicateField (fields : List Field) (f : Fault) : Type 0 where
+  pub later : Field
+  pub repeated : IsRepeated (λ x. folded x.name.name.now) fields later
+  pub is : f ≡ fault 25 later.name.span
+
+-- what is wrong with a record
+pub data IsBrokenRecord (fields : List Field) (span : Span) (f : Fault) : Type 0 where
+  Empty : IsEmptyRecord fields span f → IsBrokenRecord fields span f
+  DuplicateField : IsDuplicateField fields f → IsBrokenRecord fields span f
+
+-- what is wrong with the body of a definition
+abbrev pub IsBrokenBody : TypeBody → Fault → Type 0
+IsBrokenBody (Record span fields) f = IsBrokenRecord fields.items span f
+IsBrokenBody (Plain t) f = ⊥
+
+-- what is wrong with a scope
+pub data IsBrokenScope (ds : List TypeDef) (f : Fault) : Type 0 where
+  DefinedTwice : IsDefinedTwice ds f → IsBrokenScope ds f
+  MissingType : IsMissingType ds f → IsBrokenScope ds f
+  CyclicType : IsCyclicType ds f → IsBrokenScope ds f
+  Body : (d : TypeDef) → Contains ds d → IsBrokenBody d.body f → IsBrokenScope ds f
+  FoldedTwice : IsFoldedTwice ds f → IsBrokenScope ds f
+
+-- what is wrong with files
+pub data IsBroken (files : List PackageFile) (f : Fault) : Type 0 where
+  Headerless : IsHeaderless files f → IsBroken files f
+  DuplicateItem : IsDuplicateItem files f → IsBroken files f
+  Scope : (i : Interface) → Contains (interfaces files) i → IsBrokenScope (definitions i) f → IsBroken files f
+
+-- no rule is broken
+abbrev pub IsLegal : List PackageFile → Type 0
+IsLegal files = (f : Fault) → IsBroken files f → ⊥
+
+-- a refusal is for want of memory, or tells a fault of this kind
+abbrev pub Refused : (Fault → Type 0) → ParseError → Type 0
+Refused P e = IsWantOfMemory e ⊎ P (fault_of e)

@@ -1,0 +1,10 @@
+pub mod Form
+pub mod Node
+pub mod Source
+pub mod Expr
+pub mod Meet
+pub mod Fault
+pub mod Scope
+pub mod Broken
+pub mod Resolving
+pub mod Repeats

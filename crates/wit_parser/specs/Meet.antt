@@ -1,0 +1,159 @@
+-- The arena of types as the list of first meetings.
+use Rattle.std.specs.Prelude.{◌≡◌, ℕ, List, [], ◌∷◌, ◌++◌, length, map, take, Option, Some, None, ◌⊎◌, slice_get}
+use Rattle.wit_tree.specs.declared.span.Span.{Span}
+use Rattle.wit_tree.specs.declared.tree.«Type».{«Type» as Written}
+use Rattle.wit_tree.specs.declared.tree.«Type».TheVariants.{List'}
+use Rattle.wit_tree.specs.declared.tree.Field.{Field}
+use Rattle.wit_tree.specs.declared.tree.TypeBody.{TypeBody}
+use Rattle.wit_tree.specs.declared.tree.TypeBody.TheVariants.{Record, Plain}
+use Rattle.wit_tree.specs.declared.tree.TypeDef.{TypeDef as Definition}
+use Rattle.wit_model.specs.declared.stability.Stability.TheVariants.{Unknown}
+use Rattle.wit_model.specs.declared.types.«Type».{«Type» as Ty}
+use Rattle.wit_model.specs.declared.types.«Type».TheVariants as type
+use Rattle.wit_model.specs.declared.types.TypeDef.{TypeDef}
+use Rattle.wit_model.specs.declared.types.TypeOwner.{TypeOwner}
+use Rattle.wit_model.specs.declared.types.TypeOwner.TheVariants as owner
+use Rattle.wit_parser.specs.Form.{Form, ListForm, kind_of}
+use Rattle.wit_parser.specs.Node.{Primitive}
+use Rattle.wit_parser.specs.Node as node
+use Rattle.wit_parser.specs.Source.{Address, InterfaceAt, no_docs, body_form}
+use Rattle.wit_parser.specs.Expr.{Expr, Prim, Use, Of, Exprs, End, More, one, expr_of, body_exprs}
+
+-- what is met: a definition of a scope, or an unnamed type
+pub data Key : Type 0 where
+  Def : (scope : Address) (name : List ℕ) → Key
+  Whole : (form : Form) (parts : Exprs) → Key
+
+-- something that is met, where it is written
+pub record Meeting : Type 0 where
+  pub key : Key
+  pub span : Span
+
+abbrev pub keys : List Meeting → List Key
+keys ms = map (λ m. m.key) ms
+
+abbrev pub spans : List Meeting → List Span
+spans ms = map (λ m. m.span) ms
+
+-- what is met in a type: the parts of a form, and then the whole
+abbrev pub type_meetings : Address → Written → List Meeting
+type_meetings s (List' span p t) = type_meetings s t ++ record { key = Whole ListForm (one (expr_of s t)); span = span } ∷ []
+type_meetings s t = []
+
+abbrev pub field_meetings : Address → List Field → List Meeting
+field_meetings s [] = []
+field_meetings s (f ∷ fs) = type_meetings s f.ty ++ field_meetings s fs
+
+-- what is met in the parts of a definition of one type
+abbrev pub plain_meetings : Address → Written → List Meeting
+plain_meetings s (List' span p t) = type_meetings s t
+plain_meetings s t = type_meetings s t
+
+-- what is met in the parts of a definition
+abbrev pub body_meetings : Address → TypeBody → List Meeting
+body_meetings s (Record span fields) = field_meetings s fields.items
+body_meetings s (Plain t) = plain_meetings s t
+
+-- what is met in a definition: its parts, and then itself
+abbrev pub definition_meetings : Address → Definition → List Meeting
+definition_meetings s d = body_meetings s d.body ++ record { key = Def s d.name.name.now; span = d.name.span } ∷ []
+
+abbrev pub all_definition_meetings : Address → List Definition → List Meeting
+all_definition_meetings s [] = []
+all_definition_meetings s (d ∷ ds) = definition_meetings s d ++ all_definition_meetings s ds
+
+abbrev pub IsMet : List Key → Key → Type 0
+IsMet ks k = (i : ℕ) × (slice_get ks i ≡ Some k)
+
+-- the last list is the first with what is met anew, in order
+abbrev pub Meets : List Meeting → List Meeting → List Meeting → Type 0
+Meets ms [] all = all ≡ ms
+Meets ms (k ∷ ks) all = (IsMet (keys ms) k.key × Meets ms ks all) ⊎ ((IsMet (keys ms) k.key → ⊥) × Meets (ms ++ k ∷ []) ks all)
+
+abbrev pub primitive_type : Primitive → Ty
+primitive_type node.Bool = type.Bool
+primitive_type node.U8 = type.U8
+primitive_type node.U16 = type.U16
+primitive_type node.U32 = type.U32
+primitive_type node.U64 = type.U64
+primitive_type node.S8 = type.S8
+primitive_type node.S16 = type.S16
+primitive_type node.S32 = type.S32
+primitive_type node.S64 = type.S64
+primitive_type node.F32 = type.F32
+primitive_type node.F64 = type.F64
+primitive_type node.Char = type.Char
+primitive_type node.String = type.String
+primitive_type node.ErrorContext = type.ErrorContext
+
+-- a type is a primitive, or the place of its first meeting
+abbrev pub IsAt : List Key → Expr → Ty → Type 0
+IsAt ks (Prim p) ty = ty ≡ primitive_type p
+IsAt ks (Use scope name) ty = (i : ℕ) × (ty ≡ type.Id i) × (slice_get ks i ≡ Some (Def scope name))
+IsAt ks (Of form parts) ty = (i : ℕ) × (ty ≡ type.Id i) × (slice_get ks i ≡ Some (Whole form parts))
+
+abbrev pub AreAt : List Key → Exprs → List Ty → Type 0
+AreAt ks End [] = Unit {0}
+AreAt ks (More e es) (t ∷ ts) = IsAt ks e t × AreAt ks es ts
+AreAt ks End (t ∷ ts) = ⊥
+AreAt ks (More e es) [] = ⊥
+
+-- a declaration of a scope: its name, its form and its parts
+pub record Decl : Type 0 where
+  pub name : List ℕ
+  pub form : Form
+  pub parts : Exprs
+
+abbrev pub decl_of : Address → Definition → Decl
+decl_of s d = record { name = d.name.name.now; form = body_form d.body; parts = body_exprs s d.body }
+
+abbrev pub IsAmong : List Decl → Decl → Type 0
+IsAmong ds d = (k : ℕ) × (slice_get ds k ≡ Some d)
+
+-- the declarations of each scope
+abbrev pub Decls : Type 0
+Decls = Address → List Decl
+
+-- the owner that the arena knows a scope by
+abbrev pub owner_at : Address → TypeOwner
+owner_at (InterfaceAt p) = owner.Interface p
+
+-- there is nothing about it but what it is, whose it is and where
+pub record IsBare (e : TypeDef) : Type 0 where
+  pub docs : e.docs ≡ no_docs
+  pub stability : e.stability ≡ Unknown
+  pub external_id : e.external_id ≡ None
+
+-- the entry of a definition, over the places of parts that were met before
+pub record IsNamedEntry (decls : Decls) (ks : List Key) (s : Address) (called : List ℕ) (e : TypeDef) : Type 0 where
+  pub decl : Decl
+  pub among : IsAmong (decls s) decl
+  pub same : decl.name ≡ called
+  pub name : e.name ≡ Some called
+  pub owner : e.owner ≡ owner_at s
+  pub form : (kind_of e.kind).form ≡ decl.form
+  pub parts : AreAt ks decl.parts (kind_of e.kind).parts
+  pub bare : IsBare e
+
+-- the entry of an unnamed type, over the places of parts that were met before
+pub record IsUnnamedEntry (ks : List Key) (shape : Form) (exprs : Exprs) (e : TypeDef) : Type 0 where
+  pub name : e.name ≡ None
+  pub owner : e.owner ≡ owner.None
+  pub form : (kind_of e.kind).form ≡ shape
+  pub parts : AreAt ks exprs (kind_of e.kind).parts
+  pub bare : IsBare e
+
+abbrev pub IsEntry : Decls → List Key → Key → TypeDef → Type 0
+IsEntry decls ks (Def scope name) e = IsNamedEntry decls ks scope name e
+IsEntry decls ks (Whole form parts) e = IsUnnamedEntry ks form parts e
+
+-- the arena is what was met, each once, and each entry that of its key over what was met before
+pub record IsKeyed (decls : Decls) (ks : List Key) (es : List TypeDef) : Type 0 where
+  pub count : length es ≡ length ks
+  pub once : (i j : ℕ) (k : Key) → slice_get ks i ≡ Some k → slice_get ks j ≡ Some k → i ≡ j
+  pub each : (i : ℕ) (k : Key) (e : TypeDef) → slice_get ks i ≡ Some k → slice_get es i ≡ Some e → IsEntry decls (take i ks) k e
+
+-- the arena is the list of first meetings
+pub record IsMeeting (decls : Decls) (ms : List Meeting) (es : List TypeDef) : Type 0 where
+  pub keyed : IsKeyed decls (keys ms) es
+  pub spans : map (λ e. e.span) es ≡ spans ms

@@ -1,0 +1,13 @@
+-- Items that stand twice in a list.
+use Rattle.std.specs.Prelude.{◌≡◌, ℕ, ◌<◌, List, Some, slice_get}
+
+-- what stands at an earlier place stands at a later one too
+pub record IsRepeatAt {X : Type 0} (xs : List X) (first second : ℕ) : Type 0 where
+  pub x : X
+  pub before : first < second
+  pub at_first : slice_get xs first ≡ Some x
+  pub at_second : slice_get xs second ≡ Some x
+
+-- what stands at two places is not equal
+pub record AllDiffer {X : Type 0} (xs : List X) : Type 0 where
+  pub differ : (i j : ℕ) (x : X) → slice_get xs i ≡ Some x → slice_get xs j ≡ Some x → i ≡ j
