@@ -8,8 +8,9 @@ use std::io::Write;
 use std::process::Abort;
 use std::test::Fail;
 use wit_model::{
-    Arena, Docs, Field, Interface, InterfacePlace, PackageName, Record, Stability, Type, TypeDef,
-    TypeDefKind, TypeId, TypeOwner, TypePlace, World, WorldPlace,
+    Arena, Docs, Field, Function, FunctionKind, Handle, Interface, InterfacePlace, PackageName,
+    Param, Record, Stability, Type, TypeDef, TypeDefKind, TypeId, TypeOwner, TypePlace, World,
+    WorldPlace,
 };
 use wit_text::SourceMap;
 use wit_tree::{ParseError, ParseErrorKind, Span};
@@ -191,5 +192,117 @@ fn writes_lines_of_refusals(rt: HostRuntime) -> Result<(), Fail> {
         &memory,
         "error E45 - \"\": out of memory\n",
     );
+    Ok(())
+}
+
+const FUNCTIONS: &str =
+    "package foo:foo\ntypes 7\n#0 i0.r = resource\n#1 - = borrow #0\n#2 - = future u8\n#3 - = fixed u8 4\n#4 - = map string #3\n#5 - = stream _\n#6 - = option #5\ninterfaces 1\ni0 i\n  r = type #0\n  [constructor]r = func(n:u32) -> #0\n  [method]r.m = async func(self:#1, x:#1) -> #2\n  [static]r.s = func() -> #0\n  f = func(a:#4) -> #6\nworlds 0\nforeign 0\n";
+
+fn param(alloc: Global, name: &str, ty: Type) -> Result<Param, Fail> {
+    Ok(Param {
+        name: Text::from_str(alloc, name)?,
+        ty,
+        span: Span::default(),
+    })
+}
+
+fn function(
+    alloc: Global,
+    name: &str,
+    kind: FunctionKind,
+    params: Vec<Param>,
+    answer: Type,
+) -> Result<Function, Fail> {
+    Ok(Function {
+        name: Text::from_str(alloc, name)?,
+        kind,
+        params: Row::from(params),
+        result: Some(answer),
+        docs: Docs::default(),
+        stability: Stability::Unknown,
+        span: Span::default(),
+        external_id: None,
+    })
+}
+
+#[test]
+fn lists_functions(rt: HostRuntime) -> Result<(), Fail> {
+    let alloc = rt.alloc();
+    let mut types: Arena<TypeDef, TypePlace> = Arena::new(alloc);
+    let mut interfaces: Arena<Interface, InterfacePlace> = Arena::new(alloc);
+    let owner = TypeOwner::Interface(interfaces.next_id());
+    let name = Some(Text::from_str(alloc, "r")?);
+    let r = types.alloc(entry(TypeDefKind::Resource, name, owner))?;
+    let none = TypeOwner::None;
+    let borrow = types.alloc(entry(TypeDefKind::Handle(Handle::Borrow(r)), None, none))?;
+    let future = types.alloc(entry(TypeDefKind::Future(Some(Type::U8)), None, none))?;
+    let fixed = types.alloc(entry(TypeDefKind::FixedLengthList(Type::U8, 4), None, none))?;
+    let map = types.alloc(entry(TypeDefKind::Map(Type::String, Type::Id(fixed)), None, none))?;
+    let stream = types.alloc(entry(TypeDefKind::Stream(None), None, none))?;
+    let option = types.alloc(entry(TypeDefKind::Option(Type::Id(stream)), None, none))?;
+    let mut functions = IndexMap::new(alloc);
+    let mut first = Vec::new(alloc);
+    first.push(param(alloc, "n", Type::U32)?)?;
+    let constructor = function(
+        alloc,
+        "[constructor]r",
+        FunctionKind::Constructor(r),
+        first,
+        Type::Id(r),
+    )?;
+    let _ = functions.insert(String::from_str(alloc, "[constructor]r")?, constructor)?;
+    let mut both = Vec::new(alloc);
+    both.push(param(alloc, "self", Type::Id(borrow))?)?;
+    both.push(param(alloc, "x", Type::Id(borrow))?)?;
+    let method = function(
+        alloc,
+        "[method]r.m",
+        FunctionKind::AsyncMethod(r),
+        both,
+        Type::Id(future),
+    )?;
+    let _ = functions.insert(String::from_str(alloc, "[method]r.m")?, method)?;
+    let plain = function(
+        alloc,
+        "[static]r.s",
+        FunctionKind::Static(r),
+        Vec::new(alloc),
+        Type::Id(r),
+    )?;
+    let _ = functions.insert(String::from_str(alloc, "[static]r.s")?, plain)?;
+    let mut last = Vec::new(alloc);
+    last.push(param(alloc, "a", Type::Id(map))?)?;
+    let free = function(
+        alloc,
+        "f",
+        FunctionKind::Freestanding,
+        last,
+        Type::Id(option),
+    )?;
+    let _ = functions.insert(String::from_str(alloc, "f")?, free)?;
+    let mut named = IndexMap::new(alloc);
+    let _ = named.insert(String::from_str(alloc, "r")?, r)?;
+    let _ = interfaces.alloc(Interface {
+        name: Some(Text::from_str(alloc, "i")?),
+        types: TextTable::from(named),
+        functions: TextTable::from(functions),
+        docs: Docs::default(),
+        stability: Stability::Unknown,
+        package: None,
+        span: Span::default(),
+        clone_of: None,
+    })?;
+    let foo = PackageName {
+        namespace: Text::from_str(alloc, "foo")?,
+        name: Text::from_str(alloc, "foo")?,
+        version: None,
+    };
+    let worlds: Arena<World, WorldPlace> = Arena::new(alloc);
+    let mut out: Vec<u8> = Vec::new(alloc);
+    assert_eq!(rt;
+        write_listing(alloc, &foo, &types, &interfaces, &worlds, &mut out),
+        Ok(())
+    );
+    assert_eq!(rt; out.as_slice(), FUNCTIONS.as_bytes());
     Ok(())
 }
