@@ -13,3 +13,4 @@ mod Defining
 mod Tables
 mod Scoping
 mod Numbering
+mod Legal

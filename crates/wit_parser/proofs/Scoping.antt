@@ -1,5 +1,5 @@
 -- Definitions of a scope, one after another, their rows and their order.
-use Rattle.std.proofs.Common.{◌≡◌, ℕ, zero, suc, ◌+◌, ◌<◌, Bool, true, false, cond, List, [], ◌∷◌, ◌++◌, length, take, Option, Some, None, IsSome, ◌⊎◌, nat_eq, inl, inr, refl, sym, ap, ◌∙◌, subst, append_assoc, arith}
+use Rattle.std.proofs.Common.{◌≡◌, ℕ, zero, suc, ◌+◌, ◌<◌, Bool, true, false, cond, List, [], ◌∷◌, ◌++◌, length, take, Option, Some, None, IsSome, ◌⊎◌, nat_eq, inl, inr, refl, sym, ap, ◌∙◌, subst, append_assoc, arith, get_or}
 use Rattle.std.specs.Prelude.{slice_get, slice_index, map, Contains}
 use Rattle.std.specs.Option.{option_map}
 use Rattle.std.specs.Cmp.Lexicographic.{pointwise}
@@ -10,11 +10,13 @@ use Rattle.wit_tree.specs.declared.tree.Field.{Field}
 use Rattle.wit_tree.specs.declared.tree.TypeDef.{TypeDef as Definition}
 use Rattle.wit_order.specs.Table.{Row, place_of, target, IsEdge, Leads, IsOrder}
 use Rattle.wit_order.proofs.Tables.{slice_get-take}
+use Rattle.wit_tree.specs.declared.tree.InterfaceItem.{InterfaceItem}
+use Rattle.wit_parser.specs.Source.{item_definition}
 use Rattle.wit_parser.specs.Fault.{Fault}
 use Rattle.wit_parser.specs.Scope.{type_names, field_names, body_names, row_of, rows_of, at_place, in_order}
 use Rattle.wit_parser.specs.Broken.{IsRepeated, IsBrokenBody}
 use Rattle.wit_parser.specs.Resolving.{AreDistinct, AreLegalBodies, Env, Names, env_of, HasNames, IsStored, IsUnknown}
-use Rattle.wit_parser.proofs.Lists.{at_either, at_take}
+use Rattle.wit_parser.proofs.Lists.{at_either, at_take, at_within}
 use Rattle.wit_parser.proofs.Names.{name_itself, lookup-insert_entry}
 use Rattle.wit_parser.proofs.Tables.{place_of-None, place_of-Some}
 
@@ -144,3 +146,52 @@ legal_more ds d legal one = record {
 
 pub contains_at : {X : Type 0} (xs : List X) (i : ℕ) (x : X) → slice_get xs i ≡ Some x → Contains xs x
 contains_at xs i x at = (i, slice_get_within xs i x at, get_or_from_slice_get xs i x x at)
+
+-- the places of an order are those of items
+pub place_within : (items : List InterfaceItem) (places : List ℕ) (i : ℕ) → IsOrder (rows_of (map item_definition items)) places → i < length places → get_or places i 0 < length items
+place_within items places i order lt =
+    let ds = map item_definition items in
+    let long = order.sorted.long in
+    let h = order.sorted.within i (omega (arith, length-map ds row_of)) in
+    omega (arith, length-map ds row_of, length-map items item_definition)
+
+one_behind : (ds : List Definition) (k : ℕ) (ks : List ℕ) (e d : Definition) (i : ℕ) → slice_get ds k ≡ Some e → ((j : ℕ) → slice_get (in_order ds ks) j ≡ Some d → (p : ℕ) × (slice_get ks j ≡ Some p) × (slice_get ds p ≡ Some d)) → slice_get (e ∷ in_order ds ks) i ≡ Some d → (p : ℕ) × (slice_get (k ∷ ks) i ≡ Some p) × (slice_get ds p ≡ Some d)
+one_behind ds k ks e d zero is rest at = (k, refl, is ∙ at)
+one_behind ds k ks e d (suc i) is rest at = rest i at
+
+all_within : (ds : List Definition) (places : List ℕ) (d : Definition) (i : ℕ) → ((j p : ℕ) → slice_get places j ≡ Some p → p < length ds) → slice_get (in_order ds places) i ≡ Some d → (p : ℕ) × (slice_get places i ≡ Some p) × (slice_get ds p ≡ Some d)
+all_within ds [] d i within at = absurd (let f : ⊥ = cc in f)
+all_within ds (k ∷ ks) d i within at =
+    let e = at_within ds k (within 0 k refl) in
+    one_behind ds k ks e.0 d i e.1 (λ j h. all_within ds ks d j (λ l p there. within (suc l) p there) h) (sym (ap (λ o. slice_get (at_place o ++ in_order ds ks) i) e.1) ∙ at)
+
+pub order_within : (ds : List Definition) (places : List ℕ) → IsOrder (rows_of ds) places → (j p : ℕ) → slice_get places j ≡ Some p → p < length ds
+order_within ds places order j p h =
+    let lt = slice_get_within places j p h in
+    let long = order.sorted.long in
+    let here : slice_index places j ≡ p = get_or_from_slice_get places j p 0 h in
+    let w = order.sorted.within j (omega arith) in
+    let w' : p < length (rows_of ds) = subst (λ (x : ℕ). x < length (rows_of ds)) here w in
+    omega (arith, length-map ds row_of)
+
+-- a definition of the ordered ones, by its place
+pub in_order_at : (ds : List Definition) (places : List ℕ) (i : ℕ) (d : Definition) → IsOrder (rows_of ds) places → slice_get (in_order ds places) i ≡ Some d → (p : ℕ) × (slice_get places i ≡ Some p) × (slice_get ds p ≡ Some d)
+in_order_at ds places i d order at = all_within ds places d i (λ j p h. order_within ds places order j p h) at
+
+order_long : (ds : List Definition) (places : List ℕ) → ((j p : ℕ) → slice_get places j ≡ Some p → p < length ds) → length (in_order ds places) ≡ length places
+order_long ds [] within = refl
+order_long ds (k ∷ ks) within =
+    let e = at_within ds k (within 0 k refl) in
+    ap (λ o. length (at_place o ++ in_order ds ks)) e.1 ∙ ap suc (order_long ds ks (λ j p h. within (suc j) p h))
+
+pub length-in_order : (ds : List Definition) (places : List ℕ) → IsOrder (rows_of ds) places → length (in_order ds places) ≡ length places
+length-in_order ds places order = order_long ds places (λ j p h. order_within ds places order j p h)
+
+-- the definition at the place that stands at an index of the order
+pub in_order_read : (ds : List Definition) (places : List ℕ) (i p : ℕ) (d : Definition) → IsOrder (rows_of ds) places → slice_get places i ≡ Some p → slice_get ds p ≡ Some d → slice_get (in_order ds places) i ≡ Some d
+in_order_read ds places i p d order at there =
+    let lt = slice_get_within places i p at in
+    let e = at_within (in_order ds places) i (omega (arith, length-in_order ds places order)) in
+    let it = in_order_at ds places i e.0 order e.1 in
+    let same : Some p ≡ Some it.0 = sym at ∙ it.1 in
+    e.1 ∙ sym it.2 ∙ ap (slice_get ds) (let q : it.0 ≡ p = cc in q) ∙ there

@@ -28,6 +28,10 @@ fault_at number id = record { rule = number; span = id.span; name = Some id.name
 abbrev pub folded : List ℕ → List ℕ
 folded name = map to_ascii_lowercase name
 
+-- the key of a definition's name
+abbrev pub folded_name : TypeDef → List ℕ
+folded_name d = folded d.name.name.now
+
 -- an earlier item of a list has the key of a later one
 pub record IsRepeated {X : Type 0} (key : X → List ℕ) (xs : List X) (later : X) : Type 0 where
   pub first : ℕ
@@ -88,7 +92,7 @@ pub record IsFoldedTwice (ds : List TypeDef) (f : Fault) : Type 0 where
   pub at_second : slice_get order second ≡ Some other
   pub is_earlier : slice_get ds one ≡ Some earlier
   pub is_later : slice_get ds other ≡ Some later
-  pub same : folded earlier.name.name.now ≡ folded later.name.name.now
+  pub same : folded_name earlier ≡ folded_name later
   pub is : f ≡ fault 17 later.name.span
 
 -- a record has no field

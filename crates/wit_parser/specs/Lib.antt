@@ -6,5 +6,7 @@ pub mod Meet
 pub mod Fault
 pub mod Scope
 pub mod Broken
+pub mod Package
+pub mod Whole
 pub mod Resolving
 pub mod Repeats

@@ -13,11 +13,15 @@ use Rattle.wit_model.specs.declared.types.TypeDefKind.{TypeDefKind}
 use Rattle.wit_model.specs.declared.types.TypeDef.{TypeDef}
 use Rattle.wit_model.specs.declared.types.TypeOwner.TheVariants as owner
 use Rattle.wit_parser.specs.Form.{Form, ListForm, Kind, kind_of}
-use Rattle.wit_parser.specs.Source.{Address, no_docs}
+use Rattle.wit_tree.specs.declared.tree.Interface.{Interface as Written}
+use Rattle.wit_model.specs.declared.interface.Interface.{Interface}
+use Rattle.wit_order.specs.Table.{IsOrder}
+use Rattle.wit_parser.specs.Source.{Address, InterfaceAt, definitions, no_docs}
 use Rattle.wit_parser.specs.Expr.{Expr, Prim, Use, Of, Exprs, End, More}
 use Rattle.wit_parser.specs.Meet.{Key, Def, Whole, Meeting, keys, IsMet, Meets, AreAt, Decl, Decls, IsAmong, IsMeeting, owner_at, all_definition_meetings, decl_of}
 use Rattle.wit_parser.specs.Fault.{Fault}
-use Rattle.wit_parser.specs.Scope.{body_names}
+use Rattle.wit_parser.specs.Package.{At, IsInterface}
+use Rattle.wit_parser.specs.Scope.{body_names, rows_of, in_order}
 use Rattle.wit_parser.specs.Broken.{IsBrokenBody}
 
 -- what the names of a scope stand for
@@ -67,10 +71,6 @@ unnamed kind span = record { name = None; kind = kind; owner = owner.None; docs 
 pub record IsUnnamedOf (what : TypeDefKind) (e : TypeDef) : Type 0 where
   pub name : e.name ≡ None
   pub kind : e.kind ≡ what
-
--- an entry stands at a place
-pub record At (es : List TypeDef) (i : ℕ) (e : TypeDef) : Type 0 where
-  pub is : slice_get es i ≡ Some e
 
 -- the unnamed type of a kind stands at a place of the new arena: an old entry, or the one that was added
 pub record IsInterned (old new : List TypeDef) (kind : TypeDefKind) (span : Span) (i : ℕ) : Type 0 where
@@ -138,3 +138,20 @@ pub record AreLegalBodies (ds : List Definition) : Type 0 where
 -- each of these stands in a table of names
 pub record HasNames (env : Env) (ds : List Definition) : Type 0 where
   pub has : (i : ℕ) (d : Definition) → slice_get ds i ≡ Some d → IsSome (env d.name.name.now)
+
+-- an interface was added, with these names
+pub record IsAddedInterface (is is' : List Interface) (written : Written) (names : Names) : Type 0 where
+  pub added : Interface
+  pub last : is' ≡ is ++ added ∷ []
+  pub says : IsInterface written added
+  pub types : added.types ≡ names
+
+-- what an interface adds to the arenas
+pub record AddsInterface (old new : List TypeDef) (is is' : List Interface) (written : Written) : Type 0 where
+  pub order : List ℕ
+  pub least : IsOrder (rows_of (definitions written)) order
+  pub distinct : AreDistinct (definitions written)
+  pub added : Interface
+  pub last : is' ≡ is ++ added ∷ []
+  pub says : IsInterface written added
+  pub defines : Defines old new (InterfaceAt (length is)) [] added.types (in_order (definitions written) order)

@@ -3,7 +3,8 @@ ghost use Rattle.std.specs.Prelude.{◌≡◌, ℕ, ◌↔◌, IsTrue, IfOk, IfE
 ghost use Rattle.wit_model.specs.declared.types.TypeDef.{TypeDef};
 ghost use Rattle.wit_model.specs.declared.types.TypeDefKind.TheVariants.{List};
 ghost use Rattle.wit_tree.specs.Refusal.{IsWantOfMemory};
-ghost use Rattle.wit_parser.specs.Resolving.{At, IsUnnamedOf, IsInterned};
+ghost use Rattle.wit_parser.specs.Package.{At};
+ghost use Rattle.wit_parser.specs.Resolving.{IsUnnamedOf, IsInterned};
 
 use wit_model::{Arena, Docs, Stability, Type, TypeDef, TypeDefKind, TypeId, TypeOwner, TypePlace};
 use wit_tree::{ParseResult, Span};

@@ -2,9 +2,14 @@
 #![tactic(auto)]
 
 mod definitions;
+mod folding;
+mod interface;
 mod intern;
+pub mod package;
 mod records;
 mod refusal;
 mod repeats;
 mod scope;
 mod types;
+
+pub use package::UnresolvedPackage;

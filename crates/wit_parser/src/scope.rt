@@ -1,10 +1,10 @@
 //! The definitions of a scope, and the order in which they are resolved.
-ghost use Rattle.std.specs.Prelude.{◌≡◌, ◌++◌, map, length, IfOk, IfErr, OnOk};
+ghost use Rattle.std.specs.Prelude.{◌≡◌, ◌++◌, ◌<◌, map, length, slice_get, Some, IfOk, IfErr, OnOk};
 ghost use Rattle.wit_order.specs.Table.{rows, IsOrder};
 ghost use Rattle.wit_order.specs.Refused.{IsRefused};
 ghost use Rattle.wit_tree.specs.Refusal.{IsWantOfMemory};
 ghost use Rattle.wit_parser.specs.Source.{item_definition};
-ghost use Rattle.wit_parser.specs.Scope.{type_names, field_names, body_names, rows_of, scope_rule};
+ghost use Rattle.wit_parser.specs.Scope.{type_names, field_names, body_names, in_order, rows_of, scope_rule};
 ghost use Rattle.wit_parser.specs.Broken.{IsDefinedTwice, IsBrokenScope, Refused};
 ghost use Rattle.wit_parser.specs.Resolving.{AreDistinct};
 
@@ -22,6 +22,19 @@ pub(crate) fn definition_of<'t, 'a>(item: &'t InterfaceItem<'a>) -> &'t TypeDef<
     match item {
         InterfaceItem::TypeDef(definition) => definition,
     }
+}
+
+/// The definition at the place that stands at an index of their order.
+pub(crate) fn definition_at<'t, 'a>(
+    items: &'t [InterfaceItem<'a>],
+    places: &[usize],
+    index: usize,
+) -> &'t TypeDef<'a>
+    requires order { IsOrder (rows_of (map item_definition items.now)) places.now }
+    requires within { index < length places.now }
+    ensures { slice_get (in_order (map item_definition items.now) places.now) index ≡ Some result.now }
+{
+    definition_of(&items[places[index]])
 }
 
 /// Adds the names written in a type.
