@@ -1,3 +1,4 @@
+pub mod Answers
 pub mod ErrorLine
 pub mod Functions
 pub mod Interfaces

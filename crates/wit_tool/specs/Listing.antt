@@ -5,6 +5,7 @@ use Rattle.wit_model.specs.declared.package_name.PackageName.{PackageName}
 use Rattle.wit_model.specs.declared.types.TypeDef.{TypeDef}
 use Rattle.wit_model.specs.declared.interface.Interface.{Interface}
 use Rattle.wit_model.specs.declared.world.World.{World}
+use Rattle.wit_parser.specs.declared.package.UnresolvedPackage.{UnresolvedPackage}
 use Rattle.wit_tool.specs.Lists.{numbered}
 use Rattle.wit_tool.specs.Words.{package_text}
 use Rattle.wit_tool.specs.Types.{type_line}
@@ -31,7 +32,11 @@ interfaces_text interfaces = count_line (codes "interfaces") (length interfaces)
 abbrev pub worlds_text : List Interface → List World → List ℕ
 worlds_text interfaces worlds = count_line (codes "worlds") (length worlds) ++ numbered (world_lines interfaces) 0 worlds
 
--- the listing, of a package that uses no other
-abbrev pub listing_text : PackageName → List TypeDef → List Interface → List World → List ℕ
-listing_text name types interfaces worlds =
+-- the listing of a package by its parts, if it uses no other package
+abbrev pub parts_text : PackageName → List TypeDef → List Interface → List World → List ℕ
+parts_text name types interfaces worlds =
     header_text name ++ (types_text types ++ (interfaces_text interfaces ++ (worlds_text interfaces worlds ++ codes "foreign 0\n")))
+
+-- the listing
+abbrev pub listing_text : UnresolvedPackage → List ℕ
+listing_text p = parts_text p.name p.types p.interfaces p.worlds

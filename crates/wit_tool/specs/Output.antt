@@ -13,3 +13,9 @@ abbrev pub IsWritten : (List ℕ → Type 0) → Option (List ℕ) → Option (L
 IsWritten IsText old new (Ok _) = (text : List ℕ) × IsText text × Appends old new text
 IsWritten IsText old new (Err Output) = (text : List ℕ) × IsText text × IsCutShort old new text
 IsWritten IsText old new (Err Memory) = Keeps old new
+
+-- the same, with an answer
+abbrev pub IsWrittenAs : {A : Type 0} → A → (List ℕ → Type 0) → Option (List ℕ) → Option (List ℕ) → Result A RunFault → Type 0
+IsWrittenAs told IsText old new (Ok answer) = (answer ≡ told) × (text : List ℕ) × IsText text × Appends old new text
+IsWrittenAs told IsText old new (Err Output) = (text : List ℕ) × IsText text × IsCutShort old new text
+IsWrittenAs told IsText old new (Err Memory) = Keeps old new

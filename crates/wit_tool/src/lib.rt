@@ -1,6 +1,7 @@
 //! The listing of a package, and the line of a refusal.
 #![tactic(auto)]
 
+mod answers;
 mod fault;
 mod functions;
 mod interfaces;
@@ -12,8 +13,9 @@ mod types;
 mod words;
 mod worlds;
 
+pub use answers::answer;
 pub use fault::RunFault;
-pub use package::write_listing;
+pub use package::listing;
 pub use refusal::error_line;
 
 #[cfg(test)]

@@ -2,7 +2,7 @@
 ghost use Rattle.std.specs.Prelude.{◌≡◌, ◌++◌, IfOk, OnOk, string_bytes};
 ghost use Rattle.wit_tool.specs.Words.{Adds};
 ghost use Rattle.wit_tool.specs.Output.{IsWritten};
-ghost use Rattle.wit_tool.specs.Listing.{count_line, header_text, interfaces_text, listing_text, types_text, worlds_text};
+ghost use Rattle.wit_tool.specs.Listing.{count_line, header_text, interfaces_text, listing_text, parts_text, types_text, worlds_text};
 
 use crate::fault::RunFault;
 use crate::interfaces::push_interfaces;
@@ -15,6 +15,7 @@ use std::io::Write;
 use wit_model::{
     Arena, Interface, InterfacePlace, PackageName, TypeDef, TypePlace, World, WorldPlace,
 };
+use wit_parser::UnresolvedPackage;
 
 /// A word and a number in a line.
 fn push_count(text: &mut String, word: &str, count: usize) -> Result<(), AllocError>
@@ -70,7 +71,7 @@ fn listing_of(
     interfaces: &Arena<Interface, InterfacePlace>,
     worlds: &Arena<World, WorldPlace>,
 ) -> Result<String, AllocError>
-    ensures { IfOk result (λ text. string_bytes text ≡ listing_text name.now types.now interfaces.now worlds.now) }
+    ensures { IfOk result (λ text. string_bytes text ≡ parts_text name.now types.now interfaces.now worlds.now) }
 {
     let mut text = String::new(alloc);
     push_header(&mut text, name)?;
@@ -81,11 +82,7 @@ fn listing_of(
     Ok(text)
 }
 
-/// Writes the listing of a package that uses no other: its name, its types, its interfaces and its
-/// worlds, a line for each and for what it holds.
-///
-/// Where a write fails or takes no byte, a beginning of the listing went out; for want of memory,
-/// nothing.
+/// Writes the listing of a package by its parts.
 pub fn write_listing<W: Write>(
     alloc: Global,
     name: &PackageName,
@@ -94,8 +91,30 @@ pub fn write_listing<W: Write>(
     worlds: &Arena<World, WorldPlace>,
     out: &mut W,
 ) -> Result<(), RunFault>
-    ensures { IsWritten (λ text. text ≡ listing_text name.now types.now interfaces.now worlds.now) (W.contents out.old) (W.contents out.new) result }
+    ensures { IsWritten (λ text. text ≡ parts_text name.now types.now interfaces.now worlds.now) (W.contents out.old) (W.contents out.new) result }
 {
     let text = listing_of(alloc, name, types, interfaces, worlds)?;
     put(out, text.as_bytes())
+}
+
+/// Writes the listing of a package that uses no other: its name, its types, its interfaces and its
+/// worlds, a line for each and for what it holds.
+///
+/// Where a write fails or takes no byte, a beginning of the listing went out; for want of memory,
+/// nothing.
+pub fn listing<W: Write>(
+    alloc: Global,
+    resolved: &UnresolvedPackage,
+    out: &mut W,
+) -> Result<(), RunFault>
+    ensures { IsWritten (λ text. text ≡ listing_text resolved.now) (W.contents out.old) (W.contents out.new) result }
+{
+    write_listing(
+        alloc,
+        &resolved.name,
+        &resolved.types,
+        &resolved.interfaces,
+        &resolved.worlds,
+        out,
+    )
 }

@@ -1,6 +1,7 @@
 //! Worked listings and lines.
 
-use crate::{error_line, write_listing};
+use crate::error_line;
+use crate::package::write_listing;
 use indexmap::IndexMap;
 use std::alloc::Global;
 use std::io;
