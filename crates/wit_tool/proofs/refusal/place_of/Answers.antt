@@ -1,4 +1,4 @@
-use Rattle.std.proofs.Common.{◌≡◌, ◌∙◌, sym, ap, true, rules}
+use Rattle.std.proofs.Common.{◌≡◌, true, rules}
 use Rattle.wit_tool.specs.ErrorLine.{has_place}
 use Rattle.wit_tool.proofs.Placing.{placed}
 use Rattle.wit_tool.proofs.refusal.place_of.Goals as goal
