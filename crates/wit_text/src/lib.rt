@@ -8,13 +8,15 @@ mod file;
 mod reader;
 mod scan;
 mod source;
+mod source_map;
 mod token;
 mod types;
 mod word;
 
 pub use fault::ReadFault;
 pub use file::read_file;
-pub use source::{Source, SourceMap};
+pub use source::Source;
+pub use source_map::SourceMap;
 
 #[cfg(test)]
 mod tests;

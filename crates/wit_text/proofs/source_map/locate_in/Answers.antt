@@ -3,7 +3,7 @@ use Rattle.std.specs.Prelude.{slice_get}
 use Rattle.std.proofs.lemmas.Option.{slice_get-get_or, slice_get_within}
 use Rattle.wit_text.specs.declared.source.Source.{Source}
 use Rattle.wit_text.specs.Sources.{LiesIn}
-use Rattle.wit_text.proofs.source.locate_in.Goals as goal
+use Rattle.wit_text.proofs.source_map.locate_in.Goals as goal
 
 pub returns-in-Some-clause-found : goal.returns-in-Some-clause-found
 returns-in-Some-clause-found c =
