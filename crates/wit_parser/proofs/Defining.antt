@@ -70,7 +70,7 @@ defines_one old mid new s names names' d kind p form a = record {
       record {
         now = x.now ++ it ∷ [];
         meets = subst (λ l. Meets ms l (x.now ++ it ∷ [])) (sym (append-nil (more ++ it ∷ []))) (meets_append more (it ∷ []) ms x.now (x.now ++ it ∷ []) x.meets (inr (fresh, refl)));
-        meeting = subst (IsMeeting decls (x.now ++ it ∷ [])) (sym a.last) (meeting_more it (named s name kind d.name.span) x.meeting fresh (record { decl = decl_of s d; among = among (decl_of s d) (0, refl); same = refl; name = refl; owner = refl; form = form; parts = x.at; bare = record { docs = refl; stability = refl; external_id = refl } }) refl);
+        meeting = subst (IsMeeting decls (x.now ++ it ∷ [])) (sym a.last) (meeting_more it (named s name kind d.name.span) x.meeting fresh (record { decl = decl_of s d; among = among (decl_of s d) (0, refl); same = refl; name = refl; span = refl; owner = refl; form = form; parts = x.at; bare = record { docs = refl; stability = refl; external_id = refl } }) refl);
         stand = rw (a.inserted, keys-append x.now (it ∷ [])) (names_added (keys x.now) s names name (length mid) kept fresh count);
         listed = ap (map (λ p. p.0)) a.inserted ∙ names-insert_entry names name (length mid) free;
       });

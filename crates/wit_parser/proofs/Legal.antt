@@ -1,5 +1,5 @@
 -- Where a scope was resolved, no rule is broken in it.
-use Rattle.std.proofs.Common.{◌≡◌, ◌≢◌, ℕ, ◌<◌, List, length, Some, refl, sym, ap, ◌∙◌, subst, arith}
+use Rattle.std.proofs.Common.{◌≡◌, ◌≢◌, ℕ, ◌<◌, ◌⊎◌, inl, inr, List, length, Some, None, refl, sym, ap, ◌∙◌, subst, arith}
 use Rattle.std.specs.Prelude.{slice_get, slice_index, map}
 use Rattle.std.proofs.lemmas.List.{length-map}
 use Rattle.std.proofs.lemmas.Option.{slice_get-get_or, slice_get_within, get_or_from_slice_get}
@@ -7,12 +7,17 @@ use Rattle.wit_tree.specs.declared.tree.TypeDef.{TypeDef as Definition}
 use Rattle.wit_order.specs.Table.{target, Leads, IsOrder}
 use Rattle.wit_order.proofs.Tables.{not_missing}
 use Rattle.wit_order.proofs.Forward.{no_cycle}
+use Rattle.wit_tree.specs.declared.tree.PackageName.{PackageName as Header}
+use Rattle.wit_tree.specs.declared.tree.PackageFile.{PackageFile}
+use Rattle.wit_tree.specs.declared.tree.Interface.{Interface as Written}
+use Rattle.wit_parser.specs.Source.{interfaces}
 use Rattle.wit_parser.specs.Fault.{Fault}
 use Rattle.wit_parser.specs.Scope.{row_of, rows_of, in_order}
-use Rattle.wit_parser.specs.Broken.{IsBrokenScope, DefinedTwice, MissingType, CyclicType, Body, FoldedTwice, IsFoldedTwice, folded_name}
+use Rattle.wit_parser.specs.Broken.{IsBrokenScope, DefinedTwice, MissingType, CyclicType, Body, FoldedTwice, IsFoldedTwice, folded_name, last_header, IsBroken, Headerless, DuplicateItem, Scope, IsLegal}
 use Rattle.wit_parser.specs.Repeats.{AllDiffer}
-use Rattle.wit_parser.specs.Resolving.{AreDistinct, AreLegalBodies}
-use Rattle.wit_parser.proofs.Repeated.{key_at}
+use Rattle.wit_parser.specs.Resolving.{AreDistinct, AreLegalBodies, IsBrokenAmong}
+use Rattle.wit_parser.proofs.Repeated.{key_at, no_repeat}
+use Rattle.wit_parser.proofs.Headers.{some_header}
 use Rattle.wit_parser.proofs.Scoping.{at_contains, in_order_has, in_order_read}
 
 -- the index of a place in an order
@@ -32,6 +37,19 @@ apart ds h first second p q least before at_p at_q same =
     let a : slice_index h first ≡ p = get_or_from_slice_get h first p 0 at_p in
     let b : slice_index h second ≡ q = get_or_from_slice_get h second q 0 at_q in
     least.sorted.once first second before (omega arith) (a ∙ same ∙ sym b)
+
+three_ways : (m n : ℕ) → (m < n) ⊎ ((m ≡ n) ⊎ (n < m))
+three_ways m n = grind arith
+
+-- each place stands once in an order
+pub index_once : (ds : List Definition) (order : List ℕ) (i j p q : ℕ) → IsOrder (rows_of ds) order → slice_get order i ≡ Some p → slice_get order j ≡ Some q → p ≡ q → i ≡ j
+index_once ds order i j p q least at_p at_q same = elim (three_ways i j) [
+  | inl lt ↦ absurd (apart ds order i j p q least lt at_p at_q same)
+  | inr rest ↦ elim rest [
+    | inl eq ↦ eq
+    | inr gt ↦ absurd (apart ds order j i q p least gt at_q at_p (sym same))
+  ]
+]
 
 no_fold : (ds : List Definition) (order : List ℕ) (f : Fault) → IsOrder (rows_of ds) order → AllDiffer (map folded_name (in_order ds order)) → IsFoldedTwice ds f → ⊥
 no_fold ds order f least differ h =
@@ -57,3 +75,17 @@ legal_scope ds order distinct least bodies differ f (Body d among broken) =
     let k = in_order_has ds order i.0 p.0 d i.1 p.1 in
     bodies.legal k.0 d f k.1 broken
 legal_scope ds order distinct least bodies differ f (FoldedTwice h) = no_fold ds order f least differ h
+
+-- where all interfaces were resolved, no rule is broken
+pub legal_files : (files : List PackageFile) (header : Header) → last_header files ≡ Some header → AllDiffer (map (λ (i : Written). i.name.name.now) (interfaces files)) → ((f : Fault) → IsBrokenAmong (interfaces files) f → ⊥) → IsLegal files
+legal_files files header last differ scopes f (Headerless h) =
+    let it = some_header files header last in
+    let wrong : None ≡ Some header = sym (h.none it.0 it.1 it.2) ∙ it.3 in
+    let g : ⊥ = cc in
+    g
+legal_files files header last differ scopes f (DuplicateItem h) = no_repeat (λ (i : Written). i.name.name.now) (interfaces files) h.later differ h.repeated
+legal_files files header last differ scopes f (Scope i among broken) = scopes f (record { interface = i; among = among; broken = broken })
+
+-- what is wrong among interfaces is wrong with their files
+pub broken_files : (files : List PackageFile) (f : Fault) → IsBrokenAmong (interfaces files) f → IsBroken files f
+broken_files files f h = Scope h.interface h.among h.broken

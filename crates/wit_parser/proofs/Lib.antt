@@ -14,3 +14,8 @@ mod Tables
 mod Scoping
 mod Numbering
 mod Legal
+mod Headers
+mod Adding
+mod Done
+mod Shape
+mod Depth

@@ -1,5 +1,5 @@
 -- The rules, and what it is that breaks each.
-use Rattle.std.specs.Prelude.{◌≡◌, ℕ, ◌<◌, ◌⊎◌, List, [], length, map, Option, Some, None, Contains, slice_get}
+use Rattle.std.specs.Prelude.{◌≡◌, ℕ, ◌<◌, ◌⊎◌, List, [], ◌∷◌, length, map, Option, Some, None, Contains, slice_get}
 use Rattle.std.specs.Char.{to_ascii_lowercase}
 use Rattle.wit_tree.specs.declared.span.Span.{Span}
 use Rattle.wit_tree.specs.declared.error.ParseError.{ParseError}
@@ -10,6 +10,7 @@ use Rattle.wit_tree.specs.declared.tree.TypeBody.{TypeBody}
 use Rattle.wit_tree.specs.declared.tree.TypeBody.TheVariants.{Record, Plain}
 use Rattle.wit_tree.specs.declared.tree.TypeDef.{TypeDef}
 use Rattle.wit_tree.specs.declared.tree.Interface.{Interface}
+use Rattle.wit_tree.specs.declared.tree.PackageName.{PackageName as Header}
 use Rattle.wit_tree.specs.declared.tree.PackageFile.{PackageFile}
 use Rattle.wit_order.specs.Table.{IsEdge, IsMissing, IsCyclic, IsOrder}
 use Rattle.wit_parser.specs.Fault.{Fault, fault_of}
@@ -47,11 +48,42 @@ pub record IsHeaderless (files : List PackageFile) (f : Fault) : Type 0 where
   pub none : (i : ℕ) (file : PackageFile) → slice_get files i ≡ Some file → file.package_id ≡ None
   pub is : f ≡ fault 4 (record { start = 0; end = 0 })
 
--- an earlier interface of the package has the name
-pub record IsDuplicateItem (files : List PackageFile) (f : Fault) : Type 0 where
+-- an earlier one of these interfaces has the name
+pub record IsRepeatedItem (is : List Interface) (f : Fault) : Type 0 where
   pub later : Interface
-  pub repeated : IsRepeated (λ i. i.name.name.now) (interfaces files) later
-  pub is : f ≡ fault 5 later.name.span
+  pub repeated : IsRepeated (λ i. i.name.name.now) is later
+  pub says : f ≡ fault 5 later.name.span
+
+-- an earlier interface of the package has the name
+abbrev pub IsDuplicateItem : List PackageFile → Fault → Type 0
+IsDuplicateItem files f = IsRepeatedItem (interfaces files) f
+
+abbrev pub or_header : Option Header → Option Header → Option Header
+or_header None other = other
+or_header (Some h) other = Some h
+
+-- the header of the last file that has one
+abbrev pub last_header : List PackageFile → Option Header
+last_header [] = None
+last_header (f ∷ fs) = or_header (last_header fs) f.package_id
+
+-- two headers name one package
+pub record IsSamePackage (a b : Header) : Type 0 where
+  pub namespace : a.namespace.name.now ≡ b.namespace.name.now
+  pub name : a.name.name.now ≡ b.name.name.now
+
+-- a header names another package than the one before it
+pub record IsMismatch (previous current : Option Header) (f : Fault) : Type 0 where
+  pub before : Header
+  pub own : Header
+  pub was : previous ≡ Some before
+  pub now : current ≡ Some own
+  pub other : IsSamePackage before own → ⊥
+  pub is : f ≡ fault 1 own.span
+
+-- a file's header names another package than the last header of the files before it
+abbrev pub IsOtherPackage : List PackageFile → PackageFile → Fault → Type 0
+IsOtherPackage files file f = IsMismatch (last_header files) file.package_id f
 
 -- an earlier definition of the scope has the name
 pub record IsDefinedTwice (ds : List TypeDef) (f : Fault) : Type 0 where

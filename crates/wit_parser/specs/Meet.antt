@@ -98,14 +98,15 @@ AreAt ks (More e es) (t ∷ ts) = IsAt ks e t × AreAt ks es ts
 AreAt ks End (t ∷ ts) = ⊥
 AreAt ks (More e es) [] = ⊥
 
--- a declaration of a scope: its name, its form and its parts
+-- a declaration of a scope: its name and where it stands, its form and its parts
 pub record Decl : Type 0 where
   pub name : List ℕ
+  pub span : Span
   pub form : Form
   pub parts : Exprs
 
 abbrev pub decl_of : Address → Definition → Decl
-decl_of s d = record { name = d.name.name.now; form = body_form d.body; parts = body_exprs s d.body }
+decl_of s d = record { name = d.name.name.now; span = d.name.span; form = body_form d.body; parts = body_exprs s d.body }
 
 abbrev pub IsAmong : List Decl → Decl → Type 0
 IsAmong ds d = (k : ℕ) × (slice_get ds k ≡ Some d)
@@ -130,6 +131,7 @@ pub record IsNamedEntry (decls : Decls) (ks : List Key) (s : Address) (called : 
   pub among : IsAmong (decls s) decl
   pub same : decl.name ≡ called
   pub name : e.name ≡ Some called
+  pub span : e.span ≡ decl.span
   pub owner : e.owner ≡ owner_at s
   pub form : (kind_of e.kind).form ≡ decl.form
   pub parts : AreAt ks decl.parts (kind_of e.kind).parts

@@ -9,7 +9,7 @@ use Rattle.wit_model.specs.declared.types.TypeDef.{TypeDef}
 use Rattle.wit_model.specs.declared.types.TypeOwner.{TypeOwner}
 use Rattle.wit_model.specs.declared.types.TypeOwner.TheVariants as owner
 use Rattle.wit_parser.specs.Form.{kind_of}
-use Rattle.wit_parser.specs.Node.{Owner, OfInterface, Nobody, Node, Leaf, Named, Unnamed, Nothing, Tree, unfolded}
+use Rattle.wit_parser.specs.Node.{Owner, OfInterface, Nobody, Head, Node, Leaf, Named, Unnamed, Nothing, Tree, unfolded}
 use Rattle.wit_parser.specs.Node as node
 use Rattle.wit_parser.specs.Source.{no_docs}
 
@@ -27,9 +27,13 @@ owner_of is (owner.Interface i) = interface_owner (slice_get is i)
 owner_of is (owner.World w) = Nobody
 owner_of is owner.None = Nobody
 
+-- a named entry without its body
+abbrev pub entry_head : List Interface → List ℕ → TypeDef → Head
+entry_head is name e = record { owner = owner_of is e.owner; name = name; span = e.span; docs = e.docs; stability = e.stability; external_id = e.external_id }
+
 abbrev pub entry_node : List Interface → Option (List ℕ) → TypeDef → Node Ty
 entry_node is None e = Unnamed (kind_of e.kind).form (kind_of e.kind).parts
-entry_node is (Some name) e = Named (record { owner = owner_of is e.owner; name = name; span = e.span; docs = e.docs; stability = e.stability; external_id = e.external_id }) (kind_of e.kind).form (kind_of e.kind).parts
+entry_node is (Some name) e = Named (entry_head is name e) (kind_of e.kind).form (kind_of e.kind).parts
 
 abbrev pub node_at : List Interface → Option TypeDef → Node Ty
 node_at is None = Nothing

@@ -22,7 +22,7 @@ use Rattle.wit_parser.specs.Meet.{Key, Def, Whole, Meeting, keys, IsMet, Meets, 
 use Rattle.wit_parser.specs.Fault.{Fault}
 use Rattle.wit_parser.specs.Package.{At, IsInterface}
 use Rattle.wit_parser.specs.Scope.{body_names, rows_of, in_order}
-use Rattle.wit_parser.specs.Broken.{IsBrokenBody}
+use Rattle.wit_parser.specs.Broken.{IsBrokenBody, IsBrokenScope}
 
 -- what the names of a scope stand for
 abbrev pub Env : Type 0
@@ -155,3 +155,14 @@ pub record AddsInterface (old new : List TypeDef) (is is' : List Interface) (wri
   pub last : is' ≡ is ++ added ∷ []
   pub says : IsInterface written added
   pub defines : Defines old new (InterfaceAt (length is)) [] added.types (in_order (definitions written) order)
+
+-- what interfaces add to the arenas, one after another
+abbrev pub AddsAll : List TypeDef → List TypeDef → List Interface → List Interface → List Written → Type 0
+AddsAll old new is is' [] = (new ≡ old) × (is' ≡ is)
+AddsAll old new is is' (w ∷ ws) = (mid : List TypeDef) × (between : List Interface) × AddsInterface old mid is between w × AddsAll mid new between is' ws
+
+-- what is wrong with the scope of one of these interfaces
+pub record IsBrokenAmong (ws : List Written) (f : Fault) : Type 0 where
+  pub interface : Written
+  pub among : Contains ws interface
+  pub broken : IsBrokenScope (definitions interface) f

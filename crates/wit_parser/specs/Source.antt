@@ -5,6 +5,7 @@ use Rattle.std.specs.Option.{option_map_or}
 use Rattle.std.specs.Str.{bytes_eq}
 use Rattle.wit_tree.specs.declared.tree.«Type».{«Type» as Written}
 use Rattle.wit_tree.specs.declared.tree.«Type».TheVariants as written
+use Rattle.wit_tree.specs.declared.tree.Id.{Id}
 use Rattle.wit_tree.specs.declared.tree.Field.{Field}
 use Rattle.wit_tree.specs.declared.tree.TypeBody.{TypeBody}
 use Rattle.wit_tree.specs.declared.tree.TypeBody.TheVariants.{Record, Plain}
@@ -27,6 +28,9 @@ item_interface (InterfaceItem' i) = i
 -- the interfaces of all files, in push order and then in source order
 abbrev pub interfaces : List PackageFile → List Interface
 interfaces files = flat_map (λ f. map item_interface f.decl_list.items.items) files
+
+abbrev pub interface_id : Interface → Id
+interface_id i = i.name
 
 abbrev pub item_definition : InterfaceItem → TypeDef
 item_definition (TypeItem d) = d

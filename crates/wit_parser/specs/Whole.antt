@@ -17,17 +17,9 @@ use Rattle.wit_parser.specs.Form.{kind_of}
 use Rattle.wit_parser.specs.Source.{Address, InterfaceAt, interfaces, definitions, scope, source_tree}
 use Rattle.wit_parser.specs.Expr.{Expr}
 use Rattle.wit_parser.specs.Scope.{rows_of, in_order}
+use Rattle.wit_parser.specs.Broken.{last_header}
 use Rattle.wit_parser.specs.Meet.{Key, Def, Meeting, keys, all_definition_meetings, Meets, IsAt, Decls, decl_of, IsMeeting}
 use Rattle.wit_parser.specs.Package.{At, HasPart, IsBelow, Reaches, IsInterface, package_tree}
-
--- the header of the last file that has one
-abbrev pub or_header : Option Header → Option Header → Option Header
-or_header None other = other
-or_header (Some h) other = Some h
-
-abbrev pub last_header : List PackageFile → Option Header
-last_header [] = None
-last_header (f ∷ fs) = or_header (last_header fs) f.package_id
 
 -- an interface, with an order of its definitions
 pub record Ordered : Type 0 where

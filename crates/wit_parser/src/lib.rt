@@ -5,11 +5,14 @@ mod definitions;
 mod folding;
 mod interface;
 mod intern;
+mod items;
 pub mod package;
 mod records;
 mod refusal;
 mod repeats;
+pub mod resolver;
 mod scope;
 mod types;
 
 pub use package::UnresolvedPackage;
+pub use resolver::Resolver;
