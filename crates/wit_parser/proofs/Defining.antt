@@ -1,9 +1,8 @@
 -- What is met in definitions, one after another.
-use Rattle.std.proofs.Common.{◌≡◌, ℕ, zero, suc, ◌+◌, ◌<◌, Bool, true, false, cond, List, [], ◌∷◌, ◌++◌, length, take, Option, Some, None, ◌⊎◌, nat_eq, inl, inr, refl, sym, ap, ◌∙◌, subst, append_assoc, arith, length-append}
+use Rattle.std.proofs.Common.{◌≡◌, ℕ, suc, ◌+◌, true, cond, List, [], ◌∷◌, ◌++◌, length, Option, Some, None, nat_eq, inl, inr, refl, sym, ap, ◌∙◌, subst, append_assoc, arith}
 use Rattle.std.specs.Prelude.{slice_get, map}
 use Rattle.std.specs.Cmp.Lexicographic.{pointwise}
-use Rattle.std.specs.Map.{lookup}
-use Rattle.std.proofs.lemmas.List.{append-nil, map-append, length-map}
+use Rattle.std.proofs.lemmas.List.{append-nil, map-append}
 use Rattle.std.proofs.lemmas.Option.{slice_get_within}
 use Rattle.indexmap.specs.IndexMap.{insert_entry}
 use Rattle.wit_tree.specs.declared.tree.TypeDef.{TypeDef as Definition}
@@ -17,11 +16,10 @@ use Rattle.wit_tree.specs.declared.tree.TypeBody.TheVariants.{Record, Plain}
 use Rattle.wit_parser.specs.Form.{ListForm, kind_of}
 use Rattle.wit_parser.specs.Source.{Address, body_form}
 use Rattle.wit_parser.specs.Expr.{one, expr_of, field_exprs, plain_exprs, body_exprs}
-use Rattle.wit_parser.specs.Meet.{Key, Def, Whole, Meeting, keys, type_meetings, field_meetings, plain_meetings, IsMet, Meets, Decl, Decls, IsAmong, decl_of, IsMeeting, body_meetings, definition_meetings, all_definition_meetings}
-use Rattle.wit_parser.specs.Resolving.{met, all_met, Names, env_of, Env, AreNames, AreResolved, IsAdded, IsDefined, Defines, AreDistinct, AreNew, decls_of, definition_names, named}
+use Rattle.wit_parser.specs.Meet.{Key, Def, Whole, Meeting, keys, type_meetings, field_meetings, plain_meetings, IsMet, Meets, Decl, IsAmong, decl_of, IsMeeting, body_meetings, definition_meetings, all_definition_meetings}
+use Rattle.wit_parser.specs.Resolving.{met, all_met, Names, env_of, Env, AreNames, AreResolved, IsAdded, Defines, AreDistinct, AreNew, decls_of, definition_names, named}
 use Rattle.wit_parser.proofs.Lists.{at_front, at_back, at_seam, at_either}
-use Rattle.wit_parser.proofs.Places.{Grown, key_grown}
-use Rattle.wit_parser.proofs.Meeting.{keys-append, meets_append, meets_grown, meets_from, names_kept, no_defs, meeting_more, Has, has_either}
+use Rattle.wit_parser.proofs.Meeting.{keys-append, meets_append, meets_from, names_kept, no_defs, meeting_more, Has, has_either}
 use Rattle.wit_parser.proofs.Names.{name_cases, name_itself, lookup-insert_entry, names-insert_entry}
 
 -- a name that was not met is free

@@ -1,9 +1,7 @@
 -- Where each type stands at its place, its tree is the same at every depth.
-use Rattle.std.proofs.Common.{◌≡◌, ℕ, zero, suc, ◌<◌, true, false, List, [], ◌∷◌, map, Option, Some, None, refl, sym, ap, ◌∙◌, subst, inl, inr, length, take, arith}
-use Rattle.std.specs.Prelude.{slice_get, find}
-use Rattle.std.specs.Option.{option_map_or}
+use Rattle.std.proofs.Common.{◌≡◌, ℕ, zero, suc, true, List, [], ◌∷◌, map, Option, Some, refl, sym, ap, ◌∙◌, subst, inl, inr, take, arith}
+use Rattle.std.specs.Prelude.{slice_get}
 use Rattle.std.specs.Str.{bytes_eq}
-use Rattle.std.proofs.lemmas.Option.{slice_get_within}
 use Rattle.wit_tree.specs.declared.span.Span.{Span}
 use Rattle.wit_tree.specs.declared.tree.«Type».{«Type» as Written}
 use Rattle.wit_tree.specs.declared.tree.«Type».TheVariants as written
@@ -11,7 +9,6 @@ use Rattle.wit_tree.specs.declared.tree.Field.{Field}
 use Rattle.wit_tree.specs.declared.tree.TypeBody.{TypeBody}
 use Rattle.wit_tree.specs.declared.tree.TypeBody.TheVariants.{Record, Plain}
 use Rattle.wit_tree.specs.declared.tree.TypeDef.{TypeDef as Definition}
-use Rattle.wit_tree.specs.declared.tree.Interface.{Interface as Item}
 use Rattle.wit_tree.specs.declared.tree.PackageFile.{PackageFile}
 use Rattle.wit_model.specs.declared.interface.Interface.{Interface}
 use Rattle.wit_model.specs.declared.types.«Type».{«Type» as Ty}
@@ -20,16 +17,15 @@ use Rattle.wit_model.specs.declared.docs.Docs.{Docs}
 use Rattle.wit_model.specs.declared.stability.Stability.{Stability}
 use Rattle.wit_model.specs.declared.stability.Stability.TheVariants.{Unknown}
 use Rattle.wit_model.specs.declared.types.TypeDef.{TypeDef}
-use Rattle.wit_model.specs.declared.types.TypeOwner.{TypeOwner}
 use Rattle.wit_parser.specs.Form.{Form, kind_of, ListForm}
-use Rattle.wit_parser.specs.Node.{Tree, Head, Owner, OfInterface, Named, Unnamed, Leaf, node_map, unfolded}
-use Rattle.wit_parser.specs.Source.{Address, InterfaceAt, Place, interfaces, definitions, scope, owner, definition, head, named_node, body_form, body_parts, plain_parts, no_docs, source_node, source_tree}
+use Rattle.wit_parser.specs.Node.{Tree, Head, Owner, Named, Unnamed, node_map}
+use Rattle.wit_parser.specs.Source.{Address, scope, owner, definition, head, named_node, body_form, body_parts, plain_parts, no_docs, source_tree}
 use Rattle.wit_parser.specs.Expr.{expr_of, field_exprs, plain_exprs, body_exprs, one, Exprs}
 use Rattle.wit_parser.specs.Meet.{Key, Def, Whole, IsAt, AreAt, Decl, decl_of, IsKeyed, IsNamedEntry, owner_at}
-use Rattle.wit_parser.specs.Package.{package_node, package_tree, node_at, entry_head, entry_node, owner_of}
+use Rattle.wit_parser.specs.Package.{package_tree, node_at, entry_head, entry_node, owner_of}
 use Rattle.wit_parser.specs.Whole.{declarations}
 use Rattle.wit_parser.specs.Resolving.{AreDistinct}
-use Rattle.wit_parser.proofs.Lists.{map_at, at_within}
+use Rattle.wit_parser.proofs.Lists.{map_at}
 use Rattle.wit_parser.proofs.Names.{name_cases, name_itself}
 use Rattle.wit_parser.proofs.Places.{all_at_untaken}
 use Rattle.wit_parser.proofs.Shape.{entry_of_key}

@@ -1,9 +1,7 @@
 -- Interfaces that are done, one after another.
-use Rattle.std.proofs.Common.{◌≡◌, ℕ, zero, suc, ◌+◌, ◌<◌, Bool, true, false, List, [], ◌∷◌, ◌++◌, length, Option, Some, None, ◌⊎◌, nat_eq, inl, inr, refl, sym, ap, ◌∙◌, subst, append_assoc, arith, length-append, zero-add, suc-add, add-suc, add-zero}
+use Rattle.std.proofs.Common.{◌≡◌, ℕ, zero, suc, ◌+◌, ◌<◌, List, [], ◌∷◌, ◌++◌, length, Option, Some, ◌⊎◌, inl, inr, refl, sym, ap, ◌∙◌, subst, append_assoc, arith, length-append, zero-add, add-zero}
 use Rattle.std.specs.Prelude.{slice_get, map}
 use Rattle.std.specs.Option.{option_map_or}
-use Rattle.std.specs.Cmp.Lexicographic.{pointwise}
-use Rattle.std.specs.Map.{lookup}
 use Rattle.std.proofs.lemmas.List.{append-nil, map-append}
 use Rattle.std.proofs.lemmas.Option.{slice_get_within}
 use Rattle.wit_tree.specs.declared.tree.TypeDef.{TypeDef as Definition}
@@ -14,13 +12,13 @@ use Rattle.wit_model.specs.declared.types.TypeDef.{TypeDef}
 use Rattle.wit_order.specs.Table.{IsOrder}
 use Rattle.wit_parser.specs.Source.{Address, InterfaceAt, interfaces, definitions, scope}
 use Rattle.wit_parser.specs.Scope.{rows_of, in_order}
-use Rattle.wit_parser.specs.Meet.{Key, Def, Meeting, keys, IsMet, Meets, Decl, IsAmong, Decls, decl_of, IsMeeting, all_definition_meetings}
+use Rattle.wit_parser.specs.Meet.{Def, Meeting, keys, Meets, Decl, IsAmong, decl_of, IsMeeting, all_definition_meetings}
 use Rattle.wit_parser.specs.Package.{IsInterface}
 use Rattle.wit_parser.specs.Whole.{Ordered, ordered_definitions, meetings_from, meetings, declarations}
-use Rattle.wit_parser.specs.Resolving.{Names, env_of, AreNames, AreDistinct, AreNew, decls_of, definition_names, Defines, AddsInterface, AddsAll}
-use Rattle.wit_parser.proofs.Lists.{at_either, at_front, at_seam, at_within, map_at}
+use Rattle.wit_parser.specs.Resolving.{env_of, AreNames, AreDistinct, AreNew, decls_of, definition_names, Defines, AddsInterface, AddsAll}
+use Rattle.wit_parser.proofs.Lists.{at_either, map_at}
 use Rattle.wit_parser.proofs.Places.{key_grown}
-use Rattle.wit_parser.proofs.Meeting.{Has, meets_append, meets_grown, meets_from}
+use Rattle.wit_parser.proofs.Meeting.{meets_append, meets_grown, meets_from}
 use Rattle.wit_parser.proofs.Defining.{name_met_in}
 use Rattle.wit_parser.proofs.Scoping.{in_order_at}
 use Rattle.wit_parser.proofs.Legal.{index_once}

@@ -1,10 +1,15 @@
 -- What follows for a package once all interfaces are done.
-use Rattle.std.proofs.Common.{◌≡◌, ◌↔◌, ℕ, zero, suc, ◌+◌, ◌<◌, List, [], ◌∷◌, ◌++◌, length, take, Option, Some, None, ◌⊎◌, inl, inr, refl, sym, ap, ◌∙◌, subst, arith, zero-add, add-zero}
+use Rattle.std.proofs.Common.{◌≡◌, ◌↔◌, ℕ, zero, suc, ◌+◌, List, [], ◌∷◌, ◌++◌, length, take, Option, Some, None, inl, inr, refl, sym, ap, ◌∙◌, subst, arith, zero-add, add-zero}
 use Rattle.std.specs.Prelude.{slice_get, map}
 use Rattle.std.specs.Option.{option_map, option_map_or}
 use Rattle.std.proofs.lemmas.List.{length-map}
 use Rattle.std.proofs.lemmas.Option.{slice_get-map, slice_get_within}
-use Rattle.wit_tree.specs.declared.tree.«Type».TheVariants.{Name}
+use Rattle.wit_tree.specs.declared.tree.«Type».TheVariants.{Name, List'}
+use Rattle.wit_tree.specs.declared.tree.«Type».TheVariants as written
+use Rattle.wit_tree.specs.declared.tree.«Type».{«Type» as Written'}
+use Rattle.wit_tree.specs.declared.tree.Field.{Field}
+use Rattle.wit_tree.specs.declared.tree.TypeBody.{TypeBody}
+use Rattle.wit_tree.specs.declared.tree.TypeBody.TheVariants.{Record, Plain}
 use Rattle.wit_tree.specs.declared.tree.TypeDef.{TypeDef as Definition}
 use Rattle.wit_tree.specs.declared.tree.Interface.{Interface as Written}
 use Rattle.wit_tree.specs.declared.tree.PackageFile.{PackageFile}
@@ -13,17 +18,16 @@ use Rattle.wit_model.specs.declared.types.«Type».{«Type» as Ty}
 use Rattle.wit_model.specs.declared.types.«Type».TheVariants.{Id}
 use Rattle.wit_model.specs.declared.types.TypeDef.{TypeDef}
 use Rattle.wit_parser.specs.declared.package.UnresolvedPackage.{UnresolvedPackage}
-use Rattle.wit_parser.specs.Form.{Form, kind_of}
+use Rattle.wit_parser.specs.Form.{Form, ListForm, kind_of}
 use Rattle.wit_parser.specs.Node.{OfInterface, Nobody}
-use Rattle.wit_parser.specs.Source.{Address, InterfaceAt, interfaces, definitions, scope, owner}
-use Rattle.wit_parser.specs.Expr.{Expr, Exprs, body_exprs}
-use Rattle.wit_parser.specs.Scope.{rows_of, in_order}
-use Rattle.wit_parser.specs.Meet.{Key, Def, Whole, Meeting, keys, IsAt, AreAt, Decl, decl_of, IsEntry, all_definition_meetings, definition_meetings, owner_at}
+use Rattle.wit_parser.specs.Source.{Address, InterfaceAt, Place, interfaces, definitions, scope, body_parts, plain_parts}
+use Rattle.wit_parser.specs.Expr.{Expr, Exprs, one, expr_of, field_exprs, plain_exprs, body_exprs}
+use Rattle.wit_parser.specs.Meet.{Key, Def, Whole, keys, IsAt, AreAt, Decl, decl_of, IsEntry, all_definition_meetings, definition_meetings, owner_at}
 use Rattle.wit_tree.specs.declared.tree.PackageName.{PackageName as Header}
 use Rattle.wit_parser.specs.Broken.{last_header}
-use Rattle.wit_parser.specs.Package.{At, HasPart, Reaches, IsInterface, owner_of, interface_owner, named_owner}
-use Rattle.wit_parser.specs.Whole.{Ordered, ordered_definitions, meetings_from, meetings, declarations, HasTypes, IsOwned, IsReached, HasTree, IsFaithful, IsPackage}
-use Rattle.wit_parser.specs.Resolving.{all_met, AreDistinct, env_of}
+use Rattle.wit_parser.specs.Package.{At, Reaches, interface_owner, named_owner}
+use Rattle.wit_parser.specs.Whole.{Ordered, ordered_definitions, meetings_from, meetings, declarations, HasTypes, IsOwned, IsReached, HasTree, IsPartOfDefinition, HasType, IsFaithful, IsPackage}
+use Rattle.wit_parser.specs.Resolving.{all_met, AreDistinct}
 use Rattle.wit_parser.proofs.Lists.{at_within, map_at}
 use Rattle.wit_parser.proofs.Names.{lookup-at, lookup-place}
 use Rattle.wit_parser.proofs.Places.{all_at_untaken, at_injective, at_functional}
@@ -63,6 +67,43 @@ whole_in_interfaces p (o ∷ os) form parts h =
           let same : suc p + it.0 ≡ p + suc it.0 = omega arith in
           (suc it.0, it.1, it.2, subst (λ (n : ℕ). Has (keys (all_definition_meetings (InterfaceAt n) (ordered_definitions it.1))) (Whole form parts)) same it.3))
     ]
+
+first_at : (ks : List Key) (e : Expr) (ts : List Ty) (t : Ty) → AreAt ks (one e) ts → slice_get ts 0 ≡ Some t → IsAt ks e t
+first_at ks e [] t h at = absurd h
+first_at ks e (u ∷ us) t h at = (let same : u ≡ t = cc in subst (IsAt ks e) same h.0)
+
+one_at : (ks : List Key) (s : Address) (w : Written') (ts : List Ty) (j : ℕ) (x : Place) (t : Ty) → AreAt ks (one (expr_of s w)) ts → slice_get ((s, w) ∷ []) j ≡ Some x → slice_get ts j ≡ Some t → IsAt ks (expr_of x.0 x.1) t
+one_at ks s w ts zero x t h place at = (let here : (s, w) ≡ x = cc in subst (λ (y : Place). IsAt ks (expr_of y.0 y.1) t) here (first_at ks (expr_of s w) ts t h at))
+one_at ks s w ts (suc j) x t h place at = absurd (let f : ⊥ = cc in f)
+
+fields_at : (ks : List Key) (s : Address) (fs : List Field) (ts : List Ty) (j : ℕ) (x : Place) (t : Ty) → AreAt ks (field_exprs s fs) ts → slice_get (map (λ f. (s, f.ty)) fs) j ≡ Some x → slice_get ts j ≡ Some t → IsAt ks (expr_of x.0 x.1) t
+fields_at ks s [] ts j x t h place at = absurd (let f : ⊥ = cc in f)
+fields_at ks s (f ∷ fs) [] j x t h place at = absurd h
+fields_at ks s (f ∷ fs) (u ∷ us) zero x t h place at = (let here : (s, f.ty) ≡ x = cc in let same : u ≡ t = cc in subst (λ (y : Place). IsAt ks (expr_of y.0 y.1) t) here (subst (IsAt ks (expr_of s f.ty)) same h.0))
+fields_at ks s (f ∷ fs) (u ∷ us) (suc j) x t h place at = fields_at ks s fs us j x t h.1 place at
+
+plain_at : (ks : List Key) (s : Address) (w : Written') (ts : List Ty) (j : ℕ) (x : Place) (t : Ty) → AreAt ks (plain_exprs s w) ts → slice_get (plain_parts s w) j ≡ Some x → slice_get ts j ≡ Some t → IsAt ks (expr_of x.0 x.1) t
+plain_at ks s (written.List' span b w) ts j x t h place at = one_at ks s w ts j x t h place at
+plain_at ks s (written.Name span) ts j x t h place at = one_at ks s (written.Name span) ts j x t h place at
+plain_at ks s (written.Bool span) ts j x t h place at = one_at ks s (written.Bool span) ts j x t h place at
+plain_at ks s (written.U8 span) ts j x t h place at = one_at ks s (written.U8 span) ts j x t h place at
+plain_at ks s (written.U16 span) ts j x t h place at = one_at ks s (written.U16 span) ts j x t h place at
+plain_at ks s (written.U32 span) ts j x t h place at = one_at ks s (written.U32 span) ts j x t h place at
+plain_at ks s (written.U64 span) ts j x t h place at = one_at ks s (written.U64 span) ts j x t h place at
+plain_at ks s (written.S8 span) ts j x t h place at = one_at ks s (written.S8 span) ts j x t h place at
+plain_at ks s (written.S16 span) ts j x t h place at = one_at ks s (written.S16 span) ts j x t h place at
+plain_at ks s (written.S32 span) ts j x t h place at = one_at ks s (written.S32 span) ts j x t h place at
+plain_at ks s (written.S64 span) ts j x t h place at = one_at ks s (written.S64 span) ts j x t h place at
+plain_at ks s (written.F32 span) ts j x t h place at = one_at ks s (written.F32 span) ts j x t h place at
+plain_at ks s (written.F64 span) ts j x t h place at = one_at ks s (written.F64 span) ts j x t h place at
+plain_at ks s (written.Char span) ts j x t h place at = one_at ks s (written.Char span) ts j x t h place at
+plain_at ks s (written.String span) ts j x t h place at = one_at ks s (written.String span) ts j x t h place at
+plain_at ks s (written.ErrorContext span) ts j x t h place at = one_at ks s (written.ErrorContext span) ts j x t h place at
+
+-- a part of a body and its type
+body_at : (ks : List Key) (s : Address) (b : TypeBody) (ts : List Ty) (j : ℕ) (x : Place) (t : Ty) → AreAt ks (body_exprs s b) ts → slice_get (body_parts s b) j ≡ Some x → slice_get ts j ≡ Some t → IsAt ks (expr_of x.0 x.1) t
+body_at ks s (Record span fields) ts j x t h place at = fields_at ks s fields.items ts j x t h place at
+body_at ks s (Plain w) ts j x t h place at = plain_at ks s w ts j x t h place at
 
 module _ (files : List PackageFile) (os : List Ordered) (es : List TypeDef) (is : List Interface) (all : map (λ (o : Ordered). o.interface) os ≡ interfaces files) (d : IsDone files os es is) where
   abbrev ks : List Key
@@ -217,12 +258,46 @@ module _ (files : List PackageFile) (os : List Ordered) (es : List TypeDef) (is 
           tree = λ n. rw (types, arena) (same_tree files ks es is d.meeting.keyed scopes n (InterfaceAt t) (Name e.name) (Id id.0) (id.0, refl, id.2));
         }
 
+    -- the interface at a place, and what a name in it stands for
+    part_at : (x : Place) (ty : Ty) → IsPartOfDefinition files p x ty → IsAt ks (expr_of x.0 x.1) ty
+    part_at x ty h =
+        let t = h.interface in
+        let there : slice_get is t ≡ Some h.i = ap (λ (l : List Interface). slice_get l t) (sym arena) ∙ h.there in
+        let o = ordered_at t h.i there in
+        let here = (has_types t o.0 h.i o.1 there).places h.index h.d.name.name.now h.id h.stands in
+        let of_scope = scope_at files t o.0.interface (written_at t o.0 o.1) in
+        let eat : slice_get (definitions o.0.interface) h.k ≡ Some h.d = ap (λ (l : List Definition). slice_get l h.k) (sym of_scope) ∙ h.defined in
+        let q = index_of (definitions o.0.interface) o.0.order h.k h.d (d.least t o.0 o.1) eat in
+        let read = in_order_read (definitions o.0.interface) o.0.order q.0 h.k h.d (d.least t o.0 o.1) q.1 eat in
+        let top = parts_at t o.0 q.0 h.d h.id o.1 read here in
+        let one : Some top.0 ≡ Some h.e = sym top.1 ∙ ap (λ (l : List TypeDef). slice_get l h.id) (sym types) ∙ h.entry in
+        let same : top.0 ≡ h.e = cc in
+        body_at ks (InterfaceAt t) h.d.body (kind_of h.e.kind).parts h.part x ty (subst (λ (e : TypeDef). AreAt ks (body_exprs (InterfaceAt t) h.d.body) (kind_of e.kind).parts) same top.2) h.place h.is
+
+    type_at : (n : ℕ) (x : Place) (ty : Ty) → HasType files p n x ty → IsAt ks (expr_of x.0 x.1) ty
+    type_at zero x ty h = part_at x ty h
+    type_at (suc n) x ty h =
+        let whole = type_at n (x.0, List' h.span h.box x.1) (Id h.id) h.whole in
+        let ids : h.id ≡ whole.0 = (let same = whole.1 in cc) in
+        let m = d.meeting.keyed in
+        let key = Whole ListForm (one (expr_of x.0 x.1)) in
+        let e : slice_get es whole.0 ≡ Some h.e = ap (slice_get es) (sym ids) ∙ ap (λ (l : List TypeDef). slice_get l h.id) (sym types) ∙ h.entry in
+        let it = m.each whole.0 key h.e whole.2 e in
+        first_at ks (expr_of x.0 x.1) (kind_of h.e.kind).parts ty (all_at_untaken whole.0 ks (one (expr_of x.0 x.1)) (kind_of h.e.kind).parts it.parts) h.is
+
+    same_types : (m n : ℕ) (x y : Place) (t u : Ty) → HasType files p m x t → HasType files p n y u → (t ≡ u) ↔ (expr_of x.0 x.1 ≡ expr_of y.0 y.1)
+    same_types m n x y t u h k =
+        let a = type_at m x t h in
+        let b = type_at n y u k in
+        (λ same. at_injective ks (expr_of x.0 x.1) (expr_of y.0 y.1) u (subst (IsAt ks (expr_of x.0 x.1)) same a) b, λ same. at_functional ks (once_of d.meeting.keyed) (expr_of y.0 y.1) t u (subst (λ (z : Expr). IsAt ks z t) same a) b)
+
     pub faithful : IsFaithful files p
     faithful = record {
       backward = λ i e part at. backward (declarations files) ks es d.meeting.keyed i e part (record { is = ap (λ (l : List TypeDef). slice_get l i) (sym types) ∙ at.is });
       interned = λ i j e f ati atj. interned (declarations files) ks es d.meeting.keyed i j e f (record { is = ap (λ (l : List TypeDef). slice_get l i) (sym types) ∙ ati.is }) (record { is = ap (λ (l : List TypeDef). slice_get l j) (sym types) ∙ atj.is });
       named = λ j e name at. named j e name (record { is = ap (λ (l : List TypeDef). slice_get l j) (sym types) ∙ at.is });
       reached = λ j e at. reached j e (record { is = ap (λ (l : List TypeDef). slice_get l j) (sym types) ∙ at.is });
+      same = same_types;
       trees = λ t i k e there at. tree t i k e (ap (λ (l : List Interface). slice_get l t) (sym arena) ∙ there) at;
     }
 

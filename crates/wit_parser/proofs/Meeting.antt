@@ -1,16 +1,16 @@
 -- The list of meetings, as it grows.
 use Rattle.std.proofs.Common.{◌≡◌, ℕ, ◌+◌, List, [], ◌∷◌, ◌++◌, length, take, Some, None, ◌⊎◌, inl, inr, refl, sym, ap, ◌∙◌, subst, arith, length-append}
-use Rattle.std.specs.Prelude.{slice_get, map}
+use Rattle.std.specs.Prelude.{slice_get}
 use Rattle.std.proofs.lemmas.List.{map-append}
 use Rattle.std.proofs.lemmas.Option.{slice_get_within}
 use Rattle.wit_model.specs.declared.types.TypeDef.{TypeDef}
 use Rattle.wit_model.specs.declared.types.TypeDefKind.{TypeDefKind}
 use Rattle.wit_tree.specs.declared.span.Span.{Span}
-use Rattle.wit_parser.specs.Form.{Form, kind_of}
+use Rattle.wit_parser.specs.Form.{kind_of}
 use Rattle.wit_parser.specs.Source.{Address}
 use Rattle.wit_parser.specs.Expr.{Expr, Prim, Use, Of, Exprs, End, More}
-use Rattle.wit_parser.specs.Meet.{Key, Def, Whole, Meeting, keys, spans, IsMet, Meets, AreAt, Decls, IsEntry, IsNamedEntry, IsUnnamedEntry, IsKeyed, IsMeeting}
-use Rattle.wit_parser.specs.Resolving.{met, all_met, Env, AreNames, IsInterned, IsUnnamedOf, unnamed}
+use Rattle.wit_parser.specs.Meet.{Key, Def, Whole, Meeting, keys, spans, IsMet, Meets, AreAt, Decls, IsEntry, IsKeyed, IsMeeting}
+use Rattle.wit_parser.specs.Resolving.{met, all_met, Env, AreNames, IsInterned, unnamed}
 use Rattle.wit_parser.proofs.Lists.{at_seam, at_either, take_front, take_seam, at_within}
 use Rattle.wit_parser.proofs.Places.{Grown, grown_refl, grown_trans, key_grown, all_at_untaken, all_at_injective, all_at_functional, IsOnce}
 

@@ -1,11 +1,11 @@
 -- Refusals of an order, under their numbers.
-use Rattle.std.proofs.Common.{◌≡◌, ℕ, List, Option, Some, inl, inr, refl, sym, ap, ◌∙◌, subst}
+use Rattle.std.proofs.Common.{◌≡◌, ℕ, List, Option, Some, inl, inr, refl, ap, ◌∙◌, subst}
 use Rattle.wit_tree.specs.declared.span.Span.{Span}
 use Rattle.wit_tree.specs.declared.error.ParseError.{ParseError}
 use Rattle.wit_tree.specs.declared.error.ParseErrorKind.{ParseErrorKind}
 use Rattle.wit_tree.specs.declared.error.ParseErrorKind.TheVariants.{Syntax, ItemNotFound, TypeCycle, OutOfMemory}
 use Rattle.wit_tree.specs.declared.tree.TypeDef.{TypeDef as Definition}
-use Rattle.wit_tree.specs.Refusal.{span_of, name_of, IsItemNotFound, IsTypeCycle, IsWantOfMemory}
+use Rattle.wit_tree.specs.Refusal.{span_of, name_of, IsItemNotFound, IsTypeCycle}
 use Rattle.wit_order.specs.Table.{Row}
 use Rattle.wit_order.specs.Refused.{IsRefused}
 use Rattle.wit_parser.specs.Fault.{Fault, fault_of}

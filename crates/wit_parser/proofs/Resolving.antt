@@ -1,9 +1,7 @@
 -- What is met in types, one after another.
-use Rattle.std.proofs.Common.{◌≡◌, ℕ, List, [], ◌∷◌, ◌++◌, Some, refl, sym, ap, ◌∙◌, subst, append_assoc}
+use Rattle.std.proofs.Common.{◌≡◌, ℕ, List, [], ◌∷◌, ◌++◌, refl, sym, ap, ◌∙◌, append_assoc}
 use Rattle.std.proofs.lemmas.List.{append-nil}
 use Rattle.wit_tree.specs.declared.span.Span.{Span}
-use Rattle.wit_tree.specs.declared.tree.«Type».{«Type» as Written}
-use Rattle.wit_tree.specs.declared.tree.«Type».TheVariants as written
 use Rattle.wit_tree.specs.declared.tree.Field.{Field}
 use Rattle.wit_model.specs.declared.types.«Type».{«Type» as Ty}
 use Rattle.wit_model.specs.declared.types.«Type».TheVariants.{Id}
@@ -11,8 +9,8 @@ use Rattle.wit_model.specs.declared.types.TypeDef.{TypeDef}
 use Rattle.wit_model.specs.declared.types.TypeDefKind.{TypeDefKind}
 use Rattle.wit_parser.specs.Form.{kind_of}
 use Rattle.wit_parser.specs.Source.{Address}
-use Rattle.wit_parser.specs.Expr.{Use, Of, Exprs, End, More, one, joined, expr_of, field_exprs}
-use Rattle.wit_parser.specs.Meet.{Whole, Meeting, keys, Meets, type_meetings, field_meetings}
+use Rattle.wit_parser.specs.Expr.{Of, Exprs, End, More, one, joined, expr_of, field_exprs}
+use Rattle.wit_parser.specs.Meet.{Whole, Meeting, keys, type_meetings, field_meetings}
 use Rattle.wit_parser.specs.Resolving.{all_met, Env, IsInterned, AreResolved}
 use Rattle.wit_parser.proofs.Places.{all_at_grown, all_at_joined, all_met-joined}
 use Rattle.wit_parser.proofs.Meeting.{keys-append, meets_append, meets_grown, names_kept, meet_whole, IsOnly}

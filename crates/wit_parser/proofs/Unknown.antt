@@ -1,5 +1,5 @@
 -- Names that stand for nothing yet.
-use Rattle.std.proofs.Common.{◌≡◌, ℕ, List, [], ◌∷◌, ◌++◌, Some, None, inl, inr, refl, arith}
+use Rattle.std.proofs.Common.{◌≡◌, [], ◌∷◌, None, refl, arith}
 use Rattle.wit_tree.specs.declared.tree.Id.{Id}
 use Rattle.wit_parser.specs.Fault.{Fault}
 use Rattle.wit_parser.specs.Resolving.{Env, IsUnknown}

@@ -1,5 +1,5 @@
 -- Kinds and their forms and parts.
-use Rattle.std.proofs.Common.{◌≡◌, ◌∷◌, [], refl, ap}
+use Rattle.std.proofs.Common.{◌≡◌, ◌∷◌, []}
 use Rattle.wit_model.specs.declared.types.«Type».{«Type» as Ty}
 use Rattle.wit_model.specs.declared.types.Handle.TheVariants.{Own, Borrow}
 use Rattle.wit_model.specs.declared.types.TypeDefKind.{TypeDefKind}

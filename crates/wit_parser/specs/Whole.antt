@@ -1,8 +1,9 @@
 -- The theorem: what a resolved package is.
-use Rattle.std.specs.Prelude.{◌≡◌, ◌↔◌, ℕ, suc, List, [], ◌∷◌, ◌++◌, length, map, Option, Some, None, slice_get}
-use Rattle.std.specs.Map.{lookup}
+use Rattle.std.specs.Prelude.{◌≡◌, ◌↔◌, ℕ, zero, suc, Box, List, [], ◌∷◌, ◌++◌, length, map, Some, None, slice_get}
+use Rattle.std.specs.declared.alloc.Global.{Global}
+use Rattle.wit_tree.specs.declared.span.Span.{Span}
 use Rattle.wit_tree.specs.declared.tree.TypeDef.{TypeDef as Definition}
-use Rattle.wit_tree.specs.declared.tree.«Type».TheVariants.{Name}
+use Rattle.wit_tree.specs.declared.tree.«Type».TheVariants.{Name, List'}
 use Rattle.wit_tree.specs.declared.tree.Interface.{Interface as Written}
 use Rattle.wit_tree.specs.declared.tree.PackageName.{PackageName as Header}
 use Rattle.wit_tree.specs.declared.tree.PackageFile.{PackageFile}
@@ -14,8 +15,8 @@ use Rattle.wit_model.specs.declared.types.TypeOwner.TheVariants.{Interface as Of
 use Rattle.wit_order.specs.Table.{IsOrder}
 use Rattle.wit_parser.specs.declared.package.UnresolvedPackage.{UnresolvedPackage}
 use Rattle.wit_parser.specs.Form.{kind_of}
-use Rattle.wit_parser.specs.Source.{Address, InterfaceAt, interfaces, definitions, scope, source_tree}
-use Rattle.wit_parser.specs.Expr.{Expr}
+use Rattle.wit_parser.specs.Source.{InterfaceAt, interfaces, definitions, Place, scope, body_parts, source_tree}
+use Rattle.wit_parser.specs.Expr.{Expr, expr_of}
 use Rattle.wit_parser.specs.Scope.{rows_of, in_order}
 use Rattle.wit_parser.specs.Broken.{last_header}
 use Rattle.wit_parser.specs.Meet.{Key, Def, Meeting, keys, all_definition_meetings, Meets, IsAt, Decls, decl_of, IsMeeting}
@@ -97,6 +98,39 @@ pub record IsReached (p : UnresolvedPackage) (j : ℕ) : Type 0 where
   pub stands : slice_get i.types place ≡ Some (name, id)
   pub leads : Reaches p.types (Id id) j
 
+-- the written type at an index of a definition's body has the type at that index of the entry that the name stands for
+pub record IsPartOfDefinition (files : List PackageFile) (p : UnresolvedPackage) (written : Place) (ty : Ty) : Type 0 where
+  pub interface : ℕ
+  pub i : Interface
+  pub k : ℕ
+  pub d : Definition
+  pub index : ℕ
+  pub id : ℕ
+  pub e : TypeDef
+  pub part : ℕ
+  pub there : slice_get p.interfaces interface ≡ Some i
+  pub defined : slice_get (scope files (InterfaceAt interface)) k ≡ Some d
+  pub stands : slice_get i.types index ≡ Some (d.name.name.now, id)
+  pub entry : slice_get p.types id ≡ Some e
+  pub place : slice_get (body_parts (InterfaceAt interface) d.body) part ≡ Some written
+  pub is : slice_get (kind_of e.kind).parts part ≡ Some ty
+
+-- what is written in a list that has a type has the part of that type's entry
+pub record IsPartOfList (p : UnresolvedPackage) (has : Place → Ty → Type 0) (written : Place) (ty : Ty) : Type 0 where
+  pub span : Span
+  pub box : Box (Unit {0}) Global
+  pub id : ℕ
+  pub e : TypeDef
+  pub whole : has (written.0, List' span box written.1) (Id id)
+  pub entry : slice_get p.types id ≡ Some e
+  pub is : slice_get (kind_of e.kind).parts 0 ≡ Some ty
+
+-- A written type has this type at its position in the package: at first as a part of a definition, then by steps from
+-- a list to what is in it.
+abbrev pub HasType : List PackageFile → UnresolvedPackage → (n : ℕ) → Place → Ty → Type 0
+HasType files p zero place ty = IsPartOfDefinition files p place ty
+HasType files p (suc n) place ty = IsPartOfList p (HasType files p n) place ty
+
 -- Types refer only backwards, equal unnamed types are one, nothing is unreached, and every name is the tree that
 -- lexical scope gives it.
 pub record IsFaithful (files : List PackageFile) (p : UnresolvedPackage) : Type 0 where
@@ -106,4 +140,6 @@ pub record IsFaithful (files : List PackageFile) (p : UnresolvedPackage) : Type 
   pub named : (j : ℕ) (e : TypeDef) (name : List ℕ) → At p.types j e → e.name ≡ Some name → IsOwned p j e name
   -- an unnamed one is reached from a name of an interface
   pub reached : (j : ℕ) (e : TypeDef) → At p.types j e → e.name ≡ None → IsReached p j
+  -- two written types have one type exactly where they are one expression
+  pub same : (m n : ℕ) (x y : Place) (t u : Ty) → HasType files p m x t → HasType files p n y u → (t ≡ u) ↔ (expr_of x.0 x.1 ≡ expr_of y.0 y.1)
   pub trees : (t : ℕ) (i : Interface) (k : ℕ) (d : Definition) → slice_get p.interfaces t ≡ Some i → slice_get (scope files (InterfaceAt t)) k ≡ Some d → HasTree files p t d i

@@ -1,10 +1,10 @@
 use Rattle.std.proofs.Common.{◌≡◌, ℕ, ◌+◌, ◌<◌, ◌++◌, ◌∷◌, [], length, take, get_or, Some, inl, inr, refl, sym, ap, ◌∙◌, subst, arith}
 use Rattle.std.specs.Prelude.{slice_get, map}
 use Rattle.std.proofs.lemmas.List.{length-map}
-use Rattle.std.proofs.lemmas.Option.{slice_get-get_or, get_or_from_slice_get, slice_get_within}
+use Rattle.std.proofs.lemmas.Option.{slice_get-get_or}
 use Rattle.std.proofs.lemmas.Result.{err_from_is_err_and}
-use Rattle.wit_parser.specs.Source.{Address, InterfaceAt, item_definition}
-use Rattle.wit_parser.specs.Scope.{rows_of, row_of, in_order}
+use Rattle.wit_parser.specs.Source.{InterfaceAt, item_definition}
+use Rattle.wit_parser.specs.Scope.{row_of, in_order}
 use Rattle.wit_parser.specs.Broken.{IsBrokenScope, Body}
 use Rattle.wit_parser.specs.Resolving.{env_of, Defines, IsWrongBody}
 use Rattle.wit_parser.proofs.Lists.{read_map}

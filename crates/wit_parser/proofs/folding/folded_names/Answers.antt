@@ -1,10 +1,10 @@
-use Rattle.std.proofs.Common.{◌≡◌, ◌+◌, ◌<◌, ◌++◌, ◌∷◌, [], length, take, get_or, Some, sym, ap, ◌∙◌, arith}
+use Rattle.std.proofs.Common.{◌≡◌, ◌+◌, ◌++◌, ◌∷◌, [], take, Some, sym, ap, ◌∙◌, arith}
 use Rattle.std.specs.Prelude.{slice_get, map}
 use Rattle.std.proofs.lemmas.List.{map-append, take_more, take_all}
 use Rattle.std.proofs.lemmas.Option.{get_or_from_slice_get, slice_get_within}
 use Rattle.wit_parser.specs.Source.{item_definition}
 use Rattle.wit_parser.specs.Scope.{in_order}
-use Rattle.wit_parser.specs.Broken.{folded_name, folded}
+use Rattle.wit_parser.specs.Broken.{folded_name}
 use Rattle.wit_parser.proofs.Scoping.{length-in_order}
 use Rattle.wit_parser.proofs.folding.folded_names.Goals as goal
 

@@ -1,8 +1,7 @@
-use Rattle.std.proofs.Common.{◌≡◌, ℕ, List, [], ap, ◌∙◌, sym, subst, refl, length}
+use Rattle.std.proofs.Common.{ℕ, List, [], length}
 use Rattle.std.specs.Prelude.{map}
 use Rattle.wit_order.specs.Table.{IsOrder}
-use Rattle.wit_tree.specs.declared.tree.InterfaceItem.{InterfaceItem}
-use Rattle.wit_parser.specs.Source.{InterfaceAt, definitions, item_definition}
+use Rattle.wit_parser.specs.Source.{InterfaceAt, definitions}
 use Rattle.wit_parser.specs.Scope.{rows_of, in_order}
 use Rattle.wit_parser.specs.Broken.{folded_name}
 use Rattle.wit_parser.specs.Repeats.{AllDiffer}

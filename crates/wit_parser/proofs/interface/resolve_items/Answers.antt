@@ -1,11 +1,10 @@
-use Rattle.std.proofs.Common.{◌≡◌, ◌+◌, ◌<◌, ◌++◌, ◌∷◌, [], take, length, Some, sym, ap, ◌∙◌, subst, refl, arith}
+use Rattle.std.proofs.Common.{◌≡◌, ◌+◌, ◌++◌, ◌∷◌, [], take, Some, sym, ap, ◌∙◌, arith}
 use Rattle.std.specs.Prelude.{map, slice_get}
 use Rattle.std.proofs.lemmas.List.{take_all}
 use Rattle.std.proofs.lemmas.Result.{err_from_is_err_and}
 use Rattle.wit_parser.specs.Source.{item_interface, definitions}
-use Rattle.wit_parser.specs.Fault.{Fault}
 use Rattle.wit_parser.specs.Broken.{IsBrokenScope}
-use Rattle.wit_parser.specs.Resolving.{AddsAll, IsBrokenAmong}
+use Rattle.wit_parser.specs.Resolving.{IsBrokenAmong}
 use Rattle.wit_parser.proofs.Lists.{read_map}
 use Rattle.wit_parser.proofs.Refusing.{refused_weaker}
 use Rattle.wit_parser.proofs.Scoping.{contains_at}

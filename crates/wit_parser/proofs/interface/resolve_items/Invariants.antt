@@ -1,4 +1,4 @@
-use Rattle.std.proofs.Common.{◌≡◌, map, take}
+use Rattle.std.proofs.Common.{map, take}
 use Rattle.wit_parser.specs.Source.{item_interface}
 use Rattle.wit_parser.specs.Fault.{Fault}
 use Rattle.wit_parser.specs.Resolving.{AddsAll, IsBrokenAmong}

@@ -1,4 +1,4 @@
-use Rattle.std.proofs.Common.{◌≡◌, below_more, arith, sym, ap, ◌∙◌}
+use Rattle.std.proofs.Common.{below_more}
 use Rattle.wit_parser.proofs.intern.find_list.Goals as goal
 
 pub loop-place-preserved : goal.loop-place-preserved

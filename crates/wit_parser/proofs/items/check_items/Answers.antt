@@ -1,4 +1,4 @@
-use Rattle.std.proofs.Common.{◌≡◌, ◌<◌, ℕ, List, Some, None, inl, inr, sym, ap, ◌∙◌, subst, get_or}
+use Rattle.std.proofs.Common.{◌≡◌, ℕ, List, Some, inl, inr, ap, ◌∙◌, subst, get_or}
 use Rattle.std.specs.Prelude.{map, slice_get}
 use Rattle.std.specs.Option.{option_map}
 use Rattle.std.proofs.lemmas.Option.{slice_get-map, get_or_from_slice_get}
@@ -7,7 +7,7 @@ use Rattle.wit_tree.specs.declared.tree.Interface.{Interface as Written}
 use Rattle.wit_parser.specs.Source.{interfaces, interface_id}
 use Rattle.wit_parser.specs.Broken.{fault}
 use Rattle.wit_parser.specs.Repeats.{IsRepeatAt, AllDiffer}
-use Rattle.wit_parser.proofs.Lists.{map_map, map_at}
+use Rattle.wit_parser.proofs.Lists.{map_map}
 use Rattle.wit_parser.proofs.Repeated.{item_at, repeated_key}
 use Rattle.wit_parser.proofs.items.check_items.Goals as goal
 

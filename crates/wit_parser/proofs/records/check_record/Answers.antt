@@ -1,9 +1,8 @@
-use Rattle.std.proofs.Common.{◌≡◌, ◌<◌, ℕ, List, [], true, false, length, ◌==◌, Some, None, inl, inr, sym, ap, ◌∙◌, rules, subst}
+use Rattle.std.proofs.Common.{◌≡◌, ℕ, List, true, false, length, ◌==◌, Some, inl, inr, sym, ap, ◌∙◌, subst}
 use Rattle.std.specs.Prelude.{map, slice_get}
 use Rattle.std.proofs.lemmas.Option.{slice_get-get_or, slice_get_within}
 use Rattle.wit_tree.specs.declared.tree.Field.{Field}
-use Rattle.wit_parser.specs.Fault.{fault_of}
-use Rattle.wit_parser.specs.Broken.{fault, folded, IsBrokenRecord, Empty, DuplicateField}
+use Rattle.wit_parser.specs.Broken.{fault, folded, Empty, DuplicateField}
 use Rattle.wit_parser.specs.Repeats.{IsRepeatAt, AllDiffer}
 use Rattle.wit_parser.proofs.Repeated.{item_at, repeated_key, no_repeat}
 use Rattle.wit_parser.proofs.records.check_record.Goals as goal

@@ -1,4 +1,4 @@
-use Rattle.std.proofs.Common.{◌≡◌, inl, inr}
+use Rattle.std.proofs.Common.{inl, inr}
 use Rattle.wit_parser.proofs.Headers.{not_both}
 use Rattle.wit_parser.proofs.resolver.next_header.Goals as goal
 

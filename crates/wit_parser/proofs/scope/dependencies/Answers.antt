@@ -1,14 +1,12 @@
-use Rattle.std.proofs.Common.{◌≡◌, ◌<◌, ◌+◌, ◌++◌, ◌∷◌, [], length, take, Some, None, inl, inr, sym, ap, ◌∙◌, rules, arith}
+use Rattle.std.proofs.Common.{◌≡◌, ◌<◌, ◌+◌, ◌++◌, ◌∷◌, [], length, take, Some, None, inl, inr, sym, ap, ◌∙◌, arith}
 use Rattle.std.specs.Prelude.{slice_get, map}
-use Rattle.std.proofs.lemmas.List.{take_more, map-append, length-map}
+use Rattle.std.proofs.lemmas.List.{take_more, map-append}
 use Rattle.std.proofs.lemmas.Option.{slice_get_within, get_or_from_slice_get}
 use Rattle.wit_order.specs.Table.{entry_row, place_of, rows}
 use Rattle.wit_order.proofs.Tables.{place_by_key}
 use Rattle.wit_order.proofs.Rows.{rows-insert}
-use Rattle.wit_tree.specs.declared.tree.TypeDef.{TypeDef as Definition}
 use Rattle.wit_parser.specs.Source.{item_definition}
-use Rattle.wit_parser.specs.Scope.{row_of, rows_of, body_names}
-use Rattle.wit_parser.specs.Broken.{fault}
+use Rattle.wit_parser.specs.Scope.{row_of, rows_of}
 use Rattle.wit_parser.proofs.Lists.{read_map}
 use Rattle.wit_parser.proofs.Tables.{some_place, no_place}
 use Rattle.wit_parser.proofs.Scoping.{distinct_none, distinct_more, repeated_name}

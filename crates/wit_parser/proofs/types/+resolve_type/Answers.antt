@@ -1,6 +1,5 @@
-use Rattle.std.proofs.Common.{◌≡◌, rules, inl, inr, [], ◌∷◌, refl, ap, ◌∙◌, Some, None}
+use Rattle.std.proofs.Common.{◌≡◌, rules, inl, inr, None}
 use Rattle.wit_model.specs.declared.types.TypeDefKind.TheVariants.{List}
-use Rattle.wit_parser.specs.Scope.{type_names}
 use Rattle.wit_parser.specs.Resolving.{env_of}
 use Rattle.wit_parser.proofs.UnnamedKinds.{only_list}
 use Rattle.wit_parser.proofs.Resolving.{resolved_whole}

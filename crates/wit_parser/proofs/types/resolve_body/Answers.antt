@@ -1,4 +1,3 @@
-use Rattle.std.proofs.Common.{◌≡◌}
 use Rattle.wit_parser.proofs.types.resolve_body.Goals as goal
 
 pub returns-in_ok-kind-in-Record-clause-legal : goal.returns-in_ok-kind-in-Record-clause-legal

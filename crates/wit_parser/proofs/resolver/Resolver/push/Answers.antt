@@ -1,5 +1,5 @@
-use Rattle.std.proofs.Common.{◌≡◌, sym, ap, ◌∙◌, subst}
-use Rattle.wit_parser.specs.Broken.{or_header, last_header, IsMismatch}
+use Rattle.std.proofs.Common.{sym, ap, ◌∙◌}
+use Rattle.wit_parser.specs.Broken.{or_header, last_header}
 use Rattle.wit_parser.proofs.Headers.{last_header-append}
 use Rattle.wit_parser.proofs.resolver.Resolver.push.Goals as goal
 

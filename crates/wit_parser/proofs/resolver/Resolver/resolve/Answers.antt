@@ -1,14 +1,12 @@
-use Rattle.std.proofs.Common.{◌≡◌, ℕ, List, [], ◌++◌, Some, None, inl, inr, refl, sym, ap, ◌∙◌, subst, zero-add}
-use Rattle.std.specs.Prelude.{map, slice_get}
+use Rattle.std.proofs.Common.{◌≡◌, List, [], Some, None, inl, inr, refl, sym, ap, ◌∙◌}
+use Rattle.std.specs.Prelude.{map}
 use Rattle.std.proofs.lemmas.Result.{err_from_is_err_and}
-use Rattle.wit_tree.specs.declared.span.Span.{Span}
 use Rattle.wit_tree.specs.declared.tree.Interface.{Interface as Written}
 use Rattle.wit_tree.specs.declared.tree.PackageFile.{PackageFile}
 use Rattle.wit_parser.specs.Fault.{Fault}
 use Rattle.wit_parser.specs.Source.{interfaces}
-use Rattle.wit_parser.specs.Broken.{fault, IsRepeatedItem, IsBroken, Headerless, DuplicateItem, last_header}
+use Rattle.wit_parser.specs.Broken.{fault, IsBroken, Headerless, last_header}
 use Rattle.wit_parser.specs.Repeats.{AllDiffer}
-use Rattle.wit_parser.specs.Whole.{Ordered}
 use Rattle.wit_parser.specs.Resolving.{AddsAll, IsBrokenAmong}
 use Rattle.wit_parser.proofs.Headers.{no_header, span_of_ends}
 use Rattle.wit_parser.proofs.Refusing.{refused_weaker}
