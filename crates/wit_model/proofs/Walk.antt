@@ -6,7 +6,7 @@ use Rattle.std.proofs.lemmas.List.{flat_map_more, take_all, take_more}
 use Rattle.std.proofs.lemmas.List.Folds.{list_any_more}
 use Rattle.std.proofs.lemmas.Option.{get_or_from_slice_get, slice_get_within}
 use Rattle.std.specs.List.{flat_map, list_any}
-use Rattle.wit_model.specs.Futures.{futures, given, has_unknown, is_awaited, is_unknown, itself}
+use Rattle.wit_model.specs.Futures.{futures, has_unknown, is_awaited, is_unknown, itself}
 use Rattle.wit_model.specs.Types.{IsBackward, place_of_slot, places_to, rank, slots}
 use Rattle.wit_model.specs.declared.types.«Type».{«Type» as Ty}
 use Rattle.wit_model.specs.declared.types.TypeDef.{TypeDef}

@@ -1,4 +1,4 @@
-use Rattle.std.proofs.Common.{rules, arith, ap, refl, ◌≡◌, ◌∙◌, ◌++◌, ◌+◌, sym, length, []}
+use Rattle.std.proofs.Common.{arith, ap, refl, ◌≡◌, ◌∙◌, ◌++◌, sym, []}
 use Rattle.std.proofs.lemmas.List.{append-nil}
 use Rattle.wit_model.specs.Futures.{futures, is_awaited, itself}
 use Rattle.wit_model.specs.Types.{places_to, slots}

@@ -1,4 +1,4 @@
-use Rattle.std.proofs.Common.{rules, arith, ap, refl, ◌≡◌, ◌||◌, ◌∙◌, sym, true, false}
+use Rattle.std.proofs.Common.{arith, ap, ◌≡◌, ◌||◌, ◌∙◌, sym, false}
 use Rattle.std.specs.List.{list_any}
 use Rattle.wit_model.specs.Futures.{has_unknown, is_unknown}
 use Rattle.wit_model.specs.Types.{places_to, slots}
