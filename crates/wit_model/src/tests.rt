@@ -1,4 +1,7 @@
 //! Worked rows.
+ghost use Rattle.std.specs.Prelude.{IfOk, List};
+ghost use Rattle.wit_model.specs.Worlds.{IsWithin};
+
 use crate::{
     AbiVariant, Arena, Case, Docs, Enum, EnumCase, Field, Flag, Flags, FlagsRepr, Function,
     FunctionKind, Handle, Id, IncludeName, Int, Interface, InterfacePlace, LiftLowerAbi, Mangling,
@@ -214,21 +217,31 @@ fn futures(rt: HostRuntime) -> Result<(), Fail> {
 #[test]
 fn names(rt: HostRuntime) -> Result<(), Fail> {
     let alloc = rt.alloc();
-    let (_, resource, other, _) = three_types(alloc)?;
+    let (_, resource, _, _) = three_types(alloc)?;
     let f = function(alloc, "f", FunctionKind::Freestanding)?;
-    let place = Some("a:b/c");
-    let standard = f.core_export_name(alloc, place, Mangling::Standard32)?;
+    let standard = f.core_export_name(alloc, Some("a:b/c"), Mangling::Standard32)?;
     assert_eq!(rt; standard.as_str(), "cm32p2|a:b/c|f");
-    let legacy = f.core_export_name(alloc, place, Mangling::Legacy)?;
+    let legacy = f.core_export_name(alloc, Some("a:b/c"), Mangling::Legacy)?;
     assert_eq!(rt; legacy.as_str(), "a:b/c#f");
     let bare = f.legacy_core_export_name(alloc, None)?;
     assert_eq!(rt; bare.as_str(), "f");
     let standard = f.standard32_core_export_name(alloc, None)?;
     assert_eq!(rt; standard.as_str(), "cm32p2||f");
-    let method = function(alloc, "[method]r.g", FunctionKind::Method(resource))?;
+    let mut method = function(alloc, "", FunctionKind::Method(resource))?;
+    method.name = Text::from_str(alloc, "[method]r.g")?;
+    method.kind = FunctionKind::Method(resource);
     assert_eq!(rt; method.item_name(), "g");
-    let getter = function(alloc, "[get]x", FunctionKind::Getter)?;
+    let mut getter = function(alloc, "", FunctionKind::Getter)?;
+    getter.name = Text::from_str(alloc, "[get]x")?;
+    getter.kind = FunctionKind::Getter;
     assert_eq!(rt; getter.item_name(), "x");
+    Ok(())
+}
+
+#[test]
+fn resources(rt: HostRuntime) -> Result<(), Fail> {
+    let alloc = rt.alloc();
+    let (_, resource, other, _) = three_types(alloc)?;
     let mut kind = FunctionKind::MethodSetter(resource);
     assert!(rt; kind.accessor() == Some(AccessorKind::Setter) && !kind.is_async());
     if let Some(id) = kind.resource_mut() {
@@ -356,7 +369,9 @@ fn values_of_kinds(rt: HostRuntime) -> Result<(), Fail> {
     Ok(())
 }
 
-fn item(alloc: Global, id: Id<InterfacePlace>) -> Result<WorldItem, Fail> {
+fn item(alloc: Global, id: Id<InterfacePlace>) -> Result<WorldItem, Fail>
+    ensures { IfOk result (λ i. (types : List TypeDef) → IsWithin i types) }
+{
     Ok(WorldItem::Interface {
         id,
         stability: stable(alloc)?,
@@ -424,18 +439,13 @@ fn values_of_worlds(rt: HostRuntime) -> Result<(), Fail> {
     Ok(())
 }
 
-#[test]
-fn values_of_interfaces(rt: HostRuntime) -> Result<(), Fail> {
-    let alloc = rt.alloc();
-    let (_, id, _, _) = three_types(alloc)?;
-    let mut types = TextTable::new(alloc);
+fn interface(alloc: Global, id: TypeId) -> Result<Interface, Fail> {
+    let mut types: TextTable<TypeId> = TextTable::new(alloc);
     types.insert(String::from_str(alloc, "t")?, id)?;
-    let mut functions = TextTable::new(alloc);
-    functions.insert(
-        String::from_str(alloc, "f")?,
-        function(alloc, "f", FunctionKind::Freestanding)?,
-    )?;
-    let interface = Interface {
+    let mut functions: TextTable<Function> = TextTable::new(alloc);
+    let f = function(alloc, "f", FunctionKind::Freestanding)?;
+    functions.insert(String::from_str(alloc, "f")?, f)?;
+    Ok(Interface {
         name: Some(Text::from_str(alloc, "i")?),
         types,
         functions,
@@ -444,9 +454,22 @@ fn values_of_interfaces(rt: HostRuntime) -> Result<(), Fail> {
         package: None,
         span: SPAN,
         clone_of: None,
-    };
-    assert!(rt; interface.clone()? == interface);
-    assert!(rt; interface.types.get("t") == Some(&id));
+    })
+}
+
+#[test]
+fn values_of_interfaces(rt: HostRuntime) -> Result<(), Fail> {
+    let alloc = rt.alloc();
+    let (_, id, _, _) = three_types(alloc)?;
+    let value = interface(alloc, id)?;
+    assert!(rt; value.clone()? == value);
+    assert_eq!(rt; value.types.len(), 1);
+    Ok(())
+}
+
+#[test]
+fn values_of_names(rt: HostRuntime) -> Result<(), Fail> {
+    let alloc = rt.alloc();
     let name = PackageName {
         namespace: Text::from_str(alloc, "wasi")?,
         name: Text::from_str(alloc, "http")?,
