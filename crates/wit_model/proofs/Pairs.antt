@@ -1,12 +1,12 @@
 -- A getter is no setter, and among distinct names a setter has one getter.
-use Rattle.std.proofs.Common.{◌≡◌, ℕ, ◌&&◌, ◌||◌, ◌++◌, Bool, true, false, List, [], ◌∷◌, Option, Some, None, take, drop, length, nat_eq, refl, sym, ap, ◌∙◌, inl, inr}
+use Rattle.std.proofs.Common.{◌≡◌, ℕ, ◌&&◌, ◌++◌, Bool, true, false, List, [], ◌∷◌, Option, Some, None, take, drop, length, nat_eq, refl, sym, ap, ◌∙◌, inl, inr}
 use Rattle.std.proofs.lemmas.Bool.{cases_Bool}
 use Rattle.std.proofs.lemmas.List.{take-append-drop}
 use Rattle.std.proofs.lemmas.Slice.Eq.{bytes_eq-Decides}
 use Rattle.std.specs.Cmp.Lexicographic.{pointwise}
 use Rattle.std.specs.List.{AllByRecursion, IsDistinct, list_any, starts_with}
 use Rattle.wit_model.specs.Front.{behind}
-use Rattle.wit_model.specs.Setters.{HaveDistinctNames, fronts, goes_on_alike, goes_with, is_getter, is_getter_of, is_same_text, name_in, pairs, placed, told_names}
+use Rattle.wit_model.specs.Setters.{HaveDistinctNames, fronts, goes_on_alike, goes_with, is_getter, is_same_text, name_in, pairs, placed, told_names}
 use Rattle.wit_model.specs.declared.function.Function.{Function}
 use Rattle.wit_model.specs.declared.function.FunctionKind.{FunctionKind}
 use Rattle.wit_model.specs.declared.function.FunctionKind.TheVariants as kind

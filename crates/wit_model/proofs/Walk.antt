@@ -4,9 +4,9 @@ use Rattle.std.proofs.lemmas.Bool.{cases_Bool}
 use Rattle.std.proofs.lemmas.Bool.Decides.{leb_tells}
 use Rattle.std.proofs.lemmas.List.{flat_map_more, take_all, take_more}
 use Rattle.std.proofs.lemmas.List.Folds.{list_any_more}
-use Rattle.std.proofs.lemmas.Option.{get_or_from_slice_get, slice_get_within}
+use Rattle.std.proofs.lemmas.Option.{get_or_from_slice_get, slice_get_past, slice_get_within}
 use Rattle.std.specs.List.{flat_map, list_any}
-use Rattle.wit_model.specs.Futures.{futures, given, has_unknown, is_awaited, is_unknown, itself}
+use Rattle.wit_model.specs.Futures.{futures, has_unknown, is_awaited, is_unknown, itself}
 use Rattle.wit_model.specs.Types.{IsBackward, place_of_slot, places_to, rank, slots}
 use Rattle.wit_model.specs.declared.types.«Type».{«Type» as Ty}
 use Rattle.wit_model.specs.declared.types.TypeDef.{TypeDef}
@@ -83,3 +83,12 @@ covers_one_more {X = X} P xs i x here one before j y low at = elim (leb_tells i 
       rw (e, same) one
   | inr early ↦ before j y early.1 at
 ]
+
+module _ (types : List TypeDef) (slot : Option Ty) (id : ℕ) (is : place_of_slot slot ≡ Some id) (outside : length types ≤ id) where
+  pub futures_outside : (n : ℕ) → futures types n slot ≡ []
+  futures_outside zero = refl
+  futures_outside (suc m) = let none = slice_get_past types id outside in rw (is, none) refl
+
+  pub unknown_outside : (n : ℕ) → has_unknown types n slot ≡ false
+  unknown_outside zero = refl
+  unknown_outside (suc m) = let none = slice_get_past types id outside in rw (is, none) refl

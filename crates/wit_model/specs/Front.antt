@@ -1,5 +1,5 @@
 -- What stands behind a front, as `name` behind `[get]` in `[get]name`.
-use Rattle.std.specs.Prelude.{ℕ, Bool, List, Option, Some, None, drop, length, nat_eq, if◌then◌else◌}
+use Rattle.std.specs.Prelude.{ℕ, List, Option, Some, None, drop, length, nat_eq, if◌then◌else◌}
 use Rattle.std.specs.List.{starts_with}
 
 -- the text without the front, where it has that front

@@ -1,5 +1,5 @@
 -- The names of functions: the name of the item, and that of an export.
-use Rattle.std.specs.Prelude.{⊤, ℕ, ◌==◌, Bool, IsTrue, List, ◌∷◌, ◌++◌, Option, Some, None, codes}
+use Rattle.std.specs.Prelude.{⊤, ℕ, ◌==◌, IsTrue, List, ◌∷◌, ◌++◌, Option, Some, None, codes}
 use Rattle.std.specs.List.{after_first, list_any}
 use Rattle.wit_model.specs.declared.abi.Mangling.{Mangling}
 use Rattle.wit_model.specs.declared.abi.Mangling.TheVariants as mangling

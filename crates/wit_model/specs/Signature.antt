@@ -1,10 +1,9 @@
 -- The types in a function's signature.
-use Rattle.std.specs.Prelude.{ℕ, Bool, true, false, List, ◌++◌, Option, Some, None, map, nat_eq, option_to_list, slice_get}
+use Rattle.std.specs.Prelude.{ℕ, Bool, false, List, ◌++◌, Option, Some, None, map, nat_eq, option_to_list, slice_get}
 use Rattle.wit_model.specs.FunctionKinds.{constructed}
 use Rattle.wit_model.specs.Types.{place_of_slot}
 use Rattle.wit_model.specs.declared.function.Function.{Function}
 use Rattle.wit_model.specs.declared.signature.ParamResultTypes.{ParamResultTypes}
-use Rattle.wit_model.specs.declared.types.Handle.{Handle}
 use Rattle.wit_model.specs.declared.types.Handle.TheVariants as handle
 use Rattle.wit_model.specs.declared.types.TypeDef.{TypeDef}
 use Rattle.wit_model.specs.declared.types.TypeDefKind.{TypeDefKind}

@@ -1,6 +1,5 @@
 -- The types that a type is made of, and where they stand.
-use Rattle.std.specs.Prelude.{◌≡◌, ℕ, ◌+◌, ◌≤◌, All, List, [], ◌∷◌, Option, Some, None, map, slice_get, length}
-use Rattle.wit_model.specs.declared.function.Function.{Function}
+use Rattle.std.specs.Prelude.{◌≡◌, ℕ, ◌+◌, ◌≤◌, All, List, [], ◌∷◌, Option, Some, None, map, slice_get}
 use Rattle.wit_model.specs.declared.types.TypeDef.{TypeDef}
 use Rattle.wit_model.specs.declared.types.TypeDefKind.{TypeDefKind}
 use Rattle.wit_model.specs.declared.types.TypeDefKind.TheVariants as kind
@@ -91,8 +90,3 @@ IsBelow k d = All (λ t. rank t ≤ k) (slots d) × (places_to (handled_of d) �
 -- every id in a kind is below the entry's own place
 abbrev pub IsBackward : List TypeDef → Type 0
 IsBackward types = (k : ℕ) (d : TypeDef) → slice_get types k ≡ Some d → IsBelow k d.kind
-
--- the types of a signature are in the arena
-pub record IsOver (types : List TypeDef) (f : Function) : Type 0 where
-  pub params : All (λ p. rank (Some p.ty) ≤ length types) f.params
-  pub result : rank f.result ≤ length types

@@ -16,7 +16,7 @@ pub struct Param {
 }
 
 /// A function of an interface, a world or a resource.
-#[derive(Debug, Clone, PartialEq, Eq, Drop)]
+#[derive(Debug, PartialEq, Eq, Drop)]
 pub struct Function {
     /// The name with the marks of its kind, as `[method]r.f`.
     pub name: Text,

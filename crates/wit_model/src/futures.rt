@@ -1,7 +1,7 @@
 //! The futures and streams of a function's signature.
 ghost use Rattle.std.specs.Prelude.{◌≡◌, ◌≤◌, ◌++◌, ℕ, IfOk, OnOk, length};
 ghost use Rattle.wit_model.specs.Futures.{futures, futures_of, has_unknown, reaches_unknown};
-ghost use Rattle.wit_model.specs.Types.{IsBackward, IsOver, rank};
+ghost use Rattle.wit_model.specs.Types.{IsBackward, rank};
 
 use crate::function::Function;
 use crate::ids::TypeId;
@@ -15,13 +15,15 @@ fn add_futures(
     in_slot: Option<Type>,
     out: &mut Vec<TypeId>,
 ) -> Result<(), AllocError>
-    requires backward { IsBackward types.now }
-    requires within { rank in_slot ≤ length types.now }
-    ensures { OnOk result ((n : ℕ) → rank in_slot ≤ n → out.new.items ≡ out.old.items ++ futures types.now n in_slot) }
+    requires { IsBackward types.now }
+    ensures { OnOk result ((n : ℕ) → (rank in_slot ≤ length types.now → rank in_slot ≤ n) → out.new.items ≡ out.old.items ++ futures types.now n in_slot) }
 {
     let Some(id) = place_of_slot(in_slot) else {
         return Ok(());
     };
+    if id.index() >= types.len() {
+        return Ok(());
+    }
     let kind = &types.get(id).kind;
     for place in 0..slot_count(kind) {
         add_futures(types, slot(kind, place), out)?;
@@ -34,13 +36,15 @@ fn add_futures(
 
 // Whether a type of another package is in a slot.
 fn is_unknown_in(types: &Types, in_slot: Option<Type>) -> bool
-    requires backward { IsBackward types.now }
-    requires within { rank in_slot ≤ length types.now }
-    ensures { (n : ℕ) → rank in_slot ≤ n → result ≡ has_unknown types.now n in_slot }
+    requires { IsBackward types.now }
+    ensures { (n : ℕ) → (rank in_slot ≤ length types.now → rank in_slot ≤ n) → result ≡ has_unknown types.now n in_slot }
 {
     let Some(id) = place_of_slot(in_slot) else {
         return false;
     };
+    if id.index() >= types.len() {
+        return false;
+    }
     let kind = &types.get(id).kind;
     if is_unknown(kind) {
         return true;
@@ -56,10 +60,9 @@ fn is_unknown_in(types: &Types, in_slot: Option<Type>) -> bool
 /// Whether a type of another package stands in a function's signature or below it.
 ///
 /// Handles are not entered. `types` is the arena of the function's types, and each entry refers
-/// to earlier ones alone, as `is_backward` tells.
+/// to earlier ones alone, as `is_backward` tells. Below an id of no entry is nothing.
 pub fn reaches_unknown(types: &Types, function: &Function) -> bool
-    requires backward { IsBackward types.now }
-    requires within { IsOver types.now function.now }
+    requires { IsBackward types.now }
     ensures { result ≡ reaches_unknown types.now function.now }
 {
     for param in function.params.as_slice() {
@@ -82,8 +85,7 @@ impl Function {
         alloc: Global,
         types: &Types,
     ) -> Result<Vec<TypeId>, AllocError>
-        requires backward { IsBackward types.now }
-        requires within { IsOver types.now self.now }
+        requires { IsBackward types.now }
         ensures { IfOk result (λ found. found.items ≡ futures_of types.now self.now) }
     {
         let mut found = Vec::new(alloc);

@@ -8,7 +8,7 @@ use wit_tree::Span;
 use wit_values::{Text, TextTable};
 
 /// An interface: its types and functions by their names.
-#[derive(Debug, Clone, PartialEq, Eq, Drop)]
+#[derive(Debug, PartialEq, Eq, Drop)]
 pub struct Interface {
     /// The name, unless the interface is written inside a world or in another package.
     pub name: Option<Text>,

@@ -8,7 +8,9 @@ pub mod abi;
 pub mod arena;
 pub mod ast_item;
 pub mod backward;
+pub mod copies;
 pub mod docs;
+pub mod equality;
 mod front;
 pub mod function;
 pub mod function_kind;
@@ -28,6 +30,8 @@ pub mod setters;
 pub mod signature;
 mod slots;
 pub mod stability;
+#[cfg(test)]
+mod tests;
 pub mod types;
 pub mod world;
 

@@ -1,8 +1,7 @@
 //! The types in a function's signature.
-ghost use Rattle.std.specs.Prelude.{◌≡◌, ◌≤◌, length};
+ghost use Rattle.std.specs.Prelude.{◌≡◌};
 ghost use Rattle.std.specs.Iterator.{YieldsFirst, item_count};
 ghost use Rattle.wit_model.specs.Signature.{is_shorthand, signature, types_left};
-ghost use Rattle.wit_model.specs.Types.{rank};
 
 use crate::function::{Function, FunctionKind, Param};
 use crate::types::{Handle, Type, TypeDefKind, Types};
@@ -46,9 +45,8 @@ impl Function {
 
     /// Whether this is a constructor whose result is a type that owns the resource.
     ///
-    /// The result's id is one of `types`.
+    /// An id of no entry of `types` owns nothing.
     pub fn is_constructor_shorthand(&self, types: &Types) -> bool
-        requires { rank self.now.result ≤ length types.now }
         ensures { result ≡ is_shorthand types.now self.now }
     {
         let FunctionKind::Constructor(resource) = self.kind else {
@@ -57,6 +55,9 @@ impl Function {
         let Some(Type::Id(id)) = self.result else {
             return false;
         };
+        if id.index() >= types.len() {
+            return false;
+        }
         match &types.get(id).kind {
             TypeDefKind::Handle(Handle::Own(owned)) => resource == *owned,
             _ => false,

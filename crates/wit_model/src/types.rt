@@ -30,7 +30,7 @@ pub enum Type {
 }
 
 /// An entry of the arena of types.
-#[derive(Debug, Clone, PartialEq, Eq, Drop)]
+#[derive(Debug, PartialEq, Eq, Drop)]
 pub struct TypeDef {
     /// The name, unless the type stands inside another.
     pub name: Option<Text>,

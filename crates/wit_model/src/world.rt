@@ -13,7 +13,7 @@ use wit_tree::Span;
 use wit_values::{Row, Table, Text};
 
 /// A world: what a component imports and exports.
-#[derive(Debug, Clone, PartialEq, Eq, Drop)]
+#[derive(Debug, PartialEq, Eq, Drop)]
 pub struct World {
     pub name: Text,
     pub imports: Table<WorldKey, WorldItem>,
@@ -54,7 +54,7 @@ pub enum WorldKey {
 }
 
 /// An import or export.
-#[derive(Debug, Clone, PartialEq, Eq, Drop)]
+#[derive(Debug, PartialEq, Eq, Drop)]
 pub enum WorldItem {
     Interface {
         id: InterfaceId,

@@ -1,4 +1,4 @@
-use Rattle.std.proofs.Common.{rules, arith, ◌≡◌, ◌∙◌, ap, sym, Some, slice_get, length, refl}
+use Rattle.std.proofs.Common.{arith, ◌≡◌, ◌∙◌, ap, Some, slice_get, length, refl}
 use Rattle.std.proofs.lemmas.Option.{slice_get_read, slice_get_within}
 use Rattle.wit_model.specs.Types.{IsBelow}
 use Rattle.wit_model.proofs.Walk.{covers_one_more}

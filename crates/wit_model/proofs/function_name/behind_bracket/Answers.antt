@@ -1,4 +1,4 @@
-use Rattle.std.proofs.Common.{rules, ◌==◌, arith}
+use Rattle.std.proofs.Common.{◌==◌, arith}
 use Rattle.wit_model.proofs.Marks.{position_or_len-found}
 use Rattle.wit_model.proofs.function_name.behind_bracket.Goals as goal
 

@@ -1,4 +1,4 @@
-use Rattle.std.proofs.Common.{rules, ◌≡◌, ◌∙◌, ap, Some, slice_get}
+use Rattle.std.proofs.Common.{◌≡◌, ◌∙◌, Some, slice_get}
 use Rattle.std.specs.Map.{values_of}
 use Rattle.wit_model.specs.Setters.{goes_with}
 use Rattle.wit_model.proofs.Placing.{value_at}

@@ -1,4 +1,4 @@
-use Rattle.std.proofs.Common.{rules, ◌∙◌}
+use Rattle.std.proofs.Common.{◌∙◌}
 use Rattle.wit_model.specs.Setters.{goes_with}
 use Rattle.wit_model.proofs.setters.pairs.Goals as goal
 

@@ -1,0 +1,185 @@
+//! Copies: each is equal to its source, the order of maps included.
+ghost use Rattle.std.specs.Prelude.{◌≡◌, IfOk};
+
+use crate::docs::Docs;
+use crate::function::{Function, Param};
+use crate::ids::TypeId;
+use crate::interface::Interface;
+use crate::package_name::PackageName;
+use crate::stability::Stability;
+use crate::types::{TypeDef, TypeDefKind};
+use crate::world::{World, WorldInclude, WorldItem, WorldKey};
+use std::alloc::AllocError;
+use wit_values::{Row, Table, Text, TextTable};
+
+/// A copy of docs.
+pub fn copy_docs(docs: &Docs) -> Result<Docs, AllocError>
+    ensures { IfOk result (λ copy. copy ≡ docs.now) }
+{
+    docs.clone()
+}
+
+/// A copy of a stability.
+pub fn copy_stability(stability: &Stability) -> Result<Stability, AllocError>
+    ensures { IfOk result (λ copy. copy ≡ stability.now) }
+{
+    stability.clone()
+}
+
+/// A copy of a package's name.
+pub fn copy_package_name(name: &PackageName) -> Result<PackageName, AllocError>
+    ensures { IfOk result (λ copy. copy ≡ name.now) }
+{
+    name.clone()
+}
+
+/// A copy of what a type is.
+pub fn copy_kind(kind: &TypeDefKind) -> Result<TypeDefKind, AllocError>
+    ensures { IfOk result (λ copy. copy ≡ kind.now) }
+{
+    kind.clone()
+}
+
+/// A copy of a key of a world.
+pub fn copy_world_key(key: &WorldKey) -> Result<WorldKey, AllocError>
+    ensures { IfOk result (λ copy. copy ≡ key.now) }
+{
+    key.clone()
+}
+
+/// A copy of what a world includes.
+pub fn copy_world_include(include: &WorldInclude) -> Result<WorldInclude, AllocError>
+    ensures { IfOk result (λ copy. copy ≡ include.now) }
+{
+    include.clone()
+}
+
+fn copy_text(text: &Option<Text>) -> Result<Option<Text>, AllocError>
+    ensures { IfOk result (λ copy. copy ≡ text.now) }
+{
+    text.clone()
+}
+
+fn copy_params(params: &Row<Param>) -> Result<Row<Param>, AllocError>
+    ensures { IfOk result (λ copy. copy ≡ params.now) }
+{
+    params.clone()
+}
+
+fn copy_types(types: &TextTable<TypeId>) -> Result<TextTable<TypeId>, AllocError>
+    ensures { IfOk result (λ copy. copy ≡ types.now) }
+{
+    types.clone()
+}
+
+fn copy_functions(functions: &TextTable<Function>) -> Result<TextTable<Function>, AllocError>
+    ensures { IfOk result (λ copy. copy ≡ functions.now) }
+{
+    functions.clone()
+}
+
+fn copy_items(items: &Table<WorldKey, WorldItem>) -> Result<Table<WorldKey, WorldItem>, AllocError>
+    ensures { IfOk result (λ copy. copy ≡ items.now) }
+{
+    items.clone()
+}
+
+fn copy_includes(includes: &Row<WorldInclude>) -> Result<Row<WorldInclude>, AllocError>
+    ensures { IfOk result (λ copy. copy ≡ includes.now) }
+{
+    includes.clone()
+}
+
+impl Clone for TypeDef {
+    ghost is_clone = { λ def copy. copy ≡ def };
+
+    fn clone(&self) -> Result<TypeDef, AllocError> {
+        Ok(TypeDef {
+            name: copy_text(&self.name)?,
+            kind: copy_kind(&self.kind)?,
+            owner: self.owner,
+            docs: copy_docs(&self.docs)?,
+            stability: copy_stability(&self.stability)?,
+            span: self.span,
+            external_id: copy_text(&self.external_id)?,
+        })
+    }
+}
+
+impl Clone for Function {
+    ghost is_clone = { λ function copy. copy ≡ function };
+
+    fn clone(&self) -> Result<Function, AllocError> {
+        Ok(Function {
+            name: self.name.clone()?,
+            kind: self.kind,
+            params: copy_params(&self.params)?,
+            result: self.result,
+            docs: copy_docs(&self.docs)?,
+            stability: copy_stability(&self.stability)?,
+            span: self.span,
+            external_id: copy_text(&self.external_id)?,
+        })
+    }
+}
+
+impl Clone for Interface {
+    ghost is_clone = { λ interface copy. copy ≡ interface };
+
+    fn clone(&self) -> Result<Interface, AllocError> {
+        Ok(Interface {
+            name: copy_text(&self.name)?,
+            types: copy_types(&self.types)?,
+            functions: copy_functions(&self.functions)?,
+            docs: copy_docs(&self.docs)?,
+            stability: copy_stability(&self.stability)?,
+            package: self.package,
+            span: self.span,
+            clone_of: self.clone_of,
+        })
+    }
+}
+
+impl Clone for WorldItem {
+    ghost is_clone = { λ item copy. copy ≡ item };
+
+    fn clone(&self) -> Result<WorldItem, AllocError> {
+        match self {
+            WorldItem::Interface {
+                id,
+                stability,
+                external_id,
+                docs,
+                span,
+            } => Ok(WorldItem::Interface {
+                id: *id,
+                stability: copy_stability(stability)?,
+                external_id: copy_text(external_id)?,
+                docs: copy_docs(docs)?,
+                span: *span,
+            }),
+            WorldItem::Function(function) => Ok(WorldItem::Function(function.clone()?)),
+            WorldItem::Type_ { id, span } => Ok(WorldItem::Type_ {
+                id: *id,
+                span: *span,
+            }),
+        }
+    }
+}
+
+impl Clone for World {
+    ghost is_clone = { λ world copy. copy ≡ world };
+
+    fn clone(&self) -> Result<World, AllocError> {
+        Ok(World {
+            name: self.name.clone()?,
+            imports: copy_items(&self.imports)?,
+            exports: copy_items(&self.exports)?,
+            package: self.package,
+            docs: copy_docs(&self.docs)?,
+            stability: copy_stability(&self.stability)?,
+            includes: copy_includes(&self.includes)?,
+            span: self.span,
+        })
+    }
+}
