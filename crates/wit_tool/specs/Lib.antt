@@ -6,6 +6,7 @@ pub mod Kinds
 pub mod Listing
 pub mod Lists
 pub mod Output
+pub mod Run
 pub mod Types
 pub mod Words
 pub mod Worlds

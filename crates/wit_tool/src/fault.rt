@@ -1,6 +1,7 @@
 //! Why a text was not written whole.
 
 use std::alloc::AllocError;
+use std::io;
 
 /// Why a text was not written whole.
 #[derive(Clone, Copy, Debug, PartialEq, Eq)]
@@ -19,5 +20,14 @@ impl From<AllocError> for RunFault {
 
     fn from(_e: AllocError) -> RunFault {
         RunFault::Memory
+    }
+}
+
+impl From<RunFault> for io::Error {
+    fn from(fault: RunFault) -> io::Error {
+        match fault {
+            RunFault::Output => io::Error::from(io::ErrorKind::Other),
+            RunFault::Memory => io::Error::from(io::ErrorKind::OutOfMemory),
+        }
     }
 }

@@ -1,4 +1,4 @@
-//! The listing of a package, and the line of a refusal.
+//! From a source to the listing of its package, or the line of a refusal.
 #![tactic(auto)]
 
 mod answers;
@@ -9,6 +9,7 @@ mod kinds;
 mod output;
 mod package;
 mod refusal;
+mod running;
 mod types;
 mod words;
 mod worlds;
@@ -17,6 +18,9 @@ pub use answers::answer;
 pub use fault::RunFault;
 pub use package::listing;
 pub use refusal::error_line;
+pub use running::run;
 
+#[cfg(test)]
+mod run_tests;
 #[cfg(test)]
 mod tests;
