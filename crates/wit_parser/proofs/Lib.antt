@@ -20,3 +20,4 @@ mod Done
 mod Shape
 mod Depth
 mod Faithful
+mod Examples
