@@ -1,5 +1,5 @@
 -- Worked rows, computed by the definitions.
-use Rattle.std.proofs.Common.{◌≡◌, ℕ, ◌<◌, ◌^◌, true, List, [], ◌∷◌, length, map, Some, None, refl, lit<, arith}
+use Rattle.std.proofs.Common.{◌≡◌, ℕ, ◌<◌, ◌^◌, true, List, [], ◌∷◌, length, map, Some, None, zero, suc, inl, inr, refl, lit<, arith}
 use Rattle.std.specs.Prelude.{codes, Vec, Box}
 use Rattle.std.specs.declared.alloc.Global.{Global}
 use denote.RawPtr.{Ptr}
@@ -30,7 +30,7 @@ use Rattle.wit_parser.specs.Node.{OfInterface, Head, Leaf, Named, Unnamed, Tree}
 use Rattle.wit_parser.specs.Node as node
 use Rattle.wit_parser.specs.Source.{InterfaceAt, definitions, no_docs, source_tree}
 use Rattle.wit_parser.specs.Expr.{Prim, one}
-use Rattle.wit_parser.specs.Meet.{Def, Whole, Meeting}
+use Rattle.wit_parser.specs.Meet.{Def, Whole, Meeting, IsMet, Meets}
 use Rattle.wit_parser.specs.Scope.{rows_of}
 use Rattle.wit_parser.specs.Broken.{folded, last_header, IsMissingType, IsCyclicType, IsDuplicateField}
 use Rattle.wit_parser.specs.Package.{package_tree}
@@ -99,6 +99,17 @@ module _ (ptr : Ptr) (alloc : Global) where
   -- both lists are met before p, each at its own word
   met : meetings (record { interface = i; order = 0 ∷ [] } ∷ []) ≡ (list_met (at 45 49) ∷ list_met (at 58 62) ∷ p_met ∷ [])
   met = refl
+
+  list_is_new : IsMet [] (Whole ListForm (one (Prim node.U8))) → ⊥
+  list_is_new (k, is) = let f : ⊥ = cc in f
+
+  p_is_new : IsMet (Whole ListForm (one (Prim node.U8)) ∷ []) (Def (InterfaceAt 0) (codes "p")) → ⊥
+  p_is_new (zero, is) = let f : ⊥ = cc in f
+  p_is_new (suc k, is) = let f : ⊥ = cc in f
+
+  -- the second list is the first one again
+  met_once : Meets [] (list_met (at 45 49) ∷ list_met (at 58 62) ∷ p_met ∷ []) (list_met (at 45 49) ∷ p_met ∷ [])
+  met_once = inr (list_is_new, inl ((0, refl), inr (p_is_new, refl)))
 
   -- no name is written in p
   rows_of_p : rows_of (definitions i) ≡ (record { name = codes "p"; needs = [] } ∷ [])
