@@ -1,8 +1,7 @@
 -- Worked rows, computed by the definitions.
-use Rattle.std.proofs.Common.{◌≡◌, ℕ, ◌<◌, ◌^◌, true, List, [], ◌∷◌, length, map, Option, Some, None, refl, lit<, arith}
+use Rattle.std.proofs.Common.{◌≡◌, ℕ, ◌<◌, ◌^◌, true, List, [], ◌∷◌, length, map, Some, None, zero, suc, inl, inr, refl, lit<, arith}
 use Rattle.std.specs.Prelude.{codes, Vec, Box}
 use Rattle.std.specs.declared.alloc.Global.{Global}
-use Rattle.std.specs.Borrow.{Bor}
 use denote.RawPtr.{Ptr}
 use Rattle.wit_names.specs.Label.{is_label}
 use Rattle.wit_tree.specs.declared.span.Span.{Span}
@@ -10,7 +9,6 @@ use Rattle.wit_tree.specs.declared.tree.Id.{Id}
 use Rattle.wit_tree.specs.declared.tree.Field.{Field as WrittenField}
 use Rattle.wit_tree.specs.declared.tree.«Type».{«Type» as Written}
 use Rattle.wit_tree.specs.declared.tree.«Type».TheVariants as written
-use Rattle.wit_tree.specs.declared.tree.TypeBody.{TypeBody}
 use Rattle.wit_tree.specs.declared.tree.TypeBody.TheVariants.{Record, Plain}
 use Rattle.wit_tree.specs.declared.tree.TypeDef.{TypeDef as Definition}
 use Rattle.wit_tree.specs.declared.tree.InterfaceItem.TheVariants.{TypeDef as TypeItem}
@@ -25,18 +23,18 @@ use Rattle.wit_model.specs.declared.types.TypeDef.{TypeDef}
 use Rattle.wit_model.specs.declared.types.TypeDefKind.TheVariants as kind
 use Rattle.wit_model.specs.declared.types.TypeOwner.TheVariants as owner
 use Rattle.wit_model.specs.declared.interface.Interface.{Interface}
-use Rattle.wit_order.specs.Table.{Row, IsEdge, Leads, IsMissing, IsCyclic}
+use Rattle.wit_order.specs.Table.{Row, Leads, IsMissing, IsCyclic}
 use Rattle.wit_order.specs.Order.{ReachesCycle}
 use Rattle.wit_parser.specs.Form.{Member, RecordForm, ListForm, AliasForm, kind_of}
 use Rattle.wit_parser.specs.Node.{OfInterface, Head, Leaf, Named, Unnamed, Tree}
 use Rattle.wit_parser.specs.Node as node
-use Rattle.wit_parser.specs.Source.{Address, InterfaceAt, definitions, no_docs, source_tree}
+use Rattle.wit_parser.specs.Source.{InterfaceAt, definitions, no_docs, source_tree}
 use Rattle.wit_parser.specs.Expr.{Prim, one}
-use Rattle.wit_parser.specs.Meet.{Def, Whole, Meeting}
+use Rattle.wit_parser.specs.Meet.{Def, Whole, Meeting, IsMet, Meets}
 use Rattle.wit_parser.specs.Scope.{rows_of}
 use Rattle.wit_parser.specs.Broken.{folded, last_header, IsMissingType, IsCyclicType, IsDuplicateField}
 use Rattle.wit_parser.specs.Package.{package_tree}
-use Rattle.wit_parser.specs.Whole.{Ordered, meetings}
+use Rattle.wit_parser.specs.Whole.{meetings}
 
 folded_names : map folded (codes "P-q1" ∷ codes "p-Q1" ∷ []) ≡ (codes "p-q1" ∷ codes "p-q1" ∷ [])
 folded_names = refl
@@ -101,6 +99,17 @@ module _ (ptr : Ptr) (alloc : Global) where
   -- both lists are met before p, each at its own word
   met : meetings (record { interface = i; order = 0 ∷ [] } ∷ []) ≡ (list_met (at 45 49) ∷ list_met (at 58 62) ∷ p_met ∷ [])
   met = refl
+
+  list_is_new : IsMet [] (Whole ListForm (one (Prim node.U8))) → ⊥
+  list_is_new (k, is) = let f : ⊥ = cc in f
+
+  p_is_new : IsMet (Whole ListForm (one (Prim node.U8)) ∷ []) (Def (InterfaceAt 0) (codes "p")) → ⊥
+  p_is_new (zero, is) = let f : ⊥ = cc in f
+  p_is_new (suc k, is) = let f : ⊥ = cc in f
+
+  -- the second list is the first one again
+  met_once : Meets [] (list_met (at 45 49) ∷ list_met (at 58 62) ∷ p_met ∷ []) (list_met (at 45 49) ∷ p_met ∷ [])
+  met_once = inr (list_is_new, inl ((0, refl), inr (p_is_new, refl)))
 
   -- no name is written in p
   rows_of_p : rows_of (definitions i) ≡ (record { name = codes "p"; needs = [] } ∷ [])
