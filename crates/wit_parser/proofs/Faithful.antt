@@ -1,5 +1,5 @@
 -- What follows for a package once all interfaces are done.
-use Rattle.std.proofs.Common.{◌≡◌, ◌↔◌, ℕ, zero, suc, ◌+◌, ◌<◌, List, [], ◌∷◌, ◌++◌, length, take, Option, Some, None, ◌⊎◌, inl, inr, refl, sym, ap, ◌∙◌, subst, arith, zero-add, add-zero}
+use Rattle.std.proofs.Common.{◌≡◌, ℕ, suc, ◌+◌, List, [], ◌∷◌, ◌++◌, length, take, Option, Some, None, inl, inr, refl, sym, ap, ◌∙◌, subst, arith, zero-add, add-zero}
 use Rattle.std.specs.Prelude.{slice_get, map}
 use Rattle.std.specs.Option.{option_map, option_map_or}
 use Rattle.std.proofs.lemmas.List.{length-map}
@@ -9,21 +9,22 @@ use Rattle.wit_tree.specs.declared.tree.TypeDef.{TypeDef as Definition}
 use Rattle.wit_tree.specs.declared.tree.Interface.{Interface as Written}
 use Rattle.wit_tree.specs.declared.tree.PackageFile.{PackageFile}
 use Rattle.wit_model.specs.declared.interface.Interface.{Interface}
-use Rattle.wit_model.specs.declared.types.«Type».{«Type» as Ty}
 use Rattle.wit_model.specs.declared.types.«Type».TheVariants.{Id}
 use Rattle.wit_model.specs.declared.types.TypeDef.{TypeDef}
 use Rattle.wit_parser.specs.declared.package.UnresolvedPackage.{UnresolvedPackage}
 use Rattle.wit_parser.specs.Form.{Form, kind_of}
 use Rattle.wit_parser.specs.Node.{OfInterface, Nobody}
-use Rattle.wit_parser.specs.Source.{Address, InterfaceAt, interfaces, definitions, scope, owner}
+use Rattle.wit_parser.specs.Source.{Address, InterfaceAt, interfaces, definitions, scope}
 use Rattle.wit_parser.specs.Expr.{Expr, Exprs, body_exprs}
-use Rattle.wit_parser.specs.Scope.{rows_of, in_order}
-use Rattle.wit_parser.specs.Meet.{Key, Def, Whole, Meeting, keys, IsAt, AreAt, Decl, decl_of, IsEntry, all_definition_meetings, definition_meetings, owner_at}
+use Rattle.wit_parser.specs.Meet.{Key, Def, Whole, keys, IsAt, AreAt, Decl, decl_of, IsEntry, all_definition_meetings, definition_meetings, owner_at}
+use Rattle.std.specs.Option.{option_map}
+use Rattle.semver.specs.Identifiers.{parts_of}
+use Rattle.wit_values.specs.ReleaseText.{release_parts}
 use Rattle.wit_tree.specs.declared.tree.PackageName.{PackageName as Header}
 use Rattle.wit_parser.specs.Broken.{last_header}
-use Rattle.wit_parser.specs.Package.{At, HasPart, Reaches, IsInterface, owner_of, interface_owner, named_owner}
+use Rattle.wit_parser.specs.Package.{At, Reaches, interface_owner, named_owner}
 use Rattle.wit_parser.specs.Whole.{Ordered, ordered_definitions, meetings_from, meetings, declarations, HasTypes, IsOwned, IsReached, HasTree, IsFaithful, IsPackage}
-use Rattle.wit_parser.specs.Resolving.{all_met, AreDistinct, env_of}
+use Rattle.wit_parser.specs.Resolving.{all_met, AreDistinct}
 use Rattle.wit_parser.proofs.Lists.{at_within, map_at}
 use Rattle.wit_parser.proofs.Names.{lookup-at, lookup-place}
 use Rattle.wit_parser.proofs.Places.{all_at_untaken, at_injective, at_functional}
@@ -227,7 +228,7 @@ module _ (files : List PackageFile) (os : List Ordered) (es : List TypeDef) (is 
     }
 
 -- the package, once all interfaces are done
-pub package_of : (files : List PackageFile) (os : List Ordered) (p : UnresolvedPackage) (header : Header) → map (λ (o : Ordered). o.interface) os ≡ interfaces files → IsDone files os p.types p.interfaces → last_header files ≡ Some header → p.name.namespace ≡ header.namespace.name.now → p.name.name ≡ header.name.name.now → p.name.version ≡ None → p.name_span ≡ header.span → p.worlds ≡ [] → IsPackage files p
+pub package_of : (files : List PackageFile) (os : List Ordered) (p : UnresolvedPackage) (header : Header) → map (λ (o : Ordered). o.interface) os ≡ interfaces files → IsDone files os p.types p.interfaces → last_header files ≡ Some header → p.name.namespace ≡ header.namespace.name.now → p.name.name ≡ header.name.name.now → option_map release_parts p.name.version ≡ option_map parts_of header.version → p.name_span ≡ header.span → p.worlds ≡ [] → IsPackage files p
 package_of files os p header all d last namespace name version span worlds = record {
   header = header;
   last = last;

@@ -1,5 +1,5 @@
 -- Written types as expressions: without spans, each name with the scope that it stands in.
-use Rattle.std.specs.Prelude.{ℕ, List, [], ◌∷◌, map}
+use Rattle.std.specs.Prelude.{ℕ, List, [], ◌∷◌}
 use Rattle.wit_tree.specs.declared.tree.«Type».{«Type» as Written}
 use Rattle.wit_tree.specs.declared.tree.«Type».TheVariants as written
 use Rattle.wit_tree.specs.declared.tree.Field.{Field}

@@ -1,5 +1,5 @@
 -- What a type is apart from its parts, and the form and parts of a type of the arena.
-use Rattle.std.specs.Prelude.{ℕ, Bool, true, false, List, [], ◌∷◌, ◌++◌, Option, Some, None, map, is_some}
+use Rattle.std.specs.Prelude.{ℕ, Bool, List, [], ◌∷◌, ◌++◌, Option, Some, None, map, is_some}
 use Rattle.wit_tree.specs.declared.span.Span.{Span}
 use Rattle.wit_model.specs.declared.docs.Docs.{Docs}
 use Rattle.wit_model.specs.declared.types.«Type».{«Type» as Ty}

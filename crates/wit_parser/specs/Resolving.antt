@@ -1,5 +1,5 @@
 -- What resolving types and definitions does to the arena, from whatever was met before.
-use Rattle.std.specs.Prelude.{◌≡◌, ℕ, List, [], ◌∷◌, ◌++◌, length, map, cond, Option, Some, None, ◌⊎◌, slice_get, nat_eq, Contains, IsSome}
+use Rattle.std.specs.Prelude.{◌≡◌, ℕ, List, [], ◌∷◌, ◌++◌, length, map, Option, Some, None, ◌⊎◌, slice_get, nat_eq, Contains, IsSome}
 use Rattle.std.specs.Cmp.Lexicographic.{pointwise}
 use Rattle.std.specs.Map.{lookup}
 use Rattle.indexmap.specs.IndexMap.{insert_entry}
@@ -12,7 +12,7 @@ use Rattle.wit_model.specs.declared.types.«Type».{«Type» as Ty}
 use Rattle.wit_model.specs.declared.types.TypeDefKind.{TypeDefKind}
 use Rattle.wit_model.specs.declared.types.TypeDef.{TypeDef}
 use Rattle.wit_model.specs.declared.types.TypeOwner.TheVariants as owner
-use Rattle.wit_parser.specs.Form.{Form, ListForm, Kind, kind_of}
+use Rattle.wit_parser.specs.Form.{Form, ListForm}
 use Rattle.wit_tree.specs.declared.tree.Interface.{Interface as Written}
 use Rattle.wit_model.specs.declared.interface.Interface.{Interface}
 use Rattle.wit_order.specs.Table.{IsOrder}
