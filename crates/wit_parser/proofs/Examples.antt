@@ -55,7 +55,7 @@ module _ (ptr : Ptr) (alloc : Global) where
 
   -- package foo:foo; interface i { record p { a: list<u8>, b: list<u8> } }
   abbrev header : Header
-  header = record { span = at 8 15; namespace = id (codes "foo") (at 8 11) refl; name = id (codes "foo") (at 12 15) refl }
+  header = record { span = at 8 15; namespace = id (codes "foo") (at 8 11) refl; name = id (codes "foo") (at 12 15) refl; version = None }
 
   abbrev list_at : Span → Span → Written
   list_at whole element = written.List' whole box (written.U8 element)

@@ -27,6 +27,8 @@ use Rattle.wit_tree.specs.declared.tree.PackageName.{PackageName as Header}
 use Rattle.wit_parser.specs.Broken.{last_header}
 use Rattle.wit_parser.specs.Package.{At, Reaches, interface_owner, named_owner}
 use Rattle.wit_parser.specs.Whole.{Ordered, ordered_definitions, meetings_from, meetings, declarations, HasTypes, IsOwned, IsReached, HasTree, IsPartOfDefinition, HasType, IsFaithful, IsPackage}
+use Rattle.semver.specs.Identifiers.{parts_of}
+use Rattle.wit_values.specs.ReleaseText.{release_parts}
 use Rattle.wit_parser.specs.Resolving.{all_met, AreDistinct}
 use Rattle.wit_parser.proofs.Lists.{at_within, map_at}
 use Rattle.wit_parser.proofs.Names.{lookup-at, lookup-place}
@@ -302,7 +304,7 @@ module _ (files : List PackageFile) (os : List Ordered) (es : List TypeDef) (is 
     }
 
 -- the package, once all interfaces are done
-pub package_of : (files : List PackageFile) (os : List Ordered) (p : UnresolvedPackage) (header : Header) → map (λ (o : Ordered). o.interface) os ≡ interfaces files → IsDone files os p.types p.interfaces → last_header files ≡ Some header → p.name.namespace ≡ header.namespace.name.now → p.name.name ≡ header.name.name.now → p.name.version ≡ None → p.name_span ≡ header.span → p.worlds ≡ [] → IsPackage files p
+pub package_of : (files : List PackageFile) (os : List Ordered) (p : UnresolvedPackage) (header : Header) → map (λ (o : Ordered). o.interface) os ≡ interfaces files → IsDone files os p.types p.interfaces → last_header files ≡ Some header → p.name.namespace ≡ header.namespace.name.now → p.name.name ≡ header.name.name.now → option_map release_parts p.name.version ≡ option_map parts_of header.version → p.name_span ≡ header.span → p.worlds ≡ [] → IsPackage files p
 package_of files os p header all d last namespace name version span worlds = record {
   header = header;
   last = last;

@@ -1,6 +1,7 @@
 -- The last header of files.
 use Rattle.std.specs.Prelude.{slice_get}
-use Rattle.std.proofs.Common.{◌≡◌, ℕ, zero, suc, ◌⊎◌, inl, inr, Bool, true, false, IsTrue, List, [], ◌∷◌, ◌++◌, Option, Some, None, refl, sym, ap, ◌∙◌}
+use Rattle.std.proofs.Common.{◌≡◌, ℕ, zero, suc, ◌⊎◌, inl, inr, Bool, true, false, IsTrue, List, [], ◌∷◌, ◌++◌, Option, Some, None, refl, sym, ap, ◌∙◌, ◌+◌, ◌-◌, ◌<◌, ◌≤◌, length, take, get_or, subst, arith}
+use Rattle.std.proofs.lemmas.List.{take_more}
 use Rattle.wit_tree.specs.declared.span.Span.{Span}
 use Rattle.wit_tree.specs.declared.tree.PackageName.{PackageName as Header}
 use Rattle.wit_tree.specs.declared.tree.PackageFile.{PackageFile}
@@ -22,6 +23,16 @@ header_cases (Some h) = inr (h, refl)
 pub last_header-append : (fs : List PackageFile) (f : PackageFile) → last_header (fs ++ f ∷ []) ≡ or_header f.package_id (last_header fs)
 last_header-append [] f = sym (or_header_none f.package_id)
 last_header-append (g ∷ fs) f = ap (λ h. or_header h g.package_id) (last_header-append fs f) ∙ or_header_assoc f.package_id (last_header fs) g.package_id
+
+-- one file more in front of the others' end
+last_header-take : (fs : List PackageFile) (n : ℕ) (f : PackageFile) → n < length fs → f ≡ get_or fs n f → last_header (take (n + 1) fs) ≡ or_header f.package_id (last_header (take n fs))
+last_header-take fs n f lt is = ap last_header (take_more fs n f lt ∙ ap (λ y. take n fs ++ y ∷ []) (sym is)) ∙ last_header-append (take n fs) f
+
+pub last_header-step : (fs : List PackageFile) (left : ℕ) (f : PackageFile) → 0 < left → left ≤ length fs → f ≡ get_or fs (left - 1) f → last_header (take left fs) ≡ or_header (get_or fs (left - 1) f).package_id (last_header (take (left - 1) fs))
+last_header-step fs left f some within is =
+    let rest = last_header (take (left - 1) fs) in
+    let same : left - 1 + 1 ≡ left = omega arith in
+    subst (λ m. last_header (take m fs) ≡ or_header f.package_id rest) same (last_header-take fs (left - 1) f (omega arith) is) ∙ ap (λ (g : PackageFile). or_header g.package_id rest) is
 
 pub not_both : (b : Bool) → IsTrue b → b ≡ false → ⊥
 not_both true h k = let f : ⊥ = cc in f

@@ -1,6 +1,8 @@
 -- The rules, and what it is that breaks each.
 use Rattle.std.specs.Prelude.{◌≡◌, ℕ, ◌<◌, ◌⊎◌, List, [], ◌∷◌, map, Option, Some, None, Contains, slice_get}
 use Rattle.std.specs.Char.{to_ascii_lowercase}
+use Rattle.std.specs.Option.{option_map}
+use Rattle.semver.specs.Identifiers.{parts_of}
 use Rattle.wit_tree.specs.declared.span.Span.{Span}
 use Rattle.wit_tree.specs.declared.error.ParseError.{ParseError}
 use Rattle.wit_tree.specs.Refusal.{IsWantOfMemory}
@@ -67,10 +69,11 @@ abbrev pub last_header : List PackageFile → Option Header
 last_header [] = None
 last_header (f ∷ fs) = or_header (last_header fs) f.package_id
 
--- two headers name one package
+-- two headers name one package, in one version or both in none
 pub record IsSamePackage (a b : Header) : Type 0 where
   pub namespace : a.namespace.name.now ≡ b.namespace.name.now
   pub name : a.name.name.now ≡ b.name.name.now
+  pub version : option_map parts_of a.version ≡ option_map parts_of b.version
 
 -- a header names another package than the one before it
 pub record IsMismatch (previous current : Option Header) (f : Fault) : Type 0 where

@@ -10,3 +10,4 @@ pub mod Package
 pub mod Whole
 pub mod Resolving
 pub mod Repeats
+pub mod Headers

@@ -2,6 +2,9 @@
 use Rattle.std.specs.Prelude.{◌≡◌, ◌↔◌, ℕ, zero, suc, Box, List, [], ◌∷◌, ◌++◌, length, map, Some, None, slice_get}
 use Rattle.std.specs.declared.alloc.Global.{Global}
 use Rattle.wit_tree.specs.declared.span.Span.{Span}
+use Rattle.std.specs.Option.{option_map}
+use Rattle.semver.specs.Identifiers.{parts_of}
+use Rattle.wit_values.specs.ReleaseText.{release_parts}
 use Rattle.wit_tree.specs.declared.tree.TypeDef.{TypeDef as Definition}
 use Rattle.wit_tree.specs.declared.tree.«Type».TheVariants.{Name, List'}
 use Rattle.wit_tree.specs.declared.tree.Interface.{Interface as Written}
@@ -49,14 +52,14 @@ pub record HasTypes (ks : List Key) (p : ℕ) (o : Ordered) (i : Interface) : Ty
   pub names : map (λ t. t.0) i.types ≡ map (λ d. d.name.name.now) (ordered_definitions o)
   pub places : (k : ℕ) (name : List ℕ) (id : ℕ) → slice_get i.types k ≡ Some (name, id) → slice_get ks id ≡ Some (Def (InterfaceAt p) name)
 
--- The package has the name of the last header, the interfaces in push order, each with its definitions in the least
+-- The package has the name and the version of the last header, the interfaces in push order, each with its definitions in the least
 -- dependency-first order, and its arena of types is the list of first meetings.
 pub record IsPackage (files : List PackageFile) (p : UnresolvedPackage) : Type 0 where
   pub header : Header
   pub last : last_header files ≡ Some header
   pub namespace : p.name.namespace ≡ header.namespace.name.now
   pub name : p.name.name ≡ header.name.name.now
-  pub version : p.name.version ≡ None
+  pub version : option_map release_parts p.name.version ≡ option_map parts_of header.version
   pub name_span : p.name_span ≡ header.span
   pub worlds : p.worlds ≡ []
   pub ordered : List Ordered

@@ -3,6 +3,7 @@
 
 mod definitions;
 mod folding;
+mod header;
 mod interface;
 mod intern;
 mod items;

@@ -8,7 +8,7 @@ use Rattle.wit_tree.specs.Marks.{Mark, named, spelled, joined}
 use Rattle.wit_tree.specs.Slices.{Rise, IsJoined, unescaped}
 use Rattle.wit_text.specs.declared.reader.Reader.{Reader}
 use Rattle.wit_text.specs.Reading.{IsRead, IsReadOn}
-use Rattle.wit_text.proofs.Rises.{rise_on, rise_sooner, rise_later, one_more, is_named, stands_at}
+use Rattle.wit_text.proofs.Rises.{rise_on, rise_sooner, rise_later, rise_order, one_more, is_named, stands_at}
 
 -- one part, and then another
 pub then : {a b c : Reader} {xs ys : List Mark} → IsRead a xs b → IsRead b ys c → IsRead a (xs ++ ys) c
@@ -102,4 +102,20 @@ word_read {a} {b} span p first last =
       onward = p.onward;
       past = p.past;
       rise = (omega arith, stands_at a.source.now a.offset span a.token.start a.token.end a.token.text.now a.within.order a.within.within a.within.text first last, omega arith);
+    }
+
+-- with a part that perhaps has no token, and one that has no marks, behind it
+pub close_on : {a b c d : Reader} {xs ys : List Mark} → IsRead a xs b → IsReadOn b ys c → IsRead c [] d → IsRead a (xs ++ ys) d
+close_on {a} {b} {c} {d} {xs} {ys} p q r =
+    let both : IsReadOn a (xs ++ ys) d = subst (λ marks. IsReadOn a marks d) (append-nil (xs ++ ys)) (then_on (then_on (on p) q) (on r)) in
+    let first = p.onward in
+    let past = p.past in
+    let order = rise_order b.source.now b.offset _ _ ys q.rise in
+    let last = r.onward in
+    record {
+      source = both.source;
+      offset = both.offset;
+      onward = omega arith;
+      past = omega arith;
+      rise = both.rise;
     }

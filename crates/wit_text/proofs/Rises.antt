@@ -4,10 +4,11 @@ use Rattle.std.specs.Prelude.{slice_range}
 use Rattle.std.specs.List.{flat_map}
 use Rattle.std.proofs.lemmas.List.Concat.{flat_map-append}
 use Rattle.std.proofs.lemmas.List.{append-nil}
+use Rattle.semver.specs.declared.Version.{Version}
 use Rattle.wit_tree.specs.declared.span.Span.{Span}
 use Rattle.wit_tree.specs.declared.tree.Id.{Id}
-use Rattle.wit_tree.specs.Marks.{Mark, named, spelled, joined}
-use Rattle.wit_tree.specs.Slices.{unescaped, IsNamed, StandsAt, Rise}
+use Rattle.wit_tree.specs.Marks.{Mark, named, spelled, joined, versioned}
+use Rattle.wit_tree.specs.Slices.{unescaped, IsNamed, StandsAt, IsVersioned, Rise}
 
 pub is_named : (source : List ℕ) (offset : ℕ) (id : Id) (start end : ℕ) (text : List ℕ) → start ≤ end → end ≤ length source → text ≡ slice_range source start end →
     id.span.start ≡ offset + start → id.span.end ≡ offset + end → id.name.now ≡ unescaped text → IsNamed source offset id
@@ -38,18 +39,55 @@ rise_later source offset a b c [] h le = omega arith
 rise_later source offset a b c (named id ∷ rest) h le = (h.0, h.1, rise_later source offset id.span.end b c rest h.2 le)
 rise_later source offset a b c (spelled span word ∷ rest) h le = (h.0, h.1, rise_later source offset span.end b c rest h.2 le)
 rise_later source offset a b c (joined span first last ∷ rest) h le = (h.0, rise_later source offset a b c rest h.1 le)
+rise_later source offset a b c (versioned span first version ∷ rest) h le = (h.0, rise_later source offset span.end b c rest h.1 le)
+
+versioned_sooner : (source : List ℕ) (offset a b : ℕ) (span first : Span) (version : Version) → a ≤ b → IsVersioned source offset b span first version → IsVersioned source offset a span first version
+versioned_sooner source offset a b span first version le h =
+    let low = h.behind in
+    record {
+      start = h.start;
+      text = h.text;
+      at = h.at;
+      behind = omega arith;
+      end = h.end;
+      stands = h.stands;
+      reads = h.reads;
+    }
 
 pub rise_sooner : (source : List ℕ) (offset a b c : ℕ) (marks : List Mark) → a ≤ b → Rise source offset b marks c → Rise source offset a marks c
 rise_sooner source offset a b c [] le h = omega arith
 rise_sooner source offset a b c (named id ∷ rest) le h = let low = h.0 in (omega arith, h.1, h.2)
 rise_sooner source offset a b c (spelled span word ∷ rest) le h = let low = h.0 in (omega arith, h.1, h.2)
 rise_sooner source offset a b c (joined span first last ∷ rest) le h = (h.0, rise_sooner source offset a b c rest le h.1)
+rise_sooner source offset a b c (versioned span first version ∷ rest) le h = (versioned_sooner source offset a b span first version le h.0, h.1)
 
 pub rise_on : (source : List ℕ) (offset a b c : ℕ) (xs ys : List Mark) → Rise source offset a xs b → Rise source offset b ys c → Rise source offset a (xs ++ ys) c
 rise_on source offset a b c [] ys h k = rise_sooner source offset a b c ys h k
 rise_on source offset a b c (named id ∷ xs) ys h k = (h.0, h.1, rise_on source offset id.span.end b c xs ys h.2 k)
 rise_on source offset a b c (spelled span word ∷ xs) ys h k = (h.0, h.1, rise_on source offset span.end b c xs ys h.2 k)
 rise_on source offset a b c (joined span first last ∷ xs) ys h k = (h.0, rise_on source offset a b c xs ys h.1 k)
+rise_on source offset a b c (versioned span first version ∷ xs) ys h k = (h.0, rise_on source offset span.end b c xs ys h.1 k)
 
 pub one_more : {A : Type 0} (f : A → List Mark) (xs : List A) (x : A) → flat_map f (xs ++ x ∷ []) ≡ flat_map f xs ++ f x
 one_more f xs x = flat_map-append f xs (x ∷ []) ∙ ap (λ marks. flat_map f xs ++ marks) (append-nil (f x))
+
+-- what rises ends no sooner than it begins
+pub rise_order : (source : List ℕ) (offset a b : ℕ) (marks : List Mark) → Rise source offset a marks b → a ≤ b
+rise_order source offset a b [] h = h
+rise_order source offset a b (named id ∷ rest) h =
+    let low = h.0 in
+    let order = h.1.order in
+    let onward = rise_order source offset id.span.end b rest h.2 in
+    omega arith
+rise_order source offset a b (spelled span word ∷ rest) h =
+    let low = h.0 in
+    let order = h.1.order in
+    let onward = rise_order source offset span.end b rest h.2 in
+    omega arith
+rise_order source offset a b (joined span first last ∷ rest) h = rise_order source offset a b rest h.1
+rise_order source offset a b (versioned span first version ∷ rest) h =
+    let low = h.0.behind in
+    let order = h.0.stands.order in
+    let end = h.0.end in
+    let onward = rise_order source offset span.end b rest h.1 in
+    omega arith

@@ -5,7 +5,7 @@ use Rattle.wit_tree.specs.declared.error.ParseError.{ParseError}
 use Rattle.wit_tree.specs.declared.error.ParseErrorKind.{ParseErrorKind}
 use Rattle.wit_tree.specs.declared.error.ParseErrorKind.TheVariants.{Syntax, ItemNotFound, TypeCycle, OutOfMemory}
 use Rattle.wit_text.specs.declared.fault.ReadFault.{ReadFault}
-use Rattle.wit_text.specs.declared.fault.ReadFault.TheVariants.{Character, Token, Comment, Nesting}
+use Rattle.wit_text.specs.declared.fault.ReadFault.TheVariants.{Character, Token, Comment, Nesting, Version}
 
 -- the number of the refusal
 abbrev pub rule_of : ReadFault → ℕ
@@ -13,12 +13,14 @@ rule_of Character = 46
 rule_of Token = 47
 rule_of Comment = 48
 rule_of Nesting = 49
+rule_of Version = 50
 
 abbrev pub words_of : ReadFault → List ℕ
 words_of Character = codes "unexpected character"
 words_of Token = codes "unexpected token"
 words_of Comment = codes "unterminated block comment"
 words_of Nesting = codes "nested too deeply"
+words_of Version = codes "invalid version"
 
 -- one of the faults, at a range of the source
 pub record IsFault (source : List ℕ) (offset number : ℕ) (span : Span) (message : List ℕ) : Type 0 where

@@ -1,4 +1,6 @@
 pub mod Faults
+pub mod Headers
 pub mod Reading
 pub mod Sources
 pub mod Tokens
+pub mod Versions

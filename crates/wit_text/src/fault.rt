@@ -16,6 +16,8 @@ pub enum ReadFault {
     Comment,
     /// Types stand too deep in one another.
     Nesting,
+    /// A version is none by SemVer 2.0.0.
+    Version,
 }
 
 impl ReadFault {
@@ -28,6 +30,7 @@ impl ReadFault {
             ReadFault::Token => 47,
             ReadFault::Comment => 48,
             ReadFault::Nesting => 49,
+            ReadFault::Version => 50,
         }
     }
 
@@ -40,6 +43,7 @@ impl ReadFault {
             ReadFault::Token => "unexpected token",
             ReadFault::Comment => "unterminated block comment",
             ReadFault::Nesting => "nested too deeply",
+            ReadFault::Version => "invalid version",
         }
     }
 }

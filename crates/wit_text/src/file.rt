@@ -4,13 +4,37 @@ ghost use Rattle.std.specs.List.{flat_map};
 ghost use Rattle.wit_tree.specs.Marks.{interface_marks, declaration_marks, header_marks, package_marks, file_marks};
 ghost use Rattle.wit_tree.specs.Slices.{Rise};
 ghost use Rattle.wit_text.specs.Faults.{IsRefusal};
+ghost use Rattle.wit_text.specs.Headers.{IsWhole, found_marks};
 
 use crate::reader::Reader;
 use crate::token::next_token;
 use crate::word::Word;
+use semver::Version;
 use std::alloc::Global;
-use wit_tree::tree::{AstItem, DeclList, Interface, PackageFile, PackageName};
+use wit_tree::tree::{AstItem, DeclList, Id, Interface, PackageFile, PackageName};
 use wit_tree::{ParseResult, Span};
+
+/// The header of these names, with the version that was found.
+fn header<'a>(namespace: Id<'a>, name: Id<'a>, found: Option<(Span, Version)>) -> PackageName<'a>
+    ensures namespace { result.namespace ≡ namespace.entry }
+    ensures name { result.name ≡ name.entry }
+    ensures spans { IsWhole namespace.entry name.entry found result }
+{
+    let (end, version) = match found {
+        Some((place, version)) => (place.end, Some(version)),
+        None => (name.span.end, None),
+    };
+    let span = Span {
+        start: namespace.span.start,
+        end,
+    };
+    PackageName {
+        span,
+        namespace,
+        name,
+        version,
+    }
+}
 
 impl<'a> Reader<'a> {
     ghost use Rattle.wit_text.specs.Reading.{IsRead, IsReadOn, IsRefused};
@@ -26,7 +50,20 @@ impl<'a> Reader<'a> {
         Ok(Interface { name, items })
     }
 
-    /// Reads `package name:name;`.
+    /// Reads `@` and a version, where there is one, and tells where it stands.
+    fn read_at_version(&mut self) -> ParseResult<Option<(Span, Version)>>
+        ensures read { IfOk result (λ found. IsReadOn self.old (found_marks found) self.new) }
+        ensures refused { IfErr result (λ e. IsRefused self.old e) }
+    {
+        if self.token.mark != b'@' {
+            return Ok(None);
+        }
+        self.bump()?;
+        let found = self.read_version()?;
+        Ok(Some(found))
+    }
+
+    /// Reads `package name:name;`, perhaps with a version behind the name.
     fn read_header(&mut self) -> ParseResult<PackageName<'a>>
         ensures read { IfOk result (λ p. IsRead self.old (header_marks p) self.new) }
         ensures refused { IfErr result (λ e. IsRefused self.old e) }
@@ -35,16 +72,9 @@ impl<'a> Reader<'a> {
         let namespace = self.read_id()?;
         self.expect_mark(b':')?;
         let name = self.read_id()?;
+        let found = self.read_at_version()?;
         self.expect_mark(b';')?;
-        let span = Span {
-            start: namespace.span.start,
-            end: name.span.end,
-        };
-        Ok(PackageName {
-            span,
-            namespace,
-            name,
-        })
+        Ok(header(namespace, name, found))
     }
 
     /// Reads the header, if there is one.
@@ -82,7 +112,11 @@ impl<'a> Reader<'a> {
 /// 46 at a character that begins no token, 47 at a token that the grammar does not allow there or a
 /// name that is no label (twice the end of the source where it ends too soon), 48 at the first two
 /// bytes of a comment without end, 49 at the first word of a type that is the hundred and first of
-/// those in one another, and 45 for want of memory.
+/// those in one another, 50 at a version that `semver` refuses, and 45 for want of memory.
+///
+/// A version is three numbers joined by `.`, then perhaps `-` and a run, then perhaps `+` and a run,
+/// without blanks; a run is the longest text of letters, digits, `-` and those `.` that one of these
+/// follows. Where a number or a `.` is wanted and another token stands, that token is refused.
 pub fn read_file<'a>(alloc: Global, source: &'a str, offset: u32) -> ParseResult<PackageFile<'a>>
     requires fits { offset + length source.now < 2 ^ 32 }
     ensures read { IfOk result (λ file. Rise source.now offset offset (file_marks file) (offset + length source.now)) }

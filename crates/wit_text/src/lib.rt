@@ -11,6 +11,8 @@ mod source;
 mod source_map;
 mod token;
 mod types;
+mod version;
+mod version_end;
 mod word;
 
 pub use fault::ReadFault;

@@ -10,7 +10,8 @@ pub fn is_letter(c: u8) -> bool
     (c >= b'a' && c <= b'z') || (c >= b'A' && c <= b'Z')
 }
 
-fn is_digit(c: u8) -> bool
+/// A digit.
+pub fn is_digit(c: u8) -> bool
     ensures ascii { result ≡ true → c < 128 }
     ensures some { result ≡ true → 0 < c }
 {
@@ -18,7 +19,7 @@ fn is_digit(c: u8) -> bool
 }
 
 /// A letter, a digit or `-`.
-fn is_word_byte(c: u8) -> bool
+pub fn is_word_byte(c: u8) -> bool
     ensures ascii { result ≡ true → c < 128 }
 {
     is_letter(c) || is_digit(c) || c == b'-'
@@ -66,7 +67,7 @@ fn word_end(bytes: &[u8], from: usize) -> usize
 }
 
 /// The end of the digits from a place on.
-fn digits_end(bytes: &[u8], from: usize) -> usize
+pub fn digits_end(bytes: &[u8], from: usize) -> usize
     requires { from ≤ length bytes.now }
     ensures after { from ≤ result }
     ensures within { result ≤ length bytes.now }

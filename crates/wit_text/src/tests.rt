@@ -41,6 +41,8 @@ fn reads_whole_files(rt: HostRuntime) -> Result<(), Fail> {
         "",
         "package a:b;",
         "package a:b; interface i {}",
+        "package a:b@1.2.3-rc.1+b; interface i {}",
+        "package a:b@ /* v */ 18446744073709551615.0.0-a-.--.0+01.-;",
         "interface i {}",
         "package a:b;\r\ninterface i {\r\n\ttype t = u8;\r\n}\r\n",
         "// c\n/* a /* b */ c */ package/**/a:b; // no end of line",
@@ -66,7 +68,21 @@ fn refuses_at_the_first_fault(rt: HostRuntime) -> Result<(), Fail> {
         ("interface i { - }", 46, 14, 15),
         ("interface i { % }", 46, 14, 15),
         ("interface %1 {}", 46, 10, 11),
-        ("package a:b@1.0.0;", 47, 11, 12),
+        ("package a:b@01.0.0;", 50, 12, 18),
+        ("package a:b@1.0.0-01;", 50, 12, 20),
+        ("package a:b@1.0.0-.a;", 50, 12, 20),
+        ("package a:b@1.0.18446744073709551616;", 50, 12, 36),
+        ("package a:b@1 .0.0;", 47, 14, 15),
+        ("package a:b@1. 0.0;", 47, 15, 16),
+        ("package a:b@1.0;", 47, 15, 16),
+        ("package a:b@1.0", 47, 15, 15),
+        ("package a:b@;", 47, 12, 13),
+        ("package a:b@x.0.0;", 47, 12, 13),
+        ("package a:b@1.0.0-a..b;", 47, 19, 20),
+        ("package a:b@1.0.0.{t};", 47, 17, 18),
+        ("package a:b@1.0.0-;", 46, 17, 18),
+        ("package a:b@1.0.0+;", 46, 17, 18),
+        ("package a:b@1./*", 48, 14, 16),
         ("package a:b", 47, 11, 11),
         ("package a;", 47, 9, 10),
         ("interface i {} package a:b;", 47, 15, 22),
@@ -157,7 +173,7 @@ fn drops_nothing(rt: HostRuntime) -> Result<(), Fail> {
 }
 
 const SMALL_TREE: &str =
-    "PackageFile { package_id: Some(PackageName { span: Span { start: 1008, end: 1014 }, namespace: Id { name: \"foo\", span: Span { start: 1008, end: 1011 } }, name: Id { name: \"b\", span: Span { start: 1012, end: 1014 } } }), decl_list: DeclList { items: [Interface(Interface { name: Id { name: \"i\", span: Span { start: 1026, end: 1027 } }, items: [TypeDef(TypeDef { name: Id { name: \"t\", span: Span { start: 1035, end: 1036 } }, body: Plain(List(Span { start: 1039, end: 1043 }, Name(Id { name: \"t\", span: Span { start: 1044, end: 1045 } }))) }), TypeDef(TypeDef { name: Id { name: \"r\", span: Span { start: 1055, end: 1056 } }, body: Record { span: Span { start: 1055, end: 1056 }, fields: [Field { name: Id { name: \"a\", span: Span { start: 1059, end: 1060 } }, ty: U8(Span { start: 1062, end: 1064 }) }] } })] })] } }";
+    "PackageFile { package_id: Some(PackageName { span: Span { start: 1008, end: 1014 }, namespace: Id { name: \"foo\", span: Span { start: 1008, end: 1011 } }, name: Id { name: \"b\", span: Span { start: 1012, end: 1014 } }, version: None }), decl_list: DeclList { items: [Interface(Interface { name: Id { name: \"i\", span: Span { start: 1026, end: 1027 } }, items: [TypeDef(TypeDef { name: Id { name: \"t\", span: Span { start: 1035, end: 1036 } }, body: Plain(List(Span { start: 1039, end: 1043 }, Name(Id { name: \"t\", span: Span { start: 1044, end: 1045 } }))) }), TypeDef(TypeDef { name: Id { name: \"r\", span: Span { start: 1055, end: 1056 } }, body: Record { span: Span { start: 1055, end: 1056 }, fields: [Field { name: Id { name: \"a\", span: Span { start: 1059, end: 1060 } }, ty: U8(Span { start: 1062, end: 1064 }) }] } })] })] } }";
 
 #[test]
 fn locates_spans(rt: HostRuntime) -> Result<(), Fail> {

@@ -1,6 +1,7 @@
--- What a tree takes from its text: names, words, and spans over several of them, in the order of its fields.
+-- What a tree takes from its text: names, words, versions, and spans over several of them, in the order of its fields.
 use Rattle.std.specs.Prelude.{ℕ, List, [], ◌∷◌, ◌++◌, Option, Some, None, codes}
 use Rattle.std.specs.List.{flat_map}
+use Rattle.semver.specs.declared.Version.{Version}
 use Rattle.wit_tree.specs.declared.span.Span.{Span}
 use Rattle.wit_tree.specs.declared.tree.Id.{Id}
 use Rattle.wit_tree.specs.declared.tree.Field.{Field}
@@ -23,6 +24,8 @@ pub data Mark : Type 0 where
   spelled : (span : Span) (word : List ℕ) → Mark
   -- a span from the first name to the last
   joined : (span : Span) (first last : Span) → Mark
+  -- a span from the first name to the end of a version
+  versioned : (span : Span) (first : Span) (version : Version) → Mark
 
 abbrev pub type_marks : Written → List Mark
 type_marks (Bool s) = spelled s (codes "bool") ∷ []
@@ -62,8 +65,13 @@ interface_marks i = named i.name ∷ flat_map item_marks i.items.items
 abbrev pub declaration_marks : AstItem → List Mark
 declaration_marks (InterfaceItem' i) = interface_marks i
 
+-- a header's span goes to the end of its version, or of its name where it has none
+abbrev pub whole_mark : Span → Id → Id → Option Version → Mark
+whole_mark span namespace name None = joined span namespace.span name.span
+whole_mark span namespace name (Some version) = versioned span namespace.span version
+
 abbrev pub header_marks : PackageName → List Mark
-header_marks p = named p.namespace ∷ named p.name ∷ joined p.span p.namespace.span p.name.span ∷ []
+header_marks p = named p.namespace ∷ named p.name ∷ whole_mark p.span p.namespace p.name p.version ∷ []
 
 abbrev pub package_marks : Option PackageName → List Mark
 package_marks None = []

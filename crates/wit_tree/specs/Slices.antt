@@ -1,8 +1,11 @@
--- A tree is taken from a source: its names and words are slices of it, one behind the other.
-use Rattle.std.specs.Prelude.{◌≡◌, ℕ, ◌+◌, ◌-◌, ◌≤◌, ◌==◌, List, [], ◌∷◌, drop, slice_index, slice_range, length, if◌then◌else◌}
+-- A tree is taken from a source: its names, words and versions are slices of it, one behind the other.
+use Rattle.std.specs.Prelude.{◌≡◌, ℕ, ◌+◌, ◌-◌, ◌≤◌, ◌==◌, List, [], ◌∷◌, drop, slice_index, slice_range, length, if◌then◌else◌, Ok}
+use Rattle.semver.specs.declared.Version.{Version}
+use Rattle.semver.specs.Identifiers.{parts_of}
+use Rattle.semver.specs.Parse.{version_parts}
 use Rattle.wit_tree.specs.declared.span.Span.{Span}
 use Rattle.wit_tree.specs.declared.tree.Id.{Id}
-use Rattle.wit_tree.specs.Marks.{Mark, named, spelled, joined}
+use Rattle.wit_tree.specs.Marks.{Mark, named, spelled, joined, versioned}
 
 -- a front `%` taken off
 abbrev pub unescaped : List ℕ → List ℕ
@@ -27,9 +30,20 @@ pub record IsJoined (span first last : Span) : Type 0 where
   pub start : span.start ≡ first.start
   pub end : span.end ≡ last.end
 
+-- from the start of the first span to the end of a version, which is what `semver` reads in a slice behind the place `low`
+pub record IsVersioned (source : List ℕ) (offset low : ℕ) (span first : Span) (version : Version) : Type 0 where
+  pub start : span.start ≡ first.start
+  pub text : List ℕ
+  pub at : Span
+  pub behind : low ≤ at.start
+  pub end : at.end ≡ span.end
+  pub stands : StandsAt source offset at text
+  pub reads : version_parts text ≡ Ok (parts_of version)
+
 -- from the place `low` up to the place `high` names and words rise without overlap, each the slice at its span
 abbrev pub Rise : List ℕ → ℕ → ℕ → List Mark → ℕ → Type 0
 Rise source offset low [] high = low ≤ high
 Rise source offset low (named id ∷ rest) high = (low ≤ id.span.start) × IsNamed source offset id × Rise source offset id.span.end rest high
 Rise source offset low (spelled span word ∷ rest) high = (low ≤ span.start) × StandsAt source offset span word × Rise source offset span.end rest high
 Rise source offset low (joined span first last ∷ rest) high = IsJoined span first last × Rise source offset low rest high
+Rise source offset low (versioned span first version ∷ rest) high = IsVersioned source offset low span first version × Rise source offset span.end rest high

@@ -3,6 +3,7 @@ ghost use Rattle.std.specs.Prelude.{◌≡◌, ◌↔◌, IsTrue, IsSome, IfSome
 ghost use Rattle.wit_names.specs.Label.{is_label};
 
 use crate::span::Span;
+use semver::Version;
 use wit_names::validate_id;
 
 /// A label, and where it is written.
@@ -36,12 +37,13 @@ pub struct PackageFile<'a> {
 }
 
 /// The name of a package, as a header writes it.
-#[derive(Clone, Copy, Debug)]
+#[derive(Debug, Drop)]
 pub struct PackageName<'a> {
-    /// From the namespace to the end of the name.
+    /// From the namespace to the end of the version, or of the name where there is none.
     pub span: Span,
     pub namespace: Id<'a>,
     pub name: Id<'a>,
+    pub version: Option<Version>,
 }
 
 /// Declarations in source order.

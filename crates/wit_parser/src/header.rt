@@ -1,0 +1,97 @@
+//! Headers: which package they name.
+ghost use Rattle.std.specs.Prelude.{◌≡◌, ◌↔◌, IfOk, IsTrue, string_bytes};
+ghost use Rattle.std.specs.Option.{option_map};
+ghost use Rattle.semver.specs.Identifiers.{parts_of};
+ghost use Rattle.wit_values.specs.ReleaseText.{release_parts};
+ghost use Rattle.wit_parser.specs.Broken.{IsSamePackage, last_header};
+ghost use Rattle.wit_parser.specs.Headers.{header_behind};
+
+use semver::Version;
+use std::alloc::{AllocError, Global};
+use wit_model::PackageName;
+use wit_tree::tree::{self, PackageFile};
+use wit_values::{Release, Text};
+
+/// The header of the last file that has one.
+pub(crate) fn last_header<'f, 'a>(files: &'f [PackageFile<'a>]) -> Option<&'f tree::PackageName<'a>>
+    ensures { header_behind result ≡ last_header files.now }
+{
+    let mut left = files.len();
+    while left > 0 {
+        left -= 1;
+        if let Some(header) = &files[left].package_id {
+            return Some(header);
+        }
+    }
+    None
+}
+
+/// Whether two versions are the same, to their builds.
+fn is_same_version(a: &Version, b: &Version) -> bool
+    ensures { IsTrue result ↔ (parts_of a.now ≡ parts_of b.now) }
+{
+    a.major == b.major
+        && a.minor == b.minor
+        && a.patch == b.patch
+        && a.pre.as_str() == b.pre.as_str()
+        && a.build.as_str() == b.build.as_str()
+}
+
+/// Whether both versions are the same, or both are absent.
+fn is_same_release(a: &Option<Version>, b: &Option<Version>) -> bool
+    ensures { IsTrue result ↔ (option_map parts_of a.now ≡ option_map parts_of b.now) }
+{
+    match (a, b) {
+        (Some(a), Some(b)) => is_same_version(a, b),
+        (None, None) => true,
+        _ => false,
+    }
+}
+
+/// Whether two headers name one package.
+pub(crate) fn is_same(a: &tree::PackageName<'_>, b: &tree::PackageName<'_>) -> bool
+    ensures { IsTrue result ↔ IsSamePackage a.now b.now }
+{
+    a.namespace.name == b.namespace.name
+        && a.name.name == b.name.name
+        && is_same_release(&a.version, &b.version)
+}
+
+/// The version of a header, as a package keeps it.
+fn release_of(version: &Option<Version>) -> Result<Option<Release>, AllocError>
+    ensures { IfOk result (λ release. option_map release_parts release ≡ option_map parts_of version.now) }
+{
+    match version {
+        Some(version) => Ok(Some(Release::from(version.clone()?))),
+        None => Ok(None),
+    }
+}
+
+/// The name that a header gives.
+pub(crate) fn package_name(
+    alloc: Global,
+    header: &tree::PackageName<'_>,
+) -> Result<PackageName, AllocError>
+    ensures namespace { IfOk result (λ name. name.namespace ≡ header.now.namespace.name.now) }
+    ensures name { IfOk result (λ name. name.name ≡ header.now.name.name.now) }
+    ensures version { IfOk result (λ name. option_map release_parts name.version ≡ option_map parts_of header.now.version) }
+{
+    Ok(PackageName {
+        namespace: Text::from_str(alloc, header.namespace.name)?,
+        name: Text::from_str(alloc, header.name.name)?,
+        version: release_of(&header.version)?,
+    })
+}
+
+/// The words for a header that names another package.
+pub(crate) fn mismatch(
+    alloc: Global,
+    current: &tree::PackageName<'_>,
+    previous: &tree::PackageName<'_>,
+) -> Result<String, AllocError> {
+    let current = package_name(alloc, current)?;
+    let previous = package_name(alloc, previous)?;
+    format!(in alloc;
+        "package identifier `{current}` does not match previous package name of `{previous}`"
+    )
+}

@@ -1,0 +1,44 @@
+-- The marks of a header.
+use Rattle.std.proofs.Common.{◌≡◌, ℕ, List, [], ◌∷◌, Option, Some, None, ◌∙◌, sym, subst, arith}
+use Rattle.semver.specs.declared.Version.{Version}
+use Rattle.wit_tree.specs.declared.span.Span.{Span}
+use Rattle.wit_tree.specs.declared.tree.Id.{Id}
+use Rattle.wit_tree.specs.declared.tree.PackageName.{PackageName}
+use Rattle.wit_tree.specs.Marks.{Mark, named, whole_mark, header_marks}
+use Rattle.wit_tree.specs.Slices.{Rise}
+use Rattle.wit_text.specs.declared.reader.Reader.{Reader}
+use Rattle.wit_text.specs.Headers.{IsWhole, found_marks}
+use Rattle.wit_text.specs.Reading.{IsRead}
+
+whole_rise : (source : List ℕ) (offset low high : ℕ) (namespace name : Id) (found : Option (Span × Version)) (p : PackageName) → IsWhole namespace name found p →
+    Rise source offset low (found_marks found) high → Rise source offset low (whole_mark p.span namespace name p.version ∷ []) high
+whole_rise source offset low high namespace name None p w h = rw w.0 (w.1, h)
+whole_rise source offset low high namespace name (Some (place, version)) p w h =
+    let end = w.1.end in
+    let onward = h.1 in
+    rw w.0 (
+      record {
+        start = w.1.start;
+        text = h.0.text;
+        at = h.0.at;
+        behind = h.0.behind;
+        end = h.0.end ∙ sym w.1.end;
+        stands = h.0.stands;
+        reads = h.0.reads;
+      },
+      omega arith,
+    )
+
+-- two names and what was found behind them are a header
+pub header_read : {a b : Reader} (namespace name : Id) (found : Option (Span × Version)) (p : PackageName) → p.namespace ≡ namespace → p.name ≡ name → IsWhole namespace name found p →
+    IsRead a (named namespace ∷ named name ∷ found_marks found) b → IsRead a (header_marks p) b
+header_read {a} {b} namespace name found p first last w h =
+    let marks : Id → Id → List Mark = λ n m. named n ∷ named m ∷ whole_mark p.span n m p.version ∷ [] in
+    let names : IsRead a (marks namespace name) b = record {
+      source = h.source;
+      offset = h.offset;
+      onward = h.onward;
+      past = h.past;
+      rise = (h.rise.0, h.rise.1, (h.rise.2.0, h.rise.2.1, whole_rise a.source.now a.offset _ _ namespace name found p w h.rise.2.2));
+    } in
+    subst (λ n. IsRead a (marks n p.name) b) (sym first) (subst (λ m. IsRead a (marks namespace m) b) (sym last) names)

@@ -1,0 +1,18 @@
+-- Headers of a package, with the version that was found behind the name.
+use Rattle.std.specs.Prelude.{◌≡◌, List, [], ◌∷◌, Option, Some, None}
+use Rattle.semver.specs.declared.Version.{Version}
+use Rattle.wit_tree.specs.declared.span.Span.{Span}
+use Rattle.wit_tree.specs.declared.tree.Id.{Id}
+use Rattle.wit_tree.specs.declared.tree.PackageName.{PackageName}
+use Rattle.wit_tree.specs.Marks.{Mark, versioned}
+use Rattle.wit_tree.specs.Slices.{IsJoined}
+
+-- a version where it stands
+abbrev pub found_marks : Option (Span × Version) → List Mark
+found_marks None = []
+found_marks (Some (place, version)) = versioned place place version ∷ []
+
+-- the header has the version that was found, and its span goes to that version's end, or to the name's
+abbrev pub IsWhole : Id → Id → Option (Span × Version) → PackageName → Type 0
+IsWhole namespace name None p = (p.version ≡ None) × IsJoined p.span namespace.span name.span
+IsWhole namespace name (Some (place, version)) p = (p.version ≡ Some version) × IsJoined p.span namespace.span place
