@@ -20,3 +20,5 @@ pub use refusal::error_line;
 
 #[cfg(test)]
 mod tests;
+#[cfg(test)]
+mod version_tests;
