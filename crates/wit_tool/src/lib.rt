@@ -24,3 +24,5 @@ pub use running::run;
 mod run_tests;
 #[cfg(test)]
 mod tests;
+#[cfg(test)]
+mod version_tests;
