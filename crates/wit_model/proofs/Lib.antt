@@ -3,3 +3,4 @@ pub mod Marks
 pub mod Walk
 pub mod Placing
 pub mod Pairs
+pub mod Same

@@ -21,6 +21,7 @@ pub mod int;
 pub mod interface;
 pub mod kind_word;
 pub mod laws;
+pub mod order;
 pub mod package_name;
 #[cfg(test)]
 mod package_name_tests;
