@@ -34,6 +34,8 @@ pub mod stability;
 #[cfg(test)]
 mod tests;
 pub mod types;
+#[cfg(test)]
+mod value_tests;
 pub mod world;
 
 pub use abi::{AbiVariant, LiftLowerAbi, Mangling, ManglingAndAbi, ManglingFault};

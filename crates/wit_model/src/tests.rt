@@ -19,24 +19,24 @@ use wit_values::{Release, Row, Table, Text, TextTable};
 
 const SPAN: Span = Span { start: 3, end: 5 };
 
-fn docs(alloc: Global) -> Result<Docs, Fail> {
+pub(crate) fn docs(alloc: Global) -> Result<Docs, Fail> {
     Ok(Docs {
         contents: Some(Text::from_str(alloc, "about it")?),
     })
 }
 
-fn release(alloc: Global, text: &str) -> Result<Release, Fail> {
+pub(crate) fn release(alloc: Global, text: &str) -> Result<Release, Fail> {
     Ok(Release::from(Version::parse(alloc, text)?))
 }
 
-fn stable(alloc: Global) -> Result<Stability, Fail> {
+pub(crate) fn stable(alloc: Global) -> Result<Stability, Fail> {
     Ok(Stability::Stable {
         since: release(alloc, "1.2.3-rc.1+b")?,
         deprecated: Some(release(alloc, "2.0.0")?),
     })
 }
 
-fn function(alloc: Global, name: &str, kind: FunctionKind) -> Result<Function, Fail> {
+pub(crate) fn function(alloc: Global, name: &str, kind: FunctionKind) -> Result<Function, Fail> {
     let mut params = Vec::new(alloc);
     params.push(Param {
         name: Text::from_str(alloc, "p")?,
@@ -68,7 +68,7 @@ fn type_def(alloc: Global, kind: TypeDefKind) -> Result<TypeDef, Fail> {
 }
 
 // An arena of three places, for their ids.
-fn three_types(alloc: Global) -> Result<(Types, TypeId, TypeId, TypeId), Fail> {
+pub(crate) fn three_types(alloc: Global) -> Result<(Types, TypeId, TypeId, TypeId), Fail> {
     let mut types: Types = Arena::new(alloc);
     let future = types.alloc(type_def(alloc, TypeDefKind::Future(Some(Type::U32)))?)?;
     let nested = types.alloc(type_def(alloc, TypeDefKind::Future(Some(Type::Id(future))))?)?;
@@ -282,7 +282,7 @@ fn calling(rt: HostRuntime) -> Result<(), Fail> {
     Ok(())
 }
 
-fn kinds(alloc: Global, id: TypeId) -> Result<Vec<(TypeDefKind, &'static str)>, Fail> {
+pub(crate) fn kinds(alloc: Global, id: TypeId) -> Result<Vec<(TypeDefKind, &'static str)>, Fail> {
     let name = "n";
     let mut fields = Vec::new(alloc);
     fields.push(Field {
@@ -369,7 +369,7 @@ fn values_of_kinds(rt: HostRuntime) -> Result<(), Fail> {
     Ok(())
 }
 
-fn item(alloc: Global, id: Id<InterfacePlace>) -> Result<WorldItem, Fail>
+pub(crate) fn item(alloc: Global, id: Id<InterfacePlace>) -> Result<WorldItem, Fail>
     ensures { IfOk result (λ i. (types : List TypeDef) → IsWithin i types) }
 {
     Ok(WorldItem::Interface {
@@ -381,7 +381,7 @@ fn item(alloc: Global, id: Id<InterfacePlace>) -> Result<WorldItem, Fail>
     })
 }
 
-fn world(alloc: Global, names: &[&str], id: Id<InterfacePlace>) -> Result<World, Fail> {
+pub(crate) fn world(alloc: Global, names: &[&str], id: Id<InterfacePlace>) -> Result<World, Fail> {
     let mut worlds: Arena<u8, WorldPlace> = Arena::new(alloc);
     let included = worlds.alloc(0)?;
     let mut imports = Table::new(alloc);

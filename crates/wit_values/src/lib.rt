@@ -8,6 +8,8 @@ pub mod release;
 mod release_text;
 pub mod row;
 pub mod table;
+#[cfg(test)]
+mod tests;
 pub mod text;
 pub mod text_table;
 
