@@ -9,7 +9,11 @@ use Rattle.wit_tree.specs.declared.tree.TypeBody.{TypeBody}
 use Rattle.wit_tree.specs.declared.tree.TypeBody.TheVariants.{Record, Plain}
 use Rattle.wit_tree.specs.declared.tree.TypeDef.{TypeDef}
 use Rattle.wit_tree.specs.declared.tree.InterfaceItem.{InterfaceItem}
-use Rattle.wit_tree.specs.declared.tree.InterfaceItem.TheVariants.{TypeDef as TypeDefItem}
+use Rattle.wit_tree.specs.declared.tree.InterfaceItem.TheVariants.{TypeDef as TypeDefItem, Use as UseItem}
+use Rattle.wit_tree.specs.declared.tree.Use.{Use}
+use Rattle.wit_tree.specs.declared.tree.UsePath.{UsePath}
+use Rattle.wit_tree.specs.declared.tree.UsePath.TheVariants.{Id as PathName}
+use Rattle.wit_tree.specs.declared.tree.UseName.{UseName}
 use Rattle.wit_tree.specs.declared.tree.Interface.{Interface}
 use Rattle.wit_tree.specs.declared.tree.AstItem.{AstItem}
 use Rattle.wit_tree.specs.declared.tree.AstItem.TheVariants.{Interface as InterfaceItem'}
@@ -56,8 +60,23 @@ body_marks name (Plain t) = type_marks t
 abbrev pub definition_marks : TypeDef → List Mark
 definition_marks d = named d.name ∷ body_marks d.name.span d.body
 
+abbrev pub path_marks : UsePath → List Mark
+path_marks (PathName id) = named id ∷ []
+
+-- the local name, where there is one
+abbrev pub local_marks : Option Id → List Mark
+local_marks None = []
+local_marks (Some id) = named id ∷ []
+
+abbrev pub used_marks : UseName → List Mark
+used_marks u = named u.name ∷ local_marks u.as_
+
+abbrev pub use_marks : Use → List Mark
+use_marks u = path_marks u.from ++ flat_map used_marks u.names.items
+
 abbrev pub item_marks : InterfaceItem → List Mark
 item_marks (TypeDefItem d) = definition_marks d
+item_marks (UseItem u) = use_marks u
 
 abbrev pub interface_marks : Interface → List Mark
 interface_marks i = named i.name ∷ flat_map item_marks i.items.items

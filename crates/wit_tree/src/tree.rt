@@ -69,6 +69,28 @@ pub struct Interface<'a> {
 #[derive(Debug, Drop)]
 pub enum InterfaceItem<'a> {
     TypeDef(TypeDef<'a>),
+    Use(Use<'a>),
+}
+
+/// Names that an interface uses from another one, in source order.
+#[derive(Debug, Drop)]
+pub struct Use<'a> {
+    pub from: UsePath<'a>,
+    pub names: Vec<UseName<'a>>,
+}
+
+/// What is used from.
+#[derive(Debug, Drop)]
+pub enum UsePath<'a> {
+    /// A name of the package.
+    Id(Id<'a>),
+}
+
+/// A used name, and the local name that `as` gives it.
+#[derive(Debug, Drop)]
+pub struct UseName<'a> {
+    pub name: Id<'a>,
+    pub as_: Option<Id<'a>>,
 }
 
 /// The definition of a type.
