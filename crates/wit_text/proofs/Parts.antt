@@ -104,14 +104,13 @@ word_read {a} {b} span p first last =
       rise = (omega arith, stands_at a.source.now a.offset span a.token.start a.token.end a.token.text.now a.within.order a.within.within a.within.text first last, omega arith);
     }
 
--- with a part that perhaps has no token, and one that has no marks, behind it
-pub close_on : {a b c d : Reader} {xs ys : List Mark} → IsRead a xs b → IsReadOn b ys c → IsRead c [] d → IsRead a (xs ++ ys) d
-close_on {a} {b} {c} {d} {xs} {ys} p q r =
-    let both : IsReadOn a (xs ++ ys) d = subst (λ marks. IsReadOn a marks d) (append-nil (xs ++ ys)) (then_on (then_on (on p) q) (on r)) in
+-- with a part behind it that perhaps has no token
+pub then_perhaps : {a b c : Reader} {xs ys : List Mark} → IsRead a xs b → IsReadOn b ys c → IsRead a (xs ++ ys) c
+then_perhaps {a} {b} {c} {xs} {ys} p q =
+    let both : IsReadOn a (xs ++ ys) c = then_on (on p) q in
     let first = p.onward in
     let past = p.past in
     let order = rise_order b.source.now b.offset _ _ ys q.rise in
-    let last = r.onward in
     record {
       source = both.source;
       offset = both.offset;
@@ -119,3 +118,7 @@ close_on {a} {b} {c} {d} {xs} {ys} p q r =
       past = omega arith;
       rise = both.rise;
     }
+
+-- with a part that perhaps has no token, and one that has no marks, behind it
+pub close_on : {a b c d : Reader} {xs ys : List Mark} → IsRead a xs b → IsReadOn b ys c → IsRead c [] d → IsRead a (xs ++ ys) d
+close_on p q r = close (then_perhaps p q) r

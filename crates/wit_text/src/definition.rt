@@ -1,4 +1,4 @@
-//! Reading definitions of types.
+//! Reading definitions of types, and the items of an interface.
 ghost use Rattle.std.specs.Prelude.{◌≡◌, ◌+◌, [], ◌∷◌, IfOk, IfErr};
 ghost use Rattle.std.specs.List.{flat_map};
 ghost use Rattle.wit_tree.specs.Marks.{field_marks, definition_marks, item_marks};
@@ -87,6 +87,19 @@ impl<'a> Reader<'a> {
         }
     }
 
+    /// Reads an item of an interface.
+    fn read_item(&mut self) -> ParseResult<InterfaceItem<'a>>
+        ensures read { IfOk result (λ item. IsRead self.old (item_marks item) self.new) }
+        ensures refused { IfErr result (λ e. IsRefused self.old e) }
+    {
+        if self.word() == Some(Word::Use) {
+            let names = self.read_use()?;
+            return Ok(InterfaceItem::Use(names));
+        }
+        let definition = self.read_definition()?;
+        Ok(InterfaceItem::TypeDef(definition))
+    }
+
     /// Reads the items of an interface in braces.
     pub fn read_interface_items(&mut self) -> ParseResult<Vec<InterfaceItem<'a>>>
         ensures read { IfOk result (λ items. IsRead self.old (flat_map item_marks items.items) self.new) }
@@ -95,8 +108,8 @@ impl<'a> Reader<'a> {
         self.expect_mark(b'{')?;
         let mut items = Vec::new(self.alloc);
         'items: while self.token.mark != b'}' {
-            let definition = self.read_definition()?;
-            items.push(InterfaceItem::TypeDef(definition))?;
+            let item = self.read_item()?;
+            items.push(item)?;
         }
         self.bump()?;
         Ok(items)

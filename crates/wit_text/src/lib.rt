@@ -11,6 +11,7 @@ mod source;
 mod source_map;
 mod token;
 mod types;
+mod uses;
 mod version;
 mod version_end;
 mod word;

@@ -14,6 +14,8 @@ pub enum Word {
     Interface,
     Type,
     Record,
+    Use,
+    As,
     List,
     /// The word of a primitive type.
     Primitive,
@@ -46,8 +48,7 @@ fn is_primitive(text: &str) -> bool {
 fn is_unread(text: &str) -> bool {
     matches!(
         text,
-        "use"
-            | "func"
+        "func"
             | "async"
             | "resource"
             | "own"
@@ -61,7 +62,6 @@ fn is_unread(text: &str) -> bool {
             | "stream"
             | "map"
             | "tuple"
-            | "as"
             | "static"
             | "import"
             | "export"
@@ -81,6 +81,8 @@ pub fn word_of(text: &str) -> Word
         "interface" => Word::Interface,
         "type" => Word::Type,
         "record" => Word::Record,
+        "use" => Word::Use,
+        "as" => Word::As,
         "list" => Word::List,
         _ => {
             if is_primitive(text) {

@@ -1,0 +1,78 @@
+//! Reading what an interface uses.
+ghost use Rattle.std.specs.Prelude.{◌≡◌, ◌+◌, [], ◌∷◌, IfOk, IfErr};
+ghost use Rattle.std.specs.List.{flat_map};
+ghost use Rattle.wit_tree.specs.Marks.{path_marks, local_marks, used_marks, use_marks};
+
+use crate::reader::Reader;
+use crate::word::Word;
+use wit_tree::ParseResult;
+use wit_tree::tree::{Id, Use, UseName, UsePath};
+
+impl<'a> Reader<'a> {
+    ghost use Rattle.wit_text.specs.Reading.{IsRead, IsReadOn, IsRefused};
+
+    /// Reads what is used from: a name of the package.
+    fn read_path(&mut self) -> ParseResult<UsePath<'a>>
+        ensures read { IfOk result (λ path. IsRead self.old (path_marks path) self.new) }
+        ensures refused { IfErr result (λ e. IsRefused self.old e) }
+    {
+        let id = self.read_id()?;
+        Ok(UsePath::Id(id))
+    }
+
+    /// Reads `as` and the local name, where there is one.
+    fn read_local(&mut self) -> ParseResult<Option<Id<'a>>>
+        ensures read { IfOk result (λ local. IsReadOn self.old (local_marks local) self.new) }
+        ensures refused { IfErr result (λ e. IsRefused self.old e) }
+    {
+        if self.word() != Some(Word::As) {
+            return Ok(None);
+        }
+        self.bump()?;
+        let local = self.read_id()?;
+        Ok(Some(local))
+    }
+
+    /// Reads a used name, perhaps with a local name behind it.
+    fn read_used(&mut self) -> ParseResult<UseName<'a>>
+        ensures read { IfOk result (λ u. IsRead self.old (used_marks u) self.new) }
+        ensures refused { IfErr result (λ e. IsRefused self.old e) }
+    {
+        let name = self.read_id()?;
+        let as_ = self.read_local()?;
+        Ok(UseName { name, as_ })
+    }
+
+    /// Reads used names in braces.
+    fn read_used_names(&mut self) -> ParseResult<Vec<UseName<'a>>>
+        ensures read { IfOk result (λ names. IsRead self.old (flat_map used_marks names.items) self.new) }
+        ensures refused { IfErr result (λ e. IsRefused self.old e) }
+    {
+        self.expect_mark(b'{')?;
+        let mut names = Vec::new(self.alloc);
+        'names: while self.token.mark != b'}' {
+            let used = self.read_used()?;
+            names.push(used)?;
+            if self.token.mark != b',' {
+                self.expect_mark(b'}')?;
+                return Ok(names);
+            }
+            self.bump()?;
+        }
+        self.bump()?;
+        Ok(names)
+    }
+
+    /// Reads `use name.{name, name as name, ..};`.
+    pub fn read_use(&mut self) -> ParseResult<Use<'a>>
+        ensures read { IfOk result (λ u. IsRead self.old (use_marks u) self.new) }
+        ensures refused { IfErr result (λ e. IsRefused self.old e) }
+    {
+        self.expect_word(Word::Use)?;
+        let from = self.read_path()?;
+        self.expect_mark(b'.')?;
+        let names = self.read_used_names()?;
+        self.expect_mark(b';')?;
+        Ok(Use { from, names })
+    }
+}
