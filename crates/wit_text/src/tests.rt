@@ -48,6 +48,8 @@ fn reads_whole_files(rt: HostRuntime) -> Result<(), Fail> {
         "// c\n/* a /* b */ c */ package/**/a:b; // no end of line",
         "package %package:%get; interface %type { record %record { %u8: %list, } }",
         "interface from { type set = list<list<error-context>>; record empty {} }",
+        "interface i { use x.{t}; use x.{t as s, %u,}; use i.{}; }",
+        "interface i { use %use . { %as as %use }; type t = %as; use/**/get.{from as set}; }",
         "interface A-b1 { record r { a: bool, b: u8, c: u16, d: u32, e: u64 } }",
         "interface i { record r { a: s8, b: s16, c: s32, d: s64, e: f32, f: f64, g: char, h: string, } }",
     ] {
@@ -100,6 +102,19 @@ fn refuses_at_the_first_fault(rt: HostRuntime) -> Result<(), Fail> {
         ("interface i { record r { a: u8 b: u8 } }", 47, 31, 32),
         ("interface i { record r { a: u8,, } }", 47, 31, 32),
         ("interface i { f: func(); }", 47, 14, 15),
+        ("interface i { use x; }", 47, 19, 20),
+        ("interface i { use a:b/c.{t}; }", 47, 19, 20),
+        ("interface i { use use.{t}; }", 47, 18, 21),
+        ("interface i { use x{t}; }", 47, 19, 20),
+        ("interface i { use x.{,}; }", 47, 21, 22),
+        ("interface i { use x.{t,,}; }", 47, 23, 24),
+        ("interface i { use x.{t u}; }", 47, 23, 24),
+        ("interface i { use x.{t as}; }", 47, 25, 26),
+        ("interface i { use x.{t as as}; }", 47, 26, 28),
+        ("interface i { use x.{t %as s}; }", 47, 23, 26),
+        ("interface i { use x.{t as s as r}; }", 47, 28, 30),
+        ("interface i { use x.{t} }", 47, 24, 25),
+        ("interface i { use x.{t", 47, 22, 22),
         ("/ interface i {}", 47, 0, 1),
     ] {
         assert_eq!(rt;
@@ -134,20 +149,21 @@ fn reads_a_hundred_levels(rt: HostRuntime) -> Result<(), Fail> {
     Ok(())
 }
 
-/// How many fields the file's first definition has.
-fn field_count(file: &PackageFile) -> usize {
+/// How many fields or used names the file's first item has.
+fn part_count(file: &PackageFile) -> usize {
     match file.decl_list.items.first() {
-        Some(AstItem::Interface(interface)) => first_field_count(interface),
+        Some(AstItem::Interface(interface)) => first_part_count(interface),
         None => 0,
     }
 }
 
-fn first_field_count(interface: &Interface) -> usize {
+fn first_part_count(interface: &Interface) -> usize {
     match interface.items.first() {
         Some(InterfaceItem::TypeDef(definition)) => match &definition.body {
             TypeBody::Record { fields, .. } => fields.len(),
             TypeBody::Plain(_) => 0,
         },
+        Some(InterfaceItem::Use(used)) => used.names.len(),
         None => 0,
     }
 }
@@ -155,25 +171,43 @@ fn first_field_count(interface: &Interface) -> usize {
 #[test]
 fn drops_nothing(rt: HostRuntime) -> Result<(), Fail> {
     let alloc = rt.alloc();
-    let text = repeated(alloc, "interface i { record r { ", "f: u8, ", 300, "} }")?;
-    assert!(rt; text.as_str().len() < 1_000_000);
-    match read_file(alloc, text.as_str(), 0) {
-        Ok(file) => assert_eq!(rt; field_count(&file), 300),
-        Err(_) => assert!(rt; false, "refused"),
-    }
-    let small = "package foo:%b; interface i { type t = list<t>; record r { a: u8 } }";
-    match read_file(alloc, small, 1000) {
-        Ok(file) => {
-            let shown = format!(in alloc; "{file:?}")?;
-            assert_eq!(rt; shown.as_str(), SMALL_TREE);
+    for (front, part, back) in [
+        ("interface i { record r { ", "f: u8, ", "} }"),
+        ("interface i { use x.{", "t as u, ", "}; }"),
+    ] {
+        let text = repeated(alloc, front, part, 300, back)?;
+        assert!(rt; text.as_str().len() < 1_000_000);
+        match read_file(alloc, text.as_str(), 0) {
+            Ok(file) => assert_eq!(rt; part_count(&file), 300, "at {part}"),
+            Err(_) => assert!(rt; false, "refused"),
         }
-        Err(_) => assert!(rt; false, "refused"),
+    }
+    for (text, tree) in [
+        (
+            "package foo:%b; interface i { type t = list<t>; record r { a: u8 } }",
+            SMALL_TREE,
+        ),
+        (
+            "interface i { use x.{t as s, %u,}; use %use.{}; type t = t; }",
+            USES_TREE,
+        ),
+    ] {
+        match read_file(alloc, text, 1000) {
+            Ok(file) => {
+                let shown = format!(in alloc; "{file:?}")?;
+                assert_eq!(rt; shown.as_str(), tree);
+            }
+            Err(_) => assert!(rt; false, "refused"),
+        }
     }
     Ok(())
 }
 
 const SMALL_TREE: &str =
     "PackageFile { package_id: Some(PackageName { span: Span { start: 1008, end: 1014 }, namespace: Id { name: \"foo\", span: Span { start: 1008, end: 1011 } }, name: Id { name: \"b\", span: Span { start: 1012, end: 1014 } }, version: None }), decl_list: DeclList { items: [Interface(Interface { name: Id { name: \"i\", span: Span { start: 1026, end: 1027 } }, items: [TypeDef(TypeDef { name: Id { name: \"t\", span: Span { start: 1035, end: 1036 } }, body: Plain(List(Span { start: 1039, end: 1043 }, Name(Id { name: \"t\", span: Span { start: 1044, end: 1045 } }))) }), TypeDef(TypeDef { name: Id { name: \"r\", span: Span { start: 1055, end: 1056 } }, body: Record { span: Span { start: 1055, end: 1056 }, fields: [Field { name: Id { name: \"a\", span: Span { start: 1059, end: 1060 } }, ty: U8(Span { start: 1062, end: 1064 }) }] } })] })] } }";
+
+const USES_TREE: &str =
+    "PackageFile { package_id: None, decl_list: DeclList { items: [Interface(Interface { name: Id { name: \"i\", span: Span { start: 1010, end: 1011 } }, items: [Use(Use { from: Id(Id { name: \"x\", span: Span { start: 1018, end: 1019 } }), names: [UseName { name: Id { name: \"t\", span: Span { start: 1021, end: 1022 } }, as_: Some(Id { name: \"s\", span: Span { start: 1026, end: 1027 } }) }, UseName { name: Id { name: \"u\", span: Span { start: 1029, end: 1031 } }, as_: None }] }), Use(Use { from: Id(Id { name: \"use\", span: Span { start: 1039, end: 1043 } }), names: [] }), TypeDef(TypeDef { name: Id { name: \"t\", span: Span { start: 1053, end: 1054 } }, body: Plain(Name(Id { name: \"t\", span: Span { start: 1057, end: 1058 } })) })] })] } }";
 
 #[test]
 fn locates_spans(rt: HostRuntime) -> Result<(), Fail> {
