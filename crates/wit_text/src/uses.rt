@@ -1,12 +1,19 @@
 //! Reading what an interface uses.
 ghost use Rattle.std.specs.Prelude.{◌≡◌, ◌+◌, [], ◌∷◌, IfOk, IfErr};
 ghost use Rattle.std.specs.List.{flat_map};
-ghost use Rattle.wit_tree.specs.Marks.{path_marks, local_marks, used_marks, use_marks};
+ghost use Rattle.wit_tree.specs.Marks.{named, path_marks, local_marks, used_marks, use_marks};
 
 use crate::reader::Reader;
 use crate::word::Word;
 use wit_tree::ParseResult;
 use wit_tree::tree::{Id, Use, UseName, UsePath};
+
+/// The used name, with the local name that was found behind it.
+fn used_name<'a>(name: Id<'a>, local: Option<Id<'a>>) -> UseName<'a>
+    ensures { used_marks result ≡ named name.entry ∷ local_marks local.entry }
+{
+    UseName { name, as_: local }
+}
 
 impl<'a> Reader<'a> {
     ghost use Rattle.wit_text.specs.Reading.{IsRead, IsReadOn, IsRefused};
@@ -39,8 +46,8 @@ impl<'a> Reader<'a> {
         ensures refused { IfErr result (λ e. IsRefused self.old e) }
     {
         let name = self.read_id()?;
-        let as_ = self.read_local()?;
-        Ok(UseName { name, as_ })
+        let local = self.read_local()?;
+        Ok(used_name(name, local))
     }
 
     /// Reads used names in braces.
