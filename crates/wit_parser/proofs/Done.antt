@@ -1,119 +1,130 @@
 -- Interfaces that are done, one after another.
-use Rattle.std.proofs.Common.{◌≡◌, ℕ, zero, suc, ◌+◌, ◌<◌, List, [], ◌∷◌, ◌++◌, length, Option, Some, ◌⊎◌, inl, inr, refl, sym, ap, ◌∙◌, subst, append_assoc, arith, length-append, zero-add, add-zero}
+use Rattle.std.proofs.Common.{◌≡◌, ℕ, suc, ◌+◌, List, [], ◌∷◌, ◌++◌, length, Some, ◌⊎◌, inl, inr, refl, sym, ap, ◌∙◌, subst, append_assoc, arith, length-append, zero-add, add-zero}
 use Rattle.std.specs.Prelude.{slice_get, map}
-use Rattle.std.specs.Option.{option_map_or}
+use Rattle.std.specs.Option.{option_map}
 use Rattle.std.proofs.lemmas.List.{append-nil, map-append}
-use Rattle.std.proofs.lemmas.Option.{slice_get_within}
-use Rattle.wit_tree.specs.declared.tree.TypeDef.{TypeDef as Definition}
+use Rattle.std.proofs.lemmas.Option.{slice_get_within, slice_get-map}
 use Rattle.wit_tree.specs.declared.tree.Interface.{Interface as Written}
 use Rattle.wit_tree.specs.declared.tree.PackageFile.{PackageFile}
 use Rattle.wit_model.specs.declared.interface.Interface.{Interface}
 use Rattle.wit_model.specs.declared.types.TypeDef.{TypeDef}
+use Rattle.wit_model.specs.declared.types.TypeOwner.{TypeOwner}
+use Rattle.wit_model.specs.declared.types.TypeOwner.TheVariants as owner
 use Rattle.wit_order.specs.Table.{IsOrder}
-use Rattle.wit_parser.specs.Source.{Address, InterfaceAt, interfaces, definitions, scope}
-use Rattle.wit_parser.specs.Scope.{rows_of, in_order}
-use Rattle.wit_parser.specs.Meet.{Def, Meeting, keys, Meets, Decl, IsAmong, decl_of, IsMeeting, all_definition_meetings}
-use Rattle.wit_parser.specs.Package.{IsInterface}
-use Rattle.wit_parser.specs.Whole.{Ordered, ordered_definitions, meetings_from, meetings, declarations}
-use Rattle.wit_parser.specs.Resolving.{env_of, AreNames, AreDistinct, AreNew, decls_of, definition_names, Defines, AddsInterface, AddsAll}
-use Rattle.wit_parser.proofs.Lists.{at_either, map_at}
+use Rattle.wit_parser.specs.Source.{Address, InterfaceNamed, ScopeName, interface_name, scope_names, local_name}
+use Rattle.wit_parser.specs.Scope.{rows_of, in_turn}
+use Rattle.wit_parser.specs.Meet.{Def, Meeting, keys, Meets, Decl, IsAmong, decl_of, all_name_meetings}
+use Rattle.wit_parser.specs.Whole.{Ordered, interface_of, ordered_names, address, meetings, owner_at, declarations}
+use Rattle.wit_parser.specs.Resolving.{env_of, AreNames, AreKnown, AreNew, decls_of}
+use Rattle.wit_parser.specs.Resolved.{AddsInterface, AddsAll}
+use Rattle.wit_parser.proofs.Lists.{at_front, at_seam, at_either, at_within, map_at}
 use Rattle.wit_parser.proofs.Places.{key_grown}
 use Rattle.wit_parser.proofs.Meeting.{meets_append, meets_grown, meets_from}
 use Rattle.wit_parser.proofs.Defining.{name_met_in}
-use Rattle.wit_parser.proofs.Scoping.{in_order_at}
-use Rattle.wit_parser.proofs.Legal.{index_once}
+use Rattle.wit_parser.proofs.Turns.{in_turn_among, in_turn_distinct}
+use Rattle.wit_parser.proofs.Standing.{AreItems, IsDone}
+use Rattle.wit_parser.proofs.Interfaces.{scope_of, owner_of_scope}
 
--- what is done with interfaces, in their orders
-pub record IsDone (files : List PackageFile) (os : List Ordered) (es : List TypeDef) (is : List Interface) : Type 0 where
-  pub met : List Meeting
-  pub meets : Meets [] (meetings os) met
-  pub meeting : IsMeeting (declarations files) met es
-  pub count : length is ≡ length os
-  pub least : (t : ℕ) (o : Ordered) → slice_get os t ≡ Some o → IsOrder (rows_of (definitions o.interface)) o.order
-  pub distinct : (t : ℕ) (o : Ordered) → slice_get os t ≡ Some o → AreDistinct (definitions o.interface)
-  pub says : (t : ℕ) (o : Ordered) (i : Interface) → slice_get os t ≡ Some o → slice_get is t ≡ Some i → IsInterface o.interface i
-  pub listed : (t : ℕ) (o : Ordered) (i : Interface) → slice_get os t ≡ Some o → slice_get is t ≡ Some i → map (λ p. p.0) i.types ≡ definition_names (ordered_definitions o)
-  pub stand : (t : ℕ) (i : Interface) → slice_get is t ≡ Some i → AreNames (keys met) (InterfaceAt t) (env_of i.types)
-  pub before : (j t : ℕ) (name : List ℕ) → slice_get (keys met) j ≡ Some (Def (InterfaceAt t) name) → t < length os
-
-pub done_none : (files : List PackageFile) → IsDone files [] [] []
-done_none files = record {
+pub done_none : (files : List PackageFile) (ws : List Written) → IsDone files ws [] [] []
+done_none files ws = record {
   met = [];
   meets = refl;
   meeting = record { keyed = record { count = refl; once = λ i j k at. absurd (let f : ⊥ = cc in f); each = λ i k e at. absurd (let f : ⊥ = cc in f) }; spans = refl };
   count = refl;
+  front = λ t o at. absurd (let f : ⊥ = cc in f);
   least = λ t o at. absurd (let f : ⊥ = cc in f);
   distinct = λ t o at. absurd (let f : ⊥ = cc in f);
   says = λ t o i at. absurd (let f : ⊥ = cc in f);
   listed = λ t o i at. absurd (let f : ⊥ = cc in f);
-  stand = λ t i at. absurd (let f : ⊥ = cc in f);
-  before = λ j t name at. absurd (let f : ⊥ = cc in f);
+  stand = λ t o i at. absurd (let f : ⊥ = cc in f);
+  before = λ j s name at. absurd (let f : ⊥ = cc in f);
 }
 
-pub meetings_from-append : (p : ℕ) (os : List Ordered) (o : Ordered) → meetings_from p (os ++ o ∷ []) ≡ meetings_from p os ++ all_definition_meetings (InterfaceAt (p + length os)) (ordered_definitions o)
-meetings_from-append p [] o = append-nil (all_definition_meetings (InterfaceAt p) (ordered_definitions o)) ∙ ap (λ n. all_definition_meetings (InterfaceAt n) (ordered_definitions o)) (sym (add-zero p))
-meetings_from-append p (q ∷ os) o =
-    let here = all_definition_meetings (InterfaceAt p) (ordered_definitions q) in
-    let same : suc p + length os ≡ p + suc (length os) = omega arith in
-    ap (λ ms. here ++ ms) (meetings_from-append (suc p) os o) ∙ ap (λ n. here ++ (meetings_from (suc p) os ++ all_definition_meetings (InterfaceAt n) (ordered_definitions o))) same ∙ sym (append_assoc here (meetings_from (suc p) os) (all_definition_meetings (InterfaceAt (p + suc (length os))) (ordered_definitions o)))
+pub meetings-append : (os : List Ordered) (o : Ordered) → meetings (os ++ o ∷ []) ≡ meetings os ++ all_name_meetings (address o.interface) (ordered_names o)
+meetings-append [] o = append-nil (all_name_meetings (address o.interface) (ordered_names o))
+meetings-append (q ∷ os) o =
+    let here = all_name_meetings (address q.interface) (ordered_names q) in
+    ap (λ ms. here ++ ms) (meetings-append os o) ∙ sym (append_assoc here (meetings os) (all_name_meetings (address o.interface) (ordered_names o)))
 
--- the ordered definitions are definitions of the scope
-pub ordered_among : (s : Address) (ds : List Definition) (order : List ℕ) → IsOrder (rows_of ds) order → (d : Decl) → IsAmong (decls_of s (in_order ds order)) d → IsAmong (decls_of s ds) d
-ordered_among s ds order least d h =
-    let e = map_at (decl_of s) (in_order ds order) h.0 d h.1 in
-    let p = in_order_at ds order h.0 e.0 least e.1 in
-    (p.0, decl_read s ds p.0 e.0 p.2 ∙ ap Some e.2)
-  where
-    decl_read : (s : Address) (ds : List Definition) (i : ℕ) (d : Definition) → slice_get ds i ≡ Some d → slice_get (decls_of s ds) i ≡ Some (decl_of s d)
-    decl_read s [] i d at = absurd (let f : ⊥ = cc in f)
-    decl_read s (x ∷ ds) zero d at = (let same : x ≡ d = cc in ap (λ (y : Definition). Some (decl_of s y)) same)
-    decl_read s (x ∷ ds) (suc i) d at = decl_read s ds i d at
+-- the names in turn are names of the scope
+pub turned_among : (o : TypeOwner) (s : Address) (xs : List ScopeName) (order : List ℕ) → IsOrder (rows_of xs) order → (d : Decl) → IsAmong (decls_of o s (in_turn xs order)) d → IsAmong (decls_of o s xs) d
+turned_among o s xs order least d h =
+    let x = map_at (decl_of o s) (in_turn xs order) h.0 d h.1 in
+    let p = in_turn_among xs order least h.0 x.0 x.1 in
+    (p.0, slice_get-map (decl_of o s) xs p.0 ∙ ap (option_map (decl_of o s)) p.1 ∙ ap Some x.2)
 
--- in an order, too, no two definitions have one name
-pub ordered_distinct : (ds : List Definition) (order : List ℕ) → IsOrder (rows_of ds) order → AreDistinct ds → AreDistinct (in_order ds order)
-ordered_distinct ds order least distinct = record {
-  once = λ i j d e ati atj same. (
-      let p = in_order_at ds order i d least ati in
-      let q = in_order_at ds order j e least atj in
-      let place = distinct.once p.0 q.0 d e p.2 q.2 same in
-      index_once ds order i j p.0 q.0 least p.1 q.1 place);
-}
+address_name : (v w : Written) → address v ≡ address w → interface_name v ≡ interface_name w
+address_name v w h = cc
 
--- the definitions of the interface at a place
-pub scope_at : (files : List PackageFile) (p : ℕ) (w : Written) → slice_get (interfaces files) p ≡ Some w → scope files (InterfaceAt p) ≡ definitions w
-scope_at files p w at = ap (λ (o : Option Written). option_map_or definitions o []) at
+name_of_address : (name : List ℕ) (w : Written) → InterfaceNamed name ≡ address w → name ≡ interface_name w
+name_of_address name w h = cc
 
-interface_place : (p q : ℕ) → InterfaceAt p ≡ InterfaceAt q → p ≡ q
-interface_place p q h = cc
+module _ (files : List PackageFile) (ws : List Written) (items : AreItems files ws) (os : List Ordered) (es : List TypeDef) (is : List Interface) (d : IsDone files ws os es is) where
+  -- the interface that stands at the place of a resolved one
+  pub ordered_of : (t : ℕ) (i : Interface) (name : List ℕ) → slice_get is t ≡ Some i → i.name ≡ Some name → (o : Ordered) × (slice_get os t ≡ Some o) × (interface_name o.interface ≡ name)
+  ordered_of t i name there called =
+      let lt = slice_get_within is t i there in
+      let count = d.count in
+      let o = at_within os t (omega arith) in
+      let both : Some (interface_name o.0.interface) ≡ Some name = sym (d.says t o.0 i o.1 there).name ∙ called in
+      (o.0, o.1, cc)
+
+  -- the names of what is done stand for their places, and those of the next one are not met
+  module _ (w : Written) (next : slice_get ws (length os) ≡ Some w) where
+    earlier : (t : ℕ) (o : Ordered) → slice_get os t ≡ Some o → interface_name o.interface ≡ interface_name w → ⊥
+    earlier t o at same =
+        let place = items.unique t (length os) o.interface w (d.front t o at) next same in
+        let lt = slice_get_within os t o at in
+        omega arith
+
+    pub known : AreKnown (keys d.met) (address w) is
+    known = record {
+      names = λ t i name there called. (
+          let o = ordered_of t i name there called in
+          subst (λ (n : List ℕ). AreNames (keys d.met) (InterfaceNamed n) (env_of i.types)) o.2 (d.stand t o.0 i o.1 there));
+      others = λ t i name there called same. (
+          let o = ordered_of t i name there called in
+          earlier t o.0 o.1 (o.2 ∙ name_of_address name w same));
+    }
+
+    unmet : (j : ℕ) (name : List ℕ) → slice_get (keys d.met) j ≡ Some (Def (address w) name) → ⊥
+    unmet j name at = let it = d.before j (address w) name at in earlier it.place it.ordered it.at (address_name it.ordered.interface w it.scope)
+
+    pub anew : (xs : List ScopeName) → AreNew (keys d.met) (address w) xs
+    anew xs = record { new = λ i x at was. unmet was.0 (local_name x) was.1 }
+
+    pub nothing : AreNames (keys d.met) (address w) (env_of [])
+    nothing = record {
+      stands = λ name i h. absurd (let f : ⊥ = cc in f);
+      has = λ j name at. absurd (unmet j name at);
+    }
 
 -- one interface more
-pub done_more : (files : List PackageFile) (os : List Ordered) (es es' : List TypeDef) (is is' : List Interface) (w : Written) → slice_get (interfaces files) (length os) ≡ Some w → IsDone files os es is → (a : AddsInterface es es' is is' w) → IsDone files (os ++ record { interface = w; order = a.order } ∷ []) es' is'
-done_more files os es es' is is' w at d a =
+pub done_more : (files : List PackageFile) (ws : List Written) → AreItems files ws → (os : List Ordered) (es es' : List TypeDef) (is is' : List Interface) (w : Written) → slice_get ws (length os) ≡ Some w → IsDone files ws os es is → (a : AddsInterface es es' is is' w) → IsDone files ws (os ++ record { interface = w; order = a.order } ∷ []) es' is'
+done_more files ws items os es es' is is' w next d a =
     let n = length os in
-    let s = InterfaceAt n in
-    let ds = definitions w in
+    let s = address w in
+    let xs = scope_names w in
     let o : Ordered = record { interface = w; order = a.order } in
-    let ordered = in_order ds a.order in
+    let turned = in_turn xs a.order in
     let count = d.count in
-    let here : declarations files s ≡ decls_of s ds = ap (λ (l : List Definition). map (decl_of s) l) (scope_at files n w at) in
-    let among = λ (x : Decl) (h : IsAmong (decls_of s ordered) x). subst (λ (l : List Decl). IsAmong l x) (sym here) (ordered_among s ds a.order a.least x h) in
-    let anew : AreNew (keys d.met) s ordered = record { new = λ i x xat was. (let lt = d.before was.0 n x.name.name.now was.1 in omega arith) } in
-    let none : AreNames (keys d.met) s (env_of []) = record {
-      stands = λ name i h. absurd (let f : ⊥ = cc in f);
-      has = λ j name jat. absurd (let lt = d.before j n name jat in let f : ⊥ = omega arith in f);
-    } in
-    let defines = subst (λ (m : ℕ). Defines es es' (InterfaceAt m) [] a.added.types ordered) count a.defines in
-    let x = defines.from (declarations files) d.met among (ordered_distinct ds a.order a.least a.distinct) anew d.meeting none in
-    let ks = all_definition_meetings s ordered in
-    let all : meetings (os ++ o ∷ []) ≡ meetings os ++ ks = meetings_from-append 0 os o ∙ ap (λ (m : ℕ). meetings os ++ all_definition_meetings (InterfaceAt m) ordered) (zero-add n) in
+    let own : owner_at ws s ≡ owner.Interface (length is) = owner_of_scope files ws items n w next ∙ ap owner.Interface (sym count) in
+    let here : declarations files ws s ≡ decls_of (owner.Interface (length is)) s xs = ap (λ (l : List ScopeName). map (decl_of (owner_at ws s) s) l) (scope_of files ws items n w next) ∙ ap (λ (x : TypeOwner). decls_of x s xs) own in
+    let among = λ (x : Decl) (h : IsAmong (decls_of (owner.Interface (length is)) s turned) x). subst (λ (l : List Decl). IsAmong l x) (sym here) (turned_among (owner.Interface (length is)) s xs a.order a.least x h) in
+    let x = (a.defines s).from (declarations files ws) d.met among (in_turn_distinct xs a.order a.least a.distinct) (anew files ws items os es is d w next turned) (known files ws items os es is d w next) d.meeting (nothing files ws items os es is d w next) in
+    let ks = all_name_meetings s turned in
     let grown = meets_grown ks d.met x.now x.meets in
     let longer : length (os ++ o ∷ []) ≡ n + 1 = length-append os (o ∷ []) in
     let either : (t : ℕ) (i : Interface) → slice_get is' t ≡ Some i → (slice_get is t ≡ Some i) ⊎ ((t ≡ length is) × (i ≡ a.added)) = λ t i there. at_either is a.added t i (sym (ap (λ (l : List Interface). slice_get l t) a.last) ∙ there) in
     record {
       met = x.now;
-      meets = subst (λ (l : List Meeting). Meets [] l x.now) (sym all) (meets_append (meetings os) ks [] d.met x.now d.meets x.meets);
+      meets = subst (λ (l : List Meeting). Meets [] l x.now) (sym (meetings-append os o)) (meets_append (meetings os) ks [] d.met x.now d.meets x.meets);
       meeting = x.meeting;
       count = ap length a.last ∙ length-append is (a.added ∷ []) ∙ ap (λ m. m + 1) count ∙ sym longer;
+      front = λ t p pat. elim (at_either os o t p pat) [
+        | inl old ↦ d.front t p old
+        | inr new ↦ rw (new.1, new.0) next
+      ];
       least = λ t p pat. elim (at_either os o t p pat) [
         | inl old ↦ d.least t p old
         | inr new ↦ rw new.1 a.least
@@ -142,38 +153,49 @@ done_more files os es es' is is' w at d a =
           | inr newi ↦ rw (newp.1, newi.1) x.listed
         ]
       ];
-      stand = λ t i there. elim (either t i there) [
-        | inl old ↦ record {
-          stands = λ name id found. key_grown grown id (Def (InterfaceAt t) name) ((d.stand t i old).stands name id found);
-          has = λ j name jat. elim (meets_from ks d.met x.now x.meets j (Def (InterfaceAt t) name) jat) [
-            | inl was ↦ (d.stand t i old).has was.0 name was.1
-            | inr new ↦ absurd (
-                let same = interface_place t n (name_met_in s ordered (InterfaceAt t) name new).0 in
-                let lt = slice_get_within is t i old in
-                let f : ⊥ = omega arith in
-                f)
-          ];
-        }
-        | inr new ↦ subst (λ (m : ℕ). AreNames (keys x.now) (InterfaceAt m) (env_of i.types)) (sym (new.0 ∙ count)) (subst (λ (v : Interface). AreNames (keys x.now) s (env_of v.types)) (sym new.1) x.stand)
+      stand = λ t p i pat there. elim (at_either os o t p pat) [
+        | inl oldp ↦ elim (either t i there) [
+          | inl oldi ↦ record {
+            stands = λ name id found. key_grown grown id (Def (address p.interface) name) ((d.stand t p i oldp oldi).stands name id found);
+            has = λ j name jat. elim (meets_from ks d.met x.now x.meets j (Def (address p.interface) name) jat) [
+              | inl was ↦ (d.stand t p i oldp oldi).has was.0 name was.1
+              | inr new ↦ absurd (
+                  let same = address_name p.interface w (name_met_in s turned (address p.interface) name new).0 in
+                  let place = items.unique t n p.interface w (d.front t p oldp) next same in
+                  let lt = slice_get_within os t p oldp in
+                  let f : ⊥ = omega arith in
+                  f)
+            ];
+          }
+          | inr newi ↦ absurd (let lt = slice_get_within os t p oldp in let same = newi.0 in let f : ⊥ = omega arith in f)
+        ]
+        | inr newp ↦ elim (either t i there) [
+          | inl oldi ↦ absurd (let lt = slice_get_within is t i oldi in let same = newp.0 in let f : ⊥ = omega arith in f)
+          | inr newi ↦ rw (newp.1, newi.1) x.stand
+        ]
       ];
-      before = λ j t name jat. elim (meets_from ks d.met x.now x.meets j (Def (InterfaceAt t) name) jat) [
-        | inl was ↦ (let lt = d.before was.0 t name was.1 in omega arith)
-        | inr new ↦ (let same = interface_place t n (name_met_in s ordered (InterfaceAt t) name new).0 in omega arith)
+      before = λ j t name jat. elim (meets_from ks d.met x.now x.meets j (Def t name) jat) [
+        | inl was ↦ (
+            let it = d.before was.0 t name was.1 in
+            record { place = it.place; ordered = it.ordered; at = at_front os (o ∷ []) it.place it.ordered it.at; scope = it.scope; index = it.index; x = it.x; among = it.among; called = it.called })
+        | inr new ↦ (
+            let it = name_met_in s turned t name new in
+            record { place = n; ordered = o; at = at_seam os o; scope = sym it.0; index = it.1.0; x = it.1.1; among = it.1.2; called = it.1.3 })
       ];
     }
 
 -- all that is left
-pub done_all : (files : List PackageFile) (os : List Ordered) (es new : List TypeDef) (is is' : List Interface) (ws : List Written) → ((k : ℕ) (w : Written) → slice_get ws k ≡ Some w → slice_get (interfaces files) (length os + k) ≡ Some w) → IsDone files os es is → AddsAll es new is is' ws → (all : List Ordered) × (map (λ (o : Ordered). o.interface) all ≡ map (λ (o : Ordered). o.interface) os ++ ws) × IsDone files all new is'
-done_all files os es new is is' [] there d a = (os, sym (append-nil (map (λ (o : Ordered). o.interface) os)), subst (λ (x : List TypeDef). IsDone files os x is') (sym a.0) (subst (λ (x : List Interface). IsDone files os es x) (sym a.1) d))
-done_all files os es new is is' (w ∷ ws) there d a =
+pub done_all : (files : List PackageFile) (ws : List Written) → AreItems files ws → (os : List Ordered) (es new : List TypeDef) (is is' : List Interface) (vs : List Written) → ((k : ℕ) (w : Written) → slice_get vs k ≡ Some w → slice_get ws (length os + k) ≡ Some w) → IsDone files ws os es is → AddsAll es new is is' vs → (all : List Ordered) × (map interface_of all ≡ map interface_of os ++ vs) × IsDone files ws all new is'
+done_all files ws items os es new is is' [] there d a = (os, sym (append-nil (map interface_of os)), subst (λ (x : List TypeDef). IsDone files ws os x is') (sym a.0) (subst (λ (x : List Interface). IsDone files ws os es x) (sym a.1) d))
+done_all files ws items os es new is is' (w ∷ vs) there d a =
     let o : Ordered = record { interface = w; order = a.2.order } in
-    let at : slice_get (interfaces files) (length os) ≡ Some w = subst (λ (m : ℕ). slice_get (interfaces files) m ≡ Some w) (add-zero (length os)) (there 0 w refl) in
-    let d' = done_more files os es a.0 is a.1 w at d a.2 in
+    let at : slice_get ws (length os) ≡ Some w = subst (λ (m : ℕ). slice_get ws m ≡ Some w) (add-zero (length os)) (there 0 w refl) in
+    let d' = done_more files ws items os es a.0 is a.1 w at d a.2 in
     let longer : length (os ++ o ∷ []) ≡ length os + 1 = length-append os (o ∷ []) in
-    let rest = λ (k : ℕ) (v : Written) (h : slice_get ws k ≡ Some v). subst (λ (m : ℕ). slice_get (interfaces files) m ≡ Some v) (let same : length os + suc k ≡ length (os ++ o ∷ []) + k = omega arith in same) (there (suc k) v h) in
-    let it = done_all files (os ++ o ∷ []) a.0 new a.1 is' ws rest d' a.3 in
-    (it.0, it.1 ∙ ap (λ (l : List Written). l ++ ws) (map-append (λ (o : Ordered). o.interface) os (o ∷ [])) ∙ append_assoc (map (λ (o : Ordered). o.interface) os) (w ∷ []) ws, it.2)
+    let rest = λ (k : ℕ) (v : Written) (h : slice_get vs k ≡ Some v). subst (λ (m : ℕ). slice_get ws m ≡ Some v) (let same : length os + suc k ≡ length (os ++ o ∷ []) + k = omega arith in same) (there (suc k) v h) in
+    let it = done_all files ws items (os ++ o ∷ []) a.0 new a.1 is' vs rest d' a.3 in
+    (it.0, it.1 ∙ ap (λ (l : List Written). l ++ vs) (map-append interface_of os (o ∷ [])) ∙ append_assoc (map interface_of os) (w ∷ []) vs, it.2)
 
--- all interfaces of files
-pub done_files : (files : List PackageFile) (es : List TypeDef) (is : List Interface) → AddsAll [] es [] is (interfaces files) → (os : List Ordered) × (map (λ (o : Ordered). o.interface) os ≡ interfaces files) × IsDone files os es is
-done_files files es is a = done_all files [] [] es [] is (interfaces files) (λ k w h. subst (λ (m : ℕ). slice_get (interfaces files) m ≡ Some w) (sym (zero-add k)) h) (done_none files) a
+-- the first interfaces, from nothing
+pub done_front : (files : List PackageFile) (ws : List Written) → AreItems files ws → (es : List TypeDef) (is : List Interface) (vs : List Written) → ((k : ℕ) (w : Written) → slice_get vs k ≡ Some w → slice_get ws k ≡ Some w) → AddsAll [] es [] is vs → (os : List Ordered) × (map interface_of os ≡ vs) × IsDone files ws os es is
+done_front files ws items es is vs there a = done_all files ws items [] [] es [] is vs (λ k w h. subst (λ (m : ℕ). slice_get ws m ≡ Some w) (sym (zero-add k)) (there k w h)) (done_none files ws) a

@@ -50,3 +50,7 @@ some_place (Some i) h = (i, refl)
 pub no_place : (o : Option ℕ) → is_some o ≡ false → o ≡ None
 no_place None h = refl
 no_place (Some i) h = absurd (let f : ⊥ = cc in f)
+
+pub none_if : (o : Option ℕ) → ((i : ℕ) → o ≡ Some i → ⊥) → o ≡ None
+none_if None h = refl
+none_if (Some i) h = absurd (h i refl)

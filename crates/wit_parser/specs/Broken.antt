@@ -1,5 +1,5 @@
 -- The rules, and what it is that breaks each.
-use Rattle.std.specs.Prelude.{◌≡◌, ℕ, ◌<◌, ◌⊎◌, List, [], ◌∷◌, map, Option, Some, None, Contains, slice_get}
+use Rattle.std.specs.Prelude.{◌≡◌, ℕ, ◌<◌, ◌⊎◌, List, [], ◌∷◌, ◌++◌, map, Option, Some, None, Contains, slice_get}
 use Rattle.std.specs.Char.{to_ascii_lowercase}
 use Rattle.std.specs.Option.{option_map}
 use Rattle.semver.specs.Identifiers.{parts_of}
@@ -11,13 +11,15 @@ use Rattle.wit_tree.specs.declared.tree.Field.{Field}
 use Rattle.wit_tree.specs.declared.tree.TypeBody.{TypeBody}
 use Rattle.wit_tree.specs.declared.tree.TypeBody.TheVariants.{Record, Plain}
 use Rattle.wit_tree.specs.declared.tree.TypeDef.{TypeDef}
+use Rattle.wit_tree.specs.declared.tree.UsePath.{UsePath}
+use Rattle.wit_tree.specs.declared.tree.UseName.{UseName}
 use Rattle.wit_tree.specs.declared.tree.Interface.{Interface}
 use Rattle.wit_tree.specs.declared.tree.PackageName.{PackageName as Header}
 use Rattle.wit_tree.specs.declared.tree.PackageFile.{PackageFile}
-use Rattle.wit_order.specs.Table.{IsEdge, IsMissing, IsCyclic, IsOrder}
+use Rattle.wit_order.specs.Table.{Row, IsEdge, IsMissing, IsCyclic, IsOrder}
 use Rattle.wit_parser.specs.Fault.{Fault, fault_of}
-use Rattle.wit_parser.specs.Source.{interfaces, definitions}
-use Rattle.wit_parser.specs.Scope.{rows_of}
+use Rattle.wit_parser.specs.Source.{interfaces, interface_name, interface_named, ScopeName, Used, Defined, local_id, local_name, scope_names, path_id, meaning}
+use Rattle.wit_parser.specs.Scope.{item_rows, rows_of, used, defined, in_turn}
 
 -- a fault about no name
 abbrev pub fault : ℕ → Span → Fault
@@ -30,10 +32,6 @@ fault_at number id = record { rule = number; span = id.span; name = Some id.name
 -- the key by which labels are told apart: the label in lower case
 abbrev pub folded : List ℕ → List ℕ
 folded name = map to_ascii_lowercase name
-
--- the key of a definition's name
-abbrev pub folded_name : TypeDef → List ℕ
-folded_name d = folded d.name.name.now
 
 -- an earlier item of a list has the key of a later one
 pub record IsRepeated {X : Type 0} (key : X → List ℕ) (xs : List X) (later : X) : Type 0 where
@@ -53,7 +51,7 @@ pub record IsHeaderless (files : List PackageFile) (f : Fault) : Type 0 where
 -- an earlier one of these interfaces has the name
 pub record IsRepeatedItem (is : List Interface) (f : Fault) : Type 0 where
   pub later : Interface
-  pub repeated : IsRepeated (λ i. i.name.name.now) is later
+  pub repeated : IsRepeated interface_name is later
   pub says : f ≡ fault 5 later.name.span
 
 -- an earlier interface of the package has the name
@@ -88,47 +86,67 @@ pub record IsMismatch (previous current : Option Header) (f : Fault) : Type 0 wh
 abbrev pub IsOtherPackage : List PackageFile → PackageFile → Fault → Type 0
 IsOtherPackage files file f = IsMismatch (last_header files) file.package_id f
 
--- an earlier definition of the scope has the name
-pub record IsDefinedTwice (ds : List TypeDef) (f : Fault) : Type 0 where
-  pub later : TypeDef
-  pub repeated : IsRepeated (λ d. d.name.name.now) ds later
-  pub is : f ≡ fault 14 later.name.span
-
--- a name written in a definition's body is not defined in the scope
-pub record IsMissingType (ds : List TypeDef) (f : Fault) : Type 0 where
+-- an edge of a table leads to no row
+pub record IsMissingEdge (number : ℕ) (rs : List Row) (f : Fault) : Type 0 where
   pub place : ℕ
   pub index : ℕ
   pub id : Id
-  pub edge : IsEdge (rows_of ds) place index id
-  pub missing : IsMissing (rows_of ds) place id
-  pub is : f ≡ fault_at 15 id
+  pub edge : IsEdge rs place index id
+  pub missing : IsMissing rs place id
+  pub is : f ≡ fault_at number id
 
--- a name written in a definition's body is an edge, both of whose ends reach a cycle
-pub record IsCyclicType (ds : List TypeDef) (f : Fault) : Type 0 where
+-- both ends of an edge of a table reach a cycle
+pub record IsCyclicEdge (number : ℕ) (rs : List Row) (f : Fault) : Type 0 where
   pub place : ℕ
   pub index : ℕ
   pub id : Id
-  pub edge : IsEdge (rows_of ds) place index id
-  pub cyclic : IsCyclic (rows_of ds) place id
-  pub is : f ≡ fault_at 16 id
+  pub edge : IsEdge rs place index id
+  pub cyclic : IsCyclic rs place id
+  pub is : f ≡ fault_at number id
 
--- in the order in which they are resolved, an earlier definition has the name once case is folded
-pub record IsFoldedTwice (ds : List TypeDef) (f : Fault) : Type 0 where
+-- an interface uses from a name that no interface has
+abbrev pub IsMissingItem : List PackageFile → Fault → Type 0
+IsMissingItem files f = IsMissingEdge 7 (item_rows files) f
+
+-- interfaces use one another in a cycle
+abbrev pub IsCyclicItem : List PackageFile → Fault → Type 0
+IsCyclicItem files f = IsCyclicEdge 8 (item_rows files) f
+
+-- a used name is none of the interface that it comes from
+pub record IsMissingName (files : List PackageFile) (xs : List ScopeName) (f : Fault) : Type 0 where
+  pub from : UsePath
+  pub n : UseName
+  pub among : Contains xs (Used from n)
+  pub target : Interface
+  pub declared : interface_named (interfaces files) (path_id from).name.now ≡ Some target
+  pub missing : meaning (scope_names target) n.name.name.now ≡ None
+  pub is : f ≡ fault_at 12 n.name
+
+-- an earlier name of the scope is the same, where the used ones come before the definitions
+pub record IsDefinedTwice (xs : List ScopeName) (f : Fault) : Type 0 where
+  pub later : ScopeName
+  pub repeated : IsRepeated local_name (used xs ++ defined xs) later
+  pub is : f ≡ fault 14 (local_id later).span
+
+-- a name written in a definition's body is none of the scope
+abbrev pub IsMissingType : List ScopeName → Fault → Type 0
+IsMissingType xs f = IsMissingEdge 15 (rows_of xs) f
+
+-- definitions name one another in a cycle
+abbrev pub IsCyclicType : List ScopeName → Fault → Type 0
+IsCyclicType xs f = IsCyclicEdge 16 (rows_of xs) f
+
+-- the key of a name of a scope
+abbrev pub folded_name : ScopeName → List ℕ
+folded_name x = folded (local_name x)
+
+-- in the order in which they are resolved, an earlier name is the same once case is folded
+pub record IsFoldedTwice (xs : List ScopeName) (f : Fault) : Type 0 where
   pub order : List ℕ
-  pub least : IsOrder (rows_of ds) order
-  pub first : ℕ
-  pub second : ℕ
-  pub one : ℕ
-  pub other : ℕ
-  pub earlier : TypeDef
-  pub later : TypeDef
-  pub before : first < second
-  pub at_first : slice_get order first ≡ Some one
-  pub at_second : slice_get order second ≡ Some other
-  pub is_earlier : slice_get ds one ≡ Some earlier
-  pub is_later : slice_get ds other ≡ Some later
-  pub same : folded_name earlier ≡ folded_name later
-  pub is : f ≡ fault 17 later.name.span
+  pub least : IsOrder (rows_of xs) order
+  pub later : ScopeName
+  pub repeated : IsRepeated folded_name (in_turn xs order) later
+  pub is : f ≡ fault 17 (local_id later).span
 
 -- a record has no field
 pub record IsEmptyRecord (fields : List Field) (span : Span) (f : Fault) : Type 0 where
@@ -151,19 +169,22 @@ abbrev pub IsBrokenBody : TypeBody → Fault → Type 0
 IsBrokenBody (Record span fields) f = IsBrokenRecord fields.items span f
 IsBrokenBody (Plain t) f = ⊥
 
--- what is wrong with a scope
-pub data IsBrokenScope (ds : List TypeDef) (f : Fault) : Type 0 where
-  DefinedTwice : IsDefinedTwice ds f → IsBrokenScope ds f
-  MissingType : IsMissingType ds f → IsBrokenScope ds f
-  CyclicType : IsCyclicType ds f → IsBrokenScope ds f
-  Body : (d : TypeDef) → Contains ds d → IsBrokenBody d.body f → IsBrokenScope ds f
-  FoldedTwice : IsFoldedTwice ds f → IsBrokenScope ds f
+-- what is wrong with a scope by itself
+pub data IsBrokenScope (xs : List ScopeName) (f : Fault) : Type 0 where
+  DefinedTwice : IsDefinedTwice xs f → IsBrokenScope xs f
+  MissingType : IsMissingType xs f → IsBrokenScope xs f
+  CyclicType : IsCyclicType xs f → IsBrokenScope xs f
+  Body : (d : TypeDef) → Contains xs (Defined d) → IsBrokenBody d.body f → IsBrokenScope xs f
+  FoldedTwice : IsFoldedTwice xs f → IsBrokenScope xs f
 
 -- what is wrong with files
 pub data IsBroken (files : List PackageFile) (f : Fault) : Type 0 where
   Headerless : IsHeaderless files f → IsBroken files f
   DuplicateItem : IsDuplicateItem files f → IsBroken files f
-  Scope : (i : Interface) → Contains (interfaces files) i → IsBrokenScope (definitions i) f → IsBroken files f
+  MissingItem : IsMissingItem files f → IsBroken files f
+  CyclicItem : IsCyclicItem files f → IsBroken files f
+  MissingName : (i : Interface) → Contains (interfaces files) i → IsMissingName files (scope_names i) f → IsBroken files f
+  Scope : (i : Interface) → Contains (interfaces files) i → IsBrokenScope (scope_names i) f → IsBroken files f
 
 -- no rule is broken
 abbrev pub IsLegal : List PackageFile → Type 0

@@ -8,7 +8,7 @@ use Rattle.wit_tree.specs.declared.tree.TypeBody.TheVariants.{Record, Plain}
 use Rattle.wit_parser.specs.Form.{Form, ListForm}
 use Rattle.wit_parser.specs.Node.{Primitive}
 use Rattle.wit_parser.specs.Node as node
-use Rattle.wit_parser.specs.Source.{Address}
+use Rattle.wit_parser.specs.Source.{Address, InterfaceNamed, ScopeName, Used, Defined, path_id}
 
 -- a primitive, a name of a scope, or a form over parts
 mutual
@@ -59,3 +59,8 @@ plain_exprs s t = one (expr_of s t)
 abbrev pub body_exprs : Address → TypeBody → Exprs
 body_exprs s (Record span fields) = field_exprs s fields.items
 body_exprs s (Plain t) = plain_exprs s t
+
+-- the parts of a name of a scope: a used name has one, its original
+abbrev pub name_exprs : Address → ScopeName → Exprs
+name_exprs s (Used from n) = one (Use (InterfaceNamed (path_id from).name.now) n.name.name.now)
+name_exprs s (Defined d) = body_exprs s d.body

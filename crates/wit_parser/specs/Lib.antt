@@ -11,3 +11,5 @@ pub mod Whole
 pub mod Resolving
 pub mod Repeats
 pub mod Headers
+pub mod Held
+pub mod Resolved

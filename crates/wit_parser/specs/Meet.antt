@@ -6,7 +6,6 @@ use Rattle.wit_tree.specs.declared.tree.«Type».TheVariants.{List'}
 use Rattle.wit_tree.specs.declared.tree.Field.{Field}
 use Rattle.wit_tree.specs.declared.tree.TypeBody.{TypeBody}
 use Rattle.wit_tree.specs.declared.tree.TypeBody.TheVariants.{Record, Plain}
-use Rattle.wit_tree.specs.declared.tree.TypeDef.{TypeDef as Definition}
 use Rattle.wit_model.specs.declared.stability.Stability.TheVariants.{Unknown}
 use Rattle.wit_model.specs.declared.types.«Type».{«Type» as Ty}
 use Rattle.wit_model.specs.declared.types.«Type».TheVariants as type
@@ -16,10 +15,10 @@ use Rattle.wit_model.specs.declared.types.TypeOwner.TheVariants as owner
 use Rattle.wit_parser.specs.Form.{Form, ListForm, kind_of}
 use Rattle.wit_parser.specs.Node.{Primitive}
 use Rattle.wit_parser.specs.Node as node
-use Rattle.wit_parser.specs.Source.{Address, InterfaceAt, no_docs, body_form}
-use Rattle.wit_parser.specs.Expr.{Expr, Prim, Use, Of, Exprs, End, More, one, expr_of, body_exprs}
+use Rattle.wit_parser.specs.Source.{Address, no_docs, ScopeName, Used, Defined, local_name, name_form, name_span}
+use Rattle.wit_parser.specs.Expr.{Expr, Prim, Use, Of, Exprs, End, More, one, expr_of, name_exprs}
 
--- what is met: a definition of a scope, or an unnamed type
+-- what is met: a name of a scope, or an unnamed type
 pub data Key : Type 0 where
   Def : (scope : Address) (name : List ℕ) → Key
   Whole : (form : Form) (parts : Exprs) → Key
@@ -54,13 +53,18 @@ abbrev pub body_meetings : Address → TypeBody → List Meeting
 body_meetings s (Record span fields) = field_meetings s fields.items
 body_meetings s (Plain t) = plain_meetings s t
 
--- what is met in a definition: its parts, and then itself
-abbrev pub definition_meetings : Address → Definition → List Meeting
-definition_meetings s d = body_meetings s d.body ++ record { key = Def s d.name.name.now; span = d.name.span } ∷ []
+-- what is met in the parts of a name of a scope; the original of a used name was met before
+abbrev pub parts_meetings : Address → ScopeName → List Meeting
+parts_meetings s (Used from n) = []
+parts_meetings s (Defined d) = body_meetings s d.body
 
-abbrev pub all_definition_meetings : Address → List Definition → List Meeting
-all_definition_meetings s [] = []
-all_definition_meetings s (d ∷ ds) = definition_meetings s d ++ all_definition_meetings s ds
+-- what is met in a name of a scope: its parts, and then itself
+abbrev pub name_meetings : Address → ScopeName → List Meeting
+name_meetings s x = parts_meetings s x ++ record { key = Def s (local_name x); span = name_span x } ∷ []
+
+abbrev pub all_name_meetings : Address → List ScopeName → List Meeting
+all_name_meetings s [] = []
+all_name_meetings s (x ∷ xs) = name_meetings s x ++ all_name_meetings s xs
 
 abbrev pub IsMet : List Key → Key → Type 0
 IsMet ks k = (i : ℕ) × (slice_get ks i ≡ Some k)
@@ -98,15 +102,16 @@ AreAt ks (More e es) (t ∷ ts) = IsAt ks e t × AreAt ks es ts
 AreAt ks End (t ∷ ts) = ⊥
 AreAt ks (More e es) [] = ⊥
 
--- a declaration of a scope: its name and where it stands, its form and its parts
+-- a declaration of a scope: its name and where it stands, whose it is, its form and its parts
 pub record Decl : Type 0 where
   pub name : List ℕ
   pub span : Span
+  pub owner : TypeOwner
   pub form : Form
   pub parts : Exprs
 
-abbrev pub decl_of : Address → Definition → Decl
-decl_of s d = record { name = d.name.name.now; span = d.name.span; form = body_form d.body; parts = body_exprs s d.body }
+abbrev pub decl_of : TypeOwner → Address → ScopeName → Decl
+decl_of o s x = record { name = local_name x; span = name_span x; owner = o; form = name_form x; parts = name_exprs s x }
 
 abbrev pub IsAmong : List Decl → Decl → Type 0
 IsAmong ds d = (k : ℕ) × (slice_get ds k ≡ Some d)
@@ -115,24 +120,20 @@ IsAmong ds d = (k : ℕ) × (slice_get ds k ≡ Some d)
 abbrev pub Decls : Type 0
 Decls = Address → List Decl
 
--- the owner that the arena knows a scope by
-abbrev pub owner_at : Address → TypeOwner
-owner_at (InterfaceAt p) = owner.Interface p
-
 -- there is nothing about it but what it is, whose it is and where
 pub record IsBare (e : TypeDef) : Type 0 where
   pub docs : e.docs ≡ no_docs
   pub stability : e.stability ≡ Unknown
   pub external_id : e.external_id ≡ None
 
--- the entry of a definition, over the places of parts that were met before
+-- the entry of a name of a scope, over the places of parts that were met before
 pub record IsNamedEntry (decls : Decls) (ks : List Key) (s : Address) (called : List ℕ) (e : TypeDef) : Type 0 where
   pub decl : Decl
   pub among : IsAmong (decls s) decl
   pub same : decl.name ≡ called
   pub name : e.name ≡ Some called
   pub span : e.span ≡ decl.span
-  pub owner : e.owner ≡ owner_at s
+  pub owner : e.owner ≡ decl.owner
   pub form : (kind_of e.kind).form ≡ decl.form
   pub parts : AreAt ks decl.parts (kind_of e.kind).parts
   pub bare : IsBare e

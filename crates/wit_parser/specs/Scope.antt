@@ -1,4 +1,4 @@
--- The names of a scope and what each needs, as a table whose order is that of its definitions.
+-- What each name of a scope needs, and each item, as tables whose orders are those in which they are resolved.
 use Rattle.std.specs.Prelude.{ℕ, List, [], ◌∷◌, ◌++◌, Option, Some, None, map, slice_get}
 use Rattle.wit_tree.specs.declared.tree.Id.{Id}
 use Rattle.wit_tree.specs.declared.tree.«Type».{«Type» as Written}
@@ -6,10 +6,14 @@ use Rattle.wit_tree.specs.declared.tree.«Type».TheVariants.{Name, List'}
 use Rattle.wit_tree.specs.declared.tree.Field.{Field}
 use Rattle.wit_tree.specs.declared.tree.TypeBody.{TypeBody}
 use Rattle.wit_tree.specs.declared.tree.TypeBody.TheVariants.{Record, Plain}
-use Rattle.wit_tree.specs.declared.tree.TypeDef.{TypeDef}
-use Rattle.wit_tree.specs.declared.error.ParseErrorKind.{ParseErrorKind}
-use Rattle.wit_tree.specs.declared.error.ParseErrorKind.TheVariants.{ItemNotFound, TypeCycle, Syntax, OutOfMemory}
+use Rattle.std.specs.List.{flat_map}
+use Rattle.std.specs.Option.{option_map_or}
+use Rattle.wit_tree.specs.declared.tree.InterfaceItem.{InterfaceItem}
+use Rattle.wit_tree.specs.declared.tree.InterfaceItem.TheVariants.{TypeDef as TypeItem, Use as UseItem}
+use Rattle.wit_tree.specs.declared.tree.Interface.{Interface}
+use Rattle.wit_tree.specs.declared.tree.PackageFile.{PackageFile}
 use Rattle.wit_order.specs.Table.{Row}
+use Rattle.wit_parser.specs.Source.{ScopeName, Used, Defined, local_name, path_id, interface_id, interface_name, interface_named, file_interfaces}
 
 -- the names written in a type, in written order
 abbrev pub type_names : Written → List Id
@@ -26,26 +30,67 @@ abbrev pub body_names : TypeBody → List Id
 body_names (Record span fields) = field_names fields.items
 body_names (Plain t) = type_names t
 
-abbrev pub row_of : TypeDef → Row
-row_of d = record { name = d.name.name.now; needs = body_names d.body }
+-- the names that a name of a scope needs: a used name needs none of its own scope
+abbrev pub needed_ids : ScopeName → List Id
+needed_ids (Used from n) = []
+needed_ids (Defined d) = body_names d.body
 
--- the table of a scope: each definition with the names in its body
-abbrev pub rows_of : List TypeDef → List Row
-rows_of ds = map row_of ds
+abbrev pub row_of : ScopeName → Row
+row_of x = record { name = local_name x; needs = needed_ids x }
 
--- the definition at a place, as a list
-abbrev pub at_place : Option TypeDef → List TypeDef
+-- the table of a scope: each of its names with the names in its body
+abbrev pub rows_of : List ScopeName → List Row
+rows_of xs = map row_of xs
+
+-- what stands at a place, as a list
+abbrev pub at_place : {X : Type 0} → Option X → List X
 at_place None = []
-at_place (Some d) = d ∷ []
+at_place (Some x) = x ∷ []
 
--- definitions in an order of their places
-abbrev pub in_order : List TypeDef → List ℕ → List TypeDef
-in_order ds [] = []
-in_order ds (k ∷ ks) = at_place (slice_get ds k) ++ in_order ds ks
+-- a list in an order of its places
+abbrev pub in_order : {X : Type 0} → List X → List ℕ → List X
+in_order xs [] = []
+in_order xs (k ∷ ks) = at_place (slice_get xs k) ++ in_order xs ks
 
--- the number under which a refusal of the order of definitions goes
-abbrev pub scope_rule : ParseErrorKind → ℕ
-scope_rule (ItemNotFound span name kind hint) = 15
-scope_rule (TypeCycle span name kind) = 16
-scope_rule (Syntax span message) = 45
-scope_rule OutOfMemory = 45
+abbrev pub used_one : ScopeName → List ScopeName
+used_one (Used from n) = Used from n ∷ []
+used_one (Defined d) = []
+
+abbrev pub defined_one : ScopeName → List ScopeName
+defined_one (Used from n) = []
+defined_one (Defined d) = Defined d ∷ []
+
+-- those that are used
+abbrev pub used : List ScopeName → List ScopeName
+used xs = flat_map used_one xs
+
+-- those that are defined
+abbrev pub defined : List ScopeName → List ScopeName
+defined xs = flat_map defined_one xs
+
+-- the names of a scope as they are resolved: the used ones, and then the definitions in an order of the table
+abbrev pub in_turn : List ScopeName → List ℕ → List ScopeName
+in_turn xs order = used xs ++ defined (in_order xs order)
+
+-- the paths of an item's uses
+abbrev pub item_paths : InterfaceItem → List Id
+item_paths (TypeItem d) = []
+item_paths (UseItem u) = path_id u.from ∷ []
+
+abbrev pub paths : Interface → List Id
+paths i = flat_map item_paths i.items.items
+
+-- a path as an edge between items: where its own file declares that name, the edge stands at the declaration
+abbrev pub item_edge : List Interface → Id → Id
+item_edge is path = option_map_or interface_id (interface_named is path.name.now) path
+
+-- an item with what it uses; `is` are the items of its file
+abbrev pub item_row : List Interface → Interface → Row
+item_row is i = record { name = interface_name i; needs = map (item_edge is) (paths i) }
+
+abbrev pub file_rows : PackageFile → List Row
+file_rows f = map (item_row (file_interfaces f)) (file_interfaces f)
+
+-- the table of the items of all files: each with the items that it uses
+abbrev pub item_rows : List PackageFile → List Row
+item_rows files = flat_map file_rows files

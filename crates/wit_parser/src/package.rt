@@ -12,7 +12,7 @@ pub struct UnresolvedPackage {
     /// The name that the headers give.
     pub name: PackageName,
     pub worlds: Arena<World, WorldPlace>,
-    /// The interfaces: declared ones in push order, and then in source order.
+    /// The interfaces: each behind those that it uses, and else in push order and source order.
     pub interfaces: Arena<Interface, InterfacePlace>,
     /// The types: each behind those that it refers to.
     pub types: Arena<TypeDef, TypePlace>,

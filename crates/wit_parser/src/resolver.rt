@@ -6,14 +6,16 @@ ghost use Rattle.wit_parser.specs.Headers.{header_behind};
 ghost use Rattle.wit_parser.specs.Whole.{IsPackage, IsFaithful};
 
 use crate::header::{is_same, last_header, mismatch, package_name};
-use crate::interface::resolve_files;
-use crate::items::check_items;
+use crate::interface::resolve_interfaces;
+use crate::items::{declared_interfaces, item_order};
 use crate::package::UnresolvedPackage;
 use crate::refusal::refuse;
+use crate::uses::Interfaces;
 use std::alloc::Global;
 use wit_model::Arena;
 use wit_tree::tree::{self, PackageFile};
 use wit_tree::{ParseResult, Span};
+use wit_values::TextTable;
 
 /// The words for files without a header.
 const NO_HEADER: &str = "no `package` header was found in any WIT file for this package";
@@ -75,9 +77,10 @@ impl<'a> Resolver<'a> {
 
     /// The package that the files make.
     ///
-    /// Each interface has its types in the least order in which each comes after those that it
-    /// names; the arena of types has what is met in them, each once, in the order of its first
-    /// meeting. What the files hold in which order beyond that changes nothing.
+    /// The interfaces stand in the least order in which each comes after those that it uses. Each
+    /// has the names that it uses and then its definitions, in the least order in which each comes
+    /// after those that it names; the arena of types has what is met in them, each once, in the
+    /// order of its first meeting. What the files hold in which order beyond that changes nothing.
     ///
     /// # Errors
     ///
@@ -85,8 +88,12 @@ impl<'a> Resolver<'a> {
     ///
     /// - 4: no file names the package.
     /// - 5: an interface is declared twice.
-    /// - 14, 17: a name is defined twice in an interface, to the letter or once case is folded.
-    /// - 15, 16: a name in a definition is not defined in its interface; it depends on itself.
+    /// - 7, 8: an interface uses from a name that no interface has; interfaces use one another in
+    ///   a cycle.
+    /// - 12: a used name is none of the interface that it comes from.
+    /// - 14, 17: a name stands twice in an interface, to the letter or once case is folded.
+    /// - 15, 16: a name in a definition is none of its interface; definitions name one another in
+    ///   a cycle.
     /// - 19, 25: a record has no field, or two of one name once case is folded.
     /// - 45: a growth was refused.
     pub fn resolve(self, alloc: Global) -> ParseResult<UnresolvedPackage>
@@ -99,14 +106,18 @@ impl<'a> Resolver<'a> {
             Some(header) => header,
             None => return Err(refuse(alloc, 4, Span::default(), NO_HEADER)),
         };
-        check_items(alloc, &self.files)?;
+        let declared = declared_interfaces(alloc, &self.files)?;
+        let places = item_order(alloc, &declared)?;
         let mut types = Arena::new(alloc);
-        let mut interfaces = Arena::new(alloc);
-        resolve_files(alloc, &mut types, &mut interfaces, &self.files)?;
+        let mut interfaces = Interfaces {
+            arena: Arena::new(alloc),
+            by_name: TextTable::new(alloc),
+        };
+        resolve_interfaces(alloc, &mut types, &mut interfaces, &declared, &places)?;
         Ok(UnresolvedPackage {
             name: package_name(alloc, header)?,
             worlds: Arena::new(alloc),
-            interfaces,
+            interfaces: interfaces.arena,
             types,
             name_span: header.span,
         })

@@ -1,41 +1,18 @@
-//! The definitions of a scope, and the order in which they are resolved.
-ghost use Rattle.std.specs.Prelude.{◌≡◌, ◌++◌, ◌<◌, map, length, slice_get, Some, IfOk, IfErr, OnOk};
+//! The order in which the definitions of a scope are resolved.
+ghost use Rattle.std.specs.Prelude.{◌≡◌, ◌++◌, map, IfOk, IfErr, OnOk};
 ghost use Rattle.wit_order.specs.Table.{rows, IsOrder};
-ghost use Rattle.wit_order.specs.Refused.{IsRefused};
-ghost use Rattle.wit_tree.specs.Refusal.{IsWantOfMemory};
-ghost use Rattle.wit_parser.specs.Source.{item_definition};
-ghost use Rattle.wit_parser.specs.Scope.{type_names, field_names, body_names, in_order, rows_of, scope_rule};
-ghost use Rattle.wit_parser.specs.Broken.{IsDefinedTwice, IsBrokenScope, Refused};
+ghost use Rattle.wit_parser.specs.Scope.{type_names, field_names, body_names, needed_ids as the_needed, rows_of};
+ghost use Rattle.wit_parser.specs.Broken.{IsBrokenScope, Refused};
+ghost use Rattle.wit_parser.specs.Held.{name_behind};
 ghost use Rattle.wit_parser.specs.Resolving.{AreDistinct};
 
-use crate::refusal::refuse;
+use crate::order::numbered_type;
+use crate::scope_name::{ScopeName, local_id};
 use indexmap::IndexMap;
 use std::alloc::{AllocError, Global};
 use wit_order::order_places;
-use wit_tree::tree::{Field, Id, InterfaceItem, Type, TypeBody, TypeDef};
-use wit_tree::{OUT_OF_MEMORY, ParseError, ParseErrorKind, ParseResult};
-
-/// The definition that an item is.
-pub(crate) fn definition_of<'t, 'a>(item: &'t InterfaceItem<'a>) -> &'t TypeDef<'a>
-    ensures { result.now ≡ item_definition item.now }
-{
-    match item {
-        InterfaceItem::TypeDef(definition) => definition,
-    }
-}
-
-/// The definition at the place that stands at an index of their order.
-pub(crate) fn definition_at<'t, 'a>(
-    items: &'t [InterfaceItem<'a>],
-    places: &[usize],
-    index: usize,
-) -> &'t TypeDef<'a>
-    requires order { IsOrder (rows_of (map item_definition items.now)) places.now }
-    requires within { index < length places.now }
-    ensures { slice_get (in_order (map item_definition items.now) places.now) index ≡ Some result.now }
-{
-    definition_of(&items[places[index]])
-}
+use wit_tree::ParseResult;
+use wit_tree::tree::{Field, Id, Type, TypeBody};
 
 /// Adds the names written in a type.
 fn add_names<'a>(names: &mut Vec<Id<'a>>, ty: &Type<'a>) -> Result<(), AllocError>
@@ -71,56 +48,41 @@ fn add_field_names<'a>(names: &mut Vec<Id<'a>>, fields: &[Field<'a>]) -> Result<
     Ok(())
 }
 
-/// The words for a name that is defined twice.
-fn defined_twice(alloc: Global, name: &str) -> Result<String, AllocError> {
-    format!(in alloc; "name `{name}` is defined more than once")
-}
-
-/// Each definition's name with the names in its body; refuses a second definition of a name.
-fn dependencies<'a>(
-    alloc: Global,
-    items: &[InterfaceItem<'a>],
-) -> ParseResult<IndexMap<&'a str, Vec<Id<'a>>>>
-    ensures rows { IfOk result (λ deps. rows deps ≡ rows_of (map item_definition items.now)) }
-    ensures distinct { OnOk result (AreDistinct (map item_definition items.now)) }
-    ensures refused { IfErr result (Refused (IsDefinedTwice (map item_definition items.now))) }
+/// The names that a name of a scope needs: those in its body, where it is a definition.
+fn needed_ids<'a>(alloc: Global, name: &ScopeName<'_, 'a>) -> Result<Vec<Id<'a>>, AllocError>
+    ensures { IfOk result (λ ids. ids.items ≡ the_needed (name_behind name.now)) }
 {
-    let mut deps = IndexMap::new(alloc);
-    for place in 0..items.len() {
-        let definition = definition_of(&items[place]);
-        let name = definition.name.name;
-        if deps.get_index_of(name).is_some() {
-            let message = defined_twice(alloc, name)?;
-            return Err(refuse(alloc, 14, definition.name.span, message.as_str()));
-        }
-        let names = names_in(alloc, &definition.body)?;
-        deps.insert(name, names)?;
+    match name {
+        ScopeName::Used { .. } => Ok(Vec::new(alloc)),
+        ScopeName::Defined(definition) => names_in(alloc, &definition.body),
     }
-    Ok(deps)
 }
 
-/// A refusal of the order under the number that it has for the definitions of a scope.
-fn numbered(e: ParseError) -> ParseError
-    ensures kind { result.kind ≡ e.kind }
-    ensures rule { result.rule ≡ scope_rule e.kind }
+/// Each name of a scope with those that it needs, in source order.
+fn scope_table<'a>(
+    alloc: Global,
+    names: &[ScopeName<'_, 'a>],
+) -> Result<IndexMap<&'a str, Vec<Id<'a>>>, AllocError>
+    requires distinct { AreDistinct (map name_behind names.now) }
+    ensures rows { IfOk result (λ table. rows table ≡ rows_of (map name_behind names.now)) }
 {
-    let rule = match e.kind() {
-        ParseErrorKind::ItemNotFound { .. } => 15,
-        ParseErrorKind::TypeCycle { .. } => 16,
-        ParseErrorKind::Syntax { .. } | ParseErrorKind::OutOfMemory => OUT_OF_MEMORY,
-    };
-    e.with_rule(rule)
+    let mut table = IndexMap::new(alloc);
+    for name in names {
+        let needed = needed_ids(alloc, name)?;
+        table.insert(local_id(name).name, needed)?;
+    }
+    Ok(table)
 }
 
-/// The places of the definitions, in the order in which they are resolved.
-pub(crate) fn scope_order(alloc: Global, items: &[InterfaceItem<'_>]) -> ParseResult<Vec<usize>>
-    ensures order { IfOk result (λ places. IsOrder (rows_of (map item_definition items.now)) places.items) }
-    ensures distinct { OnOk result (AreDistinct (map item_definition items.now)) }
-    ensures refused { IfErr result (Refused (IsBrokenScope (map item_definition items.now))) }
+/// The places of the names of a scope, in the order in which the definitions are resolved.
+pub(crate) fn scope_order(alloc: Global, names: &[ScopeName<'_, '_>]) -> ParseResult<Vec<usize>>
+    requires distinct { AreDistinct (map name_behind names.now) }
+    ensures order { IfOk result (λ places. IsOrder (rows_of (map name_behind names.now)) places.items) }
+    ensures refused { IfErr result (Refused (IsBrokenScope (map name_behind names.now))) }
 {
-    let deps = dependencies(alloc, items)?;
-    match order_places(alloc, "type", &deps) {
+    let table = scope_table(alloc, names)?;
+    match order_places(alloc, "type", &table) {
         Ok(places) => Ok(places),
-        Err(e) => Err(numbered(e)),
+        Err(e) => Err(numbered_type(alloc, e)),
     }
 }

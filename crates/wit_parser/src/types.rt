@@ -1,7 +1,7 @@
 //! Written types, as types of the arena.
 ghost use Rattle.std.specs.Prelude.{◌≡◌, ◌⊎◌, [], ◌∷◌, map, IfOk, IfErr, OnOk};
 ghost use Rattle.wit_parser.specs.Form.{RecordForm, kind_of, field_member};
-ghost use Rattle.wit_parser.specs.Source.{InterfaceAt, plain_form, body_form, written_member};
+ghost use Rattle.wit_parser.specs.Source.{Address, plain_form, body_form, written_member};
 ghost use Rattle.wit_parser.specs.Expr.{one, expr_of, field_exprs, plain_exprs, body_exprs};
 ghost use Rattle.wit_parser.specs.Meet.{type_meetings, field_meetings, plain_meetings, body_meetings};
 ghost use Rattle.wit_parser.specs.Scope.{type_names, field_names};
@@ -11,7 +11,7 @@ ghost use Rattle.wit_parser.specs.Resolving.{env_of, AreResolved, IsUnknown, IsW
 
 use crate::intern::intern_list;
 use crate::records::check_record;
-use crate::refusal::refuse_missing;
+use crate::refusal::refuse_missing_type;
 use std::alloc::Global;
 use wit_model::{
     Arena, Docs, Field, InterfaceId, Record, Type, TypeDef, TypeDefKind, TypeId, TypePlace,
@@ -33,14 +33,14 @@ pub(crate) fn resolve_type(
     scope: &Scope,
     ty: &tree::Type<'_>,
 ) -> ParseResult<Type>
-    ensures resolved { IfOk result (λ r. AreResolved types.old types.new (InterfaceAt scope.now.id) (env_of scope.now.names)
-        (type_meetings (InterfaceAt scope.now.id) ty.now) (one (expr_of (InterfaceAt scope.now.id) ty.now)) (r ∷ [])) }
+    ensures resolved { IfOk result (λ r. (s : Address) → AreResolved types.old types.new s (env_of scope.now.names)
+        (type_meetings s ty.now) (one (expr_of s ty.now)) (r ∷ [])) }
     ensures refused { IfErr result (Refused (IsUnknown (env_of scope.now.names) (type_names ty.now))) }
 {
     match ty {
         tree::Type::Name(id) => match scope.names.get(id.name) {
             Some(found) => Ok(Type::Id(*found)),
-            None => Err(refuse_missing(alloc, 15, "type", *id)),
+            None => Err(refuse_missing_type(alloc, id.span, id.name)),
         },
         tree::Type::List(span, element) => {
             let element = resolve_type(alloc, types, scope, element)?;
@@ -71,8 +71,8 @@ fn resolve_field(
     scope: &Scope,
     field: &tree::Field<'_>,
 ) -> ParseResult<Field>
-    ensures ty { IfOk result (λ r. AreResolved types.old types.new (InterfaceAt scope.now.id) (env_of scope.now.names)
-        (type_meetings (InterfaceAt scope.now.id) field.now.ty) (one (expr_of (InterfaceAt scope.now.id) field.now.ty)) (r.ty ∷ [])) }
+    ensures ty { IfOk result (λ r. (s : Address) → AreResolved types.old types.new s (env_of scope.now.names)
+        (type_meetings s field.now.ty) (one (expr_of s field.now.ty)) (r.ty ∷ [])) }
     ensures member { IfOk result (λ r. field_member r ≡ written_member field.now) }
     ensures refused { IfErr result (Refused (IsUnknown (env_of scope.now.names) (type_names field.now.ty))) }
 {
@@ -92,8 +92,8 @@ fn resolve_fields(
     scope: &Scope,
     fields: &[tree::Field<'_>],
 ) -> ParseResult<Row<Field>>
-    ensures types { IfOk result (λ r. AreResolved types.old types.new (InterfaceAt scope.now.id) (env_of scope.now.names)
-        (field_meetings (InterfaceAt scope.now.id) fields.now) (field_exprs (InterfaceAt scope.now.id) fields.now) (map (λ f. f.ty) r)) }
+    ensures types { IfOk result (λ r. (s : Address) → AreResolved types.old types.new s (env_of scope.now.names)
+        (field_meetings s fields.now) (field_exprs s fields.now) (map (λ f. f.ty) r)) }
     ensures members { IfOk result (λ r. map field_member r ≡ map written_member fields.now) }
     ensures refused { IfErr result (Refused (IsUnknown (env_of scope.now.names) (field_names fields.now))) }
 {
@@ -112,8 +112,8 @@ fn resolve_plain(
     scope: &Scope,
     ty: &tree::Type<'_>,
 ) -> ParseResult<TypeDefKind>
-    ensures parts { IfOk result (λ r. AreResolved types.old types.new (InterfaceAt scope.now.id) (env_of scope.now.names)
-        (plain_meetings (InterfaceAt scope.now.id) ty.now) (plain_exprs (InterfaceAt scope.now.id) ty.now) (kind_of r).parts) }
+    ensures parts { IfOk result (λ r. (s : Address) → AreResolved types.old types.new s (env_of scope.now.names)
+        (plain_meetings s ty.now) (plain_exprs s ty.now) (kind_of r).parts) }
     ensures form { IfOk result (λ r. (kind_of r).form ≡ plain_form ty.now) }
     ensures refused { IfErr result (Refused (IsUnknown (env_of scope.now.names) (type_names ty.now))) }
 {
@@ -137,8 +137,8 @@ fn resolve_record(
     span: Span,
     fields: &[tree::Field<'_>],
 ) -> ParseResult<TypeDefKind>
-    ensures parts { IfOk result (λ r. AreResolved types.old types.new (InterfaceAt scope.now.id) (env_of scope.now.names)
-        (field_meetings (InterfaceAt scope.now.id) fields.now) (field_exprs (InterfaceAt scope.now.id) fields.now) (kind_of r).parts) }
+    ensures parts { IfOk result (λ r. (s : Address) → AreResolved types.old types.new s (env_of scope.now.names)
+        (field_meetings s fields.now) (field_exprs s fields.now) (kind_of r).parts) }
     ensures form { IfOk result (λ r. (kind_of r).form ≡ RecordForm (map written_member fields.now)) }
     ensures legal { OnOk result ((f : Fault) → IsBrokenRecord fields.now span f → ⊥) }
     ensures refused { IfErr result (Refused (λ f. IsBrokenRecord fields.now span f ⊎ IsUnknown (env_of scope.now.names) (field_names fields.now) f)) }
@@ -155,8 +155,8 @@ pub(crate) fn resolve_body(
     scope: &Scope,
     body: &tree::TypeBody<'_>,
 ) -> ParseResult<TypeDefKind>
-    ensures parts { IfOk result (λ r. AreResolved types.old types.new (InterfaceAt scope.now.id) (env_of scope.now.names)
-        (body_meetings (InterfaceAt scope.now.id) body.now) (body_exprs (InterfaceAt scope.now.id) body.now) (kind_of r).parts) }
+    ensures parts { IfOk result (λ r. (s : Address) → AreResolved types.old types.new s (env_of scope.now.names)
+        (body_meetings s body.now) (body_exprs s body.now) (kind_of r).parts) }
     ensures form { IfOk result (λ r. (kind_of r).form ≡ body_form body.now) }
     ensures legal { OnOk result ((f : Fault) → IsBrokenBody body.now f → ⊥) }
     ensures refused { IfErr result (Refused (IsWrongBody (env_of scope.now.names) body.now)) }

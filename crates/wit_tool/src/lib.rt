@@ -25,4 +25,6 @@ mod run_tests;
 #[cfg(test)]
 mod tests;
 #[cfg(test)]
+mod use_tests;
+#[cfg(test)]
 mod version_tests;

@@ -19,7 +19,14 @@ fn written(rt: &impl Abort, alloc: Global, text: &str) -> Result<(bool, Vec<u8>)
     }
 }
 
-fn check(rt: &impl Abort, alloc: Global, text: &str, listed: bool, line: &str) -> Result<(), Fail> {
+/// Checks what a run writes of a text, and whether that is a listing.
+pub(crate) fn check(
+    rt: &impl Abort,
+    alloc: Global,
+    text: &str,
+    listed: bool,
+    line: &str,
+) -> Result<(), Fail> {
     let (is_listed, out) = written(rt, alloc, text)?;
     assert_eq!(rt; out.as_slice(), line.as_bytes(), "at {text}");
     assert_eq!(rt; is_listed, listed, "at {text}");
@@ -190,7 +197,7 @@ fn lists_large_packages(rt: HostRuntime) -> Result<(), Fail> {
 }
 
 /// What resolving the sources of a map comes to, where each can be read and is of the package.
-fn resolved(alloc: Global, map: &SourceMap) -> ParseResult<UnresolvedPackage> {
+pub(crate) fn resolved(alloc: Global, map: &SourceMap) -> ParseResult<UnresolvedPackage> {
     let mut resolver = Resolver::new(alloc);
     for source in map.sources() {
         let file = read_file(alloc, source.contents.as_str(), source.offset)?;
@@ -199,20 +206,34 @@ fn resolved(alloc: Global, map: &SourceMap) -> ParseResult<UnresolvedPackage> {
     resolver.resolve(alloc)
 }
 
+/// Checks what is written of the package of two files, `a.wit` and `b.wit`.
+pub(crate) fn check_files(
+    rt: &impl Abort,
+    alloc: Global,
+    first: &str,
+    second: &str,
+    written: &str,
+) -> Result<(), Fail> {
+    let mut map = SourceMap::new(alloc);
+    map.push(alloc, "a.wit", first)?;
+    map.push(alloc, "b.wit", second)?;
+    let resolved = resolved(alloc, &map);
+    let mut out: Vec<u8> = Vec::new(alloc);
+    let listed = answer(alloc, &map, &resolved, &mut out);
+    assert_eq!(rt; out.as_slice(), written.as_bytes(), "at {first} {second}");
+    assert_eq!(rt; listed, Ok(resolved.is_ok()), "at {first} {second}");
+    Ok(())
+}
+
 #[test]
 fn finds_a_refusal_in_its_file(rt: HostRuntime) -> Result<(), Fail> {
-    let alloc = rt.alloc();
-    let mut map = SourceMap::new(alloc);
-    map.push(alloc, "a.wit", "package foo:foo; interface a {}")?;
-    map.push(alloc, "b.wit", "interface b { type t = nonexistent; }")?;
-    let mut out: Vec<u8> = Vec::new(alloc);
-    assert_eq!(rt;
-        answer(alloc, &map, &resolved(alloc, &map), &mut out),
-        Ok(false)
-    );
-    let line = "error E15 b.wit \"nonexistent\": type `nonexistent` does not exist\n";
-    assert_eq!(rt; out.as_slice(), line.as_bytes());
-    Ok(())
+    check_files(
+        &rt,
+        rt.alloc(),
+        "package foo:foo; interface a {}",
+        "interface b { type t = nonexistent; }",
+        "error E15 b.wit \"nonexistent\": type `nonexistent` does not exist\n",
+    )
 }
 
 #[test]

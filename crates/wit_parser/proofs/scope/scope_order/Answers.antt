@@ -1,19 +1,19 @@
+use Rattle.std.proofs.Common.{◌⊎◌, inl, inr, subst}
 use Rattle.std.specs.Prelude.{map, codes}
-use Rattle.std.proofs.lemmas.Result.{err_from_is_err_and}
-use Rattle.wit_parser.specs.Source.{item_definition}
-use Rattle.wit_parser.specs.Broken.{IsDefinedTwice, IsBrokenScope, DefinedTwice}
-use Rattle.wit_order.specs.Table.{rows}
+use Rattle.wit_order.specs.Refused.{IsRefused}
+use Rattle.wit_parser.specs.Scope.{rows_of}
+use Rattle.wit_parser.specs.Broken.{IsMissingEdge, IsCyclicEdge, IsBrokenScope, MissingType, CyclicType}
+use Rattle.wit_parser.specs.Held.{name_behind}
 use Rattle.wit_parser.proofs.Numbering.{refused_order}
 use Rattle.wit_parser.proofs.Refusing.{refused_weaker}
 use Rattle.wit_parser.proofs.scope.scope_order.Goals as goal
 
-pub returns-in_err-deps-clause-refused : goal.returns-in_err-deps-clause-refused
-returns-in_err-deps-clause-refused c =
-    let p = err_from_is_err_and c.from_residual.result c.from_residual.ensures.1 in
-    let ds = map item_definition c.args.items.now in
-    rw (p.1, p.2) (refused_weaker (IsDefinedTwice ds) (IsBrokenScope ds) _ (λ f h. DefinedTwice h) c.in_err-deps.ensures.refused)
-
 pub returns-clause-refused : goal.returns-clause-refused
 returns-clause-refused c =
-    let ds = map item_definition c.args.items.now in
-    refused_order ds (rows c.in_ok-deps.deps) (codes "type") c.in-Err.e c.numbered.result c.in_ok-deps.ensures.rows c.in-Err.ensures.err c.numbered.ensures.kind c.numbered.ensures.rule
+    let xs = map name_behind c.args.names.now in
+    let e = c.in-Err.e in
+    let refused = subst (λ rs. IsRefused rs (codes "type") e.kind) c.in_ok-table.ensures.rows c.in-Err.ensures.err in
+    refused_weaker (λ f. IsMissingEdge 15 (rows_of xs) f ⊎ IsCyclicEdge 16 (rows_of xs) f) (IsBrokenScope xs) c.numbered_type.result (λ f h. elim h [
+      | inl missing ↦ MissingType missing
+      | inr cyclic ↦ CyclicType cyclic
+    ]) (refused_order 15 16 (rows_of xs) (codes "type") e c.numbered_type.result refused c.numbered_type.ensures)

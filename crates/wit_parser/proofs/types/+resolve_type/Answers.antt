@@ -9,10 +9,10 @@ use Rattle.wit_parser.proofs.types.+resolve_type.Goals as goal
 pub returns-in-None-clause-refused : goal.returns-in-None-clause-refused
 returns-in-None-clause-refused t c =
     let free : env_of c.args.scope.now.names c.in-Name.id.name.now ≡ None = search rules in
-    elim c.refuse_missing.ensures [
+    elim c.refuse_missing_type.ensures [
       | inl memory ↦ inl memory
       | inr fault ↦ inr (rw c.in-Name.is (unknown_name (env_of c.args.scope.now.names) c.in-Name.id _ free))
     ]
 
 pub returns-in_ok-id-in-List-clause-resolved : goal.returns-in_ok-id-in-List-clause-resolved
-returns-in_ok-id-in-List-clause-resolved t c = rw (c.in-List.is, ← c.deref.ensures) (resolved_whole (List c.in_ok-element-in-List.element) c.in-List.span c.in_ok-id-in-List.id (only_list c.in_ok-element-in-List.element) c.in_ok-element-in-List.ensures.resolved c.in_ok-id-in-List.ensures.interned)
+returns-in_ok-id-in-List-clause-resolved t c = λ s. rw (c.in-List.is, ← c.deref.ensures) (resolved_whole (List c.in_ok-element-in-List.element) c.in-List.span c.in_ok-id-in-List.id (only_list c.in_ok-element-in-List.element) (c.in_ok-element-in-List.ensures.resolved s) c.in_ok-id-in-List.ensures.interned)

@@ -4,7 +4,7 @@ use Rattle.std.proofs.lemmas.List.{append-nil, map-append, take_more}
 use Rattle.std.proofs.lemmas.Option.{slice_get-get_or}
 use Rattle.std.proofs.lemmas.Result.{err_from_is_err_and}
 use Rattle.wit_parser.specs.Form.{field_member}
-use Rattle.wit_parser.specs.Source.{InterfaceAt, written_member}
+use Rattle.wit_parser.specs.Source.{Address, written_member}
 use Rattle.wit_parser.specs.Expr.{one, joined, expr_of, field_exprs}
 use Rattle.wit_parser.specs.Meet.{type_meetings, field_meetings}
 use Rattle.wit_parser.specs.Scope.{type_names, field_names}
@@ -24,16 +24,15 @@ returns-in_err-field-clause-refused c =
 
 pub loop-field-preserved : goal.loop-field-preserved
 loop-field-preserved c =
-    let s = InterfaceAt c.args.scope.now.id in
     let fs = c.args.fields.now in
     let i = c.loop-field.field-index in
     let f = c.field-item.result in
     let out = c.loop-field.resolved.items in
     let taken : take (i + 1) fs ≡ take i fs ++ f ∷ [] = take_more fs i f c.loop-field-test.true ∙ ap (λ x. take i fs ++ x ∷ []) (sym c.field-item.is) in
-    let exprs : field_exprs s (take (i + 1) fs) ≡ joined (field_exprs s (take i fs)) (one (expr_of s f.ty)) = ap (field_exprs s) taken ∙ field_exprs-append s (take i fs) (f ∷ []) in
-    let meetings : field_meetings s (take (i + 1) fs) ≡ field_meetings s (take i fs) ++ type_meetings s f.ty = ap (field_meetings s) taken ∙ field_meetings-append s (take i fs) (f ∷ []) ∙ ap (λ ms. field_meetings s (take i fs) ++ ms) (append-nil (type_meetings s f.ty)) in
+    let exprs : (s : Address) → field_exprs s (take (i + 1) fs) ≡ joined (field_exprs s (take i fs)) (one (expr_of s f.ty)) = λ s. ap (field_exprs s) taken ∙ field_exprs-append s (take i fs) (f ∷ []) in
+    let meetings : (s : Address) → field_meetings s (take (i + 1) fs) ≡ field_meetings s (take i fs) ++ type_meetings s f.ty = λ s. ap (field_meetings s) taken ∙ field_meetings-append s (take i fs) (f ∷ []) ∙ ap (λ ms. field_meetings s (take i fs) ++ ms) (append-nil (type_meetings s f.ty)) in
     let types : map (λ f. f.ty) c.push.new.self.items ≡ map (λ f. f.ty) out ++ c.in_ok-field.field.ty ∷ [] = ap (map (λ f. f.ty)) c.in_ok-push.ensures.items ∙ map-append _ out _ in
     record {
-      types = rw (exprs, meetings, types) (resolved_more c.loop-field.invariant.types c.in_ok-field.ensures.ty);
+      types = λ s. rw (exprs s, meetings s, types) (resolved_more (c.loop-field.invariant.types s) (c.in_ok-field.ensures.ty s));
       members = ap (map field_member) c.in_ok-push.ensures.items ∙ map-append field_member out _ ∙ ap (λ ms. ms ++ field_member c.in_ok-field.field ∷ []) c.loop-field.invariant.members ∙ ap (λ m. map written_member (take i fs) ++ m ∷ []) c.in_ok-field.ensures.member ∙ sym (map-append written_member (take i fs) (f ∷ [])) ∙ ap (map written_member) (sym taken);
     }
