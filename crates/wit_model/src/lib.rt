@@ -11,7 +11,6 @@ pub mod backward;
 pub mod copies;
 pub mod docs;
 pub mod equality;
-mod front;
 pub mod function;
 pub mod function_kind;
 pub mod function_name;
