@@ -5,7 +5,7 @@ use Rattle.std.proofs.lemmas.List.{take-append-drop}
 use Rattle.std.proofs.lemmas.Slice.Eq.{bytes_eq-Decides}
 use Rattle.std.specs.Cmp.Lexicographic.{pointwise}
 use Rattle.std.specs.List.{AllByRecursion, IsDistinct, list_any, starts_with}
-use Rattle.wit_model.specs.Front.{behind}
+use Rattle.wit_names.specs.Front.{behind}
 use Rattle.wit_model.specs.Setters.{HaveDistinctNames, fronts, goes_on_alike, goes_with, is_getter, is_same_text, name_in, pairs, placed, told_names}
 use Rattle.wit_model.specs.declared.function.Function.{Function}
 use Rattle.wit_model.specs.declared.function.FunctionKind.{FunctionKind}

@@ -6,7 +6,7 @@ use Rattle.std.specs.List.{IsDistinct, filter, flat_map, list_any, position_from
 use Rattle.std.specs.Option.{option_copied}
 use denote.Param.Members.{Shared}
 use denote.Ref.{Bor}
-use Rattle.wit_model.specs.Front.{behind}
+use Rattle.wit_names.specs.Front.{behind}
 use Rattle.wit_model.specs.declared.function.Function.{Function}
 use Rattle.wit_model.specs.declared.function.FunctionKind.{FunctionKind}
 use Rattle.wit_model.specs.declared.function.FunctionKind.TheVariants as kind

@@ -11,7 +11,6 @@ pub mod backward;
 pub mod copies;
 pub mod docs;
 pub mod equality;
-mod front;
 pub mod function;
 pub mod function_kind;
 pub mod function_name;
@@ -23,19 +22,13 @@ pub mod kind_word;
 pub mod laws;
 pub mod order;
 pub mod package_name;
-#[cfg(test)]
-mod package_name_tests;
 mod package_name_text;
 mod package_name_track;
 pub mod setters;
 pub mod signature;
 mod slots;
 pub mod stability;
-#[cfg(test)]
-mod tests;
 pub mod types;
-#[cfg(test)]
-mod value_tests;
 pub mod world;
 
 pub use abi::{AbiVariant, LiftLowerAbi, Mangling, ManglingAndAbi, ManglingFault};

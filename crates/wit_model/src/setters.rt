@@ -4,10 +4,10 @@ ghost use Rattle.std.specs.Option.{option_copied, option_map};
 ghost use Rattle.indexmap.specs.IndexMap.{index_map_len};
 ghost use Rattle.wit_model.specs.Setters.{HaveDistinctNames, Tells, fronts, getter_index, goes_on_alike, goes_with, is_getter, is_getter_of, is_same_text, placed};
 
-use crate::front::behind;
 use crate::function::{Function, FunctionKind};
 use indexmap::IndexMap;
 use std::hash::Hash;
+use wit_names::front::behind;
 
 fn fronts(kind: FunctionKind) -> Option<(&'static str, &'static str)>
     ensures { option_map (λ p. (p.0.now, p.1.now)) result ≡ fronts kind }

@@ -7,7 +7,7 @@ ghost use Rattle.wit_names.specs.Label.{is_label};
 use crate::label::validate_id;
 
 /// The text without the front, where it has that front.
-pub(crate) fn behind<'a>(text: &'a str, front: &str) -> Option<&'a str>
+pub fn behind<'a>(text: &'a str, front: &str) -> Option<&'a str>
     ensures { option_copied result ≡ behind front.now text.now }
 {
     text.strip_prefix(front)

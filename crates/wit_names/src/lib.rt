@@ -4,7 +4,7 @@
 #![tactic(auto)]
 
 pub mod folded;
-mod front;
+pub mod front;
 pub mod label;
 pub mod laws;
 pub mod mangled;

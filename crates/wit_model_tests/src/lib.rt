@@ -1,0 +1,35 @@
+//! Tests of `wit_model`: worked rows, and each public call with ample memory.
+#![tactic(auto)]
+
+#[cfg(test)]
+mod alike;
+#[cfg(test)]
+mod arenas;
+#[cfg(test)]
+mod calling;
+#[cfg(test)]
+mod fixtures;
+#[cfg(test)]
+mod functions;
+#[cfg(test)]
+mod kinds;
+#[cfg(test)]
+mod names;
+#[cfg(test)]
+mod orders;
+#[cfg(test)]
+mod plain;
+#[cfg(test)]
+mod same;
+#[cfg(test)]
+mod setters;
+#[cfg(test)]
+mod signatures;
+#[cfg(test)]
+mod sizes;
+#[cfg(test)]
+mod tracks;
+#[cfg(test)]
+mod values;
+#[cfg(test)]
+mod worlds;

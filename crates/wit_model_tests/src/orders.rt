@@ -1,0 +1,68 @@
+//! Orders: each value is less than the next.
+use crate::alike::{add, are_rising};
+use crate::fixtures::{package, stable, type_at, unstable, versioned};
+use std::alloc::Global;
+use std::test::Fail;
+use wit_model::order::{compare_package_names, compare_stabilities, compare_types};
+use wit_model::{PackageName, Stability, Type};
+
+#[test]
+fn primitives(rt: HostRuntime) {
+    let listed = [
+        Type::Bool,
+        Type::U8,
+        Type::U16,
+        Type::U32,
+        Type::U64,
+        Type::S8,
+        Type::S16,
+        Type::S32,
+        Type::S64,
+        Type::F32,
+        Type::F64,
+        Type::Char,
+        Type::String,
+        Type::ErrorContext,
+    ];
+    let compare = |a: &Type, b: &Type| compare_types(*a, *b);
+    assert!(rt; are_rising(listed.as_slice(), compare));
+}
+
+#[test]
+fn places(rt: HostRuntime) -> Result<(), Fail> {
+    let (first, second) = (type_at(rt.alloc(), 0)?, type_at(rt.alloc(), 1)?);
+    let listed = [Type::ErrorContext, Type::Id(first), Type::Id(second)];
+    let compare = |a: &Type, b: &Type| compare_types(*a, *b);
+    assert!(rt; are_rising(listed.as_slice(), compare));
+    Ok(())
+}
+
+fn listed_stabilities(alloc: Global) -> Result<Vec<Stability>, Fail> {
+    let mut values = Vec::new(alloc);
+    add(&mut values, Stability::Unknown)?;
+    add(&mut values, unstable(alloc)?)?;
+    add(&mut values, stable(alloc)?)?;
+    Ok(values)
+}
+
+#[test]
+fn stabilities(rt: HostRuntime) -> Result<(), Fail> {
+    let listed = listed_stabilities(rt.alloc())?;
+    assert!(rt; are_rising(listed.as_slice(), compare_stabilities));
+    Ok(())
+}
+
+fn listed_packages(alloc: Global) -> Result<Vec<PackageName>, Fail> {
+    let mut values = Vec::new(alloc);
+    add(&mut values, package(alloc, "a", "z")?)?;
+    add(&mut values, package(alloc, "b", "a")?)?;
+    add(&mut values, versioned(alloc, "b", "a", "0.1.0")?)?;
+    Ok(values)
+}
+
+#[test]
+fn packages(rt: HostRuntime) -> Result<(), Fail> {
+    let listed = listed_packages(rt.alloc())?;
+    assert!(rt; are_rising(listed.as_slice(), compare_package_names));
+    Ok(())
+}

@@ -1,0 +1,121 @@
+//! Items and keys of worlds, stabilities and docs.
+use crate::alike::add;
+use crate::fixtures::{SPAN, add_item, docs, functions, interface_at, stable, type_at};
+use std::alloc::{AllocError, Global};
+use std::test::Fail;
+use wit_model::{
+    Arena, Docs, Function, FunctionKind, Stability, Types, WorldItem, WorldKey, world_item_func,
+};
+use wit_values::Text;
+
+#[test]
+fn interface_items(rt: HostRuntime) -> Result<(), Fail> {
+    let types: Types = Arena::new(rt.alloc());
+    let found = WorldItem::Interface {
+        id: interface_at(rt.alloc(), 1)?,
+        stability: Stability::Unknown,
+        external_id: None,
+        docs: Docs::default(),
+        span: SPAN,
+    };
+    assert!(rt; found.stability(&types).is_unknown());
+    Ok(())
+}
+
+#[test]
+fn type_items(rt: HostRuntime) -> Result<(), Fail> {
+    let found = WorldItem::Type_ {
+        id: type_at(rt.alloc(), 1)?,
+        span: SPAN,
+    };
+    assert!(rt; found.span() == SPAN && world_item_func(&found).is_none());
+    Ok(())
+}
+
+// Whether all items stand at this place and are no functions.
+fn are_at(items: &[WorldItem]) -> bool {
+    for item in items {
+        if item.span() != SPAN || world_item_func(item).is_some() {
+            return false;
+        }
+    }
+    !items.is_empty()
+}
+
+#[test]
+fn items(rt: HostRuntime) -> Result<(), Fail> {
+    let mut items = Vec::new(rt.alloc());
+    add_item(rt.alloc(), &mut items)?;
+    assert!(rt; are_at(items.as_slice()));
+    Ok(())
+}
+
+fn is_function(item: &WorldItem, wanted: &Function) -> bool {
+    match world_item_func(item) {
+        Some(function) => *function == *wanted,
+        None => false,
+    }
+}
+
+// Whether the one item is the one function.
+fn are_functions(items: &[WorldItem], wanted: &[Function]) -> bool {
+    let ([item], [function]) = (items, wanted) else {
+        return false;
+    };
+    is_function(item, function)
+}
+
+fn as_items(alloc: Global, mut functions: Vec<Function>) -> Result<Vec<WorldItem>, AllocError> {
+    let mut items = Vec::new(alloc);
+    if let Some(function) = functions.pop() {
+        add(&mut items, WorldItem::Function(function))?;
+    }
+    Ok(items)
+}
+
+#[test]
+fn function_items(rt: HostRuntime) -> Result<(), Fail> {
+    let wanted = functions(rt.alloc(), "f", FunctionKind::Getter)?;
+    let items = as_items(
+        rt.alloc(),
+        functions(rt.alloc(), "f", FunctionKind::Getter)?,
+    )?;
+    assert!(rt; are_functions(items.as_slice(), wanted.as_slice()));
+    Ok(())
+}
+
+#[test]
+fn key_texts(rt: HostRuntime) -> Result<(), Fail> {
+    let interface = WorldKey::Interface(interface_at(rt.alloc(), 1)?);
+    assert!(rt; interface.to_text(rt.alloc())?.as_str() == "interface-1");
+    Ok(())
+}
+
+#[test]
+fn key_names(rt: HostRuntime) -> Result<(), Fail> {
+    let name = WorldKey::Name(Text::from_str(rt.alloc(), "[set]x")?);
+    assert!(rt; name.to_text(rt.alloc())?.as_str() == "[set]x");
+    assert!(rt; name.unwrap_name().as_str() == "[set]x");
+    Ok(())
+}
+
+fn tells(stability: &Stability, is_unknown: bool, is_stable: bool) -> bool {
+    stability.is_unknown() == is_unknown && stability.is_stable() == is_stable
+}
+
+fn are_defaults_told() -> bool {
+    tells(&Stability::default(), true, false) && Docs::default().is_empty()
+}
+
+#[test]
+fn defaults(rt: HostRuntime) -> Result<(), Fail> {
+    assert!(rt; are_defaults_told());
+    assert!(rt; tells(&stable(rt.alloc())?, false, true));
+    Ok(())
+}
+
+#[test]
+fn written_docs(rt: HostRuntime) -> Result<(), Fail> {
+    assert!(rt; !docs(rt.alloc())?.is_empty());
+    Ok(())
+}
