@@ -4,3 +4,4 @@ pub mod Reading
 pub mod Sources
 pub mod Tokens
 pub mod Versions
+pub mod Words

@@ -1,5 +1,5 @@
 -- Sources one behind the other, and the places in them.
-use Rattle.std.specs.Prelude.{◌≡◌, ℕ, ◌+◌, ◌-◌, ◌<◌, ◌≤◌, List, codes, length, slice_range, string_bytes, sum_by}
+use Rattle.std.specs.Prelude.{◌≡◌, ℕ, ◌+◌, ◌-◌, ◌<◌, ◌≤◌, List, codes, length, map, slice_range, string_bytes, sum_by}
 use Rattle.std.specs.Str.{IsCharBoundary}
 use Rattle.wit_tree.specs.declared.span.Span.{Span}
 use Rattle.wit_tree.specs.declared.error.ParseError.{ParseError}
@@ -13,15 +13,25 @@ pub record IsSource (path text : List ℕ) (place : ℕ) (s : Source) : Type 0 w
   pub contents : string_bytes s.contents ≡ text
   pub offset : s.offset ≡ place
 
+-- what a source is: its path, its text and its place
+abbrev pub told_of : Source → List ℕ × List ℕ × ℕ
+told_of s = (string_bytes s.path, string_bytes s.contents, s.offset)
+
+abbrev pub told : List Source → List (List ℕ × List ℕ × ℕ)
+told sources = map told_of sources
+
 -- the places that sources take: as many as they have bytes, and one more for each
 abbrev pub space : List Source → ℕ
 space sources = sum_by (λ s. length (string_bytes s.contents) + 1) sources
 
--- the source's path, and the slice of its text at the span
+-- the source's path, and the slice of its text at the span, both of whose ends lie in it on character borders
 pub record IsLocated (s : Source) (span : Span) (path slice : List ℕ) : Type 0 where
   pub path_bytes : path ≡ string_bytes s.path
   pub first : s.offset ≤ span.start
   pub order : span.start ≤ span.end
+  pub within : span.end ≤ s.offset + length (string_bytes s.contents)
+  pub low : IsCharBoundary (string_bytes s.contents) (span.start - s.offset)
+  pub high : IsCharBoundary (string_bytes s.contents) (span.end - s.offset)
   pub part : slice ≡ slice_range (string_bytes s.contents) (span.start - s.offset) (span.end - s.offset)
   pub whole : length slice + span.start ≡ span.end
 

@@ -4,6 +4,7 @@ ghost use Rattle.std.specs.List.{flat_map};
 ghost use Rattle.wit_tree.specs.Marks.{field_marks, definition_marks, item_marks};
 
 use crate::fault::ReadFault;
+use crate::kind::Kind;
 use crate::reader::Reader;
 use crate::types::MOST_NESTED;
 use crate::word::Word;
@@ -18,7 +19,7 @@ impl<'a> Reader<'a> {
         ensures refused { IfErr result (λ e. IsRefused self.old e) }
     {
         let name = self.read_id()?;
-        self.expect_mark(b':')?;
+        self.expect(Kind::Colon)?;
         let ty = self.read_type(MOST_NESTED)?;
         Ok(Field { name, ty })
     }
@@ -28,13 +29,13 @@ impl<'a> Reader<'a> {
         ensures read { IfOk result (λ fs. IsRead self.old (flat_map field_marks fs.items) self.new) }
         ensures refused { IfErr result (λ e. IsRefused self.old e) }
     {
-        self.expect_mark(b'{')?;
+        self.expect(Kind::OpenBrace)?;
         let mut fields = Vec::new(self.alloc);
-        'fields: while self.token.mark != b'}' {
+        'fields: while !self.at(Kind::CloseBrace) {
             let field = self.read_field()?;
             fields.push(field)?;
-            if self.token.mark != b',' {
-                self.expect_mark(b'}')?;
+            if !self.at(Kind::Comma) {
+                self.expect(Kind::CloseBrace)?;
                 return Ok(fields);
             }
             self.bump()?;
@@ -50,9 +51,9 @@ impl<'a> Reader<'a> {
     {
         self.expect_word(Word::Type)?;
         let name = self.read_id()?;
-        self.expect_mark(b'=')?;
+        self.expect(Kind::Equals)?;
         let ty = self.read_type(MOST_NESTED)?;
-        self.expect_mark(b';')?;
+        self.expect(Kind::Semicolon)?;
         Ok(TypeDef {
             name,
             body: TypeBody::Plain(ty),
@@ -80,9 +81,9 @@ impl<'a> Reader<'a> {
         ensures read { IfOk result (λ d. IsRead self.old (definition_marks d) self.new) }
         ensures refused { IfErr result (λ e. IsRefused self.old e) }
     {
-        match self.word() {
-            Some(Word::Type) => self.read_alias(),
-            Some(Word::Record) => self.read_record(),
+        match self.token.kind {
+            Kind::Word(Word::Type) => self.read_alias(),
+            Kind::Word(Word::Record) => self.read_record(),
             _ => Err(self.refuse(ReadFault::Token)),
         }
     }
@@ -92,7 +93,7 @@ impl<'a> Reader<'a> {
         ensures read { IfOk result (λ item. IsRead self.old (item_marks item) self.new) }
         ensures refused { IfErr result (λ e. IsRefused self.old e) }
     {
-        if self.word() == Some(Word::Use) {
+        if self.at_word(Word::Use) {
             let names = self.read_use()?;
             return Ok(InterfaceItem::Use(names));
         }
@@ -105,9 +106,9 @@ impl<'a> Reader<'a> {
         ensures read { IfOk result (λ items. IsRead self.old (flat_map item_marks items.items) self.new) }
         ensures refused { IfErr result (λ e. IsRefused self.old e) }
     {
-        self.expect_mark(b'{')?;
+        self.expect(Kind::OpenBrace)?;
         let mut items = Vec::new(self.alloc);
-        'items: while self.token.mark != b'}' {
+        'items: while !self.at(Kind::CloseBrace) {
             let item = self.read_item()?;
             items.push(item)?;
         }

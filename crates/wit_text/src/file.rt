@@ -6,6 +6,7 @@ ghost use Rattle.wit_tree.specs.Slices.{Rise};
 ghost use Rattle.wit_text.specs.Faults.{IsRefusal};
 ghost use Rattle.wit_text.specs.Headers.{IsWhole, found_marks};
 
+use crate::kind::Kind;
 use crate::reader::Reader;
 use crate::token::next_token;
 use crate::word::Word;
@@ -55,7 +56,7 @@ impl<'a> Reader<'a> {
         ensures read { IfOk result (λ found. IsReadOn self.old (found_marks found) self.new) }
         ensures refused { IfErr result (λ e. IsRefused self.old e) }
     {
-        if self.token.mark != b'@' {
+        if !self.at(Kind::At) {
             return Ok(None);
         }
         self.bump()?;
@@ -70,10 +71,10 @@ impl<'a> Reader<'a> {
     {
         self.expect_word(Word::Package)?;
         let namespace = self.read_id()?;
-        self.expect_mark(b':')?;
+        self.expect(Kind::Colon)?;
         let name = self.read_id()?;
         let found = self.read_at_version()?;
-        self.expect_mark(b';')?;
+        self.expect(Kind::Semicolon)?;
         Ok(header(namespace, name, found))
     }
 
@@ -82,7 +83,7 @@ impl<'a> Reader<'a> {
         ensures read { IfOk result (λ p. IsReadOn self.old (package_marks p) self.new) }
         ensures refused { IfErr result (λ e. IsRefused self.old e) }
     {
-        if self.word() != Some(Word::Package) {
+        if !self.at_word(Word::Package) {
             return Ok(None);
         }
         let header = self.read_header()?;
@@ -95,7 +96,7 @@ impl<'a> Reader<'a> {
         ensures refused { IfErr result (λ e. IsRefused self.old e) }
     {
         let mut items = Vec::new(self.alloc);
-        'items: while self.token.mark != 0 {
+        'items: while !self.at(Kind::End) {
             let interface = self.read_interface()?;
             items.push(AstItem::Interface(interface))?;
         }

@@ -5,6 +5,7 @@ mod blank;
 mod definition;
 mod fault;
 mod file;
+mod kind;
 mod reader;
 mod scan;
 mod source;
@@ -19,7 +20,7 @@ mod word;
 pub use fault::ReadFault;
 pub use file::read_file;
 pub use source::Source;
-pub use source_map::SourceMap;
+pub use source_map::{SourceMap, is_same_map};
 
 #[cfg(test)]
 mod tests;

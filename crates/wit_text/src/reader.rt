@@ -1,12 +1,14 @@
 //! A reader goes through the tokens of a source, one after the other.
-ghost use Rattle.std.specs.Prelude.{◌≡◌, ◌+◌, ◌<◌, ◌≤◌, ◌^◌, [], ◌∷◌, length, IfOk, OnOk, IfErr};
-ghost use Rattle.wit_tree.specs.Marks.{named};
+ghost use Rattle.std.specs.Prelude.{◌≡◌, ◌+◌, ◌<◌, ◌≤◌, ◌^◌, [], ◌∷◌, length, IfOk, OnOk, IfErr, IsTrue};
+ghost use Rattle.wit_tree.specs.Marks.{named, spelled};
 ghost use Rattle.wit_text.specs.Tokens.{IsToken};
+ghost use Rattle.wit_text.specs.Words.{word_text};
 
 use crate::fault::{ReadFault, refusal, span_at};
-use crate::scan::{is_letter, without_escape};
+use crate::kind::Kind;
+use crate::scan::without_escape;
 use crate::token::{Token, next_token};
-use crate::word::{Word, word_of};
+use crate::word::Word;
 use std::alloc::Global;
 use wit_tree::tree::Id;
 use wit_tree::{ParseError, ParseResult, Span};
@@ -47,12 +49,18 @@ impl<'a> Reader<'a> {
         )
     }
 
-    /// What the token means to the grammar where it is a run of letters, digits and `-`.
-    pub fn word(&self) -> Option<Word> {
-        if is_letter(self.token.mark) {
-            Some(word_of(self.token.text))
-        } else {
-            None
+    /// Whether the token is of this kind.
+    pub fn at(&self, kind: Kind) -> bool {
+        self.token.kind == kind
+    }
+
+    /// Whether the token is this word of the grammar.
+    pub fn at_word(&self, word: Word) -> bool
+        ensures { IsTrue result → self.now.token.text.now ≡ word_text word }
+    {
+        match self.token.kind {
+            Kind::Word(found) => found == word,
+            _ => false,
         }
     }
 
@@ -61,33 +69,44 @@ impl<'a> Reader<'a> {
         ensures read { OnOk result (IsRead self.old [] self.new) }
         ensures refused { IfErr result (λ e. IsRefused self.old e) }
     {
-        if self.token.mark == 0 {
+        if self.token.start == self.token.end {
             return Err(self.refuse(ReadFault::Token));
         }
         self.token = next_token(self.alloc, self.source, self.offset, self.token.end)?;
         Ok(())
     }
 
-    /// Goes past a token that begins with a given byte.
-    pub fn expect_mark(&mut self, mark: u8) -> ParseResult<()>
+    /// Goes past a token of this kind.
+    pub fn expect(&mut self, kind: Kind) -> ParseResult<()>
         ensures read { OnOk result (IsRead self.old [] self.new) }
         ensures refused { IfErr result (λ e. IsRefused self.old e) }
     {
-        if self.token.mark != mark {
+        if !self.at(kind) {
             return Err(self.refuse(ReadFault::Token));
         }
         self.bump()
     }
 
-    /// Goes past a word.
+    /// Goes past a word of the grammar.
     pub fn expect_word(&mut self, word: Word) -> ParseResult<()>
+        ensures word { OnOk result (self.old.token.text.now ≡ word_text word) }
         ensures read { OnOk result (IsRead self.old [] self.new) }
         ensures refused { IfErr result (λ e. IsRefused self.old e) }
     {
-        if self.word() != Some(word) {
+        if !self.at_word(word) {
             return Err(self.refuse(ReadFault::Token));
         }
         self.bump()
+    }
+
+    /// Goes past a word of the grammar, and tells where it stands.
+    pub fn read_word(&mut self, word: Word) -> ParseResult<Span>
+        ensures read { IfOk result (λ span. IsRead self.old (spelled span (word_text word) ∷ []) self.new) }
+        ensures refused { IfErr result (λ e. IsRefused self.old e) }
+    {
+        let span = self.span();
+        self.expect_word(word)?;
+        Ok(span)
     }
 
     /// Reads a name.
@@ -95,7 +114,7 @@ impl<'a> Reader<'a> {
         ensures read { IfOk result (λ id. IsRead self.old (named id ∷ []) self.new) }
         ensures refused { IfErr result (λ e. IsRefused self.old e) }
     {
-        if self.token.mark != b'%' && self.word() != Some(Word::Name) {
+        if !self.at(Kind::Name) {
             return Err(self.refuse(ReadFault::Token));
         }
         match Id::new(without_escape(self.token.text), self.span()) {

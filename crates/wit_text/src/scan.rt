@@ -1,4 +1,4 @@
-//! Where the tokens of a text begin and end.
+//! Letters, digits and the runs of them.
 ghost use Rattle.std.specs.Prelude.{◌≡◌, ◌+◌, ◌-◌, ◌<◌, ◌≤◌, true, length, slice_index, slice_range};
 ghost use Rattle.wit_tree.specs.Slices.{unescaped};
 
@@ -25,31 +25,8 @@ pub fn is_word_byte(c: u8) -> bool
     is_letter(c) || is_digit(c) || c == b'-'
 }
 
-/// A character that is a token by itself.
-fn is_sign(c: u8) -> bool
-    ensures ascii { result ≡ true → c < 128 }
-    ensures some { result ≡ true → 0 < c }
-{
-    matches!(
-        c,
-        b'=' | b','
-            | b':'
-            | b';'
-            | b'('
-            | b')'
-            | b'{'
-            | b'}'
-            | b'<'
-            | b'>'
-            | b'.'
-            | b'/'
-            | b'@'
-            | b'_'
-    )
-}
-
 /// The end of the run of letters, digits and `-` from a place on.
-fn word_end(bytes: &[u8], from: usize) -> usize
+pub fn word_end(bytes: &[u8], from: usize) -> usize
     requires { from ≤ length bytes.now }
     ensures after { from ≤ result }
     ensures within { result ≤ length bytes.now }
@@ -82,37 +59,6 @@ pub fn digits_end(bytes: &[u8], from: usize) -> usize
         at += 1;
     }
     at
-}
-
-/// The end of the token at a place, or that place where no token begins.
-pub fn token_end(bytes: &[u8], start: usize) -> usize
-    requires { start < length bytes.now }
-    ensures after { start ≤ result }
-    ensures within { result ≤ length bytes.now }
-    ensures first { start < result → slice_index bytes.now start < 128 }
-    ensures last { start < result → slice_index bytes.now (result - 1) < 128 }
-{
-    let mark = bytes[start];
-    if is_letter(mark) {
-        return word_end(bytes, start);
-    }
-    if is_sign(mark) {
-        return start + 1;
-    }
-    if is_digit(mark) {
-        return digits_end(bytes, start);
-    }
-    if bytes.len() - start < 2 {
-        return start;
-    }
-    let next = bytes[start + 1];
-    if mark == b'-' && next == b'>' {
-        return start + 2;
-    }
-    if mark == b'%' && is_letter(next) {
-        return word_end(bytes, start + 1);
-    }
-    start
 }
 
 /// How many bytes the character has whose first one is `c`.

@@ -1,10 +1,11 @@
 //! A source.
 ghost use Rattle.std.specs.Prelude.{◌≡◌, ◌+◌, ◌<◌, ◌^◌, length, string_bytes, IfSome, IfNone};
 
+use std::alloc::AllocError;
 use wit_tree::Span;
 
 /// A text, where it comes from, and its place among the sources.
-#[derive(Debug, Drop)]
+#[derive(Debug, PartialEq, Eq, Drop)]
 pub struct Source {
     /// Where the text comes from, as refusals name it.
     pub path: String,
@@ -29,7 +30,24 @@ impl Source {
         }
         let from = (span.start - self.offset) as usize;
         let to = (span.end - self.offset) as usize;
-        let part = self.contents.as_str().get(from..to)?;
-        Some((self.path.as_str(), part))
+        let text = self.contents.as_str();
+        if !text.is_char_boundary(from) || !text.is_char_boundary(to) {
+            return None;
+        }
+        Some((self.path.as_str(), &text[from..to]))
+    }
+}
+
+impl Clone for Source {
+    ghost use Rattle.wit_text.specs.Sources.{told_of};
+
+    ghost is_clone = { λ s copy. told_of copy ≡ told_of s };
+
+    fn clone(&self) -> Result<Source, AllocError> {
+        Ok(Source {
+            path: self.path.clone()?,
+            contents: self.contents.clone()?,
+            offset: self.offset,
+        })
     }
 }

@@ -1,16 +1,16 @@
 //! The sources of a package, one behind the other.
-ghost use Rattle.std.specs.Prelude.{◌≡◌, ◌+◌, ◌<◌, ◌≤◌, ◌++◌, ◌∷◌, [], ℕ, length, slice_get, OnOk, OnErr, IfErr, IfSome, IfNone, Some};
-ghost use Rattle.wit_text.specs.Sources.{IsLocated, IsTooLarge, LiesIn, space};
+ghost use Rattle.std.specs.Prelude.{◌≡◌, ◌+◌, ◌<◌, ◌≤◌, ◌++◌, ◌∷◌, [], ℕ, length, slice_get, OnOk, OnErr, IfErr, IfSome, IfNone, Some, IsTrue, ◌↔◌};
+ghost use Rattle.wit_text.specs.Sources.{IsLocated, IsTooLarge, LiesIn, space, told};
 
 use crate::source::Source;
-use std::alloc::Global;
+use std::alloc::{AllocError, Global};
 use wit_tree::{ParseError, ParseErrorKind, ParseResult, Span};
 
 /// Sources, each with a range of places of its own.
 ///
 /// The first begins at 0, and each other one place behind the end of the one before, so that the
 /// end of a source is no place of the next.
-#[derive(Debug, Drop)]
+#[derive(Debug, PartialEq, Eq, Drop)]
 pub struct SourceMap {
     sources: Vec<Source>,
     end: u32,
@@ -73,6 +73,17 @@ impl SourceMap {
     }
 }
 
+impl Clone for SourceMap {
+    ghost is_clone = { λ map copy. told copy.sources.items ≡ told map.sources.items };
+
+    fn clone(&self) -> Result<SourceMap, AllocError> {
+        Ok(SourceMap {
+            sources: self.sources.clone()?,
+            end: self.end,
+        })
+    }
+}
+
 fn locate_in(sources: &[Source], span: Span) -> Option<(&str, &str)>
     ensures found { IfSome result (λ found. (i : ℕ) × (s : _) × (slice_get sources.now i ≡ Some s) × IsLocated s span found.0.now found.1.now) }
     ensures none { IfNone result ((i : ℕ) (s : _) → slice_get sources.now i ≡ Some s → LiesIn s span → ⊥) }
@@ -83,6 +94,13 @@ fn locate_in(sources: &[Source], span: Span) -> Option<(&str, &str)>
         }
     }
     None
+}
+
+/// Whether two maps have the same sources: path, text and place of each, by `==`.
+pub fn is_same_map(a: &SourceMap, b: &SourceMap) -> bool
+    ensures { IsTrue result ↔ (told a.now.sources.items ≡ told b.now.sources.items) }
+{
+    a == b
 }
 
 /// The refusal of sources that are too large.

@@ -1,12 +1,14 @@
 //! Reading types.
-ghost use Rattle.std.specs.Prelude.{◌≡◌, ◌+◌, [], ◌∷◌, codes, IfOk, IfErr, OnOk, IfSome};
+ghost use Rattle.std.specs.Prelude.{◌≡◌, ◌+◌, [], ◌∷◌, IfOk, IfErr, IfSome};
 ghost use Rattle.wit_tree.specs.Marks.{spelled, type_marks};
+ghost use Rattle.wit_tree.specs.declared.span.Span.{Span};
 
 use crate::fault::ReadFault;
+use crate::kind::Kind;
 use crate::reader::Reader;
 use crate::word::{Word, primitive};
 use wit_tree::tree::Type;
-use wit_tree::{ParseError, ParseResult, Span};
+use wit_tree::{ParseError, ParseResult};
 
 /// How many levels of types are read.
 pub const MOST_NESTED: u8 = 100;
@@ -18,12 +20,26 @@ impl<'a> Reader<'a> {
     fn refuse_deeper(&self) -> ParseError
         ensures { IsRefused self.now result }
     {
-        let begins_type = self.token.mark == b'%'
-            || matches!(self.word(), Some(Word::Name | Word::List | Word::Primitive));
+        let begins_type = match self.token.kind {
+            Kind::Name => true,
+            Kind::Word(word) => word == Word::List || primitive(word, self.span()).is_some(),
+            _ => false,
+        };
         if begins_type {
             self.refuse(ReadFault::Nesting)
         } else {
             self.refuse(ReadFault::Token)
+        }
+    }
+
+    /// The primitive type that the token is.
+    fn primitive(&self) -> Option<Type<'a>>
+        ensures { IfSome result (λ t. (span : Span) × (type_marks t ≡ spelled span self.now.token.text.now ∷ [])
+            × (span.start ≡ self.now.offset + self.now.token.start) × (span.end ≡ self.now.offset + self.now.token.end)) }
+    {
+        match self.token.kind {
+            Kind::Word(word) => primitive(word, self.span()),
+            _ => None,
         }
     }
 
@@ -32,7 +48,7 @@ impl<'a> Reader<'a> {
         ensures read { IfOk result (λ t. IsRead self.old (type_marks t) self.new) }
         ensures refused { IfErr result (λ e. IsRefused self.old e) }
     {
-        match primitive(self.token.text, self.span()) {
+        match self.primitive() {
             Some(ty) => {
                 self.bump()?;
                 Ok(ty)
@@ -50,9 +66,9 @@ impl<'a> Reader<'a> {
         if left == 0 {
             return Err(self.refuse_deeper());
         }
-        match self.word() {
-            Some(Word::Primitive) => self.read_primitive(),
-            Some(Word::List) => self.read_list(left - 1),
+        match self.token.kind {
+            Kind::Word(Word::List) => self.read_list(left - 1),
+            Kind::Word(_) => self.read_primitive(),
             _ => {
                 let id = self.read_id()?;
                 Ok(Type::Name(id))
@@ -60,28 +76,15 @@ impl<'a> Reader<'a> {
         }
     }
 
-    /// Reads the word `list`.
-    fn read_list_word(&mut self) -> ParseResult<Span>
-        ensures read { IfOk result (λ span. IsRead self.old (spelled span (codes "list") ∷ []) self.new) }
-        ensures refused { IfErr result (λ e. IsRefused self.old e) }
-    {
-        let span = self.span();
-        if self.token.text != "list" {
-            return Err(self.refuse(ReadFault::Token));
-        }
-        self.bump()?;
-        Ok(span)
-    }
-
     #[cycle(types)]
     fn read_list(&mut self, left: u8) -> ParseResult<Type<'a>>
         ensures read { IfOk result (λ t. IsRead self.old (type_marks t) self.new) }
         ensures refused { IfErr result (λ e. IsRefused self.old e) }
     {
-        let span = self.read_list_word()?;
-        self.expect_mark(b'<')?;
+        let span = self.read_word(Word::List)?;
+        self.expect(Kind::OpenAngle)?;
         let part = self.read_type(left)?;
-        self.expect_mark(b'>')?;
+        self.expect(Kind::CloseAngle)?;
         Ok(Type::List(span, Box::new(self.alloc, part)?))
     }
 }

@@ -3,6 +3,7 @@ ghost use Rattle.std.specs.Prelude.{◌≡◌, ◌+◌, [], ◌∷◌, IfOk, IfE
 ghost use Rattle.std.specs.List.{flat_map};
 ghost use Rattle.wit_tree.specs.Marks.{named, path_marks, local_marks, used_marks, use_marks};
 
+use crate::kind::Kind;
 use crate::reader::Reader;
 use crate::word::Word;
 use wit_tree::ParseResult;
@@ -32,7 +33,7 @@ impl<'a> Reader<'a> {
         ensures read { IfOk result (λ local. IsReadOn self.old (local_marks local) self.new) }
         ensures refused { IfErr result (λ e. IsRefused self.old e) }
     {
-        if self.word() != Some(Word::As) {
+        if !self.at_word(Word::As) {
             return Ok(None);
         }
         self.bump()?;
@@ -55,13 +56,13 @@ impl<'a> Reader<'a> {
         ensures read { IfOk result (λ names. IsRead self.old (flat_map used_marks names.items) self.new) }
         ensures refused { IfErr result (λ e. IsRefused self.old e) }
     {
-        self.expect_mark(b'{')?;
+        self.expect(Kind::OpenBrace)?;
         let mut names = Vec::new(self.alloc);
-        'names: while self.token.mark != b'}' {
+        'names: while !self.at(Kind::CloseBrace) {
             let used = self.read_used()?;
             names.push(used)?;
-            if self.token.mark != b',' {
-                self.expect_mark(b'}')?;
+            if !self.at(Kind::Comma) {
+                self.expect(Kind::CloseBrace)?;
                 return Ok(names);
             }
             self.bump()?;
@@ -77,9 +78,9 @@ impl<'a> Reader<'a> {
     {
         self.expect_word(Word::Use)?;
         let from = self.read_path()?;
-        self.expect_mark(b'.')?;
+        self.expect(Kind::Dot)?;
         let names = self.read_used_names()?;
-        self.expect_mark(b';')?;
+        self.expect(Kind::Semicolon)?;
         Ok(Use { from, names })
     }
 }

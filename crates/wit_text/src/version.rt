@@ -5,8 +5,9 @@ ghost use Rattle.wit_text.specs.Faults.{IsRefusal};
 ghost use Rattle.wit_text.specs.Versions.{IsParsed};
 
 use crate::fault::{ReadFault, refusal, span_at};
+use crate::kind::Kind;
 use crate::reader::Reader;
-use crate::scan::{cut, is_digit};
+use crate::scan::cut;
 use crate::token::next_token;
 use crate::version_end::version_end;
 use semver::Version;
@@ -58,12 +59,13 @@ impl<'a> Reader<'a> {
         ensures range { IfOk result (λ end. (self.now.token.start < end) × (self.now.token.end ≤ end) × (end ≤ length self.now.source.now)) }
         ensures refused { IfErr result (λ e. IsRefused self.now e) }
     {
-        if !is_digit(self.token.mark) {
-            return Err(self.refuse(ReadFault::Token));
-        }
-        match version_end(self.source.as_bytes(), self.token.end) {
-            Ok(end) => Ok(end),
-            Err(at) => Err(refuse_from(self.alloc, self.source, self.offset, at)),
+        if let Kind::Number = self.token.kind {
+            match version_end(self.source.as_bytes(), self.token.end) {
+                Ok(end) => Ok(end),
+                Err(at) => Err(refuse_from(self.alloc, self.source, self.offset, at)),
+            }
+        } else {
+            Err(self.refuse(ReadFault::Token))
         }
     }
 

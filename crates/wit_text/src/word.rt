@@ -1,120 +1,187 @@
 //! Words of the grammar.
-ghost use Rattle.std.specs.Prelude.{◌≡◌, [], ◌∷◌, codes, IfSome};
+ghost use Rattle.std.specs.Prelude.{◌≡◌, [], ◌∷◌, IfSome};
 ghost use Rattle.wit_tree.specs.Marks.{type_marks, spelled};
+ghost use Rattle.wit_text.specs.Words.{word_text};
 
 use wit_tree::Span;
 use wit_tree::tree::Type;
 
-/// What a run of letters, digits and `-` means to the grammar where no `%` stands before it.
+/// A word that is no name where no `%` stands before it.
 #[derive(Clone, Copy, Debug, PartialEq, Eq)]
 pub enum Word {
-    /// A name.
-    Name,
-    Package,
-    Interface,
-    Type,
-    Record,
     Use,
-    As,
+    Type,
+    Func,
+    Async,
+    Resource,
+    Own,
+    Borrow,
+    Record,
+    Flags,
+    Variant,
+    Enum,
+    Bool,
+    U8,
+    U16,
+    U32,
+    U64,
+    S8,
+    S16,
+    S32,
+    S64,
+    F32,
+    F64,
+    Char,
+    String,
+    Option,
+    Result,
+    Future,
+    Stream,
     List,
-    /// The word of a primitive type.
-    Primitive,
-    /// A word of a form that is not read.
-    Unread,
+    Map,
+    Tuple,
+    ErrorContext,
+    As,
+    Static,
+    Interface,
+    Import,
+    Export,
+    World,
+    Package,
+    Constructor,
+    Include,
+    With,
 }
 
-/// Whether it is the word of a primitive type.
-fn is_primitive(text: &str) -> bool {
-    matches!(
-        text,
-        "bool"
-            | "u8"
-            | "u16"
-            | "u32"
-            | "u64"
-            | "s8"
-            | "s16"
-            | "s32"
-            | "s64"
-            | "f32"
-            | "f64"
-            | "char"
-            | "string"
-            | "error-context"
-    )
-}
-
-/// Whether it is a word of a form that is not read.
-fn is_unread(text: &str) -> bool {
-    matches!(
-        text,
-        "func"
-            | "async"
-            | "resource"
-            | "own"
-            | "borrow"
-            | "flags"
-            | "variant"
-            | "enum"
-            | "option"
-            | "result"
-            | "future"
-            | "stream"
-            | "map"
-            | "tuple"
-            | "static"
-            | "import"
-            | "export"
-            | "world"
-            | "constructor"
-            | "include"
-            | "with"
-    )
-}
-
-/// What the run means.
-pub fn word_of(text: &str) -> Word
-    ensures list { result ≡ Word.List → text.now ≡ codes "list" }
+/// The word of two letters that a text is.
+fn word_of_two(text: &str) -> Option<Word>
+    ensures { IfSome result (λ word. text.now ≡ word_text word) }
 {
     match text {
-        "package" => Word::Package,
-        "interface" => Word::Interface,
-        "type" => Word::Type,
-        "record" => Word::Record,
-        "use" => Word::Use,
-        "as" => Word::As,
-        "list" => Word::List,
-        _ => {
-            if is_primitive(text) {
-                Word::Primitive
-            } else if is_unread(text) {
-                Word::Unread
-            } else {
-                Word::Name
-            }
-        }
+        "u8" => Some(Word::U8),
+        "s8" => Some(Word::S8),
+        "as" => Some(Word::As),
+        _ => None,
     }
 }
 
-/// The primitive type of this word.
-pub fn primitive<'a>(text: &str, span: Span) -> Option<Type<'a>>
-    ensures { IfSome result (λ t. type_marks t ≡ spelled span text.now ∷ []) }
+/// The word of three letters that a text is.
+fn word_of_three(text: &str) -> Option<Word>
+    ensures { IfSome result (λ word. text.now ≡ word_text word) }
 {
     match text {
-        "bool" => Some(Type::Bool(span)),
-        "u8" => Some(Type::U8(span)),
-        "u16" => Some(Type::U16(span)),
-        "u32" => Some(Type::U32(span)),
-        "u64" => Some(Type::U64(span)),
-        "s8" => Some(Type::S8(span)),
-        "s16" => Some(Type::S16(span)),
-        "s32" => Some(Type::S32(span)),
-        "s64" => Some(Type::S64(span)),
-        "f32" => Some(Type::F32(span)),
-        "f64" => Some(Type::F64(span)),
-        "char" => Some(Type::Char(span)),
-        "string" => Some(Type::String(span)),
-        "error-context" => Some(Type::ErrorContext(span)),
+        "use" => Some(Word::Use),
+        "u16" => Some(Word::U16),
+        "u32" => Some(Word::U32),
+        "u64" => Some(Word::U64),
+        "s16" => Some(Word::S16),
+        "s32" => Some(Word::S32),
+        "s64" => Some(Word::S64),
+        "f32" => Some(Word::F32),
+        "f64" => Some(Word::F64),
+        "own" => Some(Word::Own),
+        "map" => Some(Word::Map),
+        _ => None,
+    }
+}
+
+/// The word of four letters that a text is.
+fn word_of_four(text: &str) -> Option<Word>
+    ensures { IfSome result (λ word. text.now ≡ word_text word) }
+{
+    match text {
+        "type" => Some(Word::Type),
+        "list" => Some(Word::List),
+        "bool" => Some(Word::Bool),
+        "char" => Some(Word::Char),
+        "func" => Some(Word::Func),
+        "enum" => Some(Word::Enum),
+        "with" => Some(Word::With),
+        _ => None,
+    }
+}
+
+/// The word of five letters that a text is.
+fn word_of_five(text: &str) -> Option<Word>
+    ensures { IfSome result (λ word. text.now ≡ word_text word) }
+{
+    match text {
+        "flags" => Some(Word::Flags),
+        "tuple" => Some(Word::Tuple),
+        "async" => Some(Word::Async),
+        "world" => Some(Word::World),
+        _ => None,
+    }
+}
+
+/// The word of six letters that a text is.
+fn word_of_six(text: &str) -> Option<Word>
+    ensures { IfSome result (λ word. text.now ≡ word_text word) }
+{
+    match text {
+        "string" => Some(Word::String),
+        "record" => Some(Word::Record),
+        "option" => Some(Word::Option),
+        "result" => Some(Word::Result),
+        "borrow" => Some(Word::Borrow),
+        "future" => Some(Word::Future),
+        "stream" => Some(Word::Stream),
+        "static" => Some(Word::Static),
+        "import" => Some(Word::Import),
+        "export" => Some(Word::Export),
+        _ => None,
+    }
+}
+
+/// The word of more than six letters that a text is.
+fn word_of_more(text: &str) -> Option<Word>
+    ensures { IfSome result (λ word. text.now ≡ word_text word) }
+{
+    match text {
+        "package" => Some(Word::Package),
+        "variant" => Some(Word::Variant),
+        "include" => Some(Word::Include),
+        "resource" => Some(Word::Resource),
+        "interface" => Some(Word::Interface),
+        "constructor" => Some(Word::Constructor),
+        "error-context" => Some(Word::ErrorContext),
+        _ => None,
+    }
+}
+
+/// The word that a text is, told by its length first.
+pub fn word_of(text: &str) -> Option<Word>
+    ensures { IfSome result (λ word. text.now ≡ word_text word) }
+{
+    match text.len() {
+        2 => word_of_two(text),
+        3 => word_of_three(text),
+        4 => word_of_four(text),
+        5 => word_of_five(text),
+        6 => word_of_six(text),
+        _ => word_of_more(text),
+    }
+}
+
+/// The primitive type of a word.
+pub fn primitive<'a>(word: Word, span: Span) -> Option<Type<'a>>
+    ensures { IfSome result (λ t. type_marks t ≡ spelled span (word_text word) ∷ []) }
+{
+    match word {
+        Word::Bool => Some(Type::Bool(span)),
+        Word::U8 => Some(Type::U8(span)),
+        Word::U16 => Some(Type::U16(span)),
+        Word::U32 => Some(Type::U32(span)),
+        Word::U64 => Some(Type::U64(span)),
+        Word::S8 => Some(Type::S8(span)),
+        Word::S16 => Some(Type::S16(span)),
+        Word::S32 => Some(Type::S32(span)),
+        Word::S64 => Some(Type::S64(span)),
+        Word::F32 => Some(Type::F32(span)),
+        Word::F64 => Some(Type::F64(span)),
+        Word::Char => Some(Type::Char(span)),
+        Word::String => Some(Type::String(span)),
+        Word::ErrorContext => Some(Type::ErrorContext(span)),
         _ => None,
     }
 }

@@ -1,3 +1,4 @@
 pub mod Marks
 pub mod Refusal
 pub mod Slices
+pub mod Spans

@@ -20,6 +20,20 @@ name_of (ItemNotFound span name kind hint) = Some (string_bytes name)
 name_of (TypeCycle span name kind) = Some (string_bytes name)
 name_of OutOfMemory = None
 
+-- which kind of refusal it is: a broken rule in words, a name that stands for nothing of a sort, or a thing of a sort that depends on itself
+pub data Sort : Type 0 where
+  Said : Sort
+  Missing : (sort : List ℕ) → Sort
+  Cyclic : (sort : List ℕ) → Sort
+  -- want of memory
+  Wanting : Sort
+
+abbrev pub sort_of : ParseErrorKind → Sort
+sort_of (Syntax span message) = Said
+sort_of (ItemNotFound span name kind hint) = Missing (string_bytes kind)
+sort_of (TypeCycle span name kind) = Cyclic (string_bytes kind)
+sort_of OutOfMemory = Wanting
+
 -- memory was wanted
 pub record IsWantOfMemory (e : ParseError) : Type 0 where
   pub kind : e.kind ≡ OutOfMemory

@@ -8,4 +8,4 @@ pub mod tree;
 
 pub use accessor::AccessorKind;
 pub use error::{OUT_OF_MEMORY, ParseError, ParseErrorKind, ParseResult};
-pub use span::Span;
+pub use span::{Span, compare_spans, is_same_span};

@@ -1,5 +1,8 @@
 //! Ranges of bytes in the sources.
-ghost use Rattle.std.specs.Prelude.{◌≡◌, ◌+◌, ◌<◌, ◌^◌};
+ghost use Rattle.std.specs.Prelude.{◌≡◌, ◌+◌, ◌<◌, ◌^◌, ◌↔◌, IsTrue};
+ghost use Rattle.wit_tree.specs.Spans.{span_cmp};
+
+use std::cmp::Ordering;
 
 /// A half-open range of bytes: from the first byte to the one behind the last.
 ///
@@ -23,4 +26,18 @@ impl Span {
         self.start += offset;
         self.end += offset;
     }
+}
+
+/// Whether two spans are the same, by `==`.
+pub fn is_same_span(a: Span, b: Span) -> bool
+    ensures { IsTrue result ↔ (a ≡ b) }
+{
+    a == b
+}
+
+/// The order of two spans: by their first places, and then by their ends.
+pub fn compare_spans(a: Span, b: Span) -> Ordering
+    ensures { result ≡ span_cmp a b }
+{
+    a.cmp(&b)
 }

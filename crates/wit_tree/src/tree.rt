@@ -29,6 +29,30 @@ impl<'a> Id<'a> {
     }
 }
 
+/// The comments that document an item, in source order.
+#[derive(Debug, Drop)]
+pub struct Docs<'a> {
+    /// Each comment with its marks: the text from `///` to the end of its line, or from `/**` to
+    /// its `*/`.
+    pub docs: Vec<&'a str>,
+    /// From the first comment to the end of the last; (0, 0) where there is none.
+    pub span: Span,
+}
+
+/// What is written in front of an item and tells since when it is there, or how it is named
+/// elsewhere. The span goes from the `@` to the `)`.
+#[derive(Debug, Drop)]
+pub enum Attribute<'a> {
+    /// There since a version.
+    Since { span: Span, version: Version },
+    /// There behind a feature alone.
+    Unstable { span: Span, feature: Id<'a> },
+    /// Deprecated from a version on.
+    Deprecated { span: Span, version: Version },
+    /// The name of the item elsewhere.
+    ExternalId { span: Span, id: &'a str },
+}
+
 /// A file: its header, if it has one, and its declarations.
 #[derive(Debug, Drop)]
 pub struct PackageFile<'a> {

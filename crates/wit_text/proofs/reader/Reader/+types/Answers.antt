@@ -7,4 +7,4 @@ use Rattle.wit_text.proofs.reader.Reader.+types.Goals as goal
 pub read_list-returns-clause-read : goal.read_list-returns-clause-read
 read_list-returns-clause-read t c =
     same_marks (ap (λ part. spelled c.in_ok-span.span (codes "list") ∷ type_marks part) c.in_ok-new.ensures.ok)
-    (then c.in_ok-span.ensures.read (skip c.in_ok-expect_mark.ensures.read (close c.in_ok-part.ensures.read c.in_ok-expect_mark-2.ensures.read)))
+    (then c.in_ok-span.ensures.read (skip c.in_ok-expect.ensures.read (close c.in_ok-part.ensures.read c.in_ok-expect-2.ensures.read)))

@@ -9,6 +9,6 @@ fields-preserved c =
 pub returns-clause-read : goal.returns-clause-read
 returns-clause-read c = close c.fields.invariant c.in_ok-bump-2.ensures.read
 
-pub returns-then-self-ne44-clause-read : goal.returns-then-self-ne44-clause-read
-returns-then-self-ne44-clause-read c =
-    close (more field_marks c.fields.fields.items c.push.new.self.items c.in_ok-field.field c.in_ok-push.ensures.items c.fields.invariant c.in_ok-field.ensures.read) c.in_ok-expect_mark-2.ensures.read
+pub returns-then-not-at-clause-read : goal.returns-then-not-at-clause-read
+returns-then-not-at-clause-read c =
+    close (more field_marks c.fields.fields.items c.push.new.self.items c.in_ok-field.field c.in_ok-push.ensures.items c.fields.invariant c.in_ok-field.ensures.read) c.in_ok-expect-2.ensures.read

@@ -4,5 +4,5 @@ use Rattle.wit_text.proofs.reader.Reader.read_header.Goals as goal
 
 pub returns-clause-read : goal.returns-clause-read
 returns-clause-read c =
-    let names = skip c.in_ok-expect_word.ensures.read (then c.in_ok-namespace.ensures.read (skip c.in_ok-expect_mark.ensures.read c.in_ok-name.ensures.read)) in
-    header_read _ _ _ _ c.header.ensures.namespace c.header.ensures.name c.header.ensures.spans (close_on names c.in_ok-found.ensures.read c.in_ok-expect_mark-2.ensures.read)
+    let names = skip c.in_ok-expect_word.ensures.read (then c.in_ok-namespace.ensures.read (skip c.in_ok-expect.ensures.read c.in_ok-name.ensures.read)) in
+    header_read _ _ _ _ c.header.ensures.namespace c.header.ensures.name c.header.ensures.spans (close_on names c.in_ok-found.ensures.read c.in_ok-expect-2.ensures.read)

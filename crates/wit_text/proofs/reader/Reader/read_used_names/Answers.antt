@@ -9,6 +9,6 @@ names-preserved c =
 pub returns-clause-read : goal.returns-clause-read
 returns-clause-read c = close c.names.invariant c.in_ok-bump-2.ensures.read
 
-pub returns-then-self-ne44-clause-read : goal.returns-then-self-ne44-clause-read
-returns-then-self-ne44-clause-read c =
-    close (more used_marks c.names.names.items c.push.new.self.items c.in_ok-used.used c.in_ok-push.ensures.items c.names.invariant c.in_ok-used.ensures.read) c.in_ok-expect_mark-2.ensures.read
+pub returns-then-not-at-clause-read : goal.returns-then-not-at-clause-read
+returns-then-not-at-clause-read c =
+    close (more used_marks c.names.names.items c.push.new.self.items c.in_ok-used.used c.in_ok-push.ensures.items c.names.invariant c.in_ok-used.ensures.read) c.in_ok-expect-2.ensures.read
