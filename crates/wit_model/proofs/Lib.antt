@@ -4,3 +4,6 @@ pub mod Walk
 pub mod Placing
 pub mod Pairs
 pub mod Same
+pub mod SameMaps
+pub mod Moving
+pub mod WorldSpans

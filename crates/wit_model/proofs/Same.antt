@@ -44,6 +44,8 @@ use Rattle.wit_model.specs.contracts.function.ParamPartialEq.TheImpl.{eq-value a
 use Rattle.wit_model.specs.declared.function.Param.{Param}
 use Rattle.wit_model.specs.contracts.world.IncludeNamePartialEq.TheImpl.{eq-value as include_name_test}
 use Rattle.wit_model.specs.declared.world.IncludeName.{IncludeName}
+use Rattle.wit_model.specs.contracts.world.WorldIncludePartialEq.TheImpl.{eq-value as include_test}
+use Rattle.wit_model.specs.declared.world.WorldInclude.{WorldInclude}
 use Rattle.wit_model.specs.contracts.types.TypeOwnerPartialEq.TheImpl.{eq-value as owner_test}
 use Rattle.wit_model.specs.declared.types.TypeOwner.{TypeOwner}
 use Rattle.wit_model.specs.contracts.types.TypeDefPartialEq.TheImpl.{eq-value as type_def_test}
@@ -121,6 +123,9 @@ Decides-param a b = search (rules, Decides-type)
 
 pub Decides-include_name : (a b : IncludeName) → Decides (include_name_test.it a b) (a ≡ b)
 Decides-include_name a b = search rules
+
+pub Decides-include : (a b : WorldInclude) → Decides (include_test.it a b) (a ≡ b)
+Decides-include a b = let names = Decides-row Decides-include_name a.names b.names in search (rules, names)
 
 Decides-option_kind : (x y : Ty) → Decides (type_test.it x y) (kind.Option x ≡ kind.Option y)
 Decides-option_kind x y = Decides-like _ (λ e. ap (λ t. kind.Option t) e) (λ e. search rules) (Decides-type x y)

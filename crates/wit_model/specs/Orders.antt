@@ -5,8 +5,7 @@ use Rattle.std.specs.Ordering.{nat_cmp, ordering_then}
 use Rattle.std.specs.declared.cmp.Ordering.{Ordering}
 use Rattle.std.specs.declared.cmp.Ordering.TheVariants as ordering
 use Rattle.std.specs.Cmp.Lexicographic.{slice_cmp}
-use Rattle.semver.specs.Order.{build_cmp, pre_cmp}
-use Rattle.wit_values.specs.declared.release.Release.{Release}
+use Rattle.wit_values.specs.ReleaseOrder.{release_cmp}
 use Rattle.wit_model.specs.declared.package_name.PackageName.{PackageName}
 use Rattle.wit_model.specs.declared.stability.Stability.{Stability}
 use Rattle.wit_model.specs.declared.stability.Stability.TheVariants as stability
@@ -38,10 +37,6 @@ type_cmp a b = nat_cmp (listed a) (listed b)
 -- texts byte by byte, and where one is the other's front the shorter first
 abbrev pub text_cmp : List ℕ → List ℕ → Ordering
 text_cmp = slice_cmp nat_cmp
-
--- versions by their numbers, then by pre-release and by build metadata
-abbrev pub release_cmp : Release → Release → Ordering
-release_cmp a b = ordering_then (nat_cmp a.major b.major) (ordering_then (nat_cmp a.minor b.minor) (ordering_then (nat_cmp a.patch b.patch) (ordering_then (pre_cmp a.pre b.pre) (build_cmp a.build b.build))))
 
 -- what no attribute tells, then what is unstable, then what is stable; each by its fields
 abbrev pub stability_cmp : Stability → Stability → Ordering

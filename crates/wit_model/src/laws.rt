@@ -1,8 +1,13 @@
-//! What holds of the tracks of all versions.
+//! What holds of all values: how they are copied, compared and ordered, and of the tracks of all
+//! versions.
 //!
-//! These functions change nothing and answer nothing: what each ensures is a law, proved of the
-//! definitions that the calls of `PackageName` meet.
+//! What each call here ensures is a law. The calls about tracks change nothing and answer nothing:
+//! their laws are of the definitions that the calls of `PackageName` meet.
 ghost use Rattle.wit_model.specs.TrackLaws.{TrackOfTrack, TrackThenSuffix, TracksTell};
+
+pub mod copies;
+pub mod equality;
+pub mod order;
 
 use semver::Version;
 

@@ -8,7 +8,7 @@ pub mod abi;
 pub mod arena;
 pub mod ast_item;
 pub mod backward;
-pub mod copies;
+mod clones;
 pub mod docs;
 pub mod equality;
 pub mod function;
@@ -20,15 +20,16 @@ pub mod int;
 pub mod interface;
 pub mod kind_word;
 pub mod laws;
-pub mod order;
 pub mod package_name;
 mod package_name_text;
 mod package_name_track;
 pub mod setters;
 pub mod signature;
 mod slots;
+pub mod spans;
 pub mod stability;
 pub mod types;
+pub mod unresolved;
 pub mod world;
 
 pub use abi::{AbiVariant, LiftLowerAbi, Mangling, ManglingAndAbi, ManglingFault};
@@ -36,6 +37,7 @@ pub use arena::{Arena, Id};
 pub use ast_item::AstItem;
 pub use backward::is_backward;
 pub use docs::Docs;
+pub use equality::is_same_kind;
 pub use function::{Function, FunctionKind, Param};
 pub use futures::reaches_unknown;
 pub use ids::{
@@ -46,9 +48,11 @@ pub use interface::Interface;
 pub use package_name::PackageName;
 pub use setters::place_setters_after_getters;
 pub use signature::ParamResultTypes;
+pub use spans::HasSpans;
 pub use stability::Stability;
 pub use types::{
     Case, Enum, EnumCase, Field, Flag, Flags, Handle, Record, Result_, Tuple, Type, TypeDef,
     TypeDefKind, TypeOwner, Types, Variant,
 };
+pub use unresolved::UnresolvedPackage;
 pub use world::{IncludeName, World, WorldInclude, WorldItem, WorldKey, world_item_func};

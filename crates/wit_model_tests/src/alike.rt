@@ -1,9 +1,7 @@
 //! What is asked of copies, equality, hashes and orders at each type.
-use crate::same::Same;
 use indexmap::IndexMap;
 use std::alloc::{AllocError, Global};
 use std::cmp::Ordering;
-use std::fmt;
 use std::hash::Hash;
 use std::test::Fail;
 
@@ -13,52 +11,39 @@ pub fn add<T: Drop>(values: &mut Vec<T>, value: T) -> Result<(), AllocError> {
     Ok(())
 }
 
-/// Two values.
-pub fn two<T: Drop>(alloc: Global, one: T, other: T) -> Result<Vec<T>, AllocError> {
-    let mut values = Vec::new(alloc);
-    values.push(one)?;
-    values.push(other)?;
-    Ok(values)
-}
-
-fn is_shown_alike<T: fmt::Debug>(alloc: Global, value: &T, copy: &T) -> Result<bool, Fail> {
-    let shown = format!(in alloc; "{value:?}")?;
-    let again = format!(in alloc; "{copy:?}")?;
-    Ok(shown == again)
-}
-
-// Whether a value is that at this place, and no other.
-fn is_only<T: Same + PartialEq>(values: &[T], place: usize, value: &T) -> bool {
-    for i in 0..values.len() {
-        if (*value == values[i]) != (i == place) {
-            return false;
-        }
-        if value.is_same(&values[i]) != (i == place) {
+/// Whether each value is the same as itself.
+pub fn are_themselves<T, F: Fn(&T, &T) -> bool>(values: &[T], is_same: F) -> bool
+    requires { F.IsAlwaysCallable is_same }
+{
+    for value in values {
+        if !is_same(value, value) {
             return false;
         }
     }
-    true
+    !values.is_empty()
 }
 
-/// Whether the copy of each value is that value, and shown alike, and no other.
-pub fn are_told_apart<T: Same + Clone + PartialEq + fmt::Debug + Drop>(
-    alloc: Global,
+/// Whether the copy of each value is that value, and no other, by `is_same` too.
+pub fn are_told_apart<T: Clone + PartialEq + Drop, F: Fn(&T, &T) -> bool>(
     values: &[T],
-) -> Result<bool, Fail> {
+    is_same: F,
+) -> Result<bool, Fail>
+    requires { F.IsAlwaysCallable is_same }
+{
     for i in 0..values.len() {
         let copy = values[i].clone()?;
-        if !is_only(values, i, &copy) {
-            return Ok(false);
-        }
-        if !is_shown_alike(alloc, &values[i], &copy)? {
-            return Ok(false);
+        for j in 0..values.len() {
+            let is_alike = is_same(&copy, &values[j]);
+            if (copy == values[j]) != (i == j) || is_alike != (i == j) {
+                return Ok(false);
+            }
         }
     }
     Ok(!values.is_empty())
 }
 
-// Whether each value finds its copy in a map of the copies of all.
-fn are_found<K: Eq + Hash + Clone + Drop>(alloc: Global, keys: &[K]) -> Result<bool, Fail> {
+/// Whether each value finds its copy in a map of the copies of all.
+pub fn are_found<K: Eq + Hash + Clone + Drop>(alloc: Global, keys: &[K]) -> Result<bool, Fail> {
     let mut map: IndexMap<K, usize> = IndexMap::new(alloc);
     for i in 0..keys.len() {
         map.insert(keys[i].clone()?, i)?;
@@ -69,27 +54,6 @@ fn are_found<K: Eq + Hash + Clone + Drop>(alloc: Global, keys: &[K]) -> Result<b
         }
     }
     Ok(true)
-}
-
-/// Whether the copy of each value is told from the other values, in a map too.
-pub fn are_hashed<K: Same + Eq + Hash + Clone + fmt::Debug + Drop>(
-    alloc: Global,
-    keys: &[K],
-) -> Result<bool, Fail> {
-    if !are_told_apart(alloc, keys)? {
-        return Ok(false);
-    }
-    are_found(alloc, keys)
-}
-
-/// Whether the copies of two values are told apart, in a map too.
-pub fn are_two_hashed<K: Same + Eq + Hash + Clone + fmt::Debug + Drop>(
-    alloc: Global,
-    one: K,
-    other: K,
-) -> Result<bool, Fail> {
-    let values = two(alloc, one, other)?;
-    are_hashed(alloc, values.as_slice())
 }
 
 /// Whether each value is less than the next, by `compare` too.

@@ -75,14 +75,6 @@ fn spellings(rt: HostRuntime) -> Result<(), Fail> {
 }
 
 #[test]
-fn item_of_function(rt: HostRuntime) -> Result<(), Fail> {
-    let name = Text::from_str(rt.alloc(), "f")?;
-    let f = bare(rt.alloc(), name, FunctionKind::Freestanding);
-    assert!(rt; f.item_name() == "f");
-    Ok(())
-}
-
-#[test]
 fn item_of_getter(rt: HostRuntime) -> Result<(), Fail> {
     let name = Text::from_str(rt.alloc(), "[get]x")?;
     let getter = bare(rt.alloc(), name, FunctionKind::Getter);
@@ -96,15 +88,6 @@ fn item_of_method(rt: HostRuntime) -> Result<(), Fail> {
     let name = Text::from_str(rt.alloc(), "[method]r.g")?;
     let method = bare(rt.alloc(), name, kind);
     assert!(rt; method.item_name() == "g");
-    Ok(())
-}
-
-#[test]
-fn item_of_constructor(rt: HostRuntime) -> Result<(), Fail> {
-    let kind = FunctionKind::Constructor(type_at(rt.alloc(), 1)?);
-    let name = Text::from_str(rt.alloc(), "[constructor]r")?;
-    let constructor = bare(rt.alloc(), name, kind);
-    assert!(rt; constructor.item_name() == "constructor");
     Ok(())
 }
 

@@ -1,12 +1,16 @@
 //! What types are: words, copies, equality and hashes of each kind and of its parts.
-use crate::alike::{add, are_hashed, are_two_hashed};
+use crate::alike::{add, are_found, are_themselves, are_told_apart};
 use crate::fixtures::{SPAN, docs, row, type_at};
 use std::alloc::{AllocError, Global};
 use std::test::Fail;
-use wit_model::copies::copy_kind;
+use wit_model::laws::copies::copy_kind;
+use wit_model::laws::equality::{
+    is_same_case, is_same_enum, is_same_enum_case, is_same_field, is_same_flag, is_same_flags,
+    is_same_handle, is_same_outcome, is_same_record, is_same_tuple, is_same_variant,
+};
 use wit_model::{
     Case, Enum, EnumCase, Field, Flag, Flags, Handle, Record, Result_, Tuple, Type, TypeDefKind,
-    TypeId, Variant,
+    TypeId, Variant, is_same_kind,
 };
 use wit_values::Text;
 
@@ -136,7 +140,8 @@ const WORDS: [&str; 17] = [
     "unknown",
 ];
 
-fn every_kind(alloc: Global) -> Result<Vec<TypeDefKind>, Fail> {
+/// A kind of each form.
+pub fn every_kind(alloc: Global) -> Result<Vec<TypeDefKind>, Fail> {
     let mut kinds = Vec::new(alloc);
     let id = type_at(alloc, 1)?;
     add_parted(alloc, &mut kinds)?;
@@ -156,9 +161,34 @@ fn have_words(kinds: &[TypeDefKind], words: &[&str]) -> bool {
     kinds.len() == words.len()
 }
 
-fn are_kinds_copied(kinds: &[TypeDefKind]) -> Result<bool, Fail> {
+// Whether a kind and its parts are the same as themselves.
+fn is_itself(kind: &TypeDefKind) -> bool {
+    match kind {
+        TypeDefKind::Record(record) => {
+            is_same_record(record, record)
+                && are_themselves(record.fields.as_slice(), is_same_field)
+        }
+        TypeDefKind::Flags(flags) => {
+            is_same_flags(flags, flags) && are_themselves(flags.flags.as_slice(), is_same_flag)
+        }
+        TypeDefKind::Variant(variant) => {
+            is_same_variant(variant, variant)
+                && are_themselves(variant.cases.as_slice(), is_same_case)
+        }
+        TypeDefKind::Enum(choice) => {
+            is_same_enum(choice, choice)
+                && are_themselves(choice.cases.as_slice(), is_same_enum_case)
+        }
+        TypeDefKind::Tuple(tuple) => is_same_tuple(tuple, tuple),
+        TypeDefKind::Result(outcome) => is_same_outcome(outcome, outcome),
+        TypeDefKind::Handle(handle) => is_same_handle(*handle, *handle),
+        _ => true,
+    }
+}
+
+fn are_copied(kinds: &[TypeDefKind]) -> Result<bool, Fail> {
     for kind in kinds {
-        if copy_kind(kind)? != *kind {
+        if !is_itself(kind) || copy_kind(kind)? != *kind {
             return Ok(false);
         }
     }
@@ -169,77 +199,8 @@ fn are_kinds_copied(kinds: &[TypeDefKind]) -> Result<bool, Fail> {
 fn kinds(rt: HostRuntime) -> Result<(), Fail> {
     let values = every_kind(rt.alloc())?;
     assert!(rt; have_words(values.as_slice(), WORDS.as_slice()));
-    assert!(rt; are_hashed(rt.alloc(), values.as_slice())?);
-    assert!(rt; are_kinds_copied(values.as_slice())?);
-    Ok(())
-}
-
-#[test]
-fn fields(rt: HostRuntime) -> Result<(), Fail> {
-    let alloc = rt.alloc();
-    assert!(rt; are_two_hashed(alloc, field(alloc, "a")?, field(alloc, "b")?)?);
-    Ok(())
-}
-
-#[test]
-fn flag_names(rt: HostRuntime) -> Result<(), Fail> {
-    let alloc = rt.alloc();
-    assert!(rt; are_two_hashed(alloc, flag(alloc, "a")?, flag(alloc, "b")?)?);
-    Ok(())
-}
-
-#[test]
-fn cases(rt: HostRuntime) -> Result<(), Fail> {
-    let alloc = rt.alloc();
-    assert!(rt; are_two_hashed(alloc, case(alloc, "a")?, case(alloc, "b")?)?);
-    Ok(())
-}
-
-#[test]
-fn enum_cases(rt: HostRuntime) -> Result<(), Fail> {
-    let alloc = rt.alloc();
-    assert!(rt; are_two_hashed(alloc, enum_case(alloc, "a")?, enum_case(alloc, "b")?)?);
-    Ok(())
-}
-
-#[test]
-fn records(rt: HostRuntime) -> Result<(), Fail> {
-    let alloc = rt.alloc();
-    assert!(rt; are_two_hashed(alloc, record(alloc, "a")?, record(alloc, "b")?)?);
-    Ok(())
-}
-
-#[test]
-fn flag_sets(rt: HostRuntime) -> Result<(), Fail> {
-    let alloc = rt.alloc();
-    assert!(rt; are_two_hashed(alloc, flags(alloc, "a")?, flags(alloc, "b")?)?);
-    Ok(())
-}
-
-#[test]
-fn variants(rt: HostRuntime) -> Result<(), Fail> {
-    let alloc = rt.alloc();
-    assert!(rt; are_two_hashed(alloc, variant(alloc, "a")?, variant(alloc, "b")?)?);
-    Ok(())
-}
-
-#[test]
-fn choices(rt: HostRuntime) -> Result<(), Fail> {
-    let alloc = rt.alloc();
-    assert!(rt; are_two_hashed(alloc, choice(alloc, "a")?, choice(alloc, "b")?)?);
-    Ok(())
-}
-
-#[test]
-fn tuples(rt: HostRuntime) -> Result<(), Fail> {
-    let alloc = rt.alloc();
-    assert!(rt; are_two_hashed(alloc, tuple(alloc, Type::U8)?, tuple(alloc, Type::S8)?)?);
-    Ok(())
-}
-
-#[test]
-fn outcomes(rt: HostRuntime) -> Result<(), Fail> {
-    let values = [outcome(Type::F32, Type::F64), outcome(Type::F64, Type::F32)];
-    assert!(rt; are_hashed(rt.alloc(), values.as_slice())?);
+    assert!(rt; are_told_apart(values.as_slice(), is_same_kind)?);
+    assert!(rt; are_found(rt.alloc(), values.as_slice())?);
+    assert!(rt; are_copied(values.as_slice())?);
     Ok(())
 }

@@ -20,13 +20,13 @@ mod orders;
 #[cfg(test)]
 mod plain;
 #[cfg(test)]
-mod same;
-#[cfg(test)]
 mod setters;
 #[cfg(test)]
 mod signatures;
 #[cfg(test)]
 mod sizes;
+#[cfg(test)]
+mod spans;
 #[cfg(test)]
 mod tracks;
 #[cfg(test)]

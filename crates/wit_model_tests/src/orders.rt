@@ -3,7 +3,7 @@ use crate::alike::{add, are_rising};
 use crate::fixtures::{package, stable, type_at, unstable, versioned};
 use std::alloc::Global;
 use std::test::Fail;
-use wit_model::order::{compare_package_names, compare_stabilities, compare_types};
+use wit_model::laws::order::{compare_package_names, compare_stabilities, compare_types};
 use wit_model::{PackageName, Stability, Type};
 
 #[test]

@@ -1,110 +1,34 @@
-//! Copies, equality and hashes of values that own no memory.
-use crate::alike::{are_hashed, are_told_apart};
+//! Equality of values that own no memory.
 use crate::fixtures::{interface_at, type_at, world_at};
 use std::test::Fail;
-use wit_model::{
-    AbiVariant, AstItem, FlagsRepr, FunctionKind, Handle, Int, LiftLowerAbi, Mangling,
-    ManglingAndAbi, Type, TypeOwner,
+use wit_model::laws::equality::{
+    is_same_abi, is_same_abi_variant, is_same_ast_item, is_same_flags_repr, is_same_function_kind,
+    is_same_int, is_same_mangling, is_same_mangling_and_abi, is_same_owner, is_same_type,
 };
-use wit_tree::AccessorKind;
+use wit_model::{
+    AbiVariant, AstItem, FlagsRepr, FunctionKind, Int, LiftLowerAbi, Mangling, ManglingAndAbi,
+    Type, TypeOwner,
+};
 
 #[test]
-fn types(rt: HostRuntime) -> Result<(), Fail> {
-    let (first, second) = (type_at(rt.alloc(), 0)?, type_at(rt.alloc(), 1)?);
-    let values = [Type::U8, Type::Id(first), Type::Id(second)];
-    assert!(rt; are_hashed(rt.alloc(), values.as_slice())?);
-    Ok(())
+fn unnumbered(rt: HostRuntime) {
+    let choice = ManglingAndAbi::Legacy(LiftLowerAbi::Sync);
+    assert!(rt; is_same_mangling(Mangling::Legacy, Mangling::Legacy));
+    assert!(rt; is_same_abi(LiftLowerAbi::Sync, LiftLowerAbi::Sync));
+    assert!(rt; is_same_mangling_and_abi(choice, choice));
+    assert!(rt; is_same_abi_variant(AbiVariant::GuestImport, AbiVariant::GuestImport));
+    assert!(rt; is_same_int(Int::U8, Int::U8));
+    assert!(rt; is_same_flags_repr(&FlagsRepr::U32(1), &FlagsRepr::U32(1)));
 }
 
 #[test]
-fn owners(rt: HostRuntime) -> Result<(), Fail> {
-    let (interface, world) = (interface_at(rt.alloc(), 1)?, world_at(rt.alloc(), 1)?);
-    let values = [
-        TypeOwner::Interface(interface),
-        TypeOwner::World(world),
-        TypeOwner::None,
-    ];
-    assert!(rt; are_hashed(rt.alloc(), values.as_slice())?);
-    Ok(())
-}
-
-#[test]
-fn handles(rt: HostRuntime) -> Result<(), Fail> {
-    let id = type_at(rt.alloc(), 1)?;
-    let values = [Handle::Own(id), Handle::Borrow(id)];
-    assert!(rt; are_hashed(rt.alloc(), values.as_slice())?);
-    Ok(())
-}
-
-#[test]
-fn manglings(rt: HostRuntime) -> Result<(), Fail> {
-    let values = [Mangling::Legacy, Mangling::Standard32];
-    assert!(rt; are_hashed(rt.alloc(), values.as_slice())?);
-    Ok(())
-}
-
-#[test]
-fn abis(rt: HostRuntime) -> Result<(), Fail> {
-    let values = [LiftLowerAbi::Sync, LiftLowerAbi::AsyncCallback];
-    assert!(rt; are_hashed(rt.alloc(), values.as_slice())?);
-    Ok(())
-}
-
-#[test]
-fn manglings_and_abis(rt: HostRuntime) -> Result<(), Fail> {
-    let values = [
-        ManglingAndAbi::Standard32,
-        ManglingAndAbi::Legacy(LiftLowerAbi::AsyncCallback),
-        ManglingAndAbi::Legacy(LiftLowerAbi::AsyncStackful),
-    ];
-    assert!(rt; are_hashed(rt.alloc(), values.as_slice())?);
-    Ok(())
-}
-
-#[test]
-fn function_kinds(rt: HostRuntime) -> Result<(), Fail> {
-    let id = type_at(rt.alloc(), 1)?;
-    let values = [
-        FunctionKind::Getter,
-        FunctionKind::MethodGetter(id),
-        FunctionKind::MethodSetter(id),
-    ];
-    assert!(rt; are_told_apart(rt.alloc(), values.as_slice())?);
-    Ok(())
-}
-
-#[test]
-fn ast_items(rt: HostRuntime) -> Result<(), Fail> {
-    let (interface, world) = (interface_at(rt.alloc(), 1)?, world_at(rt.alloc(), 1)?);
-    let values = [AstItem::Interface(interface), AstItem::World(world)];
-    assert!(rt; are_told_apart(rt.alloc(), values.as_slice())?);
-    Ok(())
-}
-
-#[test]
-fn abi_variants(rt: HostRuntime) -> Result<(), Fail> {
-    let values = [AbiVariant::GuestExport, AbiVariant::GuestExportAsync];
-    assert!(rt; are_told_apart(rt.alloc(), values.as_slice())?);
-    Ok(())
-}
-
-#[test]
-fn ints(rt: HostRuntime) -> Result<(), Fail> {
-    let values = [Int::U8, Int::U16, Int::U32, Int::U64];
-    assert!(rt; are_told_apart(rt.alloc(), values.as_slice())?);
-    Ok(())
-}
-
-#[test]
-fn accessors(rt: HostRuntime) -> Result<(), Fail> {
-    let values = [AccessorKind::Getter, AccessorKind::Setter];
-    assert!(rt; are_told_apart(rt.alloc(), values.as_slice())?);
-    Ok(())
-}
-
-#[test]
-fn layouts(rt: HostRuntime) -> Result<(), Fail> {
-    let values = [FlagsRepr::U8, FlagsRepr::U32(1), FlagsRepr::U32(2)];
-    assert!(rt; are_told_apart(rt.alloc(), values.as_slice())?);
+fn numbered(rt: HostRuntime) -> Result<(), Fail> {
+    let (ty, world) = (type_at(rt.alloc(), 1)?, world_at(rt.alloc(), 1)?);
+    let interface = interface_at(rt.alloc(), 1)?;
+    assert!(rt; is_same_type(Type::Id(ty), Type::Id(ty)));
+    assert!(rt; is_same_owner(TypeOwner::World(world), TypeOwner::World(world)));
+    assert!(rt; is_same_ast_item(AstItem::World(world), AstItem::World(world)));
+    assert!(rt; !is_same_ast_item(AstItem::World(world), AstItem::Interface(interface)));
+    assert!(rt; is_same_function_kind(FunctionKind::Method(ty), FunctionKind::Method(ty)));
     Ok(())
 }

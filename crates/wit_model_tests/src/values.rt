@@ -1,20 +1,25 @@
-//! Copies, equality and hashes of values that own memory, with every field filled.
-use crate::alike::{add, are_hashed, are_told_apart, two};
+//! Copies and equality of values that own memory, with every field filled.
+use crate::alike::{add, are_found, are_themselves, are_told_apart};
 use crate::fixtures::{
     SPAN, add_function, add_include, add_interface, add_item, add_type, add_world, docs, functions,
-    interface_at, package, param, renaming, stable, type_at, unstable, versioned,
+    interface_at, stable, type_at, unstable, versioned,
 };
 use std::alloc::Global;
 use std::test::Fail;
-use wit_model::copies::{
+use wit_model::laws::copies::{
     copy_docs, copy_package_name, copy_stability, copy_world_include, copy_world_key,
 };
+use wit_model::laws::equality::{
+    is_same_docs, is_same_function, is_same_include_name, is_same_interface, is_same_package_name,
+    is_same_param, is_same_stability, is_same_type_def, is_same_world, is_same_world_include,
+    is_same_world_item, is_same_world_key,
+};
 use wit_model::{
-    Docs, FunctionKind, PackageName, Stability, Type, TypeDef, TypeDefKind, WorldInclude,
+    Docs, Function, FunctionKind, Interface, Stability, TypeDef, TypeDefKind, World, WorldInclude,
     WorldItem, WorldKey,
 };
 use wit_tree::Span;
-use wit_values::Text;
+use wit_values::{Row, Text};
 
 fn stabilities(alloc: Global) -> Result<Vec<Stability>, Fail> {
     let mut values = Vec::new(alloc);
@@ -30,109 +35,107 @@ fn are_stabilities_copied(values: &[Stability]) -> Result<bool, Fail> {
             return Ok(false);
         }
     }
-    Ok(true)
+    are_told_apart(values, is_same_stability)
 }
 
 #[test]
 fn of_stability(rt: HostRuntime) -> Result<(), Fail> {
     let values = stabilities(rt.alloc())?;
-    assert!(rt; are_told_apart(rt.alloc(), values.as_slice())?);
     assert!(rt; are_stabilities_copied(values.as_slice())?);
     Ok(())
 }
 
-fn are_docs_copied(values: &[Docs]) -> Result<bool, Fail> {
-    for value in values {
-        if copy_docs(value)? != *value {
-            return Ok(false);
-        }
-    }
-    Ok(true)
-}
-
 #[test]
 fn of_docs(rt: HostRuntime) -> Result<(), Fail> {
-    let values = two(rt.alloc(), docs(rt.alloc())?, Docs::default())?;
-    assert!(rt; are_hashed(rt.alloc(), values.as_slice())?);
-    assert!(rt; are_docs_copied(values.as_slice())?);
+    let value = docs(rt.alloc())?;
+    let copy = copy_docs(&value)?;
+    assert!(rt; is_same_docs(&value, &copy) && value != Docs::default());
     Ok(())
-}
-
-fn packages(alloc: Global) -> Result<Vec<PackageName>, Fail> {
-    let mut values = Vec::new(alloc);
-    add(&mut values, package(alloc, "a", "b")?)?;
-    add(&mut values, versioned(alloc, "a", "b", "1.2.3-rc.1+x")?)?;
-    Ok(values)
-}
-
-fn are_names_copied(values: &[PackageName]) -> Result<bool, Fail> {
-    for value in values {
-        if copy_package_name(value)? != *value {
-            return Ok(false);
-        }
-    }
-    Ok(true)
 }
 
 #[test]
 fn of_packages(rt: HostRuntime) -> Result<(), Fail> {
-    let values = packages(rt.alloc())?;
-    assert!(rt; are_hashed(rt.alloc(), values.as_slice())?);
-    assert!(rt; are_names_copied(values.as_slice())?);
+    let value = versioned(rt.alloc(), "a", "b", "1.2.3-rc.1+x")?;
+    let copy = copy_package_name(&value)?;
+    assert!(rt; is_same_package_name(&value, &copy));
     Ok(())
 }
 
-#[test]
-fn of_params(rt: HostRuntime) -> Result<(), Fail> {
-    let alloc = rt.alloc();
-    let params = two(alloc, param(alloc, Type::U8)?, param(alloc, Type::S8)?)?;
-    assert!(rt; are_told_apart(alloc, params.as_slice())?);
-    Ok(())
+fn two_functions(alloc: Global) -> Result<Vec<Function>, Fail> {
+    let kind = FunctionKind::Method(type_at(alloc, 1)?);
+    let mut values = functions(alloc, "[method]r.f", kind)?;
+    add_function(alloc, &mut values, "[method]r.f", kind)?;
+    if let Some(last) = values.last_mut() {
+        last.span = Span { start: 3, end: 6 };
+    }
+    Ok(values)
+}
+
+fn are_functions(values: &[Function]) -> Result<bool, Fail> {
+    for value in values {
+        if !are_themselves(value.params.as_slice(), is_same_param) {
+            return Ok(false);
+        }
+    }
+    are_told_apart(values, is_same_function)
 }
 
 #[test]
 fn of_functions(rt: HostRuntime) -> Result<(), Fail> {
-    let kind = FunctionKind::Method(type_at(rt.alloc(), 1)?);
-    let mut values = functions(rt.alloc(), "[method]r.f", kind)?;
-    add_function(rt.alloc(), &mut values, "[method]r.f", kind)?;
-    if let Some(last) = values.last_mut() {
-        last.span = Span { start: 3, end: 6 };
-    }
-    assert!(rt; are_told_apart(rt.alloc(), values.as_slice())?);
+    let values = two_functions(rt.alloc())?;
+    assert!(rt; are_functions(values.as_slice())?);
     Ok(())
 }
 
 fn types(alloc: Global) -> Result<Vec<TypeDef>, Fail> {
     let mut values = Vec::new(alloc);
-    add_type(alloc, &mut values, TypeDefKind::List(Type::U8))?;
-    add_type(alloc, &mut values, TypeDefKind::List(Type::S8))?;
+    add_type(alloc, &mut values, TypeDefKind::Resource)?;
+    add_type(alloc, &mut values, TypeDefKind::Unknown)?;
     Ok(values)
 }
 
 #[test]
 fn of_types(rt: HostRuntime) -> Result<(), Fail> {
     let values = types(rt.alloc())?;
-    assert!(rt; are_told_apart(rt.alloc(), values.as_slice())?);
+    assert!(rt; are_told_apart(values.as_slice(), is_same_type_def)?);
     Ok(())
 }
 
-// Interfaces and worlds have maps, which are equal in any order.
+// Two interfaces that differ in one function, and a third without docs.
+fn interfaces(alloc: Global) -> Result<Vec<Interface>, Fail> {
+    let mut values = Vec::new(alloc);
+    add_interface(alloc, &mut values, "f")?;
+    add_interface(alloc, &mut values, "g")?;
+    add_interface(alloc, &mut values, "g")?;
+    if let Some(last) = values.last_mut() {
+        last.docs = Docs::default();
+    }
+    Ok(values)
+}
+
 #[test]
 fn of_interfaces(rt: HostRuntime) -> Result<(), Fail> {
-    let mut values = Vec::new(rt.alloc());
-    add_interface(rt.alloc(), &mut values, "f")?;
-    add_interface(rt.alloc(), &mut values, "g")?;
-    assert!(rt; are_told_apart(rt.alloc(), values.as_slice())?);
+    let values = interfaces(rt.alloc())?;
+    assert!(rt; are_told_apart(values.as_slice(), is_same_interface)?);
     Ok(())
+}
+
+// Two worlds that differ in an export, and a third without includes.
+fn worlds(alloc: Global) -> Result<Vec<World>, Fail> {
+    let mut values = Vec::new(alloc);
+    add_world(alloc, &mut values, &["a", "b"], &["b"])?;
+    add_world(alloc, &mut values, &["a", "b"], &["c"])?;
+    add_world(alloc, &mut values, &["a", "b"], &["c"])?;
+    if let Some(last) = values.last_mut() {
+        last.includes = Row::new(alloc);
+    }
+    Ok(values)
 }
 
 #[test]
 fn of_worlds(rt: HostRuntime) -> Result<(), Fail> {
-    let mut values = Vec::new(rt.alloc());
-    add_world(rt.alloc(), &mut values, &["a", "b"], &["b"])?;
-    add_world(rt.alloc(), &mut values, &["a", "b"], &["c"])?;
-    add_world(rt.alloc(), &mut values, &["a"], &["b"])?;
-    assert!(rt; are_told_apart(rt.alloc(), values.as_slice())?);
+    let values = worlds(rt.alloc())?;
+    assert!(rt; are_told_apart(values.as_slice(), is_same_world)?);
     Ok(())
 }
 
@@ -146,29 +149,26 @@ fn of_worlds_in_any_order(rt: HostRuntime) -> Result<(), Fail> {
     Ok(())
 }
 
+fn includes(alloc: Global) -> Result<Vec<WorldInclude>, Fail> {
+    let mut values = Vec::new(alloc);
+    add_include(alloc, &mut values, "b")?;
+    add_include(alloc, &mut values, "c")?;
+    Ok(values)
+}
+
 fn are_includes_copied(values: &[WorldInclude]) -> Result<bool, Fail> {
     for value in values {
-        if copy_world_include(value)? != *value {
+        let are_names = are_themselves(value.names.as_slice(), is_same_include_name);
+        if !are_names || copy_world_include(value)? != *value {
             return Ok(false);
         }
     }
-    Ok(true)
-}
-
-#[test]
-fn of_renamings(rt: HostRuntime) -> Result<(), Fail> {
-    let alloc = rt.alloc();
-    let names = two(alloc, renaming(alloc, "b")?, renaming(alloc, "c")?)?;
-    assert!(rt; are_told_apart(alloc, names.as_slice())?);
-    Ok(())
+    are_told_apart(values, is_same_world_include)
 }
 
 #[test]
 fn of_includes(rt: HostRuntime) -> Result<(), Fail> {
-    let mut values = Vec::new(rt.alloc());
-    add_include(rt.alloc(), &mut values, "b")?;
-    add_include(rt.alloc(), &mut values, "c")?;
-    assert!(rt; are_told_apart(rt.alloc(), values.as_slice())?);
+    let values = includes(rt.alloc())?;
     assert!(rt; are_includes_copied(values.as_slice())?);
     Ok(())
 }
@@ -186,37 +186,32 @@ fn are_keys_copied(values: &[WorldKey]) -> Result<bool, Fail> {
             return Ok(false);
         }
     }
-    Ok(true)
+    are_told_apart(values, is_same_world_key)
 }
 
 #[test]
 fn of_keys(rt: HostRuntime) -> Result<(), Fail> {
     let values = keys(rt.alloc())?;
-    assert!(rt; are_hashed(rt.alloc(), values.as_slice())?);
     assert!(rt; are_keys_copied(values.as_slice())?);
+    assert!(rt; are_found(rt.alloc(), values.as_slice())?);
     Ok(())
 }
 
-fn add_type_item(alloc: Global, items: &mut Vec<WorldItem>) -> Result<(), Fail> {
+fn items(alloc: Global) -> Result<Vec<WorldItem>, Fail> {
+    let mut values = Vec::new(alloc);
+    add_item(alloc, &mut values)?;
     let id = type_at(alloc, 1)?;
-    add(items, WorldItem::Type_ { id, span: SPAN })?;
-    Ok(())
-}
-
-fn add_function_item(alloc: Global, items: &mut Vec<WorldItem>) -> Result<(), Fail> {
-    let mut values = functions(alloc, "f", FunctionKind::Freestanding)?;
-    if let Some(value) = values.pop() {
-        add(items, WorldItem::Function(value))?;
+    add(&mut values, WorldItem::Type_ { id, span: SPAN })?;
+    let mut made = functions(alloc, "f", FunctionKind::Freestanding)?;
+    if let Some(value) = made.pop() {
+        add(&mut values, WorldItem::Function(value))?;
     }
-    Ok(())
+    Ok(values)
 }
 
 #[test]
 fn of_items(rt: HostRuntime) -> Result<(), Fail> {
-    let mut values = Vec::new(rt.alloc());
-    add_item(rt.alloc(), &mut values)?;
-    add_type_item(rt.alloc(), &mut values)?;
-    add_function_item(rt.alloc(), &mut values)?;
-    assert!(rt; are_told_apart(rt.alloc(), values.as_slice())?);
+    let values = items(rt.alloc())?;
+    assert!(rt; are_told_apart(values.as_slice(), is_same_world_item)?);
     Ok(())
 }

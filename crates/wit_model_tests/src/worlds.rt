@@ -1,6 +1,6 @@
 //! Items and keys of worlds, stabilities and docs.
 use crate::alike::add;
-use crate::fixtures::{SPAN, add_item, docs, functions, interface_at, stable, type_at};
+use crate::fixtures::{SPAN, add_item, docs, functions, interface_at, stable};
 use std::alloc::{AllocError, Global};
 use std::test::Fail;
 use wit_model::{
@@ -19,16 +19,6 @@ fn interface_items(rt: HostRuntime) -> Result<(), Fail> {
         span: SPAN,
     };
     assert!(rt; found.stability(&types).is_unknown());
-    Ok(())
-}
-
-#[test]
-fn type_items(rt: HostRuntime) -> Result<(), Fail> {
-    let found = WorldItem::Type_ {
-        id: type_at(rt.alloc(), 1)?,
-        span: SPAN,
-    };
-    assert!(rt; found.span() == SPAN && world_item_func(&found).is_none());
     Ok(())
 }
 
@@ -111,11 +101,6 @@ fn are_defaults_told() -> bool {
 fn defaults(rt: HostRuntime) -> Result<(), Fail> {
     assert!(rt; are_defaults_told());
     assert!(rt; tells(&stable(rt.alloc())?, false, true));
-    Ok(())
-}
-
-#[test]
-fn written_docs(rt: HostRuntime) -> Result<(), Fail> {
     assert!(rt; !docs(rt.alloc())?.is_empty());
     Ok(())
 }

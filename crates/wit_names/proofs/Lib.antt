@@ -4,3 +4,4 @@ pub mod LabelBytes
 pub mod Labels
 pub mod MadeNames
 mod Examples
+pub mod Fragments

@@ -8,7 +8,7 @@ use Rattle.std.specs.HashMap.{entries_eq}
 use Rattle.std.specs.List.{AllZip, list_all}
 use Rattle.std.specs.Option.{option_eq, option_map}
 use Rattle.std.specs.declared.alloc.Global.{Global}
-use Rattle.indexmap.specs.IndexMap.{insert_entry}
+use Rattle.indexmap.specs.IndexMap.{insert_entry, set_value_at}
 use Rattle.wit_values.specs.TextEntries.{text_entries}
 
 pub length-text_entries : {V : Type 0} (es : List (String Global × V)) → length (text_entries es) ≡ length es
@@ -33,6 +33,15 @@ pub slice_get-text_entries : {V : Type 0} (es : List (String Global × V)) (i : 
 slice_get-text_entries [] i = refl
 slice_get-text_entries (e ∷ es) zero = refl
 slice_get-text_entries (e ∷ es) (suc i) = slice_get-text_entries es i
+
+-- the value at a place is the same, whichever way its key is seen
+pub value-text_entries : {V : Type 0} (es : List (String Global × V)) (i : ℕ) (p : String Global × V) → slice_get es i ≡ Some p → option_map (λ (e : List ℕ × V). e.1) (slice_get (text_entries es) i) ≡ Some p.1
+value-text_entries {V} es i p here = ap (option_map (λ (e : List ℕ × V). e.1)) (slice_get-text_entries es i ∙ ap (option_map (λ (e : String Global × V). (string_bytes e.0, e.1))) here)
+
+pub text_entries-set_value_at : {V : Type 0} (es : List (String Global × V)) (i : ℕ) (w : V) → text_entries (set_value_at es i w) ≡ set_value_at (text_entries es) i w
+text_entries-set_value_at [] i w = refl
+text_entries-set_value_at (e ∷ es) zero w = refl
+text_entries-set_value_at (e ∷ es) (suc i) w = ap (λ l. (string_bytes e.0, e.1) ∷ l) (text_entries-set_value_at es i w)
 
 pub AllZip-text_entries : {V : Type 0} (C : V → V → Type 0) (es fs : List (String Global × V)) → AllZip (λ p q. (string_bytes q.0 ≡ string_bytes p.0) × C p.1 q.1) es fs → AllZip (λ p q. (q.0 ≡ p.0) × C p.1 q.1) (text_entries es) (text_entries fs)
 AllZip-text_entries C [] [] h = h

@@ -1,2 +1,3 @@
 pub mod TextEntries
+pub mod ReleaseOrder
 pub mod ReleaseText

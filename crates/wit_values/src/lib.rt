@@ -4,6 +4,7 @@
 //! without taking memory.
 #![tactic(auto)]
 
+pub mod laws;
 pub mod release;
 mod release_text;
 pub mod row;

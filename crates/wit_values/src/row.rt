@@ -1,7 +1,7 @@
 //! Lists of values, which contracts see as plain lists.
-ghost use Rattle.std.specs.Prelude.{◌≡◌, IfOk, [], length};
+ghost use Rattle.std.specs.Prelude.{◌≡◌, ◌<◌, IfOk, Some, [], length, slice_get, slice_set};
 ghost use Rattle.std.specs.List.{AllZip};
-ghost use Rattle.std.specs.Cmp.Lexicographic.{lists_equiv, pointwise};
+ghost use Rattle.std.specs.Cmp.Lexicographic.{lists_agrees, lists_equiv, lists_po, lists_ties, lists_total, pointwise, slice_cmp, slice_partial_cmp};
 ghost use Rattle.std.specs.Cmp.{partial_equiv_from_equiv};
 ghost use Rattle.std.proofs.Common.{rules};
 ghost use Rattle.std.specs.Hash as fed;
@@ -9,13 +9,15 @@ ghost use Rattle.std.specs.Hash.{items_Alike};
 ghost use Rattle.std.specs.Cmp.Rules.{comparing, hashing};
 
 use std::alloc::{AllocError, Global};
+use std::cmp::Ordering;
 use std::fmt;
 use std::hash::{Hash, Hasher};
 use std::marker::Model;
 
 /// Values in order, which contracts see as a list.
 ///
-/// It is made from a `Vec` and gives it back.
+/// It is made from a `Vec` and gives it back. Rows are compared value by value, and where one is
+/// the other's front the shorter comes first.
 #[derive(Drop)]
 pub struct Row<T> {
     items: Vec<T>,
@@ -38,6 +40,9 @@ impl<T> From<Vec<T>> for Row<T> {
 }
 
 impl<T> Row<T> {
+    ghost use Rattle.std.specs.Borrow.{sem, Lends};
+    ghost use Rattle.wit_values.specs.contracts.row.Row.{the_row};
+
     /// A row with nothing in it.
     pub fn new(alloc: Global) -> Row<T>
         ensures { result ≡ [] }
@@ -59,6 +64,15 @@ impl<T> Row<T> {
         ensures { result.now ≡ self.now }
     {
         self.items.as_slice()
+    }
+
+    /// The value at a place, to be written; nothing else of the row changes.
+    pub fn get_mut(&mut self, place: usize) -> &mut T
+        requires { place < length self.old }
+        ensures* writes_back { sem 𝓛 (Lends (the_row T.row) T.row self.entry result (slice_set self.old place)) }
+        ensures value { slice_get self.old place ≡ Some result.now }
+    {
+        &mut self.items[place]
     }
 
     /// The values, given back.
@@ -106,5 +120,29 @@ impl<T: Hash> Hash for Row<T> {
 
     fn hash<H: Hasher>(&self, state: &mut H) {
         self.items.hash(state);
+    }
+}
+
+impl<T: PartialOrd> PartialOrd for Row<T> {
+    ghost partial_cmp = { slice_partial_cmp T.partial_cmp };
+
+    ghost laws = { lists_po T.PartialOrd.laws };
+
+    fn partial_cmp(&self, other: &Row<T>) -> Option<Ordering> {
+        self.items.partial_cmp(&other.items)
+    }
+}
+
+impl<T: Ord> Ord for Row<T> {
+    ghost cmp = { slice_cmp T.cmp };
+
+    ghost total = { lists_total T.total };
+
+    ghost matches_partial_cmp = { lists_agrees T.matches_partial_cmp };
+
+    ghost matches_eq = { lists_ties T.cmp T.matches_eq };
+
+    fn cmp(&self, other: &Row<T>) -> Ordering {
+        self.items.cmp(&other.items)
     }
 }

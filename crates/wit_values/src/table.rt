@@ -1,5 +1,5 @@
 //! Maps in insertion order, which contracts see as the list of their entries.
-ghost use Rattle.std.specs.Prelude.{◌≡◌, IfOk, OnOk, OnErr, IfErr, [], length, slice_get};
+ghost use Rattle.std.specs.Prelude.{◌≡◌, ◌<◌, Some, IfOk, OnOk, OnErr, IfErr, [], length, slice_get};
 ghost use Rattle.std.specs.List.{AllZip};
 ghost use Rattle.std.specs.HashMap.{entries_eq};
 ghost use Rattle.std.specs.Map.{lookup};
@@ -7,7 +7,7 @@ ghost use Rattle.std.specs.Option.{option_copied, option_map};
 ghost use Rattle.std.specs.Map.Iter.{deref_pair};
 ghost use Rattle.std.specs.HashMap.Eq.{hash_map_eq_symm, hash_map_eq_trans, hash_map_eq_refl};
 ghost use Rattle.std.specs.Cmp.{equiv, partial_equiv_from_equiv};
-ghost use Rattle.indexmap.specs.Layout.{hash_map};
+ghost use Rattle.indexmap.specs.Layout.{hash_map, set_value_at};
 ghost use Rattle.indexmap.specs.IndexMap.{insert_entry};
 
 use indexmap::IndexMap;
@@ -41,6 +41,9 @@ impl<K: Eq + Hash, V> From<IndexMap<K, V>> for Table<K, V> {
 }
 
 impl<K: Eq + Hash, V> Table<K, V> {
+    ghost use Rattle.std.specs.Borrow.{sem, Lends};
+    ghost use Rattle.wit_values.specs.contracts.table.Table.{the_row};
+
     /// A map with nothing in it.
     pub fn new(alloc: Global) -> Table<K, V>
         ensures { result ≡ [] }
@@ -69,6 +72,16 @@ impl<K: Eq + Hash, V> Table<K, V> {
         ensures { option_map deref_pair result ≡ slice_get self.now place }
     {
         self.map.get_index(place)
+    }
+
+    /// The value at a place, to be written; keys, order and other values stay.
+    pub fn value_mut(&mut self, place: usize) -> &mut V
+        requires { place < length self.old }
+        ensures* writes_back { sem 𝓛 (Lends (the_row K.row V.row K.PartialEq (record { hash_input = K.hash_input })) V.row self.entry result (set_value_at self.old place)) }
+        ensures value { option_map (λ e. e.1) (slice_get self.old place) ≡ Some result.now }
+    {
+        let (_, value) = self.map.pair_mut(place);
+        value
     }
 
     /// Puts a value at a key and gives back the one that was there.

@@ -1,9 +1,9 @@
 //! What is put in comes out again.
 
-use crate::{Release, Row, Table, Text, TextTable};
-use indexmap::IndexMap;
+use crate::{Release, Row, Table, Text, TextTable, laws};
 use semver::Version;
 use std::alloc::Global;
+use std::cmp::Ordering;
 use std::test::Fail;
 
 fn row(alloc: Global) -> Result<Row<u8>, Fail> {
@@ -13,69 +13,121 @@ fn row(alloc: Global) -> Result<Row<u8>, Fail> {
     Ok(Row::from(items))
 }
 
+fn is_row(row: &Row<u8>) -> bool {
+    row.len() == 2 && row.as_slice() == [7, 6].as_slice()
+}
+
 #[test]
-fn rows_and_texts(rt: HostRuntime) -> Result<(), Fail> {
-    let alloc = rt.alloc();
-    let values = row(alloc)?;
-    assert!(rt; values.len() == 2 && values.clone()? == values);
-    assert!(rt; values != Row::new(alloc));
-    assert_eq!(rt; values.as_slice(), [7, 5].as_slice());
-    let items = values.into_vec();
-    assert_eq!(rt; items.as_slice(), [7, 5].as_slice());
-    let text = Text::from_str(alloc, "ab")?;
-    assert!(rt; text.clone()? == text && text < Text::from_str(alloc, "b")?);
-    assert_eq!(rt; text.as_str(), "ab");
+fn rows(rt: HostRuntime) -> Result<(), Fail> {
+    let mut values = row(rt.alloc())?;
+    if values.len() == 2 {
+        *values.get_mut(1) = 6;
+    }
+    assert!(rt; is_row(&values) && values.clone()? == values && values != Row::new(rt.alloc()));
+    assert_eq!(rt; values.into_vec().as_slice(), [7, 6].as_slice());
+    Ok(())
+}
+
+#[test]
+fn texts(rt: HostRuntime) -> Result<(), Fail> {
+    let text = Text::from_str(rt.alloc(), "ab")?;
+    assert!(rt; text.clone()? == text && text.as_str() == "ab");
     assert_eq!(rt; text.into_string().as_str(), "ab");
     Ok(())
 }
 
+fn release(alloc: Global, text: &str) -> Result<Release, Fail> {
+    let version = Version::parse(alloc, text)?;
+    Ok(Release::from(version))
+}
+
+fn is_shown(alloc: Global, release: &Release, wanted: &str) -> Result<bool, Fail> {
+    let shown = format!(in alloc; "{release}")?;
+    Ok(shown.as_str() == wanted && release.clone()? == *release)
+}
+
+// Whether the version of each text is less than the next, and the same as itself.
+fn are_rising(alloc: Global, texts: &[&str]) -> Result<bool, Fail> {
+    let mut releases = Vec::new(alloc);
+    for text in texts {
+        releases.push(release(alloc, text)?)?;
+    }
+    for i in 1..releases.len() {
+        let (less, greater) = (&releases[i - 1], &releases[i]);
+        if laws::compare_releases(less, greater) != Ordering::Less || *greater <= *less {
+            return Ok(false);
+        }
+        if !laws::is_same_release(less, less) || laws::is_same_release(less, greater) {
+            return Ok(false);
+        }
+    }
+    Ok(true)
+}
+
 #[test]
 fn releases(rt: HostRuntime) -> Result<(), Fail> {
-    let alloc = rt.alloc();
-    let release = Release::from(Version::parse(alloc, "1.2.3-rc.1+b")?);
-    assert_eq!(rt; release.pre.as_str(), "rc.1");
-    assert_eq!(rt; release.build.as_str(), "b");
-    let shown = format!(in alloc; "{release}")?;
-    assert_eq!(rt; shown.as_str(), "1.2.3-rc.1+b");
-    assert!(rt; release.clone()? == release);
-    assert!(rt; release < Release::from(Version::parse(alloc, "1.2.3")?));
-    let version = release.into_version();
-    assert!(rt; version == Version::parse(alloc, "1.2.3-rc.1+b")?);
+    let release = release(rt.alloc(), "1.2.3-rc.1+b")?;
+    assert!(rt; release.pre.as_str() == "rc.1" && release.build.as_str() == "b");
+    assert!(rt; is_shown(rt.alloc(), &release, "1.2.3-rc.1+b")?);
+    assert!(rt; release.into_version() == Version::parse(rt.alloc(), "1.2.3-rc.1+b")?);
     Ok(())
+}
+
+#[test]
+fn order_of_releases(rt: HostRuntime) -> Result<(), Fail> {
+    let texts = ["1.2.3-rc.1+b", "1.2.3", "1.2.3+b", "1.3.0"];
+    assert!(rt; are_rising(rt.alloc(), texts.as_slice())?);
+    Ok(())
+}
+
+fn table(alloc: Global, keys: &[u8]) -> Result<Table<u8, u8>, Fail> {
+    let mut table: Table<u8, u8> = Table::new(alloc);
+    for key in keys {
+        table.insert(*key, 5)?;
+    }
+    Ok(table)
+}
+
+fn is_table(table: &Table<u8, u8>) -> bool {
+    table.len() == 2
+        && table.as_map().len() == 2
+        && table.get(&3) == Some(&5)
+        && table.get_index(1) == Some((&1, &5))
 }
 
 #[test]
 fn tables(rt: HostRuntime) -> Result<(), Fail> {
-    let alloc = rt.alloc();
-    let mut table: Table<u8, u8> = Table::new(alloc);
-    table.insert(3, 4)?;
-    table.insert(1, 2)?;
-    let was = table.insert(3, 5)?;
-    assert!(rt; was == Some(4) && table.len() == 2);
-    assert!(rt; table.get(&3) == Some(&5) && table.get(&9).is_none());
-    assert!(rt; table.get_index(1) == Some((&1, &2)) && table.get_index(2).is_none());
-    let mut turned: Table<u8, u8> = Table::new(alloc);
-    turned.insert(1, 2)?;
-    turned.insert(3, 5)?;
-    assert!(rt; table == turned && table.clone()? == table);
-    assert_eq!(rt; table.as_map().len(), 2);
-    let map: IndexMap<u8, u8> = table.into_map();
-    assert!(rt; map.get(&1) == Some(&2));
+    let mut values = table(rt.alloc(), &[3, 1])?;
+    assert!(rt; is_table(&values) && values == table(rt.alloc(), &[1, 3])?);
+    if values.len() == 2 {
+        *values.value_mut(1) = 6;
+    }
+    assert!(rt; values.clone()?.into_map().get(&1) == Some(&6));
     Ok(())
+}
+
+fn text_table(alloc: Global, keys: &[&str]) -> Result<TextTable<u8>, Fail> {
+    let mut table: TextTable<u8> = TextTable::new(alloc);
+    for key in keys {
+        table.insert(String::from_str(alloc, key)?, 5)?;
+    }
+    Ok(table)
+}
+
+fn is_text_table(table: &TextTable<u8>) -> bool {
+    table.len() == 2
+        && table.as_map().len() == 2
+        && table.get("c") == Some(&5)
+        && table.get_index(1) == Some(("a", &5))
 }
 
 #[test]
 fn text_tables(rt: HostRuntime) -> Result<(), Fail> {
-    let alloc = rt.alloc();
-    let mut table: TextTable<u8> = TextTable::new(alloc);
-    table.insert(String::from_str(alloc, "a")?, 4)?;
-    let was = table.insert(String::from_str(alloc, "a")?, 5)?;
-    assert!(rt; was == Some(4) && table.len() == 1);
-    assert!(rt; table.get("a") == Some(&5) && table.get("b").is_none());
-    assert!(rt; table.get_index(0) == Some(("a", &5)) && table.get_index(1).is_none());
-    assert!(rt; table.clone()? == table && table != TextTable::new(alloc));
-    assert_eq!(rt; table.as_map().len(), 1);
-    let map = table.into_map();
-    assert!(rt; map.get("a") == Some(&5));
+    let mut values = text_table(rt.alloc(), &["c", "a"])?;
+    assert!(rt; is_text_table(&values) && values == text_table(rt.alloc(), &["a", "c"])?);
+    if values.len() == 2 {
+        *values.value_mut(1) = 6;
+    }
+    assert!(rt; values.clone()?.into_map().get("a") == Some(&6));
     Ok(())
 }

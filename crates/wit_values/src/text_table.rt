@@ -1,5 +1,5 @@
 //! Maps from texts in insertion order, which contracts see as the list of their entries.
-ghost use Rattle.std.specs.Prelude.{◌≡◌, ◌↔◌, ◌<◌, OnOk, OnErr, IfErr, IfOk, IsSome, [], nat_eq, string_bytes, length, slice_get};
+ghost use Rattle.std.specs.Prelude.{◌≡◌, ◌↔◌, ◌<◌, Some, OnOk, OnErr, IfErr, IfOk, IsSome, [], nat_eq, string_bytes, length, slice_get};
 ghost use Rattle.std.specs.Cmp.Lexicographic.{pointwise, nat_list_eq_equiv};
 ghost use Rattle.std.specs.Cmp.{equiv, partial_equiv_from_equiv};
 ghost use Rattle.std.specs.HashMap.{entries_eq};
@@ -8,7 +8,7 @@ ghost use Rattle.std.specs.List.{AllZip};
 ghost use Rattle.std.specs.Map.{lookup};
 ghost use Rattle.std.specs.Option.{option_copied, option_map};
 ghost use Rattle.indexmap.specs.IndexMap.{insert_entry};
-ghost use Rattle.indexmap.specs.Layout.{hash_map};
+ghost use Rattle.indexmap.specs.Layout.{hash_map, set_value_at};
 ghost use Rattle.wit_values.specs.TextEntries.{text_entries};
 
 use indexmap::IndexMap;
@@ -42,6 +42,9 @@ impl<V> From<IndexMap<String, V>> for TextTable<V> {
 }
 
 impl<V> TextTable<V> {
+    ghost use Rattle.std.specs.Borrow.{sem, Lends};
+    ghost use Rattle.wit_values.specs.contracts.text_table.TextTable.{the_row};
+
     /// A map with nothing in it.
     pub fn new(alloc: Global) -> TextTable<V>
         ensures { result ≡ [] }
@@ -73,6 +76,16 @@ impl<V> TextTable<V> {
             Some((key, value)) => Some((key.as_str(), value)),
             None => None,
         }
+    }
+
+    /// The value at a place, to be written; texts, order and other values stay.
+    pub fn value_mut(&mut self, place: usize) -> &mut V
+        requires { place < length self.old }
+        ensures* writes_back { sem 𝓛 (Lends (the_row V.row) V.row self.entry result (set_value_at self.old place)) }
+        ensures value { option_map (λ e. e.1) (slice_get self.old place) ≡ Some result.now }
+    {
+        let (_, value) = self.map.pair_mut(place);
+        value
     }
 
     /// Puts a value at a text and gives back the one that was there.

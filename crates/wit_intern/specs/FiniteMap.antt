@@ -1,0 +1,35 @@
+-- A finite map from keys to types, and what it replies to finds and inserts.
+use Rattle.std.specs.Prelude.{ℕ, Bool, List, [], ◌∷◌, Option, Some, None, if◌then◌else◌}
+use Rattle.wit_intern.specs.declared.key.InternKey.{InternKey}
+use Rattle.wit_intern.specs.declared.run.InternStep.{InternStep}
+use Rattle.wit_intern.specs.declared.run.InternStep.TheVariants.{Find, Insert}
+use Rattle.wit_intern.specs.declared.run.InternReply.{InternReply}
+use Rattle.wit_intern.specs.declared.run.InternReply.TheVariants.{Found, Inserted}
+use Rattle.wit_intern.specs.contracts.key.InternKeyPartialEq.TheImpl.{eq-value as key_test}
+
+-- which type stands at a key, if one does
+abbrev pub FiniteMap : Type 0
+FiniteMap = InternKey → Option ℕ
+
+-- nothing at any key
+abbrev pub empty_map : FiniteMap
+empty_map k = None
+
+-- with a type at a key, also where one stood there
+abbrev pub set_at : InternKey → ℕ → FiniteMap → FiniteMap
+set_at key id m k = if key_test.it key k then Some id else m k
+
+-- the map behind a step
+abbrev pub after_step : InternStep → FiniteMap → FiniteMap
+after_step (Find key) m = m
+after_step (Insert key id) m = set_at key id m
+
+-- what the map replies to a step
+abbrev pub reply : InternStep → FiniteMap → InternReply
+reply (Find key) m = Found (m key)
+reply (Insert key id) m = Inserted
+
+-- what it replies to one step behind the other
+abbrev pub replies : List InternStep → FiniteMap → List InternReply
+replies [] m = []
+replies (s ∷ steps) m = reply s m ∷ replies steps (after_step s m)

@@ -1,0 +1,2 @@
+pub mod FiniteMap
+pub mod Keys

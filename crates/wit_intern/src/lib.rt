@@ -1,0 +1,16 @@
+//! Tables that find unnamed types by what they are.
+//!
+//! A table keeps a finite map from keys to types, whichever way it holds them.
+#![tactic(auto)]
+
+pub mod key;
+pub mod laws;
+pub mod run;
+pub mod table;
+mod tables;
+#[cfg(test)]
+mod tests;
+
+pub use key::InternKey;
+pub use run::{InternReply, InternStep, intern_run};
+pub use table::InternTable;

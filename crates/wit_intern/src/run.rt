@@ -1,0 +1,61 @@
+//! Runs of finds and inserts.
+ghost use Rattle.std.specs.Prelude.{◌≡◌, IfOk, OnOk, length, take};
+ghost use Rattle.wit_intern.specs.FiniteMap.{after_step, replies, reply};
+
+use crate::key::InternKey;
+use crate::table::InternTable;
+use std::alloc::{AllocError, Global};
+use wit_model::TypeId;
+
+/// What a table is asked.
+#[derive(Debug, Clone, PartialEq, Eq, Drop)]
+pub enum InternStep {
+    Find(InternKey),
+    Insert(InternKey, TypeId),
+}
+
+/// What a table replies.
+#[derive(Debug, Clone, Copy, PartialEq, Eq)]
+pub enum InternReply {
+    Found(Option<TypeId>),
+    Inserted,
+}
+
+fn take_step<T: InternTable>(table: &mut T, asked: &InternStep) -> Result<InternReply, AllocError>
+    ensures reply { IfOk result (λ r. r ≡ reply asked.now (T.content table.old)) }
+    ensures table { OnOk result (T.content table.new ≡ after_step asked.now (T.content table.old)) }
+{
+    match asked {
+        InternStep::Find(key) => Ok(InternReply::Found(table.find(key))),
+        InternStep::Insert(key, id) => {
+            table.insert(key.clone()?, *id)?;
+            Ok(InternReply::Inserted)
+        }
+    }
+}
+
+/// The replies of a table to finds and inserts, one behind the other.
+///
+/// They are those of a finite map, whichever way the table holds it. Where memory is wanted they
+/// end there, and the second answer tells so.
+pub fn intern_run<T: InternTable>(
+    alloc: Global,
+    table: &mut T,
+    steps: &[InternStep],
+) -> (Vec<InternReply>, Result<(), AllocError>)
+    ensures front { result.0.items ≡ take (length result.0.items) (replies steps.now (T.content table.old)) }
+    ensures whole { OnOk result.1 (result.0.items ≡ replies steps.now (T.content table.old)) }
+{
+    let mut told = Vec::new(alloc);
+    for at in 0..steps.len() {
+        let reply = match take_step(table, &steps[at]) {
+            Ok(reply) => reply,
+            Err(refusal) => return (told, Err(refusal)),
+        };
+        match told.push(reply) {
+            Ok(()) => {}
+            Err(_) => return (told, Err(AllocError)),
+        }
+    }
+    (told, Ok(()))
+}

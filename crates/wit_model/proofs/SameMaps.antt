@@ -1,0 +1,52 @@
+-- Tests for equality of interfaces and worlds, which decide whether they are the same but for the order of their maps.
+use Rattle.std.proofs.Common.{◌≡◌, ℕ, nat_eq, List, Bool, refl, rules}
+use Rattle.std.specs.Bool.{Decides}
+use Rattle.std.specs.Cmp.{IsEquivalence, decided}
+use Rattle.std.specs.Cmp.Lexicographic.{nat_list_eq_equiv, pointwise}
+use Rattle.std.specs.HashMap.{entries_eq}
+use Rattle.std.specs.Option.{option_eq}
+use Rattle.std.proofs.lemmas.Bool.Decides.{Decides-and, Decides-at, Decides-eqb, Decides-like}
+use Rattle.std.proofs.lemmas.Map.Lookups.{hash_map_eq-Decides}
+use Rattle.indexmap.specs.Layout.{hash_map}
+use Rattle.wit_model.proofs.Same.{Decides-docs, Decides-function, Decides-include, Decides-option, Decides-optional_text, Decides-row, Decides-span, Decides-stability, Decides-text, Decides-world_item}
+use Rattle.wit_model.specs.Same.{HoldSamePairs, IsSameInterface, IsSameWorld, is_same_key, is_same_name}
+use Rattle.wit_model.specs.contracts.interface.InterfacePartialEq.TheImpl.{eq-value as interface_test}
+use Rattle.wit_model.specs.contracts.world.WorldItemPartialEq.TheImpl.{eq-value as world_item_test}
+use Rattle.wit_model.specs.contracts.world.WorldKeyPartialEq.TheImpl.{eq-value as key_test}
+use Rattle.wit_model.specs.contracts.world.WorldPartialEq.TheImpl.{eq-value as world_test}
+use Rattle.wit_model.specs.declared.interface.Interface.{Interface}
+use Rattle.wit_model.specs.declared.world.World.{World}
+use Rattle.wit_model.specs.declared.world.WorldItem.{WorldItem}
+use Rattle.wit_model.specs.declared.world.WorldKey.{WorldKey}
+use Rattle.wit_model.specs.declared.world.WorldKey.TheVariants as key
+
+-- where the tests decide keys and values, that of maps decides whether they hold the same pairs
+pub Decides-map : {K V : Type 0} {R : K → K → Bool} {E : V → V → Bool} → IsEquivalence R → ((a b : V) → Decides (E a b) (a ≡ b)) → (xs ys : List (K × V)) → Decides (entries_eq R (λ p q. E p.1 q.1) xs ys) (HoldSamePairs R xs ys)
+Decides-map keys values xs ys = hash_map_eq-Decides keys values (hash_map {S = Unit {0}} xs tt 0) (hash_map {S = Unit {0}} ys tt 0) _ refl
+
+Decides-named : {V : Type 0} {E : V → V → Bool} → ((a b : V) → Decides (E a b) (a ≡ b)) → (xs ys : List (List ℕ × V)) → Decides (entries_eq is_same_name (λ p q. E p.1 q.1) xs ys) (HoldSamePairs is_same_name xs ys)
+Decides-named = Decides-map nat_list_eq_equiv
+
+Decides-id : (a b : ℕ) → Decides (nat_eq a b) (a ≡ b)
+Decides-id = Decides-eqb
+
+Decides-key : (a b : WorldKey) → Decides (is_same_key a b) (a ≡ b)
+Decides-key (key.Name a) (key.Name b) = search (rules, Decides-text)
+Decides-key (key.Name a) (key.Interface j) = search rules
+Decides-key (key.Interface i) (key.Name b) = search rules
+Decides-key (key.Interface i) (key.Interface j) = search rules
+
+key_test-same : (a b : WorldKey) → key_test.it a b ≡ is_same_key a b
+key_test-same (key.Name a) (key.Name b) = refl
+key_test-same (key.Name a) (key.Interface j) = refl
+key_test-same (key.Interface i) (key.Name b) = refl
+key_test-same (key.Interface i) (key.Interface j) = refl
+
+Decides-items : (xs ys : List (WorldKey × WorldItem)) → Decides (entries_eq key_test.it (λ p q. world_item_test.it p.1 q.1) xs ys) (HoldSamePairs is_same_key xs ys)
+Decides-items xs ys = Decides-at _ _ (λ i. entries_eq (λ a b. key_test-same a b i) (λ p q. world_item_test.it p.1 q.1) xs ys) (Decides-map (decided is_same_key Decides-key) Decides-world_item xs ys)
+
+pub Decides-interface : (a b : Interface) → Decides (interface_test.it a b) (IsSameInterface a b)
+Decides-interface a b = Decides-like _ (λ e. record { name = e.0; types = e.1.0; functions = e.1.1.0; docs = e.1.1.1.0; stability = e.1.1.1.1.0; «package» = e.1.1.1.1.1.0; span = e.1.1.1.1.1.1.0; clone_of = e.1.1.1.1.1.1.1 }) (λ s. (s.name, (s.types, (s.functions, (s.docs, (s.stability, (s.package, (s.span, s.clone_of)))))))) (Decides-and _ _ (Decides-optional_text a.name b.name) (Decides-and _ _ (Decides-named Decides-id a.types b.types) (Decides-and _ _ (Decides-named Decides-function a.functions b.functions) (Decides-and _ _ (Decides-docs a.docs b.docs) (Decides-and _ _ (Decides-stability a.stability b.stability) (Decides-and _ _ (Decides-option Decides-id a.package b.package) (Decides-and _ _ (Decides-span a.span b.span) (Decides-option Decides-id a.clone_of b.clone_of))))))))
+
+pub Decides-world : (a b : World) → Decides (world_test.it a b) (IsSameWorld a b)
+Decides-world a b = Decides-like _ (λ e. record { name = e.0; imports = e.1.0; exports = e.1.1.0; «package» = e.1.1.1.0; docs = e.1.1.1.1.0; stability = e.1.1.1.1.1.0; includes = e.1.1.1.1.1.1.0; span = e.1.1.1.1.1.1.1 }) (λ s. (s.name, (s.imports, (s.exports, (s.package, (s.docs, (s.stability, (s.includes, s.span)))))))) (Decides-and _ _ (Decides-text a.name b.name) (Decides-and _ _ (Decides-items a.imports b.imports) (Decides-and _ _ (Decides-items a.exports b.exports) (Decides-and _ _ (Decides-option Decides-id a.package b.package) (Decides-and _ _ (Decides-docs a.docs b.docs) (Decides-and _ _ (Decides-stability a.stability b.stability) (Decides-and _ _ (Decides-row Decides-include a.includes b.includes) (Decides-span a.span b.span))))))))

@@ -1,0 +1,43 @@
+-- When two interfaces or two worlds are the same: each plain field is equal, and each map holds the same pairs in any order.
+use Rattle.std.specs.Prelude.{◌≡◌, ℕ, Bool, false, List, nat_eq}
+use Rattle.std.specs.Cmp.Lexicographic.{pointwise}
+use Rattle.std.specs.Map.{lookup}
+use Rattle.wit_model.specs.declared.interface.Interface.{Interface}
+use Rattle.wit_model.specs.declared.world.World.{World}
+use Rattle.wit_model.specs.declared.world.WorldKey.{WorldKey}
+use Rattle.wit_model.specs.declared.world.WorldKey.TheVariants as key
+
+-- each key has the same value in both maps, or none in both
+abbrev pub HoldSamePairs : {K V : Type 0} → (K → K → Bool) → List (K × V) → List (K × V) → Type 0
+HoldSamePairs {K} same_key a b = (k : K) → lookup (same_key k) a ≡ lookup (same_key k) b
+
+-- two texts are the same, byte by byte
+abbrev pub is_same_name : List ℕ → List ℕ → Bool
+is_same_name = pointwise nat_eq
+
+-- two keys are the same name, or the same interface
+abbrev pub is_same_key : WorldKey → WorldKey → Bool
+is_same_key (key.Name a) (key.Name b) = is_same_name a b
+is_same_key (key.Name a) (key.Interface j) = false
+is_same_key (key.Interface i) (key.Name b) = false
+is_same_key (key.Interface i) (key.Interface j) = nat_eq i j
+
+pub record IsSameInterface (a b : Interface) : Type 0 where
+  pub name : a.name ≡ b.name
+  pub types : HoldSamePairs is_same_name a.types b.types
+  pub functions : HoldSamePairs is_same_name a.functions b.functions
+  pub docs : a.docs ≡ b.docs
+  pub stability : a.stability ≡ b.stability
+  pub «package» : a.package ≡ b.package
+  pub span : a.span ≡ b.span
+  pub clone_of : a.clone_of ≡ b.clone_of
+
+pub record IsSameWorld (a b : World) : Type 0 where
+  pub name : a.name ≡ b.name
+  pub imports : HoldSamePairs is_same_key a.imports b.imports
+  pub exports : HoldSamePairs is_same_key a.exports b.exports
+  pub «package» : a.package ≡ b.package
+  pub docs : a.docs ≡ b.docs
+  pub stability : a.stability ≡ b.stability
+  pub includes : a.includes ≡ b.includes
+  pub span : a.span ≡ b.span

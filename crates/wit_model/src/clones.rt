@@ -1,0 +1,141 @@
+//! Clones: each is equal to its source, the order of maps included.
+ghost use Rattle.std.specs.Prelude.{◌≡◌, IfOk};
+
+use crate::function::{Function, Param};
+use crate::ids::TypeId;
+use crate::interface::Interface;
+use crate::laws::copies::{copy_docs, copy_kind, copy_stability};
+use crate::types::TypeDef;
+use crate::world::{World, WorldInclude, WorldItem, WorldKey};
+use std::alloc::AllocError;
+use wit_values::{Row, Table, Text, TextTable};
+
+fn copy_text(text: &Option<Text>) -> Result<Option<Text>, AllocError>
+    ensures { IfOk result (λ copy. copy ≡ text.now) }
+{
+    text.clone()
+}
+
+fn copy_params(params: &Row<Param>) -> Result<Row<Param>, AllocError>
+    ensures { IfOk result (λ copy. copy ≡ params.now) }
+{
+    params.clone()
+}
+
+fn copy_types(types: &TextTable<TypeId>) -> Result<TextTable<TypeId>, AllocError>
+    ensures { IfOk result (λ copy. copy ≡ types.now) }
+{
+    types.clone()
+}
+
+fn copy_functions(functions: &TextTable<Function>) -> Result<TextTable<Function>, AllocError>
+    ensures { IfOk result (λ copy. copy ≡ functions.now) }
+{
+    functions.clone()
+}
+
+fn copy_items(items: &Table<WorldKey, WorldItem>) -> Result<Table<WorldKey, WorldItem>, AllocError>
+    ensures { IfOk result (λ copy. copy ≡ items.now) }
+{
+    items.clone()
+}
+
+fn copy_includes(includes: &Row<WorldInclude>) -> Result<Row<WorldInclude>, AllocError>
+    ensures { IfOk result (λ copy. copy ≡ includes.now) }
+{
+    includes.clone()
+}
+
+impl Clone for TypeDef {
+    ghost is_clone = { λ def copy. copy ≡ def };
+
+    fn clone(&self) -> Result<TypeDef, AllocError> {
+        Ok(TypeDef {
+            name: copy_text(&self.name)?,
+            kind: copy_kind(&self.kind)?,
+            owner: self.owner,
+            docs: copy_docs(&self.docs)?,
+            stability: copy_stability(&self.stability)?,
+            span: self.span,
+            external_id: copy_text(&self.external_id)?,
+        })
+    }
+}
+
+impl Clone for Function {
+    ghost is_clone = { λ function copy. copy ≡ function };
+
+    fn clone(&self) -> Result<Function, AllocError> {
+        Ok(Function {
+            name: self.name.clone()?,
+            kind: self.kind,
+            params: copy_params(&self.params)?,
+            result: self.result,
+            docs: copy_docs(&self.docs)?,
+            stability: copy_stability(&self.stability)?,
+            span: self.span,
+            external_id: copy_text(&self.external_id)?,
+        })
+    }
+}
+
+impl Clone for Interface {
+    ghost is_clone = { λ interface copy. copy ≡ interface };
+
+    fn clone(&self) -> Result<Interface, AllocError> {
+        Ok(Interface {
+            name: copy_text(&self.name)?,
+            types: copy_types(&self.types)?,
+            functions: copy_functions(&self.functions)?,
+            docs: copy_docs(&self.docs)?,
+            stability: copy_stability(&self.stability)?,
+            package: self.package,
+            span: self.span,
+            clone_of: self.clone_of,
+        })
+    }
+}
+
+impl Clone for WorldItem {
+    ghost is_clone = { λ item copy. copy ≡ item };
+
+    fn clone(&self) -> Result<WorldItem, AllocError> {
+        match self {
+            WorldItem::Interface {
+                id,
+                stability,
+                external_id,
+                docs,
+                span,
+            } => Ok(WorldItem::Interface {
+                id: *id,
+                stability: copy_stability(stability)?,
+                external_id: copy_text(external_id)?,
+                docs: copy_docs(docs)?,
+                span: *span,
+            }),
+            WorldItem::Function(function) => Ok(WorldItem::Function(function.clone()?)),
+            WorldItem::Type_ { id, span } => Ok(WorldItem::Type_ {
+                id: *id,
+                span: *span,
+            }),
+        }
+    }
+}
+
+impl Clone for World {
+    ghost is_clone = { λ world copy. copy ≡ world };
+
+    fn clone(&self) -> Result<World, AllocError> {
+        Ok(World {
+            name: self.name.clone()?,
+            imports: copy_items(&self.imports)?,
+            exports: copy_items(&self.exports)?,
+            package: self.package,
+            docs: copy_docs(&self.docs)?,
+            stability: copy_stability(&self.stability)?,
+            includes: copy_includes(&self.includes)?,
+            span: self.span,
+        })
+    }
+}

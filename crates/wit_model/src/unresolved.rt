@@ -1,0 +1,55 @@
+//! Resolved packages.
+ghost use Rattle.std.specs.Prelude.{◌≡◌};
+
+use crate::arena::Arena;
+use crate::ids::{InterfacePlace, TypePlace, WorldPlace};
+use crate::interface::Interface;
+use crate::package_name::PackageName;
+use crate::types::TypeDef;
+use crate::world::World;
+use wit_tree::Span;
+
+/// A package whose names are resolved, but not those of other packages.
+#[derive(Debug, Drop)]
+pub struct UnresolvedPackage {
+    /// The name that the headers give.
+    pub name: PackageName,
+    pub worlds: Arena<World, WorldPlace>,
+    /// The interfaces: each behind those that it uses, and else in push order and source order.
+    pub interfaces: Arena<Interface, InterfacePlace>,
+    /// The types: each behind those that it refers to.
+    pub types: Arena<TypeDef, TypePlace>,
+    name_span: Span,
+}
+
+impl UnresolvedPackage {
+    /// A package of these parts, whose last header stands at `name_span`.
+    pub fn new(
+        name: PackageName,
+        worlds: Arena<World, WorldPlace>,
+        interfaces: Arena<Interface, InterfacePlace>,
+        types: Arena<TypeDef, TypePlace>,
+        name_span: Span,
+    ) -> Self
+        ensures name { result.name ≡ name }
+        ensures worlds { result.worlds ≡ worlds }
+        ensures interfaces { result.interfaces ≡ interfaces }
+        ensures types { result.types ≡ types }
+        ensures name_span { result.name_span ≡ name_span }
+    {
+        UnresolvedPackage {
+            name,
+            worlds,
+            interfaces,
+            types,
+            name_span,
+        }
+    }
+
+    /// Where the last header stands.
+    pub fn package_name_span(&self) -> Span
+        ensures { result ≡ self.now.name_span }
+    {
+        self.name_span
+    }
+}
