@@ -6,8 +6,6 @@ use Rattle.std.proofs.lemmas.Option.{same_Some, none-some, slice_get_within}
 use Rattle.wit_tree.specs.declared.tree.Id.{Id}
 use Rattle.wit_order.specs.Order.{ReachesCycle, IsBefore, IsDependencyFirst, IsLeast}
 use Rattle.wit_order.specs.Table.{Row, target, IsMissing, IsCyclic, IsComplete, Leads}
-use Rattle.wit_tree.specs.declared.error.ParseErrorKind.{ParseErrorKind}
-use Rattle.wit_order.specs.Refused.{RefusesMissing, RefusesCycle}
 use Rattle.wit_order.specs.Laws.{HasEdgeThat, AreAccepted, AreRefused}
 use Rattle.wit_order.proofs.Greedy.{IsGreedy, greedy_nil, greedy_push, greedy_least, greedy_sorted}
 use Rattle.wit_order.proofs.Cycle.{before_or_not, missing, stuck_cycle}
@@ -144,10 +142,3 @@ module _ (rs : List Row) where
   pub never_both : AreAccepted rs → AreRefused rs → ⊥
   never_both a (inl (i, k, id, e, gone)) = not_missing (target rs id) ((a.1).complete i k id e) gone
   never_both a (inr (complete, (i, k, id, e, cyclic))) = no_cycle (Leads rs) (length rs) a.0 ((a.1).sorted) i (slice_get_within rs i e.0 e.1) cyclic.0
-
--- what is refused has no order
-pub missing-refused : (rs : List Row) (sort : List ℕ) (kind : ParseErrorKind) → RefusesMissing rs sort kind → AreRefused rs
-missing-refused rs sort kind r = inl (r.place, r.index, r.id, r.first.is, r.first.holds)
-
-pub cycle-refused : (rs : List Row) (sort : List ℕ) (kind : ParseErrorKind) → RefusesCycle rs sort kind → AreRefused rs
-cycle-refused rs sort kind r = inr (r.complete, (r.place, r.index, r.id, r.first.is, r.first.holds))

@@ -10,4 +10,8 @@ pub mod Forward
 pub mod Rows
 pub mod SameEdges
 pub mod Decided
-pub mod Lookup
+pub mod Faults
+pub mod ReadySet
+pub mod Chains
+pub mod Released
+pub mod TreeState

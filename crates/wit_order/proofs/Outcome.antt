@@ -1,20 +1,19 @@
 -- What the graph's order or its first stuck edge says of the rows.
-use Rattle.std.proofs.Common.{◌≡◌, ℕ, zero, suc, ◌<◌, List, length, get_or, sym, ◌∙◌, ap, refl, subst, inl, inr, Bool, false, Some, Vec, Global, [], slice_get, All}
+use Rattle.std.proofs.Common.{◌≡◌, ℕ, zero, suc, ◌<◌, List, length, get_or, sym, ◌∙◌, ap, refl, subst, inl, inr, Bool, false, Some, Vec, Global, [], ◌∷◌, map, drop, arith, sum_by}
 use Rattle.std.specs.Str.{bytes_eq}
 use Rattle.std.proofs.lemmas.List.{length-map}
-use Rattle.std.proofs.lemmas.List.Elements.{All-from_get_or}
 use Rattle.std.proofs.lemmas.List.Quantifiers.{position-Some}
 use Rattle.std.proofs.lemmas.Bool.{cases_Bool, MatchBool-at_true, MatchBool-at_false}
 use Rattle.std.proofs.lemmas.Option.{slice_get_within, get_or_from_slice_get, slice_get-get_or, same_Some}
 use Rattle.wit_tree.specs.declared.tree.Id.{Id}
-use Rattle.wit_tree.specs.declared.error.ParseErrorKind.{ParseErrorKind}
-use Rattle.wit_tree.specs.Refusal.{IsTypeCycle}
+use Rattle.wit_order.specs.declared.fault.OrderFault.TheVariants.{Cyclic}
 use Rattle.wit_order.specs.Edges.{IsFirstEdge}
+use Rattle.std.proofs.lemmas.List.Sums.{sum_by-cons}
+use Rattle.wit_order.specs.Users.{edge_count}
 use Rattle.wit_order.specs.Graph.{Graph, HasEdge, IsClosed, IsGraphEdge, IsStuckEdge, IsSortOf}
 use Rattle.wit_order.specs.Order.{Walk, ReachesCycle, IsDependencyFirst, IsLeast}
 use Rattle.wit_order.specs.Table.{Row, place_of, target, IsEdge, Leads, IsComplete, IsOrder}
-use Rattle.wit_order.specs.Refused.{RefusesCycle}
-use Rattle.wit_order.specs.Resolved.{IsGraphOf}
+use Rattle.wit_order.specs.Resolved.{IsGraphOf, Cycles}
 use Rattle.wit_order.specs.declared.places.Sorted.TheVariants.{Stuck}
 use Rattle.wit_order.proofs.Tables.{matched, known, wants, has}
 use Rattle.wit_order.proofs.Sorting.{edge_from, edge_to}
@@ -62,20 +61,42 @@ cycle_edge R a r =
 pub place_below : (rs : List Row) (name : List ℕ) (w : ℕ) → place_of rs name ≡ Some w → w < length rs
 place_below rs name w e = (position-Some (λ (row : Row). bytes_eq name row.name) rs w (record { name = name; needs = [] }) e).0
 
-same_edge : (g : Graph) (i k v w : ℕ) → IsGraphEdge g i k v → IsGraphEdge g i k w → v ≡ w
-same_edge g i k v w (r, at, there) (r', at', there') =
-    let rows : Some r ≡ Some r' = sym at ∙ at' in
-    let ends : Some v ≡ Some w = sym there ∙ ap (λ (x : Vec ℕ Global). slice_get x.items k) (same_Some r r' rows) ∙ there' in
-    same_Some v w ends
-
 row_edge : (g : Graph) (i k w : ℕ) → IsGraphEdge g i k w → HasEdge g i w
 row_edge g i k w (row, at, there) = (row, at, (k, slice_get_within row.items k w there, get_or_from_slice_get row.items k w w there))
 
--- the places of an order are below its length
-pub places_below : (rs : List Row) (places : List ℕ) → IsOrder rs places → All (λ p. p < length rs) places
-places_below rs places o = All-from_get_or (λ p. p < length rs) places 0 (λ i h. o.sorted.within i (subst (λ n. i < n) o.sorted.long h))
+module _ (g : Graph) (free : Vec Bool Global) (s : IsSortOf g (Stuck free)) where
+  stuck_cycle_at : (p : ℕ) → p < length g → get_or free.items p false ≡ false → ReachesCycle (HasEdge g) p
+  stuck_cycle_at p h e = MatchBool-at_false (ReachesCycle (HasEdge g) p → ⊥) (ReachesCycle (HasEdge g) p) e (s.1 p h)
+
+  stuck_from_cycle : (p : ℕ) → p < length g → ReachesCycle (HasEdge g) p → get_or free.items p false ≡ false
+  stuck_from_cycle p h r = elim (cases_Bool (get_or free.items p false)) [
+    | inl e ↦ absurd (MatchBool-at_true (ReachesCycle (HasEdge g) p → ⊥) (ReachesCycle (HasEdge g) p) e (s.1 p h) r)
+    | inr e ↦ e
+  ]
+
+  pub some_stuck : IsClosed g → ((i k w : ℕ) → IsGraphEdge g i k w → IsStuckEdge free.items i w → ⊥) → ⊥
+  some_stuck closed none =
+      let e = cycle_edge (HasEdge g) s.2.0 s.2.2 in
+      let l = e.2 in
+      let row = l.0 in
+      none e.0 l.2.0 e.1 (row, l.1, slice_get-get_or row.items l.2.0 e.1 l.2.1 ∙ ap Some l.2.2)
+      (stuck_from_cycle e.0 (edge_from g e.0 e.1 l) e.3, stuck_from_cycle e.1 (edge_to g e.0 e.1 closed l) e.4)
+
+-- the graph of some rows has as many edges as they have
+edges_alike : (rs : List Row) (g : Graph) (vs : List Row) → map has g ≡ map (wants rs) vs → edge_count g ≡ sum_by (λ (row : Row). length row.needs) vs
+edges_alike rs [] [] same = refl
+edges_alike rs [] (v ∷ vs) same = absurd (omega (arith, ap length same))
+edges_alike rs (r ∷ g) [] same = absurd (omega (arith, ap length same))
+edges_alike rs (r ∷ g) (v ∷ vs) same =
+    let first : has r ≡ wants rs v = ap (λ l. get_or l 0 []) same in
+    let rest = edges_alike rs g vs (ap (drop 1) same) in
+    let long : length r.items ≡ length v.needs = sym (length-map r.items Some) ∙ ap length first ∙ length-map v.needs (target rs) in
+    omega (arith, rest, long, sum_by-cons (λ (row : Vec ℕ Global). length row.items) r g, sum_by-cons (λ (row : Row). length row.needs) v vs)
 
 module _ (rs : List Row) (g : Graph) (same : IsGraphOf rs g) where
+  pub edges_counted : edge_count g ≡ sum_by (λ (row : Row). length row.needs) rs
+  edges_counted = edges_alike rs g rs same
+
   pub graph_long : length g ≡ length rs
   graph_long = sym (length-map g has) ∙ ap length same ∙ length-map rs (wants rs)
 
@@ -113,16 +134,6 @@ module _ (rs : List Row) (g : Graph) (same : IsGraphOf rs g) where
       let x = edge_from_graph i k w (row, slice_get-get_or g i d h, slice_get-get_or row.items k d' h') in
       subst (λ n. w < n) (sym graph_long) (place_below rs x.0.name.now w x.2)
 
-  pub index_long : (i k w : ℕ) (ids : Row) → IsGraphEdge g i k w → slice_get rs i ≡ Some ids → k < length ids.needs
-  index_long i k w ids e at =
-      let x = edge_from_graph i k w e in
-      let there = x.1 in
-      let rows : Some there.0 ≡ Some ids = sym there.1 ∙ at in
-      slice_get_within ids.needs k x.0 (ap (λ (v : Row). slice_get v.needs k) (sym (same_Some there.0 ids rows)) ∙ there.2)
-
-  pub place_long : (i k w : ℕ) → IsGraphEdge g i k w → i < length rs
-  place_long i k w e = subst (λ n. i < n) graph_long (slice_get_within g i e.0 e.1)
-
   pub in_order : (places : List ℕ) → IsDependencyFirst (HasEdge g) (length g) places → IsLeast (HasEdge g) (length g) places → IsOrder rs places
   in_order places sorted least = record {
     complete = graph_complete;
@@ -130,35 +141,23 @@ module _ (rs : List Row) (g : Graph) (same : IsGraphOf rs g) where
     least = subst (λ n. IsLeast (Leads rs) n places) graph_long (least_to (HasEdge g) (Leads rs) edge_leads (length g) places least);
   }
 
-  module _ (free : Vec Bool Global) (s : IsSortOf g (Stuck free)) where
-    stuck_cycle_at : (p : ℕ) → p < length g → get_or free.items p false ≡ false → ReachesCycle (HasEdge g) p
-    stuck_cycle_at p h e = MatchBool-at_false (ReachesCycle (HasEdge g) p → ⊥) (ReachesCycle (HasEdge g) p) e (s.1 p h)
-
-    stuck_from_cycle : (p : ℕ) → p < length g → ReachesCycle (HasEdge g) p → get_or free.items p false ≡ false
-    stuck_from_cycle p h r = elim (cases_Bool (get_or free.items p false)) [
-      | inl e ↦ absurd (MatchBool-at_true (ReachesCycle (HasEdge g) p → ⊥) (ReachesCycle (HasEdge g) p) e (s.1 p h) r)
-      | inr e ↦ e
-    ]
-
-    pub refuse_cycle : (sort : List ℕ) (kind : ParseErrorKind) (i k w : ℕ) (ids : Row) (id : Id)
-        → IsFirstEdge (IsGraphEdge g) (IsStuckEdge free.items) i k w → slice_get rs i ≡ Some ids → slice_get ids.needs k ≡ Some id
-        → IsTypeCycle id.span id.name.now sort kind → RefusesCycle rs sort kind
-    refuse_cycle sort kind i k w ids id f at there says =
-        let x = edge_to_graph i k id (ids, at, there) in
-        let e = same_edge g i k w x.0 f.is x.1 in
-        let hold = f.holds in
-        let below : w < length g = edge_to g i w graph_closed (row_edge g i k w f.is) in
-        record {
+  pub cycle_fault : (free : Vec Bool Global) → IsSortOf g (Stuck free) → (i k w : ℕ) → IsFirstEdge (IsGraphEdge g) (IsStuckEdge free.items) i k w → Cycles rs (Cyclic i k)
+  cycle_fault free s i k w f =
+      let x = edge_from_graph i k w f.is in
+      let hold = f.holds in
+      let below : w < length g = edge_to g i w graph_closed (row_edge g i k w f.is) in
+      record {
+        place = i;
+        index = k;
+        is = refl;
+        first = record {
           complete = graph_complete;
-          place = i;
-          index = k;
-          id = id;
-          says = says;
+          id = x.0;
           first = record {
-            is = (ids, at, there);
+            is = x.1;
             holds = (
-              cycle_to (HasEdge g) (Leads rs) edge_leads i (stuck_cycle_at i (slice_get_within g i f.is.0 f.is.1) hold.0),
-              (w, x.2 ∙ ap Some (sym e), cycle_to (HasEdge g) (Leads rs) edge_leads w (stuck_cycle_at w below hold.1)),
+              cycle_to (HasEdge g) (Leads rs) edge_leads i (stuck_cycle_at g free s i (slice_get_within g i f.is.0 f.is.1) hold.0),
+              (w, x.2, cycle_to (HasEdge g) (Leads rs) edge_leads w (stuck_cycle_at g free s w below hold.1)),
             );
             earlier = λ j l y ed before cyc.
                 let z = edge_to_graph j l y ed in
@@ -167,16 +166,9 @@ module _ (rs : List Row) (g : Graph) (same : IsGraphOf rs g) where
                 let same_end : b.0 ≡ z.0 = same_Some b.0 z.0 some in
                 let zbelow : z.0 < length g = edge_to g j z.0 graph_closed (row_edge g j l z.0 z.1) in
                 f.earlier j l z.0 z.1 before (
-                  stuck_from_cycle j (slice_get_within g j z.1.0 z.1.1) (cycle_to (Leads rs) (HasEdge g) leads_edge j cyc.0),
-                  stuck_from_cycle z.0 zbelow (subst (λ v. ReachesCycle (HasEdge g) v) same_end (cycle_to (Leads rs) (HasEdge g) leads_edge b.0 b.2)),
+                  stuck_from_cycle g free s j (slice_get_within g j z.1.0 z.1.1) (cycle_to (Leads rs) (HasEdge g) leads_edge j cyc.0),
+                  stuck_from_cycle g free s z.0 zbelow (subst (λ v. ReachesCycle (HasEdge g) v) same_end (cycle_to (Leads rs) (HasEdge g) leads_edge b.0 b.2)),
                 );
           };
-        }
-
-    pub some_stuck : ((i k w : ℕ) → IsGraphEdge g i k w → IsStuckEdge free.items i w → ⊥) → ⊥
-    some_stuck none =
-        let e = cycle_edge (HasEdge g) s.2.0 s.2.2 in
-        let l = e.2 in
-        let row = l.0 in
-        none e.0 l.2.0 e.1 (row, l.1, slice_get-get_or row.items l.2.0 e.1 l.2.1 ∙ ap Some l.2.2)
-        (stuck_from_cycle e.0 (edge_from g e.0 e.1 l) e.3, stuck_from_cycle e.1 (edge_to g e.0 e.1 graph_closed l) e.4)
+        };
+      }

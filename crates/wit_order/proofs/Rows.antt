@@ -1,16 +1,14 @@
 -- The rows of a table that grows, and its keys in an order: for callers.
-use Rattle.std.proofs.Common.{◌≡◌, ℕ, suc, ◌+◌, ◌≤◌, Bool, true, false, not, cond, List, [], ◌∷◌, ◌++◌, length, map, arith, sym, ◌∙◌, ap, refl, subst, inl, inr, Some, None, Vec, Global, Bor, slice_get}
+use Rattle.std.proofs.Common.{◌≡◌, ℕ, suc, ◌+◌, ◌≤◌, Bool, true, false, not, cond, List, [], ◌∷◌, ◌++◌, length, map, arith, sym, ◌∙◌, ap, refl, subst, inl, inr, Some, None, Vec, Global, Bor}
 use Rattle.std.specs.List.{prefix_len}
 use Rattle.std.specs.Prelude.{nat_lt}
 use Rattle.std.specs.Str.{bytes_eq}
-use Rattle.std.proofs.lemmas.List.{map-append, length-map}
-use Rattle.std.proofs.lemmas.Option.{none-some, slice_get-map}
-use Rattle.std.specs.Option.{option_map}
+use Rattle.std.proofs.lemmas.List.{map-append}
+use Rattle.std.proofs.lemmas.Option.{none-some}
 use Rattle.std.proofs.lemmas.Bool.{cases_Bool, cases_lt, cond-true, cond-false, lt-ltb}
-use Rattle.indexmap.specs.IndexMap.{insert_entry, keys}
+use Rattle.indexmap.specs.IndexMap.{insert_entry}
 use Rattle.wit_tree.specs.declared.tree.Id.{Id}
-use Rattle.wit_order.specs.Table.{Row, Table, entry_row, rows, place_of, AreKeysAt}
-use Rattle.wit_order.proofs.Tables.{matched, some_from_map}
+use Rattle.wit_order.specs.Table.{Row, entry_row, place_of}
 
 -- equality of keys
 abbrev pub key_eq : Bor (List ℕ) → Bor (List ℕ) → Bool
@@ -42,15 +40,3 @@ pub rows-insert : (old new : List (Bor (List ℕ) × Vec Id Global)) (k : Bor (L
 rows-insert old new k v e fresh =
     let past = past_all (prefix_len (λ (row : Row). not (bytes_eq k.now row.name)) (map entry_row old)) (length (map entry_row old)) fresh in
     ap (map entry_row) (e ∙ fresh_entry old k v past) ∙ map-append entry_row old ((k, v) ∷ [])
-
-pub keys_at-length : (m : Table) (places : List ℕ) (names : List (Bor (List ℕ))) → AreKeysAt m places names → length names ≡ length places
-keys_at-length m places names own = sym (length-map names Some) ∙ ap length own ∙ length-map places (slice_get (keys m))
-
--- the key at a place is the name of its row
-pub keys_at-row : (m : Table) (places : List ℕ) (names : List (Bor (List ℕ))) → AreKeysAt m places names → (i p : ℕ) → slice_get places i ≡ Some p
-    → (key : Bor (List ℕ)) × (row : Row) × (slice_get names i ≡ Some key) × (slice_get (rows m) p ≡ Some row) × (key.now ≡ row.name)
-keys_at-row m places names own i p at =
-    let x = matched Some (slice_get (keys m)) names places own i p at in
-    let there : option_map (λ e. e.0) (slice_get m.entries p) ≡ Some x.0 = sym (slice_get-map (λ e. e.0) m.entries p) ∙ sym x.2 in
-    let entry = some_from_map (λ e. e.0) (slice_get m.entries p) x.0 there in
-    (x.0, entry_row entry.0, x.1, slice_get-map entry_row m.entries p ∙ ap (option_map entry_row) entry.1, ap (λ (k : Bor (List ℕ)). k.now) (sym entry.2))

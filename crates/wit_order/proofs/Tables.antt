@@ -6,16 +6,15 @@ use Rattle.std.specs.Str.{bytes_eq}
 use Rattle.std.specs.Option.{option_map}
 use Rattle.std.proofs.lemmas.List.{take_more, map-append, length-map}
 use Rattle.std.proofs.lemmas.Option.{slice_get_within, get_or_from_slice_get, slice_get-map, same_Some, none-some}
-use Rattle.indexmap.specs.IndexMap.{IndexMap, keys, index_map_len}
+use Rattle.indexmap.specs.IndexMap.{IndexMap, keys}
 use Rattle.std.specs.Map.Iter.{deref_pair}
 use Rattle.std.proofs.lemmas.Bool.{false≢true}
 use Rattle.wit_tree.specs.declared.tree.Id.{Id}
-use Rattle.wit_tree.specs.declared.error.ParseErrorKind.{ParseErrorKind}
-use Rattle.wit_tree.specs.Refusal.{IsItemNotFound}
+use Rattle.wit_order.specs.declared.fault.OrderFault.{OrderFault}
+use Rattle.wit_order.specs.declared.fault.OrderFault.TheVariants.{Missing}
 use Rattle.wit_order.specs.Graph.{Graph}
 use Rattle.wit_order.specs.Table.{Row, Table, entry_row, rows, target, place_of}
-use Rattle.wit_order.specs.Refused.{RefusesMissing}
-use Rattle.wit_order.specs.Resolved.{RefusesFirst, Resolves}
+use Rattle.wit_order.specs.Resolved.{MissesFirst, Misses, Resolves}
 
 -- the step of a loop that maps a list
 pub map_step : {A B C : Type 0} (f : A → C) (g : B → C) (xs : List A) (ys : List B) (i : ℕ) (x : A) (y : B) → map f xs ≡ map g (take i ys) → slice_get ys i ≡ Some y → f x ≡ g y
@@ -35,9 +34,6 @@ module _ {K V S : Type 0} (m : IndexMap K V S) (i : ℕ) (r : Option (Bor K × B
 pub row_at_place : (m : Table) (i : ℕ) (r : Option (Bor (Bor (List ℕ)) × Bor (Vec Id Global))) (p : Bor (Bor (List ℕ)) × Bor (Vec Id Global))
     → option_map deref_pair r ≡ slice_get m.entries i → r ≡ Some p → slice_get (rows m) i ≡ Some (entry_row (deref_pair p))
 row_at_place m i r p entry some = slice_get-map entry_row m.entries i ∙ ap (option_map entry_row) (entry_at m i r p entry some)
-
-pub rows_long : (m : Table) → length (rows m) ≡ index_map_len m
-rows_long m = length-map m.entries entry_row
 
 -- where a test first passes by name, and by key
 same_prefix : (test : List ℕ → Bool) (es : List (Bor (List ℕ) × Vec Id Global)) → prefix_len (λ (row : Row). not (test row.name)) (map entry_row es) ≡ prefix_len (λ (k : Bor (List ℕ)). not (test k.now)) (map (λ e. e.0) es)
@@ -72,14 +68,14 @@ pub known : (o : Option ℕ) (p : ℕ) → o ≡ Some p → IsSome o
 known o p e = subst (λ (x : Option ℕ). IsSome x) (sym e) refl
 
 -- the first id that is missing
-pub refuse_first : (rs : List Row) (ids : List Id) (sort row : List ℕ) (kind : ParseErrorKind) (i : ℕ) (id : Id)
-    → Resolves rs (take i ids) row → slice_get ids i ≡ Some id → target rs id ≡ None → IsItemNotFound id.span id.name.now sort kind → RefusesFirst rs ids sort kind
-refuse_first rs ids sort row kind i id r at gone says = record {
+pub miss_first : (rs : List Row) (ids : List Id) (row : List ℕ) (place i : ℕ) (id : Id)
+    → Resolves rs (take i ids) row → slice_get ids i ≡ Some id → target rs id ≡ None → MissesFirst rs ids place (Missing place i)
+miss_first rs ids row place i id r at gone = record {
   index = i;
   id = id;
   at = at;
   missing = gone;
-  says = says;
+  is = refl;
   earlier = λ k other h there. let x = matched Some (target rs) row (take i ids) r k other (slice_get-take ids i k h ∙ there) in known (target rs other) x.0 (sym x.2);
 }
 
@@ -102,22 +98,24 @@ pub not_missing : (o : Option ℕ) → IsSome o → o ≡ None → ⊥
 not_missing None h e = false≢true h
 not_missing (Some x) h e = none-some x (sym e)
 
-pub refuse_missing : (rs : List Row) (g : Graph) (sort : List ℕ) (kind : ParseErrorKind) (i : ℕ) (row : Row)
-    → map has g ≡ map (wants rs) (take i rs) → slice_get rs i ≡ Some row → RefusesFirst rs row.needs sort kind → RefusesMissing rs sort kind
-refuse_missing rs g sort kind i row same at r = record {
+pub miss_edge : (rs : List Row) (g : Graph) (fault : OrderFault) (i : ℕ) (row : Row)
+    → map has g ≡ map (wants rs) (take i rs) → slice_get rs i ≡ Some row → MissesFirst rs row.needs i fault → Misses rs fault
+miss_edge rs g fault i row same at r = record {
   place = i;
   index = r.index;
-  id = r.id;
-  says = r.says;
+  is = r.is;
   first = record {
-    is = (row, at, r.at);
-    holds = r.missing;
-    earlier = λ j l y e before gone. elim before [
-      | inl less ↦ not_missing (target rs y) (known_edge rs g (take i rs) same j l e.0 y (slice_get-take rs i j less ∙ e.1) e.2) gone
-      | inr here ↦
-          let same_row : Some e.0 ≡ Some row = sym e.1 ∙ ap (slice_get rs) here.0 ∙ at in
-          let there : e.0 ≡ row = same_Some e.0 row same_row in
-          not_missing (target rs y) (r.earlier l y here.1 (ap (λ (v : Row). slice_get v.needs l) (sym there) ∙ e.2)) gone
-    ];
+    id = r.id;
+    first = record {
+      is = (row, at, r.at);
+      holds = r.missing;
+      earlier = λ j l y e before gone. elim before [
+        | inl less ↦ not_missing (target rs y) (known_edge rs g (take i rs) same j l e.0 y (slice_get-take rs i j less ∙ e.1) e.2) gone
+        | inr here ↦
+            let same_row : Some e.0 ≡ Some row = sym e.1 ∙ ap (slice_get rs) here.0 ∙ at in
+            let there : e.0 ≡ row = same_Some e.0 row same_row in
+            not_missing (target rs y) (r.earlier l y here.1 (ap (λ (v : Row). slice_get v.needs l) (sym there) ∙ e.2)) gone
+      ];
+    };
   };
 }

@@ -1,4 +1,5 @@
 pub mod Edges
+pub mod Faults
 pub mod Graph
 pub mod Heap
 pub mod Order
@@ -6,3 +7,5 @@ pub mod Refused
 pub mod Resolved
 pub mod Table
 pub mod Laws
+pub mod Users
+pub mod Counted

@@ -1,12 +1,20 @@
--- Which edge of a table is refused, and how.
-use Rattle.std.specs.Prelude.{Result, MatchResult, ◌≡◌, ℕ, ◌⊎◌, List}
+-- The refusal that names the edge for which a table has no order.
+use Rattle.std.specs.Prelude.{Result, MatchResult, ◌≡◌, ℕ, ◌⊎◌, List, None, string_bytes}
 use Rattle.wit_tree.specs.declared.tree.Id.{Id}
+use Rattle.wit_tree.specs.declared.span.Span.{Span}
 use Rattle.wit_tree.specs.declared.error.ParseError.{ParseError}
 use Rattle.wit_tree.specs.declared.error.ParseErrorKind.{ParseErrorKind}
-use Rattle.wit_tree.specs.declared.error.ParseErrorKind.TheVariants.{OutOfMemory}
-use Rattle.wit_tree.specs.Refusal.{IsItemNotFound, IsTypeCycle}
+use Rattle.wit_tree.specs.declared.error.ParseErrorKind.TheVariants.{Syntax, ItemNotFound, TypeCycle, OutOfMemory}
+use Rattle.wit_tree.specs.Refusal.{IsTypeCycle}
 use Rattle.wit_order.specs.Edges.{IsFirstEdge}
 use Rattle.wit_order.specs.Table.{Row, IsEdge, IsMissing, IsCyclic, IsComplete}
+
+-- nothing of this sort has the name written at the span, and no hint is given
+abbrev pub IsNotFound : Span → List ℕ → List ℕ → ParseErrorKind → Type 0
+IsNotFound at name sort (ItemNotFound s n k h) = (s ≡ at) × (string_bytes n ≡ name) × (string_bytes k ≡ sort) × (h ≡ None)
+IsNotFound at name sort (Syntax s m) = ⊥
+IsNotFound at name sort (TypeCycle s n k) = ⊥
+IsNotFound at name sort OutOfMemory = ⊥
 
 -- the first edge to a name that is missing is refused
 pub record RefusesMissing (rs : List Row) (sort : List ℕ) (kind : ParseErrorKind) : Type 0 where
@@ -14,7 +22,7 @@ pub record RefusesMissing (rs : List Row) (sort : List ℕ) (kind : ParseErrorKi
   pub index : ℕ
   pub id : Id
   pub first : IsFirstEdge (IsEdge rs) (IsMissing rs) place index id
-  pub says : IsItemNotFound id.span id.name.now sort kind
+  pub says : IsNotFound id.span id.name.now sort kind
 
 -- none is missing, and the first edge both of whose ends reach a cycle is refused
 pub record RefusesCycle (rs : List Row) (sort : List ℕ) (kind : ParseErrorKind) : Type 0 where
@@ -35,7 +43,7 @@ FailsBy P r = MatchResult r (λ _. ⊥) (λ e. (e.kind ≡ OutOfMemory) ⊎ P e.
 
 -- where a name is missing, the first edge to such a name is what is refused
 abbrev pub FailsAtMissing : {T : Type 0} → List Row → List ℕ → Result T ParseError → Type 0
-FailsAtMissing rs sort r = (i k : ℕ) (id : Id) → IsFirstEdge (IsEdge rs) (IsMissing rs) i k id → FailsBy (IsItemNotFound id.span id.name.now sort) r
+FailsAtMissing rs sort r = (i k : ℕ) (id : Id) → IsFirstEdge (IsEdge rs) (IsMissing rs) i k id → FailsBy (IsNotFound id.span id.name.now sort) r
 
 -- where none is, and an edge has two ends that reach a cycle, the first such edge is what is refused
 abbrev pub FailsAtCycle : {T : Type 0} → List Row → List ℕ → Result T ParseError → Type 0

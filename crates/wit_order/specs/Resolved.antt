@@ -2,8 +2,9 @@
 use Rattle.std.specs.Prelude.{◌≡◌, ℕ, ◌<◌, List, Vec, Some, None, IsSome, map, slice_get}
 use Rattle.std.specs.Global.{Global}
 use Rattle.wit_tree.specs.declared.tree.Id.{Id}
-use Rattle.wit_tree.specs.declared.error.ParseErrorKind.{ParseErrorKind}
-use Rattle.wit_tree.specs.Refusal.{IsItemNotFound}
+use Rattle.wit_order.specs.declared.fault.OrderFault.{OrderFault}
+use Rattle.wit_order.specs.declared.fault.OrderFault.TheVariants.{Missing, Cyclic}
+use Rattle.wit_order.specs.Faults.{IsFirstMissing, IsFirstCyclic}
 use Rattle.wit_order.specs.Graph.{Graph}
 use Rattle.wit_order.specs.Table.{Row, target}
 
@@ -11,14 +12,28 @@ use Rattle.wit_order.specs.Table.{Row, target}
 abbrev pub Resolves : List Row → List Id → List ℕ → Type 0
 Resolves rs ids row = map Some row ≡ map (target rs) ids
 
--- the first of the ids that is missing is refused
-pub record RefusesFirst (rs : List Row) (ids : List Id) (sort : List ℕ) (kind : ParseErrorKind) : Type 0 where
+-- the first of the ids of a place that is missing is the fault
+pub record MissesFirst (rs : List Row) (ids : List Id) (place : ℕ) (fault : OrderFault) : Type 0 where
   pub index : ℕ
   pub id : Id
   pub at : slice_get ids index ≡ Some id
   pub missing : target rs id ≡ None
   pub earlier : (k : ℕ) (other : Id) → k < index → slice_get ids k ≡ Some other → IsSome (target rs other)
-  pub says : IsItemNotFound id.span id.name.now sort kind
+  pub is : fault ≡ Missing place index
+
+-- the first edge to a name that is missing is the fault
+pub record Misses (rs : List Row) (fault : OrderFault) : Type 0 where
+  pub place : ℕ
+  pub index : ℕ
+  pub is : fault ≡ Missing place index
+  pub first : IsFirstMissing rs place index
+
+-- none is missing, and the first edge both of whose ends reach a cycle is the fault
+pub record Cycles (rs : List Row) (fault : OrderFault) : Type 0 where
+  pub place : ℕ
+  pub index : ℕ
+  pub is : fault ≡ Cyclic place index
+  pub first : IsFirstCyclic rs place index
 
 -- the graph of the rows
 abbrev pub IsGraphOf : List Row → Graph → Type 0

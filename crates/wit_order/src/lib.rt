@@ -5,12 +5,18 @@
 //! or names the edge that forbids one. [`laws`] says what holds of every table.
 #![tactic(auto)]
 
+pub mod fault;
 mod heap;
 pub mod laws;
 mod names;
 pub mod order;
 mod places;
+mod ready;
 #[cfg(test)]
 mod tests;
+mod tree;
+mod users;
 
-pub use order::{order_places, toposort, toposort_heap, toposort_scan};
+pub use fault::OrderFault;
+pub use order::{order_places, order_steps, toposort, toposort_heap, toposort_scan};
+pub use ready::Steps;

@@ -1,55 +1,30 @@
-//! Names, their places, and the refusals that name them.
+//! Names and their places.
 ghost use Rattle.std.specs.Prelude.{◌≡◌, ◌⊎◌, ℕ, ◌<◌, All, IfOk, IfErr, length};
-ghost use Rattle.wit_tree.specs.Refusal.{IsItemNotFound, IsTypeCycle};
-ghost use Rattle.wit_tree.specs.declared.error.ParseErrorKind.TheVariants.{OutOfMemory};
+ghost use Rattle.wit_order.specs.declared.fault.OrderFault.TheVariants.{OutOfMemory};
 ghost use Rattle.indexmap.specs.IndexMap.{index_map_len};
 ghost use Rattle.wit_order.specs.Table.{rows, AreKeysAt};
-ghost use Rattle.wit_order.specs.Refused.{RefusesMissing};
-ghost use Rattle.wit_order.specs.Resolved.{Resolves, RefusesFirst, IsGraphOf};
+ghost use Rattle.wit_order.specs.Resolved.{Resolves, MissesFirst, Misses, IsGraphOf};
 
+use crate::fault::OrderFault;
 use indexmap::IndexMap;
 use std::alloc::{AllocError, Global};
 use wit_tree::tree::Id;
-use wit_tree::{ParseError, ParseErrorKind, ParseResult};
 
-fn not_found(alloc: Global, kind: &str, id: &Id<'_>) -> ParseResult<ParseErrorKind>
-    ensures ok { IfOk result (IsItemNotFound id.now.span id.now.name.now kind.now) }
-    ensures err { IfErr result (λ e. e.kind ≡ OutOfMemory) }
-{
-    Ok(ParseErrorKind::ItemNotFound {
-        span: id.span,
-        name: String::from_str(alloc, id.name)?,
-        kind: String::from_str(alloc, kind)?,
-        hint: None,
-    })
-}
-
-pub fn type_cycle(alloc: Global, kind: &str, id: &Id<'_>) -> ParseResult<ParseErrorKind>
-    ensures ok { IfOk result (IsTypeCycle id.now.span id.now.name.now kind.now) }
-    ensures err { IfErr result (λ e. e.kind ≡ OutOfMemory) }
-{
-    Ok(ParseErrorKind::TypeCycle {
-        span: id.span,
-        name: String::from_str(alloc, id.name)?,
-        kind: String::from_str(alloc, kind)?,
-    })
-}
-
-/// The places of what the ids name.
+/// The places of what the ids of a place name.
 fn row_of<'a>(
     alloc: Global,
-    kind: &str,
     deps: &IndexMap<&'a str, Vec<Id<'a>>>,
+    place: usize,
     ids: &[Id<'a>],
-) -> ParseResult<Vec<usize>>
+) -> Result<Vec<usize>, OrderFault>
     ensures ok { IfOk result (λ row. Resolves (rows deps.now) ids.now row.items) }
-    ensures err { IfErr result (λ e. (e.kind ≡ OutOfMemory) ⊎ RefusesFirst (rows deps.now) ids.now kind.now e.kind) }
+    ensures err { IfErr result (λ f. (f ≡ OutOfMemory) ⊎ MissesFirst (rows deps.now) ids.now place f) }
 {
-    let mut row = Vec::new(alloc);
-    for id in ids {
+    let mut row = Vec::with_capacity(alloc, ids.len())?;
+    for (index, id) in ids.iter().enumerate() {
         match deps.get_index_of(id.name) {
-            Some(place) => row.push(place)?,
-            None => return Err(ParseError::of(not_found(alloc, kind, id)?, 0)),
+            Some(target) => row.push(target)?,
+            None => return Err(OrderFault::Missing { place, index }),
         }
     }
     Ok(row)
@@ -58,16 +33,15 @@ fn row_of<'a>(
 /// The graph of the table.
 pub fn graph_of<'a>(
     alloc: Global,
-    kind: &str,
     deps: &IndexMap<&'a str, Vec<Id<'a>>>,
-) -> ParseResult<Vec<Vec<usize>>>
+) -> Result<Vec<Vec<usize>>, OrderFault>
     ensures ok { IfOk result (λ graph. IsGraphOf (rows deps.now) graph.items) }
-    ensures err { IfErr result (λ e. (e.kind ≡ OutOfMemory) ⊎ RefusesMissing (rows deps.now) kind.now e.kind) }
+    ensures err { IfErr result (λ f. (f ≡ OutOfMemory) ⊎ Misses (rows deps.now) f) }
 {
-    let mut graph = Vec::new(alloc);
+    let mut graph = Vec::with_capacity(alloc, deps.len())?;
     for place in 0..deps.len() {
         let (_, ids) = deps.get_index(place).unwrap();
-        graph.push(row_of(alloc, kind, deps, ids)?)?;
+        graph.push(row_of(alloc, deps, place, ids)?)?;
     }
     Ok(graph)
 }
@@ -81,7 +55,7 @@ pub fn names_at<'a>(
     requires { All (λ p. p < index_map_len deps.now) places.now }
     ensures { IfOk result (λ names. AreKeysAt deps.now places.now names.items) }
 {
-    let mut names = Vec::new(alloc);
+    let mut names = Vec::with_capacity(alloc, places.len())?;
     for place in places {
         let (name, _) = deps.get_index(*place).unwrap();
         names.push(*name)?;

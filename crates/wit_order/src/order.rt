@@ -1,90 +1,66 @@
 //! The least order of a table's names in which each comes after those that it needs.
-ghost use Rattle.std.specs.Prelude.{◌≡◌, ◌⊎◌, ℕ, IfOk, IfErr};
-ghost use Rattle.wit_tree.specs.declared.error.ParseErrorKind.TheVariants.{OutOfMemory};
-ghost use Rattle.wit_order.specs.Graph.{IsSortOf};
-ghost use Rattle.wit_order.specs.Table.{rows, IsOrder, IsOrdered};
-ghost use Rattle.wit_order.specs.Refused.{RefusesCycle, IsRefused, FailsAtMissing, FailsAtCycle};
-ghost use Rattle.wit_order.specs.Resolved.{IsGraphOf};
+ghost use Rattle.std.specs.Prelude.{◌≡◌, ℕ, List, IfOk, IfErr};
+ghost use Rattle.wit_order.specs.declared.places.Sorted.TheVariants.{Order};
+ghost use Rattle.wit_order.specs.Graph.{IsClosed, IsSortOf};
+ghost use Rattle.wit_order.specs.Table.{Row, rows, IsOrder, IsOrdered};
+ghost use Rattle.wit_order.specs.Faults.{IsFaultOf, FaultsMissing, FaultsCycle};
+ghost use Rattle.wit_order.specs.Counted.{IsCounted};
+ghost use Rattle.wit_order.specs.Refused.{IsRefused, FailsAtMissing, FailsAtCycle};
+ghost use Rattle.wit_order.specs.Resolved.{IsGraphOf, Cycles};
 
-use crate::heap;
-use crate::names::{graph_of, names_at, type_cycle};
+use crate::fault::{OrderFault, refusal};
+use crate::names::{graph_of, names_at};
 use crate::places::{self, Sorted, first_stuck_edge};
+use crate::ready::Steps;
+use crate::{heap, tree};
 use indexmap::IndexMap;
 use std::alloc::Global;
 use wit_tree::tree::Id;
 use wit_tree::{ParseError, ParseErrorKind, ParseResult};
 
-/// The sorted places, or the refusal of the first edge both of whose ends reach a cycle.
-fn conclude<'a>(
-    alloc: Global,
-    kind: &str,
-    deps: &IndexMap<&'a str, Vec<Id<'a>>>,
-    graph: &[Vec<usize>],
-    sorted: Sorted,
-) -> ParseResult<Vec<usize>>
-    requires graph { IsGraphOf (rows deps.now) graph.now }
+/// The sorted places, or the first edge both of whose ends reach a cycle.
+fn conclude(graph: &[Vec<usize>], sorted: Sorted) -> Result<Vec<usize>, OrderFault>
+    requires closed { IsClosed graph.now }
     requires sorted { IsSortOf graph.now sorted }
-    ensures ok { IfOk result (λ places. IsOrder (rows deps.now) places.items) }
-    ensures err { IfErr result (λ e. (e.kind ≡ OutOfMemory) ⊎ RefusesCycle (rows deps.now) kind.now e.kind) }
+    ensures ok { IfOk result (λ places. (rs : List Row) → IsGraphOf rs graph.now → IsOrder rs places.items) }
+    ensures placed { IfOk result (λ places. sorted ≡ Order places) }
+    ensures err { IfErr result (λ f. (rs : List Row) → IsGraphOf rs graph.now → Cycles rs f) }
 {
     match sorted {
         Sorted::Order(places) => Ok(places),
         Sorted::Stuck(free) => match first_stuck_edge(graph, &free) {
-            Some((place, index)) => {
-                let (_, ids) = deps.get_index(place).unwrap();
-                Err(ParseError::of(type_cycle(alloc, kind, &ids[index])?, 0))
-            }
+            Some((place, index)) => Err(OrderFault::Cyclic { place, index }),
             None => unreachable!(),
         },
     }
 }
 
-fn places_by_heap<'a>(
+/// [`order_places`], and what it took.
+fn order_counted<'a>(
     alloc: Global,
-    kind: &str,
     deps: &IndexMap<&'a str, Vec<Id<'a>>>,
-) -> ParseResult<Vec<usize>>
-    ensures ok { IfOk result (λ places. IsOrder (rows deps.now) places.items) }
-    ensures err { IfErr result (λ e. IsRefused (rows deps.now) kind.now e.kind) }
+) -> Result<(Vec<usize>, Steps), OrderFault>
+    ensures ok { IfOk result (λ r. IsOrder (rows deps.now) r.0.items) }
+    ensures steps { IfOk result (λ r. IsCounted (rows deps.now) r.1) }
+    ensures err { IfErr result (IsFaultOf (rows deps.now)) }
 {
-    let graph = graph_of(alloc, kind, deps)?;
+    let graph = graph_of(alloc, deps)?;
+    let (sorted, steps) = tree::sort_places(alloc, &graph)?;
+    let places = conclude(&graph, sorted)?;
+    Ok((places, steps))
+}
+
+/// [`order_places`] by counts and a heap.
+fn order_by_heap<'a>(
+    alloc: Global,
+    deps: &IndexMap<&'a str, Vec<Id<'a>>>,
+) -> Result<Vec<usize>, OrderFault>
+    ensures ok { IfOk result (λ places. IsOrder (rows deps.now) places.items) }
+    ensures err { IfErr result (IsFaultOf (rows deps.now)) }
+{
+    let graph = graph_of(alloc, deps)?;
     let sorted = heap::sort_places(alloc, &graph)?;
-    conclude(alloc, kind, deps, &graph, sorted)
-}
-
-fn places_by_scan<'a>(
-    alloc: Global,
-    kind: &str,
-    deps: &IndexMap<&'a str, Vec<Id<'a>>>,
-) -> ParseResult<Vec<usize>>
-    ensures ok { IfOk result (λ places. IsOrder (rows deps.now) places.items) }
-    ensures err { IfErr result (λ e. IsRefused (rows deps.now) kind.now e.kind) }
-{
-    let graph = graph_of(alloc, kind, deps)?;
-    let sorted = places::sort_places(alloc, &graph)?;
-    conclude(alloc, kind, deps, &graph, sorted)
-}
-
-/// The keys at the places, or the refusal without a number.
-fn keys_of<'a>(
-    alloc: Global,
-    kind: &str,
-    deps: &IndexMap<&'a str, Vec<Id<'a>>>,
-    order: ParseResult<Vec<usize>>,
-) -> ParseResult<Vec<&'a str>>
-    requires ok { IfOk order (λ places. IsOrder (rows deps.now) places.items) }
-    requires err { IfErr order (λ e. IsRefused (rows deps.now) kind.now e.kind) }
-    ensures ok { IfOk result (λ names. IsOrdered deps.now names.items) }
-    ensures err { IfErr result (λ e. IsRefused (rows deps.now) kind.now e.kind) }
-    ensures rule { IfErr result (λ e. e.rule ≡ 0) }
-{
-    match order {
-        Ok(places) => match names_at(alloc, deps, &places) {
-            Ok(names) => Ok(names),
-            Err(_) => Err(ParseError::of(ParseErrorKind::OutOfMemory, 0)),
-        },
-        Err(e) => Err(e.with_rule(0)),
-    }
+    conclude(&graph, sorted)
 }
 
 /// The places of the table's names, in the least order in which each comes after those that it
@@ -93,31 +69,112 @@ fn keys_of<'a>(
 ///
 /// # Errors
 ///
-/// Each has the rule 0, for the caller to set.
-///
-/// - `ItemNotFound`, with `kind`: the first needed name that is no key, by place and then by
-///   index.
-/// - `TypeCycle`, with `kind`: where every needed name is a key, the first of them that reaches
-///   a cycle, as does the name that needs it.
-/// - `OutOfMemory`: a growth was refused.
+/// The [`OrderFault`] that forbids an order, or want of memory.
 pub fn order_places<'a>(
+    alloc: Global,
+    deps: &IndexMap<&'a str, Vec<Id<'a>>>,
+) -> Result<Vec<usize>, OrderFault>
+    ensures ok { IfOk result (λ places. IsOrder (rows deps.now) places.items) }
+    ensures err { IfErr result (IsFaultOf (rows deps.now)) }
+    ensures missing { FaultsMissing (rows deps.now) result }
+    ensures cycle { FaultsCycle (rows deps.now) result }
+{
+    match order_counted(alloc, deps) {
+        Ok((places, _)) => Ok(places),
+        Err(fault) => Err(fault),
+    }
+}
+
+/// [`order_places`] by looking for the least ready place each time.
+fn order_by_scan<'a>(
+    alloc: Global,
+    deps: &IndexMap<&'a str, Vec<Id<'a>>>,
+) -> Result<Vec<usize>, OrderFault>
+    ensures ok { IfOk result (λ places. IsOrder (rows deps.now) places.items) }
+    ensures err { IfErr result (IsFaultOf (rows deps.now)) }
+{
+    let graph = graph_of(alloc, deps)?;
+    let sorted = places::sort_places(alloc, &graph)?;
+    conclude(&graph, sorted)
+}
+
+/// The keys at the places, or the refusal of what forbids them.
+fn keys_of<'a>(
     alloc: Global,
     kind: &str,
     deps: &IndexMap<&'a str, Vec<Id<'a>>>,
-) -> ParseResult<Vec<usize>>
-    ensures ok { IfOk result (λ places. IsOrder (rows deps.now) places.items) }
+    order: Result<Vec<usize>, OrderFault>,
+) -> ParseResult<Vec<&'a str>>
+    requires ok { IfOk order (λ places. IsOrder (rows deps.now) places.items) }
+    requires err { IfErr order (IsFaultOf (rows deps.now)) }
+    ensures ok { IfOk result (λ names. IsOrdered deps.now names.items) }
     ensures err { IfErr result (λ e. IsRefused (rows deps.now) kind.now e.kind) }
     ensures rule { IfErr result (λ e. e.rule ≡ 0) }
     ensures missing { FailsAtMissing (rows deps.now) kind.now result }
     ensures cycle { FailsAtCycle (rows deps.now) kind.now result }
 {
-    match places_by_heap(alloc, kind, deps) {
-        Ok(places) => Ok(places),
-        Err(e) => Err(e.with_rule(0)),
+    match order {
+        Ok(places) => match names_at(alloc, deps, &places) {
+            Ok(names) => Ok(names),
+            Err(_) => Err(ParseError::of(ParseErrorKind::OutOfMemory, 0)),
+        },
+        Err(fault) => Err(refusal(alloc, kind, deps, fault)),
     }
 }
 
-/// The table's own keys in the order of [`order_places`], refused as there.
+/// The table's own keys in the order of [`order_places`], and what it took.
+fn keys_counted<'a>(
+    alloc: Global,
+    kind: &str,
+    deps: &IndexMap<&'a str, Vec<Id<'a>>>,
+) -> ParseResult<(Vec<&'a str>, Steps)>
+    ensures ok { IfOk result (λ r. IsOrdered deps.now r.0.items) }
+    ensures steps { IfOk result (λ r. IsCounted (rows deps.now) r.1) }
+    ensures err { IfErr result (λ e. IsRefused (rows deps.now) kind.now e.kind) }
+    ensures rule { IfErr result (λ e. e.rule ≡ 0) }
+{
+    match order_counted(alloc, deps) {
+        Ok((places, steps)) => match keys_of(alloc, kind, deps, Ok(places)) {
+            Ok(names) => Ok((names, steps)),
+            Err(e) => Err(e),
+        },
+        Err(fault) => Err(refusal(alloc, kind, deps, fault)),
+    }
+}
+
+/// [`toposort`], and what it took: how many names were put among those that wait for none, and
+/// how many needed names were counted down. Where there is an order, that is each name once and
+/// each needed name once, repeats too.
+///
+/// # Errors
+///
+/// Those of [`toposort`].
+pub fn order_steps<'a>(
+    alloc: Global,
+    kind: &str,
+    deps: &IndexMap<&'a str, Vec<Id<'a>>>,
+) -> ParseResult<(Vec<&'a str>, Steps)>
+    ensures ok { IfOk result (λ r. IsOrdered deps.now r.0.items) }
+    ensures steps { IfOk result (λ r. IsCounted (rows deps.now) r.1) }
+    ensures err { IfErr result (λ e. IsRefused (rows deps.now) kind.now e.kind) }
+    ensures rule { IfErr result (λ e. e.rule ≡ 0) }
+    ensures missing { FailsAtMissing (rows deps.now) kind.now result }
+    ensures cycle { FailsAtCycle (rows deps.now) kind.now result }
+{
+    keys_counted(alloc, kind, deps)
+}
+
+/// The table's own keys in the order of [`order_places`].
+///
+/// # Errors
+///
+/// Each has the rule 0, for the caller to set.
+///
+/// - `ItemNotFound`, with `kind` and no hint: the first needed name that is no key, by place and
+///   then by index.
+/// - `TypeCycle`, with `kind`: where every needed name is a key, the first of them that reaches
+///   a cycle, as does the name that needs it.
+/// - `OutOfMemory`: a growth was refused.
 pub fn toposort<'a>(
     alloc: Global,
     kind: &str,
@@ -129,7 +186,8 @@ pub fn toposort<'a>(
     ensures missing { FailsAtMissing (rows deps.now) kind.now result }
     ensures cycle { FailsAtCycle (rows deps.now) kind.now result }
 {
-    toposort_heap(alloc, kind, deps)
+    let order = order_places(alloc, deps);
+    keys_of(alloc, kind, deps, order)
 }
 
 /// [`toposort`] by counts of open edges and a heap of the names that wait for none: its work
@@ -145,7 +203,7 @@ pub fn toposort_heap<'a>(
     ensures missing { FailsAtMissing (rows deps.now) kind.now result }
     ensures cycle { FailsAtCycle (rows deps.now) kind.now result }
 {
-    let order = places_by_heap(alloc, kind, deps);
+    let order = order_by_heap(alloc, deps);
     keys_of(alloc, kind, deps, order)
 }
 
@@ -162,6 +220,6 @@ pub fn toposort_scan<'a>(
     ensures missing { FailsAtMissing (rows deps.now) kind.now result }
     ensures cycle { FailsAtCycle (rows deps.now) kind.now result }
 {
-    let order = places_by_scan(alloc, kind, deps);
+    let order = order_by_scan(alloc, deps);
     keys_of(alloc, kind, deps, order)
 }

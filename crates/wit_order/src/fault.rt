@@ -1,0 +1,108 @@
+//! Why a table has no order, and the refusal that says so.
+ghost use Rattle.std.specs.Prelude.{◌≡◌, IfOk, IfErr};
+ghost use Rattle.wit_tree.specs.Refusal.{IsTypeCycle};
+ghost use Rattle.wit_tree.specs.declared.error.ParseErrorKind.TheVariants.{OutOfMemory};
+ghost use Rattle.wit_order.specs.Table.{rows};
+ghost use Rattle.wit_order.specs.Faults.{IsFaultOf};
+ghost use Rattle.wit_order.specs.Refused.{IsNotFound, IsRefused};
+
+use indexmap::IndexMap;
+use std::alloc::{AllocError, AllocFailed, Global};
+use wit_tree::tree::Id;
+use wit_tree::{ParseError, ParseErrorKind, ParseResult};
+
+/// Why a table has no order.
+#[derive(Debug, Drop)]
+pub enum OrderFault {
+    /// The needed name `index` of the key at `place` is no key. None before it is missing.
+    Missing { place: usize, index: usize },
+    /// Every needed name is a key, and the needed name `index` of the key at `place` is the first
+    /// that reaches a cycle, as that key does.
+    Cyclic { place: usize, index: usize },
+    /// A growth was refused.
+    OutOfMemory,
+}
+
+impl From<AllocError> for OrderFault {
+    ghost use Rattle.wit_order.specs.declared.fault.OrderFault.TheVariants.{OutOfMemory as WantsMemory};
+
+    ghost from_gives = { λ _ f. f ≡ WantsMemory };
+
+    fn from(_e: AllocError) -> OrderFault {
+        OrderFault::OutOfMemory
+    }
+}
+
+impl<T: Drop> From<AllocFailed<T>> for OrderFault {
+    ghost use Rattle.wit_order.specs.declared.fault.OrderFault.TheVariants.{OutOfMemory as WantsMemory};
+
+    ghost from_gives = { λ _ f. f ≡ WantsMemory };
+
+    fn from(_e: AllocFailed<T>) -> OrderFault {
+        OrderFault::OutOfMemory
+    }
+}
+
+fn not_found(alloc: Global, kind: &str, id: &Id<'_>) -> ParseResult<ParseErrorKind>
+    ensures ok { IfOk result (IsNotFound id.now.span id.now.name.now kind.now) }
+    ensures err { IfErr result (λ e. e.kind ≡ OutOfMemory) }
+{
+    Ok(ParseErrorKind::ItemNotFound {
+        span: id.span,
+        name: String::from_str(alloc, id.name)?,
+        kind: String::from_str(alloc, kind)?,
+        hint: None,
+    })
+}
+
+fn type_cycle(alloc: Global, kind: &str, id: &Id<'_>) -> ParseResult<ParseErrorKind>
+    ensures ok { IfOk result (IsTypeCycle id.now.span id.now.name.now kind.now) }
+    ensures err { IfErr result (λ e. e.kind ≡ OutOfMemory) }
+{
+    Ok(ParseErrorKind::TypeCycle {
+        span: id.span,
+        name: String::from_str(alloc, id.name)?,
+        kind: String::from_str(alloc, kind)?,
+    })
+}
+
+/// What the fault's needed name is refused with.
+fn kind_of<'a>(
+    alloc: Global,
+    kind: &str,
+    deps: &IndexMap<&'a str, Vec<Id<'a>>>,
+    fault: OrderFault,
+) -> ParseResult<ParseErrorKind>
+    requires { IsFaultOf (rows deps.now) fault }
+    ensures ok { IfOk result (IsRefused (rows deps.now) kind.now) }
+    ensures err { IfErr result (λ e. e.kind ≡ OutOfMemory) }
+{
+    match fault {
+        OrderFault::Missing { place, index } => {
+            let (_, ids) = deps.get_index(place).unwrap();
+            not_found(alloc, kind, &ids[index])
+        }
+        OrderFault::Cyclic { place, index } => {
+            let (_, ids) = deps.get_index(place).unwrap();
+            type_cycle(alloc, kind, &ids[index])
+        }
+        OrderFault::OutOfMemory => Ok(ParseErrorKind::OutOfMemory),
+    }
+}
+
+/// The refusal of the fault's needed name, without a number.
+pub fn refusal<'a>(
+    alloc: Global,
+    kind: &str,
+    deps: &IndexMap<&'a str, Vec<Id<'a>>>,
+    fault: OrderFault,
+) -> ParseError
+    requires { IsFaultOf (rows deps.now) fault }
+    ensures kind { IsRefused (rows deps.now) kind.now result.kind }
+    ensures rule { result.rule ≡ 0 }
+{
+    match kind_of(alloc, kind, deps, fault) {
+        Ok(says) => ParseError::of(says, 0),
+        Err(e) => e.with_rule(0),
+    }
+}
