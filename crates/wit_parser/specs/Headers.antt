@@ -1,8 +1,9 @@
--- A header behind a reference that may be absent.
-use Rattle.std.specs.Prelude.{Option, Some, None}
-use Rattle.std.specs.Borrow.{Bor}
+-- The header of the file at a place.
+use Rattle.std.specs.Prelude.{ℕ, List, Option, slice_get}
+use Rattle.std.specs.Option.{option_and_then}
 use Rattle.wit_tree.specs.declared.tree.PackageName.{PackageName as Header}
+use Rattle.wit_tree.specs.declared.tree.PackageFile.{PackageFile}
 
-abbrev pub header_behind : Option (Bor Header) → Option Header
-header_behind None = None
-header_behind (Some h) = Some h.now
+-- none, where there is no such place or the file has none
+abbrev pub header_at : List PackageFile → ℕ → Option Header
+header_at files place = option_and_then (λ (f : PackageFile). f.package_id) (slice_get files place)

@@ -1,21 +1,25 @@
--- What the resolver holds by reference: the names of a scope, and interfaces with their files.
-use Rattle.wit_order.specs.Table.{Row}
+-- What the resolver holds by reference: names of a scope, used names, definitions and interfaces.
 use Rattle.wit_tree.specs.declared.tree.Interface.{Interface}
-use Rattle.wit_parser.specs.declared.items.Declared.{Declared}
+use Rattle.wit_parser.specs.declared.items.Item.{Item}
+use Rattle.wit_parser.specs.declared.scope_name.UsedName.{UsedName}
+use Rattle.wit_parser.specs.declared.scope_name.DefinedName.{DefinedName}
 use Rattle.wit_parser.specs.declared.scope_name.ScopeName.{ScopeName as Held}
 use Rattle.wit_parser.specs.declared.scope_name.ScopeName.TheVariants as held
-use Rattle.wit_parser.specs.Source.{ScopeName, Used, Defined, file_interfaces}
-use Rattle.wit_parser.specs.Scope.{item_row}
+use Rattle.wit_meaning.specs.Source.{ScopeName, Used, Defined}
+
+-- the used name that is held
+abbrev pub use_behind : UsedName → ScopeName
+use_behind u = Used u.from.now u.name.now
+
+-- the definition that is held
+abbrev pub definition_behind : DefinedName → ScopeName
+definition_behind d = Defined d.definition.now
 
 -- the name of a scope that is held
 abbrev pub name_behind : Held → ScopeName
-name_behind (held.Used from name) = Used from.now name.now
-name_behind (held.Defined d) = Defined d.now
+name_behind (held.Used u) = use_behind u
+name_behind (held.Defined d) = definition_behind d
 
 -- the interface that is held
-abbrev pub interface_behind : Declared → Interface
-interface_behind d = d.interface.now
-
--- its row in the table of items
-abbrev pub row_behind : Declared → Row
-row_behind d = item_row (file_interfaces d.file.now) d.interface.now
+abbrev pub interface_behind : Item → Interface
+interface_behind i = i.interface.now

@@ -1,15 +1,4 @@
-pub mod Form
-pub mod Node
-pub mod Source
-pub mod Expr
-pub mod Meet
-pub mod Fault
-pub mod Scope
-pub mod Broken
-pub mod Package
-pub mod Whole
-pub mod Resolving
-pub mod Repeats
 pub mod Headers
 pub mod Held
-pub mod Resolved
+pub mod Items
+pub mod Between

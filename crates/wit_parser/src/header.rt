@@ -3,28 +3,13 @@ ghost use Rattle.std.specs.Prelude.{◌≡◌, ◌↔◌, IfOk, IsTrue, string_b
 ghost use Rattle.std.specs.Option.{option_map};
 ghost use Rattle.semver.specs.Identifiers.{parts_of};
 ghost use Rattle.wit_values.specs.ReleaseText.{release_parts};
-ghost use Rattle.wit_parser.specs.Broken.{IsSamePackage, last_header};
-ghost use Rattle.wit_parser.specs.Headers.{header_behind};
+ghost use Rattle.wit_meaning.specs.Broken.{IsSamePackage};
 
 use semver::Version;
 use std::alloc::{AllocError, Global};
 use wit_model::PackageName;
-use wit_tree::tree::{self, PackageFile};
+use wit_tree::tree;
 use wit_values::{Release, Text};
-
-/// The header of the last file that has one.
-pub(crate) fn last_header<'f, 'a>(files: &'f [PackageFile<'a>]) -> Option<&'f tree::PackageName<'a>>
-    ensures { header_behind result ≡ last_header files.now }
-{
-    let mut left = files.len();
-    while left > 0 {
-        left -= 1;
-        if let Some(header) = &files[left].package_id {
-            return Some(header);
-        }
-    }
-    None
-}
 
 /// Whether two versions are the same, to their builds.
 fn is_same_version(a: &Version, b: &Version) -> bool

@@ -1,25 +1,27 @@
 //! Declared interfaces.
-ghost use Rattle.std.specs.Prelude.{◌≡◌, [], IfErr, OnOk, map};
-ghost use Rattle.wit_order.specs.Table.{IsOrder};
-ghost use Rattle.wit_parser.specs.Source.{scope_names as the_names};
-ghost use Rattle.wit_parser.specs.Scope.{in_order, used};
-ghost use Rattle.wit_parser.specs.Fault.{Fault};
-ghost use Rattle.wit_parser.specs.Broken.{IsBrokenScope, Refused};
+ghost use Rattle.std.specs.Prelude.{◌≡◌, List, [], IfErr, OnOk, map};
+ghost use Rattle.wit_meaning.specs.Source.{Address, scope_names as the_names};
+ghost use Rattle.wit_meaning.specs.Scope.{used};
+ghost use Rattle.wit_meaning.specs.Fault.{Fault};
+ghost use Rattle.wit_meaning.specs.Broken.{IsBrokenScope, Refused};
 ghost use Rattle.wit_model.specs.declared.types.TypeOwner.TheVariants.{Interface as OfInterface};
+ghost use Rattle.wit_model.specs.declared.interface.Interface.{Interface as Resolved};
 ghost use Rattle.wit_tree.specs.Refusal.{IsWantOfMemory};
-ghost use Rattle.wit_parser.specs.Held.{name_behind, interface_behind, row_behind};
-ghost use Rattle.wit_parser.specs.Resolving.{env_of, HasNames, IsIndex, IsAddedInterface, IsWrongScope};
-ghost use Rattle.wit_parser.specs.Resolved.{DefinesAll, AddsInterface, AddsAll, AreLegalScopes, IsWrongAmong};
+ghost use Rattle.wit_parser.specs.Held.{name_behind, use_behind, definition_behind, interface_behind};
+ghost use Rattle.wit_parser.specs.Between.{AreInTurn, IsBrokenAmong, IsWrongNext};
+ghost use Rattle.wit_meaning.specs.Resolving.{env_of, Defines, AreLegalBodies, HasNames, IsIndex, IsAddedInterface, IsWrongScope};
+ghost use Rattle.wit_meaning.specs.Resolved.{DefinesAll, AddsInterface, AddsAll, AreLegalScopes};
 
-use crate::definitions::define_all;
-use crate::distinct::{check_distinct, check_folded};
-use crate::items::Declared;
-use crate::scope::scope_order;
-use crate::scope_name::{ScopeName, scope_names};
-use crate::types::Scope;
+use crate::distinct::{add_definition_ids, check_folded_names, check_unique_names, used_ids};
+use crate::items::Item;
+use crate::scope::ordered_definitions;
+use crate::scope_name::{DefinedName, ScopeName, UsedName, definitions, scope_names, used_names};
 use crate::uses::{Interfaces, resolve_uses};
 use std::alloc::Global;
-use wit_model::{Arena, Docs, Interface, Stability, TypeDef, TypeId, TypePlace};
+use wit_entries::definitions::define;
+use wit_entries::entries::Entries;
+use wit_entries::scope::Scope;
+use wit_model::{Docs, Interface, Stability, TypeId};
 use wit_tree::{ParseResult, tree};
 use wit_values::{Text, TextTable};
 
@@ -52,29 +54,55 @@ fn add_interface(
     Ok(())
 }
 
-/// Adds the definitions of a scope, and what is in them, behind the names that it uses.
-fn resolve_definitions(
+/// Adds definitions that stand in their order.
+fn define_all(
     alloc: Global,
-    types: &mut Arena<TypeDef, TypePlace>,
+    types: &mut Entries,
     scope: &mut Scope,
-    names: &[ScopeName<'_, '_>],
+    definitions: &[DefinedName<'_, '_>],
 ) -> ParseResult<()>
+    requires turn { AreInTurn (env_of scope.old.names) (map definition_behind definitions.now) }
+    ensures defines { OnOk result ((is : List Resolved) (s : Address) → Defines types.old types.new is (OfInterface scope.old.id) s scope.old.names scope.new.names (map definition_behind definitions.now)) }
+    ensures id { OnOk result (scope.new.id ≡ scope.old.id) }
+    ensures legal { OnOk result (AreLegalBodies (map definition_behind definitions.now)) }
+    ensures refused { IfErr result (Refused (IsBrokenAmong (map definition_behind definitions.now))) }
+{
+    for definition in definitions {
+        define(alloc, types, scope, definition.definition)?;
+    }
+    Ok(())
+}
+
+/// Adds the definitions of a scope, and what is in them, behind the names that it uses.
+fn resolve_types<'t, 'a>(
+    alloc: Global,
+    types: &mut Entries,
+    scope: &mut Scope,
+    names: &[ScopeName<'t, 'a>],
+    uses: &[UsedName<'t, 'a>],
+) -> ParseResult<()>
+    requires uses { map use_behind uses.now ≡ used (map name_behind names.now) }
     requires has { HasNames (env_of scope.old.names) (used (map name_behind names.now)) }
     ensures defines { OnOk result (DefinesAll types.old types.new (OfInterface scope.old.id) scope.old.names scope.new.names (map name_behind names.now)) }
     ensures legal { OnOk result ((f : Fault) → IsBrokenScope (map name_behind names.now) f → ⊥) }
     ensures refused { IfErr result (Refused (IsBrokenScope (map name_behind names.now))) }
 {
-    check_distinct(alloc, names)?;
-    let places = scope_order(alloc, names)?;
-    define_all(alloc, types, scope, names, &places)?;
-    check_folded(alloc, names, &places)?;
+    let written = definitions(alloc, names)?;
+    let mut ids = used_ids(alloc, uses)?;
+    add_definition_ids(&mut ids, &written)?;
+    check_unique_names(alloc, &ids)?;
+    let ordered = ordered_definitions(alloc, names)?;
+    define_all(alloc, types, scope, &ordered)?;
+    let mut turn = used_ids(alloc, uses)?;
+    add_definition_ids(&mut turn, &ordered)?;
+    check_folded_names(alloc, &turn)?;
     Ok(())
 }
 
 /// Adds an interface with its names, and what is in them.
-pub(crate) fn resolve_interface(
+fn resolve_interface(
     alloc: Global,
-    types: &mut Arena<TypeDef, TypePlace>,
+    types: &mut Entries,
     interfaces: &mut Interfaces,
     interface: &tree::Interface<'_>,
 ) -> ParseResult<()>
@@ -85,32 +113,31 @@ pub(crate) fn resolve_interface(
     ensures refused { IfErr result (Refused (IsWrongScope interfaces.old.arena interfaces.old.by_name (the_names interface.now))) }
 {
     let names = scope_names(alloc, &interface.items)?;
+    let uses = used_names(alloc, &names)?;
     let mut scope = Scope {
         id: interfaces.arena.next_id(),
         names: TextTable::new(alloc),
     };
-    resolve_uses(alloc, types, interfaces, &mut scope, &names)?;
-    resolve_definitions(alloc, types, &mut scope, &names)?;
+    resolve_uses(alloc, types, interfaces, &mut scope, &uses)?;
+    resolve_types(alloc, types, &mut scope, &names, &uses)?;
     add_interface(alloc, interfaces, interface, scope.names)?;
     Ok(())
 }
 
-/// Adds interfaces in an order of their places.
+/// Adds interfaces, one after another.
 pub(crate) fn resolve_interfaces(
     alloc: Global,
-    types: &mut Arena<TypeDef, TypePlace>,
+    types: &mut Entries,
     interfaces: &mut Interfaces,
-    declared: &[Declared<'_, '_>],
-    places: &[usize],
+    ordered: &[Item<'_, '_>],
 ) -> ParseResult<()>
-    requires order { IsOrder (map row_behind declared.now) places.now }
     requires index { IsIndex interfaces.old.arena interfaces.old.by_name }
-    ensures added { OnOk result (AddsAll types.old types.new interfaces.old.arena interfaces.new.arena (in_order (map interface_behind declared.now) places.now)) }
-    ensures legal { OnOk result (AreLegalScopes (in_order (map interface_behind declared.now) places.now)) }
-    ensures refused { IfErr result (Refused (IsWrongAmong types.old interfaces.old.arena (map interface_behind declared.now) places.now)) }
+    ensures added { OnOk result (AddsAll types.old types.new interfaces.old.arena interfaces.new.arena (map interface_behind ordered.now)) }
+    ensures legal { OnOk result (AreLegalScopes (map interface_behind ordered.now)) }
+    ensures refused { IfErr result (Refused (IsWrongNext types.old interfaces.old.arena (map interface_behind ordered.now))) }
 {
-    for place in places {
-        resolve_interface(alloc, types, interfaces, declared[*place].interface)?;
+    for item in ordered {
+        resolve_interface(alloc, types, interfaces, item.interface)?;
     }
     Ok(())
 }

@@ -1,40 +1,80 @@
-//! Refusals of an order under the numbers that they have.
-ghost use Rattle.std.specs.Prelude.{◌⊎◌};
-ghost use Rattle.wit_tree.specs.Refusal.{IsWantOfMemory};
-ghost use Rattle.wit_parser.specs.Fault.{IsNumbered};
+//! Lists in an order of their places, and refusals of what has no order.
+ghost use Rattle.std.specs.Prelude.{◌≡◌, ℕ, ◌<◌, ◌⊎◌, All, length, IfOk};
+ghost use Rattle.wit_tree.specs.declared.tree.Id.{Id as TheId};
+ghost use Rattle.wit_order.specs.Table.{rows, IsEdge};
+ghost use Rattle.wit_order.specs.Faults.{IsFaultOf};
+ghost use Rattle.wit_meaning.specs.Scope.{in_order as the_order};
+ghost use Rattle.wit_meaning.specs.Fault.{item_word, type_word};
+ghost use Rattle.wit_meaning.specs.Broken.{IsMissingEdge, IsCyclicEdge, Refused};
 
-use crate::refusal::refuse_missing_type;
-use std::alloc::Global;
+use indexmap::IndexMap;
+use std::alloc::{AllocError, Global};
+use wit_entries::refusal::{refuse_cycle, refuse_missing, refuse_missing_type};
+use wit_order::OrderFault;
+use wit_tree::tree::Id;
 use wit_tree::{OUT_OF_MEMORY, ParseError, ParseErrorKind};
 
-/// A refusal of the order of items under its number.
-pub(crate) fn numbered_item(e: ParseError) -> ParseError
-    ensures { IsNumbered 7 8 e.kind result }
+/// The items at these places, in the order of the places.
+pub(crate) fn in_order<T: Copy>(
+    alloc: Global,
+    items: &[T],
+    places: &[usize],
+) -> Result<Vec<T>, AllocError>
+    requires { All (λ place. place < length items.now) places.now }
+    ensures { IfOk result (λ ordered. ordered.items ≡ the_order items.now places.now) }
 {
-    let rule = match e.kind() {
-        ParseErrorKind::ItemNotFound { .. } => 7,
-        ParseErrorKind::TypeCycle { .. } => 8,
-        ParseErrorKind::Syntax { .. } | ParseErrorKind::OutOfMemory => return out_of_memory(),
-    };
-    e.with_rule(rule)
+    let mut ordered = Vec::new(alloc);
+    for place in places {
+        ordered.push(items[*place])?;
+    }
+    Ok(ordered)
 }
 
-/// A refusal of the order of a scope under its number, with a hint where there is one.
-pub(crate) fn numbered_type(alloc: Global, e: ParseError) -> ParseError
-    ensures { IsWantOfMemory result ⊎ IsNumbered 15 16 e.kind result }
+/// The name at an index of what the item at a place needs.
+fn needed<'a>(table: &IndexMap<&'a str, Vec<Id<'a>>>, place: usize, index: usize) -> Id<'a>
+    requires { (id : TheId) × IsEdge (rows table.now) place index id }
+    ensures { IsEdge (rows table.now) place index result }
 {
-    match e.kind() {
-        ParseErrorKind::ItemNotFound { span, name, .. } => {
-            refuse_missing_type(alloc, *span, name.as_str())
+    let (_, ids) = table.get_index(place).unwrap();
+    ids[index]
+}
+
+/// The refusal of items that have no order.
+pub(crate) fn refuse_item_order(
+    alloc: Global,
+    table: &IndexMap<&str, Vec<Id<'_>>>,
+    fault: OrderFault,
+) -> ParseError
+    requires { IsFaultOf (rows table.now) fault }
+    ensures { Refused (λ f. IsMissingEdge 7 item_word (rows table.now) f ⊎ IsCyclicEdge 8 item_word (rows table.now) f) result }
+{
+    match fault {
+        OrderFault::Missing { place, index } => {
+            refuse_missing(alloc, 7, "interface or world", needed(table, place, index))
         }
-        ParseErrorKind::TypeCycle { .. } => e.with_rule(16),
-        ParseErrorKind::Syntax { .. } | ParseErrorKind::OutOfMemory => out_of_memory(),
+        OrderFault::Cyclic { place, index } => {
+            refuse_cycle(alloc, 8, "interface or world", needed(table, place, index))
+        }
+        OrderFault::OutOfMemory => ParseError::of(ParseErrorKind::OutOfMemory, OUT_OF_MEMORY),
     }
 }
 
-/// A refusal for want of memory.
-fn out_of_memory() -> ParseError
-    ensures { IsWantOfMemory result }
+/// The refusal of definitions that have no order.
+pub(crate) fn refuse_type_order(
+    alloc: Global,
+    table: &IndexMap<&str, Vec<Id<'_>>>,
+    fault: OrderFault,
+) -> ParseError
+    requires { IsFaultOf (rows table.now) fault }
+    ensures { Refused (λ f. IsMissingEdge 15 type_word (rows table.now) f ⊎ IsCyclicEdge 16 type_word (rows table.now) f) result }
 {
-    ParseError::of(ParseErrorKind::OutOfMemory, OUT_OF_MEMORY)
+    match fault {
+        OrderFault::Missing { place, index } => {
+            refuse_missing_type(alloc, needed(table, place, index))
+        }
+        OrderFault::Cyclic { place, index } => {
+            refuse_cycle(alloc, 16, "type", needed(table, place, index))
+        }
+        OrderFault::OutOfMemory => ParseError::of(ParseErrorKind::OutOfMemory, OUT_OF_MEMORY),
+    }
 }

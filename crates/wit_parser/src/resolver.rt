@@ -1,18 +1,21 @@
 //! From parsed files to a package.
 ghost use Rattle.std.specs.Prelude.{◌≡◌, ◌++◌, ◌∷◌, [], IfOk, IfErr, OnOk, OnErr};
-ghost use Rattle.wit_parser.specs.Fault.{Fault};
-ghost use Rattle.wit_parser.specs.Broken.{IsMismatch, IsOtherPackage, IsBroken, IsLegal, Refused};
-ghost use Rattle.wit_parser.specs.Headers.{header_behind};
-ghost use Rattle.wit_parser.specs.Whole.{IsPackage, IsFaithful};
+ghost use Rattle.std.specs.Option.{option_copied};
+ghost use Rattle.wit_meaning.specs.Fault.{Fault};
+ghost use Rattle.wit_meaning.specs.Broken.{IsMismatch, IsOtherPackage, IsBroken, IsLegal, Refused, last_header};
+ghost use Rattle.wit_parser.specs.Headers.{header_at};
+ghost use Rattle.wit_parser.specs.Between.{AddsFiles};
+ghost use Rattle.wit_model.specs.Types.{IsBackward};
+ghost use Rattle.wit_meaning.specs.Whole.{IsPackage, IsFaithful};
 
-use crate::header::{is_same, last_header, mismatch, package_name};
+use crate::header::{is_same, mismatch, package_name};
 use crate::interface::resolve_interfaces;
-use crate::items::{declared_interfaces, item_order};
-use crate::package::UnresolvedPackage;
-use crate::refusal::refuse;
+use crate::items::ordered_interfaces;
 use crate::uses::Interfaces;
 use std::alloc::Global;
-use wit_model::Arena;
+use wit_entries::entries::Entries;
+use wit_entries::refusal::refuse;
+use wit_model::{Arena, Interface, InterfacePlace, UnresolvedPackage};
 use wit_tree::tree::{self, PackageFile};
 use wit_tree::{ParseResult, Span};
 use wit_values::TextTable;
@@ -24,6 +27,9 @@ const NO_HEADER: &str = "no `package` header was found in any WIT file for this 
 #[derive(Drop)]
 pub struct Resolver<'a> {
     files: Vec<PackageFile<'a>>,
+    /// The place of the last file that has a header, or 0 where none has one.
+    last: usize,
+    pub ghost header: { header_at files.items last ≡ last_header files.items },
 }
 
 /// The refusal of a header that names another package than the last one before it, if it does.
@@ -32,8 +38,8 @@ fn check_header(
     previous: Option<&tree::PackageName<'_>>,
     current: &Option<tree::PackageName<'_>>,
 ) -> ParseResult<()>
-    ensures accepted { OnOk result ((f : Fault) → IsMismatch (header_behind previous.entry) current.now f → ⊥) }
-    ensures refused { IfErr result (Refused (IsMismatch (header_behind previous.entry) current.now)) }
+    ensures accepted { OnOk result ((f : Fault) → IsMismatch (option_copied previous.entry) current.now f → ⊥) }
+    ensures refused { IfErr result (Refused (IsMismatch (option_copied previous.entry) current.now)) }
 {
     if let Some(before) = previous {
         if let Some(own) = current {
@@ -46,6 +52,25 @@ fn check_header(
     Ok(())
 }
 
+/// Adds the interfaces of files, and their types, to nothing.
+fn resolve_files<'f, 'a>(
+    alloc: Global,
+    types: &mut Entries,
+    files: &'f [PackageFile<'a>],
+) -> ParseResult<Arena<Interface, InterfacePlace>>
+    requires empty { types.old ≡ [] }
+    ensures added { IfOk result (AddsFiles files.now types.new) }
+    ensures refused { IfErr result (Refused (IsBroken files.now)) }
+{
+    let ordered = ordered_interfaces(alloc, files)?;
+    let mut interfaces = Interfaces {
+        arena: Arena::new(alloc),
+        by_name: TextTable::new(alloc),
+    };
+    resolve_interfaces(alloc, types, &mut interfaces, &ordered)?;
+    Ok(interfaces.arena)
+}
+
 impl<'a> Resolver<'a> {
     /// A resolver with no file.
     pub fn new(alloc: Global) -> Self
@@ -53,7 +78,16 @@ impl<'a> Resolver<'a> {
     {
         Resolver {
             files: Vec::new(alloc),
+            last: 0,
         }
+    }
+
+    /// The header of the last file that has one.
+    fn last_header(&self) -> Option<&tree::PackageName<'a>>
+        ensures { option_copied result ≡ last_header self.now.files.items }
+    {
+        let file = self.files.get(self.last)?;
+        file.package_id.as_ref()
     }
 
     /// Adds a file behind the others.
@@ -70,8 +104,13 @@ impl<'a> Resolver<'a> {
         ensures unchanged { OnErr result (self.new.files.items ≡ self.old.files.items) }
         ensures refused { IfErr result (Refused (IsOtherPackage self.old.files.items file.entry)) }
     {
-        check_header(alloc, last_header(&self.files), &file.package_id)?;
+        check_header(alloc, self.last_header(), &file.package_id)?;
+        let place = self.files.len();
+        let has_header = file.package_id.is_some();
         self.files.push(file)?;
+        if has_header {
+            self.last = place;
+        }
         Ok(())
     }
 
@@ -100,26 +139,21 @@ impl<'a> Resolver<'a> {
         ensures legal { OnOk result (IsLegal self.entry.files.items) }
         ensures package { IfOk result (IsPackage self.entry.files.items) }
         ensures faithful { IfOk result (IsFaithful self.entry.files.items) }
+        ensures backward { IfOk result (λ p. IsBackward p.types) }
         ensures refused { IfErr result (Refused (IsBroken self.entry.files.items)) }
     {
-        let header = match last_header(&self.files) {
+        let header = match self.last_header() {
             Some(header) => header,
             None => return Err(refuse(alloc, 4, Span::default(), NO_HEADER)),
         };
-        let declared = declared_interfaces(alloc, &self.files)?;
-        let places = item_order(alloc, &declared)?;
-        let mut types = Arena::new(alloc);
-        let mut interfaces = Interfaces {
-            arena: Arena::new(alloc),
-            by_name: TextTable::new(alloc),
-        };
-        resolve_interfaces(alloc, &mut types, &mut interfaces, &declared, &places)?;
-        Ok(UnresolvedPackage {
-            name: package_name(alloc, header)?,
-            worlds: Arena::new(alloc),
-            interfaces: interfaces.arena,
-            types,
-            name_span: header.span,
-        })
+        let mut types = Entries::new(alloc);
+        let interfaces = resolve_files(alloc, &mut types, &self.files)?;
+        Ok(UnresolvedPackage::new(
+            package_name(alloc, header)?,
+            Arena::new(alloc),
+            interfaces,
+            types.into_arena(),
+            header.span,
+        ))
     }
 }

@@ -1,13 +1,15 @@
 //! The order in which the definitions of a scope are resolved.
 ghost use Rattle.std.specs.Prelude.{◌≡◌, ◌++◌, map, IfOk, IfErr, OnOk};
 ghost use Rattle.wit_order.specs.Table.{rows, IsOrder};
-ghost use Rattle.wit_parser.specs.Scope.{type_names, field_names, body_names, needed_ids as the_needed, rows_of};
-ghost use Rattle.wit_parser.specs.Broken.{IsBrokenScope, Refused};
-ghost use Rattle.wit_parser.specs.Held.{name_behind};
-ghost use Rattle.wit_parser.specs.Resolving.{AreDistinct};
+ghost use Rattle.wit_meaning.specs.Shape.{shape_of, field_shapes, body_of, words, all_words};
+ghost use Rattle.wit_meaning.specs.Scope.{needed_ids as the_needed, rows_of};
+ghost use Rattle.wit_meaning.specs.Broken.{IsBrokenScope, Refused};
+ghost use Rattle.wit_meaning.specs.Resolving.{AreDistinct};
+ghost use Rattle.wit_parser.specs.Held.{name_behind, definition_behind};
+ghost use Rattle.wit_parser.specs.Between.{AreOrdered};
 
-use crate::order::numbered_type;
-use crate::scope_name::{ScopeName, local_id};
+use crate::order::{in_order, refuse_type_order};
+use crate::scope_name::{DefinedName, ScopeName, definitions, local_id};
 use indexmap::IndexMap;
 use std::alloc::{AllocError, Global};
 use wit_order::order_places;
@@ -15,37 +17,37 @@ use wit_tree::ParseResult;
 use wit_tree::tree::{Field, Id, Type, TypeBody};
 
 /// Adds the names written in a type.
-fn add_names<'a>(names: &mut Vec<Id<'a>>, ty: &Type<'a>) -> Result<(), AllocError>
-    ensures { OnOk result (names.new.items ≡ names.old.items ++ type_names ty.now) }
+fn collect_deps<'a>(deps: &mut Vec<Id<'a>>, ty: &Type<'a>) -> Result<(), AllocError>
+    ensures { OnOk result (deps.new.items ≡ deps.old.items ++ words (shape_of ty.now)) }
 {
     match ty {
-        Type::Name(id) => names.push(*id)?,
-        Type::List(_, element) => add_names(names, element)?,
+        Type::Name(id) => deps.push(*id)?,
+        Type::List(_, element) => collect_deps(deps, element)?,
         _ => {}
     }
     Ok(())
 }
 
-/// The names written in the body of a definition, in written order.
-fn names_in<'a>(alloc: Global, body: &TypeBody<'a>) -> Result<Vec<Id<'a>>, AllocError>
-    ensures { IfOk result (λ names. names.items ≡ body_names body.now) }
-{
-    let mut names = Vec::new(alloc);
-    match body {
-        TypeBody::Record { fields, .. } => add_field_names(&mut names, fields)?,
-        TypeBody::Plain(ty) => add_names(&mut names, ty)?,
-    }
-    Ok(names)
-}
-
 /// Adds the names written in the types of fields.
-fn add_field_names<'a>(names: &mut Vec<Id<'a>>, fields: &[Field<'a>]) -> Result<(), AllocError>
-    ensures { OnOk result (names.new.items ≡ names.old.items ++ field_names fields.now) }
+fn collect_field_deps<'a>(deps: &mut Vec<Id<'a>>, fields: &[Field<'a>]) -> Result<(), AllocError>
+    ensures { OnOk result (deps.new.items ≡ deps.old.items ++ all_words (field_shapes fields.now)) }
 {
     for field in fields {
-        add_names(names, &field.ty)?;
+        collect_deps(deps, &field.ty)?;
     }
     Ok(())
+}
+
+/// The names written in the body of a definition, in written order.
+fn body_deps<'a>(alloc: Global, body: &TypeBody<'a>) -> Result<Vec<Id<'a>>, AllocError>
+    ensures { IfOk result (λ deps. deps.items ≡ all_words (body_of body.now).parts) }
+{
+    let mut deps = Vec::new(alloc);
+    match body {
+        TypeBody::Record { fields, .. } => collect_field_deps(&mut deps, fields)?,
+        TypeBody::Plain(ty) => collect_deps(&mut deps, ty)?,
+    }
+    Ok(deps)
 }
 
 /// The names that a name of a scope needs: those in its body, where it is a definition.
@@ -53,8 +55,8 @@ fn needed_ids<'a>(alloc: Global, name: &ScopeName<'_, 'a>) -> Result<Vec<Id<'a>>
     ensures { IfOk result (λ ids. ids.items ≡ the_needed (name_behind name.now)) }
 {
     match name {
-        ScopeName::Used { .. } => Ok(Vec::new(alloc)),
-        ScopeName::Defined(definition) => names_in(alloc, &definition.body),
+        ScopeName::Used(_) => Ok(Vec::new(alloc)),
+        ScopeName::Defined(defined) => body_deps(alloc, &defined.definition.body),
     }
 }
 
@@ -75,14 +77,28 @@ fn scope_table<'a>(
 }
 
 /// The places of the names of a scope, in the order in which the definitions are resolved.
-pub(crate) fn scope_order(alloc: Global, names: &[ScopeName<'_, '_>]) -> ParseResult<Vec<usize>>
+fn scope_order(alloc: Global, names: &[ScopeName<'_, '_>]) -> ParseResult<Vec<usize>>
     requires distinct { AreDistinct (map name_behind names.now) }
     ensures order { IfOk result (λ places. IsOrder (rows_of (map name_behind names.now)) places.items) }
     ensures refused { IfErr result (Refused (IsBrokenScope (map name_behind names.now))) }
 {
     let table = scope_table(alloc, names)?;
-    match order_places(alloc, "type", &table) {
+    match order_places(alloc, &table) {
         Ok(places) => Ok(places),
-        Err(e) => Err(numbered_type(alloc, e)),
+        Err(fault) => Err(refuse_type_order(alloc, &table, fault)),
     }
+}
+
+/// The definitions of a scope, in the order in which they are resolved.
+pub(crate) fn ordered_definitions<'t, 'a>(
+    alloc: Global,
+    names: &[ScopeName<'t, 'a>],
+) -> ParseResult<Vec<DefinedName<'t, 'a>>>
+    requires distinct { AreDistinct (map name_behind names.now) }
+    ensures ordered { IfOk result (λ ordered. AreOrdered (map name_behind names.now) (map definition_behind ordered.items)) }
+    ensures refused { IfErr result (Refused (IsBrokenScope (map name_behind names.now))) }
+{
+    let places = scope_order(alloc, names)?;
+    let ordered = in_order(alloc, names, &places)?;
+    Ok(definitions(alloc, &ordered)?)
 }

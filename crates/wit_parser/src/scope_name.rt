@@ -1,22 +1,34 @@
 //! The names of a scope: those that it uses, and its definitions.
 ghost use Rattle.std.specs.Prelude.{◌≡◌, ◌++◌, map, IfOk, OnOk};
 ghost use Rattle.std.specs.List.{flat_map};
-ghost use Rattle.wit_parser.specs.Source.{Used, or_id, item_names, local_id as the_local_id, path_id as the_path};
-ghost use Rattle.wit_parser.specs.Held.{name_behind};
+ghost use Rattle.std.specs.Option.{unwrap_or};
+ghost use Rattle.wit_meaning.specs.Source.{Used, item_names, local_id as the_local_id, path_id as the_path};
+ghost use Rattle.wit_meaning.specs.Scope.{used, defined};
+ghost use Rattle.wit_parser.specs.Held.{name_behind, use_behind, definition_behind};
 
 use std::alloc::{AllocError, Global};
 use wit_tree::tree::{Id, InterfaceItem, TypeDef, Use, UseName, UsePath};
 
+/// A used name, and the path of the interface that it comes from.
+#[derive(Clone, Copy)]
+pub(crate) struct UsedName<'t, 'a> {
+    pub(crate) from: &'t UsePath<'a>,
+    pub(crate) name: &'t UseName<'a>,
+}
+
+/// A definition.
+#[derive(Clone, Copy)]
+pub(crate) struct DefinedName<'t, 'a> {
+    pub(crate) definition: &'t TypeDef<'a>,
+}
+
 /// A name of a scope.
-#[derive(Drop)]
+#[derive(Clone, Copy)]
 pub(crate) enum ScopeName<'t, 'a> {
     /// One that is used from an interface.
-    Used {
-        from: &'t UsePath<'a>,
-        name: &'t UseName<'a>,
-    },
+    Used(UsedName<'t, 'a>),
     /// A definition.
-    Defined(&'t TypeDef<'a>),
+    Defined(DefinedName<'t, 'a>),
 }
 
 /// Adds the names of a use.
@@ -27,10 +39,10 @@ fn add_used_names<'t, 'a>(
     ensures { OnOk result (map name_behind names.new.items ≡ map name_behind names.old.items ++ map (Used used.now.from) used.now.names.items) }
 {
     for name in &used.names {
-        names.push(ScopeName::Used {
+        names.push(ScopeName::Used(UsedName {
             from: &used.from,
             name,
-        })?;
+        }))?;
     }
     Ok(())
 }
@@ -43,7 +55,9 @@ fn add_item_names<'t, 'a>(
     ensures { OnOk result (map name_behind names.new.items ≡ map name_behind names.old.items ++ item_names item.now) }
 {
     match item {
-        InterfaceItem::TypeDef(definition) => names.push(ScopeName::Defined(definition))?,
+        InterfaceItem::TypeDef(definition) => {
+            names.push(ScopeName::Defined(DefinedName { definition }))?
+        }
         InterfaceItem::Use(used) => add_used_names(names, used)?,
     }
     Ok(())
@@ -63,6 +77,38 @@ pub(crate) fn scope_names<'t, 'a>(
     Ok(names)
 }
 
+/// The used ones of some names.
+pub(crate) fn used_names<'t, 'a>(
+    alloc: Global,
+    names: &[ScopeName<'t, 'a>],
+) -> Result<Vec<UsedName<'t, 'a>>, AllocError>
+    ensures { IfOk result (λ uses. map use_behind uses.items ≡ used (map name_behind names.now)) }
+{
+    let mut uses = Vec::new(alloc);
+    for name in names {
+        if let ScopeName::Used(name) = name {
+            uses.push(*name)?;
+        }
+    }
+    Ok(uses)
+}
+
+/// The definitions of some names.
+pub(crate) fn definitions<'t, 'a>(
+    alloc: Global,
+    names: &[ScopeName<'t, 'a>],
+) -> Result<Vec<DefinedName<'t, 'a>>, AllocError>
+    ensures { IfOk result (λ definitions. map definition_behind definitions.items ≡ defined (map name_behind names.now)) }
+{
+    let mut definitions = Vec::new(alloc);
+    for name in names {
+        if let ScopeName::Defined(name) = name {
+            definitions.push(*name)?;
+        }
+    }
+    Ok(definitions)
+}
+
 /// What a path names.
 pub(crate) fn path_id<'a>(path: &UsePath<'a>) -> Id<'a>
     ensures { result ≡ the_path path.now }
@@ -74,12 +120,9 @@ pub(crate) fn path_id<'a>(path: &UsePath<'a>) -> Id<'a>
 
 /// The name that a used one goes by: that behind `as`, or its own.
 pub(crate) fn local_of<'a>(name: &UseName<'a>) -> Id<'a>
-    ensures { result ≡ or_id name.now.as_ name.now.name }
+    ensures { result ≡ unwrap_or name.now.as_ name.now.name }
 {
-    match name.as_ {
-        Some(local) => local,
-        None => name.name,
-    }
+    name.as_.unwrap_or(name.name)
 }
 
 /// The name that a name of a scope goes by.
@@ -87,7 +130,7 @@ pub(crate) fn local_id<'a>(name: &ScopeName<'_, 'a>) -> Id<'a>
     ensures { result ≡ the_local_id (name_behind name.now) }
 {
     match name {
-        ScopeName::Used { name, .. } => local_of(name),
-        ScopeName::Defined(definition) => definition.name,
+        ScopeName::Used(used) => local_of(used.name),
+        ScopeName::Defined(defined) => defined.definition.name,
     }
 }

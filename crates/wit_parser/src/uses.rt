@@ -1,24 +1,22 @@
 //! Names that an interface uses from others.
-ghost use Rattle.std.specs.Prelude.{◌≡◌, [], map, OnOk, IfOk, IfErr};
+ghost use Rattle.std.specs.Prelude.{◌≡◌, List, [], map, OnOk, IfOk, IfErr};
 ghost use Rattle.wit_tree.specs.Refusal.{IsWantOfMemory};
 ghost use Rattle.wit_model.specs.declared.types.TypeOwner.TheVariants.{Interface as OfInterface};
-ghost use Rattle.wit_parser.specs.Source.{Address};
-ghost use Rattle.wit_parser.specs.Scope.{used};
-ghost use Rattle.wit_parser.specs.Broken.{Refused};
-ghost use Rattle.wit_parser.specs.Held.{name_behind};
-ghost use Rattle.wit_parser.specs.Resolving.{env_of, Defines, HasNames, IsIndex, IsFound, IsUnresolved, IsUsed, IsWrongUse, IsWrongScope};
+ghost use Rattle.wit_meaning.specs.Source.{Address, ScopeName};
+ghost use Rattle.wit_meaning.specs.Scope.{used};
+ghost use Rattle.wit_meaning.specs.Broken.{Refused};
+ghost use Rattle.wit_parser.specs.Held.{use_behind};
+ghost use Rattle.wit_meaning.specs.Resolving.{env_of, Defines, HasNames, IsIndex, IsFound, IsUnresolved, IsUsed, IsWrongUse, IsWrongScope};
 
-use crate::definitions::declare;
 use crate::distinct::defined_twice;
-use crate::refusal::{refuse, refuse_missing};
-use crate::scope_name::{ScopeName, local_of, path_id};
-use crate::types::Scope;
+use crate::scope_name::{UsedName, local_of, path_id};
 use std::alloc::Global;
-use wit_model::{
-    Arena, Interface, InterfaceId, InterfacePlace, Type, TypeDef, TypeDefKind, TypePlace,
-};
+use wit_entries::entries::Entries;
+use wit_entries::refusal::{refuse, refuse_missing};
+use wit_entries::scope::Scope;
+use wit_model::{Arena, Interface, InterfaceId, InterfacePlace, Type, TypeDefKind};
 use wit_tree::ParseResult;
-use wit_tree::tree::{Id, UseName, UsePath};
+use wit_tree::tree::Id;
 use wit_values::TextTable;
 
 /// The interfaces that are resolved, and the place of each by its name.
@@ -45,20 +43,20 @@ fn used_interface<'i>(
 }
 
 /// Adds a name that is used from an interface.
-fn use_name(
+fn resolve_use(
     alloc: Global,
-    types: &mut Arena<TypeDef, TypePlace>,
+    types: &mut Entries,
     interfaces: &Interfaces,
     scope: &mut Scope,
-    from: &UsePath<'_>,
-    name: &UseName<'_>,
+    used: &UsedName<'_, '_>,
 ) -> ParseResult<()>
     requires index { IsIndex interfaces.now.arena interfaces.now.by_name }
-    ensures used { OnOk result (IsUsed types.old types.new interfaces.now.arena (OfInterface scope.old.id) scope.old.names scope.new.names from.now name.now) }
+    ensures used { OnOk result (IsUsed types.old types.new interfaces.now.arena (OfInterface scope.old.id) scope.old.names scope.new.names used.now.from.now used.now.name.now) }
     ensures id { OnOk result (scope.new.id ≡ scope.old.id) }
-    ensures refused { IfErr result (Refused (IsWrongUse interfaces.now.arena interfaces.now.by_name scope.old.names from.now name.now)) }
+    ensures refused { IfErr result (Refused (IsWrongUse interfaces.now.arena interfaces.now.by_name scope.old.names used.now.from.now used.now.name.now)) }
 {
-    let interface = used_interface(alloc, interfaces, path_id(from))?;
+    let name = used.name;
+    let interface = used_interface(alloc, interfaces, path_id(used.from))?;
     let original = match interface.types.get(name.name.name) {
         Some(original) => *original,
         None => return Err(refuse_missing(alloc, 12, "name", name.name)),
@@ -69,29 +67,27 @@ fn use_name(
         return Err(refuse(alloc, 14, local.span, message.as_str()));
     }
     let kind = TypeDefKind::Type_(Type::Id(original));
-    declare(alloc, types, scope, local.name, name.name.span, kind)?;
+    scope.declare(alloc, types, local.name, name.name.span, kind)?;
     Ok(())
 }
 
 /// Adds the names that a scope uses, in source order.
 pub(crate) fn resolve_uses(
     alloc: Global,
-    types: &mut Arena<TypeDef, TypePlace>,
+    types: &mut Entries,
     interfaces: &Interfaces,
     scope: &mut Scope,
-    names: &[ScopeName<'_, '_>],
+    uses: &[UsedName<'_, '_>],
 ) -> ParseResult<()>
     requires index { IsIndex interfaces.now.arena interfaces.now.by_name }
     requires empty { scope.old.names ≡ [] }
-    ensures defines { OnOk result ((s : Address) → Defines types.old types.new interfaces.now.arena (OfInterface scope.old.id) s scope.old.names scope.new.names (used (map name_behind names.now))) }
+    ensures defines { OnOk result ((s : Address) → Defines types.old types.new interfaces.now.arena (OfInterface scope.old.id) s scope.old.names scope.new.names (map use_behind uses.now)) }
     ensures id { OnOk result (scope.new.id ≡ scope.old.id) }
-    ensures has { OnOk result (HasNames (env_of scope.new.names) (used (map name_behind names.now))) }
-    ensures refused { IfErr result (Refused (IsWrongScope interfaces.now.arena interfaces.now.by_name (map name_behind names.now))) }
+    ensures has { OnOk result (HasNames (env_of scope.new.names) (map use_behind uses.now)) }
+    ensures refused { IfErr result (λ e. (xs : List ScopeName) → map use_behind uses.now ≡ used xs → Refused (IsWrongScope interfaces.now.arena interfaces.now.by_name xs) e) }
 {
-    for name in names {
-        if let ScopeName::Used { from, name } = name {
-            use_name(alloc, types, interfaces, scope, from, name)?;
-        }
+    for name in uses {
+        resolve_use(alloc, types, interfaces, scope, name)?;
     }
     Ok(())
 }

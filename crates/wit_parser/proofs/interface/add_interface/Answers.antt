@@ -1,5 +1,5 @@
 use Rattle.std.proofs.Common.{Some, ap}
-use Rattle.wit_parser.proofs.Indexing.{index_more}
+use Rattle.wit_meaning.proofs.Indexing.{index_more}
 use Rattle.wit_parser.proofs.interface.add_interface.Goals as goal
 
 pub returns-clause-index : goal.returns-clause-index

@@ -1,6 +1,6 @@
 use Rattle.std.proofs.Common.{inl, inr, ap}
-use Rattle.wit_parser.specs.Headers.{header_behind}
-use Rattle.wit_parser.proofs.Headers.{not_both}
+use Rattle.std.specs.Option.{option_copied}
+use Rattle.wit_meaning.proofs.Headers.{not_both}
 use Rattle.wit_parser.proofs.resolver.check_header.Goals as goal
 
 pub returns-then-not-is_same-clause-refused : goal.returns-then-not-is_same-clause-refused
@@ -9,7 +9,7 @@ returns-then-not-is_same-clause-refused c = elim c.refuse.ensures [
   | inr says ↦ inr (record {
     before = c.in-Some.before.now;
     own = c.in-Some-current.own;
-    was = ap header_behind c.in-Some.is;
+    was = ap option_copied c.in-Some.is;
     now = c.in-Some-current.is;
     other = λ same. not_both c.is_same.result (c.is_same.ensures.1 same) c.if-not-is_same.true;
     is = says;

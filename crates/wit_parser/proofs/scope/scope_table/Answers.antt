@@ -2,11 +2,11 @@ use Rattle.std.proofs.Common.{◌≡◌, ◌+◌, Some, ap, sym, ◌∙◌}
 use Rattle.std.specs.Prelude.{slice_get, map}
 use Rattle.std.proofs.lemmas.List.{take-map}
 use Rattle.wit_tree.specs.declared.tree.Id.{Id}
-use Rattle.wit_parser.specs.Scope.{row_of, rows_of}
+use Rattle.wit_meaning.specs.Scope.{row_of, rows_of}
 use Rattle.wit_parser.specs.Held.{name_behind}
-use Rattle.wit_parser.proofs.Lists.{read_map}
-use Rattle.wit_parser.proofs.Rows.{rows_more}
-use Rattle.wit_parser.proofs.Scoping.{name_new}
+use Rattle.wit_meaning.proofs.Lists.{read_map}
+use Rattle.wit_meaning.proofs.Rows.{rows_more}
+use Rattle.wit_meaning.proofs.Scoping.{name_new}
 use Rattle.wit_parser.proofs.scope.scope_table.Goals as goal
 
 pub loop-name-preserved : goal.loop-name-preserved

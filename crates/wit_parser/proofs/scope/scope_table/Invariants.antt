@@ -1,6 +1,6 @@
 use Rattle.std.proofs.Common.{◌≡◌, map, take}
 use Rattle.wit_order.specs.Table.{rows}
-use Rattle.wit_parser.specs.Scope.{rows_of}
+use Rattle.wit_meaning.specs.Scope.{rows_of}
 use Rattle.wit_parser.specs.Held.{name_behind}
 use Rattle.wit_parser.proofs.scope.scope_table.Given as goal
 

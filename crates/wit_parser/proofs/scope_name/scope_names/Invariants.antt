@@ -1,6 +1,6 @@
 use Rattle.std.proofs.Common.{◌≡◌, map, take}
 use Rattle.std.specs.List.{flat_map}
-use Rattle.wit_parser.specs.Source.{item_names}
+use Rattle.wit_meaning.specs.Source.{item_names}
 use Rattle.wit_parser.specs.Held.{name_behind}
 use Rattle.wit_parser.proofs.scope_name.scope_names.Given as goal
 

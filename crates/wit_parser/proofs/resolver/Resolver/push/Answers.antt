@@ -1,9 +1,20 @@
-use Rattle.std.proofs.Common.{◌≡◌, sym, subst}
-use Rattle.wit_parser.specs.Broken.{last_header, IsMismatch}
-use Rattle.wit_parser.specs.Headers.{header_behind}
+use Rattle.std.proofs.Common.{◌≡◌, sym, subst, ◌∙◌}
+use Rattle.wit_meaning.specs.Broken.{IsMismatch, last_header}
+use Rattle.wit_parser.specs.Headers.{header_at}
+use Rattle.wit_parser.proofs.LastHeader.{some_is, none_is, header_more, header_kept}
 use Rattle.wit_parser.proofs.resolver.Resolver.push.Goals as goal
 
 pub returns-clause-accepted : goal.returns-clause-accepted
-returns-clause-accepted c =
-    let same : header_behind c.last_header.result ≡ last_header c.args.self.now.files.items = rw c.deref.ensures.value at c.last_header.ensures in
-    λ f h. c.in_ok-check_header.ensures.accepted f (subst (λ previous. IsMismatch previous c.args.file.package_id f) (sym same) h)
+returns-clause-accepted c = λ f h. c.in_ok-check_header.ensures.accepted f (subst (λ previous. IsMismatch previous c.args.file.package_id f) (sym c.last_header.ensures) h)
+
+pub invariant_of-self-then-has_header : goal.invariant_of-self-then-has_header
+invariant_of-self-then-has_header c =
+    let files = c.args.self.now.files.items in
+    let own = some_is c.args.file.package_id (sym c.is_some-has_header.ensures ∙ c.if-has_header.true) in
+    record { header = subst (λ place. header_at c.push.new.self.items place ≡ last_header c.push.new.self.items) (sym (c.len-place.ensures ∙ c.args.self.now.files.ok.0)) (rw c.in_ok-push.ensures.items (header_more files c.args.file own.0 own.1)) }
+
+pub invariant_of-self-else-has_header : goal.invariant_of-self-else-has_header
+invariant_of-self-else-has_header c =
+    let files = c.args.self.now.files.items in
+    let own = none_is c.args.file.package_id (sym c.is_some-has_header.ensures ∙ c.if-has_header.false) in
+    record { header = rw c.in_ok-push.ensures.items (header_kept files c.args.file c.args.self.now.last own c.args.self.now.header) }

@@ -1,0 +1,5 @@
+mod Reading
+mod Borrowed
+mod Folding
+mod Fields
+mod Known

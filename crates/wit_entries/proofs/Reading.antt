@@ -1,0 +1,65 @@
+-- Written types whose parts are resolved: as they stand in a type, and under a name.
+use Rattle.std.proofs.Common.{◌≡◌, ℕ, List, [], ◌∷◌, Some, refl, sym, ap, subst}
+use Rattle.std.proofs.lemmas.List.{append-nil}
+use Rattle.wit_model.specs.declared.types.«Type».{«Type» as Ty}
+use Rattle.wit_model.specs.declared.types.«Type».TheVariants.{Id}
+use Rattle.wit_model.specs.declared.types.TypeDef.{TypeDef}
+use Rattle.wit_tree.specs.declared.tree.Id.{Id as Name}
+use Rattle.wit_model.specs.declared.types.TypeDefKind.{TypeDefKind}
+use Rattle.wit_tree.specs.declared.span.Span.{Span}
+use Rattle.wit_meaning.specs.Form.{AliasForm, kind_of}
+use Rattle.wit_meaning.specs.Shape.{Shape, Prim, Word, Of, one, Body, head}
+use Rattle.wit_meaning.specs.Source.{Address}
+use Rattle.wit_meaning.specs.Expr.{exprs_of, expr_of}
+use Rattle.wit_meaning.specs.Expr as exprs
+use Rattle.wit_meaning.specs.Meet.{shape_meetings, shapes_meetings}
+use Rattle.wit_meaning.specs.Whole.{IsAnonymousForm}
+use Rattle.wit_meaning.specs.Resolving.{Env, AreResolved, IsInterned}
+use Rattle.wit_meaning.proofs.UnnamedKinds.{only_anonymous}
+use Rattle.wit_meaning.proofs.Resolving.{resolved_whole}
+use Rattle.wit_entries.specs.declared.types.Reading.{Reading}
+use Rattle.wit_entries.specs.declared.types.Reading.TheVariants as reading
+use Rattle.wit_entries.specs.Reading.{IsResolved, IsLeaf, IsForm, IsRead, StandsFor, named_kind}
+
+-- the type of a name
+pub resolved_word : (es : List TypeDef) (env : Env) (id : Name) (i : ℕ) → env id.name.now ≡ Some i → IsResolved es es env (Word id) (Id i)
+resolved_word es env id i found s = record { same = refl; from = λ decls ms m names. record { now = ms; meets = refl; meeting = m; at = ((i, refl, names.stands id.name.now i found), tt) } }
+
+-- the type of a form, once it is interned
+whole_stands : (old mid new : List TypeDef) (env : Env) (x : Shape) (k : TypeDefKind) (span : Span) (i : ℕ) → IsForm old mid env x k span → IsInterned mid new k span i → IsResolved old new env x (Id i)
+whole_stands old mid new env (Prim p) k span i form interned s = absurd form
+whole_stands old mid new env (Word id) k span i form interned s = absurd form
+whole_stands old mid new env (Of at f parts) k span i form interned s =
+    rw (form.0, ← form.1) (resolved_whole k span i (only_anonymous k (subst IsAnonymousForm (sym form.1) form.2)) (form.3 s) interned)
+
+-- the type that stands for what was read
+pub read_stands : (old mid new : List TypeDef) (env : Env) (x : Shape) (r : Reading) (ty : Ty) → IsRead old mid env x r → StandsFor mid new r ty → IsResolved old new env x ty
+read_stands old mid new env x (reading.Leaf t) ty read stands = rw (stands.0, stands.1) read.1
+read_stands old mid new env x (reading.Form k span) ty read stands = rw stands.1 (whole_stands old mid new env x k span stands.0 read stands.2)
+
+-- a type by itself as one part
+pub alone : {old new : List TypeDef} {env : Env} {ty : Ty} (x : Shape) → IsResolved old new env x ty → (s : Address) → AreResolved old new s env (shapes_meetings s (one x)) (exprs_of s (one x)) (ty ∷ [])
+alone {old} {new} {env} {ty} x is s = subst (λ ms. AreResolved old new s env ms (exprs.one (expr_of s x)) (ty ∷ [])) (sym (append-nil (shape_meetings s x))) (is s)
+
+-- the one part of a form
+pub read_part : (old mid new : List TypeDef) (env : Env) (x : Shape) (r : Reading) (ty : Ty) → IsRead old mid env x r → StandsFor mid new r ty → (s : Address) → AreResolved old new s env (shapes_meetings s (one x)) (exprs_of s (one x)) (ty ∷ [])
+read_part old mid new env x r ty read stands s = alone x (read_stands old mid new env x r ty read stands) s
+
+leaf_head : (x : Shape) → IsLeaf x → head x ≡ record { form = AliasForm; parts = one x }
+leaf_head (Prim p) leaf = refl
+leaf_head (Word id) leaf = refl
+leaf_head (Of span form parts) leaf = absurd leaf
+
+-- under a name it has the form of the head
+pub read_form : (old new : List TypeDef) (env : Env) (x : Shape) (r : Reading) → IsRead old new env x r → (kind_of (named_kind r)).form ≡ (head x).form
+read_form old new env x (reading.Leaf t) read = ap (λ (b : Body). b.form) (sym (leaf_head x read.0))
+read_form old new env (Prim p) (reading.Form k span) read = absurd read
+read_form old new env (Word id) (reading.Form k span) read = absurd read
+read_form old new env (Of at form parts) (reading.Form k span) read = read.1
+
+-- and its parts are those of the head
+pub read_parts : (old new : List TypeDef) (env : Env) (x : Shape) (r : Reading) → IsRead old new env x r → (s : Address) → AreResolved old new s env (shapes_meetings s (head x).parts) (exprs_of s (head x).parts) (kind_of (named_kind r)).parts
+read_parts old new env x (reading.Leaf t) read s = rw (leaf_head x read.0) (alone x read.1 s)
+read_parts old new env (Prim p) (reading.Form k span) read s = absurd read
+read_parts old new env (Word id) (reading.Form k span) read s = absurd read
+read_parts old new env (Of at form parts) (reading.Form k span) read s = read.3 s

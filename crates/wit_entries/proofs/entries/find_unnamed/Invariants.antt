@@ -1,0 +1,8 @@
+use Rattle.std.proofs.Common.{ℕ, ◌<◌}
+use Rattle.wit_model.specs.declared.types.TypeDef.{TypeDef}
+use Rattle.wit_meaning.specs.Package.{At}
+use Rattle.wit_meaning.specs.Resolving.{IsUnnamedOf}
+use Rattle.wit_entries.proofs.entries.find_unnamed.Given as goal
+
+abbrev pub invariant-loop-place : goal.invariant-loop-place
+invariant-loop-place l = (j : ℕ) → j < l.place → (e : TypeDef) → At l.types j e → IsUnnamedOf l.kind e → ⊥

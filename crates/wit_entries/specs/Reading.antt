@@ -1,0 +1,54 @@
+-- What a written type is once its parts are resolved.
+use Rattle.std.specs.Prelude.{◌≡◌, ℕ, List, [], ◌∷◌, Option, Some, None}
+use Rattle.wit_tree.specs.declared.span.Span.{Span}
+use Rattle.wit_model.specs.declared.types.«Type».{«Type» as Ty}
+use Rattle.wit_model.specs.declared.types.«Type».TheVariants.{Id}
+use Rattle.wit_model.specs.declared.types.TypeDef.{TypeDef}
+use Rattle.wit_model.specs.declared.types.TypeDefKind.{TypeDefKind}
+use Rattle.wit_model.specs.declared.types.TypeDefKind.TheVariants.{Type_}
+use Rattle.wit_meaning.specs.Form.{kind_of}
+use Rattle.wit_meaning.specs.Shape.{Shape, Prim, Word, Of}
+use Rattle.wit_meaning.specs.Source.{Address}
+use Rattle.wit_meaning.specs.Expr.{one, expr_of, exprs_of}
+use Rattle.wit_meaning.specs.Meet.{shape_meetings, shapes_meetings, primitive_type}
+use Rattle.wit_meaning.specs.Resolving.{Env, AreResolved, IsInterned}
+use Rattle.wit_meaning.specs.Whole.{IsAnonymousForm}
+use Rattle.wit_entries.specs.declared.types.Reading.{Reading}
+use Rattle.wit_entries.specs.declared.types.Reading.TheVariants as reading
+
+-- the primitive that a shape is
+abbrev pub primitive_in : Shape → Option Ty
+primitive_in (Prim p) = Some (primitive_type p)
+primitive_in (Word id) = None
+primitive_in (Of span form parts) = None
+
+-- from whatever was met, the new arena is that with what is met in a type, and it stands for this
+abbrev pub IsResolved : List TypeDef → List TypeDef → Env → Shape → Ty → Type 0
+IsResolved old new env x ty = (s : Address) → AreResolved old new s env (shape_meetings s x) (one (expr_of s x)) (ty ∷ [])
+
+-- a primitive or a name
+abbrev pub IsLeaf : Shape → Type 0
+IsLeaf (Prim p) = Unit {0}
+IsLeaf (Word id) = Unit {0}
+IsLeaf (Of span form parts) = ⊥
+
+-- a form with this span, and its kind over its resolved parts
+abbrev pub IsForm : List TypeDef → List TypeDef → Env → Shape → TypeDefKind → Span → Type 0
+IsForm old new env (Prim p) kind span = ⊥
+IsForm old new env (Word id) kind span = ⊥
+IsForm old new env (Of at form parts) kind span = (at ≡ span) × ((kind_of kind).form ≡ form) × IsAnonymousForm form × ((s : Address) → AreResolved old new s env (shapes_meetings s parts) (exprs_of s parts) (kind_of kind).parts)
+
+-- a primitive or a name is a type by now, and a form is a kind
+abbrev pub IsRead : List TypeDef → List TypeDef → Env → Shape → Reading → Type 0
+IsRead old new env x (reading.Leaf ty) = IsLeaf x × IsResolved old new env x ty
+IsRead old new env x (reading.Form kind span) = IsForm old new env x kind span
+
+-- the type that this is: a kind is interned
+abbrev pub StandsFor : List TypeDef → List TypeDef → Reading → Ty → Type 0
+StandsFor old new (reading.Leaf ty) t = (t ≡ ty) × (new ≡ old)
+StandsFor old new (reading.Form kind span) t = (i : ℕ) × (t ≡ Id i) × IsInterned old new kind span i
+
+-- the kind that this is under a name by itself: another word for a type, or the kind
+abbrev pub named_kind : Reading → TypeDefKind
+named_kind (reading.Leaf ty) = Type_ ty
+named_kind (reading.Form kind span) = kind

@@ -1,0 +1,35 @@
+//! Definitions, as named entries of the arena.
+ghost use Rattle.std.specs.Prelude.{◌≡◌, List, [], ◌∷◌, OnOk, IfErr};
+ghost use Rattle.wit_model.specs.declared.types.TypeOwner.TheVariants.{Interface as OfInterface};
+ghost use Rattle.wit_model.specs.declared.interface.Interface.{Interface as Resolved};
+ghost use Rattle.wit_meaning.specs.Source.{Address, Defined};
+ghost use Rattle.wit_meaning.specs.Fault.{Fault};
+ghost use Rattle.wit_meaning.specs.Broken.{IsBrokenBody, Refused};
+ghost use Rattle.wit_meaning.specs.Resolving.{env_of, IsStored, Defines, IsWrongBody};
+
+use crate::entries::Entries;
+use crate::scope::Scope;
+use crate::types::resolve_body;
+use std::alloc::Global;
+use wit_tree::{ParseResult, tree};
+
+/// Adds a definition behind what is in its body.
+///
+/// A refusal is E15, a broken rule of records, or want of memory.
+pub fn define(
+    alloc: Global,
+    types: &mut Entries,
+    scope: &mut Scope,
+    definition: &tree::TypeDef<'_>,
+) -> ParseResult<()>
+    ensures defines { OnOk result ((is : List Resolved) (s : Address) → Defines types.old types.new is (OfInterface scope.old.id) s scope.old.names scope.new.names (Defined definition.now ∷ [])) }
+    ensures id { OnOk result (scope.new.id ≡ scope.old.id) }
+    ensures legal { OnOk result ((f : Fault) → IsBrokenBody definition.now.body f → ⊥) }
+    ensures stored { OnOk result (IsStored scope.old.names scope.new.names definition.now.name.name.now) }
+    ensures refused { IfErr result (Refused (IsWrongBody (env_of scope.old.names) definition.now.body)) }
+{
+    let kind = resolve_body(alloc, types, scope, &definition.body)?;
+    let id = definition.name;
+    scope.declare(alloc, types, id.name, id.span, kind)?;
+    Ok(())
+}

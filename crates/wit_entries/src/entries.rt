@@ -1,0 +1,171 @@
+//! The types of a package, while they are made: each unnamed one once.
+ghost use Rattle.std.specs.Prelude.{◌≡◌, ℕ, [], ◌∷◌, ◌++◌, ◌↔◌, length, IsTrue, IfOk, OnOk, OnErr, IfErr, IfSome, IfNone};
+ghost use Rattle.wit_tree.specs.Refusal.{IsWantOfMemory};
+ghost use Rattle.wit_model.specs.declared.types.TypeDef.{TypeDef};
+ghost use Rattle.wit_meaning.specs.Package.{At};
+ghost use Rattle.wit_meaning.specs.Resolving.{IsUnnamedOf, IsInterned, named};
+ghost use Rattle.wit_intern.specs.Keys.{key_of};
+ghost use Rattle.wit_entries.specs.Known.{AreKnown, with_key};
+
+use std::alloc::{AllocFailed, Global};
+use std::collections::HashMap;
+use std::marker::Model;
+use wit_intern::{InternKey, InternTable};
+use wit_model::{
+    Arena, Docs, Stability, TypeDef, TypeDefKind, TypeId, TypeOwner, TypePlace, is_same_kind,
+};
+use wit_tree::{ParseResult, Span};
+use wit_values::Text;
+
+type Table = HashMap<InternKey, TypeId>;
+
+/// The entries of the arena of types, and a table that knows the unnamed ones by what they are.
+///
+/// Contracts see the list of the entries.
+#[derive(Drop)]
+pub struct Entries {
+    arena: Arena<TypeDef, TypePlace>,
+    // Each unnamed entry stands here; a place that was meant for a refused one may stand here too.
+    table: Table,
+}
+
+impl Model for Entries {
+    ghost use Rattle.std.specs.Prelude.{List};
+    ghost use Rattle.wit_model.specs.declared.types.TypeDef.{TypeDef};
+    ghost use Rattle.wit_entries.specs.Known.{AreKnown};
+
+    ghost Value = { List TypeDef };
+
+    ghost view = { λ e. e.arena };
+
+    ghost invariant = { λ e. AreKnown (⟦<HashMap<InternKey, TypeId> as InternTable>⟧.content e.table) e.arena };
+}
+
+/// Whether an entry is the unnamed type of a kind.
+fn is_unnamed_of(entry: &TypeDef, kind: &TypeDefKind) -> bool
+    ensures { IsTrue result ↔ IsUnnamedOf kind.now entry.now }
+{
+    entry.name.is_none() && is_same_kind(&entry.kind, kind)
+}
+
+/// The unnamed type of a kind, where there is one, by looking at each entry.
+fn find_unnamed(types: &Arena<TypeDef, TypePlace>, kind: &TypeDefKind) -> Option<TypeId>
+    ensures found { IfSome result (λ i. (e : TypeDef) × At types.now i e × IsUnnamedOf kind.now e) }
+    ensures none { IfNone result ((j : ℕ) (e : TypeDef) → At types.now j e → IsUnnamedOf kind.now e → ⊥) }
+{
+    for place in 0..types.len() {
+        let id = types.id_at(place);
+        if is_unnamed_of(types.get(id), kind) {
+            return Some(id);
+        }
+    }
+    None
+}
+
+/// The place, where the unnamed type of a kind stands there.
+fn confirmed(types: &Arena<TypeDef, TypePlace>, id: TypeId, kind: &TypeDefKind) -> Option<TypeId>
+    ensures found { IfSome result (λ i. (e : TypeDef) × At types.now i e × IsUnnamedOf kind.now e) }
+    ensures none { IfNone result ((e : TypeDef) → At types.now id e → IsUnnamedOf kind.now e → ⊥) }
+{
+    if id.index() < types.len() {
+        if is_unnamed_of(types.get(id), kind) {
+            return Some(id);
+        }
+    }
+    None
+}
+
+/// Sets a place at a key, if there is a key.
+fn set(table: &mut Table, key: Option<InternKey>, id: TypeId) -> Result<(), AllocFailed<InternKey>>
+    ensures set { OnOk result (⟦<HashMap<InternKey, TypeId> as InternTable>⟧.content table.new ≡ with_key key id (⟦<HashMap<InternKey, TypeId> as InternTable>⟧.content table.old)) }
+    ensures refused { OnErr result (⟦<HashMap<InternKey, TypeId> as InternTable>⟧.content table.new ≡ ⟦<HashMap<InternKey, TypeId> as InternTable>⟧.content table.old) }
+{
+    match key {
+        Some(key) => InternTable::insert(table, key, id),
+        None => Ok(()),
+    }
+}
+
+impl Entries {
+    /// No entries.
+    pub fn new(alloc: Global) -> Entries
+        ensures { result ≡ [] }
+    {
+        Entries {
+            arena: Arena::new(alloc),
+            table: HashMap::new(alloc),
+        }
+    }
+
+    /// The arena of the entries.
+    pub fn into_arena(self) -> Arena<TypeDef, TypePlace>
+        ensures { result ≡ self }
+    {
+        self.arena
+    }
+
+    /// Adds a named entry behind the others.
+    ///
+    /// The error is want of memory.
+    pub fn add_named(
+        &mut self,
+        owner: TypeOwner,
+        name: Text,
+        kind: TypeDefKind,
+        span: Span,
+    ) -> ParseResult<TypeId>
+        ensures id { IfOk result (λ id. id ≡ length self.old) }
+        ensures added { OnOk result (self.new ≡ self.old ++ named owner name kind span ∷ []) }
+        ensures refused { IfErr result IsWantOfMemory }
+    {
+        let id = self.arena.alloc(TypeDef {
+            name: Some(name),
+            kind,
+            owner,
+            docs: Docs::default(),
+            stability: Stability::default(),
+            span,
+            external_id: None,
+        })?;
+        Ok(id)
+    }
+
+    /// The unnamed type of a kind, where there is one. A kind without a key is looked for in each entry.
+    fn find(&self, key: &Option<InternKey>, kind: &TypeDefKind) -> Option<TypeId>
+        requires { key.now ≡ key_of kind.now }
+        ensures found { IfSome result (λ i. (e : TypeDef) × At self.now i e × IsUnnamedOf kind.now e) }
+        ensures none { IfNone result ((j : ℕ) (e : TypeDef) → At self.now j e → IsUnnamedOf kind.now e → ⊥) }
+    {
+        match key {
+            Some(key) => match InternTable::find(&self.table, key) {
+                Some(id) => confirmed(&self.arena, id, kind),
+                None => None,
+            },
+            None => find_unnamed(&self.arena, kind),
+        }
+    }
+
+    /// The unnamed type of a kind; a new entry, written at `span`, only if there is none.
+    ///
+    /// The error is want of memory.
+    pub fn intern(&mut self, kind: TypeDefKind, span: Span) -> ParseResult<TypeId>
+        ensures interned { IfOk result (λ id. IsInterned self.old self.new kind span id) }
+        ensures refused { IfErr result IsWantOfMemory }
+    {
+        let key = InternKey::of(&kind)?;
+        if let Some(id) = self.find(&key, &kind) {
+            return Ok(id);
+        }
+        set(&mut self.table, key, self.arena.next_id())?;
+        let id = self.arena.alloc(TypeDef {
+            name: None,
+            kind,
+            owner: TypeOwner::None,
+            docs: Docs::default(),
+            stability: Stability::default(),
+            span,
+            external_id: None,
+        })?;
+        Ok(id)
+    }
+}

@@ -1,0 +1,43 @@
+//! The names of a scope, while it is resolved.
+ghost use Rattle.std.specs.Prelude.{◌≡◌, OnOk, IfErr};
+ghost use Rattle.wit_tree.specs.Refusal.{IsWantOfMemory};
+ghost use Rattle.wit_model.specs.declared.types.TypeOwner.TheVariants.{Interface as OfInterface};
+ghost use Rattle.wit_meaning.specs.Resolving.{IsAdded};
+
+use crate::entries::Entries;
+use std::alloc::Global;
+use wit_model::{InterfaceId, TypeDefKind, TypeId, TypeOwner};
+use wit_tree::{ParseResult, Span};
+use wit_values::{Text, TextTable};
+
+/// The names of an interface, while it is resolved.
+#[derive(Drop)]
+pub struct Scope {
+    /// The interface.
+    pub id: InterfaceId,
+    /// What each name stands for.
+    pub names: TextTable<TypeId>,
+}
+
+impl Scope {
+    /// Adds the entry of a name of the scope, and the name.
+    ///
+    /// The error is want of memory.
+    pub fn declare(
+        &mut self,
+        alloc: Global,
+        types: &mut Entries,
+        name: &str,
+        span: Span,
+        kind: TypeDefKind,
+    ) -> ParseResult<()>
+        ensures added { OnOk result (IsAdded types.old types.new (OfInterface self.old.id) self.old.names self.new.names name.now span kind) }
+        ensures id { OnOk result (self.new.id ≡ self.old.id) }
+        ensures refused { IfErr result IsWantOfMemory }
+    {
+        let owner = TypeOwner::Interface(self.id);
+        let id = types.add_named(owner, Text::from_str(alloc, name)?, kind, span)?;
+        self.names.insert(String::from_str(alloc, name)?, id)?;
+        Ok(())
+    }
+}

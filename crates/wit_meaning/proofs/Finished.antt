@@ -1,0 +1,156 @@
+-- Where all interfaces were resolved no rule is broken, and where one was not, one is.
+use Rattle.std.proofs.Common.{◌≡◌, ℕ, ◌<◌, List, [], take, Option, Some, None, IsSome, refl, sym, ap, ◌∙◌, subst, arith, Contains}
+use Rattle.std.specs.Prelude.{slice_get, slice_index, map}
+use Rattle.std.specs.Option.{option_map}
+use Rattle.std.specs.Str.{bytes_eq}
+use Rattle.std.proofs.lemmas.Option.{slice_get-get_or, slice_get-map, slice_get_within, get_or_from_slice_get}
+use Rattle.wit_tree.specs.declared.tree.UsePath.{UsePath}
+use Rattle.wit_tree.specs.declared.tree.UseName.{UseName}
+use Rattle.wit_tree.specs.declared.tree.Interface.{Interface as Written}
+use Rattle.wit_tree.specs.declared.tree.PackageFile.{PackageFile}
+use Rattle.wit_tree.specs.declared.tree.PackageName.{PackageName as Header}
+use Rattle.wit_model.specs.declared.interface.Interface.{Interface}
+use Rattle.wit_order.specs.Table.{Row, target, IsEdge, Leads, IsOrder}
+use Rattle.wit_order.proofs.Tables.{slice_get-take}
+use Rattle.wit_meaning.specs.Fault.{Fault, item_word}
+use Rattle.wit_meaning.specs.Source.{ScopeName, Used, path_id, interfaces, interface_name, interface_named, scope_names, local_name, meaning}
+use Rattle.wit_meaning.specs.Scope.{rows_of, in_order, paths, item_edge, item_row, item_rows}
+use Rattle.wit_meaning.specs.Broken.{IsMissingName, IsBroken, Headerless, DuplicateItem, MissingItem, CyclicItem, MissingName, Scope, IsLegal, last_header}
+use Rattle.wit_meaning.specs.Repeats.{AllDiffer}
+use Rattle.wit_meaning.specs.Whole.{Ordered, interface_of, ordered_names}
+use Rattle.wit_meaning.specs.Resolving.{env_of, local_names, Unresolved, Unstated, WrongName, WrongItself}
+use Rattle.wit_meaning.specs.Resolved.{AreLegalScopes, IsWrongAmong}
+use Rattle.wit_meaning.proofs.Lists.{at_take, at_within, map_at}
+use Rattle.wit_meaning.proofs.Names.{name_equal}
+use Rattle.wit_meaning.proofs.Tables.{place_of-Some}
+use Rattle.wit_meaning.proofs.Repeated.{no_repeat}
+use Rattle.wit_meaning.proofs.Headers.{some_header}
+use Rattle.wit_meaning.proofs.Orders.{in_order_at, in_order_read}
+use Rattle.wit_meaning.proofs.Turns.{in_turn_has}
+use Rattle.wit_meaning.proofs.Scoping.{at_contains, contains_at, some_of}
+use Rattle.wit_meaning.proofs.Legal.{no_missing_edge, no_cyclic_edge}
+use Rattle.wit_meaning.proofs.Using.{lookup-listed}
+use Rattle.wit_meaning.proofs.Standing.{AreItems}
+use Rattle.wit_meaning.proofs.Interfaces.{find_passes}
+use Rattle.wit_meaning.proofs.Itemizing.{find_at, item_row_at, edge_name, used_path, items_within, item_index, are_items, length-item_rows}
+use Rattle.wit_meaning.proofs.Done.{ordered_of, done_front}
+
+same_some : {X : Type 0} (o : Option X) (x y : X) → o ≡ Some x → o ≡ Some y → x ≡ y
+same_some o x y a b = let both : Some x ≡ Some y = sym a ∙ b in cc
+
+option_cases : {X : Type 0} (o : Option X) (R : Type 0) → ((x : X) → o ≡ Some x → R) → (o ≡ None → R) → R
+option_cases None R some none = none refl
+option_cases (Some x) R some none = some x refl
+
+-- a name that the table of an interface lacks means nothing in its scope
+pub unstated : (o : Ordered) (i : Interface) (name : List ℕ) → IsOrder (rows_of (scope_names o.interface)) o.order → map (λ p. p.0) i.types ≡ local_names (ordered_names o) → env_of i.types name ≡ None → meaning (scope_names o.interface) name ≡ None
+unstated o i name least listed free =
+    let xs = scope_names o.interface in
+    option_cases (meaning xs name) (meaning xs name ≡ None) (λ x found. absurd (
+    let p = find_at (λ (y : ScopeName). bytes_eq (local_name y) name) xs x found in
+    let called = name_equal (local_name x) name (find_passes (λ (y : ScopeName). bytes_eq (local_name y) name) xs x found) in
+    let t = in_turn_has xs o.order least p.0 x p.1 in
+    let named : slice_get (map (λ (q : List ℕ × ℕ). q.0) i.types) t.0 ≡ Some name = ap (λ (l : List (List ℕ)). slice_get l t.0) listed ∙ slice_get-map local_name (ordered_names o) t.0 ∙ ap (option_map local_name) t.1 ∙ ap Some called in
+    let wrong : IsSome {T = ℕ} None = subst (λ (v : Option ℕ). IsSome v) free (lookup-listed i.types t.0 name named) in
+    let f : ⊥ = cc in
+    f)) (λ none. none)
+
+module _ (files : List PackageFile) (places : List ℕ) (order : IsOrder (item_rows files) places) where
+  abbrev all : List Written
+  all = interfaces files
+
+  -- what an interface uses from stands before it in the order
+  used_before : (k p : ℕ) (w : Written) (from : UsePath) (n : UseName) → slice_get places k ≡ Some p → slice_get all p ≡ Some w → Contains (scope_names w) (Used from n) → (t : ℕ) × (v : Written) × (t < k) × (slice_get (in_order all places) t ≡ Some v) × (interface_name v ≡ (path_id from).name.now)
+  used_before k p w from n next at among =
+      let rs = item_rows files in
+      let path = path_id from in
+      let row = item_row_at files p w at in
+      let j = at_contains (paths w) path (used_path w.items.items from n among) in
+      let id = item_edge row.0 path in
+      let needed : slice_get (map (item_edge row.0) (paths w)) j.0 ≡ Some id = slice_get-map (item_edge row.0) (paths w) j.0 ∙ ap (option_map (item_edge row.0)) j.1 in
+      let edge : IsEdge rs p j.0 id = (item_row row.0 w, row.1, needed) in
+      let b = some_of (target rs id) (order.complete p j.0 id edge) in
+      let long = order.sorted.long in
+      let lt = slice_get_within places k p next in
+      let here : slice_index places k ≡ p = get_or_from_slice_get places k p 0 next in
+      let leads : Leads rs (slice_index places k) b.0 = subst (λ a. Leads rs a b.0) (sym here) (j.0, id, edge, b.1) in
+      let before = order.sorted.after k b.0 (omega arith) leads in
+      let below = before.below in
+      let m : slice_get places before.index ≡ Some b.0 = slice_get-get_or places before.index 0 (omega arith) ∙ ap Some before.is in
+      let r = place_of-Some rs id.name.now b.0 b.1 in
+      let lt' = slice_get_within rs b.0 r.0 r.1 in
+      let v = at_within all b.0 (omega (arith, length-item_rows files)) in
+      let same_row = item_row_at files b.0 v.0 v.1 in
+      let is : r.0 ≡ item_row same_row.0 v.0 = same_some (slice_get rs b.0) r.0 (item_row same_row.0 v.0) r.1 same_row.1 in
+      (before.index, v.0, before.below, in_order_read all places before.index b.0 v.0 (items_within files places order) m v.1, ap (λ (x : Row). x.name) (sym is) ∙ sym r.2 ∙ edge_name row.0 path)
+
+  module _ (differ : AllDiffer (map interface_name all)) where
+    abbrev ws : List Written
+    ws = in_order all places
+
+    abbrev items : AreItems files ws
+    items = are_items files places order differ
+
+    front_at : (k : ℕ) (j : ℕ) (w : Written) → slice_get (in_order all (take k places)) j ≡ Some w → slice_get ws j ≡ Some w
+    front_at k j w at =
+        let p = in_order_at all (take k places) j w (λ i q iat. items_within files places order i q (at_take places k i q iat).0) at in
+        in_order_read all places j p.0 w (items_within files places order) (at_take places k j p.0 p.1).0 p.2
+
+    -- what is wrong with an interface, once those before it in the order were resolved, is wrong with the files
+    pub broken_among : (f : Fault) → IsWrongAmong [] [] all places f → IsBroken files f
+    broken_among f h =
+        let k = h.count in
+        let w = h.interface in
+        let here = contains_at all h.place w h.at in
+        let done = done_front files ws items h.mid h.before (in_order all (take k places)) (λ j v at. front_at k j v at) h.added in
+        let os = done.0 in
+        let d = done.2 in
+        elim h.wrong [
+          | WrongItself b ↦ Scope w here b
+          | WrongName from n among wrong ↦ elim wrong [
+            | Unresolved free ↦ absurd (
+                let u = used_before k h.place w from n h.next h.at among in
+                let lt = u.2 in
+                let p = in_order_at all places u.0 u.1 (items_within files places order) u.3 in
+                let early : slice_get (in_order all (take k places)) u.0 ≡ Some u.1 = in_order_read all (take k places) u.0 p.0 u.1 (λ i q iat. items_within files places order i q (at_take places k i q iat).0) (slice_get-take places k u.0 lt ∙ p.1) p.2 in
+                let o = map_at interface_of os u.0 u.1 (ap (λ (l : List Written). slice_get l u.0) done.1 ∙ early) in
+                let count = d.count in
+                let lto = slice_get_within os u.0 o.0 o.1 in
+                let i = at_within h.before u.0 (omega arith) in
+                let called = (d.says u.0 o.0 i.0 o.1 i.1).name ∙ ap (λ (v : Written). Some (interface_name v)) o.2 ∙ ap Some u.4 in
+                let wrong : IsSome {T = ℕ} None = subst (λ (v : Option ℕ). IsSome v) free.0 (h.index.has u.0 i.0 (path_id from).name.now i.1 called) in
+                let f : ⊥ = cc in
+                f)
+            | Unstated target found none says ↦ (
+                let o = ordered_of files ws items os h.mid h.before d found.place target (path_id from).name.now found.at found.called in
+                let declared : interface_named all (path_id from).name.now ≡ Some o.0.interface = subst (λ (m : List ℕ). interface_named all m ≡ Some o.0.interface) o.2 (items.found found.place o.0.interface (d.front found.place o.0 o.1)) in
+                MissingName w here (record {
+                  from = from;
+                  n = n;
+                  among = among;
+                  target = o.0.interface;
+                  declared = declared;
+                  missing = unstated o.0 target n.name.name.now (d.least found.place o.0 o.1) (d.listed found.place o.0 target o.1 found.at) none;
+                  is = says;
+                }))
+          ]
+        ]
+
+    -- where the scopes are legal and each used name is there, no rule is broken
+    pub legal_files : (header : Header) → last_header files ≡ Some header → AreLegalScopes ws → ((t : ℕ) (w : Written) → slice_get ws t ≡ Some w → (f : Fault) → IsMissingName files (scope_names w) f → ⊥) → IsLegal files
+    legal_files header last scopes stated f (Headerless h) =
+        let it = some_header files header last in
+        let wrong : None ≡ Some header = sym (h.none it.0 it.1 it.2) ∙ it.3 in
+        let g : ⊥ = cc in
+        g
+    legal_files header last scopes stated f (DuplicateItem h) = no_repeat interface_name all h.later differ h.repeated
+    legal_files header last scopes stated f (MissingItem h) = no_missing_edge 7 item_word (item_rows files) places f order h
+    legal_files header last scopes stated f (CyclicItem h) = no_cyclic_edge 8 item_word (item_rows files) places f order h
+    legal_files header last scopes stated f (MissingName i among h) =
+        let p = at_contains all i among in
+        let t = item_index files places order p.0 i p.1 in
+        stated t.0 i t.2 f h
+    legal_files header last scopes stated f (Scope i among h) =
+        let p = at_contains all i among in
+        let t = item_index files places order p.0 i p.1 in
+        scopes.legal t.0 i f t.2 h

@@ -1,0 +1,84 @@
+-- What is met in a type without a name: forms that an unnamed type can have.
+use Rattle.std.proofs.Common.{◌≡◌, List, [], ◌∷◌, inl, inr, subst}
+use Rattle.wit_tree.specs.declared.tree.«Type».{«Type» as Written}
+use Rattle.wit_tree.specs.declared.tree.«Type».TheVariants as written
+use Rattle.wit_tree.specs.declared.tree.Field.{Field}
+use Rattle.wit_tree.specs.declared.tree.TypeBody.{TypeBody}
+use Rattle.wit_tree.specs.declared.tree.TypeBody.TheVariants.{Record, Plain}
+use Rattle.wit_meaning.specs.Form.{Form}
+use Rattle.wit_meaning.specs.Shape.{Shape, Shapes, shape_of, field_shapes, head, body_of}
+use Rattle.wit_meaning.specs.Shape as shape
+use Rattle.wit_meaning.specs.Source.{Address, ScopeName, Used, Defined}
+use Rattle.wit_meaning.specs.Expr.{Exprs, expr_of, exprs_of, name_exprs}
+use Rattle.wit_meaning.specs.Meet.{Whole}
+use Rattle.wit_meaning.specs.Whole.{IsAnonymousForm}
+use Rattle.wit_meaning.specs.Resolving.{met, all_met}
+use Rattle.wit_meaning.proofs.Meeting.{Has, has_either}
+
+-- each form in a type is one that an unnamed type can have
+abbrev mutual
+  AreAnonymous : Shape → Type 0
+  AreAnonymous (shape.Prim p) = Unit {0}
+  AreAnonymous (shape.Word id) = Unit {0}
+  AreAnonymous (shape.Of span form parts) = IsAnonymousForm form × AllAnonymous parts
+
+  AllAnonymous : Shapes → Type 0
+  AllAnonymous shape.End = Unit {0}
+  AllAnonymous (shape.More x xs) = AreAnonymous x × AllAnonymous xs
+
+-- so it is for a written type
+written_anonymous : (t : Written) → AreAnonymous (shape_of t)
+written_anonymous (written.Bool span) = tt
+written_anonymous (written.U8 span) = tt
+written_anonymous (written.U16 span) = tt
+written_anonymous (written.U32 span) = tt
+written_anonymous (written.U64 span) = tt
+written_anonymous (written.S8 span) = tt
+written_anonymous (written.S16 span) = tt
+written_anonymous (written.S32 span) = tt
+written_anonymous (written.S64 span) = tt
+written_anonymous (written.F32 span) = tt
+written_anonymous (written.F64 span) = tt
+written_anonymous (written.Char span) = tt
+written_anonymous (written.String span) = tt
+written_anonymous (written.ErrorContext span) = tt
+written_anonymous (written.Name id) = tt
+written_anonymous (written.List' span p t) = (tt, (written_anonymous t, tt))
+
+fields_anonymous : (fs : List Field) → AllAnonymous (field_shapes fs)
+fields_anonymous [] = tt
+fields_anonymous (f ∷ fs) = (written_anonymous f.ty, fields_anonymous fs)
+
+head_anonymous : (x : Shape) → AreAnonymous x → AllAnonymous (head x).parts
+head_anonymous (shape.Prim p) h = (tt, tt)
+head_anonymous (shape.Word id) h = (tt, tt)
+head_anonymous (shape.Of span form parts) h = h.1
+
+body_anonymous : (b : TypeBody) → AllAnonymous (body_of b).parts
+body_anonymous (Record span fields) = fields_anonymous fields.items
+body_anonymous (Plain t) = head_anonymous (shape_of t) (written_anonymous t)
+
+-- what is met in such types has such a form
+mutual
+  met_anonymous : (s : Address) (x : Shape) (form : Form) (parts : Exprs) → AreAnonymous x → Has (met (expr_of s x)) (Whole form parts) → IsAnonymousForm form
+  met_anonymous s (shape.Prim p) form parts a h = absurd h
+  met_anonymous s (shape.Word id) form parts a h = absurd h
+  met_anonymous s (shape.Of span own inner) form parts a h = elim (has_either (all_met (exprs_of s inner)) (Whole own (exprs_of s inner) ∷ []) (Whole form parts) h) [
+    | inl within ↦ all_anonymous s inner form parts a.1 within
+    | inr last ↦ elim last [
+      | inl here ↦ (let same : own ≡ form = cc in subst (λ (f : Form). IsAnonymousForm f) same a.0)
+      | inr none ↦ absurd none
+    ]
+  ]
+
+  all_anonymous : (s : Address) (xs : Shapes) (form : Form) (parts : Exprs) → AllAnonymous xs → Has (all_met (exprs_of s xs)) (Whole form parts) → IsAnonymousForm form
+  all_anonymous s shape.End form parts a h = absurd h
+  all_anonymous s (shape.More x xs) form parts a h = elim (has_either (met (expr_of s x)) (all_met (exprs_of s xs)) (Whole form parts) h) [
+    | inl first ↦ met_anonymous s x form parts a.0 first
+    | inr rest ↦ all_anonymous s xs form parts a.1 rest
+  ]
+
+-- a used name has no unnamed type
+pub name_anonymous : (s : Address) (x : ScopeName) (form : Form) (parts : Exprs) → Has (all_met (name_exprs s x)) (Whole form parts) → IsAnonymousForm form
+name_anonymous s (Used from n) form parts h = absurd h
+name_anonymous s (Defined d) form parts h = all_anonymous s (body_of d.body).parts form parts (body_anonymous d.body) h

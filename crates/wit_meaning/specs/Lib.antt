@@ -1,0 +1,14 @@
+pub mod Repeats
+pub mod Form
+pub mod Node
+pub mod Shape
+pub mod Source
+pub mod Expr
+pub mod Meet
+pub mod Fault
+pub mod Scope
+pub mod Broken
+pub mod Package
+pub mod Whole
+pub mod Resolving
+pub mod Resolved

@@ -1,0 +1,151 @@
+-- The arena of types as the list of first meetings.
+use Rattle.std.specs.Prelude.{◌≡◌, ℕ, List, [], ◌∷◌, ◌++◌, length, map, take, Some, None, ◌⊎◌, slice_get}
+use Rattle.wit_tree.specs.declared.span.Span.{Span}
+use Rattle.std.specs.List.{flat_map}
+use Rattle.wit_model.specs.declared.stability.Stability.TheVariants.{Unknown}
+use Rattle.wit_model.specs.declared.types.«Type».{«Type» as Ty}
+use Rattle.wit_model.specs.declared.types.«Type».TheVariants as type
+use Rattle.wit_model.specs.declared.types.TypeDef.{TypeDef}
+use Rattle.wit_model.specs.declared.types.TypeOwner.{TypeOwner}
+use Rattle.wit_model.specs.declared.types.TypeOwner.TheVariants as owner
+use Rattle.wit_meaning.specs.Form.{Form, kind_of}
+use Rattle.wit_meaning.specs.Node.{Primitive}
+use Rattle.wit_meaning.specs.Node as node
+use Rattle.wit_meaning.specs.Repeats.{AllDiffer}
+use Rattle.wit_meaning.specs.Shape.{Shape, Shapes, no_docs}
+use Rattle.wit_meaning.specs.Shape as shape
+use Rattle.wit_meaning.specs.Source.{Address, ScopeName, local_name, name_form, name_span, name_body, name_scope}
+use Rattle.wit_meaning.specs.Expr.{Expr, Prim, Use, Of, Exprs, End, More, exprs_of, name_exprs}
+
+-- what is met: a name of a scope, or an unnamed type
+pub data Key : Type 0 where
+  Def : (scope : Address) (name : List ℕ) → Key
+  Whole : (form : Form) (parts : Exprs) → Key
+
+-- something that is met, where it is written
+pub record Meeting : Type 0 where
+  pub key : Key
+  pub span : Span
+
+abbrev pub keys : List Meeting → List Key
+keys ms = map (λ m. m.key) ms
+
+abbrev pub spans : List Meeting → List Span
+spans ms = map (λ m. m.span) ms
+
+-- what is met in a type: the parts of a form, and then the whole
+abbrev mutual
+  pub shape_meetings : Address → Shape → List Meeting
+  shape_meetings s (shape.Prim p) = []
+  shape_meetings s (shape.Word id) = []
+  shape_meetings s (shape.Of span form parts) = shapes_meetings s parts ++ record { key = Whole form (exprs_of s parts); span = span } ∷ []
+
+  pub shapes_meetings : Address → Shapes → List Meeting
+  shapes_meetings s shape.End = []
+  shapes_meetings s (shape.More x xs) = shape_meetings s x ++ shapes_meetings s xs
+
+-- what is met in the parts of a name of a scope; the original of a used name was met before
+abbrev pub parts_meetings : Address → ScopeName → List Meeting
+parts_meetings s x = shapes_meetings (name_scope s x) (name_body x).parts
+
+-- what is met in a name of a scope: its parts, and then itself
+abbrev pub name_meetings : Address → ScopeName → List Meeting
+name_meetings s x = parts_meetings s x ++ record { key = Def s (local_name x); span = name_span x } ∷ []
+
+abbrev pub all_name_meetings : Address → List ScopeName → List Meeting
+all_name_meetings s xs = flat_map (name_meetings s) xs
+
+abbrev pub IsMet : List Key → Key → Type 0
+IsMet ks k = (i : ℕ) × (slice_get ks i ≡ Some k)
+
+-- the last list is the first with what is met anew, in order
+abbrev pub Meets : List Meeting → List Meeting → List Meeting → Type 0
+Meets ms [] all = all ≡ ms
+Meets ms (k ∷ ks) all = (IsMet (keys ms) k.key × Meets ms ks all) ⊎ ((IsMet (keys ms) k.key → ⊥) × Meets (ms ++ k ∷ []) ks all)
+
+abbrev pub primitive_type : Primitive → Ty
+primitive_type node.Bool = type.Bool
+primitive_type node.U8 = type.U8
+primitive_type node.U16 = type.U16
+primitive_type node.U32 = type.U32
+primitive_type node.U64 = type.U64
+primitive_type node.S8 = type.S8
+primitive_type node.S16 = type.S16
+primitive_type node.S32 = type.S32
+primitive_type node.S64 = type.S64
+primitive_type node.F32 = type.F32
+primitive_type node.F64 = type.F64
+primitive_type node.Char = type.Char
+primitive_type node.String = type.String
+primitive_type node.ErrorContext = type.ErrorContext
+
+-- a type is a primitive, or the place of its first meeting
+abbrev pub IsAt : List Key → Expr → Ty → Type 0
+IsAt ks (Prim p) ty = ty ≡ primitive_type p
+IsAt ks (Use scope name) ty = (i : ℕ) × (ty ≡ type.Id i) × (slice_get ks i ≡ Some (Def scope name))
+IsAt ks (Of form parts) ty = (i : ℕ) × (ty ≡ type.Id i) × (slice_get ks i ≡ Some (Whole form parts))
+
+abbrev pub AreAt : List Key → Exprs → List Ty → Type 0
+AreAt ks End [] = Unit {0}
+AreAt ks (More e es) (t ∷ ts) = IsAt ks e t × AreAt ks es ts
+AreAt ks End (t ∷ ts) = ⊥
+AreAt ks (More e es) [] = ⊥
+
+-- a declaration of a scope: its name and where it stands, whose it is, its form and its parts
+pub record Decl : Type 0 where
+  pub name : List ℕ
+  pub span : Span
+  pub owner : TypeOwner
+  pub form : Form
+  pub parts : Exprs
+
+abbrev pub decl_of : TypeOwner → Address → ScopeName → Decl
+decl_of o s x = record { name = local_name x; span = name_span x; owner = o; form = name_form x; parts = name_exprs s x }
+
+abbrev pub IsAmong : List Decl → Decl → Type 0
+IsAmong ds d = (k : ℕ) × (slice_get ds k ≡ Some d)
+
+-- the declarations of each scope
+abbrev pub Decls : Type 0
+Decls = Address → List Decl
+
+-- there is nothing about it but what it is, whose it is and where
+pub record IsBare (e : TypeDef) : Type 0 where
+  pub docs : e.docs ≡ no_docs
+  pub stability : e.stability ≡ Unknown
+  pub external_id : e.external_id ≡ None
+
+-- the entry of a name of a scope, over the places of parts that were met before
+pub record IsNamedEntry (decls : Decls) (ks : List Key) (s : Address) (called : List ℕ) (e : TypeDef) : Type 0 where
+  pub decl : Decl
+  pub among : IsAmong (decls s) decl
+  pub same : decl.name ≡ called
+  pub name : e.name ≡ Some called
+  pub span : e.span ≡ decl.span
+  pub owner : e.owner ≡ decl.owner
+  pub form : (kind_of e.kind).form ≡ decl.form
+  pub parts : AreAt ks decl.parts (kind_of e.kind).parts
+  pub bare : IsBare e
+
+-- the entry of an unnamed type, over the places of parts that were met before
+pub record IsUnnamedEntry (ks : List Key) (shape : Form) (exprs : Exprs) (e : TypeDef) : Type 0 where
+  pub name : e.name ≡ None
+  pub owner : e.owner ≡ owner.None
+  pub form : (kind_of e.kind).form ≡ shape
+  pub parts : AreAt ks exprs (kind_of e.kind).parts
+  pub bare : IsBare e
+
+abbrev pub IsEntry : Decls → List Key → Key → TypeDef → Type 0
+IsEntry decls ks (Def scope name) e = IsNamedEntry decls ks scope name e
+IsEntry decls ks (Whole form parts) e = IsUnnamedEntry ks form parts e
+
+-- the arena is what was met, each once, and each entry that of its key over what was met before
+pub record IsKeyed (decls : Decls) (ks : List Key) (es : List TypeDef) : Type 0 where
+  pub count : length es ≡ length ks
+  pub once : AllDiffer ks
+  pub each : (i : ℕ) (k : Key) (e : TypeDef) → slice_get ks i ≡ Some k → slice_get es i ≡ Some e → IsEntry decls (take i ks) k e
+
+-- the arena is the list of first meetings
+pub record IsMeeting (decls : Decls) (ms : List Meeting) (es : List TypeDef) : Type 0 where
+  pub keyed : IsKeyed decls (keys ms) es
+  pub spans : map (λ e. e.span) es ≡ spans ms

@@ -1,0 +1,95 @@
+-- What types of a package mean: the arenas unfolded, and what an interface of the arena says.
+use Rattle.std.specs.Prelude.{◌≡◌, ℕ, zero, suc, ◌<◌, List, [], ◌∷◌, Option, Some, None, ◌⊎◌, slice_get}
+use Rattle.wit_tree.specs.declared.tree.Interface.{Interface as Written}
+use Rattle.wit_model.specs.declared.interface.Interface.{Interface}
+use Rattle.wit_model.specs.declared.stability.Stability.TheVariants.{Unknown}
+use Rattle.wit_model.specs.declared.types.«Type».{«Type» as Ty}
+use Rattle.wit_model.specs.declared.types.«Type».TheVariants as type
+use Rattle.wit_model.specs.declared.types.TypeDef.{TypeDef}
+use Rattle.wit_model.specs.declared.types.TypeOwner.{TypeOwner}
+use Rattle.wit_model.specs.declared.types.TypeOwner.TheVariants as owner
+use Rattle.wit_meaning.specs.Form.{kind_of}
+use Rattle.wit_meaning.specs.Node.{Owner, OfInterface, Nobody, Head, Node, Leaf, Named, Unnamed, Nothing, Tree, unfolded}
+use Rattle.wit_meaning.specs.Node as node
+use Rattle.wit_meaning.specs.Shape.{no_docs}
+
+abbrev pub named_owner : Option (List ℕ) → Owner
+named_owner None = Nobody
+named_owner (Some name) = OfInterface name
+
+abbrev pub interface_owner : Option Interface → Owner
+interface_owner None = Nobody
+interface_owner (Some i) = named_owner i.name
+
+-- an owner by its name in the arenas
+abbrev pub owner_of : List Interface → TypeOwner → Owner
+owner_of is (owner.Interface i) = interface_owner (slice_get is i)
+owner_of is (owner.World w) = Nobody
+owner_of is owner.None = Nobody
+
+-- a named entry without its body
+abbrev pub entry_head : List Interface → List ℕ → TypeDef → Head
+entry_head is name e = record { owner = owner_of is e.owner; name = name; span = e.span; docs = e.docs; stability = e.stability; external_id = e.external_id }
+
+abbrev pub entry_node : List Interface → Option (List ℕ) → TypeDef → Node Ty
+entry_node is None e = Unnamed (kind_of e.kind).form (kind_of e.kind).parts
+entry_node is (Some name) e = Named (entry_head is name e) (kind_of e.kind).form (kind_of e.kind).parts
+
+abbrev pub node_at : List Interface → Option TypeDef → Node Ty
+node_at is None = Nothing
+node_at is (Some e) = entry_node is e.name e
+
+-- one level of a type of the arenas
+abbrev pub package_node : List Interface → List TypeDef → Ty → Node Ty
+package_node is es type.Bool = Leaf node.Bool
+package_node is es type.U8 = Leaf node.U8
+package_node is es type.U16 = Leaf node.U16
+package_node is es type.U32 = Leaf node.U32
+package_node is es type.U64 = Leaf node.U64
+package_node is es type.S8 = Leaf node.S8
+package_node is es type.S16 = Leaf node.S16
+package_node is es type.S32 = Leaf node.S32
+package_node is es type.S64 = Leaf node.S64
+package_node is es type.F32 = Leaf node.F32
+package_node is es type.F64 = Leaf node.F64
+package_node is es type.Char = Leaf node.Char
+package_node is es type.String = Leaf node.String
+package_node is es type.ErrorContext = Leaf node.ErrorContext
+package_node is es (type.Id i) = node_at is (slice_get es i)
+
+-- the tree of a type, to n levels
+abbrev pub package_tree : List Interface → List TypeDef → (n : ℕ) → Ty → Tree n
+package_tree is es n ty = unfolded (package_node is es) n ty
+
+-- an entry stands at a place
+pub record At (es : List TypeDef) (i : ℕ) (e : TypeDef) : Type 0 where
+  pub is : slice_get es i ≡ Some e
+
+-- a type is one of these
+abbrev pub HasPart : List Ty → Ty → Type 0
+HasPart [] part = ⊥
+HasPart (t ∷ ts) part = (t ≡ part) ⊎ HasPart ts part
+
+-- a type names no place from n on
+abbrev pub IsBelow : ℕ → Ty → Type 0
+IsBelow n (type.Id i) = i < n
+IsBelow n _ = Unit {0}
+
+-- a type leads to the entry at a place, in n steps from whole to part
+abbrev pub LeadsTo : List TypeDef → ℕ → Ty → ℕ → Type 0
+LeadsTo es zero ty j = ty ≡ type.Id j
+LeadsTo es (suc n) ty j = (i : ℕ) × (e : TypeDef) × (part : Ty) × (ty ≡ type.Id i) × At es i e × HasPart (kind_of e.kind).parts part × LeadsTo es n part j
+
+-- a type leads to the entry at a place
+abbrev pub Reaches : List TypeDef → Ty → ℕ → Type 0
+Reaches es ty j = (n : ℕ) × LeadsTo es n ty j
+
+-- an interface of the arena is a written one, apart from its types
+pub record IsInterface (written : Written) (i : Interface) : Type 0 where
+  pub name : i.name ≡ Some written.name.name.now
+  pub span : i.span ≡ written.name.span
+  pub functions : i.functions ≡ []
+  pub docs : i.docs ≡ no_docs
+  pub stability : i.stability ≡ Unknown
+  pub no_package : i.package ≡ None
+  pub no_source : i.clone_of ≡ None

@@ -1,0 +1,190 @@
+-- What resolving types and names does to the arena, from whatever was met before.
+use Rattle.std.specs.Prelude.{◌≡◌, ℕ, List, [], ◌∷◌, ◌++◌, length, map, Option, Some, None, ◌⊎◌, slice_get, nat_eq, Contains, IsSome}
+use Rattle.std.specs.Cmp.Lexicographic.{pointwise}
+use Rattle.std.specs.Map.{lookup}
+use Rattle.indexmap.specs.IndexMap.{insert_entry}
+use Rattle.wit_tree.specs.declared.span.Span.{Span}
+use Rattle.wit_tree.specs.declared.tree.Id.{Id}
+use Rattle.wit_tree.specs.declared.tree.UsePath.{UsePath}
+use Rattle.wit_tree.specs.declared.tree.UseName.{UseName}
+use Rattle.wit_tree.specs.declared.tree.TypeBody.{TypeBody}
+use Rattle.wit_tree.specs.declared.tree.TypeDef.{TypeDef as Definition}
+use Rattle.wit_tree.specs.declared.tree.Interface.{Interface as Written}
+use Rattle.wit_model.specs.declared.stability.Stability.TheVariants.{Unknown}
+use Rattle.wit_model.specs.declared.types.«Type».{«Type» as Ty}
+use Rattle.wit_model.specs.declared.types.«Type».TheVariants as type
+use Rattle.wit_model.specs.declared.types.TypeDefKind.{TypeDefKind}
+use Rattle.wit_model.specs.declared.types.TypeDefKind.TheVariants.{Type_}
+use Rattle.wit_model.specs.declared.types.TypeDef.{TypeDef}
+use Rattle.wit_model.specs.declared.types.TypeOwner.{TypeOwner}
+use Rattle.wit_model.specs.declared.types.TypeOwner.TheVariants as owner
+use Rattle.wit_model.specs.declared.interface.Interface.{Interface}
+use Rattle.wit_meaning.specs.Source.{Address, InterfaceNamed, ScopeName, Used, Defined, local_id, local_name, path_id}
+use Rattle.wit_meaning.specs.Shape.{no_docs, all_words, body_of}
+use Rattle.wit_meaning.specs.Expr.{Expr, Prim, Use, Of, Exprs, End, More}
+use Rattle.wit_meaning.specs.Meet.{Key, Def, Whole, Meeting, keys, IsMet, Meets, AreAt, Decl, Decls, IsAmong, IsMeeting, all_name_meetings, decl_of}
+use Rattle.wit_meaning.specs.Repeats.{AllDiffer}
+use Rattle.wit_meaning.specs.Fault.{Fault, fault, missing_at, item_word, name_word}
+use Rattle.wit_meaning.specs.Package.{At, IsInterface}
+use Rattle.wit_meaning.specs.Broken.{IsBrokenBody, IsBrokenScope}
+
+-- what the names of a scope stand for
+abbrev pub Env : Type 0
+Env = List ℕ → Option ℕ
+
+-- a table of names as an environment
+abbrev pub Names : Type 0
+Names = List (List ℕ × ℕ)
+
+abbrev pub env_of : Names → Env
+env_of names name = lookup (pointwise nat_eq name) names
+
+-- the names of a scope stand for their places
+pub record AreNames (ks : List Key) (s : Address) (env : Env) : Type 0 where
+  pub stands : (name : List ℕ) (i : ℕ) → env name ≡ Some i → slice_get ks i ≡ Some (Def s name)
+  pub has : (j : ℕ) (name : List ℕ) → slice_get ks j ≡ Some (Def s name) → (i : ℕ) × (env name ≡ Some i)
+
+-- everything that is met in expressions
+abbrev mutual
+  pub met : Expr → List Key
+  met (Prim p) = []
+  met (Use scope name) = []
+  met (Of form parts) = all_met parts ++ Whole form parts ∷ []
+
+  pub all_met : Exprs → List Key
+  all_met End = []
+  all_met (More e es) = met e ++ all_met es
+
+-- what was met, extended by what is met in types, and their places
+pub record IsExtended (decls : Decls) (ms : List Meeting) (new : List TypeDef) (more : List Meeting) (es : Exprs) (tys : List Ty) : Type 0 where
+  pub now : List Meeting
+  pub meets : Meets ms more now
+  pub meeting : IsMeeting decls now new
+  pub at : AreAt (keys now) es tys
+
+-- From whatever was met, the new arena is that with what is met in the types, and they stand at their places.
+pub record AreResolved (old new : List TypeDef) (s : Address) (env : Env) (more : List Meeting) (es : Exprs) (tys : List Ty) : Type 0 where
+  pub same : keys more ≡ all_met es
+  pub from : (decls : Decls) (ms : List Meeting) → IsMeeting decls ms old → AreNames (keys ms) s env → IsExtended decls ms new more es tys
+
+-- the unnamed type of a kind, written at a span
+abbrev pub unnamed : TypeDefKind → Span → TypeDef
+unnamed kind span = record { name = None; kind = kind; owner = owner.None; docs = no_docs; stability = Unknown; span = span; external_id = None }
+
+-- an unnamed type of this kind
+pub record IsUnnamedOf (what : TypeDefKind) (e : TypeDef) : Type 0 where
+  pub name : e.name ≡ None
+  pub kind : e.kind ≡ what
+
+-- the unnamed type of a kind stands at a place of the new arena: an old entry, or the one that was added
+pub record IsInterned (old new : List TypeDef) (kind : TypeDefKind) (span : Span) (i : ℕ) : Type 0 where
+  pub either : ((new ≡ old) × ((e : TypeDef) × At old i e × IsUnnamedOf kind e)) ⊎ ((new ≡ old ++ unnamed kind span ∷ []) × (i ≡ length old) × ((j : ℕ) (e : TypeDef) → At old j e → IsUnnamedOf kind e → ⊥))
+
+-- the named type of an owner
+abbrev pub named : TypeOwner → List ℕ → TypeDefKind → Span → TypeDef
+named o name kind span = record { name = Some name; kind = kind; owner = o; docs = no_docs; stability = Unknown; span = span; external_id = None }
+
+-- one entry was added, and its name stands for it
+pub record IsAdded (old new : List TypeDef) (o : TypeOwner) (names names' : Names) (name : List ℕ) (span : Span) (kind : TypeDefKind) : Type 0 where
+  pub last : new ≡ old ++ named o name kind span ∷ []
+  pub inserted : names' ≡ insert_entry (pointwise nat_eq) names name (length old)
+
+abbrev pub decls_of : TypeOwner → Address → List ScopeName → List Decl
+decls_of o s xs = map (decl_of o s) xs
+
+abbrev pub local_names : List ScopeName → List (List ℕ)
+local_names xs = map local_name xs
+
+-- no two of these have one name
+abbrev pub AreDistinct : List ScopeName → Type 0
+AreDistinct xs = AllDiffer (map local_name xs)
+
+-- none of these was met in the scope
+pub record AreNew (ks : List Key) (s : Address) (xs : List ScopeName) : Type 0 where
+  pub new : (i : ℕ) (x : ScopeName) → slice_get xs i ≡ Some x → IsMet ks (Def s (local_name x)) → ⊥
+
+-- the names of interfaces that were resolved stand for their places, and the scope is none of theirs
+pub record AreKnown (ks : List Key) (s : Address) (is : List Interface) : Type 0 where
+  pub names : (t : ℕ) (i : Interface) (name : List ℕ) → slice_get is t ≡ Some i → i.name ≡ Some name → AreNames ks (InterfaceNamed name) (env_of i.types)
+  pub others : (t : ℕ) (i : Interface) (name : List ℕ) → slice_get is t ≡ Some i → i.name ≡ Some name → InterfaceNamed name ≡ s → ⊥
+
+-- what was met, extended by what is met in names of a scope, and what the names then stand for
+pub record IsDefined (decls : Decls) (ms : List Meeting) (new : List TypeDef) (s : Address) (names names' : Names) (xs : List ScopeName) : Type 0 where
+  pub now : List Meeting
+  pub meets : Meets ms (all_name_meetings s xs) now
+  pub meeting : IsMeeting decls now new
+  pub stand : AreNames (keys now) s (env_of names')
+  pub listed : map (λ p. p.0) names' ≡ map (λ p. p.0) names ++ local_names xs
+
+-- From whatever was met, the new arena is that with what is met in the names; `is` are the interfaces that they may use.
+pub record Defines (old new : List TypeDef) (is : List Interface) (o : TypeOwner) (s : Address) (names names' : Names) (xs : List ScopeName) : Type 0 where
+  pub from : (decls : Decls) (ms : List Meeting) → ((d : Decl) → IsAmong (decls_of o s xs) d → IsAmong (decls s) d) → AreDistinct xs → AreNew (keys ms) s xs → AreKnown (keys ms) s is → IsMeeting decls ms old → AreNames (keys ms) s (env_of names) → IsDefined decls ms new s names names' xs
+
+-- a name stands for nothing yet
+pub record IsUnknown (env : Env) (ids : List Id) (f : Fault) : Type 0 where
+  pub id : Id
+  pub among : Contains ids id
+  pub free : env id.name.now ≡ None
+
+-- what is wrong with a body that is resolved: a broken rule, or a name that stands for nothing yet
+abbrev pub IsWrongBody : Env → TypeBody → Fault → Type 0
+IsWrongBody env body f = IsBrokenBody body f ⊎ IsUnknown env (all_words (body_of body).parts) f
+
+-- a name was put into a table
+pub record IsStored (names names' : Names) (name : List ℕ) : Type 0 where
+  pub place : ℕ
+  pub is : names' ≡ insert_entry (pointwise nat_eq) names name place
+
+-- no definition's body breaks a rule
+pub record AreLegalBodies (xs : List ScopeName) : Type 0 where
+  pub legal : (i : ℕ) (d : Definition) (f : Fault) → slice_get xs i ≡ Some (Defined d) → IsBrokenBody d.body f → ⊥
+
+-- each of these stands in a table of names
+pub record HasNames (env : Env) (xs : List ScopeName) : Type 0 where
+  pub has : (i : ℕ) (x : ScopeName) → slice_get xs i ≡ Some x → IsSome (env (local_name x))
+
+-- interfaces that were resolved, and their places by name
+pub record IsIndex (is : List Interface) (by_name : Names) : Type 0 where
+  pub stands : (name : List ℕ) (t : ℕ) → env_of by_name name ≡ Some t → (i : Interface) × (slice_get is t ≡ Some i) × (i.name ≡ Some name)
+  pub has : (t : ℕ) (i : Interface) (name : List ℕ) → slice_get is t ≡ Some i → i.name ≡ Some name → IsSome (env_of by_name name)
+
+-- an interface of the name was resolved
+pub record IsFound (is : List Interface) (name : List ℕ) (i : Interface) : Type 0 where
+  pub place : ℕ
+  pub at : slice_get is place ≡ Some i
+  pub called : i.name ≡ Some name
+
+-- none of the name was
+abbrev pub IsUnresolved : Names → Id → Fault → Type 0
+IsUnresolved by_name path f = (env_of by_name path.name.now ≡ None) × (f ≡ missing_at 7 item_word path)
+
+-- a used name was added, as another word for what it stands for in the interface that it comes from
+pub record IsUsed (old new : List TypeDef) (is : List Interface) (o : TypeOwner) (names names' : Names) (from : UsePath) (n : UseName) : Type 0 where
+  pub target : Interface
+  pub found : IsFound is (path_id from).name.now target
+  pub id : ℕ
+  pub stands : env_of target.types n.name.name.now ≡ Some id
+  pub free : env_of names (local_name (Used from n)) ≡ None
+  pub added : IsAdded old new o names names' (local_name (Used from n)) n.name.span (Type_ (type.Id id))
+
+-- a used name is wrong by what was resolved before: its interface was not, or it is none of that interface's
+pub data IsWrongName (is : List Interface) (by_name : Names) (from : UsePath) (n : UseName) (f : Fault) : Type 0 where
+  Unresolved : IsUnresolved by_name (path_id from) f → IsWrongName is by_name from n f
+  Unstated : (target : Interface) → IsFound is (path_id from).name.now target → env_of target.types n.name.name.now ≡ None → f ≡ missing_at 12 name_word n.name → IsWrongName is by_name from n f
+
+-- what is wrong with a used name: it is by what was resolved before, or its local name is taken
+pub data IsWrongUse (is : List Interface) (by_name names : Names) (from : UsePath) (n : UseName) (f : Fault) : Type 0 where
+  Wrong : IsWrongName is by_name from n f → IsWrongUse is by_name names from n f
+  Taken : IsSome (env_of names (local_name (Used from n))) → f ≡ fault 14 (local_id (Used from n)).span → IsWrongUse is by_name names from n f
+
+-- what is wrong with a scope, by what was resolved before
+pub data IsWrongScope (is : List Interface) (by_name : Names) (xs : List ScopeName) (f : Fault) : Type 0 where
+  WrongName : (from : UsePath) (n : UseName) → Contains xs (Used from n) → IsWrongName is by_name from n f → IsWrongScope is by_name xs f
+  WrongItself : IsBrokenScope xs f → IsWrongScope is by_name xs f
+
+-- an interface was added, with these names
+pub record IsAddedInterface (is is' : List Interface) (written : Written) (names : Names) : Type 0 where
+  pub added : Interface
+  pub last : is' ≡ is ++ added ∷ []
+  pub says : IsInterface written added
+  pub types : added.types ≡ names

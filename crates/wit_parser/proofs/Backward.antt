@@ -1,0 +1,83 @@
+-- Types that refer only backwards, in the words of the data model.
+use Rattle.std.proofs.Common.{ℕ, ◌≤◌, List, [], ◌∷◌, ◌++◌, Option, Some, None, All, inl, inr, refl, arith}
+use Rattle.std.specs.Prelude.{map}
+use Rattle.std.specs.List.{filter_map, cons_option}
+use Rattle.std.specs.Option.{option_to_list}
+use Rattle.std.proofs.lemmas.List.Elements.{All-nil, All-cons}
+use Rattle.wit_model.specs.declared.types.«Type».{«Type» as Ty}
+use Rattle.wit_model.specs.declared.types.«Type».TheVariants as type
+use Rattle.wit_model.specs.declared.types.Field.{Field}
+use Rattle.wit_model.specs.declared.types.Case.{Case}
+use Rattle.wit_model.specs.declared.types.Handle.TheVariants as handle
+use Rattle.wit_model.specs.declared.types.TypeDefKind.{TypeDefKind}
+use Rattle.wit_model.specs.declared.types.TypeDefKind.TheVariants as kind
+use Rattle.wit_model.specs.Types.{place_of, places_to, rank, IsBelow as IsKindBelow}
+use Rattle.wit_meaning.specs.Form.{kind_of}
+use Rattle.wit_meaning.specs.Package.{HasPart, IsBelow}
+
+-- each of these is below
+abbrev AreBelow : ℕ → List Ty → Type 0
+AreBelow n ts = (part : Ty) → HasPart ts part → IsBelow n part
+
+place_below : (n : ℕ) (t : Ty) → IsBelow n t → places_to (place_of t) ≤ n
+place_below n type.Bool h = omega arith
+place_below n type.U8 h = omega arith
+place_below n type.U16 h = omega arith
+place_below n type.U32 h = omega arith
+place_below n type.U64 h = omega arith
+place_below n type.S8 h = omega arith
+place_below n type.S16 h = omega arith
+place_below n type.S32 h = omega arith
+place_below n type.S64 h = omega arith
+place_below n type.F32 h = omega arith
+place_below n type.F64 h = omega arith
+place_below n type.Char h = omega arith
+place_below n type.String h = omega arith
+place_below n type.ErrorContext h = omega arith
+place_below n (type.Id i) h = omega (arith, h)
+
+slot_below : (n : ℕ) (s : Option Ty) → AreBelow n (option_to_list s) → rank s ≤ n
+slot_below n None h = omega arith
+slot_below n (Some t) h = place_below n t (h t (inl refl))
+
+fields_below : (n : ℕ) (fs : List Field) → AreBelow n (map (λ f. f.ty) fs) → All (λ s. rank s ≤ n) (map (λ f. Some f.ty) fs)
+fields_below n [] h = All-nil (λ s. rank s ≤ n)
+fields_below n (f ∷ fs) h = All-cons (λ s. rank s ≤ n) (Some f.ty) (map (λ f. Some f.ty) fs) (place_below n f.ty (h f.ty (inl refl))) (fields_below n fs (λ part has. h part (inr has)))
+
+types_below : (n : ℕ) (ts : List Ty) → AreBelow n ts → All (λ s. rank s ≤ n) (map (λ t. Some t) ts)
+types_below n [] h = All-nil (λ s. rank s ≤ n)
+types_below n (t ∷ ts) h = All-cons (λ s. rank s ≤ n) (Some t) (map (λ t. Some t) ts) (place_below n t (h t (inl refl))) (types_below n ts (λ part has. h part (inr has)))
+
+case_below : (n : ℕ) (s : Option Ty) (ss : List (Option Ty)) (ts : List Ty) → AreBelow n (cons_option s ts) → (AreBelow n ts → All (λ x. rank x ≤ n) ss) → All (λ x. rank x ≤ n) (s ∷ ss)
+case_below n None ss ts h rest = All-cons (λ s. rank s ≤ n) None ss (omega arith) (rest h)
+case_below n (Some t) ss ts h rest = All-cons (λ s. rank s ≤ n) (Some t) ss (place_below n t (h t (inl refl))) (rest (λ part has. h part (inr has)))
+
+cases_below : (n : ℕ) (cs : List Case) → AreBelow n (filter_map (λ c. c.ty) cs) → All (λ s. rank s ≤ n) (map (λ c. c.ty) cs)
+cases_below n [] h = All-nil (λ s. rank s ≤ n)
+cases_below n (c ∷ cs) h = case_below n c.ty (map (λ c. c.ty) cs) (filter_map (λ c. c.ty) cs) h (cases_below n cs)
+
+both_below : (n : ℕ) (a b : Option Ty) → AreBelow n (option_to_list a ++ option_to_list b) → All (λ s. rank s ≤ n) (a ∷ b ∷ [])
+both_below n None b h = All-cons (λ s. rank s ≤ n) None (b ∷ []) (omega arith) (All-cons (λ s. rank s ≤ n) b [] (slot_below n b h) (All-nil (λ s. rank s ≤ n)))
+both_below n (Some t) b h = All-cons (λ s. rank s ≤ n) (Some t) (b ∷ []) (place_below n t (h t (inl refl))) (All-cons (λ s. rank s ≤ n) b [] (slot_below n b (λ part has. h part (inr has))) (All-nil (λ s. rank s ≤ n)))
+
+one_below : (n : ℕ) (t : Ty) → AreBelow n (t ∷ []) → All (λ s. rank s ≤ n) (Some t ∷ [])
+one_below n t h = All-cons (λ s. rank s ≤ n) (Some t) [] (place_below n t (h t (inl refl))) (All-nil (λ s. rank s ≤ n))
+
+pub kind_below : (n : ℕ) (k : TypeDefKind) → ((part : Ty) → HasPart (kind_of k).parts part → IsBelow n part) → IsKindBelow n k
+kind_below n (kind.Record r) h = (fields_below n r.fields h, omega arith)
+kind_below n kind.Resource h = (All-nil (λ s. rank s ≤ n), omega arith)
+kind_below n (kind.Handle (handle.Own i)) h = (All-nil (λ s. rank s ≤ n), place_below n (type.Id i) (h (type.Id i) (inl refl)))
+kind_below n (kind.Handle (handle.Borrow i)) h = (All-nil (λ s. rank s ≤ n), place_below n (type.Id i) (h (type.Id i) (inl refl)))
+kind_below n (kind.Flags f) h = (All-nil (λ s. rank s ≤ n), omega arith)
+kind_below n (kind.Tuple t) h = (types_below n t.types h, omega arith)
+kind_below n (kind.Variant v) h = (cases_below n v.cases h, omega arith)
+kind_below n (kind.Enum e) h = (All-nil (λ s. rank s ≤ n), omega arith)
+kind_below n (kind.Option t) h = (one_below n t h, omega arith)
+kind_below n (kind.Result r) h = (both_below n r.ok r.err h, omega arith)
+kind_below n (kind.List t) h = (one_below n t h, omega arith)
+kind_below n (kind.Map a b) h = (All-cons (λ s. rank s ≤ n) (Some a) (Some b ∷ []) (place_below n a (h a (inl refl))) (one_below n b (λ part has. h part (inr has))), omega arith)
+kind_below n (kind.FixedLengthList t size) h = (one_below n t h, omega arith)
+kind_below n (kind.Future t) h = (All-cons (λ s. rank s ≤ n) t [] (slot_below n t h) (All-nil (λ s. rank s ≤ n)), omega arith)
+kind_below n (kind.Stream t) h = (All-cons (λ s. rank s ≤ n) t [] (slot_below n t h) (All-nil (λ s. rank s ≤ n)), omega arith)
+kind_below n (kind.Type_ t) h = (one_below n t h, omega arith)
+kind_below n kind.Unknown h = (All-nil (λ s. rank s ≤ n), omega arith)

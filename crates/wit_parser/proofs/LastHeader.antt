@@ -1,0 +1,42 @@
+-- The place of the last file that has a header, one file more.
+use Rattle.std.proofs.Common.{◌≡◌, ℕ, true, false, List, [], ◌∷◌, ◌++◌, length, Option, Some, None, inl, inr, refl, sym, ap, ◌∙◌}
+use Rattle.std.specs.Prelude.{slice_get}
+use Rattle.std.specs.Option.{option_and_then, option_or, is_some}
+use Rattle.wit_tree.specs.declared.tree.PackageName.{PackageName as Header}
+use Rattle.wit_tree.specs.declared.tree.PackageFile.{PackageFile}
+use Rattle.wit_meaning.specs.Broken.{last_header}
+use Rattle.wit_meaning.proofs.Lists.{at_front, at_seam, at_either}
+use Rattle.wit_meaning.proofs.Headers.{last_header-append}
+use Rattle.wit_parser.specs.Headers.{header_at}
+
+abbrev of_file : Option PackageFile → Option Header
+of_file o = option_and_then (λ (f : PackageFile). f.package_id) o
+
+option_cases : {X : Type 0} (o : Option X) (R : Type 0) → ((x : X) → o ≡ Some x → R) → (o ≡ None → R) → R
+option_cases None R some none = none refl
+option_cases (Some x) R some none = some x refl
+
+pub some_is : (o : Option Header) → is_some o ≡ true → (h : Header) × (o ≡ Some h)
+some_is None h = absurd (let f : ⊥ = cc in f)
+some_is (Some x) h = (x, refl)
+
+pub none_is : (o : Option Header) → is_some o ≡ false → o ≡ None
+none_is None h = refl
+none_is (Some x) h = absurd (let f : ⊥ = cc in f)
+
+-- it has one: it is the last
+pub header_more : (fs : List PackageFile) (f : PackageFile) (h : Header) → f.package_id ≡ Some h → header_at (fs ++ f ∷ []) (length fs) ≡ last_header (fs ++ f ∷ [])
+header_more fs f h own = ap of_file (at_seam fs f) ∙ own ∙ sym (last_header-append fs f ∙ ap (λ o. option_or o (last_header fs)) own)
+
+-- it has none: the last stays
+pub header_kept : (fs : List PackageFile) (f : PackageFile) (last : ℕ) → f.package_id ≡ None → header_at fs last ≡ last_header fs → header_at (fs ++ f ∷ []) last ≡ last_header (fs ++ f ∷ [])
+header_kept fs f last own is =
+    let goal : last_header (fs ++ f ∷ []) ≡ last_header fs = last_header-append fs f ∙ ap (λ o. option_or o (last_header fs)) own in
+    option_cases (slice_get fs last) (header_at (fs ++ f ∷ []) last ≡ last_header (fs ++ f ∷ []))
+    (λ g at. ap of_file (at_front fs (f ∷ []) last g at) ∙ sym (ap of_file at) ∙ is ∙ sym goal)
+    (λ none. option_cases (slice_get (fs ++ f ∷ []) last) (header_at (fs ++ f ∷ []) last ≡ last_header (fs ++ f ∷ []))
+    (λ g at. elim (at_either fs f last g at) [
+      | inl old ↦ absurd (let wrong : None ≡ Some g = sym none ∙ old in let x : ⊥ = cc in x)
+      | inr new ↦ ap of_file at ∙ ap (λ (x : PackageFile). x.package_id) new.1 ∙ own ∙ sym (ap of_file none) ∙ is ∙ sym goal
+    ])
+    (λ free. ap of_file free ∙ sym (ap of_file none) ∙ is ∙ sym goal))

@@ -1,0 +1,42 @@
+-- Used names that stand among those of a scope.
+use Rattle.std.proofs.Common.{◌≡◌, ◌++◌, ℕ, List, take, Some, IsSome, sym, ap, ◌∙◌}
+use Rattle.std.specs.Prelude.{slice_get, map}
+use Rattle.std.specs.Option.{option_map}
+use Rattle.std.proofs.lemmas.Option.{slice_get-map}
+use Rattle.wit_tree.specs.declared.tree.UsePath.{UsePath}
+use Rattle.wit_tree.specs.declared.tree.UseName.{UseName}
+use Rattle.wit_model.specs.declared.interface.Interface.{Interface}
+use Rattle.wit_meaning.specs.Source.{ScopeName, Used, local_name}
+use Rattle.wit_meaning.specs.Scope.{used, defined}
+use Rattle.wit_meaning.specs.Fault.{Fault}
+use Rattle.wit_meaning.specs.Broken.{IsRepeated, DefinedTwice}
+use Rattle.wit_meaning.specs.Resolving.{Names, env_of, local_names, IsWrongUse, Wrong, Taken, IsWrongScope, WrongName, WrongItself}
+use Rattle.wit_meaning.proofs.Lists.{at_front, at_take, map_at}
+use Rattle.wit_meaning.proofs.Names.{lookup-place}
+use Rattle.wit_meaning.proofs.Turns.{used_at}
+use Rattle.wit_meaning.proofs.Scoping.{contains_at, some_of}
+
+-- one whose local name is taken repeats that of one before it
+repeated_used : (xs : List ScopeName) (names : Names) (i : ℕ) (from : UsePath) (n : UseName) → slice_get (used xs) i ≡ Some (Used from n) → map (λ p. p.0) names ≡ local_names (take i (used xs)) → IsSome (env_of names (local_name (Used from n))) → IsRepeated local_name (used xs ++ defined xs) (Used from n)
+repeated_used xs names i from n at listed some =
+    let x = Used from n in
+    let front = take i (used xs) in
+    let v = some_of (env_of names (local_name x)) some in
+    let p = lookup-place names (local_name x) v.0 v.1 in
+    let named : slice_get (local_names front) p.0 ≡ Some (local_name x) = ap (λ (l : List (List ℕ)). slice_get l p.0) (sym listed) ∙ slice_get-map (λ (q : List ℕ × ℕ). q.0) names p.0 ∙ ap (option_map (λ (q : List ℕ × ℕ). q.0)) p.1 in
+    let e = map_at local_name front p.0 (local_name x) named in
+    let there = at_take (used xs) i p.0 e.0 e.1 in
+    record {
+      first = p.0;
+      second = i;
+      earlier = e.0;
+      before = there.1;
+      at_first = at_front (used xs) (defined xs) p.0 e.0 there.0;
+      at_second = at_front (used xs) (defined xs) i x at;
+      same = e.2;
+    }
+
+-- what is wrong with a used name is wrong with its scope
+pub wrong_used : (is : List Interface) (by_name names : Names) (xs : List ScopeName) (i : ℕ) (from : UsePath) (n : UseName) → slice_get (used xs) i ≡ Some (Used from n) → map (λ p. p.0) names ≡ local_names (take i (used xs)) → (f : Fault) → IsWrongUse is by_name names from n f → IsWrongScope is by_name xs f
+wrong_used is by_name names xs i from n at listed f (Wrong w) = (let p = used_at xs i (Used from n) at in WrongName from n (contains_at xs p.0 (Used from n) p.1) w)
+wrong_used is by_name names xs i from n at listed f (Taken some says) = WrongItself (DefinedTwice (record { later = Used from n; repeated = repeated_used xs names i from n at listed some; is = says }))

@@ -1,0 +1,7 @@
+use Rattle.std.proofs.Common.{◌≡◌, map, take}
+use Rattle.wit_meaning.specs.Scope.{used}
+use Rattle.wit_parser.specs.Held.{name_behind, use_behind}
+use Rattle.wit_parser.proofs.scope_name.used_names.Given as goal
+
+abbrev pub invariant-loop-name : goal.invariant-loop-name
+invariant-loop-name l = map use_behind l.uses.items ≡ used (map name_behind (take l.name-index l.names))
