@@ -1,0 +1,13 @@
+use Rattle.std.proofs.Common.{◌≡◌, ℕ, List, ◌∙◌, ◌==◌, ap, sym, false, length, Some}
+use Rattle.std.specs.Prelude.{map}
+use denote.Ref.{Bor}
+use Rattle.wit_scope.specs.Docs.{joined, said}
+use Rattle.wit_scope.proofs.Texts.{docs-joined}
+use Rattle.wit_scope.proofs.comments.docs.Goals as goal
+
+pub returns : goal.returns
+returns c =
+    let comments = c.args.docs.now.docs.items in
+    let some : (length comments == 0) ≡ false = ap (λ (cs : List (Bor (List ℕ))). length cs == 0) (sym c.as_slice-comments.ensures.value) ∙ sym c.is_empty.ensures ∙ c.if-is_empty.false in
+    let texts = c.in_ok-texts.ensures ∙ ap (map (λ m. said m.now)) c.as_slice-comments.ensures.value in
+    ap Some (c.from.ensures ∙ c.in_ok-text.ensures ∙ ap (λ ts. joined (map (λ t. t.now) ts)) c.deref.ensures.value) ∙ docs-joined comments c.in_ok-texts.texts.items some texts
