@@ -2,28 +2,19 @@
 #![tactic(auto)]
 
 mod input;
+mod status;
+#[cfg(test)]
+mod tests;
 
-use crate::input::answer_text;
-use std::io;
-use std::io::{BufWriter, Write};
+use crate::status::{exit_code, run_program};
+use std::io::BufWriter;
 use std::process::ExitCode;
 
-/// Answers all of standard input on standard output, and whether that was a listing.
-fn answer_input(rt: &HostRuntime) -> io::Result<bool> {
-    let alloc = rt.alloc();
-    let mut out = BufWriter::new(alloc, rt.stdout())?;
-    let text = io::read_to_string(alloc, rt.stdin())?;
-    let listed = answer_text(alloc, text.as_str(), &mut out)?;
-    out.flush()?;
-    Ok(listed)
-}
-
-/// Status 0 after a listing and 1 after the line of a refusal, both on standard output; 2 where
-/// input cannot be read or is not UTF-8, output fails, or memory is wanted outside the package.
+/// Answers standard input on standard output, and ends with the status that tells what was written.
 fn main(rt: HostRuntime) -> ExitCode {
-    match answer_input(&rt) {
-        Ok(true) => ExitCode::SUCCESS,
-        Ok(false) => ExitCode::FAILURE,
-        Err(_) => ExitCode::from(2),
+    let alloc = rt.alloc();
+    match BufWriter::new(alloc, rt.stdout()) {
+        Ok(mut out) => run_program(alloc, rt.stdin(), &mut out),
+        Err(fault) => exit_code(Err(fault)),
     }
 }

@@ -2,19 +2,19 @@
 use Rattle.std.specs.Prelude.{ℕ, List, [], ◌∷◌, ◌++◌, codes, length}
 use Rattle.std.specs.Fmt.{decimal}
 use Rattle.wit_model.specs.declared.package_name.PackageName.{PackageName}
+use Rattle.wit_model.specs.PackageName.{name_text}
 use Rattle.wit_model.specs.declared.types.TypeDef.{TypeDef}
 use Rattle.wit_model.specs.declared.interface.Interface.{Interface}
 use Rattle.wit_model.specs.declared.world.World.{World}
-use Rattle.wit_parser.specs.declared.package.UnresolvedPackage.{UnresolvedPackage}
+use Rattle.wit_model.specs.declared.unresolved.UnresolvedPackage.{UnresolvedPackage}
 use Rattle.wit_tool.specs.Lists.{numbered}
-use Rattle.wit_tool.specs.Words.{package_text}
 use Rattle.wit_tool.specs.Types.{type_line}
 use Rattle.wit_tool.specs.Interfaces.{interface_lines}
 use Rattle.wit_tool.specs.Worlds.{world_lines}
 
 -- the line of the package
 abbrev pub header_text : PackageName → List ℕ
-header_text name = codes "package " ++ (package_text name ++ (10 ∷ []))
+header_text name = codes "package " ++ (name_text name ++ (10 ∷ []))
 
 -- a word and a number in a line
 abbrev pub count_line : List ℕ → ℕ → List ℕ

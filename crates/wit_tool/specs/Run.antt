@@ -6,9 +6,9 @@ use Rattle.wit_tree.specs.Marks.{file_marks}
 use Rattle.wit_tree.specs.Slices.{Rise}
 use Rattle.wit_text.specs.declared.source.Source.{Source}
 use Rattle.wit_text.specs.Faults.{IsRefusal}
-use Rattle.wit_parser.specs.declared.package.UnresolvedPackage.{UnresolvedPackage}
-use Rattle.wit_parser.specs.Broken.{IsBroken, IsLegal, Refused}
-use Rattle.wit_parser.specs.Whole.{IsPackage, IsFaithful}
+use Rattle.wit_model.specs.declared.unresolved.UnresolvedPackage.{UnresolvedPackage}
+use Rattle.wit_meaning.specs.Broken.{IsBroken, IsLegal, Refused}
+use Rattle.wit_meaning.specs.Whole.{IsPackage, IsFaithful}
 use Rattle.wit_tool.specs.declared.fault.RunFault.{RunFault}
 use Rattle.wit_tool.specs.Output.{IsWrittenAs}
 use Rattle.wit_tool.specs.Answers.{IsAnswer, is_listed}

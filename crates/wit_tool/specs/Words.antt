@@ -1,13 +1,13 @@
 -- Small texts of a listing.
-use Rattle.std.specs.Prelude.{◌≡◌, ℕ, ◌==◌, List, [], ◌∷◌, ◌++◌, Option, Some, None, String, codes, length, string_bytes, if◌then◌else◌}
+use Rattle.std.specs.Prelude.{◌≡◌, ℕ, List, [], ◌∷◌, ◌++◌, Option, Some, None, String, codes, string_bytes}
 use Rattle.std.specs.Fmt.{decimal}
 use Rattle.std.specs.declared.alloc.Global.{Global}
 use Rattle.wit_values.specs.declared.release.Release.{Release}
+use Rattle.wit_values.specs.ReleaseText.{release_text}
 use Rattle.wit_model.specs.declared.types.«Type».{«Type» as Ty}
 use Rattle.wit_model.specs.declared.types.«Type».TheVariants as ty
 use Rattle.wit_model.specs.declared.stability.Stability.{Stability}
 use Rattle.wit_model.specs.declared.stability.Stability.TheVariants.{Unknown, Unstable, Stable}
-use Rattle.wit_model.specs.declared.package_name.PackageName.{PackageName}
 
 -- the new text is the old one with more behind it
 abbrev pub Adds : String Global → String Global → List ℕ → Type 0
@@ -36,14 +36,6 @@ abbrev pub optional_text : Option Ty → List ℕ
 optional_text None = codes "_"
 optional_text (Some t) = type_text t
 
--- a mark and a text, or nothing where the text is empty
-abbrev pub marked_text : ℕ → List ℕ → List ℕ
-marked_text mark text = if length text == 0 then [] else (mark ∷ text)
-
--- a version
-abbrev pub release_text : Release → List ℕ
-release_text r = decimal r.major ++ (46 ∷ (decimal r.minor ++ (46 ∷ (decimal r.patch ++ (marked_text 45 r.pre ++ marked_text 43 r.build)))))
-
 -- from which version on an item is deprecated
 abbrev pub deprecated_text : Option Release → List ℕ
 deprecated_text None = []
@@ -54,12 +46,3 @@ abbrev pub stability_text : Stability → List ℕ
 stability_text Unknown = []
 stability_text (Unstable feature deprecated) = codes " unstable " ++ (feature ++ deprecated_text deprecated)
 stability_text (Stable since deprecated) = codes " since " ++ (release_text since ++ deprecated_text deprecated)
-
--- the version of a package, where it has one
-abbrev pub version_text : Option Release → List ℕ
-version_text None = []
-version_text (Some r) = 64 ∷ release_text r
-
--- the name of a package, perhaps with its version
-abbrev pub package_text : PackageName → List ℕ
-package_text p = p.namespace ++ (58 ∷ (p.name ++ version_text p.version))

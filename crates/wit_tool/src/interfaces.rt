@@ -43,7 +43,7 @@ fn push_named_types(text: &mut String, types: &TextTable<TypeId>) -> Result<(), 
 }
 
 /// The line of a function.
-fn push_function(text: &mut String, name: &str, function: &Function) -> Result<(), AllocError>
+pub fn push_function(text: &mut String, name: &str, function: &Function) -> Result<(), AllocError>
     ensures { OnOk result (Adds text.old text.new (function_line (name.now, function.now))) }
 {
     text.push_str("  ")?;

@@ -21,10 +21,4 @@ pub use refusal::error_line;
 pub use running::run;
 
 #[cfg(test)]
-mod run_tests;
-#[cfg(test)]
 mod tests;
-#[cfg(test)]
-mod use_tests;
-#[cfg(test)]
-mod version_tests;

@@ -8,7 +8,6 @@ use crate::fault::RunFault;
 use crate::interfaces::push_interfaces;
 use crate::output::put;
 use crate::types::push_type_lines;
-use crate::words::push_package_name;
 use crate::worlds::push_worlds;
 use std::alloc::{AllocError, Global};
 use std::io::Write;
@@ -58,9 +57,7 @@ fn push_all_worlds(
 fn push_header(text: &mut String, name: &PackageName) -> Result<(), AllocError>
     ensures { OnOk result (Adds text.old text.new (header_text name.now)) }
 {
-    text.push_str("package ")?;
-    push_package_name(text, name)?;
-    text.push_str("\n")
+    write!(text, "package {name}\n")
 }
 
 /// The listing of a package: its name, its types, its interfaces and its worlds.

@@ -1,9 +1,9 @@
 //! Small texts of a listing, each put behind a text.
 ghost use Rattle.std.specs.Prelude.{◌≡◌, ◌++◌, OnOk, string_bytes};
-ghost use Rattle.wit_tool.specs.Words.{Adds, deprecated_text, optional_text, package_text, release_text, stability_text, type_text};
+ghost use Rattle.wit_tool.specs.Words.{Adds, deprecated_text, optional_text, stability_text, type_text};
 
 use std::alloc::AllocError;
-use wit_model::{PackageName, Stability, Type};
+use wit_model::{Stability, Type};
 use wit_values::Release;
 
 /// The word of a primitive type, or `#` and the place of an entry.
@@ -39,32 +39,12 @@ pub fn push_optional(text: &mut String, ty: Option<Type>) -> Result<(), AllocErr
     }
 }
 
-/// A version.
-pub fn push_release(text: &mut String, release: &Release) -> Result<(), AllocError>
-    ensures { OnOk result (Adds text.old text.new (release_text release.now)) }
-{
-    let (major, minor, patch) = (release.major, release.minor, release.patch);
-    write!(text, "{major}.{minor}.{patch}")?;
-    let pre = release.pre.as_str();
-    if !pre.is_empty() {
-        write!(text, "-{pre}")?;
-    }
-    let build = release.build.as_str();
-    if !build.is_empty() {
-        write!(text, "+{build}")?;
-    }
-    Ok(())
-}
-
 /// From which version on an item is deprecated.
 fn push_deprecated(text: &mut String, deprecated: &Option<Release>) -> Result<(), AllocError>
     ensures { OnOk result (Adds text.old text.new (deprecated_text deprecated.now)) }
 {
     match deprecated {
-        Some(release) => {
-            text.push_str(" deprecated ")?;
-            push_release(text, release)
-        }
+        Some(version) => write!(text, " deprecated {version}"),
         None => Ok(()),
     }
 }
@@ -84,25 +64,8 @@ pub fn push_stability(text: &mut String, stability: &Stability) -> Result<(), Al
             push_deprecated(text, deprecated)
         }
         Stability::Stable { since, deprecated } => {
-            text.push_str(" since ")?;
-            push_release(text, since)?;
+            write!(text, " since {since}")?;
             push_deprecated(text, deprecated)
         }
-    }
-}
-
-/// The name of a package, perhaps with its version.
-pub fn push_package_name(text: &mut String, name: &PackageName) -> Result<(), AllocError>
-    ensures { OnOk result (Adds text.old text.new (package_text name.now)) }
-{
-    text.push_str(name.namespace.as_str())?;
-    text.push_str(":")?;
-    text.push_str(name.name.as_str())?;
-    match &name.version {
-        Some(version) => {
-            text.push_str("@")?;
-            push_release(text, version)
-        }
-        None => Ok(()),
     }
 }

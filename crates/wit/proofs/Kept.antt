@@ -1,0 +1,69 @@
+-- What was written stays written where a writer keeps what it holds.
+use Rattle.std.proofs.Common.{◌≡◌, ℕ, List, ◌∙◌, refl, take}
+use Rattle.std.specs.Prelude.{Bool, true, false, Option, Some, None, IfSome, Result, Ok, Err}
+use Rattle.std.specs.Io.KnownBytes.{Appends, Keeps}
+use Rattle.wit_tool.specs.declared.fault.RunFault.{RunFault}
+use Rattle.wit_tool.specs.declared.fault.RunFault.TheVariants.{Output, Memory}
+use Rattle.wit_tool.specs.Output.{IsWrittenAs}
+use Rattle.wit.specs.Input.{IsAnswered}
+use Rattle.wit.specs.Input.IsAnswered.{Ran, TooMuch, GivenUp}
+use Rattle.wit.specs.Status.{IsEnded, status_of}
+use Rattle.wit.specs.Status.IsEnded.{Listed, Refused, Failed, Unread}
+
+pub keeps_itself : (a : Option (List ℕ)) → Keeps a a
+keeps_itself None = tt
+keeps_itself (Some xs) = refl
+
+pub keeps_then : (a b c : Option (List ℕ)) → Keeps a b → Keeps b c → Keeps a c
+keeps_then None b c p q = tt
+keeps_then (Some xs) None c p q = absurd p
+keeps_then (Some xs) (Some ys) None p q = absurd q
+keeps_then (Some xs) (Some ys) (Some zs) p q = q ∙ p
+
+pub appends_kept : (a b c : Option (List ℕ)) (text : List ℕ) → Appends a b text → Keeps b c → Appends a c text
+appends_kept None b c text p q = tt
+appends_kept (Some xs) None c text p q = absurd p
+appends_kept (Some xs) (Some ys) None text p q = absurd q
+appends_kept (Some xs) (Some ys) (Some zs) text p q = q ∙ p
+
+pub written_kept : {A : Type 0} (told : A) (IsText : List ℕ → Type 0) (a b c : Option (List ℕ)) (result : Result A RunFault) →
+    IsWrittenAs told IsText a b result → Keeps b c → IsWrittenAs told IsText a c result
+written_kept told IsText a b c (Ok answer) w q = (w.0, w.1, w.2, appends_kept a b c w.1 w.3 q)
+written_kept told IsText a b c (Err Output) w q = (w.0, w.1, (w.2.0, appends_kept a b c (take w.2.0 w.0) w.2.1 q))
+written_kept told IsText a b c (Err Memory) w q = keeps_then a b c w q
+
+pub answered_kept : (text : List ℕ) (a b c : Option (List ℕ)) (result : Result Bool RunFault) → IsAnswered text a b result → Keeps b c → IsAnswered text a c result
+answered_kept text a b c result (Ran on) q = Ran (record {
+  source = on.source;
+  is = on.is;
+  ran = record {
+    source = on.ran.source;
+    first = on.ran.first;
+    resolved = on.ran.resolved;
+    comes_to = on.ran.comes_to;
+    written = written_kept _ _ a b c result on.ran.written q;
+  };
+})
+answered_kept text a b c result (TooMuch much) q = TooMuch (record {
+  large = much.large;
+  e = much.e;
+  rule = much.rule;
+  tells = much.tells;
+  written = written_kept _ _ a b c result much.written q;
+})
+answered_kept text a b c result (GivenUp up) q = GivenUp (record { is = up.is; keeps = keeps_then a b c up.keeps q })
+
+-- an answer that went out whole
+pub ended : (E : Type 0) (text : List ℕ) (a b : Option (List ℕ)) (listed : Bool) → IsAnswered text a b (Ok listed) → IsEnded text a b (status_of {E = E} (Ok listed))
+ended E text a b true answered = Listed answered
+ended E text a b false answered = Refused answered
+
+-- one that may not have
+pub failed : {E : Type 0} (text : List ℕ) (a b : Option (List ℕ)) (result : Result Bool RunFault) (r : Result Bool E) (e : E) → r ≡ Err e →
+    IsAnswered text a b result → IsEnded text a b (status_of r)
+failed text a b result r e is answered = rw is (Failed result answered)
+
+-- none
+pub unread : {E : Type 0} (known a : Option (List ℕ)) (r : Result Bool E) (e : E) → r ≡ Err e → IfSome known (λ text. IsEnded text a a (status_of r))
+unread None a r e is = tt
+unread (Some text) a r e is = rw is (Unread (keeps_itself a))
