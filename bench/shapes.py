@@ -1,0 +1,118 @@
+#!/usr/bin/env python3
+"""Large inputs without a fault, one shape each, for measuring how cost grows.
+
+shapes.py SHAPE N > FILE
+"""
+import random
+import sys
+
+HEADER = 'package acme:platform@1.2.0;\n'
+NOUNS = ('request response header body flow error choice field method path size count index buffer socket address '
+         'status code token key value handle event timer config filter query outcome entry group').split()
+PRIMITIVES = 'u8 u16 u32 u64 s32 s64 f32 f64 bool string char'.split()
+
+
+def interface(name, lines):
+    return 'interface %s {\n%s\n}\n' % (name, '\n'.join(lines))
+
+
+def written(random_, names):
+    """A type: a primitive, a name, or a list of one."""
+    inner = random_.choice(names) if names and random_.random() < .5 else random_.choice(PRIMITIVES)
+    return 'list<%s>' % inner if random_.random() < .25 else inner
+
+
+def platform(n):
+    """n interfaces as people write them: forty definitions each, and names of two earlier interfaces."""
+    random_ = random.Random(7)
+    out, earlier = [HEADER], []
+    for number in range(n):
+        lines, names = [], []
+        for used in random_.sample(earlier, min(2, len(earlier))):
+            name = random_.choice(used[1])
+            local = 'used-%s%d' % (name, len(names))
+            lines.append('  use %s.{%s as %s};' % (used[0], name, local))
+            names.append(local)
+        own = []
+        for place in range(40):
+            name = '%s-n%d' % (random_.choice(NOUNS), place)
+            if place % 4 == 3:
+                fields = ', '.join('%s: %s' % (field, written(random_, names + own)) for field in random_.sample(NOUNS, 5))
+                lines.append('  record %s { %s }' % (name, fields))
+            else:
+                lines.append('  type %s = %s;' % (name, written(random_, names + own)))
+            own.append(name)
+        out.append(interface('part-n%d' % number, lines))
+        earlier = (earlier + [('part-n%d' % number, own)])[-32:]
+    return ''.join(out)
+
+
+def chain(n):
+    """n definitions, each another word for the one before it."""
+    return HEADER + interface('i', ['type t0 = u8;'] + ['type t%d = t%d;' % (k, k - 1) for k in range(1, n)])
+
+
+def turned_chain(n):
+    """The same, each written before the one that it needs."""
+    return HEADER + interface('i', ['type t%d = t%d;' % (k, k - 1) for k in range(n - 1, 0, -1)] + ['type t0 = u8;'])
+
+
+def interfaces(n):
+    """n interfaces, each with a name of the one before it."""
+    return HEADER + 'interface i0 { type t = u8; }\n' + ''.join('interface i%d { use i%d.{t}; }\n' % (k, k - 1) for k in range(1, n))
+
+
+def apart(n):
+    """n interfaces that have nothing to do with one another."""
+    return HEADER + ''.join('interface i%d { type t = u8; }\n' % k for k in range(n))
+
+
+def shared(n):
+    """n interfaces with a name of one."""
+    return HEADER + 'interface z { type t = u8; }\n' + ''.join('interface i%d { use z.{t}; }\n' % k for k in range(n))
+
+
+def uses(n):
+    """One interface that uses a name of each of n others."""
+    others = ''.join('interface i%d { type t = u8; }\n' % k for k in range(n))
+    return HEADER + others + interface('z', ['use i%d.{t as t%d};' % (k, k) for k in range(n)])
+
+
+def one_use(n):
+    """One use of n names."""
+    names = ', '.join('t%d' % k for k in range(n))
+    return HEADER + interface('i', ['type t%d = u8;' % k for k in range(n)]) + interface('j', ['use i.{%s};' % names])
+
+
+def lists(n):
+    """n distinct unnamed types in one interface."""
+    return HEADER + interface('i', ['type t%d = u8;\nrecord r%d { f: list<t%d> }' % (k, k, k) for k in range(n)])
+
+
+def same_list(n):
+    """One unnamed type, written n times."""
+    return HEADER + interface('i', ['type t%d = u8;\nrecord r%d { f: list<u8> }' % (k, k) for k in range(n)])
+
+
+def fields(n):
+    """A record of n fields."""
+    return HEADER + interface('i', ['record r {'] + ['part%d: u8,' % k for k in range(n)] + ['}'])
+
+
+def nested(n):
+    """n definitions of lists ninety deep."""
+    return HEADER + interface('i', ['type t%d = %su8%s;' % (k, 'list<' * 90, '>' * 90) for k in range(n)])
+
+
+def comment(n):
+    """A comment of n lines."""
+    return HEADER + '/*\n' + 'a line of a comment, as long as such lines are\n' * n + '*/\ninterface i {}\n'
+
+
+SHAPES = [platform, chain, turned_chain, interfaces, apart, shared, uses, one_use, lists, same_list, fields, nested, comment]
+
+if __name__ == '__main__':
+    by_name = {shape.__name__.replace('_', '-'): shape for shape in SHAPES}
+    if len(sys.argv) != 3 or sys.argv[1] not in by_name:
+        sys.exit('usage: shapes.py SHAPE N\n' + '\n'.join('  %-13s %s' % (name, shape.__doc__.split('\n')[0]) for name, shape in by_name.items()))
+    sys.stdout.write(by_name[sys.argv[1]](int(sys.argv[2])))
