@@ -1,19 +1,22 @@
 -- Tests for equality of interfaces and worlds, which decide whether they are the same but for the order of their maps.
-use Rattle.std.proofs.Common.{◌≡◌, ℕ, nat_eq, List, Bool, refl, rules}
+use Rattle.std.proofs.Common.{◌≡◌, ℕ, nat_eq, List, [], ◌∷◌, Bool, refl, rules}
 use Rattle.std.specs.Bool.{Decides}
 use Rattle.std.specs.Cmp.{IsEquivalence, decided}
 use Rattle.std.specs.Cmp.Lexicographic.{nat_list_eq_equiv, pointwise}
 use Rattle.std.specs.HashMap.{entries_eq}
-use Rattle.std.specs.Option.{option_eq}
 use Rattle.std.proofs.lemmas.Bool.Decides.{Decides-and, Decides-at, Decides-eqb, Decides-like}
 use Rattle.std.proofs.lemmas.Map.Lookups.{hash_map_eq-Decides}
 use Rattle.indexmap.specs.Layout.{hash_map}
-use Rattle.wit_model.proofs.Same.{Decides-docs, Decides-function, Decides-include, Decides-option, Decides-optional_text, Decides-row, Decides-span, Decides-stability, Decides-text, Decides-world_item}
-use Rattle.wit_model.specs.Same.{HoldSamePairs, IsSameInterface, IsSameWorld, is_same_key, is_same_name}
+use Rattle.wit_model.proofs.Same.{Decides-docs, Decides-function, Decides-include, Decides-option, Decides-optional_text, Decides-row, Decides-span, Decides-stability, Decides-text, Decides-type_def, Decides-world_item}
+use Rattle.wit_model.specs.Same.{AreSame, HoldSamePairs, IsSameInterface, IsSamePackage, IsSameWorld, is_same_key, is_same_name}
 use Rattle.wit_model.specs.contracts.interface.InterfacePartialEq.TheImpl.{eq-value as interface_test}
 use Rattle.wit_model.specs.contracts.world.WorldItemPartialEq.TheImpl.{eq-value as world_item_test}
 use Rattle.wit_model.specs.contracts.world.WorldKeyPartialEq.TheImpl.{eq-value as key_test}
 use Rattle.wit_model.specs.contracts.world.WorldPartialEq.TheImpl.{eq-value as world_test}
+use Rattle.wit_model.specs.contracts.unresolved.UnresolvedPackagePartialEq.TheImpl.{eq-value as package_test}
+use Rattle.wit_model.specs.contracts.package_name.PackageNamePartialEq.TheImpl.{eq-value as name_test}
+use Rattle.wit_model.specs.declared.unresolved.UnresolvedPackage.{UnresolvedPackage}
+use Rattle.wit_model.specs.declared.package_name.PackageName.{PackageName}
 use Rattle.wit_model.specs.declared.interface.Interface.{Interface}
 use Rattle.wit_model.specs.declared.world.World.{World}
 use Rattle.wit_model.specs.declared.world.WorldItem.{WorldItem}
@@ -50,3 +53,16 @@ Decides-interface a b = Decides-like _ (λ e. record { name = e.0; types = e.1.0
 
 pub Decides-world : (a b : World) → Decides (world_test.it a b) (IsSameWorld a b)
 Decides-world a b = Decides-like _ (λ e. record { name = e.0; imports = e.1.0; exports = e.1.1.0; «package» = e.1.1.1.0; docs = e.1.1.1.1.0; stability = e.1.1.1.1.1.0; includes = e.1.1.1.1.1.1.0; span = e.1.1.1.1.1.1.1 }) (λ s. (s.name, (s.imports, (s.exports, (s.package, (s.docs, (s.stability, (s.includes, s.span)))))))) (Decides-and _ _ (Decides-text a.name b.name) (Decides-and _ _ (Decides-items a.imports b.imports) (Decides-and _ _ (Decides-items a.exports b.exports) (Decides-and _ _ (Decides-option Decides-id a.package b.package) (Decides-and _ _ (Decides-docs a.docs b.docs) (Decides-and _ _ (Decides-stability a.stability b.stability) (Decides-and _ _ (Decides-row Decides-include a.includes b.includes) (Decides-span a.span b.span))))))))
+
+-- where a test decides sameness of values, that of lists decides it one by one
+Decides-lists : {X : Type 0} {R : X → X → Type 0} {E : X → X → Bool} → ((a b : X) → Decides (E a b) (R a b)) → (xs ys : List X) → Decides (pointwise E xs ys) (AreSame R xs ys)
+Decides-lists same [] [] = (λ e. tt, λ h. refl)
+Decides-lists same [] (y ∷ ys) = (λ e. cc, λ h. absurd h)
+Decides-lists same (x ∷ xs) [] = (λ e. cc, λ h. absurd h)
+Decides-lists same (x ∷ xs) (y ∷ ys) = Decides-and _ _ (same x y) (Decides-lists same xs ys)
+
+Decides-package_name : (a b : PackageName) → Decides (name_test.it a b) (a ≡ b)
+Decides-package_name a b = search rules
+
+pub Decides-package : (a b : UnresolvedPackage) → Decides (package_test.it a b) (IsSamePackage a b)
+Decides-package a b = Decides-like _ (λ e. record { name = e.0; worlds = e.1.0; interfaces = e.1.1.0; types = e.1.1.1.0; name_span = e.1.1.1.1 }) (λ s. (s.name, (s.worlds, (s.interfaces, (s.types, s.name_span))))) (Decides-and _ _ (Decides-package_name a.name b.name) (Decides-and _ _ (Decides-lists Decides-world a.worlds b.worlds) (Decides-and _ _ (Decides-lists Decides-interface a.interfaces b.interfaces) (Decides-and _ _ (Decides-row Decides-type_def a.types b.types) (Decides-span a.name_span b.name_span)))))

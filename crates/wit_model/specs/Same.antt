@@ -1,8 +1,9 @@
--- When two interfaces or two worlds are the same: each plain field is equal, and each map holds the same pairs in any order.
-use Rattle.std.specs.Prelude.{◌≡◌, ℕ, Bool, false, List, nat_eq}
+-- When two interfaces, worlds or packages are the same: each plain field is equal, and each map holds the same pairs in any order.
+use Rattle.std.specs.Prelude.{◌≡◌, ℕ, Bool, false, List, [], ◌∷◌, nat_eq}
 use Rattle.std.specs.Cmp.Lexicographic.{pointwise}
 use Rattle.std.specs.Map.{lookup}
 use Rattle.wit_model.specs.declared.interface.Interface.{Interface}
+use Rattle.wit_model.specs.declared.unresolved.UnresolvedPackage.{UnresolvedPackage}
 use Rattle.wit_model.specs.declared.world.World.{World}
 use Rattle.wit_model.specs.declared.world.WorldKey.{WorldKey}
 use Rattle.wit_model.specs.declared.world.WorldKey.TheVariants as key
@@ -41,3 +42,17 @@ pub record IsSameWorld (a b : World) : Type 0 where
   pub stability : a.stability ≡ b.stability
   pub includes : a.includes ≡ b.includes
   pub span : a.span ≡ b.span
+
+-- one by one, the values of two lists are the same
+abbrev pub AreSame : {X : Type 0} → (X → X → Type 0) → List X → List X → Type 0
+AreSame R [] [] = Unit {0}
+AreSame R (x ∷ xs) (y ∷ ys) = R x y × AreSame R xs ys
+AreSame R [] (y ∷ ys) = ⊥
+AreSame R (x ∷ xs) [] = ⊥
+
+pub record IsSamePackage (a b : UnresolvedPackage) : Type 0 where
+  pub name : a.name ≡ b.name
+  pub worlds : AreSame IsSameWorld a.worlds b.worlds
+  pub interfaces : AreSame IsSameInterface a.interfaces b.interfaces
+  pub types : a.types ≡ b.types
+  pub name_span : a.name_span ≡ b.name_span

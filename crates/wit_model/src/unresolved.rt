@@ -1,5 +1,5 @@
 //! Resolved packages.
-ghost use Rattle.std.specs.Prelude.{◌≡◌};
+ghost use Rattle.std.specs.Prelude.{◌≡◌, IfOk};
 
 use crate::arena::Arena;
 use crate::ids::{InterfacePlace, TypePlace, WorldPlace};
@@ -7,10 +7,15 @@ use crate::interface::Interface;
 use crate::package_name::PackageName;
 use crate::types::TypeDef;
 use crate::world::World;
+use crate::laws::copies::copy_package_name;
+use std::alloc::AllocError;
 use wit_tree::Span;
 
 /// A package whose names are resolved, but not those of other packages.
-#[derive(Debug, Drop)]
+///
+/// Two are equal if their names, spans and arenas are, where two maps are equal if they hold the
+/// same pairs in any order.
+#[derive(Debug, PartialEq, Eq, Drop)]
 pub struct UnresolvedPackage {
     /// The name that the headers give.
     pub name: PackageName,
@@ -51,5 +56,39 @@ impl UnresolvedPackage {
         ensures { result ≡ self.now.name_span }
     {
         self.name_span
+    }
+}
+
+fn copy_worlds(worlds: &Arena<World, WorldPlace>) -> Result<Arena<World, WorldPlace>, AllocError>
+    ensures { IfOk result (λ copy. copy ≡ worlds.now) }
+{
+    worlds.clone()
+}
+
+fn copy_interfaces(
+    interfaces: &Arena<Interface, InterfacePlace>,
+) -> Result<Arena<Interface, InterfacePlace>, AllocError>
+    ensures { IfOk result (λ copy. copy ≡ interfaces.now) }
+{
+    interfaces.clone()
+}
+
+fn copy_types(types: &Arena<TypeDef, TypePlace>) -> Result<Arena<TypeDef, TypePlace>, AllocError>
+    ensures { IfOk result (λ copy. copy ≡ types.now) }
+{
+    types.clone()
+}
+
+impl Clone for UnresolvedPackage {
+    ghost is_clone = { λ source copy. copy ≡ source };
+
+    fn clone(&self) -> Result<UnresolvedPackage, AllocError> {
+        Ok(UnresolvedPackage {
+            name: copy_package_name(&self.name)?,
+            worlds: copy_worlds(&self.worlds)?,
+            interfaces: copy_interfaces(&self.interfaces)?,
+            types: copy_types(&self.types)?,
+            name_span: self.name_span,
+        })
     }
 }

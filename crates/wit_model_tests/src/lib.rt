@@ -18,6 +18,8 @@ mod names;
 #[cfg(test)]
 mod orders;
 #[cfg(test)]
+mod packages;
+#[cfg(test)]
 mod plain;
 #[cfg(test)]
 mod setters;

@@ -1,6 +1,6 @@
 //! Equality: values are equal exactly if they are the same, interfaces and worlds but for the order of their maps.
 ghost use Rattle.std.specs.Prelude.{◌≡◌, ◌↔◌, IsTrue};
-ghost use Rattle.wit_model.specs.Same.{IsSameInterface, IsSameWorld};
+ghost use Rattle.wit_model.specs.Same.{IsSameInterface, IsSameWorld, IsSamePackage};
 
 use crate::abi::{AbiVariant, LiftLowerAbi, Mangling, ManglingAndAbi};
 use crate::ast_item::AstItem;
@@ -14,6 +14,7 @@ use crate::types::{
     Case, Enum, EnumCase, Field, Flag, Flags, Handle, Record, Result_, Tuple, Type, TypeDef,
     TypeOwner, Variant,
 };
+use crate::unresolved::UnresolvedPackage;
 use crate::world::{IncludeName, World, WorldInclude, WorldItem, WorldKey};
 
 /// Whether two types are the same.
@@ -229,6 +230,13 @@ pub fn is_same_flags_repr(a: &FlagsRepr, b: &FlagsRepr) -> bool
 /// Whether two names of packages are the same.
 pub fn is_same_package_name(a: &PackageName, b: &PackageName) -> bool
     ensures { IsTrue result ↔ (a.now ≡ b.now) }
+{
+    a == b
+}
+
+/// Whether two packages are the same, but for the order of the maps in them.
+pub fn is_same_package(a: &UnresolvedPackage, b: &UnresolvedPackage) -> bool
+    ensures { IsTrue result ↔ IsSamePackage a.now b.now }
 {
     a == b
 }
