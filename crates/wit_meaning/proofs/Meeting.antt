@@ -102,16 +102,18 @@ names_kept a b more s env es same h names = record {
 pub keyed_more : {decls : Decls} {ks : List Key} {es : List TypeDef} (k : Key) (e : TypeDef) → IsKeyed decls ks es → (IsMet ks k → ⊥) → IsEntry decls ks k e → IsKeyed decls (ks ++ k ∷ []) (es ++ e ∷ [])
 keyed_more {decls} {ks} {es} k e m new it = record {
   count = length-append es (e ∷ []) ∙ ap (λ n. n + 1) m.count ∙ sym (length-append ks (k ∷ []));
-  once = record { differ = λ i j x ati atj. elim (at_either ks k i x ati) [
-    | inl oldi ↦ elim (at_either ks k j x atj) [
-      | inl oldj ↦ m.once.differ i j x oldi oldj
-      | inr newj ↦ absurd (new (i, oldi ∙ ap Some newj.1))
-    ]
-    | inr newi ↦ elim (at_either ks k j x atj) [
-      | inl oldj ↦ absurd (new (j, oldj ∙ ap Some newi.1))
-      | inr newj ↦ newi.0 ∙ sym newj.0
-    ]
-  ] };
+  once = record {
+    differ = λ i j x ati atj. elim (at_either ks k i x ati) [
+      | inl oldi ↦ elim (at_either ks k j x atj) [
+        | inl oldj ↦ m.once.differ i j x oldi oldj
+        | inr newj ↦ absurd (new (i, oldi ∙ ap Some newj.1))
+      ]
+      | inr newi ↦ elim (at_either ks k j x atj) [
+        | inl oldj ↦ absurd (new (j, oldj ∙ ap Some newi.1))
+        | inr newj ↦ newi.0 ∙ sym newj.0
+      ]
+    ];
+  };
   each = λ i x f key entry. elim (at_either ks k i x key) [
     | inl oldm ↦ (
         let lt = slice_get_within ks i x oldm in

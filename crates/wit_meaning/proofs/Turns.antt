@@ -208,9 +208,9 @@ in_order_all xs order least p x at =
 
 pub in_order_distinct : (xs : List ScopeName) (order : List ℕ) → IsOrder (rows_of xs) order → AreDistinct xs → AreDistinct (in_order xs order)
 in_order_distinct xs order least d = differ_by local_name (in_order xs order) (λ i j x y at_i at_j same. (
-      let a = in_order_at xs order i x (names_within xs order least) at_i in
-      let b = in_order_at xs order j y (names_within xs order least) at_j in
-      index_once (rows_of xs) order i j a.0 b.0 least a.1 b.1 (differ_at local_name xs d a.0 b.0 x y a.2 b.2 same)))
+    let a = in_order_at xs order i x (names_within xs order least) at_i in
+    let b = in_order_at xs order j y (names_within xs order least) at_j in
+    index_once (rows_of xs) order i j a.0 b.0 least a.1 b.1 (differ_at local_name xs d a.0 b.0 x y a.2 b.2 same)))
 
 -- each name in turn is one of the scope
 pub in_turn_among : (xs : List ScopeName) (order : List ℕ) → IsOrder (rows_of xs) order → (i : ℕ) (x : ScopeName) → slice_get (in_turn xs order) i ≡ Some x → (p : ℕ) × (slice_get xs p ≡ Some x)

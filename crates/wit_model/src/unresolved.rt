@@ -4,10 +4,10 @@ ghost use Rattle.std.specs.Prelude.{◌≡◌, IfOk};
 use crate::arena::Arena;
 use crate::ids::{InterfacePlace, TypePlace, WorldPlace};
 use crate::interface::Interface;
+use crate::laws::copies::copy_package_name;
 use crate::package_name::PackageName;
 use crate::types::TypeDef;
 use crate::world::World;
-use crate::laws::copies::copy_package_name;
 use std::alloc::AllocError;
 use wit_tree::Span;
 
