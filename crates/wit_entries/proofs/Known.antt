@@ -1,9 +1,9 @@
 -- Tables that know unnamed entries, and one entry more.
 use Rattle.std.proofs.Common.{◌≡◌, ℕ, Bool, true, false, List, [], ◌∷◌, ◌++◌, length, Option, Some, None, if◌then◌else◌, inl, inr, refl, sym, ap, ◌∙◌}
 use Rattle.std.specs.Bool.{Decides}
-use Rattle.wit_tree.specs.declared.span.Span.{Span}
-use Rattle.wit_model.specs.declared.types.TypeDef.{TypeDef}
-use Rattle.wit_model.specs.declared.types.TypeDefKind.{TypeDefKind}
+use Rattle.wit_values.specs.declared.span.Span.{Span}
+use Rattle.wit_types.specs.declared.types.TypeDef.{TypeDef}
+use Rattle.wit_types.specs.declared.types.TypeDefKind.{TypeDefKind}
 use Rattle.wit_meaning.specs.Package.{At}
 use Rattle.wit_meaning.specs.Resolving.{IsUnnamedOf, unnamed}
 use Rattle.wit_meaning.proofs.Lists.{at_either}

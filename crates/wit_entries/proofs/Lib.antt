@@ -1,5 +1,5 @@
 mod Reading
-mod Borrowed
-mod Folding
-mod Fields
 mod Known
+mod FormKinds
+mod Duplicates
+mod Payloads

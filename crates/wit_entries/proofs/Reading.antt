@@ -1,14 +1,15 @@
 -- Written types whose parts are resolved: as they stand in a type, and under a name.
-use Rattle.std.proofs.Common.{◌≡◌, ℕ, List, [], ◌∷◌, Some, refl, sym, ap, subst}
+use Rattle.std.proofs.Common.{◌≡◌, ℕ, List, [], ◌∷◌, ◌++◌, Some, refl, sym, ap, subst}
 use Rattle.std.proofs.lemmas.List.{append-nil}
-use Rattle.wit_model.specs.declared.types.«Type».{«Type» as Ty}
-use Rattle.wit_model.specs.declared.types.«Type».TheVariants.{Id}
-use Rattle.wit_model.specs.declared.types.TypeDef.{TypeDef}
+use Rattle.wit_types.specs.declared.types.«Type».{«Type» as Ty}
+use Rattle.wit_types.specs.declared.types.«Type».TheVariants.{Id}
+use Rattle.wit_types.specs.declared.types.TypeDef.{TypeDef}
 use Rattle.wit_tree.specs.declared.tree.Id.{Id as Name}
-use Rattle.wit_model.specs.declared.types.TypeDefKind.{TypeDefKind}
-use Rattle.wit_tree.specs.declared.span.Span.{Span}
+use Rattle.wit_tree.specs.declared.tree.«Type».{«Type» as Written}
+use Rattle.wit_types.specs.declared.types.TypeDefKind.{TypeDefKind}
+use Rattle.wit_values.specs.declared.span.Span.{Span}
 use Rattle.wit_meaning.specs.Form.{AliasForm, kind_of}
-use Rattle.wit_meaning.specs.Shape.{Shape, Prim, Word, Of, one, Body, head}
+use Rattle.wit_meaning.specs.Shape.{Shape, Prim, Word, Of, one, shape_of, Body, head}
 use Rattle.wit_meaning.specs.Source.{Address}
 use Rattle.wit_meaning.specs.Expr.{exprs_of, expr_of}
 use Rattle.wit_meaning.specs.Expr as exprs
@@ -16,10 +17,11 @@ use Rattle.wit_meaning.specs.Meet.{shape_meetings, shapes_meetings}
 use Rattle.wit_meaning.specs.Whole.{IsAnonymousForm}
 use Rattle.wit_meaning.specs.Resolving.{Env, AreResolved, IsInterned}
 use Rattle.wit_meaning.proofs.UnnamedKinds.{only_anonymous}
-use Rattle.wit_meaning.proofs.Resolving.{resolved_whole}
+use Rattle.wit_meaning.proofs.Resolving.{resolved_none, resolved_more, resolved_whole}
+use Rattle.wit_meaning.proofs.Written.{all_exprs-append, all_meetings-append}
 use Rattle.wit_entries.specs.declared.types.Reading.{Reading}
 use Rattle.wit_entries.specs.declared.types.Reading.TheVariants as reading
-use Rattle.wit_entries.specs.Reading.{IsResolved, IsLeaf, IsForm, IsRead, StandsFor, named_kind}
+use Rattle.wit_entries.specs.Reading.{IsResolved, AreTypes, IsLeaf, IsForm, IsRead, StandsFor, named_kind}
 
 -- the type of a name
 pub resolved_word : (es : List TypeDef) (env : Env) (id : Name) (i : ℕ) → env id.name.now ≡ Some i → IsResolved es es env (Word id) (Id i)
@@ -41,9 +43,15 @@ read_stands old mid new env x (reading.Form k span) ty read stands = rw stands.1
 pub alone : {old new : List TypeDef} {env : Env} {ty : Ty} (x : Shape) → IsResolved old new env x ty → (s : Address) → AreResolved old new s env (shapes_meetings s (one x)) (exprs_of s (one x)) (ty ∷ [])
 alone {old} {new} {env} {ty} x is s = subst (λ ms. AreResolved old new s env ms (exprs.one (expr_of s x)) (ty ∷ [])) (sym (append-nil (shape_meetings s x))) (is s)
 
--- the one part of a form
-pub read_part : (old mid new : List TypeDef) (env : Env) (x : Shape) (r : Reading) (ty : Ty) → IsRead old mid env x r → StandsFor mid new r ty → (s : Address) → AreResolved old new s env (shapes_meetings s (one x)) (exprs_of s (one x)) (ty ∷ [])
-read_part old mid new env x r ty read stands s = alone x (read_stands old mid new env x r ty read stands) s
+-- types one after another
+pub types_none : (es : List TypeDef) (env : Env) → AreTypes es es env [] []
+types_none es env s = resolved_none es s env
+
+pub types_one : {old new : List TypeDef} {env : Env} {ty : Ty} (t : Written) → IsResolved old new env (shape_of t) ty → AreTypes old new env (t ∷ []) (ty ∷ [])
+types_one t is s = alone (shape_of t) is s
+
+pub types_then : {old mid new : List TypeDef} {env : Env} {tys uys : List Ty} (ts us : List Written) → AreTypes old mid env ts tys → AreTypes mid new env us uys → AreTypes old new env (ts ++ us) (tys ++ uys)
+types_then ts us p q s = rw (all_exprs-append s ts us, all_meetings-append s ts us) (resolved_more (p s) (q s))
 
 leaf_head : (x : Shape) → IsLeaf x → head x ≡ record { form = AliasForm; parts = one x }
 leaf_head (Prim p) leaf = refl

@@ -1,13 +1,14 @@
 -- What a written type is once its parts are resolved.
 use Rattle.std.specs.Prelude.{◌≡◌, ℕ, List, [], ◌∷◌, Option, Some, None}
-use Rattle.wit_tree.specs.declared.span.Span.{Span}
-use Rattle.wit_model.specs.declared.types.«Type».{«Type» as Ty}
-use Rattle.wit_model.specs.declared.types.«Type».TheVariants.{Id}
-use Rattle.wit_model.specs.declared.types.TypeDef.{TypeDef}
-use Rattle.wit_model.specs.declared.types.TypeDefKind.{TypeDefKind}
-use Rattle.wit_model.specs.declared.types.TypeDefKind.TheVariants.{Type_}
+use Rattle.wit_values.specs.declared.span.Span.{Span}
+use Rattle.wit_tree.specs.declared.tree.«Type».{«Type» as Written}
+use Rattle.wit_types.specs.declared.types.«Type».{«Type» as Ty}
+use Rattle.wit_types.specs.declared.types.«Type».TheVariants.{Id}
+use Rattle.wit_types.specs.declared.types.TypeDef.{TypeDef}
+use Rattle.wit_types.specs.declared.types.TypeDefKind.{TypeDefKind}
+use Rattle.wit_types.specs.declared.types.TypeDefKind.TheVariants.{Type_}
 use Rattle.wit_meaning.specs.Form.{kind_of}
-use Rattle.wit_meaning.specs.Shape.{Shape, Prim, Word, Of}
+use Rattle.wit_meaning.specs.Shape.{Shape, Prim, Word, Of, all_shapes}
 use Rattle.wit_meaning.specs.Source.{Address}
 use Rattle.wit_meaning.specs.Expr.{one, expr_of, exprs_of}
 use Rattle.wit_meaning.specs.Meet.{shape_meetings, shapes_meetings, primitive_type}
@@ -25,6 +26,10 @@ primitive_in (Of span form parts) = None
 -- from whatever was met, the new arena is that with what is met in a type, and it stands for this
 abbrev pub IsResolved : List TypeDef → List TypeDef → Env → Shape → Ty → Type 0
 IsResolved old new env x ty = (s : Address) → AreResolved old new s env (shape_meetings s x) (one (expr_of s x)) (ty ∷ [])
+
+-- the same of types, one after another
+abbrev pub AreTypes : List TypeDef → List TypeDef → Env → List Written → List Ty → Type 0
+AreTypes old new env ts tys = (s : Address) → AreResolved old new s env (shapes_meetings s (all_shapes ts)) (exprs_of s (all_shapes ts)) tys
 
 -- a primitive or a name
 abbrev pub IsLeaf : Shape → Type 0

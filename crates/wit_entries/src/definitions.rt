@@ -1,21 +1,21 @@
 //! Definitions, as named entries of the arena.
 ghost use Rattle.std.specs.Prelude.{◌≡◌, List, [], ◌∷◌, OnOk, IfErr};
-ghost use Rattle.wit_model.specs.declared.types.TypeOwner.TheVariants.{Interface as OfInterface};
+ghost use Rattle.wit_types.specs.declared.types.TypeOwner.TheVariants.{Interface as OfInterface};
 ghost use Rattle.wit_model.specs.declared.interface.Interface.{Interface as Resolved};
 ghost use Rattle.wit_meaning.specs.Source.{Address, Defined};
 ghost use Rattle.wit_meaning.specs.Fault.{Fault};
 ghost use Rattle.wit_meaning.specs.Broken.{IsBrokenBody, Refused};
 ghost use Rattle.wit_meaning.specs.Resolving.{env_of, IsStored, Defines, IsWrongBody};
 
+use crate::bodies::resolve_body;
 use crate::entries::Entries;
 use crate::scope::Scope;
-use crate::types::resolve_body;
 use std::alloc::Global;
 use wit_tree::{ParseResult, tree};
 
 /// Adds a definition behind what is in its body.
 ///
-/// A refusal is E15, a broken rule of records, or want of memory.
+/// A refusal is E15, a broken rule of types, fields, flags or cases, or want of memory.
 pub fn define(
     alloc: Global,
     types: &mut Entries,

@@ -1,7 +1,7 @@
 //! The types of a package, while they are made: each unnamed one once.
 ghost use Rattle.std.specs.Prelude.{◌≡◌, ℕ, [], ◌∷◌, ◌++◌, ◌↔◌, length, IsTrue, IfOk, OnOk, OnErr, IfErr, IfSome, IfNone};
 ghost use Rattle.wit_tree.specs.Refusal.{IsWantOfMemory};
-ghost use Rattle.wit_model.specs.declared.types.TypeDef.{TypeDef};
+ghost use Rattle.wit_types.specs.declared.types.TypeDef.{TypeDef};
 ghost use Rattle.wit_meaning.specs.Package.{At};
 ghost use Rattle.wit_meaning.specs.Resolving.{IsUnnamedOf, IsInterned, named};
 ghost use Rattle.wit_intern.specs.Keys.{key_of};
@@ -31,7 +31,7 @@ pub struct Entries {
 
 impl Model for Entries {
     ghost use Rattle.std.specs.Prelude.{List};
-    ghost use Rattle.wit_model.specs.declared.types.TypeDef.{TypeDef};
+    ghost use Rattle.wit_types.specs.declared.types.TypeDef.{TypeDef};
     ghost use Rattle.wit_entries.specs.Known.{AreKnown};
 
     ghost Value = { List TypeDef };

@@ -2,22 +2,13 @@
 ghost use Rattle.std.specs.Prelude.{◌≡◌, ◌⊎◌, IfOk, None, Some, string_bytes};
 ghost use Rattle.std.specs.Option.{option_map};
 ghost use Rattle.wit_tree.specs.Refusal.{IsWantOfMemory, IsItemNotFound, IsTypeCycle};
-ghost use Rattle.wit_meaning.specs.Fault.{fault_of, fault, missing_at, cyclic_at, type_word};
+ghost use Rattle.wit_meaning.specs.Fault.{fault_of, missing_at, cyclic_at, type_word};
 ghost use Rattle.wit_entries.specs.Hint.{hint_of, renamed, type_hint};
 
 use std::alloc::{AllocError, Global};
+pub use wit_scope::refusal::refuse;
 use wit_tree::tree::Id;
-use wit_tree::{ParseError, ParseErrorKind, Span};
-
-/// A rule that is broken at a span, in these words.
-pub fn refuse(alloc: Global, rule: u8, span: Span, message: &str) -> ParseError
-    ensures { IsWantOfMemory result ⊎ (fault_of result ≡ fault rule span) }
-{
-    match String::from_str(alloc, message) {
-        Ok(message) => ParseError::new_syntax(span, message).with_rule(rule),
-        Err(e) => e.into(),
-    }
-}
+use wit_tree::{ParseError, ParseErrorKind};
 
 /// The kind of a refusal of a name that stands for nothing of a sort.
 fn item_not_found(

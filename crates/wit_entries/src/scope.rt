@@ -1,7 +1,7 @@
 //! The names of a scope, while it is resolved.
 ghost use Rattle.std.specs.Prelude.{◌≡◌, OnOk, IfErr};
 ghost use Rattle.wit_tree.specs.Refusal.{IsWantOfMemory};
-ghost use Rattle.wit_model.specs.declared.types.TypeOwner.TheVariants.{Interface as OfInterface};
+ghost use Rattle.wit_types.specs.declared.types.TypeOwner.TheVariants.{Interface as OfInterface};
 ghost use Rattle.wit_meaning.specs.Resolving.{IsAdded};
 
 use crate::entries::Entries;

@@ -3,7 +3,6 @@
 use crate::definitions::define;
 use crate::entries::Entries;
 use crate::refusal::{refuse, refuse_cycle, refuse_missing, refuse_missing_type};
-use crate::repeats::{first_folded_repeat, first_repeat};
 use crate::scope::Scope;
 use std::alloc::Global;
 use std::process::Abort;
@@ -14,29 +13,6 @@ use wit_tree::{ParseError, ParseResult, Span};
 use wit_values::TextTable;
 
 const HERE: Span = Span { start: 3, end: 4 };
-
-#[test]
-fn finds_first_repeats(rt: HostRuntime) -> Result<(), Fail> {
-    let alloc = rt.alloc();
-    for (text, same, folded) in [
-        ("", None, None),
-        ("a b c", None, None),
-        ("a b a b", Some((0, 2)), Some((0, 2))),
-        ("a B b a", Some((0, 3)), Some((1, 2))),
-        ("A-b c a-B", None, Some((0, 2))),
-    ] {
-        let mut texts = Vec::new(alloc);
-        for word in text.split_whitespace() {
-            texts.push(word)?;
-        }
-        assert!(rt; first_repeat(alloc, &texts)? == same, "at {text}");
-        assert!(rt;
-            first_folded_repeat(alloc, &texts)? == folded,
-            "once folded at {text}"
-        );
-    }
-    Ok(())
-}
 
 /// Whether a refusal says this.
 fn says(alloc: Global, e: &ParseError, wanted: &str) -> Result<bool, Fail> {

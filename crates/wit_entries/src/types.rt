@@ -1,26 +1,24 @@
 //! Written types, as types of the arena.
-ghost use Rattle.std.specs.Prelude.{◌≡◌, ◌⊎◌, List, [], ◌∷◌, map, IfOk, IfErr, OnOk};
+ghost use Rattle.std.specs.Prelude.{◌≡◌, List, [], ◌∷◌, IfOk, IfErr, OnOk, is_some};
+ghost use Rattle.std.specs.Option.{option_to_list};
 ghost use Rattle.wit_tree.specs.Refusal.{IsWantOfMemory};
-ghost use Rattle.wit_model.specs.declared.types.TypeDef.{TypeDef};
-ghost use Rattle.wit_meaning.specs.Form.{RecordForm, kind_of, field_member};
-ghost use Rattle.wit_meaning.specs.Shape.{Word, words, all_words, shape_of, field_shapes, written_member, body_of};
-ghost use Rattle.wit_meaning.specs.Source.{Address};
-ghost use Rattle.wit_meaning.specs.Expr.{exprs_of};
-ghost use Rattle.wit_meaning.specs.Meet.{shapes_meetings};
+ghost use Rattle.wit_tree.specs.Parts.{boxed_types};
+ghost use Rattle.wit_types.specs.declared.types.TypeDef.{TypeDef};
+ghost use Rattle.wit_meaning.specs.Shape.{Word, shape_of};
 ghost use Rattle.wit_meaning.specs.Fault.{Fault};
-ghost use Rattle.wit_meaning.specs.Broken.{IsBrokenRecord, IsBrokenBody, Refused};
-ghost use Rattle.wit_meaning.specs.Resolving.{env_of, AreResolved, IsUnknown, IsWrongBody};
-ghost use Rattle.wit_entries.specs.Reading.{primitive_in, IsResolved, IsRead, StandsFor, named_kind as the_named_kind};
+ghost use Rattle.wit_meaning.specs.Broken.{IsBrokenType, IsBrokenPart, Refused};
+ghost use Rattle.wit_meaning.specs.Resolving.{env_of, IsUnknown, IsWrongType, AreWrongTypes};
+ghost use Rattle.wit_entries.specs.Reading.{primitive_in, IsResolved, AreTypes, IsLeaf, IsRead, StandsFor, named_kind as the_named_kind};
 
 use crate::entries::Entries;
-use crate::records::check_record;
 use crate::refusal::refuse_missing_type;
+use crate::rules::{check_key, check_tuple};
 use crate::scope::Scope;
 use std::alloc::Global;
-use wit_model::{Docs, Field, Record, Type, TypeDefKind};
+use wit_model::{Result_, Tuple, Type, TypeDefKind};
 use wit_tree::tree::Id;
 use wit_tree::{ParseResult, Span, tree};
-use wit_values::{Row, Text};
+use wit_values::Row;
 
 /// A written type over its resolved parts.
 #[derive(Drop)]
@@ -50,7 +48,15 @@ fn primitive(ty: &tree::Type<'_>) -> Option<Type>
         tree::Type::Char(_) => Some(Type::Char),
         tree::Type::String(_) => Some(Type::String),
         tree::Type::ErrorContext(_) => Some(Type::ErrorContext),
-        _ => None,
+        tree::Type::Name(_)
+        | tree::Type::List(_, _)
+        | tree::Type::FixedLengthList(_, _, _)
+        | tree::Type::Map(_, _, _)
+        | tree::Type::Option(_, _)
+        | tree::Type::Result(_, _, _)
+        | tree::Type::Tuple(_, _)
+        | tree::Type::Future(_, _)
+        | tree::Type::Stream(_, _) => None,
     }
 }
 
@@ -79,46 +85,128 @@ fn type_of(types: &mut Entries, reading: Reading) -> ParseResult<Type>
     }
 }
 
-/// A written type over its parts, which are resolved first. Each form of types is told here alone.
-fn read(
+/// A written type over its parts, which are resolved first.
+#[cycle(types)]
+pub(crate) fn read(
     alloc: Global,
     types: &mut Entries,
     scope: &Scope,
     ty: &tree::Type<'_>,
 ) -> ParseResult<Reading>
     ensures read { IfOk result (IsRead types.old types.new (env_of scope.now.names) (shape_of ty.now)) }
-    ensures refused { IfErr result (Refused (IsUnknown (env_of scope.now.names) (words (shape_of ty.now)))) }
+    ensures legal { OnOk result ((f : Fault) → IsBrokenType ty.now f → ⊥) }
+    ensures refused { IfErr result (Refused (IsWrongType (env_of scope.now.names) ty.now)) }
 {
     if let Some(found) = primitive(ty) {
         return Ok(Reading::Leaf(found));
     }
+    if let tree::Type::Name(id) = ty {
+        let found = find_type(alloc, scope, *id)?;
+        return Ok(Reading::Leaf(found));
+    }
+    read_form(alloc, types, scope, ty)
+}
+
+/// A type that is neither a primitive nor a name. Each form of types is told here alone.
+#[cycle(types)]
+fn read_form(
+    alloc: Global,
+    types: &mut Entries,
+    scope: &Scope,
+    ty: &tree::Type<'_>,
+) -> ParseResult<Reading>
+    requires { IsLeaf (shape_of ty.now) → ⊥ }
+    ensures read { IfOk result (IsRead types.old types.new (env_of scope.now.names) (shape_of ty.now)) }
+    ensures legal { OnOk result ((f : Fault) → IsBrokenType ty.now f → ⊥) }
+    ensures refused { IfErr result (Refused (IsWrongType (env_of scope.now.names) ty.now)) }
+{
     match ty {
-        tree::Type::Name(id) => {
-            let found = find_type(alloc, scope, *id)?;
-            Ok(Reading::Leaf(found))
+        tree::Type::List(span, item) => {
+            let item = resolve_type(alloc, types, scope, item)?;
+            Ok(Reading::Form(TypeDefKind::List(item), *span))
         }
-        tree::Type::List(span, element) => {
-            let element = read(alloc, types, scope, element)?;
-            let element = type_of(types, element)?;
-            Ok(Reading::Form(TypeDefKind::List(element), *span))
+        tree::Type::FixedLengthList(span, item, size) => {
+            let item = resolve_type(alloc, types, scope, item)?;
+            Ok(Reading::Form(TypeDefKind::FixedLengthList(item, *size), *span))
+        }
+        tree::Type::Map(span, key, value) => {
+            let key_type = resolve_type(alloc, types, scope, key)?;
+            let value_type = resolve_type(alloc, types, scope, value)?;
+            check_key(alloc, *span, key)?;
+            Ok(Reading::Form(TypeDefKind::Map(key_type, value_type), *span))
+        }
+        tree::Type::Option(span, value) => {
+            let value = resolve_type(alloc, types, scope, value)?;
+            Ok(Reading::Form(TypeDefKind::Option(value), *span))
+        }
+        tree::Type::Result(span, ok, err) => {
+            let ok = resolve_optional(alloc, types, scope, ok)?;
+            let err = resolve_optional(alloc, types, scope, err)?;
+            Ok(Reading::Form(TypeDefKind::Result(Result_ { ok, err }), *span))
+        }
+        tree::Type::Tuple(span, parts) => {
+            check_tuple(alloc, *span, parts)?;
+            let types = resolve_types(alloc, types, scope, parts)?;
+            Ok(Reading::Form(TypeDefKind::Tuple(Tuple { types }), *span))
+        }
+        tree::Type::Future(span, value) => {
+            let value = resolve_optional(alloc, types, scope, value)?;
+            Ok(Reading::Form(TypeDefKind::Future(value), *span))
+        }
+        tree::Type::Stream(span, item) => {
+            let item = resolve_optional(alloc, types, scope, item)?;
+            Ok(Reading::Form(TypeDefKind::Stream(item), *span))
         }
         _ => unreachable!(),
     }
 }
 
-/// The kind that this is under a name by itself.
-fn named_kind(reading: Reading) -> TypeDefKind
-    ensures { result ≡ the_named_kind reading }
+/// The type that a written one stands for, where there is one.
+#[cycle(types)]
+fn resolve_optional(
+    alloc: Global,
+    types: &mut Entries,
+    scope: &Scope,
+    ty: &Option<Box<tree::Type<'_>>>,
+) -> ParseResult<Option<Type>>
+    ensures is_some { IfOk result (λ r. is_some r ≡ is_some ty.now) }
+    ensures resolved { IfOk result (λ r. AreTypes types.old types.new (env_of scope.now.names) (boxed_types ty.now) (option_to_list r)) }
+    ensures legal { OnOk result ((f : Fault) → IsBrokenPart (boxed_types ty.now) f → ⊥) }
+    ensures refused { IfErr result (Refused (AreWrongTypes (env_of scope.now.names) (boxed_types ty.now))) }
 {
-    match reading {
-        Reading::Leaf(ty) => TypeDefKind::Type_(ty),
-        Reading::Form(kind, _) => kind,
+    match ty {
+        Some(ty) => {
+            let found = resolve_type(alloc, types, scope, ty)?;
+            Ok(Some(found))
+        }
+        None => Ok(None),
     }
+}
+
+/// The types that written ones stand for, in their order.
+#[cycle(types)]
+fn resolve_types(
+    alloc: Global,
+    types: &mut Entries,
+    scope: &Scope,
+    parts: &[tree::Type<'_>],
+) -> ParseResult<Row<Type>>
+    ensures resolved { IfOk result (λ r. AreTypes types.old types.new (env_of scope.now.names) parts.now r) }
+    ensures legal { OnOk result ((f : Fault) → IsBrokenPart parts.now f → ⊥) }
+    ensures refused { IfErr result (Refused (AreWrongTypes (env_of scope.now.names) parts.now)) }
+{
+    let mut resolved = Vec::with_capacity(alloc, parts.len())?;
+    for part in parts {
+        let ty = resolve_type(alloc, types, scope, part)?;
+        resolved.push(ty)?;
+    }
+    Ok(Row::from(resolved))
 }
 
 /// The type that a written one stands for.
 ///
-/// A refusal is E15, or want of memory.
+/// A refusal is E15, E22 or E26 at a type in it, or want of memory.
+#[cycle(types)]
 pub fn resolve_type(
     alloc: Global,
     types: &mut Entries,
@@ -126,95 +214,20 @@ pub fn resolve_type(
     ty: &tree::Type<'_>,
 ) -> ParseResult<Type>
     ensures resolved { IfOk result (IsResolved types.old types.new (env_of scope.now.names) (shape_of ty.now)) }
-    ensures refused { IfErr result (Refused (IsUnknown (env_of scope.now.names) (words (shape_of ty.now)))) }
+    ensures legal { OnOk result ((f : Fault) → IsBrokenType ty.now f → ⊥) }
+    ensures refused { IfErr result (Refused (IsWrongType (env_of scope.now.names) ty.now)) }
 {
     let reading = read(alloc, types, scope, ty)?;
     let ty = type_of(types, reading)?;
     Ok(ty)
 }
 
-/// A field of a record.
-fn resolve_field(
-    alloc: Global,
-    types: &mut Entries,
-    scope: &Scope,
-    field: &tree::Field<'_>,
-) -> ParseResult<Field>
-    ensures ty { IfOk result (λ r. IsResolved types.old types.new (env_of scope.now.names) (shape_of field.now.ty) r.ty) }
-    ensures member { IfOk result (λ r. field_member r ≡ written_member field.now) }
-    ensures refused { IfErr result (Refused (IsUnknown (env_of scope.now.names) (words (shape_of field.now.ty)))) }
+/// The kind that this is under a name by itself.
+pub(crate) fn named_kind(reading: Reading) -> TypeDefKind
+    ensures { result ≡ the_named_kind reading }
 {
-    let ty = resolve_type(alloc, types, scope, &field.ty)?;
-    Ok(Field {
-        name: Text::from_str(alloc, field.name.name)?,
-        ty,
-        docs: Docs::default(),
-        span: field.name.span,
-    })
-}
-
-/// The fields of a record.
-fn resolve_fields(
-    alloc: Global,
-    types: &mut Entries,
-    scope: &Scope,
-    fields: &[tree::Field<'_>],
-) -> ParseResult<Row<Field>>
-    ensures types { IfOk result (λ r. (s : Address) → AreResolved types.old types.new s (env_of scope.now.names)
-        (shapes_meetings s (field_shapes fields.now)) (exprs_of s (field_shapes fields.now)) (map (λ f. f.ty) r)) }
-    ensures members { IfOk result (λ r. map field_member r ≡ map written_member fields.now) }
-    ensures refused { IfErr result (Refused (IsUnknown (env_of scope.now.names) (all_words (field_shapes fields.now)))) }
-{
-    let mut resolved = Vec::with_capacity(alloc, fields.len())?;
-    for field in fields {
-        let field = resolve_field(alloc, types, scope, field)?;
-        resolved.push(field)?;
-    }
-    Ok(Row::from(resolved))
-}
-
-/// The kind of a record.
-fn resolve_record(
-    alloc: Global,
-    types: &mut Entries,
-    scope: &Scope,
-    span: Span,
-    fields: &[tree::Field<'_>],
-) -> ParseResult<TypeDefKind>
-    ensures parts { IfOk result (λ r. (s : Address) → AreResolved types.old types.new s (env_of scope.now.names)
-        (shapes_meetings s (field_shapes fields.now)) (exprs_of s (field_shapes fields.now)) (kind_of r).parts) }
-    ensures form { IfOk result (λ r. (kind_of r).form ≡ RecordForm (map written_member fields.now)) }
-    ensures legal { OnOk result ((f : Fault) → IsBrokenRecord fields.now span f → ⊥) }
-    ensures refused { IfErr result (Refused (λ f. IsBrokenRecord fields.now span f ⊎ IsUnknown (env_of scope.now.names) (all_words (field_shapes fields.now)) f)) }
-{
-    check_record(alloc, span, fields)?;
-    let fields = resolve_fields(alloc, types, scope, fields)?;
-    Ok(TypeDefKind::Record(Record { fields }))
-}
-
-/// The kind of a definition.
-///
-/// A refusal is E15, a broken rule of records, or want of memory.
-pub fn resolve_body(
-    alloc: Global,
-    types: &mut Entries,
-    scope: &Scope,
-    body: &tree::TypeBody<'_>,
-) -> ParseResult<TypeDefKind>
-    ensures parts { IfOk result (λ r. (s : Address) → AreResolved types.old types.new s (env_of scope.now.names)
-        (shapes_meetings s (body_of body.now).parts) (exprs_of s (body_of body.now).parts) (kind_of r).parts) }
-    ensures form { IfOk result (λ r. (kind_of r).form ≡ (body_of body.now).form) }
-    ensures legal { OnOk result ((f : Fault) → IsBrokenBody body.now f → ⊥) }
-    ensures refused { IfErr result (Refused (IsWrongBody (env_of scope.now.names) body.now)) }
-{
-    match body {
-        tree::TypeBody::Record { span, fields } => {
-            let kind = resolve_record(alloc, types, scope, *span, fields)?;
-            Ok(kind)
-        }
-        tree::TypeBody::Plain(ty) => {
-            let reading = read(alloc, types, scope, ty)?;
-            Ok(named_kind(reading))
-        }
+    match reading {
+        Reading::Leaf(ty) => TypeDefKind::Type_(ty),
+        Reading::Form(kind, _) => kind,
     }
 }

@@ -3,9 +3,9 @@ use Rattle.std.proofs.Common.{◌≡◌, ◌&&◌, ℕ, nat_eq, Option, ap, refl
 use Rattle.std.specs.Bool.{Decides}
 use Rattle.std.specs.Option.{option_eq}
 use Rattle.std.proofs.lemmas.Bool.Decides.{Decides-and, Decides-eqb, Decides-like}
-use Rattle.wit_model.proofs.Same.{Decides-optional_type, Decides-row, Decides-type}
-use Rattle.wit_model.specs.contracts.types.TypePartialEq.TheImpl.{eq-value as type_test}
-use Rattle.wit_model.specs.declared.types.«Type».{«Type» as Ty}
+use Rattle.wit_types.proofs.Same.{Decides-optional_type, Decides-row, Decides-type}
+use Rattle.wit_types.specs.contracts.types.TypePartialEq.TheImpl.{eq-value as type_test}
+use Rattle.wit_types.specs.declared.types.«Type».{«Type» as Ty}
 use Rattle.wit_intern.specs.contracts.key.InternKeyPartialEq.TheImpl.{eq-value as key_test}
 use Rattle.wit_intern.specs.declared.key.InternKey.{InternKey}
 use Rattle.wit_intern.specs.declared.key.InternKey.TheVariants as key

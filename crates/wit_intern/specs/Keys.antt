@@ -1,8 +1,8 @@
 -- What an unnamed type is found by: its form and its parts.
 use Rattle.std.specs.Prelude.{◌≡◌, Option, Some, None}
-use Rattle.wit_model.specs.declared.types.TypeDefKind.{TypeDefKind}
-use Rattle.wit_model.specs.declared.types.TypeDefKind.TheVariants as kind
-use Rattle.wit_model.specs.declared.types.Handle.TheVariants as handle
+use Rattle.wit_types.specs.declared.types.TypeDefKind.{TypeDefKind}
+use Rattle.wit_types.specs.declared.types.TypeDefKind.TheVariants as kind
+use Rattle.wit_types.specs.declared.types.Handle.TheVariants as handle
 use Rattle.wit_intern.specs.declared.key.InternKey.{InternKey}
 use Rattle.wit_intern.specs.declared.key.InternKey.TheVariants as key
 

@@ -3,7 +3,7 @@ ghost use Rattle.std.specs.Prelude.{◌≡◌, IfOk};
 ghost use Rattle.wit_intern.specs.Keys.{key_of};
 
 use std::alloc::AllocError;
-use wit_model::{Handle, Result_, Tuple, Type, TypeDefKind, TypeId};
+use wit_types::{Handle, Result_, Tuple, Type, TypeDefKind, TypeId};
 use wit_values::Row;
 
 /// What an unnamed type is: its form and its parts.

@@ -3,7 +3,7 @@ ghost use Rattle.std.specs.Prelude.{◌≡◌, ◌↔◌, IsTrue};
 ghost use Rattle.wit_intern.specs.Keys.{KeysTell};
 
 use crate::key::InternKey;
-use wit_model::TypeDefKind;
+use wit_types::TypeDefKind;
 
 /// Kinds with one key are the same kind.
 pub fn keys_tell(a: &TypeDefKind, b: &TypeDefKind)

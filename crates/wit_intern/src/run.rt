@@ -5,7 +5,7 @@ ghost use Rattle.wit_intern.specs.FiniteMap.{after_step, replies, reply};
 use crate::key::InternKey;
 use crate::table::InternTable;
 use std::alloc::{AllocError, Global};
-use wit_model::TypeId;
+use wit_types::TypeId;
 
 /// What a table is asked.
 #[derive(Debug, Clone, PartialEq, Eq, Drop)]

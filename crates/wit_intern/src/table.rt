@@ -4,7 +4,7 @@ ghost use Rattle.wit_intern.specs.FiniteMap.{FiniteMap, set_at};
 
 use crate::key::InternKey;
 use std::alloc::AllocFailed;
-use wit_model::TypeId;
+use wit_types::TypeId;
 
 /// A table from keys to types, whose content is a finite map.
 pub trait InternTable {

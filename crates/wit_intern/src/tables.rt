@@ -8,7 +8,7 @@ use crate::table::InternTable;
 use std::alloc::AllocFailed;
 use std::collections::{BTreeMap, HashMap};
 use std::hash::Hash;
-use wit_model::TypeId;
+use wit_types::TypeId;
 
 fn set_hashed<K: Eq + Hash + Drop>(
     map: &mut HashMap<K, TypeId>,

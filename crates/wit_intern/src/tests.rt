@@ -3,7 +3,7 @@ use crate::{InternKey, InternReply, InternStep, InternTable, intern_run, laws};
 use std::alloc::{AllocError, Global};
 use std::collections::{BTreeMap, HashMap};
 use std::test::Fail;
-use wit_model::{Arena, Result_, Type, TypeDefKind, TypeId, TypePlace};
+use wit_types::{Arena, Result_, Type, TypeDefKind, TypeId, TypePlace};
 
 // The id of a type at a place.
 fn type_at(alloc: Global, place: usize) -> Result<TypeId, AllocError> {

@@ -5,17 +5,16 @@ use Rattle.std.specs.Cmp.Lexicographic.{pointwise}
 use Rattle.std.proofs.lemmas.List.{append-nil, map-append}
 use Rattle.std.proofs.lemmas.Option.{slice_get_within}
 use Rattle.indexmap.specs.IndexMap.{insert_entry}
-use Rattle.wit_tree.specs.declared.tree.UsePath.{UsePath}
 use Rattle.wit_tree.specs.declared.tree.UseName.{UseName}
 use Rattle.wit_tree.specs.declared.tree.TypeDef.{TypeDef as Definition}
 use Rattle.wit_model.specs.declared.interface.Interface.{Interface}
-use Rattle.wit_model.specs.declared.types.TypeDef.{TypeDef}
-use Rattle.wit_model.specs.declared.types.TypeDefKind.{TypeDefKind}
-use Rattle.wit_model.specs.declared.types.TypeDefKind.TheVariants.{Type_}
-use Rattle.wit_model.specs.declared.types.TypeOwner.{TypeOwner}
-use Rattle.wit_model.specs.declared.types.«Type».TheVariants as type
+use Rattle.wit_types.specs.declared.types.TypeDef.{TypeDef}
+use Rattle.wit_types.specs.declared.types.TypeDefKind.{TypeDefKind}
+use Rattle.wit_types.specs.declared.types.TypeDefKind.TheVariants.{Type_}
+use Rattle.wit_types.specs.declared.types.TypeOwner.{TypeOwner}
+use Rattle.wit_types.specs.declared.types.«Type».TheVariants as type
 use Rattle.wit_meaning.specs.Form.{kind_of}
-use Rattle.wit_meaning.specs.Source.{Address, InterfaceNamed, ScopeName, Used, Defined, path_id, local_name, name_span, name_form, name_body, name_scope}
+use Rattle.wit_meaning.specs.Source.{Address, InterfaceNamed, ScopeName, Used, Defined, local_name, name_span, name_form, name_body, name_scope}
 use Rattle.wit_meaning.specs.Expr.{Exprs, End, exprs_of, name_exprs}
 use Rattle.wit_meaning.specs.Meet.{Key, Def, Meeting, keys, IsMet, Meets, Decl, Decls, IsAmong, decl_of, IsMeeting, shapes_meetings, parts_meetings, name_meetings, all_name_meetings}
 use Rattle.wit_meaning.specs.Resolving.{all_met, Names, env_of, Env, AreNames, AreKnown, IsExtended, AreResolved, IsAdded, IsUsed, Defines, AreDistinct, AreNew, decls_of, local_names, named}
@@ -85,11 +84,10 @@ pub defines_one : (old mid new : List TypeDef) (is : List Interface) (o : TypeOw
 defines_one old mid new is o s names names' d kind p form a = defines_from old mid new is o s names names' (Defined d) kind (exprs_of s (body_of d.body).parts) p.same (λ decls ms m stand known. p.from decls ms m stand) form a
 
 -- a name that is used from an interface that was resolved
-pub defines_used : (old new : List TypeDef) (is : List Interface) (o : TypeOwner) (s : Address) (names names' : Names) (from : UsePath) (n : UseName) → IsUsed old new is o names names' from n → Defines old new is o s names names' (Used from n ∷ [])
-defines_used old new is o s names names' from n u =
-    let path = (path_id from).name.now in
+pub defines_used : (old new : List TypeDef) (is : List Interface) (o : TypeOwner) (s : Address) (names names' : Names) (from : Address) (n : UseName) → IsUsed old new is o names names' from n → Defines old new is o s names names' (Used from n ∷ [])
+defines_used old new is o s names names' (InterfaceNamed path) n u =
     let original = n.name.name.now in
-    defines_from old old new is o s names names' (Used from n) (Type_ (type.Id u.id)) End refl (λ decls ms m stand known. record {
+    defines_from old old new is o s names names' (Used (InterfaceNamed path) n) (Type_ (type.Id u.id)) End refl (λ decls ms m stand known. record {
       now = ms;
       meets = refl;
       meeting = m;

@@ -2,21 +2,20 @@
 use Rattle.std.proofs.Common.{◌≡◌, ℕ, zero, suc, true, List, [], ◌∷◌, map, Option, Some, refl, sym, ap, ◌∙◌, subst, inl, inr, arith}
 use Rattle.std.specs.Prelude.{slice_get}
 use Rattle.std.specs.Str.{bytes_eq}
-use Rattle.wit_tree.specs.declared.span.Span.{Span}
-use Rattle.wit_tree.specs.declared.tree.Interface.{Interface as WrittenInterface}
+use Rattle.wit_values.specs.declared.span.Span.{Span}
 use Rattle.wit_tree.specs.declared.tree.PackageFile.{PackageFile}
 use Rattle.wit_model.specs.declared.interface.Interface.{Interface}
-use Rattle.wit_model.specs.declared.types.«Type».{«Type» as Ty}
-use Rattle.wit_model.specs.declared.types.«Type».TheVariants as type
-use Rattle.wit_model.specs.declared.docs.Docs.{Docs}
-use Rattle.wit_model.specs.declared.stability.Stability.{Stability}
-use Rattle.wit_model.specs.declared.stability.Stability.TheVariants.{Unknown}
-use Rattle.wit_model.specs.declared.types.TypeDef.{TypeDef}
+use Rattle.wit_types.specs.declared.types.«Type».{«Type» as Ty}
+use Rattle.wit_types.specs.declared.types.«Type».TheVariants as type
+use Rattle.wit_types.specs.declared.docs.Docs.{Docs}
+use Rattle.wit_types.specs.declared.stability.Stability.{Stability}
+use Rattle.wit_types.specs.declared.stability.Stability.TheVariants.{Unknown}
+use Rattle.wit_types.specs.declared.types.TypeDef.{TypeDef}
 use Rattle.wit_meaning.specs.Form.{Form, kind_of}
 use Rattle.wit_meaning.specs.Node.{Primitive, Tree, Head, Owner, Leaf, Named, Unnamed, node_map}
 use Rattle.wit_meaning.specs.Shape.{Shape, Shapes, no_docs}
 use Rattle.wit_meaning.specs.Shape as shape
-use Rattle.wit_meaning.specs.Source.{Address, ScopeName, local_name, scope, owner, meaning, head, named_node, name_form, name_body, name_scope, name_span, placed, source_tree}
+use Rattle.wit_meaning.specs.Source.{Item, Address, ScopeName, local_name, scope, owner, meaning, head, named_node, name_form, name_body, name_scope, name_span, placed, source_tree}
 use Rattle.wit_meaning.specs.Expr.{expr_of, exprs_of, name_exprs, Exprs}
 use Rattle.wit_meaning.specs.Meet.{Key, Def, Whole, IsAt, AreAt, Decl, decl_of, IsKeyed, IsBare, primitive_type}
 use Rattle.wit_meaning.specs.Package.{package_tree, node_at, entry_head, entry_node, owner_of}
@@ -51,11 +50,11 @@ abbrev unnamed_of : (n : ℕ) → Form → List (Tree n) → Tree (suc n)
 unnamed_of n form parts = Unnamed form parts
 
 -- a scope and what is known of it
-pub record IsScope (files : List PackageFile) (ws : List WrittenInterface) (is : List Interface) (s : Address) : Type 0 where
+pub record IsScope (files : List PackageFile) (ws : List Item) (is : List Interface) (s : Address) : Type 0 where
   pub distinct : AreDistinct (scope files s)
   pub known : (k : ℕ) (x : ScopeName) → slice_get (scope files s) k ≡ Some x → owner_of is (owner_at ws s) ≡ owner s
 
-module _ (files : List PackageFile) (ws : List WrittenInterface) (ks : List Key) (es : List TypeDef) (is : List Interface) (m : IsKeyed (declarations files ws) ks es) (scopes : (s : Address) → IsScope files ws is s) where
+module _ (files : List PackageFile) (ws : List Item) (ks : List Key) (es : List TypeDef) (is : List Interface) (m : IsKeyed (declarations files ws) ks es) (scopes : (s : Address) → IsScope files ws is s) where
   abbrev Agree : ℕ → Type 0
   Agree n = (s : Address) (x : Shape) (ty : Ty) → IsAt ks (expr_of s x) ty → package_tree is es n ty ≡ source_tree files n (s, x)
 

@@ -5,17 +5,16 @@ use Rattle.std.specs.Option.{option_map}
 use Rattle.std.proofs.lemmas.Grind.{flat_map-append}
 use Rattle.std.proofs.lemmas.List.{append-nil, map-append}
 use Rattle.std.proofs.lemmas.Option.{slice_get_within, slice_get-map}
-use Rattle.wit_tree.specs.declared.tree.Interface.{Interface as Written}
 use Rattle.wit_tree.specs.declared.tree.PackageFile.{PackageFile}
 use Rattle.wit_model.specs.declared.interface.Interface.{Interface}
-use Rattle.wit_model.specs.declared.types.TypeDef.{TypeDef}
-use Rattle.wit_model.specs.declared.types.TypeOwner.{TypeOwner}
-use Rattle.wit_model.specs.declared.types.TypeOwner.TheVariants as owner
+use Rattle.wit_types.specs.declared.types.TypeDef.{TypeDef}
+use Rattle.wit_types.specs.declared.types.TypeOwner.{TypeOwner}
+use Rattle.wit_types.specs.declared.types.TypeOwner.TheVariants as owner
 use Rattle.wit_order.specs.Table.{IsOrder}
-use Rattle.wit_meaning.specs.Source.{Address, InterfaceNamed, ScopeName, interface_name, scope_names, local_name}
+use Rattle.wit_meaning.specs.Source.{Item, Address, InterfaceNamed, ScopeName, interface_name, scope_names, local_name}
 use Rattle.wit_meaning.specs.Scope.{rows_of, in_turn}
 use Rattle.wit_meaning.specs.Meet.{Def, Meeting, keys, Meets, Decl, IsAmong, decl_of, all_name_meetings}
-use Rattle.wit_meaning.specs.Whole.{Ordered, interface_of, ordered_names, address, meetings, owner_at, declarations}
+use Rattle.wit_meaning.specs.Whole.{Ordered, item_of, ordered_names, address, meetings, owner_at, declarations}
 use Rattle.wit_meaning.specs.Resolving.{env_of, AreNames, AreKnown, AreNew, decls_of}
 use Rattle.wit_meaning.specs.Resolved.{AddsInterface, AddsAll}
 use Rattle.wit_meaning.proofs.Lists.{at_front, at_seam, at_either, at_within, map_at}
@@ -26,7 +25,7 @@ use Rattle.wit_meaning.proofs.Turns.{in_turn_among, in_turn_distinct}
 use Rattle.wit_meaning.proofs.Standing.{AreItems, IsDone}
 use Rattle.wit_meaning.proofs.Interfaces.{scope_of, owner_of_scope}
 
-pub done_none : (files : List PackageFile) (ws : List Written) → IsDone files ws [] [] []
+pub done_none : (files : List PackageFile) (ws : List Item) → IsDone files ws [] [] []
 done_none files ws = record {
   met = [];
   meets = refl;
@@ -41,9 +40,9 @@ done_none files ws = record {
   before = λ j s name at. absurd (let f : ⊥ = cc in f);
 }
 
-pub meetings-append : (os : List Ordered) (o : Ordered) → meetings (os ++ o ∷ []) ≡ meetings os ++ all_name_meetings (address o.interface) (ordered_names o)
+pub meetings-append : (os : List Ordered) (o : Ordered) → meetings (os ++ o ∷ []) ≡ meetings os ++ all_name_meetings (address o.item) (ordered_names o)
 meetings-append os o =
-    let of = λ (o : Ordered). all_name_meetings (address o.interface) (ordered_names o) in
+    let of = λ (o : Ordered). all_name_meetings (address o.item) (ordered_names o) in
     flat_map-append of os (o ∷ []) ∙ ap (λ ms. meetings os ++ ms) (append-nil (of o))
 
 -- the names in turn are names of the scope
@@ -53,27 +52,27 @@ turned_among o s xs order least d h =
     let p = in_turn_among xs order least h.0 x.0 x.1 in
     (p.0, slice_get-map (decl_of o s) xs p.0 ∙ ap (option_map (decl_of o s)) p.1 ∙ ap Some x.2)
 
-address_name : (v w : Written) → address v ≡ address w → interface_name v ≡ interface_name w
-address_name v w h = cc
+same_address : (v w : Item) → address v ≡ address w → interface_name v ≡ interface_name w
+same_address v w h = cc
 
-name_of_address : (name : List ℕ) (w : Written) → InterfaceNamed name ≡ address w → name ≡ interface_name w
+name_of_address : (name : List ℕ) (w : Item) → InterfaceNamed name ≡ address w → name ≡ interface_name w
 name_of_address name w h = cc
 
-module _ (files : List PackageFile) (ws : List Written) (items : AreItems files ws) (os : List Ordered) (es : List TypeDef) (is : List Interface) (d : IsDone files ws os es is) where
+module _ (files : List PackageFile) (ws : List Item) (items : AreItems files ws) (os : List Ordered) (es : List TypeDef) (is : List Interface) (d : IsDone files ws os es is) where
   -- the interface that stands at the place of a resolved one
-  pub ordered_of : (t : ℕ) (i : Interface) (name : List ℕ) → slice_get is t ≡ Some i → i.name ≡ Some name → (o : Ordered) × (slice_get os t ≡ Some o) × (interface_name o.interface ≡ name)
+  pub ordered_of : (t : ℕ) (i : Interface) (name : List ℕ) → slice_get is t ≡ Some i → i.name ≡ Some name → (o : Ordered) × (slice_get os t ≡ Some o) × (interface_name o.item ≡ name)
   ordered_of t i name there called =
       let lt = slice_get_within is t i there in
       let count = d.count in
       let o = at_within os t (omega arith) in
-      let both : Some (interface_name o.0.interface) ≡ Some name = sym (d.says t o.0 i o.1 there).name ∙ called in
+      let both : Some (interface_name o.0.item) ≡ Some name = sym (d.says t o.0 i o.1 there).name ∙ called in
       (o.0, o.1, cc)
 
   -- the names of what is done stand for their places, and those of the next one are not met
-  module _ (w : Written) (next : slice_get ws (length os) ≡ Some w) where
-    earlier : (t : ℕ) (o : Ordered) → slice_get os t ≡ Some o → interface_name o.interface ≡ interface_name w → ⊥
+  module _ (w : Item) (next : slice_get ws (length os) ≡ Some w) where
+    earlier : (t : ℕ) (o : Ordered) → slice_get os t ≡ Some o → interface_name o.item ≡ interface_name w → ⊥
     earlier t o at same =
-        let place = items.unique t (length os) o.interface w (d.front t o at) next same in
+        let place = items.unique t (length os) o.item w (d.front t o at) next same in
         let lt = slice_get_within os t o at in
         omega arith
 
@@ -88,7 +87,7 @@ module _ (files : List PackageFile) (ws : List Written) (items : AreItems files 
     }
 
     unmet : (j : ℕ) (name : List ℕ) → slice_get (keys d.met) j ≡ Some (Def (address w) name) → ⊥
-    unmet j name at = let it = d.before j (address w) name at in earlier it.place it.ordered it.at (address_name it.ordered.interface w it.scope)
+    unmet j name at = let it = d.before j (address w) name at in earlier it.place it.ordered it.at (same_address it.ordered.item w it.scope)
 
     pub anew : (xs : List ScopeName) → AreNew (keys d.met) (address w) xs
     anew xs = record { new = λ i x at was. unmet was.0 (local_name x) was.1 }
@@ -100,12 +99,12 @@ module _ (files : List PackageFile) (ws : List Written) (items : AreItems files 
     }
 
 -- one interface more
-pub done_more : (files : List PackageFile) (ws : List Written) → AreItems files ws → (os : List Ordered) (es es' : List TypeDef) (is is' : List Interface) (w : Written) → slice_get ws (length os) ≡ Some w → IsDone files ws os es is → (a : AddsInterface es es' is is' w) → IsDone files ws (os ++ record { interface = w; order = a.order } ∷ []) es' is'
+pub done_more : (files : List PackageFile) (ws : List Item) → AreItems files ws → (os : List Ordered) (es es' : List TypeDef) (is is' : List Interface) (w : Item) → slice_get ws (length os) ≡ Some w → IsDone files ws os es is → (a : AddsInterface es es' is is' w) → IsDone files ws (os ++ record { item = w; order = a.order } ∷ []) es' is'
 done_more files ws items os es es' is is' w next d a =
     let n = length os in
     let s = address w in
     let xs = scope_names w in
-    let o : Ordered = record { interface = w; order = a.order } in
+    let o : Ordered = record { item = w; order = a.order } in
     let turned = in_turn xs a.order in
     let count = d.count in
     let own : owner_at ws s ≡ owner.Interface (length is) = owner_of_scope files ws items n w next ∙ ap owner.Interface (sym count) in
@@ -156,12 +155,12 @@ done_more files ws items os es es' is is' w next d a =
       stand = λ t p i pat there. elim (at_either os o t p pat) [
         | inl oldp ↦ elim (either t i there) [
           | inl oldi ↦ record {
-            stands = λ name id found. key_grown grown id (Def (address p.interface) name) ((d.stand t p i oldp oldi).stands name id found);
-            has = λ j name jat. elim (meets_from ks d.met x.now x.meets j (Def (address p.interface) name) jat) [
+            stands = λ name id found. key_grown grown id (Def (address p.item) name) ((d.stand t p i oldp oldi).stands name id found);
+            has = λ j name jat. elim (meets_from ks d.met x.now x.meets j (Def (address p.item) name) jat) [
               | inl was ↦ (d.stand t p i oldp oldi).has was.0 name was.1
               | inr new ↦ absurd (
-                  let same = address_name p.interface w (name_met_in s turned (address p.interface) name new).0 in
-                  let place = items.unique t n p.interface w (d.front t p oldp) next same in
+                  let same = same_address p.item w (name_met_in s turned (address p.item) name new).0 in
+                  let place = items.unique t n p.item w (d.front t p oldp) next same in
                   let lt = slice_get_within os t p oldp in
                   let f : ⊥ = omega arith in
                   f)
@@ -185,17 +184,17 @@ done_more files ws items os es es' is is' w next d a =
     }
 
 -- all that is left
-pub done_all : (files : List PackageFile) (ws : List Written) → AreItems files ws → (os : List Ordered) (es new : List TypeDef) (is is' : List Interface) (vs : List Written) → ((k : ℕ) (w : Written) → slice_get vs k ≡ Some w → slice_get ws (length os + k) ≡ Some w) → IsDone files ws os es is → AddsAll es new is is' vs → (all : List Ordered) × (map interface_of all ≡ map interface_of os ++ vs) × IsDone files ws all new is'
-done_all files ws items os es new is is' [] there d a = (os, sym (append-nil (map interface_of os)), subst (λ (x : List TypeDef). IsDone files ws os x is') (sym a.0) (subst (λ (x : List Interface). IsDone files ws os es x) (sym a.1) d))
+pub done_all : (files : List PackageFile) (ws : List Item) → AreItems files ws → (os : List Ordered) (es new : List TypeDef) (is is' : List Interface) (vs : List Item) → ((k : ℕ) (w : Item) → slice_get vs k ≡ Some w → slice_get ws (length os + k) ≡ Some w) → IsDone files ws os es is → AddsAll es new is is' vs → (all : List Ordered) × (map item_of all ≡ map item_of os ++ vs) × IsDone files ws all new is'
+done_all files ws items os es new is is' [] there d a = (os, sym (append-nil (map item_of os)), subst (λ (x : List TypeDef). IsDone files ws os x is') (sym a.0) (subst (λ (x : List Interface). IsDone files ws os es x) (sym a.1) d))
 done_all files ws items os es new is is' (w ∷ vs) there d a =
-    let o : Ordered = record { interface = w; order = a.2.order } in
+    let o : Ordered = record { item = w; order = a.2.order } in
     let at : slice_get ws (length os) ≡ Some w = subst (λ (m : ℕ). slice_get ws m ≡ Some w) (add-zero (length os)) (there 0 w refl) in
     let d' = done_more files ws items os es a.0 is a.1 w at d a.2 in
     let longer : length (os ++ o ∷ []) ≡ length os + 1 = length-append os (o ∷ []) in
-    let rest = λ (k : ℕ) (v : Written) (h : slice_get vs k ≡ Some v). subst (λ (m : ℕ). slice_get ws m ≡ Some v) (let same : length os + suc k ≡ length (os ++ o ∷ []) + k = omega arith in same) (there (suc k) v h) in
+    let rest = λ (k : ℕ) (v : Item) (h : slice_get vs k ≡ Some v). subst (λ (m : ℕ). slice_get ws m ≡ Some v) (let same : length os + suc k ≡ length (os ++ o ∷ []) + k = omega arith in same) (there (suc k) v h) in
     let it = done_all files ws items (os ++ o ∷ []) a.0 new a.1 is' vs rest d' a.3 in
-    (it.0, it.1 ∙ ap (λ (l : List Written). l ++ vs) (map-append interface_of os (o ∷ [])) ∙ append_assoc (map interface_of os) (w ∷ []) vs, it.2)
+    (it.0, it.1 ∙ ap (λ (l : List Item). l ++ vs) (map-append item_of os (o ∷ [])) ∙ append_assoc (map item_of os) (w ∷ []) vs, it.2)
 
 -- the first interfaces, from nothing
-pub done_front : (files : List PackageFile) (ws : List Written) → AreItems files ws → (es : List TypeDef) (is : List Interface) (vs : List Written) → ((k : ℕ) (w : Written) → slice_get vs k ≡ Some w → slice_get ws k ≡ Some w) → AddsAll [] es [] is vs → (os : List Ordered) × (map interface_of os ≡ vs) × IsDone files ws os es is
+pub done_front : (files : List PackageFile) (ws : List Item) → AreItems files ws → (es : List TypeDef) (is : List Interface) (vs : List Item) → ((k : ℕ) (w : Item) → slice_get vs k ≡ Some w → slice_get ws k ≡ Some w) → AddsAll [] es [] is vs → (os : List Ordered) × (map item_of os ≡ vs) × IsDone files ws os es is
 done_front files ws items es is vs there a = done_all files ws items [] [] es [] is vs (λ k w h. subst (λ (m : ℕ). slice_get ws m ≡ Some w) (sym (zero-add k)) (there k w h)) (done_none files ws) a

@@ -4,7 +4,7 @@ use Rattle.std.specs.Prelude.{codes, Vec, Box}
 use Rattle.std.specs.declared.alloc.Global.{Global}
 use denote.RawPtr.{Ptr}
 use Rattle.wit_names.specs.Label.{is_label}
-use Rattle.wit_tree.specs.declared.span.Span.{Span}
+use Rattle.wit_values.specs.declared.span.Span.{Span}
 use Rattle.wit_tree.specs.declared.tree.Id.{Id}
 use Rattle.wit_tree.specs.declared.tree.Field.{Field as WrittenField}
 use Rattle.wit_tree.specs.declared.tree.«Type».{«Type» as Written}
@@ -16,30 +16,31 @@ use Rattle.wit_tree.specs.declared.tree.UseName.{UseName}
 use Rattle.wit_tree.specs.declared.tree.Use.{Use}
 use Rattle.wit_tree.specs.declared.tree.InterfaceItem.TheVariants.{TypeDef as TypeItem, Use as UseItem}
 use Rattle.wit_tree.specs.declared.tree.Interface.{Interface as WrittenInterface}
-use Rattle.wit_tree.specs.declared.tree.AstItem.TheVariants.{Interface as InterfaceItem}
+use Rattle.wit_tree.specs.declared.tree.AstItem.TheVariants.{Interface as InterfaceItem, Use as ToplevelItem}
+use Rattle.wit_tree.specs.declared.tree.ToplevelUse.{ToplevelUse}
 use Rattle.wit_tree.specs.declared.tree.PackageName.{PackageName as Header}
 use Rattle.wit_tree.specs.declared.tree.PackageFile.{PackageFile}
-use Rattle.wit_model.specs.declared.stability.Stability.TheVariants.{Unknown}
-use Rattle.wit_model.specs.declared.types.Field.{Field}
-use Rattle.wit_model.specs.declared.types.«Type».{«Type» as Ty}
-use Rattle.wit_model.specs.declared.types.«Type».TheVariants as type
-use Rattle.wit_model.specs.declared.types.TypeDef.{TypeDef}
-use Rattle.wit_model.specs.declared.types.TypeDefKind.TheVariants as kind
-use Rattle.wit_model.specs.declared.types.TypeOwner.TheVariants as owner
+use Rattle.wit_types.specs.declared.stability.Stability.TheVariants.{Unknown}
+use Rattle.wit_types.specs.declared.types.Field.{Field}
+use Rattle.wit_types.specs.declared.types.«Type».{«Type» as Ty}
+use Rattle.wit_types.specs.declared.types.«Type».TheVariants as type
+use Rattle.wit_types.specs.declared.types.TypeDef.{TypeDef}
+use Rattle.wit_types.specs.declared.types.TypeDefKind.TheVariants as kind
+use Rattle.wit_types.specs.declared.types.TypeOwner.TheVariants as owner
 use Rattle.wit_model.specs.declared.interface.Interface.{Interface}
 use Rattle.wit_order.specs.Table.{Row, Leads, IsMissing, IsCyclic, IsOrder}
 use Rattle.wit_order.specs.Order.{ReachesCycle}
 use Rattle.wit_meaning.specs.Form.{Member, RecordForm, ListForm, AliasForm, kind_of}
 use Rattle.wit_meaning.specs.Node.{OfInterface, Head, Leaf, Named, Unnamed, Tree}
 use Rattle.wit_meaning.specs.Node as node
-use Rattle.wit_meaning.specs.Source.{InterfaceNamed, ScopeName, Used, Defined, scope_names, source_tree}
+use Rattle.wit_meaning.specs.Source.{path_id, top_names, Item, interfaces, InterfaceNamed, ScopeName, Used, Defined, scope_names, source_tree}
 use Rattle.wit_meaning.specs.Expr.{Prim, one}
 use Rattle.wit_meaning.specs.Meet.{Def, Whole, Meeting, IsMet, Meets}
 use Rattle.wit_meaning.specs.Scope.{rows_of, item_rows, in_turn}
 use Rattle.wit_tree.specs.Refusal.{Missing, Cyclic}
 use Rattle.wit_meaning.specs.Fault.{fault}
 use Rattle.wit_meaning.specs.Shape.{Word, no_docs}
-use Rattle.wit_meaning.specs.Broken.{folded, last_header, IsMissingType, IsCyclicType, IsDuplicateField, IsBroken, Headerless}
+use Rattle.wit_meaning.specs.Broken.{folded, last_header, IsMissingType, IsCyclicType, IsDuplicateName, IsDuplicateTopName, IsMissingOriginal, IsBroken, Headerless}
 use Rattle.wit_meaning.specs.Package.{package_tree}
 use Rattle.wit_meaning.specs.Whole.{meetings}
 use Rattle.wit_meaning.proofs.SmallOrders.{two, three, two_order, three_order}
@@ -80,8 +81,14 @@ module _ (ptr : Ptr) (alloc : Global) where
   abbrev i : WrittenInterface
   i = record { name = id (codes "i") (at 27 28) refl; items = vec (TypeItem p ∷ []) (lit< tt) }
 
+  abbrev file : PackageFile
+  file = record { package_id = Some header; decl_list = record { items = vec (InterfaceItem i ∷ []) (lit< tt) } }
+
   abbrev files : List PackageFile
-  files = record { package_id = Some header; decl_list = record { items = vec (InterfaceItem i ∷ []) (lit< tt) } } ∷ []
+  files = file ∷ []
+
+  abbrev item : Item
+  item = record { top = top_names file; interface = i }
 
   abbrev members : List Member
   members = record { name = codes "a"; docs = no_docs; span = at 42 43 } ∷ record { name = codes "b"; docs = no_docs; span = at 55 56 } ∷ []
@@ -105,7 +112,7 @@ module _ (ptr : Ptr) (alloc : Global) where
   p_met = record { key = Def (InterfaceNamed (codes "i")) (codes "p"); span = at 38 39 }
 
   -- both lists are met before p, each at its own word
-  met : meetings (record { interface = i; order = 0 ∷ [] } ∷ []) ≡ (list_met (at 45 49) ∷ list_met (at 58 62) ∷ p_met ∷ [])
+  met : meetings (record { item = item; order = 0 ∷ [] } ∷ []) ≡ (list_met (at 45 49) ∷ list_met (at 58 62) ∷ p_met ∷ [])
   met = refl
 
   list_is_new : IsMet [] (Whole ListForm (one (Prim node.U8))) → ⊥
@@ -120,7 +127,7 @@ module _ (ptr : Ptr) (alloc : Global) where
   met_once = inr (list_is_new, inl ((0, refl), inr (p_is_new, refl)))
 
   -- no name is written in p
-  rows_of_p : rows_of (scope_names i) ≡ (record { name = codes "p"; needs = [] } ∷ [])
+  rows_of_p : rows_of (scope_names item) ≡ (record { name = codes "p"; needs = [] } ∷ [])
   rows_of_p = refl
 
   -- the arenas: one list, and p over it
@@ -198,8 +205,8 @@ module _ (ptr : Ptr) (alloc : Global) where
   abbrev twice : List WrittenField
   twice = record { name = id (codes "a") (at 9 10) refl; ty = written.U8 (at 12 14) } ∷ record { name = id (codes "A") (at 16 17) refl; ty = written.U8 (at 19 21) } ∷ []
 
-  twice_refused : IsDuplicateField twice (fault 25 (at 16 17))
-  twice_refused = record { later = record { name = id (codes "A") (at 16 17) refl; ty = written.U8 (at 19 21) }; repeated = record { first = 0; second = 1; earlier = record { name = id (codes "a") (at 9 10) refl; ty = written.U8 (at 12 14) }; before = lit< tt; at_first = refl; at_second = refl; same = refl }; is = refl }
+  twice_refused : IsDuplicateName (map (λ x. x.name) twice) (fault 25 (at 16 17))
+  twice_refused = record { later = id (codes "A") (at 16 17) refl; repeated = record { first = 0; second = 1; earlier = id (codes "a") (at 9 10) refl; before = lit< tt; at_first = refl; at_second = refl; same = refl }; is = refl }
 
   -- no file has a header
   none_refused : IsBroken [] (fault 4 (at 0 0))
@@ -248,8 +255,17 @@ module _ (ptr : Ptr) (alloc : Global) where
     abbrev x : WrittenInterface
     x = record { name = id (codes "x") (at 79 80) refl; items = vec (TypeItem t ∷ []) (lit< tt) }
 
+    abbrev used_file : PackageFile
+    used_file = record { package_id = Some header; decl_list = record { items = vec (InterfaceItem user ∷ InterfaceItem x ∷ []) (lit< tt) } }
+
     abbrev used_files : List PackageFile
-    used_files = record { package_id = Some header; decl_list = record { items = vec (InterfaceItem user ∷ InterfaceItem x ∷ []) (lit< tt) } } ∷ []
+    used_files = used_file ∷ []
+
+    abbrev user_item : Item
+    user_item = record { top = top_names used_file; interface = user }
+
+    abbrev x_item : Item
+    x_item = record { top = top_names used_file; interface = x }
 
     -- the path leads to the declaration of x
     rows_of_items : item_rows used_files ≡ two (codes "i") (codes "x") x.name
@@ -259,14 +275,14 @@ module _ (ptr : Ptr) (alloc : Global) where
     order_of_items : IsOrder (item_rows used_files) (1 ∷ 0 ∷ [])
     order_of_items = two_order (codes "i") (codes "x") x.name refl
 
-    rows_of_user : rows_of (scope_names user) ≡ three (codes "a") (codes "b") (codes "t") of_a
+    rows_of_user : rows_of (scope_names user_item) ≡ three (codes "a") (codes "b") (codes "t") of_a
     rows_of_user = refl
 
-    order_of_user : IsOrder (rows_of (scope_names user)) (1 ∷ 2 ∷ 0 ∷ [])
+    order_of_user : IsOrder (rows_of (scope_names user_item)) (1 ∷ 2 ∷ 0 ∷ [])
     order_of_user = three_order (codes "a") (codes "b") (codes "t") of_a refl
 
     -- the used name comes first, and then the definitions in that order
-    turns_of_user : in_turn (scope_names user) (1 ∷ 2 ∷ 0 ∷ []) ≡ (Used (path.Id path_x) used_t ∷ Defined b ∷ Defined a ∷ [])
+    turns_of_user : in_turn (scope_names user_item) (1 ∷ 2 ∷ 0 ∷ []) ≡ (Used (InterfaceNamed (codes "x")) used_t ∷ Defined b ∷ Defined a ∷ [])
     turns_of_user = refl
 
     abbrev t_head : List ℕ → Span → Head
@@ -280,7 +296,7 @@ module _ (ptr : Ptr) (alloc : Global) where
     name_met interface name span = record { key = Def (InterfaceNamed interface) name; span = span }
 
     -- x's t is met before i's, which is met before b and a
-    met_in_turn : meetings (record { interface = x; order = 0 ∷ [] } ∷ record { interface = user; order = 1 ∷ 2 ∷ 0 ∷ [] } ∷ [])
+    met_in_turn : meetings (record { item = x_item; order = 0 ∷ [] } ∷ record { item = user_item; order = 1 ∷ 2 ∷ 0 ∷ [] } ∷ [])
         ≡ (name_met (codes "x") (codes "t") (at 88 89) ∷ name_met (codes "i") (codes "t") (at 63 64) ∷ name_met (codes "i") (codes "b") (at 48 49) ∷ name_met (codes "i") (codes "a") (at 36 37) ∷ [])
     met_in_turn = refl
 
@@ -299,3 +315,50 @@ module _ (ptr : Ptr) (alloc : Global) where
     -- a is another word for i's t, down to the last level
     tree_of_a : package_tree used_interfaces used_types 4 (type.Id 3) ≡ source_tree used_files 4 (InterfaceNamed (codes "i"), Word a.name)
     tree_of_a = refl
+
+  -- package foo:foo; interface x { type t = u8; } interface z { type t = u16; }
+  -- use z as x; interface i { use x.{t}; }
+  module _ where
+    abbrev x_here : WrittenInterface
+    x_here = record { name = id (codes "x") (at 27 28) refl; items = vec (TypeItem (record { name = id (codes "t") (at 36 37) refl; body = Plain (written.U8 (at 40 42)) }) ∷ []) (lit< tt) }
+
+    abbrev z : WrittenInterface
+    z = record { name = id (codes "z") (at 56 57) refl; items = vec (TypeItem (record { name = id (codes "t") (at 65 66) refl; body = Plain (written.U16 (at 69 72)) }) ∷ []) (lit< tt) }
+
+    abbrev alias : ToplevelUse
+    alias = record { span = at 77 80; item = path.Id (id (codes "z") (at 81 82) refl); as_ = Some (id (codes "x") (at 86 87) refl) }
+
+    abbrev t_of_x : UseName
+    t_of_x = record { name = id (codes "t") (at 108 109) refl; as_ = None }
+
+    abbrev i_of_x : WrittenInterface
+    i_of_x = record { name = id (codes "i") (at 99 100) refl; items = vec (UseItem (record { from = path.Id (id (codes "x") (at 105 106) refl); names = vec (t_of_x ∷ []) (lit< tt) }) ∷ []) (lit< tt) }
+
+    abbrev first_file : PackageFile
+    first_file = record { package_id = Some header; decl_list = record { items = vec (InterfaceItem x_here ∷ InterfaceItem z ∷ []) (lit< tt) } }
+
+    abbrev second_file : PackageFile
+    second_file = record { package_id = None; decl_list = record { items = vec (ToplevelItem alias ∷ InterfaceItem i_of_x ∷ []) (lit< tt) } }
+
+    abbrev two_files : List PackageFile
+    two_files = first_file ∷ second_file ∷ []
+
+    -- the path of i leads to z, by the path of the other name
+    edges_of_i : item_rows two_files ≡ (record { name = codes "x"; needs = [] } ∷ record { name = codes "z"; needs = [] } ∷ record { name = codes "i"; needs = path_id alias.item ∷ [] } ∷ [])
+    edges_of_i = refl
+
+    -- so i's t is another word for z's t
+    tree_of_alias : source_tree two_files 3 (InterfaceNamed (codes "i"), Word t_of_x.name)
+        ≡ Named (record { owner = OfInterface (codes "i"); name = codes "t"; span = at 108 109; docs = no_docs; stability = Unknown; external_id = None }) AliasForm (Named (record { owner = OfInterface (codes "z"); name = codes "t"; span = at 65 66; docs = no_docs; stability = Unknown; external_id = None }) AliasForm (Leaf node.U16 ∷ []) ∷ [])
+    tree_of_alias = refl
+
+    -- use z as x; interface x {}
+    twice_on_top : IsDuplicateTopName (record { id = id (codes "x") (at 9 10) refl; original = id (codes "z") (at 4 5) refl } ∷ record { id = id (codes "x") (at 22 23) refl; original = id (codes "x") (at 22 23) refl } ∷ []) (fault 6 (at 22 23))
+    twice_on_top = record { later = record { id = id (codes "x") (at 22 23) refl; original = id (codes "x") (at 22 23) refl }; repeated = record { first = 0; second = 1; earlier = record { id = id (codes "x") (at 9 10) refl; original = id (codes "z") (at 4 5) refl }; before = lit< tt; at_first = refl; at_second = refl; same = refl }; is = refl }
+
+    -- use x as y; use y as z;
+    abbrev of_an_alias : ToplevelUse
+    of_an_alias = record { span = at 12 15; item = path.Id (id (codes "y") (at 16 17) refl); as_ = Some (id (codes "z") (at 21 22) refl) }
+
+    original_missing : IsMissingOriginal (interfaces two_files) (ToplevelItem alias ∷ ToplevelItem of_an_alias ∷ []) (record { rule = 7; span = at 16 17; name = Some (codes "y"); sort = Missing (codes "interface or world") })
+    original_missing = record { u = of_an_alias; among = (1, lit< tt, refl); missing = refl; is = refl }

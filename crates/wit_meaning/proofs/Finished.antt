@@ -4,22 +4,21 @@ use Rattle.std.specs.Prelude.{slice_get, slice_index, map}
 use Rattle.std.specs.Option.{option_map}
 use Rattle.std.specs.Str.{bytes_eq}
 use Rattle.std.proofs.lemmas.Option.{slice_get-get_or, slice_get-map, slice_get_within, get_or_from_slice_get}
-use Rattle.wit_tree.specs.declared.tree.UsePath.{UsePath}
 use Rattle.wit_tree.specs.declared.tree.UseName.{UseName}
-use Rattle.wit_tree.specs.declared.tree.Interface.{Interface as Written}
+use Rattle.wit_tree.specs.declared.tree.AstItem.TheVariants.{Use as ToplevelItem}
 use Rattle.wit_tree.specs.declared.tree.PackageFile.{PackageFile}
 use Rattle.wit_tree.specs.declared.tree.PackageName.{PackageName as Header}
 use Rattle.wit_model.specs.declared.interface.Interface.{Interface}
 use Rattle.wit_order.specs.Table.{Row, target, IsEdge, Leads, IsOrder}
 use Rattle.wit_order.proofs.Tables.{slice_get-take}
 use Rattle.wit_meaning.specs.Fault.{Fault, item_word}
-use Rattle.wit_meaning.specs.Source.{ScopeName, Used, path_id, interfaces, interface_name, interface_named, scope_names, local_name, meaning}
-use Rattle.wit_meaning.specs.Scope.{rows_of, in_order, paths, item_edge, item_row, item_rows}
-use Rattle.wit_meaning.specs.Broken.{IsMissingName, IsBroken, Headerless, DuplicateItem, MissingItem, CyclicItem, MissingName, Scope, IsLegal, last_header}
+use Rattle.wit_meaning.specs.Source.{Item, Address, InterfaceNamed, item_edge, ScopeName, Used, interfaces, interface_name, interface_named, interface_at, top_names, top_text, scope_names, local_name, meaning}
+use Rattle.wit_meaning.specs.Scope.{rows_of, in_order, paths, item_row, item_rows}
+use Rattle.wit_meaning.specs.Broken.{IsMissingName, IsBroken, Headerless, DuplicateItem, DuplicateTopName, MissingItem, CyclicItem, MissingOriginal, MissingName, Scope, IsLegal, last_header}
 use Rattle.wit_meaning.specs.Repeats.{AllDiffer}
-use Rattle.wit_meaning.specs.Whole.{Ordered, interface_of, ordered_names}
-use Rattle.wit_meaning.specs.Resolving.{env_of, local_names, Unresolved, Unstated, WrongName, WrongItself}
-use Rattle.wit_meaning.specs.Resolved.{AreLegalScopes, IsWrongAmong}
+use Rattle.wit_meaning.specs.Whole.{Ordered, item_of, ordered_names}
+use Rattle.wit_meaning.specs.Resolving.{env_of, address_name, local_names, Unresolved, Unstated, WrongName, WrongItself}
+use Rattle.wit_meaning.specs.Resolved.{AreDistinctTops, AreDeclaredTops, AreLegalScopes, IsWrongAmong}
 use Rattle.wit_meaning.proofs.Lists.{at_take, at_within, map_at}
 use Rattle.wit_meaning.proofs.Names.{name_equal}
 use Rattle.wit_meaning.proofs.Tables.{place_of-Some}
@@ -32,7 +31,7 @@ use Rattle.wit_meaning.proofs.Legal.{no_missing_edge, no_cyclic_edge}
 use Rattle.wit_meaning.proofs.Using.{lookup-listed}
 use Rattle.wit_meaning.proofs.Standing.{AreItems}
 use Rattle.wit_meaning.proofs.Interfaces.{find_passes}
-use Rattle.wit_meaning.proofs.Itemizing.{find_at, item_row_at, edge_name, used_path, items_within, item_index, are_items, length-item_rows}
+use Rattle.wit_meaning.proofs.Itemizing.{find_at, item_row_at, used_path, items_within, item_index, are_items, length-item_rows}
 use Rattle.wit_meaning.proofs.Done.{ordered_of, done_front}
 
 same_some : {X : Type 0} (o : Option X) (x y : X) → o ≡ Some x → o ≡ Some y → x ≡ y
@@ -42,10 +41,16 @@ option_cases : {X : Type 0} (o : Option X) (R : Type 0) → ((x : X) → o ≡ S
 option_cases None R some none = none refl
 option_cases (Some x) R some none = some x refl
 
+row_name : (r : Row) (w : Item) → r ≡ item_row w → r.name ≡ interface_name w
+row_name r w same = ap (λ (x : Row). x.name) same
+
+at_address : (is : List Item) (s : Address) → interface_at is s ≡ interface_named is (address_name s)
+at_address is (InterfaceNamed name) = refl
+
 -- a name that the table of an interface lacks means nothing in its scope
-pub unstated : (o : Ordered) (i : Interface) (name : List ℕ) → IsOrder (rows_of (scope_names o.interface)) o.order → map (λ p. p.0) i.types ≡ local_names (ordered_names o) → env_of i.types name ≡ None → meaning (scope_names o.interface) name ≡ None
+pub unstated : (o : Ordered) (i : Interface) (name : List ℕ) → IsOrder (rows_of (scope_names o.item)) o.order → map (λ p. p.0) i.types ≡ local_names (ordered_names o) → env_of i.types name ≡ None → meaning (scope_names o.item) name ≡ None
 unstated o i name least listed free =
-    let xs = scope_names o.interface in
+    let xs = scope_names o.item in
     option_cases (meaning xs name) (meaning xs name ≡ None) (λ x found. absurd (
     let p = find_at (λ (y : ScopeName). bytes_eq (local_name y) name) xs x found in
     let called = name_equal (local_name x) name (find_passes (λ (y : ScopeName). bytes_eq (local_name y) name) xs x found) in
@@ -56,19 +61,18 @@ unstated o i name least listed free =
     f)) (λ none. none)
 
 module _ (files : List PackageFile) (places : List ℕ) (order : IsOrder (item_rows files) places) where
-  abbrev all : List Written
+  abbrev all : List Item
   all = interfaces files
 
   -- what an interface uses from stands before it in the order
-  used_before : (k p : ℕ) (w : Written) (from : UsePath) (n : UseName) → slice_get places k ≡ Some p → slice_get all p ≡ Some w → Contains (scope_names w) (Used from n) → (t : ℕ) × (v : Written) × (t < k) × (slice_get (in_order all places) t ≡ Some v) × (interface_name v ≡ (path_id from).name.now)
+  used_before : (k p : ℕ) (w : Item) (from : Address) (n : UseName) → slice_get places k ≡ Some p → slice_get all p ≡ Some w → Contains (scope_names w) (Used from n) → (t : ℕ) × (v : Item) × (t < k) × (slice_get (in_order all places) t ≡ Some v) × (from ≡ InterfaceNamed (interface_name v))
   used_before k p w from n next at among =
       let rs = item_rows files in
-      let path = path_id from in
-      let row = item_row_at files p w at in
-      let j = at_contains (paths w) path (used_path w.items.items from n among) in
-      let id = item_edge row.0 path in
-      let needed : slice_get (map (item_edge row.0) (paths w)) j.0 ≡ Some id = slice_get-map (item_edge row.0) (paths w) j.0 ∙ ap (option_map (item_edge row.0)) j.1 in
-      let edge : IsEdge rs p j.0 id = (item_row row.0 w, row.1, needed) in
+      let path = used_path w.top w.interface.items.items from n among in
+      let j = at_contains (paths w) path.0 path.1 in
+      let id = item_edge w.top path.0 in
+      let needed : slice_get (map (item_edge w.top) (paths w)) j.0 ≡ Some id = slice_get-map (item_edge w.top) (paths w) j.0 ∙ ap (option_map (item_edge w.top)) j.1 in
+      let edge : IsEdge rs p j.0 id = (item_row w, item_row_at files p w at, needed) in
       let b = some_of (target rs id) (order.complete p j.0 id edge) in
       let long = order.sorted.long in
       let lt = slice_get_within places k p next in
@@ -80,18 +84,18 @@ module _ (files : List PackageFile) (places : List ℕ) (order : IsOrder (item_r
       let r = place_of-Some rs id.name.now b.0 b.1 in
       let lt' = slice_get_within rs b.0 r.0 r.1 in
       let v = at_within all b.0 (omega (arith, length-item_rows files)) in
-      let same_row = item_row_at files b.0 v.0 v.1 in
-      let is : r.0 ≡ item_row same_row.0 v.0 = same_some (slice_get rs b.0) r.0 (item_row same_row.0 v.0) r.1 same_row.1 in
-      (before.index, v.0, before.below, in_order_read all places before.index b.0 v.0 (items_within files places order) m v.1, ap (λ (x : Row). x.name) (sym is) ∙ sym r.2 ∙ edge_name row.0 path)
+      let is : r.0 ≡ item_row v.0 = same_some (slice_get rs b.0) r.0 (item_row v.0) r.1 (item_row_at files b.0 v.0 v.1) in
+      let called : id.name.now ≡ interface_name v.0 = r.2 ∙ row_name r.0 v.0 is in
+      (before.index, v.0, before.below, in_order_read all places before.index b.0 v.0 (items_within files places order) m v.1, path.2 ∙ ap InterfaceNamed called)
 
   module _ (differ : AllDiffer (map interface_name all)) where
-    abbrev ws : List Written
+    abbrev ws : List Item
     ws = in_order all places
 
     abbrev items : AreItems files ws
     items = are_items files places order differ
 
-    front_at : (k : ℕ) (j : ℕ) (w : Written) → slice_get (in_order all (take k places)) j ≡ Some w → slice_get ws j ≡ Some w
+    front_at : (k : ℕ) (j : ℕ) (w : Item) → slice_get (in_order all (take k places)) j ≡ Some w → slice_get ws j ≡ Some w
     front_at k j w at =
         let p = in_order_at all (take k places) j w (λ i q iat. items_within files places order i q (at_take places k i q iat).0) at in
         in_order_read all places j p.0 w (items_within files places order) (at_take places k j p.0 p.1).0 p.2
@@ -100,7 +104,7 @@ module _ (files : List PackageFile) (places : List ℕ) (order : IsOrder (item_r
     pub broken_among : (f : Fault) → IsWrongAmong [] [] all places f → IsBroken files f
     broken_among f h =
         let k = h.count in
-        let w = h.interface in
+        let w = h.item in
         let here = contains_at all h.place w h.at in
         let done = done_front files ws items h.mid h.before (in_order all (take k places)) (λ j v at. front_at k j v at) h.added in
         let os = done.0 in
@@ -108,27 +112,28 @@ module _ (files : List PackageFile) (places : List ℕ) (order : IsOrder (item_r
         elim h.wrong [
           | WrongItself b ↦ Scope w here b
           | WrongName from n among wrong ↦ elim wrong [
-            | Unresolved free ↦ absurd (
+            | Unresolved path same free ↦ absurd (
                 let u = used_before k h.place w from n h.next h.at among in
                 let lt = u.2 in
                 let p = in_order_at all places u.0 u.1 (items_within files places order) u.3 in
                 let early : slice_get (in_order all (take k places)) u.0 ≡ Some u.1 = in_order_read all (take k places) u.0 p.0 u.1 (λ i q iat. items_within files places order i q (at_take places k i q iat).0) (slice_get-take places k u.0 lt ∙ p.1) p.2 in
-                let o = map_at interface_of os u.0 u.1 (ap (λ (l : List Written). slice_get l u.0) done.1 ∙ early) in
+                let o = map_at item_of os u.0 u.1 (ap (λ (l : List Item). slice_get l u.0) done.1 ∙ early) in
                 let count = d.count in
                 let lto = slice_get_within os u.0 o.0 o.1 in
                 let i = at_within h.before u.0 (omega arith) in
-                let called = (d.says u.0 o.0 i.0 o.1 i.1).name ∙ ap (λ (v : Written). Some (interface_name v)) o.2 ∙ ap Some u.4 in
-                let wrong : IsSome {T = ℕ} None = subst (λ (v : Option ℕ). IsSome v) free.0 (h.index.has u.0 i.0 (path_id from).name.now i.1 called) in
+                let called = (d.says u.0 o.0 i.0 o.1 i.1).name ∙ ap (λ (v : Item). Some (interface_name v)) o.2 in
+                let name : path.name.now ≡ interface_name u.1 = same ∙ ap address_name u.4 in
+                let wrong : IsSome {T = ℕ} None = subst (λ (v : Option ℕ). IsSome v) (ap (env_of h.by_name) (sym name) ∙ free.0) (h.index.has u.0 i.0 (interface_name u.1) i.1 called) in
                 let f : ⊥ = cc in
                 f)
             | Unstated target found none says ↦ (
-                let o = ordered_of files ws items os h.mid h.before d found.place target (path_id from).name.now found.at found.called in
-                let declared : interface_named all (path_id from).name.now ≡ Some o.0.interface = subst (λ (m : List ℕ). interface_named all m ≡ Some o.0.interface) o.2 (items.found found.place o.0.interface (d.front found.place o.0 o.1)) in
+                let o = ordered_of files ws items os h.mid h.before d found.place target (address_name from) found.at found.called in
+                let declared : interface_at all from ≡ Some o.0.item = at_address all from ∙ subst (λ (m : List ℕ). interface_named all m ≡ Some o.0.item) o.2 (items.found found.place o.0.item (d.front found.place o.0 o.1)) in
                 MissingName w here (record {
                   from = from;
                   n = n;
                   among = among;
-                  target = o.0.interface;
+                  target = o.0.item;
                   declared = declared;
                   missing = unstated o.0 target n.name.name.now (d.least found.place o.0 o.1) (d.listed found.place o.0 target o.1 found.at) none;
                   is = says;
@@ -136,21 +141,30 @@ module _ (files : List PackageFile) (places : List ℕ) (order : IsOrder (item_r
           ]
         ]
 
-    -- where the scopes are legal and each used name is there, no rule is broken
-    pub legal_files : (header : Header) → last_header files ≡ Some header → AreLegalScopes ws → ((t : ℕ) (w : Written) → slice_get ws t ≡ Some w → (f : Fault) → IsMissingName files (scope_names w) f → ⊥) → IsLegal files
-    legal_files header last scopes stated f (Headerless h) =
+    -- where the names at the top of files and the scopes are legal and each used name is there, no rule is broken
+    pub legal_files : (header : Header) → last_header files ≡ Some header → AreDistinctTops files → AreDeclaredTops all files → AreLegalScopes ws → ((t : ℕ) (w : Item) → slice_get ws t ≡ Some w → (f : Fault) → IsMissingName files (scope_names w) f → ⊥) → IsLegal files
+    legal_files header last tops originals scopes stated f (Headerless h) =
         let it = some_header files header last in
         let wrong : None ≡ Some header = sym (h.none it.0 it.1 it.2) ∙ it.3 in
         let g : ⊥ = cc in
         g
-    legal_files header last scopes stated f (DuplicateItem h) = no_repeat interface_name all h.later differ h.repeated
-    legal_files header last scopes stated f (MissingItem h) = no_missing_edge 7 item_word (item_rows files) places f order h
-    legal_files header last scopes stated f (CyclicItem h) = no_cyclic_edge 8 item_word (item_rows files) places f order h
-    legal_files header last scopes stated f (MissingName i among h) =
+    legal_files header last tops originals scopes stated f (DuplicateItem h) = no_repeat interface_name all h.later differ h.repeated
+    legal_files header last tops originals scopes stated f (DuplicateTopName file among h) =
+        let p = at_contains files file among in
+        no_repeat top_text (top_names file) h.later (tops.differ p.0 file p.1) h.repeated
+    legal_files header last tops originals scopes stated f (MissingItem h) = no_missing_edge 7 item_word (item_rows files) places f order h
+    legal_files header last tops originals scopes stated f (CyclicItem h) = no_cyclic_edge 8 item_word (item_rows files) places f order h
+    legal_files header last tops originals scopes stated f (MissingOriginal file among h) =
+        let p = at_contains files file among in
+        let k = at_contains file.decl_list.items.items (ToplevelItem h.u) h.among in
+        let wrong : IsSome {T = Item} None = subst (λ (o : Option Item). IsSome o) h.missing ((originals.declared p.0 file p.1).declared k.0 h.u k.1) in
+        let g : ⊥ = cc in
+        g
+    legal_files header last tops originals scopes stated f (MissingName i among h) =
         let p = at_contains all i among in
         let t = item_index files places order p.0 i p.1 in
         stated t.0 i t.2 f h
-    legal_files header last scopes stated f (Scope i among h) =
+    legal_files header last tops originals scopes stated f (Scope i among h) =
         let p = at_contains all i among in
         let t = item_index files places order p.0 i p.1 in
         scopes.legal t.0 i f t.2 h

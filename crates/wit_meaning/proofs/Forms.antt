@@ -1,12 +1,12 @@
 -- What is met in a type without a name: forms that an unnamed type can have.
 use Rattle.std.proofs.Common.{◌≡◌, List, [], ◌∷◌, inl, inr, subst}
-use Rattle.wit_tree.specs.declared.tree.«Type».{«Type» as Written}
+use Rattle.wit_tree.specs.declared.tree.«Type».{«Type» as Written, Held-Type-Result-1 as Held, None', Some', Row_of-Type, end_of-Type, more_of-Type}
 use Rattle.wit_tree.specs.declared.tree.«Type».TheVariants as written
-use Rattle.wit_tree.specs.declared.tree.Field.{Field}
 use Rattle.wit_tree.specs.declared.tree.TypeBody.{TypeBody}
-use Rattle.wit_tree.specs.declared.tree.TypeBody.TheVariants.{Record, Plain}
+use Rattle.wit_tree.specs.declared.tree.TypeBody.TheVariants.{Record, Flags, Variant, Enum, Plain}
+use Rattle.wit_tree.specs.Parts.{field_types, case_types}
 use Rattle.wit_meaning.specs.Form.{Form}
-use Rattle.wit_meaning.specs.Shape.{Shape, Shapes, shape_of, field_shapes, head, body_of}
+use Rattle.wit_meaning.specs.Shape.{Shape, Shapes, shape_of, held_shape, row_shapes, all_shapes, head, body_of}
 use Rattle.wit_meaning.specs.Shape as shape
 use Rattle.wit_meaning.specs.Source.{Address, ScopeName, Used, Defined}
 use Rattle.wit_meaning.specs.Expr.{Exprs, expr_of, exprs_of, name_exprs}
@@ -27,27 +27,43 @@ abbrev mutual
   AllAnonymous (shape.More x xs) = AreAnonymous x × AllAnonymous xs
 
 -- so it is for a written type
-written_anonymous : (t : Written) → AreAnonymous (shape_of t)
-written_anonymous (written.Bool span) = tt
-written_anonymous (written.U8 span) = tt
-written_anonymous (written.U16 span) = tt
-written_anonymous (written.U32 span) = tt
-written_anonymous (written.U64 span) = tt
-written_anonymous (written.S8 span) = tt
-written_anonymous (written.S16 span) = tt
-written_anonymous (written.S32 span) = tt
-written_anonymous (written.S64 span) = tt
-written_anonymous (written.F32 span) = tt
-written_anonymous (written.F64 span) = tt
-written_anonymous (written.Char span) = tt
-written_anonymous (written.String span) = tt
-written_anonymous (written.ErrorContext span) = tt
-written_anonymous (written.Name id) = tt
-written_anonymous (written.List' span p t) = (tt, (written_anonymous t, tt))
+mutual
+  written_anonymous : (t : Written) → AreAnonymous (shape_of t)
+  written_anonymous (written.Bool span) = tt
+  written_anonymous (written.U8 span) = tt
+  written_anonymous (written.U16 span) = tt
+  written_anonymous (written.U32 span) = tt
+  written_anonymous (written.U64 span) = tt
+  written_anonymous (written.S8 span) = tt
+  written_anonymous (written.S16 span) = tt
+  written_anonymous (written.S32 span) = tt
+  written_anonymous (written.S64 span) = tt
+  written_anonymous (written.F32 span) = tt
+  written_anonymous (written.F64 span) = tt
+  written_anonymous (written.Char span) = tt
+  written_anonymous (written.String span) = tt
+  written_anonymous (written.ErrorContext span) = tt
+  written_anonymous (written.Name id) = tt
+  written_anonymous (written.List' span p t) = (tt, (written_anonymous t, tt))
+  written_anonymous (written.FixedLengthList' span p t size) = (tt, (written_anonymous t, tt))
+  written_anonymous (written.Map' span p key q value) = (tt, (written_anonymous key, (written_anonymous value, tt)))
+  written_anonymous (written.Option' span p t) = (tt, (written_anonymous t, tt))
+  written_anonymous (written.Result' span ok err) = (tt, held_anonymous ok (held_shape err shape.End) (held_anonymous err shape.End tt))
+  written_anonymous (written.Tuple' span shape ts) = (tt, row_anonymous ts)
+  written_anonymous (written.Future' span t) = (tt, held_anonymous t shape.End tt)
+  written_anonymous (written.Stream' span t) = (tt, held_anonymous t shape.End tt)
 
-fields_anonymous : (fs : List Field) → AllAnonymous (field_shapes fs)
-fields_anonymous [] = tt
-fields_anonymous (f ∷ fs) = (written_anonymous f.ty, fields_anonymous fs)
+  held_anonymous : (t : Held) (xs : Shapes) → AllAnonymous xs → AllAnonymous (held_shape t xs)
+  held_anonymous None' xs h = h
+  held_anonymous (Some' p t) xs h = (written_anonymous t, h)
+
+  row_anonymous : {m : _} (ts : Row_of-Type m) → AllAnonymous (row_shapes ts)
+  row_anonymous end_of-Type = tt
+  row_anonymous (more_of-Type t rest) = (written_anonymous t, row_anonymous rest)
+
+all_anonymous_shapes : (ts : List Written) → AllAnonymous (all_shapes ts)
+all_anonymous_shapes [] = tt
+all_anonymous_shapes (t ∷ ts) = (written_anonymous t, all_anonymous_shapes ts)
 
 head_anonymous : (x : Shape) → AreAnonymous x → AllAnonymous (head x).parts
 head_anonymous (shape.Prim p) h = (tt, tt)
@@ -55,7 +71,10 @@ head_anonymous (shape.Word id) h = (tt, tt)
 head_anonymous (shape.Of span form parts) h = h.1
 
 body_anonymous : (b : TypeBody) → AllAnonymous (body_of b).parts
-body_anonymous (Record span fields) = fields_anonymous fields.items
+body_anonymous (Record span fields) = all_anonymous_shapes (field_types fields.items)
+body_anonymous (Flags span flags) = tt
+body_anonymous (Variant span cases) = all_anonymous_shapes (case_types cases.items)
+body_anonymous (Enum span cases) = tt
 body_anonymous (Plain t) = head_anonymous (shape_of t) (written_anonymous t)
 
 -- what is met in such types has such a form

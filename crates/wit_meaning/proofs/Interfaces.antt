@@ -6,10 +6,9 @@ use Rattle.std.specs.Option.{option_map_or}
 use Rattle.std.specs.Str.{bytes_eq}
 use Rattle.std.proofs.lemmas.Bool.{cases_Bool, cond-true, lt-ltb}
 use Rattle.std.proofs.lemmas.Option.{slice_get_within}
-use Rattle.wit_tree.specs.declared.tree.Interface.{Interface as Written}
 use Rattle.wit_tree.specs.declared.tree.PackageFile.{PackageFile}
-use Rattle.wit_model.specs.declared.types.TypeOwner.TheVariants as owner
-use Rattle.wit_meaning.specs.Source.{InterfaceNamed, interfaces, interface_name, interface_named, scope_names, scope}
+use Rattle.wit_types.specs.declared.types.TypeOwner.TheVariants as owner
+use Rattle.wit_meaning.specs.Source.{Item, InterfaceNamed, interfaces, interface_name, interface_named, scope_names, scope}
 use Rattle.wit_meaning.specs.Whole.{address, place_owner, owner_at}
 use Rattle.wit_meaning.proofs.Names.{name_itself, name_equal}
 use Rattle.wit_meaning.proofs.Standing.{AreItems}
@@ -43,18 +42,18 @@ position-only p xs t x at pass only =
     ∙ cond-true (nat_lt t (length xs)) (Some t) None (lt-ltb t (length xs) (slice_get_within xs t x at))
 
 -- the interface of a name has the name
-pub interface_named-name : (is : List Written) (name : List ℕ) (w : Written) → interface_named is name ≡ Some w → interface_name w ≡ name
-interface_named-name is name w h = name_equal (interface_name w) name (find_passes (λ (i : Written). bytes_eq (interface_name i) name) is w h)
+pub interface_named-name : (is : List Item) (name : List ℕ) (w : Item) → interface_named is name ≡ Some w → interface_name w ≡ name
+interface_named-name is name w h = name_equal (interface_name w) name (find_passes (λ (i : Item). bytes_eq (interface_name i) name) is w h)
 
-module _ (files : List PackageFile) (ws : List Written) (items : AreItems files ws) where
+module _ (files : List PackageFile) (ws : List Item) (items : AreItems files ws) where
   -- the scope of an interface has its names
-  pub scope_of : (t : ℕ) (w : Written) → slice_get ws t ≡ Some w → scope files (address w) ≡ scope_names w
-  scope_of t w at = ap (λ (o : Option Written). option_map_or scope_names o []) (items.found t w at)
+  pub scope_of : (t : ℕ) (w : Item) → slice_get ws t ≡ Some w → scope files (address w) ≡ scope_names w
+  scope_of t w at = ap (λ (o : Option Item). option_map_or scope_names o []) (items.found t w at)
 
   -- the arena knows it by its place
-  pub owner_of_scope : (t : ℕ) (w : Written) → slice_get ws t ≡ Some w → owner_at ws (address w) ≡ owner.Interface t
-  owner_of_scope t w at = ap place_owner (position-only (λ (v : Written). bytes_eq (interface_name v) (interface_name w)) ws t w at (name_itself (interface_name w)) (λ i v vat same. items.unique i t v w vat at (name_equal (interface_name v) (interface_name w) same)))
+  pub owner_of_scope : (t : ℕ) (w : Item) → slice_get ws t ≡ Some w → owner_at ws (address w) ≡ owner.Interface t
+  owner_of_scope t w at = ap place_owner (position-only (λ (v : Item). bytes_eq (interface_name v) (interface_name w)) ws t w at (name_itself (interface_name w)) (λ i v vat same. items.unique i t v w vat at (name_equal (interface_name v) (interface_name w) same)))
 
   -- an address with a name behind it is that of an interface
-  pub address_of : (name : List ℕ) (w : Written) → interface_named (interfaces files) name ≡ Some w → (t : ℕ) × (slice_get ws t ≡ Some w) × (address w ≡ InterfaceNamed name)
+  pub address_of : (name : List ℕ) (w : Item) → interface_named (interfaces files) name ≡ Some w → (t : ℕ) × (slice_get ws t ≡ Some w) × (address w ≡ InterfaceNamed name)
   address_of name w found = let it = items.all name w found in (it.0, it.1, ap InterfaceNamed (interface_named-name (interfaces files) name w found))

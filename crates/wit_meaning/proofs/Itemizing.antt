@@ -1,30 +1,26 @@
 -- The items of files, in an order of their table.
-use Rattle.std.proofs.Common.{◌≡◌, ℕ, zero, suc, ◌<◌, Bool, true, List, [], ◌∷◌, ◌++◌, length, Option, Some, None, inl, inr, refl, sym, ap, ◌∙◌, subst, arith, Contains}
+use Rattle.std.proofs.Common.{◌≡◌, ℕ, zero, suc, ◌<◌, Bool, true, List, [], ◌∷◌, length, Some, inl, inr, refl, sym, ap, ◌∙◌, subst, arith, Contains}
 use Rattle.std.specs.Prelude.{slice_get, map, find}
 use Rattle.std.specs.Str.{bytes_eq}
 use Rattle.std.proofs.lemmas.Bool.{cases_Bool}
-use Rattle.std.proofs.lemmas.List.{map-append, length-map}
+use Rattle.std.proofs.lemmas.List.{length-map}
 use Rattle.std.proofs.lemmas.List.Elements.{Contains-append_cases}
-use Rattle.std.proofs.lemmas.Option.{slice_get_within}
+use Rattle.std.proofs.lemmas.Option.{slice_get_within, slice_get-map}
 use Rattle.wit_tree.specs.declared.tree.Id.{Id}
-use Rattle.wit_tree.specs.declared.tree.UsePath.{UsePath}
 use Rattle.wit_tree.specs.declared.tree.UseName.{UseName}
 use Rattle.wit_tree.specs.declared.tree.InterfaceItem.{InterfaceItem}
 use Rattle.wit_tree.specs.declared.tree.InterfaceItem.TheVariants.{TypeDef as TypeItem, Use as UseItem}
-use Rattle.wit_tree.specs.declared.tree.Interface.{Interface as Written}
 use Rattle.wit_tree.specs.declared.tree.PackageFile.{PackageFile}
-use Rattle.wit_order.specs.Table.{Row, IsOrder}
-use Rattle.wit_meaning.specs.Source.{Used, Defined, path_id, item_names, interface_id, interface_name, interface_named, file_interfaces, interfaces}
-use Rattle.wit_meaning.specs.Scope.{in_order, item_paths, item_edge, item_row, file_rows, item_rows}
+use Rattle.wit_order.specs.Table.{IsOrder}
+use Rattle.wit_meaning.specs.Source.{TopName, Item, Address, InterfaceNamed, Used, Defined, path_id, item_edge, path_scope, item_names, interface_name, interface_named, interfaces}
+use Rattle.wit_meaning.specs.Scope.{in_order, item_paths, item_row, item_rows}
 use Rattle.std.specs.List.{flat_map}
-use Rattle.std.specs.Option.{option_map_or}
+use Rattle.std.specs.Option.{option_map}
 use Rattle.wit_meaning.specs.Repeats.{AllDiffer}
-use Rattle.wit_meaning.proofs.Lists.{map_map}
 use Rattle.wit_meaning.proofs.Names.{name_cases, name_itself}
 use Rattle.wit_meaning.proofs.Repeated.{key_at}
 use Rattle.wit_meaning.proofs.Orders.{order_within, in_order_at, in_order_read, index_of, index_once}
 use Rattle.wit_meaning.proofs.Standing.{AreItems}
-use Rattle.wit_meaning.proofs.Interfaces.{interface_named-name}
 
 -- what is found stands in the list
 pub find_at : {X : Type 0} (p : X → Bool) (xs : List X) (x : X) → find p xs ≡ Some x → (i : ℕ) × (slice_get xs i ≡ Some x)
@@ -35,11 +31,11 @@ find_at p (y ∷ xs) x h = elim (cases_Bool (p y)) [
 ]
 
 -- where names differ, an interface is the first of its name
-pub named_found : (is : List Written) (p : ℕ) (w : Written) → AllDiffer (map interface_name is) → slice_get is p ≡ Some w → interface_named is (interface_name w) ≡ Some w
+pub named_found : (is : List Item) (p : ℕ) (w : Item) → AllDiffer (map interface_name is) → slice_get is p ≡ Some w → interface_named is (interface_name w) ≡ Some w
 named_found [] p w differ at = absurd (let f : ⊥ = cc in f)
 named_found (v ∷ is) zero w differ at =
     let here : v ≡ w = cc in
-    let hit : bytes_eq (interface_name v) (interface_name w) ≡ true = ap (λ (u : Written). bytes_eq (interface_name u) (interface_name w)) here ∙ name_itself (interface_name w) in
+    let hit : bytes_eq (interface_name v) (interface_name w) ≡ true = ap (λ (u : Item). bytes_eq (interface_name u) (interface_name w)) here ∙ name_itself (interface_name w) in
     rw hit at
 named_found (v ∷ is) (suc p) w differ at = elim (name_cases (interface_name v) (interface_name w)) [
   | inl first ↦ absurd (let both = differ.differ 0 (suc p) (interface_name w) (ap Some first) (key_at interface_name is p w at) in let f : ⊥ = omega arith in f)
@@ -48,48 +44,25 @@ named_found (v ∷ is) (suc p) w differ at = elim (name_cases (interface_name v)
 
 -- each item has a row
 pub length-item_rows : (files : List PackageFile) → length (item_rows files) ≡ length (interfaces files)
-length-item_rows files = sym (length-map (item_rows files) (λ (r : Row). r.name)) ∙ ap length (names-item_rows files) ∙ length-map (interfaces files) interface_name
-  where
-    names-item_rows : (files : List PackageFile) → map (λ (r : Row). r.name) (item_rows files) ≡ map interface_name (interfaces files)
-    names-item_rows [] = refl
-    names-item_rows (f ∷ fs) =
-        let is = file_interfaces f in
-        map-append (λ (r : Row). r.name) (file_rows f) (item_rows fs)
-        ∙ ap (λ ns. ns ++ map (λ (r : Row). r.name) (item_rows fs)) (map_map (λ (r : Row). r.name) (item_row is) is)
-        ∙ ap (λ ns. map interface_name is ++ ns) (names-item_rows fs)
-        ∙ sym (map-append interface_name is (interfaces fs))
+length-item_rows files = length-map (interfaces files) item_row
 
--- the row of an interface is made over the interfaces of its file
-pub item_row_at : (files : List PackageFile) (p : ℕ) (w : Written) → slice_get (interfaces files) p ≡ Some w → (is : List Written) × (slice_get (item_rows files) p ≡ Some (item_row is w))
-item_row_at [] p w at = absurd (let f : ⊥ = cc in f)
-item_row_at (f ∷ fs) p w at = beside (λ q h. item_row_at fs q w h) (file_interfaces f) (file_interfaces f) p at
-  where
-    beside : ((q : ℕ) → slice_get (interfaces fs) q ≡ Some w → (us : List Written) × (slice_get (item_rows fs) q ≡ Some (item_row us w))) → (is vs : List Written) (p : ℕ) → slice_get (vs ++ interfaces fs) p ≡ Some w → (us : List Written) × (slice_get (map (item_row is) vs ++ item_rows fs) p ≡ Some (item_row us w))
-    beside rest is [] p at = rest p at
-    beside rest is (v ∷ vs) zero at = (let here : v ≡ w = cc in (is, ap (λ (u : Written). Some (item_row is u)) here))
-    beside rest is (v ∷ vs) (suc p) at = beside rest is vs p at
+pub item_row_at : (files : List PackageFile) (p : ℕ) (w : Item) → slice_get (interfaces files) p ≡ Some w → slice_get (item_rows files) p ≡ Some (item_row w)
+item_row_at files p w at = slice_get-map item_row (interfaces files) p ∙ ap (option_map item_row) at
 
--- an edge has the name of its path
-pub edge_name : (is : List Written) (path : Id) → (item_edge is path).name.now ≡ path.name.now
-edge_name is path = go (interface_named is path.name.now) refl
-  where
-    go : (o : Option Written) → interface_named is path.name.now ≡ o → (option_map_or interface_id o path).name.now ≡ path.name.now
-    go None h = refl
-    go (Some w) h = interface_named-name is path.name.now w h
+-- a used name comes from where its path leads to
+used_in : (from s : Address) (n : UseName) (ns : List UseName) → Contains (map (Used s) ns) (Used from n) → from ≡ s
+used_in from s n [] h = absurd (let lt = h.1 in let f : ⊥ = omega arith in f)
+used_in from s n (m ∷ ns) (zero, lt, is) = (let same : Used s m ≡ Used from n = is in cc)
+used_in from s n (m ∷ ns) (suc k, lt, is) = used_in from s n ns (k, omega arith, is)
 
-used_in : (from other : UsePath) (n : UseName) (ns : List UseName) → Contains (map (Used other) ns) (Used from n) → path_id from ≡ path_id other
-used_in from other n [] h = absurd (let lt = h.1 in let f : ⊥ = omega arith in f)
-used_in from other n (m ∷ ns) (zero, lt, is) = (let same : Used other m ≡ Used from n = is in cc)
-used_in from other n (m ∷ ns) (suc k, lt, is) = used_in from other n ns (k, omega arith, is)
-
--- the path of a used name is one of its interface
-pub used_path : (items : List InterfaceItem) (from : UsePath) (n : UseName) → Contains (flat_map item_names items) (Used from n) → Contains (flat_map item_paths items) (path_id from)
-used_path [] from n h = absurd (let lt = h.1 in let f : ⊥ = omega arith in f)
-used_path (TypeItem d ∷ items) from n (zero, lt, is) = absurd (let same : Defined d ≡ Used from n = is in let f : ⊥ = cc in f)
-used_path (TypeItem d ∷ items) from n (suc k, lt, is) = used_path items from n (k, omega arith, is)
-used_path (UseItem u ∷ items) from n h = elim (Contains-append_cases (map (Used u.from) u.names.items) (flat_map item_names items) (Used from n) h) [
-  | inl here ↦ (0, omega arith, sym (used_in from u.from n u.names.items here))
-  | inr rest ↦ (let it = used_path items from n rest in (suc it.0, (let lt = it.1 in omega arith), it.2))
+-- that path is one of its interface
+pub used_path : (top : List TopName) (items : List InterfaceItem) (from : Address) (n : UseName) → Contains (flat_map (item_names top) items) (Used from n) → (path : Id) × Contains (flat_map item_paths items) path × (from ≡ InterfaceNamed (item_edge top path).name.now)
+used_path top [] from n h = absurd (let lt = h.1 in let f : ⊥ = omega arith in f)
+used_path top (TypeItem d ∷ items) from n (zero, lt, is) = absurd (let same : Defined d ≡ Used from n = is in let f : ⊥ = cc in f)
+used_path top (TypeItem d ∷ items) from n (suc k, lt, is) = used_path top items from n (k, omega arith, is)
+used_path top (UseItem u ∷ items) from n h = elim (Contains-append_cases (map (Used (path_scope top u.from)) u.names.items) (flat_map (item_names top) items) (Used from n) h) [
+  | inl here ↦ (path_id u.from, (0, omega arith, refl), used_in from (path_scope top u.from) n u.names.items here)
+  | inr rest ↦ (let it = used_path top items from n rest in (it.0, (suc it.1.0, (let lt = it.1.1 in omega arith), it.1.2), it.2))
 ]
 
 module _ (files : List PackageFile) (places : List ℕ) (order : IsOrder (item_rows files) places) where
@@ -97,7 +70,7 @@ module _ (files : List PackageFile) (places : List ℕ) (order : IsOrder (item_r
   items_within j p at = subst (λ (n : ℕ). p < n) (length-item_rows files) (order_within (item_rows files) places order j p at)
 
   -- each interface stands in the order
-  pub item_index : (p : ℕ) (w : Written) → slice_get (interfaces files) p ≡ Some w → (t : ℕ) × (slice_get places t ≡ Some p) × (slice_get (in_order (interfaces files) places) t ≡ Some w)
+  pub item_index : (p : ℕ) (w : Item) → slice_get (interfaces files) p ≡ Some w → (t : ℕ) × (slice_get places t ≡ Some p) × (slice_get (in_order (interfaces files) places) t ≡ Some w)
   item_index p w at =
       let lt = slice_get_within (interfaces files) p w at in
       let it = index_of (item_rows files) places p order (omega (arith, length-item_rows files)) in
@@ -112,7 +85,7 @@ module _ (files : List PackageFile) (places : List ℕ) (order : IsOrder (item_r
         let one = differ.differ p.0 q.0 (interface_name v) (key_at interface_name (interfaces files) p.0 v p.2) (key_at interface_name (interfaces files) q.0 w q.2 ∙ ap Some (sym same)) in
         index_once (item_rows files) places i j p.0 q.0 order p.1 q.1 one);
     all = λ name w found. (
-        let p = find_at (λ (i : Written). bytes_eq (interface_name i) name) (interfaces files) w found in
+        let p = find_at (λ (i : Item). bytes_eq (interface_name i) name) (interfaces files) w found in
         let it = item_index p.0 w p.1 in
         (it.0, it.2));
   }

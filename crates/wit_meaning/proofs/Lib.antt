@@ -18,6 +18,7 @@ pub mod Turns
 pub mod Scoping
 pub mod Using
 pub mod Legal
+pub mod Written
 pub mod Indexing
 pub mod Headers
 pub mod Adding

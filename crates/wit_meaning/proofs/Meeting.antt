@@ -3,9 +3,9 @@ use Rattle.std.proofs.Common.{◌≡◌, ℕ, ◌+◌, List, [], ◌∷◌, ◌+
 use Rattle.std.specs.Prelude.{slice_get}
 use Rattle.std.proofs.lemmas.List.{map-append}
 use Rattle.std.proofs.lemmas.Option.{slice_get_within}
-use Rattle.wit_model.specs.declared.types.TypeDef.{TypeDef}
-use Rattle.wit_model.specs.declared.types.TypeDefKind.{TypeDefKind}
-use Rattle.wit_tree.specs.declared.span.Span.{Span}
+use Rattle.wit_types.specs.declared.types.TypeDef.{TypeDef}
+use Rattle.wit_types.specs.declared.types.TypeDefKind.{TypeDefKind}
+use Rattle.wit_values.specs.declared.span.Span.{Span}
 use Rattle.wit_meaning.specs.Form.{kind_of}
 use Rattle.wit_meaning.specs.Source.{Address}
 use Rattle.wit_meaning.specs.Expr.{Expr, Prim, Use, Of, Exprs, End, More}

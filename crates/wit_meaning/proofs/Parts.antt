@@ -1,7 +1,7 @@
 -- The types of parts, by their places.
 use Rattle.std.proofs.Common.{◌≡◌, ℕ, zero, suc, [], ◌∷◌, List, Some, subst}
 use Rattle.std.specs.Prelude.{slice_get}
-use Rattle.wit_model.specs.declared.types.«Type».{«Type» as Ty}
+use Rattle.wit_types.specs.declared.types.«Type».{«Type» as Ty}
 use Rattle.wit_meaning.specs.Shape.{Shapes, End, More}
 use Rattle.wit_meaning.specs.Source.{Address, Place, placed}
 use Rattle.wit_meaning.specs.Expr.{expr_of, exprs_of}

@@ -1,8 +1,8 @@
 -- Primitive types and their words.
 use Rattle.std.proofs.Common.{◌≡◌, ℕ, List, Option, Some, None, refl, sym, ap, ◌∙◌}
-use Rattle.wit_model.specs.declared.types.«Type».{«Type» as Ty}
-use Rattle.wit_model.specs.declared.types.«Type».TheVariants as type
-use Rattle.wit_model.specs.declared.types.TypeDef.{TypeDef}
+use Rattle.wit_types.specs.declared.types.«Type».{«Type» as Ty}
+use Rattle.wit_types.specs.declared.types.«Type».TheVariants as type
+use Rattle.wit_types.specs.declared.types.TypeDef.{TypeDef}
 use Rattle.wit_model.specs.declared.interface.Interface.{Interface}
 use Rattle.wit_meaning.specs.Node.{Primitive, Leaf}
 use Rattle.wit_meaning.specs.Node as node

@@ -24,18 +24,6 @@ no_repeat key xs later d r =
     let before = r.before in
     omega arith
 
--- a repeat among what is behind items is one among them
-pub repeated_map : {X Y : Type 0} (key : Y → List ℕ) (of : X → Y) (xs : List X) (later : X) → IsRepeated (λ x. key (of x)) xs later → IsRepeated key (map of xs) (of later)
-repeated_map key of xs later r = record {
-  first = r.first;
-  second = r.second;
-  earlier = of r.earlier;
-  before = r.before;
-  at_first = slice_get-map of xs r.first ∙ ap (option_map of) r.at_first;
-  at_second = slice_get-map of xs r.second ∙ ap (option_map of) r.at_second;
-  same = r.same;
-}
-
 -- where all keys differ, items of one key are one item
 pub differ_at : {X K : Type 0} (key : X → K) (xs : List X) → AllDiffer (map key xs) → (i j : ℕ) (x y : X) → slice_get xs i ≡ Some x → slice_get xs j ≡ Some y → key x ≡ key y → i ≡ j
 differ_at key xs d i j x y at_i at_j same = d.differ i j (key x) (slice_get-map key xs i ∙ ap (option_map key) at_i) (slice_get-map key xs j ∙ ap (option_map key) at_j ∙ ap Some (sym same))

@@ -1,5 +1,5 @@
--- Tables that grow by a row, and names that have one.
-use Rattle.std.proofs.Common.{◌≡◌, ℕ, ◌+◌, List, [], ◌∷◌, ◌++◌, map, take, Some, None, sym, ap, ◌∙◌, subst, Vec, Global, Bor}
+-- Tables that grow by a row.
+use Rattle.std.proofs.Common.{◌≡◌, ℕ, ◌+◌, List, [], ◌∷◌, ◌++◌, map, take, Some, None, sym, ap, ◌∙◌, arith, Vec, Global, Bor}
 use Rattle.std.specs.Prelude.{slice_get}
 use Rattle.std.specs.Option.{option_map}
 use Rattle.std.proofs.lemmas.List.{map-append}
@@ -8,11 +8,10 @@ use Rattle.indexmap.specs.IndexMap.{insert_entry}
 use Rattle.wit_tree.specs.declared.tree.Id.{Id}
 use Rattle.wit_order.specs.Table.{Row, entry_row, place_of}
 use Rattle.wit_order.proofs.Rows.{key_eq, rows-insert}
-use Rattle.wit_meaning.specs.Broken.{IsRepeated}
 use Rattle.wit_meaning.specs.Repeats.{AllDiffer}
 use Rattle.wit_meaning.proofs.Lists.{at_take, map_at}
-use Rattle.wit_meaning.proofs.Repeated.{differ_more}
-use Rattle.wit_meaning.proofs.Tables.{place_of-None, place_of-Some}
+use Rattle.wit_meaning.proofs.Repeated.{differ_at}
+use Rattle.wit_meaning.proofs.Tables.{place_of-Some, none_if}
 use Rattle.wit_meaning.proofs.Orders.{take_next}
 
 abbrev row : List ℕ → List Id → Row
@@ -25,23 +24,13 @@ rows_more of xs n x old new k v at same none inserted name needs =
     let is : row k.now v.items ≡ of x = ap (λ m. row m v.items) name ∙ ap (λ ids. row (of x).name ids) needs in
     rows-insert old new k v inserted free ∙ ap (λ rs. rs ++ row k.now v.items ∷ []) same ∙ ap (λ r. map of (take n xs) ++ r ∷ []) is ∙ sym (map-append of (take n xs) (x ∷ [])) ∙ ap (map of) (sym (take_next xs n x at))
 
--- a name that an earlier row has
-pub repeated_row : {X : Type 0} (of : X → Row) (xs : List X) (n k : ℕ) (x : X) → slice_get xs n ≡ Some x → place_of (map of (take n xs)) (of x).name ≡ Some k → IsRepeated (λ y. (of y).name) xs x
-repeated_row of xs n k x at some =
-    let r = place_of-Some (map of (take n xs)) (of x).name k some in
-    let y = map_at of (take n xs) k r.0 r.1 in
-    let there = at_take xs n k y.0 y.1 in
-    record { first = k; second = n; earlier = y.0; before = there.1; at_first = there.0; at_second = at; same = ap (λ (z : Row). z.name) y.2 ∙ sym r.2 }
-
--- a name that has no place is none of the rows
-row_new : {X : Type 0} (of : X → Row) (xs : List X) (name : List ℕ) → place_of (map of xs) name ≡ None → (i : ℕ) → slice_get (map (λ y. (of y).name) xs) i ≡ Some name → ⊥
-row_new of xs name none i at =
-    let y = map_at (λ y. (of y).name) xs i name at in
-    place_of-None (map of xs) name none i (of y.0) (slice_get-map of xs i ∙ ap (option_map of) y.1) (sym y.2)
-
--- so all names differ with it too
-pub differ_row : {X : Type 0} (of : X → Row) (xs : List X) (n : ℕ) (x : X) → slice_get xs n ≡ Some x → AllDiffer (map (λ y. (of y).name) (take n xs)) → place_of (map of (take n xs)) (of x).name ≡ None → AllDiffer (map (λ y. (of y).name) (take (n + 1) xs))
-differ_row {X} of xs n x at differ none =
+-- where names differ, none of the first n rows has the name of the next one
+pub fresh_row : {X : Type 0} (of : X → Row) (xs : List X) (n : ℕ) (x : X) → AllDiffer (map (λ y. (of y).name) xs) → slice_get xs n ≡ Some x → place_of (map of (take n xs)) (of x).name ≡ None
+fresh_row {X} of xs n x differ at = none_if (place_of (map of (take n xs)) (of x).name) (λ i some. (
     let name : X → List ℕ = λ y. (of y).name in
-    let grown : map name (take (n + 1) xs) ≡ map name (take n xs) ++ name x ∷ [] = ap (map name) (take_next xs n x at) ∙ map-append name (take n xs) (x ∷ []) in
-    subst (λ ks. AllDiffer ks) (sym grown) (differ_more (map name (take n xs)) (name x) differ (row_new of (take n xs) (name x) none))
+    let r = place_of-Some (map of (take n xs)) (of x).name i some in
+    let y = map_at of (take n xs) i r.0 r.1 in
+    let there = at_take xs n i y.0 y.1 in
+    let same = differ_at name xs differ i n y.0 x there.0 at (ap (λ (row : Row). row.name) y.2 ∙ sym r.2) in
+    let before = there.1 in
+    omega arith))

@@ -29,16 +29,6 @@ name_at [] i r at = absurd (let f : ⊥ = cc in f)
 name_at (x ∷ xs) zero r at = (x, refl, cc)
 name_at (x ∷ xs) (suc i) r at = name_at xs i r at
 
--- of distinct names, none of the first n goes by the name of the next one
-pub name_new : (xs : List ScopeName) (n : ℕ) (x : ScopeName) → AreDistinct xs → slice_get xs n ≡ Some x → place_of (rows_of (take n xs)) (local_name x) ≡ None
-name_new xs n x distinct at = none_if (place_of (rows_of (take n xs)) (local_name x)) (λ i some. (
-    let r = place_of-Some (rows_of (take n xs)) (local_name x) i some in
-    let y = name_at (take n xs) i r.0 r.1 in
-    let there = at_take xs n i y.0 y.1 in
-    let same = differ_at local_name xs distinct i n y.0 x there.0 at (ap (λ (row : Row). row.name) y.2 ∙ sym r.2) in
-    let before = there.1 in
-    omega arith))
-
 pub contains_at : {X : Type 0} (xs : List X) (i : ℕ) (x : X) → slice_get xs i ≡ Some x → Contains xs x
 contains_at xs i x at = (i, slice_get_within xs i x at, get_or_from_slice_get xs i x x at)
 

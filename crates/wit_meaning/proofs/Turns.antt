@@ -6,11 +6,10 @@ use Rattle.std.proofs.lemmas.Bool.{cases_Bool, cond-true, cond-false}
 use Rattle.std.proofs.lemmas.List.Elements.{filter-append}
 use Rattle.std.proofs.lemmas.List.{length-map}
 use Rattle.std.proofs.lemmas.Option.{slice_get_within}
-use Rattle.wit_tree.specs.declared.tree.UsePath.{UsePath}
 use Rattle.wit_tree.specs.declared.tree.UseName.{UseName}
 use Rattle.wit_tree.specs.declared.tree.TypeDef.{TypeDef as Definition}
 use Rattle.wit_order.specs.Table.{IsOrder}
-use Rattle.wit_meaning.specs.Source.{ScopeName, Used, Defined, local_name}
+use Rattle.wit_meaning.specs.Source.{Address, ScopeName, Used, Defined, local_name}
 use Rattle.wit_meaning.specs.Scope.{row_of, rows_of, in_order, is_defined, used, defined, in_turn}
 use Rattle.wit_meaning.specs.Repeats.{AllDiffer}
 use Rattle.wit_meaning.specs.Resolving.{AreDistinct}
@@ -71,13 +70,13 @@ used_at xs i x at = let it = kept_at is_used xs i x at in (it.0, it.1)
 pub defined_at : (xs : List ScopeName) (i : ℕ) (x : ScopeName) → slice_get (defined xs) i ≡ Some x → (p : ℕ) × (slice_get xs p ≡ Some x)
 defined_at xs i x at = let it = kept_at is_defined xs i x at in (it.0, it.1)
 
-pub used_has : (xs : List ScopeName) (p : ℕ) (from : UsePath) (n : UseName) → slice_get xs p ≡ Some (Used from n) → (i : ℕ) × (slice_get (used xs) i ≡ Some (Used from n))
+pub used_has : (xs : List ScopeName) (p : ℕ) (from : Address) (n : UseName) → slice_get xs p ≡ Some (Used from n) → (i : ℕ) × (slice_get (used xs) i ≡ Some (Used from n))
 used_has xs p from n at = kept_has is_used xs p (Used from n) refl at
 
 pub defined_has : (xs : List ScopeName) (p : ℕ) (d : Definition) → slice_get xs p ≡ Some (Defined d) → (i : ℕ) × (slice_get (defined xs) i ≡ Some (Defined d))
 defined_has xs p d at = kept_has is_defined xs p (Defined d) refl at
 
-is_used-true : (x : ScopeName) → is_used x ≡ true → (from : UsePath) × (n : UseName) × (x ≡ Used from n)
+is_used-true : (x : ScopeName) → is_used x ≡ true → (from : Address) × (n : UseName) × (x ≡ Used from n)
 is_used-true (Used from n) h = (from, n, refl)
 is_used-true (Defined d) h = absurd (let f : ⊥ = cc in f)
 
@@ -86,7 +85,7 @@ is_defined-true (Used from n) h = absurd (let f : ⊥ = cc in f)
 is_defined-true (Defined d) h = (d, refl)
 
 -- a used name is one that is used
-pub used_is : (xs : List ScopeName) (i : ℕ) (x : ScopeName) → slice_get (used xs) i ≡ Some x → (from : UsePath) × (n : UseName) × (x ≡ Used from n)
+pub used_is : (xs : List ScopeName) (i : ℕ) (x : ScopeName) → slice_get (used xs) i ≡ Some x → (from : Address) × (n : UseName) × (x ≡ Used from n)
 used_is xs i x at = is_used-true x (kept_at is_used xs i x at).2
 
 -- and a defined one is a definition
@@ -229,7 +228,7 @@ in_turn_has xs order least p (Defined d) at =
     let it = defined_has (in_order xs order) there.0 d there.1 in
     (length (used xs) + it.0, at_back (used xs) (defined (in_order xs order)) it.0 (Defined d) it.1)
 
-never_both : (x : ScopeName) (from : UsePath) (n : UseName) (d : Definition) → x ≡ Used from n → x ≡ Defined d → ⊥
+never_both : (x : ScopeName) (from : Address) (n : UseName) (d : Definition) → x ≡ Used from n → x ≡ Defined d → ⊥
 never_both x from n d a b = let f : ⊥ = cc in f
 
 turns_apart : (xs : List ScopeName) (order : List ℕ) → IsOrder (rows_of xs) order → AreDistinct xs → AreApart (used xs) (defined (in_order xs order))

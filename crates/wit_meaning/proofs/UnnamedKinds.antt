@@ -1,11 +1,11 @@
 -- Kinds and their forms and parts.
 use Rattle.std.proofs.Common.{◌≡◌, List, [], ◌∷◌, ◌++◌, Option, Some, None, is_some, true, false, refl, sym, ap, ◌∙◌, subst}
 use Rattle.std.specs.Option.{option_to_list}
-use Rattle.wit_model.specs.declared.types.«Type».{«Type» as Ty}
-use Rattle.wit_model.specs.declared.types.«Type».TheVariants.{Id}
-use Rattle.wit_model.specs.declared.types.Handle.TheVariants.{Own, Borrow}
-use Rattle.wit_model.specs.declared.types.TypeDefKind.{TypeDefKind}
-use Rattle.wit_model.specs.declared.types.TypeDefKind.TheVariants as kind
+use Rattle.wit_types.specs.declared.types.«Type».{«Type» as Ty}
+use Rattle.wit_types.specs.declared.types.«Type».TheVariants.{Id}
+use Rattle.wit_types.specs.declared.types.Handle.TheVariants.{Own, Borrow}
+use Rattle.wit_types.specs.declared.types.TypeDefKind.{TypeDefKind}
+use Rattle.wit_types.specs.declared.types.TypeDefKind.TheVariants as kind
 use Rattle.wit_meaning.specs.Form.{Form, BorrowForm, TupleForm, OptionForm, ResultForm, ListForm, MapForm, FixedLengthListForm, FutureForm, StreamForm, kind_of}
 use Rattle.wit_meaning.specs.Whole.{IsAnonymousForm}
 use Rattle.wit_meaning.proofs.Meeting.{IsOnly}

@@ -26,10 +26,10 @@ whole_in_names s (x ∷ xs) form parts h = elim (has_either (keys (name_meetings
 ]
 
 -- an unnamed type that is met in interfaces is met in one
-pub whole_in_interfaces : (os : List Ordered) (form : Form) (parts : Exprs) → Has (keys (meetings os)) (Whole form parts) → (t : ℕ) × (o : Ordered) × (slice_get os t ≡ Some o) × Has (keys (all_name_meetings (address o.interface) (ordered_names o))) (Whole form parts)
+pub whole_in_interfaces : (os : List Ordered) (form : Form) (parts : Exprs) → Has (keys (meetings os)) (Whole form parts) → (t : ℕ) × (o : Ordered) × (slice_get os t ≡ Some o) × Has (keys (all_name_meetings (address o.item) (ordered_names o))) (Whole form parts)
 whole_in_interfaces [] form parts h = absurd h
 whole_in_interfaces (o ∷ os) form parts h =
-    let here = all_name_meetings (address o.interface) (ordered_names o) in
+    let here = all_name_meetings (address o.item) (ordered_names o) in
     elim (has_either (keys here) (keys (meetings os)) (Whole form parts) (subst (λ (ks : List Key). Has ks (Whole form parts)) (keys-append here (meetings os)) h)) [
       | inl first ↦ (0, o, refl, first)
       | inr rest ↦ (let it = whole_in_interfaces os form parts rest in (suc it.0, it.1, it.2, it.3))

@@ -1,24 +1,31 @@
 -- The rules, and what it is that breaks each.
-use Rattle.std.specs.Prelude.{◌≡◌, ℕ, ◌<◌, ◌⊎◌, List, [], ◌∷◌, ◌++◌, map, Option, Some, None, Contains, slice_get}
+use Rattle.std.specs.Prelude.{◌≡◌, ℕ, zero, suc, ◌<◌, ◌⊎◌, List, [], ◌∷◌, ◌++◌, map, Option, Some, None, Contains, slice_get}
 use Rattle.std.specs.Char.{to_ascii_lowercase}
 use Rattle.std.specs.Option.{option_map, option_or}
 use Rattle.semver.specs.Identifiers.{parts_of}
-use Rattle.wit_tree.specs.declared.span.Span.{Span}
+use Rattle.wit_values.specs.declared.span.Span.{Span}
 use Rattle.wit_tree.specs.declared.error.ParseError.{ParseError}
 use Rattle.wit_tree.specs.Refusal.{IsWantOfMemory}
 use Rattle.wit_tree.specs.declared.tree.Id.{Id}
 use Rattle.wit_tree.specs.declared.tree.Field.{Field}
+use Rattle.wit_tree.specs.declared.tree.Flag.{Flag}
+use Rattle.wit_tree.specs.declared.tree.Case.{Case}
+use Rattle.wit_tree.specs.declared.tree.EnumCase.{EnumCase}
+use Rattle.wit_tree.specs.declared.tree.«Type».{«Type» as Written}
+use Rattle.wit_tree.specs.declared.tree.«Type».TheVariants as written
 use Rattle.wit_tree.specs.declared.tree.TypeBody.{TypeBody}
-use Rattle.wit_tree.specs.declared.tree.TypeBody.TheVariants.{Record, Plain}
+use Rattle.wit_tree.specs.declared.tree.TypeBody.TheVariants.{Record, Flags, Variant, Enum, Plain}
+use Rattle.wit_tree.specs.Parts.{part_types, row_types, body_types}
 use Rattle.wit_tree.specs.declared.tree.TypeDef.{TypeDef}
-use Rattle.wit_tree.specs.declared.tree.UsePath.{UsePath}
 use Rattle.wit_tree.specs.declared.tree.UseName.{UseName}
-use Rattle.wit_tree.specs.declared.tree.Interface.{Interface}
+use Rattle.wit_tree.specs.declared.tree.ToplevelUse.{ToplevelUse}
+use Rattle.wit_tree.specs.declared.tree.AstItem.{AstItem}
+use Rattle.wit_tree.specs.declared.tree.AstItem.TheVariants.{Use as ToplevelItem}
 use Rattle.wit_tree.specs.declared.tree.PackageName.{PackageName as Header}
 use Rattle.wit_tree.specs.declared.tree.PackageFile.{PackageFile}
 use Rattle.wit_order.specs.Table.{Row, IsEdge, IsMissing, IsCyclic, IsOrder}
 use Rattle.wit_meaning.specs.Fault.{Fault, fault_of, fault, missing_at, cyclic_at, item_word, type_word, name_word}
-use Rattle.wit_meaning.specs.Source.{interfaces, interface_name, interface_named, ScopeName, Used, Defined, local_id, local_name, scope_names, path_id, meaning}
+use Rattle.wit_meaning.specs.Source.{path_id, TopName, top_names, top_text, Item, interfaces, interface_name, interface_named, Address, interface_at, ScopeName, Used, Defined, local_id, local_name, scope_names, meaning}
 use Rattle.wit_meaning.specs.Scope.{item_rows, rows_of, used, defined, in_turn}
 
 -- the key by which labels are told apart: the label in lower case
@@ -41,14 +48,27 @@ pub record IsHeaderless (files : List PackageFile) (f : Fault) : Type 0 where
   pub is : f ≡ fault 4 (record { start = 0; end = 0 })
 
 -- an earlier one of these interfaces has the name
-pub record IsRepeatedItem (is : List Interface) (f : Fault) : Type 0 where
-  pub later : Interface
+pub record IsRepeatedItem (is : List Item) (f : Fault) : Type 0 where
+  pub later : Item
   pub repeated : IsRepeated interface_name is later
-  pub says : f ≡ fault 5 later.name.span
+  pub says : f ≡ fault 5 later.interface.name.span
 
 -- an earlier interface of the package has the name
 abbrev pub IsDuplicateItem : List PackageFile → Fault → Type 0
 IsDuplicateItem files f = IsRepeatedItem (interfaces files) f
+
+-- an earlier name at the top of a file is the same
+pub record IsDuplicateTopName (top : List TopName) (f : Fault) : Type 0 where
+  pub later : TopName
+  pub repeated : IsRepeated top_text top later
+  pub is : f ≡ fault 6 later.id.span
+
+-- the path of a `use` at the top of a file is the name of none of these interfaces
+pub record IsMissingOriginal (items : List Item) (declarations : List AstItem) (f : Fault) : Type 0 where
+  pub u : ToplevelUse
+  pub among : Contains declarations (ToplevelItem u)
+  pub missing : interface_named items (path_id u.item).name.now ≡ None
+  pub is : f ≡ missing_at 7 item_word (path_id u.item)
 
 -- the header of the last file that has one
 abbrev pub last_header : List PackageFile → Option Header
@@ -92,7 +112,7 @@ pub record IsCyclicEdge (number : ℕ) (sort : List ℕ) (rs : List Row) (f : Fa
   pub cyclic : IsCyclic rs place id
   pub is : f ≡ cyclic_at number sort id
 
--- an interface uses from a name that no interface has
+-- a path of an interface leads to no interface
 abbrev pub IsMissingItem : List PackageFile → Fault → Type 0
 IsMissingItem files f = IsMissingEdge 7 item_word (item_rows files) f
 
@@ -102,11 +122,11 @@ IsCyclicItem files f = IsCyclicEdge 8 item_word (item_rows files) f
 
 -- a used name is none of the interface that it comes from
 pub record IsMissingName (files : List PackageFile) (xs : List ScopeName) (f : Fault) : Type 0 where
-  pub from : UsePath
+  pub from : Address
   pub n : UseName
   pub among : Contains xs (Used from n)
-  pub target : Interface
-  pub declared : interface_named (interfaces files) (path_id from).name.now ≡ Some target
+  pub target : Item
+  pub declared : interface_at (interfaces files) from ≡ Some target
   pub missing : meaning (scope_names target) n.name.name.now ≡ None
   pub is : f ≡ missing_at 12 name_word n.name
 
@@ -141,21 +161,114 @@ pub record IsEmptyRecord (fields : List Field) (span : Span) (f : Fault) : Type 
   pub none : fields ≡ []
   pub is : f ≡ fault 19 span
 
--- an earlier field of a record has the name once case is folded
-pub record IsDuplicateField (fields : List Field) (f : Fault) : Type 0 where
-  pub later : Field
-  pub repeated : IsRepeated (λ x. folded x.name.name.now) fields later
-  pub is : f ≡ fault 25 later.name.span
+-- flags have no flag
+pub record IsEmptyFlags (flags : List Flag) (span : Span) (f : Fault) : Type 0 where
+  pub none : flags ≡ []
+  pub is : f ≡ fault 20 span
 
--- what is wrong with a record
+-- a flag is the thirty-third
+pub record IsFlagTooMany (flags : List Flag) (f : Fault) : Type 0 where
+  pub flag : Flag
+  pub at : slice_get flags 32 ≡ Some flag
+  pub is : f ≡ fault 21 flag.name.span
+
+-- a tuple has no type
+pub record IsEmptyTuple (types : List Written) (span : Span) (f : Fault) : Type 0 where
+  pub none : types ≡ []
+  pub is : f ≡ fault 22 span
+
+-- a variant has no case
+pub record IsEmptyVariant (cases : List Case) (span : Span) (f : Fault) : Type 0 where
+  pub none : cases ≡ []
+  pub is : f ≡ fault 23 span
+
+-- an enum has no case
+pub record IsEmptyEnum (cases : List EnumCase) (span : Span) (f : Fault) : Type 0 where
+  pub none : cases ≡ []
+  pub is : f ≡ fault 24 span
+
+-- an earlier one of the names of fields, flags or cases is the same once case is folded
+pub record IsDuplicateName (names : List Id) (f : Fault) : Type 0 where
+  pub later : Id
+  pub repeated : IsRepeated (λ id. folded id.name.now) names later
+  pub is : f ≡ fault 25 later.span
+
+-- the keys of a map can be of the type, as it is written
+abbrev pub IsKey : Written → Type 0
+IsKey (written.Bool span) = Unit {0}
+IsKey (written.U8 span) = Unit {0}
+IsKey (written.U16 span) = Unit {0}
+IsKey (written.U32 span) = Unit {0}
+IsKey (written.U64 span) = Unit {0}
+IsKey (written.S8 span) = Unit {0}
+IsKey (written.S16 span) = Unit {0}
+IsKey (written.S32 span) = Unit {0}
+IsKey (written.S64 span) = Unit {0}
+IsKey (written.Char span) = Unit {0}
+IsKey (written.String span) = Unit {0}
+IsKey _ = ⊥
+
+-- a map's key is written as another type
+pub record IsInvalidKey (key : Written) (span : Span) (f : Fault) : Type 0 where
+  pub other : IsKey key → ⊥
+  pub is : f ≡ fault 26 span
+
+-- what is wrong with a written type apart from its parts
+abbrev pub IsBrokenForm : Written → Fault → Type 0
+IsBrokenForm (written.Tuple' span shape ts) f = IsEmptyTuple (row_types ts) span f
+IsBrokenForm (written.Map' span p key q value) f = IsInvalidKey key span f
+IsBrokenForm t f = ⊥
+
+-- a type stands in another one, so many levels down
+abbrev pub StandsIn : ℕ → Written → Written → Type 0
+StandsIn zero whole t = t ≡ whole
+StandsIn (suc n) whole t = (part : Written) × Contains (part_types whole) part × StandsIn n part t
+
+-- something is wrong with a written type, or with one that stands in it
+pub record IsBrokenType (whole : Written) (f : Fault) : Type 0 where
+  pub level : ℕ
+  pub t : Written
+  pub stands : StandsIn level whole t
+  pub broken : IsBrokenForm t f
+
+-- with one of these types
+pub record IsBrokenPart (types : List Written) (f : Fault) : Type 0 where
+  pub t : Written
+  pub among : Contains types t
+  pub broken : IsBrokenType t f
+
+-- what is wrong with the fields of a record
 pub data IsBrokenRecord (fields : List Field) (span : Span) (f : Fault) : Type 0 where
-  Empty : IsEmptyRecord fields span f → IsBrokenRecord fields span f
-  DuplicateField : IsDuplicateField fields f → IsBrokenRecord fields span f
+  EmptyRecord : IsEmptyRecord fields span f → IsBrokenRecord fields span f
+  DuplicateField : IsDuplicateName (map (λ x. x.name) fields) f → IsBrokenRecord fields span f
 
--- what is wrong with the body of a definition
+-- what is wrong with flags
+pub data IsBrokenFlags (flags : List Flag) (span : Span) (f : Fault) : Type 0 where
+  EmptyFlags : IsEmptyFlags flags span f → IsBrokenFlags flags span f
+  FlagTooMany : IsFlagTooMany flags f → IsBrokenFlags flags span f
+  DuplicateFlag : IsDuplicateName (map (λ x. x.name) flags) f → IsBrokenFlags flags span f
+
+-- what is wrong with the cases of a variant
+pub data IsBrokenVariant (cases : List Case) (span : Span) (f : Fault) : Type 0 where
+  EmptyVariant : IsEmptyVariant cases span f → IsBrokenVariant cases span f
+  DuplicateCase : IsDuplicateName (map (λ x. x.name) cases) f → IsBrokenVariant cases span f
+
+-- what is wrong with the cases of an enum
+pub data IsBrokenEnum (cases : List EnumCase) (span : Span) (f : Fault) : Type 0 where
+  EmptyEnum : IsEmptyEnum cases span f → IsBrokenEnum cases span f
+  DuplicateEnumCase : IsDuplicateName (map (λ x. x.name) cases) f → IsBrokenEnum cases span f
+
+-- what is wrong with the fields, flags or cases of a body
+abbrev pub IsBrokenList : TypeBody → Fault → Type 0
+IsBrokenList (Record span fields) f = IsBrokenRecord fields.items span f
+IsBrokenList (Flags span flags) f = IsBrokenFlags flags.items span f
+IsBrokenList (Variant span cases) f = IsBrokenVariant cases.items span f
+IsBrokenList (Enum span cases) f = IsBrokenEnum cases.items span f
+IsBrokenList (Plain t) f = ⊥
+
+-- what is wrong with the body of a definition: its list, or a type that is written in it
 abbrev pub IsBrokenBody : TypeBody → Fault → Type 0
-IsBrokenBody (Record span fields) f = IsBrokenRecord fields.items span f
-IsBrokenBody (Plain t) f = ⊥
+IsBrokenBody body f = IsBrokenList body f ⊎ IsBrokenPart (body_types body) f
 
 -- what is wrong with a scope by itself
 pub data IsBrokenScope (xs : List ScopeName) (f : Fault) : Type 0 where
@@ -169,10 +282,12 @@ pub data IsBrokenScope (xs : List ScopeName) (f : Fault) : Type 0 where
 pub data IsBroken (files : List PackageFile) (f : Fault) : Type 0 where
   Headerless : IsHeaderless files f → IsBroken files f
   DuplicateItem : IsDuplicateItem files f → IsBroken files f
+  DuplicateTopName : (file : PackageFile) → Contains files file → IsDuplicateTopName (top_names file) f → IsBroken files f
   MissingItem : IsMissingItem files f → IsBroken files f
   CyclicItem : IsCyclicItem files f → IsBroken files f
-  MissingName : (i : Interface) → Contains (interfaces files) i → IsMissingName files (scope_names i) f → IsBroken files f
-  Scope : (i : Interface) → Contains (interfaces files) i → IsBrokenScope (scope_names i) f → IsBroken files f
+  MissingOriginal : (file : PackageFile) → Contains files file → IsMissingOriginal (interfaces files) file.decl_list.items.items f → IsBroken files f
+  MissingName : (i : Item) → Contains (interfaces files) i → IsMissingName files (scope_names i) f → IsBroken files f
+  Scope : (i : Item) → Contains (interfaces files) i → IsBrokenScope (scope_names i) f → IsBroken files f
 
 -- no rule is broken
 abbrev pub IsLegal : List PackageFile → Type 0

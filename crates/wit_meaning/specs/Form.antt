@@ -2,18 +2,18 @@
 use Rattle.std.specs.Prelude.{ℕ, Bool, List, [], ◌∷◌, ◌++◌, map, is_some}
 use Rattle.std.specs.List.{filter_map}
 use Rattle.std.specs.Option.{option_to_list}
-use Rattle.wit_tree.specs.declared.span.Span.{Span}
-use Rattle.wit_model.specs.declared.docs.Docs.{Docs}
-use Rattle.wit_model.specs.declared.types.«Type».{«Type» as Ty}
-use Rattle.wit_model.specs.declared.types.«Type».TheVariants.{Id}
-use Rattle.wit_model.specs.declared.types.Field.{Field}
-use Rattle.wit_model.specs.declared.types.Flag.{Flag}
-use Rattle.wit_model.specs.declared.types.Case.{Case}
-use Rattle.wit_model.specs.declared.types.EnumCase.{EnumCase}
-use Rattle.wit_model.specs.declared.types.Handle.{Handle}
-use Rattle.wit_model.specs.declared.types.Handle.TheVariants.{Own, Borrow}
-use Rattle.wit_model.specs.declared.types.TypeDefKind.{TypeDefKind}
-use Rattle.wit_model.specs.declared.types.TypeDefKind.TheVariants as kind
+use Rattle.wit_values.specs.declared.span.Span.{Span}
+use Rattle.wit_types.specs.declared.docs.Docs.{Docs}
+use Rattle.wit_types.specs.declared.types.«Type».{«Type» as Ty}
+use Rattle.wit_types.specs.declared.types.«Type».TheVariants.{Id}
+use Rattle.wit_types.specs.declared.types.Field.{Field}
+use Rattle.wit_types.specs.declared.types.Flag.{Flag}
+use Rattle.wit_types.specs.declared.types.Case.{Case}
+use Rattle.wit_types.specs.declared.types.EnumCase.{EnumCase}
+use Rattle.wit_types.specs.declared.types.Handle.{Handle}
+use Rattle.wit_types.specs.declared.types.Handle.TheVariants.{Own, Borrow}
+use Rattle.wit_types.specs.declared.types.TypeDefKind.{TypeDefKind}
+use Rattle.wit_types.specs.declared.types.TypeDefKind.TheVariants as kind
 
 -- a field, flag or case without its type
 pub record Member : Type 0 where

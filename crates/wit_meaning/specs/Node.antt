@@ -1,8 +1,8 @@
 -- One level of a type over what stands for its parts, and types unfolded to any depth.
 use Rattle.std.specs.Prelude.{ℕ, zero, suc, List, Option, map}
-use Rattle.wit_tree.specs.declared.span.Span.{Span}
-use Rattle.wit_model.specs.declared.docs.Docs.{Docs}
-use Rattle.wit_model.specs.declared.stability.Stability.{Stability}
+use Rattle.wit_values.specs.declared.span.Span.{Span}
+use Rattle.wit_types.specs.declared.docs.Docs.{Docs}
+use Rattle.wit_types.specs.declared.stability.Stability.{Stability}
 use Rattle.wit_meaning.specs.Form.{Form}
 
 -- the primitive types

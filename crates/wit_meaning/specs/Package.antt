@@ -2,12 +2,12 @@
 use Rattle.std.specs.Prelude.{◌≡◌, ℕ, zero, suc, ◌<◌, List, [], ◌∷◌, Option, Some, None, ◌⊎◌, slice_get}
 use Rattle.wit_tree.specs.declared.tree.Interface.{Interface as Written}
 use Rattle.wit_model.specs.declared.interface.Interface.{Interface}
-use Rattle.wit_model.specs.declared.stability.Stability.TheVariants.{Unknown}
-use Rattle.wit_model.specs.declared.types.«Type».{«Type» as Ty}
-use Rattle.wit_model.specs.declared.types.«Type».TheVariants as type
-use Rattle.wit_model.specs.declared.types.TypeDef.{TypeDef}
-use Rattle.wit_model.specs.declared.types.TypeOwner.{TypeOwner}
-use Rattle.wit_model.specs.declared.types.TypeOwner.TheVariants as owner
+use Rattle.wit_types.specs.declared.stability.Stability.TheVariants.{Unknown}
+use Rattle.wit_types.specs.declared.types.«Type».{«Type» as Ty}
+use Rattle.wit_types.specs.declared.types.«Type».TheVariants as type
+use Rattle.wit_types.specs.declared.types.TypeDef.{TypeDef}
+use Rattle.wit_types.specs.declared.types.TypeOwner.{TypeOwner}
+use Rattle.wit_types.specs.declared.types.TypeOwner.TheVariants as owner
 use Rattle.wit_meaning.specs.Form.{kind_of}
 use Rattle.wit_meaning.specs.Node.{Owner, OfInterface, Nobody, Head, Node, Leaf, Named, Unnamed, Nothing, Tree, unfolded}
 use Rattle.wit_meaning.specs.Node as node

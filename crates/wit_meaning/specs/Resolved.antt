@@ -1,16 +1,20 @@
 -- What resolving interfaces does to the arenas, one after another.
-use Rattle.std.specs.Prelude.{◌≡◌, ℕ, List, [], ◌∷◌, ◌++◌, length, take, Some, slice_get}
-use Rattle.wit_tree.specs.declared.tree.Interface.{Interface as Written}
-use Rattle.wit_model.specs.declared.types.TypeDef.{TypeDef}
-use Rattle.wit_model.specs.declared.types.TypeOwner.{TypeOwner}
-use Rattle.wit_model.specs.declared.types.TypeOwner.TheVariants as owner
+use Rattle.std.specs.Prelude.{◌≡◌, ℕ, List, [], ◌∷◌, ◌++◌, length, map, take, Some, IsSome, slice_get}
+use Rattle.wit_tree.specs.declared.tree.ToplevelUse.{ToplevelUse}
+use Rattle.wit_tree.specs.declared.tree.AstItem.{AstItem}
+use Rattle.wit_tree.specs.declared.tree.AstItem.TheVariants.{Use as ToplevelItem}
+use Rattle.wit_tree.specs.declared.tree.PackageFile.{PackageFile}
+use Rattle.wit_types.specs.declared.types.TypeDef.{TypeDef}
+use Rattle.wit_types.specs.declared.types.TypeOwner.{TypeOwner}
+use Rattle.wit_types.specs.declared.types.TypeOwner.TheVariants as owner
 use Rattle.wit_model.specs.declared.interface.Interface.{Interface}
 use Rattle.wit_order.specs.Table.{IsOrder}
-use Rattle.wit_meaning.specs.Source.{Address, ScopeName, scope_names}
+use Rattle.wit_meaning.specs.Source.{path_id, top_names, top_text, Item, Address, ScopeName, interface_named, scope_names}
 use Rattle.wit_meaning.specs.Fault.{Fault}
 use Rattle.wit_meaning.specs.Package.{IsInterface}
 use Rattle.wit_meaning.specs.Scope.{rows_of, in_order, defined, in_turn}
 use Rattle.wit_meaning.specs.Broken.{IsBrokenScope}
+use Rattle.wit_meaning.specs.Repeats.{AllDiffer}
 use Rattle.wit_meaning.specs.Resolving.{Names, AreDistinct, Defines, IsIndex, IsWrongScope}
 
 -- the definitions of a scope were added in the least dependency-first order, behind its used names
@@ -21,34 +25,46 @@ pub record DefinesAll (old new : List TypeDef) (o : TypeOwner) (names names' : N
   pub defines : (is : List Interface) (s : Address) → Defines old new is o s names names' (defined (in_order xs order))
 
 -- what an interface adds to the arenas
-pub record AddsInterface (old new : List TypeDef) (is is' : List Interface) (written : Written) : Type 0 where
+pub record AddsInterface (old new : List TypeDef) (is is' : List Interface) (item : Item) : Type 0 where
   pub order : List ℕ
-  pub least : IsOrder (rows_of (scope_names written)) order
-  pub distinct : AreDistinct (scope_names written)
+  pub least : IsOrder (rows_of (scope_names item)) order
+  pub distinct : AreDistinct (scope_names item)
   pub added : Interface
   pub last : is' ≡ is ++ added ∷ []
-  pub says : IsInterface written added
-  pub defines : (s : Address) → Defines old new is (owner.Interface (length is)) s [] added.types (in_turn (scope_names written) order)
+  pub says : IsInterface item.interface added
+  pub defines : (s : Address) → Defines old new is (owner.Interface (length is)) s [] added.types (in_turn (scope_names item) order)
 
 -- what interfaces add to the arenas, one after another
-abbrev pub AddsAll : List TypeDef → List TypeDef → List Interface → List Interface → List Written → Type 0
+abbrev pub AddsAll : List TypeDef → List TypeDef → List Interface → List Interface → List Item → Type 0
 AddsAll old new is is' [] = (new ≡ old) × (is' ≡ is)
 AddsAll old new is is' (w ∷ ws) = (mid : List TypeDef) × (between : List Interface) × AddsInterface old mid is between w × AddsAll mid new between is' ws
 
+-- the names at the top of each file differ
+pub record AreDistinctTops (files : List PackageFile) : Type 0 where
+  pub differ : (i : ℕ) (file : PackageFile) → slice_get files i ≡ Some file → AllDiffer (map top_text (top_names file))
+
+-- the path of each `use` among these declarations is the name of one of these interfaces
+pub record AreDeclaredUses (is : List Item) (declarations : List AstItem) : Type 0 where
+  pub declared : (k : ℕ) (u : ToplevelUse) → slice_get declarations k ≡ Some (ToplevelItem u) → IsSome (interface_named is (path_id u.item).name.now)
+
+-- so it is in each file
+pub record AreDeclaredTops (is : List Item) (files : List PackageFile) : Type 0 where
+  pub declared : (i : ℕ) (file : PackageFile) → slice_get files i ≡ Some file → AreDeclaredUses is file.decl_list.items.items
+
 -- no scope of these interfaces is broken by itself
-pub record AreLegalScopes (ws : List Written) : Type 0 where
-  pub legal : (i : ℕ) (w : Written) (f : Fault) → slice_get ws i ≡ Some w → IsBrokenScope (scope_names w) f → ⊥
+pub record AreLegalScopes (ws : List Item) : Type 0 where
+  pub legal : (i : ℕ) (w : Item) (f : Fault) → slice_get ws i ≡ Some w → IsBrokenScope (scope_names w) f → ⊥
 
 -- once some of the interfaces were added in the order of their places, the next one is wrong
-pub record IsWrongAmong (old : List TypeDef) (is : List Interface) (ws : List Written) (places : List ℕ) (f : Fault) : Type 0 where
+pub record IsWrongAmong (old : List TypeDef) (is : List Interface) (ws : List Item) (places : List ℕ) (f : Fault) : Type 0 where
   pub count : ℕ
   pub place : ℕ
-  pub interface : Written
+  pub item : Item
   pub next : slice_get places count ≡ Some place
-  pub at : slice_get ws place ≡ Some interface
+  pub at : slice_get ws place ≡ Some item
   pub mid : List TypeDef
   pub before : List Interface
   pub added : AddsAll old mid is before (in_order ws (take count places))
   pub by_name : Names
   pub index : IsIndex before by_name
-  pub wrong : IsWrongScope before by_name (scope_names interface) f
+  pub wrong : IsWrongScope before by_name (scope_names item) f

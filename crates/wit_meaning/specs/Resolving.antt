@@ -3,30 +3,30 @@ use Rattle.std.specs.Prelude.{◌≡◌, ℕ, List, [], ◌∷◌, ◌++◌, len
 use Rattle.std.specs.Cmp.Lexicographic.{pointwise}
 use Rattle.std.specs.Map.{lookup}
 use Rattle.indexmap.specs.IndexMap.{insert_entry}
-use Rattle.wit_tree.specs.declared.span.Span.{Span}
+use Rattle.wit_values.specs.declared.span.Span.{Span}
 use Rattle.wit_tree.specs.declared.tree.Id.{Id}
-use Rattle.wit_tree.specs.declared.tree.UsePath.{UsePath}
 use Rattle.wit_tree.specs.declared.tree.UseName.{UseName}
+use Rattle.wit_tree.specs.declared.tree.«Type».{«Type» as WrittenType}
 use Rattle.wit_tree.specs.declared.tree.TypeBody.{TypeBody}
 use Rattle.wit_tree.specs.declared.tree.TypeDef.{TypeDef as Definition}
 use Rattle.wit_tree.specs.declared.tree.Interface.{Interface as Written}
-use Rattle.wit_model.specs.declared.stability.Stability.TheVariants.{Unknown}
-use Rattle.wit_model.specs.declared.types.«Type».{«Type» as Ty}
-use Rattle.wit_model.specs.declared.types.«Type».TheVariants as type
-use Rattle.wit_model.specs.declared.types.TypeDefKind.{TypeDefKind}
-use Rattle.wit_model.specs.declared.types.TypeDefKind.TheVariants.{Type_}
-use Rattle.wit_model.specs.declared.types.TypeDef.{TypeDef}
-use Rattle.wit_model.specs.declared.types.TypeOwner.{TypeOwner}
-use Rattle.wit_model.specs.declared.types.TypeOwner.TheVariants as owner
+use Rattle.wit_types.specs.declared.stability.Stability.TheVariants.{Unknown}
+use Rattle.wit_types.specs.declared.types.«Type».{«Type» as Ty}
+use Rattle.wit_types.specs.declared.types.«Type».TheVariants as type
+use Rattle.wit_types.specs.declared.types.TypeDefKind.{TypeDefKind}
+use Rattle.wit_types.specs.declared.types.TypeDefKind.TheVariants.{Type_}
+use Rattle.wit_types.specs.declared.types.TypeDef.{TypeDef}
+use Rattle.wit_types.specs.declared.types.TypeOwner.{TypeOwner}
+use Rattle.wit_types.specs.declared.types.TypeOwner.TheVariants as owner
 use Rattle.wit_model.specs.declared.interface.Interface.{Interface}
-use Rattle.wit_meaning.specs.Source.{Address, InterfaceNamed, ScopeName, Used, Defined, local_id, local_name, path_id}
-use Rattle.wit_meaning.specs.Shape.{no_docs, all_words, body_of}
+use Rattle.wit_meaning.specs.Source.{Address, InterfaceNamed, ScopeName, Used, Defined, local_id, local_name}
+use Rattle.wit_meaning.specs.Shape.{no_docs, shape_of, all_shapes, words, all_words, body_of}
 use Rattle.wit_meaning.specs.Expr.{Expr, Prim, Use, Of, Exprs, End, More}
 use Rattle.wit_meaning.specs.Meet.{Key, Def, Whole, Meeting, keys, IsMet, Meets, AreAt, Decl, Decls, IsAmong, IsMeeting, all_name_meetings, decl_of}
 use Rattle.wit_meaning.specs.Repeats.{AllDiffer}
 use Rattle.wit_meaning.specs.Fault.{Fault, fault, missing_at, item_word, name_word}
 use Rattle.wit_meaning.specs.Package.{At, IsInterface}
-use Rattle.wit_meaning.specs.Broken.{IsBrokenBody, IsBrokenScope}
+use Rattle.wit_meaning.specs.Broken.{IsBrokenType, IsBrokenPart, IsBrokenBody, IsBrokenScope}
 
 -- what the names of a scope stand for
 abbrev pub Env : Type 0
@@ -126,6 +126,14 @@ pub record IsUnknown (env : Env) (ids : List Id) (f : Fault) : Type 0 where
   pub among : Contains ids id
   pub free : env id.name.now ≡ None
 
+-- what is wrong with a type that is resolved: with it or in it a rule is broken, or a name in it stands for nothing yet
+abbrev pub IsWrongType : Env → WrittenType → Fault → Type 0
+IsWrongType env t f = IsBrokenType t f ⊎ IsUnknown env (words (shape_of t)) f
+
+-- what is wrong with types
+abbrev pub AreWrongTypes : Env → List WrittenType → Fault → Type 0
+AreWrongTypes env ts f = IsBrokenPart ts f ⊎ IsUnknown env (all_words (all_shapes ts)) f
+
 -- what is wrong with a body that is resolved: a broken rule, or a name that stands for nothing yet
 abbrev pub IsWrongBody : Env → TypeBody → Fault → Type 0
 IsWrongBody env body f = IsBrokenBody body f ⊎ IsUnknown env (all_words (body_of body).parts) f
@@ -158,28 +166,32 @@ pub record IsFound (is : List Interface) (name : List ℕ) (i : Interface) : Typ
 abbrev pub IsUnresolved : Names → Id → Fault → Type 0
 IsUnresolved by_name path f = (env_of by_name path.name.now ≡ None) × (f ≡ missing_at 7 item_word path)
 
+-- the name by which a scope is addressed
+abbrev pub address_name : Address → List ℕ
+address_name (InterfaceNamed name) = name
+
 -- a used name was added, as another word for what it stands for in the interface that it comes from
-pub record IsUsed (old new : List TypeDef) (is : List Interface) (o : TypeOwner) (names names' : Names) (from : UsePath) (n : UseName) : Type 0 where
+pub record IsUsed (old new : List TypeDef) (is : List Interface) (o : TypeOwner) (names names' : Names) (from : Address) (n : UseName) : Type 0 where
   pub target : Interface
-  pub found : IsFound is (path_id from).name.now target
+  pub found : IsFound is (address_name from) target
   pub id : ℕ
   pub stands : env_of target.types n.name.name.now ≡ Some id
   pub free : env_of names (local_name (Used from n)) ≡ None
   pub added : IsAdded old new o names names' (local_name (Used from n)) n.name.span (Type_ (type.Id id))
 
 -- a used name is wrong by what was resolved before: its interface was not, or it is none of that interface's
-pub data IsWrongName (is : List Interface) (by_name : Names) (from : UsePath) (n : UseName) (f : Fault) : Type 0 where
-  Unresolved : IsUnresolved by_name (path_id from) f → IsWrongName is by_name from n f
-  Unstated : (target : Interface) → IsFound is (path_id from).name.now target → env_of target.types n.name.name.now ≡ None → f ≡ missing_at 12 name_word n.name → IsWrongName is by_name from n f
+pub data IsWrongName (is : List Interface) (by_name : Names) (from : Address) (n : UseName) (f : Fault) : Type 0 where
+  Unresolved : (path : Id) → path.name.now ≡ address_name from → IsUnresolved by_name path f → IsWrongName is by_name from n f
+  Unstated : (target : Interface) → IsFound is (address_name from) target → env_of target.types n.name.name.now ≡ None → f ≡ missing_at 12 name_word n.name → IsWrongName is by_name from n f
 
 -- what is wrong with a used name: it is by what was resolved before, or its local name is taken
-pub data IsWrongUse (is : List Interface) (by_name names : Names) (from : UsePath) (n : UseName) (f : Fault) : Type 0 where
+pub data IsWrongUse (is : List Interface) (by_name names : Names) (from : Address) (n : UseName) (f : Fault) : Type 0 where
   Wrong : IsWrongName is by_name from n f → IsWrongUse is by_name names from n f
   Taken : IsSome (env_of names (local_name (Used from n))) → f ≡ fault 14 (local_id (Used from n)).span → IsWrongUse is by_name names from n f
 
 -- what is wrong with a scope, by what was resolved before
 pub data IsWrongScope (is : List Interface) (by_name : Names) (xs : List ScopeName) (f : Fault) : Type 0 where
-  WrongName : (from : UsePath) (n : UseName) → Contains xs (Used from n) → IsWrongName is by_name from n f → IsWrongScope is by_name xs f
+  WrongName : (from : Address) (n : UseName) → Contains xs (Used from n) → IsWrongName is by_name from n f → IsWrongScope is by_name xs f
   WrongItself : IsBrokenScope xs f → IsWrongScope is by_name xs f
 
 -- an interface was added, with these names

@@ -2,14 +2,12 @@
 use Rattle.std.specs.Prelude.{ℕ, Bool, true, false, not, List, [], ◌∷◌, ◌++◌, map, slice_get}
 use Rattle.wit_tree.specs.declared.tree.Id.{Id}
 use Rattle.std.specs.List.{flat_map, filter, filter_map}
-use Rattle.std.specs.Option.{option_map_or}
 use Rattle.wit_tree.specs.declared.tree.InterfaceItem.{InterfaceItem}
 use Rattle.wit_tree.specs.declared.tree.InterfaceItem.TheVariants.{TypeDef as TypeItem, Use as UseItem}
-use Rattle.wit_tree.specs.declared.tree.Interface.{Interface}
 use Rattle.wit_tree.specs.declared.tree.PackageFile.{PackageFile}
 use Rattle.wit_order.specs.Table.{Row}
 use Rattle.wit_meaning.specs.Shape.{all_words, body_of}
-use Rattle.wit_meaning.specs.Source.{ScopeName, Used, Defined, local_name, path_id, interface_id, interface_name, interface_named, file_interfaces}
+use Rattle.wit_meaning.specs.Source.{ScopeName, Used, Defined, local_name, path_id, item_edge, Item, interface_name, interfaces}
 
 -- the names that a name of a scope needs: those in a definition's body; a used name needs none of its own scope
 abbrev pub needed_ids : ScopeName → List Id
@@ -48,20 +46,13 @@ abbrev pub item_paths : InterfaceItem → List Id
 item_paths (TypeItem d) = []
 item_paths (UseItem u) = path_id u.from ∷ []
 
-abbrev pub paths : Interface → List Id
-paths i = flat_map item_paths i.items.items
+abbrev pub paths : Item → List Id
+paths i = flat_map item_paths i.interface.items.items
 
--- a path as an edge between items: where its own file declares that name, the edge stands at the declaration
-abbrev pub item_edge : List Interface → Id → Id
-item_edge is path = option_map_or interface_id (interface_named is path.name.now) path
-
--- an item with what it uses; `is` are the items of its file
-abbrev pub item_row : List Interface → Interface → Row
-item_row is i = record { name = interface_name i; needs = map (item_edge is) (paths i) }
-
-abbrev pub file_rows : PackageFile → List Row
-file_rows f = map (item_row (file_interfaces f)) (file_interfaces f)
+-- an item with what its paths lead to
+abbrev pub item_row : Item → Row
+item_row i = record { name = interface_name i; needs = map (item_edge i.top) (paths i) }
 
 -- the table of the items of all files: each with the items that it uses
 abbrev pub item_rows : List PackageFile → List Row
-item_rows files = flat_map file_rows files
+item_rows files = map item_row (interfaces files)

@@ -1,14 +1,18 @@
 -- A written type as a shape: a primitive, a name, or a form over parts.
-use Rattle.std.specs.Prelude.{List, [], ◌∷◌, ◌++◌, None, map}
-use Rattle.wit_tree.specs.declared.span.Span.{Span}
+use Rattle.std.specs.Prelude.{Bool, true, false, List, [], ◌∷◌, ◌++◌, None, map, is_some}
+use Rattle.wit_values.specs.declared.span.Span.{Span}
 use Rattle.wit_tree.specs.declared.tree.Id.{Id}
-use Rattle.wit_tree.specs.declared.tree.«Type».{«Type» as Written}
+use Rattle.wit_tree.specs.declared.tree.«Type».{«Type» as Written, Held-Type-Result-1 as Held, None', Some', Row_of-Type, end_of-Type, more_of-Type}
 use Rattle.wit_tree.specs.declared.tree.«Type».TheVariants as written
 use Rattle.wit_tree.specs.declared.tree.Field.{Field}
+use Rattle.wit_tree.specs.declared.tree.Flag.{Flag}
+use Rattle.wit_tree.specs.declared.tree.Case.{Case}
+use Rattle.wit_tree.specs.declared.tree.EnumCase.{EnumCase}
 use Rattle.wit_tree.specs.declared.tree.TypeBody.{TypeBody}
-use Rattle.wit_tree.specs.declared.tree.TypeBody.TheVariants.{Record, Plain}
-use Rattle.wit_model.specs.declared.docs.Docs.{Docs}
-use Rattle.wit_meaning.specs.Form.{Member, Form, RecordForm, ListForm, AliasForm}
+use Rattle.wit_tree.specs.declared.tree.TypeBody.TheVariants.{Record, Flags, Variant, Enum, Plain}
+use Rattle.wit_tree.specs.Parts.{field_types, case_types}
+use Rattle.wit_types.specs.declared.docs.Docs.{Docs}
+use Rattle.wit_meaning.specs.Form.{Member, Form, RecordForm, FlagsForm, VariantForm, EnumForm, OptionForm, ResultForm, TupleForm, ListForm, MapForm, FixedLengthListForm, FutureForm, StreamForm, AliasForm}
 use Rattle.wit_meaning.specs.Node.{Primitive}
 use Rattle.wit_meaning.specs.Node as node
 
@@ -26,28 +30,52 @@ mutual
 abbrev pub one : Shape → Shapes
 one x = More x End
 
--- the shape of a written type
-abbrev pub shape_of : Written → Shape
-shape_of (written.Bool span) = Prim node.Bool
-shape_of (written.U8 span) = Prim node.U8
-shape_of (written.U16 span) = Prim node.U16
-shape_of (written.U32 span) = Prim node.U32
-shape_of (written.U64 span) = Prim node.U64
-shape_of (written.S8 span) = Prim node.S8
-shape_of (written.S16 span) = Prim node.S16
-shape_of (written.S32 span) = Prim node.S32
-shape_of (written.S64 span) = Prim node.S64
-shape_of (written.F32 span) = Prim node.F32
-shape_of (written.F64 span) = Prim node.F64
-shape_of (written.Char span) = Prim node.Char
-shape_of (written.String span) = Prim node.String
-shape_of (written.ErrorContext span) = Prim node.ErrorContext
-shape_of (written.Name id) = Word id
-shape_of (written.List' span p t) = Of span ListForm (one (shape_of t))
+-- whether there is a type
+abbrev pub is_held : Held → Bool
+is_held None' = false
+is_held (Some' p t) = true
 
-abbrev pub field_shapes : List Field → Shapes
-field_shapes [] = End
-field_shapes (f ∷ fs) = More (shape_of f.ty) (field_shapes fs)
+-- the shape of a written type; a part that is left out is told by the form
+abbrev mutual
+  pub shape_of : Written → Shape
+  shape_of (written.Bool span) = Prim node.Bool
+  shape_of (written.U8 span) = Prim node.U8
+  shape_of (written.U16 span) = Prim node.U16
+  shape_of (written.U32 span) = Prim node.U32
+  shape_of (written.U64 span) = Prim node.U64
+  shape_of (written.S8 span) = Prim node.S8
+  shape_of (written.S16 span) = Prim node.S16
+  shape_of (written.S32 span) = Prim node.S32
+  shape_of (written.S64 span) = Prim node.S64
+  shape_of (written.F32 span) = Prim node.F32
+  shape_of (written.F64 span) = Prim node.F64
+  shape_of (written.Char span) = Prim node.Char
+  shape_of (written.String span) = Prim node.String
+  shape_of (written.ErrorContext span) = Prim node.ErrorContext
+  shape_of (written.Name id) = Word id
+  shape_of (written.List' span p t) = Of span ListForm (one (shape_of t))
+  shape_of (written.FixedLengthList' span p t size) = Of span (FixedLengthListForm size) (one (shape_of t))
+  shape_of (written.Map' span p key q value) = Of span MapForm (More (shape_of key) (one (shape_of value)))
+  shape_of (written.Option' span p t) = Of span OptionForm (one (shape_of t))
+  shape_of (written.Result' span ok err) = Of span (ResultForm (is_held ok) (is_held err)) (held_shape ok (held_shape err End))
+  shape_of (written.Tuple' span shape ts) = Of span TupleForm (row_shapes ts)
+  shape_of (written.Future' span t) = Of span (FutureForm (is_held t)) (held_shape t End)
+  shape_of (written.Stream' span t) = Of span (StreamForm (is_held t)) (held_shape t End)
+
+  -- that of a type, where there is one, in front of others
+  pub held_shape : Held → Shapes → Shapes
+  held_shape None' xs = xs
+  held_shape (Some' p t) xs = More (shape_of t) xs
+
+  -- those of types in a row
+  pub row_shapes : {m : _} → Row_of-Type m → Shapes
+  row_shapes end_of-Type = End
+  row_shapes (more_of-Type t rest) = More (shape_of t) (row_shapes rest)
+
+-- the shapes of written types
+abbrev pub all_shapes : List Written → Shapes
+all_shapes [] = End
+all_shapes (t ∷ ts) = More (shape_of t) (all_shapes ts)
 
 -- what stands under a name: a form over parts
 pub record Body : Type 0 where
@@ -64,12 +92,28 @@ head (Word id) = record { form = AliasForm; parts = one (Word id) }
 abbrev pub no_docs : Docs
 no_docs = record { contents = None }
 
-abbrev pub written_member : Field → Member
-written_member f = record { name = f.name.name.now; docs = no_docs; span = f.name.span }
+-- a field, flag or case of this name
+abbrev pub member : Id → Member
+member id = record { name = id.name.now; docs = no_docs; span = id.span }
+
+abbrev pub written_field : Field → Member
+written_field f = member f.name
+
+abbrev pub written_flag : Flag → Member
+written_flag f = member f.name
+
+abbrev pub written_case : Case → Member × Bool
+written_case c = (member c.name, is_some c.ty)
+
+abbrev pub written_enum_case : EnumCase → Member
+written_enum_case c = member c.name
 
 -- what a definition says
 abbrev pub body_of : TypeBody → Body
-body_of (Record span fields) = record { form = RecordForm (map written_member fields.items); parts = field_shapes fields.items }
+body_of (Record span fields) = record { form = RecordForm (map written_field fields.items); parts = all_shapes (field_types fields.items) }
+body_of (Flags span flags) = record { form = FlagsForm (map written_flag flags.items); parts = End }
+body_of (Variant span cases) = record { form = VariantForm (map written_case cases.items); parts = all_shapes (case_types cases.items) }
+body_of (Enum span cases) = record { form = EnumForm (map written_enum_case cases.items); parts = End }
 body_of (Plain t) = head (shape_of t)
 
 -- the names written in a type, in written order

@@ -3,7 +3,7 @@ use Rattle.std.specs.Prelude.{ℕ, List, [], ◌∷◌, Option, Some, None, map,
 use Rattle.std.specs.List.{flat_map}
 use Rattle.std.specs.Option.{option_map_or, unwrap_or}
 use Rattle.std.specs.Str.{bytes_eq}
-use Rattle.wit_tree.specs.declared.span.Span.{Span}
+use Rattle.wit_values.specs.declared.span.Span.{Span}
 use Rattle.wit_tree.specs.declared.tree.Id.{Id}
 use Rattle.wit_tree.specs.declared.tree.TypeDef.{TypeDef}
 use Rattle.wit_tree.specs.declared.tree.InterfaceItem.{InterfaceItem}
@@ -13,49 +13,83 @@ use Rattle.wit_tree.specs.declared.tree.UsePath.TheVariants as path
 use Rattle.wit_tree.specs.declared.tree.UseName.{UseName}
 use Rattle.wit_tree.specs.declared.tree.Interface.{Interface}
 use Rattle.wit_tree.specs.declared.tree.AstItem.{AstItem}
-use Rattle.wit_tree.specs.declared.tree.AstItem.TheVariants.{Interface as InterfaceItem'}
+use Rattle.wit_tree.specs.declared.tree.AstItem.TheVariants.{Interface as InterfaceItem', Use as ToplevelItem}
 use Rattle.wit_tree.specs.declared.tree.PackageFile.{PackageFile}
-use Rattle.wit_model.specs.declared.stability.Stability.TheVariants.{Unknown}
+use Rattle.wit_types.specs.declared.stability.Stability.TheVariants.{Unknown}
 use Rattle.wit_meaning.specs.Form.{Form, AliasForm}
 use Rattle.wit_meaning.specs.Node.{Owner, OfInterface, Head, Node, Leaf, Named, Unnamed, Nothing, Tree, unfolded}
 use Rattle.wit_meaning.specs.Shape.{Shape, Prim, Word, Of, Shapes, End, More, one, Body, body_of, no_docs}
 
-abbrev pub item_interface : AstItem → Interface
-item_interface (InterfaceItem' i) = i
+-- what a path names
+abbrev pub path_id : UsePath → Id
+path_id (path.Id id) = id
+
+-- a name at the top of a file, and the name of the item that it stands for: of a declared item its own, of a `use` that of its path
+pub record TopName : Type 0 where
+  pub id : Id
+  pub original : Id
+
+abbrev pub top_name : AstItem → TopName
+top_name (InterfaceItem' i) = record { id = i.name; original = i.name }
+top_name (ToplevelItem u) = record { id = unwrap_or u.as_ (path_id u.item); original = path_id u.item }
+
+-- the names at the top of a file, in source order
+abbrev pub top_names : PackageFile → List TopName
+top_names f = map top_name f.decl_list.items.items
+
+abbrev pub top_text : TopName → List ℕ
+top_text t = t.id.name.now
+
+-- the first of these that goes by a name
+abbrev pub top_named : List TopName → List ℕ → Option TopName
+top_named top name = find (λ t. bytes_eq (top_text t) name) top
+
+abbrev pub top_original : TopName → Id
+top_original t = t.original
+
+-- the name of the item that a path leads to: what it stands for if it is a name at the top of its file, else itself
+abbrev pub item_edge : List TopName → Id → Id
+item_edge top path = option_map_or top_original (top_named top path.name.now) path
+
+-- a declared interface, with the names at the top of its file
+pub record Item : Type 0 where
+  pub top : List TopName
+  pub interface : Interface
+
+abbrev pub declared : List TopName → AstItem → List Item
+declared top (InterfaceItem' i) = record { top = top; interface = i } ∷ []
+declared top (ToplevelItem u) = []
 
 -- the interfaces of a file, in source order
-abbrev pub file_interfaces : PackageFile → List Interface
-file_interfaces f = map item_interface f.decl_list.items.items
+abbrev pub file_interfaces : PackageFile → List Item
+file_interfaces f = flat_map (declared (top_names f)) f.decl_list.items.items
 
 -- the interfaces of all files, in push order and then in source order
-abbrev pub interfaces : List PackageFile → List Interface
+abbrev pub interfaces : List PackageFile → List Item
 interfaces files = flat_map file_interfaces files
 
-abbrev pub interface_id : Interface → Id
-interface_id i = i.name
-
-abbrev pub interface_name : Interface → List ℕ
-interface_name i = i.name.name.now
+abbrev pub interface_name : Item → List ℕ
+interface_name i = i.interface.name.name.now
 
 -- the first interface of a name
-abbrev pub interface_named : List Interface → List ℕ → Option Interface
+abbrev pub interface_named : List Item → List ℕ → Option Item
 interface_named is name = find (λ i. bytes_eq (interface_name i) name) is
 
 -- a scope: the interface of a name
 pub data Address : Type 0 where
   InterfaceNamed : (name : List ℕ) → Address
 
--- what a path names
-abbrev pub path_id : UsePath → Id
-path_id (path.Id id) = id
+-- the interface at an address
+abbrev pub interface_at : List Item → Address → Option Item
+interface_at is (InterfaceNamed name) = interface_named is name
 
 -- the scope that a path leads to
-abbrev pub path_scope : UsePath → Address
-path_scope from = InterfaceNamed (path_id from).name.now
+abbrev pub path_scope : List TopName → UsePath → Address
+path_scope top from = InterfaceNamed (item_edge top (path_id from)).name.now
 
 -- a name of a scope: one that is used from an interface, or a definition
 pub data ScopeName : Type 0 where
-  Used : (from : UsePath) (name : UseName) → ScopeName
+  Used : (from : Address) (name : UseName) → ScopeName
   Defined : (d : TypeDef) → ScopeName
 
 -- a used name goes by the name that `as` gives it, or by its own
@@ -66,17 +100,17 @@ local_id (Defined d) = d.name
 abbrev pub local_name : ScopeName → List ℕ
 local_name x = (local_id x).name.now
 
-abbrev pub item_names : InterfaceItem → List ScopeName
-item_names (TypeItem d) = Defined d ∷ []
-item_names (UseItem u) = map (Used u.from) u.names.items
+abbrev pub item_names : List TopName → InterfaceItem → List ScopeName
+item_names top (TypeItem d) = Defined d ∷ []
+item_names top (UseItem u) = map (Used (path_scope top u.from)) u.names.items
 
 -- the names of an interface, in source order
-abbrev pub scope_names : Interface → List ScopeName
-scope_names i = flat_map item_names i.items.items
+abbrev pub scope_names : Item → List ScopeName
+scope_names i = flat_map (item_names i.top) i.interface.items.items
 
 -- the names of a scope
 abbrev pub scope : List PackageFile → Address → List ScopeName
-scope files (InterfaceNamed name) = option_map_or scope_names (interface_named (interfaces files) name) []
+scope files s = option_map_or scope_names (interface_at (interfaces files) s) []
 
 -- whose the names of a scope are
 abbrev pub owner : Address → Owner
@@ -101,7 +135,7 @@ name_body (Defined d) = body_of d.body
 
 -- the scope in which that is read: of a used name, the one that it comes from
 abbrev pub name_scope : Address → ScopeName → Address
-name_scope s (Used from n) = path_scope from
+name_scope s (Used from n) = from
 name_scope s (Defined d) = s
 
 abbrev pub name_form : ScopeName → Form

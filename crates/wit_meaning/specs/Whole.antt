@@ -1,25 +1,24 @@
 -- The theorem: what a resolved package is.
 use Rattle.std.specs.Prelude.{◌≡◌, ◌↔◌, ℕ, zero, suc, List, [], length, map, Option, Some, None, slice_get, position}
 use Rattle.std.specs.Str.{bytes_eq}
-use Rattle.wit_tree.specs.declared.span.Span.{Span}
+use Rattle.wit_values.specs.declared.span.Span.{Span}
 use Rattle.std.specs.Option.{option_map}
 use Rattle.semver.specs.Identifiers.{parts_of}
 use Rattle.wit_values.specs.ReleaseText.{release_parts}
-use Rattle.wit_tree.specs.declared.tree.Interface.{Interface as Written}
 use Rattle.wit_tree.specs.declared.tree.PackageName.{PackageName as Header}
 use Rattle.wit_tree.specs.declared.tree.PackageFile.{PackageFile}
 use Rattle.wit_model.specs.declared.interface.Interface.{Interface}
-use Rattle.wit_model.specs.declared.types.«Type».{«Type» as Ty}
-use Rattle.wit_model.specs.declared.types.«Type».TheVariants.{Id}
-use Rattle.wit_model.specs.declared.types.TypeDef.{TypeDef}
-use Rattle.wit_model.specs.declared.types.TypeOwner.{TypeOwner}
-use Rattle.wit_model.specs.declared.types.TypeOwner.TheVariants as owner
+use Rattle.wit_types.specs.declared.types.«Type».{«Type» as Ty}
+use Rattle.wit_types.specs.declared.types.«Type».TheVariants.{Id}
+use Rattle.wit_types.specs.declared.types.TypeDef.{TypeDef}
+use Rattle.wit_types.specs.declared.types.TypeOwner.{TypeOwner}
+use Rattle.wit_types.specs.declared.types.TypeOwner.TheVariants as owner
 use Rattle.wit_order.specs.Table.{IsOrder}
 use Rattle.wit_model.specs.declared.unresolved.UnresolvedPackage.{UnresolvedPackage}
 use Rattle.wit_meaning.specs.Form.{Form, OwnForm, AliasForm, ResourceForm, UnknownForm, RecordForm, FlagsForm, VariantForm, EnumForm, kind_of}
 use Rattle.std.specs.List.{flat_map}
 use Rattle.wit_meaning.specs.Shape.{Word, Of, Shapes}
-use Rattle.wit_meaning.specs.Source.{Address, InterfaceNamed, ScopeName, interfaces, interface_name, scope_names, local_name, local_id, Place, placed, scope, name_parts, source_tree}
+use Rattle.wit_meaning.specs.Source.{Item, Address, InterfaceNamed, ScopeName, interfaces, interface_name, scope_names, local_name, local_id, Place, placed, scope, name_parts, source_tree}
 use Rattle.wit_meaning.specs.Expr.{Expr, expr_of}
 use Rattle.wit_meaning.specs.Scope.{item_rows, rows_of, in_order, in_turn}
 use Rattle.wit_meaning.specs.Broken.{last_header}
@@ -28,40 +27,40 @@ use Rattle.wit_meaning.specs.Package.{At, HasPart, IsBelow, Reaches, IsInterface
 
 -- an interface, with an order of its names
 pub record Ordered : Type 0 where
-  pub interface : Written
+  pub item : Item
   pub order : List ℕ
 
-abbrev pub interface_of : Ordered → Written
-interface_of o = o.interface
+abbrev pub item_of : Ordered → Item
+item_of o = o.item
 
 -- the names of an interface: the used ones, and then the definitions in its order
 abbrev pub ordered_names : Ordered → List ScopeName
-ordered_names o = in_turn (scope_names o.interface) o.order
+ordered_names o = in_turn (scope_names o.item) o.order
 
 -- the scope of an interface
-abbrev pub address : Written → Address
+abbrev pub address : Item → Address
 address w = InterfaceNamed (interface_name w)
 
 -- what is met in interfaces, in order
 abbrev pub meetings : List Ordered → List Meeting
-meetings os = flat_map (λ o. all_name_meetings (address o.interface) (ordered_names o)) os
+meetings os = flat_map (λ o. all_name_meetings (address o.item) (ordered_names o)) os
 
 abbrev pub place_owner : Option ℕ → TypeOwner
 place_owner None = owner.None
 place_owner (Some place) = owner.Interface place
 
 -- the owner that the arena knows a scope by: the place of the first interface of its name
-abbrev pub owner_at : List Written → Address → TypeOwner
+abbrev pub owner_at : List Item → Address → TypeOwner
 owner_at ws (InterfaceNamed name) = place_owner (position (λ w. bytes_eq (interface_name w) name) ws)
 
 -- the declarations of each scope, where the arena has the interfaces in this order
-abbrev pub declarations : List PackageFile → List Written → Decls
+abbrev pub declarations : List PackageFile → List Item → Decls
 declarations files ws s = map (decl_of (owner_at ws s) s) (scope files s)
 
 -- the names of an interface are its names in turn, and stand for their places
 pub record HasTypes (ks : List Key) (o : Ordered) (i : Interface) : Type 0 where
   pub names : map (λ t. t.0) i.types ≡ map local_name (ordered_names o)
-  pub places : (k : ℕ) (name : List ℕ) (id : ℕ) → slice_get i.types k ≡ Some (name, id) → slice_get ks id ≡ Some (Def (address o.interface) name)
+  pub places : (k : ℕ) (name : List ℕ) (id : ℕ) → slice_get i.types k ≡ Some (name, id) → slice_get ks id ≡ Some (Def (address o.item) name)
 
 -- The package has the name and the version of the last header, the interfaces in the least order in which each comes after those that
 -- it uses, each with its used names and then its definitions in the least dependency-first order, and its arena of types is the list
@@ -77,13 +76,13 @@ pub record IsPackage (files : List PackageFile) (p : UnresolvedPackage) : Type 0
   pub items : List ℕ
   pub item_order : IsOrder (item_rows files) items
   pub ordered : List Ordered
-  pub all : map interface_of ordered ≡ in_order (interfaces files) items
-  pub least : (t : ℕ) (o : Ordered) → slice_get ordered t ≡ Some o → IsOrder (rows_of (scope_names o.interface)) o.order
+  pub all : map item_of ordered ≡ in_order (interfaces files) items
+  pub least : (t : ℕ) (o : Ordered) → slice_get ordered t ≡ Some o → IsOrder (rows_of (scope_names o.item)) o.order
   pub met : List Meeting
   pub meets : Meets [] (meetings ordered) met
-  pub meeting : IsMeeting (declarations files (map interface_of ordered)) met p.types
+  pub meeting : IsMeeting (declarations files (map item_of ordered)) met p.types
   pub count : length p.interfaces ≡ length ordered
-  pub says : (t : ℕ) (o : Ordered) (i : Interface) → slice_get ordered t ≡ Some o → slice_get p.interfaces t ≡ Some i → IsInterface o.interface i
+  pub says : (t : ℕ) (o : Ordered) (i : Interface) → slice_get ordered t ≡ Some o → slice_get p.interfaces t ≡ Some i → IsInterface o.item.interface i
   pub types : (t : ℕ) (o : Ordered) (i : Interface) → slice_get ordered t ≡ Some o → slice_get p.interfaces t ≡ Some i → HasTypes (keys met) o i
   -- two written types are one type exactly where they are one expression
   pub one : (x y : Expr) (t u : Ty) → IsAt (keys met) x t → IsAt (keys met) y u → (t ≡ u) ↔ (x ≡ y)

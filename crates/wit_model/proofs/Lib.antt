@@ -5,5 +5,4 @@ pub mod Placing
 pub mod Pairs
 pub mod Same
 pub mod SameMaps
-pub mod Moving
 pub mod WorldSpans

@@ -3,18 +3,16 @@ use Rattle.std.proofs.Common.{◌≡◌, ℕ, zero, suc, ◌+◌, ◌-◌, ◌<�
 use Rattle.std.proofs.lemmas.Bool.{cases_Bool}
 use Rattle.std.proofs.lemmas.List.{at_drop_more, take_more, get_or-append-add}
 use Rattle.std.proofs.lemmas.List.Edits.{insert-append_right, remove-append_right}
-use Rattle.std.proofs.lemmas.Option.{get_or_from_slice_get, slice_get_cases, slice_get_within, slice_get_read}
+use Rattle.std.proofs.lemmas.Option.{get_or_from_slice_get, slice_get_within, slice_get_read}
 use Rattle.std.proofs.Math.Seq.{drop-append-add}
 use Rattle.std.specs.List.{position_from}
 use Rattle.std.specs.Map.{values_of}
 use Rattle.std.specs.Option.{option_map}
 use Rattle.indexmap.specs.IndexMap.{move_index}
+use Rattle.wit_types.proofs.Moving.{some_at}
 use Rattle.wit_model.proofs.InTurn.{in_turn, put_at}
 use Rattle.wit_model.specs.Setters.{getter_index, goes_with, pairs}
 use Rattle.wit_model.specs.declared.function.Function.{Function}
-
-pub some_at : {X : Type 0} (es : List X) (i : ℕ) → i < length es → (x : X) × (slice_get es i ≡ Some x)
-some_at es i h = elim (slice_get_cases es i).1 [ inl w ↦ (w.0, w.2) | inr w ↦ absurd (omega (arith, w.0)) ]
 
 -- a search that starts at a later index
 pub shift : {X : Type 0} (t : X → Bool) (n i : ℕ) (xs : List X) → position_from t (n + i) xs ≡ option_map (λ k. n + k) (position_from t i xs)

@@ -7,7 +7,8 @@ use Rattle.std.specs.HashMap.{entries_eq}
 use Rattle.std.proofs.lemmas.Bool.Decides.{Decides-and, Decides-at, Decides-eqb, Decides-like}
 use Rattle.std.proofs.lemmas.Map.Lookups.{hash_map_eq-Decides}
 use Rattle.indexmap.specs.Layout.{hash_map}
-use Rattle.wit_model.proofs.Same.{Decides-docs, Decides-function, Decides-include, Decides-option, Decides-optional_text, Decides-row, Decides-span, Decides-stability, Decides-text, Decides-type_def, Decides-world_item}
+use Rattle.wit_types.proofs.Same.{Decides-docs, Decides-option, Decides-optional_text, Decides-row, Decides-span, Decides-stability, Decides-text, Decides-type_def}
+use Rattle.wit_model.proofs.Same.{Decides-function, Decides-include, Decides-world_item}
 use Rattle.wit_model.specs.Same.{AreSame, HoldSamePairs, IsSameInterface, IsSamePackage, IsSameWorld, is_same_key, is_same_name}
 use Rattle.wit_model.specs.contracts.interface.InterfacePartialEq.TheImpl.{eq-value as interface_test}
 use Rattle.wit_model.specs.contracts.world.WorldItemPartialEq.TheImpl.{eq-value as world_item_test}

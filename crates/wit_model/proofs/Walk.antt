@@ -1,15 +1,14 @@
 -- Steps of a walk down the slots of a backward arena.
-use Rattle.std.proofs.Common.{◌≡◌, ◌<◌, ◌≤◌, ◌+◌, ◌++◌, ◌||◌, ℕ, zero, suc, Bool, true, false, List, [], ◌∷◌, Option, Some, take, get_or, slice_get, length, refl, sym, ap, ◌∙◌, inl, inr, arith, append_assoc}
+use Rattle.std.proofs.Common.{◌≡◌, ◌≤◌, ◌+◌, ◌++◌, ◌||◌, ℕ, zero, suc, Bool, true, false, List, [], ◌∷◌, Option, Some, take, get_or, slice_get, length, refl, sym, ap, ◌∙◌, inl, inr, arith, append_assoc}
 use Rattle.std.proofs.lemmas.Bool.{cases_Bool}
-use Rattle.std.proofs.lemmas.Bool.Decides.{leb_tells}
 use Rattle.std.proofs.lemmas.List.{flat_map_more, take_all, take_more}
 use Rattle.std.proofs.lemmas.List.Folds.{list_any_more}
 use Rattle.std.proofs.lemmas.Option.{get_or_from_slice_get, slice_get_past, slice_get_within}
 use Rattle.std.specs.List.{flat_map, list_any}
 use Rattle.wit_model.specs.Futures.{futures, has_unknown, is_awaited, is_unknown, itself}
-use Rattle.wit_model.specs.Types.{IsBackward, place_of_slot, places_to, rank, slots}
-use Rattle.wit_model.specs.declared.types.«Type».{«Type» as Ty}
-use Rattle.wit_model.specs.declared.types.TypeDef.{TypeDef}
+use Rattle.wit_types.specs.Types.{IsBackward, place_of_slot, places_to, rank, slots}
+use Rattle.wit_types.specs.declared.types.«Type».{«Type» as Ty}
+use Rattle.wit_types.specs.declared.types.TypeDef.{TypeDef}
 
 -- the type in a slot of an entry is earlier
 pub slot_below : (types : List TypeDef) (id : ℕ) (d : TypeDef) (i : ℕ) (s : Option Ty) → IsBackward types → slice_get types id ≡ Some d → slice_get (slots d.kind) i ≡ Some s → rank s ≤ id
@@ -71,18 +70,6 @@ module _ (types : List TypeDef) (slot : Option Ty) (id : ℕ) (d : TypeDef) (is 
       let rest = none m low ∙ refl in
       let whole : list_any (has_unknown types m) (slots d.kind) ≡ false = ap (λ l. list_any (has_unknown types m) l) (sym (take_all k (slots d.kind) all)) ∙ rest in
       sym (one ∙ ap (λ b. b || list_any (has_unknown types m) (slots d.kind)) plain ∙ whole)
-
--- what holds of each entry before a place and of that at the place holds of each up to it
-pub covers_one_more : {X : Type 0} (P : ℕ → X → Type 0) (xs : List X) (i : ℕ) (x : X) → slice_get xs i ≡ Some x → P i x
-    → ((j : ℕ) (y : X) → j < i → slice_get xs j ≡ Some y → P j y) → (j : ℕ) (y : X) → j < i + 1 → slice_get xs j ≡ Some y → P j y
-covers_one_more {X = X} P xs i x here one before j y low at = elim (leb_tells i j) [
-  | inl late ↦
-      let e : j ≡ i = omega (arith, low, late.1) in
-      let found : slice_get xs i ≡ Some y = rw e at at in
-      let same : y ≡ x = cc in
-      rw (e, same) one
-  | inr early ↦ before j y early.1 at
-]
 
 module _ (types : List TypeDef) (slot : Option Ty) (id : ℕ) (is : place_of_slot slot ≡ Some id) (outside : length types ≤ id) where
   pub futures_outside : (n : ℕ) → futures types n slot ≡ []

@@ -3,8 +3,9 @@ use Rattle.std.proofs.Common.{ℕ, Bool, true, false, ◌++◌}
 use Rattle.std.specs.Bool.{MatchBool}
 use Rattle.std.specs.List.{flat_map}
 use Rattle.std.specs.Map.{values_of}
-use Rattle.wit_model.proofs.Moving.{AllFit-append, AllFit-parts}
-use Rattle.wit_model.specs.Spans.{AllFit, Fits, include_spans, item_spans, world_spans}
+use Rattle.wit_types.proofs.Moving.{AllFit-append, AllFit-parts}
+use Rattle.wit_types.specs.Spans.{AllFit, Fits}
+use Rattle.wit_model.specs.Spans.{include_spans, item_spans, world_spans}
 use Rattle.wit_model.specs.declared.world.World.{World}
 
 pub record PartsFit (o : ℕ) (w : World) : Type 0 where

@@ -1,10 +1,10 @@
 -- What a function's kind tells: whether it is asynchronous, which accessor it is, and of which resource.
 use Rattle.std.specs.Prelude.{ℕ, Bool, true, false, Option, Some, None}
 use Rattle.std.specs.Borrow.{LendsIf, MutBor, Fml}
-use Rattle.wit_tree.specs.declared.accessor.AccessorKind.{AccessorKind}
-use Rattle.wit_tree.specs.declared.accessor.AccessorKind.TheVariants as accessor
-use Rattle.wit_model.specs.contracts.arena.Id.{the_row as id_row}
-use Rattle.wit_model.specs.contracts.ids.TypePlace.{the_row as place_row}
+use Rattle.wit_values.specs.declared.accessor.AccessorKind.{AccessorKind}
+use Rattle.wit_values.specs.declared.accessor.AccessorKind.TheVariants as accessor
+use Rattle.wit_types.specs.contracts.arena.Id.{the_row as id_row}
+use Rattle.wit_types.specs.contracts.ids.TypePlace.{the_row as place_row}
 use Rattle.wit_model.specs.contracts.function.FunctionKind.{the_row}
 use Rattle.wit_model.specs.declared.function.FunctionKind.{FunctionKind}
 use Rattle.wit_model.specs.declared.function.FunctionKind.TheVariants as kind

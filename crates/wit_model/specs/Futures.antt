@@ -1,12 +1,12 @@
 -- The futures and streams of a signature, each after those below it.
 use Rattle.std.specs.Prelude.{ℕ, zero, suc, ◌++◌, ◌||◌, Bool, true, false, List, [], ◌∷◌, Option, Some, None, length, slice_get}
 use Rattle.std.specs.List.{flat_map, list_any}
-use Rattle.wit_model.specs.Types.{place_of_slot, slots}
+use Rattle.wit_types.specs.Types.{place_of_slot, slots}
 use Rattle.wit_model.specs.declared.function.Function.{Function}
-use Rattle.wit_model.specs.declared.types.TypeDef.{TypeDef}
-use Rattle.wit_model.specs.declared.types.TypeDefKind.{TypeDefKind}
-use Rattle.wit_model.specs.declared.types.TypeDefKind.TheVariants as kind
-use Rattle.wit_model.specs.declared.types.«Type».{«Type» as Ty}
+use Rattle.wit_types.specs.declared.types.TypeDef.{TypeDef}
+use Rattle.wit_types.specs.declared.types.TypeDefKind.{TypeDefKind}
+use Rattle.wit_types.specs.declared.types.TypeDefKind.TheVariants as kind
+use Rattle.wit_types.specs.declared.types.«Type».{«Type» as Ty}
 
 -- a future or a stream
 abbrev pub is_awaited : TypeDefKind → Bool

@@ -1,14 +1,14 @@
 -- The types in a function's signature.
 use Rattle.std.specs.Prelude.{ℕ, Bool, false, List, ◌++◌, Option, Some, None, map, nat_eq, option_to_list, slice_get}
 use Rattle.wit_model.specs.FunctionKinds.{constructed}
-use Rattle.wit_model.specs.Types.{place_of_slot}
+use Rattle.wit_types.specs.Types.{place_of_slot}
 use Rattle.wit_model.specs.declared.function.Function.{Function}
 use Rattle.wit_model.specs.declared.signature.ParamResultTypes.{ParamResultTypes}
-use Rattle.wit_model.specs.declared.types.Handle.TheVariants as handle
-use Rattle.wit_model.specs.declared.types.TypeDef.{TypeDef}
-use Rattle.wit_model.specs.declared.types.TypeDefKind.{TypeDefKind}
-use Rattle.wit_model.specs.declared.types.TypeDefKind.TheVariants as kind
-use Rattle.wit_model.specs.declared.types.«Type».{«Type» as Ty}
+use Rattle.wit_types.specs.declared.types.Handle.TheVariants as handle
+use Rattle.wit_types.specs.declared.types.TypeDef.{TypeDef}
+use Rattle.wit_types.specs.declared.types.TypeDefKind.{TypeDefKind}
+use Rattle.wit_types.specs.declared.types.TypeDefKind.TheVariants as kind
+use Rattle.wit_types.specs.declared.types.«Type».{«Type» as Ty}
 
 -- the types of the parameters in order, and then the result
 abbrev pub signature : Function → List Ty

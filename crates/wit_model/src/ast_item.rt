@@ -1,6 +1,6 @@
 //! The items of a file.
 
-use crate::ids::{InterfaceId, WorldId};
+use wit_types::{InterfaceId, WorldId};
 
 /// An interface or a world, as an entry of its arena.
 #[derive(Debug, Clone, Copy, PartialEq, Eq)]

@@ -2,19 +2,12 @@
 ghost use Rattle.std.specs.Prelude.{◌≡◌, IfOk};
 
 use crate::function::{Function, Param};
-use crate::ids::TypeId;
 use crate::interface::Interface;
-use crate::laws::copies::{copy_docs, copy_kind, copy_stability};
-use crate::types::TypeDef;
 use crate::world::{World, WorldInclude, WorldItem, WorldKey};
 use std::alloc::AllocError;
-use wit_values::{Row, Table, Text, TextTable};
-
-fn copy_text(text: &Option<Text>) -> Result<Option<Text>, AllocError>
-    ensures { IfOk result (λ copy. copy ≡ text.now) }
-{
-    text.clone()
-}
+use wit_types::TypeId;
+use wit_types::laws::copies::{copy_docs, copy_stability, copy_text};
+use wit_values::{Row, Table, TextTable};
 
 fn copy_params(params: &Row<Param>) -> Result<Row<Param>, AllocError>
     ensures { IfOk result (λ copy. copy ≡ params.now) }
@@ -44,22 +37,6 @@ fn copy_includes(includes: &Row<WorldInclude>) -> Result<Row<WorldInclude>, Allo
     ensures { IfOk result (λ copy. copy ≡ includes.now) }
 {
     includes.clone()
-}
-
-impl Clone for TypeDef {
-    ghost is_clone = { λ def copy. copy ≡ def };
-
-    fn clone(&self) -> Result<TypeDef, AllocError> {
-        Ok(TypeDef {
-            name: copy_text(&self.name)?,
-            kind: copy_kind(&self.kind)?,
-            owner: self.owner,
-            docs: copy_docs(&self.docs)?,
-            stability: copy_stability(&self.stability)?,
-            span: self.span,
-            external_id: copy_text(&self.external_id)?,
-        })
-    }
 }
 
 impl Clone for Function {

@@ -1,11 +1,7 @@
 //! Functions.
 
-use crate::docs::Docs;
-use crate::ids::TypeId;
-use crate::stability::Stability;
-use crate::types::Type;
-use wit_tree::Span;
-use wit_values::{Row, Text};
+use wit_types::{Docs, Stability, Type, TypeId};
+use wit_values::{Row, Span, Text};
 
 /// A parameter. Its span is the name's; that of `self` is the function's.
 #[derive(Debug, Clone, PartialEq, Eq, Drop)]

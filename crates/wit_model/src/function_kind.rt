@@ -5,8 +5,8 @@ ghost use Rattle.std.specs.Borrow.{sem};
 ghost use Rattle.wit_model.specs.FunctionKinds.{LendsResource, accessor_of, is_async, resource_of};
 
 use crate::function::FunctionKind;
-use crate::ids::TypeId;
-use wit_tree::AccessorKind;
+use wit_types::TypeId;
+use wit_values::AccessorKind;
 
 impl FunctionKind {
     /// Whether calls of it may wait.

@@ -1,13 +1,26 @@
 //! The futures and streams of a function's signature.
 ghost use Rattle.std.specs.Prelude.{◌≡◌, ◌≤◌, ◌++◌, ℕ, IfOk, OnOk, length};
-ghost use Rattle.wit_model.specs.Futures.{futures, futures_of, has_unknown, reaches_unknown};
-ghost use Rattle.wit_model.specs.Types.{IsBackward, rank};
+ghost use Rattle.wit_model.specs.Futures.{futures, futures_of, has_unknown, is_awaited, is_unknown, reaches_unknown};
+ghost use Rattle.wit_types.specs.Types.{IsBackward, rank};
 
 use crate::function::Function;
-use crate::ids::TypeId;
-use crate::slots::{is_awaited, is_unknown, place_of_slot, slot, slot_count};
-use crate::types::{Type, Types};
 use std::alloc::{AllocError, Global};
+use wit_types::slots::{place_of_slot, slot, slot_count};
+use wit_types::{Type, TypeDefKind, TypeId, Types};
+
+// Whether a kind is a future or a stream.
+fn is_awaited(kind: &TypeDefKind) -> bool
+    ensures { result ≡ is_awaited kind.now }
+{
+    matches!(kind, TypeDefKind::Future(_) | TypeDefKind::Stream(_))
+}
+
+// Whether a kind is that of a type of another package.
+fn is_unknown(kind: &TypeDefKind) -> bool
+    ensures { result ≡ is_unknown kind.now }
+{
+    matches!(kind, TypeDefKind::Unknown)
+}
 
 // Adds the futures and streams in a slot.
 fn add_futures(

@@ -1,11 +1,8 @@
 //! Interfaces.
 
-use crate::docs::Docs;
 use crate::function::Function;
-use crate::ids::{InterfaceId, PackageId, TypeId};
-use crate::stability::Stability;
-use wit_tree::Span;
-use wit_values::{Text, TextTable};
+use wit_types::{Docs, InterfaceId, PackageId, Stability, TypeId};
+use wit_values::{Span, Text, TextTable};
 
 /// An interface: its types and functions by their names.
 #[derive(Debug, PartialEq, Eq, Drop)]

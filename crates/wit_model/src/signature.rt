@@ -4,7 +4,7 @@ ghost use Rattle.std.specs.Iterator.{YieldsFirst, item_count};
 ghost use Rattle.wit_model.specs.Signature.{is_shorthand, signature, types_left};
 
 use crate::function::{Function, FunctionKind, Param};
-use crate::types::{Handle, Type, TypeDefKind, Types};
+use wit_types::{Handle, Type, TypeDefKind, Types};
 
 /// The types of a function's parameters in order, then its result if there is one, and then no
 /// more.

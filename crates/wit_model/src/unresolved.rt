@@ -1,15 +1,13 @@
 //! Resolved packages.
 ghost use Rattle.std.specs.Prelude.{◌≡◌, IfOk};
 
-use crate::arena::Arena;
-use crate::ids::{InterfacePlace, TypePlace, WorldPlace};
 use crate::interface::Interface;
 use crate::laws::copies::copy_package_name;
 use crate::package_name::PackageName;
-use crate::types::TypeDef;
 use crate::world::World;
 use std::alloc::AllocError;
-use wit_tree::Span;
+use wit_types::{Arena, InterfacePlace, TypeDef, TypePlace, WorldPlace};
+use wit_values::Span;
 
 /// A package whose names are resolved, but not those of other packages.
 ///

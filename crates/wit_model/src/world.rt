@@ -3,14 +3,10 @@ ghost use Rattle.std.specs.Prelude.{◌≡◌, IfOk, IsSome, Some, string_bytes}
 ghost use Rattle.std.specs.Option.{option_copied};
 ghost use Rattle.wit_model.specs.Worlds.{IsWithin, function_of, key_text, name_of, span_of, stability_of};
 
-use crate::docs::Docs;
 use crate::function::Function;
-use crate::ids::{InterfaceId, PackageId, TypeId, WorldId};
-use crate::stability::Stability;
-use crate::types::Types;
 use std::alloc::{AllocError, Global};
-use wit_tree::Span;
-use wit_values::{Row, Table, Text};
+use wit_types::{Docs, InterfaceId, PackageId, Stability, TypeId, Types, WorldId};
+use wit_values::{Row, Span, Table, Text};
 
 /// A world: what a component imports and exports.
 #[derive(Debug, PartialEq, Eq, Drop)]

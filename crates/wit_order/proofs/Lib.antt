@@ -12,6 +12,8 @@ pub mod SameEdges
 pub mod Decided
 pub mod Faults
 pub mod ReadySet
-pub mod Chains
+pub mod Cut
+pub mod Filling
+pub mod Spread
 pub mod Released
 pub mod TreeState

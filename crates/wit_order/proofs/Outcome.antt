@@ -9,8 +9,7 @@ use Rattle.wit_tree.specs.declared.tree.Id.{Id}
 use Rattle.wit_order.specs.declared.fault.OrderFault.TheVariants.{Cyclic}
 use Rattle.wit_order.specs.Edges.{IsFirstEdge}
 use Rattle.std.proofs.lemmas.List.Sums.{sum_by-cons}
-use Rattle.wit_order.specs.Users.{edge_count}
-use Rattle.wit_order.specs.Graph.{Graph, HasEdge, IsClosed, IsGraphEdge, IsStuckEdge, IsSortOf}
+use Rattle.wit_order.specs.Graph.{Graph, edge_count, HasEdge, IsClosed, IsGraphEdge, IsStuckEdge, IsSortOf}
 use Rattle.wit_order.specs.Order.{Walk, ReachesCycle, IsDependencyFirst, IsLeast}
 use Rattle.wit_order.specs.Table.{Row, place_of, target, IsEdge, Leads, IsComplete, IsOrder}
 use Rattle.wit_order.specs.Resolved.{IsGraphOf, Cycles}
@@ -62,7 +61,7 @@ pub place_below : (rs : List Row) (name : List ℕ) (w : ℕ) → place_of rs na
 place_below rs name w e = (position-Some (λ (row : Row). bytes_eq name row.name) rs w (record { name = name; needs = [] }) e).0
 
 row_edge : (g : Graph) (i k w : ℕ) → IsGraphEdge g i k w → HasEdge g i w
-row_edge g i k w (row, at, there) = (row, at, (k, slice_get_within row.items k w there, get_or_from_slice_get row.items k w w there))
+row_edge g i k w (row, at, there) = (row, at, (k, slice_get_within row k w there, get_or_from_slice_get row k w w there))
 
 module _ (g : Graph) (free : Vec Bool Global) (s : IsSortOf g (Stuck free)) where
   stuck_cycle_at : (p : ℕ) → p < length g → get_or free.items p false ≡ false → ReachesCycle (HasEdge g) p
@@ -79,7 +78,7 @@ module _ (g : Graph) (free : Vec Bool Global) (s : IsSortOf g (Stuck free)) wher
       let e = cycle_edge (HasEdge g) s.2.0 s.2.2 in
       let l = e.2 in
       let row = l.0 in
-      none e.0 l.2.0 e.1 (row, l.1, slice_get-get_or row.items l.2.0 e.1 l.2.1 ∙ ap Some l.2.2)
+      none e.0 l.2.0 e.1 (row, l.1, slice_get-get_or row l.2.0 e.1 l.2.1 ∙ ap Some l.2.2)
       (stuck_from_cycle e.0 (edge_from g e.0 e.1 l) e.3, stuck_from_cycle e.1 (edge_to g e.0 e.1 closed l) e.4)
 
 -- the graph of some rows has as many edges as they have
@@ -90,8 +89,8 @@ edges_alike rs (r ∷ g) [] same = absurd (omega (arith, ap length same))
 edges_alike rs (r ∷ g) (v ∷ vs) same =
     let first : has r ≡ wants rs v = ap (λ l. get_or l 0 []) same in
     let rest = edges_alike rs g vs (ap (drop 1) same) in
-    let long : length r.items ≡ length v.needs = sym (length-map r.items Some) ∙ ap length first ∙ length-map v.needs (target rs) in
-    omega (arith, rest, long, sum_by-cons (λ (row : Vec ℕ Global). length row.items) r g, sum_by-cons (λ (row : Row). length row.needs) v vs)
+    let long : length r ≡ length v.needs = sym (length-map r Some) ∙ ap length first ∙ length-map v.needs (target rs) in
+    omega (arith, rest, long, sum_by-cons (λ (row : List ℕ). length row) r g, sum_by-cons (λ (row : Row). length row.needs) v vs)
 
 module _ (rs : List Row) (g : Graph) (same : IsGraphOf rs g) where
   pub edges_counted : edge_count g ≡ sum_by (λ (row : Row). length row.needs) rs
@@ -103,13 +102,13 @@ module _ (rs : List Row) (g : Graph) (same : IsGraphOf rs g) where
   pub edge_to_graph : (i k : ℕ) (id : Id) → IsEdge rs i k id → (w : ℕ) × IsGraphEdge g i k w × (target rs id ≡ Some w)
   edge_to_graph i k id (ids, at, there) =
       let row = matched has (wants rs) g rs same i ids at in
-      let x = matched Some (target rs) row.0.items ids.needs row.2 k id there in
+      let x = matched Some (target rs) row.0 ids.needs row.2 k id there in
       (x.0, (row.0, row.1, x.1), sym x.2)
 
   pub edge_from_graph : (i k w : ℕ) → IsGraphEdge g i k w → (id : Id) × IsEdge rs i k id × (target rs id ≡ Some w)
   edge_from_graph i k w (row, at, there) =
       let ids = matched (wants rs) has rs g (sym same) i row at in
-      let x = matched (target rs) Some ids.0.needs row.items ids.2 k w there in
+      let x = matched (target rs) Some ids.0.needs row ids.2 k w there in
       (x.0, (ids.0, ids.1, x.1), x.2)
 
   pub leads_edge : (a b : ℕ) → Leads rs a b → HasEdge g a b
@@ -117,11 +116,11 @@ module _ (rs : List Row) (g : Graph) (same : IsGraphOf rs g) where
       let w = edge_to_graph a k id e in
       let some : Some w.0 ≡ Some b = sym w.2 ∙ p in
       let row = w.1.0 in
-      (row, w.1.1, (k, slice_get_within row.items k w.0 w.1.2, get_or_from_slice_get row.items k w.0 b w.1.2 ∙ same_Some w.0 b some))
+      (row, w.1.1, (k, slice_get_within row k w.0 w.1.2, get_or_from_slice_get row k w.0 b w.1.2 ∙ same_Some w.0 b some))
 
   pub edge_leads : (a b : ℕ) → HasEdge g a b → Leads rs a b
   edge_leads a b (row, at, (k, inside, e)) =
-      let w = edge_from_graph a k b (row, at, slice_get-get_or row.items k b inside ∙ ap Some e) in
+      let w = edge_from_graph a k b (row, at, slice_get-get_or row k b inside ∙ ap Some e) in
       (k, w.0, w.1, w.2)
 
   pub graph_complete : IsComplete rs
@@ -130,8 +129,8 @@ module _ (rs : List Row) (g : Graph) (same : IsGraphOf rs g) where
   pub graph_closed : IsClosed g
   graph_closed i d h k d' h' =
       let row = get_or g i d in
-      let w = get_or row.items k d' in
-      let x = edge_from_graph i k w (row, slice_get-get_or g i d h, slice_get-get_or row.items k d' h') in
+      let w = get_or row k d' in
+      let x = edge_from_graph i k w (row, slice_get-get_or g i d h, slice_get-get_or row k d' h') in
       subst (λ n. w < n) (sym graph_long) (place_below rs x.0.name.now w x.2)
 
   pub in_order : (places : List ℕ) → IsDependencyFirst (HasEdge g) (length g) places → IsLeast (HasEdge g) (length g) places → IsOrder rs places

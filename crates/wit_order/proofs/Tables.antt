@@ -83,15 +83,15 @@ miss_first rs ids row place i id r at gone = record {
 abbrev pub wants : List Row → Row → List (Option ℕ)
 wants rs row = map (target rs) row.needs
 
-abbrev pub has : Vec ℕ Global → List (Option ℕ)
-has row = map Some row.items
+abbrev pub has : List ℕ → List (Option ℕ)
+has row = map Some row
 
 -- an id of an earlier place is known
 pub known_edge : (rs : List Row) (g : Graph) (vs : List Row) → map has g ≡ map (wants rs) vs → (j l : ℕ) (row : Row) (id : Id) → slice_get vs j ≡ Some row → slice_get row.needs l ≡ Some id
     → IsSome (target rs id)
 known_edge rs g vs same j l row id at there =
     let found = matched has (wants rs) g vs same j row at in
-    let x = matched Some (target rs) found.0.items row.needs found.2 l id there in
+    let x = matched Some (target rs) found.0 row.needs found.2 l id there in
     known (target rs id) x.0 (sym x.2)
 
 pub not_missing : (o : Option ℕ) → IsSome o → o ≡ None → ⊥

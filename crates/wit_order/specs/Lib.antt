@@ -7,5 +7,7 @@ pub mod Refused
 pub mod Resolved
 pub mod Table
 pub mod Laws
-pub mod Users
+pub mod Released
 pub mod Counted
+pub mod Cut
+pub mod Turned

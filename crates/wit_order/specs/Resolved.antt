@@ -1,6 +1,5 @@
 -- The graph of places that the rows of a table make.
-use Rattle.std.specs.Prelude.{◌≡◌, ℕ, ◌<◌, List, Vec, Some, None, IsSome, map, slice_get}
-use Rattle.std.specs.Global.{Global}
+use Rattle.std.specs.Prelude.{◌≡◌, ℕ, ◌<◌, ◌++◌, List, Some, None, IsSome, map, slice_get}
 use Rattle.wit_tree.specs.declared.tree.Id.{Id}
 use Rattle.wit_order.specs.declared.fault.OrderFault.{OrderFault}
 use Rattle.wit_order.specs.declared.fault.OrderFault.TheVariants.{Missing, Cyclic}
@@ -11,6 +10,10 @@ use Rattle.wit_order.specs.Table.{Row, target}
 -- the row of a place holds the places of what its edges name
 abbrev pub Resolves : List Row → List Id → List ℕ → Type 0
 Resolves rs ids row = map Some row ≡ map (target rs) ids
+
+-- the row of the ids was put behind what was there
+abbrev pub AddsRow : List Row → List Id → List ℕ → List ℕ → Type 0
+AddsRow rs ids old new = (row : List ℕ) × (new ≡ old ++ row) × Resolves rs ids row
 
 -- the first of the ids of a place that is missing is the fault
 pub record MissesFirst (rs : List Row) (ids : List Id) (place : ℕ) (fault : OrderFault) : Type 0 where
@@ -37,4 +40,4 @@ pub record Cycles (rs : List Row) (fault : OrderFault) : Type 0 where
 
 -- the graph of the rows
 abbrev pub IsGraphOf : List Row → Graph → Type 0
-IsGraphOf rs g = map (λ (row : Vec ℕ Global). map Some row.items) g ≡ map (λ (row : Row). map (target rs) row.needs) rs
+IsGraphOf rs g = map (map Some) g ≡ map (λ (row : Row). map (target rs) row.needs) rs

@@ -6,6 +6,7 @@
 #![tactic(auto)]
 
 pub mod fault;
+mod graph;
 mod heap;
 pub mod laws;
 mod names;
@@ -15,7 +16,7 @@ mod ready;
 #[cfg(test)]
 mod tests;
 mod tree;
-mod users;
+mod turned;
 
 pub use fault::OrderFault;
 pub use order::{order_places, order_steps, toposort, toposort_heap, toposort_scan};

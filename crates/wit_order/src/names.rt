@@ -1,49 +1,53 @@
 //! Names and their places.
-ghost use Rattle.std.specs.Prelude.{◌≡◌, ◌⊎◌, ℕ, ◌<◌, All, IfOk, IfErr, length};
+ghost use Rattle.std.specs.Prelude.{◌≡◌, ◌⊎◌, ℕ, ◌<◌, All, IfOk, OnOk, IfErr};
 ghost use Rattle.wit_order.specs.declared.fault.OrderFault.TheVariants.{OutOfMemory};
 ghost use Rattle.indexmap.specs.IndexMap.{index_map_len};
 ghost use Rattle.wit_order.specs.Table.{rows, AreKeysAt};
-ghost use Rattle.wit_order.specs.Resolved.{Resolves, MissesFirst, Misses, IsGraphOf};
+ghost use Rattle.wit_order.specs.Resolved.{AddsRow, MissesFirst, Misses, IsGraphOf};
 
 use crate::fault::OrderFault;
+use crate::graph::Graph;
 use indexmap::IndexMap;
 use std::alloc::{AllocError, Global};
 use wit_tree::tree::Id;
 
-/// The places of what the ids of a place name.
-fn row_of<'a>(
-    alloc: Global,
+/// Puts the places of what the ids of a place name behind the targets.
+fn add_row<'a>(
+    targets: &mut Vec<usize>,
     deps: &IndexMap<&'a str, Vec<Id<'a>>>,
     place: usize,
     ids: &[Id<'a>],
-) -> Result<Vec<usize>, OrderFault>
-    ensures ok { IfOk result (λ row. Resolves (rows deps.now) ids.now row.items) }
+) -> Result<(), OrderFault>
+    ensures ok { OnOk result (AddsRow (rows deps.now) ids.now targets.old.items targets.new.items) }
     ensures err { IfErr result (λ f. (f ≡ OutOfMemory) ⊎ MissesFirst (rows deps.now) ids.now place f) }
 {
-    let mut row = Vec::with_capacity(alloc, ids.len())?;
     for (index, id) in ids.iter().enumerate() {
         match deps.get_index_of(id.name) {
-            Some(target) => row.push(target)?,
+            Some(target) => targets.push(target)?,
             None => return Err(OrderFault::Missing { place, index }),
         }
     }
-    Ok(row)
+    Ok(())
 }
 
 /// The graph of the table.
 pub fn graph_of<'a>(
     alloc: Global,
     deps: &IndexMap<&'a str, Vec<Id<'a>>>,
-) -> Result<Vec<Vec<usize>>, OrderFault>
-    ensures ok { IfOk result (λ graph. IsGraphOf (rows deps.now) graph.items) }
+) -> Result<Graph, OrderFault>
+    ensures ok { IfOk result (IsGraphOf (rows deps.now)) }
     ensures err { IfErr result (λ f. (f ≡ OutOfMemory) ⊎ Misses (rows deps.now) f) }
 {
-    let mut graph = Vec::with_capacity(alloc, deps.len())?;
-    for place in 0..deps.len() {
+    let len = deps.len();
+    let mut starts = Vec::with_capacity(alloc, len + 1)?;
+    let mut targets = Vec::with_capacity(alloc, len)?;
+    starts.push(0)?;
+    for place in 0..len {
         let (_, ids) = deps.get_index(place).unwrap();
-        graph.push(row_of(alloc, deps, place, ids)?)?;
+        add_row(&mut targets, deps, place, ids)?;
+        starts.push(targets.len())?;
     }
-    Ok(graph)
+    Ok(Graph { starts, targets })
 }
 
 /// The keys at the places.

@@ -9,6 +9,7 @@ ghost use Rattle.wit_order.specs.Refused.{IsRefused, FailsAtMissing, FailsAtCycl
 ghost use Rattle.wit_order.specs.Resolved.{IsGraphOf, Cycles};
 
 use crate::fault::{OrderFault, refusal};
+use crate::graph::Graph;
 use crate::names::{graph_of, names_at};
 use crate::places::{self, Sorted, first_stuck_edge};
 use crate::ready::Steps;
@@ -19,7 +20,7 @@ use wit_tree::tree::Id;
 use wit_tree::{ParseError, ParseErrorKind, ParseResult};
 
 /// The sorted places, or the first edge both of whose ends reach a cycle.
-fn conclude(graph: &[Vec<usize>], sorted: Sorted) -> Result<Vec<usize>, OrderFault>
+fn conclude(graph: &Graph, sorted: Sorted) -> Result<Vec<usize>, OrderFault>
     requires closed { IsClosed graph.now }
     requires sorted { IsSortOf graph.now sorted }
     ensures ok { IfOk result (λ places. (rs : List Row) → IsGraphOf rs graph.now → IsOrder rs places.items) }
@@ -33,6 +34,19 @@ fn conclude(graph: &[Vec<usize>], sorted: Sorted) -> Result<Vec<usize>, OrderFau
             None => unreachable!(),
         },
     }
+}
+
+/// [`order_places`] by counts and a set.
+fn order_by_set<'a>(
+    alloc: Global,
+    deps: &IndexMap<&'a str, Vec<Id<'a>>>,
+) -> Result<Vec<usize>, OrderFault>
+    ensures ok { IfOk result (λ places. IsOrder (rows deps.now) places.items) }
+    ensures err { IfErr result (IsFaultOf (rows deps.now)) }
+{
+    let graph = graph_of(alloc, deps)?;
+    let sorted = tree::sort(alloc, &graph)?;
+    conclude(&graph, sorted)
 }
 
 /// [`order_places`], and what it took.
@@ -79,8 +93,8 @@ pub fn order_places<'a>(
     ensures missing { FaultsMissing (rows deps.now) result }
     ensures cycle { FaultsCycle (rows deps.now) result }
 {
-    match order_counted(alloc, deps) {
-        Ok((places, _)) => Ok(places),
+    match order_by_set(alloc, deps) {
+        Ok(places) => Ok(places),
         Err(fault) => Err(fault),
     }
 }

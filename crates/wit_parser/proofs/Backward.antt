@@ -4,14 +4,14 @@ use Rattle.std.specs.Prelude.{map}
 use Rattle.std.specs.List.{filter_map, cons_option}
 use Rattle.std.specs.Option.{option_to_list}
 use Rattle.std.proofs.lemmas.List.Elements.{All-nil, All-cons}
-use Rattle.wit_model.specs.declared.types.«Type».{«Type» as Ty}
-use Rattle.wit_model.specs.declared.types.«Type».TheVariants as type
-use Rattle.wit_model.specs.declared.types.Field.{Field}
-use Rattle.wit_model.specs.declared.types.Case.{Case}
-use Rattle.wit_model.specs.declared.types.Handle.TheVariants as handle
-use Rattle.wit_model.specs.declared.types.TypeDefKind.{TypeDefKind}
-use Rattle.wit_model.specs.declared.types.TypeDefKind.TheVariants as kind
-use Rattle.wit_model.specs.Types.{place_of, places_to, rank, IsBelow as IsKindBelow}
+use Rattle.wit_types.specs.declared.types.«Type».{«Type» as Ty}
+use Rattle.wit_types.specs.declared.types.«Type».TheVariants as type
+use Rattle.wit_types.specs.declared.types.Field.{Field}
+use Rattle.wit_types.specs.declared.types.Case.{Case}
+use Rattle.wit_types.specs.declared.types.Handle.TheVariants as handle
+use Rattle.wit_types.specs.declared.types.TypeDefKind.{TypeDefKind}
+use Rattle.wit_types.specs.declared.types.TypeDefKind.TheVariants as kind
+use Rattle.wit_types.specs.Types.{place_of, places_to, rank, IsBelow as IsKindBelow}
 use Rattle.wit_meaning.specs.Form.{kind_of}
 use Rattle.wit_meaning.specs.Package.{HasPart, IsBelow}
 

@@ -1,8 +1,9 @@
-mod Deps
+mod TypeWords
 mod Turning
 mod UsedNames
 mod Refusals
 mod FirstNames
+mod Lost
 mod Files
 mod LastHeader
 mod Repeating

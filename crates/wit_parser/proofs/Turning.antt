@@ -23,7 +23,7 @@ use Rattle.wit_meaning.proofs.Legal.{legal_scope}
 use Rattle.wit_parser.specs.Between.{AreOrdered, AreInTurn, IsBrokenAmong, IsRepeatedId}
 
 -- what stands at the first n places
-pub in_order-take : {X : Type 0} (xs : List X) (places : List ℕ) (n : ℕ) → ((j p : ℕ) → slice_get places j ≡ Some p → p < length xs) → in_order xs (take n places) ≡ take n (in_order xs places)
+in_order-take : {X : Type 0} (xs : List X) (places : List ℕ) (n : ℕ) → ((j p : ℕ) → slice_get places j ≡ Some p → p < length xs) → in_order xs (take n places) ≡ take n (in_order xs places)
 in_order-take xs places zero within = refl
 in_order-take xs [] (suc n) within = refl
 in_order-take xs (k ∷ ks) (suc n) within =

@@ -1,19 +1,18 @@
 -- What the resolver's functions tell one another: orders that were found, names that stand twice, and what was resolved so far.
-use Rattle.std.specs.Prelude.{◌≡◌, ℕ, List, [], take, map, Some, Contains, slice_get}
+use Rattle.std.specs.Prelude.{◌≡◌, ℕ, List, [], take, map, Some, None, Contains, slice_get}
 use Rattle.wit_tree.specs.declared.tree.Id.{Id}
 use Rattle.wit_tree.specs.declared.tree.TypeDef.{TypeDef as Definition}
-use Rattle.wit_tree.specs.declared.tree.Interface.{Interface as Written}
 use Rattle.wit_tree.specs.declared.tree.PackageFile.{PackageFile}
 use Rattle.wit_order.specs.Table.{IsOrder}
-use Rattle.wit_model.specs.declared.types.TypeDef.{TypeDef}
+use Rattle.wit_types.specs.declared.types.TypeDef.{TypeDef}
 use Rattle.wit_model.specs.declared.interface.Interface.{Interface}
-use Rattle.wit_meaning.specs.Source.{ScopeName, Defined, interfaces, interface_name, local_name, scope_names}
-use Rattle.wit_meaning.specs.Scope.{needed_ids, rows_of, in_order, defined, item_rows}
-use Rattle.wit_meaning.specs.Fault.{Fault, fault}
-use Rattle.wit_meaning.specs.Broken.{IsRepeated, IsBrokenBody}
+use Rattle.wit_meaning.specs.Source.{TopName, top_names, top_text, item_edge, Item, file_interfaces, interfaces, interface_name, interface_named, ScopeName, Defined, local_name}
+use Rattle.wit_meaning.specs.Scope.{needed_ids, rows_of, in_order, defined, paths, item_rows}
+use Rattle.wit_meaning.specs.Fault.{Fault, fault, missing_at, item_word}
+use Rattle.wit_meaning.specs.Broken.{IsRepeated, IsDuplicateTopName, IsBrokenBody}
 use Rattle.wit_meaning.specs.Repeats.{AllDiffer}
-use Rattle.wit_meaning.specs.Resolving.{Env, Names, HasNames, IsIndex, IsWrongScope}
-use Rattle.wit_meaning.specs.Resolved.{AddsAll, AreLegalScopes}
+use Rattle.wit_meaning.specs.Resolving.{Env, HasNames}
+use Rattle.wit_meaning.specs.Resolved.{AddsAll, AreDistinctTops, AreDeclaredTops, AreLegalScopes}
 
 -- these are the definitions of a scope, in its least dependency-first order
 pub record AreOrdered (xs ds : List ScopeName) : Type 0 where
@@ -41,29 +40,34 @@ pub record IsRepeatedId (number : ℕ) (key : Id → List ℕ) (ids : List Id) (
   pub repeated : IsRepeated key ids later
   pub is : f ≡ fault number later.span
 
--- these are the interfaces of files, in the least dependency-first order of their table
-pub record AreItems (files : List PackageFile) (ws : List Written) : Type 0 where
-  pub items : List ℕ
-  pub order : IsOrder (item_rows files) items
-  pub distinct : AllDiffer (map interface_name (interfaces files))
-  pub are : ws ≡ in_order (interfaces files) items
+-- an earlier one of these names at the top of a file is the same
+pub record IsRepeatedName (number : ℕ) (top : List TopName) (f : Fault) : Type 0 where
+  pub later : TopName
+  pub repeated : IsRepeated top_text top later
+  pub is : f ≡ fault number later.id.span
 
--- once some of these interfaces were added, the next one is wrong
-pub record IsWrongNext (old : List TypeDef) (is : List Interface) (ws : List Written) (f : Fault) : Type 0 where
-  pub count : ℕ
-  pub interface : Written
-  pub at : slice_get ws count ≡ Some interface
-  pub mid : List TypeDef
-  pub before : List Interface
-  pub added : AddsAll old mid is before (take count ws)
-  pub by_name : Names
-  pub index : IsIndex before by_name
-  pub wrong : IsWrongScope before by_name (scope_names interface) f
+-- a name is that of no item, where it is written
+pub record IsUndeclared (items : List Item) (id : Id) (f : Fault) : Type 0 where
+  pub missing : interface_named items id.name.now ≡ None
+  pub is : f ≡ missing_at 7 item_word id
 
--- the interfaces of files were added in that order, and no scope of theirs is broken by itself
+-- one of these paths leads to no item
+pub record IsLostAmong (items : List Item) (top : List TopName) (paths : List Id) (f : Fault) : Type 0 where
+  pub path : Id
+  pub among : Contains paths path
+  pub lost : IsUndeclared items (item_edge top path) f
+
+-- what is wrong with a file by itself: a name at its top stands twice, or a path of one of its interfaces is lost
+pub data IsWrongFile (is : List Item) (file : PackageFile) (f : Fault) : Type 0 where
+  WrongTop : IsDuplicateTopName (top_names file) f → IsWrongFile is file f
+  WrongPath : (w : Item) → Contains (file_interfaces file) w → IsLostAmong is w.top (paths w) f → IsWrongFile is file f
+
+-- the interfaces of files were added in the least dependency-first order of their table, and no scope of theirs is broken by itself
 pub record AddsFiles (files : List PackageFile) (es : List TypeDef) (is : List Interface) : Type 0 where
   pub items : List ℕ
   pub order : IsOrder (item_rows files) items
   pub distinct : AllDiffer (map interface_name (interfaces files))
+  pub tops : AreDistinctTops files
+  pub originals : AreDeclaredTops (interfaces files) files
   pub added : AddsAll [] es [] is (in_order (interfaces files) items)
   pub legal : AreLegalScopes (in_order (interfaces files) items)

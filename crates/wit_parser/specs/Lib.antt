@@ -1,4 +1,5 @@
 pub mod Headers
+pub mod Tops
 pub mod Held
 pub mod Items
 pub mod Between

@@ -1,15 +1,13 @@
 //! Headers: which package they name.
-ghost use Rattle.std.specs.Prelude.{◌≡◌, ◌↔◌, IfOk, IsTrue, string_bytes};
+ghost use Rattle.std.specs.Prelude.{◌≡◌, ◌↔◌, IsTrue, string_bytes};
 ghost use Rattle.std.specs.Option.{option_map};
 ghost use Rattle.semver.specs.Identifiers.{parts_of};
-ghost use Rattle.wit_values.specs.ReleaseText.{release_parts};
 ghost use Rattle.wit_meaning.specs.Broken.{IsSamePackage};
 
 use semver::Version;
 use std::alloc::{AllocError, Global};
-use wit_model::PackageName;
+use wit_scope::package_name;
 use wit_tree::tree;
-use wit_values::{Release, Text};
 
 /// Whether two versions are the same, to their builds.
 fn is_same_version(a: &Version, b: &Version) -> bool
@@ -40,32 +38,6 @@ pub(crate) fn is_same(a: &tree::PackageName<'_>, b: &tree::PackageName<'_>) -> b
     a.namespace.name == b.namespace.name
         && a.name.name == b.name.name
         && is_same_release(&a.version, &b.version)
-}
-
-/// The version of a header, as a package keeps it.
-fn release_of(version: &Option<Version>) -> Result<Option<Release>, AllocError>
-    ensures { IfOk result (λ release. option_map release_parts release ≡ option_map parts_of version.now) }
-{
-    match version {
-        Some(version) => Ok(Some(Release::from(version.clone()?))),
-        None => Ok(None),
-    }
-}
-
-/// The name that a header gives.
-pub(crate) fn package_name(
-    alloc: Global,
-    header: &tree::PackageName<'_>,
-) -> Result<PackageName, AllocError>
-    ensures namespace { IfOk result (λ name. name.namespace ≡ header.now.namespace.name.now) }
-    ensures name { IfOk result (λ name. name.name ≡ header.now.name.name.now) }
-    ensures version { IfOk result (λ name. option_map release_parts name.version ≡ option_map parts_of header.now.version) }
-{
-    Ok(PackageName {
-        namespace: Text::from_str(alloc, header.namespace.name)?,
-        name: Text::from_str(alloc, header.name.name)?,
-        version: release_of(&header.version)?,
-    })
 }
 
 /// The words for a header that names another package.

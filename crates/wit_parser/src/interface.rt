@@ -1,21 +1,22 @@
 //! Declared interfaces.
-ghost use Rattle.std.specs.Prelude.{◌≡◌, List, [], IfErr, OnOk, map};
+ghost use Rattle.std.specs.Prelude.{◌≡◌, ◌<◌, List, [], All, length, IfErr, OnOk, map};
 ghost use Rattle.wit_meaning.specs.Source.{Address, scope_names as the_names};
-ghost use Rattle.wit_meaning.specs.Scope.{used};
+ghost use Rattle.wit_meaning.specs.Scope.{used, in_order};
 ghost use Rattle.wit_meaning.specs.Fault.{Fault};
 ghost use Rattle.wit_meaning.specs.Broken.{IsBrokenScope, Refused};
-ghost use Rattle.wit_model.specs.declared.types.TypeOwner.TheVariants.{Interface as OfInterface};
+ghost use Rattle.wit_types.specs.declared.types.TypeOwner.TheVariants.{Interface as OfInterface};
 ghost use Rattle.wit_model.specs.declared.interface.Interface.{Interface as Resolved};
 ghost use Rattle.wit_tree.specs.Refusal.{IsWantOfMemory};
-ghost use Rattle.wit_parser.specs.Held.{name_behind, use_behind, definition_behind, interface_behind};
-ghost use Rattle.wit_parser.specs.Between.{AreInTurn, IsBrokenAmong, IsWrongNext};
+ghost use Rattle.wit_parser.specs.Held.{name_behind, use_behind, definition_behind};
+ghost use Rattle.wit_parser.specs.Items.{item_behind, names_behind};
+ghost use Rattle.wit_parser.specs.Between.{AreInTurn, IsBrokenAmong};
 ghost use Rattle.wit_meaning.specs.Resolving.{env_of, Defines, AreLegalBodies, HasNames, IsIndex, IsAddedInterface, IsWrongScope};
-ghost use Rattle.wit_meaning.specs.Resolved.{DefinesAll, AddsInterface, AddsAll, AreLegalScopes};
+ghost use Rattle.wit_meaning.specs.Resolved.{DefinesAll, AddsInterface, AddsAll, AreLegalScopes, IsWrongAmong};
 
 use crate::distinct::{add_definition_ids, check_folded_names, check_unique_names, used_ids};
 use crate::items::Item;
 use crate::scope::ordered_definitions;
-use crate::scope_name::{DefinedName, ScopeName, UsedName, definitions, scope_names, used_names};
+use crate::scope_name::{DefinedName, ScopeName, UsedName, definitions, used_names};
 use crate::uses::{Interfaces, resolve_uses};
 use std::alloc::Global;
 use wit_entries::definitions::define;
@@ -104,40 +105,43 @@ fn resolve_interface(
     alloc: Global,
     types: &mut Entries,
     interfaces: &mut Interfaces,
-    interface: &tree::Interface<'_>,
+    item: &Item<'_, '_>,
 ) -> ParseResult<()>
+    requires named { names_behind item.now ≡ the_names (item_behind item.now) }
     requires index { IsIndex interfaces.old.arena interfaces.old.by_name }
-    ensures added { OnOk result (AddsInterface types.old types.new interfaces.old.arena interfaces.new.arena interface.now) }
+    ensures added { OnOk result (AddsInterface types.old types.new interfaces.old.arena interfaces.new.arena (item_behind item.now)) }
     ensures index { OnOk result (IsIndex interfaces.new.arena interfaces.new.by_name) }
-    ensures legal { OnOk result ((f : Fault) → IsBrokenScope (the_names interface.now) f → ⊥) }
-    ensures refused { IfErr result (Refused (IsWrongScope interfaces.old.arena interfaces.old.by_name (the_names interface.now))) }
+    ensures legal { OnOk result ((f : Fault) → IsBrokenScope (the_names (item_behind item.now)) f → ⊥) }
+    ensures refused { IfErr result (Refused (IsWrongScope interfaces.old.arena interfaces.old.by_name (the_names (item_behind item.now)))) }
 {
-    let names = scope_names(alloc, &interface.items)?;
-    let uses = used_names(alloc, &names)?;
+    let uses = used_names(alloc, &item.names)?;
     let mut scope = Scope {
         id: interfaces.arena.next_id(),
         names: TextTable::new(alloc),
     };
     resolve_uses(alloc, types, interfaces, &mut scope, &uses)?;
-    resolve_types(alloc, types, &mut scope, &names, &uses)?;
-    add_interface(alloc, interfaces, interface, scope.names)?;
+    resolve_types(alloc, types, &mut scope, &item.names, &uses)?;
+    add_interface(alloc, interfaces, item.interface, scope.names)?;
     Ok(())
 }
 
-/// Adds interfaces, one after another.
+/// Adds interfaces, in the order of their places.
 pub(crate) fn resolve_interfaces(
     alloc: Global,
     types: &mut Entries,
     interfaces: &mut Interfaces,
-    ordered: &[Item<'_, '_>],
+    items: &[Item<'_, '_>],
+    places: &[usize],
 ) -> ParseResult<()>
+    requires within { All (λ place. place < length items.now) places.now }
+    requires named { map names_behind items.now ≡ map the_names (map item_behind items.now) }
     requires index { IsIndex interfaces.old.arena interfaces.old.by_name }
-    ensures added { OnOk result (AddsAll types.old types.new interfaces.old.arena interfaces.new.arena (map interface_behind ordered.now)) }
-    ensures legal { OnOk result (AreLegalScopes (map interface_behind ordered.now)) }
-    ensures refused { IfErr result (Refused (IsWrongNext types.old interfaces.old.arena (map interface_behind ordered.now))) }
+    ensures added { OnOk result (AddsAll types.old types.new interfaces.old.arena interfaces.new.arena (in_order (map item_behind items.now) places.now)) }
+    ensures legal { OnOk result (AreLegalScopes (in_order (map item_behind items.now) places.now)) }
+    ensures refused { IfErr result (Refused (IsWrongAmong types.old interfaces.old.arena (map item_behind items.now) places.now)) }
 {
-    for item in ordered {
-        resolve_interface(alloc, types, interfaces, item.interface)?;
+    for place in places {
+        resolve_interface(alloc, types, interfaces, &items[*place])?;
     }
     Ok(())
 }

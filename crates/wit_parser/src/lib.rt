@@ -1,6 +1,7 @@
 //! The resolver: from parsed files to one package, or to the rule that is broken.
 #![tactic(auto)]
 
+mod deps;
 mod distinct;
 mod header;
 mod interface;
@@ -9,6 +10,7 @@ mod order;
 pub mod resolver;
 mod scope;
 mod scope_name;
+mod top_name;
 mod uses;
 
 pub use resolver::Resolver;

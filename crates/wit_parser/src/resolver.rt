@@ -5,17 +5,19 @@ ghost use Rattle.wit_meaning.specs.Fault.{Fault};
 ghost use Rattle.wit_meaning.specs.Broken.{IsMismatch, IsOtherPackage, IsBroken, IsLegal, Refused, last_header};
 ghost use Rattle.wit_parser.specs.Headers.{header_at};
 ghost use Rattle.wit_parser.specs.Between.{AddsFiles};
-ghost use Rattle.wit_model.specs.Types.{IsBackward};
+ghost use Rattle.wit_types.specs.Types.{IsBackward};
 ghost use Rattle.wit_meaning.specs.Whole.{IsPackage, IsFaithful};
 
-use crate::header::{is_same, mismatch, package_name};
+use crate::header::{is_same, mismatch};
 use crate::interface::resolve_interfaces;
-use crate::items::ordered_interfaces;
+use crate::items::{declared_items, item_order};
+use crate::top_name::{check_originals, item_names};
 use crate::uses::Interfaces;
 use std::alloc::Global;
 use wit_entries::entries::Entries;
 use wit_entries::refusal::refuse;
 use wit_model::{Arena, Interface, InterfacePlace, UnresolvedPackage};
+use wit_scope::package_name;
 use wit_tree::tree::{self, PackageFile};
 use wit_tree::{ParseResult, Span};
 use wit_values::TextTable;
@@ -62,12 +64,15 @@ fn resolve_files<'f, 'a>(
     ensures added { IfOk result (AddsFiles files.now types.new) }
     ensures refused { IfErr result (Refused (IsBroken files.now)) }
 {
-    let ordered = ordered_interfaces(alloc, files)?;
+    let declared = item_names(alloc, files)?;
+    let items = declared_items(alloc, &declared, files)?;
+    let places = item_order(alloc, &items)?;
+    check_originals(alloc, &declared, files)?;
     let mut interfaces = Interfaces {
         arena: Arena::new(alloc),
         by_name: TextTable::new(alloc),
     };
-    resolve_interfaces(alloc, types, &mut interfaces, &ordered)?;
+    resolve_interfaces(alloc, types, &mut interfaces, &items, &places)?;
     Ok(interfaces.arena)
 }
 
@@ -127,13 +132,16 @@ impl<'a> Resolver<'a> {
     ///
     /// - 4: no file names the package.
     /// - 5: an interface is declared twice.
-    /// - 7, 8: an interface uses from a name that no interface has; interfaces use one another in
-    ///   a cycle.
+    /// - 6: a name stands twice at the top of a file.
+    /// - 7, 8: the path of a `use` leads to no interface; interfaces use one another in a cycle.
     /// - 12: a used name is none of the interface that it comes from.
     /// - 14, 17: a name stands twice in an interface, to the letter or once case is folded.
     /// - 15, 16: a name in a definition is none of its interface; definitions name one another in
     ///   a cycle.
-    /// - 19, 25: a record has no field, or two of one name once case is folded.
+    /// - 19, 20, 22 to 24: a record, flags, a tuple, a variant or an enum is empty.
+    /// - 21: flags have more than 32 flags.
+    /// - 25: two fields, flags or cases have one name once case is folded.
+    /// - 26: a map's key is written as a type that no key can have.
     /// - 45: a growth was refused.
     pub fn resolve(self, alloc: Global) -> ParseResult<UnresolvedPackage>
         ensures legal { OnOk result (IsLegal self.entry.files.items) }

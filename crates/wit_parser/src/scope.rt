@@ -1,54 +1,20 @@
 //! The order in which the definitions of a scope are resolved.
-ghost use Rattle.std.specs.Prelude.{◌≡◌, ◌++◌, map, IfOk, IfErr, OnOk};
+ghost use Rattle.std.specs.Prelude.{◌≡◌, map, IfOk, IfErr};
 ghost use Rattle.wit_order.specs.Table.{rows, IsOrder};
-ghost use Rattle.wit_meaning.specs.Shape.{shape_of, field_shapes, body_of, words, all_words};
 ghost use Rattle.wit_meaning.specs.Scope.{needed_ids as the_needed, rows_of};
 ghost use Rattle.wit_meaning.specs.Broken.{IsBrokenScope, Refused};
 ghost use Rattle.wit_meaning.specs.Resolving.{AreDistinct};
 ghost use Rattle.wit_parser.specs.Held.{name_behind, definition_behind};
 ghost use Rattle.wit_parser.specs.Between.{AreOrdered};
 
+use crate::deps::body_deps;
 use crate::order::{in_order, refuse_type_order};
 use crate::scope_name::{DefinedName, ScopeName, definitions, local_id};
 use indexmap::IndexMap;
 use std::alloc::{AllocError, Global};
 use wit_order::order_places;
 use wit_tree::ParseResult;
-use wit_tree::tree::{Field, Id, Type, TypeBody};
-
-/// Adds the names written in a type.
-fn collect_deps<'a>(deps: &mut Vec<Id<'a>>, ty: &Type<'a>) -> Result<(), AllocError>
-    ensures { OnOk result (deps.new.items ≡ deps.old.items ++ words (shape_of ty.now)) }
-{
-    match ty {
-        Type::Name(id) => deps.push(*id)?,
-        Type::List(_, element) => collect_deps(deps, element)?,
-        _ => {}
-    }
-    Ok(())
-}
-
-/// Adds the names written in the types of fields.
-fn collect_field_deps<'a>(deps: &mut Vec<Id<'a>>, fields: &[Field<'a>]) -> Result<(), AllocError>
-    ensures { OnOk result (deps.new.items ≡ deps.old.items ++ all_words (field_shapes fields.now)) }
-{
-    for field in fields {
-        collect_deps(deps, &field.ty)?;
-    }
-    Ok(())
-}
-
-/// The names written in the body of a definition, in written order.
-fn body_deps<'a>(alloc: Global, body: &TypeBody<'a>) -> Result<Vec<Id<'a>>, AllocError>
-    ensures { IfOk result (λ deps. deps.items ≡ all_words (body_of body.now).parts) }
-{
-    let mut deps = Vec::new(alloc);
-    match body {
-        TypeBody::Record { fields, .. } => collect_field_deps(&mut deps, fields)?,
-        TypeBody::Plain(ty) => collect_deps(&mut deps, ty)?,
-    }
-    Ok(deps)
-}
+use wit_tree::tree::Id;
 
 /// The names that a name of a scope needs: those in its body, where it is a definition.
 fn needed_ids<'a>(alloc: Global, name: &ScopeName<'_, 'a>) -> Result<Vec<Id<'a>>, AllocError>

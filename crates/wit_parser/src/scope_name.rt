@@ -1,18 +1,17 @@
 //! The names of a scope: those that it uses, and its definitions.
 ghost use Rattle.std.specs.Prelude.{◌≡◌, ◌++◌, map, IfOk, OnOk};
-ghost use Rattle.std.specs.List.{flat_map};
 ghost use Rattle.std.specs.Option.{unwrap_or};
-ghost use Rattle.wit_meaning.specs.Source.{Used, item_names, local_id as the_local_id, path_id as the_path};
+ghost use Rattle.wit_meaning.specs.Source.{InterfaceNamed, Used, local_id as the_local_id};
 ghost use Rattle.wit_meaning.specs.Scope.{used, defined};
 ghost use Rattle.wit_parser.specs.Held.{name_behind, use_behind, definition_behind};
 
 use std::alloc::{AllocError, Global};
-use wit_tree::tree::{Id, InterfaceItem, TypeDef, Use, UseName, UsePath};
+use wit_tree::tree::{Id, TypeDef, UseName};
 
-/// A used name, and the path of the interface that it comes from.
+/// A used name, and the name of the interface that it comes from.
 #[derive(Clone, Copy)]
 pub(crate) struct UsedName<'t, 'a> {
-    pub(crate) from: &'t UsePath<'a>,
+    pub(crate) from: Id<'a>,
     pub(crate) name: &'t UseName<'a>,
 }
 
@@ -31,50 +30,18 @@ pub(crate) enum ScopeName<'t, 'a> {
     Defined(DefinedName<'t, 'a>),
 }
 
-/// Adds the names of a use.
-fn add_used_names<'t, 'a>(
+/// Adds the names that are used from an interface.
+pub(crate) fn add_used_names<'t, 'a>(
     names: &mut Vec<ScopeName<'t, 'a>>,
-    used: &'t Use<'a>,
+    from: Id<'a>,
+    used: &'t [UseName<'a>],
 ) -> Result<(), AllocError>
-    ensures { OnOk result (map name_behind names.new.items ≡ map name_behind names.old.items ++ map (Used used.now.from) used.now.names.items) }
+    ensures { OnOk result (map name_behind names.new.items ≡ map name_behind names.old.items ++ map (Used (InterfaceNamed from.entry.name.now)) used.now) }
 {
-    for name in &used.names {
-        names.push(ScopeName::Used(UsedName {
-            from: &used.from,
-            name,
-        }))?;
+    for name in used {
+        names.push(ScopeName::Used(UsedName { from, name }))?;
     }
     Ok(())
-}
-
-/// Adds the names of an item.
-fn add_item_names<'t, 'a>(
-    names: &mut Vec<ScopeName<'t, 'a>>,
-    item: &'t InterfaceItem<'a>,
-) -> Result<(), AllocError>
-    ensures { OnOk result (map name_behind names.new.items ≡ map name_behind names.old.items ++ item_names item.now) }
-{
-    match item {
-        InterfaceItem::TypeDef(definition) => {
-            names.push(ScopeName::Defined(DefinedName { definition }))?
-        }
-        InterfaceItem::Use(used) => add_used_names(names, used)?,
-    }
-    Ok(())
-}
-
-/// The names of items, in source order.
-pub(crate) fn scope_names<'t, 'a>(
-    alloc: Global,
-    items: &'t [InterfaceItem<'a>],
-) -> Result<Vec<ScopeName<'t, 'a>>, AllocError>
-    ensures { IfOk result (λ names. map name_behind names.items ≡ flat_map item_names items.now) }
-{
-    let mut names = Vec::new(alloc);
-    for item in items {
-        add_item_names(&mut names, item)?;
-    }
-    Ok(names)
 }
 
 /// The used ones of some names.
@@ -107,15 +74,6 @@ pub(crate) fn definitions<'t, 'a>(
         }
     }
     Ok(definitions)
-}
-
-/// What a path names.
-pub(crate) fn path_id<'a>(path: &UsePath<'a>) -> Id<'a>
-    ensures { result ≡ the_path path.now }
-{
-    match path {
-        UsePath::Id(id) => *id,
-    }
 }
 
 /// The name that a used one goes by: that behind `as`, or its own.

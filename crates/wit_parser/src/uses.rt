@@ -1,15 +1,15 @@
 //! Names that an interface uses from others.
 ghost use Rattle.std.specs.Prelude.{◌≡◌, List, [], map, OnOk, IfOk, IfErr};
 ghost use Rattle.wit_tree.specs.Refusal.{IsWantOfMemory};
-ghost use Rattle.wit_model.specs.declared.types.TypeOwner.TheVariants.{Interface as OfInterface};
-ghost use Rattle.wit_meaning.specs.Source.{Address, ScopeName};
+ghost use Rattle.wit_types.specs.declared.types.TypeOwner.TheVariants.{Interface as OfInterface};
+ghost use Rattle.wit_meaning.specs.Source.{Address, InterfaceNamed, ScopeName};
 ghost use Rattle.wit_meaning.specs.Scope.{used};
 ghost use Rattle.wit_meaning.specs.Broken.{Refused};
 ghost use Rattle.wit_parser.specs.Held.{use_behind};
 ghost use Rattle.wit_meaning.specs.Resolving.{env_of, Defines, HasNames, IsIndex, IsFound, IsUnresolved, IsUsed, IsWrongUse, IsWrongScope};
 
 use crate::distinct::defined_twice;
-use crate::scope_name::{UsedName, local_of, path_id};
+use crate::scope_name::{UsedName, local_of};
 use std::alloc::Global;
 use wit_entries::entries::Entries;
 use wit_entries::refusal::{refuse, refuse_missing};
@@ -26,7 +26,7 @@ pub(crate) struct Interfaces {
     pub(crate) by_name: TextTable<InterfaceId>,
 }
 
-/// The interface that a path names.
+/// The interface of a name.
 fn used_interface<'i>(
     alloc: Global,
     interfaces: &'i Interfaces,
@@ -51,12 +51,12 @@ fn resolve_use(
     used: &UsedName<'_, '_>,
 ) -> ParseResult<()>
     requires index { IsIndex interfaces.now.arena interfaces.now.by_name }
-    ensures used { OnOk result (IsUsed types.old types.new interfaces.now.arena (OfInterface scope.old.id) scope.old.names scope.new.names used.now.from.now used.now.name.now) }
+    ensures used { OnOk result (IsUsed types.old types.new interfaces.now.arena (OfInterface scope.old.id) scope.old.names scope.new.names (InterfaceNamed used.now.from.name.now) used.now.name.now) }
     ensures id { OnOk result (scope.new.id ≡ scope.old.id) }
-    ensures refused { IfErr result (Refused (IsWrongUse interfaces.now.arena interfaces.now.by_name scope.old.names used.now.from.now used.now.name.now)) }
+    ensures refused { IfErr result (Refused (IsWrongUse interfaces.now.arena interfaces.now.by_name scope.old.names (InterfaceNamed used.now.from.name.now) used.now.name.now)) }
 {
     let name = used.name;
-    let interface = used_interface(alloc, interfaces, path_id(used.from))?;
+    let interface = used_interface(alloc, interfaces, used.from)?;
     let original = match interface.types.get(name.name.name) {
         Some(original) => *original,
         None => return Err(refuse_missing(alloc, 12, "name", name.name)),

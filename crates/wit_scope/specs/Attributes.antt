@@ -4,13 +4,13 @@ use Rattle.std.specs.List.{find}
 use Rattle.std.specs.Option.{option_and_then, option_map}
 use Rattle.semver.specs.declared.Version.{Version}
 use Rattle.semver.specs.Identifiers.{parts_of}
-use Rattle.wit_tree.specs.declared.span.Span.{Span}
+use Rattle.wit_values.specs.declared.span.Span.{Span}
 use Rattle.wit_tree.specs.declared.tree.Attribute.{Attribute}
 use Rattle.wit_tree.specs.declared.tree.Attribute.TheVariants as attribute
 use Rattle.wit_values.specs.declared.release.Release.{Release}
 use Rattle.wit_values.specs.ReleaseText.{release_parts}
-use Rattle.wit_model.specs.declared.stability.Stability.{Stability}
-use Rattle.wit_model.specs.declared.stability.Stability.TheVariants as stability
+use Rattle.wit_types.specs.declared.stability.Stability.{Stability}
+use Rattle.wit_types.specs.declared.stability.Stability.TheVariants as stability
 use Rattle.wit_meaning.specs.Fault.{Fault, fault}
 use Rattle.wit_scope.specs.declared.attribute_kind.AttributeKind.{AttributeKind}
 use Rattle.wit_scope.specs.declared.attribute_kind.AttributeKind.TheVariants.{Since, Unstable, Deprecated, ExternalId}

@@ -4,3 +4,4 @@ pub mod Kinds
 pub mod Lent
 pub mod Names
 pub mod Scope
+pub mod Visits

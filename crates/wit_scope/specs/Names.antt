@@ -2,7 +2,7 @@
 use Rattle.std.specs.Prelude.{◌≡◌, ℕ, ◌<◌, List, Some, slice_get, IsTrue}
 use Rattle.wit_names.specs.Folded.{folded_key}
 use Rattle.wit_names.specs.Setter.{getter_of, is_setter}
-use Rattle.wit_tree.specs.declared.span.Span.{Span}
+use Rattle.wit_values.specs.declared.span.Span.{Span}
 use Rattle.wit_tree.specs.declared.tree.Id.{Id}
 use Rattle.wit_meaning.specs.Broken.{folded}
 use Rattle.wit_meaning.specs.Fault.{Fault, fault}

@@ -1,7 +1,7 @@
 -- What a scope keeps: its names in order, each by its key.
 use Rattle.std.specs.Prelude.{◌≡◌, ℕ, List, Some, map, slice_get}
 use Rattle.wit_names.specs.Folded.{folded_key}
-use Rattle.wit_tree.specs.declared.span.Span.{Span}
+use Rattle.wit_values.specs.declared.span.Span.{Span}
 use Rattle.wit_meaning.specs.Repeats.{AllDiffer}
 use Rattle.wit_scope.specs.declared.name_scope.DefinedName.{DefinedName}
 use Rattle.wit_scope.specs.Names.{Name}

@@ -8,14 +8,16 @@ pub mod attributes;
 pub mod comments;
 pub mod name_scope;
 pub mod package;
-mod refusal;
-mod repeats;
+pub mod refusal;
+pub mod repeats;
 #[cfg(test)]
 mod tests;
 pub mod unique_names;
+pub mod visit;
 
 pub use attributes::{external_id, stability};
 pub use comments::docs;
 pub use name_scope::NameScope;
 pub use package::package_name;
 pub use unique_names::check_unique_names;
+pub use visit::{Visit, Wanted, visits};

@@ -7,7 +7,7 @@ use std::alloc::{AllocError, Global};
 use wit_tree::{ParseError, Span};
 
 /// A rule that is broken at a span, in the words that were made, or that memory is wanted for.
-pub(crate) fn refuse_in(rule: u8, span: Span, words: Result<String, AllocError>) -> ParseError
+pub fn refuse_in(rule: u8, span: Span, words: Result<String, AllocError>) -> ParseError
     ensures { IsWantOfMemory result ⊎ (fault_of result ≡ fault rule span) }
 {
     match words {
@@ -17,7 +17,7 @@ pub(crate) fn refuse_in(rule: u8, span: Span, words: Result<String, AllocError>)
 }
 
 /// A rule that is broken at a span, in these words.
-pub(crate) fn refuse(alloc: Global, rule: u8, span: Span, message: &str) -> ParseError
+pub fn refuse(alloc: Global, rule: u8, span: Span, message: &str) -> ParseError
     ensures { IsWantOfMemory result ⊎ (fault_of result ≡ fault rule span) }
 {
     refuse_in(rule, span, String::from_str(alloc, message))

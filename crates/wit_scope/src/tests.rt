@@ -1,5 +1,8 @@
 //! Worked rows.
 
+mod visit;
+
+use crate::repeats::{first_folded_repeat, first_repeat};
 use crate::{NameScope, check_unique_names, docs, external_id, package_name, stability};
 use semver::Version;
 use std::alloc::{AllocError, Global};
@@ -303,5 +306,28 @@ fn headers(rt: HostRuntime) -> Result<(), Fail> {
         return Ok(());
     }
     assert!(rt; false, "labels");
+    Ok(())
+}
+
+#[test]
+fn finds_first_repeats(rt: HostRuntime) -> Result<(), Fail> {
+    let alloc = rt.alloc();
+    for (text, same, folded) in [
+        ("", None, None),
+        ("a b c", None, None),
+        ("a b a b", Some((0, 2)), Some((0, 2))),
+        ("a B b a", Some((0, 3)), Some((1, 2))),
+        ("A-b c a-B", None, Some((0, 2))),
+    ] {
+        let mut texts = Vec::new(alloc);
+        for word in text.split_whitespace() {
+            texts.push(word)?;
+        }
+        assert!(rt; first_repeat(alloc, &texts)? == same, "at {text}");
+        assert!(rt;
+            first_folded_repeat(alloc, &texts)? == folded,
+            "once folded at {text}"
+        );
+    }
     Ok(())
 }

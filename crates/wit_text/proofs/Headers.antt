@@ -1,7 +1,7 @@
 -- The marks of a header.
 use Rattle.std.proofs.Common.{◌≡◌, ℕ, List, [], ◌∷◌, Option, Some, None, ◌∙◌, sym, subst, arith}
 use Rattle.semver.specs.declared.Version.{Version}
-use Rattle.wit_tree.specs.declared.span.Span.{Span}
+use Rattle.wit_values.specs.declared.span.Span.{Span}
 use Rattle.wit_tree.specs.declared.tree.Id.{Id}
 use Rattle.wit_tree.specs.declared.tree.PackageName.{PackageName}
 use Rattle.wit_tree.specs.Marks.{Mark, named, whole_mark, header_marks}

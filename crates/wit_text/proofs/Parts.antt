@@ -1,11 +1,12 @@
 -- What was read in parts.
 use Rattle.std.proofs.Common.{◌≡◌, ℕ, ◌+◌, List, [], ◌∷◌, ◌++◌, length, ap, ◌∙◌, sym, subst, arith, refl}
 use Rattle.std.specs.List.{flat_map}
+use Rattle.std.specs.Str.Parse.{digits_value, without_leading_plus}
 use Rattle.std.proofs.lemmas.List.{append-nil}
 use Rattle.wit_tree.specs.declared.tree.Id.{Id}
-use Rattle.wit_tree.specs.declared.span.Span.{Span}
-use Rattle.wit_tree.specs.Marks.{Mark, named, spelled, joined}
-use Rattle.wit_tree.specs.Slices.{Rise, IsJoined, unescaped}
+use Rattle.wit_values.specs.declared.span.Span.{Span}
+use Rattle.wit_tree.specs.Marks.{Mark, named, spelled, joined, counted}
+use Rattle.wit_tree.specs.Slices.{Rise, IsJoined, IsCounted, unescaped}
 use Rattle.wit_text.specs.declared.reader.Reader.{Reader}
 use Rattle.wit_text.specs.Reading.{IsRead, IsReadOn}
 use Rattle.wit_text.proofs.Rises.{rise_on, rise_sooner, rise_later, rise_order, one_more, is_named, stands_at}
@@ -102,6 +103,27 @@ word_read {a} {b} span p first last =
       onward = p.onward;
       past = p.past;
       rise = (omega arith, stands_at a.source.now a.offset span a.token.start a.token.end a.token.text.now a.within.order a.within.within a.within.text first last, omega arith);
+    }
+
+-- the number that the token is
+pub number_read : {a b : Reader} (number : ℕ) → IsRead a [] b → number ≡ digits_value 10 (without_leading_plus a.token.text.now) → IsRead a (counted number ∷ []) b
+number_read {a} {b} number p reads =
+    let order = a.within.order in
+    let past = p.past in
+    let at : Span = record { start = a.offset + a.token.start; end = a.offset + a.token.end } in
+    let counted_at : IsCounted a.source.now a.offset (a.offset + a.token.start) number = record {
+      text = a.token.text.now;
+      at = at;
+      behind = omega arith;
+      stands = stands_at a.source.now a.offset at a.token.start a.token.end a.token.text.now order a.within.within a.within.text refl refl;
+      reads = reads;
+    } in
+    record {
+      source = p.source;
+      offset = p.offset;
+      onward = p.onward;
+      past = p.past;
+      rise = (counted_at, omega arith);
     }
 
 -- with a part behind it that perhaps has no token

@@ -1,11 +1,11 @@
 -- What the refusal of a text says: which fault, in which words, and at which place of the source.
 use Rattle.std.specs.Prelude.{◌≡◌, ℕ, ◌≤◌, ◌+◌, List, length, codes, string_bytes}
-use Rattle.wit_tree.specs.declared.span.Span.{Span}
+use Rattle.wit_values.specs.declared.span.Span.{Span}
 use Rattle.wit_tree.specs.declared.error.ParseError.{ParseError}
 use Rattle.wit_tree.specs.declared.error.ParseErrorKind.{ParseErrorKind}
 use Rattle.wit_tree.specs.declared.error.ParseErrorKind.TheVariants.{Syntax, ItemNotFound, TypeCycle, OutOfMemory}
 use Rattle.wit_text.specs.declared.fault.ReadFault.{ReadFault}
-use Rattle.wit_text.specs.declared.fault.ReadFault.TheVariants.{Character, Token, Comment, Nesting, Version}
+use Rattle.wit_text.specs.declared.fault.ReadFault.TheVariants.{Character, Token, Comment, Nesting, Version, Number}
 
 -- the number of the refusal
 abbrev pub rule_of : ReadFault → ℕ
@@ -14,6 +14,7 @@ rule_of Token = 47
 rule_of Comment = 48
 rule_of Nesting = 49
 rule_of Version = 50
+rule_of Number = 51
 
 abbrev pub words_of : ReadFault → List ℕ
 words_of Character = codes "unexpected character"
@@ -21,6 +22,7 @@ words_of Token = codes "unexpected token"
 words_of Comment = codes "unterminated block comment"
 words_of Nesting = codes "nested too deeply"
 words_of Version = codes "invalid version"
+words_of Number = codes "number too large"
 
 -- one of the faults, at a range of the source
 pub record IsFault (source : List ℕ) (offset number : ℕ) (span : Span) (message : List ℕ) : Type 0 where

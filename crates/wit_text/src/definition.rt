@@ -1,7 +1,7 @@
 //! Reading definitions of types, and the items of an interface.
 ghost use Rattle.std.specs.Prelude.{◌≡◌, ◌+◌, [], ◌∷◌, IfOk, IfErr};
 ghost use Rattle.std.specs.List.{flat_map};
-ghost use Rattle.wit_tree.specs.Marks.{field_marks, definition_marks, item_marks};
+ghost use Rattle.wit_tree.specs.Marks.{definition_marks, item_marks};
 
 use crate::fault::ReadFault;
 use crate::kind::Kind;
@@ -9,40 +9,10 @@ use crate::reader::Reader;
 use crate::types::MOST_NESTED;
 use crate::word::Word;
 use wit_tree::ParseResult;
-use wit_tree::tree::{Field, InterfaceItem, TypeBody, TypeDef};
+use wit_tree::tree::{InterfaceItem, TypeBody, TypeDef};
 
 impl<'a> Reader<'a> {
     ghost use Rattle.wit_text.specs.Reading.{IsRead, IsRefused};
-
-    fn read_field(&mut self) -> ParseResult<Field<'a>>
-        ensures read { IfOk result (λ f. IsRead self.old (field_marks f) self.new) }
-        ensures refused { IfErr result (λ e. IsRefused self.old e) }
-    {
-        let name = self.read_id()?;
-        self.expect(Kind::Colon)?;
-        let ty = self.read_type(MOST_NESTED)?;
-        Ok(Field { name, ty })
-    }
-
-    /// Reads fields in braces.
-    fn read_fields(&mut self) -> ParseResult<Vec<Field<'a>>>
-        ensures read { IfOk result (λ fs. IsRead self.old (flat_map field_marks fs.items) self.new) }
-        ensures refused { IfErr result (λ e. IsRefused self.old e) }
-    {
-        self.expect(Kind::OpenBrace)?;
-        let mut fields = Vec::new(self.alloc);
-        'fields: while !self.at(Kind::CloseBrace) {
-            let field = self.read_field()?;
-            fields.push(field)?;
-            if !self.at(Kind::Comma) {
-                self.expect(Kind::CloseBrace)?;
-                return Ok(fields);
-            }
-            self.bump()?;
-        }
-        self.bump()?;
-        Ok(fields)
-    }
 
     /// Reads `type name = type;`.
     fn read_alias(&mut self) -> ParseResult<TypeDef<'a>>
@@ -77,6 +47,57 @@ impl<'a> Reader<'a> {
         })
     }
 
+    /// Reads `flags name { name, .. }`.
+    fn read_flags_definition(&mut self) -> ParseResult<TypeDef<'a>>
+        ensures read { IfOk result (λ d. IsRead self.old (definition_marks d) self.new) }
+        ensures refused { IfErr result (λ e. IsRefused self.old e) }
+    {
+        self.expect_word(Word::Flags)?;
+        let name = self.read_id()?;
+        let flags = self.read_flags()?;
+        Ok(TypeDef {
+            name,
+            body: TypeBody::Flags {
+                span: name.span,
+                flags,
+            },
+        })
+    }
+
+    /// Reads `variant name { name(type), .. }`, where a case may have no type.
+    fn read_variant(&mut self) -> ParseResult<TypeDef<'a>>
+        ensures read { IfOk result (λ d. IsRead self.old (definition_marks d) self.new) }
+        ensures refused { IfErr result (λ e. IsRefused self.old e) }
+    {
+        self.expect_word(Word::Variant)?;
+        let name = self.read_id()?;
+        let cases = self.read_cases()?;
+        Ok(TypeDef {
+            name,
+            body: TypeBody::Variant {
+                span: name.span,
+                cases,
+            },
+        })
+    }
+
+    /// Reads `enum name { name, .. }`.
+    fn read_enum(&mut self) -> ParseResult<TypeDef<'a>>
+        ensures read { IfOk result (λ d. IsRead self.old (definition_marks d) self.new) }
+        ensures refused { IfErr result (λ e. IsRefused self.old e) }
+    {
+        self.expect_word(Word::Enum)?;
+        let name = self.read_id()?;
+        let cases = self.read_enum_cases()?;
+        Ok(TypeDef {
+            name,
+            body: TypeBody::Enum {
+                span: name.span,
+                cases,
+            },
+        })
+    }
+
     fn read_definition(&mut self) -> ParseResult<TypeDef<'a>>
         ensures read { IfOk result (λ d. IsRead self.old (definition_marks d) self.new) }
         ensures refused { IfErr result (λ e. IsRefused self.old e) }
@@ -84,6 +105,9 @@ impl<'a> Reader<'a> {
         match self.token.kind {
             Kind::Word(Word::Type) => self.read_alias(),
             Kind::Word(Word::Record) => self.read_record(),
+            Kind::Word(Word::Flags) => self.read_flags_definition(),
+            Kind::Word(Word::Variant) => self.read_variant(),
+            Kind::Word(Word::Enum) => self.read_enum(),
             _ => Err(self.refuse(ReadFault::Token)),
         }
     }

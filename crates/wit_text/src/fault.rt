@@ -18,6 +18,8 @@ pub enum ReadFault {
     Nesting,
     /// A version is none by SemVer 2.0.0.
     Version,
+    /// A number does not fit 32 bits.
+    Number,
 }
 
 impl ReadFault {
@@ -31,6 +33,7 @@ impl ReadFault {
             ReadFault::Comment => 48,
             ReadFault::Nesting => 49,
             ReadFault::Version => 50,
+            ReadFault::Number => 51,
         }
     }
 
@@ -44,6 +47,7 @@ impl ReadFault {
             ReadFault::Comment => "unterminated block comment",
             ReadFault::Nesting => "nested too deeply",
             ReadFault::Version => "invalid version",
+            ReadFault::Number => "number too large",
         }
     }
 }

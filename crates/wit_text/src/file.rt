@@ -51,6 +51,19 @@ impl<'a> Reader<'a> {
         Ok(Interface { name, items })
     }
 
+    /// Reads a declaration: an interface, or another name for an item.
+    fn read_declaration(&mut self) -> ParseResult<AstItem<'a>>
+        ensures read { IfOk result (λ item. IsRead self.old (declaration_marks item) self.new) }
+        ensures refused { IfErr result (λ e. IsRefused self.old e) }
+    {
+        if self.at_word(Word::Use) {
+            let used = self.read_toplevel_use()?;
+            return Ok(AstItem::Use(used));
+        }
+        let interface = self.read_interface()?;
+        Ok(AstItem::Interface(interface))
+    }
+
     /// Reads `@` and a version, where there is one, and tells where it stands.
     fn read_at_version(&mut self) -> ParseResult<Option<(Span, Version)>>
         ensures read { IfOk result (λ found. IsReadOn self.old (found_marks found) self.new) }
@@ -97,8 +110,8 @@ impl<'a> Reader<'a> {
     {
         let mut items = Vec::new(self.alloc);
         'items: while !self.at(Kind::End) {
-            let interface = self.read_interface()?;
-            items.push(AstItem::Interface(interface))?;
+            let item = self.read_declaration()?;
+            items.push(item)?;
         }
         Ok(DeclList { items })
     }
@@ -113,7 +126,8 @@ impl<'a> Reader<'a> {
 /// 46 at a character that begins no token, 47 at a token that the grammar does not allow there or a
 /// name that is no label (twice the end of the source where it ends too soon), 48 at the first two
 /// bytes of a comment without end, 49 at the first word of a type that is the hundred and first of
-/// those in one another, 50 at a version that `semver` refuses, and 45 for want of memory.
+/// those in one another, 50 at a version that `semver` refuses, 51 at a number of items over
+/// 4,294,967,295, and 45 for want of memory.
 ///
 /// A version is three numbers joined by `.`, then perhaps `-` and a run, then perhaps `+` and a run,
 /// without blanks; a run is the longest text of letters, digits, `-` and those `.` that one of these

@@ -6,6 +6,7 @@ mod definition;
 mod fault;
 mod file;
 mod kind;
+mod members;
 mod reader;
 mod scan;
 mod source;

@@ -74,8 +74,16 @@ package %package:%get; interface %type { record %record { %u8: %list, } }
 interface from { type set = list<list<error-context>>; record empty {} }
 interface since { use get.{from as set}; }
 interface i { use x.{t}; use x.{t as s, %u,}; use i.{}; }
+use x; use x as y; use %use as %as; interface i {} use/**/y/**/as/**/%z;
 interface i { use %use . { %as as %use }; type t = %as; use/**/get.{from as set}; }
-interface A-b1 { record r { a: bool, b: u8, } record s { c: r } }";
+interface A-b1 { record r { a: bool, b: u8, } record s { c: r } }
+interface i { type a = list<u8, 4>; type b = list<u8,0>; type c = list<u8,4294967295>; type d = list < u8 , 0004 > ; }
+interface i { type a = option<t>; type b = tuple<>; type c = tuple<u8>; type d = tuple<u8, t,>; type e = map<string, list<u8>>; }
+interface i { type a = result; type b = result<t>; type c = result<_, t>; type d = result<t, u8>; }
+interface i { type a = future; type b = future<t>; type c = stream; type d = stream<stream>; }
+interface i { flags f {} flags g { a } flags h { a, b, } variant v {} variant w { a, b(u8), c(result), } enum e {} enum d { a, b, } }
+interface i { type a = option<%option>; type b = result<%result, %map>; }
+interface %map { flags %flags { %enum, %u8 } variant %variant { %tuple(%tuple) } enum %enum { %future } }";
 
 /// Texts in three parts, a line each, behind the number under which the one in the middle is refused.
 const REFUSED: &str = "\
@@ -105,14 +113,57 @@ const REFUSED: &str = "\
 47|package a:b||
 47|package a|;|
 47|interface i {} |package| a:b;
-47||use| a:b/c;
+47|use a|:|b/c;
+47|use |as| y;
+47|use x |y|;
+47|use x as |as|;
+47|use x as y||
+47|use x |%as| y;
+47|use x|.|{t};
+47|use x; |;|
 47||world| w {}
 47|interface |a--b| {}
 47|interface |%a-| {}
 47|interface |aB| {}
 47|interface |1|a {}
-47|interface i { type t = list<u8|,| 4>; }
-47|interface i { type t = |option|<u8>; }
+47|interface i { type t = list<u8, |>|; }
+47|interface i { type t = list<u8, |x|>; }
+47|interface i { type t = list<u8, 4|,|>; }
+47|interface i { type t = list<u8, |->|>; }
+46|interface i { type t = list<u8, |-|1>; }
+51|interface i { type t = list<u8, |4294967296|>; }
+51|interface i { type t = list<u8, |99999999999999999999999999999999999999|>; }
+47|interface i { type t = |own|<u8>; }
+47|interface i { type t = |borrow|<u8>; }
+47|interface i { type t = option|;| }
+47|interface i { type t = option<u8|,| u8>; }
+47|interface i { type t = option<|_|>; }
+47|interface i { type t = tuple|;| }
+47|interface i { type t = tuple<|,|>; }
+47|interface i { type t = tuple<u8 |u8|>; }
+47|interface i { type t = map<u8|>|; }
+47|interface i { type t = map<u8, u8|,|>; }
+47|interface i { type t = result<|>|; }
+47|interface i { type t = result<_|>|; }
+47|interface i { type t = result<_, |_|>; }
+47|interface i { type t = result<u8, |>|; }
+47|interface i { type t = result<u8, |_|>; }
+47|interface i { type t = result<u8, u8|,|>; }
+47|interface i { type t = future<|>|; }
+47|interface i { type t = stream<|_|>; }
+47|interface i { flags f |;| }
+47|interface i { flags f { a|:| u8 } }
+47|interface i { flags f { |u8| } }
+47|interface i { flags |flags| {} }
+47|interface i { variant v { a(|)| } }
+47|interface i { variant v { a(u8|,| u8) } }
+47|interface i { variant v { a|:| u8 } }
+47|interface i { variant v { |tuple| } }
+47|interface i { enum e { a|(|u8) } }
+47|interface i { enum e { |,| } }
+47|interface i { enum e { |enum| } }
+47|interface i { type t = list<|record|>; }
+47|interface i { |resource| r; }
 47|interface i { type t = u8 |}|
 47|interface i { record r { a: u8 |b|: u8 } }
 47|interface i { record r { a: u8,|,| } }
@@ -189,7 +240,9 @@ fn body_text(rt: &impl Abort, alloc: Global, text: &str) -> Result<String, Alloc
 }
 
 fn first_body<'f, 'a>(file: &'f PackageFile<'a>) -> Option<&'f TypeBody<'a>> {
-    let AstItem::Interface(interface) = file.decl_list.items.first()?;
+    let Some(AstItem::Interface(interface)) = file.decl_list.items.first() else {
+        return None;
+    };
     match interface.items.first()? {
         InterfaceItem::TypeDef(definition) => Some(&definition.body),
         InterfaceItem::Use(_) => None,
@@ -224,12 +277,34 @@ fn reads_a_hundred_levels(rt: HostRuntime) -> Result<(), Fail> {
     let back = back.as_str();
     let read = format!(in alloc; "{front}u8{back}")?;
     check_read(&rt, alloc, read.as_str())?;
-    for part in "|u8|> |t|> |%u8|> |list|<u8>>".split(' ') {
+    for part in "|u8|> |t|> |%u8|> |list|<u8>> |map|<u8,u8>> |option|<u8>> |result|> |tuple|<>> |future|> |stream|>".split(
+        ' ',
+    ) {
         let line = format!(in alloc; "49|{front}list<{part}{back}")?;
         check_refused(&rt, alloc, line.as_str())?;
     }
-    for part in "|>| |->|>".split(' ') {
+    for part in "|>| |->|> |own|<t>> |_|>".split(' ') {
         let line = format!(in alloc; "47|{front}list<{part}{back}")?;
+        check_refused(&rt, alloc, line.as_str())?;
+    }
+    Ok(())
+}
+
+#[test]
+fn counts_levels_of_all_forms(rt: HostRuntime) -> Result<(), Fail> {
+    let alloc = rt.alloc();
+    let front = repeated(
+        alloc,
+        "interface i { type t = ",
+        "list<option<tuple<u8, result<t, map<u8, result<_, future<stream<result<",
+        11,
+        "",
+    )?;
+    let back = repeated(alloc, "", ">>>>>>>>, 4>", 11, "; }")?;
+    let read = format!(in alloc; "{}u8{}", front.as_str(), back.as_str())?;
+    check_read(&rt, alloc, read.as_str())?;
+    for part in "|u8| |t|".split(' ') {
+        let line = format!(in alloc; "49|{}future<{part}>{}", front.as_str(), back.as_str())?;
         check_refused(&rt, alloc, line.as_str())?;
     }
     Ok(())
@@ -271,7 +346,7 @@ fn part_count(rt: &impl Abort, alloc: Global, text: &str) -> usize {
     match read_file(alloc, text, 0) {
         Ok(file) => match file.decl_list.items.first() {
             Some(AstItem::Interface(interface)) => first_part_count(interface),
-            None => 0,
+            _ => 0,
         },
         Err(_) => 0,
     }
@@ -281,6 +356,9 @@ fn first_part_count(interface: &Interface) -> usize {
     match interface.items.first() {
         Some(InterfaceItem::TypeDef(definition)) => match &definition.body {
             TypeBody::Record { fields, .. } => fields.len(),
+            TypeBody::Flags { flags, .. } => flags.len(),
+            TypeBody::Variant { cases, .. } => cases.len(),
+            TypeBody::Enum { cases, .. } => cases.len(),
             TypeBody::Plain(_) => 0,
         },
         Some(InterfaceItem::Use(used)) => used.names.len(),
@@ -319,6 +397,7 @@ fn drops_nothing(rt: HostRuntime) -> Result<(), Fail> {
         "interface i { use x.{t as s, %u,}; use %use.{}; type t = t; }\ninterface j {}",
         USES_TREE,
     )?;
+    check_tree(&rt, alloc, "use x as y; use %z;", TOPLEVEL_TREE)?;
     Ok(())
 }
 
@@ -327,6 +406,9 @@ const SMALL_TREE: &str =
 
 const USES_TREE: &str =
     "PackageFile { package_id: None, decl_list: DeclList { items: [Interface(Interface { name: Id { name: \"i\", span: Span { start: 1010, end: 1011 } }, items: [Use(Use { from: Id(Id { name: \"x\", span: Span { start: 1018, end: 1019 } }), names: [UseName { name: Id { name: \"t\", span: Span { start: 1021, end: 1022 } }, as_: Some(Id { name: \"s\", span: Span { start: 1026, end: 1027 } }) }, UseName { name: Id { name: \"u\", span: Span { start: 1029, end: 1031 } }, as_: None }] }), Use(Use { from: Id(Id { name: \"use\", span: Span { start: 1039, end: 1043 } }), names: [] }), TypeDef(TypeDef { name: Id { name: \"t\", span: Span { start: 1053, end: 1054 } }, body: Plain(Name(Id { name: \"t\", span: Span { start: 1057, end: 1058 } })) })] }), Interface(Interface { name: Id { name: \"j\", span: Span { start: 1072, end: 1073 } }, items: [] })] } }";
+
+const TOPLEVEL_TREE: &str =
+    "PackageFile { package_id: None, decl_list: DeclList { items: [Use(ToplevelUse { span: Span { start: 1000, end: 1003 }, item: Id(Id { name: \"x\", span: Span { start: 1004, end: 1005 } }), as_: Some(Id { name: \"y\", span: Span { start: 1009, end: 1010 } }) }), Use(ToplevelUse { span: Span { start: 1012, end: 1015 }, item: Id(Id { name: \"z\", span: Span { start: 1016, end: 1018 } }), as_: None })] } }";
 
 /// A map of three sources, the second of which is empty.
 fn three_sources(rt: &impl Abort, alloc: Global) -> SourceMap {

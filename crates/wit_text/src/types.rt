@@ -1,31 +1,60 @@
 //! Reading types.
-ghost use Rattle.std.specs.Prelude.{◌≡◌, ◌+◌, [], ◌∷◌, IfOk, IfErr, IfSome};
-ghost use Rattle.wit_tree.specs.Marks.{spelled, type_marks};
-ghost use Rattle.wit_tree.specs.declared.span.Span.{Span};
+ghost use Rattle.std.specs.Prelude.{◌≡◌, ◌+◌, [], ◌∷◌, ◌++◌, IfOk, IfErr, IfSome, codes};
+ghost use Rattle.std.specs.List.{flat_map};
+ghost use Rattle.wit_values.specs.declared.span.Span.{Span as TheSpan};
+ghost use Rattle.wit_tree.specs.Marks.{spelled, counted, type_marks, boxed_marks, size_marks};
 
 use crate::fault::ReadFault;
 use crate::kind::Kind;
 use crate::reader::Reader;
 use crate::word::{Word, primitive};
 use wit_tree::tree::Type;
-use wit_tree::{ParseError, ParseResult};
+use wit_tree::{ParseError, ParseResult, Span};
 
 /// How many levels of types are read.
 pub const MOST_NESTED: u8 = 100;
 
+/// Whether a word begins a type with parts.
+fn is_form(word: Word) -> bool {
+    matches!(
+        word,
+        Word::List
+            | Word::Map
+            | Word::Option
+            | Word::Result
+            | Word::Tuple
+            | Word::Future
+            | Word::Stream
+    )
+}
+
+/// The list of these items, of a fixed length where one was found.
+fn list<'a>(span: Span, item: Box<Type<'a>>, size: Option<u32>) -> Type<'a>
+    ensures { type_marks result ≡ spelled span (codes "list") ∷ (type_marks item.entry.value ++ size_marks size) }
+{
+    match size {
+        Some(size) => Type::FixedLengthList(span, item, size),
+        None => Type::List(span, item),
+    }
+}
+
 impl<'a> Reader<'a> {
-    ghost use Rattle.wit_text.specs.Reading.{IsRead, IsRefused};
+    ghost use Rattle.wit_text.specs.Reading.{IsRead, IsReadOn, IsRefused};
+
+    /// Whether a type begins with the token.
+    fn begins_type(&self) -> bool {
+        match self.token.kind {
+            Kind::Name => true,
+            Kind::Word(word) => is_form(word) || primitive(word, self.span()).is_some(),
+            _ => false,
+        }
+    }
 
     /// The refusal of the token where no further level of types is read.
     fn refuse_deeper(&self) -> ParseError
         ensures { IsRefused self.now result }
     {
-        let begins_type = match self.token.kind {
-            Kind::Name => true,
-            Kind::Word(word) => word == Word::List || primitive(word, self.span()).is_some(),
-            _ => false,
-        };
-        if begins_type {
+        if self.begins_type() {
             self.refuse(ReadFault::Nesting)
         } else {
             self.refuse(ReadFault::Token)
@@ -34,7 +63,7 @@ impl<'a> Reader<'a> {
 
     /// The primitive type that the token is.
     fn primitive(&self) -> Option<Type<'a>>
-        ensures { IfSome result (λ t. (span : Span) × (type_marks t ≡ spelled span self.now.token.text.now ∷ [])
+        ensures { IfSome result (λ t. (span : TheSpan) × (type_marks t ≡ spelled span self.now.token.text.now ∷ [])
             × (span.start ≡ self.now.offset + self.now.token.start) × (span.end ≡ self.now.offset + self.now.token.end)) }
     {
         match self.token.kind {
@@ -57,6 +86,36 @@ impl<'a> Reader<'a> {
         }
     }
 
+    /// Reads a number of 32 bits.
+    fn read_number(&mut self) -> ParseResult<u32>
+        ensures read { IfOk result (λ n. IsRead self.old (counted n ∷ []) self.new) }
+        ensures refused { IfErr result (λ e. IsRefused self.old e) }
+    {
+        if !self.at(Kind::Number) {
+            return Err(self.refuse(ReadFault::Token));
+        }
+        match self.token.text.parse::<u32>() {
+            Ok(number) => {
+                self.bump()?;
+                Ok(number)
+            }
+            Err(_) => Err(self.refuse(ReadFault::Number)),
+        }
+    }
+
+    /// Reads `,` and a number, where there is one.
+    fn read_size(&mut self) -> ParseResult<Option<u32>>
+        ensures read { IfOk result (λ size. IsReadOn self.old (size_marks size) self.new) }
+        ensures refused { IfErr result (λ e. IsRefused self.old e) }
+    {
+        if !self.at(Kind::Comma) {
+            return Ok(None);
+        }
+        self.bump()?;
+        let size = self.read_number()?;
+        Ok(Some(size))
+    }
+
     /// Reads a type of at most `left` levels.
     #[cycle(types)]
     pub fn read_type(&mut self, left: u8) -> ParseResult<Type<'a>>
@@ -68,6 +127,12 @@ impl<'a> Reader<'a> {
         }
         match self.token.kind {
             Kind::Word(Word::List) => self.read_list(left - 1),
+            Kind::Word(Word::Map) => self.read_map(left - 1),
+            Kind::Word(Word::Option) => self.read_option(left - 1),
+            Kind::Word(Word::Result) => self.read_result(left - 1),
+            Kind::Word(Word::Tuple) => self.read_tuple(left - 1),
+            Kind::Word(Word::Future) => self.read_future(left - 1),
+            Kind::Word(Word::Stream) => self.read_stream(left - 1),
             Kind::Word(_) => self.read_primitive(),
             _ => {
                 let id = self.read_id()?;
@@ -76,6 +141,7 @@ impl<'a> Reader<'a> {
         }
     }
 
+    /// Reads `list<type>`, perhaps with a number of items.
     #[cycle(types)]
     fn read_list(&mut self, left: u8) -> ParseResult<Type<'a>>
         ensures read { IfOk result (λ t. IsRead self.old (type_marks t) self.new) }
@@ -83,8 +149,161 @@ impl<'a> Reader<'a> {
     {
         let span = self.read_word(Word::List)?;
         self.expect(Kind::OpenAngle)?;
-        let part = self.read_type(left)?;
+        let item = self.read_boxed(left)?;
+        let size = self.read_size()?;
         self.expect(Kind::CloseAngle)?;
-        Ok(Type::List(span, Box::new(self.alloc, part)?))
+        Ok(list(span, item, size))
+    }
+
+    /// Reads `map<type, type>`.
+    #[cycle(types)]
+    fn read_map(&mut self, left: u8) -> ParseResult<Type<'a>>
+        ensures read { IfOk result (λ t. IsRead self.old (type_marks t) self.new) }
+        ensures refused { IfErr result (λ e. IsRefused self.old e) }
+    {
+        let span = self.read_word(Word::Map)?;
+        self.expect(Kind::OpenAngle)?;
+        let key = self.read_boxed(left)?;
+        self.expect(Kind::Comma)?;
+        let value = self.read_boxed(left)?;
+        self.expect(Kind::CloseAngle)?;
+        Ok(Type::Map(span, key, value))
+    }
+
+    /// Reads `option<type>`.
+    #[cycle(types)]
+    fn read_option(&mut self, left: u8) -> ParseResult<Type<'a>>
+        ensures read { IfOk result (λ t. IsRead self.old (type_marks t) self.new) }
+        ensures refused { IfErr result (λ e. IsRefused self.old e) }
+    {
+        let span = self.read_word(Word::Option)?;
+        self.expect(Kind::OpenAngle)?;
+        let value = self.read_boxed(left)?;
+        self.expect(Kind::CloseAngle)?;
+        Ok(Type::Option(span, value))
+    }
+
+    /// Reads `result`, perhaps with the types of the value and of the error.
+    #[cycle(types)]
+    fn read_result(&mut self, left: u8) -> ParseResult<Type<'a>>
+        ensures read { IfOk result (λ t. IsRead self.old (type_marks t) self.new) }
+        ensures refused { IfErr result (λ e. IsRefused self.old e) }
+    {
+        let span = self.read_word(Word::Result)?;
+        if !self.at(Kind::OpenAngle) {
+            return Ok(Type::Result(span, None, None));
+        }
+        self.bump()?;
+        let ok = self.read_ok(left)?;
+        let err = self.read_err(left, ok.is_none())?;
+        self.expect(Kind::CloseAngle)?;
+        Ok(Type::Result(span, ok, err))
+    }
+
+    /// Reads the type of the value of a result, or `_`.
+    #[cycle(types)]
+    fn read_ok(&mut self, left: u8) -> ParseResult<Option<Box<Type<'a>>>>
+        ensures read { IfOk result (λ t. IsRead self.old (boxed_marks t) self.new) }
+        ensures refused { IfErr result (λ e. IsRefused self.old e) }
+    {
+        if self.at(Kind::Underscore) {
+            self.bump()?;
+            return Ok(None);
+        }
+        let ok = self.read_boxed(left)?;
+        Ok(Some(ok))
+    }
+
+    /// Reads `,` and the type of the error of a result, where there is one or has to be.
+    #[cycle(types)]
+    fn read_err(&mut self, left: u8, needed: bool) -> ParseResult<Option<Box<Type<'a>>>>
+        ensures read { IfOk result (λ t. IsReadOn self.old (boxed_marks t) self.new) }
+        ensures refused { IfErr result (λ e. IsRefused self.old e) }
+    {
+        if !needed && !self.at(Kind::Comma) {
+            return Ok(None);
+        }
+        self.expect(Kind::Comma)?;
+        let err = self.read_boxed(left)?;
+        Ok(Some(err))
+    }
+
+    /// Reads `tuple<type, ..>`.
+    #[cycle(types)]
+    fn read_tuple(&mut self, left: u8) -> ParseResult<Type<'a>>
+        ensures read { IfOk result (λ t. IsRead self.old (type_marks t) self.new) }
+        ensures refused { IfErr result (λ e. IsRefused self.old e) }
+    {
+        let span = self.read_word(Word::Tuple)?;
+        let types = self.read_types(left)?;
+        Ok(Type::Tuple(span, types))
+    }
+
+    /// Reads types in angles.
+    #[cycle(types)]
+    fn read_types(&mut self, left: u8) -> ParseResult<Vec<Type<'a>>>
+        ensures read { IfOk result (λ ts. IsRead self.old (flat_map type_marks ts.items) self.new) }
+        ensures refused { IfErr result (λ e. IsRefused self.old e) }
+    {
+        self.expect(Kind::OpenAngle)?;
+        let mut types = Vec::new(self.alloc);
+        'types: while !self.at(Kind::CloseAngle) {
+            let ty = self.read_type(left)?;
+            types.push(ty)?;
+            if !self.at(Kind::Comma) {
+                self.expect(Kind::CloseAngle)?;
+                return Ok(types);
+            }
+            self.bump()?;
+        }
+        self.bump()?;
+        Ok(types)
+    }
+
+    /// Reads `future`, perhaps with the type of its value.
+    #[cycle(types)]
+    fn read_future(&mut self, left: u8) -> ParseResult<Type<'a>>
+        ensures read { IfOk result (λ t. IsRead self.old (type_marks t) self.new) }
+        ensures refused { IfErr result (λ e. IsRefused self.old e) }
+    {
+        let span = self.read_word(Word::Future)?;
+        let value = self.read_payload(left)?;
+        Ok(Type::Future(span, value))
+    }
+
+    /// Reads `stream`, perhaps with the type of its items.
+    #[cycle(types)]
+    fn read_stream(&mut self, left: u8) -> ParseResult<Type<'a>>
+        ensures read { IfOk result (λ t. IsRead self.old (type_marks t) self.new) }
+        ensures refused { IfErr result (λ e. IsRefused self.old e) }
+    {
+        let span = self.read_word(Word::Stream)?;
+        let item = self.read_payload(left)?;
+        Ok(Type::Stream(span, item))
+    }
+
+    /// Reads a type in angles, where there is one.
+    #[cycle(types)]
+    fn read_payload(&mut self, left: u8) -> ParseResult<Option<Box<Type<'a>>>>
+        ensures read { IfOk result (λ t. IsReadOn self.old (boxed_marks t) self.new) }
+        ensures refused { IfErr result (λ e. IsRefused self.old e) }
+    {
+        if !self.at(Kind::OpenAngle) {
+            return Ok(None);
+        }
+        self.bump()?;
+        let payload = self.read_boxed(left)?;
+        self.expect(Kind::CloseAngle)?;
+        Ok(Some(payload))
+    }
+
+    /// Reads a type, and boxes it.
+    #[cycle(types)]
+    fn read_boxed(&mut self, left: u8) -> ParseResult<Box<Type<'a>>>
+        ensures read { IfOk result (λ t. IsRead self.old (type_marks t.value) self.new) }
+        ensures refused { IfErr result (λ e. IsRefused self.old e) }
+    {
+        let ty = self.read_type(left)?;
+        Ok(Box::new(self.alloc, ty)?)
     }
 }

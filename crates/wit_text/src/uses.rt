@@ -1,13 +1,13 @@
-//! Reading what an interface uses.
+//! Reading what an interface uses, and other names for items.
 ghost use Rattle.std.specs.Prelude.{◌≡◌, ◌+◌, [], ◌∷◌, IfOk, IfErr};
 ghost use Rattle.std.specs.List.{flat_map};
-ghost use Rattle.wit_tree.specs.Marks.{named, path_marks, local_marks, used_marks, use_marks};
+ghost use Rattle.wit_tree.specs.Marks.{named, path_marks, local_marks, used_marks, use_marks, toplevel_marks};
 
 use crate::kind::Kind;
 use crate::reader::Reader;
 use crate::word::Word;
 use wit_tree::ParseResult;
-use wit_tree::tree::{Id, Use, UseName, UsePath};
+use wit_tree::tree::{Id, ToplevelUse, Use, UseName, UsePath};
 
 /// The used name, with the local name that was found behind it.
 fn used_name<'a>(name: Id<'a>, local: Option<Id<'a>>) -> UseName<'a>
@@ -19,7 +19,7 @@ fn used_name<'a>(name: Id<'a>, local: Option<Id<'a>>) -> UseName<'a>
 impl<'a> Reader<'a> {
     ghost use Rattle.wit_text.specs.Reading.{IsRead, IsReadOn, IsRefused};
 
-    /// Reads what is used from: a name of the package.
+    /// Reads a path: a name of the package.
     fn read_path(&mut self) -> ParseResult<UsePath<'a>>
         ensures read { IfOk result (λ path. IsRead self.old (path_marks path) self.new) }
         ensures refused { IfErr result (λ e. IsRefused self.old e) }
@@ -82,5 +82,21 @@ impl<'a> Reader<'a> {
         let names = self.read_used_names()?;
         self.expect(Kind::Semicolon)?;
         Ok(Use { from, names })
+    }
+
+    /// Reads `use name;` or `use name as name;`.
+    pub fn read_toplevel_use(&mut self) -> ParseResult<ToplevelUse<'a>>
+        ensures read { IfOk result (λ u. IsRead self.old (toplevel_marks u) self.new) }
+        ensures refused { IfErr result (λ e. IsRefused self.old e) }
+    {
+        let span = self.read_word(Word::Use)?;
+        let item = self.read_path()?;
+        let local = self.read_local()?;
+        self.expect(Kind::Semicolon)?;
+        Ok(ToplevelUse {
+            span,
+            item,
+            as_: local,
+        })
     }
 }

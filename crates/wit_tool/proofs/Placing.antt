@@ -2,7 +2,7 @@
 use Rattle.std.proofs.Common.{◌≡◌, ℕ, List, subst, sym, true}
 use Rattle.std.specs.Prelude.{Option, Some, None, IfSome, IfNone, slice_get}
 use Rattle.std.specs.Borrow.{Bor}
-use Rattle.wit_tree.specs.declared.span.Span.{Span}
+use Rattle.wit_values.specs.declared.span.Span.{Span}
 use Rattle.wit_tree.specs.declared.error.ParseError.{ParseError}
 use Rattle.wit_tree.specs.Refusal.{span_of}
 use Rattle.wit_text.specs.declared.source.Source.{Source}

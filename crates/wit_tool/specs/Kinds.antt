@@ -2,15 +2,15 @@
 use Rattle.std.specs.Prelude.{ℕ, List, [], ◌∷◌, ◌++◌, Option, Some, None, codes}
 use Rattle.std.specs.List.{flat_map}
 use Rattle.std.specs.Fmt.{decimal}
-use Rattle.wit_model.specs.declared.types.«Type».{«Type» as Ty}
-use Rattle.wit_model.specs.declared.types.Field.{Field}
-use Rattle.wit_model.specs.declared.types.Flag.{Flag}
-use Rattle.wit_model.specs.declared.types.Case.{Case}
-use Rattle.wit_model.specs.declared.types.EnumCase.{EnumCase}
-use Rattle.wit_model.specs.declared.types.Handle.{Handle}
-use Rattle.wit_model.specs.declared.types.Handle.TheVariants as handle
-use Rattle.wit_model.specs.declared.types.TypeDefKind.{TypeDefKind}
-use Rattle.wit_model.specs.declared.types.TypeDefKind.TheVariants as kind
+use Rattle.wit_types.specs.declared.types.«Type».{«Type» as Ty}
+use Rattle.wit_types.specs.declared.types.Field.{Field}
+use Rattle.wit_types.specs.declared.types.Flag.{Flag}
+use Rattle.wit_types.specs.declared.types.Case.{Case}
+use Rattle.wit_types.specs.declared.types.EnumCase.{EnumCase}
+use Rattle.wit_types.specs.declared.types.Handle.{Handle}
+use Rattle.wit_types.specs.declared.types.Handle.TheVariants as handle
+use Rattle.wit_types.specs.declared.types.TypeDefKind.{TypeDefKind}
+use Rattle.wit_types.specs.declared.types.TypeDefKind.TheVariants as kind
 use Rattle.wit_tool.specs.Words.{type_text, optional_text}
 
 abbrev pub field_text : Field → List ℕ

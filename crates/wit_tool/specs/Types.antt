@@ -1,9 +1,9 @@
 -- The types of a package in its listing, a line for each.
 use Rattle.std.specs.Prelude.{ℕ, List, [], ◌∷◌, ◌++◌, Option, Some, None, codes}
 use Rattle.std.specs.Fmt.{decimal}
-use Rattle.wit_model.specs.declared.types.TypeOwner.{TypeOwner}
-use Rattle.wit_model.specs.declared.types.TypeOwner.TheVariants as owner
-use Rattle.wit_model.specs.declared.types.TypeDef.{TypeDef}
+use Rattle.wit_types.specs.declared.types.TypeOwner.{TypeOwner}
+use Rattle.wit_types.specs.declared.types.TypeOwner.TheVariants as owner
+use Rattle.wit_types.specs.declared.types.TypeDef.{TypeDef}
 use Rattle.wit_tool.specs.Words.{stability_text}
 use Rattle.wit_tool.specs.Kinds.{kind_text}
 

@@ -4,10 +4,10 @@ use Rattle.std.specs.Fmt.{decimal}
 use Rattle.std.specs.declared.alloc.Global.{Global}
 use Rattle.wit_values.specs.declared.release.Release.{Release}
 use Rattle.wit_values.specs.ReleaseText.{release_text}
-use Rattle.wit_model.specs.declared.types.«Type».{«Type» as Ty}
-use Rattle.wit_model.specs.declared.types.«Type».TheVariants as ty
-use Rattle.wit_model.specs.declared.stability.Stability.{Stability}
-use Rattle.wit_model.specs.declared.stability.Stability.TheVariants.{Unknown, Unstable, Stable}
+use Rattle.wit_types.specs.declared.types.«Type».{«Type» as Ty}
+use Rattle.wit_types.specs.declared.types.«Type».TheVariants as ty
+use Rattle.wit_types.specs.declared.stability.Stability.{Stability}
+use Rattle.wit_types.specs.declared.stability.Stability.TheVariants.{Unknown, Unstable, Stable}
 
 -- the new text is the old one with more behind it
 abbrev pub Adds : String Global → String Global → List ℕ → Type 0

@@ -1,4 +1,4 @@
 pub mod Marks
+pub mod Parts
 pub mod Refusal
 pub mod Slices
-pub mod Spans

@@ -1,12 +1,16 @@
 -- What a tree takes from its text: names, words, versions, and spans over several of them, in the order of its fields.
-use Rattle.std.specs.Prelude.{ℕ, List, [], ◌∷◌, ◌++◌, Option, Some, None, codes}
+use Rattle.std.specs.Prelude.{ℕ, List, [], ◌∷◌, ◌++◌, Option, Some, None, Box, codes}
 use Rattle.std.specs.List.{flat_map}
+use Rattle.std.specs.declared.alloc.Global.{Global}
 use Rattle.semver.specs.declared.Version.{Version}
-use Rattle.wit_tree.specs.declared.span.Span.{Span}
+use Rattle.wit_values.specs.declared.span.Span.{Span}
 use Rattle.wit_tree.specs.declared.tree.Id.{Id}
 use Rattle.wit_tree.specs.declared.tree.Field.{Field}
 use Rattle.wit_tree.specs.declared.tree.TypeBody.{TypeBody}
-use Rattle.wit_tree.specs.declared.tree.TypeBody.TheVariants.{Record, Plain}
+use Rattle.wit_tree.specs.declared.tree.Flag.{Flag}
+use Rattle.wit_tree.specs.declared.tree.Case.{Case}
+use Rattle.wit_tree.specs.declared.tree.EnumCase.{EnumCase}
+use Rattle.wit_tree.specs.declared.tree.TypeBody.TheVariants.{Record, Flags, Variant, Enum, Plain}
 use Rattle.wit_tree.specs.declared.tree.TypeDef.{TypeDef}
 use Rattle.wit_tree.specs.declared.tree.InterfaceItem.{InterfaceItem}
 use Rattle.wit_tree.specs.declared.tree.InterfaceItem.TheVariants.{TypeDef as TypeDefItem, Use as UseItem}
@@ -16,10 +20,11 @@ use Rattle.wit_tree.specs.declared.tree.UsePath.TheVariants.{Id as PathName}
 use Rattle.wit_tree.specs.declared.tree.UseName.{UseName}
 use Rattle.wit_tree.specs.declared.tree.Interface.{Interface}
 use Rattle.wit_tree.specs.declared.tree.AstItem.{AstItem}
-use Rattle.wit_tree.specs.declared.tree.AstItem.TheVariants.{Interface as InterfaceItem'}
+use Rattle.wit_tree.specs.declared.tree.AstItem.TheVariants.{Interface as InterfaceItem', Use as ToplevelItem}
+use Rattle.wit_tree.specs.declared.tree.ToplevelUse.{ToplevelUse}
 use Rattle.wit_tree.specs.declared.tree.PackageName.{PackageName}
 use Rattle.wit_tree.specs.declared.tree.PackageFile.{PackageFile}
-use Rattle.wit_tree.specs.declared.tree.«Type».{«Type» as Written, Bool, U8, U16, U32, U64, S8, S16, S32, S64, F32, F64, Char, String, ErrorContext, Name, List'}
+use Rattle.wit_tree.specs.declared.tree.«Type».{«Type» as Written, Bool, U8, U16, U32, U64, S8, S16, S32, S64, F32, F64, Char, String, ErrorContext, Name, List', FixedLengthList', Map', Option', Result', Tuple', Future', Stream', Held-Type-Result-1, None', Some', Row_of-Type, end_of-Type, more_of-Type}
 
 pub data Mark : Type 0 where
   -- a name of the tree
@@ -30,31 +35,78 @@ pub data Mark : Type 0 where
   joined : (span : Span) (first last : Span) → Mark
   -- a span from the first name to the end of a version
   versioned : (span : Span) (first : Span) (version : Version) → Mark
+  -- a number
+  counted : (number : ℕ) → Mark
 
-abbrev pub type_marks : Written → List Mark
-type_marks (Bool s) = spelled s (codes "bool") ∷ []
-type_marks (U8 s) = spelled s (codes "u8") ∷ []
-type_marks (U16 s) = spelled s (codes "u16") ∷ []
-type_marks (U32 s) = spelled s (codes "u32") ∷ []
-type_marks (U64 s) = spelled s (codes "u64") ∷ []
-type_marks (S8 s) = spelled s (codes "s8") ∷ []
-type_marks (S16 s) = spelled s (codes "s16") ∷ []
-type_marks (S32 s) = spelled s (codes "s32") ∷ []
-type_marks (S64 s) = spelled s (codes "s64") ∷ []
-type_marks (F32 s) = spelled s (codes "f32") ∷ []
-type_marks (F64 s) = spelled s (codes "f64") ∷ []
-type_marks (Char s) = spelled s (codes "char") ∷ []
-type_marks (String s) = spelled s (codes "string") ∷ []
-type_marks (ErrorContext s) = spelled s (codes "error-context") ∷ []
-type_marks (Name id) = named id ∷ []
-type_marks (List' s p t) = spelled s (codes "list") ∷ type_marks t
+abbrev mutual
+  pub type_marks : Written → List Mark
+  type_marks (Bool s) = spelled s (codes "bool") ∷ []
+  type_marks (U8 s) = spelled s (codes "u8") ∷ []
+  type_marks (U16 s) = spelled s (codes "u16") ∷ []
+  type_marks (U32 s) = spelled s (codes "u32") ∷ []
+  type_marks (U64 s) = spelled s (codes "u64") ∷ []
+  type_marks (S8 s) = spelled s (codes "s8") ∷ []
+  type_marks (S16 s) = spelled s (codes "s16") ∷ []
+  type_marks (S32 s) = spelled s (codes "s32") ∷ []
+  type_marks (S64 s) = spelled s (codes "s64") ∷ []
+  type_marks (F32 s) = spelled s (codes "f32") ∷ []
+  type_marks (F64 s) = spelled s (codes "f64") ∷ []
+  type_marks (Char s) = spelled s (codes "char") ∷ []
+  type_marks (String s) = spelled s (codes "string") ∷ []
+  type_marks (ErrorContext s) = spelled s (codes "error-context") ∷ []
+  type_marks (Name id) = named id ∷ []
+  type_marks (List' s p t) = spelled s (codes "list") ∷ type_marks t
+  type_marks (FixedLengthList' s p t size) = spelled s (codes "list") ∷ type_marks t ++ counted size ∷ []
+  type_marks (Map' s p key q value) = spelled s (codes "map") ∷ type_marks key ++ type_marks value
+  type_marks (Option' s p t) = spelled s (codes "option") ∷ type_marks t
+  type_marks (Result' s ok err) = spelled s (codes "result") ∷ held_marks ok ++ held_marks err
+  type_marks (Tuple' s shape ts) = spelled s (codes "tuple") ∷ row_marks ts
+  type_marks (Future' s t) = spelled s (codes "future") ∷ held_marks t
+  type_marks (Stream' s t) = spelled s (codes "stream") ∷ held_marks t
+
+  -- of a type, where there is one
+  pub held_marks : Held-Type-Result-1 → List Mark
+  held_marks None' = []
+  held_marks (Some' p t) = type_marks t
+
+  -- of types in a row
+  pub row_marks : {m : _} → Row_of-Type m → List Mark
+  row_marks end_of-Type = []
+  row_marks (more_of-Type t rest) = type_marks t ++ row_marks rest
+
+-- of a type in a box, where there is one
+abbrev pub boxed_marks : Option (Box Written Global) → List Mark
+boxed_marks None = []
+boxed_marks (Some b) = type_marks b.value
+
+-- of the length of a list, where it is fixed
+abbrev pub size_marks : Option ℕ → List Mark
+size_marks None = []
+size_marks (Some size) = counted size ∷ []
 
 abbrev pub field_marks : Field → List Mark
 field_marks f = named f.name ∷ type_marks f.ty
 
+abbrev pub flag_marks : Flag → List Mark
+flag_marks f = named f.name ∷ []
+
+-- of what a case holds, if it holds something
+abbrev pub payload_marks : Option Written → List Mark
+payload_marks None = []
+payload_marks (Some t) = type_marks t
+
+abbrev pub case_marks : Case → List Mark
+case_marks c = named c.name ∷ payload_marks c.ty
+
+abbrev pub enum_case_marks : EnumCase → List Mark
+enum_case_marks c = named c.name ∷ []
+
 -- a body that has a span has the span of the definition's name
 abbrev pub body_marks : Span → TypeBody → List Mark
 body_marks name (Record span fields) = joined span name name ∷ flat_map field_marks fields.items
+body_marks name (Flags span flags) = joined span name name ∷ flat_map flag_marks flags.items
+body_marks name (Variant span cases) = joined span name name ∷ flat_map case_marks cases.items
+body_marks name (Enum span cases) = joined span name name ∷ flat_map enum_case_marks cases.items
 body_marks name (Plain t) = type_marks t
 
 abbrev pub definition_marks : TypeDef → List Mark
@@ -81,8 +133,12 @@ item_marks (UseItem u) = use_marks u
 abbrev pub interface_marks : Interface → List Mark
 interface_marks i = named i.name ∷ flat_map item_marks i.items.items
 
+abbrev pub toplevel_marks : ToplevelUse → List Mark
+toplevel_marks u = spelled u.span (codes "use") ∷ path_marks u.item ++ local_marks u.as_
+
 abbrev pub declaration_marks : AstItem → List Mark
 declaration_marks (InterfaceItem' i) = interface_marks i
+declaration_marks (ToplevelItem u) = toplevel_marks u
 
 -- a header's span goes to the end of its version, or of its name where it has none
 abbrev pub whole_mark : Span → Id → Id → Option Version → Mark

@@ -1,7 +1,7 @@
 -- What a refusal tells: where, of which name, and in which words.
 use Rattle.std.specs.Prelude.{◌≡◌, ℕ, List, [], ◌++◌, Option, Some, None, String, string_bytes, codes}
 use Rattle.std.specs.declared.alloc.Global.{Global}
-use Rattle.wit_tree.specs.declared.span.Span.{Span}
+use Rattle.wit_values.specs.declared.span.Span.{Span}
 use Rattle.wit_tree.specs.declared.error.ParseErrorKind.{ParseErrorKind}
 use Rattle.wit_tree.specs.declared.error.ParseErrorKind.TheVariants.{Syntax, ItemNotFound, TypeCycle, OutOfMemory}
 use Rattle.wit_tree.specs.declared.error.ParseError.{ParseError}

@@ -2,9 +2,9 @@
 ghost use Rattle.std.specs.Prelude.{◌≡◌, None, Some};
 ghost use Rattle.wit_tree.specs.Refusal.{IsWantOfMemory, kind_text, span_of};
 
-use crate::span::Span;
 use std::alloc::{AllocError, AllocFailed};
 use std::fmt;
+use wit_values::Span;
 
 /// What a refusal says.
 #[derive(Debug, Drop)]

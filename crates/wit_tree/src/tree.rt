@@ -2,9 +2,9 @@
 ghost use Rattle.std.specs.Prelude.{◌≡◌, ◌↔◌, IsTrue, IsSome, IfSome};
 ghost use Rattle.wit_names.specs.Label.{is_label};
 
-use crate::span::Span;
 use semver::Version;
 use wit_names::validate_id;
+use wit_values::Span;
 
 /// A label, and where it is written.
 #[derive(Clone, Copy, Debug)]
@@ -80,6 +80,17 @@ pub struct DeclList<'a> {
 #[derive(Debug, Drop)]
 pub enum AstItem<'a> {
     Interface(Interface<'a>),
+    Use(ToplevelUse<'a>),
+}
+
+/// Another name for an item of the package, which holds in one file.
+#[derive(Debug, Drop)]
+pub struct ToplevelUse<'a> {
+    /// That of the word `use`.
+    pub span: Span,
+    pub item: UsePath<'a>,
+    /// The name behind `as`; where there is none, it is the path's.
+    pub as_: Option<Id<'a>>,
 }
 
 /// A declared interface.
@@ -103,7 +114,7 @@ pub struct Use<'a> {
     pub names: Vec<UseName<'a>>,
 }
 
-/// What is used from.
+/// What is used, or used from.
 #[derive(Debug, Drop)]
 pub enum UsePath<'a> {
     /// A name of the package.
@@ -124,11 +135,25 @@ pub struct TypeDef<'a> {
     pub body: TypeBody<'a>,
 }
 
-/// What a definition says.
+/// What a definition says. A span is that of the definition's name.
 #[derive(Debug, Drop)]
 pub enum TypeBody<'a> {
-    /// A record. The span is that of the definition's name.
-    Record { span: Span, fields: Vec<Field<'a>> },
+    Record {
+        span: Span,
+        fields: Vec<Field<'a>>,
+    },
+    Flags {
+        span: Span,
+        flags: Vec<Flag<'a>>,
+    },
+    Variant {
+        span: Span,
+        cases: Vec<Case<'a>>,
+    },
+    Enum {
+        span: Span,
+        cases: Vec<EnumCase<'a>>,
+    },
     /// Another word for a type.
     Plain(Type<'a>),
 }
@@ -138,6 +163,25 @@ pub enum TypeBody<'a> {
 pub struct Field<'a> {
     pub name: Id<'a>,
     pub ty: Type<'a>,
+}
+
+/// A flag, which is there or not.
+#[derive(Debug, Drop)]
+pub struct Flag<'a> {
+    pub name: Id<'a>,
+}
+
+/// A case of a variant, with the type of what it holds, if it holds something.
+#[derive(Debug, Drop)]
+pub struct Case<'a> {
+    pub name: Id<'a>,
+    pub ty: Option<Type<'a>>,
+}
+
+/// A case of an enum.
+#[derive(Debug, Drop)]
+pub struct EnumCase<'a> {
+    pub name: Id<'a>,
 }
 
 /// A written type, with the span of its first word.
@@ -159,4 +203,16 @@ pub enum Type<'a> {
     ErrorContext(Span),
     Name(Id<'a>),
     List(Span, Box<Type<'a>>),
+    /// A list of a fixed length: the type of its items, and how many there are.
+    FixedLengthList(Span, Box<Type<'a>>, u32),
+    /// The type of the keys, and that of the values.
+    Map(Span, Box<Type<'a>>, Box<Type<'a>>),
+    Option(Span, Box<Type<'a>>),
+    /// The type of the value, and that of the error, where there is one.
+    Result(Span, Option<Box<Type<'a>>>, Option<Box<Type<'a>>>),
+    Tuple(Span, Vec<Type<'a>>),
+    /// The type of the value, where there is one.
+    Future(Span, Option<Box<Type<'a>>>),
+    /// The type of the items, where they have one.
+    Stream(Span, Option<Box<Type<'a>>>),
 }

@@ -1,3 +1,4 @@
 pub mod TextEntries
 pub mod ReleaseOrder
 pub mod ReleaseText
+pub mod Spans

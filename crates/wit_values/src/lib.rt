@@ -1,21 +1,26 @@
-//! Small types over `String`, `Vec`, `IndexMap` and `Version`, which contracts see as plain lists.
+//! Values that trees and packages share: spans, and small types over `String`, `Vec`, `IndexMap` and
+//! `Version`, which contracts see as plain lists.
 //!
 //! A copy of each equals its source, and each is made from what it holds and gives it back
 //! without taking memory.
 #![tactic(auto)]
 
+pub mod accessor;
 pub mod laws;
 pub mod release;
 mod release_text;
 pub mod row;
+pub mod span;
 pub mod table;
 #[cfg(test)]
 mod tests;
 pub mod text;
 pub mod text_table;
 
+pub use accessor::AccessorKind;
 pub use release::{BuildText, PreText, Release};
 pub use row::Row;
+pub use span::{Span, compare_spans, is_same_span};
 pub use table::Table;
 pub use text::Text;
 pub use text_table::TextTable;

@@ -4,116 +4,17 @@ ghost use Rattle.wit_model.specs.Same.{IsSameInterface, IsSameWorld, IsSamePacka
 
 use crate::abi::{AbiVariant, LiftLowerAbi, Mangling, ManglingAndAbi};
 use crate::ast_item::AstItem;
-use crate::docs::Docs;
 use crate::function::{Function, FunctionKind, Param};
-use crate::int::{FlagsRepr, Int};
 use crate::interface::Interface;
 use crate::package_name::PackageName;
-use crate::stability::Stability;
-use crate::types::{
-    Case, Enum, EnumCase, Field, Flag, Flags, Handle, Record, Result_, Tuple, Type, TypeDef,
-    TypeOwner, Variant,
-};
 use crate::unresolved::UnresolvedPackage;
 use crate::world::{IncludeName, World, WorldInclude, WorldItem, WorldKey};
-
-/// Whether two types are the same.
-pub fn is_same_type(a: Type, b: Type) -> bool
-    ensures { IsTrue result ↔ (a ≡ b) }
-{
-    a == b
-}
-
-/// Whether two owners are the same.
-pub fn is_same_owner(a: TypeOwner, b: TypeOwner) -> bool
-    ensures { IsTrue result ↔ (a ≡ b) }
-{
-    a == b
-}
-
-/// Whether two handles are the same.
-pub fn is_same_handle(a: Handle, b: Handle) -> bool
-    ensures { IsTrue result ↔ (a ≡ b) }
-{
-    a == b
-}
-
-/// Whether two results are the same.
-pub fn is_same_outcome(a: &Result_, b: &Result_) -> bool
-    ensures { IsTrue result ↔ (a.now ≡ b.now) }
-{
-    a == b
-}
-
-/// Whether two fields are the same.
-pub fn is_same_field(a: &Field, b: &Field) -> bool
-    ensures { IsTrue result ↔ (a.now ≡ b.now) }
-{
-    a == b
-}
-
-/// Whether two flags are the same.
-pub fn is_same_flag(a: &Flag, b: &Flag) -> bool
-    ensures { IsTrue result ↔ (a.now ≡ b.now) }
-{
-    a == b
-}
-
-/// Whether two cases are the same.
-pub fn is_same_case(a: &Case, b: &Case) -> bool
-    ensures { IsTrue result ↔ (a.now ≡ b.now) }
-{
-    a == b
-}
-
-/// Whether two cases of enums are the same.
-pub fn is_same_enum_case(a: &EnumCase, b: &EnumCase) -> bool
-    ensures { IsTrue result ↔ (a.now ≡ b.now) }
-{
-    a == b
-}
-
-/// Whether two records are the same.
-pub fn is_same_record(a: &Record, b: &Record) -> bool
-    ensures { IsTrue result ↔ (a.now ≡ b.now) }
-{
-    a == b
-}
-
-/// Whether two types of flags are the same.
-pub fn is_same_flags(a: &Flags, b: &Flags) -> bool
-    ensures { IsTrue result ↔ (a.now ≡ b.now) }
-{
-    a == b
-}
-
-/// Whether two tuples are the same.
-pub fn is_same_tuple(a: &Tuple, b: &Tuple) -> bool
-    ensures { IsTrue result ↔ (a.now ≡ b.now) }
-{
-    a == b
-}
-
-/// Whether two variants are the same.
-pub fn is_same_variant(a: &Variant, b: &Variant) -> bool
-    ensures { IsTrue result ↔ (a.now ≡ b.now) }
-{
-    a == b
-}
-
-/// Whether two enums are the same.
-pub fn is_same_enum(a: &Enum, b: &Enum) -> bool
-    ensures { IsTrue result ↔ (a.now ≡ b.now) }
-{
-    a == b
-}
-
-/// Whether two entries of the arena of types are the same.
-pub fn is_same_type_def(a: &TypeDef, b: &TypeDef) -> bool
-    ensures { IsTrue result ↔ (a.now ≡ b.now) }
-{
-    a == b
-}
+pub use wit_types::laws::equality::{
+    is_same_case, is_same_docs, is_same_enum, is_same_enum_case, is_same_field, is_same_flag,
+    is_same_flags, is_same_flags_repr, is_same_handle, is_same_int, is_same_outcome, is_same_owner,
+    is_same_record, is_same_stability, is_same_tuple, is_same_type, is_same_type_def,
+    is_same_variant,
+};
 
 /// Whether two parameters are the same.
 pub fn is_same_param(a: &Param, b: &Param) -> bool
@@ -131,20 +32,6 @@ pub fn is_same_function_kind(a: FunctionKind, b: FunctionKind) -> bool
 
 /// Whether two functions are the same.
 pub fn is_same_function(a: &Function, b: &Function) -> bool
-    ensures { IsTrue result ↔ (a.now ≡ b.now) }
-{
-    a == b
-}
-
-/// Whether two docs are the same.
-pub fn is_same_docs(a: &Docs, b: &Docs) -> bool
-    ensures { IsTrue result ↔ (a.now ≡ b.now) }
-{
-    a == b
-}
-
-/// Whether two stabilities are the same.
-pub fn is_same_stability(a: &Stability, b: &Stability) -> bool
     ensures { IsTrue result ↔ (a.now ≡ b.now) }
 {
     a == b
@@ -209,20 +96,6 @@ pub fn is_same_mangling_and_abi(a: ManglingAndAbi, b: ManglingAndAbi) -> bool
 /// Whether two variants of a call are the same.
 pub fn is_same_abi_variant(a: AbiVariant, b: AbiVariant) -> bool
     ensures { IsTrue result ↔ (a ≡ b) }
-{
-    a == b
-}
-
-/// Whether two widths of integers are the same.
-pub fn is_same_int(a: Int, b: Int) -> bool
-    ensures { IsTrue result ↔ (a ≡ b) }
-{
-    a == b
-}
-
-/// Whether two layouts of flags are the same.
-pub fn is_same_flags_repr(a: &FlagsRepr, b: &FlagsRepr) -> bool
-    ensures { IsTrue result ↔ (a.now ≡ b.now) }
 {
     a == b
 }

@@ -1,25 +1,10 @@
 //! Order: types as they are listed, and the other ordered values field by field.
 ghost use Rattle.std.specs.Prelude.{◌≡◌};
-ghost use Rattle.wit_model.specs.Orders.{package_name_cmp, stability_cmp, type_cmp};
+ghost use Rattle.wit_model.specs.Orders.{package_name_cmp};
 
 use crate::package_name::PackageName;
-use crate::stability::Stability;
-use crate::types::Type;
 use std::cmp::Ordering;
-
-/// The order of two types: primitives as they are listed, then entries by their places.
-pub fn compare_types(ty: Type, other: Type) -> Ordering
-    ensures { result ≡ type_cmp ty other }
-{
-    ty.cmp(&other)
-}
-
-/// The order of two stabilities: unknown, unstable, stable, and then field by field.
-pub fn compare_stabilities(stability: &Stability, other: &Stability) -> Ordering
-    ensures { result ≡ stability_cmp stability.now other.now }
-{
-    stability.cmp(other)
-}
+pub use wit_types::laws::order::{compare_stabilities, compare_types};
 
 /// The order of two names of packages: field by field, no version before all versions.
 pub fn compare_package_names(name: &PackageName, other: &PackageName) -> Ordering

@@ -71,6 +71,22 @@ i1 i
 worlds 0
 foreign 0
 
+package foo:foo; use x as y; interface i { use y.{t}; use x.{t as s}; } interface x { type t = u8; }
+=>
+package foo:foo
+types 3
+#0 i0.t = alias u8
+#1 i1.t = alias #0
+#2 i1.s = alias #0
+interfaces 2
+i0 x
+  t = type #0
+i1 i
+  t = type #1
+  s = type #2
+worlds 0
+foreign 0
+
 package foo:foo; interface i { use x.{t as s}; } interface x { type t = u8; }
 =>
 package foo:foo

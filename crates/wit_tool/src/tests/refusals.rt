@@ -12,6 +12,22 @@ package foo:foo; interface a {} interface a {}
 =>
 error E5 stdin.wit "a": duplicate item named `a`
 
+package foo:foo; use x as y; use x as %y; interface x {}
+=>
+error E6 stdin.wit "%y": duplicate name `y` in this file
+
+package foo:foo; use x as y; interface %y {} interface x {}
+=>
+error E6 stdin.wit "%y": duplicate name `y` in this file
+
+package foo:foo; interface y {} use x as %y; interface x {}
+=>
+error E6 stdin.wit "%y": duplicate name `y` in this file
+
+package foo:foo; interface x {} use %x;
+=>
+error E6 stdin.wit "%x": duplicate name `x` in this file
+
 package foo:foo; interface i { type t = u8; record t { a: u8 } }
 =>
 error E14 stdin.wit "t": name `t` is defined more than once
@@ -60,6 +76,26 @@ package foo:foo; interface i { use X.{t}; } interface x { type t = u8; }
 =>
 error E7 stdin.wit "X": interface or world `X` does not exist
 
+package foo:foo; use gone as y; interface i {}
+=>
+error E7 stdin.wit "gone": interface or world `gone` does not exist
+
+package foo:foo; use gone as y; interface i { use y.{t}; }
+=>
+error E7 stdin.wit "gone": interface or world `gone` does not exist
+
+package foo:foo; use x as y; use %y as z; interface x {}
+=>
+error E7 stdin.wit "%y": interface or world `y` does not exist
+
+package foo:foo; use x as y; use %y as z; interface i { use z.{t}; } interface x { type t = u8; }
+=>
+error E7 stdin.wit "%y": interface or world `y` does not exist
+
+package foo:foo; use x as y; interface i { use y.{%t}; } interface x {}
+=>
+error E12 stdin.wit "%t": name `t` does not exist
+
 package foo:foo; interface i { use x.{t}; } interface x {}
 =>
 error E12 stdin.wit "t": name `t` does not exist
@@ -95,6 +131,14 @@ error E8 stdin.wit "b": interface or world `b` depends on itself
 package foo:foo; interface a { use b.{t}; } interface %b { use a.{t}; }
 =>
 error E8 stdin.wit "%b": interface or world `b` depends on itself
+
+package foo:foo; use %b as c; interface a { use c.{t}; } interface b { use a.{t}; }
+=>
+error E8 stdin.wit "%b": interface or world `b` depends on itself
+
+package foo:foo; use %i as j; interface i { use j.{t}; }
+=>
+error E8 stdin.wit "%i": interface or world `i` depends on itself
 
 package foo:foo; interface %i { use i.{t}; }
 =>
@@ -148,6 +192,30 @@ error E4 - "": no `package` header was found in any WIT file for this package
 package foo:foo; interface a { use nowhere.{t}; } interface %a {}
 =>
 error E5 stdin.wit "%a": duplicate item named `a`
+
+package foo:foo; use a as b; use a as b; interface a {} interface %a {}
+=>
+error E5 stdin.wit "%a": duplicate item named `a`
+
+package foo:foo; interface a { use nowhere.{t}; } use a as b; use a as %b;
+=>
+error E6 stdin.wit "%b": duplicate name `b` in this file
+
+package foo:foo; use gone as c; interface a { use c.{t}; } interface b { use nowhere.{t}; }
+=>
+error E7 stdin.wit "nowhere": interface or world `nowhere` does not exist
+
+package foo:foo; use gone as c; interface a { use a.{t}; } interface b { use c.{t}; }
+=>
+error E7 stdin.wit "gone": interface or world `gone` does not exist
+
+package foo:foo; use gone as c; interface %a { use a.{t}; }
+=>
+error E8 stdin.wit "%a": interface or world `a` depends on itself
+
+package foo:foo; use gone as c; interface a { type t = u; }
+=>
+error E7 stdin.wit "gone": interface or world `gone` does not exist
 
 package foo:foo; interface a { use a.{t}; } interface b { use nowhere.{t}; }
 =>
@@ -229,6 +297,56 @@ i1 i
   t = type #1
 worlds 0
 foreign 0
+
+package foo:foo; interface x { type t = u8; } interface z { type t = u16; }
+===
+use z as x; interface i { use x.{t}; }
+=>
+package foo:foo
+types 3
+#0 i0.t = alias u8
+#1 i1.t = alias u16
+#2 i2.t = alias #1
+interfaces 3
+i0 x
+  t = type #0
+i1 z
+  t = type #1
+i2 i
+  t = type #2
+worlds 0
+foreign 0
+
+package foo:foo; use x as y; interface x { type t = u8; }
+===
+use i as x; interface i { use y.{t}; } interface y { type t = u16; }
+=>
+package foo:foo
+types 3
+#0 i0.t = alias u8
+#1 i1.t = alias u16
+#2 i2.t = alias #1
+interfaces 3
+i0 x
+  t = type #0
+i1 y
+  t = type #1
+i2 i
+  t = type #2
+worlds 0
+foreign 0
+
+package foo:foo; use x as y; interface x { type t = u8; }
+===
+interface i { use %y.{t}; }
+=>
+error E7 b.wit "%y": interface or world `y` does not exist
+
+package foo:foo; interface i { use %gone.{t}; }
+===
+use i as j; use i as j;
+=>
+error E7 a.wit "%gone": interface or world `gone` does not exist
 
 package foo:foo; interface a {}
 ===

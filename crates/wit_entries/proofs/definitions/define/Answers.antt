@@ -1,4 +1,4 @@
-use Rattle.wit_model.specs.declared.types.TypeOwner.TheVariants.{Interface as OfInterface}
+use Rattle.wit_types.specs.declared.types.TypeOwner.TheVariants.{Interface as OfInterface}
 use Rattle.wit_meaning.proofs.Defining.{defines_one}
 use Rattle.wit_entries.proofs.definitions.define.Goals as goal
 

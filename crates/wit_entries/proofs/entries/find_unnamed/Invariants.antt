@@ -1,5 +1,5 @@
 use Rattle.std.proofs.Common.{ℕ, ◌<◌}
-use Rattle.wit_model.specs.declared.types.TypeDef.{TypeDef}
+use Rattle.wit_types.specs.declared.types.TypeDef.{TypeDef}
 use Rattle.wit_meaning.specs.Package.{At}
 use Rattle.wit_meaning.specs.Resolving.{IsUnnamedOf}
 use Rattle.wit_entries.proofs.entries.find_unnamed.Given as goal

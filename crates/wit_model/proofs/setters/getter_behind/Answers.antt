@@ -1,6 +1,7 @@
 use Rattle.std.proofs.Common.{◌≡◌, ◌∙◌, ◌+◌, ap, sym, cond, Some, drop, rules}
 use Rattle.wit_model.specs.Setters.{getter_index, goes_with}
-use Rattle.wit_model.proofs.Placing.{index-step, some_at}
+use Rattle.wit_types.proofs.Moving.{some_at}
+use Rattle.wit_model.proofs.Placing.{index-step}
 use Rattle.wit_model.proofs.setters.getter_behind.Goals as goal
 
 pub returns-then-is_pair-clause-value : goal.returns-then-is_pair-clause-value

@@ -1,7 +1,7 @@
 use Rattle.std.proofs.Common.{◌≡◌, ℕ, ◌+◌, ◌++◌, ◌∷◌, [], take, Some, inl, inr, refl, ◌∙◌, subst}
 use Rattle.std.specs.Prelude.{slice_get, map}
 use Rattle.std.proofs.lemmas.Result.{err_from_is_err_and}
-use Rattle.wit_model.specs.declared.types.TypeOwner.TheVariants.{Interface as OfInterface}
+use Rattle.wit_types.specs.declared.types.TypeOwner.TheVariants.{Interface as OfInterface}
 use Rattle.wit_meaning.specs.Source.{Defined}
 use Rattle.wit_meaning.specs.Resolving.{env_of, Defines, IsWrongBody}
 use Rattle.wit_meaning.proofs.Lists.{read_map}

@@ -1,62 +1,75 @@
-use Rattle.std.proofs.Common.{◌≡◌, ◌+◌, ◌++◌, ◌∷◌, [], take, Some, arith}
+use Rattle.std.proofs.Common.{◌≡◌, ◌<◌, ◌+◌, ◌++◌, ◌∷◌, [], take, length, get_or, Some, ap, sym, ◌∙◌}
 use Rattle.std.specs.Prelude.{slice_get, map}
-use Rattle.std.proofs.lemmas.List.{take_all, length-map}
+use Rattle.std.proofs.lemmas.Option.{slice_get-get_or}
 use Rattle.std.proofs.lemmas.Result.{err_from_is_err_and}
 use Rattle.wit_meaning.specs.Source.{scope_names}
+use Rattle.wit_meaning.specs.Scope.{in_order}
 use Rattle.wit_meaning.specs.Resolving.{IsWrongScope}
-use Rattle.wit_meaning.proofs.Lists.{read_map}
-use Rattle.wit_meaning.proofs.Orders.{take_next}
+use Rattle.wit_meaning.specs.Resolved.{IsWrongAmong}
+use Rattle.wit_meaning.proofs.Lists.{read_map, map_map}
+use Rattle.wit_meaning.proofs.Orders.{in_order-more}
 use Rattle.wit_meaning.proofs.Refusing.{refused_weaker}
 use Rattle.wit_meaning.proofs.Adding.{adds_append, adds_one, adds_none, scopes_none, scopes_more}
-use Rattle.wit_parser.specs.Held.{interface_behind}
-use Rattle.wit_parser.specs.Between.{IsWrongNext}
+use Rattle.wit_parser.specs.Items.{item_behind, names_behind}
+use Rattle.wit_parser.proofs.Lost.{alike}
 use Rattle.wit_parser.proofs.interface.resolve_interfaces.Goals as goal
 
-pub loop-item-init : goal.loop-item-init
-loop-item-init c = record { added = adds_none c.args.types.now c.args.interfaces.now.arena; index = c.requires.index; legal = scopes_none }
+pub loop-place-init : goal.loop-place-init
+loop-place-init c = record { added = adds_none c.args.types.now c.args.interfaces.now.arena; index = c.requires.index; legal = scopes_none }
 
-pub loop-item-preserved : goal.loop-item-preserved
-loop-item-preserved c =
-    let ws = map interface_behind c.args.ordered.now in
-    let i = c.loop-item.item-index in
-    let w = c.item-item.result.interface.now in
-    let at : slice_get ws i ≡ Some w = read_map interface_behind c.args.ordered.now i c.item-item.result c.loop-item-test.true c.item-item.is in
-    let more : take (i + 1) ws ≡ take i ws ++ w ∷ [] = take_next ws i w at in
+pub loop-place-preserved : goal.loop-place-preserved
+loop-place-preserved c =
+    let ws = map item_behind c.args.items.now in
+    let places = c.args.places.now in
+    let i = c.loop-place.place-index in
+    let p = get_or places i 0 in
+    let x = c.index-items-place.result in
+    let w = item_behind x in
+    let at : slice_get places i ≡ Some p = slice_get-get_or places i 0 c.loop-place-test.true in
+    let within : p < length c.args.items.now = c.requires.within i 0 c.loop-place-test.true in
+    let there : slice_get ws p ≡ Some w = read_map item_behind c.args.items.now p x within c.index-items-place.is in
+    let more : in_order ws (take (i + 1) places) ≡ in_order ws (take i places) ++ w ∷ [] = in_order-more ws places i p w at there in
     let e = c.in_ok-resolve_interface.ensures in
-    let mid = c.loop-item.interfaces.arena in
+    let mid = c.loop-place.interfaces.arena in
     let new = c.resolve_interface.new.interfaces.arena in
     record {
-      added = rw more (adds_append c.args.types.now c.loop-item.types c.resolve_interface.new.types c.args.interfaces.now.arena mid new (take i ws) (w ∷ []) c.loop-item.invariant.added (adds_one c.loop-item.types c.resolve_interface.new.types mid new w e.added));
+      added = rw more (adds_append c.args.types.now c.loop-place.types c.resolve_interface.new.types c.args.interfaces.now.arena mid new (in_order ws (take i places)) (w ∷ []) c.loop-place.invariant.added (adds_one c.loop-place.types c.resolve_interface.new.types mid new w e.added));
       index = e.index;
-      legal = rw more (scopes_more (take i ws) w c.loop-item.invariant.legal e.legal);
+      legal = rw more (scopes_more (in_order ws (take i places)) w c.loop-place.invariant.legal e.legal);
     }
 
 pub returns-in_err-resolve_interface-clause-refused : goal.returns-in_err-resolve_interface-clause-refused
 returns-in_err-resolve_interface-clause-refused c =
     let q = err_from_is_err_and c.from_residual.result c.from_residual.ensures.1 in
-    let ws = map interface_behind c.args.ordered.now in
-    let i = c.loop-item.item-index in
-    let w = c.item-item.result.interface.now in
-    let now = c.loop-item.interfaces in
-    let at : slice_get ws i ≡ Some w = read_map interface_behind c.args.ordered.now i c.item-item.result c.loop-item-test.true c.item-item.is in
-    rw (q.1, q.2) (refused_weaker (IsWrongScope now.arena now.by_name (scope_names w)) (IsWrongNext c.args.types.now c.args.interfaces.now.arena ws) _ (λ f h. record {
+    let ws = map item_behind c.args.items.now in
+    let places = c.args.places.now in
+    let i = c.loop-place.place-index in
+    let p = get_or places i 0 in
+    let x = c.index-items-place.result in
+    let w = item_behind x in
+    let now = c.loop-place.interfaces in
+    let at : slice_get places i ≡ Some p = slice_get-get_or places i 0 c.loop-place-test.true in
+    let within : p < length c.args.items.now = c.requires.within i 0 c.loop-place-test.true in
+    let there : slice_get ws p ≡ Some w = read_map item_behind c.args.items.now p x within c.index-items-place.is in
+    rw (q.1, q.2) (refused_weaker (IsWrongScope now.arena now.by_name (scope_names w)) (IsWrongAmong c.args.types.now c.args.interfaces.now.arena ws places) _ (λ f h. record {
       count = i;
-      interface = w;
-      at = at;
-      mid = c.loop-item.types;
+      place = p;
+      item = w;
+      next = at;
+      at = there;
+      mid = c.loop-place.types;
       before = now.arena;
-      added = c.loop-item.invariant.added;
+      added = c.loop-place.invariant.added;
       by_name = now.by_name;
-      index = c.loop-item.invariant.index;
+      index = c.loop-place.invariant.index;
       wrong = h;
     }) c.in_err-resolve_interface.ensures.refused)
 
-pub returns-clause-added : goal.returns-clause-added
-returns-clause-added c =
-    let ws = map interface_behind c.args.ordered.now in
-    rw (← take_all c.loop-item.item-index ws (omega (arith, length-map c.args.ordered.now interface_behind))) c.loop-item.invariant.added
-
-pub returns-clause-legal : goal.returns-clause-legal
-returns-clause-legal c =
-    let ws = map interface_behind c.args.ordered.now in
-    rw (← take_all c.loop-item.item-index ws (omega (arith, length-map c.args.ordered.now interface_behind))) c.loop-item.invariant.legal
+pub resolve_interface-requires : goal.resolve_interface-requires
+resolve_interface-requires c =
+    let items = c.args.items.now in
+    let p = get_or c.args.places.now c.loop-place.place-index 0 in
+    let x = c.index-items-place.result in
+    let within : p < length items = c.requires.within c.loop-place.place-index 0 c.loop-place-test.true in
+    let there : slice_get items p ≡ Some x = slice_get-get_or items p x within ∙ ap Some (sym c.index-items-place.is) in
+    record { named = alike names_behind (λ i. scope_names (item_behind i)) items (c.requires.named ∙ map_map scope_names item_behind items) p x there; index = c.loop-place.invariant.index }

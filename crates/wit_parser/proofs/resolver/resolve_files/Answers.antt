@@ -1,28 +1,22 @@
-use Rattle.std.proofs.Common.{[], map, sym, subst}
+use Rattle.std.proofs.Common.{◌≡◌, List, [], map, sym, ap, ◌∙◌, subst}
 use Rattle.std.proofs.lemmas.Result.{err_from_is_err_and}
+use Rattle.wit_order.specs.Table.{Row, IsOrder}
+use Rattle.wit_meaning.specs.Source.{Item, interfaces}
+use Rattle.wit_meaning.specs.Scope.{item_rows}
 use Rattle.wit_meaning.specs.Broken.{IsBroken}
+use Rattle.wit_meaning.specs.Resolved.{IsWrongAmong}
 use Rattle.wit_meaning.proofs.Refusing.{refused_weaker}
-use Rattle.wit_parser.specs.Held.{interface_behind}
-use Rattle.wit_parser.specs.Between.{AreItems, IsWrongNext}
-use Rattle.wit_parser.proofs.Files.{broken_next}
+use Rattle.wit_meaning.proofs.Finished.{broken_among}
+use Rattle.wit_parser.specs.Items.{item_behind, row_behind}
 use Rattle.wit_parser.proofs.resolver.resolve_files.Goals as goal
 
 pub returns-in_err-resolve_interfaces-clause-refused : goal.returns-in_err-resolve_interfaces-clause-refused
 returns-in_err-resolve_interfaces-clause-refused c =
     let p = err_from_is_err_and c.from_residual-in_err-resolve_interfaces.result c.from_residual-in_err-resolve_interfaces.ensures.1 in
     let files = c.args.files.now in
-    let ws = map interface_behind c.deref.result.now in
-    let a : AreItems files ws = subst (λ l. AreItems files (map interface_behind l)) (sym c.deref.ensures.value) c.in_ok-ordered.ensures.ordered in
-    rw (p.1, p.2) (refused_weaker (IsWrongNext [] [] ws) (IsBroken files) _ (λ f h. broken_next files ws f a h) (rw (c.requires.empty, c.new.ensures) at c.in_err-resolve_interfaces.ensures.refused))
-
-pub returns-clause-added : goal.returns-clause-added
-returns-clause-added c =
-    let a = c.in_ok-ordered.ensures.ordered in
-    let e = c.in_ok-resolve_interfaces.ensures in
-    record {
-      items = a.items;
-      order = a.order;
-      distinct = a.distinct;
-      added = rw (c.requires.empty, c.new.ensures, c.deref.ensures.value, a.are) at e.added;
-      legal = rw (c.deref.ensures.value, a.are) at e.legal;
-    }
+    let ws = map item_behind c.deref-2.result.now in
+    let places = c.deref-3.result.now in
+    let all : ws ≡ interfaces files = ap (map item_behind) c.deref-2.ensures.value ∙ c.in_ok-items.ensures.items in
+    let rows : map row_behind c.deref.result.now ≡ item_rows files = ap (map row_behind) c.deref.ensures.value ∙ c.in_ok-items.ensures.rows in
+    let order : IsOrder (item_rows files) places = subst (IsOrder (item_rows files)) (sym c.deref-3.ensures.value) (subst (λ (rs : List Row). IsOrder rs c.in_ok-places.places.items) rows c.in_ok-places.ensures.order) in
+    rw (p.1, p.2) (refused_weaker (IsWrongAmong [] [] ws places) (IsBroken files) _ (λ f h. broken_among files places order c.in_ok-declared.ensures.distinct f (subst (λ (l : List Item). IsWrongAmong [] [] l places f) all h)) (rw (c.requires.empty, c.new.ensures) at c.in_err-resolve_interfaces.ensures.refused))

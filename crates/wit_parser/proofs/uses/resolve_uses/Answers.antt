@@ -2,8 +2,8 @@ use Rattle.std.proofs.Common.{◌≡◌, ℕ, ◌+◌, ◌++◌, ◌∷◌, [], 
 use Rattle.std.specs.Prelude.{slice_get, map}
 use Rattle.std.proofs.lemmas.List.{take_all, length-map}
 use Rattle.std.proofs.lemmas.Result.{err_from_is_err_and}
-use Rattle.wit_model.specs.declared.types.TypeOwner.TheVariants.{Interface as OfInterface}
-use Rattle.wit_meaning.specs.Source.{Used}
+use Rattle.wit_types.specs.declared.types.TypeOwner.TheVariants.{Interface as OfInterface}
+use Rattle.wit_meaning.specs.Source.{InterfaceNamed, Used}
 use Rattle.wit_meaning.specs.Resolving.{Defines, local_names, IsWrongUse, IsWrongScope}
 use Rattle.wit_meaning.proofs.Lists.{read_map}
 use Rattle.wit_meaning.proofs.Orders.{take_next}
@@ -19,7 +19,7 @@ returns-in_err-resolve_use-clause-refused c =
     let p = err_from_is_err_and c.from_residual.result c.from_residual.ensures.1 in
     let us = map use_behind c.args.uses.now in
     let i = c.loop-name.name-index in
-    let from = c.name-item.result.from.now in
+    let from = InterfaceNamed c.name-item.result.from.name.now in
     let n = c.name-item.result.name.now in
     let is = c.args.interfaces.now.arena in
     let by_name = c.args.interfaces.now.by_name in
@@ -31,7 +31,7 @@ pub loop-name-preserved : goal.loop-name-preserved
 loop-name-preserved c =
     let us = map use_behind c.args.uses.now in
     let i = c.loop-name.name-index in
-    let from = c.name-item.result.from.now in
+    let from = InterfaceNamed c.name-item.result.from.name.now in
     let n = c.name-item.result.name.now in
     let is = c.args.interfaces.now.arena in
     let o = OfInterface c.args.scope.now.id in

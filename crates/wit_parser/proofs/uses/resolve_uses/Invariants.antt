@@ -1,5 +1,5 @@
 use Rattle.std.proofs.Common.{◌≡◌, map, take}
-use Rattle.wit_model.specs.declared.types.TypeOwner.TheVariants.{Interface as OfInterface}
+use Rattle.wit_types.specs.declared.types.TypeOwner.TheVariants.{Interface as OfInterface}
 use Rattle.wit_meaning.specs.Source.{Address}
 use Rattle.wit_meaning.specs.Resolving.{Defines, local_names}
 use Rattle.wit_parser.specs.Held.{use_behind}

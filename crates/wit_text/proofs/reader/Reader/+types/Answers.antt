@@ -1,10 +1,52 @@
-use Rattle.std.proofs.Common.{ap, ◌∷◌}
+use Rattle.std.proofs.Common.{◌∷◌, ◌++◌, ap}
 use Rattle.std.specs.Prelude.{codes}
-use Rattle.wit_tree.specs.Marks.{type_marks, spelled}
-use Rattle.wit_text.proofs.Parts.{then, skip, close, same_marks}
+use Rattle.wit_tree.specs.Marks.{type_marks, boxed_marks, spelled}
+use Rattle.wit_tree.proofs.Rows.{tuple_marks, result_marks, future_marks, stream_marks}
+use Rattle.wit_text.proofs.Parts.{then, then_perhaps, on, skip, close, close_on, more, same_marks}
 use Rattle.wit_text.proofs.reader.Reader.+types.Goals as goal
 
 pub read_list-returns-clause-read : goal.read_list-returns-clause-read
 read_list-returns-clause-read t c =
-    same_marks (ap (λ part. spelled c.in_ok-span.span (codes "list") ∷ type_marks part) c.in_ok-new.ensures.ok)
-    (then c.in_ok-span.ensures.read (skip c.in_ok-expect.ensures.read (close c.in_ok-part.ensures.read c.in_ok-expect-2.ensures.read)))
+    same_marks c.list.ensures (then c.in_ok-span.ensures.read (skip c.in_ok-expect.ensures.read (close_on c.in_ok-item.ensures.read c.in_ok-size.ensures.read c.in_ok-expect-2.ensures.read)))
+
+pub read_map-returns-clause-read : goal.read_map-returns-clause-read
+read_map-returns-clause-read t c =
+    then c.in_ok-span.ensures.read (skip c.in_ok-expect.ensures.read (then c.in_ok-key.ensures.read (skip c.in_ok-expect-2.ensures.read (close c.in_ok-value.ensures.read c.in_ok-expect-3.ensures.read))))
+
+pub read_option-returns-clause-read : goal.read_option-returns-clause-read
+read_option-returns-clause-read t c =
+    then c.in_ok-span.ensures.read (skip c.in_ok-expect.ensures.read (close c.in_ok-value.ensures.read c.in_ok-expect-2.ensures.read))
+
+pub read_result-returns-clause-read : goal.read_result-returns-clause-read
+read_result-returns-clause-read t c =
+    same_marks (result_marks c.in_ok-span.span c.in_ok-ok.ok c.in_ok-err.err)
+    (then c.in_ok-span.ensures.read (skip c.in_ok-bump.ensures.read (close_on c.in_ok-ok.ensures.read c.in_ok-err.ensures.read c.in_ok-expect.ensures.read)))
+
+pub read_err-returns-clause-read : goal.read_err-returns-clause-read
+read_err-returns-clause-read t c = on (skip c.in_ok-expect.ensures.read c.in_ok-err.ensures.read)
+
+pub read_tuple-returns-clause-read : goal.read_tuple-returns-clause-read
+read_tuple-returns-clause-read t c =
+    same_marks (tuple_marks c.in_ok-span.span c.in_ok-types.types) (then c.in_ok-span.ensures.read c.in_ok-types.ensures.read)
+
+pub read_types-types-preserved : goal.read_types-types-preserved
+read_types-types-preserved t c =
+    close (more type_marks c.types.types.items c.push.new.self.items c.in_ok-ty.ty c.in_ok-push.ensures.items c.types.invariant c.in_ok-ty.ensures.read) c.in_ok-bump.ensures.read
+
+pub read_types-returns-clause-read : goal.read_types-returns-clause-read
+read_types-returns-clause-read t c = close c.types.invariant c.in_ok-bump-2.ensures.read
+
+pub read_types-returns-then-not-at-clause-read : goal.read_types-returns-then-not-at-clause-read
+read_types-returns-then-not-at-clause-read t c =
+    close (more type_marks c.types.types.items c.push.new.self.items c.in_ok-ty.ty c.in_ok-push.ensures.items c.types.invariant c.in_ok-ty.ensures.read) c.in_ok-expect-2.ensures.read
+
+pub read_future-returns-clause-read : goal.read_future-returns-clause-read
+read_future-returns-clause-read t c =
+    same_marks (future_marks c.in_ok-span.span c.in_ok-value.value) (then_perhaps c.in_ok-span.ensures.read c.in_ok-value.ensures.read)
+
+pub read_stream-returns-clause-read : goal.read_stream-returns-clause-read
+read_stream-returns-clause-read t c =
+    same_marks (stream_marks c.in_ok-span.span c.in_ok-item.item) (then_perhaps c.in_ok-span.ensures.read c.in_ok-item.ensures.read)
+
+pub read_payload-returns-clause-read : goal.read_payload-returns-clause-read
+read_payload-returns-clause-read t c = on (skip c.in_ok-bump.ensures.read (close c.in_ok-payload.ensures.read c.in_ok-expect.ensures.read))

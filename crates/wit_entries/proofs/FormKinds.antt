@@ -1,0 +1,87 @@
+-- The kinds of forms over their resolved parts, and what is wrong with a form by its parts.
+use Rattle.std.proofs.Common.{◌≡◌, ℕ, List, [], ◌∷◌, ◌++◌, Option, Some, None, is_some, true, false, inl, inr, refl, sym, ap, ◌∙◌, subst, Contains, Vec, Box, arith}
+use Rattle.std.specs.Prelude.{slice_get}
+use Rattle.std.specs.Option.{option_to_list}
+use Rattle.std.specs.declared.alloc.Global.{Global}
+use Rattle.wit_values.specs.declared.span.Span.{Span}
+use Rattle.wit_tree.specs.declared.error.ParseError.{ParseError}
+use Rattle.wit_tree.specs.declared.tree.«Type».{«Type» as Written}
+use Rattle.wit_tree.specs.declared.tree.«Type».TheVariants as written
+use Rattle.wit_tree.specs.declared.tree.TypeBody.TheVariants.{Plain}
+use Rattle.wit_tree.specs.Parts.{part_types, boxed_types}
+use Rattle.wit_types.specs.declared.types.«Type».{«Type» as Ty}
+use Rattle.wit_types.specs.declared.types.TypeDef.{TypeDef}
+use Rattle.wit_types.specs.declared.types.TypeDefKind.TheVariants as kind
+use Rattle.wit_meaning.specs.Form.{ResultForm, FutureForm, StreamForm}
+use Rattle.wit_meaning.specs.Shape.{shape_of}
+use Rattle.wit_meaning.specs.Source.{Address}
+use Rattle.wit_meaning.specs.Expr.{exprs_of}
+use Rattle.wit_meaning.specs.Meet.{shapes_meetings}
+use Rattle.wit_meaning.specs.Fault.{Fault}
+use Rattle.wit_meaning.specs.Broken.{IsBrokenForm, IsBrokenType, Refused}
+use Rattle.wit_meaning.specs.Resolving.{Env, AreResolved, IsWrongType, AreWrongTypes, IsWrongBody}
+use Rattle.wit_meaning.proofs.Refusing.{refused_weaker}
+use Rattle.wit_meaning.proofs.Written.{tuple_inner, words-head, wrong_at, wrong_inside, broken_here, AreLegal, legal_none, legal_one, legal_whole}
+use Rattle.wit_entries.specs.Reading.{primitive_in, IsResolved, AreTypes, IsForm}
+use Rattle.wit_entries.proofs.Reading.{types_one, types_then}
+
+pub map_form : (old mid new : List TypeDef) (env : Env) (span : Span) (key value : Box Written Global) (k v : Ty) → IsResolved old mid env (shape_of key.value) k → IsResolved mid new env (shape_of value.value) v → IsForm old new env (shape_of (written.Map span key value)) (kind.Map k v) span
+map_form old mid new env span key value k v p q = (refl, refl, tt, types_then (key.value ∷ []) (value.value ∷ []) (types_one key.value p) (types_one value.value q))
+
+pub tuple_form : (old new : List TypeDef) (env : Env) (span : Span) (v : Vec Written Global) (ts : List Ty) → AreTypes old new env v.items ts → IsForm old new env (shape_of (written.Tuple span v)) (kind.Tuple (record { types = ts })) span
+tuple_form old new env span v ts p =
+    (refl, refl, tt, subst (λ xs. (s : Address) → AreResolved old new s env (shapes_meetings s xs) (exprs_of s xs) ts) (sym (tuple_inner span v)) p)
+
+pub result_form : (old mid new : List TypeDef) (env : Env) (span : Span) (ok err : Option (Box Written Global)) (o e : Option Ty) → is_some o ≡ is_some ok → is_some e ≡ is_some err → AreTypes old mid env (boxed_types ok) (option_to_list o) → AreTypes mid new env (boxed_types err) (option_to_list e) → IsForm old new env (shape_of (written.Result span ok err)) (kind.Result (record { ok = o; err = e })) span
+result_form old mid new env span None None o e a b p q = (refl, ap (λ x. ResultForm x (is_some e)) a ∙ ap (ResultForm false) b, tt, types_then [] [] p q)
+result_form old mid new env span (Some t) None o e a b p q = (refl, ap (λ x. ResultForm x (is_some e)) a ∙ ap (ResultForm true) b, tt, types_then (t.value ∷ []) [] p q)
+result_form old mid new env span None (Some u) o e a b p q = (refl, ap (λ x. ResultForm x (is_some e)) a ∙ ap (ResultForm false) b, tt, types_then [] (u.value ∷ []) p q)
+result_form old mid new env span (Some t) (Some u) o e a b p q = (refl, ap (λ x. ResultForm x (is_some e)) a ∙ ap (ResultForm true) b, tt, types_then (t.value ∷ []) (u.value ∷ []) p q)
+
+pub future_form : (old new : List TypeDef) (env : Env) (span : Span) (t : Option (Box Written Global)) (o : Option Ty) → is_some o ≡ is_some t → AreTypes old new env (boxed_types t) (option_to_list o) → IsForm old new env (shape_of (written.Future span t)) (kind.Future o) span
+future_form old new env span None o a p = (refl, ap FutureForm a, tt, p)
+future_form old new env span (Some t) o a p = (refl, ap FutureForm a, tt, p)
+
+pub stream_form : (old new : List TypeDef) (env : Env) (span : Span) (t : Option (Box Written Global)) (o : Option Ty) → is_some o ≡ is_some t → AreTypes old new env (boxed_types t) (option_to_list o) → IsForm old new env (shape_of (written.Stream span t)) (kind.Stream o) span
+stream_form old new env span None o a p = (refl, ap StreamForm a, tt, p)
+stream_form old new env span (Some t) o a p = (refl, ap StreamForm a, tt, p)
+
+-- a refusal of a part is one of the whole
+pub refused_part : (env : Env) (whole : Written) (i : ℕ) (part : Written) (e : ParseError) → slice_get (part_types whole) i ≡ Some part → Refused (IsWrongType env part) e → Refused (IsWrongType env whole) e
+refused_part env whole i part e at h = refused_weaker (IsWrongType env part) (IsWrongType env whole) e (λ f wrong. wrong_inside env whole f (wrong_at env (part_types whole) i part f at wrong)) h
+
+-- and one of some of its parts
+pub refused_parts : (env : Env) (whole : Written) (ts : List Written) (e : ParseError) → ((f : Fault) → AreWrongTypes env ts f → AreWrongTypes env (part_types whole) f) → Refused (AreWrongTypes env ts) e → Refused (IsWrongType env whole) e
+refused_parts env whole ts e among h = refused_weaker (AreWrongTypes env ts) (IsWrongType env whole) e (λ f wrong. wrong_inside env whole f (among f wrong)) h
+
+-- and one of its form
+pub refused_form : (env : Env) (whole : Written) (P : Fault → Type 0) (e : ParseError) → ((f : Fault) → P f → IsBrokenForm whole f) → Refused P e → Refused (IsWrongType env whole) e
+refused_form env whole P e own h = refused_weaker P (IsWrongType env whole) e (λ f wrong. inl (broken_here whole f (own f wrong))) h
+
+-- a form is legal where its parts are
+pub legal_parts : (whole : Written) (ts : List Written) → ((f : Fault) → IsBrokenForm whole f → ⊥) → part_types whole ≡ ts → AreLegal ts → (f : Fault) → IsBrokenType whole f → ⊥
+legal_parts whole ts own same legal = legal_whole whole own (subst AreLegal (sym same) legal)
+
+pub legal_only : (whole part : Written) → ((f : Fault) → IsBrokenForm whole f → ⊥) → part_types whole ≡ (part ∷ []) → ((f : Fault) → IsBrokenType part f → ⊥) → (f : Fault) → IsBrokenType whole f → ⊥
+legal_only whole part own same legal = legal_parts whole (part ∷ []) own same (legal_one part legal)
+
+-- a primitive breaks no rule
+pub legal_primitive : (t : Written) (ty : Ty) → primitive_in (shape_of t) ≡ Some ty → (f : Fault) → IsBrokenType t f → ⊥
+legal_primitive (written.List' span p t) ty is = absurd (let wrong : ⊥ = cc in wrong)
+legal_primitive (written.FixedLengthList' span p t size) ty is = absurd (let wrong : ⊥ = cc in wrong)
+legal_primitive (written.Map' span p key q value) ty is = absurd (let wrong : ⊥ = cc in wrong)
+legal_primitive (written.Option' span p t) ty is = absurd (let wrong : ⊥ = cc in wrong)
+legal_primitive (written.Result' span ok err) ty is = absurd (let wrong : ⊥ = cc in wrong)
+legal_primitive (written.Tuple' span shape ts) ty is = absurd (let wrong : ⊥ = cc in wrong)
+legal_primitive (written.Future' span t) ty is = absurd (let wrong : ⊥ = cc in wrong)
+legal_primitive (written.Stream' span t) ty is = absurd (let wrong : ⊥ = cc in wrong)
+legal_primitive t ty is = legal_whole t (λ f own. own) legal_none
+
+-- what is wrong with a type is wrong with a definition that is the type
+pub wrong_plain : (env : Env) (t : Written) (f : Fault) → IsWrongType env t f → IsWrongBody env (Plain t) f
+wrong_plain env t f (inl broken) = inl (inr (record { t = t; among = (0, omega arith, refl); broken = broken }))
+wrong_plain env t f (inr unknown) = inr (record {
+  id = unknown.id;
+  among = subst (λ ids. Contains ids unknown.id) (sym (words-head (shape_of t))) unknown.among;
+  free = unknown.free;
+})

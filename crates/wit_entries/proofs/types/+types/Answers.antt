@@ -1,0 +1,164 @@
+use Rattle.std.proofs.Common.{◌≡◌, [], ◌∷◌, ◌++◌, ◌+◌, Some, take, refl, sym, ap, ◌∙◌, subst}
+use Rattle.std.proofs.lemmas.List.{take_more, take_all}
+use Rattle.std.proofs.lemmas.Option.{slice_get-get_or}
+use Rattle.std.proofs.lemmas.Result.{err_from_is_err_and}
+use Rattle.wit_tree.specs.declared.tree.«Type».TheVariants as written
+use Rattle.wit_tree.specs.Parts.{boxed_types}
+use Rattle.wit_tree.proofs.Rows.{tuple_types, types_of_held, result_types}
+use Rattle.wit_meaning.specs.Fault.{Fault}
+use Rattle.wit_meaning.specs.Broken.{IsInvalidKey, IsEmptyTuple, IsBrokenType}
+use Rattle.wit_meaning.specs.Resolving.{env_of, IsWrongType, AreWrongTypes}
+use Rattle.wit_meaning.specs.Shape.{shape_of}
+use Rattle.wit_meaning.proofs.Refusing.{refused_weaker}
+use Rattle.wit_meaning.proofs.Written.{AreLegal, legal_one, legal_more, wrong_at, wrong_left, wrong_right}
+use Rattle.wit_entries.proofs.Reading.{read_stands, types_one, types_then}
+use Rattle.wit_entries.proofs.FormKinds.{map_form, tuple_form, result_form, future_form, stream_form, refused_part, refused_parts, refused_form, legal_parts, legal_only, legal_primitive}
+use Rattle.wit_entries.proofs.types.+types.Goals as goal
+
+pub read-returns-in-Some-clause-legal : goal.read-returns-in-Some-clause-legal
+read-returns-in-Some-clause-legal t c = legal_primitive c.args.ty.now c.in-Some.found (sym c.primitive.ensures ∙ c.in-Some.is)
+
+pub read-returns-in-Name-clause-read : goal.read-returns-in-Name-clause-read
+read-returns-in-Name-clause-read t c = rw c.in-Name.is (tt, c.in_ok-found.ensures.found c.args.types.now)
+
+pub read_form-returns-in_err-item-in-List-clause-refused : goal.read_form-returns-in_err-item-in-List-clause-refused
+read_form-returns-in_err-item-in-List-clause-refused t c =
+    let p = err_from_is_err_and c.from_residual.result c.from_residual.ensures.1 in
+    rw (c.in-List.is, p.1, p.2) (refused_part (env_of c.args.scope.now.names) (written.List c.in-List.span c.in-List.item) 0 c.deref.result.now _ (ap Some (sym c.deref.ensures)) c.in_err-item-in-List.ensures.refused)
+
+pub read_form-returns-in_err-item-in-FixedLengthList-clause-refused : goal.read_form-returns-in_err-item-in-FixedLengthList-clause-refused
+read_form-returns-in_err-item-in-FixedLengthList-clause-refused t c =
+    let p = err_from_is_err_and c.from_residual-in_err-item-in-FixedLengthList.result c.from_residual-in_err-item-in-FixedLengthList.ensures.1 in
+    rw (c.in-FixedLengthList.is, p.1, p.2) (refused_part (env_of c.args.scope.now.names) (written.FixedLengthList c.in-FixedLengthList.span c.in-FixedLengthList.item c.in-FixedLengthList.size) 0 c.deref-in-FixedLengthList.result.now _ (ap Some (sym c.deref-in-FixedLengthList.ensures)) c.in_err-item-in-FixedLengthList.ensures.refused)
+
+pub read_form-returns-in_err-key_type-in-Map-clause-refused : goal.read_form-returns-in_err-key_type-in-Map-clause-refused
+read_form-returns-in_err-key_type-in-Map-clause-refused t c =
+    let p = err_from_is_err_and c.from_residual-in_err-key_type-in-Map.result c.from_residual-in_err-key_type-in-Map.ensures.1 in
+    rw (c.in-Map.is, p.1, p.2) (refused_part (env_of c.args.scope.now.names) (written.Map c.in-Map.span c.in-Map.key c.in-Map.value) 0 c.deref-in-Map.result.now _ (ap Some (sym c.deref-in-Map.ensures)) c.in_err-key_type-in-Map.ensures.refused)
+
+pub read_form-returns-in_err-value_type-in-Map-clause-refused : goal.read_form-returns-in_err-value_type-in-Map-clause-refused
+read_form-returns-in_err-value_type-in-Map-clause-refused t c =
+    let p = err_from_is_err_and c.from_residual-in_err-value_type-in-Map.result c.from_residual-in_err-value_type-in-Map.ensures.1 in
+    rw (c.in-Map.is, p.1, p.2) (refused_part (env_of c.args.scope.now.names) (written.Map c.in-Map.span c.in-Map.key c.in-Map.value) 1 c.deref-in-Map-2.result.now _ (ap Some (sym c.deref-in-Map-2.ensures)) c.in_err-value_type-in-Map.ensures.refused)
+
+pub read_form-returns-in_err-check_key-in-Map-clause-refused : goal.read_form-returns-in_err-check_key-in-Map-clause-refused
+read_form-returns-in_err-check_key-in-Map-clause-refused t c =
+    let p = err_from_is_err_and c.from_residual-in_err-check_key-in-Map.result c.from_residual-in_err-check_key-in-Map.ensures.1 in
+    rw (c.in-Map.is, p.1, p.2) (refused_form (env_of c.args.scope.now.names) (written.Map c.in-Map.span c.in-Map.key c.in-Map.value) (IsInvalidKey c.deref-in-Map-3.result.now c.in-Map.span) _ (λ f own. subst (λ t. IsInvalidKey t c.in-Map.span f) c.deref-in-Map-3.ensures own) c.in_err-check_key-in-Map.ensures.refused)
+
+pub read_form-returns-in_err-value-in-Option-clause-refused : goal.read_form-returns-in_err-value-in-Option-clause-refused
+read_form-returns-in_err-value-in-Option-clause-refused t c =
+    let p = err_from_is_err_and c.from_residual-in_err-value-in-Option.result c.from_residual-in_err-value-in-Option.ensures.1 in
+    rw (c.in-Option.is, p.1, p.2) (refused_part (env_of c.args.scope.now.names) (written.Option c.in-Option.span c.in-Option.value) 0 c.deref-in-Option.result.now _ (ap Some (sym c.deref-in-Option.ensures)) c.in_err-value-in-Option.ensures.refused)
+
+pub read_form-returns-in_err-ok-in-Result-clause-refused : goal.read_form-returns-in_err-ok-in-Result-clause-refused
+read_form-returns-in_err-ok-in-Result-clause-refused t c =
+    let p = err_from_is_err_and c.from_residual-in_err-ok-in-Result.result c.from_residual-in_err-ok-in-Result.ensures.1 in
+    rw (c.in-Result.is, p.1, p.2) (refused_parts (env_of c.args.scope.now.names) (written.Result c.in-Result.span c.in-Result.ok c.in-Result.err) (boxed_types c.in-Result.ok) _ (λ f wrong. subst (λ ts. AreWrongTypes (env_of c.args.scope.now.names) ts f) (sym (result_types c.in-Result.ok c.in-Result.err)) (wrong_left (env_of c.args.scope.now.names) (boxed_types c.in-Result.ok) (boxed_types c.in-Result.err) f wrong)) c.in_err-ok-in-Result.ensures.refused)
+
+pub read_form-returns-in_err-err-in-Result-clause-refused : goal.read_form-returns-in_err-err-in-Result-clause-refused
+read_form-returns-in_err-err-in-Result-clause-refused t c =
+    let p = err_from_is_err_and c.from_residual-in_err-err-in-Result.result c.from_residual-in_err-err-in-Result.ensures.1 in
+    rw (c.in-Result.is, p.1, p.2) (refused_parts (env_of c.args.scope.now.names) (written.Result c.in-Result.span c.in-Result.ok c.in-Result.err) (boxed_types c.in-Result.err) _ (λ f wrong. subst (λ ts. AreWrongTypes (env_of c.args.scope.now.names) ts f) (sym (result_types c.in-Result.ok c.in-Result.err)) (wrong_right (env_of c.args.scope.now.names) (boxed_types c.in-Result.ok) (boxed_types c.in-Result.err) f wrong)) c.in_err-err-in-Result.ensures.refused)
+
+pub read_form-returns-in_err-check_tuple-in-Tuple-clause-refused : goal.read_form-returns-in_err-check_tuple-in-Tuple-clause-refused
+read_form-returns-in_err-check_tuple-in-Tuple-clause-refused t c =
+    let p = err_from_is_err_and c.from_residual-in_err-check_tuple-in-Tuple.result c.from_residual-in_err-check_tuple-in-Tuple.ensures.1 in
+    rw (c.in-Tuple.is, p.1, p.2) (refused_form (env_of c.args.scope.now.names) (written.Tuple c.in-Tuple.span c.in-Tuple.parts) (IsEmptyTuple c.deref-in-Tuple.result.now c.in-Tuple.span) _ (λ f own. subst (λ ts. IsEmptyTuple ts c.in-Tuple.span f) (c.deref-in-Tuple.ensures.value ∙ sym (tuple_types c.in-Tuple.span c.in-Tuple.parts)) own) c.in_err-check_tuple-in-Tuple.ensures.refused)
+
+pub read_form-returns-in_err-types-in-Tuple-clause-refused : goal.read_form-returns-in_err-types-in-Tuple-clause-refused
+read_form-returns-in_err-types-in-Tuple-clause-refused t c =
+    let p = err_from_is_err_and c.from_residual-in_err-types-in-Tuple.result c.from_residual-in_err-types-in-Tuple.ensures.1 in
+    rw (c.in-Tuple.is, p.1, p.2) (refused_parts (env_of c.args.scope.now.names) (written.Tuple c.in-Tuple.span c.in-Tuple.parts) c.deref-in-Tuple-2.result.now _ (λ f wrong. subst (λ ts. AreWrongTypes (env_of c.args.scope.now.names) ts f) (c.deref-in-Tuple-2.ensures.value ∙ sym (tuple_types c.in-Tuple.span c.in-Tuple.parts)) wrong) c.in_err-types-in-Tuple.ensures.refused)
+
+pub read_form-returns-in_err-value-in-Future-clause-refused : goal.read_form-returns-in_err-value-in-Future-clause-refused
+read_form-returns-in_err-value-in-Future-clause-refused t c =
+    let p = err_from_is_err_and c.from_residual-in_err-value-in-Future.result c.from_residual-in_err-value-in-Future.ensures.1 in
+    rw (c.in-Future.is, p.1, p.2) (refused_parts (env_of c.args.scope.now.names) (written.Future c.in-Future.span c.in-Future.value) (boxed_types c.in-Future.value) _ (λ f wrong. subst (λ ts. AreWrongTypes (env_of c.args.scope.now.names) ts f) (sym (types_of_held c.in-Future.value)) wrong) c.in_err-value-in-Future.ensures.refused)
+
+pub read_form-returns-in_err-item-in-Stream-clause-refused : goal.read_form-returns-in_err-item-in-Stream-clause-refused
+read_form-returns-in_err-item-in-Stream-clause-refused t c =
+    let p = err_from_is_err_and c.from_residual-in_err-item-in-Stream.result c.from_residual-in_err-item-in-Stream.ensures.1 in
+    rw (c.in-Stream.is, p.1, p.2) (refused_parts (env_of c.args.scope.now.names) (written.Stream c.in-Stream.span c.in-Stream.item) (boxed_types c.in-Stream.item) _ (λ f wrong. subst (λ ts. AreWrongTypes (env_of c.args.scope.now.names) ts f) (sym (types_of_held c.in-Stream.item)) wrong) c.in_err-item-in-Stream.ensures.refused)
+
+pub read_form-returns-in_ok-item-in-List-clause-legal : goal.read_form-returns-in_ok-item-in-List-clause-legal
+read_form-returns-in_ok-item-in-List-clause-legal t c = rw c.in-List.is (legal_only (written.List c.in-List.span c.in-List.item) c.deref.result.now (λ f own. own) (ap (λ t. t ∷ []) (sym c.deref.ensures)) c.in_ok-item-in-List.ensures.legal)
+
+pub read_form-returns-in_ok-item-in-FixedLengthList-clause-legal : goal.read_form-returns-in_ok-item-in-FixedLengthList-clause-legal
+read_form-returns-in_ok-item-in-FixedLengthList-clause-legal t c = rw c.in-FixedLengthList.is (legal_only (written.FixedLengthList c.in-FixedLengthList.span c.in-FixedLengthList.item c.in-FixedLengthList.size) c.deref-in-FixedLengthList.result.now (λ f own. own) (ap (λ t. t ∷ []) (sym c.deref-in-FixedLengthList.ensures)) c.in_ok-item-in-FixedLengthList.ensures.legal)
+
+pub read_form-returns-in_ok-check_key-in-Map-clause-read : goal.read_form-returns-in_ok-check_key-in-Map-clause-read
+read_form-returns-in_ok-check_key-in-Map-clause-read t c = rw c.in-Map.is (map_form c.args.types.now c.resolve_type-in-Map.new.types c.resolve_type-in-Map-2.new.types (env_of c.args.scope.now.names) c.in-Map.span c.in-Map.key c.in-Map.value c.in_ok-key_type-in-Map.key_type c.in_ok-value_type-in-Map.value_type
+    (rw (← c.deref-in-Map.ensures) c.in_ok-key_type-in-Map.ensures.resolved)
+    (rw (← c.deref-in-Map-2.ensures) c.in_ok-value_type-in-Map.ensures.resolved))
+
+pub read_form-returns-in_ok-check_key-in-Map-clause-legal : goal.read_form-returns-in_ok-check_key-in-Map-clause-legal
+read_form-returns-in_ok-check_key-in-Map-clause-legal t c = rw c.in-Map.is (legal_parts (written.Map c.in-Map.span c.in-Map.key c.in-Map.value) (c.deref-in-Map.result.now ∷ c.deref-in-Map-2.result.now ∷ [])
+    (λ f own. c.in_ok-check_key-in-Map.ensures.legal f (subst (λ t. IsInvalidKey t c.in-Map.span f) (sym c.deref-in-Map-3.ensures) own))
+    (ap (λ t. t ∷ c.in-Map.value.value ∷ []) (sym c.deref-in-Map.ensures) ∙ ap (λ t. c.deref-in-Map.result.now ∷ t ∷ []) (sym c.deref-in-Map-2.ensures))
+    (legal_more (c.deref-in-Map.result.now ∷ []) (c.deref-in-Map-2.result.now ∷ []) (legal_one c.deref-in-Map.result.now c.in_ok-key_type-in-Map.ensures.legal) (legal_one c.deref-in-Map-2.result.now c.in_ok-value_type-in-Map.ensures.legal)))
+
+pub read_form-returns-in_ok-value-in-Option-clause-legal : goal.read_form-returns-in_ok-value-in-Option-clause-legal
+read_form-returns-in_ok-value-in-Option-clause-legal t c = rw c.in-Option.is (legal_only (written.Option c.in-Option.span c.in-Option.value) c.deref-in-Option.result.now (λ f own. own) (ap (λ t. t ∷ []) (sym c.deref-in-Option.ensures)) c.in_ok-value-in-Option.ensures.legal)
+
+pub read_form-returns-in_ok-err-in-Result-clause-read : goal.read_form-returns-in_ok-err-in-Result-clause-read
+read_form-returns-in_ok-err-in-Result-clause-read t c = rw c.in-Result.is (result_form c.args.types.now c.resolve_optional.new.types c.resolve_optional-in-Result.new.types (env_of c.args.scope.now.names) c.in-Result.span c.in-Result.ok c.in-Result.err c.in_ok-ok-in-Result.ok c.in_ok-err-in-Result.err
+    c.in_ok-ok-in-Result.ensures.is_some c.in_ok-err-in-Result.ensures.is_some c.in_ok-ok-in-Result.ensures.resolved c.in_ok-err-in-Result.ensures.resolved)
+
+pub read_form-returns-in_ok-err-in-Result-clause-legal : goal.read_form-returns-in_ok-err-in-Result-clause-legal
+read_form-returns-in_ok-err-in-Result-clause-legal t c = rw c.in-Result.is (legal_parts (written.Result c.in-Result.span c.in-Result.ok c.in-Result.err) (boxed_types c.in-Result.ok ++ boxed_types c.in-Result.err) (λ f own. own) (result_types c.in-Result.ok c.in-Result.err)
+    (legal_more (boxed_types c.in-Result.ok) (boxed_types c.in-Result.err) c.in_ok-ok-in-Result.ensures.legal c.in_ok-err-in-Result.ensures.legal))
+
+pub read_form-returns-in_ok-types-in-Tuple-clause-read : goal.read_form-returns-in_ok-types-in-Tuple-clause-read
+read_form-returns-in_ok-types-in-Tuple-clause-read t c = rw c.in-Tuple.is (tuple_form c.args.types.now c.resolve_types.new.types (env_of c.args.scope.now.names) c.in-Tuple.span c.in-Tuple.parts c.in_ok-types-in-Tuple.types (rw (← c.deref-in-Tuple-2.ensures.value) c.in_ok-types-in-Tuple.ensures.resolved))
+
+pub read_form-returns-in_ok-types-in-Tuple-clause-legal : goal.read_form-returns-in_ok-types-in-Tuple-clause-legal
+read_form-returns-in_ok-types-in-Tuple-clause-legal t c = rw c.in-Tuple.is (legal_parts (written.Tuple c.in-Tuple.span c.in-Tuple.parts) c.deref-in-Tuple-2.result.now
+    (λ f own. c.in_ok-check_tuple-in-Tuple.ensures.legal f (subst (λ ts. IsEmptyTuple ts c.in-Tuple.span f) (tuple_types c.in-Tuple.span c.in-Tuple.parts ∙ sym c.deref-in-Tuple.ensures.value) own))
+    (tuple_types c.in-Tuple.span c.in-Tuple.parts ∙ sym c.deref-in-Tuple-2.ensures.value) c.in_ok-types-in-Tuple.ensures.legal)
+
+pub read_form-returns-in_ok-value-in-Future-clause-read : goal.read_form-returns-in_ok-value-in-Future-clause-read
+read_form-returns-in_ok-value-in-Future-clause-read t c = rw c.in-Future.is (future_form c.args.types.now c.resolve_optional-in-Future.new.types (env_of c.args.scope.now.names) c.in-Future.span c.in-Future.value c.in_ok-value-in-Future.value c.in_ok-value-in-Future.ensures.is_some c.in_ok-value-in-Future.ensures.resolved)
+
+pub read_form-returns-in_ok-value-in-Future-clause-legal : goal.read_form-returns-in_ok-value-in-Future-clause-legal
+read_form-returns-in_ok-value-in-Future-clause-legal t c = rw c.in-Future.is (legal_parts (written.Future c.in-Future.span c.in-Future.value) (boxed_types c.in-Future.value) (λ f own. own) (types_of_held c.in-Future.value) c.in_ok-value-in-Future.ensures.legal)
+
+pub read_form-returns-in_ok-item-in-Stream-clause-read : goal.read_form-returns-in_ok-item-in-Stream-clause-read
+read_form-returns-in_ok-item-in-Stream-clause-read t c = rw c.in-Stream.is (stream_form c.args.types.now c.resolve_optional-in-Stream.new.types (env_of c.args.scope.now.names) c.in-Stream.span c.in-Stream.item c.in_ok-item-in-Stream.item c.in_ok-item-in-Stream.ensures.is_some c.in_ok-item-in-Stream.ensures.resolved)
+
+pub read_form-returns-in_ok-item-in-Stream-clause-legal : goal.read_form-returns-in_ok-item-in-Stream-clause-legal
+read_form-returns-in_ok-item-in-Stream-clause-legal t c = rw c.in-Stream.is (legal_parts (written.Stream c.in-Stream.span c.in-Stream.item) (boxed_types c.in-Stream.item) (λ f own. own) (types_of_held c.in-Stream.item) c.in_ok-item-in-Stream.ensures.legal)
+
+pub resolve_optional-returns-in_ok-found-in-Some-clause-legal : goal.resolve_optional-returns-in_ok-found-in-Some-clause-legal
+resolve_optional-returns-in_ok-found-in-Some-clause-legal t c = rw c.in-Some.is (legal_one c.in-Some.ty.value (subst (λ ty. (f : Fault) → IsBrokenType ty f → ⊥) c.deref.ensures c.in_ok-found-in-Some.ensures.legal))
+
+pub resolve_type-returns-clause-resolved : goal.resolve_type-returns-clause-resolved
+resolve_type-returns-clause-resolved t c = read_stands c.args.types.now c.read.new.types c.type_of.new.types (env_of c.args.scope.now.names) (shape_of c.args.ty.now) c.in_ok-reading.reading c.in_ok-ty.ty c.in_ok-reading.ensures.read c.in_ok-ty.ensures.stands
+
+pub resolve_types-returns-in_err-ty-clause-refused : goal.resolve_types-returns-in_err-ty-clause-refused
+resolve_types-returns-in_err-ty-clause-refused t c =
+    let p = err_from_is_err_and c.from_residual-in_err-ty.result c.from_residual-in_err-ty.ensures.1 in
+    let env = env_of c.args.scope.now.names in
+    let parts = c.args.parts.now in
+    let part = c.part-item.result in
+    let at = slice_get-get_or parts c.loop-part.part-index part c.loop-part-test.true ∙ ap Some (sym c.part-item.is) in
+    rw (p.1, p.2) (refused_weaker (IsWrongType env part) (AreWrongTypes env parts) _ (λ f wrong. wrong_at env parts c.loop-part.part-index part f at wrong) c.in_err-ty.ensures.refused)
+
+pub resolve_types-loop-part-preserved : goal.resolve_types-loop-part-preserved
+resolve_types-loop-part-preserved t c =
+    let parts = c.args.parts.now in
+    let i = c.loop-part.part-index in
+    let part = c.part-item.result in
+    let taken : take (i + 1) parts ≡ take i parts ++ part ∷ [] = take_more parts i part c.loop-part-test.true ∙ ap (λ x. take i parts ++ x ∷ []) (sym c.part-item.is) in
+    record {
+      types = rw (taken, c.in_ok-push.ensures.items) (types_then (take i parts) (part ∷ []) c.loop-part.invariant.types (types_one part c.in_ok-ty.ensures.resolved));
+      legal = subst AreLegal (sym taken) (legal_more (take i parts) (part ∷ []) c.loop-part.invariant.legal (legal_one part c.in_ok-ty.ensures.legal));
+    }
+
+pub resolve_types-returns-clause-resolved : goal.resolve_types-returns-clause-resolved
+resolve_types-returns-clause-resolved t c =
+    let all = take_all c.loop-part.part-index c.args.parts.now c.loop-part-test.false in
+    rw (← all, c.from.ensures) c.loop-part.invariant.types
+
+pub resolve_types-returns-clause-legal : goal.resolve_types-returns-clause-legal
+resolve_types-returns-clause-legal t c = subst AreLegal (take_all c.loop-part.part-index c.args.parts.now c.loop-part-test.false) c.loop-part.invariant.legal

@@ -1,0 +1,260 @@
+//! Bodies of definitions, as kinds of entries.
+ghost use Rattle.std.specs.Prelude.{◌≡◌, ◌⊎◌, [], map, IfOk, IfErr, OnOk};
+ghost use Rattle.std.specs.Option.{option_to_list};
+ghost use Rattle.wit_tree.specs.Parts.{field_types, case_types};
+ghost use Rattle.wit_meaning.specs.Form.{RecordForm, FlagsForm, VariantForm, EnumForm, kind_of, field_member, flag_member, case_member, enum_case_member, payloads};
+ghost use Rattle.wit_meaning.specs.Shape.{member, written_field, written_flag, written_case, written_enum_case, body_of};
+ghost use Rattle.wit_meaning.specs.Source.{Address};
+ghost use Rattle.wit_meaning.specs.Expr.{exprs_of};
+ghost use Rattle.wit_meaning.specs.Meet.{shapes_meetings};
+ghost use Rattle.wit_meaning.specs.Fault.{Fault};
+ghost use Rattle.wit_meaning.specs.Broken.{IsBrokenPart, IsBrokenRecord, IsBrokenFlags, IsBrokenVariant, IsBrokenEnum, IsBrokenBody, Refused};
+ghost use Rattle.wit_meaning.specs.Resolving.{env_of, AreResolved, AreWrongTypes, IsWrongBody};
+ghost use Rattle.wit_entries.specs.Reading.{AreTypes};
+
+use crate::entries::Entries;
+use crate::rules::{check_enum, check_flags, check_record, check_variant};
+use crate::scope::Scope;
+use crate::types::{named_kind, read, resolve_type};
+use std::alloc::{AllocError, Global};
+use wit_model::{
+    Case, Docs, Enum, EnumCase, Field, Flag, Flags, Record, Type, TypeDefKind, Variant,
+};
+use wit_tree::{ParseResult, Span, tree};
+use wit_values::{Row, Text};
+
+/// A field of this type.
+fn field(alloc: Global, field: &tree::Field<'_>, ty: Type) -> Result<Field, AllocError>
+    ensures member { IfOk result (λ r. field_member r ≡ written_field field.now) }
+    ensures ty { IfOk result (λ r. r.ty ≡ ty) }
+{
+    Ok(Field {
+        name: Text::from_str(alloc, field.name.name)?,
+        ty,
+        docs: Docs::default(),
+        span: field.name.span,
+    })
+}
+
+/// The fields of a record.
+fn resolve_fields(
+    alloc: Global,
+    types: &mut Entries,
+    scope: &Scope,
+    fields: &[tree::Field<'_>],
+) -> ParseResult<Row<Field>>
+    ensures types { IfOk result (λ r. AreTypes types.old types.new (env_of scope.now.names) (field_types fields.now) (map (λ f. f.ty) r)) }
+    ensures members { IfOk result (λ r. map field_member r ≡ map written_field fields.now) }
+    ensures legal { OnOk result ((f : Fault) → IsBrokenPart (field_types fields.now) f → ⊥) }
+    ensures refused { IfErr result (Refused (AreWrongTypes (env_of scope.now.names) (field_types fields.now))) }
+{
+    let mut resolved = Vec::with_capacity(alloc, fields.len())?;
+    for written in fields {
+        let ty = resolve_type(alloc, types, scope, &written.ty)?;
+        resolved.push(field(alloc, written, ty)?)?;
+    }
+    Ok(Row::from(resolved))
+}
+
+/// The kind of a record.
+fn resolve_record(
+    alloc: Global,
+    types: &mut Entries,
+    scope: &Scope,
+    span: Span,
+    fields: &[tree::Field<'_>],
+) -> ParseResult<TypeDefKind>
+    ensures types { IfOk result (λ r. AreTypes types.old types.new (env_of scope.now.names) (field_types fields.now) (kind_of r).parts) }
+    ensures form { IfOk result (λ r. (kind_of r).form ≡ RecordForm (map written_field fields.now)) }
+    ensures list { OnOk result ((f : Fault) → IsBrokenRecord fields.now span f → ⊥) }
+    ensures legal { OnOk result ((f : Fault) → IsBrokenPart (field_types fields.now) f → ⊥) }
+    ensures refused { IfErr result (Refused (λ f. IsBrokenRecord fields.now span f ⊎ AreWrongTypes (env_of scope.now.names) (field_types fields.now) f)) }
+{
+    check_record(alloc, span, fields)?;
+    let fields = resolve_fields(alloc, types, scope, fields)?;
+    Ok(TypeDefKind::Record(Record { fields }))
+}
+
+/// A flag.
+fn flag(alloc: Global, flag: &tree::Flag<'_>) -> Result<Flag, AllocError>
+    ensures { IfOk result (λ r. flag_member r ≡ written_flag flag.now) }
+{
+    Ok(Flag {
+        name: Text::from_str(alloc, flag.name.name)?,
+        docs: Docs::default(),
+        span: flag.name.span,
+    })
+}
+
+/// Flags, in their order.
+fn flags(alloc: Global, flags: &[tree::Flag<'_>]) -> Result<Row<Flag>, AllocError>
+    ensures { IfOk result (λ r. map flag_member r ≡ map written_flag flags.now) }
+{
+    let mut made = Vec::with_capacity(alloc, flags.len())?;
+    for written in flags {
+        made.push(flag(alloc, written)?)?;
+    }
+    Ok(Row::from(made))
+}
+
+/// The kind of flags.
+fn resolve_flags(alloc: Global, span: Span, written: &[tree::Flag<'_>]) -> ParseResult<TypeDefKind>
+    ensures form { IfOk result (λ r. (kind_of r).form ≡ FlagsForm (map written_flag written.now)) }
+    ensures parts { IfOk result (λ r. (kind_of r).parts ≡ []) }
+    ensures list { OnOk result ((f : Fault) → IsBrokenFlags written.now span f → ⊥) }
+    ensures refused { IfErr result (Refused (IsBrokenFlags written.now span)) }
+{
+    check_flags(alloc, span, written)?;
+    let flags = flags(alloc, written)?;
+    Ok(TypeDefKind::Flags(Flags { flags }))
+}
+
+/// A case of a variant, with the type of what it holds.
+fn case(alloc: Global, case: &tree::Case<'_>, ty: Option<Type>) -> Result<Case, AllocError>
+    ensures name { IfOk result (λ r. (case_member r).0 ≡ member case.now.name) }
+    ensures ty { IfOk result (λ r. r.ty ≡ ty) }
+{
+    Ok(Case {
+        name: Text::from_str(alloc, case.name.name)?,
+        ty,
+        docs: Docs::default(),
+        span: case.name.span,
+    })
+}
+
+/// A case of a variant.
+fn resolve_case(
+    alloc: Global,
+    types: &mut Entries,
+    scope: &Scope,
+    written: &tree::Case<'_>,
+) -> ParseResult<Case>
+    ensures types { IfOk result (λ r. AreTypes types.old types.new (env_of scope.now.names) (option_to_list written.now.ty) (option_to_list r.ty)) }
+    ensures member { IfOk result (λ r. case_member r ≡ written_case written.now) }
+    ensures legal { OnOk result ((f : Fault) → IsBrokenPart (option_to_list written.now.ty) f → ⊥) }
+    ensures refused { IfErr result (Refused (AreWrongTypes (env_of scope.now.names) (option_to_list written.now.ty))) }
+{
+    match &written.ty {
+        Some(ty) => {
+            let ty = resolve_type(alloc, types, scope, ty)?;
+            Ok(case(alloc, written, Some(ty))?)
+        }
+        None => Ok(case(alloc, written, None)?),
+    }
+}
+
+/// The cases of a variant.
+fn resolve_cases(
+    alloc: Global,
+    types: &mut Entries,
+    scope: &Scope,
+    cases: &[tree::Case<'_>],
+) -> ParseResult<Row<Case>>
+    ensures types { IfOk result (λ r. AreTypes types.old types.new (env_of scope.now.names) (case_types cases.now) (payloads r)) }
+    ensures members { IfOk result (λ r. map case_member r ≡ map written_case cases.now) }
+    ensures legal { OnOk result ((f : Fault) → IsBrokenPart (case_types cases.now) f → ⊥) }
+    ensures refused { IfErr result (Refused (AreWrongTypes (env_of scope.now.names) (case_types cases.now))) }
+{
+    let mut resolved = Vec::with_capacity(alloc, cases.len())?;
+    for written in cases {
+        let case = resolve_case(alloc, types, scope, written)?;
+        resolved.push(case)?;
+    }
+    Ok(Row::from(resolved))
+}
+
+/// The kind of a variant.
+fn resolve_variant(
+    alloc: Global,
+    types: &mut Entries,
+    scope: &Scope,
+    span: Span,
+    cases: &[tree::Case<'_>],
+) -> ParseResult<TypeDefKind>
+    ensures types { IfOk result (λ r. AreTypes types.old types.new (env_of scope.now.names) (case_types cases.now) (kind_of r).parts) }
+    ensures form { IfOk result (λ r. (kind_of r).form ≡ VariantForm (map written_case cases.now)) }
+    ensures list { OnOk result ((f : Fault) → IsBrokenVariant cases.now span f → ⊥) }
+    ensures legal { OnOk result ((f : Fault) → IsBrokenPart (case_types cases.now) f → ⊥) }
+    ensures refused { IfErr result (Refused (λ f. IsBrokenVariant cases.now span f ⊎ AreWrongTypes (env_of scope.now.names) (case_types cases.now) f)) }
+{
+    check_variant(alloc, span, cases)?;
+    let cases = resolve_cases(alloc, types, scope, cases)?;
+    Ok(TypeDefKind::Variant(Variant { cases }))
+}
+
+/// A case of an enum.
+fn enum_case(alloc: Global, case: &tree::EnumCase<'_>) -> Result<EnumCase, AllocError>
+    ensures { IfOk result (λ r. enum_case_member r ≡ written_enum_case case.now) }
+{
+    Ok(EnumCase {
+        name: Text::from_str(alloc, case.name.name)?,
+        docs: Docs::default(),
+        span: case.name.span,
+    })
+}
+
+/// The cases of an enum, in their order.
+fn enum_cases(alloc: Global, cases: &[tree::EnumCase<'_>]) -> Result<Row<EnumCase>, AllocError>
+    ensures { IfOk result (λ r. map enum_case_member r ≡ map written_enum_case cases.now) }
+{
+    let mut made = Vec::with_capacity(alloc, cases.len())?;
+    for written in cases {
+        made.push(enum_case(alloc, written)?)?;
+    }
+    Ok(Row::from(made))
+}
+
+/// The kind of an enum.
+fn resolve_enum(
+    alloc: Global,
+    span: Span,
+    written: &[tree::EnumCase<'_>],
+) -> ParseResult<TypeDefKind>
+    ensures form { IfOk result (λ r. (kind_of r).form ≡ EnumForm (map written_enum_case written.now)) }
+    ensures parts { IfOk result (λ r. (kind_of r).parts ≡ []) }
+    ensures list { OnOk result ((f : Fault) → IsBrokenEnum written.now span f → ⊥) }
+    ensures refused { IfErr result (Refused (IsBrokenEnum written.now span)) }
+{
+    check_enum(alloc, span, written)?;
+    let cases = enum_cases(alloc, written)?;
+    Ok(TypeDefKind::Enum(Enum { cases }))
+}
+
+/// The kind of a definition.
+///
+/// A refusal is E15, a broken rule of types, fields, flags or cases, or want of memory.
+pub fn resolve_body(
+    alloc: Global,
+    types: &mut Entries,
+    scope: &Scope,
+    body: &tree::TypeBody<'_>,
+) -> ParseResult<TypeDefKind>
+    ensures parts { IfOk result (λ r. (s : Address) → AreResolved types.old types.new s (env_of scope.now.names)
+        (shapes_meetings s (body_of body.now).parts) (exprs_of s (body_of body.now).parts) (kind_of r).parts) }
+    ensures form { IfOk result (λ r. (kind_of r).form ≡ (body_of body.now).form) }
+    ensures legal { OnOk result ((f : Fault) → IsBrokenBody body.now f → ⊥) }
+    ensures refused { IfErr result (Refused (IsWrongBody (env_of scope.now.names) body.now)) }
+{
+    match body {
+        tree::TypeBody::Record { span, fields } => {
+            let kind = resolve_record(alloc, types, scope, *span, fields)?;
+            Ok(kind)
+        }
+        tree::TypeBody::Flags { span, flags } => {
+            let kind = resolve_flags(alloc, *span, flags)?;
+            Ok(kind)
+        }
+        tree::TypeBody::Variant { span, cases } => {
+            let kind = resolve_variant(alloc, types, scope, *span, cases)?;
+            Ok(kind)
+        }
+        tree::TypeBody::Enum { span, cases } => {
+            let kind = resolve_enum(alloc, *span, cases)?;
+            Ok(kind)
+        }
+        tree::TypeBody::Plain(ty) => {
+            let reading = read(alloc, types, scope, ty)?;
+            Ok(named_kind(reading))
+        }
+    }
+}

@@ -1,6 +1,0 @@
-use Rattle.std.proofs.Common.{◌≡◌, ◌<◌, ℕ, Some, slice_get}
-use Rattle.wit_model.specs.Spans.{AllFit}
-use Rattle.wit_model.proofs.spans.tables.TableHasSpans.spans_fit.Given as goal
-
-abbrev pub invariant-loop-place : goal.invariant-loop-place
-invariant-loop-place g l = (j : ℕ) (e : g.row.K.Denot × g.row.V.Denot) → j < l.place → slice_get l.self j ≡ Some e → AllFit l.offset (g.V.HasSpans.spans e.1)

@@ -1,0 +1,7 @@
+use Rattle.std.proofs.Common.{take}
+use Rattle.wit_order.specs.Table.{rows}
+use Rattle.wit_order.specs.Resolved.{AddsRow}
+use Rattle.wit_order.proofs.names.add_row.Given as goal
+
+abbrev pub invariant-loop-index : goal.invariant-loop-index
+invariant-loop-index l = AddsRow (rows l.deps) (take l.index l.ids) l.initial.targets.items l.targets.items

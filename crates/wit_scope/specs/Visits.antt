@@ -1,0 +1,45 @@
+-- The paths of a file in source order, each with the item that it stands in, the names that are used from what it leads to, and what that has to be.
+use Rattle.std.specs.Prelude.{List, [], ◌∷◌, Option, Some, None}
+use Rattle.std.specs.List.{flat_map}
+use Rattle.std.specs.Option.{option_map}
+use denote.Ref.{Bor}
+use Rattle.wit_tree.specs.declared.tree.Id.{Id}
+use Rattle.wit_tree.specs.declared.tree.UsePath.{UsePath}
+use Rattle.wit_tree.specs.declared.tree.UseName.{UseName}
+use Rattle.wit_tree.specs.declared.tree.Interface.{Interface}
+use Rattle.wit_tree.specs.declared.tree.InterfaceItem.{InterfaceItem}
+use Rattle.wit_tree.specs.declared.tree.InterfaceItem.TheVariants.{TypeDef as TypeItem, Use as UseItem}
+use Rattle.wit_tree.specs.declared.tree.AstItem.{AstItem}
+use Rattle.wit_tree.specs.declared.tree.AstItem.TheVariants.{Interface as InterfaceItem', Use as ToplevelItem}
+use Rattle.wit_tree.specs.declared.tree.DeclList.{DeclList}
+use Rattle.wit_scope.specs.declared.visit.Wanted.{Wanted}
+use Rattle.wit_scope.specs.declared.visit.Wanted.TheVariants as wanted
+use Rattle.wit_scope.specs.declared.visit.Visit.{Visit as Held}
+
+pub record Visit : Type 0 where
+  -- the name of the item that the path stands in; none at the top of a file
+  pub owner : Option Id
+  pub path : UsePath
+  -- none, where no names are used from what the path leads to
+  pub names : Option (List UseName)
+  pub wanted : Wanted
+
+-- of a part of an interface of this name: a `use` wants an interface
+abbrev pub part_visits : Id → InterfaceItem → List Visit
+part_visits owner (TypeItem d) = []
+part_visits owner (UseItem u) = record { owner = Some owner; path = u.from; names = Some u.names.items; wanted = wanted.Interface } ∷ []
+
+abbrev pub interface_visits : Interface → List Visit
+interface_visits i = flat_map (part_visits i.name) i.items.items
+
+-- of a declaration: a `use` at the top of a file may lead to any item
+abbrev pub item_visits : AstItem → List Visit
+item_visits (InterfaceItem' i) = interface_visits i
+item_visits (ToplevelItem u) = record { owner = None; path = u.item; names = None; wanted = wanted.Unknown } ∷ []
+
+abbrev pub visits : DeclList → List Visit
+visits list = flat_map item_visits list.items.items
+
+-- the visit that is held
+abbrev pub visit_behind : Held → Visit
+visit_behind v = record { owner = v.owner; path = v.path.now; names = option_map (λ (names : Bor (List UseName)). names.now) v.names; wanted = v.wanted }

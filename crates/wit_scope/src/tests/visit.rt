@@ -1,0 +1,102 @@
+//! The paths of a file.
+
+use crate::{Visit, Wanted, visits};
+use std::alloc::{AllocError, Global};
+use std::test::Fail;
+use wit_tree::Span;
+use wit_tree::tree::{
+    AstItem, DeclList, Id, Interface, InterfaceItem, ToplevelUse, Use, UseName, UsePath,
+};
+
+/// A label.
+fn label(name: &'static str) -> Result<Id<'static>, AllocError> {
+    Id::new(name, Span::default()).ok_or(AllocError)
+}
+
+/// A `use` of one name in an interface.
+fn used(
+    alloc: Global,
+    from: &'static str,
+    name: &'static str,
+) -> Result<InterfaceItem<'static>, Fail> {
+    let mut names = Vec::new(alloc);
+    names.push(UseName {
+        name: label(name)?,
+        as_: None,
+    })?;
+    let from = UsePath::Id(label(from)?);
+    Ok(InterfaceItem::Use(Use { from, names }))
+}
+
+/// An interface that uses a name from each of two others.
+fn interface(
+    alloc: Global,
+    name: &'static str,
+    first: &'static str,
+    second: &'static str,
+) -> Result<AstItem<'static>, Fail> {
+    let mut items = Vec::new(alloc);
+    items.push(used(alloc, first, "t")?)?;
+    items.push(used(alloc, second, "u")?)?;
+    let name = label(name)?;
+    Ok(AstItem::Interface(Interface { name, items }))
+}
+
+/// A `use` at the top of a file.
+fn toplevel(item: &'static str) -> Result<AstItem<'static>, AllocError> {
+    Ok(AstItem::Use(ToplevelUse {
+        span: Span::default(),
+        item: UsePath::Id(label(item)?),
+        as_: None,
+    }))
+}
+
+/// What a visit says: the name that is used, or `-`.
+fn name_of<'a>(visit: &Visit<'_, 'a>) -> &'a str {
+    match visit.names {
+        Some([name]) => name.name.name,
+        _ => "-",
+    }
+}
+
+/// What a visit says: whose it is, its path, what is used and what is wanted.
+fn told(alloc: Global, visit: &Visit<'_, '_>) -> Result<String, AllocError> {
+    let UsePath::Id(path) = visit.path;
+    let owner = match visit.owner {
+        Some(owner) => owner.name,
+        None => "-",
+    };
+    let wanted = match visit.wanted {
+        Wanted::Interface => "interface",
+        Wanted::World => "world",
+        Wanted::Unknown => "item",
+    };
+    let path = path.name;
+    let name = name_of(visit);
+    format!(in alloc; "{owner} {path} {name} {wanted};")
+}
+
+/// What the visits of a file say.
+fn told_all(alloc: Global, list: &DeclList<'_>) -> Result<String, Fail> {
+    let mut all = String::new(alloc);
+    for visit in &visits(alloc, list)? {
+        all.push_str(told(alloc, visit)?.as_str())?;
+    }
+    Ok(all)
+}
+
+#[test]
+fn visits_in_source_order(rt: HostRuntime) -> Result<(), Fail> {
+    let alloc = rt.alloc();
+    let mut items = Vec::new(alloc);
+    items.push(toplevel("c")?)?;
+    items.push(interface(alloc, "i", "a", "b")?)?;
+    items.push(toplevel("i")?)?;
+    items.push(interface(alloc, "j", "i", "a")?)?;
+    let said = told_all(alloc, &DeclList { items })?;
+    assert_eq!(rt;
+        said.as_str(),
+        "- c - item;i a t interface;i b u interface;- i - item;j i t interface;j a u interface;"
+    );
+    Ok(())
+}

@@ -1,0 +1,49 @@
+-- The types that are written in a type or in the body of a definition, in written order.
+use Rattle.std.specs.Prelude.{List, [], ◌∷◌, ◌++◌, map, Option, Some, None, Box}
+use Rattle.std.specs.List.{filter_map}
+use Rattle.std.specs.declared.alloc.Global.{Global}
+use Rattle.wit_tree.specs.declared.tree.Field.{Field}
+use Rattle.wit_tree.specs.declared.tree.Case.{Case}
+use Rattle.wit_tree.specs.declared.tree.TypeBody.{TypeBody}
+use Rattle.wit_tree.specs.declared.tree.TypeBody.TheVariants.{Record, Flags, Variant, Enum, Plain}
+use Rattle.wit_tree.specs.declared.tree.«Type».{«Type» as Written, List', FixedLengthList', Map', Option', Result', Tuple', Future', Stream', Held-Type-Result-1, None', Some', Row_of-Type, end_of-Type, more_of-Type}
+
+-- a type, where there is one
+abbrev pub held_types : Held-Type-Result-1 → List Written
+held_types None' = []
+held_types (Some' p t) = t ∷ []
+
+abbrev pub boxed_types : Option (Box Written Global) → List Written
+boxed_types None = []
+boxed_types (Some b) = b.value ∷ []
+
+-- types in a row
+abbrev pub row_types : {m : _} → Row_of-Type m → List Written
+row_types end_of-Type = []
+row_types (more_of-Type t rest) = t ∷ row_types rest
+
+-- the parts of a type: those written directly in it
+abbrev pub part_types : Written → List Written
+part_types (List' span p t) = t ∷ []
+part_types (FixedLengthList' span p t size) = t ∷ []
+part_types (Map' span p key q value) = key ∷ value ∷ []
+part_types (Option' span p t) = t ∷ []
+part_types (Result' span ok err) = held_types ok ++ held_types err
+part_types (Tuple' span shape ts) = row_types ts
+part_types (Future' span t) = held_types t
+part_types (Stream' span t) = held_types t
+part_types _ = []
+
+abbrev pub field_types : List Field → List Written
+field_types fs = map (λ f. f.ty) fs
+
+-- of the cases that hold something
+abbrev pub case_types : List Case → List Written
+case_types cs = filter_map (λ c. c.ty) cs
+
+abbrev pub body_types : TypeBody → List Written
+body_types (Record span fields) = field_types fields.items
+body_types (Flags span flags) = []
+body_types (Variant span cases) = case_types cases.items
+body_types (Enum span cases) = []
+body_types (Plain t) = t ∷ []

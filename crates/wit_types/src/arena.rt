@@ -1,0 +1,181 @@
+//! Ids and arenas: an arena is a list, an id a place in it.
+ghost use Rattle.std.specs.Prelude.{◌≡◌, ◌+◌, ◌<◌, ◌^◌, List, [], ◌∷◌, ◌++◌, ℕ, length, slice_get, slice_set, IfOk, OnErr, IfErr, OnOk, IsTrue};
+ghost use Rattle.std.specs.List.{AllZip};
+ghost use Rattle.std.specs.Cmp.Lexicographic.{pointwise};
+ghost use Rattle.std.specs.Cmp.Rules.{comparing};
+ghost use Rattle.std.proofs.Common.{rules};
+ghost use Rattle.std.specs.Slice.Iter.{iter_rest};
+ghost use Rattle.std.specs.Iterator.Adapters.{IterYieldsInOrder};
+
+use std::alloc::{AllocError, AllocFailed, Global};
+use std::marker::{Model, PhantomData};
+use std::{fmt, slice};
+
+/// The place of a value in an arena, counted from 0. `T` says which arena.
+///
+/// Ids are compared and hashed by their places.
+#[derive_where(Clone, Copy, PartialEq, Eq, PartialOrd, Ord, Hash, Debug)]
+pub struct Id<T> {
+    place: usize,
+    #[derive_where(skip)]
+    of: PhantomData<T>,
+}
+
+impl<T> Model for Id<T> {
+    ghost use Rattle.std.specs.Prelude.{ℕ};
+
+    ghost Value = { ℕ };
+
+    ghost view = { λ i. i.place };
+
+    ghost inverse = { λ n. record { place = n; of = record {} } };
+}
+
+impl<T> Id<T> {
+    /// The place.
+    pub fn index(self) -> usize
+        ensures { result ≡ self }
+    {
+        self.place
+    }
+}
+
+/// Values, each at the place that its id names. `M` marks the ids.
+///
+/// Contracts see the list of the values; two arenas are equal if they are equal lists.
+#[derive(Drop)]
+pub struct Arena<T, M = T> {
+    items: Vec<T>,
+    of: PhantomData<M>,
+}
+
+impl<T, M> Model for Arena<T, M> {
+    ghost use Rattle.std.specs.Prelude.{List};
+
+    ghost Value = { List T };
+
+    ghost view = { λ a. a.items.items };
+}
+
+impl<T, M> Arena<T, M> {
+    ghost use Rattle.std.specs.Borrow.{sem, Lends};
+    ghost use Rattle.wit_types.specs.contracts.arena.Arena.{the_row};
+
+    /// An arena with nothing in it.
+    pub fn new(alloc: Global) -> Arena<T, M>
+        ensures { result ≡ [] }
+    {
+        Arena {
+            items: Vec::new(alloc),
+            of: PhantomData,
+        }
+    }
+
+    /// How many values there are.
+    pub fn len(&self) -> usize
+        ensures { result ≡ length self.now }
+    {
+        self.items.len()
+    }
+
+    /// The id that the next value will have.
+    pub fn next_id(&self) -> Id<M>
+        ensures { result ≡ length self.now }
+    {
+        Id {
+            place: self.items.len(),
+            of: PhantomData,
+        }
+    }
+
+    /// The id of the value at a place.
+    pub fn id_at(&self, place: usize) -> Id<M>
+        requires { place < length self.now }
+        ensures { result ≡ place }
+    {
+        Id {
+            place,
+            of: PhantomData,
+        }
+    }
+
+    /// Puts a value behind the others, and answers its id.
+    ///
+    /// If a growth is refused, the arena stays as it was and the value comes back.
+    pub fn alloc(&mut self, value: T) -> Result<Id<M>, AllocFailed<T>>
+        ensures id { IfOk result (λ i. i ≡ length self.old) }
+        ensures ok { OnOk result (self.new ≡ self.old ++ value ∷ []) }
+        ensures err { OnErr result (self.new ≡ self.old) }
+        ensures value_returned { IfErr result (λ e. e.value ≡ value) }
+    {
+        let place = self.items.len();
+        self.items.push(value)?;
+        Ok(Id {
+            place,
+            of: PhantomData,
+        })
+    }
+
+    /// The value at an id of this arena.
+    pub fn get(&self, id: Id<M>) -> &T
+        requires { id < length self.now }
+        ensures { slice_get self.now id ≡ Some result.now }
+    {
+        &self.items[id.place]
+    }
+
+    /// The value at an id of this arena, to be written.
+    pub fn get_mut(&mut self, id: Id<M>) -> &mut T
+        requires { id < length self.old }
+        ensures* writes_back { sem 𝓛 (Lends (the_row T.row M.row) T.row self.entry result (slice_set self.old id)) }
+        ensures value { slice_get self.old id ≡ Some result.now }
+    {
+        &mut self.items[id.place]
+    }
+
+    /// The values, as a slice.
+    pub(crate) fn as_slice(&self) -> &[T]
+        ensures { result.now ≡ self.now }
+    {
+        self.items.as_slice()
+    }
+
+    /// The values in order.
+    pub fn iter(&self) -> slice::Iter<'_, T>
+        ensures rest { iter_rest result ≡ self.now }
+        ensures runs { IterYieldsInOrder T }
+    {
+        self.items.iter()
+    }
+}
+
+impl<T: Clone, M> Clone for Arena<T, M> {
+    ghost is_clone = { AllZip T.is_clone };
+
+    fn clone(&self) -> Result<Arena<T, M>, AllocError> {
+        Ok(Arena {
+            items: self.items.clone()?,
+            of: PhantomData,
+        })
+    }
+}
+
+impl<T: fmt::Debug, M> fmt::Debug for Arena<T, M> {
+    fn fmt<W: fmt::Write>(&self, f: &mut fmt::Formatter<W>) -> fmt::Result {
+        fmt::Debug::fmt(&self.items, f)
+    }
+}
+
+impl<T: PartialEq, M> PartialEq for Arena<T, M> {
+    ghost eq = { pointwise T.eq };
+
+    ghost laws = { Prim.search (comparing, rules) };
+
+    fn eq(&self, other: &Arena<T, M>) -> bool {
+        self.items == other.items
+    }
+}
+
+impl<T: Eq, M> Eq for Arena<T, M> {
+    ghost laws = { Prim.search (comparing, rules) };
+}

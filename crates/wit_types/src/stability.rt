@@ -1,0 +1,41 @@
+//! Since when an item is there, and how long.
+ghost use Rattle.std.specs.Prelude.{◌≡◌};
+ghost use Rattle.wit_types.specs.Stabilities.{is_stable, is_unknown};
+
+use wit_values::{Release, Text};
+
+/// How stable an item is, by its attributes; the default is `Unknown`.
+///
+/// The variants are ordered as they stand here, and then by their fields.
+#[derive(Debug, Clone, PartialEq, Eq, PartialOrd, Ord, Default, Drop)]
+pub enum Stability {
+    /// No attribute tells.
+    #[default]
+    Unknown,
+    /// There behind a feature, and from a version on deprecated.
+    Unstable {
+        feature: Text,
+        deprecated: Option<Release>,
+    },
+    /// There since a version, and from a version on deprecated.
+    Stable {
+        since: Release,
+        deprecated: Option<Release>,
+    },
+}
+
+impl Stability {
+    /// Whether no attribute tells.
+    pub fn is_unknown(&self) -> bool
+        ensures { result ≡ is_unknown self.now }
+    {
+        matches!(self, Stability::Unknown)
+    }
+
+    /// Whether the item is there since a version.
+    pub fn is_stable(&self) -> bool
+        ensures { result ≡ is_stable self.now }
+    {
+        matches!(self, Stability::Stable { .. })
+    }
+}
