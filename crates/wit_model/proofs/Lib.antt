@@ -1,3 +1,4 @@
+pub mod Copies
 pub mod InTurn
 pub mod Marks
 pub mod Walk

@@ -1,15 +1,21 @@
 -- Tests for equality of interfaces and worlds, which decide whether they are the same but for the order of their maps.
-use Rattle.std.proofs.Common.{◌≡◌, ℕ, nat_eq, List, [], ◌∷◌, Bool, refl, rules}
+use Rattle.std.proofs.Common.{◌≡◌, ℕ, nat_eq, List, [], ◌∷◌, ◌&&◌, Bool, Option, Some, None, ap, refl, rules}
 use Rattle.std.specs.Bool.{Decides}
 use Rattle.std.specs.Cmp.{IsEquivalence, decided}
 use Rattle.std.specs.Cmp.Lexicographic.{nat_list_eq_equiv, pointwise}
 use Rattle.std.specs.HashMap.{entries_eq}
+use Rattle.std.specs.HashMap.Eq.{get_from_hash_map_eq, hash_map_eq_from_get}
+use Rattle.std.specs.Option.{option_eq}
 use Rattle.std.proofs.lemmas.Bool.Decides.{Decides-and, Decides-at, Decides-eqb, Decides-like}
 use Rattle.std.proofs.lemmas.Map.Lookups.{hash_map_eq-Decides}
 use Rattle.indexmap.specs.Layout.{hash_map}
 use Rattle.wit_types.proofs.Same.{Decides-docs, Decides-option, Decides-optional_text, Decides-row, Decides-span, Decides-stability, Decides-text, Decides-type_def}
 use Rattle.wit_model.proofs.Same.{Decides-function, Decides-include, Decides-world_item}
-use Rattle.wit_model.specs.Same.{AreSame, HoldSamePairs, IsSameInterface, IsSamePackage, IsSameWorld, is_same_key, is_same_name}
+use Rattle.wit_types.specs.contracts.stability.StabilityPartialEq.TheImpl.{eq-value as stability_test}
+use Rattle.wit_types.specs.declared.stability.Stability.{Stability}
+use Rattle.wit_model.specs.Same.{AreBothSame, AreSame, HoldSamePairs, HoldSameValues, IsSameInterface, IsSamePackage, IsSameWorld, is_same_key, is_same_name, is_same_package_name}
+use Rattle.wit_model.specs.contracts.ast_item.AstItemPartialEq.TheImpl.{eq-value as ast_item_test}
+use Rattle.wit_model.specs.declared.ast_item.AstItem.{AstItem}
 use Rattle.wit_model.specs.contracts.interface.InterfacePartialEq.TheImpl.{eq-value as interface_test}
 use Rattle.wit_model.specs.contracts.world.WorldItemPartialEq.TheImpl.{eq-value as world_item_test}
 use Rattle.wit_model.specs.contracts.world.WorldKeyPartialEq.TheImpl.{eq-value as key_test}
@@ -65,5 +71,40 @@ Decides-lists same (x ∷ xs) (y ∷ ys) = Decides-and _ _ (same x y) (Decides-l
 Decides-package_name : (a b : PackageName) → Decides (name_test.it a b) (a ≡ b)
 Decides-package_name a b = search rules
 
+Decides-both : {X : Type 0} {R : X → X → Type 0} {E : X → X → Bool} → ((a b : X) → Decides (E a b) (R a b)) → (x y : Option X) → Decides (option_eq E x y) (AreBothSame R x y)
+Decides-both same None None = (λ e. tt, λ h. refl)
+Decides-both same None (Some y) = (λ e. cc, λ h. absurd h)
+Decides-both same (Some x) None = (λ e. cc, λ h. absurd h)
+Decides-both same (Some x) (Some y) = same x y
+
+-- where a test decides sameness of values, that of maps decides it key by key
+Decides-values : {K V : Type 0} {R : K → K → Bool} {S : V → V → Type 0} {E : V → V → Bool} → IsEquivalence R → ((a b : V) → Decides (E a b) (S a b)) → (xs ys : List (K × V)) → Decides (entries_eq R (λ p q. E p.1 q.1) xs ys) (HoldSameValues R S xs ys)
+Decides-values {R = R} {E = E} keys values xs ys = (
+  λ e k. (Decides-both values _ _).0 (get_from_hash_map_eq R E keys (hash_map {S = Unit {0}} xs tt 0) (hash_map {S = Unit {0}} ys tt 0) e k),
+  λ h. hash_map_eq_from_get R E (hash_map {S = Unit {0}} xs tt 0) (hash_map {S = Unit {0}} ys tt 0) (λ k. (Decides-both values _ _).1 (h k)),
+)
+
+Decides-ast_item : (a b : AstItem) → Decides (ast_item_test.it a b) (a ≡ b)
+Decides-ast_item a b = search rules
+
+-- an item with its visits
+abbrev Visited : Type 0
+Visited = AstItem × List Stability
+
+abbrev visited_test : Visited → Visited → Bool
+visited_test a b = ast_item_test.it a.0 b.0 && pointwise stability_test.it a.1 b.1
+
+same_pair : {A B : Type 0} {p q : A × B} → (p.0 ≡ q.0) × (p.1 ≡ q.1) → p ≡ q
+same_pair h = λ i. (h.0 i, h.1 i)
+
+Decides-visited : (a b : Visited) → Decides (visited_test a b) (a ≡ b)
+Decides-visited a b = Decides-like _ same_pair (λ e. (ap (λ v. v.0) e, ap (λ v. v.1) e)) (Decides-and _ _ (Decides-ast_item a.0 b.0) (Decides-row Decides-stability a.1 b.1))
+
+Decides-same_package_name : (a b : PackageName) → Decides (is_same_package_name a b) (a ≡ b)
+Decides-same_package_name a b = Decides-package_name a b
+
+Decides-foreign : (xs ys : List (PackageName × List (List ℕ × Visited))) → Decides (entries_eq name_test.it (λ p q. entries_eq is_same_name (λ v w. visited_test v.1 w.1) p.1 q.1) xs ys) (HoldSameValues is_same_package_name (HoldSamePairs is_same_name) xs ys)
+Decides-foreign xs ys = Decides-values (decided is_same_package_name Decides-same_package_name) (Decides-named Decides-visited) xs ys
+
 pub Decides-package : (a b : UnresolvedPackage) → Decides (package_test.it a b) (IsSamePackage a b)
-Decides-package a b = Decides-like _ (λ e. record { name = e.0; worlds = e.1.0; interfaces = e.1.1.0; types = e.1.1.1.0; name_span = e.1.1.1.1 }) (λ s. (s.name, (s.worlds, (s.interfaces, (s.types, s.name_span))))) (Decides-and _ _ (Decides-package_name a.name b.name) (Decides-and _ _ (Decides-lists Decides-world a.worlds b.worlds) (Decides-and _ _ (Decides-lists Decides-interface a.interfaces b.interfaces) (Decides-and _ _ (Decides-row Decides-type_def a.types b.types) (Decides-span a.name_span b.name_span)))))
+Decides-package a b = Decides-like _ (λ e. record { name = e.0; worlds = e.1.0; interfaces = e.1.1.0; types = e.1.1.1.0; foreign_deps = e.1.1.1.1.0; name_span = e.1.1.1.1.1.0; unknown_type_spans = e.1.1.1.1.1.1.0; foreign_dep_spans = e.1.1.1.1.1.1.1 }) (λ s. (s.name, (s.worlds, (s.interfaces, (s.types, (s.foreign_deps, (s.name_span, (s.unknown_type_spans, s.foreign_dep_spans)))))))) (Decides-and _ _ (Decides-package_name a.name b.name) (Decides-and _ _ (Decides-lists Decides-world a.worlds b.worlds) (Decides-and _ _ (Decides-lists Decides-interface a.interfaces b.interfaces) (Decides-and _ _ (Decides-row Decides-type_def a.types b.types) (Decides-and _ _ (Decides-foreign a.foreign_deps b.foreign_deps) (Decides-and _ _ (Decides-span a.name_span b.name_span) (Decides-and _ _ (Decides-row Decides-span a.unknown_type_spans b.unknown_type_spans) (Decides-row Decides-span a.foreign_dep_spans b.foreign_dep_spans))))))))

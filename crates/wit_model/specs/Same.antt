@@ -1,8 +1,11 @@
 -- When two interfaces, worlds or packages are the same: each plain field is equal, and each map holds the same pairs in any order.
-use Rattle.std.specs.Prelude.{◌≡◌, ℕ, Bool, false, List, [], ◌∷◌, nat_eq}
+use Rattle.std.specs.Prelude.{◌≡◌, ℕ, Bool, false, ◌&&◌, List, [], ◌∷◌, Option, Some, None, nat_eq}
 use Rattle.std.specs.Cmp.Lexicographic.{pointwise}
 use Rattle.std.specs.Map.{lookup}
+use Rattle.std.specs.Option.{option_eq}
+use Rattle.wit_values.specs.declared.release.Release.{Release}
 use Rattle.wit_model.specs.declared.interface.Interface.{Interface}
+use Rattle.wit_model.specs.declared.package_name.PackageName.{PackageName}
 use Rattle.wit_model.specs.declared.unresolved.UnresolvedPackage.{UnresolvedPackage}
 use Rattle.wit_model.specs.declared.world.World.{World}
 use Rattle.wit_model.specs.declared.world.WorldKey.{WorldKey}
@@ -50,9 +53,31 @@ AreSame R (x ∷ xs) (y ∷ ys) = R x y × AreSame R xs ys
 AreSame R [] (y ∷ ys) = ⊥
 AreSame R (x ∷ xs) [] = ⊥
 
+-- two versions are the same, part by part
+abbrev pub is_same_version : Release → Release → Bool
+is_same_version a b = nat_eq a.major b.major && (nat_eq a.minor b.minor && (nat_eq a.patch b.patch && (is_same_name a.pre b.pre && is_same_name a.build b.build)))
+
+-- two names of packages are the same, part by part
+abbrev pub is_same_package_name : PackageName → PackageName → Bool
+is_same_package_name a b = is_same_name a.namespace b.namespace && (is_same_name a.name b.name && option_eq is_same_version a.version b.version)
+
+-- two values that are the same, or none on both sides
+abbrev pub AreBothSame : {X : Type 0} → (X → X → Type 0) → Option X → Option X → Type 0
+AreBothSame R None None = Unit {0}
+AreBothSame R (Some x) (Some y) = R x y
+AreBothSame R None (Some y) = ⊥
+AreBothSame R (Some x) None = ⊥
+
+-- each key has values that are the same in both maps, or none in both
+abbrev pub HoldSameValues : {K V : Type 0} → (K → K → Bool) → (V → V → Type 0) → List (K × V) → List (K × V) → Type 0
+HoldSameValues {K} same_key R a b = (k : K) → AreBothSame R (lookup (same_key k) a) (lookup (same_key k) b)
+
 pub record IsSamePackage (a b : UnresolvedPackage) : Type 0 where
   pub name : a.name ≡ b.name
   pub worlds : AreSame IsSameWorld a.worlds b.worlds
   pub interfaces : AreSame IsSameInterface a.interfaces b.interfaces
   pub types : a.types ≡ b.types
+  pub foreign_deps : HoldSameValues is_same_package_name (HoldSamePairs is_same_name) a.foreign_deps b.foreign_deps
   pub name_span : a.name_span ≡ b.name_span
+  pub unknown_type_spans : a.unknown_type_spans ≡ b.unknown_type_spans
+  pub foreign_dep_spans : a.foreign_dep_spans ≡ b.foreign_dep_spans

@@ -7,6 +7,7 @@
 pub mod abi;
 pub mod ast_item;
 mod clones;
+pub mod foreign;
 pub mod function;
 pub mod function_kind;
 pub mod function_name;
@@ -24,6 +25,7 @@ pub mod world;
 
 pub use abi::{AbiVariant, LiftLowerAbi, Mangling, ManglingAndAbi, ManglingFault};
 pub use ast_item::AstItem;
+pub use foreign::ForeignItems;
 pub use function::{Function, FunctionKind, Param};
 pub use futures::reaches_unknown;
 pub use interface::Interface;

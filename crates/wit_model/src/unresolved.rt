@@ -1,18 +1,20 @@
 //! Resolved packages.
 ghost use Rattle.std.specs.Prelude.{◌≡◌, IfOk};
 
+use crate::ast_item::AstItem;
+use crate::foreign::ForeignItems;
 use crate::interface::Interface;
 use crate::laws::copies::copy_package_name;
 use crate::package_name::PackageName;
 use crate::world::World;
 use std::alloc::AllocError;
-use wit_types::{Arena, InterfacePlace, TypeDef, TypePlace, WorldPlace};
-use wit_values::Span;
+use wit_types::{Arena, InterfacePlace, Stability, TypeDef, TypePlace, WorldPlace};
+use wit_values::{Row, Span, Table, TextTable};
 
 /// A package whose names are resolved, but not those of other packages.
 ///
-/// Two are equal if their names, spans and arenas are, where two maps are equal if they hold the
-/// same pairs in any order.
+/// Two are equal if their names, spans, arenas and items of other packages are, where two maps are
+/// equal if they hold the same pairs in any order.
 #[derive(Debug, PartialEq, Eq, Drop)]
 pub struct UnresolvedPackage {
     /// The name that the headers give.
@@ -22,30 +24,44 @@ pub struct UnresolvedPackage {
     pub interfaces: Arena<Interface, InterfacePlace>,
     /// The types: each behind those that it refers to.
     pub types: Arena<TypeDef, TypePlace>,
+    /// The other packages, in the order in which paths first name them. Each has the names of its
+    /// items in the order in which paths first lead to them: what each is, an interface or a world
+    /// of the arenas, and the stability of every path that leads to it, in order.
+    pub foreign_deps: Table<PackageName, TextTable<(AstItem, Row<Stability>)>>,
     name_span: Span,
+    unknown_type_spans: Row<Span>,
+    foreign_dep_spans: Row<Span>,
 }
 
 impl UnresolvedPackage {
-    /// A package of these parts, whose last header stands at `name_span`.
+    /// A package of these parts, whose last header stands at `name_span`, with what it names of
+    /// other packages.
     pub fn new(
         name: PackageName,
         worlds: Arena<World, WorldPlace>,
         interfaces: Arena<Interface, InterfacePlace>,
         types: Arena<TypeDef, TypePlace>,
         name_span: Span,
+        foreign: ForeignItems,
     ) -> Self
         ensures name { result.name ≡ name }
         ensures worlds { result.worlds ≡ worlds }
         ensures interfaces { result.interfaces ≡ interfaces }
         ensures types { result.types ≡ types }
         ensures name_span { result.name_span ≡ name_span }
+        ensures foreign_deps { result.foreign_deps ≡ foreign.deps }
+        ensures foreign_dep_spans { result.foreign_dep_spans ≡ foreign.dep_spans }
+        ensures unknown_type_spans { result.unknown_type_spans ≡ foreign.unknown_type_spans }
     {
         UnresolvedPackage {
             name,
             worlds,
             interfaces,
             types,
+            foreign_deps: foreign.deps,
             name_span,
+            unknown_type_spans: foreign.unknown_type_spans,
+            foreign_dep_spans: foreign.dep_spans,
         }
     }
 
@@ -54,6 +70,21 @@ impl UnresolvedPackage {
         ensures { result ≡ self.now.name_span }
     {
         self.name_span
+    }
+
+    /// Where each type of another package is first used. These types are the unknown ones at the
+    /// front of the arena of types, in the same order.
+    pub fn unknown_type_spans(&self) -> &[Span]
+        ensures { result.now ≡ self.now.unknown_type_spans }
+    {
+        self.unknown_type_spans.as_slice()
+    }
+
+    /// Where a path first names each package of `foreign_deps`, in the same order.
+    pub fn foreign_dep_spans(&self) -> &[Span]
+        ensures { result.now ≡ self.now.foreign_dep_spans }
+    {
+        self.foreign_dep_spans.as_slice()
     }
 }
 
@@ -77,6 +108,20 @@ fn copy_types(types: &Arena<TypeDef, TypePlace>) -> Result<Arena<TypeDef, TypePl
     types.clone()
 }
 
+fn copy_spans(spans: &Row<Span>) -> Result<Row<Span>, AllocError>
+    ensures { IfOk result (λ copy. copy ≡ spans.now) }
+{
+    spans.clone()
+}
+
+fn copy_foreign_deps(
+    deps: &Table<PackageName, TextTable<(AstItem, Row<Stability>)>>,
+) -> Result<Table<PackageName, TextTable<(AstItem, Row<Stability>)>>, AllocError>
+    ensures { IfOk result (λ copy. copy ≡ deps.now) }
+{
+    deps.clone()
+}
+
 impl Clone for UnresolvedPackage {
     ghost is_clone = { λ source copy. copy ≡ source };
 
@@ -86,7 +131,10 @@ impl Clone for UnresolvedPackage {
             worlds: copy_worlds(&self.worlds)?,
             interfaces: copy_interfaces(&self.interfaces)?,
             types: copy_types(&self.types)?,
+            foreign_deps: copy_foreign_deps(&self.foreign_deps)?,
             name_span: self.name_span,
+            unknown_type_spans: copy_spans(&self.unknown_type_spans)?,
+            foreign_dep_spans: copy_spans(&self.foreign_dep_spans)?,
         })
     }
 }

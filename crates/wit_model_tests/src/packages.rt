@@ -1,12 +1,15 @@
 //! Copies and equality of packages.
 use crate::alike::are_told_apart;
-use crate::fixtures::{SPAN, add_interface, add_type, package};
-use std::alloc::Global;
+use crate::fixtures::{SPAN, add_interface, add_type, interface_at, package, row, stable};
+use std::alloc::{AllocError, Global};
 use std::test::Fail;
 use wit_model::laws::equality::is_same_package;
 use wit_model::{
-    Arena, Interface, InterfacePlace, TypeDef, TypeDefKind, TypePlace, UnresolvedPackage,
+    Arena, AstItem, ForeignItems, Interface, InterfacePlace, PackageName, Stability, TypeDef,
+    TypeDefKind, TypePlace, UnresolvedPackage,
 };
+use wit_tree::Span;
+use wit_values::{Row, Table, TextTable};
 
 // The arena of the interfaces.
 fn interfaces_of(
@@ -43,6 +46,61 @@ fn add_package(
         interfaces_of(alloc, interfaces)?,
         types_of(alloc, types)?,
         SPAN,
+        ForeignItems::none(alloc),
+    );
+    packages.push(package)?;
+    Ok(())
+}
+
+// An interface that one path leads to.
+fn items_of(alloc: Global) -> Result<TextTable<(AstItem, Row<Stability>)>, Fail> {
+    let item = AstItem::Interface(interface_at(alloc, 1)?);
+    let visits = row(alloc, stable(alloc)?)?;
+    let mut items: TextTable<(AstItem, Row<Stability>)> = TextTable::new(alloc);
+    items.insert(String::from_str(alloc, "i")?, (item, visits))?;
+    Ok(items)
+}
+
+// Packages of these names, with an interface each.
+fn deps_of(
+    alloc: Global,
+    names: &[&str],
+) -> Result<Table<PackageName, TextTable<(AstItem, Row<Stability>)>>, Fail> {
+    let mut deps: Table<PackageName, TextTable<(AstItem, Row<Stability>)>> = Table::new(alloc);
+    for name in names {
+        deps.insert(package(alloc, "a", name)?, items_of(alloc)?)?;
+    }
+    Ok(deps)
+}
+
+fn spans_of(alloc: Global, count: usize) -> Result<Row<Span>, AllocError> {
+    let mut spans = Vec::new(alloc);
+    for _ in 0..count {
+        spans.push(SPAN)?;
+    }
+    Ok(Row::from(spans))
+}
+
+// Puts a package behind others, with items of these packages and so many spans.
+fn add_foreign(
+    alloc: Global,
+    packages: &mut Vec<UnresolvedPackage>,
+    names: &[&str],
+    dep_spans: usize,
+    type_spans: usize,
+) -> Result<(), Fail> {
+    let foreign = ForeignItems {
+        deps: deps_of(alloc, names)?,
+        dep_spans: spans_of(alloc, dep_spans)?,
+        unknown_type_spans: spans_of(alloc, type_spans)?,
+    };
+    let package = UnresolvedPackage::new(
+        package(alloc, "a", "b")?,
+        Arena::new(alloc),
+        Arena::new(alloc),
+        Arena::new(alloc),
+        SPAN,
+        foreign,
     );
     packages.push(package)?;
     Ok(())
@@ -62,5 +120,22 @@ fn packages(rt: HostRuntime) -> Result<(), Fail> {
     add_package(alloc, &mut packages, "b", Vec::new(alloc), types)?;
     let told_apart = are_told_apart(packages.as_slice(), is_same_package)?;
     assert!(rt; told_apart);
+    Ok(())
+}
+
+#[test]
+fn items_of_other_packages(rt: HostRuntime) -> Result<(), Fail> {
+    let alloc = rt.alloc();
+    let mut packages = Vec::new(alloc);
+    add_foreign(alloc, &mut packages, &["c", "d"], 2, 1)?;
+    add_foreign(alloc, &mut packages, &["c"], 2, 1)?;
+    add_foreign(alloc, &mut packages, &["c", "d"], 1, 1)?;
+    add_foreign(alloc, &mut packages, &["c", "d"], 2, 0)?;
+    let told_apart = are_told_apart(packages.as_slice(), is_same_package)?;
+    assert!(rt; told_apart);
+    add_foreign(alloc, &mut packages, &["d", "c"], 2, 1)?;
+    assert!(rt; is_same_package(&packages[0], &packages[4]));
+    assert_eq!(rt; packages[0].foreign_dep_spans().len(), 2);
+    assert_eq!(rt; packages[0].unknown_type_spans().len(), 1);
     Ok(())
 }

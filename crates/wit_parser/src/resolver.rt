@@ -16,7 +16,7 @@ use crate::uses::Interfaces;
 use std::alloc::Global;
 use wit_entries::entries::Entries;
 use wit_entries::refusal::refuse;
-use wit_model::{Arena, Interface, InterfacePlace, UnresolvedPackage};
+use wit_model::{Arena, ForeignItems, Interface, InterfacePlace, UnresolvedPackage};
 use wit_scope::package_name;
 use wit_tree::tree::{self, PackageFile};
 use wit_tree::{ParseResult, Span};
@@ -162,6 +162,7 @@ impl<'a> Resolver<'a> {
             interfaces,
             types.into_arena(),
             header.span,
+            ForeignItems::none(alloc),
         ))
     }
 }
