@@ -1,5 +1,6 @@
 pub mod Answers
 pub mod ErrorLine
+pub mod Foreign
 pub mod Functions
 pub mod Interfaces
 pub mod Kinds

@@ -1,9 +1,12 @@
--- The listing of a package: its name, then its types, its interfaces and its worlds, each behind their number.
+-- The listing of a package: its name, then its types, its interfaces, its worlds and what it names of other packages, each behind a number.
 use Rattle.std.specs.Prelude.{ℕ, List, [], ◌∷◌, ◌++◌, codes, length}
+use Rattle.std.specs.List.{flat_map}
 use Rattle.std.specs.Fmt.{decimal}
 use Rattle.wit_model.specs.declared.package_name.PackageName.{PackageName}
 use Rattle.wit_model.specs.PackageName.{name_text}
+use Rattle.wit_types.specs.declared.stability.Stability.{Stability}
 use Rattle.wit_types.specs.declared.types.TypeDef.{TypeDef}
+use Rattle.wit_model.specs.declared.ast_item.AstItem.{AstItem}
 use Rattle.wit_model.specs.declared.interface.Interface.{Interface}
 use Rattle.wit_model.specs.declared.world.World.{World}
 use Rattle.wit_model.specs.declared.unresolved.UnresolvedPackage.{UnresolvedPackage}
@@ -11,6 +14,7 @@ use Rattle.wit_tool.specs.Lists.{numbered}
 use Rattle.wit_tool.specs.Types.{type_line}
 use Rattle.wit_tool.specs.Interfaces.{interface_lines}
 use Rattle.wit_tool.specs.Worlds.{world_lines}
+use Rattle.wit_tool.specs.Foreign.{dep_lines}
 
 -- the line of the package
 abbrev pub header_text : PackageName → List ℕ
@@ -32,11 +36,11 @@ interfaces_text interfaces = count_line (codes "interfaces") (length interfaces)
 abbrev pub worlds_text : List Interface → List World → List ℕ
 worlds_text interfaces worlds = count_line (codes "worlds") (length worlds) ++ numbered (world_lines interfaces) 0 worlds
 
--- the listing of a package by its parts, if it uses no other package
-abbrev pub parts_text : PackageName → List TypeDef → List Interface → List World → List ℕ
-parts_text name types interfaces worlds =
-    header_text name ++ (types_text types ++ (interfaces_text interfaces ++ (worlds_text interfaces worlds ++ codes "foreign 0\n")))
+-- what is of other packages, behind the number of these packages
+abbrev pub foreign_text : List (PackageName × List (List ℕ × (AstItem × List Stability))) → List ℕ
+foreign_text deps = count_line (codes "foreign") (length deps) ++ flat_map dep_lines deps
 
 -- the listing
 abbrev pub listing_text : UnresolvedPackage → List ℕ
-listing_text p = parts_text p.name p.types p.interfaces p.worlds
+listing_text p =
+    header_text p.name ++ (types_text p.types ++ (interfaces_text p.interfaces ++ (worlds_text p.interfaces p.worlds ++ foreign_text p.foreign_deps)))

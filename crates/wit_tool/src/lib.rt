@@ -3,6 +3,7 @@
 
 mod answers;
 mod fault;
+mod foreign;
 mod functions;
 mod interfaces;
 mod kinds;

@@ -2,9 +2,10 @@
 ghost use Rattle.std.specs.Prelude.{◌≡◌, ◌++◌, IfOk, OnOk, string_bytes};
 ghost use Rattle.wit_tool.specs.Words.{Adds};
 ghost use Rattle.wit_tool.specs.Output.{IsWritten};
-ghost use Rattle.wit_tool.specs.Listing.{count_line, header_text, interfaces_text, listing_text, parts_text, types_text, worlds_text};
+ghost use Rattle.wit_tool.specs.Listing.{count_line, foreign_text, header_text, interfaces_text, listing_text, types_text, worlds_text};
 
 use crate::fault::RunFault;
+use crate::foreign::push_deps;
 use crate::interfaces::push_interfaces;
 use crate::output::put;
 use crate::types::push_type_lines;
@@ -12,9 +13,11 @@ use crate::worlds::push_worlds;
 use std::alloc::{AllocError, Global};
 use std::io::Write;
 use wit_model::{
-    Arena, Interface, InterfacePlace, PackageName, TypeDef, TypePlace, World, WorldPlace,
+    Arena, AstItem, Interface, InterfacePlace, PackageName, Stability, TypeDef, TypePlace, World,
+    WorldPlace,
 };
 use wit_parser::UnresolvedPackage;
+use wit_values::{Row, Table, TextTable};
 
 /// A word and a number in a line.
 fn push_count(text: &mut String, word: &str, count: usize) -> Result<(), AllocError>
@@ -60,42 +63,32 @@ fn push_header(text: &mut String, name: &PackageName) -> Result<(), AllocError>
     write!(text, "package {name}\n")
 }
 
-/// The listing of a package: its name, its types, its interfaces and its worlds.
-fn listing_of(
-    alloc: Global,
-    name: &PackageName,
-    types: &Arena<TypeDef, TypePlace>,
-    interfaces: &Arena<Interface, InterfacePlace>,
-    worlds: &Arena<World, WorldPlace>,
-) -> Result<String, AllocError>
-    ensures { IfOk result (λ text. string_bytes text ≡ parts_text name.now types.now interfaces.now worlds.now) }
+/// The items of other packages behind the number of these packages.
+fn push_foreign(
+    text: &mut String,
+    deps: &Table<PackageName, TextTable<(AstItem, Row<Stability>)>>,
+) -> Result<(), AllocError>
+    ensures { OnOk result (Adds text.old text.new (foreign_text deps.now)) }
+{
+    push_count(text, "foreign", deps.len())?;
+    push_deps(text, deps)
+}
+
+/// The listing of a package, as a text.
+fn listing_of(alloc: Global, resolved: &UnresolvedPackage) -> Result<String, AllocError>
+    ensures { IfOk result (λ text. string_bytes text ≡ listing_text resolved.now) }
 {
     let mut text = String::new(alloc);
-    push_header(&mut text, name)?;
-    push_types(&mut text, types)?;
-    push_all_interfaces(&mut text, interfaces)?;
-    push_all_worlds(&mut text, interfaces, worlds)?;
-    text.push_str("foreign 0\n")?;
+    push_header(&mut text, &resolved.name)?;
+    push_types(&mut text, &resolved.types)?;
+    push_all_interfaces(&mut text, &resolved.interfaces)?;
+    push_all_worlds(&mut text, &resolved.interfaces, &resolved.worlds)?;
+    push_foreign(&mut text, &resolved.foreign_deps)?;
     Ok(text)
 }
 
-/// Writes the listing of a package by its parts.
-pub fn write_listing<W: Write>(
-    alloc: Global,
-    name: &PackageName,
-    types: &Arena<TypeDef, TypePlace>,
-    interfaces: &Arena<Interface, InterfacePlace>,
-    worlds: &Arena<World, WorldPlace>,
-    out: &mut W,
-) -> Result<(), RunFault>
-    ensures { IsWritten (λ text. text ≡ parts_text name.now types.now interfaces.now worlds.now) (W.contents out.old) (W.contents out.new) result }
-{
-    let text = listing_of(alloc, name, types, interfaces, worlds)?;
-    put(out, text.as_bytes())
-}
-
-/// Writes the listing of a package that uses no other: its name, its types, its interfaces and its
-/// worlds, a line for each and for what it holds.
+/// Writes the listing of a package: its name, its types, its interfaces, its worlds, and what it
+/// names of other packages, a line for each and for what it holds.
 ///
 /// Where a write fails or takes no byte, a beginning of the listing went out; for want of memory,
 /// nothing.
@@ -106,12 +99,6 @@ pub fn listing<W: Write>(
 ) -> Result<(), RunFault>
     ensures { IsWritten (λ text. text ≡ listing_text resolved.now) (W.contents out.old) (W.contents out.new) result }
 {
-    write_listing(
-        alloc,
-        &resolved.name,
-        &resolved.types,
-        &resolved.interfaces,
-        &resolved.worlds,
-        out,
-    )
+    let text = listing_of(alloc, resolved)?;
+    put(out, text.as_bytes())
 }

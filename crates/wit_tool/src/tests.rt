@@ -1,6 +1,7 @@
 //! Texts and packages, and what is written of them.
 
 mod cases;
+mod foreign;
 mod forms;
 mod functions;
 mod large;
