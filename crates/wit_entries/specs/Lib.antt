@@ -1,3 +1,2 @@
-pub mod Hint
 pub mod Known
 pub mod Reading

@@ -4,7 +4,6 @@
 pub mod bodies;
 pub mod definitions;
 pub mod entries;
-pub mod refusal;
 pub mod rules;
 pub mod scope;
 #[cfg(test)]

@@ -3,9 +3,9 @@ ghost use Rattle.std.specs.Prelude.{◌≡◌, ◌↔◌, OnOk, IfOk, IfErr, IsT
 ghost use Rattle.wit_meaning.specs.Fault.{Fault};
 ghost use Rattle.wit_meaning.specs.Broken.{IsKey, IsInvalidKey, IsEmptyTuple, IsFlagTooMany, IsDuplicateName, IsBrokenRecord, IsBrokenFlags, IsBrokenVariant, IsBrokenEnum, Refused};
 
-use crate::refusal::refuse;
 use std::alloc::{AllocError, Global};
 use wit_scope::check_unique_names;
+use wit_scope::refusal::refuse;
 use wit_tree::tree::{Case, EnumCase, Field, Flag, Id, Type};
 use wit_tree::{ParseResult, Span};
 

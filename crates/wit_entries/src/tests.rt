@@ -2,12 +2,12 @@
 
 use crate::definitions::define;
 use crate::entries::Entries;
-use crate::refusal::{refuse, refuse_cycle, refuse_missing, refuse_missing_type};
 use crate::scope::Scope;
 use std::alloc::Global;
 use std::process::Abort;
 use std::test::Fail;
 use wit_model::{Arena, InterfacePlace, Type, TypeDef, TypeDefKind, TypePlace};
+use wit_scope::refusal::{refuse, refuse_cycle, refuse_missing, refuse_missing_type};
 use wit_tree::tree::{self, Field, Id, TypeBody};
 use wit_tree::{ParseError, ParseResult, Span};
 use wit_values::TextTable;

@@ -11,11 +11,11 @@ ghost use Rattle.wit_meaning.specs.Resolving.{env_of, IsUnknown, IsWrongType, Ar
 ghost use Rattle.wit_entries.specs.Reading.{primitive_in, IsResolved, AreTypes, IsLeaf, IsRead, StandsFor, named_kind as the_named_kind};
 
 use crate::entries::Entries;
-use crate::refusal::refuse_missing_type;
 use crate::rules::{check_key, check_tuple};
 use crate::scope::Scope;
 use std::alloc::Global;
 use wit_model::{Result_, Tuple, Type, TypeDefKind};
+use wit_scope::refusal::refuse_missing_type;
 use wit_tree::tree::Id;
 use wit_tree::{ParseResult, Span, tree};
 use wit_values::Row;

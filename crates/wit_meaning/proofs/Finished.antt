@@ -5,29 +5,26 @@ use Rattle.std.specs.Option.{option_map}
 use Rattle.std.specs.Str.{bytes_eq}
 use Rattle.std.proofs.lemmas.Option.{slice_get-get_or, slice_get-map, slice_get_within, get_or_from_slice_get}
 use Rattle.wit_tree.specs.declared.tree.UseName.{UseName}
-use Rattle.wit_tree.specs.declared.tree.AstItem.TheVariants.{Use as ToplevelItem}
 use Rattle.wit_tree.specs.declared.tree.PackageFile.{PackageFile}
 use Rattle.wit_tree.specs.declared.tree.PackageName.{PackageName as Header}
 use Rattle.wit_model.specs.declared.interface.Interface.{Interface}
 use Rattle.wit_order.specs.Table.{Row, target, IsEdge, Leads, IsOrder}
 use Rattle.wit_order.proofs.Tables.{slice_get-take}
-use Rattle.wit_meaning.specs.Fault.{Fault, item_word}
-use Rattle.wit_meaning.specs.Source.{Item, Address, InterfaceNamed, item_edge, ScopeName, Used, interfaces, interface_name, interface_named, interface_at, top_names, top_text, scope_names, local_name, meaning}
+use Rattle.wit_meaning.specs.Fault.{Fault}
+use Rattle.wit_meaning.specs.Source.{Item, Address, InterfaceNamed, item_edge, ScopeName, Used, interfaces, interface_name, interface_named, interface_at, scope_names, local_name, meaning}
 use Rattle.wit_meaning.specs.Scope.{rows_of, in_order, paths, item_row, item_rows}
-use Rattle.wit_meaning.specs.Broken.{IsMissingName, IsBroken, Headerless, DuplicateItem, DuplicateTopName, MissingItem, CyclicItem, MissingOriginal, MissingName, Scope, IsLegal, last_header}
+use Rattle.wit_meaning.specs.Broken.{IsMissingName, IsBrokenNames, IsBroken, Headerless, Names, MissingName, Scope, IsLegal, last_header}
 use Rattle.wit_meaning.specs.Repeats.{AllDiffer}
 use Rattle.wit_meaning.specs.Whole.{Ordered, item_of, ordered_names}
 use Rattle.wit_meaning.specs.Resolving.{env_of, address_name, local_names, Unresolved, Unstated, WrongName, WrongItself}
-use Rattle.wit_meaning.specs.Resolved.{AreDistinctTops, AreDeclaredTops, AreLegalScopes, IsWrongAmong}
+use Rattle.wit_meaning.specs.Resolved.{AreLegalScopes, IsWrongAmong}
 use Rattle.wit_meaning.proofs.Lists.{at_take, at_within, map_at}
 use Rattle.wit_meaning.proofs.Names.{name_equal}
 use Rattle.wit_meaning.proofs.Tables.{place_of-Some}
-use Rattle.wit_meaning.proofs.Repeated.{no_repeat}
 use Rattle.wit_meaning.proofs.Headers.{some_header}
 use Rattle.wit_meaning.proofs.Orders.{in_order_at, in_order_read}
 use Rattle.wit_meaning.proofs.Turns.{in_turn_has}
 use Rattle.wit_meaning.proofs.Scoping.{at_contains, contains_at, some_of}
-use Rattle.wit_meaning.proofs.Legal.{no_missing_edge, no_cyclic_edge}
 use Rattle.wit_meaning.proofs.Using.{lookup-listed}
 use Rattle.wit_meaning.proofs.Standing.{AreItems}
 use Rattle.wit_meaning.proofs.Interfaces.{find_passes}
@@ -141,30 +138,19 @@ module _ (files : List PackageFile) (places : List ℕ) (order : IsOrder (item_r
           ]
         ]
 
-    -- where the names at the top of files and the scopes are legal and each used name is there, no rule is broken
-    pub legal_files : (header : Header) → last_header files ≡ Some header → AreDistinctTops files → AreDeclaredTops all files → AreLegalScopes ws → ((t : ℕ) (w : Item) → slice_get ws t ≡ Some w → (f : Fault) → IsMissingName files (scope_names w) f → ⊥) → IsLegal files
-    legal_files header last tops originals scopes stated f (Headerless h) =
+    -- where the names of files and the scopes are legal and each used name is there, no rule is broken
+    pub legal_files : (header : Header) → last_header files ≡ Some header → ((f : Fault) → IsBrokenNames files f → ⊥) → AreLegalScopes ws → ((t : ℕ) (w : Item) → slice_get ws t ≡ Some w → (f : Fault) → IsMissingName files (scope_names w) f → ⊥) → IsLegal files
+    legal_files header last names scopes stated f (Headerless h) =
         let it = some_header files header last in
         let wrong : None ≡ Some header = sym (h.none it.0 it.1 it.2) ∙ it.3 in
         let g : ⊥ = cc in
         g
-    legal_files header last tops originals scopes stated f (DuplicateItem h) = no_repeat interface_name all h.later differ h.repeated
-    legal_files header last tops originals scopes stated f (DuplicateTopName file among h) =
-        let p = at_contains files file among in
-        no_repeat top_text (top_names file) h.later (tops.differ p.0 file p.1) h.repeated
-    legal_files header last tops originals scopes stated f (MissingItem h) = no_missing_edge 7 item_word (item_rows files) places f order h
-    legal_files header last tops originals scopes stated f (CyclicItem h) = no_cyclic_edge 8 item_word (item_rows files) places f order h
-    legal_files header last tops originals scopes stated f (MissingOriginal file among h) =
-        let p = at_contains files file among in
-        let k = at_contains file.decl_list.items.items (ToplevelItem h.u) h.among in
-        let wrong : IsSome {T = Item} None = subst (λ (o : Option Item). IsSome o) h.missing ((originals.declared p.0 file p.1).declared k.0 h.u k.1) in
-        let g : ⊥ = cc in
-        g
-    legal_files header last tops originals scopes stated f (MissingName i among h) =
+    legal_files header last names scopes stated f (Names h) = names f h
+    legal_files header last names scopes stated f (MissingName i among h) =
         let p = at_contains all i among in
         let t = item_index files places order p.0 i p.1 in
         stated t.0 i t.2 f h
-    legal_files header last tops originals scopes stated f (Scope i among h) =
+    legal_files header last names scopes stated f (Scope i among h) =
         let p = at_contains all i among in
         let t = item_index files places order p.0 i p.1 in
         scopes.legal t.0 i f t.2 h

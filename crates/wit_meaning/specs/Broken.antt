@@ -278,14 +278,18 @@ pub data IsBrokenScope (xs : List ScopeName) (f : Fault) : Type 0 where
   Body : (d : TypeDef) → Contains xs (Defined d) → IsBrokenBody d.body f → IsBrokenScope xs f
   FoldedTwice : IsFoldedTwice xs f → IsBrokenScope xs f
 
+-- what is wrong with the names of the items that files declare, with those at the top of each, and with what paths lead to
+pub data IsBrokenNames (files : List PackageFile) (f : Fault) : Type 0 where
+  DuplicateItem : IsDuplicateItem files f → IsBrokenNames files f
+  DuplicateTopName : (file : PackageFile) → Contains files file → IsDuplicateTopName (top_names file) f → IsBrokenNames files f
+  MissingItem : IsMissingItem files f → IsBrokenNames files f
+  CyclicItem : IsCyclicItem files f → IsBrokenNames files f
+  MissingOriginal : (file : PackageFile) → Contains files file → IsMissingOriginal (interfaces files) file.decl_list.items.items f → IsBrokenNames files f
+
 -- what is wrong with files
 pub data IsBroken (files : List PackageFile) (f : Fault) : Type 0 where
   Headerless : IsHeaderless files f → IsBroken files f
-  DuplicateItem : IsDuplicateItem files f → IsBroken files f
-  DuplicateTopName : (file : PackageFile) → Contains files file → IsDuplicateTopName (top_names file) f → IsBroken files f
-  MissingItem : IsMissingItem files f → IsBroken files f
-  CyclicItem : IsCyclicItem files f → IsBroken files f
-  MissingOriginal : (file : PackageFile) → Contains files file → IsMissingOriginal (interfaces files) file.decl_list.items.items f → IsBroken files f
+  Names : IsBrokenNames files f → IsBroken files f
   MissingName : (i : Item) → Contains (interfaces files) i → IsMissingName files (scope_names i) f → IsBroken files f
   Scope : (i : Item) → Contains (interfaces files) i → IsBrokenScope (scope_names i) f → IsBroken files f
 

@@ -1,20 +1,15 @@
 -- What resolving interfaces does to the arenas, one after another.
-use Rattle.std.specs.Prelude.{◌≡◌, ℕ, List, [], ◌∷◌, ◌++◌, length, map, take, Some, IsSome, slice_get}
-use Rattle.wit_tree.specs.declared.tree.ToplevelUse.{ToplevelUse}
-use Rattle.wit_tree.specs.declared.tree.AstItem.{AstItem}
-use Rattle.wit_tree.specs.declared.tree.AstItem.TheVariants.{Use as ToplevelItem}
-use Rattle.wit_tree.specs.declared.tree.PackageFile.{PackageFile}
+use Rattle.std.specs.Prelude.{◌≡◌, ℕ, List, [], ◌∷◌, ◌++◌, length, map, take, Some, slice_get}
 use Rattle.wit_types.specs.declared.types.TypeDef.{TypeDef}
 use Rattle.wit_types.specs.declared.types.TypeOwner.{TypeOwner}
 use Rattle.wit_types.specs.declared.types.TypeOwner.TheVariants as owner
 use Rattle.wit_model.specs.declared.interface.Interface.{Interface}
 use Rattle.wit_order.specs.Table.{IsOrder}
-use Rattle.wit_meaning.specs.Source.{path_id, top_names, top_text, Item, Address, ScopeName, interface_named, scope_names}
+use Rattle.wit_meaning.specs.Source.{Item, Address, ScopeName, scope_names}
 use Rattle.wit_meaning.specs.Fault.{Fault}
 use Rattle.wit_meaning.specs.Package.{IsInterface}
 use Rattle.wit_meaning.specs.Scope.{rows_of, in_order, defined, in_turn}
 use Rattle.wit_meaning.specs.Broken.{IsBrokenScope}
-use Rattle.wit_meaning.specs.Repeats.{AllDiffer}
 use Rattle.wit_meaning.specs.Resolving.{Names, AreDistinct, Defines, IsIndex, IsWrongScope}
 
 -- the definitions of a scope were added in the least dependency-first order, behind its used names
@@ -38,18 +33,6 @@ pub record AddsInterface (old new : List TypeDef) (is is' : List Interface) (ite
 abbrev pub AddsAll : List TypeDef → List TypeDef → List Interface → List Interface → List Item → Type 0
 AddsAll old new is is' [] = (new ≡ old) × (is' ≡ is)
 AddsAll old new is is' (w ∷ ws) = (mid : List TypeDef) × (between : List Interface) × AddsInterface old mid is between w × AddsAll mid new between is' ws
-
--- the names at the top of each file differ
-pub record AreDistinctTops (files : List PackageFile) : Type 0 where
-  pub differ : (i : ℕ) (file : PackageFile) → slice_get files i ≡ Some file → AllDiffer (map top_text (top_names file))
-
--- the path of each `use` among these declarations is the name of one of these interfaces
-pub record AreDeclaredUses (is : List Item) (declarations : List AstItem) : Type 0 where
-  pub declared : (k : ℕ) (u : ToplevelUse) → slice_get declarations k ≡ Some (ToplevelItem u) → IsSome (interface_named is (path_id u.item).name.now)
-
--- so it is in each file
-pub record AreDeclaredTops (is : List Item) (files : List PackageFile) : Type 0 where
-  pub declared : (i : ℕ) (file : PackageFile) → slice_get files i ≡ Some file → AreDeclaredUses is file.decl_list.items.items
 
 -- no scope of these interfaces is broken by itself
 pub record AreLegalScopes (ws : List Item) : Type 0 where

@@ -1,9 +1,6 @@
 mod TypeWords
 mod Turning
 mod UsedNames
-mod Refusals
-mod FirstNames
-mod Lost
 mod Files
 mod LastHeader
 mod Repeating

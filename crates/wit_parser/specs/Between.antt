@@ -1,18 +1,17 @@
 -- What the resolver's functions tell one another: orders that were found, names that stand twice, and what was resolved so far.
-use Rattle.std.specs.Prelude.{◌≡◌, ℕ, List, [], take, map, Some, None, Contains, slice_get}
+use Rattle.std.specs.Prelude.{◌≡◌, ℕ, List, [], take, Some, Contains, slice_get}
 use Rattle.wit_tree.specs.declared.tree.Id.{Id}
 use Rattle.wit_tree.specs.declared.tree.TypeDef.{TypeDef as Definition}
 use Rattle.wit_tree.specs.declared.tree.PackageFile.{PackageFile}
 use Rattle.wit_order.specs.Table.{IsOrder}
 use Rattle.wit_types.specs.declared.types.TypeDef.{TypeDef}
 use Rattle.wit_model.specs.declared.interface.Interface.{Interface}
-use Rattle.wit_meaning.specs.Source.{TopName, top_names, top_text, item_edge, Item, file_interfaces, interfaces, interface_name, interface_named, ScopeName, Defined, local_name}
-use Rattle.wit_meaning.specs.Scope.{needed_ids, rows_of, in_order, defined, paths, item_rows}
-use Rattle.wit_meaning.specs.Fault.{Fault, fault, missing_at, item_word}
-use Rattle.wit_meaning.specs.Broken.{IsRepeated, IsDuplicateTopName, IsBrokenBody}
-use Rattle.wit_meaning.specs.Repeats.{AllDiffer}
+use Rattle.wit_meaning.specs.Source.{interfaces, ScopeName, Defined, local_name}
+use Rattle.wit_meaning.specs.Scope.{needed_ids, rows_of, in_order, defined, item_rows}
+use Rattle.wit_meaning.specs.Fault.{Fault, fault}
+use Rattle.wit_meaning.specs.Broken.{IsRepeated, IsBrokenBody, IsBrokenNames}
 use Rattle.wit_meaning.specs.Resolving.{Env, HasNames}
-use Rattle.wit_meaning.specs.Resolved.{AddsAll, AreDistinctTops, AreDeclaredTops, AreLegalScopes}
+use Rattle.wit_meaning.specs.Resolved.{AddsAll, AreLegalScopes}
 
 -- these are the definitions of a scope, in its least dependency-first order
 pub record AreOrdered (xs ds : List ScopeName) : Type 0 where
@@ -40,34 +39,10 @@ pub record IsRepeatedId (number : ℕ) (key : Id → List ℕ) (ids : List Id) (
   pub repeated : IsRepeated key ids later
   pub is : f ≡ fault number later.span
 
--- an earlier one of these names at the top of a file is the same
-pub record IsRepeatedName (number : ℕ) (top : List TopName) (f : Fault) : Type 0 where
-  pub later : TopName
-  pub repeated : IsRepeated top_text top later
-  pub is : f ≡ fault number later.id.span
-
--- a name is that of no item, where it is written
-pub record IsUndeclared (items : List Item) (id : Id) (f : Fault) : Type 0 where
-  pub missing : interface_named items id.name.now ≡ None
-  pub is : f ≡ missing_at 7 item_word id
-
--- one of these paths leads to no item
-pub record IsLostAmong (items : List Item) (top : List TopName) (paths : List Id) (f : Fault) : Type 0 where
-  pub path : Id
-  pub among : Contains paths path
-  pub lost : IsUndeclared items (item_edge top path) f
-
--- what is wrong with a file by itself: a name at its top stands twice, or a path of one of its interfaces is lost
-pub data IsWrongFile (is : List Item) (file : PackageFile) (f : Fault) : Type 0 where
-  WrongTop : IsDuplicateTopName (top_names file) f → IsWrongFile is file f
-  WrongPath : (w : Item) → Contains (file_interfaces file) w → IsLostAmong is w.top (paths w) f → IsWrongFile is file f
-
 -- the interfaces of files were added in the least dependency-first order of their table, and no scope of theirs is broken by itself
 pub record AddsFiles (files : List PackageFile) (es : List TypeDef) (is : List Interface) : Type 0 where
   pub items : List ℕ
   pub order : IsOrder (item_rows files) items
-  pub distinct : AllDiffer (map interface_name (interfaces files))
-  pub tops : AreDistinctTops files
-  pub originals : AreDeclaredTops (interfaces files) files
+  pub names : (f : Fault) → IsBrokenNames files f → ⊥
   pub added : AddsAll [] es [] is (in_order (interfaces files) items)
   pub legal : AreLegalScopes (in_order (interfaces files) items)

@@ -1,5 +1,4 @@
 pub mod Headers
-pub mod Tops
 pub mod Held
 pub mod Items
 pub mod Between

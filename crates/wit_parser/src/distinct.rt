@@ -8,8 +8,8 @@ ghost use Rattle.wit_meaning.specs.Repeats.{AllDiffer};
 
 use crate::scope_name::{DefinedName, UsedName, local_of};
 use std::alloc::{AllocError, Global};
-use wit_entries::refusal::refuse;
 use wit_entries::repeats::{first_folded_repeat, first_repeat};
+use wit_scope::refusal::refuse;
 use wit_tree::ParseResult;
 use wit_tree::tree::Id;
 

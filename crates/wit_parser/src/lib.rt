@@ -10,7 +10,6 @@ mod order;
 pub mod resolver;
 mod scope;
 mod scope_name;
-mod top_name;
 mod uses;
 
 pub use resolver::Resolver;

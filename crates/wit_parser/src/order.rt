@@ -1,18 +1,8 @@
-//! Lists in an order of their places, and refusals of what has no order.
-ghost use Rattle.std.specs.Prelude.{◌≡◌, ℕ, ◌<◌, ◌⊎◌, All, length, IfOk};
-ghost use Rattle.wit_tree.specs.declared.tree.Id.{Id as TheId};
-ghost use Rattle.wit_order.specs.Table.{rows, IsEdge};
-ghost use Rattle.wit_order.specs.Faults.{IsFaultOf};
+//! Lists in an order of their places.
+ghost use Rattle.std.specs.Prelude.{◌≡◌, ◌<◌, All, length, IfOk};
 ghost use Rattle.wit_meaning.specs.Scope.{in_order as the_order};
-ghost use Rattle.wit_meaning.specs.Fault.{item_word, type_word};
-ghost use Rattle.wit_meaning.specs.Broken.{IsMissingEdge, IsCyclicEdge, Refused};
 
-use indexmap::IndexMap;
 use std::alloc::{AllocError, Global};
-use wit_entries::refusal::{refuse_cycle, refuse_missing, refuse_missing_type};
-use wit_order::OrderFault;
-use wit_tree::tree::Id;
-use wit_tree::{OUT_OF_MEMORY, ParseError, ParseErrorKind};
 
 /// The items at these places, in the order of the places.
 pub(crate) fn in_order<T: Copy>(
@@ -28,53 +18,4 @@ pub(crate) fn in_order<T: Copy>(
         ordered.push(items[*place])?;
     }
     Ok(ordered)
-}
-
-/// The name at an index of what the item at a place needs.
-fn needed<'a>(table: &IndexMap<&'a str, Vec<Id<'a>>>, place: usize, index: usize) -> Id<'a>
-    requires { (id : TheId) × IsEdge (rows table.now) place index id }
-    ensures { IsEdge (rows table.now) place index result }
-{
-    let (_, ids) = table.get_index(place).unwrap();
-    ids[index]
-}
-
-/// The refusal of items that have no order.
-pub(crate) fn refuse_item_order(
-    alloc: Global,
-    table: &IndexMap<&str, Vec<Id<'_>>>,
-    fault: OrderFault,
-) -> ParseError
-    requires { IsFaultOf (rows table.now) fault }
-    ensures { Refused (λ f. IsMissingEdge 7 item_word (rows table.now) f ⊎ IsCyclicEdge 8 item_word (rows table.now) f) result }
-{
-    match fault {
-        OrderFault::Missing { place, index } => {
-            refuse_missing(alloc, 7, "interface or world", needed(table, place, index))
-        }
-        OrderFault::Cyclic { place, index } => {
-            refuse_cycle(alloc, 8, "interface or world", needed(table, place, index))
-        }
-        OrderFault::OutOfMemory => ParseError::of(ParseErrorKind::OutOfMemory, OUT_OF_MEMORY),
-    }
-}
-
-/// The refusal of definitions that have no order.
-pub(crate) fn refuse_type_order(
-    alloc: Global,
-    table: &IndexMap<&str, Vec<Id<'_>>>,
-    fault: OrderFault,
-) -> ParseError
-    requires { IsFaultOf (rows table.now) fault }
-    ensures { Refused (λ f. IsMissingEdge 15 type_word (rows table.now) f ⊎ IsCyclicEdge 16 type_word (rows table.now) f) result }
-{
-    match fault {
-        OrderFault::Missing { place, index } => {
-            refuse_missing_type(alloc, needed(table, place, index))
-        }
-        OrderFault::Cyclic { place, index } => {
-            refuse_cycle(alloc, 16, "type", needed(table, place, index))
-        }
-        OrderFault::OutOfMemory => ParseError::of(ParseErrorKind::OutOfMemory, OUT_OF_MEMORY),
-    }
 }

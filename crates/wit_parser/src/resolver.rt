@@ -10,14 +10,13 @@ ghost use Rattle.wit_meaning.specs.Whole.{IsPackage, IsFaithful};
 
 use crate::header::{is_same, mismatch};
 use crate::interface::resolve_interfaces;
-use crate::items::{declared_items, item_order};
-use crate::top_name::{check_originals, item_names};
+use crate::items::declared_items;
 use crate::uses::Interfaces;
 use std::alloc::Global;
 use wit_entries::entries::Entries;
-use wit_entries::refusal::refuse;
 use wit_model::{Arena, ForeignItems, Interface, InterfacePlace, UnresolvedPackage};
-use wit_scope::package_name;
+use wit_scope::refusal::refuse;
+use wit_scope::{FileNames, package_name};
 use wit_tree::tree::{self, PackageFile};
 use wit_tree::{ParseResult, Span};
 use wit_values::TextTable;
@@ -64,15 +63,13 @@ fn resolve_files<'f, 'a>(
     ensures added { IfOk result (AddsFiles files.now types.new) }
     ensures refused { IfErr result (Refused (IsBroken files.now)) }
 {
-    let declared = item_names(alloc, files)?;
-    let items = declared_items(alloc, &declared, files)?;
-    let places = item_order(alloc, &items)?;
-    check_originals(alloc, &declared, files)?;
+    let names = FileNames::gather(alloc, files)?;
+    let items = declared_items(alloc, &names, files)?;
     let mut interfaces = Interfaces {
         arena: Arena::new(alloc),
         by_name: TextTable::new(alloc),
     };
-    resolve_interfaces(alloc, types, &mut interfaces, &items, &places)?;
+    resolve_interfaces(alloc, types, &mut interfaces, &items, names.item_order())?;
     Ok(interfaces.arena)
 }
 

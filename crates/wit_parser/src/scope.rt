@@ -8,11 +8,12 @@ ghost use Rattle.wit_parser.specs.Held.{name_behind, definition_behind};
 ghost use Rattle.wit_parser.specs.Between.{AreOrdered};
 
 use crate::deps::body_deps;
-use crate::order::{in_order, refuse_type_order};
+use crate::order::in_order;
 use crate::scope_name::{DefinedName, ScopeName, definitions, local_id};
 use indexmap::IndexMap;
 use std::alloc::{AllocError, Global};
 use wit_order::order_places;
+use wit_scope::order_refusal::refuse_type_order;
 use wit_tree::ParseResult;
 use wit_tree::tree::Id;
 

@@ -5,3 +5,7 @@ pub mod Seeing
 pub mod Seconds
 pub mod Scoping
 pub mod Telling
+pub mod Refusals
+pub mod FirstNames
+pub mod Lost
+pub mod Gathering

@@ -1,4 +1,4 @@
-//! What a scope is made of: its names, and the docs and attributes of its items.
+//! What scopes are made of: the names of files and of their items, and docs and attributes.
 //!
 //! The calls take trees and give parts of the data of a package, or the refusal of a broken rule.
 #![tactic(auto)]
@@ -6,17 +6,22 @@
 mod attribute_kind;
 pub mod attributes;
 pub mod comments;
+pub mod file_names;
+mod item_table;
 pub mod name_scope;
+pub mod order_refusal;
 pub mod package;
 pub mod refusal;
 pub mod repeats;
 #[cfg(test)]
 mod tests;
+mod top_name;
 pub mod unique_names;
 pub mod visit;
 
 pub use attributes::{external_id, stability};
 pub use comments::docs;
+pub use file_names::{FileNames, Found};
 pub use name_scope::NameScope;
 pub use package::package_name;
 pub use unique_names::check_unique_names;

@@ -1,5 +1,6 @@
 //! Worked rows.
 
+mod file_names;
 mod visit;
 
 use crate::repeats::{first_folded_repeat, first_repeat};

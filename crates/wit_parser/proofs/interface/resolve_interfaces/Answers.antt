@@ -11,7 +11,7 @@ use Rattle.wit_meaning.proofs.Orders.{in_order-more}
 use Rattle.wit_meaning.proofs.Refusing.{refused_weaker}
 use Rattle.wit_meaning.proofs.Adding.{adds_append, adds_one, adds_none, scopes_none, scopes_more}
 use Rattle.wit_parser.specs.Items.{item_behind, names_behind}
-use Rattle.wit_parser.proofs.Lost.{alike}
+use Rattle.wit_parser.proofs.Declaring.{alike}
 use Rattle.wit_parser.proofs.interface.resolve_interfaces.Goals as goal
 
 pub loop-place-init : goal.loop-place-init

@@ -1,13 +1,11 @@
 use Rattle.std.proofs.Common.{◌≡◌, ◌++◌, map, take}
 use Rattle.std.specs.List.{flat_map}
 use Rattle.wit_meaning.specs.Source.{top_names, declared, scope_names}
-use Rattle.wit_meaning.specs.Scope.{item_row}
-use Rattle.wit_parser.specs.Items.{item_behind, row_behind, names_behind}
+use Rattle.wit_parser.specs.Items.{item_behind, names_behind}
 use Rattle.wit_parser.proofs.items.add_items.Given as goal
 
 abbrev pub invariant-loop-item : goal.invariant-loop-item
 invariant-loop-item l = record {
   items : map item_behind l.items.items ≡ map item_behind l.fn.items.items ++ flat_map (declared (top_names l.file)) (take l.item-index l.item-items);
-  rows : map row_behind l.items.items ≡ map row_behind l.fn.items.items ++ map item_row (flat_map (declared (top_names l.file)) (take l.item-index l.item-items));
   names : map names_behind l.items.items ≡ map names_behind l.fn.items.items ++ map scope_names (flat_map (declared (top_names l.file)) (take l.item-index l.item-items));
 }

@@ -1,39 +1,29 @@
-use Rattle.std.proofs.Common.{◌≡◌, ◌+◌, ◌++◌, ◌∷◌, [], Some, map, take, sym, ap, ◌∙◌}
+use Rattle.std.proofs.Common.{◌≡◌, ◌+◌, ◌++◌, ◌∷◌, [], Some, map, take, refl, sym, ap, ◌∙◌}
 use Rattle.std.specs.Prelude.{slice_get}
-use Rattle.std.proofs.lemmas.List.{map-append, take_more}
-use Rattle.std.proofs.lemmas.Option.{slice_get-get_or}
-use Rattle.std.proofs.lemmas.Result.{err_from_is_err_and}
+use Rattle.std.proofs.lemmas.List.{map-append}
+use Rattle.std.proofs.lemmas.Option.{slice_get_read}
 use Rattle.wit_meaning.specs.Source.{file_interfaces, interfaces, scope_names}
-use Rattle.wit_meaning.specs.Scope.{item_row}
-use Rattle.wit_meaning.specs.Broken.{IsBroken}
-use Rattle.wit_meaning.proofs.Refusing.{refused_weaker}
-use Rattle.wit_parser.specs.Between.{IsWrongFile}
-use Rattle.wit_parser.proofs.Lost.{broken_file, tops_more, flat_more}
+use Rattle.wit_meaning.proofs.Orders.{take_next}
+use Rattle.wit_scope.proofs.Lost.{flat_more}
 use Rattle.wit_parser.proofs.items.declared_items.Goals as goal
 
-pub returns-in_err-add_items-clause-refused : goal.returns-in_err-add_items-clause-refused
-returns-in_err-add_items-clause-refused c =
-    let p = err_from_is_err_and c.from_residual.result c.from_residual.ensures.1 in
+pub add_items-requires : goal.add_items-requires
+add_items-requires c =
     let files = c.args.files.now in
-    let i = c.loop-file.file-index in
-    let file = c.file-item.result in
-    let at : slice_get files i ≡ Some file = slice_get-get_or files i file c.loop-file-test.true ∙ ap Some (sym c.file-item.is) in
-    rw (p.1, p.2) (refused_weaker (IsWrongFile (interfaces files) file) (IsBroken files) _ (λ f h. broken_file files i file f at h) (c.in_err-add_items.ensures.refused (interfaces files) c.requires.declared))
+    record { files = files; are = c.requires.named; at = slice_get_read files _ c.loop-place.place c.index-files-place.result refl c.loop-place-test.true c.index-files-place.is }
 
-pub loop-file-preserved : goal.loop-file-preserved
-loop-file-preserved c =
+pub loop-place-preserved : goal.loop-place-preserved
+loop-place-preserved c =
     let files = c.args.files.now in
-    let i = c.loop-file.file-index in
-    let file = c.file-item.result in
+    let i = c.loop-place.place in
+    let file = c.index-files-place.result in
+    let at : slice_get files i ≡ Some file = slice_get_read files _ i file refl c.loop-place-test.true c.index-files-place.is in
     let before = interfaces (take i files) in
     let own = file_interfaces file in
-    let was = c.loop-file.invariant in
+    let was = c.loop-place.invariant in
     let e = c.in_ok-add_items.ensures in
-    let more : take (i + 1) files ≡ take i files ++ file ∷ [] = take_more files i file c.loop-file-test.true ∙ ap (λ y. take i files ++ y ∷ []) (sym c.file-item.is) in
-    let grown : interfaces (take (i + 1) files) ≡ before ++ own = flat_more file_interfaces (take i files) (take (i + 1) files) file more in
+    let grown : interfaces (take (i + 1) files) ≡ before ++ own = flat_more file_interfaces (take i files) (take (i + 1) files) file (take_next files i file at) in
     record {
       items = e.items ∙ ap (λ l. l ++ own) was.items ∙ sym grown;
-      rows = e.rows ∙ ap (λ l. l ++ map item_row own) was.rows ∙ sym (map-append item_row before own) ∙ ap (map item_row) (sym grown);
       names = e.names ∙ ap (λ l. l ++ map scope_names own) was.names ∙ sym (map-append scope_names before own) ∙ ap (map scope_names) (sym grown);
-      distinct = rw more (tops_more (take i files) file was.distinct e.distinct);
     }

@@ -1,7 +1,0 @@
-use Rattle.std.proofs.Common.{take}
-use Rattle.wit_meaning.specs.Source.{interfaces}
-use Rattle.wit_meaning.specs.Resolved.{AreDeclaredTops}
-use Rattle.wit_parser.proofs.top_name.check_originals.Given as goal
-
-abbrev pub invariant-loop-file : goal.invariant-loop-file
-invariant-loop-file l = AreDeclaredTops (interfaces l.files) (take l.file-index l.files)

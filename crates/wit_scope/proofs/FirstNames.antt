@@ -1,0 +1,163 @@
+-- Tables of names with what they stand for, one name more, and what is found in them.
+use Rattle.std.proofs.Common.{◌≡◌, ℕ, zero, suc, Bool, true, false, cond, List, [], ◌∷◌, ◌++◌, map, Option, Some, None, IsSome, inl, inr, refl, sym, ap, ◌∙◌, subst, Bor}
+use Rattle.std.specs.Prelude.{slice_get, find}
+use Rattle.std.specs.Map.{lookup}
+use Rattle.std.specs.Option.{option_map, option_map_or, option_or, option_copied, is_some}
+use Rattle.std.specs.Str.{bytes_eq}
+use Rattle.std.proofs.lemmas.Bool.{cases_Bool, cond-true, cond-false}
+use Rattle.std.proofs.lemmas.List.Folds.{find-append}
+use Rattle.std.proofs.lemmas.List.{map-append}
+use Rattle.std.proofs.lemmas.Option.{none-some}
+use Rattle.indexmap.specs.IndexMap.{insert_entry}
+use Rattle.wit_order.proofs.Rows.{key_eq}
+use Rattle.wit_tree.specs.declared.tree.Id.{Id}
+use Rattle.wit_meaning.specs.Source.{TopName, top_text, top_original, top_named, item_edge, Item, interface_named}
+use Rattle.wit_meaning.specs.Repeats.{AllDiffer}
+use Rattle.wit_meaning.proofs.Lists.{map_at}
+use Rattle.wit_meaning.proofs.Names.{name_equal, name_cases, name_itself}
+use Rattle.wit_meaning.proofs.Repeated.{differ_more}
+use Rattle.wit_meaning.proofs.Interfaces.{find_passes}
+use Rattle.wit_meaning.proofs.Itemizing.{find_at}
+use Rattle.wit_scope.specs.Tops.{itself}
+
+abbrev pub Entries : Type 0
+Entries = List (Bor (List ℕ) × Id)
+
+abbrev pub found : List ℕ → Entries → Option Id
+found name es = lookup (λ key. bytes_eq name key.now) es
+
+-- each name finds what the first of these that goes by it stands for
+abbrev pub Finds : List TopName → Entries → Type 0
+Finds top es = (name : List ℕ) → found name es ≡ option_map top_original (top_named top name)
+
+abbrev last_of : Bool → Id → Option Id
+last_of b v = cond b (Some v) None
+
+-- a name more, which was not there
+found_more : (es : Entries) (k : Bor (List ℕ)) (v : Id) (q : List ℕ) → found k.now es ≡ None → found q (insert_entry key_eq es k v) ≡ option_or (found q es) (last_of (bytes_eq q k.now) v)
+found_more [] k v q none = refl
+found_more (e ∷ es) k v q none = elim (cases_Bool (bytes_eq k.now e.0.now)) [
+  | inl hit ↦ absurd (none-some e.1 (sym none ∙ cond-true (bytes_eq k.now e.0.now) (Some e.1) (found k.now es) hit))
+  | inr miss ↦ (
+      let rest = found_more es k v q (sym (cond-false (bytes_eq k.now e.0.now) (Some e.1) (found k.now es) miss) ∙ none) in
+      elim (cases_Bool (bytes_eq q e.0.now)) [
+        | inl here ↦ rw (miss, here) refl
+        | inr far ↦ rw (miss, far) rest
+      ])
+]
+
+turned : (a b : List ℕ) → bytes_eq a b ≡ bytes_eq b a
+turned a b = elim (name_cases a b) [
+  | inl same ↦ ap (bytes_eq a) (sym same) ∙ ap (λ x. bytes_eq x a) same
+  | inr other ↦ elim (name_cases b a) [
+    | inl same ↦ ap (bytes_eq a) same ∙ ap (λ x. bytes_eq x a) (sym same)
+    | inr back ↦ other ∙ sym back
+  ]
+]
+
+map_or : (a b : Option TopName) → option_map top_original (option_or a b) ≡ option_or (option_map top_original a) (option_map top_original b)
+map_or None b = refl
+map_or (Some t) b = refl
+
+map_last : (b : Bool) (t : TopName) → option_map top_original (cond b (Some t) None) ≡ last_of b (top_original t)
+map_last true t = refl
+map_last false t = refl
+
+named_more : (top : List TopName) (t : TopName) (name : List ℕ) → option_map top_original (top_named (top ++ t ∷ []) name) ≡ option_or (option_map top_original (top_named top name)) (last_of (bytes_eq (top_text t) name) (top_original t))
+named_more top t name =
+    ap (option_map top_original) (find-append (λ (x : TopName). bytes_eq (top_text x) name) top (t ∷ [])) ∙ map_or (top_named top name) (cond (bytes_eq (top_text t) name) (Some t) None) ∙ ap (option_or (option_map top_original (top_named top name))) (map_last (bytes_eq (top_text t) name) t)
+
+-- a name more, put into the table that had it not
+pub finds_more : (top : List TopName) (es new : Entries) (t : TopName) (k : Bor (List ℕ)) (v : Id) → Finds top es → k.now ≡ top_text t → v ≡ top_original t → found k.now es ≡ None → new ≡ insert_entry key_eq es k v → Finds (top ++ t ∷ []) new
+finds_more top es new t k v old key value none inserted name =
+    let own : bytes_eq name k.now ≡ bytes_eq (top_text t) name = turned name k.now ∙ ap (λ x. bytes_eq x name) key in
+    ap (found name) (inserted ∙ ap (insert_entry key_eq es k) value)
+    ∙ found_more es k (top_original t) name none
+    ∙ ap (λ o. option_or o (last_of (bytes_eq name k.now) (top_original t))) (old name)
+    ∙ ap (λ b. option_or (option_map top_original (top_named top name)) (last_of b (top_original t))) own
+    ∙ sym (named_more top t name)
+
+pub copied_none : (o : Option (Bor Id)) → is_some o ≡ false → option_copied o ≡ None
+copied_none None h = refl
+copied_none (Some v) h = absurd (let f : ⊥ = cc in f)
+
+pub copied_some : (o : Option (Bor Id)) → is_some o ≡ true → (v : Id) × (option_copied o ≡ Some v)
+copied_some None h = absurd (let f : ⊥ = cc in f)
+copied_some (Some v) h = (v.now, refl)
+
+not_first : {X : Type 0} (p : X → Bool) (y : X) (xs : List X) (i : ℕ) (x : X) → ((j : ℕ) → slice_get xs j ≡ Some x → ⊥) → slice_get (y ∷ xs) i ≡ Some x → p x ≡ true → p y ≡ false → ⊥
+not_first p y xs zero x rest at passes miss = (let here : y ≡ x = cc in let wrong : true ≡ false = sym passes ∙ ap p (sym here) ∙ miss in let f : ⊥ = cc in f)
+not_first p y xs (suc i) x rest at passes miss = rest i at
+
+-- what is not found passes nowhere
+pub find_none : {X : Type 0} (p : X → Bool) (xs : List X) → find p xs ≡ None → (i : ℕ) (x : X) → slice_get xs i ≡ Some x → p x ≡ true → ⊥
+find_none p [] none i x at passes = let f : ⊥ = cc in f
+find_none p (y ∷ xs) none i x at passes = elim (cases_Bool (p y)) [
+  | inl hit ↦ none-some y (sym (sym (cond-true (p y) (Some y) (find p xs) hit) ∙ none))
+  | inr miss ↦ not_first p y xs i x (λ j h. find_none p xs (sym (cond-false (p y) (Some y) (find p xs) miss) ∙ none) j x h passes) at passes miss
+]
+
+find-map : {X Y : Type 0} (p : Y → Bool) (f : X → Y) (xs : List X) → find p (map f xs) ≡ option_map f (find (λ x. p (f x)) xs)
+find-map p f [] = refl
+find-map p f (x ∷ xs) = elim (cases_Bool (p (f x))) [
+  | inl hit ↦ rw hit refl
+  | inr miss ↦ rw miss (find-map p f xs)
+]
+
+unmapped_none : {X Y : Type 0} (f : X → Y) (o : Option X) → option_map f o ≡ None → o ≡ None
+unmapped_none f None h = refl
+unmapped_none f (Some x) h = absurd (none-some (f x) (sym h))
+
+unmapped_some : {X Y : Type 0} (f : X → Y) (o : Option X) (y : Y) → option_map f o ≡ Some y → (x : X) × (o ≡ Some x)
+unmapped_some f None y h = absurd (none-some y h)
+unmapped_some f (Some x) y h = (x, refl)
+
+-- a name that is not found is none of these
+pub absent : (top : List TopName) (es : Entries) (name : List ℕ) → Finds top es → found name es ≡ None → (i : ℕ) → slice_get (map top_text top) i ≡ Some name → ⊥
+absent top es name finds none i at =
+    let t = map_at top_text top i name at in
+    find_none (λ (x : TopName). bytes_eq (top_text x) name) top (unmapped_none top_original (top_named top name) (sym (finds name) ∙ none)) i t.0 t.1 (ap (λ n. bytes_eq n name) t.2 ∙ name_itself name)
+
+-- and one that is found is one of them
+pub present : (top : List TopName) (es : Entries) (name : List ℕ) (v : Id) → Finds top es → found name es ≡ Some v → (i : ℕ) × (t : TopName) × (slice_get top i ≡ Some t) × (top_text t ≡ name)
+present top es name v finds some =
+    let test : TopName → Bool = λ x. bytes_eq (top_text x) name in
+    let t = unmapped_some top_original (top_named top name) v (sym (finds name) ∙ some) in
+    let at = find_at test top t.0 t.1 in
+    (at.0, t.0, at.1, name_equal (top_text t.0) name (find_passes test top t.0 t.1))
+
+-- names still differ with one that is not found
+pub differ_top : (top : List TopName) (es : Entries) (t : TopName) (name : List ℕ) → Finds top es → AllDiffer (map top_text top) → name ≡ top_text t → found name es ≡ None → AllDiffer (map top_text (top ++ t ∷ []))
+differ_top top es t name finds differ key none =
+    subst AllDiffer (sym (map-append top_text top (t ∷ []))) (differ_more (map top_text top) (top_text t) differ (absent top es (top_text t) finds (ap (λ n. found n es) (sym key) ∙ none)))
+
+-- so a path is found as the edge that it is
+pub edge_some : (top : List TopName) (es : Entries) (path v : Id) → Finds top es → found path.name.now es ≡ Some v → v ≡ item_edge top path
+edge_some top es path v finds some = go (top_named top path.name.now) (sym (finds path.name.now) ∙ some)
+  where
+    go : (o : Option TopName) → option_map top_original o ≡ Some v → v ≡ option_map_or top_original o path
+    go None h = absurd (none-some v h)
+    go (Some t) h = (let same : top_original t ≡ v = cc in sym same)
+
+pub edge_none : (top : List TopName) (es : Entries) (path : Id) → Finds top es → found path.name.now es ≡ None → path ≡ item_edge top path
+edge_none top es path finds none = go (top_named top path.name.now) (sym (finds path.name.now) ∙ none)
+  where
+    go : (o : Option TopName) → option_map top_original o ≡ None → path ≡ option_map_or top_original o path
+    go None h = refl
+    go (Some t) h = absurd (none-some (top_original t) (sym h))
+
+declared_as : (is : List Item) (name : List ℕ) → option_map top_original (top_named (map itself is) name) ≡ option_map (λ (i : Item). i.interface.name) (interface_named is name)
+declared_as is name = ap (option_map top_original) (find-map (λ (t : TopName). bytes_eq (top_text t) name) itself is) ∙ go (interface_named is name)
+  where
+    go : (o : Option Item) → option_map top_original (option_map itself o) ≡ option_map (λ (i : Item). i.interface.name) o
+    go None = refl
+    go (Some i) = refl
+
+-- a name that is no declared item's is not found
+pub undeclared : (is : List Item) (es : Entries) (name : List ℕ) → Finds (map itself is) es → found name es ≡ None → interface_named is name ≡ None
+undeclared is es name finds none = unmapped_none (λ (i : Item). i.interface.name) (interface_named is name) (sym (declared_as is name) ∙ sym (finds name) ∙ none)
+
+pub declared : (is : List Item) (es : Entries) (name : List ℕ) (v : Id) → Finds (map itself is) es → found name es ≡ Some v → IsSome (interface_named is name)
+declared is es name v finds some =
+    let i = unmapped_some (λ (i : Item). i.interface.name) (interface_named is name) v (sym (declared_as is name) ∙ sym (finds name) ∙ some) in
+    subst (λ (o : Option Item). IsSome o) (sym i.1) refl

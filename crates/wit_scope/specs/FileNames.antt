@@ -1,0 +1,24 @@
+-- The names of files, as they are kept.
+use Rattle.std.specs.Prelude.{◌≡◌, ℕ, List, [], ◌∷◌, ◌++◌, length, Some, slice_get}
+use Rattle.wit_tree.specs.declared.tree.PackageFile.{PackageFile}
+use Rattle.wit_order.specs.Table.{rows}
+use Rattle.wit_meaning.specs.Source.{top_names}
+use Rattle.wit_meaning.specs.Scope.{item_rows}
+use Rattle.wit_scope.specs.Tops.{Named, AreNamed}
+use Rattle.wit_scope.specs.declared.file_names.FileNames.{FileNames}
+
+-- these are the names at the top of each file
+pub record AreTopsOf (files : List PackageFile) (tops : List Named) : Type 0 where
+  pub long : length tops ≡ length files
+  pub each : (i : ℕ) (file : PackageFile) (top : Named) → slice_get files i ≡ Some file → slice_get tops i ≡ Some top → AreNamed (top_names file) top
+
+-- these are the items that files declare, each with what it uses, and the names at the top of each file
+pub record AreNamesOf (files : List PackageFile) (names : FileNames) : Type 0 where
+  pub items : rows names.items ≡ item_rows files
+  pub tops : AreTopsOf files names.tops.items
+
+-- the names at the top of a file were added behind those of others
+pub record AddsTop (file : PackageFile) (old new : List Named) : Type 0 where
+  pub top : Named
+  pub last : new ≡ old ++ top ∷ []
+  pub named : AreNamed (top_names file) top

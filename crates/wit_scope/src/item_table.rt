@@ -1,0 +1,90 @@
+//! The table of the items that files declare, and its order.
+ghost use Rattle.std.specs.Prelude.{◌≡◌, ◌++◌, ◌⊎◌, List, map, IfOk, IfErr, OnOk};
+ghost use Rattle.std.specs.List.{flat_map};
+ghost use Rattle.wit_order.specs.Table.{rows, IsOrder};
+ghost use Rattle.wit_meaning.specs.Source.{TopName as Top, Item, top_names, item_edge as the_edge, file_interfaces, interface_name};
+ghost use Rattle.wit_meaning.specs.Scope.{item_paths, item_row};
+ghost use Rattle.wit_meaning.specs.Fault.{item_word};
+ghost use Rattle.wit_meaning.specs.Broken.{IsMissingEdge, IsCyclicEdge, Refused};
+ghost use Rattle.wit_meaning.specs.Repeats.{AllDiffer};
+ghost use Rattle.wit_scope.specs.Tops.{AreNamed, AreDeclared};
+ghost use Rattle.wit_scope.specs.Checks.{IsLostAmong, IsWrongFile};
+
+use crate::order_refusal::refuse_item_order;
+use crate::top_name::{Paths, item_edge};
+use indexmap::IndexMap;
+use std::alloc::Global;
+use wit_order::order_places;
+use wit_tree::ParseResult;
+use wit_tree::tree::{AstItem, Id, Interface, InterfaceItem, PackageFile};
+
+/// Adds the edge of the path of a part of an interface, where it has one.
+fn add_edge<'a>(
+    alloc: Global,
+    paths: Paths<'_, 'a>,
+    edges: &mut Vec<Id<'a>>,
+    part: &InterfaceItem<'a>,
+) -> ParseResult<()>
+    ensures edges { OnOk result ((top : List Top) → AreNamed top paths.entry.top.now → edges.new.items ≡ edges.old.items ++ map (the_edge top) (item_paths part.now)) }
+    ensures refused { IfErr result (λ e. (top : List Top) (is : List Item) → AreNamed top paths.entry.top.now → AreDeclared is paths.entry.declared.now → Refused (IsLostAmong is top (item_paths part.now)) e) }
+{
+    match part {
+        InterfaceItem::TypeDef(_) => {}
+        InterfaceItem::Use(used) => {
+            let edge = item_edge(alloc, paths, &used.from)?;
+            edges.push(edge)?;
+        }
+    }
+    Ok(())
+}
+
+/// The items that an interface uses, as edges.
+fn item_edges<'a>(
+    alloc: Global,
+    paths: Paths<'_, 'a>,
+    interface: &Interface<'a>,
+) -> ParseResult<Vec<Id<'a>>>
+    ensures edges { IfOk result (λ edges. (top : List Top) → AreNamed top paths.entry.top.now → edges.items ≡ map (the_edge top) (flat_map item_paths interface.now.items.items)) }
+    ensures refused { IfErr result (λ e. (top : List Top) (is : List Item) → AreNamed top paths.entry.top.now → AreDeclared is paths.entry.declared.now → Refused (IsLostAmong is top (flat_map item_paths interface.now.items.items)) e) }
+{
+    let mut edges = Vec::new(alloc);
+    for part in &interface.items {
+        add_edge(alloc, paths, &mut edges, part)?;
+    }
+    Ok(edges)
+}
+
+/// Adds the items that a file declares, each with what it uses; refuses a path that leads nowhere.
+pub(crate) fn add_items<'a>(
+    alloc: Global,
+    paths: Paths<'_, 'a>,
+    table: &mut IndexMap<&'a str, Vec<Id<'a>>>,
+    file: &PackageFile<'a>,
+) -> ParseResult<()>
+    requires named { AreNamed (top_names file.now) paths.top.now }
+    requires distinct { AllDiffer (map (λ row. row.name) (rows table.old) ++ map interface_name (file_interfaces file.now)) }
+    ensures rows { OnOk result (rows table.new ≡ rows table.old ++ map item_row (file_interfaces file.now)) }
+    ensures refused { IfErr result (λ e. (is : List Item) → AreDeclared is paths.entry.declared.now → Refused (IsWrongFile is file.now) e) }
+{
+    for item in &file.decl_list.items {
+        if let AstItem::Interface(interface) = item {
+            let edges = item_edges(alloc, paths, interface)?;
+            table.insert(interface.name.name, edges)?;
+        }
+    }
+    Ok(())
+}
+
+/// The places of the items of a table, each behind those that it uses, in the least such order.
+pub(crate) fn table_order<'a>(
+    alloc: Global,
+    table: &IndexMap<&'a str, Vec<Id<'a>>>,
+) -> ParseResult<Vec<usize>>
+    ensures order { IfOk result (λ places. IsOrder (rows table.now) places.items) }
+    ensures refused { IfErr result (Refused (λ f. IsMissingEdge 7 item_word (rows table.now) f ⊎ IsCyclicEdge 8 item_word (rows table.now) f)) }
+{
+    match order_places(alloc, table) {
+        Ok(places) => Ok(places),
+        Err(fault) => Err(refuse_item_order(alloc, table, fault)),
+    }
+}
