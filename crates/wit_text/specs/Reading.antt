@@ -4,7 +4,7 @@ use Rattle.wit_tree.specs.declared.error.ParseError.{ParseError}
 use Rattle.wit_tree.specs.Marks.{Mark}
 use Rattle.wit_tree.specs.Slices.{Rise}
 use Rattle.wit_text.specs.declared.reader.Reader.{Reader}
-use Rattle.wit_text.specs.Faults.{IsRefusal}
+use Rattle.wit_lex.specs.Faults.{IsRefusal}
 
 -- at least one token was read, and what was made of it has these marks
 pub record IsRead (old : Reader) (marks : List Mark) (new : Reader) : Type 0 where

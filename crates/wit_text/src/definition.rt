@@ -3,11 +3,11 @@ ghost use Rattle.std.specs.Prelude.{◌≡◌, ◌+◌, [], ◌∷◌, IfOk, IfE
 ghost use Rattle.std.specs.List.{flat_map};
 ghost use Rattle.wit_tree.specs.Marks.{definition_marks, item_marks};
 
-use crate::fault::ReadFault;
-use crate::kind::Kind;
 use crate::reader::Reader;
 use crate::types::MOST_NESTED;
-use crate::word::Word;
+use wit_lex::fault::ReadFault;
+use wit_lex::kind::Kind;
+use wit_lex::word::Word;
 use wit_tree::ParseResult;
 use wit_tree::tree::{InterfaceItem, TypeBody, TypeDef};
 

@@ -3,15 +3,15 @@ ghost use Rattle.std.specs.Prelude.{◌≡◌, ◌+◌, ◌<◌, ◌^◌, [], �
 ghost use Rattle.std.specs.List.{flat_map};
 ghost use Rattle.wit_tree.specs.Marks.{interface_marks, declaration_marks, header_marks, package_marks, file_marks};
 ghost use Rattle.wit_tree.specs.Slices.{Rise};
-ghost use Rattle.wit_text.specs.Faults.{IsRefusal};
+ghost use Rattle.wit_lex.specs.Faults.{IsRefusal};
 ghost use Rattle.wit_text.specs.Headers.{IsWhole, found_marks};
 
-use crate::kind::Kind;
 use crate::reader::Reader;
-use crate::token::next_token;
-use crate::word::Word;
 use semver::Version;
 use std::alloc::Global;
+use wit_lex::kind::Kind;
+use wit_lex::token::next_token;
+use wit_lex::word::Word;
 use wit_tree::tree::{AstItem, DeclList, Id, Interface, PackageFile, PackageName};
 use wit_tree::{ParseResult, Span};
 

@@ -3,9 +3,9 @@ ghost use Rattle.std.specs.Prelude.{◌≡◌, ◌+◌, [], ◌∷◌, IfOk, IfE
 ghost use Rattle.std.specs.List.{flat_map};
 ghost use Rattle.wit_tree.specs.Marks.{field_marks, flag_marks, payload_marks, case_marks, enum_case_marks};
 
-use crate::kind::Kind;
 use crate::reader::Reader;
 use crate::types::MOST_NESTED;
+use wit_lex::kind::Kind;
 use wit_tree::ParseResult;
 use wit_tree::tree::{Case, EnumCase, Field, Flag, Type};
 

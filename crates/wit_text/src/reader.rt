@@ -1,15 +1,15 @@
 //! A reader goes through the tokens of a source, one after the other.
 ghost use Rattle.std.specs.Prelude.{◌≡◌, ◌+◌, ◌<◌, ◌≤◌, ◌^◌, [], ◌∷◌, length, IfOk, OnOk, IfErr, IsTrue};
 ghost use Rattle.wit_tree.specs.Marks.{named, spelled};
-ghost use Rattle.wit_text.specs.Tokens.{IsToken};
-ghost use Rattle.wit_text.specs.Words.{word_text};
+ghost use Rattle.wit_lex.specs.Tokens.{IsToken};
+ghost use Rattle.wit_lex.specs.Words.{word_text};
 
-use crate::fault::{ReadFault, refusal, span_at};
-use crate::kind::Kind;
-use crate::scan::without_escape;
-use crate::token::{Token, next_token};
-use crate::word::Word;
 use std::alloc::Global;
+use wit_lex::fault::{ReadFault, refusal, span_at};
+use wit_lex::kind::Kind;
+use wit_lex::scan::without_escape;
+use wit_lex::token::{Token, next_token};
+use wit_lex::word::Word;
 use wit_tree::tree::Id;
 use wit_tree::{ParseError, ParseResult, Span};
 

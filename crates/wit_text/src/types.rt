@@ -4,10 +4,11 @@ ghost use Rattle.std.specs.List.{flat_map};
 ghost use Rattle.wit_values.specs.declared.span.Span.{Span as TheSpan};
 ghost use Rattle.wit_tree.specs.Marks.{spelled, counted, type_marks, boxed_marks, size_marks};
 
-use crate::fault::ReadFault;
-use crate::kind::Kind;
+use crate::primitive::primitive;
 use crate::reader::Reader;
-use crate::word::{Word, primitive};
+use wit_lex::fault::ReadFault;
+use wit_lex::kind::Kind;
+use wit_lex::word::Word;
 use wit_tree::tree::Type;
 use wit_tree::{ParseError, ParseResult, Span};
 

@@ -3,9 +3,9 @@ ghost use Rattle.std.specs.Prelude.{◌≡◌, ◌+◌, [], ◌∷◌, IfOk, IfE
 ghost use Rattle.std.specs.List.{flat_map};
 ghost use Rattle.wit_tree.specs.Marks.{named, path_marks, local_marks, used_marks, use_marks, toplevel_marks};
 
-use crate::kind::Kind;
 use crate::reader::Reader;
-use crate::word::Word;
+use wit_lex::kind::Kind;
+use wit_lex::word::Word;
 use wit_tree::ParseResult;
 use wit_tree::tree::{Id, ToplevelUse, Use, UseName, UsePath};
 

@@ -1,34 +1,18 @@
 //! Reading versions.
 ghost use Rattle.std.specs.Prelude.{◌≡◌, ◌+◌, ◌<◌, ◌≤◌, ◌^◌, [], ◌∷◌, ◌-◌, length, slice_index, IfOk, IfErr};
 ghost use Rattle.wit_tree.specs.Marks.{versioned};
-ghost use Rattle.wit_text.specs.Faults.{IsRefusal};
-ghost use Rattle.wit_text.specs.Versions.{IsParsed};
+ghost use Rattle.wit_lex.specs.Faults.{IsRefusal};
 
-use crate::fault::{ReadFault, refusal, span_at};
-use crate::kind::Kind;
 use crate::reader::Reader;
-use crate::scan::cut;
-use crate::token::next_token;
-use crate::version_end::version_end;
 use semver::Version;
-use std::alloc::{AllocError, Global};
+use std::alloc::Global;
+use wit_lex::fault::{ReadFault, refusal, span_at};
+use wit_lex::kind::Kind;
+use wit_lex::scan::cut;
+use wit_lex::token::next_token;
+use wit_lex::version::parse_version;
+use wit_lex::version_end::version_end;
 use wit_tree::{ParseError, ParseResult, Span};
-
-/// What `semver` reads in a text, or None where it refuses it.
-fn parse_version(alloc: Global, text: &str) -> Result<Option<Version>, AllocError>
-    ensures { IfOk result (IsParsed text.now) }
-{
-    match Version::parse(alloc, text) {
-        Ok(version) => Ok(Some(version)),
-        Err(e) => {
-            if e == semver::Error::from(AllocError) {
-                Err(AllocError)
-            } else {
-                Ok(None)
-            }
-        }
-    }
-}
 
 /// The refusal of the first token from a place on.
 fn refuse_from(alloc: Global, source: &str, offset: u32, from: usize) -> ParseError

@@ -1,6 +1,4 @@
-use Rattle.std.proofs.Common.{◌∷◌, ◌++◌, ap}
-use Rattle.std.specs.Prelude.{codes}
-use Rattle.wit_tree.specs.Marks.{type_marks, boxed_marks, spelled}
+use Rattle.wit_tree.specs.Marks.{type_marks}
 use Rattle.wit_tree.proofs.Rows.{tuple_marks, result_marks, future_marks, stream_marks}
 use Rattle.wit_text.proofs.Parts.{then, then_perhaps, on, skip, close, close_on, more, same_marks}
 use Rattle.wit_text.proofs.reader.Reader.+types.Goals as goal

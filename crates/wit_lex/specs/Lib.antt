@@ -1,0 +1,5 @@
+pub mod Faults
+pub mod Sources
+pub mod Tokens
+pub mod Versions
+pub mod Words

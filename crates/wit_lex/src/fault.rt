@@ -1,0 +1,89 @@
+//! Why a text cannot be read.
+ghost use Rattle.std.specs.Prelude.{◌≡◌, ◌+◌, ◌<◌, ◌≤◌, ◌^◌, length};
+ghost use Rattle.wit_lex.specs.Faults.{IsRefusal, rule_of, words_of};
+
+use std::alloc::Global;
+use wit_tree::{ParseError, ParseErrorKind, Span};
+
+/// Why a text cannot be read.
+#[derive(Clone, Copy, Debug, PartialEq, Eq)]
+pub enum ReadFault {
+    /// No token begins with a character.
+    Character,
+    /// The grammar allows another token, a name is no label, or the text ends too soon.
+    Token,
+    /// A block comment has no end.
+    Comment,
+    /// Types stand too deep in one another.
+    Nesting,
+    /// A version is none by SemVer 2.0.0.
+    Version,
+    /// A number does not fit 32 bits.
+    Number,
+}
+
+impl ReadFault {
+    /// The number of the refusal.
+    pub fn rule(self) -> u8
+        ensures { result ≡ rule_of self }
+    {
+        match self {
+            ReadFault::Character => 46,
+            ReadFault::Token => 47,
+            ReadFault::Comment => 48,
+            ReadFault::Nesting => 49,
+            ReadFault::Version => 50,
+            ReadFault::Number => 51,
+        }
+    }
+
+    /// What the refusal says.
+    pub fn message(self) -> &'static str
+        ensures { result.now ≡ words_of self }
+    {
+        match self {
+            ReadFault::Character => "unexpected character",
+            ReadFault::Token => "unexpected token",
+            ReadFault::Comment => "unterminated block comment",
+            ReadFault::Nesting => "nested too deeply",
+            ReadFault::Version => "invalid version",
+            ReadFault::Number => "number too large",
+        }
+    }
+}
+
+/// The span of a range of a source whose first byte has the place `offset`.
+pub fn span_at(offset: u32, start: usize, end: usize) -> Span
+    requires order { start ≤ end }
+    requires fits { offset + end < 2 ^ 32 }
+    ensures start { result.start ≡ offset + start }
+    ensures end { result.end ≡ offset + end }
+{
+    Span {
+        start: offset + start as u32,
+        end: offset + end as u32,
+    }
+}
+
+/// The refusal of a source for what stands at a range, or want of memory for its message.
+pub fn refusal(
+    alloc: Global,
+    source: &str,
+    offset: u32,
+    fault: ReadFault,
+    start: usize,
+    end: usize,
+) -> ParseError
+    requires order { start ≤ end }
+    requires within { end ≤ length source.now }
+    requires fits { offset + length source.now < 2 ^ 32 }
+    ensures { IsRefusal source.now offset result }
+{
+    match String::from_str(alloc, fault.message()) {
+        Ok(message) => {
+            let span = span_at(offset, start, end);
+            ParseError::of(ParseErrorKind::Syntax { span, message }, fault.rule())
+        }
+        Err(e) => e.into(),
+    }
+}

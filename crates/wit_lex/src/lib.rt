@@ -1,0 +1,17 @@
+//! Texts of WIT: the sources of a package, and their tokens.
+#![tactic(auto)]
+
+pub mod blank;
+pub mod fault;
+pub mod kind;
+pub mod scan;
+pub mod source;
+pub mod source_map;
+pub mod token;
+pub mod version;
+pub mod version_end;
+pub mod word;
+
+pub use fault::ReadFault;
+pub use source::Source;
+pub use source_map::{SourceMap, is_same_map};

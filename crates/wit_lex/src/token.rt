@@ -1,0 +1,93 @@
+//! Tokens.
+ghost use Rattle.std.specs.Prelude.{◌≡◌, ◌+◌, ◌<◌, ◌≤◌, ◌^◌, ◌-◌, length, slice_index, IfOk, IfErr};
+ghost use Rattle.wit_lex.specs.Faults.{IsRefusal};
+ghost use Rattle.wit_lex.specs.Tokens.{IsToken};
+
+use crate::blank::skip_blanks;
+use crate::fault::{ReadFault, refusal};
+use crate::kind::{Kind, kind_of, sign};
+use crate::scan::{cut, digits_end, is_digit, is_letter, width, word_end};
+use std::alloc::Global;
+use wit_tree::ParseResult;
+
+/// A token: what it is, its range in the text, which is empty only at the end, and what stands in it.
+#[derive(Clone, Copy, Debug)]
+pub struct Token<'a> {
+    pub kind: Kind,
+    pub start: usize,
+    pub end: usize,
+    pub text: &'a str,
+}
+
+/// The end of the token at a place, or that place where no token begins.
+fn token_end(bytes: &[u8], start: usize) -> usize
+    requires { start < length bytes.now }
+    ensures after { start ≤ result }
+    ensures within { result ≤ length bytes.now }
+    ensures first { start < result → slice_index bytes.now start < 128 }
+    ensures last { start < result → slice_index bytes.now (result - 1) < 128 }
+{
+    let first = bytes[start];
+    if is_letter(first) {
+        return word_end(bytes, start);
+    }
+    if sign(first).is_some() {
+        return start + 1;
+    }
+    if is_digit(first) {
+        return digits_end(bytes, start);
+    }
+    if bytes.len() - start < 2 {
+        return start;
+    }
+    let next = bytes[start + 1];
+    if first == b'-' && next == b'>' {
+        return start + 2;
+    }
+    if first == b'%' && is_letter(next) {
+        return word_end(bytes, start + 1);
+    }
+    start
+}
+
+/// The token behind the blanks from a place on.
+pub fn next_token<'a>(
+    alloc: Global,
+    source: &'a str,
+    offset: u32,
+    from: usize,
+) -> ParseResult<Token<'a>>
+    requires within { from ≤ length source.now }
+    requires fits { offset + length source.now < 2 ^ 32 }
+    ensures token { IfOk result (λ t. IsToken source.now t) }
+    ensures onward { IfOk result (λ t. from ≤ t.start) }
+    ensures refused { IfErr result (λ e. IsRefusal source.now offset e) }
+{
+    let bytes = source.as_bytes();
+    let len = bytes.len();
+    let start = match skip_blanks(bytes, from) {
+        Ok(start) => start,
+        Err(at) => return Err(refusal(alloc, source, offset, ReadFault::Comment, at, at + 2)),
+    };
+    if start == len {
+        return Ok(Token {
+            kind: Kind::End,
+            start,
+            end: start,
+            text: "",
+        });
+    }
+    let first = bytes[start];
+    let end = token_end(bytes, start);
+    if end == start {
+        let past = (start + width(first)).min(len);
+        return Err(refusal(alloc, source, offset, ReadFault::Character, start, past));
+    }
+    let text = cut(source, start, end);
+    Ok(Token {
+        kind: kind_of(first, text),
+        start,
+        end,
+        text,
+    })
+}

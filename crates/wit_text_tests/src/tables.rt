@@ -1,0 +1,134 @@
+//! Texts that are read, and texts that are refused.
+
+/// Texts, a line each.
+pub const READ: &str = "
+package a:b;
+package a:b@1.2.3-rc.1+b; interface i {}
+package a:b@ /* v */ 18446744073709551615.0.0-a-.--.0+01.-;
+interface i {} // end
+interface i {} /* end */
+interface\ti\t{\t}\t
+interface i {\r}
+/*/ */ interface i {}
+/* /* */ */ interface i {}
+// c /*
+/* a /* b */ c */ package/**/a:b; // no end of line
+package %package:%get; interface %type { record %record { %u8: %list, } }
+interface from { type set = list<list<error-context>>; record empty {} }
+interface since { use get.{from as set}; }
+interface i { use x.{t}; use x.{t as s, %u,}; use i.{}; }
+use x; use x as y; use %use as %as; interface i {} use/**/y/**/as/**/%z;
+interface i { use %use . { %as as %use }; type t = %as; use/**/get.{from as set}; }
+interface A-b1 { record r { a: bool, b: u8, } record s { c: r } }
+interface i { type a = list<u8, 4>; type b = list<u8,0>; type c = list<u8,4294967295>; type d = list < u8 , 0004 > ; }
+interface i { type a = option<t>; type b = tuple<>; type c = tuple<u8>; type d = tuple<u8, t,>; type e = map<string, list<u8>>; }
+interface i { type a = result; type b = result<t>; type c = result<_, t>; type d = result<t, u8>; }
+interface i { type a = future; type b = future<t>; type c = stream; type d = stream<stream>; }
+interface i { flags f {} flags g { a } flags h { a, b, } variant v {} variant w { a, b(u8), c(result), } enum e {} enum d { a, b, } }
+interface i { type a = option<%option>; type b = result<%result, %map>; }
+interface %map { flags %flags { %enum, %u8 } variant %variant { %tuple(%tuple) } enum %enum { %future } }";
+
+/// Texts in three parts, a line each, behind the number under which the one in the middle is refused.
+pub const REFUSED: &str = "\
+47|package foo:foo; interface i {||
+48||/*| a
+48|interface i { |/*| /* */ }
+46||$|
+46|interface |é| {}
+46|interface i { |-| }
+46|interface i { |%| }
+46|interface |%|1 {}
+50|package a:b@|01.0.0|;
+50|package a:b@|1.0.0-01|;
+50|package a:b@|1.0.0-.a|;
+50|package a:b@|1.0.18446744073709551616|;
+47|package a:b@1 |.|0.0;
+47|package a:b@1. |0|.0;
+47|package a:b@1.0|;|
+47|package a:b@1.0||
+47|package a:b@|;|
+47|package a:b@|x|.0.0;
+47|package a:b@1.0.0-a|.|.b;
+47|package a:b@1.0.0|.|{t};
+46|package a:b@1.0.0|-|;
+46|package a:b@1.0.0|+|;
+48|package a:b@1.|/*|
+47|package a:b||
+47|package a|;|
+47|interface i {} |package| a:b;
+47|use a|:|b/c;
+47|use |as| y;
+47|use x |y|;
+47|use x as |as|;
+47|use x as y||
+47|use x |%as| y;
+47|use x|.|{t};
+47|use x; |;|
+47||world| w {}
+47|interface |a--b| {}
+47|interface |%a-| {}
+47|interface |aB| {}
+47|interface |1|a {}
+47|interface i { type t = list<u8, |>|; }
+47|interface i { type t = list<u8, |x|>; }
+47|interface i { type t = list<u8, 4|,|>; }
+47|interface i { type t = list<u8, |->|>; }
+46|interface i { type t = list<u8, |-|1>; }
+51|interface i { type t = list<u8, |4294967296|>; }
+51|interface i { type t = list<u8, |99999999999999999999999999999999999999|>; }
+47|interface i { type t = |own|<u8>; }
+47|interface i { type t = |borrow|<u8>; }
+47|interface i { type t = option|;| }
+47|interface i { type t = option<u8|,| u8>; }
+47|interface i { type t = option<|_|>; }
+47|interface i { type t = tuple|;| }
+47|interface i { type t = tuple<|,|>; }
+47|interface i { type t = tuple<u8 |u8|>; }
+47|interface i { type t = map<u8|>|; }
+47|interface i { type t = map<u8, u8|,|>; }
+47|interface i { type t = result<|>|; }
+47|interface i { type t = result<_|>|; }
+47|interface i { type t = result<_, |_|>; }
+47|interface i { type t = result<u8, |>|; }
+47|interface i { type t = result<u8, |_|>; }
+47|interface i { type t = result<u8, u8|,|>; }
+47|interface i { type t = future<|>|; }
+47|interface i { type t = stream<|_|>; }
+47|interface i { flags f |;| }
+47|interface i { flags f { a|:| u8 } }
+47|interface i { flags f { |u8| } }
+47|interface i { flags |flags| {} }
+47|interface i { variant v { a(|)| } }
+47|interface i { variant v { a(u8|,| u8) } }
+47|interface i { variant v { a|:| u8 } }
+47|interface i { variant v { |tuple| } }
+47|interface i { enum e { a|(|u8) } }
+47|interface i { enum e { |,| } }
+47|interface i { enum e { |enum| } }
+47|interface i { type t = list<|record|>; }
+47|interface i { |resource| r; }
+47|interface i { type t = u8 |}|
+47|interface i { record r { a: u8 |b|: u8 } }
+47|interface i { record r { a: u8,|,| } }
+47|interface i { |f|: func(); }
+47|interface i { use x|;| }
+47|interface i { use a|:|b/c.{t}; }
+47|interface i { use |use|.{t}; }
+47|interface i { use x|{|t}; }
+47|interface i { use x.{|,|}; }
+47|interface i { use x.{t,|,|}; }
+47|interface i { use x.{t |u|}; }
+47|interface i { use x.{t as|}|; }
+47|interface i { use x.{t as |as|}; }
+47|interface i { use x.{t |%as| s}; }
+47|interface i { use x.{t} |}|
+47|interface i { use x.{t||
+47||/| interface i {}
+46|interface |😀| {}
+48||/*|/ interface i {}
+48||/*| /* */ interface i {}
+47|interface i { |->| }
+47|interface i { |_| }
+47|interface a|_|b {}
+47|interface i { type t = list<u8|;| }
+47|interface i { type t = |->|; }";

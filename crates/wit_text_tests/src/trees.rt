@@ -1,0 +1,78 @@
+//! Whole trees.
+
+use crate::helpers::repeated;
+use std::alloc::{AllocError, Global};
+use std::process::Abort;
+use std::test::Fail;
+use wit_text::read_file;
+use wit_tree::tree::{AstItem, Interface, InterfaceItem, TypeBody};
+
+/// How many fields or used names the first item of a text's first interface has.
+fn part_count(rt: &impl Abort, alloc: Global, text: &str) -> usize {
+    assert!(rt; text.len() < 1_000_000);
+    match read_file(alloc, text, 0) {
+        Ok(file) => match file.decl_list.items.first() {
+            Some(AstItem::Interface(interface)) => first_part_count(interface),
+            _ => 0,
+        },
+        Err(_) => 0,
+    }
+}
+
+fn first_part_count(interface: &Interface) -> usize {
+    match interface.items.first() {
+        Some(InterfaceItem::TypeDef(definition)) => match &definition.body {
+            TypeBody::Record { fields, .. } => fields.len(),
+            TypeBody::Flags { flags, .. } => flags.len(),
+            TypeBody::Variant { cases, .. } => cases.len(),
+            TypeBody::Enum { cases, .. } => cases.len(),
+            TypeBody::Plain(_) => 0,
+        },
+        Some(InterfaceItem::Use(used)) => used.names.len(),
+        None => 0,
+    }
+}
+
+fn check_tree(rt: &impl Abort, alloc: Global, text: &str, tree: &str) -> Result<(), AllocError> {
+    assert!(rt; text.len() < 1_000_000);
+    match read_file(alloc, text, 1000) {
+        Ok(file) => {
+            let shown = format!(in alloc; "{file:?}")?;
+            assert_eq!(rt; shown.as_str(), tree);
+        }
+        Err(_) => assert!(rt; false, "refused"),
+    }
+    Ok(())
+}
+
+#[test]
+fn drops_nothing(rt: HostRuntime) -> Result<(), Fail> {
+    let alloc = rt.alloc();
+    let fields = repeated(alloc, "interface i { record r { ", "f: u8, ", 300, "} }")?;
+    assert_eq!(rt; part_count(&rt, alloc, fields.as_str()), 300);
+    let names = repeated(alloc, "interface i { use x.{", "t as u, ", 300, "}; }")?;
+    assert_eq!(rt; part_count(&rt, alloc, names.as_str()), 300);
+    check_tree(
+        &rt,
+        alloc,
+        "package foo:%b; interface i { type t = list<t>; record r { a: u8 } }",
+        SMALL_TREE,
+    )?;
+    check_tree(
+        &rt,
+        alloc,
+        "interface i { use x.{t as s, %u,}; use %use.{}; type t = t; }\ninterface j {}",
+        USES_TREE,
+    )?;
+    check_tree(&rt, alloc, "use x as y; use %z;", TOPLEVEL_TREE)?;
+    Ok(())
+}
+
+const SMALL_TREE: &str =
+    "PackageFile { package_id: Some(PackageName { span: Span { start: 1008, end: 1014 }, namespace: Id { name: \"foo\", span: Span { start: 1008, end: 1011 } }, name: Id { name: \"b\", span: Span { start: 1012, end: 1014 } }, version: None }), decl_list: DeclList { items: [Interface(Interface { name: Id { name: \"i\", span: Span { start: 1026, end: 1027 } }, items: [TypeDef(TypeDef { name: Id { name: \"t\", span: Span { start: 1035, end: 1036 } }, body: Plain(List(Span { start: 1039, end: 1043 }, Name(Id { name: \"t\", span: Span { start: 1044, end: 1045 } }))) }), TypeDef(TypeDef { name: Id { name: \"r\", span: Span { start: 1055, end: 1056 } }, body: Record { span: Span { start: 1055, end: 1056 }, fields: [Field { name: Id { name: \"a\", span: Span { start: 1059, end: 1060 } }, ty: U8(Span { start: 1062, end: 1064 }) }] } })] })] } }";
+
+const USES_TREE: &str =
+    "PackageFile { package_id: None, decl_list: DeclList { items: [Interface(Interface { name: Id { name: \"i\", span: Span { start: 1010, end: 1011 } }, items: [Use(Use { from: Id(Id { name: \"x\", span: Span { start: 1018, end: 1019 } }), names: [UseName { name: Id { name: \"t\", span: Span { start: 1021, end: 1022 } }, as_: Some(Id { name: \"s\", span: Span { start: 1026, end: 1027 } }) }, UseName { name: Id { name: \"u\", span: Span { start: 1029, end: 1031 } }, as_: None }] }), Use(Use { from: Id(Id { name: \"use\", span: Span { start: 1039, end: 1043 } }), names: [] }), TypeDef(TypeDef { name: Id { name: \"t\", span: Span { start: 1053, end: 1054 } }, body: Plain(Name(Id { name: \"t\", span: Span { start: 1057, end: 1058 } })) })] }), Interface(Interface { name: Id { name: \"j\", span: Span { start: 1072, end: 1073 } }, items: [] })] } }";
+
+const TOPLEVEL_TREE: &str =
+    "PackageFile { package_id: None, decl_list: DeclList { items: [Use(ToplevelUse { span: Span { start: 1000, end: 1003 }, item: Id(Id { name: \"x\", span: Span { start: 1004, end: 1005 } }), as_: Some(Id { name: \"y\", span: Span { start: 1009, end: 1010 } }) }), Use(ToplevelUse { span: Span { start: 1012, end: 1015 }, item: Id(Id { name: \"z\", span: Span { start: 1016, end: 1018 } }), as_: None })] } }";
