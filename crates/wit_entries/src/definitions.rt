@@ -2,7 +2,8 @@
 ghost use Rattle.std.specs.Prelude.{◌≡◌, List, [], ◌∷◌, OnOk, IfErr};
 ghost use Rattle.wit_types.specs.declared.types.TypeOwner.TheVariants.{Interface as OfInterface};
 ghost use Rattle.wit_model.specs.declared.interface.Interface.{Interface as Resolved};
-ghost use Rattle.wit_meaning.specs.Source.{Address, Defined};
+ghost use Rattle.wit_meaning.specs.Address.{Address};
+ghost use Rattle.wit_meaning.specs.Source.{Defined};
 ghost use Rattle.wit_meaning.specs.Fault.{Fault};
 ghost use Rattle.wit_meaning.specs.Broken.{IsBrokenBody, Refused};
 ghost use Rattle.wit_meaning.specs.Resolving.{env_of, IsStored, Defines, IsWrongBody};

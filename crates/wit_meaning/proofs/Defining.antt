@@ -14,7 +14,8 @@ use Rattle.wit_types.specs.declared.types.TypeDefKind.TheVariants.{Type_}
 use Rattle.wit_types.specs.declared.types.TypeOwner.{TypeOwner}
 use Rattle.wit_types.specs.declared.types.«Type».TheVariants as type
 use Rattle.wit_meaning.specs.Form.{kind_of}
-use Rattle.wit_meaning.specs.Source.{Address, InterfaceNamed, ScopeName, Used, Defined, local_name, name_span, name_form, name_body, name_scope}
+use Rattle.wit_meaning.specs.Address.{Address, InterfaceNamed}
+use Rattle.wit_meaning.specs.Source.{ScopeName, Used, Defined, local_name, name_span, name_form, name_body, name_scope}
 use Rattle.wit_meaning.specs.Expr.{Exprs, End, exprs_of, name_exprs}
 use Rattle.wit_meaning.specs.Meet.{Key, Def, Meeting, keys, IsMet, Meets, Decl, Decls, IsAmong, decl_of, IsMeeting, shapes_meetings, parts_meetings, name_meetings, all_name_meetings}
 use Rattle.wit_meaning.specs.Resolving.{all_met, Names, env_of, Env, AreNames, AreKnown, IsExtended, AreResolved, IsAdded, IsUsed, Defines, AreDistinct, AreNew, decls_of, local_names, named}

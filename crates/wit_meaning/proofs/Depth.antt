@@ -15,7 +15,8 @@ use Rattle.wit_meaning.specs.Form.{Form, kind_of}
 use Rattle.wit_meaning.specs.Node.{Primitive, Tree, Head, Owner, Leaf, Named, Unnamed, node_map}
 use Rattle.wit_meaning.specs.Shape.{Shape, Shapes, no_docs}
 use Rattle.wit_meaning.specs.Shape as shape
-use Rattle.wit_meaning.specs.Source.{Item, Address, ScopeName, local_name, scope, owner, meaning, head, named_node, name_form, name_body, name_scope, name_span, placed, source_tree}
+use Rattle.wit_meaning.specs.Address.{Address}
+use Rattle.wit_meaning.specs.Source.{Item, ScopeName, local_name, scope, owner, meaning, head, named_node, name_form, name_body, name_scope, name_span, placed, source_tree}
 use Rattle.wit_meaning.specs.Expr.{expr_of, exprs_of, name_exprs, Exprs}
 use Rattle.wit_meaning.specs.Meet.{Key, Def, Whole, IsAt, AreAt, Decl, decl_of, IsKeyed, IsBare, primitive_type}
 use Rattle.wit_meaning.specs.Package.{package_tree, node_at, entry_head, entry_node, owner_of}

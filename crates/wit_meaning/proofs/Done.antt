@@ -11,7 +11,8 @@ use Rattle.wit_types.specs.declared.types.TypeDef.{TypeDef}
 use Rattle.wit_types.specs.declared.types.TypeOwner.{TypeOwner}
 use Rattle.wit_types.specs.declared.types.TypeOwner.TheVariants as owner
 use Rattle.wit_order.specs.Table.{IsOrder}
-use Rattle.wit_meaning.specs.Source.{Item, Address, InterfaceNamed, ScopeName, interface_name, scope_names, local_name}
+use Rattle.wit_meaning.specs.Address.{Address, InterfaceNamed}
+use Rattle.wit_meaning.specs.Source.{Item, ScopeName, interface_name, scope_names, local_name}
 use Rattle.wit_meaning.specs.Scope.{rows_of, in_turn}
 use Rattle.wit_meaning.specs.Meet.{Def, Meeting, keys, Meets, Decl, IsAmong, decl_of, all_name_meetings}
 use Rattle.wit_meaning.specs.Whole.{Ordered, item_of, ordered_names, address, meetings, owner_at, declarations}

@@ -33,7 +33,8 @@ use Rattle.wit_order.specs.Order.{ReachesCycle}
 use Rattle.wit_meaning.specs.Form.{Member, RecordForm, ListForm, AliasForm, kind_of}
 use Rattle.wit_meaning.specs.Node.{OfInterface, Head, Leaf, Named, Unnamed, Tree}
 use Rattle.wit_meaning.specs.Node as node
-use Rattle.wit_meaning.specs.Source.{path_id, top_names, Item, interfaces, InterfaceNamed, ScopeName, Used, Defined, scope_names, source_tree}
+use Rattle.wit_meaning.specs.Address.{InterfaceNamed}
+use Rattle.wit_meaning.specs.Source.{path_id, top_names, Item, interfaces, ScopeName, Used, Defined, scope_names, source_tree}
 use Rattle.wit_meaning.specs.Expr.{Prim, one}
 use Rattle.wit_meaning.specs.Meet.{Def, Whole, Meeting, IsMet, Meets}
 use Rattle.wit_meaning.specs.Scope.{rows_of, item_rows, in_turn}

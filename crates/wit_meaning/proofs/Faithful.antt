@@ -16,7 +16,8 @@ use Rattle.wit_values.specs.ReleaseText.{release_parts}
 use Rattle.wit_model.specs.declared.unresolved.UnresolvedPackage.{UnresolvedPackage}
 use Rattle.wit_meaning.specs.Form.{Form, kind_of}
 use Rattle.wit_meaning.specs.Shape.{Word, Of}
-use Rattle.wit_meaning.specs.Source.{interface_at, Item, Address, InterfaceNamed, ScopeName, Used, Place, interfaces, interface_name, interface_named, local_name, local_id, scope_names, scope, meaning, name_body, name_scope, name_parts}
+use Rattle.wit_meaning.specs.Address.{Address, InterfaceNamed}
+use Rattle.wit_meaning.specs.Source.{interface_at, Item, ScopeName, Used, Place, interfaces, interface_name, interface_named, local_name, local_id, scope_names, scope, meaning, name_body, name_scope, name_parts}
 use Rattle.wit_meaning.specs.Expr.{Expr, Use, Exprs, one, expr_of, exprs_of, name_exprs}
 use Rattle.wit_meaning.specs.Meet.{Key, Def, Whole, keys, IsAt, AreAt, Decl, Decls, decl_of, IsEntry, IsMeeting}
 use Rattle.wit_meaning.specs.Fault.{Fault}

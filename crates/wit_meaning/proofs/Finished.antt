@@ -12,7 +12,8 @@ use Rattle.wit_model.specs.declared.interface.Interface.{Interface}
 use Rattle.wit_order.specs.Table.{Row, target, IsEdge, Leads, IsOrder}
 use Rattle.wit_order.proofs.Tables.{slice_get-take}
 use Rattle.wit_meaning.specs.Fault.{Fault, item_word}
-use Rattle.wit_meaning.specs.Source.{Item, Address, InterfaceNamed, item_edge, ScopeName, Used, interfaces, interface_name, interface_named, interface_at, top_names, top_text, scope_names, local_name, meaning}
+use Rattle.wit_meaning.specs.Address.{Address, InterfaceNamed}
+use Rattle.wit_meaning.specs.Source.{Item, item_edge, ScopeName, Used, interfaces, interface_name, interface_named, interface_at, top_names, top_text, scope_names, local_name, meaning}
 use Rattle.wit_meaning.specs.Scope.{rows_of, in_order, paths, item_row, item_rows}
 use Rattle.wit_meaning.specs.Broken.{IsMissingName, IsBroken, Headerless, DuplicateItem, DuplicateTopName, MissingItem, CyclicItem, MissingOriginal, MissingName, Scope, IsLegal, last_header}
 use Rattle.wit_meaning.specs.Repeats.{AllDiffer}

@@ -8,7 +8,8 @@ use Rattle.std.proofs.lemmas.Bool.{cases_Bool, cond-true, lt-ltb}
 use Rattle.std.proofs.lemmas.Option.{slice_get_within}
 use Rattle.wit_tree.specs.declared.tree.PackageFile.{PackageFile}
 use Rattle.wit_types.specs.declared.types.TypeOwner.TheVariants as owner
-use Rattle.wit_meaning.specs.Source.{Item, InterfaceNamed, interfaces, interface_name, interface_named, scope_names, scope}
+use Rattle.wit_meaning.specs.Address.{InterfaceNamed}
+use Rattle.wit_meaning.specs.Source.{Item, interfaces, interface_name, interface_named, scope_names, scope}
 use Rattle.wit_meaning.specs.Whole.{address, place_owner, owner_at}
 use Rattle.wit_meaning.proofs.Names.{name_itself, name_equal}
 use Rattle.wit_meaning.proofs.Standing.{AreItems}

@@ -12,7 +12,8 @@ use Rattle.wit_tree.specs.declared.tree.InterfaceItem.{InterfaceItem}
 use Rattle.wit_tree.specs.declared.tree.InterfaceItem.TheVariants.{TypeDef as TypeItem, Use as UseItem}
 use Rattle.wit_tree.specs.declared.tree.PackageFile.{PackageFile}
 use Rattle.wit_order.specs.Table.{IsOrder}
-use Rattle.wit_meaning.specs.Source.{TopName, Item, Address, InterfaceNamed, Used, Defined, path_id, item_edge, path_scope, item_names, interface_name, interface_named, interfaces}
+use Rattle.wit_meaning.specs.Address.{Address, InterfaceNamed}
+use Rattle.wit_meaning.specs.Source.{TopName, Item, Used, Defined, path_id, item_edge, path_scope, item_names, interface_name, interface_named, interfaces}
 use Rattle.wit_meaning.specs.Scope.{in_order, item_paths, item_row, item_rows}
 use Rattle.std.specs.List.{flat_map}
 use Rattle.std.specs.Option.{option_map}

@@ -5,7 +5,8 @@ use Rattle.wit_tree.specs.declared.tree.PackageFile.{PackageFile}
 use Rattle.wit_model.specs.declared.interface.Interface.{Interface}
 use Rattle.wit_types.specs.declared.types.TypeDef.{TypeDef}
 use Rattle.wit_order.specs.Table.{IsOrder}
-use Rattle.wit_meaning.specs.Source.{Item, Address, ScopeName, interfaces, interface_name, interface_named, scope_names, local_name}
+use Rattle.wit_meaning.specs.Address.{Address}
+use Rattle.wit_meaning.specs.Source.{Item, ScopeName, interfaces, interface_name, interface_named, scope_names, local_name}
 use Rattle.wit_meaning.specs.Scope.{rows_of}
 use Rattle.wit_meaning.specs.Meet.{Def, Meeting, keys, Meets, IsMeeting}
 use Rattle.wit_meaning.specs.Package.{IsInterface}

@@ -10,7 +10,8 @@ use Rattle.wit_types.specs.declared.types.TypeDef.{TypeDef}
 use Rattle.wit_types.specs.declared.types.TypeOwner.{TypeOwner}
 use Rattle.wit_tree.specs.declared.tree.UseName.{UseName}
 use Rattle.wit_model.specs.declared.interface.Interface.{Interface}
-use Rattle.wit_meaning.specs.Source.{Address, ScopeName, Used, local_name}
+use Rattle.wit_meaning.specs.Address.{Address}
+use Rattle.wit_meaning.specs.Source.{ScopeName, Used, local_name}
 use Rattle.wit_meaning.specs.Resolving.{Names, env_of, local_names, HasNames, IsUsed}
 use Rattle.wit_meaning.proofs.Names.{name_cases, name_itself, names-insert_entry}
 

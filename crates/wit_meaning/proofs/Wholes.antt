@@ -2,7 +2,8 @@
 use Rattle.std.proofs.Common.{◌≡◌, ℕ, suc, List, [], ◌∷◌, Some, inl, inr, refl, subst}
 use Rattle.std.specs.Prelude.{slice_get}
 use Rattle.wit_meaning.specs.Form.{Form}
-use Rattle.wit_meaning.specs.Source.{Address, ScopeName, local_name}
+use Rattle.wit_meaning.specs.Address.{Address}
+use Rattle.wit_meaning.specs.Source.{ScopeName, local_name}
 use Rattle.wit_meaning.specs.Expr.{Exprs, name_exprs}
 use Rattle.wit_meaning.specs.Meet.{Key, Def, Whole, keys, name_meetings, parts_meetings, all_name_meetings}
 use Rattle.wit_meaning.specs.Whole.{Ordered, ordered_names, address, meetings}

@@ -5,7 +5,8 @@ use Rattle.std.specs.Option.{option_map}
 use Rattle.std.proofs.lemmas.Option.{slice_get-map}
 use Rattle.wit_tree.specs.declared.tree.UseName.{UseName}
 use Rattle.wit_model.specs.declared.interface.Interface.{Interface}
-use Rattle.wit_meaning.specs.Source.{Address, ScopeName, Used, local_name}
+use Rattle.wit_meaning.specs.Address.{Address}
+use Rattle.wit_meaning.specs.Source.{ScopeName, Used, local_name}
 use Rattle.wit_meaning.specs.Scope.{used, defined}
 use Rattle.wit_meaning.specs.Fault.{Fault}
 use Rattle.wit_meaning.specs.Broken.{IsRepeated, DefinedTwice}

@@ -1,6 +1,7 @@
 //! Declared interfaces.
 ghost use Rattle.std.specs.Prelude.{◌≡◌, ◌<◌, List, [], All, length, IfErr, OnOk, map};
-ghost use Rattle.wit_meaning.specs.Source.{Address, scope_names as the_names};
+ghost use Rattle.wit_meaning.specs.Address.{Address};
+ghost use Rattle.wit_meaning.specs.Source.{scope_names as the_names};
 ghost use Rattle.wit_meaning.specs.Scope.{used, in_order};
 ghost use Rattle.wit_meaning.specs.Fault.{Fault};
 ghost use Rattle.wit_meaning.specs.Broken.{IsBrokenScope, Refused};

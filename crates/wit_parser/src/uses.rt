@@ -2,7 +2,8 @@
 ghost use Rattle.std.specs.Prelude.{◌≡◌, List, [], map, OnOk, IfOk, IfErr};
 ghost use Rattle.wit_tree.specs.Refusal.{IsWantOfMemory};
 ghost use Rattle.wit_types.specs.declared.types.TypeOwner.TheVariants.{Interface as OfInterface};
-ghost use Rattle.wit_meaning.specs.Source.{Address, InterfaceNamed, ScopeName};
+ghost use Rattle.wit_meaning.specs.Address.{Address, InterfaceNamed};
+ghost use Rattle.wit_meaning.specs.Source.{ScopeName};
 ghost use Rattle.wit_meaning.specs.Scope.{used};
 ghost use Rattle.wit_meaning.specs.Broken.{Refused};
 ghost use Rattle.wit_parser.specs.Held.{use_behind};

@@ -1,7 +1,8 @@
 use Rattle.std.proofs.Common.{◌≡◌, List, map, take}
 use Rattle.wit_model.specs.declared.interface.Interface.{Interface}
 use Rattle.wit_types.specs.declared.types.TypeOwner.TheVariants.{Interface as OfInterface}
-use Rattle.wit_meaning.specs.Source.{Address, ScopeName}
+use Rattle.wit_meaning.specs.Address.{Address}
+use Rattle.wit_meaning.specs.Source.{ScopeName}
 use Rattle.wit_meaning.specs.Resolving.{env_of, Defines, AreLegalBodies, HasNames}
 use Rattle.wit_parser.specs.Held.{definition_behind}
 use Rattle.wit_parser.proofs.interface.define_all.Given as goal

@@ -3,7 +3,8 @@ use Rattle.std.proofs.lemmas.List.{map-append}
 use Rattle.std.proofs.lemmas.Result.{err_from_is_err_and}
 use Rattle.wit_tree.specs.declared.tree.Id.{Id}
 use Rattle.wit_tree.specs.declared.tree.InterfaceItem.{InterfaceItem}
-use Rattle.wit_meaning.specs.Source.{path_id, item_edge, InterfaceNamed, Used, item_names}
+use Rattle.wit_meaning.specs.Address.{InterfaceNamed}
+use Rattle.wit_meaning.specs.Source.{path_id, item_edge, Used, item_names}
 use Rattle.wit_meaning.specs.Scope.{item_paths}
 use Rattle.wit_meaning.proofs.Refusing.{refused_weaker}
 use Rattle.wit_parser.specs.Held.{name_behind}

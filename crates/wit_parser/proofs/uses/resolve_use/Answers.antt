@@ -1,6 +1,6 @@
 use Rattle.std.proofs.lemmas.Result.{err_from_is_err_and}
 use Rattle.wit_meaning.proofs.Refusing.{refused_weaker}
-use Rattle.wit_meaning.specs.Source.{InterfaceNamed}
+use Rattle.wit_meaning.specs.Address.{InterfaceNamed}
 use Rattle.std.proofs.Common.{refl, ◌≡◌, rules, inl, inr, None}
 use Rattle.wit_meaning.specs.Resolving.{env_of, IsUnresolved, IsWrongUse, Unresolved, Unstated, Wrong}
 use Rattle.wit_parser.proofs.uses.resolve_use.Goals as goal

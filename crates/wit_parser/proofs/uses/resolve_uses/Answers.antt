@@ -3,7 +3,8 @@ use Rattle.std.specs.Prelude.{slice_get, map}
 use Rattle.std.proofs.lemmas.List.{take_all, length-map}
 use Rattle.std.proofs.lemmas.Result.{err_from_is_err_and}
 use Rattle.wit_types.specs.declared.types.TypeOwner.TheVariants.{Interface as OfInterface}
-use Rattle.wit_meaning.specs.Source.{InterfaceNamed, Used}
+use Rattle.wit_meaning.specs.Address.{InterfaceNamed}
+use Rattle.wit_meaning.specs.Source.{Used}
 use Rattle.wit_meaning.specs.Resolving.{Defines, local_names, IsWrongUse, IsWrongScope}
 use Rattle.wit_meaning.proofs.Lists.{read_map}
 use Rattle.wit_meaning.proofs.Orders.{take_next}

@@ -1,6 +1,6 @@
 use Rattle.std.proofs.Common.{◌≡◌, map, take}
 use Rattle.wit_types.specs.declared.types.TypeOwner.TheVariants.{Interface as OfInterface}
-use Rattle.wit_meaning.specs.Source.{Address}
+use Rattle.wit_meaning.specs.Address.{Address}
 use Rattle.wit_meaning.specs.Resolving.{Defines, local_names}
 use Rattle.wit_parser.specs.Held.{use_behind}
 use Rattle.wit_parser.proofs.uses.resolve_uses.Given as goal
