@@ -20,7 +20,7 @@ use Rattle.wit_meaning.specs.Fault.{Fault}
 use Rattle.wit_meaning.specs.Scope.{item_rows, in_order}
 use Rattle.wit_meaning.specs.Broken.{last_header, IsMissingName}
 use Rattle.wit_meaning.specs.Package.{owner_of, names_of, interface_owner, interface_types, named_owner}
-use Rattle.wit_meaning.specs.Whole.{Ordered, Turned, item_of, address, turned, meetings, addresses, declarations, HasTypes, IsFaithful, IsPackage}
+use Rattle.wit_meaning.specs.Whole.{Ordered, Turned, item_of, address, turned, meetings, addresses, declarations, HasTypes, IsFaithful, NamesNoOther, IsPackage}
 use Rattle.wit_meaning.specs.Resolving.{Names, Cell, cell}
 use Rattle.wit_meaning.proofs.Lists.{map_at, map_map}
 use Rattle.wit_meaning.proofs.Standing.{DoneScope, turn_of, cell_of}
@@ -93,8 +93,8 @@ module _ (files : List PackageFile) (ws : List Item) (p : UnresolvedPackage) (d 
   same_addresses : map address ws ≡ addresses (map turned d.ordered)
   same_addresses = ap (map address) (sym d.all) ∙ map_map address item_of d.ordered ∙ sym (map_map (λ (x : Turned). x.address) turned d.ordered)
 
-  pub package_of : (header : Header) (places : List ℕ) → IsOrder (item_rows files) places → ws ≡ in_order (interfaces files) places → last_header files ≡ Some header → p.name.namespace ≡ header.namespace.name.now → p.name.name ≡ header.name.name.now → option_map release_parts p.name.version ≡ option_map parts_of header.version → p.name_span ≡ header.span → p.worlds ≡ [] → IsPackage files p
-  package_of header places order are last namespace name version span worlds = record {
+  pub package_of : (header : Header) (places : List ℕ) → IsOrder (item_rows files) places → ws ≡ in_order (interfaces files) places → last_header files ≡ Some header → p.name.namespace ≡ header.namespace.name.now → p.name.name ≡ header.name.name.now → option_map release_parts p.name.version ≡ option_map parts_of header.version → p.name_span ≡ header.span → p.worlds ≡ [] → NamesNoOther p → IsPackage files p
+  package_of header places order are last namespace name version span worlds others = record {
     header = header;
     last = last;
     namespace = namespace;
@@ -102,6 +102,7 @@ module _ (files : List PackageFile) (ws : List Item) (p : UnresolvedPackage) (d 
     version = version;
     name_span = span;
     worlds = worlds;
+    others = others;
     items = places;
     item_order = order;
     ordered = d.ordered;

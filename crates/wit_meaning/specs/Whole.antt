@@ -76,6 +76,12 @@ pub record HasTypes (ks : List Key) (t : Turned) (types : List (List ℕ × ℕ)
   pub names : map (λ n. n.0) types ≡ map local_name t.names
   pub places : (k : ℕ) (name : List ℕ) (id : ℕ) → slice_get types k ≡ Some (name, id) → slice_get ks id ≡ Some (Def t.address name)
 
+-- the package names no other one
+pub record NamesNoOther (p : UnresolvedPackage) : Type 0 where
+  pub deps : p.foreign_deps ≡ []
+  pub spans : p.foreign_dep_spans ≡ []
+  pub unknown : p.unknown_type_spans ≡ []
+
 -- The package has the name and the version of the last header, the interfaces in the least order in which each comes after those that
 -- it uses, each with its used names and then its definitions in the least dependency-first order, and its arena of types is the list
 -- of first meetings.
@@ -87,6 +93,7 @@ pub record IsPackage (files : List PackageFile) (p : UnresolvedPackage) : Type 0
   pub version : option_map release_parts p.name.version ≡ option_map parts_of header.version
   pub name_span : p.name_span ≡ header.span
   pub worlds : p.worlds ≡ []
+  pub others : NamesNoOther p
   pub items : List ℕ
   pub item_order : IsOrder (item_rows files) items
   pub ordered : List Ordered
