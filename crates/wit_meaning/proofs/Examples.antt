@@ -151,7 +151,7 @@ module _ (ptr : Ptr) (alloc : Global) where
 
   -- a package of these arenas
   abbrev package_with : List Interface → List TypeDef → UnresolvedPackage
-  package_with is es = record { name = record { namespace = codes "foo"; name = codes "foo"; version = None }; worlds = []; interfaces = is; types = es; name_span = at 8 15 }
+  package_with is es = record { name = record { namespace = codes "foo"; name = codes "foo"; version = None }; worlds = []; interfaces = is; types = es; foreign_deps = []; name_span = at 8 15; unknown_type_spans = []; foreign_dep_spans = [] }
 
   arenas : package_tree (package_with (i_entry ∷ []) (list_entry ∷ p_entry ∷ [])) 3 (type.Id 1) ≡ p_tree
   arenas = refl
