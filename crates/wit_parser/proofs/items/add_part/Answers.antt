@@ -2,7 +2,8 @@ use Rattle.std.proofs.Common.{◌++◌, ◌∷◌, [], map, sym, ap, ◌∙◌}
 use Rattle.std.proofs.lemmas.List.{map-append}
 use Rattle.wit_tree.specs.declared.tree.Id.{Id}
 use Rattle.wit_tree.specs.declared.tree.InterfaceItem.{InterfaceItem}
-use Rattle.wit_meaning.specs.Source.{top_names, InterfaceNamed, Used, item_names}
+use Rattle.wit_meaning.specs.Address.{InterfaceNamed}
+use Rattle.wit_meaning.specs.Source.{top_names, Used, item_names}
 use Rattle.wit_parser.specs.Held.{name_behind}
 use Rattle.wit_parser.proofs.items.add_part.Goals.{in-TypeDef+in_ok-push, in-Use+in_ok-add_used_names}
 use Rattle.wit_parser.proofs.items.add_part.Goals as goal
