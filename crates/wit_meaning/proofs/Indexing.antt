@@ -2,13 +2,12 @@
 use Rattle.std.proofs.Common.{◌≡◌, ℕ, true, false, cond, List, [], ◌∷◌, ◌++◌, length, Some, IsSome, nat_eq, inl, inr, refl, sym, ap, ◌∙◌, subst}
 use Rattle.std.specs.Prelude.{slice_get}
 use Rattle.std.specs.Cmp.Lexicographic.{pointwise}
-use Rattle.std.specs.Option.{unwrap_or, option_map}
+use Rattle.std.specs.Option.{unwrap_or}
 use Rattle.std.proofs.lemmas.List.{length-map, map-append}
-use Rattle.std.proofs.lemmas.Option.{slice_get-map}
 use Rattle.indexmap.specs.IndexMap.{insert_entry}
 use Rattle.wit_model.specs.declared.interface.Interface.{Interface}
 use Rattle.wit_meaning.specs.Address.{InterfaceNamed}
-use Rattle.wit_meaning.specs.Resolving.{Names, Cell, cell, cells, env_of, IsIndex, IsFound}
+use Rattle.wit_meaning.specs.Resolving.{Names, Cell, cell, cells, env_of, IsIndex}
 use Rattle.wit_meaning.proofs.Lists.{at_front, at_seam, at_either}
 use Rattle.wit_meaning.proofs.Names.{name_cases, name_itself, lookup-insert_entry}
 
@@ -60,12 +59,3 @@ pub index_interface : (is : List Interface) (by_name : Names) (i : Interface) (n
 index_interface is by_name i name index called =
     let more = index_more (cells is) by_name (cell i) name index (cell_address i name called) in
     subst (λ (n : ℕ). IsIndex (cells (is ++ i ∷ [])) (insert_entry (pointwise nat_eq) by_name name n)) (length-map is cell) (subst (λ (cs : List Cell). IsIndex cs (insert_entry (pointwise nat_eq) by_name name (length (cells is)))) (sym (map-append cell is (i ∷ []))) more)
-
--- the interface of a name is found
-pub interface_found : (is : List Interface) (by_name : Names) (name : List ℕ) (t : ℕ) (i : Interface) → IsIndex (cells is) by_name → env_of by_name name ≡ Some t → slice_get is t ≡ Some i → IsFound (cells is) (InterfaceNamed name) (cell i)
-interface_found is by_name name t i index found there =
-    let c = index.stands name t found in
-    let at : slice_get (cells is) t ≡ Some (cell i) = slice_get-map cell is t ∙ ap (option_map cell) there in
-    let both : Some c.0 ≡ Some (cell i) = sym c.1 ∙ at in
-    let same : c.0 ≡ cell i = cc in
-    record { place = t; at = at; called = ap (λ (x : Cell). x.address) (sym same) ∙ c.2 }
