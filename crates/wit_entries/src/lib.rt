@@ -6,8 +6,6 @@ pub mod definitions;
 pub mod entries;
 pub mod rules;
 pub mod scope;
-#[cfg(test)]
-mod tests;
 pub mod types;
 
 pub use wit_scope::repeats;

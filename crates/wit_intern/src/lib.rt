@@ -8,8 +8,6 @@ pub mod laws;
 pub mod run;
 pub mod table;
 mod tables;
-#[cfg(test)]
-mod tests;
 
 pub use key::InternKey;
 pub use run::{InternReply, InternStep, intern_run};

@@ -13,8 +13,6 @@ mod names;
 pub mod order;
 mod places;
 mod ready;
-#[cfg(test)]
-mod tests;
 mod tree;
 mod turned;
 

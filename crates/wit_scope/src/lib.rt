@@ -13,8 +13,6 @@ pub mod order_refusal;
 pub mod package;
 pub mod refusal;
 pub mod repeats;
-#[cfg(test)]
-mod tests;
 mod top_name;
 pub mod unique_names;
 pub mod visit;

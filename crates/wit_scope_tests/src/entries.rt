@@ -1,11 +1,12 @@
 //! What no clause says: that calls succeed, and the words of refusals.
 
-use crate::definitions::define;
-use crate::entries::Entries;
-use crate::scope::Scope;
+use crate::helpers::parts_of;
 use std::alloc::Global;
 use std::process::Abort;
 use std::test::Fail;
+use wit_entries::definitions::define;
+use wit_entries::entries::Entries;
+use wit_entries::scope::Scope;
 use wit_model::{Arena, InterfacePlace, Type, TypeDef, TypeDefKind, TypePlace};
 use wit_scope::refusal::{refuse, refuse_cycle, refuse_missing, refuse_missing_type};
 use wit_tree::tree::{self, Field, Id, TypeBody};
@@ -14,58 +15,38 @@ use wit_values::TextTable;
 
 const HERE: Span = Span { start: 3, end: 4 };
 
-/// Whether a refusal says this.
-fn says(alloc: Global, e: &ParseError, wanted: &str) -> Result<bool, Fail> {
+/// The number and the words of a refusal.
+fn words(alloc: Global, e: &ParseError) -> Result<String, Fail> {
     let rule = e.rule();
-    let said = format!(in alloc; "{rule} {e}")?;
-    Ok(said.as_str() == wanted)
+    Ok(format!(in alloc; "{rule} {e}")?)
+}
+
+fn check_words(rt: &impl Abort, alloc: Global, e: ParseError, wanted: &str) -> Result<(), Fail> {
+    assert_eq!(rt; words(alloc, &e)?.as_str(), wanted);
+    Ok(())
 }
 
 fn id<'a>(rt: &impl Abort, name: &'a str) -> Id<'a> {
     Id::new(name, HERE).expect(rt, "a label")
 }
 
+const RENAMED: &str =
+    "15 type `float32` does not exist; the `float32` type has been renamed to `f32` and is no longer accepted, but the `WIT_REQUIRE_F32_F64=0` environment variable can be used to temporarily disable this error";
+
 #[test]
 fn refuses_in_words(rt: HostRuntime) -> Result<(), Fail> {
     let alloc = rt.alloc();
     let x = id(&rt, "x");
-    assert!(rt;
-        says(
-            alloc,
-            &refuse(alloc, 19, HERE, "empty record"),
-            "19 empty record"
-        )?
-    );
-    assert!(rt;
-        says(
-            alloc,
-            &refuse_missing(alloc, 12, "name", x),
-            "12 name `x` does not exist"
-        )?
-    );
-    assert!(rt;
-        says(
-            alloc,
-            &refuse_missing_type(alloc, x),
-            "15 type `x` does not exist"
-        )?
-    );
-    assert!(rt;
-        says(
-            alloc,
-            &refuse_cycle(alloc, 16, "type", x),
-            "16 type `x` depends on itself"
-        )?
-    );
+    let empty = refuse(alloc, 19, HERE, "empty record");
+    check_words(&rt, alloc, empty, "19 empty record")?;
+    let missing = refuse_missing(alloc, 12, "name", x);
+    check_words(&rt, alloc, missing, "12 name `x` does not exist")?;
+    let missing = refuse_missing_type(alloc, x);
+    check_words(&rt, alloc, missing, "15 type `x` does not exist")?;
+    let cycle = refuse_cycle(alloc, 16, "type", x);
+    check_words(&rt, alloc, cycle, "16 type `x` depends on itself")?;
     let old = refuse_missing_type(alloc, id(&rt, "float32"));
-    assert!(rt;
-        says(
-            alloc,
-            &old,
-            "15 type `float32` does not exist; the `float32` type has been renamed to `f32` and is no longer accepted, but the `WIT_REQUIRE_F32_F64=0` environment variable can be used to temporarily disable this error"
-        )?
-    );
-    Ok(())
+    check_words(&rt, alloc, old, RENAMED)
 }
 
 /// The type that a word stands for: `u8`, a name, or a list of one, where the word ends in `*`.
@@ -118,6 +99,35 @@ fn listing(alloc: Global, types: &Arena<TypeDef, TypePlace>) -> Result<String, F
     Ok(text)
 }
 
+/// Defines a name as a text writes it: nothing, or the refusal.
+fn defined<'a>(
+    rt: &impl Abort,
+    alloc: Global,
+    types: &mut Entries,
+    scope: &mut Scope,
+    name: &'a str,
+    text: &'a str,
+) -> Result<String, Fail> {
+    let definition = tree::TypeDef {
+        name: id(rt, name),
+        body: body(rt, alloc, text)?,
+    };
+    match define(alloc, types, scope, &definition) {
+        Ok(()) => Ok(String::new(alloc)),
+        Err(e) => Ok(words(alloc, &e)?),
+    }
+}
+
+/// A name and what it is defined as, one behind the other in a scope, and the refusal.
+const DEFINITIONS: &str = "a|u8* => ;
+b|a => ;
+r|:f=u8* g=b h=u8* i=a* => ;
+s|:f=a* => ;
+t|gone => 15 type `gone` does not exist;
+t|: => 19 empty record;
+t|:f=u8 F=u8 => 25 field `F` conflicts with previous field `f`;
+t|:f=u8 f=u8 => 25 duplicate field `f`";
+
 #[test]
 fn defines(rt: HostRuntime) -> Result<(), Fail> {
     let alloc = rt.alloc();
@@ -126,28 +136,11 @@ fn defines(rt: HostRuntime) -> Result<(), Fail> {
         id: Arena::<u8, InterfacePlace>::new(alloc).next_id(),
         names: TextTable::new(alloc),
     };
-    for (name, text, refusal) in [
-        ("a", "u8*", ""),
-        ("b", "a", ""),
-        ("r", ":f=u8* g=b h=u8* i=a*", ""),
-        ("s", ":f=a*", ""),
-        ("t", "gone", "15 type `gone` does not exist"),
-        ("t", ":", "19 empty record"),
-        (
-            "t",
-            ":f=u8 F=u8",
-            "25 field `F` conflicts with previous field `f`",
-        ),
-        ("t", ":f=u8 f=u8", "25 duplicate field `f`"),
-    ] {
-        let definition = tree::TypeDef {
-            name: id(&rt, name),
-            body: body(&rt, alloc, text)?,
-        };
-        match define(alloc, &mut types, &mut scope, &definition) {
-            Ok(()) => assert!(rt; refusal.is_empty(), "at {text}"),
-            Err(e) => assert!(rt; says(alloc, &e, refusal)?, "at {text}"),
-        }
+    for row in DEFINITIONS.split(";\n") {
+        let (given, want) = parts_of(&rt, row);
+        let (name, text) = given.split_once('|').expect(&rt, "a name and its text");
+        let said = defined(&rt, alloc, &mut types, &mut scope, name, text)?;
+        assert_eq!(rt; said.as_str(), want, "at {text}");
     }
     let entries = listing(alloc, &types.into_arena())?;
     assert!(rt; entries.as_str() == "a list u8; b alias; - list u8; - list; r record; s record; ");

@@ -1,8 +1,8 @@
 //! Finds and inserts give one list of replies, whichever table keeps the types.
-use crate::{InternKey, InternReply, InternStep, InternTable, intern_run, laws};
 use std::alloc::{AllocError, Global};
 use std::collections::{BTreeMap, HashMap};
 use std::test::Fail;
+use wit_intern::{InternKey, InternReply, InternStep, InternTable, intern_run, laws};
 use wit_types::{Arena, Result_, Type, TypeDefKind, TypeId, TypePlace};
 
 // The id of a type at a place.

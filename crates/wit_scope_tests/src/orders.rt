@@ -1,8 +1,10 @@
-use crate::order::{order_places, order_steps, toposort, toposort_heap, toposort_scan};
+//! Every body that orders a table, on worked tables and on a long chain.
+
 use indexmap::IndexMap;
 use std::alloc::Global;
 use std::process::Abort;
 use std::test::Fail;
+use wit_order::{order_places, order_steps, toposort, toposort_heap, toposort_scan};
 use wit_tree::tree::Id;
 use wit_tree::{ParseResult, Span};
 

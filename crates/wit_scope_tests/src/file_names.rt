@@ -3,10 +3,12 @@
 //! A file is written as words: `i:a,b` is an interface `i` that uses from `a` and `b`, `x=a` a
 //! `use` of `a` as `x`. A `|` stands between files. Names have their numbers as spans.
 
-use super::{numbered, refusal};
-use crate::{FileNames, Found};
+ghost use Rattle.wit_scope.specs.FileNames.{AreNamesOf};
+
+use crate::helpers::{numbered, parts_of, refusal};
 use std::alloc::{AllocError, Global};
 use std::test::Fail;
+use wit_scope::{FileNames, Found};
 use wit_tree::Span;
 use wit_tree::tree::{
     AstItem, DeclList, Id, Interface, InterfaceItem, PackageFile, ToplevelUse, Use, UsePath,
@@ -84,69 +86,79 @@ fn order(alloc: Global, text: &str) -> Result<String, Fail> {
     Ok(said)
 }
 
+/// Files, and the order of their items.
+const ORDERS: &str = " => ;
+a: b: c: => 0 1 2 ;
+a:b b:c c: => 2 1 0 ;
+c: a:b | b:c => 0 2 1 ;
+x=b a:x | b: => 1 0 ;
+a: x=z x=z | b: a: => E5 6 duplicate item named `a`;
+a:z x=a x=a => E6 4 duplicate name `x` in this file;
+a: | b=a b:z => E6 3 duplicate name `b` in this file;
+a:z | x=a x=a => E7 1 interface or world `z` does not exist;
+x=z a:x b:c c:b => E7 1 interface or world `z` does not exist;
+x=z a:b b:a => E8 4 interface or world `b` depends on itself;
+a: a=z | b: => E6 1 duplicate name `a` in this file;
+a: | x=z => E7 2 interface or world `z` does not exist;
+x=a a: | y=x => E7 4 interface or world `x` does not exist";
+
 #[test]
 fn items_in_order(rt: HostRuntime) -> Result<(), Fail> {
     let alloc = rt.alloc();
-    for (text, want) in [
-        ("", ""),
-        ("a: b: c:", "0 1 2 "),
-        ("a:b b:c c:", "2 1 0 "),
-        ("c: a:b | b:c", "0 2 1 "),
-        ("x=b a:x | b:", "1 0 "),
-        ("a: x=z x=z | b: a:", "E5 6 duplicate item named `a`"),
-        ("a:z x=a x=a", "E6 4 duplicate name `x` in this file"),
-        ("a: | b=a b:z", "E6 3 duplicate name `b` in this file"),
-        (
-            "a:z | x=a x=a",
-            "E7 1 interface or world `z` does not exist",
-        ),
-        (
-            "x=z a:x b:c c:b",
-            "E7 1 interface or world `z` does not exist",
-        ),
-        (
-            "x=z a:b b:a",
-            "E8 4 interface or world `b` depends on itself",
-        ),
-        ("a: a=z | b:", "E6 1 duplicate name `a` in this file"),
-        ("a: | x=z", "E7 2 interface or world `z` does not exist"),
-        ("x=a a: | y=x", "E7 4 interface or world `x` does not exist"),
-    ] {
+    for row in ORDERS.split(";\n") {
+        let (text, want) = parts_of(&rt, row);
         let said = order(alloc, text)?;
         assert_eq!(rt; said.as_str(), want, "at {text}");
     }
     Ok(())
 }
 
-/// What a path leads to in the file at a place; none where the files are refused.
-fn led(alloc: Global, text: &str, file: usize, path: &str) -> Result<Option<Found>, Fail> {
-    let files = files(alloc, text)?;
-    let path = UsePath::Id(label(path, &mut 0u32)?);
+/// What a path leads to in the file at a place: the place of an item, or `none`.
+fn found(
+    alloc: Global,
+    names: &FileNames<'_>,
+    files: &[PackageFile<'_>],
+    file: usize,
+    path: &str,
+) -> Result<String, Fail>
+    requires named { AreNamesOf files.now names.now }
+{
     if file >= files.len() {
-        return Ok(None);
+        return Ok(String::from_str(alloc, "no file")?);
     }
-    match FileNames::gather(alloc, &files) {
-        Ok(names) => Ok(names.lookup(file, &path)),
-        Err(_) => Ok(None),
+    match names.lookup(file, &UsePath::Id(label(path, &mut 0u32)?)) {
+        Some(Found::Item(place)) => Ok(format!(in alloc; "{place}")?),
+        None => Ok(String::from_str(alloc, "none")?),
     }
 }
+
+/// The place of a file and a path, and what it leads to there.
+const PATHS: &str = "0 a => 0;
+0 b => 1;
+0 c => 2;
+0 x => 2;
+1 a => 1;
+1 x => 0;
+2 a => 0;
+2 x => none;
+0 z => none";
 
 #[test]
 fn paths_lead_to_items(rt: HostRuntime) -> Result<(), Fail> {
     let alloc = rt.alloc();
-    for (file, path, want) in [
-        (0usize, "a", Some(0usize)),
-        (0, "b", Some(1)),
-        (0, "c", Some(2)),
-        (0, "x", Some(2)),
-        (1, "a", Some(1)),
-        (1, "x", Some(0)),
-        (2, "a", Some(0)),
-        (2, "x", None),
-        (0, "z", None),
-    ] {
-        let found = led(alloc, "x=c a: b: | a=b c: x=a |", file, path)?;
-        assert!(rt; found == want.map(Found::Item), "{path} in {file}");
+    let files = files(alloc, "x=c a: b: | a=b c: x=a |")?;
+    let names = match FileNames::gather(alloc, &files) {
+        Ok(names) => names,
+        Err(e) => {
+            assert_eq!(rt; refusal(alloc, &e)?.as_str(), "");
+            return Ok(());
+        }
+    };
+    for row in PATHS.split(";\n") {
+        let (given, want) = parts_of(&rt, row);
+        let (place, path) = given.split_once(' ').expect(&rt, "a place and a path");
+        let said = found(alloc, &names, &files, place.parse()?, path)?;
+        assert_eq!(rt; said.as_str(), want, "{path} in {place}");
     }
     Ok(())
 }

@@ -1,8 +1,8 @@
 //! The paths of a file.
 
-use crate::{Visit, Wanted, visits};
 use std::alloc::{AllocError, Global};
 use std::test::Fail;
+use wit_scope::{Visit, Wanted, visits};
 use wit_tree::Span;
 use wit_tree::tree::{
     AstItem, DeclList, Id, Interface, InterfaceItem, ToplevelUse, Use, UseName, UsePath,
