@@ -6,7 +6,7 @@ use Rattle.wit_meaning.specs.Scope.{rows_of, in_order, defined}
 use Rattle.wit_meaning.proofs.Turns.{names_within}
 use Rattle.wit_parser.specs.Held.{name_behind}
 use Rattle.wit_parser.proofs.Turning.{map-in_order}
-use Rattle.wit_parser.proofs.scope.ordered_definitions.Goals as goal
+use Rattle.wit_parser.proofs.scope.sorted_definitions.Goals as goal
 
 pub in_order-requires : goal.in_order-requires
 in_order-requires c = λ i d lt.
