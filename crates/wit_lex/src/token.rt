@@ -78,6 +78,18 @@ pub fn next_token<'a>(
         });
     }
     let first = bytes[start];
+    if !is_letter(first) {
+        if let Some(kind) = sign(first) {
+            let end = start + 1;
+            let text = cut(source, start, end);
+            return Ok(Token {
+                kind,
+                start,
+                end,
+                text,
+            });
+        }
+    }
     let end = token_end(bytes, start);
     if end == start {
         let past = (start + width(first)).min(len);

@@ -1,4 +1,4 @@
-use Rattle.std.proofs.Common.{◌≡◌, ◌+◌, ◌++◌, ◌∷◌, [], Some, map, take, refl, sym, ap, ◌∙◌}
+use Rattle.std.proofs.Common.{◌≡◌, ◌+◌, ◌++◌, Some, map, take, refl, sym, ap, ◌∙◌}
 use Rattle.std.specs.Prelude.{slice_get}
 use Rattle.std.proofs.lemmas.List.{map-append}
 use Rattle.std.proofs.lemmas.Option.{slice_get_read}
@@ -10,7 +10,7 @@ use Rattle.wit_parser.proofs.items.declared_items.Goals as goal
 pub add_items-requires : goal.add_items-requires
 add_items-requires c =
     let files = c.args.files.now in
-    record { files = files; are = c.requires.named; at = slice_get_read files _ c.loop-place.place c.index-files-place.result refl c.loop-place-test.true c.index-files-place.is }
+    record { named = record { files = files; are = c.requires.named; at = slice_get_read files _ c.loop-place.place c.index-files-place.result refl c.loop-place-test.true c.index-files-place.is } }
 
 pub loop-place-preserved : goal.loop-place-preserved
 loop-place-preserved c =

@@ -1,6 +1,5 @@
 use Rattle.std.proofs.Common.{◌≡◌, Some, ap, sym, ◌∙◌, length, map}
 use Rattle.std.specs.Prelude.{slice_get}
-use Rattle.wit_meaning.specs.Scope.{needed_ids}
 use Rattle.wit_meaning.proofs.Lists.{read_map}
 use Rattle.wit_parser.specs.Held.{name_behind}
 use Rattle.wit_parser.proofs.NeedingNone.{none_more, some_needed}

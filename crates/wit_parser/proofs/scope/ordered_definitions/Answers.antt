@@ -1,4 +1,4 @@
-use Rattle.std.proofs.Common.{map, sym, ◌∙◌, subst}
+use Rattle.std.proofs.Common.{map, sym, subst}
 use Rattle.std.proofs.lemmas.Bool.{MatchBool-at_true}
 use Rattle.wit_parser.specs.Held.{name_behind}
 use Rattle.wit_parser.specs.Between.{AreOrdered, NeedNone}
