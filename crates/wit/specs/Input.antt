@@ -2,8 +2,8 @@
 use Rattle.std.specs.Prelude.{◌≡◌, ℕ, ◌+◌, ◌<◌, Bool, false, List, [], ◌∷◌, length, codes, Option, Result, Err}
 use Rattle.std.specs.Io.KnownBytes.{Keeps}
 use Rattle.wit_tree.specs.declared.error.ParseError.{ParseError}
-use Rattle.wit_text.specs.declared.source.Source.{Source}
-use Rattle.wit_text.specs.Sources.{IsSource, IsTooLarge}
+use Rattle.wit_lex.specs.declared.source.Source.{Source}
+use Rattle.wit_lex.specs.Sources.{IsSource, IsTooLarge}
 use Rattle.wit_tool.specs.declared.fault.RunFault.{RunFault}
 use Rattle.wit_tool.specs.declared.fault.RunFault.TheVariants.{Memory}
 use Rattle.wit_tool.specs.Output.{IsWrittenAs}

@@ -14,7 +14,7 @@ use Rattle.wit_types.specs.declared.types.TypeDef.{TypeDef}
 use Rattle.wit_types.specs.declared.types.TypeDefKind.TheVariants as kind
 use Rattle.wit_meaning.specs.Form.{ResultForm, FutureForm, StreamForm}
 use Rattle.wit_meaning.specs.Shape.{shape_of}
-use Rattle.wit_meaning.specs.Source.{Address}
+use Rattle.wit_meaning.specs.Address.{Address}
 use Rattle.wit_meaning.specs.Expr.{exprs_of}
 use Rattle.wit_meaning.specs.Meet.{shapes_meetings}
 use Rattle.wit_meaning.specs.Fault.{Fault}

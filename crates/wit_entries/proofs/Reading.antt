@@ -10,7 +10,7 @@ use Rattle.wit_types.specs.declared.types.TypeDefKind.{TypeDefKind}
 use Rattle.wit_values.specs.declared.span.Span.{Span}
 use Rattle.wit_meaning.specs.Form.{AliasForm, kind_of}
 use Rattle.wit_meaning.specs.Shape.{Shape, Prim, Word, Of, one, shape_of, Body, head}
-use Rattle.wit_meaning.specs.Source.{Address}
+use Rattle.wit_meaning.specs.Address.{Address}
 use Rattle.wit_meaning.specs.Expr.{exprs_of, expr_of}
 use Rattle.wit_meaning.specs.Expr as exprs
 use Rattle.wit_meaning.specs.Meet.{shape_meetings, shapes_meetings}

@@ -4,7 +4,7 @@ ghost use Rattle.std.specs.Option.{option_to_list};
 ghost use Rattle.wit_tree.specs.Parts.{field_types, case_types};
 ghost use Rattle.wit_meaning.specs.Form.{RecordForm, FlagsForm, VariantForm, EnumForm, kind_of, field_member, flag_member, case_member, enum_case_member, payloads};
 ghost use Rattle.wit_meaning.specs.Shape.{member, written_field, written_flag, written_case, written_enum_case, body_of};
-ghost use Rattle.wit_meaning.specs.Source.{Address};
+ghost use Rattle.wit_meaning.specs.Address.{Address};
 ghost use Rattle.wit_meaning.specs.Expr.{exprs_of};
 ghost use Rattle.wit_meaning.specs.Meet.{shapes_meetings};
 ghost use Rattle.wit_meaning.specs.Fault.{Fault};

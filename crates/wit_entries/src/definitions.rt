@@ -1,11 +1,11 @@
 //! Definitions, as named entries of the arena.
 ghost use Rattle.std.specs.Prelude.{◌≡◌, List, [], ◌∷◌, OnOk, IfErr};
 ghost use Rattle.wit_types.specs.declared.types.TypeOwner.TheVariants.{Interface as OfInterface};
-ghost use Rattle.wit_model.specs.declared.interface.Interface.{Interface as Resolved};
-ghost use Rattle.wit_meaning.specs.Source.{Address, Defined};
+ghost use Rattle.wit_meaning.specs.Address.{Address};
+ghost use Rattle.wit_meaning.specs.Source.{Defined};
 ghost use Rattle.wit_meaning.specs.Fault.{Fault};
 ghost use Rattle.wit_meaning.specs.Broken.{IsBrokenBody, Refused};
-ghost use Rattle.wit_meaning.specs.Resolving.{env_of, IsStored, Defines, IsWrongBody};
+ghost use Rattle.wit_meaning.specs.Resolving.{Cell, env_of, IsStored, Defines, IsWrongBody};
 
 use crate::bodies::resolve_body;
 use crate::entries::Entries;
@@ -22,7 +22,7 @@ pub fn define(
     scope: &mut Scope,
     definition: &tree::TypeDef<'_>,
 ) -> ParseResult<()>
-    ensures defines { OnOk result ((is : List Resolved) (s : Address) → Defines types.old types.new is (OfInterface scope.old.id) s scope.old.names scope.new.names (Defined definition.now ∷ [])) }
+    ensures defines { OnOk result ((cs : List Cell) (s : Address) → Defines types.old types.new cs (OfInterface scope.old.id) s scope.old.names scope.new.names (Defined definition.now ∷ [])) }
     ensures id { OnOk result (scope.new.id ≡ scope.old.id) }
     ensures legal { OnOk result ((f : Fault) → IsBrokenBody definition.now.body f → ⊥) }
     ensures stored { OnOk result (IsStored scope.old.names scope.new.names definition.now.name.name.now) }

@@ -7,17 +7,17 @@ use Rattle.std.proofs.lemmas.Option.{slice_get_within}
 use Rattle.indexmap.specs.IndexMap.{insert_entry}
 use Rattle.wit_tree.specs.declared.tree.UseName.{UseName}
 use Rattle.wit_tree.specs.declared.tree.TypeDef.{TypeDef as Definition}
-use Rattle.wit_model.specs.declared.interface.Interface.{Interface}
 use Rattle.wit_types.specs.declared.types.TypeDef.{TypeDef}
 use Rattle.wit_types.specs.declared.types.TypeDefKind.{TypeDefKind}
 use Rattle.wit_types.specs.declared.types.TypeDefKind.TheVariants.{Type_}
 use Rattle.wit_types.specs.declared.types.TypeOwner.{TypeOwner}
 use Rattle.wit_types.specs.declared.types.«Type».TheVariants as type
 use Rattle.wit_meaning.specs.Form.{kind_of}
-use Rattle.wit_meaning.specs.Source.{Address, InterfaceNamed, ScopeName, Used, Defined, local_name, name_span, name_form, name_body, name_scope}
+use Rattle.wit_meaning.specs.Address.{Address}
+use Rattle.wit_meaning.specs.Source.{ScopeName, Used, Defined, local_name, name_span, name_form, name_body, name_scope}
 use Rattle.wit_meaning.specs.Expr.{Exprs, End, exprs_of, name_exprs}
 use Rattle.wit_meaning.specs.Meet.{Key, Def, Meeting, keys, IsMet, Meets, Decl, Decls, IsAmong, decl_of, IsMeeting, shapes_meetings, parts_meetings, name_meetings, all_name_meetings}
-use Rattle.wit_meaning.specs.Resolving.{all_met, Names, env_of, Env, AreNames, AreKnown, IsExtended, AreResolved, IsAdded, IsUsed, Defines, AreDistinct, AreNew, decls_of, local_names, named}
+use Rattle.wit_meaning.specs.Resolving.{all_met, Names, Cell, env_of, Env, AreNames, AreKnown, IsExtended, AreResolved, IsAdded, IsUsed, Defines, AreDistinct, AreNew, decls_of, local_names, named}
 use Rattle.wit_meaning.proofs.Repeated.{differ_at, differ_by}
 use Rattle.wit_meaning.proofs.Lists.{at_front, at_back, at_seam, at_either}
 use Rattle.wit_meaning.proofs.Meeting.{keys-append, meets_append, meets_from, meets_grown, names_kept, no_defs, meeting_more, Has, has_either}
@@ -55,8 +55,8 @@ names_added ks s names name place is fresh at_end = record {
 }
 
 -- a name over parts that were resolved
-defines_from : (old mid new : List TypeDef) (is : List Interface) (o : TypeOwner) (s : Address) (names names' : Names) (x : ScopeName) (kind : TypeDefKind) (es : Exprs) → keys (parts_meetings s x) ≡ all_met es → ((decls : Decls) (ms : List Meeting) → IsMeeting decls ms old → AreNames (keys ms) s (env_of names) → AreKnown (keys ms) s is → IsExtended decls ms mid (parts_meetings s x) (name_exprs s x) (kind_of kind).parts) → (kind_of kind).form ≡ name_form x → IsAdded mid new o names names' (local_name x) (name_span x) kind → Defines old new is o s names names' (x ∷ [])
-defines_from old mid new is o s names names' x kind es keys_of p form a = record {
+defines_from : (old mid new : List TypeDef) (cs : List Cell) (o : TypeOwner) (s : Address) (names names' : Names) (x : ScopeName) (kind : TypeDefKind) (es : Exprs) → keys (parts_meetings s x) ≡ all_met es → ((decls : Decls) (ms : List Meeting) → IsMeeting decls ms old → AreNames (keys ms) s (env_of names) → AreKnown (keys ms) s cs → IsExtended decls ms mid (parts_meetings s x) (name_exprs s x) (kind_of kind).parts) → (kind_of kind).form ≡ name_form x → IsAdded mid new o names names' (local_name x) (name_span x) kind → Defines old new cs o s names names' (x ∷ [])
+defines_from old mid new cs o s names names' x kind es keys_of p form a = record {
   from = λ decls ms among distinct anew known m stand. (
       let name = local_name x in
       let more = parts_meetings s x in
@@ -80,18 +80,22 @@ defines_from old mid new is o s names names' x kind es keys_of p form a = record
 }
 
 -- a definition over parts that were resolved
-pub defines_one : (old mid new : List TypeDef) (is : List Interface) (o : TypeOwner) (s : Address) (names names' : Names) (d : Definition) (kind : TypeDefKind) → AreResolved old mid s (env_of names) (shapes_meetings s (body_of d.body).parts) (exprs_of s (body_of d.body).parts) (kind_of kind).parts → (kind_of kind).form ≡ (body_of d.body).form → IsAdded mid new o names names' d.name.name.now d.name.span kind → Defines old new is o s names names' (Defined d ∷ [])
-defines_one old mid new is o s names names' d kind p form a = defines_from old mid new is o s names names' (Defined d) kind (exprs_of s (body_of d.body).parts) p.same (λ decls ms m stand known. p.from decls ms m stand) form a
+pub defines_one : (old mid new : List TypeDef) (cs : List Cell) (o : TypeOwner) (s : Address) (names names' : Names) (d : Definition) (kind : TypeDefKind) → AreResolved old mid s (env_of names) (shapes_meetings s (body_of d.body).parts) (exprs_of s (body_of d.body).parts) (kind_of kind).parts → (kind_of kind).form ≡ (body_of d.body).form → IsAdded mid new o names names' d.name.name.now d.name.span kind → Defines old new cs o s names names' (Defined d ∷ [])
+defines_one old mid new cs o s names names' d kind p form a = defines_from old mid new cs o s names names' (Defined d) kind (exprs_of s (body_of d.body).parts) p.same (λ decls ms m stand known. p.from decls ms m stand) form a
 
--- a name that is used from an interface that was resolved
-pub defines_used : (old new : List TypeDef) (is : List Interface) (o : TypeOwner) (s : Address) (names names' : Names) (from : Address) (n : UseName) → IsUsed old new is o names names' from n → Defines old new is o s names names' (Used from n ∷ [])
-defines_used old new is o s names names' (InterfaceNamed path) n u =
+-- the names of a scope stand for their places, however it is called
+key_at_scope : {ks : List Key} {s t : Address} {env : Env} → AreNames ks s env → s ≡ t → (name : List ℕ) (i : ℕ) → env name ≡ Some i → slice_get ks i ≡ Some (Def t name)
+key_at_scope {ks} {s} {t} {env} names same name i h = names.stands name i h ∙ ap (λ (x : Address). Some (Def x name)) same
+
+-- a name that is used from a scope that was resolved
+pub defines_used : (old new : List TypeDef) (cs : List Cell) (o : TypeOwner) (s : Address) (names names' : Names) (from : Address) (n : UseName) → IsUsed old new cs o names names' from n → Defines old new cs o s names names' (Used from n ∷ [])
+defines_used old new cs o s names names' from n u =
     let original = n.name.name.now in
-    defines_from old old new is o s names names' (Used (InterfaceNamed path) n) (Type_ (type.Id u.id)) End refl (λ decls ms m stand known. record {
+    defines_from old old new cs o s names names' (Used from n) (Type_ (type.Id u.id)) End refl (λ decls ms m stand known. record {
       now = ms;
       meets = refl;
       meeting = m;
-      at = ((u.id, refl, (known.names u.found.place u.target path u.found.at u.found.called).stands original u.id u.stands), tt);
+      at = ((u.id, refl, key_at_scope (known.names u.found.place u.target u.found.at) u.found.called original u.id u.stands), tt);
     }) refl u.added
 
 -- what is met in the parts of a name of a scope are the unnamed expressions in them
@@ -120,25 +124,25 @@ name_met_in s (x ∷ xs) t name h =
 pub all_name_meetings-append : (s : Address) (xs ys : List ScopeName) → all_name_meetings s (xs ++ ys) ≡ all_name_meetings s xs ++ all_name_meetings s ys
 all_name_meetings-append s xs ys = flat_map-append (name_meetings s) xs ys
 
--- names of interfaces still stand once names of another scope were met
-pub known_kept : (a b : List Meeting) (s : Address) (is : List Interface) (xs : List ScopeName) → Meets a (all_name_meetings s xs) b → AreKnown (keys a) s is → AreKnown (keys b) s is
-known_kept a b s is xs h known = record {
-  names = λ t i name at called. record {
-    stands = λ n id found. key_grown (meets_grown (all_name_meetings s xs) a b h) id (Def (InterfaceNamed name) n) ((known.names t i name at called).stands n id found);
-    has = λ j n jat. elim (meets_from (all_name_meetings s xs) a b h j (Def (InterfaceNamed name) n) jat) [
-      | inl before ↦ (known.names t i name at called).has before.0 n before.1
-      | inr new ↦ absurd (known.others t i name at called (name_met_in s xs (InterfaceNamed name) n new).0)
+-- names of scopes still stand once names of another scope were met
+pub known_kept : (a b : List Meeting) (s : Address) (cs : List Cell) (xs : List ScopeName) → Meets a (all_name_meetings s xs) b → AreKnown (keys a) s cs → AreKnown (keys b) s cs
+known_kept a b s cs xs h known = record {
+  names = λ t c at. record {
+    stands = λ n id found. key_grown (meets_grown (all_name_meetings s xs) a b h) id (Def c.address n) ((known.names t c at).stands n id found);
+    has = λ j n jat. elim (meets_from (all_name_meetings s xs) a b h j (Def c.address n) jat) [
+      | inl before ↦ (known.names t c at).has before.0 n before.1
+      | inr new ↦ absurd (known.others t c at (name_met_in s xs c.address n new).0)
     ];
   };
   others = known.others;
 }
 
-pub defines_none : (es : List TypeDef) (is : List Interface) (o : TypeOwner) (s : Address) (names : Names) → Defines es es is o s names names []
-defines_none es is o s names = record { from = λ decls ms among distinct anew known m stand. record { now = ms; meets = refl; meeting = m; stand = stand; listed = sym (append-nil (map (λ p. p.0) names)) } }
+pub defines_none : (es : List TypeDef) (cs : List Cell) (o : TypeOwner) (s : Address) (names : Names) → Defines es es cs o s names names []
+defines_none es cs o s names = record { from = λ decls ms among distinct anew known m stand. record { now = ms; meets = refl; meeting = m; stand = stand; listed = sym (append-nil (map (λ p. p.0) names)) } }
 
 -- some names, and then others
-pub defines_more : (old mid new : List TypeDef) (is : List Interface) (o : TypeOwner) (s : Address) (a b c : Names) (xs ys : List ScopeName) → Defines old mid is o s a b xs → Defines mid new is o s b c ys → Defines old new is o s a c (xs ++ ys)
-defines_more old mid new is o s a b c xs ys p q = record {
+pub defines_more : (old mid new : List TypeDef) (cs : List Cell) (o : TypeOwner) (s : Address) (a b c : Names) (xs ys : List ScopeName) → Defines old mid cs o s a b xs → Defines mid new cs o s b c ys → Defines old new cs o s a c (xs ++ ys)
+defines_more old mid new cs o s a b c xs ys p q = record {
   from = λ decls ms among distinct anew known m stand. (
       let all : decls_of o s (xs ++ ys) ≡ decls_of o s xs ++ decls_of o s ys = map-append (decl_of o s) xs ys in
       let left = λ (d : Decl) (h : IsAmong (decls_of o s xs) d). among d (subst (λ l. IsAmong l d) (sym all) (h.0, at_front (decls_of o s xs) (decls_of o s ys) h.0 d h.1)) in
@@ -157,7 +161,7 @@ defines_more old mid new is o s a b c xs ys p q = record {
               omega arith)
         ];
       } in
-      let y = q.from decls x.now right distinct_right new_right (known_kept ms x.now s is xs x.meets known) x.meeting x.stand in
+      let y = q.from decls x.now right distinct_right new_right (known_kept ms x.now s cs xs x.meets known) x.meeting x.stand in
       record {
         now = y.now;
         meets = subst (λ l. Meets ms l y.now) (sym (all_name_meetings-append s xs ys)) (meets_append (all_name_meetings s xs) (all_name_meetings s ys) ms x.now y.now x.meets y.meets);

@@ -28,12 +28,14 @@ use Rattle.wit_types.specs.declared.types.TypeDef.{TypeDef}
 use Rattle.wit_types.specs.declared.types.TypeDefKind.TheVariants as kind
 use Rattle.wit_types.specs.declared.types.TypeOwner.TheVariants as owner
 use Rattle.wit_model.specs.declared.interface.Interface.{Interface}
+use Rattle.wit_model.specs.declared.unresolved.UnresolvedPackage.{UnresolvedPackage}
 use Rattle.wit_order.specs.Table.{Row, Leads, IsMissing, IsCyclic, IsOrder}
 use Rattle.wit_order.specs.Order.{ReachesCycle}
 use Rattle.wit_meaning.specs.Form.{Member, RecordForm, ListForm, AliasForm, kind_of}
-use Rattle.wit_meaning.specs.Node.{OfInterface, Head, Leaf, Named, Unnamed, Tree}
+use Rattle.wit_meaning.specs.Node.{OfScope, Head, Leaf, Named, Unnamed, Tree}
 use Rattle.wit_meaning.specs.Node as node
-use Rattle.wit_meaning.specs.Source.{path_id, top_names, Item, interfaces, InterfaceNamed, ScopeName, Used, Defined, scope_names, source_tree}
+use Rattle.wit_meaning.specs.Address.{InterfaceNamed}
+use Rattle.wit_meaning.specs.Source.{path_id, top_names, Item, interfaces, ScopeName, Used, Defined, scope_names, source_tree}
 use Rattle.wit_meaning.specs.Expr.{Prim, one}
 use Rattle.wit_meaning.specs.Meet.{Def, Whole, Meeting, IsMet, Meets}
 use Rattle.wit_meaning.specs.Scope.{rows_of, item_rows, in_turn}
@@ -42,7 +44,7 @@ use Rattle.wit_meaning.specs.Fault.{fault}
 use Rattle.wit_meaning.specs.Shape.{Word, no_docs}
 use Rattle.wit_meaning.specs.Broken.{folded, last_header, IsMissingType, IsCyclicType, IsDuplicateName, IsDuplicateTopName, IsMissingOriginal, IsBroken, Headerless}
 use Rattle.wit_meaning.specs.Package.{package_tree}
-use Rattle.wit_meaning.specs.Whole.{meetings}
+use Rattle.wit_meaning.specs.Whole.{turned, meetings}
 use Rattle.wit_meaning.proofs.SmallOrders.{two, three, two_order, three_order}
 
 folded_names : map folded (codes "P-q1" ∷ codes "p-Q1" ∷ []) ≡ (codes "p-q1" ∷ codes "p-q1" ∷ [])
@@ -94,7 +96,7 @@ module _ (ptr : Ptr) (alloc : Global) where
   members = record { name = codes "a"; docs = no_docs; span = at 42 43 } ∷ record { name = codes "b"; docs = no_docs; span = at 55 56 } ∷ []
 
   abbrev p_head : Head
-  p_head = record { owner = OfInterface (codes "i"); name = codes "p"; span = at 38 39; docs = no_docs; stability = Unknown; external_id = None }
+  p_head = record { owner = OfScope (InterfaceNamed (codes "i")); name = codes "p"; span = at 38 39; docs = no_docs; stability = Unknown; external_id = None }
 
   abbrev p_tree : Tree 3
   p_tree = Named p_head (RecordForm members) (Unnamed ListForm (Leaf node.U8 ∷ []) ∷ Unnamed ListForm (Leaf node.U8 ∷ []) ∷ [])
@@ -112,7 +114,7 @@ module _ (ptr : Ptr) (alloc : Global) where
   p_met = record { key = Def (InterfaceNamed (codes "i")) (codes "p"); span = at 38 39 }
 
   -- both lists are met before p, each at its own word
-  met : meetings (record { item = item; order = 0 ∷ [] } ∷ []) ≡ (list_met (at 45 49) ∷ list_met (at 58 62) ∷ p_met ∷ [])
+  met : meetings (map turned (record { item = item; order = 0 ∷ [] } ∷ [])) ≡ (list_met (at 45 49) ∷ list_met (at 58 62) ∷ p_met ∷ [])
   met = refl
 
   list_is_new : IsMet [] (Whole ListForm (one (Prim node.U8))) → ⊥
@@ -147,7 +149,11 @@ module _ (ptr : Ptr) (alloc : Global) where
       ≡ (record { form = ListForm; parts = type.U8 ∷ [] } ∷ record { form = RecordForm members; parts = type.Id 0 ∷ type.Id 0 ∷ [] } ∷ record { form = AliasForm; parts = type.Id 1 ∷ [] } ∷ [])
   kinds = refl
 
-  arenas : package_tree (i_entry ∷ []) (list_entry ∷ p_entry ∷ []) 3 (type.Id 1) ≡ p_tree
+  -- a package of these arenas
+  abbrev package_with : List Interface → List TypeDef → UnresolvedPackage
+  package_with is es = record { name = record { namespace = codes "foo"; name = codes "foo"; version = None }; worlds = []; interfaces = is; types = es; foreign_deps = []; name_span = at 8 15; unknown_type_spans = []; foreign_dep_spans = [] }
+
+  arenas : package_tree (package_with (i_entry ∷ []) (list_entry ∷ p_entry ∷ [])) 3 (type.Id 1) ≡ p_tree
   arenas = refl
 
   -- interface i { type a = b; type b = a; }
@@ -286,7 +292,7 @@ module _ (ptr : Ptr) (alloc : Global) where
     turns_of_user = refl
 
     abbrev t_head : List ℕ → Span → Head
-    t_head interface span = record { owner = OfInterface interface; name = codes "t"; span = span; docs = no_docs; stability = Unknown; external_id = None }
+    t_head interface span = record { owner = OfScope (InterfaceNamed interface); name = codes "t"; span = span; docs = no_docs; stability = Unknown; external_id = None }
 
     -- i's t is another word for x's t
     tree_of_used : source_tree used_files 2 (InterfaceNamed (codes "i"), Word of_a) ≡ (Named (t_head (codes "i") (at 63 64)) AliasForm (Named (t_head (codes "x") (at 88 89)) AliasForm (tt ∷ []) ∷ []))
@@ -296,7 +302,7 @@ module _ (ptr : Ptr) (alloc : Global) where
     name_met interface name span = record { key = Def (InterfaceNamed interface) name; span = span }
 
     -- x's t is met before i's, which is met before b and a
-    met_in_turn : meetings (record { item = x_item; order = 0 ∷ [] } ∷ record { item = user_item; order = 1 ∷ 2 ∷ 0 ∷ [] } ∷ [])
+    met_in_turn : meetings (map turned (record { item = x_item; order = 0 ∷ [] } ∷ record { item = user_item; order = 1 ∷ 2 ∷ 0 ∷ [] } ∷ []))
         ≡ (name_met (codes "x") (codes "t") (at 88 89) ∷ name_met (codes "i") (codes "t") (at 63 64) ∷ name_met (codes "i") (codes "b") (at 48 49) ∷ name_met (codes "i") (codes "a") (at 36 37) ∷ [])
     met_in_turn = refl
 
@@ -313,7 +319,7 @@ module _ (ptr : Ptr) (alloc : Global) where
     used_interfaces = interface (codes "x") ((codes "t", 0) ∷ []) (at 79 80) ∷ interface (codes "i") ((codes "t", 1) ∷ (codes "b", 2) ∷ (codes "a", 3) ∷ []) (at 27 28) ∷ []
 
     -- a is another word for i's t, down to the last level
-    tree_of_a : package_tree used_interfaces used_types 4 (type.Id 3) ≡ source_tree used_files 4 (InterfaceNamed (codes "i"), Word a.name)
+    tree_of_a : package_tree (package_with used_interfaces used_types) 4 (type.Id 3) ≡ source_tree used_files 4 (InterfaceNamed (codes "i"), Word a.name)
     tree_of_a = refl
 
   -- package foo:foo; interface x { type t = u8; } interface z { type t = u16; }
@@ -349,7 +355,7 @@ module _ (ptr : Ptr) (alloc : Global) where
 
     -- so i's t is another word for z's t
     tree_of_alias : source_tree two_files 3 (InterfaceNamed (codes "i"), Word t_of_x.name)
-        ≡ Named (record { owner = OfInterface (codes "i"); name = codes "t"; span = at 108 109; docs = no_docs; stability = Unknown; external_id = None }) AliasForm (Named (record { owner = OfInterface (codes "z"); name = codes "t"; span = at 65 66; docs = no_docs; stability = Unknown; external_id = None }) AliasForm (Leaf node.U16 ∷ []) ∷ [])
+        ≡ Named (record { owner = OfScope (InterfaceNamed (codes "i")); name = codes "t"; span = at 108 109; docs = no_docs; stability = Unknown; external_id = None }) AliasForm (Named (record { owner = OfScope (InterfaceNamed (codes "z")); name = codes "t"; span = at 65 66; docs = no_docs; stability = Unknown; external_id = None }) AliasForm (Leaf node.U16 ∷ []) ∷ [])
     tree_of_alias = refl
 
     -- use z as x; interface x {}

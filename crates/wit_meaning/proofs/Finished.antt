@@ -7,29 +7,28 @@ use Rattle.std.proofs.lemmas.Option.{slice_get-get_or, slice_get-map, slice_get_
 use Rattle.wit_tree.specs.declared.tree.UseName.{UseName}
 use Rattle.wit_tree.specs.declared.tree.PackageFile.{PackageFile}
 use Rattle.wit_tree.specs.declared.tree.PackageName.{PackageName as Header}
-use Rattle.wit_model.specs.declared.interface.Interface.{Interface}
 use Rattle.wit_order.specs.Table.{Row, target, IsEdge, Leads, IsOrder}
 use Rattle.wit_order.proofs.Tables.{slice_get-take}
 use Rattle.wit_meaning.specs.Fault.{Fault}
-use Rattle.wit_meaning.specs.Source.{Item, Address, InterfaceNamed, item_edge, ScopeName, Used, interfaces, interface_name, interface_named, interface_at, scope_names, local_name, meaning}
-use Rattle.wit_meaning.specs.Scope.{rows_of, in_order, paths, item_row, item_rows}
+use Rattle.wit_meaning.specs.Address.{Address, InterfaceNamed}
+use Rattle.wit_meaning.specs.Source.{Item, item_edge, ScopeName, Used, interfaces, interface_name, interface_at, scope_names, scope, local_name, meaning}
+use Rattle.wit_meaning.specs.Scope.{in_order, paths, item_row, item_rows}
 use Rattle.wit_meaning.specs.Broken.{IsMissingName, IsBrokenNames, IsBroken, Headerless, Names, MissingName, Scope, IsLegal, last_header}
 use Rattle.wit_meaning.specs.Repeats.{AllDiffer}
-use Rattle.wit_meaning.specs.Whole.{Ordered, item_of, ordered_names}
-use Rattle.wit_meaning.specs.Resolving.{env_of, address_name, local_names, Unresolved, Unstated, WrongName, WrongItself}
+use Rattle.wit_meaning.specs.Whole.{Turned, item_of, address}
+use Rattle.wit_meaning.specs.Resolving.{Cell, cells, env_of, address_name, Unresolved, Unstated, WrongName, WrongItself}
 use Rattle.wit_meaning.specs.Resolved.{AreLegalScopes, IsWrongAmong}
 use Rattle.wit_meaning.proofs.Lists.{at_take, at_within, map_at}
 use Rattle.wit_meaning.proofs.Names.{name_equal}
 use Rattle.wit_meaning.proofs.Tables.{place_of-Some}
 use Rattle.wit_meaning.proofs.Headers.{some_header}
 use Rattle.wit_meaning.proofs.Orders.{in_order_at, in_order_read}
-use Rattle.wit_meaning.proofs.Turns.{in_turn_has}
 use Rattle.wit_meaning.proofs.Scoping.{at_contains, contains_at, some_of}
 use Rattle.wit_meaning.proofs.Using.{lookup-listed}
-use Rattle.wit_meaning.proofs.Standing.{AreItems}
-use Rattle.wit_meaning.proofs.Interfaces.{find_passes}
+use Rattle.wit_meaning.proofs.Standing.{DoneScope, cell_of, IsDoneScope}
+use Rattle.wit_meaning.proofs.Interfaces.{AreItems, find_passes, scope_of}
 use Rattle.wit_meaning.proofs.Itemizing.{find_at, item_row_at, used_path, items_within, item_index, are_items, length-item_rows}
-use Rattle.wit_meaning.proofs.Done.{ordered_of, done_front}
+use Rattle.wit_meaning.proofs.Laid.{scope_at, ordered_at, done_front}
 
 same_some : {X : Type 0} (o : Option X) (x y : X) → o ≡ Some x → o ≡ Some y → x ≡ y
 same_some o x y a b = let both : Some x ≡ Some y = sym a ∙ b in cc
@@ -41,19 +40,16 @@ option_cases (Some x) R some none = some x refl
 row_name : (r : Row) (w : Item) → r ≡ item_row w → r.name ≡ interface_name w
 row_name r w same = ap (λ (x : Row). x.name) same
 
-at_address : (is : List Item) (s : Address) → interface_at is s ≡ interface_named is (address_name s)
-at_address is (InterfaceNamed name) = refl
-
--- a name that the table of an interface lacks means nothing in its scope
-pub unstated : (o : Ordered) (i : Interface) (name : List ℕ) → IsOrder (rows_of (scope_names o.item)) o.order → map (λ p. p.0) i.types ≡ local_names (ordered_names o) → env_of i.types name ≡ None → meaning (scope_names o.item) name ≡ None
-unstated o i name least listed free =
-    let xs = scope_names o.item in
+-- a name that the table of a scope lacks means nothing in it
+pub unstated : (files : List PackageFile) (c : DoneScope) (name : List ℕ) → IsDoneScope files c → env_of c.types name ≡ None → meaning (scope files c.address) name ≡ None
+unstated files c name d free =
+    let xs = scope files c.address in
     option_cases (meaning xs name) (meaning xs name ≡ None) (λ x found. absurd (
     let p = find_at (λ (y : ScopeName). bytes_eq (local_name y) name) xs x found in
     let called = name_equal (local_name x) name (find_passes (λ (y : ScopeName). bytes_eq (local_name y) name) xs x found) in
-    let t = in_turn_has xs o.order least p.0 x p.1 in
-    let named : slice_get (map (λ (q : List ℕ × ℕ). q.0) i.types) t.0 ≡ Some name = ap (λ (l : List (List ℕ)). slice_get l t.0) listed ∙ slice_get-map local_name (ordered_names o) t.0 ∙ ap (option_map local_name) t.1 ∙ ap Some called in
-    let wrong : IsSome {T = ℕ} None = subst (λ (v : Option ℕ). IsSome v) free (lookup-listed i.types t.0 name named) in
+    let t = d.turn.has p.0 x p.1 in
+    let named : slice_get (map (λ (q : List ℕ × ℕ). q.0) c.types) t.0 ≡ Some name = ap (λ (l : List (List ℕ)). slice_get l t.0) d.listed ∙ slice_get-map local_name c.names t.0 ∙ ap (option_map local_name) t.1 ∙ ap Some called in
+    let wrong : IsSome {T = ℕ} None = subst (λ (v : Option ℕ). IsSome v) free (lookup-listed c.types t.0 name named) in
     let f : ⊥ = cc in
     f)) (λ none. none)
 
@@ -102,37 +98,44 @@ module _ (files : List PackageFile) (places : List ℕ) (order : IsOrder (item_r
     broken_among f h =
         let k = h.count in
         let w = h.item in
-        let here = contains_at all h.place w h.at in
+        let here_w = contains_at all h.place w h.at in
         let done = done_front files ws items h.mid h.before (in_order all (take k places)) (λ j v at. front_at k j v at) h.added in
-        let os = done.0 in
-        let d = done.2 in
+        let os = done.ordered in
+        let cs = done.scopes in
+        let l = done.laid in
         elim h.wrong [
-          | WrongItself b ↦ Scope w here b
+          | WrongItself b ↦ Scope w here_w b
           | WrongName from n among wrong ↦ elim wrong [
             | Unresolved path same free ↦ absurd (
                 let u = used_before k h.place w from n h.next h.at among in
                 let lt = u.2 in
                 let p = in_order_at all places u.0 u.1 (items_within files places order) u.3 in
                 let early : slice_get (in_order all (take k places)) u.0 ≡ Some u.1 = in_order_read all (take k places) u.0 p.0 u.1 (λ i q iat. items_within files places order i q (at_take places k i q iat).0) (slice_get-take places k u.0 lt ∙ p.1) p.2 in
-                let o = map_at item_of os u.0 u.1 (ap (λ (l : List Item). slice_get l u.0) done.1 ∙ early) in
-                let count = d.count in
-                let lto = slice_get_within os u.0 o.0 o.1 in
-                let i = at_within h.before u.0 (omega arith) in
-                let called = (d.says u.0 o.0 i.0 o.1 i.1).name ∙ ap (λ (v : Item). Some (interface_name v)) o.2 in
+                let o = map_at item_of os u.0 u.1 (ap (λ (x : List Item). slice_get x u.0) done.all ∙ early) in
+                let c = scope_at ws os h.before cs l u.0 o.0 o.1 in
+                let there : slice_get (cells h.before) u.0 ≡ Some (cell_of c.0) = ap (λ (x : List Cell). slice_get x u.0) (sym l.types) ∙ slice_get-map cell_of cs u.0 ∙ ap (option_map cell_of) c.1 in
+                let called : c.0.address ≡ InterfaceNamed (interface_name u.1) = ap (λ (x : Turned). x.address) c.2 ∙ ap address o.2 in
                 let name : path.name.now ≡ interface_name u.1 = same ∙ ap address_name u.4 in
-                let wrong : IsSome {T = ℕ} None = subst (λ (v : Option ℕ). IsSome v) (ap (env_of h.by_name) (sym name) ∙ free.0) (h.index.has u.0 i.0 (interface_name u.1) i.1 called) in
+                let wrong : IsSome {T = ℕ} None = subst (λ (v : Option ℕ). IsSome v) (ap (env_of h.by_name) (sym name) ∙ free.0) (h.index.has u.0 (cell_of c.0) (interface_name u.1) there called) in
                 let f : ⊥ = cc in
                 f)
             | Unstated target found none says ↦ (
-                let o = ordered_of files ws items os h.mid h.before d found.place target (address_name from) found.at found.called in
-                let declared : interface_at all from ≡ Some o.0.item = at_address all from ∙ subst (λ (m : List ℕ). interface_named all m ≡ Some o.0.item) o.2 (items.found found.place o.0.item (d.front found.place o.0 o.1)) in
-                MissingName w here (record {
+                let c = map_at cell_of cs found.place target (ap (λ (x : List Cell). slice_get x found.place) l.types ∙ found.at) in
+                let o = ordered_at ws os h.before cs l found.place c.0 c.1 in
+                let v = o.0.item in
+                let at = l.front found.place o.0 o.1 in
+                let same : address v ≡ c.0.address = ap (λ (x : Turned). x.address) o.2 in
+                let here : address v ≡ from = same ∙ ap (λ (x : Cell). x.address) c.2 ∙ found.called in
+                let name = n.name.name.now in
+                let free : env_of c.0.types name ≡ None = ap (λ (x : Cell). env_of x.types name) c.2 ∙ none in
+                let names : scope_names v ≡ scope files c.0.address = sym (scope_of files ws items found.place v at) ∙ ap (scope files) same in
+                MissingName w here_w (record {
                   from = from;
                   n = n;
                   among = among;
-                  target = o.0.item;
-                  declared = declared;
-                  missing = unstated o.0 target n.name.name.now (d.least found.place o.0 o.1) (d.listed found.place o.0 target o.1 found.at) none;
+                  target = v;
+                  declared = ap (interface_at all) (sym here) ∙ items.found found.place v at;
+                  missing = ap (λ (xs : List ScopeName). meaning xs name) names ∙ unstated files c.0 name (done.done.each found.place c.0 c.1) free;
                   is = says;
                 }))
           ]

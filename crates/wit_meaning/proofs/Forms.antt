@@ -8,7 +8,8 @@ use Rattle.wit_tree.specs.Parts.{field_types, case_types}
 use Rattle.wit_meaning.specs.Form.{Form}
 use Rattle.wit_meaning.specs.Shape.{Shape, Shapes, shape_of, held_shape, row_shapes, all_shapes, head, body_of}
 use Rattle.wit_meaning.specs.Shape as shape
-use Rattle.wit_meaning.specs.Source.{Address, ScopeName, Used, Defined}
+use Rattle.wit_meaning.specs.Address.{Address}
+use Rattle.wit_meaning.specs.Source.{ScopeName, Used, Defined}
 use Rattle.wit_meaning.specs.Expr.{Exprs, expr_of, exprs_of, name_exprs}
 use Rattle.wit_meaning.specs.Meet.{Whole}
 use Rattle.wit_meaning.specs.Whole.{IsAnonymousForm}

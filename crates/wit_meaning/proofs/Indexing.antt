@@ -2,9 +2,12 @@
 use Rattle.std.proofs.Common.{◌≡◌, ℕ, true, false, cond, List, [], ◌∷◌, ◌++◌, length, Some, IsSome, nat_eq, inl, inr, refl, sym, ap, ◌∙◌, subst}
 use Rattle.std.specs.Prelude.{slice_get}
 use Rattle.std.specs.Cmp.Lexicographic.{pointwise}
+use Rattle.std.specs.Option.{unwrap_or}
+use Rattle.std.proofs.lemmas.List.{length-map, map-append}
 use Rattle.indexmap.specs.IndexMap.{insert_entry}
 use Rattle.wit_model.specs.declared.interface.Interface.{Interface}
-use Rattle.wit_meaning.specs.Resolving.{Names, env_of, IsIndex}
+use Rattle.wit_meaning.specs.Address.{InterfaceNamed}
+use Rattle.wit_meaning.specs.Resolving.{Names, Cell, cell, cells, env_of, IsIndex}
 use Rattle.wit_meaning.proofs.Lists.{at_front, at_seam, at_either}
 use Rattle.wit_meaning.proofs.Names.{name_cases, name_itself, lookup-insert_entry}
 
@@ -15,24 +18,24 @@ found_other by_name name place n other = lookup-insert_entry by_name name n plac
 found_itself : (by_name : Names) (name : List ℕ) (place : ℕ) (n : List ℕ) → n ≡ name → env_of (insert_entry (pointwise nat_eq) by_name name place) n ≡ Some place
 found_itself by_name name place n same = lookup-insert_entry by_name name n place ∙ ap (λ b. cond b (Some place) (env_of by_name n)) (ap (λ m. pointwise nat_eq m name) same ∙ name_itself name)
 
--- one interface more, behind the others
-pub index_more : (is : List Interface) (by_name : Names) (i : Interface) (name : List ℕ) → IsIndex is by_name → i.name ≡ Some name → IsIndex (is ++ i ∷ []) (insert_entry (pointwise nat_eq) by_name name (length is))
-index_more is by_name i name index called = record {
+-- one scope more, behind the others
+pub index_more : (cs : List Cell) (by_name : Names) (c : Cell) (name : List ℕ) → IsIndex cs by_name → c.address ≡ InterfaceNamed name → IsIndex (cs ++ c ∷ []) (insert_entry (pointwise nat_eq) by_name name (length cs))
+index_more cs by_name c name index called = record {
   stands = λ n t found. elim (name_cases n name) [
     | inl same ↦ (
-        let here : Some t ≡ Some (length is) = sym found ∙ found_itself by_name name (length is) n same in
-        let at : t ≡ length is = cc in
-        (i, ap (slice_get (is ++ i ∷ [])) at ∙ at_seam is i, called ∙ ap Some (sym same)))
+        let here : Some t ≡ Some (length cs) = sym found ∙ found_itself by_name name (length cs) n same in
+        let at : t ≡ length cs = cc in
+        (c, ap (slice_get (cs ++ c ∷ [])) at ∙ at_seam cs c, called ∙ ap InterfaceNamed (sym same)))
     | inr other ↦ (
-        let old = index.stands n t (sym (found_other by_name name (length is) n other) ∙ found) in
-        (old.0, at_front is (i ∷ []) t old.0 old.1, old.2))
+        let old = index.stands n t (sym (found_other by_name name (length cs) n other) ∙ found) in
+        (old.0, at_front cs (c ∷ []) t old.0 old.1, old.2))
   ];
-  has = λ t j n at name_of. elim (name_cases n name) [
-    | inl same ↦ subst IsSome (sym (found_itself by_name name (length is) n same)) refl
-    | inr other ↦ elim (at_either is i t j at) [
-      | inl old ↦ subst IsSome (sym (found_other by_name name (length is) n other)) (index.has t j n old name_of)
+  has = λ t d n at called_n. elim (name_cases n name) [
+    | inl same ↦ subst IsSome (sym (found_itself by_name name (length cs) n same)) refl
+    | inr other ↦ elim (at_either cs c t d at) [
+      | inl old ↦ subst IsSome (sym (found_other by_name name (length cs) n other)) (index.has t d n old called_n)
       | inr new ↦ absurd (
-          let both : Some n ≡ Some name = sym name_of ∙ ap (λ (x : Interface). x.name) new.1 ∙ called in
+          let both : InterfaceNamed n ≡ InterfaceNamed name = sym called_n ∙ ap (λ (x : Cell). x.address) new.1 ∙ called in
           let same : n ≡ name = cc in
           let hit : pointwise nat_eq n name ≡ true = ap (λ m. pointwise nat_eq m name) same ∙ name_itself name in
           let f : ⊥ = cc in
@@ -44,5 +47,15 @@ index_more is by_name i name index called = record {
 pub index_none : IsIndex [] []
 index_none = record {
   stands = λ n t found. absurd (let f : ⊥ = cc in f);
-  has = λ t j n at called. absurd (let f : ⊥ = cc in f);
+  has = λ t c n at called. absurd (let f : ⊥ = cc in f);
 }
+
+-- an interface is addressed by its name
+pub cell_address : (i : Interface) (name : List ℕ) → i.name ≡ Some name → (cell i).address ≡ InterfaceNamed name
+cell_address i name called = ap (λ n. InterfaceNamed (unwrap_or n [])) called
+
+-- one interface more
+pub index_interface : (is : List Interface) (by_name : Names) (i : Interface) (name : List ℕ) → IsIndex (cells is) by_name → i.name ≡ Some name → IsIndex (cells (is ++ i ∷ [])) (insert_entry (pointwise nat_eq) by_name name (length is))
+index_interface is by_name i name index called =
+    let more = index_more (cells is) by_name (cell i) name index (cell_address i name called) in
+    subst (λ (n : ℕ). IsIndex (cells (is ++ i ∷ [])) (insert_entry (pointwise nat_eq) by_name name n)) (length-map is cell) (subst (λ (cs : List Cell). IsIndex cs (insert_entry (pointwise nat_eq) by_name name (length (cells is)))) (sym (map-append cell is (i ∷ []))) more)

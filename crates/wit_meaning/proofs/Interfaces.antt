@@ -1,17 +1,18 @@
 -- Where interfaces stand by their names.
 use Rattle.std.proofs.Common.{◌≡◌, ℕ, zero, suc, ◌+◌, Bool, true, not, cond, List, [], ◌∷◌, length, Option, Some, None, inl, inr, refl, sym, ap, ◌∙◌, arith}
-use Rattle.std.specs.Prelude.{slice_get, nat_lt, position, find}
+use Rattle.std.specs.Prelude.{slice_get, map, nat_lt, position, find}
 use Rattle.std.specs.List.{prefix_len}
-use Rattle.std.specs.Option.{option_map_or}
+use Rattle.std.specs.Option.{option_map, option_map_or}
 use Rattle.std.specs.Str.{bytes_eq}
 use Rattle.std.proofs.lemmas.Bool.{cases_Bool, cond-true, lt-ltb}
-use Rattle.std.proofs.lemmas.Option.{slice_get_within}
+use Rattle.std.proofs.lemmas.Option.{slice_get_within, slice_get-map}
 use Rattle.wit_tree.specs.declared.tree.PackageFile.{PackageFile}
 use Rattle.wit_types.specs.declared.types.TypeOwner.TheVariants as owner
-use Rattle.wit_meaning.specs.Source.{Item, InterfaceNamed, interfaces, interface_name, interface_named, scope_names, scope}
+use Rattle.wit_meaning.specs.Address.{Address, same_address}
+use Rattle.wit_meaning.specs.Source.{Item, interfaces, interface_name, interface_named, scope_names, scope}
 use Rattle.wit_meaning.specs.Whole.{address, place_owner, owner_at}
+use Rattle.wit_meaning.proofs.Lists.{map_at}
 use Rattle.wit_meaning.proofs.Names.{name_itself, name_equal}
-use Rattle.wit_meaning.proofs.Standing.{AreItems}
 
 -- what is found passes
 pub find_passes : {X : Type 0} (p : X → Bool) (xs : List X) (x : X) → find p xs ≡ Some x → p x ≡ true
@@ -41,19 +42,23 @@ position-only p xs t x at pass only =
     ap (λ n. cond (nat_lt n (length xs)) (Some n) None) (prefix_len-only p xs t x at pass only)
     ∙ cond-true (nat_lt t (length xs)) (Some t) None (lt-ltb t (length xs) (slice_get_within xs t x at))
 
--- the interface of a name has the name
-pub interface_named-name : (is : List Item) (name : List ℕ) (w : Item) → interface_named is name ≡ Some w → interface_name w ≡ name
-interface_named-name is name w h = name_equal (interface_name w) name (find_passes (λ (i : Item). bytes_eq (interface_name i) name) is w h)
+-- the interfaces of files in an order, no two of one name
+pub record AreItems (files : List PackageFile) (ws : List Item) : Type 0 where
+  pub found : (t : ℕ) (w : Item) → slice_get ws t ≡ Some w → interface_named (interfaces files) (interface_name w) ≡ Some w
+  pub unique : (i j : ℕ) (v w : Item) → slice_get ws i ≡ Some v → slice_get ws j ≡ Some w → interface_name v ≡ interface_name w → i ≡ j
+
+-- interfaces at one address have one name
+pub name_at_address : (v w : Item) → address v ≡ address w → interface_name v ≡ interface_name w
+name_at_address v w h = cc
 
 module _ (files : List PackageFile) (ws : List Item) (items : AreItems files ws) where
   -- the scope of an interface has its names
   pub scope_of : (t : ℕ) (w : Item) → slice_get ws t ≡ Some w → scope files (address w) ≡ scope_names w
   scope_of t w at = ap (λ (o : Option Item). option_map_or scope_names o []) (items.found t w at)
 
-  -- the arena knows it by its place
-  pub owner_of_scope : (t : ℕ) (w : Item) → slice_get ws t ≡ Some w → owner_at ws (address w) ≡ owner.Interface t
-  owner_of_scope t w at = ap place_owner (position-only (λ (v : Item). bytes_eq (interface_name v) (interface_name w)) ws t w at (name_itself (interface_name w)) (λ i v vat same. items.unique i t v w vat at (name_equal (interface_name v) (interface_name w) same)))
-
-  -- an address with a name behind it is that of an interface
-  pub address_of : (name : List ℕ) (w : Item) → interface_named (interfaces files) name ≡ Some w → (t : ℕ) × (slice_get ws t ≡ Some w) × (address w ≡ InterfaceNamed name)
-  address_of name w found = let it = items.all name w found in (it.0, it.1, ap InterfaceNamed (interface_named-name (interfaces files) name w found))
+  -- the package knows it by its place
+  pub owner_of_scope : (t : ℕ) (w : Item) → slice_get ws t ≡ Some w → owner_at (map address ws) (address w) ≡ owner.Interface t
+  owner_of_scope t w at = ap place_owner (position-only (λ (a : Address). same_address a (address w)) (map address ws) t (address w) (slice_get-map address ws t ∙ ap (option_map address) at) (name_itself (interface_name w)) (λ i a iat same. (
+      let v = map_at address ws i a iat in
+      let named : bytes_eq (interface_name v.0) (interface_name w) ≡ true = ap (λ (b : Address). same_address b (address w)) v.2 ∙ same in
+      items.unique i t v.0 w v.1 at (name_equal (interface_name v.0) (interface_name w) named))))

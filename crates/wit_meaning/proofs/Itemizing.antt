@@ -12,7 +12,8 @@ use Rattle.wit_tree.specs.declared.tree.InterfaceItem.{InterfaceItem}
 use Rattle.wit_tree.specs.declared.tree.InterfaceItem.TheVariants.{TypeDef as TypeItem, Use as UseItem}
 use Rattle.wit_tree.specs.declared.tree.PackageFile.{PackageFile}
 use Rattle.wit_order.specs.Table.{IsOrder}
-use Rattle.wit_meaning.specs.Source.{TopName, Item, Address, InterfaceNamed, Used, Defined, path_id, item_edge, path_scope, item_names, interface_name, interface_named, interfaces}
+use Rattle.wit_meaning.specs.Address.{Address, InterfaceNamed}
+use Rattle.wit_meaning.specs.Source.{TopName, Item, Used, Defined, path_id, item_edge, path_scope, item_names, interface_name, interface_named, interfaces}
 use Rattle.wit_meaning.specs.Scope.{in_order, item_paths, item_row, item_rows}
 use Rattle.std.specs.List.{flat_map}
 use Rattle.std.specs.Option.{option_map}
@@ -20,7 +21,7 @@ use Rattle.wit_meaning.specs.Repeats.{AllDiffer}
 use Rattle.wit_meaning.proofs.Names.{name_cases, name_itself}
 use Rattle.wit_meaning.proofs.Repeated.{key_at}
 use Rattle.wit_meaning.proofs.Orders.{order_within, in_order_at, in_order_read, index_of, index_once}
-use Rattle.wit_meaning.proofs.Standing.{AreItems}
+use Rattle.wit_meaning.proofs.Interfaces.{AreItems}
 
 -- what is found stands in the list
 pub find_at : {X : Type 0} (p : X → Bool) (xs : List X) (x : X) → find p xs ≡ Some x → (i : ℕ) × (slice_get xs i ≡ Some x)
@@ -84,8 +85,4 @@ module _ (files : List PackageFile) (places : List ℕ) (order : IsOrder (item_r
         let q = in_order_at (interfaces files) places j w items_within atj in
         let one = differ.differ p.0 q.0 (interface_name v) (key_at interface_name (interfaces files) p.0 v p.2) (key_at interface_name (interfaces files) q.0 w q.2 ∙ ap Some (sym same)) in
         index_once (item_rows files) places i j p.0 q.0 order p.1 q.1 one);
-    all = λ name w found. (
-        let p = find_at (λ (i : Item). bytes_eq (interface_name i) name) (interfaces files) w found in
-        let it = item_index p.0 w p.1 in
-        (it.0, it.2));
   }

@@ -2,7 +2,7 @@
 use Rattle.std.proofs.Common.{◌≡◌, [], ◌∷◌, ◌++◌, refl, ap, ◌∙◌}
 use Rattle.wit_meaning.specs.Shape.{Shape, Shapes}
 use Rattle.wit_meaning.specs.Shape as shape
-use Rattle.wit_meaning.specs.Source.{Address}
+use Rattle.wit_meaning.specs.Address.{Address}
 use Rattle.wit_meaning.specs.Expr.{expr_of, exprs_of}
 use Rattle.wit_meaning.specs.Meet.{Whole, keys, shape_meetings, shapes_meetings}
 use Rattle.wit_meaning.specs.Resolving.{met, all_met}

@@ -3,7 +3,8 @@ use Rattle.std.proofs.Common.{◌≡◌, ℕ, zero, suc, [], ◌∷◌, List, So
 use Rattle.std.specs.Prelude.{slice_get}
 use Rattle.wit_types.specs.declared.types.«Type».{«Type» as Ty}
 use Rattle.wit_meaning.specs.Shape.{Shapes, End, More}
-use Rattle.wit_meaning.specs.Source.{Address, Place, placed}
+use Rattle.wit_meaning.specs.Address.{Address}
+use Rattle.wit_meaning.specs.Source.{Place, placed}
 use Rattle.wit_meaning.specs.Expr.{expr_of, exprs_of}
 use Rattle.wit_meaning.specs.Meet.{Key, IsAt, AreAt}
 

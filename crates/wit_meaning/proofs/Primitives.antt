@@ -1,9 +1,8 @@
 -- Primitive types and their words.
-use Rattle.std.proofs.Common.{◌≡◌, ℕ, List, Option, Some, None, refl, sym, ap, ◌∙◌}
+use Rattle.std.proofs.Common.{◌≡◌, ℕ, Option, Some, None, refl, sym, ap, ◌∙◌}
 use Rattle.wit_types.specs.declared.types.«Type».{«Type» as Ty}
 use Rattle.wit_types.specs.declared.types.«Type».TheVariants as type
-use Rattle.wit_types.specs.declared.types.TypeDef.{TypeDef}
-use Rattle.wit_model.specs.declared.interface.Interface.{Interface}
+use Rattle.wit_model.specs.declared.unresolved.UnresolvedPackage.{UnresolvedPackage}
 use Rattle.wit_meaning.specs.Node.{Primitive, Leaf}
 use Rattle.wit_meaning.specs.Node as node
 use Rattle.wit_meaning.specs.Meet.{primitive_type}
@@ -56,21 +55,21 @@ primitive_type-id p i h =
     f
 
 -- one level of a primitive
-pub primitive_node : (is : List Interface) (es : List TypeDef) (p : Primitive) → package_node is es (primitive_type p) ≡ Leaf p
-primitive_node is es node.Bool = refl
-primitive_node is es node.U8 = refl
-primitive_node is es node.U16 = refl
-primitive_node is es node.U32 = refl
-primitive_node is es node.U64 = refl
-primitive_node is es node.S8 = refl
-primitive_node is es node.S16 = refl
-primitive_node is es node.S32 = refl
-primitive_node is es node.S64 = refl
-primitive_node is es node.F32 = refl
-primitive_node is es node.F64 = refl
-primitive_node is es node.Char = refl
-primitive_node is es node.String = refl
-primitive_node is es node.ErrorContext = refl
+pub primitive_node : (p : UnresolvedPackage) (x : Primitive) → package_node p (primitive_type x) ≡ Leaf x
+primitive_node p node.Bool = refl
+primitive_node p node.U8 = refl
+primitive_node p node.U16 = refl
+primitive_node p node.U32 = refl
+primitive_node p node.U64 = refl
+primitive_node p node.S8 = refl
+primitive_node p node.S16 = refl
+primitive_node p node.S32 = refl
+primitive_node p node.S64 = refl
+primitive_node p node.F32 = refl
+primitive_node p node.F64 = refl
+primitive_node p node.Char = refl
+primitive_node p node.String = refl
+primitive_node p node.ErrorContext = refl
 
 -- a primitive names no place
 pub primitive_below : (n : ℕ) (p : Primitive) → IsBelow n (primitive_type p)

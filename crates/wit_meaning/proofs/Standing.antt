@@ -1,44 +1,76 @@
--- What stands once the first interfaces are done, in their orders.
-use Rattle.std.proofs.Common.{◌≡◌, ℕ, List, [], length, Some}
+-- What stands once some scopes are done.
+use Rattle.std.proofs.Common.{◌≡◌, ℕ, List, [], Some}
 use Rattle.std.specs.Prelude.{slice_get, map}
 use Rattle.wit_tree.specs.declared.tree.PackageFile.{PackageFile}
-use Rattle.wit_model.specs.declared.interface.Interface.{Interface}
 use Rattle.wit_types.specs.declared.types.TypeDef.{TypeDef}
-use Rattle.wit_order.specs.Table.{IsOrder}
-use Rattle.wit_meaning.specs.Source.{Item, Address, ScopeName, interfaces, interface_name, interface_named, scope_names, local_name}
-use Rattle.wit_meaning.specs.Scope.{rows_of}
-use Rattle.wit_meaning.specs.Meet.{Def, Meeting, keys, Meets, IsMeeting}
-use Rattle.wit_meaning.specs.Package.{IsInterface}
-use Rattle.wit_meaning.specs.Whole.{Ordered, ordered_names, address, meetings, declarations}
-use Rattle.wit_meaning.specs.Resolving.{env_of, AreNames, AreDistinct, local_names}
+use Rattle.wit_types.specs.declared.types.TypeOwner.{TypeOwner}
+use Rattle.wit_meaning.specs.Form.{Form}
+use Rattle.wit_meaning.specs.Address.{Address}
+use Rattle.wit_meaning.specs.Source.{ScopeName, scope, local_name}
+use Rattle.wit_meaning.specs.Expr.{Exprs, name_exprs}
+use Rattle.wit_meaning.specs.Meet.{Def, Whole, Meeting, keys, Meets, Decls, IsMeeting}
+use Rattle.wit_meaning.specs.Repeats.{AllDiffer}
+use Rattle.wit_meaning.specs.Whole.{Turned}
+use Rattle.wit_meaning.specs.Resolving.{Names, Cell, env_of, all_met, AreNames, AreDistinct, decls_of, local_names}
+use Rattle.wit_meaning.proofs.Meeting.{Has}
 
--- the interfaces of files in an order, no two of one name
-pub record AreItems (files : List PackageFile) (ws : List Item) : Type 0 where
-  pub found : (t : ℕ) (w : Item) → slice_get ws t ≡ Some w → interface_named (interfaces files) (interface_name w) ≡ Some w
-  pub unique : (i j : ℕ) (v w : Item) → slice_get ws i ≡ Some v → slice_get ws j ≡ Some w → interface_name v ≡ interface_name w → i ≡ j
-  pub all : (name : List ℕ) (w : Item) → interface_named (interfaces files) name ≡ Some w → (t : ℕ) × (slice_get ws t ≡ Some w)
+-- a scope that is done: whose it is, its names as they were resolved, and what they stand for
+pub record DoneScope : Type 0 where
+  pub address : Address
+  pub owner : TypeOwner
+  pub names : List ScopeName
+  pub types : Names
 
--- a name of a scope of one of these interfaces
-pub record IsNameOf (os : List Ordered) (s : Address) (name : List ℕ) : Type 0 where
+abbrev pub done_address : DoneScope → Address
+done_address c = c.address
+
+abbrev pub turn_of : DoneScope → Turned
+turn_of c = record { address = c.address; names = c.names }
+
+abbrev pub cell_of : DoneScope → Cell
+cell_of c = record { address = c.address; types = c.types }
+
+-- each name of a scope once, in another order
+pub record IsTurn (xs ys : List ScopeName) : Type 0 where
+  pub distinct : AreDistinct xs
+  pub differ : AreDistinct ys
+  pub among : (i : ℕ) (x : ScopeName) → slice_get ys i ≡ Some x → (p : ℕ) × (slice_get xs p ≡ Some x)
+  pub has : (p : ℕ) (x : ScopeName) → slice_get xs p ≡ Some x → (i : ℕ) × (slice_get ys i ≡ Some x)
+
+-- a scope of files is done
+pub record IsDoneScope (files : List PackageFile) (c : DoneScope) : Type 0 where
+  pub turn : IsTurn (scope files c.address) c.names
+  pub listed : map (λ p. p.0) c.types ≡ local_names c.names
+
+-- a name of one of these scopes
+pub record IsNameOf (cs : List DoneScope) (s : Address) (name : List ℕ) : Type 0 where
   pub place : ℕ
-  pub ordered : Ordered
-  pub at : slice_get os place ≡ Some ordered
-  pub scope : address ordered.item ≡ s
+  pub cell : DoneScope
+  pub at : slice_get cs place ≡ Some cell
+  pub scope : cell.address ≡ s
   pub index : ℕ
   pub x : ScopeName
-  pub among : slice_get (ordered_names ordered) index ≡ Some x
+  pub among : slice_get cell.names index ≡ Some x
   pub called : local_name x ≡ name
 
--- what is done with the first of the interfaces, in their orders
-pub record IsDone (files : List PackageFile) (ws : List Item) (os : List Ordered) (es : List TypeDef) (is : List Interface) : Type 0 where
+-- an unnamed type that is written in a name of one of these scopes
+pub record IsWholeOf (cs : List DoneScope) (form : Form) (parts : Exprs) : Type 0 where
+  pub place : ℕ
+  pub cell : DoneScope
+  pub at : slice_get cs place ≡ Some cell
+  pub index : ℕ
+  pub x : ScopeName
+  pub among : slice_get cell.names index ≡ Some x
+  pub has : Has (all_met (name_exprs cell.address x)) (Whole form parts)
+
+-- these scopes are done: the arena is the list of first meetings of what is written, and their names stand for their places
+pub record IsDone (files : List PackageFile) (decls : Decls) (written : List Meeting) (cs : List DoneScope) (es : List TypeDef) : Type 0 where
   pub met : List Meeting
-  pub meets : Meets [] (meetings os) met
-  pub meeting : IsMeeting (declarations files ws) met es
-  pub count : length is ≡ length os
-  pub front : (t : ℕ) (o : Ordered) → slice_get os t ≡ Some o → slice_get ws t ≡ Some o.item
-  pub least : (t : ℕ) (o : Ordered) → slice_get os t ≡ Some o → IsOrder (rows_of (scope_names o.item)) o.order
-  pub distinct : (t : ℕ) (o : Ordered) → slice_get os t ≡ Some o → AreDistinct (scope_names o.item)
-  pub says : (t : ℕ) (o : Ordered) (i : Interface) → slice_get os t ≡ Some o → slice_get is t ≡ Some i → IsInterface o.item.interface i
-  pub listed : (t : ℕ) (o : Ordered) (i : Interface) → slice_get os t ≡ Some o → slice_get is t ≡ Some i → map (λ p. p.0) i.types ≡ local_names (ordered_names o)
-  pub stand : (t : ℕ) (o : Ordered) (i : Interface) → slice_get os t ≡ Some o → slice_get is t ≡ Some i → AreNames (keys met) (address o.item) (env_of i.types)
-  pub before : (j : ℕ) (s : Address) (name : List ℕ) → slice_get (keys met) j ≡ Some (Def s name) → IsNameOf os s name
+  pub meets : Meets [] written met
+  pub meeting : IsMeeting decls met es
+  pub each : (t : ℕ) (c : DoneScope) → slice_get cs t ≡ Some c → IsDoneScope files c
+  pub own : (t : ℕ) (c : DoneScope) → slice_get cs t ≡ Some c → decls c.address ≡ decls_of c.owner c.address (scope files c.address)
+  pub stand : (t : ℕ) (c : DoneScope) → slice_get cs t ≡ Some c → AreNames (keys met) c.address (env_of c.types)
+  pub before : (j : ℕ) (s : Address) (name : List ℕ) → slice_get (keys met) j ≡ Some (Def s name) → IsNameOf cs s name
+  pub unique : AllDiffer (map done_address cs)
+  pub wholes : (form : Form) (parts : Exprs) → Has (keys written) (Whole form parts) → IsWholeOf cs form parts

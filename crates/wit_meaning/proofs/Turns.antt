@@ -9,7 +9,8 @@ use Rattle.std.proofs.lemmas.Option.{slice_get_within}
 use Rattle.wit_tree.specs.declared.tree.UseName.{UseName}
 use Rattle.wit_tree.specs.declared.tree.TypeDef.{TypeDef as Definition}
 use Rattle.wit_order.specs.Table.{IsOrder}
-use Rattle.wit_meaning.specs.Source.{Address, ScopeName, Used, Defined, local_name}
+use Rattle.wit_meaning.specs.Address.{Address}
+use Rattle.wit_meaning.specs.Source.{ScopeName, Used, Defined, local_name}
 use Rattle.wit_meaning.specs.Scope.{row_of, rows_of, in_order, is_defined, used, defined, in_turn}
 use Rattle.wit_meaning.specs.Repeats.{AllDiffer}
 use Rattle.wit_meaning.specs.Resolving.{AreDistinct}

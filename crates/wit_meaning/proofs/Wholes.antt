@@ -1,11 +1,11 @@
--- Where unnamed types are met: in names of scopes, and in interfaces.
+-- Where unnamed types are met in names of scopes.
 use Rattle.std.proofs.Common.{◌≡◌, ℕ, suc, List, [], ◌∷◌, Some, inl, inr, refl, subst}
 use Rattle.std.specs.Prelude.{slice_get}
 use Rattle.wit_meaning.specs.Form.{Form}
-use Rattle.wit_meaning.specs.Source.{Address, ScopeName, local_name}
+use Rattle.wit_meaning.specs.Address.{Address}
+use Rattle.wit_meaning.specs.Source.{ScopeName, local_name}
 use Rattle.wit_meaning.specs.Expr.{Exprs, name_exprs}
 use Rattle.wit_meaning.specs.Meet.{Key, Def, Whole, keys, name_meetings, parts_meetings, all_name_meetings}
-use Rattle.wit_meaning.specs.Whole.{Ordered, ordered_names, address, meetings}
 use Rattle.wit_meaning.specs.Resolving.{all_met}
 use Rattle.wit_meaning.proofs.Meeting.{Has, has_either, keys-append}
 use Rattle.wit_meaning.proofs.Defining.{name_keys, parts_keys}
@@ -24,13 +24,3 @@ whole_in_names s (x ∷ xs) form parts h = elim (has_either (keys (name_meetings
   | inl first ↦ (0, x, refl, whole_in_name s x form parts first)
   | inr rest ↦ (let it = whole_in_names s xs form parts rest in (suc it.0, it.1, it.2, it.3))
 ]
-
--- an unnamed type that is met in interfaces is met in one
-pub whole_in_interfaces : (os : List Ordered) (form : Form) (parts : Exprs) → Has (keys (meetings os)) (Whole form parts) → (t : ℕ) × (o : Ordered) × (slice_get os t ≡ Some o) × Has (keys (all_name_meetings (address o.item) (ordered_names o))) (Whole form parts)
-whole_in_interfaces [] form parts h = absurd h
-whole_in_interfaces (o ∷ os) form parts h =
-    let here = all_name_meetings (address o.item) (ordered_names o) in
-    elim (has_either (keys here) (keys (meetings os)) (Whole form parts) (subst (λ (ks : List Key). Has ks (Whole form parts)) (keys-append here (meetings os)) h)) [
-      | inl first ↦ (0, o, refl, first)
-      | inr rest ↦ (let it = whole_in_interfaces os form parts rest in (suc it.0, it.1, it.2, it.3))
-    ]

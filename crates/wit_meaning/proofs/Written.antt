@@ -11,7 +11,7 @@ use Rattle.wit_tree.specs.declared.tree.«Type».TheVariants as written
 use Rattle.wit_tree.proofs.Rows.{tuple_types}
 use Rattle.wit_tree.specs.Parts.{held_types, row_types, part_types, body_types}
 use Rattle.wit_meaning.specs.Shape.{Shape, Prim, Word, Of, Shapes, End, More, shape_of, held_shape, row_shapes, all_shapes, head, words, all_words}
-use Rattle.wit_meaning.specs.Source.{Address}
+use Rattle.wit_meaning.specs.Address.{Address}
 use Rattle.wit_meaning.specs.Expr.{joined, expr_of, exprs_of}
 use Rattle.wit_meaning.specs.Expr as exprs
 use Rattle.wit_meaning.specs.Meet.{shape_meetings, shapes_meetings}

@@ -25,7 +25,8 @@ use Rattle.wit_tree.specs.declared.tree.PackageName.{PackageName as Header}
 use Rattle.wit_tree.specs.declared.tree.PackageFile.{PackageFile}
 use Rattle.wit_order.specs.Table.{Row, IsEdge, IsMissing, IsCyclic, IsOrder}
 use Rattle.wit_meaning.specs.Fault.{Fault, fault_of, fault, missing_at, cyclic_at, item_word, type_word, name_word}
-use Rattle.wit_meaning.specs.Source.{path_id, TopName, top_names, top_text, Item, interfaces, interface_name, interface_named, Address, interface_at, ScopeName, Used, Defined, local_id, local_name, scope_names, meaning}
+use Rattle.wit_meaning.specs.Address.{Address}
+use Rattle.wit_meaning.specs.Source.{path_id, TopName, top_names, top_text, Item, interfaces, interface_name, interface_named, interface_at, ScopeName, Used, Defined, local_id, local_name, scope_names, meaning}
 use Rattle.wit_meaning.specs.Scope.{item_rows, rows_of, used, defined, in_turn}
 
 -- the key by which labels are told apart: the label in lower case

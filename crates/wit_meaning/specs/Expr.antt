@@ -4,7 +4,8 @@ use Rattle.wit_meaning.specs.Form.{Form}
 use Rattle.wit_meaning.specs.Node.{Primitive}
 use Rattle.wit_meaning.specs.Shape.{Shape, Shapes}
 use Rattle.wit_meaning.specs.Shape as shape
-use Rattle.wit_meaning.specs.Source.{Address, ScopeName, name_body, name_scope}
+use Rattle.wit_meaning.specs.Address.{Address}
+use Rattle.wit_meaning.specs.Source.{ScopeName, name_body, name_scope}
 
 -- a primitive, a name of a scope, or a form over parts
 mutual

@@ -1,4 +1,5 @@
 pub mod Repeats
+pub mod Address
 pub mod Form
 pub mod Node
 pub mod Shape

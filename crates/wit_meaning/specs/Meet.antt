@@ -14,7 +14,8 @@ use Rattle.wit_meaning.specs.Node as node
 use Rattle.wit_meaning.specs.Repeats.{AllDiffer}
 use Rattle.wit_meaning.specs.Shape.{Shape, Shapes, no_docs}
 use Rattle.wit_meaning.specs.Shape as shape
-use Rattle.wit_meaning.specs.Source.{Address, ScopeName, local_name, name_form, name_span, name_body, name_scope}
+use Rattle.wit_meaning.specs.Address.{Address}
+use Rattle.wit_meaning.specs.Source.{ScopeName, local_name, name_form, name_span, name_body, name_scope}
 use Rattle.wit_meaning.specs.Expr.{Expr, Prim, Use, Of, Exprs, End, More, exprs_of, name_exprs}
 
 -- what is met: a name of a scope, or an unnamed type

@@ -4,6 +4,7 @@ use Rattle.wit_values.specs.declared.span.Span.{Span}
 use Rattle.wit_types.specs.declared.docs.Docs.{Docs}
 use Rattle.wit_types.specs.declared.stability.Stability.{Stability}
 use Rattle.wit_meaning.specs.Form.{Form}
+use Rattle.wit_meaning.specs.Address.{Address}
 
 -- the primitive types
 pub data Primitive : Type 0 where
@@ -22,9 +23,9 @@ pub data Primitive : Type 0 where
   String : Primitive
   ErrorContext : Primitive
 
--- whose a name is, by names alone
+-- whose a name is, by names alone: a scope's, or nobody's
 pub data Owner : Type 0 where
-  OfInterface : (name : List ℕ) → Owner
+  OfScope : (scope : Address) → Owner
   Nobody : Owner
 
 -- a named type without its body

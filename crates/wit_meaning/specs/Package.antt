@@ -1,7 +1,9 @@
--- What types of a package mean: the arenas unfolded, and what an interface of the arena says.
+-- What types of a package mean: the arenas unfolded, whose names are by what the package calls them, and what an interface says.
 use Rattle.std.specs.Prelude.{◌≡◌, ℕ, zero, suc, ◌<◌, List, [], ◌∷◌, Option, Some, None, ◌⊎◌, slice_get}
+use Rattle.std.specs.Option.{option_map_or}
 use Rattle.wit_tree.specs.declared.tree.Interface.{Interface as Written}
 use Rattle.wit_model.specs.declared.interface.Interface.{Interface}
+use Rattle.wit_model.specs.declared.unresolved.UnresolvedPackage.{UnresolvedPackage}
 use Rattle.wit_types.specs.declared.stability.Stability.TheVariants.{Unknown}
 use Rattle.wit_types.specs.declared.types.«Type».{«Type» as Ty}
 use Rattle.wit_types.specs.declared.types.«Type».TheVariants as type
@@ -9,57 +11,67 @@ use Rattle.wit_types.specs.declared.types.TypeDef.{TypeDef}
 use Rattle.wit_types.specs.declared.types.TypeOwner.{TypeOwner}
 use Rattle.wit_types.specs.declared.types.TypeOwner.TheVariants as owner
 use Rattle.wit_meaning.specs.Form.{kind_of}
-use Rattle.wit_meaning.specs.Node.{Owner, OfInterface, Nobody, Head, Node, Leaf, Named, Unnamed, Nothing, Tree, unfolded}
+use Rattle.wit_meaning.specs.Address.{InterfaceNamed}
+use Rattle.wit_meaning.specs.Node.{Owner, OfScope, Nobody, Head, Node, Leaf, Named, Unnamed, Nothing, Tree, unfolded}
 use Rattle.wit_meaning.specs.Node as node
 use Rattle.wit_meaning.specs.Shape.{no_docs}
 
 abbrev pub named_owner : Option (List ℕ) → Owner
 named_owner None = Nobody
-named_owner (Some name) = OfInterface name
+named_owner (Some name) = OfScope (InterfaceNamed name)
 
 abbrev pub interface_owner : Option Interface → Owner
 interface_owner None = Nobody
 interface_owner (Some i) = named_owner i.name
 
--- an owner by its name in the arenas
-abbrev pub owner_of : List Interface → TypeOwner → Owner
-owner_of is (owner.Interface i) = interface_owner (slice_get is i)
-owner_of is (owner.World w) = Nobody
-owner_of is owner.None = Nobody
+-- an owner by what the package calls it
+abbrev pub owner_of : UnresolvedPackage → TypeOwner → Owner
+owner_of p (owner.Interface i) = interface_owner (slice_get p.interfaces i)
+owner_of p (owner.World w) = Nobody
+owner_of p owner.None = Nobody
+
+abbrev pub interface_types : Interface → List (List ℕ × ℕ)
+interface_types i = i.types
+
+-- the names of an owner's types, with their places
+abbrev pub names_of : UnresolvedPackage → TypeOwner → List (List ℕ × ℕ)
+names_of p (owner.Interface i) = option_map_or interface_types (slice_get p.interfaces i) []
+names_of p (owner.World w) = []
+names_of p owner.None = []
 
 -- a named entry without its body
-abbrev pub entry_head : List Interface → List ℕ → TypeDef → Head
-entry_head is name e = record { owner = owner_of is e.owner; name = name; span = e.span; docs = e.docs; stability = e.stability; external_id = e.external_id }
+abbrev pub entry_head : UnresolvedPackage → List ℕ → TypeDef → Head
+entry_head p name e = record { owner = owner_of p e.owner; name = name; span = e.span; docs = e.docs; stability = e.stability; external_id = e.external_id }
 
-abbrev pub entry_node : List Interface → Option (List ℕ) → TypeDef → Node Ty
-entry_node is None e = Unnamed (kind_of e.kind).form (kind_of e.kind).parts
-entry_node is (Some name) e = Named (entry_head is name e) (kind_of e.kind).form (kind_of e.kind).parts
+abbrev pub entry_node : UnresolvedPackage → Option (List ℕ) → TypeDef → Node Ty
+entry_node p None e = Unnamed (kind_of e.kind).form (kind_of e.kind).parts
+entry_node p (Some name) e = Named (entry_head p name e) (kind_of e.kind).form (kind_of e.kind).parts
 
-abbrev pub node_at : List Interface → Option TypeDef → Node Ty
-node_at is None = Nothing
-node_at is (Some e) = entry_node is e.name e
+abbrev pub node_at : UnresolvedPackage → Option TypeDef → Node Ty
+node_at p None = Nothing
+node_at p (Some e) = entry_node p e.name e
 
--- one level of a type of the arenas
-abbrev pub package_node : List Interface → List TypeDef → Ty → Node Ty
-package_node is es type.Bool = Leaf node.Bool
-package_node is es type.U8 = Leaf node.U8
-package_node is es type.U16 = Leaf node.U16
-package_node is es type.U32 = Leaf node.U32
-package_node is es type.U64 = Leaf node.U64
-package_node is es type.S8 = Leaf node.S8
-package_node is es type.S16 = Leaf node.S16
-package_node is es type.S32 = Leaf node.S32
-package_node is es type.S64 = Leaf node.S64
-package_node is es type.F32 = Leaf node.F32
-package_node is es type.F64 = Leaf node.F64
-package_node is es type.Char = Leaf node.Char
-package_node is es type.String = Leaf node.String
-package_node is es type.ErrorContext = Leaf node.ErrorContext
-package_node is es (type.Id i) = node_at is (slice_get es i)
+-- one level of a type of the package
+abbrev pub package_node : UnresolvedPackage → Ty → Node Ty
+package_node p type.Bool = Leaf node.Bool
+package_node p type.U8 = Leaf node.U8
+package_node p type.U16 = Leaf node.U16
+package_node p type.U32 = Leaf node.U32
+package_node p type.U64 = Leaf node.U64
+package_node p type.S8 = Leaf node.S8
+package_node p type.S16 = Leaf node.S16
+package_node p type.S32 = Leaf node.S32
+package_node p type.S64 = Leaf node.S64
+package_node p type.F32 = Leaf node.F32
+package_node p type.F64 = Leaf node.F64
+package_node p type.Char = Leaf node.Char
+package_node p type.String = Leaf node.String
+package_node p type.ErrorContext = Leaf node.ErrorContext
+package_node p (type.Id i) = node_at p (slice_get p.types i)
 
 -- the tree of a type, to n levels
-abbrev pub package_tree : List Interface → List TypeDef → (n : ℕ) → Ty → Tree n
-package_tree is es n ty = unfolded (package_node is es) n ty
+abbrev pub package_tree : UnresolvedPackage → (n : ℕ) → Ty → Tree n
+package_tree p n ty = unfolded (package_node p) n ty
 
 -- an entry stands at a place
 pub record At (es : List TypeDef) (i : ℕ) (e : TypeDef) : Type 0 where

@@ -1,23 +1,24 @@
 -- What resolving interfaces does to the arenas, one after another.
-use Rattle.std.specs.Prelude.{◌≡◌, ℕ, List, [], ◌∷◌, ◌++◌, length, map, take, Some, slice_get}
+use Rattle.std.specs.Prelude.{◌≡◌, ℕ, List, [], ◌∷◌, ◌++◌, length, take, Some, slice_get}
 use Rattle.wit_types.specs.declared.types.TypeDef.{TypeDef}
 use Rattle.wit_types.specs.declared.types.TypeOwner.{TypeOwner}
 use Rattle.wit_types.specs.declared.types.TypeOwner.TheVariants as owner
 use Rattle.wit_model.specs.declared.interface.Interface.{Interface}
 use Rattle.wit_order.specs.Table.{IsOrder}
-use Rattle.wit_meaning.specs.Source.{Item, Address, ScopeName, scope_names}
+use Rattle.wit_meaning.specs.Address.{Address}
+use Rattle.wit_meaning.specs.Source.{Item, ScopeName, scope_names}
 use Rattle.wit_meaning.specs.Fault.{Fault}
 use Rattle.wit_meaning.specs.Package.{IsInterface}
 use Rattle.wit_meaning.specs.Scope.{rows_of, in_order, defined, in_turn}
 use Rattle.wit_meaning.specs.Broken.{IsBrokenScope}
-use Rattle.wit_meaning.specs.Resolving.{Names, AreDistinct, Defines, IsIndex, IsWrongScope}
+use Rattle.wit_meaning.specs.Resolving.{Names, Cell, cells, AreDistinct, Defines, IsIndex, IsWrongScope}
 
 -- the definitions of a scope were added in the least dependency-first order, behind its used names
 pub record DefinesAll (old new : List TypeDef) (o : TypeOwner) (names names' : Names) (xs : List ScopeName) : Type 0 where
   pub order : List ℕ
   pub least : IsOrder (rows_of xs) order
   pub distinct : AreDistinct xs
-  pub defines : (is : List Interface) (s : Address) → Defines old new is o s names names' (defined (in_order xs order))
+  pub defines : (cs : List Cell) (s : Address) → Defines old new cs o s names names' (defined (in_order xs order))
 
 -- what an interface adds to the arenas
 pub record AddsInterface (old new : List TypeDef) (is is' : List Interface) (item : Item) : Type 0 where
@@ -27,7 +28,7 @@ pub record AddsInterface (old new : List TypeDef) (is is' : List Interface) (ite
   pub added : Interface
   pub last : is' ≡ is ++ added ∷ []
   pub says : IsInterface item.interface added
-  pub defines : (s : Address) → Defines old new is (owner.Interface (length is)) s [] added.types (in_turn (scope_names item) order)
+  pub defines : (s : Address) → Defines old new (cells is) (owner.Interface (length is)) s [] added.types (in_turn (scope_names item) order)
 
 -- what interfaces add to the arenas, one after another
 abbrev pub AddsAll : List TypeDef → List TypeDef → List Interface → List Interface → List Item → Type 0
@@ -49,5 +50,5 @@ pub record IsWrongAmong (old : List TypeDef) (is : List Interface) (ws : List It
   pub before : List Interface
   pub added : AddsAll old mid is before (in_order ws (take count places))
   pub by_name : Names
-  pub index : IsIndex before by_name
-  pub wrong : IsWrongScope before by_name (scope_names item) f
+  pub index : IsIndex (cells before) by_name
+  pub wrong : IsWrongScope (cells before) by_name (scope_names item) f

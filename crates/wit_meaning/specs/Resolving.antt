@@ -2,6 +2,7 @@
 use Rattle.std.specs.Prelude.{◌≡◌, ℕ, List, [], ◌∷◌, ◌++◌, length, map, Option, Some, None, ◌⊎◌, slice_get, nat_eq, Contains, IsSome}
 use Rattle.std.specs.Cmp.Lexicographic.{pointwise}
 use Rattle.std.specs.Map.{lookup}
+use Rattle.std.specs.Option.{unwrap_or}
 use Rattle.indexmap.specs.IndexMap.{insert_entry}
 use Rattle.wit_values.specs.declared.span.Span.{Span}
 use Rattle.wit_tree.specs.declared.tree.Id.{Id}
@@ -19,7 +20,8 @@ use Rattle.wit_types.specs.declared.types.TypeDef.{TypeDef}
 use Rattle.wit_types.specs.declared.types.TypeOwner.{TypeOwner}
 use Rattle.wit_types.specs.declared.types.TypeOwner.TheVariants as owner
 use Rattle.wit_model.specs.declared.interface.Interface.{Interface}
-use Rattle.wit_meaning.specs.Source.{Address, InterfaceNamed, ScopeName, Used, Defined, local_id, local_name}
+use Rattle.wit_meaning.specs.Address.{Address, InterfaceNamed}
+use Rattle.wit_meaning.specs.Source.{ScopeName, Used, Defined, local_id, local_name}
 use Rattle.wit_meaning.specs.Shape.{no_docs, shape_of, all_shapes, words, all_words, body_of}
 use Rattle.wit_meaning.specs.Expr.{Expr, Prim, Use, Of, Exprs, End, More}
 use Rattle.wit_meaning.specs.Meet.{Key, Def, Whole, Meeting, keys, IsMet, Meets, AreAt, Decl, Decls, IsAmong, IsMeeting, all_name_meetings, decl_of}
@@ -103,10 +105,22 @@ AreDistinct xs = AllDiffer (map local_name xs)
 pub record AreNew (ks : List Key) (s : Address) (xs : List ScopeName) : Type 0 where
   pub new : (i : ℕ) (x : ScopeName) → slice_get xs i ≡ Some x → IsMet ks (Def s (local_name x)) → ⊥
 
--- the names of interfaces that were resolved stand for their places, and the scope is none of theirs
-pub record AreKnown (ks : List Key) (s : Address) (is : List Interface) : Type 0 where
-  pub names : (t : ℕ) (i : Interface) (name : List ℕ) → slice_get is t ≡ Some i → i.name ≡ Some name → AreNames ks (InterfaceNamed name) (env_of i.types)
-  pub others : (t : ℕ) (i : Interface) (name : List ℕ) → slice_get is t ≡ Some i → i.name ≡ Some name → InterfaceNamed name ≡ s → ⊥
+-- a scope that was resolved, with what its names stand for
+pub record Cell : Type 0 where
+  pub address : Address
+  pub types : Names
+
+-- an interface that was resolved, as a scope
+abbrev pub cell : Interface → Cell
+cell i = record { address = InterfaceNamed (unwrap_or i.name []); types = i.types }
+
+abbrev pub cells : List Interface → List Cell
+cells is = map cell is
+
+-- the names of scopes that were resolved stand for their places, and the scope is none of them
+pub record AreKnown (ks : List Key) (s : Address) (cs : List Cell) : Type 0 where
+  pub names : (t : ℕ) (c : Cell) → slice_get cs t ≡ Some c → AreNames ks c.address (env_of c.types)
+  pub others : (t : ℕ) (c : Cell) → slice_get cs t ≡ Some c → c.address ≡ s → ⊥
 
 -- what was met, extended by what is met in names of a scope, and what the names then stand for
 pub record IsDefined (decls : Decls) (ms : List Meeting) (new : List TypeDef) (s : Address) (names names' : Names) (xs : List ScopeName) : Type 0 where
@@ -116,9 +130,9 @@ pub record IsDefined (decls : Decls) (ms : List Meeting) (new : List TypeDef) (s
   pub stand : AreNames (keys now) s (env_of names')
   pub listed : map (λ p. p.0) names' ≡ map (λ p. p.0) names ++ local_names xs
 
--- From whatever was met, the new arena is that with what is met in the names; `is` are the interfaces that they may use.
-pub record Defines (old new : List TypeDef) (is : List Interface) (o : TypeOwner) (s : Address) (names names' : Names) (xs : List ScopeName) : Type 0 where
-  pub from : (decls : Decls) (ms : List Meeting) → ((d : Decl) → IsAmong (decls_of o s xs) d → IsAmong (decls s) d) → AreDistinct xs → AreNew (keys ms) s xs → AreKnown (keys ms) s is → IsMeeting decls ms old → AreNames (keys ms) s (env_of names) → IsDefined decls ms new s names names' xs
+-- From whatever was met, the new arena is that with what is met in the names; `cs` are the scopes that they may use.
+pub record Defines (old new : List TypeDef) (cs : List Cell) (o : TypeOwner) (s : Address) (names names' : Names) (xs : List ScopeName) : Type 0 where
+  pub from : (decls : Decls) (ms : List Meeting) → ((d : Decl) → IsAmong (decls_of o s xs) d → IsAmong (decls s) d) → AreDistinct xs → AreNew (keys ms) s xs → AreKnown (keys ms) s cs → IsMeeting decls ms old → AreNames (keys ms) s (env_of names) → IsDefined decls ms new s names names' xs
 
 -- a name stands for nothing yet
 pub record IsUnknown (env : Env) (ids : List Id) (f : Fault) : Type 0 where
@@ -152,15 +166,15 @@ pub record HasNames (env : Env) (xs : List ScopeName) : Type 0 where
   pub has : (i : ℕ) (x : ScopeName) → slice_get xs i ≡ Some x → IsSome (env (local_name x))
 
 -- interfaces that were resolved, and their places by name
-pub record IsIndex (is : List Interface) (by_name : Names) : Type 0 where
-  pub stands : (name : List ℕ) (t : ℕ) → env_of by_name name ≡ Some t → (i : Interface) × (slice_get is t ≡ Some i) × (i.name ≡ Some name)
-  pub has : (t : ℕ) (i : Interface) (name : List ℕ) → slice_get is t ≡ Some i → i.name ≡ Some name → IsSome (env_of by_name name)
+pub record IsIndex (cs : List Cell) (by_name : Names) : Type 0 where
+  pub stands : (name : List ℕ) (t : ℕ) → env_of by_name name ≡ Some t → (c : Cell) × (slice_get cs t ≡ Some c) × (c.address ≡ InterfaceNamed name)
+  pub has : (t : ℕ) (c : Cell) (name : List ℕ) → slice_get cs t ≡ Some c → c.address ≡ InterfaceNamed name → IsSome (env_of by_name name)
 
--- an interface of the name was resolved
-pub record IsFound (is : List Interface) (name : List ℕ) (i : Interface) : Type 0 where
+-- the scope at an address was resolved
+pub record IsFound (cs : List Cell) (from : Address) (c : Cell) : Type 0 where
   pub place : ℕ
-  pub at : slice_get is place ≡ Some i
-  pub called : i.name ≡ Some name
+  pub at : slice_get cs place ≡ Some c
+  pub called : c.address ≡ from
 
 -- none of the name was
 abbrev pub IsUnresolved : Names → Id → Fault → Type 0
@@ -171,28 +185,28 @@ abbrev pub address_name : Address → List ℕ
 address_name (InterfaceNamed name) = name
 
 -- a used name was added, as another word for what it stands for in the interface that it comes from
-pub record IsUsed (old new : List TypeDef) (is : List Interface) (o : TypeOwner) (names names' : Names) (from : Address) (n : UseName) : Type 0 where
-  pub target : Interface
-  pub found : IsFound is (address_name from) target
+pub record IsUsed (old new : List TypeDef) (cs : List Cell) (o : TypeOwner) (names names' : Names) (from : Address) (n : UseName) : Type 0 where
+  pub target : Cell
+  pub found : IsFound cs from target
   pub id : ℕ
   pub stands : env_of target.types n.name.name.now ≡ Some id
   pub free : env_of names (local_name (Used from n)) ≡ None
   pub added : IsAdded old new o names names' (local_name (Used from n)) n.name.span (Type_ (type.Id id))
 
 -- a used name is wrong by what was resolved before: its interface was not, or it is none of that interface's
-pub data IsWrongName (is : List Interface) (by_name : Names) (from : Address) (n : UseName) (f : Fault) : Type 0 where
-  Unresolved : (path : Id) → path.name.now ≡ address_name from → IsUnresolved by_name path f → IsWrongName is by_name from n f
-  Unstated : (target : Interface) → IsFound is (address_name from) target → env_of target.types n.name.name.now ≡ None → f ≡ missing_at 12 name_word n.name → IsWrongName is by_name from n f
+pub data IsWrongName (cs : List Cell) (by_name : Names) (from : Address) (n : UseName) (f : Fault) : Type 0 where
+  Unresolved : (path : Id) → path.name.now ≡ address_name from → IsUnresolved by_name path f → IsWrongName cs by_name from n f
+  Unstated : (target : Cell) → IsFound cs from target → env_of target.types n.name.name.now ≡ None → f ≡ missing_at 12 name_word n.name → IsWrongName cs by_name from n f
 
 -- what is wrong with a used name: it is by what was resolved before, or its local name is taken
-pub data IsWrongUse (is : List Interface) (by_name names : Names) (from : Address) (n : UseName) (f : Fault) : Type 0 where
-  Wrong : IsWrongName is by_name from n f → IsWrongUse is by_name names from n f
-  Taken : IsSome (env_of names (local_name (Used from n))) → f ≡ fault 14 (local_id (Used from n)).span → IsWrongUse is by_name names from n f
+pub data IsWrongUse (cs : List Cell) (by_name names : Names) (from : Address) (n : UseName) (f : Fault) : Type 0 where
+  Wrong : IsWrongName cs by_name from n f → IsWrongUse cs by_name names from n f
+  Taken : IsSome (env_of names (local_name (Used from n))) → f ≡ fault 14 (local_id (Used from n)).span → IsWrongUse cs by_name names from n f
 
 -- what is wrong with a scope, by what was resolved before
-pub data IsWrongScope (is : List Interface) (by_name : Names) (xs : List ScopeName) (f : Fault) : Type 0 where
-  WrongName : (from : Address) (n : UseName) → Contains xs (Used from n) → IsWrongName is by_name from n f → IsWrongScope is by_name xs f
-  WrongItself : IsBrokenScope xs f → IsWrongScope is by_name xs f
+pub data IsWrongScope (cs : List Cell) (by_name : Names) (xs : List ScopeName) (f : Fault) : Type 0 where
+  WrongName : (from : Address) (n : UseName) → Contains xs (Used from n) → IsWrongName cs by_name from n f → IsWrongScope cs by_name xs f
+  WrongItself : IsBrokenScope xs f → IsWrongScope cs by_name xs f
 
 -- an interface was added, with these names
 pub record IsAddedInterface (is is' : List Interface) (written : Written) (names : Names) : Type 0 where

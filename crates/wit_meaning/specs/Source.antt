@@ -17,7 +17,8 @@ use Rattle.wit_tree.specs.declared.tree.AstItem.TheVariants.{Interface as Interf
 use Rattle.wit_tree.specs.declared.tree.PackageFile.{PackageFile}
 use Rattle.wit_types.specs.declared.stability.Stability.TheVariants.{Unknown}
 use Rattle.wit_meaning.specs.Form.{Form, AliasForm}
-use Rattle.wit_meaning.specs.Node.{Owner, OfInterface, Head, Node, Leaf, Named, Unnamed, Nothing, Tree, unfolded}
+use Rattle.wit_meaning.specs.Address.{Address, InterfaceNamed}
+use Rattle.wit_meaning.specs.Node.{OfScope, Head, Node, Leaf, Named, Unnamed, Nothing, Tree, unfolded}
 use Rattle.wit_meaning.specs.Shape.{Shape, Prim, Word, Of, Shapes, End, More, one, Body, body_of, no_docs}
 
 -- what a path names
@@ -75,10 +76,6 @@ interface_name i = i.interface.name.name.now
 abbrev pub interface_named : List Item → List ℕ → Option Item
 interface_named is name = find (λ i. bytes_eq (interface_name i) name) is
 
--- a scope: the interface of a name
-pub data Address : Type 0 where
-  InterfaceNamed : (name : List ℕ) → Address
-
 -- the interface at an address
 abbrev pub interface_at : List Item → Address → Option Item
 interface_at is (InterfaceNamed name) = interface_named is name
@@ -111,10 +108,6 @@ scope_names i = flat_map (item_names i.top) i.interface.items.items
 -- the names of a scope
 abbrev pub scope : List PackageFile → Address → List ScopeName
 scope files s = option_map_or scope_names (interface_at (interfaces files) s) []
-
--- whose the names of a scope are
-abbrev pub owner : Address → Owner
-owner (InterfaceNamed name) = OfInterface name
 
 -- what a name stands for: the first that goes by it
 abbrev pub meaning : List ScopeName → List ℕ → Option ScopeName
@@ -151,7 +144,7 @@ name_span (Defined d) = d.name.span
 
 -- a name of a scope, without what it stands for
 abbrev pub head : Address → ScopeName → Head
-head s x = record { owner = owner s; name = local_name x; span = name_span x; docs = no_docs; stability = Unknown; external_id = None }
+head s x = record { owner = OfScope s; name = local_name x; span = name_span x; docs = no_docs; stability = Unknown; external_id = None }
 
 abbrev pub named_node : Address → Option ScopeName → Node Place
 named_node s None = Nothing

@@ -14,12 +14,12 @@ use Rattle.wit_meaning.specs.Scope.{in_order}
 use Rattle.wit_meaning.specs.Fault.{Fault, fault}
 use Rattle.wit_meaning.specs.Broken.{IsDuplicateItem, IsBrokenNames, DuplicateItem, IsLegal, last_header}
 use Rattle.wit_meaning.specs.Repeats.{AllDiffer}
-use Rattle.wit_meaning.specs.Whole.{IsPackage, IsFaithful}
+use Rattle.wit_meaning.specs.Whole.{NamesNoOther, IsPackage, IsFaithful}
 use Rattle.wit_meaning.proofs.Repeated.{differ_by}
 use Rattle.wit_meaning.proofs.Itemizing.{are_items}
-use Rattle.wit_meaning.proofs.Done.{done_front}
+use Rattle.wit_meaning.proofs.Laid.{AreDone, done_front}
 use Rattle.wit_meaning.proofs.Finished.{legal_files}
-use Rattle.wit_meaning.proofs.Faithful.{package_of, faithful, names_stated}
+use Rattle.wit_meaning.proofs.Packaged.{names_stated, faithful_package, package_of}
 use Rattle.wit_parser.specs.Between.{AddsFiles}
 
 three_ways : (m n : ℕ) → (m < n) ⊎ ((m ≡ n) ⊎ (n < m))
@@ -43,20 +43,14 @@ module _ (files : List PackageFile) (es : List TypeDef) (is : List Interface) (a
   abbrev ordered : List Item
   ordered = in_order (interfaces files) a.items
 
-  pub files_legal : (header : Header) → last_header files ≡ Some header → IsLegal files
-  files_legal header last =
-      let items = are_items files a.items a.order (distinct_items files a.names) in
-      let it = done_front files ordered items es is ordered (λ k w h. h) a.added in
-      legal_files files a.items a.order (distinct_items files a.names) header last a.names a.legal (names_stated files ordered it.0 es is items it.1 it.2)
+  done : AreDone files ordered ordered es is
+  done = done_front files ordered (are_items files a.items a.order (distinct_items files a.names)) es is ordered (λ k w h. h) a.added
 
-  pub files_package : (header : Header) (p : UnresolvedPackage) → p.types ≡ es → p.interfaces ≡ is → last_header files ≡ Some header → p.name.namespace ≡ header.namespace.name.now → p.name.name ≡ header.name.name.now → option_map release_parts p.name.version ≡ option_map parts_of header.version → p.name_span ≡ header.span → p.worlds ≡ [] → IsPackage files p
-  files_package header p types interfaces last namespace name version span worlds =
-      let items = are_items files a.items a.order (distinct_items files a.names) in
-      let it = done_front files ordered items es is ordered (λ k w h. h) a.added in
-      package_of files a.items it.0 p header a.order items it.1 (rw (types, interfaces) it.2) last namespace name version span worlds
+  pub files_legal : (header : Header) → last_header files ≡ Some header → IsLegal files
+  files_legal header last = legal_files files a.items a.order (distinct_items files a.names) header last a.names a.legal (names_stated files ordered (are_items files a.items a.order (distinct_items files a.names)) es is done)
+
+  pub files_package : (header : Header) (p : UnresolvedPackage) → p.types ≡ es → p.interfaces ≡ is → last_header files ≡ Some header → p.name.namespace ≡ header.namespace.name.now → p.name.name ≡ header.name.name.now → option_map release_parts p.name.version ≡ option_map parts_of header.version → p.name_span ≡ header.span → p.worlds ≡ [] → NamesNoOther p → IsPackage files p
+  files_package header p types interfaces last namespace name version span worlds others = package_of files ordered p (rw (types, interfaces) done) header a.items a.order refl last namespace name version span worlds others
 
   pub files_faithful : (p : UnresolvedPackage) → p.types ≡ es → p.interfaces ≡ is → IsFaithful files p
-  files_faithful p types interfaces =
-      let items = are_items files a.items a.order (distinct_items files a.names) in
-      let it = done_front files ordered items es is ordered (λ k w h. h) a.added in
-      faithful files ordered it.0 es is items it.1 it.2 p types interfaces
+  files_faithful p types interfaces = faithful_package files ordered p (rw (types, interfaces) done)

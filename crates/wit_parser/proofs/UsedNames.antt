@@ -4,12 +4,12 @@ use Rattle.std.specs.Prelude.{slice_get, map}
 use Rattle.std.specs.Option.{option_map}
 use Rattle.std.proofs.lemmas.Option.{slice_get-map}
 use Rattle.wit_tree.specs.declared.tree.UseName.{UseName}
-use Rattle.wit_model.specs.declared.interface.Interface.{Interface}
-use Rattle.wit_meaning.specs.Source.{Address, ScopeName, Used, local_name}
+use Rattle.wit_meaning.specs.Address.{Address}
+use Rattle.wit_meaning.specs.Source.{ScopeName, Used, local_name}
 use Rattle.wit_meaning.specs.Scope.{used, defined}
 use Rattle.wit_meaning.specs.Fault.{Fault}
 use Rattle.wit_meaning.specs.Broken.{IsRepeated, DefinedTwice}
-use Rattle.wit_meaning.specs.Resolving.{Names, env_of, local_names, IsWrongUse, Wrong, Taken, IsWrongScope, WrongName, WrongItself}
+use Rattle.wit_meaning.specs.Resolving.{Names, Cell, env_of, local_names, IsWrongUse, Wrong, Taken, IsWrongScope, WrongName, WrongItself}
 use Rattle.wit_meaning.proofs.Lists.{at_front, at_take, map_at}
 use Rattle.wit_meaning.proofs.Names.{lookup-place}
 use Rattle.wit_meaning.proofs.Turns.{used_at}
@@ -36,6 +36,6 @@ repeated_used xs names i from n at listed some =
     }
 
 -- what is wrong with a used name is wrong with its scope
-pub wrong_used : (is : List Interface) (by_name names : Names) (xs : List ScopeName) (i : ℕ) (from : Address) (n : UseName) → slice_get (used xs) i ≡ Some (Used from n) → map (λ p. p.0) names ≡ local_names (take i (used xs)) → (f : Fault) → IsWrongUse is by_name names from n f → IsWrongScope is by_name xs f
-wrong_used is by_name names xs i from n at listed f (Wrong w) = (let p = used_at xs i (Used from n) at in WrongName from n (contains_at xs p.0 (Used from n) p.1) w)
-wrong_used is by_name names xs i from n at listed f (Taken some says) = WrongItself (DefinedTwice (record { later = Used from n; repeated = repeated_used xs names i from n at listed some; is = says }))
+pub wrong_used : (cs : List Cell) (by_name names : Names) (xs : List ScopeName) (i : ℕ) (from : Address) (n : UseName) → slice_get (used xs) i ≡ Some (Used from n) → map (λ p. p.0) names ≡ local_names (take i (used xs)) → (f : Fault) → IsWrongUse cs by_name names from n f → IsWrongScope cs by_name xs f
+wrong_used cs by_name names xs i from n at listed f (Wrong w) = (let p = used_at xs i (Used from n) at in WrongName from n (contains_at xs p.0 (Used from n) p.1) w)
+wrong_used cs by_name names xs i from n at listed f (Taken some says) = WrongItself (DefinedTwice (record { later = Used from n; repeated = repeated_used xs names i from n at listed some; is = says }))

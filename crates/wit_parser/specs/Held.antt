@@ -3,7 +3,8 @@ use Rattle.wit_parser.specs.declared.scope_name.UsedName.{UsedName}
 use Rattle.wit_parser.specs.declared.scope_name.DefinedName.{DefinedName}
 use Rattle.wit_parser.specs.declared.scope_name.ScopeName.{ScopeName as Held}
 use Rattle.wit_parser.specs.declared.scope_name.ScopeName.TheVariants as held
-use Rattle.wit_meaning.specs.Source.{InterfaceNamed, ScopeName, Used, Defined}
+use Rattle.wit_meaning.specs.Address.{InterfaceNamed}
+use Rattle.wit_meaning.specs.Source.{ScopeName, Used, Defined}
 
 -- the used name that is held
 abbrev pub use_behind : UsedName → ScopeName

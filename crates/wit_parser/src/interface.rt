@@ -1,16 +1,16 @@
 //! Declared interfaces.
 ghost use Rattle.std.specs.Prelude.{◌≡◌, ◌<◌, List, [], All, length, IfErr, OnOk, map};
-ghost use Rattle.wit_meaning.specs.Source.{Address, scope_names as the_names};
+ghost use Rattle.wit_meaning.specs.Address.{Address};
+ghost use Rattle.wit_meaning.specs.Source.{scope_names as the_names};
 ghost use Rattle.wit_meaning.specs.Scope.{used, in_order};
 ghost use Rattle.wit_meaning.specs.Fault.{Fault};
 ghost use Rattle.wit_meaning.specs.Broken.{IsBrokenScope, Refused};
 ghost use Rattle.wit_types.specs.declared.types.TypeOwner.TheVariants.{Interface as OfInterface};
-ghost use Rattle.wit_model.specs.declared.interface.Interface.{Interface as Resolved};
 ghost use Rattle.wit_tree.specs.Refusal.{IsWantOfMemory};
 ghost use Rattle.wit_parser.specs.Held.{name_behind, use_behind, definition_behind};
 ghost use Rattle.wit_parser.specs.Items.{item_behind, names_behind};
 ghost use Rattle.wit_parser.specs.Between.{AreInTurn, IsBrokenAmong};
-ghost use Rattle.wit_meaning.specs.Resolving.{env_of, Defines, AreLegalBodies, HasNames, IsIndex, IsAddedInterface, IsWrongScope};
+ghost use Rattle.wit_meaning.specs.Resolving.{Cell, cells, env_of, Defines, AreLegalBodies, HasNames, IsIndex, IsAddedInterface, IsWrongScope};
 ghost use Rattle.wit_meaning.specs.Resolved.{DefinesAll, AddsInterface, AddsAll, AreLegalScopes, IsWrongAmong};
 
 use crate::distinct::{add_definition_ids, check_folded_names, check_unique_names, used_ids};
@@ -33,9 +33,9 @@ fn add_interface(
     interface: &tree::Interface<'_>,
     types: TextTable<TypeId>,
 ) -> ParseResult<()>
-    requires index { IsIndex interfaces.old.arena interfaces.old.by_name }
+    requires index { IsIndex (cells interfaces.old.arena) interfaces.old.by_name }
     ensures added { OnOk result (IsAddedInterface interfaces.old.arena interfaces.new.arena interface.now types) }
-    ensures index { OnOk result (IsIndex interfaces.new.arena interfaces.new.by_name) }
+    ensures index { OnOk result (IsIndex (cells interfaces.new.arena) interfaces.new.by_name) }
     ensures refused { IfErr result IsWantOfMemory }
 {
     let name = interface.name.name;
@@ -63,7 +63,7 @@ fn define_all(
     definitions: &[DefinedName<'_, '_>],
 ) -> ParseResult<()>
     requires turn { AreInTurn (env_of scope.old.names) (map definition_behind definitions.now) }
-    ensures defines { OnOk result ((is : List Resolved) (s : Address) → Defines types.old types.new is (OfInterface scope.old.id) s scope.old.names scope.new.names (map definition_behind definitions.now)) }
+    ensures defines { OnOk result ((cs : List Cell) (s : Address) → Defines types.old types.new cs (OfInterface scope.old.id) s scope.old.names scope.new.names (map definition_behind definitions.now)) }
     ensures id { OnOk result (scope.new.id ≡ scope.old.id) }
     ensures legal { OnOk result (AreLegalBodies (map definition_behind definitions.now)) }
     ensures refused { IfErr result (Refused (IsBrokenAmong (map definition_behind definitions.now))) }
@@ -108,11 +108,11 @@ fn resolve_interface(
     item: &Item<'_, '_>,
 ) -> ParseResult<()>
     requires named { names_behind item.now ≡ the_names (item_behind item.now) }
-    requires index { IsIndex interfaces.old.arena interfaces.old.by_name }
+    requires index { IsIndex (cells interfaces.old.arena) interfaces.old.by_name }
     ensures added { OnOk result (AddsInterface types.old types.new interfaces.old.arena interfaces.new.arena (item_behind item.now)) }
-    ensures index { OnOk result (IsIndex interfaces.new.arena interfaces.new.by_name) }
+    ensures index { OnOk result (IsIndex (cells interfaces.new.arena) interfaces.new.by_name) }
     ensures legal { OnOk result ((f : Fault) → IsBrokenScope (the_names (item_behind item.now)) f → ⊥) }
-    ensures refused { IfErr result (Refused (IsWrongScope interfaces.old.arena interfaces.old.by_name (the_names (item_behind item.now)))) }
+    ensures refused { IfErr result (Refused (IsWrongScope (cells interfaces.old.arena) interfaces.old.by_name (the_names (item_behind item.now)))) }
 {
     let uses = used_names(alloc, &item.names)?;
     let mut scope = Scope {
@@ -135,7 +135,7 @@ pub(crate) fn resolve_interfaces(
 ) -> ParseResult<()>
     requires within { All (λ place. place < length items.now) places.now }
     requires named { map names_behind items.now ≡ map the_names (map item_behind items.now) }
-    requires index { IsIndex interfaces.old.arena interfaces.old.by_name }
+    requires index { IsIndex (cells interfaces.old.arena) interfaces.old.by_name }
     ensures added { OnOk result (AddsAll types.old types.new interfaces.old.arena interfaces.new.arena (in_order (map item_behind items.now) places.now)) }
     ensures legal { OnOk result (AreLegalScopes (in_order (map item_behind items.now) places.now)) }
     ensures refused { IfErr result (Refused (IsWrongAmong types.old interfaces.old.arena (map item_behind items.now) places.now)) }

@@ -1,7 +1,8 @@
 //! The names of a scope: those that it uses, and its definitions.
 ghost use Rattle.std.specs.Prelude.{◌≡◌, ◌++◌, map, IfOk, OnOk};
 ghost use Rattle.std.specs.Option.{unwrap_or};
-ghost use Rattle.wit_meaning.specs.Source.{InterfaceNamed, Used, local_id as the_local_id};
+ghost use Rattle.wit_meaning.specs.Address.{InterfaceNamed};
+ghost use Rattle.wit_meaning.specs.Source.{Used, local_id as the_local_id};
 ghost use Rattle.wit_meaning.specs.Scope.{used, defined};
 ghost use Rattle.wit_parser.specs.Held.{name_behind, use_behind, definition_behind};
 

@@ -2,11 +2,12 @@
 ghost use Rattle.std.specs.Prelude.{◌≡◌, List, [], map, OnOk, IfOk, IfErr};
 ghost use Rattle.wit_tree.specs.Refusal.{IsWantOfMemory};
 ghost use Rattle.wit_types.specs.declared.types.TypeOwner.TheVariants.{Interface as OfInterface};
-ghost use Rattle.wit_meaning.specs.Source.{Address, InterfaceNamed, ScopeName};
+ghost use Rattle.wit_meaning.specs.Address.{Address, InterfaceNamed};
+ghost use Rattle.wit_meaning.specs.Source.{ScopeName};
 ghost use Rattle.wit_meaning.specs.Scope.{used};
 ghost use Rattle.wit_meaning.specs.Broken.{Refused};
 ghost use Rattle.wit_parser.specs.Held.{use_behind};
-ghost use Rattle.wit_meaning.specs.Resolving.{env_of, Defines, HasNames, IsIndex, IsFound, IsUnresolved, IsUsed, IsWrongUse, IsWrongScope};
+ghost use Rattle.wit_meaning.specs.Resolving.{cell, cells, env_of, Defines, HasNames, IsIndex, IsFound, IsUnresolved, IsUsed, IsWrongUse, IsWrongScope};
 
 use crate::distinct::defined_twice;
 use crate::scope_name::{UsedName, local_of};
@@ -32,8 +33,8 @@ fn used_interface<'i>(
     interfaces: &'i Interfaces,
     path: Id<'_>,
 ) -> ParseResult<&'i Interface>
-    requires index { IsIndex interfaces.now.arena interfaces.now.by_name }
-    ensures found { IfOk result (λ i. IsFound interfaces.now.arena path.entry.name.now i.now) }
+    requires index { IsIndex (cells interfaces.now.arena) interfaces.now.by_name }
+    ensures found { IfOk result (λ i. IsFound (cells interfaces.now.arena) (InterfaceNamed path.entry.name.now) (cell i.now)) }
     ensures refused { IfErr result (Refused (IsUnresolved interfaces.now.by_name path.entry)) }
 {
     match interfaces.by_name.get(path.name) {
@@ -50,10 +51,10 @@ fn resolve_use(
     scope: &mut Scope,
     used: &UsedName<'_, '_>,
 ) -> ParseResult<()>
-    requires index { IsIndex interfaces.now.arena interfaces.now.by_name }
-    ensures used { OnOk result (IsUsed types.old types.new interfaces.now.arena (OfInterface scope.old.id) scope.old.names scope.new.names (InterfaceNamed used.now.from.name.now) used.now.name.now) }
+    requires index { IsIndex (cells interfaces.now.arena) interfaces.now.by_name }
+    ensures used { OnOk result (IsUsed types.old types.new (cells interfaces.now.arena) (OfInterface scope.old.id) scope.old.names scope.new.names (InterfaceNamed used.now.from.name.now) used.now.name.now) }
     ensures id { OnOk result (scope.new.id ≡ scope.old.id) }
-    ensures refused { IfErr result (Refused (IsWrongUse interfaces.now.arena interfaces.now.by_name scope.old.names (InterfaceNamed used.now.from.name.now) used.now.name.now)) }
+    ensures refused { IfErr result (Refused (IsWrongUse (cells interfaces.now.arena) interfaces.now.by_name scope.old.names (InterfaceNamed used.now.from.name.now) used.now.name.now)) }
 {
     let name = used.name;
     let interface = used_interface(alloc, interfaces, used.from)?;
@@ -79,12 +80,12 @@ pub(crate) fn resolve_uses(
     scope: &mut Scope,
     uses: &[UsedName<'_, '_>],
 ) -> ParseResult<()>
-    requires index { IsIndex interfaces.now.arena interfaces.now.by_name }
+    requires index { IsIndex (cells interfaces.now.arena) interfaces.now.by_name }
     requires empty { scope.old.names ≡ [] }
-    ensures defines { OnOk result ((s : Address) → Defines types.old types.new interfaces.now.arena (OfInterface scope.old.id) s scope.old.names scope.new.names (map use_behind uses.now)) }
+    ensures defines { OnOk result ((s : Address) → Defines types.old types.new (cells interfaces.now.arena) (OfInterface scope.old.id) s scope.old.names scope.new.names (map use_behind uses.now)) }
     ensures id { OnOk result (scope.new.id ≡ scope.old.id) }
     ensures has { OnOk result (HasNames (env_of scope.new.names) (map use_behind uses.now)) }
-    ensures refused { IfErr result (λ e. (xs : List ScopeName) → map use_behind uses.now ≡ used xs → Refused (IsWrongScope interfaces.now.arena interfaces.now.by_name xs) e) }
+    ensures refused { IfErr result (λ e. (xs : List ScopeName) → map use_behind uses.now ≡ used xs → Refused (IsWrongScope (cells interfaces.now.arena) interfaces.now.by_name xs) e) }
 {
     for name in uses {
         resolve_use(alloc, types, interfaces, scope, name)?;

@@ -1,5 +1,5 @@
 //! Refusals of tables that have no order.
-ghost use Rattle.std.specs.Prelude.{◌≡◌, ℕ, ◌⊎◌};
+ghost use Rattle.std.specs.Prelude.{◌⊎◌};
 ghost use Rattle.wit_tree.specs.declared.tree.Id.{Id as TheId};
 ghost use Rattle.wit_order.specs.Table.{rows, IsEdge};
 ghost use Rattle.wit_order.specs.Faults.{IsFaultOf};

@@ -3,7 +3,7 @@ use Rattle.std.proofs.Common.{◌≡◌, List, [], ◌∷◌}
 use Rattle.std.specs.Prelude.{Result, Ok, Err, IfOk, OnOk, IfErr}
 use Rattle.wit_tree.specs.declared.tree.PackageFile.{PackageFile}
 use Rattle.wit_tree.specs.declared.error.ParseError.{ParseError}
-use Rattle.wit_text.specs.declared.source.Source.{Source}
+use Rattle.wit_lex.specs.declared.source.Source.{Source}
 use Rattle.wit_model.specs.declared.unresolved.UnresolvedPackage.{UnresolvedPackage}
 use Rattle.wit_meaning.specs.Broken.{IsBroken, IsLegal, Refused}
 use Rattle.wit_meaning.specs.Whole.{IsPackage, IsFaithful}

@@ -5,8 +5,8 @@ use Rattle.std.specs.Borrow.{Bor}
 use Rattle.wit_values.specs.declared.span.Span.{Span}
 use Rattle.wit_tree.specs.declared.error.ParseError.{ParseError}
 use Rattle.wit_tree.specs.Refusal.{span_of}
-use Rattle.wit_text.specs.declared.source.Source.{Source}
-use Rattle.wit_text.specs.Sources.{IsLocated, LiesIn}
+use Rattle.wit_lex.specs.declared.source.Source.{Source}
+use Rattle.wit_lex.specs.Sources.{IsLocated, LiesIn}
 use Rattle.wit_tool.specs.ErrorLine.{IsPlaceOf, has_place}
 
 pub placed : (sources : List Source) (e : ParseError) (span : Span) (found : Option (Bor (List ℕ) × Bor (List ℕ))) → has_place e.rule ≡ true → span ≡ span_of e.kind →

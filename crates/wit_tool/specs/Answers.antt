@@ -1,7 +1,7 @@
 -- What is written of a package that was resolved, or refused.
 use Rattle.std.specs.Prelude.{◌≡◌, ℕ, Bool, true, false, List, Result, Ok, Err}
 use Rattle.wit_tree.specs.declared.error.ParseError.{ParseError}
-use Rattle.wit_text.specs.declared.source.Source.{Source}
+use Rattle.wit_lex.specs.declared.source.Source.{Source}
 use Rattle.wit_model.specs.declared.unresolved.UnresolvedPackage.{UnresolvedPackage}
 use Rattle.wit_tool.specs.ErrorLine.{IsErrorLine}
 use Rattle.wit_tool.specs.Listing.{listing_text}

@@ -4,8 +4,8 @@ use Rattle.std.specs.Borrow.{Bor}
 use Rattle.std.specs.Fmt.{decimal}
 use Rattle.wit_tree.specs.declared.error.ParseError.{ParseError}
 use Rattle.wit_tree.specs.Refusal.{span_of, kind_text}
-use Rattle.wit_text.specs.declared.source.Source.{Source}
-use Rattle.wit_text.specs.Sources.{IsLocated, LiesIn}
+use Rattle.wit_lex.specs.declared.source.Source.{Source}
+use Rattle.wit_lex.specs.Sources.{IsLocated, LiesIn}
 
 -- the front of a text up to its first LF or CR
 abbrev pub first_line : List ℕ → List ℕ

@@ -4,8 +4,8 @@ use Rattle.wit_tree.specs.declared.tree.PackageFile.{PackageFile}
 use Rattle.wit_tree.specs.declared.error.ParseError.{ParseError}
 use Rattle.wit_tree.specs.Marks.{file_marks}
 use Rattle.wit_tree.specs.Slices.{Rise}
-use Rattle.wit_text.specs.declared.source.Source.{Source}
-use Rattle.wit_text.specs.Faults.{IsRefusal}
+use Rattle.wit_lex.specs.declared.source.Source.{Source}
+use Rattle.wit_lex.specs.Faults.{IsRefusal}
 use Rattle.wit_model.specs.declared.unresolved.UnresolvedPackage.{UnresolvedPackage}
 use Rattle.wit_meaning.specs.Broken.{IsBroken, IsLegal, Refused}
 use Rattle.wit_meaning.specs.Whole.{IsPackage, IsFaithful}

@@ -1,5 +1,5 @@
 use Rattle.std.proofs.Common.{◌≡◌, List, [], ◌∷◌, ◌++◌, ap, ◌∙◌}
-use Rattle.wit_text.specs.declared.source.Source.{Source}
+use Rattle.wit_lex.specs.declared.source.Source.{Source}
 use Rattle.wit.specs.Input.IsAnswered.{Ran}
 use Rattle.wit.proofs.input.answer_text.Goals as goal
 

@@ -16,7 +16,7 @@ use Rattle.wit_parser.proofs.interface.define_all.Goals as goal
 
 pub loop-definition-init : goal.loop-definition-init
 loop-definition-init c = record {
-  defines = λ is s. defines_none c.args.types.now is (OfInterface c.args.scope.now.id) s c.args.scope.now.names;
+  defines = λ cs s. defines_none c.args.types.now cs (OfInterface c.args.scope.now.id) s c.args.scope.now.names;
   id = refl;
   legal = legal_none;
   kept = λ xs h. h;
@@ -49,7 +49,7 @@ loop-definition-preserved c =
     let before = c.loop-definition.invariant in
     let e = c.in_ok-define.ensures in
     record {
-      defines = λ is s. rw more (defines_more c.args.types.now c.loop-definition.types c.define.new.types is o s c.args.scope.now.names old new (take i ds) (Defined d ∷ []) (before.defines is s) (subst (λ (m : ℕ). Defines c.loop-definition.types c.define.new.types is (OfInterface m) s old new (Defined d ∷ [])) before.id (e.defines is s)));
+      defines = λ cs s. rw more (defines_more c.args.types.now c.loop-definition.types c.define.new.types cs o s c.args.scope.now.names old new (take i ds) (Defined d ∷ []) (before.defines cs s) (subst (λ (m : ℕ). Defines c.loop-definition.types c.define.new.types cs (OfInterface m) s old new (Defined d ∷ [])) before.id (e.defines cs s)));
       id = e.id ∙ before.id;
       legal = rw more (legal_more (take i ds) d before.legal e.legal);
       kept = λ xs h. names_kept old new xs d.name.name.now (before.kept xs h) e.stored;

@@ -1,14 +1,14 @@
 use Rattle.std.proofs.Common.{◌≡◌, List, map, take}
-use Rattle.wit_model.specs.declared.interface.Interface.{Interface}
 use Rattle.wit_types.specs.declared.types.TypeOwner.TheVariants.{Interface as OfInterface}
-use Rattle.wit_meaning.specs.Source.{Address, ScopeName}
-use Rattle.wit_meaning.specs.Resolving.{env_of, Defines, AreLegalBodies, HasNames}
+use Rattle.wit_meaning.specs.Address.{Address}
+use Rattle.wit_meaning.specs.Source.{ScopeName}
+use Rattle.wit_meaning.specs.Resolving.{Cell, env_of, Defines, AreLegalBodies, HasNames}
 use Rattle.wit_parser.specs.Held.{definition_behind}
 use Rattle.wit_parser.proofs.interface.define_all.Given as goal
 
 abbrev pub invariant-loop-definition : goal.invariant-loop-definition
 invariant-loop-definition l = record {
-  defines : (is : List Interface) (s : Address) → Defines l.fn.types l.types is (OfInterface l.fn.scope.id) s l.fn.scope.names l.scope.names (take l.definition-index (map definition_behind l.definitions));
+  defines : (cs : List Cell) (s : Address) → Defines l.fn.types l.types cs (OfInterface l.fn.scope.id) s l.fn.scope.names l.scope.names (take l.definition-index (map definition_behind l.definitions));
   id : l.scope.id ≡ l.fn.scope.id;
   legal : AreLegalBodies (take l.definition-index (map definition_behind l.definitions));
   kept : (xs : List ScopeName) → HasNames (env_of l.fn.scope.names) xs → HasNames (env_of l.scope.names) xs;

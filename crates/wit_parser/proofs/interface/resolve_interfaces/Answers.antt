@@ -4,7 +4,7 @@ use Rattle.std.proofs.lemmas.Option.{slice_get-get_or}
 use Rattle.std.proofs.lemmas.Result.{err_from_is_err_and}
 use Rattle.wit_meaning.specs.Source.{scope_names}
 use Rattle.wit_meaning.specs.Scope.{in_order}
-use Rattle.wit_meaning.specs.Resolving.{IsWrongScope}
+use Rattle.wit_meaning.specs.Resolving.{cells, IsWrongScope}
 use Rattle.wit_meaning.specs.Resolved.{IsWrongAmong}
 use Rattle.wit_meaning.proofs.Lists.{read_map, map_map}
 use Rattle.wit_meaning.proofs.Orders.{in_order-more}
@@ -51,7 +51,7 @@ returns-in_err-resolve_interface-clause-refused c =
     let at : slice_get places i ≡ Some p = slice_get-get_or places i 0 c.loop-place-test.true in
     let within : p < length c.args.items.now = c.requires.within i 0 c.loop-place-test.true in
     let there : slice_get ws p ≡ Some w = read_map item_behind c.args.items.now p x within c.index-items-place.is in
-    rw (q.1, q.2) (refused_weaker (IsWrongScope now.arena now.by_name (scope_names w)) (IsWrongAmong c.args.types.now c.args.interfaces.now.arena ws places) _ (λ f h. record {
+    rw (q.1, q.2) (refused_weaker (IsWrongScope (cells now.arena) now.by_name (scope_names w)) (IsWrongAmong c.args.types.now c.args.interfaces.now.arena ws places) _ (λ f h. record {
       count = i;
       place = p;
       item = w;

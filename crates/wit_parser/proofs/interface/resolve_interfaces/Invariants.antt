@@ -1,6 +1,6 @@
 use Rattle.std.proofs.Common.{map, take}
 use Rattle.wit_meaning.specs.Scope.{in_order}
-use Rattle.wit_meaning.specs.Resolving.{IsIndex}
+use Rattle.wit_meaning.specs.Resolving.{cells, IsIndex}
 use Rattle.wit_meaning.specs.Resolved.{AddsAll, AreLegalScopes}
 use Rattle.wit_parser.specs.Items.{item_behind}
 use Rattle.wit_parser.proofs.interface.resolve_interfaces.Given as goal
@@ -8,6 +8,6 @@ use Rattle.wit_parser.proofs.interface.resolve_interfaces.Given as goal
 abbrev pub invariant-loop-place : goal.invariant-loop-place
 invariant-loop-place l = record {
   added : AddsAll l.fn.types l.types l.fn.interfaces.arena l.interfaces.arena (in_order (map item_behind l.items) (take l.place-index l.places));
-  index : IsIndex l.interfaces.arena l.interfaces.by_name;
+  index : IsIndex (cells l.interfaces.arena) l.interfaces.by_name;
   legal : AreLegalScopes (in_order (map item_behind l.items) (take l.place-index l.places));
 }

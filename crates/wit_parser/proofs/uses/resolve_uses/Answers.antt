@@ -3,8 +3,9 @@ use Rattle.std.specs.Prelude.{slice_get, map}
 use Rattle.std.proofs.lemmas.List.{take_all, length-map}
 use Rattle.std.proofs.lemmas.Result.{err_from_is_err_and}
 use Rattle.wit_types.specs.declared.types.TypeOwner.TheVariants.{Interface as OfInterface}
-use Rattle.wit_meaning.specs.Source.{InterfaceNamed, Used}
-use Rattle.wit_meaning.specs.Resolving.{Defines, local_names, IsWrongUse, IsWrongScope}
+use Rattle.wit_meaning.specs.Address.{InterfaceNamed}
+use Rattle.wit_meaning.specs.Source.{Used}
+use Rattle.wit_meaning.specs.Resolving.{cells, Defines, local_names, IsWrongUse, IsWrongScope}
 use Rattle.wit_meaning.proofs.Lists.{read_map}
 use Rattle.wit_meaning.proofs.Orders.{take_next}
 use Rattle.wit_meaning.proofs.Defining.{defines_used, defines_more}
@@ -21,11 +22,11 @@ returns-in_err-resolve_use-clause-refused c =
     let i = c.loop-name.name-index in
     let from = InterfaceNamed c.name-item.result.from.name.now in
     let n = c.name-item.result.name.now in
-    let is = c.args.interfaces.now.arena in
+    let cs = cells c.args.interfaces.now.arena in
     let by_name = c.args.interfaces.now.by_name in
     let names = c.loop-name.scope.names in
     let at : slice_get us i ≡ Some (Used from n) = read_map use_behind c.args.uses.now i c.name-item.result c.loop-name-test.true c.name-item.is in
-    rw (p.1, p.2) (λ xs are. refused_weaker (IsWrongUse is by_name names from n) (IsWrongScope is by_name xs) _ (λ f h. wrong_used is by_name names xs i from n (ap (λ l. slice_get l i) (sym are) ∙ at) (c.loop-name.invariant.listed ∙ ap (λ l. local_names (take i l)) are) f h) c.in_err-resolve_use.ensures.refused)
+    rw (p.1, p.2) (λ xs are. refused_weaker (IsWrongUse cs by_name names from n) (IsWrongScope cs by_name xs) _ (λ f h. wrong_used cs by_name names xs i from n (ap (λ l. slice_get l i) (sym are) ∙ at) (c.loop-name.invariant.listed ∙ ap (λ l. local_names (take i l)) are) f h) c.in_err-resolve_use.ensures.refused)
 
 pub loop-name-preserved : goal.loop-name-preserved
 loop-name-preserved c =
@@ -33,7 +34,7 @@ loop-name-preserved c =
     let i = c.loop-name.name-index in
     let from = InterfaceNamed c.name-item.result.from.name.now in
     let n = c.name-item.result.name.now in
-    let is = c.args.interfaces.now.arena in
+    let cs = cells c.args.interfaces.now.arena in
     let o = OfInterface c.args.scope.now.id in
     let at : slice_get us i ≡ Some (Used from n) = read_map use_behind c.args.uses.now i c.name-item.result c.loop-name-test.true c.name-item.is in
     let more : take (i + 1) us ≡ take i us ++ Used from n ∷ [] = take_next us i (Used from n) at in
@@ -41,7 +42,7 @@ loop-name-preserved c =
     let new = c.resolve_use.new.scope.names in
     let e = c.in_ok-resolve_use.ensures in
     record {
-      defines = λ s. rw more (defines_more c.args.types.now c.loop-name.types c.resolve_use.new.types is o s c.args.scope.now.names old new (take i us) (Used from n ∷ []) (c.loop-name.invariant.defines s) (subst (λ (m : ℕ). Defines c.loop-name.types c.resolve_use.new.types is (OfInterface m) s old new (Used from n ∷ [])) c.loop-name.invariant.id (defines_used c.loop-name.types c.resolve_use.new.types is (OfInterface c.loop-name.scope.id) s old new from n e.used)));
+      defines = λ s. rw more (defines_more c.args.types.now c.loop-name.types c.resolve_use.new.types cs o s c.args.scope.now.names old new (take i us) (Used from n ∷ []) (c.loop-name.invariant.defines s) (subst (λ (m : ℕ). Defines c.loop-name.types c.resolve_use.new.types cs (OfInterface m) s old new (Used from n ∷ [])) c.loop-name.invariant.id (defines_used c.loop-name.types c.resolve_use.new.types cs (OfInterface c.loop-name.scope.id) s old new from n e.used)));
       id = e.id ∙ c.loop-name.invariant.id;
       listed = rw more (listed_more (take i us) from n c.loop-name.invariant.listed e.used);
     }

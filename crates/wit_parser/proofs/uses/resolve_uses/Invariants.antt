@@ -1,13 +1,13 @@
 use Rattle.std.proofs.Common.{◌≡◌, map, take}
 use Rattle.wit_types.specs.declared.types.TypeOwner.TheVariants.{Interface as OfInterface}
-use Rattle.wit_meaning.specs.Source.{Address}
-use Rattle.wit_meaning.specs.Resolving.{Defines, local_names}
+use Rattle.wit_meaning.specs.Address.{Address}
+use Rattle.wit_meaning.specs.Resolving.{cells, Defines, local_names}
 use Rattle.wit_parser.specs.Held.{use_behind}
 use Rattle.wit_parser.proofs.uses.resolve_uses.Given as goal
 
 abbrev pub invariant-loop-name : goal.invariant-loop-name
 invariant-loop-name l = record {
-  defines : (s : Address) → Defines l.fn.types l.types l.interfaces.arena (OfInterface l.fn.scope.id) s l.fn.scope.names l.scope.names (take l.name-index (map use_behind l.uses));
+  defines : (s : Address) → Defines l.fn.types l.types (cells l.interfaces.arena) (OfInterface l.fn.scope.id) s l.fn.scope.names l.scope.names (take l.name-index (map use_behind l.uses));
   id : l.scope.id ≡ l.fn.scope.id;
   listed : map (λ p. p.0) l.scope.names ≡ local_names (take l.name-index (map use_behind l.uses));
 }

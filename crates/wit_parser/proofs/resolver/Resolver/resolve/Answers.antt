@@ -38,6 +38,7 @@ returns-clause-package c =
     (ap (λ (p : PackageName). option_map release_parts p.version) e.name ∙ n.version)
     e.name_span
     (e.worlds ∙ c.new.ensures)
+    (record { deps = e.foreign_deps ∙ c.none.ensures.deps; spans = e.foreign_dep_spans ∙ c.none.ensures.dep_spans; unknown = e.unknown_type_spans ∙ c.none.ensures.unknown_type_spans })
 
 pub returns-clause-faithful : goal.returns-clause-faithful
 returns-clause-faithful c =
