@@ -19,7 +19,8 @@ pub struct Token<'a> {
     pub text: &'a str,
 }
 
-/// The end of the token at a place, or that place where no token begins.
+/// The end of the word, the number, the escaped name or the arrow at a place, or that place where
+/// none begins.
 fn token_end(bytes: &[u8], start: usize) -> usize
     requires { start < length bytes.now }
     ensures after { start ≤ result }
@@ -30,9 +31,6 @@ fn token_end(bytes: &[u8], start: usize) -> usize
     let first = bytes[start];
     if is_letter(first) {
         return word_end(bytes, start);
-    }
-    if sign(first).is_some() {
-        return start + 1;
     }
     if is_digit(first) {
         return digits_end(bytes, start);
