@@ -3,7 +3,7 @@ ghost use Rattle.std.specs.Prelude.{◌≡◌, ℕ, [], ◌∷◌, ◌++◌, ◌
 ghost use Rattle.wit_tree.specs.Refusal.{IsWantOfMemory};
 ghost use Rattle.wit_types.specs.declared.types.TypeDef.{TypeDef};
 ghost use Rattle.wit_meaning.specs.Package.{At};
-ghost use Rattle.wit_meaning.specs.Resolving.{IsUnnamedOf, IsInterned, named};
+ghost use Rattle.wit_meaning.specs.Resolving.{IsUnnamedOf, IsInterned, named, unnamed};
 ghost use Rattle.wit_intern.specs.Keys.{key_of};
 ghost use Rattle.wit_entries.specs.Known.{AreKnown, with_key};
 
@@ -145,6 +145,36 @@ impl Entries {
         }
     }
 
+    /// Adds the unnamed type of a kind that has none yet, written at `span`, behind the others.
+    ///
+    /// The error is want of memory. It stands by itself since a `TypeDef` is large: what finds one
+    /// needs no room for it.
+    #[inline(never)]
+    fn add_unnamed(
+        &mut self,
+        key: Option<InternKey>,
+        kind: TypeDefKind,
+        span: Span,
+    ) -> ParseResult<TypeId>
+        requires keyed { key ≡ key_of kind }
+        requires missing { (j : ℕ) (e : TypeDef) → At self.old j e → IsUnnamedOf kind e → ⊥ }
+        ensures id { IfOk result (λ id. id ≡ length self.old) }
+        ensures added { OnOk result (self.new ≡ self.old ++ unnamed kind span ∷ []) }
+        ensures refused { IfErr result IsWantOfMemory }
+    {
+        set(&mut self.table, key, self.arena.next_id())?;
+        let id = self.arena.alloc(TypeDef {
+            name: None,
+            kind,
+            owner: TypeOwner::None,
+            docs: Docs::default(),
+            stability: Stability::default(),
+            span,
+            external_id: None,
+        })?;
+        Ok(id)
+    }
+
     /// The unnamed type of a kind; a new entry, written at `span`, only if there is none.
     ///
     /// The error is want of memory.
@@ -156,16 +186,7 @@ impl Entries {
         if let Some(id) = self.find(&key, &kind) {
             return Ok(id);
         }
-        set(&mut self.table, key, self.arena.next_id())?;
-        let id = self.arena.alloc(TypeDef {
-            name: None,
-            kind,
-            owner: TypeOwner::None,
-            docs: Docs::default(),
-            stability: Stability::default(),
-            span,
-            external_id: None,
-        })?;
+        let id = self.add_unnamed(key, kind, span)?;
         Ok(id)
     }
 }

@@ -66,6 +66,8 @@ pub fn span_at(offset: u32, start: usize, end: usize) -> Span
 }
 
 /// The refusal of a source for what stands at a range, or want of memory for its message.
+#[cold]
+#[inline(never)]
 pub fn refusal(
     alloc: Global,
     source: &str,

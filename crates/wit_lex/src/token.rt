@@ -19,7 +19,8 @@ pub struct Token<'a> {
     pub text: &'a str,
 }
 
-/// The end of the token at a place, or that place where no token begins.
+/// The end of the word, the number, the escaped name or the arrow at a place, or that place where
+/// none begins.
 fn token_end(bytes: &[u8], start: usize) -> usize
     requires { start < length bytes.now }
     ensures after { start ≤ result }
@@ -30,9 +31,6 @@ fn token_end(bytes: &[u8], start: usize) -> usize
     let first = bytes[start];
     if is_letter(first) {
         return word_end(bytes, start);
-    }
-    if sign(first).is_some() {
-        return start + 1;
     }
     if is_digit(first) {
         return digits_end(bytes, start);
@@ -50,7 +48,80 @@ fn token_end(bytes: &[u8], start: usize) -> usize
     start
 }
 
+/// Why no token is read, and where.
+#[derive(Clone, Copy)]
+struct Stop {
+    fault: ReadFault,
+    start: usize,
+    end: usize,
+}
+
+/// The token at a place.
+fn token_at<'a>(source: &'a str, start: usize) -> Result<Token<'a>, Stop>
+    requires within { start < length source.now }
+    ensures token { IfOk result (λ t. IsToken source.now t) }
+    ensures there { IfOk result (λ t. start ≡ t.start) }
+    ensures stop { IfErr result (λ s. (s.start ≤ s.end) × (s.end ≤ length source.now)) }
+{
+    let bytes = source.as_bytes();
+    let first = bytes[start];
+    if !is_letter(first) {
+        if let Some(kind) = sign(first) {
+            let end = start + 1;
+            let text = cut(source, start, end);
+            return Ok(Token {
+                kind,
+                start,
+                end,
+                text,
+            });
+        }
+    }
+    let end = token_end(bytes, start);
+    if end == start {
+        let fault = ReadFault::Character;
+        let end = (start + width(first)).min(bytes.len());
+        return Err(Stop { fault, start, end });
+    }
+    let text = cut(source, start, end);
+    Ok(Token {
+        kind: kind_of(first, text),
+        start,
+        end,
+        text,
+    })
+}
+
+/// The token behind the blanks from a place on. A `Stop` is small, and a refusal is not: so the
+/// refusal is made by [`next_token`].
+fn token_behind<'a>(source: &'a str, from: usize) -> Result<Token<'a>, Stop>
+    requires within { from ≤ length source.now }
+    ensures token { IfOk result (λ t. IsToken source.now t) }
+    ensures onward { IfOk result (λ t. from ≤ t.start) }
+    ensures stop { IfErr result (λ s. (s.start ≤ s.end) × (s.end ≤ length source.now)) }
+{
+    let bytes = source.as_bytes();
+    let start = match skip_blanks(bytes, from) {
+        Ok(start) => start,
+        Err(start) => {
+            let fault = ReadFault::Comment;
+            let end = start + 2;
+            return Err(Stop { fault, start, end });
+        }
+    };
+    if start == bytes.len() {
+        return Ok(Token {
+            kind: Kind::End,
+            start,
+            end: start,
+            text: "",
+        });
+    }
+    token_at(source, start)
+}
+
 /// The token behind the blanks from a place on.
+#[inline]
 pub fn next_token<'a>(
     alloc: Global,
     source: &'a str,
@@ -63,31 +134,8 @@ pub fn next_token<'a>(
     ensures onward { IfOk result (λ t. from ≤ t.start) }
     ensures refused { IfErr result (λ e. IsRefusal source.now offset e) }
 {
-    let bytes = source.as_bytes();
-    let len = bytes.len();
-    let start = match skip_blanks(bytes, from) {
-        Ok(start) => start,
-        Err(at) => return Err(refusal(alloc, source, offset, ReadFault::Comment, at, at + 2)),
-    };
-    if start == len {
-        return Ok(Token {
-            kind: Kind::End,
-            start,
-            end: start,
-            text: "",
-        });
+    match token_behind(source, from) {
+        Ok(token) => Ok(token),
+        Err(stop) => Err(refusal(alloc, source, offset, stop.fault, stop.start, stop.end)),
     }
-    let first = bytes[start];
-    let end = token_end(bytes, start);
-    if end == start {
-        let past = (start + width(first)).min(len);
-        return Err(refusal(alloc, source, offset, ReadFault::Character, start, past));
-    }
-    let text = cut(source, start, end);
-    Ok(Token {
-        kind: kind_of(first, text),
-        start,
-        end,
-        text,
-    })
 }

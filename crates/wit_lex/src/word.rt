@@ -86,8 +86,8 @@ fn word_of_four(text: &str) -> Option<Word>
     ensures { IfSome result (λ word. text.now ≡ word_text word) }
 {
     match text {
-        "type" => Some(Word::Type),
         "list" => Some(Word::List),
+        "type" => Some(Word::Type),
         "bool" => Some(Word::Bool),
         "char" => Some(Word::Char),
         "func" => Some(Word::Func),

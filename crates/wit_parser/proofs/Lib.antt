@@ -1,5 +1,6 @@
 mod TypeWords
 mod Turning
+mod NeedingNone
 mod UsedNames
 mod Files
 mod LastHeader

@@ -13,6 +13,10 @@ use Rattle.wit_meaning.specs.Broken.{IsRepeated, IsBrokenBody, IsBrokenNames}
 use Rattle.wit_meaning.specs.Resolving.{Env, HasNames}
 use Rattle.wit_meaning.specs.Resolved.{AddsAll, AreLegalScopes}
 
+-- no name of a scope needs one
+abbrev pub NeedNone : List ScopeName → Type 0
+NeedNone xs = (i : ℕ) (x : ScopeName) → slice_get xs i ≡ Some x → needed_ids x ≡ []
+
 -- these are the definitions of a scope, in its least dependency-first order
 pub record AreOrdered (xs ds : List ScopeName) : Type 0 where
   pub order : List ℕ

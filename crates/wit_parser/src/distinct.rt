@@ -44,7 +44,7 @@ pub(crate) fn add_definition_ids<'a>(
 fn texts<'a>(alloc: Global, ids: &[Id<'a>]) -> Result<Vec<&'a str>, AllocError>
     ensures { IfOk result (λ texts. map (λ text. text.now) texts.items ≡ map (λ id. id.name.now) ids.now) }
 {
-    let mut texts = Vec::new(alloc);
+    let mut texts = Vec::with_capacity(alloc, ids.len())?;
     for id in ids {
         texts.push(id.name)?;
     }
@@ -66,6 +66,9 @@ pub(crate) fn check_unique_names(alloc: Global, ids: &[Id<'_>]) -> ParseResult<(
     ensures legal { OnOk result (AllDiffer (map (λ id. id.name.now) ids.now)) }
     ensures refused { IfErr result (Refused (IsRepeatedId 14 (λ id. id.name.now) ids.now)) }
 {
+    if ids.len() < 2 {
+        return Ok(());
+    }
     let texts = texts(alloc, ids)?;
     match first_repeat(alloc, &texts)? {
         Some((_, second)) => {
@@ -82,6 +85,9 @@ pub(crate) fn check_folded_names(alloc: Global, ids: &[Id<'_>]) -> ParseResult<(
     ensures legal { OnOk result (AllDiffer (map (λ id. folded id.name.now) ids.now)) }
     ensures refused { IfErr result (Refused (IsRepeatedId 17 (λ id. folded id.name.now) ids.now)) }
 {
+    if ids.len() < 2 {
+        return Ok(());
+    }
     let texts = texts(alloc, ids)?;
     match first_folded_repeat(alloc, &texts)? {
         Some((first, second)) => {

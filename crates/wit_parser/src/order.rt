@@ -13,7 +13,7 @@ pub(crate) fn in_order<T: Copy>(
     requires { All (λ place. place < length items.now) places.now }
     ensures { IfOk result (λ ordered. ordered.items ≡ the_order items.now places.now) }
 {
-    let mut ordered = Vec::new(alloc);
+    let mut ordered = Vec::with_capacity(alloc, places.len())?;
     for place in places {
         ordered.push(items[*place])?;
     }

@@ -1,11 +1,12 @@
 //! The order in which the definitions of a scope are resolved.
 ghost use Rattle.std.specs.Prelude.{◌≡◌, map, IfOk, IfErr};
+ghost use Rattle.std.specs.Bool.{MatchBool};
 ghost use Rattle.wit_order.specs.Table.{rows, IsOrder};
 ghost use Rattle.wit_meaning.specs.Scope.{needed_ids as the_needed, rows_of};
 ghost use Rattle.wit_meaning.specs.Broken.{IsBrokenScope, Refused};
 ghost use Rattle.wit_meaning.specs.Resolving.{AreDistinct};
 ghost use Rattle.wit_parser.specs.Held.{name_behind, definition_behind};
-ghost use Rattle.wit_parser.specs.Between.{AreOrdered};
+ghost use Rattle.wit_parser.specs.Between.{AreOrdered, NeedNone};
 
 use crate::deps::body_deps;
 use crate::order::in_order;
@@ -35,7 +36,7 @@ fn scope_table<'a>(
     requires distinct { AreDistinct (map name_behind names.now) }
     ensures rows { IfOk result (λ table. rows table ≡ rows_of (map name_behind names.now)) }
 {
-    let mut table = IndexMap::new(alloc);
+    let mut table = IndexMap::with_capacity(alloc, names.len())?;
     for name in names {
         let needed = needed_ids(alloc, name)?;
         table.insert(local_id(name).name, needed)?;
@@ -56,8 +57,8 @@ fn scope_order(alloc: Global, names: &[ScopeName<'_, '_>]) -> ParseResult<Vec<us
     }
 }
 
-/// The definitions of a scope, in the order in which they are resolved.
-pub(crate) fn ordered_definitions<'t, 'a>(
+/// The definitions of a scope in the order of its table.
+fn sorted_definitions<'t, 'a>(
     alloc: Global,
     names: &[ScopeName<'t, 'a>],
 ) -> ParseResult<Vec<DefinedName<'t, 'a>>>
@@ -68,4 +69,33 @@ pub(crate) fn ordered_definitions<'t, 'a>(
     let places = scope_order(alloc, names)?;
     let ordered = in_order(alloc, names, &places)?;
     Ok(definitions(alloc, &ordered)?)
+}
+
+/// Whether each name of a scope needs none.
+fn need_none(alloc: Global, names: &[ScopeName<'_, '_>]) -> Result<bool, AllocError>
+    ensures { IfOk result (λ none. MatchBool none (NeedNone (map name_behind names.now)) (NeedNone (map name_behind names.now) → ⊥)) }
+{
+    for name in names {
+        let needed = needed_ids(alloc, name)?;
+        if needed.as_slice().len() != 0 {
+            return Ok(false);
+        }
+    }
+    Ok(true)
+}
+
+/// The definitions of a scope, in the order in which they are resolved: that in which they are
+/// written where none needs a name.
+pub(crate) fn ordered_definitions<'t, 'a>(
+    alloc: Global,
+    names: &[ScopeName<'t, 'a>],
+) -> ParseResult<Vec<DefinedName<'t, 'a>>>
+    requires distinct { AreDistinct (map name_behind names.now) }
+    ensures ordered { IfOk result (λ ordered. AreOrdered (map name_behind names.now) (map definition_behind ordered.items)) }
+    ensures refused { IfErr result (Refused (IsBrokenScope (map name_behind names.now))) }
+{
+    if need_none(alloc, names)? {
+        return Ok(definitions(alloc, names)?);
+    }
+    sorted_definitions(alloc, names)
 }

@@ -14,7 +14,7 @@ use Rattle.wit_meaning.proofs.Seen.{IsSeen, seen_more, seen_repeat}
 abbrev pub texts_of : List (Bor (List ℕ)) → List (List ℕ)
 texts_of ts = map (λ (t : Bor (List ℕ)). t.now) ts
 
-text-at : (ts : List (Bor (List ℕ))) (i : ℕ) (d : Bor (List ℕ)) → i < length ts → slice_get (texts_of ts) i ≡ Some (get_or ts i d).now
+pub text-at : (ts : List (Bor (List ℕ))) (i : ℕ) (d : Bor (List ℕ)) → i < length ts → slice_get (texts_of ts) i ≡ Some (get_or ts i d).now
 text-at ts i d lt = slice_get-map (λ (t : Bor (List ℕ)). t.now) ts i ∙ ap (option_map (λ (t : Bor (List ℕ)). t.now)) (slice_get-get_or ts i d lt)
 
 take-next : (xs : List (List ℕ)) (i : ℕ) (x : List ℕ) → slice_get xs i ≡ Some x → take (i + 1) xs ≡ take i xs ++ x ∷ []

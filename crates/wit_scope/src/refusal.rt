@@ -10,6 +10,8 @@ use wit_tree::tree::Id;
 use wit_tree::{ParseError, ParseErrorKind, Span};
 
 /// A rule that is broken at a span, in the words that were made, or that memory is wanted for.
+#[cold]
+#[inline(never)]
 pub fn refuse_in(rule: u8, span: Span, words: Result<String, AllocError>) -> ParseError
     ensures { IsWantOfMemory result ⊎ (fault_of result ≡ fault rule span) }
 {
@@ -20,6 +22,8 @@ pub fn refuse_in(rule: u8, span: Span, words: Result<String, AllocError>) -> Par
 }
 
 /// A rule that is broken at a span, in these words.
+#[cold]
+#[inline(never)]
 pub fn refuse(alloc: Global, rule: u8, span: Span, message: &str) -> ParseError
     ensures { IsWantOfMemory result ⊎ (fault_of result ≡ fault rule span) }
 {
@@ -45,6 +49,8 @@ fn item_not_found(
 }
 
 /// A name that stands for nothing of a sort.
+#[cold]
+#[inline(never)]
 pub fn refuse_missing(alloc: Global, rule: u8, sort: &str, id: Id<'_>) -> ParseError
     ensures fault { IsWantOfMemory result ⊎ (fault_of result ≡ missing_at rule sort.now id.entry) }
     ensures hint { hint_of result.kind ≡ None }
@@ -86,6 +92,8 @@ fn type_not_found(alloc: Global, id: Id<'_>) -> Result<ParseErrorKind, AllocErro
 }
 
 /// A name that stands for no type (E15); the hint is for names that types had once.
+#[cold]
+#[inline(never)]
 pub fn refuse_missing_type(alloc: Global, id: Id<'_>) -> ParseError
     ensures fault { IsWantOfMemory result ⊎ (fault_of result ≡ missing_at 15 type_word id.entry) }
     ensures hint { IsWantOfMemory result ⊎ (hint_of result.kind ≡ type_hint id.entry.name.now) }
@@ -108,6 +116,8 @@ fn type_cycle(alloc: Global, sort: &str, id: Id<'_>) -> Result<ParseErrorKind, A
 }
 
 /// A name that stands for something of a sort that depends on itself.
+#[cold]
+#[inline(never)]
 pub fn refuse_cycle(alloc: Global, rule: u8, sort: &str, id: Id<'_>) -> ParseError
     ensures { IsWantOfMemory result ⊎ (fault_of result ≡ cyclic_at rule sort.now id.entry) }
 {

@@ -1,5 +1,5 @@
 //! Texts that stand twice in a list.
-ghost use Rattle.std.specs.Prelude.{◌≡◌, IfOk, IfSome, IfNone, OnOk, map, nat_eq, take};
+ghost use Rattle.std.specs.Prelude.{◌≡◌, ◌<◌, ℕ, IfOk, IfSome, IfNone, OnOk, length, map, nat_eq, take};
 ghost use Rattle.std.specs.Char.{is_ascii_uppercase};
 ghost use Rattle.std.specs.Cmp.Lexicographic.{pointwise};
 ghost use Rattle.std.specs.List.{list_any};
@@ -12,6 +12,9 @@ ghost use Rattle.wit_meaning.specs.Repeats.{IsRepeatAt, AllDiffer};
 use indexmap::IndexMap;
 use std::alloc::{AllocError, Global};
 use wit_values::Text;
+
+/// As many texts are compared in pairs; for more a map costs less.
+const FEW: usize = 8;
 
 /// Notes that a text stands at a place, and gives the earlier place where it stands already.
 fn note<'t>(
@@ -28,10 +31,8 @@ fn note<'t>(
     }
 }
 
-/// The first place of a text that stands at an earlier place too, behind that earlier place.
-///
-/// The error is want of memory.
-pub fn first_repeat(alloc: Global, texts: &[&str]) -> Result<Option<(usize, usize)>, AllocError>
+/// [`first_repeat`] by a map from the texts to their places.
+fn first_repeat_by_map(alloc: Global, texts: &[&str]) -> Result<Option<(usize, usize)>, AllocError>
     ensures some { IfOk result (λ found. IfSome found (λ p. IsRepeatAt (map (λ t. t.now) texts.now) p.0 p.1)) }
     ensures first { IfOk result (λ found. IfSome found (λ p. AllDiffer (take p.1 (map (λ t. t.now) texts.now)))) }
     ensures none { IfOk result (λ found. IfNone found (AllDiffer (map (λ t. t.now) texts.now))) }
@@ -43,6 +44,49 @@ pub fn first_repeat(alloc: Global, texts: &[&str]) -> Result<Option<(usize, usiz
         }
     }
     Ok(None)
+}
+
+/// An earlier place where the text of a place stands too.
+fn earlier_place(texts: &[&str], place: usize) -> Option<usize>
+    requires { place < length texts.now }
+    ensures some { IfSome result (λ earlier. IsRepeatAt (map (λ t. t.now) texts.now) earlier place) }
+    ensures none { IfNone result ((earlier : ℕ) → IsRepeatAt (map (λ t. t.now) texts.now) earlier place → ⊥) }
+{
+    let text = texts[place];
+    for earlier in 0..place {
+        if texts[earlier] == text {
+            return Some(earlier);
+        }
+    }
+    None
+}
+
+/// [`first_repeat`] by comparing each text with those before it.
+fn first_repeat_by_pairs(texts: &[&str]) -> Option<(usize, usize)>
+    ensures some { IfSome result (λ p. IsRepeatAt (map (λ t. t.now) texts.now) p.0 p.1) }
+    ensures first { IfSome result (λ p. AllDiffer (take p.1 (map (λ t. t.now) texts.now))) }
+    ensures none { IfNone result (AllDiffer (map (λ t. t.now) texts.now)) }
+{
+    for place in 0..texts.len() {
+        if let Some(earlier) = earlier_place(texts, place) {
+            return Some((earlier, place));
+        }
+    }
+    None
+}
+
+/// The first place of a text that stands at an earlier place too, behind that earlier place.
+///
+/// The error is want of memory.
+pub fn first_repeat(alloc: Global, texts: &[&str]) -> Result<Option<(usize, usize)>, AllocError>
+    ensures some { IfOk result (λ found. IfSome found (λ p. IsRepeatAt (map (λ t. t.now) texts.now) p.0 p.1)) }
+    ensures first { IfOk result (λ found. IfSome found (λ p. AllDiffer (take p.1 (map (λ t. t.now) texts.now)))) }
+    ensures none { IfOk result (λ found. IfNone found (AllDiffer (map (λ t. t.now) texts.now))) }
+{
+    if texts.len() <= FEW {
+        return Ok(first_repeat_by_pairs(texts));
+    }
+    first_repeat_by_map(alloc, texts)
 }
 
 /// Whether a letter of the text is upper case.

@@ -59,7 +59,7 @@ fn top_name<'a>(item: &AstItem<'a>) -> TopName<'a>
 fn top_names<'a>(alloc: Global, items: &[AstItem<'a>]) -> Result<Vec<TopName<'a>>, AllocError>
     ensures { IfOk result (λ names. map top_behind names.items ≡ map the_name items.now) }
 {
-    let mut names = Vec::new(alloc);
+    let mut names = Vec::with_capacity(alloc, items.len())?;
     for item in items {
         names.push(top_name(item))?;
     }
@@ -109,7 +109,7 @@ fn unique_names<'a>(
     ensures distinct { OnOk result (AllDiffer (map top_text (map top_behind names.now))) }
     ensures refused { IfErr result (Refused (IsRepeatedName rule (map top_behind names.now))) }
 {
-    let mut found = IndexMap::new(alloc);
+    let mut found = IndexMap::with_capacity(alloc, names.len())?;
     for name in names {
         let id = name.id;
         if found.get(id.name).is_some() {

@@ -65,6 +65,7 @@ impl<'a> Reader<'a> {
     }
 
     /// Goes past the token.
+    #[inline]
     pub fn bump(&mut self) -> ParseResult<()>
         ensures read { OnOk result (IsRead self.old [] self.new) }
         ensures refused { IfErr result (λ e. IsRefused self.old e) }
@@ -77,6 +78,7 @@ impl<'a> Reader<'a> {
     }
 
     /// Goes past a token of this kind.
+    #[inline]
     pub fn expect(&mut self, kind: Kind) -> ParseResult<()>
         ensures read { OnOk result (IsRead self.old [] self.new) }
         ensures refused { IfErr result (λ e. IsRefused self.old e) }
@@ -88,6 +90,7 @@ impl<'a> Reader<'a> {
     }
 
     /// Goes past a word of the grammar.
+    #[inline]
     pub fn expect_word(&mut self, word: Word) -> ParseResult<()>
         ensures word { OnOk result (self.old.token.text.now ≡ word_text word) }
         ensures read { OnOk result (IsRead self.old [] self.new) }

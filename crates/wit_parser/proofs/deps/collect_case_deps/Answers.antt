@@ -1,7 +1,5 @@
-use Rattle.std.proofs.Common.{◌≡◌, ◌+◌, ◌++◌, ◌∷◌, [], Some, None, take, sym, ap, ◌∙◌, append-nil}
+use Rattle.std.proofs.Common.{◌≡◌, ◌+◌, ◌++◌, ◌∷◌, [], take, sym, ap, ◌∙◌}
 use Rattle.std.proofs.lemmas.List.{take_more}
-use Rattle.std.proofs.lemmas.List.Elements.{filter_map-append}
-use Rattle.wit_tree.specs.declared.tree.Case.{Case}
 use Rattle.wit_tree.specs.Parts.{case_types}
 use Rattle.wit_parser.proofs.TypeWords.{type_words, words_more, cases_more, cases_same}
 use Rattle.wit_parser.proofs.deps.collect_case_deps.Goals.{in-Some+in_ok-collect_deps, in_default}

@@ -1,6 +1,6 @@
 use Rattle.std.proofs.Common.{◌≡◌, map, inl, inr, ap, ◌∙◌, subst}
 use Rattle.wit_meaning.specs.Repeats.{IsRepeatAt, AllDiffer}
-use Rattle.wit_parser.proofs.Repeating.{named_twice}
+use Rattle.wit_parser.proofs.Repeating.{few_differ, named_twice}
 use Rattle.wit_parser.proofs.distinct.check_unique_names.Goals as goal
 
 pub returns-in-Some-clause-refused : goal.returns-in-Some-clause-refused
@@ -18,3 +18,6 @@ returns-clause-legal c =
     let keys = map (λ t. t.now) c.deref.result.now in
     let keyed : keys ≡ map (λ id. id.name.now) c.args.ids.now = ap (map (λ t. t.now)) c.deref.ensures.value ∙ c.in_ok-texts.ensures in
     subst AllDiffer keyed (rw c.in-None.is at c.in_ok-second.ensures.none)
+
+pub returns-then-ids-lt2-clause-legal : goal.returns-then-ids-lt2-clause-legal
+returns-then-ids-lt2-clause-legal c = few_differ (λ id. id.name.now) c.args.ids.now c.if-ids-lt2.true

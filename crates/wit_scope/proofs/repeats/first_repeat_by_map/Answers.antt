@@ -1,7 +1,7 @@
 use Rattle.std.proofs.Common.{◌∙◌, sym, arith}
 use Rattle.wit_meaning.proofs.Seen.{seen_differ}
 use Rattle.wit_scope.proofs.Seeing.{seen-again, seen-next}
-use Rattle.wit_scope.proofs.repeats.first_repeat.Goals as goal
+use Rattle.wit_scope.proofs.repeats.first_repeat_by_map.Goals as goal
 
 pub returns-in-Some-clause-some : goal.returns-in-Some-clause-some
 returns-in-Some-clause-some c = seen-again c.args.texts.now _ c.loop-place.place c.in-Some.earlier _ c.loop-place.invariant (omega arith) (sym c.in-Some.is ∙ c.in_ok-earlier.ensures.found)

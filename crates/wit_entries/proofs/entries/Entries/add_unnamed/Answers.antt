@@ -3,7 +3,7 @@ use Rattle.wit_intern.specs.FiniteMap.{FiniteMap}
 use Rattle.wit_meaning.specs.Resolving.{unnamed}
 use Rattle.wit_entries.specs.Known.{AreKnown}
 use Rattle.wit_entries.proofs.Known.{IsMissing, known_set, known_unnamed}
-use Rattle.wit_entries.proofs.entries.Entries.intern.Goals as goal
+use Rattle.wit_entries.proofs.entries.Entries.add_unnamed.Goals as goal
 
 pub invariant_of-self : goal.invariant_of-self
 invariant_of-self c = subst (λ (t : FiniteMap). AreKnown t c.self.inside.arena) (sym c.in_err-set.ensures.refused) c.self.invariant
@@ -12,15 +12,15 @@ pub invariant_of-self-in_err-id : goal.invariant_of-self-in_err-id
 invariant_of-self-in_err-id c =
     let es = c.self.inside.arena in
     let same : c.args.self.now ≡ es = (let view = c.self.view_is in cc) in
-    let missing : IsMissing c.args.kind es = subst (IsMissing c.args.kind) same c.in_default.ensures.none in
-    let known = known_set _ es c.args.kind c.in_ok-key.key c.next_id.result c.in_ok-key.ensures missing c.self.invariant in
+    let missing : IsMissing c.args.kind es = subst (IsMissing c.args.kind) same c.requires.missing in
+    let known = known_set _ es c.args.kind c.args.key c.next_id.result c.requires.keyed missing c.self.invariant in
     subst (λ (t : FiniteMap). AreKnown t c.alloc.new.self) (sym c.in_ok-set.ensures.set) (rw c.in_err-id.ensures.err known)
 
 pub invariant_of-self-2 : goal.invariant_of-self-2
 invariant_of-self-2 c =
     let es = c.self.inside.arena in
     let same : c.args.self.now ≡ es = (let view = c.self.view_is in cc) in
-    let missing : IsMissing c.args.kind es = subst (IsMissing c.args.kind) same c.in_default.ensures.none in
+    let missing : IsMissing c.args.kind es = subst (IsMissing c.args.kind) same c.requires.missing in
     let last : c.alloc.new.self ≡ es ++ unnamed c.args.kind c.args.span ∷ [] = search rules in
-    let known = known_unnamed _ es c.args.kind c.args.span c.in_ok-key.key c.in_ok-key.ensures missing c.self.invariant in
+    let known = known_unnamed _ es c.args.kind c.args.span c.args.key c.requires.keyed missing c.self.invariant in
     subst (λ (t : FiniteMap). AreKnown t c.alloc.new.self) (sym c.in_ok-set.ensures.set) (rw (last, c.next_id.ensures) known)
