@@ -35,7 +35,7 @@ pub enum Kind {
 }
 
 /// The token that a character is by itself.
-#[inline]
+#[inline(always)]
 pub fn sign(c: u8) -> Option<Kind>
     ensures ascii { IfSome result (λ _. c < 128) }
     ensures no_word { IfSome result IsNoWord }

@@ -94,6 +94,7 @@ fn token_at<'a>(source: &'a str, start: usize) -> Result<Token<'a>, Stop>
 
 /// The token behind the blanks from a place on. A `Stop` is small, and a refusal is not: so the
 /// refusal is made by [`next_token`].
+#[inline(never)]
 fn token_behind<'a>(source: &'a str, from: usize) -> Result<Token<'a>, Stop>
     requires within { from ≤ length source.now }
     ensures token { IfOk result (λ t. IsToken source.now t) }
@@ -121,7 +122,7 @@ fn token_behind<'a>(source: &'a str, from: usize) -> Result<Token<'a>, Stop>
 }
 
 /// The token behind the blanks from a place on.
-#[inline]
+#[inline(always)]
 pub fn next_token<'a>(
     alloc: Global,
     source: &'a str,

@@ -14,6 +14,9 @@ use wit_tree::tree::Id;
 use wit_tree::{ParseError, ParseResult, Span};
 
 /// A source whose first byte has the place `offset`, and its first token that is not read yet.
+///
+/// What each token goes through is inlined: a result with a refusal in it is large, and would be
+/// passed on from one method to the next.
 #[derive(Drop)]
 pub struct Reader<'a> {
     pub alloc: Global,
@@ -65,7 +68,7 @@ impl<'a> Reader<'a> {
     }
 
     /// Goes past the token.
-    #[inline]
+    #[inline(always)]
     pub fn bump(&mut self) -> ParseResult<()>
         ensures read { OnOk result (IsRead self.old [] self.new) }
         ensures refused { IfErr result (λ e. IsRefused self.old e) }
@@ -78,7 +81,7 @@ impl<'a> Reader<'a> {
     }
 
     /// Goes past a token of this kind.
-    #[inline]
+    #[inline(always)]
     pub fn expect(&mut self, kind: Kind) -> ParseResult<()>
         ensures read { OnOk result (IsRead self.old [] self.new) }
         ensures refused { IfErr result (λ e. IsRefused self.old e) }
@@ -90,7 +93,7 @@ impl<'a> Reader<'a> {
     }
 
     /// Goes past a word of the grammar.
-    #[inline]
+    #[inline(always)]
     pub fn expect_word(&mut self, word: Word) -> ParseResult<()>
         ensures word { OnOk result (self.old.token.text.now ≡ word_text word) }
         ensures read { OnOk result (IsRead self.old [] self.new) }
@@ -103,6 +106,7 @@ impl<'a> Reader<'a> {
     }
 
     /// Goes past a word of the grammar, and tells where it stands.
+    #[inline(always)]
     pub fn read_word(&mut self, word: Word) -> ParseResult<Span>
         ensures read { IfOk result (λ span. IsRead self.old (spelled span (word_text word) ∷ []) self.new) }
         ensures refused { IfErr result (λ e. IsRefused self.old e) }
@@ -113,6 +117,7 @@ impl<'a> Reader<'a> {
     }
 
     /// Reads a name.
+    #[inline(always)]
     pub fn read_id(&mut self) -> ParseResult<Id<'a>>
         ensures read { IfOk result (λ id. IsRead self.old (named id ∷ []) self.new) }
         ensures refused { IfErr result (λ e. IsRefused self.old e) }
