@@ -134,6 +134,7 @@ fn items_of_other_packages(rt: HostRuntime) -> Result<(), Fail> {
     let told_apart = are_told_apart(packages.as_slice(), is_same_package)?;
     assert!(rt; told_apart);
     add_foreign(alloc, &mut packages, &["d", "c"], 2, 1)?;
+    assert_eq!(rt; packages.len(), 5);
     assert!(rt; is_same_package(&packages[0], &packages[4]));
     assert_eq!(rt; packages[0].foreign_dep_spans().len(), 2);
     assert_eq!(rt; packages[0].unknown_type_spans().len(), 1);
