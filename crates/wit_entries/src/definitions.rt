@@ -1,6 +1,5 @@
 //! Definitions, as named entries of the arena.
 ghost use Rattle.std.specs.Prelude.{◌≡◌, List, [], ◌∷◌, OnOk, IfErr};
-ghost use Rattle.wit_types.specs.declared.types.TypeOwner.TheVariants.{Interface as OfInterface};
 ghost use Rattle.wit_meaning.specs.Address.{Address};
 ghost use Rattle.wit_meaning.specs.Source.{Defined};
 ghost use Rattle.wit_meaning.specs.Fault.{Fault};
@@ -22,8 +21,8 @@ pub fn define(
     scope: &mut Scope,
     definition: &tree::TypeDef<'_>,
 ) -> ParseResult<()>
-    ensures defines { OnOk result ((cs : List Cell) (s : Address) → Defines types.old types.new cs (OfInterface scope.old.id) s scope.old.names scope.new.names (Defined definition.now ∷ [])) }
-    ensures id { OnOk result (scope.new.id ≡ scope.old.id) }
+    ensures defines { OnOk result ((cs : List Cell) (s : Address) → Defines types.old types.new cs scope.old.owner s scope.old.names scope.new.names (Defined definition.now ∷ [])) }
+    ensures owner { OnOk result (scope.new.owner ≡ scope.old.owner) }
     ensures legal { OnOk result ((f : Fault) → IsBrokenBody definition.now.body f → ⊥) }
     ensures stored { OnOk result (IsStored scope.old.names scope.new.names definition.now.name.name.now) }
     ensures refused { IfErr result (Refused (IsWrongBody (env_of scope.old.names) definition.now.body)) }

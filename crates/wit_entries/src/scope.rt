@@ -1,20 +1,19 @@
 //! The names of a scope, while it is resolved.
 ghost use Rattle.std.specs.Prelude.{◌≡◌, OnOk, IfErr};
 ghost use Rattle.wit_tree.specs.Refusal.{IsWantOfMemory};
-ghost use Rattle.wit_types.specs.declared.types.TypeOwner.TheVariants.{Interface as OfInterface};
 ghost use Rattle.wit_meaning.specs.Resolving.{IsAdded};
 
 use crate::entries::Entries;
 use std::alloc::Global;
-use wit_model::{InterfaceId, TypeDefKind, TypeId, TypeOwner};
+use wit_model::{TypeDefKind, TypeId, TypeOwner};
 use wit_tree::{ParseResult, Span};
 use wit_values::{Text, TextTable};
 
-/// The names of an interface, while it is resolved.
+/// The names of an interface or a world, while it is resolved.
 #[derive(Drop)]
 pub struct Scope {
-    /// The interface.
-    pub id: InterfaceId,
+    /// The interface or the world.
+    pub owner: TypeOwner,
     /// What each name stands for.
     pub names: TextTable<TypeId>,
 }
@@ -31,12 +30,11 @@ impl Scope {
         span: Span,
         kind: TypeDefKind,
     ) -> ParseResult<()>
-        ensures added { OnOk result (IsAdded types.old types.new (OfInterface self.old.id) self.old.names self.new.names name.now span kind) }
-        ensures id { OnOk result (self.new.id ≡ self.old.id) }
+        ensures added { OnOk result (IsAdded types.old types.new self.old.owner self.old.names self.new.names name.now span kind) }
+        ensures owner { OnOk result (self.new.owner ≡ self.old.owner) }
         ensures refused { IfErr result IsWantOfMemory }
     {
-        let owner = TypeOwner::Interface(self.id);
-        let id = types.add_named(owner, Text::from_str(alloc, name)?, kind, span)?;
+        let id = types.add_named(self.owner, Text::from_str(alloc, name)?, kind, span)?;
         self.names.insert(String::from_str(alloc, name)?, id)?;
         Ok(())
     }

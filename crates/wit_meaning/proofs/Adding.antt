@@ -1,22 +1,22 @@
--- Interfaces added one after another.
+-- Items added one after another.
 use Rattle.std.proofs.Common.{List, [], ◌∷◌, ◌++◌, inl, inr, refl, subst}
-use Rattle.wit_model.specs.declared.interface.Interface.{Interface}
 use Rattle.wit_types.specs.declared.types.TypeDef.{TypeDef}
 use Rattle.wit_meaning.specs.Fault.{Fault}
 use Rattle.wit_meaning.specs.Source.{Item, scope_names}
 use Rattle.wit_meaning.specs.Broken.{IsBrokenScope}
-use Rattle.wit_meaning.specs.Resolved.{AddsInterface, AddsAll, AreLegalScopes}
+use Rattle.wit_meaning.specs.Resolved.{AddsEach, AreLegalScopes}
 use Rattle.wit_meaning.proofs.Lists.{at_either}
 
-pub adds_append : (a b c : List TypeDef) (i j k : List Interface) (ws vs : List Item) → AddsAll a b i j ws → AddsAll b c j k vs → AddsAll a c i k (ws ++ vs)
-adds_append a b c i j k [] vs p q = subst (λ x. AddsAll x c i k vs) p.0 (subst (λ x. AddsAll b c x k vs) p.1 q)
-adds_append a b c i j k (w ∷ ws) vs p q = (p.0, p.1, p.2, adds_append p.0 b c p.1 j k ws vs p.3 q)
+module _ {X : Type 0} (Adds : List TypeDef → List TypeDef → List X → List X → Item → Type 0) where
+  pub adds_append : (a b c : List TypeDef) (i j k : List X) (ws vs : List Item) → AddsEach Adds a b i j ws → AddsEach Adds b c j k vs → AddsEach Adds a c i k (ws ++ vs)
+  adds_append a b c i j k [] vs p q = subst (λ x. AddsEach Adds x c i k vs) p.0 (subst (λ x. AddsEach Adds b c x k vs) p.1 q)
+  adds_append a b c i j k (w ∷ ws) vs p q = (p.0, p.1, p.2, adds_append p.0 b c p.1 j k ws vs p.3 q)
 
-pub adds_one : (a b : List TypeDef) (i j : List Interface) (w : Item) → AddsInterface a b i j w → AddsAll a b i j (w ∷ [])
-adds_one a b i j w p = (b, j, p, (refl, refl))
+  pub adds_one : (a b : List TypeDef) (i j : List X) (w : Item) → Adds a b i j w → AddsEach Adds a b i j (w ∷ [])
+  adds_one a b i j w p = (b, j, p, (refl, refl))
 
-pub adds_none : (a : List TypeDef) (i : List Interface) → AddsAll a a i i []
-adds_none a i = (refl, refl)
+  pub adds_none : (a : List TypeDef) (i : List X) → AddsEach Adds a a i i []
+  adds_none a i = (refl, refl)
 
 pub scopes_none : AreLegalScopes []
 scopes_none = record { legal = λ i w f at. absurd (let f : ⊥ = cc in f) }

@@ -35,7 +35,7 @@ use Rattle.wit_meaning.specs.Form.{Member, RecordForm, ListForm, AliasForm, kind
 use Rattle.wit_meaning.specs.Node.{OfScope, Head, Leaf, Named, Unnamed, Tree}
 use Rattle.wit_meaning.specs.Node as node
 use Rattle.wit_meaning.specs.Address.{InterfaceNamed}
-use Rattle.wit_meaning.specs.Source.{path_id, top_names, Item, interfaces, ScopeName, Used, Defined, scope_names, source_tree}
+use Rattle.wit_meaning.specs.Source.{path_id, top_names, TheInterface, Item, all_items, ScopeName, Used, Defined, scope_names, source_tree}
 use Rattle.wit_meaning.specs.Expr.{Prim, one}
 use Rattle.wit_meaning.specs.Meet.{Def, Whole, Meeting, IsMet, Meets}
 use Rattle.wit_meaning.specs.Scope.{rows_of, item_rows, in_turn}
@@ -50,22 +50,22 @@ use Rattle.wit_meaning.proofs.SmallOrders.{two, three, two_order, three_order}
 folded_names : map folded (codes "P-q1" ∷ codes "p-Q1" ∷ []) ≡ (codes "p-q1" ∷ codes "p-q1" ∷ [])
 folded_names = refl
 
-abbrev at : ℕ → ℕ → Span
+abbrev pub at : ℕ → ℕ → Span
 at from to = record { start = from; end = to }
 
 -- wherever texts, boxes and vectors lie
 module _ (ptr : Ptr) (alloc : Global) where
-  abbrev id : (name : List ℕ) → Span → is_label name ≡ true → Id
+  abbrev pub id : (name : List ℕ) → Span → is_label name ≡ true → Id
   id name span h = record { name = record { ref_ptr = (0, 0); now = name }; span = span; label = h }
 
-  abbrev vec : {X : Type 0} (xs : List X) → length xs < 2 ^ 63 → Vec X Global
+  abbrev pub vec : {X : Type 0} (xs : List X) → length xs < 2 ^ 63 → Vec X Global
   vec xs h = record { ptr = ptr; len = length xs; cap = length xs; alloc = alloc; items = xs; ok = (refl, omega arith); small = h }
 
   abbrev box : Box (Unit {0}) Global
   box = record { ptr = ptr; alloc = alloc; value = tt }
 
   -- package foo:foo; interface i { record p { a: list<u8>, b: list<u8> } }
-  abbrev header : Header
+  abbrev pub header : Header
   header = record { span = at 8 15; namespace = id (codes "foo") (at 8 11) refl; name = id (codes "foo") (at 12 15) refl; version = None }
 
   abbrev list_at : Span → Span → Written
@@ -90,7 +90,7 @@ module _ (ptr : Ptr) (alloc : Global) where
   files = file ∷ []
 
   abbrev item : Item
-  item = record { top = top_names file; interface = i }
+  item = record { top = top_names file; declared = TheInterface i }
 
   abbrev members : List Member
   members = record { name = codes "a"; docs = no_docs; span = at 42 43 } ∷ record { name = codes "b"; docs = no_docs; span = at 55 56 } ∷ []
@@ -268,10 +268,10 @@ module _ (ptr : Ptr) (alloc : Global) where
     used_files = used_file ∷ []
 
     abbrev user_item : Item
-    user_item = record { top = top_names used_file; interface = user }
+    user_item = record { top = top_names used_file; declared = TheInterface user }
 
     abbrev x_item : Item
-    x_item = record { top = top_names used_file; interface = x }
+    x_item = record { top = top_names used_file; declared = TheInterface x }
 
     -- the path leads to the declaration of x
     rows_of_items : item_rows used_files ≡ two (codes "i") (codes "x") x.name
@@ -366,5 +366,5 @@ module _ (ptr : Ptr) (alloc : Global) where
     abbrev of_an_alias : ToplevelUse
     of_an_alias = record { span = at 12 15; item = path.Id (id (codes "y") (at 16 17) refl); as_ = Some (id (codes "z") (at 21 22) refl) }
 
-    original_missing : IsMissingOriginal (interfaces two_files) (ToplevelItem alias ∷ ToplevelItem of_an_alias ∷ []) (record { rule = 7; span = at 16 17; name = Some (codes "y"); sort = Missing (codes "interface or world") })
+    original_missing : IsMissingOriginal (all_items two_files) (ToplevelItem alias ∷ ToplevelItem of_an_alias ∷ []) (record { rule = 7; span = at 16 17; name = Some (codes "y"); sort = Missing (codes "interface or world") })
     original_missing = record { u = of_an_alias; among = (1, lit< tt, refl); missing = refl; is = refl }

@@ -8,18 +8,16 @@ use Rattle.std.proofs.lemmas.List.Elements.{Contains-append_cases}
 use Rattle.std.proofs.lemmas.Option.{slice_get_within, slice_get-map}
 use Rattle.wit_tree.specs.declared.tree.Id.{Id}
 use Rattle.wit_tree.specs.declared.tree.UseName.{UseName}
-use Rattle.wit_tree.specs.declared.tree.InterfaceItem.{InterfaceItem}
-use Rattle.wit_tree.specs.declared.tree.InterfaceItem.TheVariants.{TypeDef as TypeItem, Use as UseItem}
 use Rattle.wit_tree.specs.declared.tree.PackageFile.{PackageFile}
 use Rattle.wit_order.specs.Table.{IsOrder}
 use Rattle.wit_meaning.specs.Address.{Address, InterfaceNamed}
-use Rattle.wit_meaning.specs.Source.{TopName, Item, Used, Defined, path_id, item_edge, path_scope, item_names, interface_name, interface_named, interfaces}
-use Rattle.wit_meaning.specs.Scope.{in_order, item_paths, item_row, item_rows}
+use Rattle.wit_meaning.specs.Source.{TopName, Item, Part, Defining, Using, Including, Used, Defined, path_id, item_edge, path_scope, part_names, item_name, item_named, all_items}
+use Rattle.wit_meaning.specs.Scope.{in_order, use_path, item_row, item_rows}
 use Rattle.std.specs.List.{flat_map}
 use Rattle.std.specs.Option.{option_map}
 use Rattle.wit_meaning.specs.Repeats.{AllDiffer}
 use Rattle.wit_meaning.proofs.Names.{name_cases, name_itself}
-use Rattle.wit_meaning.proofs.Repeated.{key_at}
+use Rattle.wit_meaning.proofs.Repeated.{key_at, differ_by}
 use Rattle.wit_meaning.proofs.Orders.{order_within, in_order_at, in_order_read, index_of, index_once}
 use Rattle.wit_meaning.proofs.Interfaces.{AreItems}
 
@@ -31,24 +29,24 @@ find_at p (y ∷ xs) x h = elim (cases_Bool (p y)) [
   | inr miss ↦ (let it = find_at p xs x (rw miss at h) in (suc it.0, it.1))
 ]
 
--- where names differ, an interface is the first of its name
-pub named_found : (is : List Item) (p : ℕ) (w : Item) → AllDiffer (map interface_name is) → slice_get is p ≡ Some w → interface_named is (interface_name w) ≡ Some w
+-- where names differ, an item is the first of its name
+pub named_found : (is : List Item) (p : ℕ) (w : Item) → AllDiffer (map item_name is) → slice_get is p ≡ Some w → item_named is (item_name w) ≡ Some w
 named_found [] p w differ at = absurd (let f : ⊥ = cc in f)
 named_found (v ∷ is) zero w differ at =
     let here : v ≡ w = cc in
-    let hit : bytes_eq (interface_name v) (interface_name w) ≡ true = ap (λ (u : Item). bytes_eq (interface_name u) (interface_name w)) here ∙ name_itself (interface_name w) in
+    let hit : bytes_eq (item_name v) (item_name w) ≡ true = ap (λ (u : Item). bytes_eq (item_name u) (item_name w)) here ∙ name_itself (item_name w) in
     rw hit at
-named_found (v ∷ is) (suc p) w differ at = elim (name_cases (interface_name v) (interface_name w)) [
-  | inl first ↦ absurd (let both = differ.differ 0 (suc p) (interface_name w) (ap Some first) (key_at interface_name is p w at) in let f : ⊥ = omega arith in f)
+named_found (v ∷ is) (suc p) w differ at = elim (name_cases (item_name v) (item_name w)) [
+  | inl first ↦ absurd (let both = differ.differ 0 (suc p) (item_name w) (ap Some first) (key_at item_name is p w at) in let f : ⊥ = omega arith in f)
   | inr other ↦ rw other (named_found is p w (record { differ = λ i j n ati atj. (let both = differ.differ (suc i) (suc j) n ati atj in omega arith) }) at)
 ]
 
 -- each item has a row
-pub length-item_rows : (files : List PackageFile) → length (item_rows files) ≡ length (interfaces files)
-length-item_rows files = length-map (interfaces files) item_row
+pub length-item_rows : (files : List PackageFile) → length (item_rows files) ≡ length (all_items files)
+length-item_rows files = length-map (all_items files) item_row
 
-pub item_row_at : (files : List PackageFile) (p : ℕ) (w : Item) → slice_get (interfaces files) p ≡ Some w → slice_get (item_rows files) p ≡ Some (item_row w)
-item_row_at files p w at = slice_get-map item_row (interfaces files) p ∙ ap (option_map item_row) at
+pub item_row_at : (files : List PackageFile) (p : ℕ) (w : Item) → slice_get (all_items files) p ≡ Some w → slice_get (item_rows files) p ≡ Some (item_row w)
+item_row_at files p w at = slice_get-map item_row (all_items files) p ∙ ap (option_map item_row) at
 
 -- a used name comes from where its path leads to
 used_in : (from s : Address) (n : UseName) (ns : List UseName) → Contains (map (Used s) ns) (Used from n) → from ≡ s
@@ -56,33 +54,34 @@ used_in from s n [] h = absurd (let lt = h.1 in let f : ⊥ = omega arith in f)
 used_in from s n (m ∷ ns) (zero, lt, is) = (let same : Used s m ≡ Used from n = is in cc)
 used_in from s n (m ∷ ns) (suc k, lt, is) = used_in from s n ns (k, omega arith, is)
 
--- that path is one of its interface
-pub used_path : (top : List TopName) (items : List InterfaceItem) (from : Address) (n : UseName) → Contains (flat_map (item_names top) items) (Used from n) → (path : Id) × Contains (flat_map item_paths items) path × (from ≡ InterfaceNamed (item_edge top path).name.now)
+-- that path is one of its item
+pub used_path : (top : List TopName) (ps : List Part) (from : Address) (n : UseName) → Contains (flat_map (part_names top) ps) (Used from n) → (path : Id) × Contains (flat_map use_path ps) path × (from ≡ InterfaceNamed (item_edge top path).name.now)
 used_path top [] from n h = absurd (let lt = h.1 in let f : ⊥ = omega arith in f)
-used_path top (TypeItem d ∷ items) from n (zero, lt, is) = absurd (let same : Defined d ≡ Used from n = is in let f : ⊥ = cc in f)
-used_path top (TypeItem d ∷ items) from n (suc k, lt, is) = used_path top items from n (k, omega arith, is)
-used_path top (UseItem u ∷ items) from n h = elim (Contains-append_cases (map (Used (path_scope top u.from)) u.names.items) (flat_map (item_names top) items) (Used from n) h) [
+used_path top (Defining d ∷ ps) from n (zero, lt, is) = absurd (let same : Defined d ≡ Used from n = is in let f : ⊥ = cc in f)
+used_path top (Defining d ∷ ps) from n (suc k, lt, is) = used_path top ps from n (k, omega arith, is)
+used_path top (Using u ∷ ps) from n h = elim (Contains-append_cases (map (Used (path_scope top u.from)) u.names.items) (flat_map (part_names top) ps) (Used from n) h) [
   | inl here ↦ (path_id u.from, (0, omega arith, refl), used_in from (path_scope top u.from) n u.names.items here)
-  | inr rest ↦ (let it = used_path top items from n rest in (it.0, (suc it.1.0, (let lt = it.1.1 in omega arith), it.1.2), it.2))
+  | inr rest ↦ (let it = used_path top ps from n rest in (it.0, (suc it.1.0, (let lt = it.1.1 in omega arith), it.1.2), it.2))
 ]
+used_path top (Including i ∷ ps) from n h = used_path top ps from n h
 
 module _ (files : List PackageFile) (places : List ℕ) (order : IsOrder (item_rows files) places) where
-  pub items_within : (j p : ℕ) → slice_get places j ≡ Some p → p < length (interfaces files)
+  pub items_within : (j p : ℕ) → slice_get places j ≡ Some p → p < length (all_items files)
   items_within j p at = subst (λ (n : ℕ). p < n) (length-item_rows files) (order_within (item_rows files) places order j p at)
 
-  -- each interface stands in the order
-  pub item_index : (p : ℕ) (w : Item) → slice_get (interfaces files) p ≡ Some w → (t : ℕ) × (slice_get places t ≡ Some p) × (slice_get (in_order (interfaces files) places) t ≡ Some w)
+  -- each item stands in the order
+  pub item_index : (p : ℕ) (w : Item) → slice_get (all_items files) p ≡ Some w → (t : ℕ) × (slice_get places t ≡ Some p) × (slice_get (in_order (all_items files) places) t ≡ Some w)
   item_index p w at =
-      let lt = slice_get_within (interfaces files) p w at in
+      let lt = slice_get_within (all_items files) p w at in
       let it = index_of (item_rows files) places p order (omega (arith, length-item_rows files)) in
-      (it.0, it.1, in_order_read (interfaces files) places it.0 p w items_within it.1 at)
+      (it.0, it.1, in_order_read (all_items files) places it.0 p w items_within it.1 at)
 
-  pub are_items : AllDiffer (map interface_name (interfaces files)) → AreItems files (in_order (interfaces files) places)
+  pub are_items : AllDiffer (map item_name (all_items files)) → AreItems files (in_order (all_items files) places)
   are_items differ = record {
-    found = λ t w at. (let p = in_order_at (interfaces files) places t w items_within at in named_found (interfaces files) p.0 w differ p.2);
-    unique = λ i j v w ati atj same. (
-        let p = in_order_at (interfaces files) places i v items_within ati in
-        let q = in_order_at (interfaces files) places j w items_within atj in
-        let one = differ.differ p.0 q.0 (interface_name v) (key_at interface_name (interfaces files) p.0 v p.2) (key_at interface_name (interfaces files) q.0 w q.2 ∙ ap Some (sym same)) in
-        index_once (item_rows files) places i j p.0 q.0 order p.1 q.1 one);
+    found = λ t w at. (let p = in_order_at (all_items files) places t w items_within at in named_found (all_items files) p.0 w differ p.2);
+    unique = differ_by item_name (in_order (all_items files) places) (λ i j v w ati atj same. (
+        let p = in_order_at (all_items files) places i v items_within ati in
+        let q = in_order_at (all_items files) places j w items_within atj in
+        let one = differ.differ p.0 q.0 (item_name v) (key_at item_name (all_items files) p.0 v p.2) (key_at item_name (all_items files) q.0 w q.2 ∙ ap Some (sym same)) in
+        index_once (item_rows files) places i j p.0 q.0 order p.1 q.1 one));
   }

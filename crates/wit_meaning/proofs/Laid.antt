@@ -1,125 +1,135 @@
--- Interfaces that are done, one after another, as scopes.
-use Rattle.std.proofs.Common.{◌≡◌, ℕ, suc, ◌+◌, List, [], ◌∷◌, ◌++◌, length, Option, Some, inl, inr, refl, sym, ap, ◌∙◌, subst, append_assoc, arith, length-append, zero-add, add-zero}
+-- Interfaces, or worlds, that are done one after another, as scopes.
+use Rattle.std.proofs.Common.{◌≡◌, ℕ, suc, ◌+◌, List, [], ◌∷◌, ◌++◌, length, Some, inl, inr, refl, sym, ap, ◌∙◌, subst, append_assoc, arith, length-append, zero-add, add-zero}
 use Rattle.std.specs.Prelude.{slice_get, map}
-use Rattle.std.specs.Option.{option_map, unwrap_or}
+use Rattle.std.specs.Option.{option_map}
 use Rattle.std.proofs.lemmas.Grind.{flat_map-append}
 use Rattle.std.proofs.lemmas.List.{append-nil, map-append, length-map}
 use Rattle.std.proofs.lemmas.Option.{slice_get_within, slice_get-map}
 use Rattle.wit_tree.specs.declared.tree.PackageFile.{PackageFile}
-use Rattle.wit_model.specs.declared.interface.Interface.{Interface}
 use Rattle.wit_types.specs.declared.types.TypeDef.{TypeDef}
 use Rattle.wit_types.specs.declared.types.TypeOwner.{TypeOwner}
-use Rattle.wit_types.specs.declared.types.TypeOwner.TheVariants as owner
 use Rattle.wit_order.specs.Table.{IsOrder}
-use Rattle.wit_meaning.specs.Address.{InterfaceNamed}
-use Rattle.wit_meaning.specs.Source.{Item, ScopeName, scope, scope_names}
+use Rattle.wit_meaning.specs.Source.{address, Item, item_name, ScopeName, scope, scope_names}
 use Rattle.wit_meaning.specs.Scope.{rows_of, in_turn}
-use Rattle.wit_meaning.specs.Meet.{Meeting, all_name_meetings}
-use Rattle.wit_meaning.specs.Package.{IsInterface}
-use Rattle.wit_meaning.specs.Whole.{Ordered, Turned, item_of, ordered_names, address, turned, meetings, declarations}
-use Rattle.wit_meaning.specs.Resolving.{Names, Cell, cell, cells, Defines, decls_of, AreDistinct}
-use Rattle.wit_meaning.specs.Resolved.{AddsInterface, AddsAll}
-use Rattle.wit_meaning.proofs.Lists.{at_either, map_at}
-use Rattle.wit_meaning.proofs.Turns.{in_turn_among, in_turn_has, in_turn_distinct}
+use Rattle.wit_meaning.specs.Meet.{Meeting, all_name_meetings, Decls}
+use Rattle.wit_meaning.specs.Whole.{Ordered, Turned, item_of, ordered_names, turned, meetings}
+use Rattle.wit_meaning.specs.Resolving.{Names, Cell, Defines, decls_of, local_names, AreDistinct}
+use Rattle.wit_meaning.specs.Resolved.{AddsEach}
+use Rattle.wit_meaning.proofs.Lists.{at_either, at_seam, at_within, map_at}
+use Rattle.wit_meaning.proofs.Repeated.{differ_at}
+use Rattle.wit_meaning.proofs.Turns.{at_part, in_turn_among, in_turn_has, in_turn_distinct}
 use Rattle.wit_meaning.proofs.Standing.{DoneScope, turn_of, cell_of, IsTurn, IsDone}
-use Rattle.wit_meaning.proofs.Done.{done_none, done_more}
-use Rattle.wit_meaning.proofs.Interfaces.{AreItems, scope_of, owner_of_scope, name_at_address}
+use Rattle.wit_meaning.proofs.Done.{done_more}
+use Rattle.wit_meaning.proofs.Interfaces.{AreItems, scope_of, name_at_address}
 
--- the first of some interfaces, in their orders, are these scopes
-pub record AreLaid (ws : List Item) (os : List Ordered) (is : List Interface) (cs : List DoneScope) : Type 0 where
-  pub count : length is ≡ length os
+-- The first of some items, in their orders, are these scopes, and these are their entries in an arena: `Owner` is whom the package
+-- knows by a place in it, `Says` is what holds of an entry, and `entry_cell` is the scope that it is.
+pub record AreLaid {X : Type 0} (Owner : ℕ → TypeOwner) (Says : Ordered → X → Type 0) (entry_cell : X → Cell) (ws : List Item) (os : List Ordered) (xs : List X) (cs : List DoneScope) : Type 0 where
+  pub count : length xs ≡ length os
   pub front : (t : ℕ) (o : Ordered) → slice_get os t ≡ Some o → slice_get ws t ≡ Some o.item
   pub least : (t : ℕ) (o : Ordered) → slice_get os t ≡ Some o → IsOrder (rows_of (scope_names o.item)) o.order
-  pub says : (t : ℕ) (o : Ordered) (i : Interface) → slice_get os t ≡ Some o → slice_get is t ≡ Some i → IsInterface o.item.interface i
+  pub says : (t : ℕ) (o : Ordered) (x : X) → slice_get os t ≡ Some o → slice_get xs t ≡ Some x → Says o x
   pub turns : map turn_of cs ≡ map turned os
-  pub types : map cell_of cs ≡ cells is
-  pub whose : (t : ℕ) (c : DoneScope) → slice_get cs t ≡ Some c → c.owner ≡ owner.Interface t
+  pub types : map cell_of cs ≡ map entry_cell xs
+  pub whose : (t : ℕ) (c : DoneScope) → slice_get cs t ≡ Some c → c.owner ≡ Owner t
 
--- the first interfaces are done, in some orders of their names
-pub record AreDone (files : List PackageFile) (ws vs : List Item) (es : List TypeDef) (is : List Interface) : Type 0 where
+-- the first of some items are done, in some orders of their names, behind others that are
+pub record AreDone {X : Type 0} (Owner : ℕ → TypeOwner) (Says : Ordered → X → Type 0) (entry_cell : X → Cell) (files : List PackageFile) (decls : Decls) (base : List Ordered) (first : List DoneScope) (ws us : List Item) (es : List TypeDef) (xs : List X) : Type 0 where
   pub ordered : List Ordered
   pub scopes : List DoneScope
-  pub all : map item_of ordered ≡ vs
-  pub laid : AreLaid ws ordered is scopes
-  pub done : IsDone files (declarations files (map address ws)) (meetings (map turned ordered)) scopes es
+  pub all : map item_of ordered ≡ us
+  pub laid : AreLaid Owner Says entry_cell ws ordered xs scopes
+  pub done : IsDone files decls (meetings (map turned (base ++ ordered))) (first ++ scopes) es
 
-module _ (ws : List Item) (os : List Ordered) (is : List Interface) (cs : List DoneScope) (l : AreLaid ws os is cs) where
-  -- the scope of an interface, and the interface of a scope
+module _ {X : Type 0} {Owner : ℕ → TypeOwner} {Says : Ordered → X → Type 0} {entry_cell : X → Cell} {ws : List Item} {os : List Ordered} {xs : List X} {cs : List DoneScope} (l : AreLaid Owner Says entry_cell ws os xs cs) where
+  -- the scope of an item, and the item of a scope
   pub scope_at : (t : ℕ) (o : Ordered) → slice_get os t ≡ Some o → (c : DoneScope) × (slice_get cs t ≡ Some c) × (turn_of c ≡ turned o)
   scope_at t o at = map_at turn_of cs t (turned o) (ap (λ (x : List Turned). slice_get x t) l.turns ∙ slice_get-map turned os t ∙ ap (option_map turned) at)
 
   pub ordered_at : (t : ℕ) (c : DoneScope) → slice_get cs t ≡ Some c → (o : Ordered) × (slice_get os t ≡ Some o) × (turned o ≡ turn_of c)
   ordered_at t c at = map_at turned os t (turn_of c) (ap (λ (x : List Turned). slice_get x t) (sym l.turns) ∙ slice_get-map turn_of cs t ∙ ap (option_map turn_of) at)
 
-  pub interface_of : (t : ℕ) (c : DoneScope) → slice_get cs t ≡ Some c → (i : Interface) × (slice_get is t ≡ Some i) × (cell i ≡ cell_of c)
-  interface_of t c at = map_at cell is t (cell_of c) (ap (λ (x : List Cell). slice_get x t) (sym l.types) ∙ slice_get-map cell_of cs t ∙ ap (option_map cell_of) at)
+  -- the entry of a scope, and the scope of an entry
+  pub entry_of : (t : ℕ) (c : DoneScope) → slice_get cs t ≡ Some c → (x : X) × (slice_get xs t ≡ Some x) × (entry_cell x ≡ cell_of c)
+  entry_of t c at = map_at entry_cell xs t (cell_of c) (ap (λ (x : List Cell). slice_get x t) (sym l.types) ∙ slice_get-map cell_of cs t ∙ ap (option_map cell_of) at)
 
-  pub scope_of_interface : (t : ℕ) (i : Interface) → slice_get is t ≡ Some i → (c : DoneScope) × (slice_get cs t ≡ Some c) × (cell_of c ≡ cell i)
-  scope_of_interface t i at = map_at cell_of cs t (cell i) (ap (λ (x : List Cell). slice_get x t) l.types ∙ slice_get-map cell is t ∙ ap (option_map cell) at)
+  pub scope_of_entry : (t : ℕ) (x : X) → slice_get xs t ≡ Some x → (c : DoneScope) × (slice_get cs t ≡ Some c) × (cell_of c ≡ entry_cell x)
+  scope_of_entry t x at = map_at cell_of cs t (entry_cell x) (ap (λ (y : List Cell). slice_get y t) l.types ∙ slice_get-map entry_cell xs t ∙ ap (option_map entry_cell) at)
+
+  -- the item of an entry
+  pub item_of_entry : (t : ℕ) (x : X) → slice_get xs t ≡ Some x → (o : Ordered) × (slice_get os t ≡ Some o)
+  item_of_entry t x at =
+      let lt = slice_get_within xs t x at in
+      let count = l.count in
+      at_within os t (omega arith)
+
+  -- the entry of an item
+  pub entry_of_item : (t : ℕ) (o : Ordered) → slice_get os t ≡ Some o → (x : X) × (slice_get xs t ≡ Some x)
+  entry_of_item t o at =
+      let lt = slice_get_within os t o at in
+      let count = l.count in
+      at_within xs t (omega arith)
 
   -- the scope of the next one is none of them
   pub none_is_next : (files : List PackageFile) → AreItems files ws → (w : Item) → slice_get ws (length os) ≡ Some w → (t : ℕ) (c : DoneScope) → slice_get cs t ≡ Some c → c.address ≡ address w → ⊥
   none_is_next files items w next t c at same =
       let o = ordered_at t c at in
       let here : address o.0.item ≡ address w = ap (λ (x : Turned). x.address) o.2 ∙ same in
-      let place = items.unique t (length os) o.0.item w (l.front t o.0 o.1) next (name_at_address o.0.item w here) in
+      let place = differ_at item_name ws items.unique t (length os) o.0.item w (l.front t o.0 o.1) next (name_at_address o.0.item w here) in
       let lt = slice_get_within os t o.0 o.1 in
       omega arith
 
-laid_none : (ws : List Item) → AreLaid ws [] [] []
-laid_none ws = record {
-  count = refl;
-  front = λ t o at. absurd (let f : ⊥ = cc in f);
-  least = λ t o at. absurd (let f : ⊥ = cc in f);
-  says = λ t o i at. absurd (let f : ⊥ = cc in f);
-  turns = refl;
-  types = refl;
-  whose = λ t c at. absurd (let f : ⊥ = cc in f);
-}
+-- the scope of an item at a place
+abbrev laid_scope : TypeOwner → Ordered → Names → DoneScope
+laid_scope o i types = record { address = address i.item; owner = o; names = ordered_names i; types = types }
 
--- the scope of an interface at a place
-abbrev laid_scope : ℕ → Ordered → Names → DoneScope
-laid_scope place o types = record { address = address o.item; owner = owner.Interface place; names = ordered_names o; types = types }
+module _ {X : Type 0} (Owner : ℕ → TypeOwner) (Says : Ordered → X → Type 0) (entry_cell : X → Cell) (ws : List Item) where
+  pub laid_none : AreLaid Owner Says entry_cell ws [] [] []
+  laid_none = record {
+    count = refl;
+    front = λ t o at. absurd (let f : ⊥ = cc in f);
+    least = λ t o at. absurd (let f : ⊥ = cc in f);
+    says = λ t o i at. absurd (let f : ⊥ = cc in f);
+    turns = refl;
+    types = refl;
+    whose = λ t c at. absurd (let f : ⊥ = cc in f);
+  }
 
-abbrev called_cell : Names → Option (List ℕ) → Cell
-called_cell types name = record { address = InterfaceNamed (unwrap_or name []); types = types }
-
--- one more
-laid_more : (ws : List Item) (os : List Ordered) (is is' : List Interface) (cs : List DoneScope) (o : Ordered) (added : Interface) → AreLaid ws os is cs → slice_get ws (length os) ≡ Some o.item → IsOrder (rows_of (scope_names o.item)) o.order → is' ≡ is ++ added ∷ [] → IsInterface o.item.interface added → AreLaid ws (os ++ o ∷ []) is' (cs ++ laid_scope (length is) o added.types ∷ [])
-laid_more ws os is is' cs o added l next least last says =
-    let c = laid_scope (length is) o added.types in
-    let count = l.count in
-    let of : cell_of c ≡ cell added = ap (called_cell added.types) (sym says.name) in
-    record {
-      count = ap length last ∙ length-append is (added ∷ []) ∙ ap (λ m. m + 1) count ∙ sym (length-append os (o ∷ []));
-      front = λ t p at. elim (at_either os o t p at) [
-        | inl old ↦ l.front t p old
-        | inr new ↦ rw (new.1, new.0) next
-      ];
-      least = λ t p at. elim (at_either os o t p at) [
-        | inl old ↦ l.least t p old
-        | inr new ↦ rw new.1 least
-      ];
-      says = λ t p i at there. elim (at_either os o t p at) [
-        | inl oldp ↦ elim (at_either is added t i (sym (ap (λ (x : List Interface). slice_get x t) last) ∙ there)) [
-          | inl oldi ↦ l.says t p i oldp oldi
-          | inr newi ↦ absurd (let lt = slice_get_within os t p oldp in let same = newi.0 in let f : ⊥ = omega arith in f)
-        ]
-        | inr newp ↦ elim (at_either is added t i (sym (ap (λ (x : List Interface). slice_get x t) last) ∙ there)) [
-          | inl oldi ↦ absurd (let lt = slice_get_within is t i oldi in let same = newp.0 in let f : ⊥ = omega arith in f)
-          | inr newi ↦ rw (newp.1, newi.1) says
-        ]
-      ];
-      turns = map-append turn_of cs (c ∷ []) ∙ ap (λ (x : List Turned). x ++ turned o ∷ []) l.turns ∙ sym (map-append turned os (o ∷ []));
-      types = map-append cell_of cs (c ∷ []) ∙ ap (λ (x : List Cell). x ++ cell_of c ∷ []) l.types ∙ ap (λ (x : Cell). cells is ++ x ∷ []) of ∙ sym (map-append cell is (added ∷ [])) ∙ ap cells (sym last);
-      whose = λ t b at. elim (at_either cs c t b at) [
-        | inl old ↦ l.whose t b old
-        | inr new ↦ (let length_cs = same_length cs is l.types in rw (new.1, new.0) (ap owner.Interface (sym length_cs)))
-      ];
-    }
-  where
-    same_length : (cs : List DoneScope) (is : List Interface) → map cell_of cs ≡ cells is → length cs ≡ length is
-    same_length cs is same = sym (length-map cs cell_of) ∙ ap length same ∙ length-map is cell
+  -- one more
+  laid_more : (os : List Ordered) (xs xs' : List X) (cs : List DoneScope) (o : Ordered) (types : Names) (added : X) → AreLaid Owner Says entry_cell ws os xs cs → slice_get ws (length os) ≡ Some o.item → IsOrder (rows_of (scope_names o.item)) o.order → xs' ≡ xs ++ added ∷ [] → Says o added → cell_of (laid_scope (Owner (length xs)) o types) ≡ entry_cell added → AreLaid Owner Says entry_cell ws (os ++ o ∷ []) xs' (cs ++ laid_scope (Owner (length xs)) o types ∷ [])
+  laid_more os xs xs' cs o types added l next least last says of =
+      let c = laid_scope (Owner (length xs)) o types in
+      let count = l.count in
+      record {
+        count = ap length last ∙ length-append xs (added ∷ []) ∙ ap (λ m. m + 1) count ∙ sym (length-append os (o ∷ []));
+        front = λ t p at. elim (at_either os o t p at) [
+          | inl old ↦ l.front t p old
+          | inr new ↦ rw (new.1, new.0) next
+        ];
+        least = λ t p at. elim (at_either os o t p at) [
+          | inl old ↦ l.least t p old
+          | inr new ↦ rw new.1 least
+        ];
+        says = λ t p x at there. elim (at_either os o t p at) [
+          | inl oldp ↦ elim (at_either xs added t x (sym (ap (λ (y : List X). slice_get y t) last) ∙ there)) [
+            | inl oldx ↦ l.says t p x oldp oldx
+            | inr newx ↦ absurd (let lt = slice_get_within os t p oldp in let same = newx.0 in let f : ⊥ = omega arith in f)
+          ]
+          | inr newp ↦ elim (at_either xs added t x (sym (ap (λ (y : List X). slice_get y t) last) ∙ there)) [
+            | inl oldx ↦ absurd (let lt = slice_get_within xs t x oldx in let same = newp.0 in let f : ⊥ = omega arith in f)
+            | inr newx ↦ rw (newp.1, newx.1) says
+          ]
+        ];
+        turns = map-append turn_of cs (c ∷ []) ∙ ap (λ (x : List Turned). x ++ turned o ∷ []) l.turns ∙ sym (map-append turned os (o ∷ []));
+        types = map-append cell_of cs (c ∷ []) ∙ ap (λ (x : List Cell). x ++ cell_of c ∷ []) l.types ∙ ap (λ (x : Cell). map entry_cell xs ++ x ∷ []) of ∙ sym (map-append entry_cell xs (added ∷ [])) ∙ ap (map entry_cell) (sym last);
+        whose = λ t b at. elim (at_either cs c t b at) [
+          | inl old ↦ l.whose t b old
+          | inr new ↦ (let long = same_length cs xs l.types in rw (new.1, new.0) (ap Owner (sym long)))
+        ];
+      }
+    where
+      same_length : (cs : List DoneScope) (xs : List X) → map cell_of cs ≡ map entry_cell xs → length cs ≡ length xs
+      same_length cs xs same = sym (length-map cs cell_of) ∙ ap length same ∙ length-map xs entry_cell
 
 pub meetings-append : (ts : List Turned) (t : Turned) → meetings (ts ++ t ∷ []) ≡ meetings ts ++ all_name_meetings t.address t.names
 meetings-append ts t =
@@ -135,46 +145,71 @@ in_turn_is xs order least distinct = record {
   has = in_turn_has xs order least;
 }
 
--- one interface more
-one_done : (files : List PackageFile) (ws us : List Item) → AreItems files ws → (es es' : List TypeDef) (is is' : List Interface) (w : Item) → slice_get ws (length us) ≡ Some w → AreDone files ws us es is → AddsInterface es es' is is' w → AreDone files ws (us ++ w ∷ []) es' is'
-one_done files ws us items es es' is is' w there d a =
-    let os = d.ordered in
-    let cs = d.scopes in
-    let l = d.laid in
-    let o : Ordered = record { item = w; order = a.order } in
-    let s = address w in
-    let xs = scope_names w in
-    let c = laid_scope (length is) o a.added.types in
-    let decls = declarations files (map address ws) in
-    let long : length us ≡ length os = sym (ap length d.all) ∙ length-map os item_of in
-    let next : slice_get ws (length os) ≡ Some w = subst (λ (n : ℕ). slice_get ws n ≡ Some w) long there in
-    let own : decls s ≡ decls_of c.owner s (scope files s) = ap (λ (x : TypeOwner). decls_of x s (scope files s)) (owner_of_scope files ws items (length os) w next ∙ ap owner.Interface (sym l.count)) in
-    let turn : IsTurn (scope files s) (in_turn xs a.order) = subst (λ (x : List ScopeName). IsTurn x (in_turn xs a.order)) (sym (scope_of files ws items (length os) w next)) (in_turn_is xs a.order a.least a.distinct) in
-    let defines = subst (λ (x : List Cell). Defines es es' x c.owner s [] c.types c.names) (sym l.types) (a.defines s) in
-    let done = done_more files decls (meetings (map turned os)) cs es es' c d.done (none_is_next ws os is cs l files items w next) own turn defines in
-    record {
-      ordered = os ++ o ∷ [];
-      scopes = cs ++ c ∷ [];
-      all = map-append item_of os (o ∷ []) ∙ ap (λ (x : List Item). x ++ w ∷ []) d.all;
-      laid = laid_more ws os is is' cs o a.added l next a.least a.last a.says;
-      done = subst (λ (ms : List Meeting). IsDone files decls ms (cs ++ c ∷ []) es') (sym (ap meetings (map-append turned os (o ∷ [])) ∙ meetings-append (map turned os) (turned o))) done;
-    }
+-- the meetings of one item more
+more_meetings : (base os : List Ordered) (o : Ordered) → meetings (map turned (base ++ (os ++ o ∷ []))) ≡ meetings (map turned (base ++ os)) ++ all_name_meetings (address o.item) (ordered_names o)
+more_meetings base os o = ap (λ (x : List Ordered). meetings (map turned x)) (sym (append_assoc base os (o ∷ []))) ∙ ap meetings (map-append turned (base ++ os) (o ∷ [])) ∙ meetings-append (map turned (base ++ os)) (turned o)
 
--- all that is left
-all_done : (files : List PackageFile) (ws us : List Item) → AreItems files ws → (es new : List TypeDef) (is is' : List Interface) (vs : List Item) → ((k : ℕ) (w : Item) → slice_get vs k ≡ Some w → slice_get ws (length us + k) ≡ Some w) → AreDone files ws us es is → AddsAll es new is is' vs → AreDone files ws (us ++ vs) new is'
-all_done files ws us items es new is is' [] there d a = rw (append-nil us, a.0, a.1) d
-all_done files ws us items es new is is' (w ∷ vs) there d a =
-    let at : slice_get ws (length us) ≡ Some w = subst (λ (m : ℕ). slice_get ws m ≡ Some w) (add-zero (length us)) (there 0 w refl) in
-    let longer : length (us ++ w ∷ []) ≡ length us + 1 = length-append us (w ∷ []) in
-    let rest = λ (k : ℕ) (v : Item) (h : slice_get vs k ≡ Some v). subst (λ (m : ℕ). slice_get ws m ≡ Some v) (let same : length us + suc k ≡ length (us ++ w ∷ []) + k = omega arith in same) (there (suc k) v h) in
-    subst (λ (x : List Item). AreDone files ws x new is') (append_assoc us (w ∷ []) vs) (all_done files ws (us ++ w ∷ []) items a.0 new a.1 is' vs rest (one_done files ws us items es a.0 is a.1 w at d a.2) a.3)
+module _ {X : Type 0} (Owner : ℕ → TypeOwner) (Says : Ordered → X → Type 0) (entry_cell : X → Cell) (files : List PackageFile) (decls : Decls) (base : List Ordered) (first : List DoneScope) (ws : List Item) where
+  abbrev pub Done : List Item → List TypeDef → List X → Type 0
+  Done us es xs = AreDone Owner Says entry_cell files decls base first ws us es xs
 
--- the first interfaces, from nothing
-pub done_front : (files : List PackageFile) (ws : List Item) → AreItems files ws → (es : List TypeDef) (is : List Interface) (vs : List Item) → ((k : ℕ) (w : Item) → slice_get vs k ≡ Some w → slice_get ws k ≡ Some w) → AddsAll [] es [] is vs → AreDone files ws vs es is
-done_front files ws items es is vs there a = all_done files ws [] items [] es [] is vs (λ k w h. subst (λ (m : ℕ). slice_get ws m ≡ Some w) (sym (zero-add k)) (there k w h)) (record {
-  ordered = [];
-  scopes = [];
-  all = refl;
-  laid = laid_none ws;
-  done = done_none files (declarations files (map address ws));
-}) a
+  -- what the next item adds is done, and its entry says so
+  pub record IsNextDone (us : List Item) (es es' : List TypeDef) (xs xs' : List X) (w : Item) (d : Done us es xs) : Type 0 where
+    pub order : List ℕ
+    pub least : IsOrder (rows_of (scope_names w)) order
+    pub distinct : AreDistinct (scope_names w)
+    pub types : Names
+    pub defines : Defines es es' (map cell_of (first ++ d.scopes)) (Owner (length xs)) (address w) [] types (in_turn (scope_names w) order)
+    pub added : X
+    pub last : xs' ≡ xs ++ added ∷ []
+    pub says : map (λ p. p.0) types ≡ local_names (in_turn (scope_names w) order) → Says (record { item = w; order = order }) added
+    pub is_cell : map (λ p. p.0) types ≡ local_names (in_turn (scope_names w) order) → record { address = address w; types = types } ≡ entry_cell added
+
+  module _ (items : AreItems files ws) (own : (t : ℕ) (w : Item) → slice_get ws t ≡ Some w → decls (address w) ≡ decls_of (Owner t) (address w) (scope files (address w))) (apart : (t : ℕ) (w : Item) → slice_get ws t ≡ Some w → (k : ℕ) (c : DoneScope) → slice_get first k ≡ Some c → c.address ≡ address w → ⊥) where
+    -- one item more
+    pub one_done : (us : List Item) (es es' : List TypeDef) (xs xs' : List X) (w : Item) → slice_get ws (length us) ≡ Some w → (d : Done us es xs) → IsNextDone us es es' xs xs' w d → Done (us ++ w ∷ []) es' xs'
+    one_done us es es' xs xs' w there d a =
+        let os = d.ordered in
+        let cs = d.scopes in
+        let l = d.laid in
+        let o : Ordered = record { item = w; order = a.order } in
+        let s = address w in
+        let names = scope_names w in
+        let place = length xs in
+        let c = laid_scope (Owner place) o a.types in
+        let long : length us ≡ length os = sym (ap length d.all) ∙ length-map os item_of in
+        let next : slice_get ws (length os) ≡ Some w = subst (λ (n : ℕ). slice_get ws n ≡ Some w) long there in
+        let at_place : slice_get ws place ≡ Some w = subst (λ (n : ℕ). slice_get ws n ≡ Some w) (sym l.count) next in
+        let turn : IsTurn (scope files s) (in_turn names a.order) = subst (λ (x : List ScopeName). IsTurn x (in_turn names a.order)) (sym (scope_of files ws items place w at_place)) (in_turn_is names a.order a.least a.distinct) in
+        let fresh : (t : ℕ) (b : DoneScope) → slice_get (first ++ cs) t ≡ Some b → b.address ≡ s → ⊥ = λ t b at same. elim (at_part first cs t b at) [
+          | inl h ↦ apart place w at_place h.0 b h.1 same
+          | inr h ↦ none_is_next l files items w next h.0 b h.1 same
+        ] in
+        let done = done_more files decls (meetings (map turned (base ++ os))) (first ++ cs) es es' c d.done fresh (own place w at_place) turn a.defines in
+        let listed = (done.each (length (first ++ cs)) c (at_seam (first ++ cs) c)).listed in
+        record {
+          ordered = os ++ o ∷ [];
+          scopes = cs ++ c ∷ [];
+          all = map-append item_of os (o ∷ []) ∙ ap (λ (x : List Item). x ++ w ∷ []) d.all;
+          laid = laid_more Owner Says entry_cell ws os xs xs' cs o a.types a.added l next a.least a.last (a.says listed) (a.is_cell listed);
+          done = subst (λ (ms : List Meeting). IsDone files decls ms (first ++ (cs ++ c ∷ [])) es') (sym (more_meetings base os o)) (subst (λ (x : List DoneScope). IsDone files decls (meetings (map turned (base ++ os)) ++ all_name_meetings s (ordered_names o)) x es') (append_assoc first cs (c ∷ [])) done);
+        }
+
+    -- all that is left, where what one of them adds is done
+    pub all_done : (Adds : List TypeDef → List TypeDef → List X → List X → Item → Type 0) → ((us : List Item) (es es' : List TypeDef) (xs xs' : List X) (w : Item) → slice_get ws (length us) ≡ Some w → (d : Done us es xs) → Adds es es' xs xs' w → IsNextDone us es es' xs xs' w d) → (us : List Item) (es new : List TypeDef) (xs xs' : List X) (vs : List Item) → ((k : ℕ) (w : Item) → slice_get vs k ≡ Some w → slice_get ws (length us + k) ≡ Some w) → Done us es xs → AddsEach Adds es new xs xs' vs → Done (us ++ vs) new xs'
+    all_done Adds step us es new xs xs' [] there d a = rw (append-nil us, a.0, a.1) d
+    all_done Adds step us es new xs xs' (w ∷ vs) there d a =
+        let at : slice_get ws (length us) ≡ Some w = subst (λ (m : ℕ). slice_get ws m ≡ Some w) (add-zero (length us)) (there 0 w refl) in
+        let longer : length (us ++ w ∷ []) ≡ length us + 1 = length-append us (w ∷ []) in
+        let rest = λ (k : ℕ) (v : Item) (h : slice_get vs k ≡ Some v). subst (λ (m : ℕ). slice_get ws m ≡ Some v) (let same : length us + suc k ≡ length (us ++ w ∷ []) + k = omega arith in same) (there (suc k) v h) in
+        subst (λ (x : List Item). Done x new xs') (append_assoc us (w ∷ []) vs) (all_done Adds step (us ++ w ∷ []) a.0 new a.1 xs' vs rest (one_done us es a.0 xs a.1 w at d (step us es a.0 xs a.1 w at d a.2)) a.3)
+
+    -- the first items, from what was done before
+    pub done_front : (Adds : List TypeDef → List TypeDef → List X → List X → Item → Type 0) → ((us : List Item) (es es' : List TypeDef) (xs xs' : List X) (w : Item) → slice_get ws (length us) ≡ Some w → (d : Done us es xs) → Adds es es' xs xs' w → IsNextDone us es es' xs xs' w d) → (es new : List TypeDef) (xs : List X) (vs : List Item) → ((k : ℕ) (w : Item) → slice_get vs k ≡ Some w → slice_get ws k ≡ Some w) → IsDone files decls (meetings (map turned base)) first es → AddsEach Adds es new [] xs vs → Done vs new xs
+    done_front Adds step es new xs vs there d a = all_done Adds step [] es new [] xs vs (λ k w h. subst (λ (m : ℕ). slice_get ws m ≡ Some w) (sym (zero-add k)) (there k w h)) (record {
+      ordered = [];
+      scopes = [];
+      all = refl;
+      laid = laid_none Owner Says entry_cell ws;
+      done = subst (λ (x : List Ordered). IsDone files decls (meetings (map turned x)) (first ++ []) es) (sym (append-nil base)) (subst (λ (x : List DoneScope). IsDone files decls (meetings (map turned base)) x es) (sym (append-nil first)) d);
+    }) a

@@ -13,6 +13,7 @@ pub mod Keys
 pub mod Defining
 pub mod Tables
 pub mod Orders
+pub mod Kept
 pub mod Rows
 pub mod Turns
 pub mod Scoping
@@ -33,8 +34,12 @@ pub mod Stated
 pub mod Faithful
 pub mod Interfaces
 pub mod Itemizing
+pub mod Leading
 pub mod Laid
+pub mod Added
 pub mod Finished
 pub mod Packaged
+pub mod Resolved
 pub mod SmallOrders
 pub mod Examples
+pub mod WorldExamples

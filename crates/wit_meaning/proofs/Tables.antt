@@ -1,14 +1,11 @@
 -- Where names stand in a table of rows.
-use Rattle.std.proofs.Common.{◌≡◌, ℕ, zero, suc, ◌+◌, ◌≤◌, Bool, true, false, not, cond, List, [], ◌∷◌, length, Option, Some, None, inl, inr, refl, sym, ap, ◌∙◌, subst, arith, get_or}
-use Rattle.std.specs.Prelude.{slice_get, nat_lt}
-use Rattle.std.specs.List.{prefix_len}
-use Rattle.std.specs.Option.{is_some}
+use Rattle.std.proofs.Common.{◌≡◌, ℕ, List, [], Option, Some, None, refl, get_or}
+use Rattle.std.specs.Prelude.{slice_get}
 use Rattle.std.specs.Str.{bytes_eq}
-use Rattle.std.proofs.lemmas.Bool.{cases_Bool, cases_lt, cond-true, lt-ltb}
 use Rattle.std.proofs.lemmas.List.Quantifiers.{position-Some}
-use Rattle.std.proofs.lemmas.Option.{none-some, slice_get-get_or}
+use Rattle.std.proofs.lemmas.Option.{slice_get-get_or}
 use Rattle.wit_order.specs.Table.{Row, place_of}
-use Rattle.wit_meaning.proofs.Names.{name_itself, name_equal}
+use Rattle.wit_meaning.proofs.Names.{name_equal}
 
 -- the row at the place of a name has the name
 pub place_of-Some : (rs : List Row) (name : List ℕ) (b : ℕ) → place_of rs name ≡ Some b → (r : Row) × (slice_get rs b ≡ Some r) × (name ≡ r.name)

@@ -1,8 +1,6 @@
 -- The names of a scope as they are resolved: the used ones, and then the definitions in their order.
 use Rattle.std.proofs.Common.{◌≡◌, ℕ, zero, suc, ◌+◌, ◌<◌, Bool, true, not, List, [], ◌∷◌, ◌++◌, length, Some, ◌⊎◌, inl, inr, refl, sym, ap, ◌∙◌, subst, arith}
 use Rattle.std.specs.Prelude.{slice_get, map}
-use Rattle.std.specs.List.{filter}
-use Rattle.std.proofs.lemmas.Bool.{cases_Bool, cond-true, cond-false}
 use Rattle.std.proofs.lemmas.List.Elements.{filter-append}
 use Rattle.std.proofs.lemmas.List.{length-map}
 use Rattle.std.proofs.lemmas.Option.{slice_get_within}
@@ -16,6 +14,7 @@ use Rattle.wit_meaning.specs.Repeats.{AllDiffer}
 use Rattle.wit_meaning.specs.Resolving.{AreDistinct}
 use Rattle.wit_meaning.proofs.Lists.{at_front, at_back}
 use Rattle.wit_meaning.proofs.Repeated.{differ_none, differ_at, differ_by}
+use Rattle.wit_meaning.proofs.Kept.{kept_at, kept_has, differ_cons, differ_head, differ_tail, kept_differ}
 use Rattle.wit_meaning.proofs.Orders.{order_within, in_order_at, in_order_has, index_of, index_once}
 
 pub used-append : (xs ys : List ScopeName) → used (xs ++ ys) ≡ used xs ++ used ys
@@ -32,35 +31,6 @@ at_part (z ∷ xs) ys (suc i) x at = elim (at_part xs ys i x at) [
   | inl h ↦ inl (suc h.0, h.1)
   | inr h ↦ inr h
 ]
-
--- what stands behind one more is that one, or stands in the list
-behind_one : {X : Type 0} (y : X) (zs : List X) (i : ℕ) (x : X) → slice_get (y ∷ zs) i ≡ Some x → (y ≡ x) ⊎ ((j : ℕ) × (slice_get zs j ≡ Some x))
-behind_one y zs zero x at = inl cc
-behind_one y zs (suc i) x at = inr (i, at)
-
--- what is kept stands in the list, and passes the test
-kept_at : (test : ScopeName → Bool) (xs : List ScopeName) (i : ℕ) (x : ScopeName) → slice_get (filter test xs) i ≡ Some x → (p : ℕ) × (slice_get xs p ≡ Some x) × (test x ≡ true)
-kept_at test [] i x at = absurd (let f : ⊥ = cc in f)
-kept_at test (y ∷ ys) i x at = elim (cases_Bool (test y)) [
-  | inl hit ↦ elim (behind_one y (filter test ys) i x (sym (ap (λ zs. slice_get zs i) (cond-true (test y) (y ∷ filter test ys) (filter test ys) hit)) ∙ at)) [
-    | inl here ↦ (0, ap Some here, ap test (sym here) ∙ hit)
-    | inr rest ↦ (let it = kept_at test ys rest.0 x rest.1 in (suc it.0, it.1, it.2))
-  ]
-  | inr miss ↦ (let it = kept_at test ys i x (sym (ap (λ zs. slice_get zs i) (cond-false (test y) (y ∷ filter test ys) (filter test ys) miss)) ∙ at) in (suc it.0, it.1, it.2))
-]
-
--- what passes the test is kept
-kept_has : (test : ScopeName → Bool) (xs : List ScopeName) (p : ℕ) (x : ScopeName) → test x ≡ true → slice_get xs p ≡ Some x → (i : ℕ) × (slice_get (filter test xs) i ≡ Some x)
-kept_has test [] p x passes at = absurd (let f : ⊥ = cc in f)
-kept_has test (y ∷ ys) zero x passes at =
-    let same : y ≡ x = cc in
-    (0, ap (λ zs. slice_get zs 0) (cond-true (test y) (y ∷ filter test ys) (filter test ys) (ap test same ∙ passes)) ∙ at)
-kept_has test (y ∷ ys) (suc p) x passes at =
-    let rest = kept_has test ys p x passes at in
-    elim (cases_Bool (test y)) [
-      | inl hit ↦ (suc rest.0, ap (λ zs. slice_get zs (suc rest.0)) (cond-true (test y) (y ∷ filter test ys) (filter test ys) hit) ∙ rest.1)
-      | inr miss ↦ (rest.0, ap (λ zs. slice_get zs rest.0) (cond-false (test y) (y ∷ filter test ys) (filter test ys) miss) ∙ rest.1)
-    ]
 
 abbrev is_used : ScopeName → Bool
 is_used x = not (is_defined x)
@@ -109,26 +79,14 @@ AreApart xs ys = (i : ℕ) (x : ScopeName) → slice_get xs i ≡ Some x → IsF
 pub distinct_none : AreDistinct []
 distinct_none = differ_none
 
-once_cons : (x : ScopeName) (xs : List ScopeName) → IsFresh (local_name x) xs → AreDistinct xs → (i j : ℕ) (y z : ScopeName) → slice_get (x ∷ xs) i ≡ Some y → slice_get (x ∷ xs) j ≡ Some z → local_name y ≡ local_name z → i ≡ j
-once_cons x xs fresh d zero zero y z at_i at_j same = refl
-once_cons x xs fresh d zero (suc j) y z at_i at_j same = let is : x ≡ y = cc in absurd (fresh j z at_j (sym same ∙ ap local_name (sym is)))
-once_cons x xs fresh d (suc i) zero y z at_i at_j same = let is : x ≡ z = cc in absurd (fresh i y at_i (same ∙ ap local_name (sym is)))
-once_cons x xs fresh d (suc i) (suc j) y z at_i at_j same = ap suc (differ_at local_name xs d i j y z at_i at_j same)
-
 pub distinct_cons : (x : ScopeName) (xs : List ScopeName) → IsFresh (local_name x) xs → AreDistinct xs → AreDistinct (x ∷ xs)
-distinct_cons x xs fresh d = differ_by local_name (x ∷ xs) (once_cons x xs fresh d)
-
-zero_is_not_suc : (n : ℕ) → 0 ≡ suc n → ⊥
-zero_is_not_suc n e = omega (arith, e)
-
-suc_same : (m n : ℕ) → suc m ≡ suc n → m ≡ n
-suc_same m n e = omega (arith, e)
+distinct_cons x xs fresh d = differ_cons local_name x xs fresh d
 
 pub distinct_head : (x : ScopeName) (xs : List ScopeName) → AreDistinct (x ∷ xs) → IsFresh (local_name x) xs
-distinct_head x xs d i y at same = zero_is_not_suc i (differ_at local_name (x ∷ xs) d 0 (suc i) x y refl at (sym same))
+distinct_head x xs d = differ_head local_name x xs d
 
 pub distinct_tail : (x : ScopeName) (xs : List ScopeName) → AreDistinct (x ∷ xs) → AreDistinct xs
-distinct_tail x xs d = differ_by local_name xs (λ i j y z at_i at_j same. suc_same i j (differ_at local_name (x ∷ xs) d (suc i) (suc j) y z at_i at_j same))
+distinct_tail x xs d = differ_tail local_name x xs d
 
 fresh_join : (name : List ℕ) (xs ys : List ScopeName) → IsFresh name xs → IsFresh name ys → IsFresh name (xs ++ ys)
 fresh_join name xs ys a b i x at same = elim (at_part xs ys i x at) [
@@ -178,21 +136,11 @@ distinct_names xs differ =
     let d = differ in
     parts_distinct xs (distinct_left (used xs) (defined xs) d) (distinct_right (used xs) (defined xs) d) (distinct_apart (used xs) (defined xs) d)
 
-kept_distinct : (test : ScopeName → Bool) (xs : List ScopeName) → AreDistinct xs → AreDistinct (filter test xs)
-kept_distinct test [] d = distinct_none
-kept_distinct test (x ∷ xs) d =
-    let rest = kept_distinct test xs (distinct_tail x xs d) in
-    let fresh : IsFresh (local_name x) (filter test xs) = λ i y at same. (let p = kept_at test xs i y at in distinct_head x xs d p.0 y p.1 same) in
-    elim (cases_Bool (test x)) [
-      | inl hit ↦ subst AreDistinct (sym (cond-true (test x) (x ∷ filter test xs) (filter test xs) hit)) (distinct_cons x (filter test xs) fresh rest)
-      | inr miss ↦ subst AreDistinct (sym (cond-false (test x) (x ∷ filter test xs) (filter test xs) miss)) rest
-    ]
-
 pub used_distinct : (xs : List ScopeName) → AreDistinct xs → AreDistinct (used xs)
-used_distinct xs d = kept_distinct is_used xs d
+used_distinct xs d = kept_differ local_name is_used xs d
 
 pub defined_distinct : (xs : List ScopeName) → AreDistinct xs → AreDistinct (defined xs)
-defined_distinct xs d = kept_distinct is_defined xs d
+defined_distinct xs d = kept_differ local_name is_defined xs d
 
 -- places of an order are those of names
 pub names_within : (xs : List ScopeName) (order : List ℕ) → IsOrder (rows_of xs) order → (j p : ℕ) → slice_get order j ≡ Some p → p < length xs

@@ -5,11 +5,10 @@ use Rattle.std.proofs.lemmas.List.Elements.{Contains-append_left, Contains-appen
 use Rattle.std.specs.declared.alloc.Global.{Global}
 use Rattle.wit_values.specs.declared.span.Span.{Span}
 use Rattle.wit_tree.specs.declared.tree.Id.{Id}
-use Rattle.wit_tree.specs.declared.tree.TypeBody.{TypeBody}
 use Rattle.wit_tree.specs.declared.tree.«Type».{«Type» as Written, Held-Type-Result-1 as Held, None', Some', Row_of-Type, end_of-Type, more_of-Type}
 use Rattle.wit_tree.specs.declared.tree.«Type».TheVariants as written
 use Rattle.wit_tree.proofs.Rows.{tuple_types}
-use Rattle.wit_tree.specs.Parts.{held_types, row_types, part_types, body_types}
+use Rattle.wit_tree.specs.Parts.{held_types, row_types, part_types}
 use Rattle.wit_meaning.specs.Shape.{Shape, Prim, Word, Of, Shapes, End, More, shape_of, held_shape, row_shapes, all_shapes, head, words, all_words}
 use Rattle.wit_meaning.specs.Address.{Address}
 use Rattle.wit_meaning.specs.Expr.{joined, expr_of, exprs_of}
@@ -17,8 +16,8 @@ use Rattle.wit_meaning.specs.Expr as exprs
 use Rattle.wit_meaning.specs.Meet.{shape_meetings, shapes_meetings}
 use Rattle.wit_meaning.specs.Fault.{Fault}
 use Rattle.wit_meaning.specs.Broken.{IsBrokenForm, StandsIn, IsBrokenType, IsBrokenPart}
-use Rattle.wit_meaning.specs.Resolving.{Env, IsUnknown, IsWrongType, AreWrongTypes}
-use Rattle.wit_meaning.proofs.Scoping.{at_contains, contains_at}
+use Rattle.wit_meaning.specs.Resolving.{Env, IsWrongType, AreWrongTypes}
+use Rattle.wit_meaning.proofs.Scoping.{contains_at}
 
 pub row_shapes-all : {m : _} (ts : Row_of-Type m) → row_shapes ts ≡ all_shapes (row_types ts)
 row_shapes-all end_of-Type = refl

@@ -1,5 +1,5 @@
 -- The rules, and what it is that breaks each.
-use Rattle.std.specs.Prelude.{◌≡◌, ℕ, zero, suc, ◌<◌, ◌⊎◌, List, [], ◌∷◌, ◌++◌, map, Option, Some, None, Contains, slice_get}
+use Rattle.std.specs.Prelude.{◌≡◌, ℕ, zero, suc, ◌<◌, ◌⊎◌, true, false, List, [], ◌∷◌, ◌++◌, map, Option, Some, None, Contains, slice_get}
 use Rattle.std.specs.Char.{to_ascii_lowercase}
 use Rattle.std.specs.Option.{option_map, option_or}
 use Rattle.semver.specs.Identifiers.{parts_of}
@@ -26,8 +26,8 @@ use Rattle.wit_tree.specs.declared.tree.PackageFile.{PackageFile}
 use Rattle.wit_order.specs.Table.{Row, IsEdge, IsMissing, IsCyclic, IsOrder}
 use Rattle.wit_meaning.specs.Fault.{Fault, fault_of, fault, missing_at, cyclic_at, item_word, type_word, name_word}
 use Rattle.wit_meaning.specs.Address.{Address}
-use Rattle.wit_meaning.specs.Source.{path_id, TopName, top_names, top_text, Item, interfaces, interface_name, interface_named, interface_at, ScopeName, Used, Defined, local_id, local_name, scope_names, meaning}
-use Rattle.wit_meaning.specs.Scope.{item_rows, rows_of, used, defined, in_turn}
+use Rattle.wit_meaning.specs.Source.{path_id, TopName, top_names, top_text, item_edge, Item, item_id, item_name, is_world, all_items, item_named, item_at, ScopeName, Used, Defined, local_id, local_name, scope_names, meaning}
+use Rattle.wit_meaning.specs.Scope.{use_paths, include_paths, item_rows, rows_of, used, defined, in_turn}
 
 -- the key by which labels are told apart: the label in lower case
 abbrev pub folded : List ℕ → List ℕ
@@ -48,15 +48,15 @@ pub record IsHeaderless (files : List PackageFile) (f : Fault) : Type 0 where
   pub none : (i : ℕ) (file : PackageFile) → slice_get files i ≡ Some file → file.package_id ≡ None
   pub is : f ≡ fault 4 (record { start = 0; end = 0 })
 
--- an earlier one of these interfaces has the name
+-- an earlier one of these items has the name
 pub record IsRepeatedItem (is : List Item) (f : Fault) : Type 0 where
   pub later : Item
-  pub repeated : IsRepeated interface_name is later
-  pub says : f ≡ fault 5 later.interface.name.span
+  pub repeated : IsRepeated item_name is later
+  pub says : f ≡ fault 5 (item_id later).span
 
--- an earlier interface of the package has the name
+-- an earlier item of the package has the name
 abbrev pub IsDuplicateItem : List PackageFile → Fault → Type 0
-IsDuplicateItem files f = IsRepeatedItem (interfaces files) f
+IsDuplicateItem files f = IsRepeatedItem (all_items files) f
 
 -- an earlier name at the top of a file is the same
 pub record IsDuplicateTopName (top : List TopName) (f : Fault) : Type 0 where
@@ -64,11 +64,11 @@ pub record IsDuplicateTopName (top : List TopName) (f : Fault) : Type 0 where
   pub repeated : IsRepeated top_text top later
   pub is : f ≡ fault 6 later.id.span
 
--- the path of a `use` at the top of a file is the name of none of these interfaces
+-- the path of a `use` at the top of a file is the name of none of these items
 pub record IsMissingOriginal (items : List Item) (declarations : List AstItem) (f : Fault) : Type 0 where
   pub u : ToplevelUse
   pub among : Contains declarations (ToplevelItem u)
-  pub missing : interface_named items (path_id u.item).name.now ≡ None
+  pub missing : item_named items (path_id u.item).name.now ≡ None
   pub is : f ≡ missing_at 7 item_word (path_id u.item)
 
 -- the header of the last file that has one
@@ -113,13 +113,38 @@ pub record IsCyclicEdge (number : ℕ) (sort : List ℕ) (rs : List Row) (f : Fa
   pub cyclic : IsCyclic rs place id
   pub is : f ≡ cyclic_at number sort id
 
--- a path of an interface leads to no interface
+-- a path of an item leads to no item that could come before it
 abbrev pub IsMissingItem : List PackageFile → Fault → Type 0
 IsMissingItem files f = IsMissingEdge 7 item_word (item_rows files) f
 
--- interfaces use one another in a cycle
+-- items need one another in a cycle
 abbrev pub IsCyclicItem : List PackageFile → Fault → Type 0
 IsCyclicItem files f = IsCyclicEdge 8 item_word (item_rows files) f
+
+-- the path of a `use` leads to no item
+pub record IsMissingUse (items : List Item) (i : Item) (f : Fault) : Type 0 where
+  pub path : Id
+  pub among : Contains (use_paths i) path
+  pub missing : item_named items (item_edge i.top path).name.now ≡ None
+  pub is : f ≡ missing_at 7 item_word (item_edge i.top path)
+
+-- the path of a `use` leads to a world
+pub record IsWorldUsed (items : List Item) (i : Item) (f : Fault) : Type 0 where
+  pub path : Id
+  pub among : Contains (use_paths i) path
+  pub target : Item
+  pub found : item_named items (item_edge i.top path).name.now ≡ Some target
+  pub other : is_world target ≡ true
+  pub is : f ≡ fault 10 path.span
+
+-- the path of an include leads to an interface
+pub record IsInterfaceIncluded (items : List Item) (i : Item) (f : Fault) : Type 0 where
+  pub path : Id
+  pub among : Contains (include_paths i) path
+  pub target : Item
+  pub found : item_named items (item_edge i.top path).name.now ≡ Some target
+  pub other : is_world target ≡ false
+  pub is : f ≡ fault 11 path.span
 
 -- a used name is none of the interface that it comes from
 pub record IsMissingName (files : List PackageFile) (xs : List ScopeName) (f : Fault) : Type 0 where
@@ -127,7 +152,7 @@ pub record IsMissingName (files : List PackageFile) (xs : List ScopeName) (f : F
   pub n : UseName
   pub among : Contains xs (Used from n)
   pub target : Item
-  pub declared : interface_at (interfaces files) from ≡ Some target
+  pub declared : item_at (all_items files) from ≡ Some target
   pub missing : meaning (scope_names target) n.name.name.now ≡ None
   pub is : f ≡ missing_at 12 name_word n.name
 
@@ -279,20 +304,31 @@ pub data IsBrokenScope (xs : List ScopeName) (f : Fault) : Type 0 where
   Body : (d : TypeDef) → Contains xs (Defined d) → IsBrokenBody d.body f → IsBrokenScope xs f
   FoldedTwice : IsFoldedTwice xs f → IsBrokenScope xs f
 
--- what is wrong with the names of the items that files declare, with those at the top of each, and with what paths lead to
+-- what is wrong with the names of the items that files declare, with those at the top of each, and with what paths of items lead to
+pub data IsBrokenItems (files : List PackageFile) (f : Fault) : Type 0 where
+  DuplicateItem : IsDuplicateItem files f → IsBrokenItems files f
+  DuplicateTopName : (file : PackageFile) → Contains files file → IsDuplicateTopName (top_names file) f → IsBrokenItems files f
+  MissingItem : IsMissingItem files f → IsBrokenItems files f
+  CyclicItem : IsCyclicItem files f → IsBrokenItems files f
+
+-- what is wrong with those, or with what paths at the top of files lead to
 pub data IsBrokenNames (files : List PackageFile) (f : Fault) : Type 0 where
-  DuplicateItem : IsDuplicateItem files f → IsBrokenNames files f
-  DuplicateTopName : (file : PackageFile) → Contains files file → IsDuplicateTopName (top_names file) f → IsBrokenNames files f
-  MissingItem : IsMissingItem files f → IsBrokenNames files f
-  CyclicItem : IsCyclicItem files f → IsBrokenNames files f
-  MissingOriginal : (file : PackageFile) → Contains files file → IsMissingOriginal (interfaces files) file.decl_list.items.items f → IsBrokenNames files f
+  Items : IsBrokenItems files f → IsBrokenNames files f
+  MissingOriginal : (file : PackageFile) → Contains files file → IsMissingOriginal (all_items files) file.decl_list.items.items f → IsBrokenNames files f
+
+-- what is wrong with where a `use` of an item leads, among these items
+pub data IsBrokenUse (items : List Item) (i : Item) (f : Fault) : Type 0 where
+  MissingUse : IsMissingUse items i f → IsBrokenUse items i f
+  WorldUsed : IsWorldUsed items i f → IsBrokenUse items i f
 
 -- what is wrong with files
 pub data IsBroken (files : List PackageFile) (f : Fault) : Type 0 where
   Headerless : IsHeaderless files f → IsBroken files f
   Names : IsBrokenNames files f → IsBroken files f
-  MissingName : (i : Item) → Contains (interfaces files) i → IsMissingName files (scope_names i) f → IsBroken files f
-  Scope : (i : Item) → Contains (interfaces files) i → IsBrokenScope (scope_names i) f → IsBroken files f
+  Use : (i : Item) → Contains (all_items files) i → IsBrokenUse (all_items files) i f → IsBroken files f
+  InterfaceIncluded : (i : Item) → Contains (all_items files) i → IsInterfaceIncluded (all_items files) i f → IsBroken files f
+  MissingName : (i : Item) → Contains (all_items files) i → IsMissingName files (scope_names i) f → IsBroken files f
+  Scope : (i : Item) → Contains (all_items files) i → IsBrokenScope (scope_names i) f → IsBroken files f
 
 -- no rule is broken
 abbrev pub IsLegal : List PackageFile → Type 0

@@ -1,8 +1,14 @@
 -- What types of a package mean: the arenas unfolded, whose names are by what the package calls them, and what an interface says.
 use Rattle.std.specs.Prelude.{◌≡◌, ℕ, zero, suc, ◌<◌, List, [], ◌∷◌, Option, Some, None, ◌⊎◌, slice_get}
+use Rattle.std.specs.List.{flat_map}
 use Rattle.std.specs.Option.{option_map_or}
-use Rattle.wit_tree.specs.declared.tree.Interface.{Interface as Written}
+use Rattle.wit_tree.specs.declared.tree.Id.{Id}
 use Rattle.wit_model.specs.declared.interface.Interface.{Interface}
+use Rattle.wit_model.specs.declared.world.World.{World}
+use Rattle.wit_model.specs.declared.world.WorldKey.{WorldKey}
+use Rattle.wit_model.specs.declared.world.WorldKey.TheVariants as key
+use Rattle.wit_model.specs.declared.world.WorldItem.{WorldItem}
+use Rattle.wit_model.specs.declared.world.WorldItem.TheVariants as item
 use Rattle.wit_model.specs.declared.unresolved.UnresolvedPackage.{UnresolvedPackage}
 use Rattle.wit_types.specs.declared.stability.Stability.TheVariants.{Unknown}
 use Rattle.wit_types.specs.declared.types.«Type».{«Type» as Ty}
@@ -11,7 +17,7 @@ use Rattle.wit_types.specs.declared.types.TypeDef.{TypeDef}
 use Rattle.wit_types.specs.declared.types.TypeOwner.{TypeOwner}
 use Rattle.wit_types.specs.declared.types.TypeOwner.TheVariants as owner
 use Rattle.wit_meaning.specs.Form.{kind_of}
-use Rattle.wit_meaning.specs.Address.{InterfaceNamed}
+use Rattle.wit_meaning.specs.Address.{InterfaceNamed, WorldNamed}
 use Rattle.wit_meaning.specs.Node.{Owner, OfScope, Nobody, Head, Node, Leaf, Named, Unnamed, Nothing, Tree, unfolded}
 use Rattle.wit_meaning.specs.Node as node
 use Rattle.wit_meaning.specs.Shape.{no_docs}
@@ -24,19 +30,34 @@ abbrev pub interface_owner : Option Interface → Owner
 interface_owner None = Nobody
 interface_owner (Some i) = named_owner i.name
 
+abbrev pub world_owner : Option World → Owner
+world_owner None = Nobody
+world_owner (Some w) = OfScope (WorldNamed w.name)
+
 -- an owner by what the package calls it
 abbrev pub owner_of : UnresolvedPackage → TypeOwner → Owner
 owner_of p (owner.Interface i) = interface_owner (slice_get p.interfaces i)
-owner_of p (owner.World w) = Nobody
+owner_of p (owner.World w) = world_owner (slice_get p.worlds w)
 owner_of p owner.None = Nobody
 
 abbrev pub interface_types : Interface → List (List ℕ × ℕ)
 interface_types i = i.types
 
+-- the type that an import is, under its name
+abbrev pub import_types : WorldKey × WorldItem → List (List ℕ × ℕ)
+import_types (key.Name name, item.Type_ id span) = (name, id) ∷ []
+import_types (key.Name name, item.Interface id stability external_id docs span) = []
+import_types (key.Name name, item.Function f) = []
+import_types (key.Interface i, it) = []
+
+-- the types among the imports of a world, under their names
+abbrev pub world_types : World → List (List ℕ × ℕ)
+world_types w = flat_map import_types w.imports
+
 -- the names of an owner's types, with their places
 abbrev pub names_of : UnresolvedPackage → TypeOwner → List (List ℕ × ℕ)
 names_of p (owner.Interface i) = option_map_or interface_types (slice_get p.interfaces i) []
-names_of p (owner.World w) = []
+names_of p (owner.World w) = option_map_or world_types (slice_get p.worlds w) []
 names_of p owner.None = []
 
 -- a named entry without its body
@@ -96,12 +117,21 @@ LeadsTo es (suc n) ty j = (i : ℕ) × (e : TypeDef) × (part : Ty) × (ty ≡ t
 abbrev pub Reaches : List TypeDef → Ty → ℕ → Type 0
 Reaches es ty j = (n : ℕ) × LeadsTo es n ty j
 
--- an interface of the arena is a written one, apart from its types
-pub record IsInterface (written : Written) (i : Interface) : Type 0 where
-  pub name : i.name ≡ Some written.name.name.now
-  pub span : i.span ≡ written.name.span
+-- an interface of the arena is the declared one of a name, apart from its types
+pub record IsInterface (id : Id) (i : Interface) : Type 0 where
+  pub name : i.name ≡ Some id.name.now
+  pub span : i.span ≡ id.span
   pub functions : i.functions ≡ []
   pub docs : i.docs ≡ no_docs
   pub stability : i.stability ≡ Unknown
   pub no_package : i.package ≡ None
   pub no_source : i.clone_of ≡ None
+
+-- a world of the arena is the declared one of a name, apart from its imports and includes
+pub record IsWorld (id : Id) (w : World) : Type 0 where
+  pub name : w.name ≡ id.name.now
+  pub span : w.span ≡ id.span
+  pub exports : w.exports ≡ []
+  pub docs : w.docs ≡ no_docs
+  pub stability : w.stability ≡ Unknown
+  pub no_package : w.package ≡ None

@@ -10,7 +10,6 @@ use Rattle.wit_tree.specs.declared.tree.UseName.{UseName}
 use Rattle.wit_tree.specs.declared.tree.«Type».{«Type» as WrittenType}
 use Rattle.wit_tree.specs.declared.tree.TypeBody.{TypeBody}
 use Rattle.wit_tree.specs.declared.tree.TypeDef.{TypeDef as Definition}
-use Rattle.wit_tree.specs.declared.tree.Interface.{Interface as Written}
 use Rattle.wit_types.specs.declared.stability.Stability.TheVariants.{Unknown}
 use Rattle.wit_types.specs.declared.types.«Type».{«Type» as Ty}
 use Rattle.wit_types.specs.declared.types.«Type».TheVariants as type
@@ -20,8 +19,10 @@ use Rattle.wit_types.specs.declared.types.TypeDef.{TypeDef}
 use Rattle.wit_types.specs.declared.types.TypeOwner.{TypeOwner}
 use Rattle.wit_types.specs.declared.types.TypeOwner.TheVariants as owner
 use Rattle.wit_model.specs.declared.interface.Interface.{Interface}
-use Rattle.wit_meaning.specs.Address.{Address, InterfaceNamed}
-use Rattle.wit_meaning.specs.Source.{ScopeName, Used, Defined, local_id, local_name}
+use Rattle.wit_model.specs.declared.world.World.{World}
+use Rattle.wit_meaning.specs.Address.{Address, InterfaceNamed, WorldNamed}
+use Rattle.wit_meaning.specs.Source.{item_edge, Item, ScopeName, Used, Defined, local_id, local_name, scope_names}
+use Rattle.wit_meaning.specs.Scope.{include_paths}
 use Rattle.wit_meaning.specs.Shape.{no_docs, shape_of, all_shapes, words, all_words, body_of}
 use Rattle.wit_meaning.specs.Expr.{Expr, Prim, Use, Of, Exprs, End, More}
 use Rattle.wit_meaning.specs.Meet.{Key, Def, Whole, Meeting, keys, IsMet, Meets, AreAt, Decl, Decls, IsAmong, IsMeeting, all_name_meetings, decl_of}
@@ -183,6 +184,7 @@ IsUnresolved by_name path f = (env_of by_name path.name.now ≡ None) × (f ≡ 
 -- the name by which a scope is addressed
 abbrev pub address_name : Address → List ℕ
 address_name (InterfaceNamed name) = name
+address_name (WorldNamed name) = name
 
 -- a used name was added, as another word for what it stands for in the interface that it comes from
 pub record IsUsed (old new : List TypeDef) (cs : List Cell) (o : TypeOwner) (names names' : Names) (from : Address) (n : UseName) : Type 0 where
@@ -209,8 +211,25 @@ pub data IsWrongScope (cs : List Cell) (by_name : Names) (xs : List ScopeName) (
   WrongItself : IsBrokenScope xs f → IsWrongScope cs by_name xs f
 
 -- an interface was added, with these names
-pub record IsAddedInterface (is is' : List Interface) (written : Written) (names : Names) : Type 0 where
+pub record IsAddedInterface (is is' : List Interface) (id : Id) (names : Names) : Type 0 where
   pub added : Interface
   pub last : is' ≡ is ++ added ∷ []
-  pub says : IsInterface written added
+  pub says : IsInterface id added
   pub types : added.types ≡ names
+
+-- worlds that were resolved, and their places by name
+pub record IsWorldIndex (ws : List World) (by_name : Names) : Type 0 where
+  pub stands : (name : List ℕ) (t : ℕ) → env_of by_name name ≡ Some t → (w : World) × (slice_get ws t ≡ Some w) × (w.name ≡ name)
+  pub has : (t : ℕ) (w : World) → slice_get ws t ≡ Some w → IsSome (env_of by_name w.name)
+
+-- an include of an item leads to no world that was resolved
+pub record IsLostInclude (by_name : Names) (item : Item) (f : Fault) : Type 0 where
+  pub path : Id
+  pub among : Contains (include_paths item) path
+  pub free : env_of by_name (item_edge item.top path).name.now ≡ None
+  pub is : f ≡ fault 11 path.span
+
+-- what is wrong with a world, by what was resolved before
+pub data IsWrongWorld (cs : List Cell) (by_name worlds_by_name : Names) (item : Item) (f : Fault) : Type 0 where
+  WrongWorldScope : IsWrongScope cs by_name (scope_names item) f → IsWrongWorld cs by_name worlds_by_name item f
+  LostInclude : IsLostInclude worlds_by_name item f → IsWrongWorld cs by_name worlds_by_name item f

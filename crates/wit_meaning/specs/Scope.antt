@@ -2,12 +2,11 @@
 use Rattle.std.specs.Prelude.{ℕ, Bool, true, false, not, List, [], ◌∷◌, ◌++◌, map, slice_get}
 use Rattle.wit_tree.specs.declared.tree.Id.{Id}
 use Rattle.std.specs.List.{flat_map, filter, filter_map}
-use Rattle.wit_tree.specs.declared.tree.InterfaceItem.{InterfaceItem}
-use Rattle.wit_tree.specs.declared.tree.InterfaceItem.TheVariants.{TypeDef as TypeItem, Use as UseItem}
+use Rattle.wit_tree.specs.declared.tree.Include.{Include}
 use Rattle.wit_tree.specs.declared.tree.PackageFile.{PackageFile}
 use Rattle.wit_order.specs.Table.{Row}
 use Rattle.wit_meaning.specs.Shape.{all_words, body_of}
-use Rattle.wit_meaning.specs.Source.{ScopeName, Used, Defined, local_name, path_id, item_edge, Item, interface_name, interfaces}
+use Rattle.wit_meaning.specs.Source.{ScopeName, Used, Defined, local_name, path_id, item_edge, Declared, TheInterface, TheWorld, Part, Defining, Using, Including, Item, item_name, is_world, parts, all_items}
 
 -- the names that a name of a scope needs: those in a definition's body; a used name needs none of its own scope
 abbrev pub needed_ids : ScopeName → List Id
@@ -41,18 +40,55 @@ defined xs = filter is_defined xs
 abbrev pub in_turn : List ScopeName → List ℕ → List ScopeName
 in_turn xs order = used xs ++ defined (in_order xs order)
 
+-- the path of a part that is a `use`
+abbrev pub use_path : Part → List Id
+use_path (Defining d) = []
+use_path (Using u) = path_id u.from ∷ []
+use_path (Including i) = []
+
+-- the path of a part that is an include
+abbrev pub include_path : Part → List Id
+include_path (Defining d) = []
+include_path (Using u) = []
+include_path (Including i) = path_id i.from ∷ []
+
 -- the paths of an item's uses
-abbrev pub item_paths : InterfaceItem → List Id
-item_paths (TypeItem d) = []
-item_paths (UseItem u) = path_id u.from ∷ []
+abbrev pub use_paths : Item → List Id
+use_paths i = flat_map use_path (parts i)
+
+-- the paths of its includes
+abbrev pub include_paths : Item → List Id
+include_paths i = flat_map include_path (parts i)
+
+-- the path of a part to an item that has to come before: of an interface that of a `use`, of a world that of an include
+abbrev pub needed_path : Declared → Part → List Id
+needed_path (TheInterface i) = use_path
+needed_path (TheWorld w) = include_path
 
 abbrev pub paths : Item → List Id
-paths i = flat_map item_paths i.interface.items.items
+paths i = flat_map (needed_path i.declared) (parts i)
 
--- an item with what its paths lead to
+-- an item with what these paths lead to
 abbrev pub item_row : Item → Row
-item_row i = record { name = interface_name i; needs = map (item_edge i.top) (paths i) }
+item_row i = record { name = item_name i; needs = map (item_edge i.top) (paths i) }
 
--- the table of the items of all files: each with the items that it uses
+-- the table of the items of all files: each with the items that have to come before it
 abbrev pub item_rows : List PackageFile → List Row
-item_rows files = map item_row (interfaces files)
+item_rows files = map item_row (all_items files)
+
+-- the interfaces among items
+abbrev pub interfaces_of : List Item → List Item
+interfaces_of is = filter (λ i. not (is_world i)) is
+
+-- the worlds among items
+abbrev pub worlds_of : List Item → List Item
+worlds_of is = filter is_world is
+
+abbrev pub part_includes : Part → List Include
+part_includes (Defining d) = []
+part_includes (Using u) = []
+part_includes (Including i) = i ∷ []
+
+-- the includes of an item, in source order
+abbrev pub includes : Item → List Include
+includes i = flat_map part_includes (parts i)

@@ -1,5 +1,5 @@
 -- What written types mean, by lexical scope.
-use Rattle.std.specs.Prelude.{ℕ, List, [], ◌∷◌, Option, Some, None, map, find}
+use Rattle.std.specs.Prelude.{ℕ, Bool, true, false, List, [], ◌∷◌, Option, Some, None, map, find}
 use Rattle.std.specs.List.{flat_map}
 use Rattle.std.specs.Option.{option_map_or, unwrap_or}
 use Rattle.std.specs.Str.{bytes_eq}
@@ -7,17 +7,22 @@ use Rattle.wit_values.specs.declared.span.Span.{Span}
 use Rattle.wit_tree.specs.declared.tree.Id.{Id}
 use Rattle.wit_tree.specs.declared.tree.TypeDef.{TypeDef}
 use Rattle.wit_tree.specs.declared.tree.InterfaceItem.{InterfaceItem}
-use Rattle.wit_tree.specs.declared.tree.InterfaceItem.TheVariants.{TypeDef as TypeItem, Use as UseItem}
+use Rattle.wit_tree.specs.declared.tree.InterfaceItem.TheVariants as interface_item
+use Rattle.wit_tree.specs.declared.tree.WorldItem.{WorldItem}
+use Rattle.wit_tree.specs.declared.tree.WorldItem.TheVariants as world_item
+use Rattle.wit_tree.specs.declared.tree.Use.{Use}
 use Rattle.wit_tree.specs.declared.tree.UsePath.{UsePath}
 use Rattle.wit_tree.specs.declared.tree.UsePath.TheVariants as path
 use Rattle.wit_tree.specs.declared.tree.UseName.{UseName}
+use Rattle.wit_tree.specs.declared.tree.Include.{Include}
 use Rattle.wit_tree.specs.declared.tree.Interface.{Interface}
+use Rattle.wit_tree.specs.declared.tree.World.{World}
 use Rattle.wit_tree.specs.declared.tree.AstItem.{AstItem}
-use Rattle.wit_tree.specs.declared.tree.AstItem.TheVariants.{Interface as InterfaceItem', Use as ToplevelItem}
+use Rattle.wit_tree.specs.declared.tree.AstItem.TheVariants as ast
 use Rattle.wit_tree.specs.declared.tree.PackageFile.{PackageFile}
 use Rattle.wit_types.specs.declared.stability.Stability.TheVariants.{Unknown}
 use Rattle.wit_meaning.specs.Form.{Form, AliasForm}
-use Rattle.wit_meaning.specs.Address.{Address, InterfaceNamed}
+use Rattle.wit_meaning.specs.Address.{Address, InterfaceNamed, WorldNamed, same_address}
 use Rattle.wit_meaning.specs.Node.{OfScope, Head, Node, Leaf, Named, Unnamed, Nothing, Tree, unfolded}
 use Rattle.wit_meaning.specs.Shape.{Shape, Prim, Word, Of, Shapes, End, More, one, Body, body_of, no_docs}
 
@@ -25,14 +30,56 @@ use Rattle.wit_meaning.specs.Shape.{Shape, Prim, Word, Of, Shapes, End, More, on
 abbrev pub path_id : UsePath → Id
 path_id (path.Id id) = id
 
+-- a declared item: an interface or a world
+pub data Declared : Type 0 where
+  TheInterface : (i : Interface) → Declared
+  TheWorld : (w : World) → Declared
+
+abbrev pub declared_id : Declared → Id
+declared_id (TheInterface i) = i.name
+declared_id (TheWorld w) = w.name
+
+-- the scope of an item
+abbrev pub declared_address : Declared → Address
+declared_address (TheInterface i) = InterfaceNamed i.name.name.now
+declared_address (TheWorld w) = WorldNamed w.name.name.now
+
+abbrev pub is_declared_world : Declared → Bool
+is_declared_world (TheInterface i) = false
+is_declared_world (TheWorld w) = true
+
+-- a part of an item
+pub data Part : Type 0 where
+  Defining : (d : TypeDef) → Part
+  Using : (u : Use) → Part
+  Including : (i : Include) → Part
+
+abbrev pub interface_part : InterfaceItem → Part
+interface_part (interface_item.TypeDef d) = Defining d
+interface_part (interface_item.Use u) = Using u
+
+abbrev pub world_part : WorldItem → Part
+world_part (world_item.TypeDef d) = Defining d
+world_part (world_item.Use u) = Using u
+world_part (world_item.Include i) = Including i
+
+-- the parts of an item, in source order
+abbrev pub declared_parts : Declared → List Part
+declared_parts (TheInterface i) = map interface_part i.items.items
+declared_parts (TheWorld w) = map world_part w.items.items
+
 -- a name at the top of a file, and the name of the item that it stands for: of a declared item its own, of a `use` that of its path
 pub record TopName : Type 0 where
   pub id : Id
   pub original : Id
 
+abbrev pub itself : Id → TopName
+itself id = record { id = id; original = id }
+
 abbrev pub top_name : AstItem → TopName
-top_name (InterfaceItem' i) = record { id = i.name; original = i.name }
-top_name (ToplevelItem u) = record { id = unwrap_or u.as_ (path_id u.item); original = path_id u.item }
+top_name (ast.Interface i) = itself i.name
+top_name (ast.World w) = itself w.name
+top_name (ast.Use u) = record { id = unwrap_or u.as_ (path_id u.item); original = path_id u.item }
 
 -- the names at the top of a file, in source order
 abbrev pub top_names : PackageFile → List TopName
@@ -52,37 +99,54 @@ top_original t = t.original
 abbrev pub item_edge : List TopName → Id → Id
 item_edge top path = option_map_or top_original (top_named top path.name.now) path
 
--- a declared interface, with the names at the top of its file
+-- a declared item, with the names at the top of its file
 pub record Item : Type 0 where
   pub top : List TopName
-  pub interface : Interface
+  pub declared : Declared
 
-abbrev pub declared : List TopName → AstItem → List Item
-declared top (InterfaceItem' i) = record { top = top; interface = i } ∷ []
-declared top (ToplevelItem u) = []
+abbrev pub declared_items : List TopName → AstItem → List Item
+declared_items top (ast.Interface i) = record { top = top; declared = TheInterface i } ∷ []
+declared_items top (ast.World w) = record { top = top; declared = TheWorld w } ∷ []
+declared_items top (ast.Use u) = []
 
--- the interfaces of a file, in source order
-abbrev pub file_interfaces : PackageFile → List Item
-file_interfaces f = flat_map (declared (top_names f)) f.decl_list.items.items
+-- the items of a file, in source order
+abbrev pub file_items : PackageFile → List Item
+file_items f = flat_map (declared_items (top_names f)) f.decl_list.items.items
 
--- the interfaces of all files, in push order and then in source order
-abbrev pub interfaces : List PackageFile → List Item
-interfaces files = flat_map file_interfaces files
+-- the items of all files, in push order and then in source order
+abbrev pub all_items : List PackageFile → List Item
+all_items files = flat_map file_items files
 
-abbrev pub interface_name : Item → List ℕ
-interface_name i = i.interface.name.name.now
+abbrev pub item_id : Item → Id
+item_id i = declared_id i.declared
 
--- the first interface of a name
-abbrev pub interface_named : List Item → List ℕ → Option Item
-interface_named is name = find (λ i. bytes_eq (interface_name i) name) is
+abbrev pub item_name : Item → List ℕ
+item_name i = (item_id i).name.now
 
--- the interface at an address
-abbrev pub interface_at : List Item → Address → Option Item
-interface_at is (InterfaceNamed name) = interface_named is name
+-- the scope of an item
+abbrev pub address : Item → Address
+address i = declared_address i.declared
 
--- the scope that a path leads to
+abbrev pub is_world : Item → Bool
+is_world i = is_declared_world i.declared
+
+abbrev pub parts : Item → List Part
+parts i = declared_parts i.declared
+
+-- the first item of a name
+abbrev pub item_named : List Item → List ℕ → Option Item
+item_named is name = find (λ i. bytes_eq (item_name i) name) is
+
+-- the first item whose scope is at an address
+abbrev pub item_at : List Item → Address → Option Item
+item_at is s = find (λ i. same_address (address i) s) is
+
+-- the scope that the path of a `use` leads to, and that of an include's
 abbrev pub path_scope : List TopName → UsePath → Address
 path_scope top from = InterfaceNamed (item_edge top (path_id from)).name.now
+
+abbrev pub included_scope : List TopName → UsePath → Address
+included_scope top from = WorldNamed (item_edge top (path_id from)).name.now
 
 -- a name of a scope: one that is used from an interface, or a definition
 pub data ScopeName : Type 0 where
@@ -97,17 +161,19 @@ local_id (Defined d) = d.name
 abbrev pub local_name : ScopeName → List ℕ
 local_name x = (local_id x).name.now
 
-abbrev pub item_names : List TopName → InterfaceItem → List ScopeName
-item_names top (TypeItem d) = Defined d ∷ []
-item_names top (UseItem u) = map (Used (path_scope top u.from)) u.names.items
+-- the names that a part of an item brings
+abbrev pub part_names : List TopName → Part → List ScopeName
+part_names top (Defining d) = Defined d ∷ []
+part_names top (Using u) = map (Used (path_scope top u.from)) u.names.items
+part_names top (Including i) = []
 
--- the names of an interface, in source order
+-- the names of an item, in source order
 abbrev pub scope_names : Item → List ScopeName
-scope_names i = flat_map (item_names i.top) i.interface.items.items
+scope_names i = flat_map (part_names i.top) (parts i)
 
 -- the names of a scope
 abbrev pub scope : List PackageFile → Address → List ScopeName
-scope files s = option_map_or scope_names (interface_at (interfaces files) s) []
+scope files s = option_map_or scope_names (item_at (all_items files) s) []
 
 -- what a name stands for: the first that goes by it
 abbrev pub meaning : List ScopeName → List ℕ → Option ScopeName

@@ -1,12 +1,22 @@
 -- The theorem: what a resolved package is.
-use Rattle.std.specs.Prelude.{◌≡◌, ◌↔◌, ℕ, zero, suc, List, [], length, map, Option, Some, None, slice_get, position}
+use Rattle.std.specs.Prelude.{◌≡◌, ◌↔◌, ℕ, zero, suc, List, [], ◌∷◌, ◌++◌, length, map, Option, Some, None, slice_get, position}
 use Rattle.wit_values.specs.declared.span.Span.{Span}
-use Rattle.std.specs.Option.{option_map}
+use Rattle.std.specs.Option.{option_map, option_or, unwrap_or}
 use Rattle.semver.specs.Identifiers.{parts_of}
 use Rattle.wit_values.specs.ReleaseText.{release_parts}
 use Rattle.wit_tree.specs.declared.tree.PackageName.{PackageName as Header}
 use Rattle.wit_tree.specs.declared.tree.PackageFile.{PackageFile}
+use Rattle.wit_tree.specs.declared.tree.Include.{Include}
+use Rattle.wit_tree.specs.declared.tree.IncludeName.{IncludeName as Renaming}
 use Rattle.wit_model.specs.declared.interface.Interface.{Interface}
+use Rattle.wit_model.specs.declared.world.World.{World}
+use Rattle.wit_model.specs.declared.world.WorldInclude.{WorldInclude}
+use Rattle.wit_model.specs.declared.world.IncludeName.{IncludeName}
+use Rattle.wit_model.specs.declared.world.WorldKey.{WorldKey}
+use Rattle.wit_model.specs.declared.world.WorldKey.TheVariants as key
+use Rattle.wit_model.specs.declared.world.WorldItem.{WorldItem}
+use Rattle.wit_model.specs.declared.world.WorldItem.TheVariants.{Type_}
+use Rattle.wit_types.specs.declared.stability.Stability.TheVariants.{Unknown}
 use Rattle.wit_types.specs.declared.types.«Type».{«Type» as Ty}
 use Rattle.wit_types.specs.declared.types.«Type».TheVariants.{Id}
 use Rattle.wit_types.specs.declared.types.TypeDef.{TypeDef}
@@ -17,17 +27,17 @@ use Rattle.wit_model.specs.declared.unresolved.UnresolvedPackage.{UnresolvedPack
 use Rattle.wit_meaning.specs.Form.{Form, OwnForm, AliasForm, ResourceForm, UnknownForm, RecordForm, FlagsForm, VariantForm, EnumForm, kind_of}
 use Rattle.std.specs.List.{flat_map}
 use Rattle.wit_meaning.specs.Shape.{Word, Of, Shapes}
-use Rattle.wit_meaning.specs.Address.{Address, InterfaceNamed, same_address}
+use Rattle.wit_meaning.specs.Address.{Address, same_address}
 use Rattle.wit_meaning.specs.Node.{OfScope}
-use Rattle.wit_meaning.specs.Source.{Item, ScopeName, interfaces, interface_name, scope_names, local_name, local_id, Place, placed, scope, name_parts, source_tree}
+use Rattle.wit_meaning.specs.Source.{path_id, TopName, Item, item_id, address, included_scope, ScopeName, all_items, scope_names, local_name, local_id, Place, placed, scope, name_parts, source_tree}
 use Rattle.wit_meaning.specs.Expr.{Expr, expr_of}
-use Rattle.wit_meaning.specs.Scope.{item_rows, rows_of, in_order, in_turn}
+use Rattle.wit_meaning.specs.Scope.{item_rows, interfaces_of, worlds_of, includes, rows_of, in_order, in_turn}
 use Rattle.wit_meaning.specs.Broken.{last_header}
 use Rattle.wit_meaning.specs.Meet.{Key, Def, Meeting, keys, all_name_meetings, Meets, IsAt, Decls, decl_of, IsMeeting}
 use Rattle.wit_meaning.specs.Source as source
-use Rattle.wit_meaning.specs.Package.{At, HasPart, IsBelow, Reaches, IsInterface, owner_of, names_of, package_tree}
+use Rattle.wit_meaning.specs.Package.{At, HasPart, IsBelow, Reaches, IsInterface, IsWorld, world_types, owner_of, names_of, package_tree}
 
--- an interface, with an order of its names
+-- an item, with an order of its names
 pub record Ordered : Type 0 where
   pub item : Item
   pub order : List ℕ
@@ -35,13 +45,9 @@ pub record Ordered : Type 0 where
 abbrev pub item_of : Ordered → Item
 item_of o = o.item
 
--- the names of an interface: the used ones, and then the definitions in its order
+-- the names of an item: the used ones, and then the definitions in its order
 abbrev pub ordered_names : Ordered → List ScopeName
 ordered_names o = in_turn (scope_names o.item) o.order
-
--- the scope of an interface
-abbrev pub address : Item → Address
-address w = InterfaceNamed (interface_name w)
 
 -- a scope, with its names as they are resolved
 pub record Turned : Type 0 where
@@ -55,26 +61,62 @@ turned o = record { address = address o.item; names = ordered_names o }
 abbrev pub meetings : List Turned → List Meeting
 meetings ts = flat_map (λ t. all_name_meetings t.address t.names) ts
 
-abbrev pub place_owner : Option ℕ → TypeOwner
-place_owner None = owner.None
-place_owner (Some place) = owner.Interface place
+-- the place of an address among these
+abbrev pub place_at : List Address → Address → Option ℕ
+place_at ss s = position (λ a. same_address a s) ss
 
--- the owner that the package knows a scope by: its place, where the interfaces have these addresses
-abbrev pub owner_at : List Address → Address → TypeOwner
-owner_at is s = place_owner (position (λ a. same_address a s) is)
+-- the owner that the package knows a scope by: its place, where the interfaces have these addresses and the worlds those
+abbrev pub owner_at : List Address → List Address → Address → TypeOwner
+owner_at is ws s = unwrap_or (option_or (option_map owner.Interface (place_at is s)) (option_map owner.World (place_at ws s))) owner.None
 
--- the declarations of each scope, where the interfaces have these addresses
-abbrev pub declarations : List PackageFile → List Address → Decls
-declarations files is s = map (decl_of (owner_at is s) s) (scope files s)
+-- the declarations of each scope, where the interfaces have these addresses and the worlds those
+abbrev pub declarations : List PackageFile → List Address → List Address → Decls
+declarations files is ws s = map (decl_of (owner_at is ws s) s) (scope files s)
 
--- the addresses of scopes
-abbrev pub addresses : List Turned → List Address
-addresses ts = map (λ t. t.address) ts
+-- the addresses of items
+abbrev pub addresses : List Ordered → List Address
+addresses os = map (λ o. address o.item) os
 
 -- these are the names of a scope in turn, and they stand for their places
 pub record HasTypes (ks : List Key) (t : Turned) (types : List (List ℕ × ℕ)) : Type 0 where
   pub names : map (λ n. n.0) types ≡ map local_name t.names
   pub places : (k : ℕ) (name : List ℕ) (id : ℕ) → slice_get types k ≡ Some (name, id) → slice_get ks id ≡ Some (Def t.address name)
+
+-- these are the interfaces of files, each with its names in turn
+pub record AreInterfaces (ks : List Key) (os : List Ordered) (is : List Interface) : Type 0 where
+  pub count : length is ≡ length os
+  pub says : (t : ℕ) (o : Ordered) (i : Interface) → slice_get os t ≡ Some o → slice_get is t ≡ Some i → IsInterface (item_id o.item) i
+  pub types : (t : ℕ) (o : Ordered) (i : Interface) → slice_get os t ≡ Some o → slice_get is t ≡ Some i → HasTypes ks (turned o) i.types
+
+-- names of a scope as imports: each is the type that it stands for, at its local name
+abbrev pub type_imports : List ScopeName → List (List ℕ × ℕ) → List (WorldKey × WorldItem)
+type_imports [] types = []
+type_imports (x ∷ xs) [] = []
+type_imports (x ∷ xs) (t ∷ types) = (key.Name (local_name x), Type_ t.1 (local_id x).span) ∷ type_imports xs types
+
+-- what an include renames
+abbrev pub renamed : Renaming → IncludeName
+renamed n = record { name = n.name.name.now; as_ = n.as_.name.now }
+
+-- an include, where the worlds have these addresses
+pub record IsInclude (worlds : List Address) (top : List TopName) (written : Include) (i : WorldInclude) : Type 0 where
+  pub stability : i.stability ≡ Unknown
+  pub leads : slice_get worlds i.id ≡ Some (included_scope top written.from)
+  pub names : i.names ≡ map renamed written.names.items
+  pub span : i.span ≡ (path_id written.from).span
+
+-- these are the includes of an item, where the worlds have these addresses
+pub record AreIncludes (worlds : List Address) (item : Item) (is : List WorldInclude) : Type 0 where
+  pub count : length is ≡ length (includes item)
+  pub each : (k : ℕ) (written : Include) (i : WorldInclude) → slice_get (includes item) k ≡ Some written → slice_get is k ≡ Some i → IsInclude worlds item.top written i
+
+-- these are the worlds of files, each with its names in turn as its imports, and with its includes, where the worlds have these addresses
+pub record AreWorlds (ks : List Key) (worlds : List Address) (os : List Ordered) (ws : List World) : Type 0 where
+  pub count : length ws ≡ length os
+  pub says : (t : ℕ) (o : Ordered) (w : World) → slice_get os t ≡ Some o → slice_get ws t ≡ Some w → IsWorld (item_id o.item) w
+  pub types : (t : ℕ) (o : Ordered) (w : World) → slice_get os t ≡ Some o → slice_get ws t ≡ Some w → HasTypes ks (turned o) (world_types w)
+  pub imports : (t : ℕ) (o : Ordered) (w : World) → slice_get os t ≡ Some o → slice_get ws t ≡ Some w → w.imports ≡ type_imports (ordered_names o) (world_types w)
+  pub includes : (t : ℕ) (o : Ordered) (w : World) → slice_get os t ≡ Some o → slice_get ws t ≡ Some w → AreIncludes worlds o.item w.includes
 
 -- the package names no other one
 pub record NamesNoOther (p : UnresolvedPackage) : Type 0 where
@@ -82,9 +124,9 @@ pub record NamesNoOther (p : UnresolvedPackage) : Type 0 where
   pub spans : p.foreign_dep_spans ≡ []
   pub unknown : p.unknown_type_spans ≡ []
 
--- The package has the name and the version of the last header, the interfaces in the least order in which each comes after those that
--- it uses, each with its used names and then its definitions in the least dependency-first order, and its arena of types is the list
--- of first meetings.
+-- The package has the name and the version of the last header; the interfaces and the worlds in the least order in which each item
+-- comes after those that it needs, each with its used names and then its definitions in the least dependency-first order; and its
+-- arena of types is the list of first meetings, those of all interfaces before those of all worlds.
 pub record IsPackage (files : List PackageFile) (p : UnresolvedPackage) : Type 0 where
   pub header : Header
   pub last : last_header files ≡ Some header
@@ -92,19 +134,19 @@ pub record IsPackage (files : List PackageFile) (p : UnresolvedPackage) : Type 0
   pub name : p.name.name ≡ header.name.name.now
   pub version : option_map release_parts p.name.version ≡ option_map parts_of header.version
   pub name_span : p.name_span ≡ header.span
-  pub worlds : p.worlds ≡ []
   pub others : NamesNoOther p
-  pub items : List ℕ
-  pub item_order : IsOrder (item_rows files) items
-  pub ordered : List Ordered
-  pub all : map item_of ordered ≡ in_order (interfaces files) items
-  pub least : (t : ℕ) (o : Ordered) → slice_get ordered t ≡ Some o → IsOrder (rows_of (scope_names o.item)) o.order
+  pub places : List ℕ
+  pub item_order : IsOrder (item_rows files) places
+  pub interfaces : List Ordered
+  pub worlds : List Ordered
+  pub all_interfaces : map item_of interfaces ≡ interfaces_of (in_order (all_items files) places)
+  pub all_worlds : map item_of worlds ≡ worlds_of (in_order (all_items files) places)
+  pub least : (t : ℕ) (o : Ordered) → slice_get (interfaces ++ worlds) t ≡ Some o → IsOrder (rows_of (scope_names o.item)) o.order
   pub met : List Meeting
-  pub meets : Meets [] (meetings (map turned ordered)) met
-  pub meeting : IsMeeting (declarations files (addresses (map turned ordered))) met p.types
-  pub count : length p.interfaces ≡ length ordered
-  pub says : (t : ℕ) (o : Ordered) (i : Interface) → slice_get ordered t ≡ Some o → slice_get p.interfaces t ≡ Some i → IsInterface o.item.interface i
-  pub types : (t : ℕ) (o : Ordered) (i : Interface) → slice_get ordered t ≡ Some o → slice_get p.interfaces t ≡ Some i → HasTypes (keys met) (turned o) i.types
+  pub meets : Meets [] (meetings (map turned (interfaces ++ worlds))) met
+  pub meeting : IsMeeting (declarations files (addresses interfaces) (addresses worlds)) met p.types
+  pub are_interfaces : AreInterfaces (keys met) interfaces p.interfaces
+  pub are_worlds : AreWorlds (keys met) (addresses worlds) worlds p.worlds
   -- two written types are one type exactly where they are one expression
   pub one : (x y : Expr) (t u : Ty) → IsAt (keys met) x t → IsAt (keys met) y u → (t ≡ u) ↔ (x ≡ y)
 

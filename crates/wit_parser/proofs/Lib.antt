@@ -6,4 +6,8 @@ mod Files
 mod LastHeader
 mod Repeating
 mod Declaring
+mod Finding
+mod Usable
 mod Backward
+mod Including
+mod Importing

@@ -10,16 +10,18 @@ use Rattle.wit_meaning.specs.Source.{ScopeName, Used, Defined, local_id, local_n
 use Rattle.wit_tree.specs.declared.tree.Id.{Id}
 use Rattle.wit_tree.specs.declared.tree.TypeDef.{TypeDef as Definition}
 use Rattle.wit_meaning.specs.Shape.{all_words, body_of}
-use Rattle.wit_meaning.specs.Scope.{in_order, is_defined, used, defined, in_turn}
+use Rattle.wit_order.specs.Table.{IsOrder}
+use Rattle.wit_meaning.specs.Scope.{in_order, is_defined, rows_of, used, defined, in_turn}
 use Rattle.wit_meaning.specs.Fault.{Fault, fault}
-use Rattle.wit_meaning.specs.Broken.{IsRepeated, IsBrokenScope, DefinedTwice, Body, FoldedTwice, folded}
+use Rattle.wit_meaning.specs.Broken.{IsRepeated, IsBrokenScope, IsFoldedTwice, DefinedTwice, Body, FoldedTwice, folded}
 use Rattle.wit_meaning.specs.Repeats.{AllDiffer}
 use Rattle.wit_meaning.specs.Resolving.{Env, AreLegalBodies, HasNames, IsUnknown}
 use Rattle.wit_meaning.proofs.Lists.{at_within, at_take, map_at, map_map}
+use Rattle.wit_meaning.proofs.Repeated.{differ_at, differ_by}
 use Rattle.wit_meaning.proofs.Orders.{in_order_at}
 use Rattle.wit_meaning.proofs.Turns.{used_is, used_has, defined_at, defined_has, either_at, names_within, in_order_among}
 use Rattle.wit_meaning.proofs.Scoping.{at_contains, contains_at, needed_earlier}
-use Rattle.wit_meaning.proofs.Legal.{legal_scope}
+use Rattle.wit_meaning.proofs.Legal.{only_folded, no_fold}
 use Rattle.wit_parser.specs.Between.{AreOrdered, AreInTurn, IsBrokenAmong, IsRepeatedId}
 
 -- what stands at the first n places
@@ -125,15 +127,25 @@ broken_twice xs ids f are h =
     let u = unmapped text (used xs ++ defined xs) h.later (subst (λ l. IsRepeated text l h.later) are h.repeated) in
     DefinedTwice (record { later = u.0; repeated = u.1; is = h.is ∙ ap (λ (id : Id). fault 14 id.span) (sym u.2) })
 
-pub broken_folded : (xs ds : List ScopeName) (ids : List Id) (f : Fault) → (o : AreOrdered xs ds) → ids ≡ map local_id (used xs ++ defined (in_order xs o.order)) → IsRepeatedId 17 folded_text ids f → IsBrokenScope xs f
-broken_folded xs ds ids f o are h =
-    let u = unmapped folded_text (in_turn xs o.order) h.later (subst (λ l. IsRepeated folded_text l h.later) are h.repeated) in
-    FoldedTwice (record { order = o.order; least = o.least; later = u.0; repeated = u.1; is = h.is ∙ ap (λ (id : Id). fault 17 id.span) (sym u.2) })
+pub broken_folded : (xs : List ScopeName) (order : List ℕ) (ids : List Id) (f : Fault) → IsOrder (rows_of xs) order → ids ≡ map local_id (in_turn xs order) → IsRepeatedId 17 folded_text ids f → IsBrokenScope xs f
+broken_folded xs order ids f least are h =
+    let u = unmapped folded_text (in_turn xs order) h.later (subst (λ l. IsRepeated folded_text l h.later) are h.repeated) in
+    FoldedTwice (record { order = order; least = least; later = u.0; repeated = u.1; is = h.is ∙ ap (λ (id : Id). fault 17 id.span) (sym u.2) })
 
 -- where texts differ, the names do
 pub differ_names : (xs : List ScopeName) (ids : List Id) → ids ≡ map local_id (used xs ++ defined xs) → AllDiffer (map text ids) → AllDiffer (map local_name (used xs ++ defined xs))
 differ_names xs ids are differ = subst AllDiffer (ap (map text) are ∙ map_map text local_id (used xs ++ defined xs)) differ
 
-pub legal_in_turn : (xs ds : List ScopeName) (ids turn : List Id) (o : AreOrdered xs ds) → ids ≡ map local_id (used xs ++ defined xs) → turn ≡ map local_id (used xs ++ defined (in_order xs o.order)) → AllDiffer (map text ids) → AreLegalBodies ds → AllDiffer (map folded_text turn) → (f : Fault) → IsBrokenScope xs f → ⊥
-legal_in_turn xs ds ids turn o are turned distinct bodies differ =
-    legal_scope xs o.order (differ_names xs ids are distinct) o.least (legal_all (in_order xs o.order) (rw o.are at bodies)) (subst AllDiffer (ap (map folded_text) turned ∙ map_map folded_text local_id (in_turn xs o.order)) differ)
+-- before case is folded, a repeat once it is folded is all that can be wrong
+pub legal_unfolded : (xs ds : List ScopeName) (ids : List Id) (o : AreOrdered xs ds) → ids ≡ map local_id (used xs ++ defined xs) → AllDiffer (map text ids) → AreLegalBodies ds → (f : Fault) → IsBrokenScope xs f → IsFoldedTwice xs f
+legal_unfolded xs ds ids o are distinct bodies =
+    only_folded xs o.order (differ_names xs ids are distinct) o.least (legal_all (in_order xs o.order) (rw o.are at bodies))
+
+-- and where keys differ in turn, nothing is
+pub legal_folded : (xs : List ScopeName) (order : List ℕ) (turn : List Id) → IsOrder (rows_of xs) order → turn ≡ map local_id (in_turn xs order) → AllDiffer (map folded_text turn) → ((f : Fault) → IsBrokenScope xs f → IsFoldedTwice xs f) → (f : Fault) → IsBrokenScope xs f → ⊥
+legal_folded xs order turn least turned differ only f broken =
+    no_fold xs order f least (subst AllDiffer (ap (map folded_text) turned ∙ map_map folded_text local_id (in_turn xs order)) differ) (only f broken)
+
+-- names that differ once case is folded differ
+pub differ_unfolded : (ids : List Id) → AllDiffer (map folded_text ids) → AllDiffer (map text ids)
+differ_unfolded ids differ = differ_by text ids (λ i j x y at_i at_j same. differ_at folded_text ids differ i j x y at_i at_j (ap folded same))

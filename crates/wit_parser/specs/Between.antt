@@ -1,17 +1,24 @@
 -- What the resolver's functions tell one another: orders that were found, names that stand twice, and what was resolved so far.
-use Rattle.std.specs.Prelude.{◌≡◌, ℕ, List, [], take, Some, Contains, slice_get}
+use Rattle.std.specs.Prelude.{◌≡◌, ℕ, true, List, [], ◌∷◌, ◌++◌, map, take, Some, None, Contains, slice_get}
 use Rattle.wit_tree.specs.declared.tree.Id.{Id}
+use Rattle.wit_tree.specs.declared.tree.Include.{Include}
 use Rattle.wit_tree.specs.declared.tree.TypeDef.{TypeDef as Definition}
 use Rattle.wit_tree.specs.declared.tree.PackageFile.{PackageFile}
 use Rattle.wit_order.specs.Table.{IsOrder}
 use Rattle.wit_types.specs.declared.types.TypeDef.{TypeDef}
+use Rattle.wit_types.specs.declared.types.TypeOwner.{TypeOwner}
 use Rattle.wit_model.specs.declared.interface.Interface.{Interface}
-use Rattle.wit_meaning.specs.Source.{interfaces, ScopeName, Defined, local_name}
-use Rattle.wit_meaning.specs.Scope.{needed_ids, rows_of, in_order, defined, item_rows}
+use Rattle.wit_model.specs.declared.world.World.{World}
+use Rattle.wit_model.specs.declared.world.WorldInclude.{WorldInclude}
+use Rattle.wit_model.specs.declared.world.WorldKey.{WorldKey}
+use Rattle.wit_model.specs.declared.world.WorldItem.{WorldItem}
+use Rattle.wit_meaning.specs.Source.{path_id, item_edge, TopName, Item, is_world, all_items, ScopeName, Defined, local_id, local_name}
+use Rattle.wit_meaning.specs.Scope.{needed_ids, rows_of, in_order, defined, in_turn, item_rows, interfaces_of, worlds_of}
 use Rattle.wit_meaning.specs.Fault.{Fault, fault}
-use Rattle.wit_meaning.specs.Broken.{IsRepeated, IsBrokenBody, IsBrokenNames}
-use Rattle.wit_meaning.specs.Resolving.{Env, HasNames}
-use Rattle.wit_meaning.specs.Resolved.{AddsAll, AreLegalScopes}
+use Rattle.wit_meaning.specs.Broken.{IsRepeated, IsBrokenBody, IsBrokenUse, IsBrokenNames}
+use Rattle.wit_meaning.specs.Package.{IsWorld}
+use Rattle.wit_meaning.specs.Resolving.{Env, Names, Cell, cells, env_of, HasNames, IsWorldIndex, IsWrongWorld}
+use Rattle.wit_meaning.specs.Resolved.{DefinesAll, AddsScope, AddsInterfaces, AddsWorlds, AreLegalScopes, IsNext}
 
 -- no name of a scope needs one
 abbrev pub NeedNone : List ScopeName → Type 0
@@ -37,16 +44,57 @@ pub record IsBrokenAmong (ds : List ScopeName) (f : Fault) : Type 0 where
   pub among : Contains ds (Defined d)
   pub broken : IsBrokenBody d.body f
 
+-- the definitions of a scope were added behind its used names, and these are its names in turn
+pub record DefinesTurn (old new : List TypeDef) (o : TypeOwner) (names names' : Names) (xs : List ScopeName) (ids : List Id) : Type 0 where
+  pub all : DefinesAll old new o names names' xs
+  pub turn : ids ≡ map local_id (in_turn xs all.order)
+
+-- the names of a scope were added, and these are they in turn
+pub record AddsTurn (old new : List TypeDef) (cs : List Cell) (o : TypeOwner) (xs : List ScopeName) (types : Names) (ids : List Id) : Type 0 where
+  pub adds : AddsScope old new cs o xs types
+  pub turn : ids ≡ map local_id (in_turn xs adds.order)
+
+-- an include leads to no world that was resolved
+pub record IsLost (by_name : Names) (top : List TopName) (i : Include) (f : Fault) : Type 0 where
+  pub free : env_of by_name (item_edge top (path_id i.from)).name.now ≡ None
+  pub is : f ≡ fault 11 (path_id i.from).span
+
+-- a world was added, with these imports and includes
+pub record IsAddedWorld (ws ws' : List World) (id : Id) (externs : List (WorldKey × WorldItem)) (included : List WorldInclude) : Type 0 where
+  pub added : World
+  pub last : ws' ≡ ws ++ added ∷ []
+  pub says : IsWorld id added
+  pub imports : added.imports ≡ externs
+  pub includes : added.includes ≡ included
+
+-- where these are the interfaces, and their types were resolved: once the worlds among some of the items were added in the order of
+-- their places, the next item is a world that is wrong
+pub record IsWrongWorldNow (middle : List TypeDef) (is : List Interface) (by_name : Names) (items : List Item) (places : List ℕ) (f : Fault) : Type 0 where
+  pub count : ℕ
+  pub item : Item
+  pub next : IsNext items places count item
+  pub sort : is_world item ≡ true
+  pub mid : List TypeDef
+  pub before : List World
+  pub added : AddsWorlds is middle mid [] before (worlds_of (in_order items (take count places)))
+  pub worlds_by_name : Names
+  pub worlds_index : IsWorldIndex before worlds_by_name
+  pub wrong : IsWrongWorld (cells is) by_name worlds_by_name item f
+
 -- an earlier one of these names has the key of a later one
 pub record IsRepeatedId (number : ℕ) (key : Id → List ℕ) (ids : List Id) (f : Fault) : Type 0 where
   pub later : Id
   pub repeated : IsRepeated key ids later
   pub is : f ≡ fault number later.span
 
--- the interfaces of files were added in the least dependency-first order of their table, and no scope of theirs is broken by itself
-pub record AddsFiles (files : List PackageFile) (es : List TypeDef) (is : List Interface) : Type 0 where
-  pub items : List ℕ
-  pub order : IsOrder (item_rows files) items
+-- the items of files were added in the least dependency-first order of their table, all interfaces before all worlds; no `use` leads to
+-- nothing or to a world, and no scope of theirs is broken by itself
+pub record AddsFiles (files : List PackageFile) (es : List TypeDef) (is : List Interface) (ws : List World) : Type 0 where
+  pub places : List ℕ
+  pub order : IsOrder (item_rows files) places
   pub names : (f : Fault) → IsBrokenNames files f → ⊥
-  pub added : AddsAll [] es [] is (in_order (interfaces files) items)
-  pub legal : AreLegalScopes (in_order (interfaces files) items)
+  pub uses : (i : Item) → Contains (all_items files) i → (f : Fault) → IsBrokenUse (all_items files) i f → ⊥
+  pub middle : List TypeDef
+  pub interfaces : AddsInterfaces [] middle [] is (interfaces_of (in_order (all_items files) places))
+  pub worlds : AddsWorlds is middle es [] ws (worlds_of (in_order (all_items files) places))
+  pub legal : AreLegalScopes (in_order (all_items files) places)

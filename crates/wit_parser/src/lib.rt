@@ -6,11 +6,13 @@ mod distinct;
 mod header;
 mod interface;
 mod items;
+mod names;
 mod order;
 pub mod resolver;
 mod scope;
 mod scope_name;
 mod uses;
+mod world;
 
 pub use resolver::Resolver;
 pub use wit_model::UnresolvedPackage;

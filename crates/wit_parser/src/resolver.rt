@@ -12,9 +12,12 @@ use crate::header::{is_same, mismatch};
 use crate::interface::resolve_interfaces;
 use crate::items::declared_items;
 use crate::uses::Interfaces;
+use crate::world::{Worlds, resolve_worlds};
 use std::alloc::Global;
 use wit_entries::entries::Entries;
-use wit_model::{Arena, ForeignItems, Interface, InterfacePlace, UnresolvedPackage};
+use wit_model::{
+    Arena, ForeignItems, Interface, InterfacePlace, UnresolvedPackage, World, WorldPlace,
+};
 use wit_scope::refusal::refuse;
 use wit_scope::{FileNames, package_name};
 use wit_tree::tree::{self, PackageFile};
@@ -53,24 +56,39 @@ fn check_header(
     Ok(())
 }
 
-/// Adds the interfaces of files, and their types, to nothing.
+/// The interfaces and the worlds of files.
+#[derive(Drop)]
+struct Resolved {
+    interfaces: Arena<Interface, InterfacePlace>,
+    worlds: Arena<World, WorldPlace>,
+}
+
+/// Adds the interfaces and worlds of files, and their types, to nothing.
 fn resolve_files<'f, 'a>(
     alloc: Global,
     types: &mut Entries,
     files: &'f [PackageFile<'a>],
-) -> ParseResult<Arena<Interface, InterfacePlace>>
+) -> ParseResult<Resolved>
     requires empty { types.old ≡ [] }
-    ensures added { IfOk result (AddsFiles files.now types.new) }
+    ensures added { IfOk result (λ r. AddsFiles files.now types.new r.interfaces r.worlds) }
     ensures refused { IfErr result (Refused (IsBroken files.now)) }
 {
-    let names = FileNames::gather(alloc, files)?;
+    let names = FileNames::gather_items(alloc, files)?;
     let items = declared_items(alloc, &names, files)?;
     let mut interfaces = Interfaces {
         arena: Arena::new(alloc),
         by_name: TextTable::new(alloc),
     };
     resolve_interfaces(alloc, types, &mut interfaces, &items, names.item_order())?;
-    Ok(interfaces.arena)
+    let mut worlds = Worlds {
+        arena: Arena::new(alloc),
+        by_name: TextTable::new(alloc),
+    };
+    resolve_worlds(alloc, types, &names, &interfaces, &mut worlds, &items)?;
+    Ok(Resolved {
+        interfaces: interfaces.arena,
+        worlds: worlds.arena,
+    })
 }
 
 impl<'a> Resolver<'a> {
@@ -118,22 +136,27 @@ impl<'a> Resolver<'a> {
 
     /// The package that the files make.
     ///
-    /// The interfaces stand in the least order in which each comes after those that it uses. Each
-    /// has the names that it uses and then its definitions, in the least order in which each comes
-    /// after those that it names; the arena of types has what is met in them, each once, in the
-    /// order of its first meeting. What the files hold in which order beyond that changes nothing.
+    /// The items stand in the least order in which each comes after those that it needs: an
+    /// interface after those that it uses, a world after those that it includes. The interfaces
+    /// and the worlds each keep that order. Each has the names that it uses and then its
+    /// definitions, in the least order in which each comes after those that it names; those of a
+    /// world are imports. The arena of types has what is met in the interfaces and then in the
+    /// worlds, each once, in the order of its first meeting. What the files hold in which order
+    /// beyond that changes nothing.
     ///
     /// # Errors
     ///
     /// The package is given exactly where no rule is broken, unless memory is wanted.
     ///
     /// - 4: no file names the package.
-    /// - 5: an interface is declared twice.
+    /// - 5: an interface or a world is declared twice.
     /// - 6: a name stands twice at the top of a file.
-    /// - 7, 8: the path of a `use` leads to no interface; interfaces use one another in a cycle.
+    /// - 7, 8: a path leads to no interface or world; interfaces use, or worlds include, one another
+    ///   in a cycle.
+    /// - 10, 11: a `use` leads to a world; an include leads to an interface.
     /// - 12: a used name is none of the interface that it comes from.
-    /// - 14, 17: a name stands twice in an interface, to the letter or once case is folded.
-    /// - 15, 16: a name in a definition is none of its interface; definitions name one another in
+    /// - 14, 17: a name stands twice in an interface or a world, to the letter or once case is folded.
+    /// - 15, 16: a name in a definition is none of its scope; definitions name one another in
     ///   a cycle.
     /// - 19, 20, 22 to 24: a record, flags, a tuple, a variant or an enum is empty.
     /// - 21: flags have more than 32 flags.
@@ -152,11 +175,11 @@ impl<'a> Resolver<'a> {
             None => return Err(refuse(alloc, 4, Span::default(), NO_HEADER)),
         };
         let mut types = Entries::new(alloc);
-        let interfaces = resolve_files(alloc, &mut types, &self.files)?;
+        let resolved = resolve_files(alloc, &mut types, &self.files)?;
         Ok(UnresolvedPackage::new(
             package_name(alloc, header)?,
-            Arena::new(alloc),
-            interfaces,
+            resolved.worlds,
+            resolved.interfaces,
             types.into_arena(),
             header.span,
             ForeignItems::none(alloc),

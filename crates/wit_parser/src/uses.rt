@@ -1,7 +1,6 @@
-//! Names that an interface uses from others.
+//! Names that a scope uses from interfaces.
 ghost use Rattle.std.specs.Prelude.{◌≡◌, List, [], map, OnOk, IfOk, IfErr};
 ghost use Rattle.wit_tree.specs.Refusal.{IsWantOfMemory};
-ghost use Rattle.wit_types.specs.declared.types.TypeOwner.TheVariants.{Interface as OfInterface};
 ghost use Rattle.wit_meaning.specs.Address.{Address, InterfaceNamed};
 ghost use Rattle.wit_meaning.specs.Source.{ScopeName};
 ghost use Rattle.wit_meaning.specs.Scope.{used};
@@ -52,8 +51,8 @@ fn resolve_use(
     used: &UsedName<'_, '_>,
 ) -> ParseResult<()>
     requires index { IsIndex (cells interfaces.now.arena) interfaces.now.by_name }
-    ensures used { OnOk result (IsUsed types.old types.new (cells interfaces.now.arena) (OfInterface scope.old.id) scope.old.names scope.new.names (InterfaceNamed used.now.from.name.now) used.now.name.now) }
-    ensures id { OnOk result (scope.new.id ≡ scope.old.id) }
+    ensures used { OnOk result (IsUsed types.old types.new (cells interfaces.now.arena) scope.old.owner scope.old.names scope.new.names (InterfaceNamed used.now.from.name.now) used.now.name.now) }
+    ensures owner { OnOk result (scope.new.owner ≡ scope.old.owner) }
     ensures refused { IfErr result (Refused (IsWrongUse (cells interfaces.now.arena) interfaces.now.by_name scope.old.names (InterfaceNamed used.now.from.name.now) used.now.name.now)) }
 {
     let name = used.name;
@@ -82,8 +81,8 @@ pub(crate) fn resolve_uses(
 ) -> ParseResult<()>
     requires index { IsIndex (cells interfaces.now.arena) interfaces.now.by_name }
     requires empty { scope.old.names ≡ [] }
-    ensures defines { OnOk result ((s : Address) → Defines types.old types.new (cells interfaces.now.arena) (OfInterface scope.old.id) s scope.old.names scope.new.names (map use_behind uses.now)) }
-    ensures id { OnOk result (scope.new.id ≡ scope.old.id) }
+    ensures defines { OnOk result ((s : Address) → Defines types.old types.new (cells interfaces.now.arena) scope.old.owner s scope.old.names scope.new.names (map use_behind uses.now)) }
+    ensures owner { OnOk result (scope.new.owner ≡ scope.old.owner) }
     ensures has { OnOk result (HasNames (env_of scope.new.names) (map use_behind uses.now)) }
     ensures refused { IfErr result (λ e. (xs : List ScopeName) → map use_behind uses.now ≡ used xs → Refused (IsWrongScope (cells interfaces.now.arena) interfaces.now.by_name xs) e) }
 {

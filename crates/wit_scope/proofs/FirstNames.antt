@@ -1,8 +1,9 @@
 -- Tables of names with what they stand for, one name more, and what is found in them.
-use Rattle.std.proofs.Common.{◌≡◌, ℕ, zero, suc, Bool, true, false, cond, List, [], ◌∷◌, ◌++◌, map, Option, Some, None, IsSome, inl, inr, refl, sym, ap, ◌∙◌, subst, Bor}
+use Rattle.std.proofs.Common.{◌≡◌, ℕ, zero, suc, Bool, true, false, cond, List, [], ◌∷◌, ◌++◌, map, Option, Some, None, inl, inr, refl, sym, ap, ◌∙◌, subst, Vec, Global, Bor}
 use Rattle.std.specs.Prelude.{slice_get, find}
 use Rattle.std.specs.Map.{lookup}
 use Rattle.std.specs.Option.{option_map, option_map_or, option_or, option_copied, is_some}
+use Rattle.std.specs.List.{list_any}
 use Rattle.std.specs.Str.{bytes_eq}
 use Rattle.std.proofs.lemmas.Bool.{cases_Bool, cond-true, cond-false}
 use Rattle.std.proofs.lemmas.List.Folds.{find-append}
@@ -11,14 +12,16 @@ use Rattle.std.proofs.lemmas.Option.{none-some}
 use Rattle.indexmap.specs.IndexMap.{insert_entry}
 use Rattle.wit_order.proofs.Rows.{key_eq}
 use Rattle.wit_tree.specs.declared.tree.Id.{Id}
-use Rattle.wit_meaning.specs.Source.{TopName, top_text, top_original, top_named, item_edge, Item, interface_named}
+use Rattle.wit_meaning.specs.Source.{TopName, top_text, top_original, top_named, item_edge, Item, item_name, item_named}
 use Rattle.wit_meaning.specs.Repeats.{AllDiffer}
-use Rattle.wit_meaning.proofs.Lists.{map_at}
+use Rattle.wit_meaning.proofs.Lists.{map_at, map_map}
 use Rattle.wit_meaning.proofs.Names.{name_equal, name_cases, name_itself}
 use Rattle.wit_meaning.proofs.Repeated.{differ_more}
 use Rattle.wit_meaning.proofs.Interfaces.{find_passes}
 use Rattle.wit_meaning.proofs.Itemizing.{find_at}
-use Rattle.wit_scope.specs.Tops.{itself}
+use Rattle.wit_order.specs.Table.{Row, entry_row}
+use Rattle.wit_meaning.specs.Scope.{item_row}
+use Rattle.wit_scope.specs.Tops.{item_top}
 
 abbrev pub Entries : Type 0
 Entries = List (Bor (List ℕ) × Id)
@@ -146,18 +149,36 @@ edge_none top es path finds none = go (top_named top path.name.now) (sym (finds 
     go None h = refl
     go (Some t) h = absurd (none-some (top_original t) (sym h))
 
-declared_as : (is : List Item) (name : List ℕ) → option_map top_original (top_named (map itself is) name) ≡ option_map (λ (i : Item). i.interface.name) (interface_named is name)
-declared_as is name = ap (option_map top_original) (find-map (λ (t : TopName). bytes_eq (top_text t) name) itself is) ∙ go (interface_named is name)
-  where
-    go : (o : Option Item) → option_map top_original (option_map itself o) ≡ option_map (λ (i : Item). i.interface.name) o
-    go None = refl
-    go (Some i) = refl
+mapped_some : {X Y : Type 0} (f : X → Y) (o : Option X) → is_some (option_map f o) ≡ is_some o
+mapped_some f None = refl
+mapped_some f (Some x) = refl
 
--- a name that is no declared item's is not found
-pub undeclared : (is : List Item) (es : Entries) (name : List ℕ) → Finds (map itself is) es → found name es ≡ None → interface_named is name ≡ None
-undeclared is es name finds none = unmapped_none (λ (i : Item). i.interface.name) (interface_named is name) (sym (declared_as is name) ∙ sym (finds name) ∙ none)
+named_as : (is : List Item) (name : List ℕ) → is_some (option_map top_original (top_named (map item_top is) name)) ≡ is_some (item_named is name)
+named_as is name =
+    let first = find-map (λ (t : TopName). bytes_eq (top_text t) name) item_top is in
+    mapped_some top_original (top_named (map item_top is) name) ∙ ap is_some first ∙ mapped_some item_top (item_named is name)
 
-pub declared : (is : List Item) (es : Entries) (name : List ℕ) (v : Id) → Finds (map itself is) es → found name es ≡ Some v → IsSome (interface_named is name)
-declared is es name v finds some =
-    let i = unmapped_some (λ (i : Item). i.interface.name) (interface_named is name) v (sym (declared_as is name) ∙ sym (finds name) ∙ some) in
-    subst (λ (o : Option Item). IsSome o) (sym i.1) refl
+-- a table of names finds the items among these names
+pub named_items : (is : List Item) (es : Entries) (name : List ℕ) → Finds (map item_top is) es → is_some (found name es) ≡ is_some (item_named is name)
+named_items is es name finds = ap is_some (finds name) ∙ named_as is name
+
+found-any : {V : Type 0} (name : List ℕ) (es : List (Bor (List ℕ) × V)) → is_some (lookup (λ key. bytes_eq name key.now) es) ≡ list_any (bytes_eq name) (map (λ e. e.0.now) es)
+found-any name [] = refl
+found-any name (e ∷ es) = elim (cases_Bool (bytes_eq name e.0.now)) [
+  | inl hit ↦ rw hit refl
+  | inr miss ↦ rw miss (found-any name es)
+]
+
+named-any : (is : List Item) (name : List ℕ) → is_some (item_named is name) ≡ list_any (bytes_eq name) (map item_name is)
+named-any [] name = refl
+named-any (i ∷ is) name = elim (cases_Bool (bytes_eq (item_name i) name)) [
+  | inl hit ↦ rw (hit, sym (turned (item_name i) name) ∙ hit) refl
+  | inr miss ↦ rw (miss, sym (turned (item_name i) name) ∙ miss) (named-any is name)
+]
+
+-- a table of the rows of items finds the items among its keys
+pub rows_items : (is : List Item) (es : List (Bor (List ℕ) × Vec Id Global)) (name : List ℕ) → map entry_row es ≡ map item_row is → is_some (lookup (λ key. bytes_eq name key.now) es) ≡ is_some (item_named is name)
+rows_items is es name same =
+    let row_name : Row → List ℕ = λ row. row.name in
+    let names : map (λ e. e.0.now) es ≡ map item_name is = sym (map_map row_name entry_row es) ∙ ap (map row_name) same ∙ map_map row_name item_row is in
+    found-any name es ∙ ap (list_any (bytes_eq name)) names ∙ sym (named-any is name)

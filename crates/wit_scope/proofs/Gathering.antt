@@ -1,24 +1,22 @@
 -- What is gathered from files, one file and one item at a time.
-use Rattle.std.proofs.Common.{◌≡◌, ℕ, zero, suc, ◌+◌, List, [], ◌∷◌, ◌++◌, length, map, take, Option, Some, None, IsSome, inl, inr, refl, sym, ap, ◌∙◌, subst, arith, append_assoc, length-append, Vec, Global, Bor}
+use Rattle.std.proofs.Common.{◌≡◌, ℕ, zero, suc, ◌+◌, ◌<◌, List, [], ◌∷◌, ◌++◌, length, map, take, Some, None, inl, inr, refl, sym, ap, ◌∙◌, subst, arith, append_assoc, length-append, Vec, Global, Bor}
 use Rattle.std.specs.Prelude.{slice_get, position}
 use Rattle.std.specs.List.{flat_map}
 use Rattle.std.specs.Option.{option_map}
 use Rattle.std.specs.Str.{bytes_eq}
-use Rattle.std.proofs.lemmas.List.{map-append}
+use Rattle.std.proofs.lemmas.List.{map-append, length-map}
 use Rattle.std.proofs.lemmas.Option.{slice_get-map, slice_get_within}
 use Rattle.indexmap.specs.IndexMap.{insert_entry, keys}
 use Rattle.wit_tree.specs.declared.tree.Id.{Id}
-use Rattle.wit_tree.specs.declared.tree.Interface.{Interface}
 use Rattle.wit_tree.specs.declared.tree.AstItem.{AstItem}
-use Rattle.wit_tree.specs.declared.tree.AstItem.TheVariants.{Interface as InterfaceItem', Use as ToplevelItem}
 use Rattle.wit_tree.specs.declared.tree.PackageFile.{PackageFile}
 use Rattle.wit_order.specs.Table.{Row, Table, entry_row, rows, place_of, target, IsOrder}
 use Rattle.wit_order.proofs.Rows.{key_eq, rows-insert}
 use Rattle.wit_order.proofs.Tables.{place_by_key}
-use Rattle.wit_meaning.specs.Source.{TopName, top_names, top_text, item_edge, declared, Item, file_interfaces, interfaces, interface_name}
-use Rattle.wit_meaning.specs.Scope.{item_paths, item_row, item_rows}
+use Rattle.wit_meaning.specs.Source.{TopName, top_names, top_text, declared_items, Item, file_items, all_items, item_name, is_world}
+use Rattle.wit_meaning.specs.Scope.{item_row, item_rows}
 use Rattle.wit_meaning.specs.Fault.{Fault, item_word}
-use Rattle.wit_meaning.specs.Broken.{IsBrokenNames, DuplicateItem, DuplicateTopName, MissingItem, CyclicItem, MissingOriginal}
+use Rattle.wit_meaning.specs.Broken.{IsBrokenItems, DuplicateItem, DuplicateTopName, MissingItem, CyclicItem, IsBrokenNames, Items, MissingOriginal}
 use Rattle.wit_meaning.specs.Repeats.{AllDiffer}
 use Rattle.wit_meaning.proofs.Lists.{at_front, at_back, at_either, map_map}
 use Rattle.wit_meaning.proofs.Orders.{take_next}
@@ -26,9 +24,11 @@ use Rattle.wit_meaning.proofs.Repeated.{no_repeat}
 use Rattle.wit_meaning.proofs.Tables.{place_of-Some, none_if}
 use Rattle.wit_meaning.proofs.Scoping.{at_contains}
 use Rattle.wit_meaning.proofs.Legal.{no_missing_edge, no_cyclic_edge}
-use Rattle.wit_scope.specs.Tops.{Named, AreNamed}
+use Rattle.wit_scope.specs.Tops.{Named, AreNamed, AreDeclared}
 use Rattle.wit_scope.specs.Checks.{AreDistinctTops, AreDeclaredTops}
-use Rattle.wit_scope.specs.FileNames.{AreTopsOf, AddsTop}
+use Rattle.wit_scope.specs.FileNames.{AreTopsOf, AreNamesOf, AddsTop}
+use Rattle.wit_scope.specs.declared.file_names.FileNames.{FileNames}
+use Rattle.wit_scope.proofs.FirstNames.{rows_items}
 use Rattle.wit_scope.proofs.Lost.{flat_more}
 
 -- what one of these gives stands behind what those before it give
@@ -58,50 +58,50 @@ fresh_name rs name rest differ = none_if (place_of rs name) (λ b some. (
     let g : ⊥ = omega arith in
     g))
 
-names_before : (rs : List Row) (before : List Item) → row_names rs ++ map interface_name before ≡ row_names (rs ++ map item_row before)
+names_before : (rs : List Row) (before : List Item) → row_names rs ++ map item_name before ≡ row_names (rs ++ map item_row before)
 names_before rs before = sym (map-append (λ (row : Row). row.name) rs (map item_row before) ∙ ap (λ l. row_names rs ++ l) (map_map (λ (row : Row). row.name) item_row before))
 
 -- where the names of rows and of further items differ, none of the rows and of the items before it has that of an item
-pub fresh_item : (rs : List Row) (before rest all : List Item) (w : Item) → all ≡ before ++ (w ∷ rest) → AllDiffer (row_names rs ++ map interface_name all) → place_of (rs ++ map item_row before) (interface_name w) ≡ None
+pub fresh_item : (rs : List Row) (before rest all : List Item) (w : Item) → all ≡ before ++ (w ∷ rest) → AllDiffer (row_names rs ++ map item_name all) → place_of (rs ++ map item_row before) (item_name w) ≡ None
 fresh_item rs before rest all w split differ =
     let names = row_names rs in
-    let own = interface_name w ∷ map interface_name rest in
-    let is : names ++ map interface_name all ≡ row_names (rs ++ map item_row before) ++ own =
-    ap (λ l. names ++ map interface_name l) split ∙ ap (λ l. names ++ l) (map-append interface_name before (w ∷ rest)) ∙ sym (append_assoc names (map interface_name before) own) ∙ ap (λ l. l ++ own) (names_before rs before) in
-    fresh_name (rs ++ map item_row before) (interface_name w) (map interface_name rest) (subst AllDiffer is differ)
+    let own = item_name w ∷ map item_name rest in
+    let is : names ++ map item_name all ≡ row_names (rs ++ map item_row before) ++ own =
+    ap (λ l. names ++ map item_name l) split ∙ ap (λ l. names ++ l) (map-append item_name before (w ∷ rest)) ∙ sym (append_assoc names (map item_name before) own) ∙ ap (λ l. l ++ own) (names_before rs before) in
+    fresh_name (rs ++ map item_row before) (item_name w) (map item_name rest) (subst AllDiffer is differ)
 
 abbrev row : List ℕ → List Id → Row
 row name needs = record { name = name; needs = needs }
 
 -- the row of an item more, of a name that the table has not
-pub row_added : (old : List Row) (before all : List Item) (w : Item) (es new : List (Bor (List ℕ) × Vec Id Global)) (k : Bor (List ℕ)) (v : Vec Id Global) → map entry_row es ≡ old ++ map item_row before → all ≡ before ++ w ∷ [] → place_of (old ++ map item_row before) (interface_name w) ≡ None → new ≡ insert_entry key_eq es k v → k.now ≡ interface_name w → v.items ≡ (item_row w).needs → map entry_row new ≡ old ++ map item_row all
+pub row_added : (old : List Row) (before all : List Item) (w : Item) (es new : List (Bor (List ℕ) × Vec Id Global)) (k : Bor (List ℕ)) (v : Vec Id Global) → map entry_row es ≡ old ++ map item_row before → all ≡ before ++ w ∷ [] → place_of (old ++ map item_row before) (item_name w) ≡ None → new ≡ insert_entry key_eq es k v → k.now ≡ item_name w → v.items ≡ (item_row w).needs → map entry_row new ≡ old ++ map item_row all
 row_added old before all w es new k v same more none inserted name needs =
     let were = old ++ map item_row before in
-    let free : place_of (map entry_row es) k.now ≡ None = ap (place_of (map entry_row es)) name ∙ ap (λ rs. place_of rs (interface_name w)) same ∙ none in
-    let is : row k.now v.items ≡ item_row w = ap (λ m. row m v.items) name ∙ ap (λ ids. row (interface_name w) ids) needs in
+    let free : place_of (map entry_row es) k.now ≡ None = ap (place_of (map entry_row es)) name ∙ ap (λ rs. place_of rs (item_name w)) same ∙ none in
+    let is : row k.now v.items ≡ item_row w = ap (λ m. row m v.items) name ∙ ap (λ ids. row (item_name w) ids) needs in
     rows-insert es new k v inserted free ∙ ap (λ rs. rs ++ row k.now v.items ∷ []) same ∙ ap (λ r. were ++ r ∷ []) is ∙ append_assoc old (map item_row before) (item_row w ∷ []) ∙ ap (λ l. old ++ l) (sym (map-append item_row before (w ∷ [])) ∙ ap (map item_row) (sym more))
 
 -- so, one declaration further on, the table has the items that were declared up to there
-pub item_added : (top : List TopName) (old : List Row) (ds : List AstItem) (i : ℕ) (d : AstItem) (w : Interface) (es new : List (Bor (List ℕ) × Vec Id Global)) (k : Bor (List ℕ)) (v : Vec Id Global) → slice_get ds i ≡ Some d → d ≡ InterfaceItem' w → AllDiffer (row_names old ++ map interface_name (flat_map (declared top) ds)) → map entry_row es ≡ old ++ map item_row (flat_map (declared top) (take i ds)) → new ≡ insert_entry key_eq es k v → k.now ≡ w.name.name.now → v.items ≡ map (item_edge top) (flat_map item_paths w.items.items) → map entry_row new ≡ old ++ map item_row (flat_map (declared top) (take (i + 1) ds))
-item_added top old ds i d w es new k v at is differ same inserted name needs =
-    let item : Item = record { top = top; interface = w } in
-    let before = flat_map (declared top) (take i ds) in
-    let more : flat_map (declared top) (take (i + 1) ds) ≡ before ++ item ∷ [] = flat_more (declared top) (take i ds) (take (i + 1) ds) d (take_next ds i d at) ∙ ap (λ (x : AstItem). before ++ declared top x) is in
-    let rest = flat_split (declared top) ds i d at in
-    let split : flat_map (declared top) ds ≡ before ++ (item ∷ rest.0) = rest.1 ∙ ap (λ (x : AstItem). before ++ (declared top x ++ rest.0)) is in
-    row_added old before (flat_map (declared top) (take (i + 1) ds)) item es new k v same more (fresh_item old before rest.0 (flat_map (declared top) ds) item split differ) inserted name needs
+pub item_added : (top : List TopName) (old : List Row) (ds : List AstItem) (i : ℕ) (d : AstItem) (w : Item) (es new : List (Bor (List ℕ) × Vec Id Global)) (k : Bor (List ℕ)) (v : Vec Id Global) → slice_get ds i ≡ Some d → declared_items top d ≡ w ∷ [] → AllDiffer (row_names old ++ map item_name (flat_map (declared_items top) ds)) → map entry_row es ≡ old ++ map item_row (flat_map (declared_items top) (take i ds)) → new ≡ insert_entry key_eq es k v → k.now ≡ item_name w → v.items ≡ (item_row w).needs → map entry_row new ≡ old ++ map item_row (flat_map (declared_items top) (take (i + 1) ds))
+item_added top old ds i d w es new k v at one differ same inserted name needs =
+    let items = flat_map (declared_items top) in
+    let before = items (take i ds) in
+    let more : items (take (i + 1) ds) ≡ before ++ w ∷ [] = flat_more (declared_items top) (take i ds) (take (i + 1) ds) d (take_next ds i d at) ∙ ap (λ l. before ++ l) one in
+    let rest = flat_split (declared_items top) ds i d at in
+    let split : items ds ≡ before ++ (w ∷ rest.0) = rest.1 ∙ ap (λ l. before ++ (l ++ rest.0)) one in
+    row_added old before (items (take (i + 1) ds)) w es new k v same more (fresh_item old before rest.0 (items ds) w split differ) inserted name needs
 
 -- so the names of the items of a file differ from those of the files before it
-pub fresh_file : (rs : List Row) (files : List PackageFile) (i : ℕ) (file : PackageFile) → rs ≡ item_rows (take i files) → AllDiffer (map interface_name (interfaces files)) → slice_get files i ≡ Some file → AllDiffer (row_names rs ++ map interface_name (file_interfaces file))
+pub fresh_file : (rs : List Row) (files : List PackageFile) (i : ℕ) (file : PackageFile) → rs ≡ item_rows (take i files) → AllDiffer (map item_name (all_items files)) → slice_get files i ≡ Some file → AllDiffer (row_names rs ++ map item_name (file_items file))
 fresh_file rs files i file same differ at =
-    let it = flat_split file_interfaces files i file at in
-    let before = interfaces (take i files) in
-    let own = map interface_name (file_interfaces file) in
-    let rest = map interface_name it.0 in
-    let all : map interface_name (interfaces files) ≡ (map interface_name before ++ own) ++ rest =
-    ap (map interface_name) it.1 ∙ map-append interface_name before (file_interfaces file ++ it.0) ∙ ap (λ l. map interface_name before ++ l) (map-append interface_name (file_interfaces file) it.0) ∙ sym (append_assoc (map interface_name before) own rest) in
-    let names : map interface_name before ≡ row_names rs = sym (ap row_names same ∙ map_map (λ (row : Row). row.name) item_row before) in
-    subst (λ l. AllDiffer (l ++ own)) names (differ_front (map interface_name before ++ own) rest (subst AllDiffer all differ))
+    let it = flat_split file_items files i file at in
+    let before = all_items (take i files) in
+    let own = map item_name (file_items file) in
+    let rest = map item_name it.0 in
+    let all : map item_name (all_items files) ≡ (map item_name before ++ own) ++ rest =
+    ap (map item_name) it.1 ∙ map-append item_name before (file_items file ++ it.0) ∙ ap (λ l. map item_name before ++ l) (map-append item_name (file_items file) it.0) ∙ sym (append_assoc (map item_name before) own rest) in
+    let names : map item_name before ≡ row_names rs = sym (ap row_names same ∙ map_map (λ (row : Row). row.name) item_row before) in
+    subst (λ l. AllDiffer (l ++ own)) names (differ_front (map item_name before ++ own) rest (subst AllDiffer all differ))
 
 pub tops_none : AreTopsOf [] []
 tops_none = record { long = refl; each = λ i file top at there. absurd (let g : ⊥ = cc in g) }
@@ -125,20 +125,36 @@ tops_added files file old new tops more = record {
       ]);
 }
 
--- where names differ, the items have an order and each path at the top of a file is that of an item, no rule about names is broken
-pub legal_names : (files : List PackageFile) (places : List ℕ) → AllDiffer (map interface_name (interfaces files)) → AreDistinctTops files → IsOrder (item_rows files) places → AreDeclaredTops (interfaces files) files → (f : Fault) → IsBrokenNames files f → ⊥
-legal_names files places differ tops order originals f (DuplicateItem h) = no_repeat interface_name (interfaces files) h.later differ h.repeated
-legal_names files places differ tops order originals f (DuplicateTopName file among h) =
+-- where names differ and the items have an order, no rule about items is broken
+pub legal_items : (files : List PackageFile) (places : List ℕ) → AllDiffer (map item_name (all_items files)) → AreDistinctTops files → IsOrder (item_rows files) places → (f : Fault) → IsBrokenItems files f → ⊥
+legal_items files places differ tops order f (DuplicateItem h) = no_repeat item_name (all_items files) h.later differ h.repeated
+legal_items files places differ tops order f (DuplicateTopName file among h) =
     let p = at_contains files file among in
     no_repeat top_text (top_names file) h.later (tops.differ p.0 file p.1) h.repeated
-legal_names files places differ tops order originals f (MissingItem h) = no_missing_edge 7 item_word (item_rows files) places f order h
-legal_names files places differ tops order originals f (CyclicItem h) = no_cyclic_edge 8 item_word (item_rows files) places f order h
-legal_names files places differ tops order originals f (MissingOriginal file among h) =
-    let p = at_contains files file among in
-    let k = at_contains file.decl_list.items.items (ToplevelItem h.u) h.among in
-    let wrong : IsSome {T = Item} None = subst (λ (o : Option Item). IsSome o) h.missing ((originals.declared p.0 file p.1).declared k.0 h.u k.1) in
-    let g : ⊥ = cc in
-    g
+legal_items files places differ tops order f (MissingItem h) = no_missing_edge 7 item_word (item_rows files) places f order h
+legal_items files places differ tops order f (CyclicItem h) = no_cyclic_edge 8 item_word (item_rows files) places f order h
+
+-- the table of the items of files finds them
+pub names_declared : (files : List PackageFile) (names : FileNames) → AreNamesOf files names → AreDeclared (all_items files) names.items
+names_declared files names are = record { finds = λ name. rows_items (all_items files) names.items.entries name are.items }
+
+-- so it is with that about names, where none at the top of a file is broken
+pub legal_names : (files : List PackageFile) → ((f : Fault) → IsBrokenItems files f → ⊥) → AreDeclaredTops (all_items files) files → (f : Fault) → IsBrokenNames files f → ⊥
+legal_names files legal tops f (Items h) = legal f h
+legal_names files legal tops f (MissingOriginal file among h) = (let p = at_contains files file among in tops.declared p.0 file p.1 f h)
+
+-- each item is told to be a world, or to be none
+pub length-kinds : (files : List PackageFile) (names : FileNames) → AreNamesOf files names → length names.kinds.items ≡ length (all_items files)
+length-kinds files names are = ap (λ l. length l) are.kinds ∙ length-map (all_items files) is_world
+
+-- so it is with one that a path leads to
+pub kind_within : (files : List PackageFile) (names : FileNames) (id : Id) (p : ℕ) → AreNamesOf files names → target (item_rows files) id ≡ Some p → p < length names.kinds.items
+kind_within files names id p are found =
+    let r = place_of-Some (item_rows files) id.name.now p found in
+    let lt = slice_get_within (item_rows files) p r.0 r.1 in
+    let rows = length-map (all_items files) item_row in
+    let kinds = length-kinds files names are in
+    omega arith
 
 -- the place of a name among the keys is that of the item which an edge of this name leads to
 pub item_place : (files : List PackageFile) (table : Table) (name : List ℕ) (edge : Id) → rows table ≡ item_rows files → name ≡ edge.name.now → position (λ (k : Bor (List ℕ)). bytes_eq name k.now) (keys table) ≡ target (item_rows files) edge

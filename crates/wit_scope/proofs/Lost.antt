@@ -1,5 +1,5 @@
 -- What is wrong with a file by itself is wrong with the files, and what is right in each is right in one more.
-use Rattle.std.proofs.Common.{◌≡◌, ℕ, zero, suc, ◌+◌, List, [], ◌∷◌, ◌++◌, length, map, Some, None, IsSome, inl, inr, refl, sym, ap, ◌∙◌, subst, lit<}
+use Rattle.std.proofs.Common.{◌≡◌, ℕ, zero, suc, ◌+◌, List, [], ◌∷◌, ◌++◌, length, map, Option, Some, None, IsSome, inl, inr, refl, sym, ap, ◌∙◌, subst, lit<}
 use Rattle.std.specs.Prelude.{slice_get}
 use Rattle.std.specs.List.{flat_map}
 use Rattle.std.specs.Option.{option_map}
@@ -9,24 +9,21 @@ use Rattle.std.proofs.lemmas.Grind.{flat_map-append}
 use Rattle.std.proofs.lemmas.List.{append-nil}
 use Rattle.wit_tree.specs.declared.tree.ToplevelUse.{ToplevelUse}
 use Rattle.wit_tree.specs.declared.tree.AstItem.{AstItem}
-use Rattle.wit_tree.specs.declared.tree.AstItem.TheVariants.{Interface as InterfaceItem', Use as ToplevelItem}
-use Rattle.wit_tree.specs.declared.tree.Interface.{Interface}
-use Rattle.wit_tree.specs.declared.tree.InterfaceItem.{InterfaceItem}
-use Rattle.wit_tree.specs.declared.tree.InterfaceItem.TheVariants.{Use as UseItem}
-use Rattle.wit_tree.specs.declared.tree.Use.{Use}
+use Rattle.wit_tree.specs.declared.tree.AstItem.TheVariants.{Use as ToplevelItem}
+use Rattle.wit_tree.specs.declared.tree.Id.{Id}
 use Rattle.wit_tree.specs.declared.tree.PackageFile.{PackageFile}
 use Rattle.wit_order.specs.Table.{place_of}
-use Rattle.wit_meaning.specs.Source.{TopName, path_id, declared, top_names, top_text, item_edge, Item, file_interfaces, interfaces, interface_name, interface_named}
-use Rattle.wit_meaning.specs.Scope.{item_paths, paths, item_row}
+use Rattle.wit_meaning.specs.Source.{TopName, path_id, declared_items, top_names, top_text, item_edge, Item, file_items, all_items, item_name, item_named}
+use Rattle.wit_meaning.specs.Scope.{paths, item_row}
 use Rattle.wit_meaning.specs.Fault.{Fault, fault}
-use Rattle.wit_meaning.specs.Broken.{IsRepeatedItem, IsDuplicateTopName, IsMissingOriginal, IsBrokenNames, DuplicateTopName, MissingItem}
+use Rattle.wit_meaning.specs.Broken.{IsRepeatedItem, IsDuplicateTopName, IsMissingOriginal, IsBrokenItems, DuplicateTopName, MissingItem}
 use Rattle.wit_meaning.specs.Repeats.{AllDiffer}
 use Rattle.wit_meaning.proofs.Lists.{at_front, at_back, at_either, map_at}
 use Rattle.wit_meaning.proofs.Names.{name_itself}
 use Rattle.wit_meaning.proofs.Tables.{place_of-Some, none_if}
 use Rattle.wit_meaning.proofs.Scoping.{contains_at, at_contains}
 use Rattle.wit_meaning.proofs.Itemizing.{item_row_at}
-use Rattle.wit_scope.specs.Tops.{itself}
+use Rattle.wit_scope.specs.Tops.{item_top}
 use Rattle.wit_scope.specs.Checks.{AreDistinctTops, AreDeclaredUses, AreDeclaredTops, IsRepeatedName, IsUndeclared, IsLostAmong, IsWrongFile, WrongTop, WrongPath}
 use Rattle.wit_scope.proofs.FirstNames.{find_none}
 
@@ -41,14 +38,14 @@ at_flat f (y ∷ xs) (suc i) k x a at here =
     (length (f y) + rest.0, at_back (f y) (flat_map f xs) rest.0 a rest.1)
 
 -- a name that is no item's has no row
-missing_row : (is : List Item) (name : List ℕ) → interface_named is name ≡ None → place_of (map item_row is) name ≡ None
+missing_row : (is : List Item) (name : List ℕ) → item_named is name ≡ None → place_of (map item_row is) name ≡ None
 missing_row is name none = none_if (place_of (map item_row is) name) (λ b some. (
     let r = place_of-Some (map item_row is) name b some in
     let w = map_at item_row is b r.0 r.1 in
-    find_none (λ (i : Item). bytes_eq (interface_name i) name) is none b w.0 w.1 (ap (λ n. bytes_eq n name) (ap (λ row. row.name) w.2 ∙ sym r.2) ∙ name_itself name)))
+    find_none (λ (i : Item). bytes_eq (item_name i) name) is none b w.0 w.1 (ap (λ n. bytes_eq n name) (ap (λ row. row.name) w.2 ∙ sym r.2) ∙ name_itself name)))
 
 -- a path that leads nowhere is an edge to no item
-lost_path : (files : List PackageFile) (p : ℕ) (w : Item) (f : Fault) → slice_get (interfaces files) p ≡ Some w → IsLostAmong (interfaces files) w.top (paths w) f → IsBrokenNames files f
+lost_path : (files : List PackageFile) (p : ℕ) (w : Item) (f : Fault) → slice_get (all_items files) p ≡ Some w → IsLostAmong (all_items files) w.top (paths w) f → IsBrokenItems files f
 lost_path files p w f at h =
     let k = at_contains (paths w) h.path h.among in
     let id = item_edge w.top h.path in
@@ -57,15 +54,15 @@ lost_path files p w f at h =
       index = k.0;
       id = id;
       edge = (item_row w, item_row_at files p w at, slice_get-map (item_edge w.top) (paths w) k.0 ∙ ap (option_map (item_edge w.top)) k.1);
-      missing = missing_row (interfaces files) id.name.now h.lost.missing;
+      missing = missing_row (all_items files) id.name.now h.lost.missing;
       is = h.lost.is;
     })
 
-pub broken_file : (files : List PackageFile) (i : ℕ) (file : PackageFile) (f : Fault) → slice_get files i ≡ Some file → IsWrongFile (interfaces files) file f → IsBrokenNames files f
+pub broken_file : (files : List PackageFile) (i : ℕ) (file : PackageFile) (f : Fault) → slice_get files i ≡ Some file → IsWrongFile (all_items files) file f → IsBrokenItems files f
 broken_file files i file f at (WrongTop h) = DuplicateTopName file (contains_at files i file at) h
 broken_file files i file f at (WrongPath w among lost) =
-    let k = at_contains (file_interfaces file) w among in
-    let p = at_flat file_interfaces files i k.0 file w at k.1 in
+    let k = at_contains (file_items file) w among in
+    let p = at_flat file_items files i k.0 file w at k.1 in
     lost_path files p.0 w f p.1 lost
 
 pub tops_more : (files : List PackageFile) (file : PackageFile) → AreDistinctTops files → AllDiffer (map top_text (top_names file)) → AreDistinctTops (files ++ file ∷ [])
@@ -76,19 +73,19 @@ tops_more files file tops one = record {
   ];
 }
 
-pub uses_none : (is : List Item) → AreDeclaredTops is []
-uses_none is = record { declared = λ i file at. absurd (let f : ⊥ = cc in f) }
+pub tops_declared_none : (is : List Item) → AreDeclaredTops is []
+tops_declared_none is = record { declared = λ i file at. absurd (let f : ⊥ = cc in f) }
 
-pub uses_more : (is : List Item) (files : List PackageFile) (file : PackageFile) → AreDeclaredTops is files → AreDeclaredUses is file.decl_list.items.items → AreDeclaredTops is (files ++ file ∷ [])
-uses_more is files file uses one = record {
+pub tops_declared_more : (is : List Item) (files : List PackageFile) (file : PackageFile) → AreDeclaredTops is files → ((f : Fault) → IsMissingOriginal is file.decl_list.items.items f → ⊥) → AreDeclaredTops is (files ++ file ∷ [])
+tops_declared_more is files file tops one = record {
   declared = λ i g at. elim (at_either files file i g at) [
-    | inl old ↦ uses.declared i g old
-    | inr new ↦ subst (λ (x : PackageFile). AreDeclaredUses is x.decl_list.items.items) (sym new.1) one
+    | inl old ↦ tops.declared i g old
+    | inr new ↦ subst (λ (x : PackageFile). (f : Fault) → IsMissingOriginal is x.decl_list.items.items f → ⊥) (sym new.1) one
   ];
 }
 
 -- a declaration more
-pub declared_more : (is : List Item) (ds : List AstItem) (d : AstItem) → AreDeclaredUses is ds → ((u : ToplevelUse) → d ≡ ToplevelItem u → IsSome (interface_named is (path_id u.item).name.now)) → AreDeclaredUses is (ds ++ d ∷ [])
+pub declared_more : (is : List Item) (ds : List AstItem) (d : AstItem) → AreDeclaredUses is ds → ((u : ToplevelUse) → d ≡ ToplevelItem u → IsSome (item_named is (path_id u.item).name.now)) → AreDeclaredUses is (ds ++ d ∷ [])
 declared_more is ds d uses one = record {
   declared = λ k u at. elim (at_either ds d k (ToplevelItem u) at) [
     | inl old ↦ uses.declared k u old
@@ -103,11 +100,11 @@ pub duplicate_top : (top : List TopName) (f : Fault) → IsRepeatedName 6 top f 
 duplicate_top top f h = record { later = h.later; repeated = h.repeated; is = h.is }
 
 -- an item whose name stands twice
-pub duplicate_item : (is : List Item) (f : Fault) → IsRepeatedName 5 (map itself is) f → IsRepeatedItem is f
+pub duplicate_item : (is : List Item) (f : Fault) → IsRepeatedName 5 (map item_top is) f → IsRepeatedItem is f
 duplicate_item is f h =
     let r = h.repeated in
-    let a = map_at itself is r.first r.earlier r.at_first in
-    let b = map_at itself is r.second h.later r.at_second in
+    let a = map_at item_top is r.first r.earlier r.at_first in
+    let b = map_at item_top is r.second h.later r.at_second in
     record {
       later = b.0;
       repeated = record { first = r.first; second = r.second; earlier = a.0; before = r.before; at_first = a.1; at_second = b.1; same = ap top_text a.2 ∙ r.same ∙ sym (ap top_text b.2) };
@@ -117,21 +114,30 @@ duplicate_item is f h =
 pub missing_original : (is : List Item) (ds : List AstItem) (i : ℕ) (u : ToplevelUse) (f : Fault) → slice_get ds i ≡ Some (ToplevelItem u) → IsUndeclared is (path_id u.item) f → IsMissingOriginal is ds f
 missing_original is ds i u f at h = record { u = u; among = contains_at ds i (ToplevelItem u) at; missing = h.missing; is = h.is }
 
--- a part of an interface whose path leads nowhere
-pub lost_use : (is : List Item) (top : List TopName) (part : InterfaceItem) (u : Use) (f : Fault) → part ≡ UseItem u → IsUndeclared is (item_edge top (path_id u.from)) f → IsLostAmong is top (item_paths part) f
-lost_use is top part u f same h = subst (λ (p : InterfaceItem). IsLostAmong is top (item_paths p) f) (sym same) (record { path = path_id u.from; among = (0, lit< tt, refl); lost = h })
+-- where each path is the name of an item, none is missing
+pub no_missing_original : (is : List Item) (ds : List AstItem) (f : Fault) → AreDeclaredUses is ds → IsMissingOriginal is ds f → ⊥
+no_missing_original is ds f uses h =
+    let k = at_contains ds (ToplevelItem h.u) h.among in
+    let wrong : IsSome {T = Item} None = subst (λ (o : Option Item). IsSome o) h.missing (uses.declared k.0 h.u k.1) in
+    cc
 
-pub lost_part : (is : List Item) (top : List TopName) (parts : List InterfaceItem) (i : ℕ) (part : InterfaceItem) (f : Fault) → slice_get parts i ≡ Some part → IsLostAmong is top (item_paths part) f → IsLostAmong is top (flat_map item_paths parts) f
-lost_part is top parts i part f at h =
-    let k = at_contains (item_paths part) h.path h.among in
-    let p = at_flat item_paths parts i k.0 part h.path at k.1 in
-    record { path = h.path; among = contains_at (flat_map item_paths parts) p.0 h.path p.1; lost = h.lost }
+-- a path that leads nowhere, alone
+pub lost_one : (is : List Item) (top : List TopName) (path : Id) (f : Fault) → IsUndeclared is (item_edge top path) f → IsLostAmong is top (path ∷ []) f
+lost_one is top path f h = record { path = path; among = (0, lit< tt, refl); lost = h }
 
-pub lost_item : (is : List Item) (file : PackageFile) (i : ℕ) (w : Interface) (f : Fault) → slice_get file.decl_list.items.items i ≡ Some (InterfaceItem' w) → IsLostAmong is (top_names file) (paths (record { top = top_names file; interface = w })) f → IsWrongFile is file f
-lost_item is file i w f at h =
-    let item : Item = record { top = top_names file; interface = w } in
-    let p = at_flat (declared (top_names file)) file.decl_list.items.items i 0 (InterfaceItem' w) item at refl in
-    WrongPath item (contains_at (file_interfaces file) p.0 item p.1) h
+-- a part of an item whose path leads nowhere
+pub lost_part : {P Q : Type 0} (path_of : Q → List Id) (part_of : P → Q) (is : List Item) (top : List TopName) (parts : List P) (i : ℕ) (part : P) (f : Fault) → slice_get parts i ≡ Some part → IsLostAmong is top (path_of (part_of part)) f → IsLostAmong is top (flat_map path_of (map part_of parts)) f
+lost_part path_of part_of is top parts i part f at h =
+    let k = at_contains (path_of (part_of part)) h.path h.among in
+    let there = slice_get-map part_of parts i ∙ ap (option_map part_of) at in
+    let p = at_flat path_of (map part_of parts) i k.0 (part_of part) h.path there k.1 in
+    record { path = h.path; among = contains_at (flat_map path_of (map part_of parts)) p.0 h.path p.1; lost = h.lost }
+
+-- an item with such a part
+pub lost_item : (is : List Item) (file : PackageFile) (i : ℕ) (d : AstItem) (w : Item) (f : Fault) → slice_get file.decl_list.items.items i ≡ Some d → declared_items (top_names file) d ≡ w ∷ [] → IsLostAmong is w.top (paths w) f → IsWrongFile is file f
+lost_item is file i d w f at one h =
+    let p = at_flat (declared_items (top_names file)) file.decl_list.items.items i 0 d w at (ap (λ (l : List Item). slice_get l 0) one) in
+    WrongPath w (contains_at (file_items file) p.0 w p.1) h
 
 -- a part more
 pub flat_more : {X A : Type 0} (f : X → List A) (xs ys : List X) (x : X) → ys ≡ xs ++ x ∷ [] → flat_map f ys ≡ flat_map f xs ++ f x

@@ -9,15 +9,18 @@ use Rattle.wit_tree.specs.declared.tree.UseName.{UseName}
 use Rattle.wit_tree.specs.declared.tree.Interface.{Interface}
 use Rattle.wit_tree.specs.declared.tree.InterfaceItem.{InterfaceItem}
 use Rattle.wit_tree.specs.declared.tree.InterfaceItem.TheVariants.{TypeDef as TypeItem, Use as UseItem}
+use Rattle.wit_tree.specs.declared.tree.World.{World}
+use Rattle.wit_tree.specs.declared.tree.WorldItem.{WorldItem}
+use Rattle.wit_tree.specs.declared.tree.WorldItem.TheVariants as world_item
 use Rattle.wit_tree.specs.declared.tree.AstItem.{AstItem}
-use Rattle.wit_tree.specs.declared.tree.AstItem.TheVariants.{Interface as InterfaceItem', Use as ToplevelItem}
+use Rattle.wit_tree.specs.declared.tree.AstItem.TheVariants.{Interface as InterfaceItem', World as WorldItem', Use as ToplevelItem}
 use Rattle.wit_tree.specs.declared.tree.DeclList.{DeclList}
 use Rattle.wit_scope.specs.declared.visit.Wanted.{Wanted}
 use Rattle.wit_scope.specs.declared.visit.Wanted.TheVariants as wanted
 use Rattle.wit_scope.specs.declared.visit.Visit.{Visit as Held}
 
 pub record Visit : Type 0 where
-  -- the name of the item that the path stands in; none at the top of a file
+  -- the name of the item that needs what the path leads to; none, where no item does
   pub owner : Option Id
   pub path : UsePath
   -- none, where no names are used from what the path leads to
@@ -32,9 +35,19 @@ part_visits owner (UseItem u) = record { owner = Some owner; path = u.from; name
 abbrev pub interface_visits : Interface → List Visit
 interface_visits i = flat_map (part_visits i.name) i.items.items
 
+-- of a part of a world of this name: a `use` wants an interface, which the world does not need to come before it, and an include a world
+abbrev pub world_part_visits : Id → WorldItem → List Visit
+world_part_visits owner (world_item.TypeDef d) = []
+world_part_visits owner (world_item.Use u) = record { owner = None; path = u.from; names = Some u.names.items; wanted = wanted.Interface } ∷ []
+world_part_visits owner (world_item.Include i) = record { owner = Some owner; path = i.from; names = None; wanted = wanted.World } ∷ []
+
+abbrev pub world_visits : World → List Visit
+world_visits w = flat_map (world_part_visits w.name) w.items.items
+
 -- of a declaration: a `use` at the top of a file may lead to any item
 abbrev pub item_visits : AstItem → List Visit
 item_visits (InterfaceItem' i) = interface_visits i
+item_visits (WorldItem' w) = world_visits w
 item_visits (ToplevelItem u) = record { owner = None; path = u.item; names = None; wanted = wanted.Unknown } ∷ []
 
 abbrev pub visits : DeclList → List Visit

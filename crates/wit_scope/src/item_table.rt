@@ -2,8 +2,8 @@
 ghost use Rattle.std.specs.Prelude.{◌≡◌, ◌++◌, ◌⊎◌, List, map, IfOk, IfErr, OnOk};
 ghost use Rattle.std.specs.List.{flat_map};
 ghost use Rattle.wit_order.specs.Table.{rows, IsOrder};
-ghost use Rattle.wit_meaning.specs.Source.{TopName as Top, Item, top_names, item_edge as the_edge, file_interfaces, interface_name};
-ghost use Rattle.wit_meaning.specs.Scope.{item_paths, item_row};
+ghost use Rattle.wit_meaning.specs.Source.{TopName as Top, Item, interface_part, world_part, top_names, item_edge as the_edge, file_items, item_name, is_world};
+ghost use Rattle.wit_meaning.specs.Scope.{use_path, include_path, item_row};
 ghost use Rattle.wit_meaning.specs.Fault.{item_word};
 ghost use Rattle.wit_meaning.specs.Broken.{IsMissingEdge, IsCyclicEdge, Refused};
 ghost use Rattle.wit_meaning.specs.Repeats.{AllDiffer};
@@ -13,20 +13,20 @@ ghost use Rattle.wit_scope.specs.Checks.{IsLostAmong, IsWrongFile};
 use crate::order_refusal::refuse_item_order;
 use crate::top_name::{Paths, item_edge};
 use indexmap::IndexMap;
-use std::alloc::Global;
+use std::alloc::{AllocError, Global};
 use wit_order::order_places;
 use wit_tree::ParseResult;
-use wit_tree::tree::{AstItem, Id, Interface, InterfaceItem, PackageFile};
+use wit_tree::tree::{AstItem, Id, Interface, InterfaceItem, PackageFile, World, WorldItem};
 
-/// Adds the edge of the path of a part of an interface, where it has one.
-fn add_edge<'a>(
+/// Adds the edge of the path of a part of an interface, where that is a `use`.
+fn add_use<'a>(
     alloc: Global,
     paths: Paths<'_, 'a>,
     edges: &mut Vec<Id<'a>>,
     part: &InterfaceItem<'a>,
 ) -> ParseResult<()>
-    ensures edges { OnOk result ((top : List Top) → AreNamed top paths.entry.top.now → edges.new.items ≡ edges.old.items ++ map (the_edge top) (item_paths part.now)) }
-    ensures refused { IfErr result (λ e. (top : List Top) (is : List Item) → AreNamed top paths.entry.top.now → AreDeclared is paths.entry.declared.now → Refused (IsLostAmong is top (item_paths part.now)) e) }
+    ensures edges { OnOk result ((top : List Top) → AreNamed top paths.entry.top.now → edges.new.items ≡ edges.old.items ++ map (the_edge top) (use_path (interface_part part.now))) }
+    ensures refused { IfErr result (λ e. (top : List Top) (is : List Item) → AreNamed top paths.entry.top.now → AreDeclared is paths.entry.declared.now → Refused (IsLostAmong is top (use_path (interface_part part.now))) e) }
 {
     match part {
         InterfaceItem::TypeDef(_) => {}
@@ -39,22 +39,59 @@ fn add_edge<'a>(
 }
 
 /// The items that an interface uses, as edges.
-fn item_edges<'a>(
+fn interface_edges<'a>(
     alloc: Global,
     paths: Paths<'_, 'a>,
     interface: &Interface<'a>,
 ) -> ParseResult<Vec<Id<'a>>>
-    ensures edges { IfOk result (λ edges. (top : List Top) → AreNamed top paths.entry.top.now → edges.items ≡ map (the_edge top) (flat_map item_paths interface.now.items.items)) }
-    ensures refused { IfErr result (λ e. (top : List Top) (is : List Item) → AreNamed top paths.entry.top.now → AreDeclared is paths.entry.declared.now → Refused (IsLostAmong is top (flat_map item_paths interface.now.items.items)) e) }
+    ensures edges { IfOk result (λ edges. (top : List Top) → AreNamed top paths.entry.top.now → edges.items ≡ map (the_edge top) (flat_map use_path (map interface_part interface.now.items.items))) }
+    ensures refused { IfErr result (λ e. (top : List Top) (is : List Item) → AreNamed top paths.entry.top.now → AreDeclared is paths.entry.declared.now → Refused (IsLostAmong is top (flat_map use_path (map interface_part interface.now.items.items))) e) }
 {
     let mut edges = Vec::new(alloc);
     for part in &interface.items {
-        add_edge(alloc, paths, &mut edges, part)?;
+        add_use(alloc, paths, &mut edges, part)?;
     }
     Ok(edges)
 }
 
-/// Adds the items that a file declares, each with what it uses; refuses a path that leads nowhere.
+/// Adds the edge of the path of a part of a world, where that is an include.
+fn add_include<'a>(
+    alloc: Global,
+    paths: Paths<'_, 'a>,
+    edges: &mut Vec<Id<'a>>,
+    part: &WorldItem<'a>,
+) -> ParseResult<()>
+    ensures edges { OnOk result ((top : List Top) → AreNamed top paths.entry.top.now → edges.new.items ≡ edges.old.items ++ map (the_edge top) (include_path (world_part part.now))) }
+    ensures refused { IfErr result (λ e. (top : List Top) (is : List Item) → AreNamed top paths.entry.top.now → AreDeclared is paths.entry.declared.now → Refused (IsLostAmong is top (include_path (world_part part.now))) e) }
+{
+    match part {
+        WorldItem::TypeDef(_) | WorldItem::Use(_) => {}
+        WorldItem::Include(include) => {
+            let edge = item_edge(alloc, paths, &include.from)?;
+            edges.push(edge)?;
+        }
+    }
+    Ok(())
+}
+
+/// The items that a world includes, as edges.
+fn world_edges<'a>(
+    alloc: Global,
+    paths: Paths<'_, 'a>,
+    world: &World<'a>,
+) -> ParseResult<Vec<Id<'a>>>
+    ensures edges { IfOk result (λ edges. (top : List Top) → AreNamed top paths.entry.top.now → edges.items ≡ map (the_edge top) (flat_map include_path (map world_part world.now.items.items))) }
+    ensures refused { IfErr result (λ e. (top : List Top) (is : List Item) → AreNamed top paths.entry.top.now → AreDeclared is paths.entry.declared.now → Refused (IsLostAmong is top (flat_map include_path (map world_part world.now.items.items))) e) }
+{
+    let mut edges = Vec::new(alloc);
+    for part in &world.items {
+        add_include(alloc, paths, &mut edges, part)?;
+    }
+    Ok(edges)
+}
+
+/// Adds the items that a file declares, each with the items that have to come before it; refuses a
+/// path that leads nowhere.
 pub(crate) fn add_items<'a>(
     alloc: Global,
     paths: Paths<'_, 'a>,
@@ -62,20 +99,39 @@ pub(crate) fn add_items<'a>(
     file: &PackageFile<'a>,
 ) -> ParseResult<()>
     requires named { AreNamed (top_names file.now) paths.top.now }
-    requires distinct { AllDiffer (map (λ row. row.name) (rows table.old) ++ map interface_name (file_interfaces file.now)) }
-    ensures rows { OnOk result (rows table.new ≡ rows table.old ++ map item_row (file_interfaces file.now)) }
+    requires distinct { AllDiffer (map (λ row. row.name) (rows table.old) ++ map item_name (file_items file.now)) }
+    ensures rows { OnOk result (rows table.new ≡ rows table.old ++ map item_row (file_items file.now)) }
     ensures refused { IfErr result (λ e. (is : List Item) → AreDeclared is paths.entry.declared.now → Refused (IsWrongFile is file.now) e) }
 {
     for item in &file.decl_list.items {
-        if let AstItem::Interface(interface) = item {
-            let edges = item_edges(alloc, paths, interface)?;
-            table.insert(interface.name.name, edges)?;
+        let (id, edges) = match item {
+            AstItem::Interface(interface) => {
+                (interface.name, interface_edges(alloc, paths, interface)?)
+            }
+            AstItem::World(world) => (world.name, world_edges(alloc, paths, world)?),
+            AstItem::Use(_) => continue,
+        };
+        table.insert(id.name, edges)?;
+    }
+    Ok(())
+}
+
+/// Adds of each item that a file declares whether it is a world.
+pub(crate) fn add_kinds(kinds: &mut Vec<bool>, file: &PackageFile<'_>) -> Result<(), AllocError>
+    ensures { OnOk result (kinds.new.items ≡ kinds.old.items ++ map is_world (file_items file.now)) }
+{
+    for item in &file.decl_list.items {
+        match item {
+            AstItem::Interface(_) => kinds.push(false)?,
+            AstItem::World(_) => kinds.push(true)?,
+            AstItem::Use(_) => {}
         }
     }
     Ok(())
 }
 
-/// The places of the items of a table, each behind those that it uses, in the least such order.
+/// The places of the items of a table, each behind those that have to come before it, in the least
+/// such order.
 pub(crate) fn table_order<'a>(
     alloc: Global,
     table: &IndexMap<&'a str, Vec<Id<'a>>>,

@@ -22,5 +22,6 @@ pub use comments::docs;
 pub use file_names::{FileNames, Found};
 pub use name_scope::NameScope;
 pub use package::package_name;
+pub use top_name::path_id;
 pub use unique_names::check_unique_names;
 pub use visit::{Visit, Wanted, visits};

@@ -1,10 +1,10 @@
 //! Names at the top of files, and what paths lead to.
 ghost use Rattle.std.specs.Prelude.{◌≡◌, ◌++◌, List, IsSome, map, IfOk, IfErr, OnOk};
-ghost use Rattle.wit_meaning.specs.Source.{TopName as Top, Item, top_name as the_name, top_names as the_names, top_text, path_id as the_path, item_edge as the_edge, file_interfaces, interfaces, interface_name, interface_named};
-ghost use Rattle.wit_meaning.specs.Broken.{IsDuplicateTopName, IsMissingOriginal, IsBrokenNames, Refused};
+ghost use Rattle.wit_meaning.specs.Source.{TopName as Top, Item, itself as the_itself, top_name as the_name, top_names as the_names, top_text, path_id as the_path, item_edge as the_edge, file_items, all_items, item_name, item_named};
+ghost use Rattle.wit_meaning.specs.Broken.{IsDuplicateTopName, IsMissingOriginal, IsBrokenItems, Refused};
 ghost use Rattle.wit_meaning.specs.Repeats.{AllDiffer};
-ghost use Rattle.wit_scope.specs.Tops.{top_behind, itself, AreNamed, AreDeclared};
-ghost use Rattle.wit_scope.specs.Checks.{AreDeclaredUses, AreDeclaredTops, IsRepeatedName, IsUndeclared};
+ghost use Rattle.wit_scope.specs.Tops.{top_behind, item_top, AreNamed, AreDeclared};
+ghost use Rattle.wit_scope.specs.Checks.{AreDeclaredUses, IsRepeatedName, IsUndeclared};
 
 use crate::refusal::{refuse, refuse_missing};
 use indexmap::IndexMap;
@@ -28,7 +28,7 @@ pub(crate) struct Paths<'n, 'a> {
 }
 
 /// What a path names.
-pub(crate) fn path_id<'a>(path: &UsePath<'a>) -> Id<'a>
+pub fn path_id<'a>(path: &UsePath<'a>) -> Id<'a>
     ensures { result ≡ the_path path.now }
 {
     match path {
@@ -36,15 +36,20 @@ pub(crate) fn path_id<'a>(path: &UsePath<'a>) -> Id<'a>
     }
 }
 
+/// The name of a declared item, which stands for itself.
+fn itself<'a>(id: Id<'a>) -> TopName<'a>
+    ensures { top_behind result ≡ the_itself id.entry }
+{
+    TopName { id, original: id }
+}
+
 /// The name at the top of a file that a declaration makes.
 fn top_name<'a>(item: &AstItem<'a>) -> TopName<'a>
     ensures { top_behind result ≡ the_name item.now }
 {
     match item {
-        AstItem::Interface(interface) => TopName {
-            id: interface.name,
-            original: interface.name,
-        },
+        AstItem::Interface(interface) => itself(interface.name),
+        AstItem::World(world) => itself(world.name),
         AstItem::Use(used) => {
             let original = path_id(&used.item);
             TopName {
@@ -68,11 +73,12 @@ fn top_names<'a>(alloc: Global, items: &[AstItem<'a>]) -> Result<Vec<TopName<'a>
 
 /// Adds the names of the items that a file declares.
 fn add_declared<'a>(names: &mut Vec<TopName<'a>>, file: &PackageFile<'a>) -> Result<(), AllocError>
-    ensures { OnOk result (map top_behind names.new.items ≡ map top_behind names.old.items ++ map itself (file_interfaces file.now)) }
+    ensures { OnOk result (map top_behind names.new.items ≡ map top_behind names.old.items ++ map item_top (file_items file.now)) }
 {
     for item in &file.decl_list.items {
-        if let AstItem::Interface(_) = item {
-            names.push(top_name(item))?;
+        match item {
+            AstItem::Interface(_) | AstItem::World(_) => names.push(top_name(item))?,
+            AstItem::Use(_) => {}
         }
     }
     Ok(())
@@ -83,7 +89,7 @@ fn declared_names<'a>(
     alloc: Global,
     files: &[PackageFile<'a>],
 ) -> Result<Vec<TopName<'a>>, AllocError>
-    ensures { IfOk result (λ names. map top_behind names.items ≡ map itself (interfaces files.now)) }
+    ensures { IfOk result (λ names. map top_behind names.items ≡ map item_top (all_items files.now)) }
 {
     let mut names = Vec::new(alloc);
     for file in files {
@@ -139,20 +145,20 @@ pub(crate) fn item_names<'a>(
     alloc: Global,
     files: &[PackageFile<'a>],
 ) -> ParseResult<IndexMap<&'a str, Id<'a>>>
-    ensures declared { IfOk result (AreDeclared (interfaces files.now)) }
-    ensures distinct { OnOk result (AllDiffer (map interface_name (interfaces files.now))) }
-    ensures refused { IfErr result (Refused (IsBrokenNames files.now)) }
+    ensures declared { IfOk result (AreDeclared (all_items files.now)) }
+    ensures distinct { OnOk result (AllDiffer (map item_name (all_items files.now))) }
+    ensures refused { IfErr result (Refused (IsBrokenItems files.now)) }
 {
     let names = declared_names(alloc, files)?;
     Ok(unique_names(alloc, 5, "duplicate item named ", "", &names)?)
 }
 
 /// Refuses a name that is no declared item's.
-fn check_declared(alloc: Global, declared: &IndexMap<&str, Id<'_>>, id: Id<'_>) -> ParseResult<()>
-    ensures declared { OnOk result ((is : List Item) → AreDeclared is declared.now → IsSome (interface_named is id.entry.name.now)) }
+fn check_declared<V>(alloc: Global, declared: &IndexMap<&str, V>, id: Id<'_>) -> ParseResult<()>
+    ensures declared { OnOk result ((is : List Item) → AreDeclared is declared.now → IsSome (item_named is id.entry.name.now)) }
     ensures refused { IfErr result (λ e. (is : List Item) → AreDeclared is declared.now → Refused (IsUndeclared is id.entry) e) }
 {
-    if declared.get(id.name).is_none() {
+    if !declared.contains_key(id.name) {
         return Err(refuse_missing(alloc, 7, "interface or world", id));
     }
     Ok(())
@@ -179,9 +185,9 @@ pub(crate) fn item_edge<'a>(
 }
 
 /// Refuses a `use` at the top of a file whose path is the name of no item.
-fn check_file_originals(
+pub(crate) fn check_originals(
     alloc: Global,
-    declared: &IndexMap<&str, Id<'_>>,
+    declared: &IndexMap<&str, Vec<Id<'_>>>,
     file: &PackageFile<'_>,
 ) -> ParseResult<()>
     ensures declared { OnOk result ((is : List Item) → AreDeclared is declared.now → AreDeclaredUses is file.now.decl_list.items.items) }
@@ -191,22 +197,6 @@ fn check_file_originals(
         if let AstItem::Use(used) = item {
             check_declared(alloc, declared, path_id(&used.item))?;
         }
-    }
-    Ok(())
-}
-
-/// Refuses a `use` at the top of a file whose path is the name of no item.
-pub(crate) fn check_originals(
-    alloc: Global,
-    declared: &IndexMap<&str, Id<'_>>,
-    files: &[PackageFile<'_>],
-) -> ParseResult<()>
-    requires declared { AreDeclared (interfaces files.now) declared.now }
-    ensures declared { OnOk result (AreDeclaredTops (interfaces files.now) files.now) }
-    ensures refused { IfErr result (Refused (IsBrokenNames files.now)) }
-{
-    for file in files {
-        check_file_originals(alloc, declared, file)?;
     }
     Ok(())
 }

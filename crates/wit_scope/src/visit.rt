@@ -1,9 +1,11 @@
 //! The paths of a file, in the order in which they are met.
 ghost use Rattle.std.specs.Prelude.{◌≡◌, ◌++◌, map, IfOk, OnOk};
-ghost use Rattle.wit_scope.specs.Visits.{visit_behind, interface_visits, item_visits, visits as the_visits};
+ghost use Rattle.wit_scope.specs.Visits.{visit_behind, interface_visits, world_visits, item_visits, visits as the_visits};
 
 use std::alloc::{AllocError, Global};
-use wit_tree::tree::{AstItem, DeclList, Id, Interface, InterfaceItem, UseName, UsePath};
+use wit_tree::tree::{
+    AstItem, DeclList, Id, Interface, InterfaceItem, UseName, UsePath, World, WorldItem,
+};
 
 /// What the item that a path leads to has to be.
 #[derive(Clone, Copy, Debug, PartialEq, Eq)]
@@ -19,7 +21,8 @@ pub enum Wanted {
 /// A path of a file, with whose it is and what is taken by it.
 #[derive(Clone, Copy, Debug)]
 pub struct Visit<'f, 'a> {
-    /// The name of the item that the path stands in, or `None` at the top of the file.
+    /// The name of the item that has to come after what the path leads to: of an interface for its
+    /// `use`s, of a world for its includes. `None` for a `use` in a world or at the top of a file.
     pub owner: Option<Id<'a>>,
     pub path: &'f UsePath<'a>,
     /// The names that are used from the item, or `None` where the item itself is named.
@@ -47,6 +50,33 @@ fn add_interface_visits<'f, 'a>(
     Ok(())
 }
 
+/// Adds the visits of a world: one for each `use` and each include.
+fn add_world_visits<'f, 'a>(
+    visits: &mut Vec<Visit<'f, 'a>>,
+    world: &'f World<'a>,
+) -> Result<(), AllocError>
+    ensures { OnOk result (map visit_behind visits.new.items ≡ map visit_behind visits.old.items ++ world_visits world.now) }
+{
+    for item in &world.items {
+        match item {
+            WorldItem::TypeDef(_) => {}
+            WorldItem::Use(used) => visits.push(Visit {
+                owner: None,
+                path: &used.from,
+                names: Some(&used.names),
+                wanted: Wanted::Interface,
+            })?,
+            WorldItem::Include(include) => visits.push(Visit {
+                owner: Some(world.name),
+                path: &include.from,
+                names: None,
+                wanted: Wanted::World,
+            })?,
+        }
+    }
+    Ok(())
+}
+
 /// Adds the visits of a declaration.
 fn add_visits<'f, 'a>(
     visits: &mut Vec<Visit<'f, 'a>>,
@@ -56,6 +86,7 @@ fn add_visits<'f, 'a>(
 {
     match item {
         AstItem::Interface(interface) => add_interface_visits(visits, interface)?,
+        AstItem::World(world) => add_world_visits(visits, world)?,
         AstItem::Use(used) => visits.push(Visit {
             owner: None,
             path: &used.item,
@@ -66,8 +97,8 @@ fn add_visits<'f, 'a>(
     Ok(())
 }
 
-/// The visits of a file, in source order: of an interface one for each `use`, and one for a `use`
-/// at the top of the file.
+/// The visits of a file, in source order: of an interface one for each `use`, of a world one for
+/// each `use` and each include, and one for a `use` at the top of the file.
 ///
 /// The error is want of memory.
 pub fn visits<'f, 'a>(

@@ -1,7 +1,8 @@
 //! The names of files.
 //!
-//! A file is written as words: `i:a,b` is an interface `i` that uses from `a` and `b`, `x=a` a
-//! `use` of `a` as `x`. A `|` stands between files. Names have their numbers as spans.
+//! A file is written as words: `i:a,b` is an interface `i` that uses from `a` and `b`, `w+a,.b` a
+//! world `w` that includes `a` and uses from `b`, `x=a` a `use` of `a` as `x`. A `|` stands between
+//! files. Names have their numbers as spans.
 
 ghost use Rattle.wit_scope.specs.FileNames.{AreNamesOf};
 
@@ -11,7 +12,8 @@ use std::test::Fail;
 use wit_scope::{FileNames, Found};
 use wit_tree::Span;
 use wit_tree::tree::{
-    AstItem, DeclList, Id, Interface, InterfaceItem, PackageFile, ToplevelUse, Use, UsePath,
+    AstItem, DeclList, Id, Include, Interface, InterfaceItem, PackageFile, ToplevelUse, Use,
+    UsePath, World, WorldItem,
 };
 
 /// The next label.
@@ -40,8 +42,44 @@ fn interface<'a>(
     Ok(AstItem::Interface(Interface { name, items }))
 }
 
+/// A part of a world: a `use` of what stands behind a dot, else an include.
+fn world_item<'a>(
+    alloc: Global,
+    path: &'a str,
+    number: &mut u32,
+) -> Result<WorldItem<'a>, AllocError> {
+    if let Some(path) = path.strip_prefix('.') {
+        let from = UsePath::Id(label(path, number)?);
+        let names = Vec::new(alloc);
+        return Ok(WorldItem::Use(Use { from, names }));
+    }
+    let from = UsePath::Id(label(path, number)?);
+    let names = Vec::new(alloc);
+    Ok(WorldItem::Include(Include { from, names }))
+}
+
+/// A world of some parts.
+fn world<'a>(
+    alloc: Global,
+    name: &'a str,
+    paths: &'a str,
+    number: &mut u32,
+) -> Result<AstItem<'a>, Fail> {
+    let name = label(name, number)?;
+    let mut items = Vec::new(alloc);
+    for path in paths.split(',') {
+        if !path.is_empty() {
+            items.push(world_item(alloc, path, number)?)?;
+        }
+    }
+    Ok(AstItem::World(World { name, items }))
+}
+
 /// What a word declares.
 fn item<'a>(alloc: Global, word: &'a str, number: &mut u32) -> Result<AstItem<'a>, Fail> {
+    if let Some((name, paths)) = word.split_once('+') {
+        return Ok(world(alloc, name, paths, number)?);
+    }
     if let Some((name, paths)) = word.split_once(':') {
         return Ok(interface(alloc, name, paths, number)?);
     }
@@ -100,7 +138,13 @@ x=z a:x b:c c:b => E7 1 interface or world `z` does not exist;
 x=z a:b b:a => E8 4 interface or world `b` depends on itself;
 a: a=z | b: => E6 1 duplicate name `a` in this file;
 a: | x=z => E7 2 interface or world `z` does not exist;
-x=a a: | y=x => E7 4 interface or world `x` does not exist";
+x=a a: | y=x => E7 4 interface or world `x` does not exist;
+a+b b+ => 1 0 ;
+w+v i:j v+ j: => 2 0 3 1 ;
+a+.b,.z b+a => 0 1 ;
+i: i+ => E5 1 duplicate item named `i`;
+a+b b+a => E8 2 interface or world `b` depends on itself;
+a+z => E7 1 interface or world `z` does not exist";
 
 #[test]
 fn items_in_order(rt: HostRuntime) -> Result<(), Fail> {

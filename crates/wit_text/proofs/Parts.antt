@@ -144,3 +144,7 @@ then_perhaps {a} {b} {c} {xs} {ys} p q =
 -- with a part that perhaps has no token, and one that has no marks, behind it
 pub close_on : {a b c d : Reader} {xs ys : List Mark} → IsRead a xs b → IsReadOn b ys c → IsRead c [] d → IsRead a (xs ++ ys) d
 close_on p q r = close (then_perhaps p q) r
+
+-- with a part behind it that perhaps has no token, and has no marks
+pub close_perhaps : {a b c : Reader} {xs : List Mark} → IsRead a xs b → IsReadOn b [] c → IsRead a xs c
+close_perhaps {a} {b} {c} {xs} p q = subst (λ marks. IsRead a marks c) (append-nil xs) (then_perhaps p q)

@@ -98,7 +98,8 @@ impl<'a> Reader<'a> {
         })
     }
 
-    fn read_definition(&mut self) -> ParseResult<TypeDef<'a>>
+    /// Reads a definition, of an interface or of a world.
+    pub fn read_definition(&mut self) -> ParseResult<TypeDef<'a>>
         ensures read { IfOk result (λ d. IsRead self.old (definition_marks d) self.new) }
         ensures refused { IfErr result (λ e. IsRefused self.old e) }
     {

@@ -51,7 +51,7 @@ impl<'a> Reader<'a> {
         Ok(Interface { name, items })
     }
 
-    /// Reads a declaration: an interface, or another name for an item.
+    /// Reads a declaration: an interface, a world, or another name for an item.
     fn read_declaration(&mut self) -> ParseResult<AstItem<'a>>
         ensures read { IfOk result (λ item. IsRead self.old (declaration_marks item) self.new) }
         ensures refused { IfErr result (λ e. IsRefused self.old e) }
@@ -59,6 +59,10 @@ impl<'a> Reader<'a> {
         if self.at_word(Word::Use) {
             let used = self.read_toplevel_use()?;
             return Ok(AstItem::Use(used));
+        }
+        if self.at_word(Word::World) {
+            let world = self.read_world()?;
+            return Ok(AstItem::World(world));
         }
         let interface = self.read_interface()?;
         Ok(AstItem::Interface(interface))

@@ -9,6 +9,7 @@ mod reader;
 mod types;
 mod uses;
 mod version;
+mod world;
 
 pub use file::read_file;
 pub use wit_lex::{ReadFault, Source, SourceMap, is_same_map};

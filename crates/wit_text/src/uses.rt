@@ -1,4 +1,4 @@
-//! Reading what an interface uses, and other names for items.
+//! Reading paths, what an interface or a world uses, and other names for items.
 ghost use Rattle.std.specs.Prelude.{◌≡◌, ◌+◌, [], ◌∷◌, IfOk, IfErr};
 ghost use Rattle.std.specs.List.{flat_map};
 ghost use Rattle.wit_tree.specs.Marks.{named, path_marks, local_marks, used_marks, use_marks, toplevel_marks};
@@ -20,7 +20,7 @@ impl<'a> Reader<'a> {
     ghost use Rattle.wit_text.specs.Reading.{IsRead, IsReadOn, IsRefused};
 
     /// Reads a path: a name of the package.
-    fn read_path(&mut self) -> ParseResult<UsePath<'a>>
+    pub fn read_path(&mut self) -> ParseResult<UsePath<'a>>
         ensures read { IfOk result (λ path. IsRead self.old (path_marks path) self.new) }
         ensures refused { IfErr result (λ e. IsRefused self.old e) }
     {

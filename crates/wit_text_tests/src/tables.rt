@@ -26,6 +26,9 @@ interface i { type a = result; type b = result<t>; type c = result<_, t>; type d
 interface i { type a = future; type b = future<t>; type c = stream; type d = stream<stream>; }
 interface i { flags f {} flags g { a } flags h { a, b, } variant v {} variant w { a, b(u8), c(result), } enum e {} enum d { a, b, } }
 interface i { type a = option<%option>; type b = result<%result, %map>; }
+world w {} interface i {} world %world{include/**/w;} use x;
+world w { include x; include y with {} include z with { a as b }; use x.{t as s, u}; use %use.{}; include v with {a as b, %with as %as,} }
+world w { type a = u8; record r { a: u8 } flags f { a } variant v { a(u8) } enum e { a } include x with {}; type %include = a; }
 interface %map { flags %flags { %enum, %u8 } variant %variant { %tuple(%tuple) } enum %enum { %future } }";
 
 /// Texts in three parts, a line each, behind the number under which the one in the middle is refused.
@@ -64,7 +67,31 @@ pub const REFUSED: &str = "\
 47|use x |%as| y;
 47|use x|.|{t};
 47|use x; |;|
-47||world| w {}
+47|world |world| {}
+47||%world| w {}
+47|world w|;|
+47|world w { |import| i; }
+47|world w { |export| i; }
+47|world w { |resource| r; }
+47|world w { |f|: func(); }
+47|world w { |%include| x; }
+47|world w { include |with| {} }
+47|world w { include x|.|{t}; }
+47|world w { include x |{| a as b } }
+47|world w { include x |%with| {} }
+47|world w { include x |}|
+47|world w { include x;|;| }
+47|world w { include x with|;| }
+47|world w { include x with { a|}| }
+47|world w { include x with { a as|}| }
+47|world w { include x with { a |%as| b } }
+47|world w { include x with { a as |as| } }
+47|world w { include x with { |,| } }
+47|world w { include x with { a as b,|,| } }
+47|world w { include x with { a as b |c| as d } }
+47|world w { include x with { a as b };|;| }
+47|world w { include x;||
+47|interface i { |include| x; }
 47|interface |a--b| {}
 47|interface |%a-| {}
 47|interface |aB| {}

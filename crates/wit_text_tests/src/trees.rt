@@ -5,14 +5,15 @@ use std::alloc::{AllocError, Global};
 use std::process::Abort;
 use std::test::Fail;
 use wit_text::read_file;
-use wit_tree::tree::{AstItem, Interface, InterfaceItem, TypeBody};
+use wit_tree::tree::{AstItem, Interface, InterfaceItem, TypeBody, World, WorldItem};
 
-/// How many fields or used names the first item of a text's first interface has.
+/// How many fields, used names or renamed names the first item of a text's first declaration has.
 fn part_count(rt: &impl Abort, alloc: Global, text: &str) -> usize {
     assert!(rt; text.len() < 1_000_000);
     match read_file(alloc, text, 0) {
         Ok(file) => match file.decl_list.items.first() {
             Some(AstItem::Interface(interface)) => first_part_count(interface),
+            Some(AstItem::World(world)) => first_renamed_count(world),
             _ => 0,
         },
         Err(_) => 0,
@@ -30,6 +31,13 @@ fn first_part_count(interface: &Interface) -> usize {
         },
         Some(InterfaceItem::Use(used)) => used.names.len(),
         None => 0,
+    }
+}
+
+fn first_renamed_count(world: &World) -> usize {
+    match world.items.first() {
+        Some(WorldItem::Include(include)) => include.names.len(),
+        _ => 0,
     }
 }
 
@@ -52,6 +60,8 @@ fn drops_nothing(rt: HostRuntime) -> Result<(), Fail> {
     assert_eq!(rt; part_count(&rt, alloc, fields.as_str()), 300);
     let names = repeated(alloc, "interface i { use x.{", "t as u, ", 300, "}; }")?;
     assert_eq!(rt; part_count(&rt, alloc, names.as_str()), 300);
+    let renamed = repeated(alloc, "world w { include x with { ", "a as b, ", 300, "} }")?;
+    assert_eq!(rt; part_count(&rt, alloc, renamed.as_str()), 300);
     check_tree(
         &rt,
         alloc,
@@ -65,6 +75,12 @@ fn drops_nothing(rt: HostRuntime) -> Result<(), Fail> {
         USES_TREE,
     )?;
     check_tree(&rt, alloc, "use x as y; use %z;", TOPLEVEL_TREE)?;
+    check_tree(
+        &rt,
+        alloc,
+        "world w { use x.{t}; type s = t; include v; include %u with { a as %b, c as d } }",
+        WORLD_TREE,
+    )?;
     Ok(())
 }
 
@@ -76,3 +92,6 @@ const USES_TREE: &str =
 
 const TOPLEVEL_TREE: &str =
     "PackageFile { package_id: None, decl_list: DeclList { items: [Use(ToplevelUse { span: Span { start: 1000, end: 1003 }, item: Id(Id { name: \"x\", span: Span { start: 1004, end: 1005 } }), as_: Some(Id { name: \"y\", span: Span { start: 1009, end: 1010 } }) }), Use(ToplevelUse { span: Span { start: 1012, end: 1015 }, item: Id(Id { name: \"z\", span: Span { start: 1016, end: 1018 } }), as_: None })] } }";
+
+const WORLD_TREE: &str =
+    "PackageFile { package_id: None, decl_list: DeclList { items: [World(World { name: Id { name: \"w\", span: Span { start: 1006, end: 1007 } }, items: [Use(Use { from: Id(Id { name: \"x\", span: Span { start: 1014, end: 1015 } }), names: [UseName { name: Id { name: \"t\", span: Span { start: 1017, end: 1018 } }, as_: None }] }), TypeDef(TypeDef { name: Id { name: \"s\", span: Span { start: 1026, end: 1027 } }, body: Plain(Name(Id { name: \"t\", span: Span { start: 1030, end: 1031 } })) }), Include(Include { from: Id(Id { name: \"v\", span: Span { start: 1041, end: 1042 } }), names: [] }), Include(Include { from: Id(Id { name: \"u\", span: Span { start: 1052, end: 1054 } }), names: [IncludeName { name: Id { name: \"a\", span: Span { start: 1062, end: 1063 } }, as_: Id { name: \"b\", span: Span { start: 1067, end: 1069 } } }, IncludeName { name: Id { name: \"c\", span: Span { start: 1071, end: 1072 } }, as_: Id { name: \"d\", span: Span { start: 1076, end: 1077 } } }] })] })] } }";

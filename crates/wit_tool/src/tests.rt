@@ -8,3 +8,4 @@ mod large;
 mod lines;
 mod listings;
 mod refusals;
+mod worlds;

@@ -19,8 +19,13 @@ use Rattle.wit_tree.specs.declared.tree.UsePath.{UsePath}
 use Rattle.wit_tree.specs.declared.tree.UsePath.TheVariants.{Id as PathName}
 use Rattle.wit_tree.specs.declared.tree.UseName.{UseName}
 use Rattle.wit_tree.specs.declared.tree.Interface.{Interface}
+use Rattle.wit_tree.specs.declared.tree.World.{World}
+use Rattle.wit_tree.specs.declared.tree.WorldItem.{WorldItem}
+use Rattle.wit_tree.specs.declared.tree.WorldItem.TheVariants.{TypeDef as WorldTypeDef, Use as WorldUse, Include as WorldInclude}
+use Rattle.wit_tree.specs.declared.tree.Include.{Include}
+use Rattle.wit_tree.specs.declared.tree.IncludeName.{IncludeName}
 use Rattle.wit_tree.specs.declared.tree.AstItem.{AstItem}
-use Rattle.wit_tree.specs.declared.tree.AstItem.TheVariants.{Interface as InterfaceItem', Use as ToplevelItem}
+use Rattle.wit_tree.specs.declared.tree.AstItem.TheVariants.{Interface as InterfaceItem', World as WorldItem', Use as ToplevelItem}
 use Rattle.wit_tree.specs.declared.tree.ToplevelUse.{ToplevelUse}
 use Rattle.wit_tree.specs.declared.tree.PackageName.{PackageName}
 use Rattle.wit_tree.specs.declared.tree.PackageFile.{PackageFile}
@@ -133,11 +138,26 @@ item_marks (UseItem u) = use_marks u
 abbrev pub interface_marks : Interface → List Mark
 interface_marks i = named i.name ∷ flat_map item_marks i.items.items
 
+abbrev pub renamed_marks : IncludeName → List Mark
+renamed_marks n = named n.name ∷ named n.as_ ∷ []
+
+abbrev pub include_marks : Include → List Mark
+include_marks i = path_marks i.from ++ flat_map renamed_marks i.names.items
+
+abbrev pub world_item_marks : WorldItem → List Mark
+world_item_marks (WorldTypeDef d) = definition_marks d
+world_item_marks (WorldUse u) = use_marks u
+world_item_marks (WorldInclude i) = include_marks i
+
+abbrev pub world_marks : World → List Mark
+world_marks w = named w.name ∷ flat_map world_item_marks w.items.items
+
 abbrev pub toplevel_marks : ToplevelUse → List Mark
 toplevel_marks u = spelled u.span (codes "use") ∷ path_marks u.item ++ local_marks u.as_
 
 abbrev pub declaration_marks : AstItem → List Mark
 declaration_marks (InterfaceItem' i) = interface_marks i
+declaration_marks (WorldItem' w) = world_marks w
 declaration_marks (ToplevelItem u) = toplevel_marks u
 
 -- a header's span goes to the end of its version, or of its name where it has none

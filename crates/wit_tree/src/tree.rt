@@ -80,6 +80,7 @@ pub struct DeclList<'a> {
 #[derive(Debug, Drop)]
 pub enum AstItem<'a> {
     Interface(Interface<'a>),
+    World(World<'a>),
     Use(ToplevelUse<'a>),
 }
 
@@ -107,7 +108,36 @@ pub enum InterfaceItem<'a> {
     Use(Use<'a>),
 }
 
-/// Names that an interface uses from another one, in source order.
+/// A declared world.
+#[derive(Debug, Drop)]
+pub struct World<'a> {
+    pub name: Id<'a>,
+    pub items: Vec<WorldItem<'a>>,
+}
+
+/// What a world holds.
+#[derive(Debug, Drop)]
+pub enum WorldItem<'a> {
+    TypeDef(TypeDef<'a>),
+    Use(Use<'a>),
+    Include(Include<'a>),
+}
+
+/// Another world, whose items belong to the one that includes it, some under other names.
+#[derive(Debug, Drop)]
+pub struct Include<'a> {
+    pub from: UsePath<'a>,
+    pub names: Vec<IncludeName<'a>>,
+}
+
+/// A name of an included world, and the name that it gets.
+#[derive(Debug, Drop)]
+pub struct IncludeName<'a> {
+    pub name: Id<'a>,
+    pub as_: Id<'a>,
+}
+
+/// Names that are used from an interface, in source order.
 #[derive(Debug, Drop)]
 pub struct Use<'a> {
     pub from: UsePath<'a>,

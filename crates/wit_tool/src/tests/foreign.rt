@@ -1,4 +1,4 @@
-//! A package that names items of other packages, and a world, which no text makes yet.
+//! A package that names items of other packages, which no text makes yet.
 
 use crate::listing;
 use semver::Version;

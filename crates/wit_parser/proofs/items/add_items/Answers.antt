@@ -1,38 +1,82 @@
-use Rattle.std.proofs.Common.{◌≡◌, ◌+◌, ◌++◌, ◌∷◌, [], map, take, sym, ap, ◌∙◌}
+use Rattle.std.proofs.Common.{◌≡◌, ◌+◌, ◌++◌, ◌∷◌, [], Some, Contains, map, take, refl, sym, ap, ◌∙◌}
 use Rattle.std.specs.List.{flat_map}
+use Rattle.std.specs.Prelude.{slice_get}
 use Rattle.std.proofs.lemmas.List.{map-append, take_more, append-nil}
+use Rattle.std.proofs.lemmas.Option.{slice_get_read}
+use Rattle.std.proofs.lemmas.Result.{err_from_is_err_and}
 use Rattle.wit_tree.specs.declared.tree.AstItem.{AstItem}
-use Rattle.wit_meaning.specs.Source.{top_names, declared, Item, scope_names}
-use Rattle.wit_parser.specs.Items.{item_behind, names_behind}
+use Rattle.wit_tree.specs.declared.tree.AstItem.TheVariants as ast
+use Rattle.wit_meaning.specs.Source.{TheInterface, TheWorld, Item, top_names, declared_items, all_items, file_items, scope_names}
+use Rattle.wit_meaning.specs.Scope.{use_paths}
+use Rattle.wit_meaning.proofs.Refusing.{refused_weaker}
+use Rattle.wit_parser.specs.Items.{item_behind, names_behind, IsUnusableAmong, IsUnusableItem}
 use Rattle.wit_parser.proofs.Declaring.{one_more}
+use Rattle.wit_parser.proofs.Usable.{declared_among, usable_items_more, filed_more}
 use Rattle.wit_scope.proofs.Lost.{flat_more}
-use Rattle.wit_parser.proofs.items.add_items.Goals.{in-Interface+in_ok-item+in_ok-push, in_default}
+use Rattle.wit_parser.proofs.items.add_items.Goals.{in-Interface+in_ok-interface_names-in-Interface+in_ok-push-in-Interface, in-World+in_ok-world_names-in-World+in_ok-push-in-World, in-Use}
 use Rattle.wit_parser.proofs.items.add_items.Goals as goal
+
+pub returns-in_err-interface_names-in-Interface-clause-refused :
+    goal.returns-in_err-interface_names-in-Interface-clause-refused
+returns-in_err-interface_names-in-Interface-clause-refused c =
+    let p = err_from_is_err_and c.from_residual.result c.from_residual.ensures.1 in
+    let file = c.args.file.now in
+    let xs = c.deref-item-items.result.now in
+    let w : Item = record { top = top_names file; declared = TheInterface c.in-Interface.interface } in
+    let at : slice_get xs c.loop-item.item-index ≡ Some (ast.Interface c.in-Interface.interface) = slice_get_read xs _ c.loop-item.item-index c.item-item.result refl c.loop-item-test.true c.item-item.is ∙ ap Some c.in-Interface.is in
+    let among : Contains (file_items file) w = rw c.deref-item-items.ensures.value at (declared_among (declared_items (top_names file)) xs c.loop-item.item-index _ w at refl) in
+    rw (p.1, p.2) (λ fs named. refused_weaker (IsUnusableAmong (all_items fs) w.top (use_paths w)) (IsUnusableItem (all_items fs) (file_items file)) _ (λ f h. record { i = w; among = among; broken = h }) (c.in_err-interface_names-in-Interface.ensures.refused fs file named))
+
+pub returns-in_err-world_names-in-World-clause-refused :
+    goal.returns-in_err-world_names-in-World-clause-refused
+returns-in_err-world_names-in-World-clause-refused c =
+    let p = err_from_is_err_and c.from_residual-in_err-world_names-in-World.result c.from_residual-in_err-world_names-in-World.ensures.1 in
+    let file = c.args.file.now in
+    let xs = c.deref-item-items.result.now in
+    let w : Item = record { top = top_names file; declared = TheWorld c.in-World.world } in
+    let at : slice_get xs c.loop-item.item-index ≡ Some (ast.World c.in-World.world) = slice_get_read xs _ c.loop-item.item-index c.item-item.result refl c.loop-item-test.true c.item-item.is ∙ ap Some c.in-World.is in
+    let among : Contains (file_items file) w = rw c.deref-item-items.ensures.value at (declared_among (declared_items (top_names file)) xs c.loop-item.item-index _ w at refl) in
+    rw (p.1, p.2) (λ fs named. refused_weaker (IsUnusableAmong (all_items fs) w.top (use_paths w)) (IsUnusableItem (all_items fs) (file_items file)) _ (λ f h. record { i = w; among = among; broken = h }) (c.in_err-world_names-in-World.ensures.refused fs file named))
 
 pub loop-item-preserved : goal.loop-item-preserved
 loop-item-preserved c =
-    let top = top_names c.args.file.now in
+    let file = c.args.file.now in
+    let top = top_names file in
     let xs = c.deref-item-items.result.now in
     let i = c.loop-item.item-index in
     let x = c.item-item.result in
-    let before = flat_map (declared top) (take i xs) in
-    let all = flat_map (declared top) (take (i + 1) xs) in
+    let before = flat_map (declared_items top) (take i xs) in
+    let all = flat_map (declared_items top) (take (i + 1) xs) in
     let old = c.args.items.now.items in
+    let out = c.loop-item.items.items in
     let was = c.loop-item.invariant in
+    let own = c.requires.named in
     let more : take (i + 1) xs ≡ take i xs ++ x ∷ [] = take_more xs i x c.loop-item-test.true ∙ ap (λ y. take i xs ++ y ∷ []) (sym c.item-item.is) in
-    let grown : all ≡ before ++ declared top x = flat_more (declared top) (take i xs) (take (i + 1) xs) x more in
+    let grown : all ≡ before ++ declared_items top x = flat_more (declared_items top) (take i xs) (take (i + 1) xs) x more in
     elim c.match-item.branch [
-      | in-Interface+in_ok-item+in_ok-push b ↦ (
-          let w : Item = record { top = top; interface = b.in-Interface.interface } in
-          let one : all ≡ before ++ w ∷ [] = grown ∙ ap (λ (d : AstItem). before ++ declared top d) b.in-Interface.is in
-          let own = b.in_ok-item.ensures.is in
-          let out = c.loop-item.items.items in
-          let new = b.in_ok-push.ensures.items in
+      | in-Interface+in_ok-interface_names-in-Interface+in_ok-push-in-Interface b ↦ (
+          let w : Item = record { top = top; declared = TheInterface b.in-Interface.interface } in
+          let one : all ≡ before ++ w ∷ [] = grown ∙ ap (λ (d : AstItem). before ++ declared_items top d) b.in-Interface.is in
+          let new = b.in_ok-push-in-Interface.ensures.items in
+          let e = b.in_ok-interface_names-in-Interface.ensures in
           rw b.items-is (record {
-            items = one_more item_behind (map item_behind old) out _ _ before all w new was.items own one;
-            names = one_more names_behind (map names_behind old) out _ _ (map scope_names before) (map scope_names all) (scope_names w) new was.names (b.in_ok-item.ensures.names ∙ ap scope_names own) (ap (map scope_names) one ∙ map-append scope_names before (w ∷ []));
+            items = one_more item_behind (map item_behind old) out _ _ before all w new was.items refl one;
+            names = one_more names_behind (map names_behind old) out _ _ (map scope_names before) (map scope_names all) (scope_names w) new was.names (e.names own.files file own.are) (ap (map scope_names) one ∙ map-append scope_names before (w ∷ []));
+            filed = λ h. filed_more c.args.files.now out _ _ new (was.filed h) own;
+            usable = λ fs named. usable_items_more (all_items fs) before all w one (was.usable fs named) (e.usable fs file named);
           }))
-      | in_default b ↦ (
-          let none : all ≡ before = grown ∙ ap (λ (d : AstItem). before ++ declared top d) b.in_default.is ∙ append-nil before in
+      | in-World+in_ok-world_names-in-World+in_ok-push-in-World b ↦ (
+          let w : Item = record { top = top; declared = TheWorld b.in-World.world } in
+          let one : all ≡ before ++ w ∷ [] = grown ∙ ap (λ (d : AstItem). before ++ declared_items top d) b.in-World.is in
+          let new = b.in_ok-push-in-World.ensures.items in
+          let e = b.in_ok-world_names-in-World.ensures in
+          rw b.items-is (record {
+            items = one_more item_behind (map item_behind old) out _ _ before all w new was.items refl one;
+            names = one_more names_behind (map names_behind old) out _ _ (map scope_names before) (map scope_names all) (scope_names w) new was.names (e.names own.files file own.are) (ap (map scope_names) one ∙ map-append scope_names before (w ∷ []));
+            filed = λ h. filed_more c.args.files.now out _ _ new (was.filed h) own;
+            usable = λ fs named. usable_items_more (all_items fs) before all w one (was.usable fs named) (e.usable fs file named);
+          }))
+      | in-Use b ↦ (
+          let none : all ≡ before = grown ∙ ap (λ (d : AstItem). before ++ declared_items top d) b.in-Use.is ∙ append-nil before in
           rw (b.items-is, none) was)
     ]

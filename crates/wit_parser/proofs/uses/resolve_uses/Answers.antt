@@ -1,8 +1,8 @@
-use Rattle.std.proofs.Common.{◌≡◌, ℕ, ◌+◌, ◌++◌, ◌∷◌, [], take, Some, ap, sym, ◌∙◌, subst, arith}
+use Rattle.std.proofs.Common.{◌≡◌, ◌+◌, ◌++◌, ◌∷◌, [], take, Some, ap, sym, ◌∙◌, subst, arith}
 use Rattle.std.specs.Prelude.{slice_get, map}
 use Rattle.std.proofs.lemmas.List.{take_all, length-map}
 use Rattle.std.proofs.lemmas.Result.{err_from_is_err_and}
-use Rattle.wit_types.specs.declared.types.TypeOwner.TheVariants.{Interface as OfInterface}
+use Rattle.wit_types.specs.declared.types.TypeOwner.{TypeOwner}
 use Rattle.wit_meaning.specs.Address.{InterfaceNamed}
 use Rattle.wit_meaning.specs.Source.{Used}
 use Rattle.wit_meaning.specs.Resolving.{cells, Defines, local_names, IsWrongUse, IsWrongScope}
@@ -35,15 +35,15 @@ loop-name-preserved c =
     let from = InterfaceNamed c.name-item.result.from.name.now in
     let n = c.name-item.result.name.now in
     let cs = cells c.args.interfaces.now.arena in
-    let o = OfInterface c.args.scope.now.id in
+    let o = c.args.scope.now.owner in
     let at : slice_get us i ≡ Some (Used from n) = read_map use_behind c.args.uses.now i c.name-item.result c.loop-name-test.true c.name-item.is in
     let more : take (i + 1) us ≡ take i us ++ Used from n ∷ [] = take_next us i (Used from n) at in
     let old = c.loop-name.scope.names in
     let new = c.resolve_use.new.scope.names in
     let e = c.in_ok-resolve_use.ensures in
     record {
-      defines = λ s. rw more (defines_more c.args.types.now c.loop-name.types c.resolve_use.new.types cs o s c.args.scope.now.names old new (take i us) (Used from n ∷ []) (c.loop-name.invariant.defines s) (subst (λ (m : ℕ). Defines c.loop-name.types c.resolve_use.new.types cs (OfInterface m) s old new (Used from n ∷ [])) c.loop-name.invariant.id (defines_used c.loop-name.types c.resolve_use.new.types cs (OfInterface c.loop-name.scope.id) s old new from n e.used)));
-      id = e.id ∙ c.loop-name.invariant.id;
+      defines = λ s. rw more (defines_more c.args.types.now c.loop-name.types c.resolve_use.new.types cs o s c.args.scope.now.names old new (take i us) (Used from n ∷ []) (c.loop-name.invariant.defines s) (subst (λ (m : TypeOwner). Defines c.loop-name.types c.resolve_use.new.types cs m s old new (Used from n ∷ [])) c.loop-name.invariant.owner (defines_used c.loop-name.types c.resolve_use.new.types cs c.loop-name.scope.owner s old new from n e.used)));
+      owner = e.owner ∙ c.loop-name.invariant.owner;
       listed = rw more (listed_more (take i us) from n c.loop-name.invariant.listed e.used);
     }
 

@@ -24,29 +24,28 @@ pub returns-clause-legal : goal.returns-clause-legal
 returns-clause-legal c =
     let files : List PackageFile = c.args.self.files.items in
     let last : last_header files ≡ Some c.in-Some.header.now = sym c.last_header.ensures ∙ ap option_copied c.in-Some.is in
-    files_legal files _ _ (rw c.deref.ensures.value at c.in_ok-interfaces.ensures.added) c.in-Some.header.now last
+    files_legal files _ _ _ (rw c.deref.ensures.value at c.in_ok-resolved.ensures.added) c.in-Some.header.now last
 
 pub returns-clause-package : goal.returns-clause-package
 returns-clause-package c =
     let files : List PackageFile = c.args.self.files.items in
     let last : last_header files ≡ Some c.in-Some.header.now = sym c.last_header.ensures ∙ ap option_copied c.in-Some.is in
-    let e = c.new-2.ensures in
+    let e = c.new.ensures in
     let n = c.in_ok-package_name.ensures in
-    files_package files _ _ (rw c.deref.ensures.value at c.in_ok-interfaces.ensures.added) c.in-Some.header.now c.new-2.result (e.types ∙ c.into_arena.ensures) e.interfaces last
+    files_package files _ _ _ (rw c.deref.ensures.value at c.in_ok-resolved.ensures.added) c.new.result (e.types ∙ c.into_arena.ensures) e.interfaces e.worlds c.in-Some.header.now last
     (ap (λ (p : PackageName). p.namespace) e.name ∙ n.namespace)
     (ap (λ (p : PackageName). p.name) e.name ∙ n.name)
     (ap (λ (p : PackageName). option_map release_parts p.version) e.name ∙ n.version)
     e.name_span
-    (e.worlds ∙ c.new.ensures)
     (record { deps = e.foreign_deps ∙ c.none.ensures.deps; spans = e.foreign_dep_spans ∙ c.none.ensures.dep_spans; unknown = e.unknown_type_spans ∙ c.none.ensures.unknown_type_spans })
 
 pub returns-clause-faithful : goal.returns-clause-faithful
 returns-clause-faithful c =
     let files : List PackageFile = c.args.self.files.items in
-    files_faithful files _ _ (rw c.deref.ensures.value at c.in_ok-interfaces.ensures.added) _ (c.new-2.ensures.types ∙ c.into_arena.ensures) c.new-2.ensures.interfaces
+    files_faithful files _ _ _ (rw c.deref.ensures.value at c.in_ok-resolved.ensures.added) _ (c.new.ensures.types ∙ c.into_arena.ensures) c.new.ensures.interfaces c.new.ensures.worlds
 
 pub returns-clause-backward : goal.returns-clause-backward
 returns-clause-backward c =
     let files : List PackageFile = c.args.self.files.items in
-    let f = files_faithful files _ _ (rw c.deref.ensures.value at c.in_ok-interfaces.ensures.added) c.new-2.result (c.new-2.ensures.types ∙ c.into_arena.ensures) c.new-2.ensures.interfaces in
+    let f = files_faithful files _ _ _ (rw c.deref.ensures.value at c.in_ok-resolved.ensures.added) c.new.result (c.new.ensures.types ∙ c.into_arena.ensures) c.new.ensures.interfaces c.new.ensures.worlds in
     λ i e at. kind_below i e.kind (λ part has. f.backward i e part (record { is = at }) has)

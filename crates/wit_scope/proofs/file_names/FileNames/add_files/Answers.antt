@@ -4,9 +4,9 @@ use Rattle.std.proofs.lemmas.List.{map-append, take_more}
 use Rattle.std.proofs.lemmas.Option.{slice_get-get_or}
 use Rattle.std.proofs.lemmas.Result.{err_from_is_err_and}
 use Rattle.wit_order.specs.Table.{rows}
-use Rattle.wit_meaning.specs.Source.{file_interfaces, interfaces}
+use Rattle.wit_meaning.specs.Source.{file_items, all_items, is_world}
 use Rattle.wit_meaning.specs.Scope.{item_row}
-use Rattle.wit_meaning.specs.Broken.{IsBrokenNames}
+use Rattle.wit_meaning.specs.Broken.{IsBrokenItems}
 use Rattle.wit_meaning.proofs.Refusing.{refused_weaker}
 use Rattle.wit_scope.specs.Checks.{IsWrongFile}
 use Rattle.wit_scope.proofs.Lost.{broken_file, tops_more, flat_more}
@@ -20,7 +20,7 @@ returns-in_err-add_file-clause-refused c =
     let i = c.loop-file.file-index in
     let file = c.file-item.result in
     let at : slice_get files i ≡ Some file = slice_get-get_or files i file c.loop-file-test.true ∙ ap Some (sym c.file-item.is) in
-    rw (p.1, p.2) (refused_weaker (IsWrongFile (interfaces files) file) (IsBrokenNames files) _ (λ f h. broken_file files i file f at h) (c.in_err-add_file.ensures.refused (interfaces files) c.requires.declared))
+    rw (p.1, p.2) (refused_weaker (IsWrongFile (all_items files) file) (IsBrokenItems files) _ (λ f h. broken_file files i file f at h) (c.in_err-add_file.ensures.refused (all_items files) c.requires.declared))
 
 pub add_file-requires : goal.add_file-requires
 add_file-requires c =
@@ -35,14 +35,15 @@ loop-file-preserved c =
     let files = c.args.files.now in
     let i = c.loop-file.file-index in
     let file = c.file-item.result in
-    let before = interfaces (take i files) in
-    let own = file_interfaces file in
+    let before = all_items (take i files) in
+    let own = file_items file in
     let was = c.loop-file.invariant in
     let e = c.in_ok-add_file.ensures in
     let more : take (i + 1) files ≡ take i files ++ file ∷ [] = take_more files i file c.loop-file-test.true ∙ ap (λ y. take i files ++ y ∷ []) (sym c.file-item.is) in
-    let grown : interfaces (take (i + 1) files) ≡ before ++ own = flat_more file_interfaces (take i files) (take (i + 1) files) file more in
+    let grown : all_items (take (i + 1) files) ≡ before ++ own = flat_more file_items (take i files) (take (i + 1) files) file more in
     record {
       items = e.items ∙ ap (λ l. l ++ map item_row own) was.items ∙ sym (map-append item_row before own) ∙ ap (map item_row) (sym grown);
+      kinds = e.kinds ∙ ap (λ l. l ++ map is_world own) was.kinds ∙ sym (map-append is_world before own) ∙ ap (map is_world) (sym grown);
       tops = rw more (tops_added (take i files) file c.loop-file.self.tops.items c.add_file.new.self.tops.items was.tops e.tops);
       distinct = rw more (tops_more (take i files) file was.distinct e.distinct);
     }

@@ -1,12 +1,44 @@
-use Rattle.std.proofs.Common.{subst}
-use Rattle.wit_order.specs.Table.{IsOrder}
-use Rattle.wit_meaning.specs.Scope.{item_rows}
+use Rattle.std.proofs.Common.{◌≡◌, ◌+◌, ◌++◌, ◌∷◌, [], Some, take, sym, ap, ◌∙◌, subst}
+use Rattle.std.specs.Prelude.{slice_get}
+use Rattle.std.proofs.lemmas.List.{take_more, take_all}
+use Rattle.std.proofs.lemmas.Option.{slice_get-get_or}
+use Rattle.std.proofs.lemmas.Result.{err_from_is_err_and}
+use Rattle.wit_meaning.specs.Source.{all_items}
+use Rattle.wit_meaning.specs.Broken.{IsMissingOriginal, IsBrokenItems, IsBrokenNames, Items, MissingOriginal}
+use Rattle.wit_meaning.proofs.Refusing.{refused_weaker}
+use Rattle.wit_meaning.proofs.Scoping.{contains_at}
+use Rattle.wit_scope.specs.Checks.{AreDeclaredTops}
+use Rattle.wit_scope.proofs.Lost.{tops_declared_none, tops_declared_more}
 use Rattle.wit_scope.proofs.Gathering.{legal_names}
 use Rattle.wit_scope.proofs.file_names.FileNames.gather.Goals as goal
+
+pub loop-file-init : goal.loop-file-init
+loop-file-init c = tops_declared_none (all_items c.args.files.now)
+
+pub returns-in_err-names-clause-refused : goal.returns-in_err-names-clause-refused
+returns-in_err-names-clause-refused c =
+    let q = err_from_is_err_and c.from_residual.result c.from_residual.ensures.1 in
+    let files = c.args.files.now in
+    rw (q.1, q.2) (refused_weaker (IsBrokenItems files) (IsBrokenNames files) _ (λ f h. Items h) c.in_err-names.ensures.refused)
+
+pub returns-in_err-check_top-clause-refused : goal.returns-in_err-check_top-clause-refused
+returns-in_err-check_top-clause-refused c =
+    let q = err_from_is_err_and c.from_residual-in_err-check_top.result c.from_residual-in_err-check_top.ensures.1 in
+    let files = c.args.files.now in
+    let i = c.loop-file.file-index in
+    let file = c.file-item.result in
+    let at : slice_get files i ≡ Some file = slice_get-get_or files i file c.loop-file-test.true ∙ ap Some (sym c.file-item.is) in
+    rw (q.1, q.2) (refused_weaker (IsMissingOriginal (all_items files) file.decl_list.items.items) (IsBrokenNames files) _ (λ f h. MissingOriginal file (contains_at files i file at) h) (c.in_err-check_top.ensures.refused files c.in_ok-names.ensures.names))
+
+pub loop-file-preserved : goal.loop-file-preserved
+loop-file-preserved c =
+    let files = c.args.files.now in
+    let i = c.loop-file.file-index in
+    let file = c.file-item.result in
+    let more : take (i + 1) files ≡ take i files ++ file ∷ [] = take_more files i file c.loop-file-test.true ∙ ap (λ y. take i files ++ y ∷ []) (sym c.file-item.is) in
+    rw more (tops_declared_more (all_items files) (take i files) file c.loop-file.invariant (c.in_ok-check_top.ensures.legal files c.in_ok-names.ensures.names))
 
 pub returns-clause-legal : goal.returns-clause-legal
 returns-clause-legal c =
     let files = c.args.files.now in
-    let places = c.in_ok-names.field-0.items in
-    let order : IsOrder (item_rows files) places = subst (λ rs. IsOrder rs places) c.in_ok-add_files.ensures.names.items c.in_ok-names.ensures.order in
-    legal_names files places c.in_ok-declared.ensures.distinct c.in_ok-add_files.ensures.distinct order c.in_ok-check_originals.ensures.declared
+    legal_names files c.in_ok-names.ensures.legal (subst (AreDeclaredTops (all_items files)) (take_all c.loop-file.file-index files c.loop-file-test.false) c.loop-file.invariant)

@@ -1,0 +1,83 @@
+use Rattle.std.proofs.Common.{◌≡◌, ◌++◌, List, map, ap, sym, ◌∙◌, subst}
+use Rattle.std.proofs.lemmas.Result.{err_from_is_err_and}
+use Rattle.wit_tree.specs.declared.tree.Id.{Id}
+use Rattle.wit_meaning.specs.Source.{local_id}
+use Rattle.wit_meaning.specs.Scope.{in_order, used, defined}
+use Rattle.wit_meaning.specs.Broken.{IsBrokenScope}
+use Rattle.wit_meaning.specs.Resolving.{env_of, AreLegalBodies}
+use Rattle.wit_meaning.proofs.Refusing.{refused_weaker}
+use Rattle.wit_meaning.proofs.Turns.{distinct_names}
+use Rattle.wit_parser.specs.Held.{name_behind, use_behind, definition_behind}
+use Rattle.wit_parser.specs.Between.{AreOrdered, IsBrokenAmong, IsRepeatedId}
+use Rattle.wit_parser.proofs.Turning.{in_their_turn, ids_are, broken_twice, broken_body, differ_names, legal_unfolded}
+use Rattle.wit_parser.proofs.names.resolve_types.Goals as goal
+
+pub returns-in_err-check_unique_names-clause-refused : goal.returns-in_err-check_unique_names-clause-refused
+returns-in_err-check_unique_names-clause-refused c =
+    let p = err_from_is_err_and c.from_residual-in_err-check_unique_names.result c.from_residual-in_err-check_unique_names.ensures.1 in
+    let xs = map name_behind c.args.names.now in
+    let us = map use_behind c.args.uses.now in
+    let ds = map definition_behind c.deref.result.now in
+    let ids : List Id = c.deref-2.result.now in
+    let written : ds ≡ defined xs = ap (map definition_behind) c.deref.ensures.value ∙ c.in_ok-written.ensures in
+    let are : ids ≡ map local_id (used xs ++ defined xs) = ids_are us ds (used xs) (defined xs) c.in_ok-ids.ids.items ids c.in_ok-ids.ensures (c.deref-2.ensures.value ∙ c.in_ok-add_definition_ids.ensures) c.requires.uses written in
+    rw (p.1, p.2) (refused_weaker (IsRepeatedId 14 (λ id. id.name.now) ids) (IsBrokenScope xs) _ (λ f h. broken_twice xs ids f are h) c.in_err-check_unique_names.ensures.refused)
+
+pub ordered_definitions-requires : goal.ordered_definitions-requires
+ordered_definitions-requires c =
+    let xs = map name_behind c.args.names.now in
+    let us = map use_behind c.args.uses.now in
+    let ds = map definition_behind c.deref.result.now in
+    let ids : List Id = c.deref-2.result.now in
+    let written : ds ≡ defined xs = ap (map definition_behind) c.deref.ensures.value ∙ c.in_ok-written.ensures in
+    let are : ids ≡ map local_id (used xs ++ defined xs) = ids_are us ds (used xs) (defined xs) c.in_ok-ids.ids.items ids c.in_ok-ids.ensures (c.deref-2.ensures.value ∙ c.in_ok-add_definition_ids.ensures) c.requires.uses written in
+    record { distinct = distinct_names xs (differ_names xs ids are c.in_ok-check_unique_names.ensures.legal) }
+
+pub define_all-requires : goal.define_all-requires
+define_all-requires c =
+    let xs = map name_behind c.args.names.now in
+    let ds = map definition_behind c.deref-3.result.now in
+    let o : AreOrdered xs ds = subst (λ l. AreOrdered xs (map definition_behind l)) (sym c.deref-3.ensures.value) c.in_ok-ordered.ensures.ordered in
+    record { turn = in_their_turn xs ds (env_of c.args.scope.now.names) o c.requires.has }
+
+pub returns-in_err-define_all-clause-refused : goal.returns-in_err-define_all-clause-refused
+returns-in_err-define_all-clause-refused c =
+    let p = err_from_is_err_and c.from_residual-in_err-define_all.result c.from_residual-in_err-define_all.ensures.1 in
+    let xs = map name_behind c.args.names.now in
+    let ds = map definition_behind c.deref-3.result.now in
+    let o : AreOrdered xs ds = subst (λ l. AreOrdered xs (map definition_behind l)) (sym c.deref-3.ensures.value) c.in_ok-ordered.ensures.ordered in
+    rw (p.1, p.2) (refused_weaker (IsBrokenAmong ds) (IsBrokenScope xs) _ (λ f h. broken_body xs ds f o h) c.in_err-define_all.ensures.refused)
+
+pub returns-clause-legal : goal.returns-clause-legal
+returns-clause-legal c =
+    let xs = map name_behind c.args.names.now in
+    let us = map use_behind c.args.uses.now in
+    let ws = map definition_behind c.deref.result.now in
+    let ds = map definition_behind c.in_ok-ordered.ordered.items in
+    let ids : List Id = c.deref-2.result.now in
+    let o = c.in_ok-ordered.ensures.ordered in
+    let written : ws ≡ defined xs = ap (map definition_behind) c.deref.ensures.value ∙ c.in_ok-written.ensures in
+    let are : ids ≡ map local_id (used xs ++ defined xs) = ids_are us ws (used xs) (defined xs) c.in_ok-ids.ids.items ids c.in_ok-ids.ensures (c.deref-2.ensures.value ∙ c.in_ok-add_definition_ids.ensures) c.requires.uses written in
+    let bodies : AreLegalBodies ds = rw c.deref-3.ensures.value at c.in_ok-define_all.ensures.legal in
+    legal_unfolded xs ds ids o are c.in_ok-check_unique_names.ensures.legal bodies
+
+pub returns-clause-defines : goal.returns-clause-defines
+returns-clause-defines c =
+    let xs = map name_behind c.args.names.now in
+    let us = map use_behind c.args.uses.now in
+    let ws = map definition_behind c.deref.result.now in
+    let ds = map definition_behind c.in_ok-ordered.ordered.items in
+    let ids : List Id = c.deref-2.result.now in
+    let turn : List Id = c.add_definition_ids-2.new.ids.items in
+    let o = c.in_ok-ordered.ensures.ordered in
+    let written : ws ≡ defined xs = ap (map definition_behind) c.deref.ensures.value ∙ c.in_ok-written.ensures in
+    let are : ids ≡ map local_id (used xs ++ defined xs) = ids_are us ws (used xs) (defined xs) c.in_ok-ids.ids.items ids c.in_ok-ids.ensures (c.deref-2.ensures.value ∙ c.in_ok-add_definition_ids.ensures) c.requires.uses written in
+    record {
+      all = record {
+        order = o.order;
+        least = o.least;
+        distinct = distinct_names xs (differ_names xs ids are c.in_ok-check_unique_names.ensures.legal);
+        defines = rw (c.deref-3.ensures.value, o.are) at c.in_ok-define_all.ensures.defines;
+      };
+      turn = ids_are us ds (used xs) (defined (in_order xs o.order)) c.in_ok-turn.turn.items turn c.in_ok-turn.ensures (c.in_ok-add_definition_ids-2.ensures ∙ ap (λ l. c.in_ok-turn.turn.items ++ map local_id (map definition_behind l)) c.deref-4.ensures.value) c.requires.uses o.are;
+    }

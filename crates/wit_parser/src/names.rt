@@ -1,0 +1,104 @@
+//! The names of a scope as entries: those that it uses, and then its definitions.
+ghost use Rattle.std.specs.Prelude.{◌≡◌, List, [], IfOk, IfErr, OnOk, map};
+ghost use Rattle.wit_meaning.specs.Address.{Address};
+ghost use Rattle.wit_meaning.specs.Scope.{used};
+ghost use Rattle.wit_meaning.specs.Fault.{Fault};
+ghost use Rattle.wit_meaning.specs.Broken.{IsBrokenScope, IsFoldedTwice, Refused};
+ghost use Rattle.wit_parser.specs.Held.{name_behind, use_behind, definition_behind};
+ghost use Rattle.wit_parser.specs.Between.{AreInTurn, IsBrokenAmong, DefinesTurn, AddsTurn};
+ghost use Rattle.wit_meaning.specs.Resolving.{Cell, cells, env_of, Defines, AreLegalBodies, HasNames, IsIndex, IsWrongScope};
+
+use crate::distinct::{add_definition_ids, check_unique_names, used_ids};
+use crate::scope::ordered_definitions;
+use crate::scope_name::{DefinedName, ScopeName, UsedName, definitions, used_names};
+use crate::uses::{Interfaces, resolve_uses};
+use std::alloc::Global;
+use wit_entries::definitions::define;
+use wit_entries::entries::Entries;
+use wit_entries::scope::Scope;
+use wit_model::{TypeId, TypeOwner};
+use wit_tree::ParseResult;
+use wit_tree::tree::Id;
+use wit_values::TextTable;
+
+/// The names of a scope that is resolved.
+#[derive(Drop)]
+pub(crate) struct ResolvedNames<'a> {
+    /// What each stands for.
+    pub(crate) types: TextTable<TypeId>,
+    /// The names in the order in which they were resolved.
+    pub(crate) turn: Vec<Id<'a>>,
+}
+
+/// Adds definitions that stand in their order.
+fn define_all(
+    alloc: Global,
+    types: &mut Entries,
+    scope: &mut Scope,
+    definitions: &[DefinedName<'_, '_>],
+) -> ParseResult<()>
+    requires turn { AreInTurn (env_of scope.old.names) (map definition_behind definitions.now) }
+    ensures defines { OnOk result ((cs : List Cell) (s : Address) → Defines types.old types.new cs scope.old.owner s scope.old.names scope.new.names (map definition_behind definitions.now)) }
+    ensures owner { OnOk result (scope.new.owner ≡ scope.old.owner) }
+    ensures legal { OnOk result (AreLegalBodies (map definition_behind definitions.now)) }
+    ensures refused { IfErr result (Refused (IsBrokenAmong (map definition_behind definitions.now))) }
+{
+    for definition in definitions {
+        define(alloc, types, scope, definition.definition)?;
+    }
+    Ok(())
+}
+
+/// Adds the definitions of a scope, and what is in them, behind the names that it uses; gives all its
+/// names in turn.
+fn resolve_types<'t, 'a>(
+    alloc: Global,
+    types: &mut Entries,
+    scope: &mut Scope,
+    names: &[ScopeName<'t, 'a>],
+    uses: &[UsedName<'t, 'a>],
+) -> ParseResult<Vec<Id<'a>>>
+    requires uses { map use_behind uses.now ≡ used (map name_behind names.now) }
+    requires has { HasNames (env_of scope.old.names) (used (map name_behind names.now)) }
+    ensures defines { IfOk result (λ turn. DefinesTurn types.old types.new scope.old.owner scope.old.names scope.new.names (map name_behind names.now) turn.items) }
+    ensures legal { OnOk result ((f : Fault) → IsBrokenScope (map name_behind names.now) f → IsFoldedTwice (map name_behind names.now) f) }
+    ensures refused { IfErr result (Refused (IsBrokenScope (map name_behind names.now))) }
+{
+    let written = definitions(alloc, names)?;
+    let mut ids = used_ids(alloc, uses)?;
+    add_definition_ids(&mut ids, &written)?;
+    check_unique_names(alloc, &ids)?;
+    let ordered = ordered_definitions(alloc, names)?;
+    define_all(alloc, types, scope, &ordered)?;
+    let mut turn = used_ids(alloc, uses)?;
+    add_definition_ids(&mut turn, &ordered)?;
+    Ok(turn)
+}
+
+/// Adds the names of a scope of this owner, and what is in them.
+///
+/// Whether two names are one once case is folded is left to the caller.
+pub(crate) fn resolve_names<'a>(
+    alloc: Global,
+    types: &mut Entries,
+    interfaces: &Interfaces,
+    owner: TypeOwner,
+    names: &[ScopeName<'_, 'a>],
+) -> ParseResult<ResolvedNames<'a>>
+    requires index { IsIndex (cells interfaces.now.arena) interfaces.now.by_name }
+    ensures adds { IfOk result (λ r. AddsTurn types.old types.new (cells interfaces.now.arena) owner (map name_behind names.now) r.types r.turn.items) }
+    ensures legal { OnOk result ((f : Fault) → IsBrokenScope (map name_behind names.now) f → IsFoldedTwice (map name_behind names.now) f) }
+    ensures refused { IfErr result (Refused (IsWrongScope (cells interfaces.now.arena) interfaces.now.by_name (map name_behind names.now))) }
+{
+    let uses = used_names(alloc, names)?;
+    let mut scope = Scope {
+        owner,
+        names: TextTable::new(alloc),
+    };
+    resolve_uses(alloc, types, interfaces, &mut scope, &uses)?;
+    let turn = resolve_types(alloc, types, &mut scope, names, &uses)?;
+    Ok(ResolvedNames {
+        types: scope.names,
+        turn,
+    })
+}

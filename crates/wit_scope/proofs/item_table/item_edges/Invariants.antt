@@ -1,9 +1,0 @@
-use Rattle.std.proofs.Common.{◌≡◌, List, map, take}
-use Rattle.std.specs.List.{flat_map}
-use Rattle.wit_meaning.specs.Source.{TopName, item_edge}
-use Rattle.wit_meaning.specs.Scope.{item_paths}
-use Rattle.wit_scope.specs.Tops.{AreNamed}
-use Rattle.wit_scope.proofs.item_table.item_edges.Given as goal
-
-abbrev pub invariant-loop-part : goal.invariant-loop-part
-invariant-loop-part l = (top : List TopName) → AreNamed top l.paths.top.now → l.edges.items ≡ map (item_edge top) (flat_map item_paths (take l.part-index l.part-items))
