@@ -7,7 +7,7 @@ use std::test::Fail;
 use wit_entries::definitions::define;
 use wit_entries::entries::Entries;
 use wit_entries::scope::Scope;
-use wit_model::{Arena, InterfacePlace, Type, TypeDef, TypeDefKind, TypePlace};
+use wit_model::{Arena, InterfacePlace, Type, TypeDef, TypeDefKind, TypeOwner, TypePlace};
 use wit_scope::refusal::{refuse, refuse_cycle, refuse_missing, refuse_missing_type};
 use wit_tree::tree::{self, Field, Id, TypeBody};
 use wit_tree::{ParseError, ParseResult, Span};
@@ -133,7 +133,7 @@ fn defines(rt: HostRuntime) -> Result<(), Fail> {
     let alloc = rt.alloc();
     let mut types = Entries::new(alloc);
     let mut scope = Scope {
-        id: Arena::<u8, InterfacePlace>::new(alloc).next_id(),
+        owner: TypeOwner::Interface(Arena::<u8, InterfacePlace>::new(alloc).next_id()),
         names: TextTable::new(alloc),
     };
     for row in DEFINITIONS.split(";\n") {
