@@ -109,7 +109,34 @@ def comment(n):
     return HEADER + '/*\n' + 'a line of a comment, as long as such lines are\n' * n + '*/\ninterface i {}\n'
 
 
-SHAPES = [platform, chain, turned_chain, interfaces, apart, shared, uses, one_use, lists, same_list, fields, nested, comment]
+def worlds(n):
+    """n worlds, each with a definition, and an include of the one before it."""
+    return HEADER + 'world w0 { type t = u8; }\n' + ''.join('world w%d { type t = u8; include w%d with { a as b } }\n' % (k, k - 1) for k in range(1, n))
+
+
+def aliases(n):
+    """n interfaces, each under another name of the file, by which a world uses it."""
+    declared = ''.join('interface i%d { type t = u8; }\nuse i%d as j%d;\n' % (k, k, k) for k in range(n))
+    return HEADER + declared + 'world w {\n' + ''.join('  use j%d.{t as t%d};\n' % (k, k) for k in range(n)) + '}\n'
+
+
+def foreign(n):
+    """n interfaces of other packages, a name of each."""
+    return HEADER + interface('z', ['use wasi:part%d/types@0.2.%d.{t as t%d};' % (k // 10, k % 10, k) for k in range(n)])
+
+
+def foreign_uses(n):
+    """n interfaces that use one name of an interface of another package."""
+    return HEADER + ''.join('interface i%d { use wasi:io/streams@0.2.0.{input}; }\n' % k for k in range(n))
+
+
+def foreign_names(n):
+    """n names of one interface of another package."""
+    return HEADER + interface('z', ['use wasi:io/streams@0.2.0.{%s};' % ', '.join('t%d' % k for k in range(n))])
+
+
+SHAPES = [platform, chain, turned_chain, interfaces, apart, shared, uses, one_use, lists, same_list, fields, nested, worlds,
+          aliases, foreign, foreign_uses, foreign_names, comment]
 
 if __name__ == '__main__':
     by_name = {shape.__name__.replace('_', '-'): shape for shape in SHAPES}

@@ -1,8 +1,9 @@
 -- Interfaces that were added are done, and behind them so are worlds.
-use Rattle.std.proofs.Common.{◌≡◌, ℕ, true, false, List, [], ◌∷◌, ◌++◌, length, map, Option, Some, refl, sym, ap, ◌∙◌, subst}
+use Rattle.std.proofs.Common.{◌≡◌, ℕ, ◌+◌, true, false, List, [], ◌∷◌, ◌++◌, length, map, Option, Some, inl, inr, refl, sym, ap, ◌∙◌, subst, append_assoc, length-append, Contains}
 use Rattle.std.specs.Prelude.{slice_get}
 use Rattle.std.specs.List.{flat_map}
 use Rattle.std.specs.Option.{option_map, unwrap_or}
+use Rattle.std.proofs.lemmas.List.{append-nil, map-append, length-map}
 use Rattle.std.proofs.lemmas.Option.{slice_get-map}
 use Rattle.wit_tree.specs.declared.tree.PackageFile.{PackageFile}
 use Rattle.wit_tree.specs.declared.tree.Include.{Include}
@@ -12,19 +13,25 @@ use Rattle.wit_model.specs.declared.world.WorldInclude.{WorldInclude}
 use Rattle.wit_types.specs.declared.types.TypeDef.{TypeDef}
 use Rattle.wit_types.specs.declared.types.TypeOwner.{TypeOwner}
 use Rattle.wit_types.specs.declared.types.TypeOwner.TheVariants as owner
-use Rattle.wit_meaning.specs.Address.{Address, InterfaceNamed, WorldNamed}
-use Rattle.wit_meaning.specs.Source.{address, Item, item_id, item_name, TopName, ScopeName, local_name, included_scope, scope, scope_names}
+use Rattle.wit_meaning.specs.Fault.{Fault}
+use Rattle.wit_meaning.specs.Address.{Address, InterfaceNamed, WorldNamed, is_foreign}
+use Rattle.wit_meaning.specs.Source.{address, Item, all_items, item_id, item_name, TopName, leads, ScopeName, local_name, takings, included_scope, scope, scope_names}
+use Rattle.wit_meaning.specs.Foreign.{visited, foreign_interfaces, foreign_worlds}
 use Rattle.wit_meaning.specs.Scope.{in_turn}
-use Rattle.wit_meaning.specs.Meet.{Decls}
+use Rattle.wit_meaning.specs.Meet.{Meeting, Decls}
+use Rattle.wit_meaning.specs.Broken.{IsBrokenUse}
 use Rattle.wit_meaning.specs.Package.{IsInterface, IsWorld, import_types, world_types}
-use Rattle.wit_meaning.specs.Whole.{Ordered, Turned, owner_at, ordered_names, declarations, type_imports, IsInclude, AreIncludes}
+use Rattle.wit_meaning.specs.Whole.{Ordered, Turned, owner_at, ordered_names, taking_meeting, all_meetings, declarations, type_imports, IsInclude, AreIncludes}
 use Rattle.wit_meaning.specs.Resolving.{Names, Cell, cell, cells, Defines, decls_of, local_names}
-use Rattle.wit_meaning.specs.Resolved.{AddsInterface, AddsInterfaces, AddsWorld, AddsWorlds, world_addresses}
-use Rattle.wit_meaning.proofs.Lists.{at_front, map_at}
-use Rattle.std.proofs.lemmas.List.{map-append}
-use Rattle.wit_meaning.proofs.Standing.{DoneScope, cell_of}
-use Rattle.wit_meaning.proofs.Done.{done_none}
-use Rattle.wit_meaning.proofs.Interfaces.{AreItems, AreOfSort, interface_address, world_address, interface_owner_at, world_owner_at}
+use Rattle.wit_meaning.specs.Resolved.{AddsInterface, AddsInterfaces, worlds_at, AddsWorld, AddsWorlds, AddsForeign}
+use Rattle.wit_meaning.proofs.Lists.{at_front, at_back, at_split, append-cancel, map_at}
+use Rattle.wit_meaning.proofs.Turns.{at_part}
+use Rattle.wit_meaning.proofs.Adding.{Behind, adds_behind}
+use Rattle.wit_meaning.proofs.Indexing.{cells-append, worlds_at-append}
+use Rattle.wit_meaning.proofs.Standing.{DoneScope, cell_of, IsDone}
+use Rattle.wit_meaning.proofs.Interfaces.{AreItems, AreOfSort, AreAddresses, interface_address, world_address, own_address, interface_owner_at, world_owner_at, item_addresses}
+use Rattle.wit_meaning.proofs.Visits.{visited_addresses, addresses_join, visited_foreign, address_own}
+use Rattle.wit_meaning.proofs.Front.{interface_scopes, world_scopes, front_scopes, cells-interface_scopes, front_at, FrontInterface, FrontWorld, front_done}
 use Rattle.wit_meaning.proofs.Laid.{AreDone, ordered_at, item_of_entry, IsNextDone, done_front}
 
 -- an interface of the arena is the item
@@ -62,7 +69,7 @@ defines_wider old new cs ds o s names names' xs among d = record {
 
 -- an include that leads to one of some worlds leads to it among more of them
 include_wider : (some all : List Address) (top : List TopName) (written : Include) (i : WorldInclude) → ((t : ℕ) (a : Address) → slice_get some t ≡ Some a → slice_get all t ≡ Some a) → IsInclude some top written i → IsInclude all top written i
-include_wider some all top written i wider h = record { stability = h.stability; leads = wider i.id (included_scope top written.from) h.leads; names = h.names; span = h.span }
+include_wider some all top written i wider h = record { stability = h.stability; place = wider i.id (included_scope (leads top written.from)) h.place; names = h.names; span = h.span }
 
 includes_wider : (some all : List Address) (item : Item) (is : List WorldInclude) → ((t : ℕ) (a : Address) → slice_get some t ≡ Some a → slice_get all t ≡ Some a) → AreIncludes some item is → AreIncludes all item is
 includes_wider some all item is wider h = record {
@@ -70,95 +77,189 @@ includes_wider some all item is wider h = record {
   each = λ k written i at there. include_wider some all item.top written i wider (h.each k written i at there);
 }
 
--- scopes of these names
 abbrev called_cell : Names → Option (List ℕ) → Cell
 called_cell types name = record { address = InterfaceNamed (unwrap_or name []); types = types }
 
 abbrev named_world : Names → List ℕ → Cell
 named_world types name = record { address = WorldNamed name; types = types }
 
+-- the addresses of interfaces, behind those of other packages, and of worlds
+abbrev pub interface_list : List PackageFile → List Item → List Address
+interface_list files is = map visited (foreign_interfaces files) ++ map address is
+
+abbrev pub world_list : List PackageFile → List Item → List Address
+world_list files ws = map visited (foreign_worlds files) ++ map address ws
+
+-- whom the package knows by the place of an interface, or a world, behind those of other packages
+abbrev pub InterfaceOwner : List PackageFile → ℕ → TypeOwner
+InterfaceOwner files t = owner.Interface (length (map visited (foreign_interfaces files)) + t)
+
+abbrev pub WorldOwner : List PackageFile → ℕ → TypeOwner
+WorldOwner files t = owner.World (length (map visited (foreign_worlds files)) + t)
+
 -- the declarations of a scope that the package knows by an owner
-declared_by : (files : List PackageFile) (is ws : List Item) (w : Item) (o : TypeOwner) → owner_at (map address is) (map address ws) (address w) ≡ o → declarations files (map address is) (map address ws) (address w) ≡ decls_of o (address w) (scope files (address w))
-declared_by files is ws w o known = ap (λ (x : TypeOwner). decls_of x (address w) (scope files (address w))) known
+declared_by : (files : List PackageFile) (is ws : List Item) (s : Address) (o : TypeOwner) → owner_at (interface_list files is) (world_list files ws) s ≡ o → declarations files (interface_list files is) (world_list files ws) s ≡ decls_of o s (scope files s)
+declared_by files is ws s o known = ap (λ (x : TypeOwner). decls_of x s (scope files s)) known
+
+-- each adds one entry
+interface_grows : (ss : List Address) (old new : List TypeDef) (xs xs' : List Interface) (w : Item) → AddsInterface ss old new xs xs' w → (x : Interface) × (xs' ≡ xs ++ x ∷ [])
+interface_grows ss old new xs xs' w a = (a.added, a.last)
+
+world_grows : (ss others : List Address) (is : List Interface) (old new : List TypeDef) (xs xs' : List World) (w : Item) → AddsWorld ss others is old new xs xs' w → (x : World) × (xs' ≡ xs ++ x ∷ [])
+world_grows ss others is old new xs xs' w a = (a.added, a.last)
+
+-- one more behind a front
+last_behind : {X : Type 0} (front xs xs' : List X) (x : X) → front ++ xs' ≡ (front ++ xs) ++ x ∷ [] → xs' ≡ xs ++ x ∷ []
+last_behind front xs xs' x last = append-cancel front xs' (xs ++ x ∷ []) (last ∙ append_assoc front xs (x ∷ []))
 
 module _ (files : List PackageFile) (is ws : List Item) where
-  -- the declarations of each scope, where these are the interfaces and those the worlds
-  abbrev pub declared_in : Decls
-  declared_in = declarations files (map address is) (map address ws)
+  abbrev pub decls : Decls
+  decls = declarations files (interface_list files is) (world_list files ws)
 
-  -- the first interfaces are done
-  abbrev pub InterfacesDone : List Item → List TypeDef → List Interface → Type 0
-  InterfacesDone us es xs = AreDone owner.Interface SaysInterface cell files declared_in [] [] is us es xs
+  -- the first interfaces are done, behind these of other packages
+  abbrev pub InterfacesDone : List Interface → List Item → List TypeDef → List Interface → Type 0
+  InterfacesDone front us es xs = AreDone (InterfaceOwner files) SaysInterface cell files decls [] (front_scopes files front) is us es xs
 
   -- the first worlds are done, behind interfaces
-  abbrev pub WorldsDone : List Ordered → List DoneScope → List Item → List TypeDef → List World → Type 0
-  WorldsDone base first us es xs = AreDone owner.World (SaysWorld (map address ws)) world_cell files declared_in base first ws us es xs
+  abbrev pub WorldsDone : List Interface → List Ordered → List DoneScope → List Item → List TypeDef → List World → Type 0
+  WorldsDone front base first us es xs = AreDone (WorldOwner files) (SaysWorld (world_list files ws)) world_cell files decls base (front_scopes files front ++ first) ws us es xs
 
-  -- what an interface adds is done
-  interface_next : AreOfSort false is → (us : List Item) (es es' : List TypeDef) (xs xs' : List Interface) (w : Item) → slice_get is (length us) ≡ Some w → (d : InterfacesDone us es xs) → AddsInterface es es' xs xs' w → IsNextDone owner.Interface SaysInterface cell files declared_in [] [] is us es es' xs xs' w d
-  interface_next sort us es es' xs xs' w there d a = record {
-    order = a.adds.order;
-    least = a.adds.least;
-    distinct = a.adds.distinct;
-    types = a.added.types;
-    defines = subst (λ (x : List Cell). Defines es es' x (owner.Interface (length xs)) (address w) [] a.added.types (in_turn (scope_names w) a.adds.order)) (sym d.laid.types) (a.adds.defines (address w));
-    added = a.added;
-    last = a.last;
-    says = λ listed. a.says;
-    is_cell = λ listed. ap (λ (s : Address). record { address = s; types = a.added.types }) (interface_address w (sort.each (length us) w there)) ∙ ap (called_cell a.added.types) (sym a.says.name);
-  }
+  module _ (interfaces : AreOfSort false is) (worlds : AreOfSort true ws) (is_items : AreItems files is) (ws_items : AreItems files ws) where
+    -- no two addresses are one
+    all_addresses : AreAddresses (interface_list files is) (world_list files ws)
+    all_addresses = addresses_join (map visited (foreign_interfaces files)) (map visited (foreign_worlds files)) (map address is) (map address ws) (visited_addresses files) (item_addresses files is ws interfaces worlds is_items ws_items) (visited_foreign (foreign_interfaces files)) (visited_foreign (foreign_worlds files)) (address_own is) (address_own ws)
 
-  -- the first interfaces, from nothing
-  pub interfaces_done : AreOfSort false is → AreItems files is → (es : List TypeDef) (xs : List Interface) (vs : List Item) → ((k : ℕ) (w : Item) → slice_get vs k ≡ Some w → slice_get is k ≡ Some w) → AddsInterfaces [] es [] xs vs → InterfacesDone vs es xs
-  interfaces_done sort items es xs vs there a = done_front owner.Interface SaysInterface cell files declared_in [] [] is items (λ t w at. declared_by files is ws w (owner.Interface t) (interface_owner_at files is ws items t w at)) (λ t w at k c none. absurd (let f : ⊥ = cc in f)) AddsInterface (interface_next sort) [] es xs vs there (done_none files declared_in) a
+    interface_declared : (t : ℕ) (s : Address) → slice_get (interface_list files is) t ≡ Some s → decls s ≡ decls_of (owner.Interface t) s (scope files s)
+    interface_declared t s at = declared_by files is ws s (owner.Interface t) (interface_owner_at (interface_list files is) (world_list files ws) all_addresses t s at)
 
-  module _ (interfaces : AreOfSort false is) (worlds : AreOfSort true ws) (middle : List TypeDef) (all : List Interface) (d : InterfacesDone is middle all) where
-    -- the scope of a world is none of the interfaces
-    world_apart : (t : ℕ) (w : Item) → slice_get ws t ≡ Some w → (k : ℕ) (c : DoneScope) → slice_get d.scopes k ≡ Some c → c.address ≡ address w → ⊥
-    world_apart t w at k c there same =
-        let o = ordered_at d.laid k c there in
-        let sort = interfaces.each k o.0.item (d.laid.front k o.0 o.1) in
-        let here : address o.0.item ≡ address w = ap (λ (x : Turned). x.address) o.2 ∙ same in
-        let wrong : InterfaceNamed (item_name o.0.item) ≡ WorldNamed (item_name w) = sym (interface_address o.0.item sort) ∙ here ∙ world_address w (worlds.each t w at) in
-        let f : ⊥ = cc in
-        f
+    world_declared : (t : ℕ) (s : Address) → slice_get (world_list files ws) t ≡ Some s → decls s ≡ decls_of (owner.World t) s (scope files s)
+    world_declared t s at = declared_by files is ws s (owner.World t) (world_owner_at (interface_list files is) (world_list files ws) all_addresses t s at)
 
-    -- the address of a world that was added is that of its item
-    added_address : (us : List Item) (es : List TypeDef) (xs : List World) (e : WorldsDone d.ordered d.scopes us es xs) (t : ℕ) (a : Address) → slice_get (world_addresses xs) t ≡ Some a → slice_get (map address ws) t ≡ Some a
-    added_address us es xs e t a at =
-        let x = map_at (λ (w : World). WorldNamed w.name) xs t a at in
-        let o = item_of_entry e.laid t x.0 x.1 in
-        let here = e.laid.front t o.0 o.1 in
-        let name = (e.laid.says t o.0 x.0 o.1 x.1).says.name in
-        slice_get-map address ws t ∙ ap (option_map address) here ∙ ap Some (world_address o.0.item (worlds.each t o.0.item here) ∙ ap WorldNamed (sym name) ∙ x.2)
+    module _ (uses : (i : Item) → Contains (all_items files) i → (f : Fault) → IsBrokenUse files i f → ⊥) (es : List TypeDef) (front : List Interface) (wfront : List World) (foreign : AddsForeign files es front wfront) where
+      -- what other packages put in front is done
+      pub foreign_done : IsDone files decls (all_meetings files []) (front_scopes files front) es
+      foreign_done = subst (λ (ms : List Meeting). IsDone files decls ms (front_scopes files front) es) (sym (append-nil (map taking_meeting (takings files)))) (front_done files uses es front wfront foreign decls (λ i v at. interface_declared i (visited v) (at_front (map visited (foreign_interfaces files)) (map address is) i (visited v) (slice_get-map visited (foreign_interfaces files) i ∙ ap (option_map visited) at))) (λ i v at. world_declared i (visited v) (at_front (map visited (foreign_worlds files)) (map address ws) i (visited v) (slice_get-map visited (foreign_worlds files) i ∙ ap (option_map visited) at))))
 
-    -- the scopes of interfaces are among those that are done
-    cells_among : (cs : List DoneScope) (t : ℕ) (c : Cell) → slice_get (cells all) t ≡ Some c → (j : ℕ) × (slice_get (map cell_of (d.scopes ++ cs)) j ≡ Some c)
-    cells_among cs t c at = (t, ap (λ (l : List Cell). slice_get l t) (map-append cell_of d.scopes cs) ∙ at_front (map cell_of d.scopes) (map cell_of cs) t c (ap (λ (l : List Cell). slice_get l t) d.laid.types ∙ at))
+      -- no scope in front is that of an item
+      front_apart : (w : Item) (k : ℕ) (c : DoneScope) → slice_get (front_scopes files front) k ≡ Some c → c.address ≡ address w → ⊥
+      front_apart w k c at same =
+          let foreign_is : is_foreign c.address ≡ true = elim (front_at files front foreign.interfaces.count k c at) [
+            | FrontInterface i v x v_at x_at is ↦ ap (λ (b : DoneScope). is_foreign b.address) is
+            | FrontWorld i v v_at is ↦ ap (λ (b : DoneScope). is_foreign b.address) is
+          ] in
+          let wrong : false ≡ true = sym (own_address w) ∙ ap is_foreign (sym same) ∙ foreign_is in
+          let f : ⊥ = cc in
+          f
 
-    -- what a world adds is done
-    world_next : (us : List Item) (es es' : List TypeDef) (xs xs' : List World) (w : Item) → slice_get ws (length us) ≡ Some w → (e : WorldsDone d.ordered d.scopes us es xs) → AddsWorld all es es' xs xs' w → IsNextDone owner.World (SaysWorld (map address ws)) world_cell files declared_in d.ordered d.scopes ws us es es' xs xs' w e
-    world_next us es es' xs xs' w there e a =
-        let names = in_turn (scope_names w) a.adds.order in
-        record {
-          order = a.adds.order;
-          least = a.adds.least;
-          distinct = a.adds.distinct;
-          types = a.types;
-          defines = defines_wider es es' (cells all) (map cell_of (d.scopes ++ e.scopes)) (owner.World (length xs)) (address w) [] a.types names (cells_among e.scopes) (a.adds.defines (address w));
-          added = a.added;
-          last = a.last;
-          says = λ listed. (let types = own_types names a.types a.added listed a.imports in record {
-            says = a.says;
-            imports = a.imports ∙ ap (type_imports names) (sym types);
-            includes = includes_wider (world_addresses xs) (map address ws) w a.added.includes (added_address us es xs e) a.includes;
-          });
-          is_cell = λ listed. (let types = own_types names a.types a.added listed a.imports in ap (λ (s : Address). record { address = s; types = a.types }) (world_address w (worlds.each (length us) w there)) ∙ ap (named_world a.types) (sym a.says.name) ∙ ap (λ (x : Names). named_world x a.added.name) (sym types));
-        }
-      where
-        own_types : (xs : List ScopeName) (types : Names) (w : World) → map (λ p. p.0) types ≡ local_names xs → w.imports ≡ type_imports xs types → world_types w ≡ types
-        own_types xs types w listed imports = ap (flat_map import_types) imports ∙ world_types_of xs types listed
+      -- the cells of interfaces are among the scopes that are done
+      cells_among : (xs : List Interface) (cs : List DoneScope) → map cell_of cs ≡ map cell xs → (t : ℕ) (c : Cell) → slice_get (cells (map visited (foreign_interfaces files)) (front ++ xs)) t ≡ Some c → (j : ℕ) × (slice_get (map cell_of (front_scopes files front ++ cs)) j ≡ Some c)
+      cells_among xs cs same t c at =
+          let vs = foreign_interfaces files in
+          let ahead = interface_scopes files 0 vs front in
+          let between = world_scopes 0 (foreign_worlds files) in
+          let count = foreign.interfaces.count in
+          let whole : map cell_of (front_scopes files front ++ cs) ≡ map cell_of (front_scopes files front) ++ map cell_of cs = map-append cell_of (front_scopes files front) cs in
+          let fore : map cell_of (front_scopes files front) ≡ map cell_of ahead ++ map cell_of between = map-append cell_of ahead between in
+          elim (at_part (cells (map visited vs) front) (map cell xs) t c (ap (λ (l : List Cell). slice_get l t) (sym (cells-append (map visited vs) front xs (count ∙ sym (length-map vs visited)))) ∙ at)) [
+            | inl h ↦ (h.0, ap (λ (l : List Cell). slice_get l h.0) whole ∙ at_front (map cell_of (front_scopes files front)) (map cell_of cs) h.0 c (ap (λ (l : List Cell). slice_get l h.0) fore ∙ at_front (map cell_of ahead) (map cell_of between) h.0 c (ap (λ (l : List Cell). slice_get l h.0) (cells-interface_scopes files 0 vs front count) ∙ h.1)))
+            | inr h ↦ (length (map cell_of (front_scopes files front)) + h.0, ap (λ (l : List Cell). slice_get l (length (map cell_of (front_scopes files front)) + h.0)) whole ∙ at_back (map cell_of (front_scopes files front)) (map cell_of cs) h.0 c (ap (λ (l : List Cell). slice_get l h.0) same ∙ h.1))
+          ]
 
-    -- the first worlds, behind all interfaces
-    pub worlds_done : AreItems files ws → (es : List TypeDef) (xs : List World) (vs : List Item) → ((k : ℕ) (w : Item) → slice_get vs k ≡ Some w → slice_get ws k ≡ Some w) → AddsWorlds all middle es [] xs vs → WorldsDone d.ordered d.scopes vs es xs
-    worlds_done items es xs vs there a = done_front owner.World (SaysWorld (map address ws)) world_cell files declared_in d.ordered d.scopes ws items (λ t w at. declared_by files is ws w (owner.World t) (world_owner_at files is ws interfaces worlds items t w at)) world_apart (AddsWorld all) world_next middle es xs vs there d.done a
+      -- whom the next one's place stands for
+      next_interface : (xs : List Interface) → owner.Interface (length (front ++ xs)) ≡ InterfaceOwner files (length xs)
+      next_interface xs = ap owner.Interface (length-append front xs ∙ ap (λ n. n + length xs) (foreign.interfaces.count ∙ sym (length-map (foreign_interfaces files) visited)))
+
+      next_world : (xs : List World) → owner.World (length (wfront ++ xs)) ≡ WorldOwner files (length xs)
+      next_world xs = ap owner.World (length-append wfront xs ∙ ap (λ n. n + length xs) (foreign.worlds.count ∙ sym (length-map (foreign_worlds files) visited)))
+
+      -- what an interface adds is done
+      interface_next : (us : List Item) (old new : List TypeDef) (xs xs' : List Interface) (w : Item) → slice_get is (length us) ≡ Some w → (d : InterfacesDone front us old xs) → Behind (AddsInterface (map visited (foreign_interfaces files))) (interface_grows (map visited (foreign_interfaces files))) front old new xs xs' w → IsNextDone (InterfaceOwner files) SaysInterface cell files decls [] (front_scopes files front) is us old new xs xs' w d
+      interface_next us old new xs xs' w there d a =
+          let names = in_turn (scope_names w) a.adds.order in
+          record {
+            order = a.adds.order;
+            least = a.adds.least;
+            distinct = a.adds.distinct;
+            types = a.added.types;
+            defines = subst (λ (o : TypeOwner). Defines old new (map cell_of (front_scopes files front ++ d.scopes)) o (address w) [] a.added.types names) (next_interface xs) (defines_wider old new (cells (map visited (foreign_interfaces files)) (front ++ xs)) (map cell_of (front_scopes files front ++ d.scopes)) (owner.Interface (length (front ++ xs))) (address w) [] a.added.types names (cells_among xs d.scopes d.laid.types) (a.adds.defines (address w)));
+            added = a.added;
+            last = last_behind front xs xs' a.added a.last;
+            says = λ listed. a.says;
+            is_cell = λ listed. ap (λ (s : Address). record { address = s; types = a.added.types }) (interface_address w (interfaces.each (length us) w there)) ∙ ap (called_cell a.added.types) (sym a.says.name);
+          }
+
+      -- the first interfaces, behind those of other packages
+      pub interfaces_done : (new : List TypeDef) (all : List Interface) (vs : List Item) → ((k : ℕ) (w : Item) → slice_get vs k ≡ Some w → slice_get is k ≡ Some w) → AddsInterfaces (map visited (foreign_interfaces files)) es new front all vs → (own : List Interface) × (all ≡ front ++ own) × InterfacesDone front vs new own
+      interfaces_done new all vs there a =
+          let ss = map visited (foreign_interfaces files) in
+          let own = adds_behind (AddsInterface ss) (interface_grows ss) front [] all es new vs (subst (λ (l : List Interface). AddsInterfaces ss es new l all vs) (sym (append-nil front)) a) in
+          (own.0, own.1, done_front (InterfaceOwner files) SaysInterface cell files decls [] (front_scopes files front) is is_items (λ t w at. interface_declared (length ss + t) (address w) (at_back ss (map address is) t (address w) (slice_get-map address is t ∙ ap (option_map address) at))) (λ t w at. front_apart w) (Behind (AddsInterface ss) (interface_grows ss) front) interface_next es new own.0 vs there foreign_done own.2)
+
+      module _ (middle : List TypeDef) (xs : List Interface) (d : InterfacesDone front is middle xs) where
+        -- the scope of a world is none of the interfaces
+        world_apart : (t : ℕ) (w : Item) → slice_get ws t ≡ Some w → (k : ℕ) (c : DoneScope) → slice_get (front_scopes files front ++ d.scopes) k ≡ Some c → c.address ≡ address w → ⊥
+        world_apart t w at k c there same = elim (at_part (front_scopes files front) d.scopes k c there) [
+          | inl h ↦ front_apart w h.0 c h.1 same
+          | inr h ↦ (
+              let o = ordered_at d.laid h.0 c h.1 in
+              let sort = interfaces.each h.0 o.0.item (d.laid.front h.0 o.0 o.1) in
+              let here : address o.0.item ≡ address w = ap (λ (x : Turned). x.address) o.2 ∙ same in
+              let wrong : InterfaceNamed (item_name o.0.item) ≡ WorldNamed (item_name w) = sym (interface_address o.0.item sort) ∙ here ∙ world_address w (worlds.each t w at) in
+              let f : ⊥ = cc in
+              f)
+        ]
+
+        -- the address of a world that was added is that of its item, behind those of other packages
+        added_address : (us : List Item) (new : List TypeDef) (ys : List World) (e : WorldsDone front d.ordered d.scopes us new ys) (t : ℕ) (a : Address) → slice_get (worlds_at (map visited (foreign_worlds files)) (wfront ++ ys)) t ≡ Some a → slice_get (world_list files ws) t ≡ Some a
+        added_address us new ys e t a at =
+            let ss = map visited (foreign_worlds files) in
+            let named = map (λ (w : World). WorldNamed w.name) ys in
+            elim (at_split ss named t a (ap (λ (l : List Address). slice_get l t) (sym (worlds_at-append ss wfront ys (foreign.worlds.count ∙ sym (length-map (foreign_worlds files) visited)))) ∙ at)) [
+              | inl h ↦ at_front ss (map address ws) t a h
+              | inr h ↦ (
+                  let x = map_at (λ (w : World). WorldNamed w.name) ys h.0 a h.2 in
+                  let o = item_of_entry e.laid h.0 x.0 x.1 in
+                  let here = e.laid.front h.0 o.0 o.1 in
+                  let name = (e.laid.says h.0 o.0 x.0 o.1 x.1).says.name in
+                  ap (slice_get (world_list files ws)) h.1 ∙ at_back ss (map address ws) h.0 a (slice_get-map address ws h.0 ∙ ap (option_map address) here ∙ ap Some (world_address o.0.item (worlds.each h.0 o.0.item here) ∙ ap WorldNamed (sym name) ∙ x.2)))
+            ]
+
+        -- the scopes of interfaces are among those that are done
+        world_cells : (cs : List DoneScope) (t : ℕ) (c : Cell) → slice_get (cells (map visited (foreign_interfaces files)) (front ++ xs)) t ≡ Some c → (j : ℕ) × (slice_get (map cell_of ((front_scopes files front ++ d.scopes) ++ cs)) j ≡ Some c)
+        world_cells cs t c at =
+            let before = front_scopes files front ++ d.scopes in
+            let it = cells_among xs d.scopes d.laid.types t c at in
+            (it.0, ap (λ (l : List Cell). slice_get l it.0) (map-append cell_of before cs) ∙ at_front (map cell_of before) (map cell_of cs) it.0 c it.1)
+
+        -- what a world adds is done
+        world_next : (us : List Item) (old new : List TypeDef) (ys ys' : List World) (w : Item) → slice_get ws (length us) ≡ Some w → (e : WorldsDone front d.ordered d.scopes us old ys) → Behind (AddsWorld (map visited (foreign_interfaces files)) (map visited (foreign_worlds files)) (front ++ xs)) (world_grows (map visited (foreign_interfaces files)) (map visited (foreign_worlds files)) (front ++ xs)) wfront old new ys ys' w → IsNextDone (WorldOwner files) (SaysWorld (world_list files ws)) world_cell files decls d.ordered (front_scopes files front ++ d.scopes) ws us old new ys ys' w e
+        world_next us old new ys ys' w there e a =
+            let names = in_turn (scope_names w) a.adds.order in
+            let before = front_scopes files front ++ d.scopes in
+            let ss = map visited (foreign_interfaces files) in
+            record {
+              order = a.adds.order;
+              least = a.adds.least;
+              distinct = a.adds.distinct;
+              types = a.types;
+              defines = subst (λ (o : TypeOwner). Defines old new (map cell_of (before ++ e.scopes)) o (address w) [] a.types names) (next_world ys) (defines_wider old new (cells ss (front ++ xs)) (map cell_of (before ++ e.scopes)) (owner.World (length (wfront ++ ys))) (address w) [] a.types names (world_cells e.scopes) (a.adds.defines (address w)));
+              added = a.added;
+              last = last_behind wfront ys ys' a.added a.last;
+              says = λ listed. (let types = own_types names a.types a.added listed a.imports in record {
+                says = a.says;
+                imports = a.imports ∙ ap (type_imports names) (sym types);
+                includes = includes_wider (worlds_at (map visited (foreign_worlds files)) (wfront ++ ys)) (world_list files ws) w a.added.includes (added_address us old ys e) a.includes;
+              });
+              is_cell = λ listed. (let types = own_types names a.types a.added listed a.imports in ap (λ (s : Address). record { address = s; types = a.types }) (world_address w (worlds.each (length us) w there)) ∙ ap (named_world a.types) (sym a.says.name) ∙ ap (λ (x : Names). named_world x a.added.name) (sym types));
+            }
+          where
+            own_types : (xs : List ScopeName) (types : Names) (w : World) → map (λ p. p.0) types ≡ local_names xs → w.imports ≡ type_imports xs types → world_types w ≡ types
+            own_types xs types w listed imports = ap (flat_map import_types) imports ∙ world_types_of xs types listed
+
+        -- the first worlds, behind all interfaces and behind the worlds of other packages
+        pub worlds_done : (new : List TypeDef) (all : List World) (vs : List Item) → ((k : ℕ) (w : Item) → slice_get vs k ≡ Some w → slice_get ws k ≡ Some w) → AddsWorlds (map visited (foreign_interfaces files)) (map visited (foreign_worlds files)) (front ++ xs) middle new wfront all vs → (own : List World) × (all ≡ wfront ++ own) × WorldsDone front d.ordered d.scopes vs new own
+        worlds_done new all vs there a =
+            let ss = map visited (foreign_interfaces files) in
+            let others = map visited (foreign_worlds files) in
+            let own = adds_behind (AddsWorld ss others (front ++ xs)) (world_grows ss others (front ++ xs)) wfront [] all middle new vs (subst (λ (l : List World). AddsWorlds ss others (front ++ xs) middle new l all vs) (sym (append-nil wfront)) a) in
+            (own.0, own.1, done_front (WorldOwner files) (SaysWorld (world_list files ws)) world_cell files decls d.ordered (front_scopes files front ++ d.scopes) ws ws_items (λ t w at. world_declared (length others + t) (address w) (at_back others (map address ws) t (address w) (slice_get-map address ws t ∙ ap (option_map address) at))) world_apart (Behind (AddsWorld ss others (front ++ xs)) (world_grows ss others (front ++ xs)) wfront) world_next middle new own.0 vs there d.done own.2)

@@ -1,5 +1,5 @@
 -- Items added one after another.
-use Rattle.std.proofs.Common.{List, [], ◌∷◌, ◌++◌, inl, inr, refl, subst}
+use Rattle.std.proofs.Common.{◌≡◌, List, [], ◌∷◌, ◌++◌, inl, inr, refl, ◌∙◌, subst, append_assoc}
 use Rattle.wit_types.specs.declared.types.TypeDef.{TypeDef}
 use Rattle.wit_meaning.specs.Fault.{Fault}
 use Rattle.wit_meaning.specs.Source.{Item, scope_names}
@@ -17,6 +17,20 @@ module _ {X : Type 0} (Adds : List TypeDef → List TypeDef → List X → List 
 
   pub adds_none : (a : List TypeDef) (i : List X) → AddsEach Adds a a i i []
   adds_none a i = (refl, refl)
+
+-- behind entries that stand before, where each item adds one
+module _ {X : Type 0} (Adds : List TypeDef → List TypeDef → List X → List X → Item → Type 0) (grows : (old new : List TypeDef) (xs xs' : List X) (w : Item) → Adds old new xs xs' w → (x : X) × (xs' ≡ xs ++ x ∷ [])) (front : List X) where
+  abbrev pub Behind : List TypeDef → List TypeDef → List X → List X → Item → Type 0
+  Behind old new xs xs' w = Adds old new (front ++ xs) (front ++ xs') w
+
+  pub adds_behind : (xs ys : List X) (old new : List TypeDef) (ws : List Item) → AddsEach Adds old new (front ++ xs) ys ws → (own : List X) × (ys ≡ front ++ own) × AddsEach Behind old new xs own ws
+  adds_behind xs ys old new [] p = (xs, p.1, (p.0, refl))
+  adds_behind xs ys old new (w ∷ ws) p =
+      let x = grows old p.0 (front ++ xs) p.1 w p.2 in
+      let more = xs ++ x.0 ∷ [] in
+      let between : p.1 ≡ front ++ more = x.1 ∙ append_assoc front xs (x.0 ∷ []) in
+      let rest = adds_behind more ys p.0 new ws (subst (λ l. AddsEach Adds p.0 new l ys ws) between p.3) in
+      (rest.0, rest.1, (p.0, more, subst (λ l. Adds old p.0 (front ++ xs) l w) between p.2, rest.2))
 
 pub scopes_none : AreLegalScopes []
 scopes_none = record { legal = λ i w f at. absurd (let f : ⊥ = cc in f) }

@@ -35,7 +35,7 @@ use Rattle.wit_meaning.specs.Form.{Member, RecordForm, ListForm, AliasForm, kind
 use Rattle.wit_meaning.specs.Node.{OfScope, Head, Leaf, Named, Unnamed, Tree}
 use Rattle.wit_meaning.specs.Node as node
 use Rattle.wit_meaning.specs.Address.{InterfaceNamed}
-use Rattle.wit_meaning.specs.Source.{path_id, top_names, TheInterface, Item, all_items, ScopeName, Used, Defined, scope_names, source_tree}
+use Rattle.wit_meaning.specs.Source.{path_id, Local, top_names, TheInterface, Item, all_items, ScopeName, Used, Defined, scope_names, source_tree}
 use Rattle.wit_meaning.specs.Expr.{Prim, one}
 use Rattle.wit_meaning.specs.Meet.{Def, Whole, Meeting, IsMet, Meets}
 use Rattle.wit_meaning.specs.Scope.{rows_of, item_rows, in_turn}
@@ -359,12 +359,12 @@ module _ (ptr : Ptr) (alloc : Global) where
     tree_of_alias = refl
 
     -- use z as x; interface x {}
-    twice_on_top : IsDuplicateTopName (record { id = id (codes "x") (at 9 10) refl; original = id (codes "z") (at 4 5) refl } ∷ record { id = id (codes "x") (at 22 23) refl; original = id (codes "x") (at 22 23) refl } ∷ []) (fault 6 (at 22 23))
-    twice_on_top = record { later = record { id = id (codes "x") (at 22 23) refl; original = id (codes "x") (at 22 23) refl }; repeated = record { first = 0; second = 1; earlier = record { id = id (codes "x") (at 9 10) refl; original = id (codes "z") (at 4 5) refl }; before = lit< tt; at_first = refl; at_second = refl; same = refl }; is = refl }
+    twice_on_top : IsDuplicateTopName (record { id = id (codes "x") (at 9 10) refl; target = Local (id (codes "z") (at 4 5) refl) } ∷ record { id = id (codes "x") (at 22 23) refl; target = Local (id (codes "x") (at 22 23) refl) } ∷ []) (fault 6 (at 22 23))
+    twice_on_top = record { later = record { id = id (codes "x") (at 22 23) refl; target = Local (id (codes "x") (at 22 23) refl) }; repeated = record { first = 0; second = 1; earlier = record { id = id (codes "x") (at 9 10) refl; target = Local (id (codes "z") (at 4 5) refl) }; before = lit< tt; at_first = refl; at_second = refl; same = refl }; is = refl }
 
     -- use x as y; use y as z;
     abbrev of_an_alias : ToplevelUse
     of_an_alias = record { span = at 12 15; item = path.Id (id (codes "y") (at 16 17) refl); as_ = Some (id (codes "z") (at 21 22) refl) }
 
     original_missing : IsMissingOriginal (all_items two_files) (ToplevelItem alias ∷ ToplevelItem of_an_alias ∷ []) (record { rule = 7; span = at 16 17; name = Some (codes "y"); sort = Missing (codes "interface or world") })
-    original_missing = record { u = of_an_alias; among = (1, lit< tt, refl); missing = refl; is = refl }
+    original_missing = record { u = of_an_alias; id = id (codes "y") (at 16 17) refl; among = (1, lit< tt, refl); local = refl; missing = refl; is = refl }

@@ -1,5 +1,5 @@
 -- What follows for a package whose scopes are done.
-use Rattle.std.proofs.Common.{◌≡◌, ◌↔◌, ℕ, zero, suc, List, [], take, Some, None, inl, inr, refl, sym, ap, ◌∙◌, subst}
+use Rattle.std.proofs.Common.{◌≡◌, ◌↔◌, ◌<◌, ℕ, zero, suc, List, [], length, map, take, Some, None, inl, inr, refl, sym, ap, ◌∙◌, subst}
 use Rattle.std.specs.Prelude.{slice_get}
 use Rattle.wit_tree.specs.declared.tree.PackageFile.{PackageFile}
 use Rattle.wit_types.specs.declared.types.«Type».{«Type» as Ty}
@@ -7,18 +7,18 @@ use Rattle.wit_types.specs.declared.types.«Type».TheVariants.{Id}
 use Rattle.wit_types.specs.declared.types.TypeDef.{TypeDef}
 use Rattle.wit_types.specs.declared.types.TypeOwner.{TypeOwner}
 use Rattle.wit_model.specs.declared.unresolved.UnresolvedPackage.{UnresolvedPackage}
-use Rattle.wit_meaning.specs.Form.{Form, kind_of}
+use Rattle.wit_meaning.specs.Form.{Form, UnknownForm, kind_of}
 use Rattle.wit_meaning.specs.Shape.{Word, Of}
 use Rattle.wit_meaning.specs.Address.{Address}
 use Rattle.wit_meaning.specs.Node.{OfScope}
-use Rattle.wit_meaning.specs.Source.{ScopeName, Place, local_name, local_id, scope, name_parts}
+use Rattle.wit_meaning.specs.Source.{ScopeName, Place, local_name, local_id, first_takings, scope, name_parts}
 use Rattle.wit_meaning.specs.Expr.{Expr, Exprs, expr_of, exprs_of, name_exprs}
 use Rattle.wit_meaning.specs.Meet.{Key, Def, Whole, Meeting, keys, IsAt, Decls, IsEntry}
 use Rattle.wit_meaning.specs.Package.{At, owner_of, names_of}
 use Rattle.wit_meaning.specs.Whole.{IsOwned, IsReached, HasTree, IsPartOfName, HasType, IsAnonymousForm, IsFaithful}
 use Rattle.wit_meaning.specs.Resolving.{Names}
 use Rattle.wit_meaning.proofs.Names.{lookup-place}
-use Rattle.wit_meaning.proofs.Places.{all_at_untaken, at_injective, at_functional}
+use Rattle.wit_meaning.proofs.Places.{Grown, all_at_untaken, at_injective, at_functional}
 use Rattle.wit_meaning.proofs.Meeting.{Has, meets_from, once_of}
 use Rattle.wit_meaning.proofs.Shape.{key_of, backward, interned, all_lead}
 use Rattle.wit_meaning.proofs.Forms.{name_anonymous}
@@ -26,6 +26,8 @@ use Rattle.wit_meaning.proofs.Depth.{IsScope, same_tree}
 use Rattle.wit_meaning.proofs.Parts.{part_type}
 use Rattle.wit_meaning.proofs.Standing.{DoneScope, IsWholeOf, IsDone}
 use Rattle.wit_meaning.proofs.Stated.{named_at, entry_of, owner_at_name, parts_at, part_in}
+use Rattle.wit_meaning.proofs.Takings.{taking_key}
+use Rattle.wit_meaning.proofs.Unknowns.{unknown_front}
 
 -- an owner is that of one of these scopes
 pub record IsOwnerOf (cs : List DoneScope) (o : TypeOwner) (s : Address) : Type 0 where
@@ -169,13 +171,19 @@ module _ (files : List PackageFile) (decls : Decls) (written : List Meeting) (cs
   pub one_type : (x y : Expr) (t u : Ty) → IsAt ks x t → IsAt ks y u → (t ≡ u) ↔ (x ≡ y)
   one_type x y t u h k = (λ same. at_injective ks x y u (subst (IsAt ks x) same h) k, λ same. at_functional ks (once_of d.meeting.keyed) y t u (subst (λ (z : Expr). IsAt ks z t) same h) k)
 
-  pub faithful : IsFaithful files p
-  faithful = record {
-    backward = backward decls ks p.types d.meeting.keyed;
-    interned = interned decls ks p.types d.meeting.keyed;
-    formed = formed;
-    named = named;
-    reached = reached;
-    same = λ m n x y t u h k. one_type (expr_of x.0 x.1) (expr_of y.0 y.1) t u (type_at m x t h) (type_at n y u k);
-    trees = tree;
-  }
+  -- where what is taken was met first, and the package tells where it is used
+  module _ (first : Grown (map taking_key (first_takings files)) ks) (count : length p.unknown_type_spans ≡ length (first_takings files)) where
+    front : (i : ℕ) (e : TypeDef) → At p.types i e → ((kind_of e.kind).form ≡ UnknownForm) ↔ (i < length p.unknown_type_spans)
+    front i e at = subst (λ (n : ℕ). ((kind_of e.kind).form ≡ UnknownForm) ↔ (i < n)) (sym count) (unknown_front files decls written cs p.types d first formed i e at)
+
+    pub faithful : IsFaithful files p
+    faithful = record {
+      backward = backward decls ks p.types d.meeting.keyed;
+      interned = interned decls ks p.types d.meeting.keyed;
+      formed = formed;
+      front = front;
+      named = named;
+      reached = reached;
+      same = λ m n x y t u h k. one_type (expr_of x.0 x.1) (expr_of y.0 y.1) t u (type_at m x t h) (type_at n y u k);
+      trees = tree;
+    }

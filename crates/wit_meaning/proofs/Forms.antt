@@ -5,11 +5,11 @@ use Rattle.wit_tree.specs.declared.tree.«Type».TheVariants as written
 use Rattle.wit_tree.specs.declared.tree.TypeBody.{TypeBody}
 use Rattle.wit_tree.specs.declared.tree.TypeBody.TheVariants.{Record, Flags, Variant, Enum, Plain}
 use Rattle.wit_tree.specs.Parts.{field_types, case_types}
-use Rattle.wit_meaning.specs.Form.{Form}
+use Rattle.wit_meaning.specs.Form.{Form, UnknownForm}
 use Rattle.wit_meaning.specs.Shape.{Shape, Shapes, shape_of, held_shape, row_shapes, all_shapes, head, body_of}
 use Rattle.wit_meaning.specs.Shape as shape
 use Rattle.wit_meaning.specs.Address.{Address}
-use Rattle.wit_meaning.specs.Source.{ScopeName, Used, Defined}
+use Rattle.wit_meaning.specs.Source.{ScopeName, Used, Defined, Taken}
 use Rattle.wit_meaning.specs.Expr.{Exprs, expr_of, exprs_of, name_exprs}
 use Rattle.wit_meaning.specs.Meet.{Whole}
 use Rattle.wit_meaning.specs.Whole.{IsAnonymousForm}
@@ -78,6 +78,19 @@ body_anonymous (Variant span cases) = all_anonymous_shapes (case_types cases.ite
 body_anonymous (Enum span cases) = tt
 body_anonymous (Plain t) = head_anonymous (shape_of t) (written_anonymous t)
 
+-- what a definition says is known
+head_known : (x : Shape) → AreAnonymous x → (head x).form ≡ UnknownForm → ⊥
+head_known (shape.Prim p) a h = let f : ⊥ = cc in f
+head_known (shape.Word id) a h = let f : ⊥ = cc in f
+head_known (shape.Of span form parts) a h = subst IsAnonymousForm h a.0
+
+pub body_known : (b : TypeBody) → (body_of b).form ≡ UnknownForm → ⊥
+body_known (Record span fields) h = let f : ⊥ = cc in f
+body_known (Flags span flags) h = let f : ⊥ = cc in f
+body_known (Variant span cases) h = let f : ⊥ = cc in f
+body_known (Enum span cases) h = let f : ⊥ = cc in f
+body_known (Plain t) h = head_known (shape_of t) (written_anonymous t) h
+
 -- what is met in such types has such a form
 mutual
   met_anonymous : (s : Address) (x : Shape) (form : Form) (parts : Exprs) → AreAnonymous x → Has (met (expr_of s x)) (Whole form parts) → IsAnonymousForm form
@@ -98,7 +111,8 @@ mutual
     | inr rest ↦ all_anonymous s xs form parts a.1 rest
   ]
 
--- a used name has no unnamed type
+-- a used name has no unnamed type, and a taken one neither
 pub name_anonymous : (s : Address) (x : ScopeName) (form : Form) (parts : Exprs) → Has (all_met (name_exprs s x)) (Whole form parts) → IsAnonymousForm form
 name_anonymous s (Used from n) form parts h = absurd h
+name_anonymous s (Taken id) form parts h = absurd h
 name_anonymous s (Defined d) form parts h = all_anonymous s (body_of d.body).parts form parts (body_anonymous d.body) h

@@ -4,19 +4,20 @@ use Rattle.std.specs.Prelude.{slice_get, map, nat_lt, position, find}
 use Rattle.std.specs.List.{filter, prefix_len}
 use Rattle.std.specs.Option.{option_map, option_map_or, option_or, unwrap_or}
 use Rattle.std.specs.Str.{bytes_eq}
-use Rattle.std.proofs.lemmas.Bool.{cases_Bool, cond-true, lt-ltb}
+use Rattle.std.proofs.lemmas.Bool.{cases_Bool, cond-true, lt-ltb, not-true}
 use Rattle.std.proofs.lemmas.List.Quantifiers.{position-Some}
-use Rattle.std.proofs.lemmas.Option.{slice_get_within, slice_get-map, slice_get-get_or}
+use Rattle.std.proofs.lemmas.Option.{slice_get_within, slice_get-get_or}
 use Rattle.wit_tree.specs.declared.tree.PackageFile.{PackageFile}
 use Rattle.wit_types.specs.declared.types.TypeOwner.TheVariants as owner
-use Rattle.wit_meaning.specs.Address.{Address, InterfaceNamed, WorldNamed, same_address}
+use Rattle.wit_meaning.specs.Address.{Address, InterfaceNamed, WorldNamed, ForeignNamed, same_address, is_foreign}
 use Rattle.wit_meaning.specs.Source.{Declared, TheInterface, TheWorld, declared_id, declared_address, is_declared_world, address, Item, all_items, item_name, is_world, item_named, item_at, scope_names, scope}
 use Rattle.wit_meaning.specs.Scope.{interfaces_of, worlds_of}
 use Rattle.wit_meaning.specs.Repeats.{AllDiffer}
 use Rattle.wit_meaning.specs.Whole.{place_at, owner_at}
 use Rattle.wit_meaning.proofs.Lists.{map_at}
-use Rattle.wit_meaning.proofs.Names.{name_itself, name_equal}
-use Rattle.wit_meaning.proofs.Repeated.{differ_at}
+use Rattle.wit_meaning.proofs.Names.{name_equal}
+use Rattle.wit_meaning.proofs.Addresses.{same_address-itself, same_address-equal}
+use Rattle.wit_meaning.proofs.Repeated.{differ_at, differ_by}
 use Rattle.wit_meaning.proofs.Kept.{kept_at, kept_differ}
 use Rattle.wit_meaning.proofs.Tables.{none_if}
 
@@ -28,8 +29,20 @@ find_passes p (y ∷ xs) x h = elim (cases_Bool (p y)) [
   | inr miss ↦ find_passes p xs x (rw miss at h)
 ]
 
+-- where one passes, one is found
+pub find_some : {X : Type 0} (p : X → Bool) (xs : List X) (t : ℕ) (x : X) → slice_get xs t ≡ Some x → p x ≡ true → (y : X) × (find p xs ≡ Some y)
+find_some p [] t x at pass = absurd (let f : ⊥ = cc in f)
+find_some p (y ∷ xs) zero x at pass =
+    let here : y ≡ x = cc in
+    let hit : p y ≡ true = ap p here ∙ pass in
+    (y, rw hit refl)
+find_some p (y ∷ xs) (suc t) x at pass = elim (cases_Bool (p y)) [
+  | inl hit ↦ (y, rw hit refl)
+  | inr miss ↦ (let it = find_some p xs t x at pass in (it.0, rw miss it.1))
+]
+
 -- the only one that passes stands behind those that fail
-prefix_len-only : {X : Type 0} (p : X → Bool) (xs : List X) (t : ℕ) (x : X) → slice_get xs t ≡ Some x → p x ≡ true → ((i : ℕ) (y : X) → slice_get xs i ≡ Some y → p y ≡ true → i ≡ t) → prefix_len (λ y. not (p y)) xs ≡ t
+pub prefix_len-only : {X : Type 0} (p : X → Bool) (xs : List X) (t : ℕ) (x : X) → slice_get xs t ≡ Some x → p x ≡ true → ((i : ℕ) (y : X) → slice_get xs i ≡ Some y → p y ≡ true → i ≡ t) → prefix_len (λ y. not (p y)) xs ≡ t
 prefix_len-only p [] t x at pass only = absurd (let f : ⊥ = cc in f)
 prefix_len-only p (y ∷ xs) zero x at pass only =
     let here : y ≡ x = cc in
@@ -69,11 +82,6 @@ find_finer p q (y ∷ xs) x finer pass h = elim (cases_Bool (q y)) [
   ]
 ]
 
--- an address is its own
-same_itself : (s : Address) → same_address s s ≡ true
-same_itself (InterfaceNamed a) = name_itself a
-same_itself (WorldNamed a) = name_itself a
-
 -- declared items at one address have one name
 declared_same : (a b : Declared) → same_address (declared_address a) (declared_address b) ≡ true → bytes_eq (declared_id a).name.now (declared_id b).name.now ≡ true
 declared_same (TheInterface a) (TheInterface b) h = h
@@ -86,11 +94,11 @@ same_name v w h = declared_same v.declared w.declared h
 
 -- items at one address have one name
 pub name_at_address : (v w : Item) → address v ≡ address w → item_name v ≡ item_name w
-name_at_address v w h = name_equal (item_name v) (item_name w) (same_name v w (ap (λ (a : Address). same_address a (address w)) h ∙ same_itself (address w)))
+name_at_address v w h = name_equal (item_name v) (item_name w) (same_name v w (ap (λ (a : Address). same_address a (address w)) h ∙ same_address-itself (address w)))
 
 -- the first item of a name is the first at its address
 pub item_at_address : (is : List Item) (w : Item) → item_named is (item_name w) ≡ Some w → item_at is (address w) ≡ Some w
-item_at_address is w found = find_finer (λ i. bytes_eq (item_name i) (item_name w)) (λ i. same_address (address i) (address w)) is w (λ v h. same_name v w h) (same_itself (address w)) found
+item_at_address is w found = find_finer (λ i. bytes_eq (item_name i) (item_name w)) (λ i. same_address (address i) (address w)) is w (λ v h. same_name v w h) (same_address-itself (address w)) found
 
 -- the address of an interface, and of a world
 declared_at_interface : (a : Declared) → is_declared_world a ≡ false → declared_address a ≡ InterfaceNamed (declared_id a).name.now
@@ -107,13 +115,17 @@ interface_address w h = declared_at_interface w.declared h
 pub world_address : (w : Item) → is_world w ≡ true → address w ≡ WorldNamed (item_name w)
 world_address w h = declared_at_world w.declared h
 
+-- it is of no other package
+own_declared : (a : Declared) → is_foreign (declared_address a) ≡ false
+own_declared (TheInterface i) = refl
+own_declared (TheWorld w) = refl
+
+pub own_address : (w : Item) → is_foreign (address w) ≡ false
+own_address w = own_declared w.declared
+
 -- all of these are worlds, or all are interfaces
 pub record AreOfSort (world : Bool) (ws : List Item) : Type 0 where
   pub each : (t : ℕ) (w : Item) → slice_get ws t ≡ Some w → is_world w ≡ world
-
-not-true : (b : Bool) → not b ≡ true → b ≡ false
-not-true true h = absurd (let f : ⊥ = cc in f)
-not-true false h = refl
 
 pub interfaces_sort : (ws : List Item) → AreOfSort false (interfaces_of ws)
 interfaces_sort ws = record { each = λ t w at. (let it = kept_at (λ (i : Item). not (is_world i)) ws t w at in not-true (is_world w) it.2) }
@@ -129,13 +141,14 @@ items_kept files test ws items = record {
 }
 
 -- no place among addresses, where none is the one
-place_at-none : (ss : List Address) (s : Address) → ((i : ℕ) (a : Address) → slice_get ss i ≡ Some a → same_address a s ≡ true → ⊥) → place_at ss s ≡ None
+place_at-none : (ss : List Address) (s : Address) → ((i : ℕ) → slice_get ss i ≡ Some s → ⊥) → place_at ss s ≡ None
 place_at-none ss s other = none_if (place_at ss s) (λ i some. (
     let it = position-Some (λ (a : Address). same_address a s) ss i s some in
-    other i (get_or ss i s) (slice_get-get_or ss i s it.0) it.1))
+    other i (slice_get-get_or ss i s it.0 ∙ ap Some (same_address-equal (get_or ss i s) s it.1))))
 
-interface_is_no_world : (a b : List ℕ) → same_address (InterfaceNamed a) (WorldNamed b) ≡ true → ⊥
-interface_is_no_world a b h = let f : ⊥ = cc in f
+-- the place of one of them, where they differ
+pub place_at-found : (ss : List Address) (s : Address) (t : ℕ) → AllDiffer ss → slice_get ss t ≡ Some s → place_at ss s ≡ Some t
+place_at-found ss s t differ at = position-only (λ (a : Address). same_address a s) ss t s at (same_address-itself s) (λ i a iat same. differ.differ i t s (iat ∙ ap Some (same_address-equal a s same)) at)
 
 -- the package knows the interface at a place by that place
 owner_of_interface : (is ws : List Address) (s : Address) (t : ℕ) → place_at is s ≡ Some t → owner_at is ws s ≡ owner.Interface t
@@ -145,6 +158,35 @@ owner_of_interface is ws s t at = ap (λ (o : Option ℕ). unwrap_or (option_or 
 owner_of_world : (is ws : List Address) (s : Address) (t : ℕ) → place_at is s ≡ None → place_at ws s ≡ Some t → owner_at is ws s ≡ owner.World t
 owner_of_world is ws s t none at = ap (λ (o : Option ℕ). unwrap_or (option_or (option_map owner.Interface o) (option_map owner.World (place_at ws s))) owner.None) none ∙ ap (λ (o : Option ℕ). unwrap_or (option_map owner.World o) owner.None) at
 
+-- the addresses of interfaces and of worlds: no two of them are one
+pub record AreAddresses (is ws : List Address) : Type 0 where
+  pub interfaces : AllDiffer is
+  pub worlds : AllDiffer ws
+  pub apart : (i j : ℕ) (s : Address) → slice_get is i ≡ Some s → slice_get ws j ≡ Some s → ⊥
+
+module _ (is ws : List Address) (addresses : AreAddresses is ws) where
+  -- the package knows an interface by its place among the interfaces
+  pub interface_owner_at : (t : ℕ) (s : Address) → slice_get is t ≡ Some s → owner_at is ws s ≡ owner.Interface t
+  interface_owner_at t s at = owner_of_interface is ws s t (place_at-found is s t addresses.interfaces at)
+
+  -- and a world by its place among the worlds
+  pub world_owner_at : (t : ℕ) (s : Address) → slice_get ws t ≡ Some s → owner_at is ws s ≡ owner.World t
+  world_owner_at t s at = owner_of_world is ws s t (place_at-none is s (λ i iat. addresses.apart i t s iat at)) (place_at-found ws s t addresses.worlds at)
+
+-- the scope at the address of an item has its names
+pub scope_at : (files : List PackageFile) (s : Address) (w : Item) → item_at (all_items files) s ≡ Some w → scope files s ≡ scope_names w
+scope_at files (InterfaceNamed name) w found = ap (λ (o : Option Item). option_map_or scope_names o []) found
+scope_at files (WorldNamed name) w found = ap (λ (o : Option Item). option_map_or scope_names o []) found
+scope_at files (ForeignNamed p name) w found = absurd (
+    let same = same_address-equal (address w) (ForeignNamed p name) (find_passes (λ (i : Item). same_address (address i) (ForeignNamed p name)) (all_items files) w found) in
+    let wrong : false ≡ true = sym (own_address w) ∙ ap is_foreign same in
+    let f : ⊥ = cc in
+    f)
+
+-- items of different names have different addresses
+pub addresses_differ : (ws : List Item) → AllDiffer (map item_name ws) → AllDiffer (map address ws)
+addresses_differ ws differ = differ_by address ws (λ i j v w ati atj same. differ_at item_name ws differ i j v w ati atj (name_at_address v w same))
+
 module _ (files : List PackageFile) (ws : List Item) (items : AreItems files ws) where
   -- the item at the address of one is the one
   pub item_of_scope : (t : ℕ) (w : Item) → slice_get ws t ≡ Some w → item_at (all_items files) (address w) ≡ Some w
@@ -152,24 +194,17 @@ module _ (files : List PackageFile) (ws : List Item) (items : AreItems files ws)
 
   -- the scope of an item has its names
   pub scope_of : (t : ℕ) (w : Item) → slice_get ws t ≡ Some w → scope files (address w) ≡ scope_names w
-  scope_of t w at = ap (λ (o : Option Item). option_map_or scope_names o []) (item_of_scope t w at)
+  scope_of t w at = scope_at files (address w) w (item_of_scope t w at)
 
-  -- its address stands at its place
-  pub place_of_item : (t : ℕ) (w : Item) → slice_get ws t ≡ Some w → place_at (map address ws) (address w) ≡ Some t
-  place_of_item t w at = position-only (λ (a : Address). same_address a (address w)) (map address ws) t (address w) (slice_get-map address ws t ∙ ap (option_map address) at) (same_itself (address w)) (λ i a iat same. (
-      let v = map_at address ws i a iat in
-      let named : bytes_eq (item_name v.0) (item_name w) ≡ true = same_name v.0 w (ap (λ (b : Address). same_address b (address w)) v.2 ∙ same) in
-      differ_at item_name ws items.unique i t v.0 w v.1 at (name_equal (item_name v.0) (item_name w) named)))
-
--- the package knows an interface by its place among the interfaces
-pub interface_owner_at : (files : List PackageFile) (is ws : List Item) → AreItems files is → (t : ℕ) (w : Item) → slice_get is t ≡ Some w → owner_at (map address is) (map address ws) (address w) ≡ owner.Interface t
-interface_owner_at files is ws items t w at = owner_of_interface (map address is) (map address ws) (address w) t (place_of_item files is items t w at)
-
--- and a world by its place among the worlds
-pub world_owner_at : (files : List PackageFile) (is ws : List Item) → AreOfSort false is → AreOfSort true ws → AreItems files ws → (t : ℕ) (w : Item) → slice_get ws t ≡ Some w → owner_at (map address is) (map address ws) (address w) ≡ owner.World t
-world_owner_at files is ws interfaces worlds items t w at =
-    let none = place_at-none (map address is) (address w) (λ i a iat same. (
-    let v = map_at address is i a iat in
-    let here : a ≡ InterfaceNamed (item_name v.0) = sym v.2 ∙ interface_address v.0 (interfaces.each i v.0 v.1) in
-    interface_is_no_world (item_name v.0) (item_name w) (rw (here, world_address w (worlds.each t w at)) at same))) in
-    owner_of_world (map address is) (map address ws) (address w) t none (place_of_item files ws items t w at)
+-- the addresses of interfaces and of worlds
+pub item_addresses : (files : List PackageFile) (is ws : List Item) → AreOfSort false is → AreOfSort true ws → AreItems files is → AreItems files ws → AreAddresses (map address is) (map address ws)
+item_addresses files is ws interfaces worlds a b = record {
+  interfaces = addresses_differ is a.unique;
+  worlds = addresses_differ ws b.unique;
+  apart = λ i j s ati atj. (
+      let v = map_at address is i s ati in
+      let w = map_at address ws j s atj in
+      let wrong : InterfaceNamed (item_name v.0) ≡ WorldNamed (item_name w.0) = sym (interface_address v.0 (interfaces.each i v.0 v.1)) ∙ v.2 ∙ sym w.2 ∙ world_address w.0 (worlds.each j w.0 w.1) in
+      let f : ⊥ = cc in
+      f);
+}

@@ -1,24 +1,25 @@
 -- The items of files, in an order of their table.
-use Rattle.std.proofs.Common.{◌≡◌, ℕ, zero, suc, ◌<◌, Bool, true, List, [], ◌∷◌, length, Some, inl, inr, refl, sym, ap, ◌∙◌, subst, arith, Contains}
+use Rattle.std.proofs.Common.{◌≡◌, ℕ, zero, suc, ◌<◌, Bool, true, List, [], ◌∷◌, length, Some, inl, inr, sym, ap, ◌∙◌, subst, arith}
 use Rattle.std.specs.Prelude.{slice_get, map, find}
 use Rattle.std.specs.Str.{bytes_eq}
 use Rattle.std.proofs.lemmas.Bool.{cases_Bool}
 use Rattle.std.proofs.lemmas.List.{length-map}
-use Rattle.std.proofs.lemmas.List.Elements.{Contains-append_cases}
 use Rattle.std.proofs.lemmas.Option.{slice_get_within, slice_get-map}
-use Rattle.wit_tree.specs.declared.tree.Id.{Id}
 use Rattle.wit_tree.specs.declared.tree.UseName.{UseName}
+use Rattle.wit_tree.specs.declared.tree.Use.{Use}
 use Rattle.wit_tree.specs.declared.tree.PackageFile.{PackageFile}
 use Rattle.wit_order.specs.Table.{IsOrder}
-use Rattle.wit_meaning.specs.Address.{Address, InterfaceNamed}
-use Rattle.wit_meaning.specs.Source.{TopName, Item, Part, Defining, Using, Including, Used, Defined, path_id, item_edge, path_scope, part_names, item_name, item_named, all_items}
-use Rattle.wit_meaning.specs.Scope.{in_order, use_path, item_row, item_rows}
+use Rattle.wit_meaning.specs.Address.{Address}
+use Rattle.wit_meaning.specs.Source.{TopName, Item, Part, Defining, Using, Including, Used, Taken, path_scope, part_names, parts, item_name, item_named, all_items, scope_names}
+use Rattle.wit_meaning.specs.Scope.{in_order, item_row, item_rows}
 use Rattle.std.specs.List.{flat_map}
 use Rattle.std.specs.Option.{option_map}
 use Rattle.wit_meaning.specs.Repeats.{AllDiffer}
+use Rattle.wit_meaning.proofs.Lists.{map_at, flat_map_at}
 use Rattle.wit_meaning.proofs.Names.{name_cases, name_itself}
 use Rattle.wit_meaning.proofs.Repeated.{key_at, differ_by}
 use Rattle.wit_meaning.proofs.Orders.{order_within, in_order_at, in_order_read, index_of, index_once}
+use Rattle.wit_meaning.proofs.Turns.{AreOwn}
 use Rattle.wit_meaning.proofs.Interfaces.{AreItems}
 
 -- what is found stands in the list
@@ -48,22 +49,38 @@ length-item_rows files = length-map (all_items files) item_row
 pub item_row_at : (files : List PackageFile) (p : ℕ) (w : Item) → slice_get (all_items files) p ≡ Some w → slice_get (item_rows files) p ≡ Some (item_row w)
 item_row_at files p w at = slice_get-map item_row (all_items files) p ∙ ap (option_map item_row) at
 
--- a used name comes from where its path leads to
-used_in : (from s : Address) (n : UseName) (ns : List UseName) → Contains (map (Used s) ns) (Used from n) → from ≡ s
-used_in from s n [] h = absurd (let lt = h.1 in let f : ⊥ = omega arith in f)
-used_in from s n (m ∷ ns) (zero, lt, is) = (let same : Used s m ≡ Used from n = is in cc)
-used_in from s n (m ∷ ns) (suc k, lt, is) = used_in from s n ns (k, omega arith, is)
+-- a used name is that of a `use` among the parts, and comes from where its path leads to
+pub used_part : (top : List TopName) (ps : List Part) (k : ℕ) (from : Address) (n : UseName) → slice_get (flat_map (part_names top) ps) k ≡ Some (Used from n) → (m : ℕ) × (u : Use) × (slice_get ps m ≡ Some (Using u)) × ((j : ℕ) × (slice_get u.names.items j ≡ Some n)) × (from ≡ path_scope top u.from)
+used_part top ps k from n at =
+    let it = flat_map_at (part_names top) ps k (Used from n) at in
+    of_part it.0 it.1 it.2 it.3.0 it.3.1
+  where
+    of_part : (m : ℕ) (part : Part) → slice_get ps m ≡ Some part → (j : ℕ) → slice_get (part_names top part) j ≡ Some (Used from n) → (m : ℕ) × (u : Use) × (slice_get ps m ≡ Some (Using u)) × ((j : ℕ) × (slice_get u.names.items j ≡ Some n)) × (from ≡ path_scope top u.from)
+    of_part m (Defining d) there zero is = absurd (let f : ⊥ = cc in f)
+    of_part m (Defining d) there (suc j) is = absurd (let f : ⊥ = cc in f)
+    of_part m (Using u) there j is =
+        let x = map_at (Used (path_scope top u.from)) u.names.items j (Used from n) is in
+        let same : Used (path_scope top u.from) x.0 ≡ Used from n = x.2 in
+        let scope : from ≡ path_scope top u.from = cc in
+        let name : x.0 ≡ n = cc in
+        (m, u, there, (j, x.1 ∙ ap Some name), scope)
+    of_part m (Including i) there j is = absurd (let f : ⊥ = cc in f)
 
--- that path is one of its item
-pub used_path : (top : List TopName) (ps : List Part) (from : Address) (n : UseName) → Contains (flat_map (part_names top) ps) (Used from n) → (path : Id) × Contains (flat_map use_path ps) path × (from ≡ InterfaceNamed (item_edge top path).name.now)
-used_path top [] from n h = absurd (let lt = h.1 in let f : ⊥ = omega arith in f)
-used_path top (Defining d ∷ ps) from n (zero, lt, is) = absurd (let same : Defined d ≡ Used from n = is in let f : ⊥ = cc in f)
-used_path top (Defining d ∷ ps) from n (suc k, lt, is) = used_path top ps from n (k, omega arith, is)
-used_path top (Using u ∷ ps) from n h = elim (Contains-append_cases (map (Used (path_scope top u.from)) u.names.items) (flat_map (part_names top) ps) (Used from n) h) [
-  | inl here ↦ (path_id u.from, (0, omega arith, refl), used_in from (path_scope top u.from) n u.names.items here)
-  | inr rest ↦ (let it = used_path top ps from n rest in (it.0, (suc it.1.0, (let lt = it.1.1 in omega arith), it.1.2), it.2))
-]
-used_path top (Including i ∷ ps) from n h = used_path top ps from n h
+-- no name of an item is taken from another package
+pub own_names : (w : Item) → AreOwn (scope_names w)
+own_names w k id at =
+    let it = flat_map_at (part_names w.top) (parts w) k (Taken id) at in
+    of_part it.1 it.3.0 it.3.1
+  where
+    of_part : (part : Part) (j : ℕ) → slice_get (part_names w.top part) j ≡ Some (Taken id) → ⊥
+    of_part (Defining d) zero is = let f : ⊥ = cc in f
+    of_part (Defining d) (suc j) is = let f : ⊥ = cc in f
+    of_part (Using u) j is =
+        let x = map_at (Used (path_scope w.top u.from)) u.names.items j (Taken id) is in
+        let same : Used (path_scope w.top u.from) x.0 ≡ Taken id = x.2 in
+        let f : ⊥ = cc in
+        f
+    of_part (Including i) j is = let f : ⊥ = cc in f
 
 module _ (files : List PackageFile) (places : List ℕ) (order : IsOrder (item_rows files) places) where
   pub items_within : (j p : ℕ) → slice_get places j ≡ Some p → p < length (all_items files)

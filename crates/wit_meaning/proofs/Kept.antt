@@ -13,7 +13,7 @@ use Rattle.wit_meaning.proofs.Orders.{in_order-append, in_order-more, in_order_h
 use Rattle.wit_meaning.proofs.Repeated.{differ_none, differ_at, differ_by}
 
 -- what stands behind one more is that one, or stands in the list
-behind_one : {X : Type 0} (y : X) (zs : List X) (i : ℕ) (x : X) → slice_get (y ∷ zs) i ≡ Some x → (y ≡ x) ⊎ ((j : ℕ) × (slice_get zs j ≡ Some x))
+pub behind_one : {X : Type 0} (y : X) (zs : List X) (i : ℕ) (x : X) → slice_get (y ∷ zs) i ≡ Some x → (y ≡ x) ⊎ ((j : ℕ) × (slice_get zs j ≡ Some x))
 behind_one y zs zero x at = inl cc
 behind_one y zs (suc i) x at = inr (i, at)
 

@@ -9,10 +9,10 @@ use Rattle.wit_tree.specs.declared.tree.PackageFile.{PackageFile}
 use Rattle.wit_types.specs.declared.types.TypeDef.{TypeDef}
 use Rattle.wit_types.specs.declared.types.TypeOwner.{TypeOwner}
 use Rattle.wit_order.specs.Table.{IsOrder}
-use Rattle.wit_meaning.specs.Source.{address, Item, item_name, ScopeName, scope, scope_names}
+use Rattle.wit_meaning.specs.Source.{address, Item, item_name, ScopeName, takings, scope, scope_names}
 use Rattle.wit_meaning.specs.Scope.{rows_of, in_turn}
 use Rattle.wit_meaning.specs.Meet.{Meeting, all_name_meetings, Decls}
-use Rattle.wit_meaning.specs.Whole.{Ordered, Turned, item_of, ordered_names, turned, meetings}
+use Rattle.wit_meaning.specs.Whole.{Ordered, Turned, item_of, ordered_names, turned, meetings, taking_meeting, all_meetings}
 use Rattle.wit_meaning.specs.Resolving.{Names, Cell, Defines, decls_of, local_names, AreDistinct}
 use Rattle.wit_meaning.specs.Resolved.{AddsEach}
 use Rattle.wit_meaning.proofs.Lists.{at_either, at_seam, at_within, map_at}
@@ -39,7 +39,7 @@ pub record AreDone {X : Type 0} (Owner : ℕ → TypeOwner) (Says : Ordered → 
   pub scopes : List DoneScope
   pub all : map item_of ordered ≡ us
   pub laid : AreLaid Owner Says entry_cell ws ordered xs scopes
-  pub done : IsDone files decls (meetings (map turned (base ++ ordered))) (first ++ scopes) es
+  pub done : IsDone files decls (all_meetings files (base ++ ordered)) (first ++ scopes) es
 
 module _ {X : Type 0} {Owner : ℕ → TypeOwner} {Says : Ordered → X → Type 0} {entry_cell : X → Cell} {ws : List Item} {os : List Ordered} {xs : List X} {cs : List DoneScope} (l : AreLaid Owner Says entry_cell ws os xs cs) where
   -- the scope of an item, and the item of a scope
@@ -146,8 +146,11 @@ in_turn_is xs order least distinct = record {
 }
 
 -- the meetings of one item more
-more_meetings : (base os : List Ordered) (o : Ordered) → meetings (map turned (base ++ (os ++ o ∷ []))) ≡ meetings (map turned (base ++ os)) ++ all_name_meetings (address o.item) (ordered_names o)
-more_meetings base os o = ap (λ (x : List Ordered). meetings (map turned x)) (sym (append_assoc base os (o ∷ []))) ∙ ap meetings (map-append turned (base ++ os) (o ∷ [])) ∙ meetings-append (map turned (base ++ os)) (turned o)
+more_meetings : (files : List PackageFile) (base os : List Ordered) (o : Ordered) → all_meetings files (base ++ (os ++ o ∷ [])) ≡ all_meetings files (base ++ os) ++ all_name_meetings (address o.item) (ordered_names o)
+more_meetings files base os o =
+    let front : List Meeting = map taking_meeting (takings files) in
+    let behind : meetings (map turned (base ++ (os ++ o ∷ []))) ≡ meetings (map turned (base ++ os)) ++ all_name_meetings (address o.item) (ordered_names o) = ap (λ (x : List Ordered). meetings (map turned x)) (sym (append_assoc base os (o ∷ []))) ∙ ap meetings (map-append turned (base ++ os) (o ∷ [])) ∙ meetings-append (map turned (base ++ os)) (turned o) in
+    ap (λ (ms : List Meeting). front ++ ms) behind ∙ sym (append_assoc front (meetings (map turned (base ++ os))) (all_name_meetings (address o.item) (ordered_names o)))
 
 module _ {X : Type 0} (Owner : ℕ → TypeOwner) (Says : Ordered → X → Type 0) (entry_cell : X → Cell) (files : List PackageFile) (decls : Decls) (base : List Ordered) (first : List DoneScope) (ws : List Item) where
   abbrev pub Done : List Item → List TypeDef → List X → Type 0
@@ -185,14 +188,14 @@ module _ {X : Type 0} (Owner : ℕ → TypeOwner) (Says : Ordered → X → Type
           | inl h ↦ apart place w at_place h.0 b h.1 same
           | inr h ↦ none_is_next l files items w next h.0 b h.1 same
         ] in
-        let done = done_more files decls (meetings (map turned (base ++ os))) (first ++ cs) es es' c d.done fresh (own place w at_place) turn a.defines in
+        let done = done_more files decls (all_meetings files (base ++ os)) (first ++ cs) es es' c d.done fresh (own place w at_place) turn a.defines in
         let listed = (done.each (length (first ++ cs)) c (at_seam (first ++ cs) c)).listed in
         record {
           ordered = os ++ o ∷ [];
           scopes = cs ++ c ∷ [];
           all = map-append item_of os (o ∷ []) ∙ ap (λ (x : List Item). x ++ w ∷ []) d.all;
           laid = laid_more Owner Says entry_cell ws os xs xs' cs o a.types a.added l next a.least a.last (a.says listed) (a.is_cell listed);
-          done = subst (λ (ms : List Meeting). IsDone files decls ms (first ++ (cs ++ c ∷ [])) es') (sym (more_meetings base os o)) (subst (λ (x : List DoneScope). IsDone files decls (meetings (map turned (base ++ os)) ++ all_name_meetings s (ordered_names o)) x es') (append_assoc first cs (c ∷ [])) done);
+          done = subst (λ (ms : List Meeting). IsDone files decls ms (first ++ (cs ++ c ∷ [])) es') (sym (more_meetings files base os o)) (subst (λ (x : List DoneScope). IsDone files decls (all_meetings files (base ++ os) ++ all_name_meetings s (ordered_names o)) x es') (append_assoc first cs (c ∷ [])) done);
         }
 
     -- all that is left, where what one of them adds is done
@@ -205,11 +208,11 @@ module _ {X : Type 0} (Owner : ℕ → TypeOwner) (Says : Ordered → X → Type
         subst (λ (x : List Item). Done x new xs') (append_assoc us (w ∷ []) vs) (all_done Adds step (us ++ w ∷ []) a.0 new a.1 xs' vs rest (one_done us es a.0 xs a.1 w at d (step us es a.0 xs a.1 w at d a.2)) a.3)
 
     -- the first items, from what was done before
-    pub done_front : (Adds : List TypeDef → List TypeDef → List X → List X → Item → Type 0) → ((us : List Item) (es es' : List TypeDef) (xs xs' : List X) (w : Item) → slice_get ws (length us) ≡ Some w → (d : Done us es xs) → Adds es es' xs xs' w → IsNextDone us es es' xs xs' w d) → (es new : List TypeDef) (xs : List X) (vs : List Item) → ((k : ℕ) (w : Item) → slice_get vs k ≡ Some w → slice_get ws k ≡ Some w) → IsDone files decls (meetings (map turned base)) first es → AddsEach Adds es new [] xs vs → Done vs new xs
+    pub done_front : (Adds : List TypeDef → List TypeDef → List X → List X → Item → Type 0) → ((us : List Item) (es es' : List TypeDef) (xs xs' : List X) (w : Item) → slice_get ws (length us) ≡ Some w → (d : Done us es xs) → Adds es es' xs xs' w → IsNextDone us es es' xs xs' w d) → (es new : List TypeDef) (xs : List X) (vs : List Item) → ((k : ℕ) (w : Item) → slice_get vs k ≡ Some w → slice_get ws k ≡ Some w) → IsDone files decls (all_meetings files base) first es → AddsEach Adds es new [] xs vs → Done vs new xs
     done_front Adds step es new xs vs there d a = all_done Adds step [] es new [] xs vs (λ k w h. subst (λ (m : ℕ). slice_get ws m ≡ Some w) (sym (zero-add k)) (there k w h)) (record {
       ordered = [];
       scopes = [];
       all = refl;
       laid = laid_none Owner Says entry_cell ws;
-      done = subst (λ (x : List Ordered). IsDone files decls (meetings (map turned x)) (first ++ []) es) (sym (append-nil base)) (subst (λ (x : List DoneScope). IsDone files decls (meetings (map turned base)) x es) (sym (append-nil first)) d);
+      done = subst (λ (x : List Ordered). IsDone files decls (all_meetings files x) (first ++ []) es) (sym (append-nil base)) (subst (λ (x : List DoneScope). IsDone files decls (all_meetings files base) x es) (sym (append-nil first)) d);
     }) a

@@ -1,11 +1,11 @@
 -- Repeats among the keys of items.
-use Rattle.std.proofs.Common.{◌≡◌, ℕ, List, [], ◌∷◌, ◌++◌, Some, inl, inr, sym, ap, ◌∙◌, arith}
+use Rattle.std.proofs.Common.{◌≡◌, ℕ, ◌+◌, List, [], ◌∷◌, ◌++◌, length, Some, inl, inr, sym, ap, ◌∙◌, arith}
 use Rattle.std.specs.Prelude.{slice_get, map}
 use Rattle.std.specs.Option.{option_map}
 use Rattle.std.proofs.lemmas.Option.{slice_get-map}
 use Rattle.wit_meaning.specs.Broken.{IsRepeated}
 use Rattle.wit_meaning.specs.Repeats.{IsRepeatAt, AllDiffer}
-use Rattle.wit_meaning.proofs.Lists.{at_either, map_at}
+use Rattle.wit_meaning.proofs.Lists.{at_either, at_split, map_at}
 
 pub key_at : {X : Type 0} (key : X → List ℕ) (xs : List X) (i : ℕ) (x : X) → slice_get xs i ≡ Some x → slice_get (map key xs) i ≡ Some (key x)
 key_at key xs i x h = slice_get-map key xs i ∙ ap (option_map key) h
@@ -50,6 +50,21 @@ differ_more xs x d new = record {
     | inr new_i ↦ elim (at_either xs x j y at_j) [
       | inl old_j ↦ absurd (new j (old_j ∙ ap Some new_i.1))
       | inr new_j ↦ new_i.0 ∙ sym new_j.0
+    ]
+  ];
+}
+
+-- two lists, where nothing of the one stands in the other
+pub differ_join : {X : Type 0} (xs ys : List X) → AllDiffer xs → AllDiffer ys → ((i j : ℕ) (x : X) → slice_get xs i ≡ Some x → slice_get ys j ≡ Some x → ⊥) → AllDiffer (xs ++ ys)
+differ_join xs ys a b apart = record {
+  differ = λ i j x at_i at_j. elim (at_split xs ys i x at_i) [
+    | inl front_i ↦ elim (at_split xs ys j x at_j) [
+      | inl front_j ↦ a.differ i j x front_i front_j
+      | inr back_j ↦ absurd (apart i back_j.0 x front_i back_j.2)
+    ]
+    | inr back_i ↦ elim (at_split xs ys j x at_j) [
+      | inl front_j ↦ absurd (apart j back_i.0 x front_j back_i.2)
+      | inr back_j ↦ back_i.1 ∙ ap (λ n. length xs + n) (b.differ back_i.0 back_j.0 x back_i.2 back_j.2) ∙ sym back_j.1
     ]
   ];
 }

@@ -1,5 +1,5 @@
 -- Files whose interfaces and then worlds were added: no rule is broken, and they are a package that is faithful to them.
-use Rattle.std.proofs.Common.{◌≡◌, ◌⊎◌, ◌<◌, ℕ, true, false, List, [], Some, None, map, inl, inr, refl, sym, ap, ◌∙◌, subst, arith, Contains}
+use Rattle.std.proofs.Common.{◌≡◌, ◌⊎◌, ◌<◌, ℕ, true, false, List, ◌++◌, Some, None, map, inl, inr, refl, sym, ap, ◌∙◌, subst, arith, Contains}
 use Rattle.std.specs.Prelude.{slice_get}
 use Rattle.std.specs.Option.{option_map}
 use Rattle.std.proofs.lemmas.Bool.{cases_Bool}
@@ -8,31 +8,33 @@ use Rattle.semver.specs.Identifiers.{parts_of}
 use Rattle.wit_values.specs.ReleaseText.{release_parts}
 use Rattle.wit_tree.specs.declared.tree.PackageName.{PackageName as Header}
 use Rattle.wit_tree.specs.declared.tree.PackageFile.{PackageFile}
-use Rattle.wit_tree.specs.declared.tree.Id.{Id}
-use Rattle.wit_tree.specs.declared.tree.Include.{Include}
+use Rattle.wit_tree.specs.declared.tree.UsePath.{UsePath}
 use Rattle.wit_model.specs.declared.interface.Interface.{Interface}
 use Rattle.wit_model.specs.declared.world.World.{World}
 use Rattle.wit_model.specs.declared.world.WorldInclude.{WorldInclude}
 use Rattle.wit_types.specs.declared.types.TypeDef.{TypeDef}
 use Rattle.wit_model.specs.declared.unresolved.UnresolvedPackage.{UnresolvedPackage}
 use Rattle.wit_order.specs.Table.{IsOrder}
-use Rattle.wit_meaning.specs.Address.{WorldNamed}
-use Rattle.wit_meaning.specs.Source.{address, item_edge, item_id, item_named, included_scope, is_world, path_id, Item, all_items, item_name, scope_names}
-use Rattle.wit_meaning.specs.Scope.{in_order, includes, item_rows, interfaces_of, worlds_of}
+use Rattle.wit_meaning.specs.Address.{Address, WorldNamed, ForeignNamed}
+use Rattle.wit_meaning.specs.Source.{address, Target, Local, Foreign, leads, item_id, item_named, included_scope, is_world, Item, all_items, item_name, scope_names}
+use Rattle.wit_meaning.specs.Foreign.{visited, is_foreign_world, foreign_interfaces, foreign_worlds, foreign_at}
+use Rattle.wit_meaning.specs.Scope.{in_order, include_paths, includes, item_rows, interfaces_of, worlds_of}
 use Rattle.wit_meaning.specs.Fault.{Fault, fault}
-use Rattle.wit_meaning.specs.Broken.{IsDuplicateItem, IsInterfaceIncluded, IsMissingName, IsBrokenNames, DuplicateItem, Items, IsBrokenUse, Headerless, Names, Use, InterfaceIncluded, MissingName, Scope, IsLegal, last_header}
+use Rattle.wit_meaning.specs.Broken.{IsDuplicateItem, is_world_at, IsInterfaceIncluded, IsMissingName, IsBrokenNames, DuplicateItem, Items, IsBrokenUse, Headerless, Names, Use, InterfaceIncluded, MissingName, Scope, IsLegal, last_header}
 use Rattle.wit_meaning.specs.Repeats.{AllDiffer}
-use Rattle.wit_meaning.specs.Whole.{item_of, AreIncludes, NamesNoOther, IsPackage, IsFaithful}
-use Rattle.wit_meaning.specs.Resolved.{AddsInterfaces, AddsWorlds, AreLegalScopes}
+use Rattle.wit_meaning.specs.Whole.{item_of, AreIncludes, NamesOthers, IsPackage, IsFaithful}
+use Rattle.wit_meaning.specs.Resolved.{AddsInterfaces, AddsWorlds, AddsForeign, AreLegalScopes}
 use Rattle.wit_meaning.proofs.Lists.{at_within, map_at}
 use Rattle.wit_meaning.proofs.Headers.{some_header}
+use Rattle.wit_meaning.proofs.Turns.{at_part}
 use Rattle.wit_meaning.proofs.Repeated.{differ_by}
 use Rattle.wit_meaning.proofs.Scoping.{at_contains}
-use Rattle.wit_meaning.proofs.Interfaces.{AreOfSort, world_address, interfaces_sort, worlds_sort}
+use Rattle.wit_meaning.proofs.Interfaces.{AreItems, AreOfSort, world_address, interfaces_sort, worlds_sort}
 use Rattle.wit_meaning.proofs.Itemizing.{item_index}
-use Rattle.wit_meaning.proofs.Leading.{same_some, include_at, interface_includes_none}
+use Rattle.wit_meaning.proofs.Visits.{world_visit, foreign_at-visited, visited_foreign, address_own}
+use Rattle.wit_meaning.proofs.Leading.{include_at, interface_includes_none}
 use Rattle.wit_meaning.proofs.Laid.{entry_of_item}
-use Rattle.wit_meaning.proofs.Added.{InterfacesDone, WorldsDone, interfaces_done, worlds_done}
+use Rattle.wit_meaning.proofs.Added.{world_list, InterfacesDone, WorldsDone, interfaces_done, worlds_done}
 use Rattle.wit_meaning.proofs.Finished.{are_interfaces, are_worlds, interface_at, world_at}
 use Rattle.wit_meaning.proofs.Packaged.{interface_names_stated, world_names_stated, faithful_package, package_of}
 
@@ -56,64 +58,87 @@ distinct_items files legal = differ_by item_name (all_items files) (λ i j x y a
 world_named : (a b : List ℕ) → WorldNamed a ≡ WorldNamed b → a ≡ b
 world_named a b h = cc
 
--- an include leads to the world at its place
-include_leads : (ws : List Item) → AreOfSort true ws → (item : Item) (is : List WorldInclude) → AreIncludes (map address ws) item is → (k : ℕ) (written : Include) (path : Id) → slice_get (includes item) k ≡ Some written → path ≡ path_id written.from → (j : ℕ) × (v : Item) × (slice_get ws j ≡ Some v) × ((item_edge item.top path).name.now ≡ item_name v)
-include_leads ws worlds item is are k written path at same =
-    let count = are.count in
-    let lt = slice_get_within (includes item) k written at in
-    let i = at_within is k (omega arith) in
-    let leads = (are.each k written i.0 at i.1).leads in
-    let v = map_at address ws i.0.id (included_scope item.top written.from) leads in
-    let name = world_named (item_name v.0) (item_edge item.top (path_id written.from)).name.now (sym (world_address v.0 (worlds.each i.0.id v.0 v.1)) ∙ v.2) in
-    (i.0.id, v.0, v.1, ap (λ (id : Id). (item_edge item.top id).name.now) same ∙ sym name)
+-- where an include leads, to a world
+module _ (files : List PackageFile) (ws : List Item) (items : AreItems files ws) (worlds : AreOfSort true ws) where
+  own_world : (j : ℕ) (t : Target) → slice_get (map address ws) j ≡ Some (included_scope t) → is_world_at files t ≡ Some true
+  own_world j (Local id) at =
+      let v = map_at address ws j (WorldNamed id.name.now) at in
+      let sort = worlds.each j v.0 v.1 in
+      let name = world_named (item_name v.0) id.name.now (sym (world_address v.0 sort) ∙ v.2) in
+      ap (λ (n : List ℕ). option_map is_world (item_named (all_items files) n)) (sym name) ∙ ap (option_map is_world) (items.found j v.0 v.1) ∙ ap Some sort
+  own_world j (Foreign p id) at = absurd (
+      let wrong : false ≡ true = sym (address_own ws j (ForeignNamed p id.name.now) at) in
+      let f : ⊥ = cc in
+      f)
 
-module _ (files : List PackageFile) (places : List ℕ) (order : IsOrder (item_rows files) places) (names : (f : Fault) → IsBrokenNames files f → ⊥) (uses : (i : Item) → Contains (all_items files) i → (f : Fault) → IsBrokenUse (all_items files) i f → ⊥) (middle es : List TypeDef) (is : List Interface) (ws : List World) (added : AddsInterfaces [] middle [] is (interfaces_of (in_order (all_items files) places))) (more : AddsWorlds is middle es [] ws (worlds_of (in_order (all_items files) places))) where
+  foreign_world : (j : ℕ) (t : Target) → slice_get (map visited (foreign_worlds files)) j ≡ Some (included_scope t) → is_world_at files t ≡ Some true
+  foreign_world j (Local id) at = absurd (
+      let wrong : true ≡ false = sym (visited_foreign (foreign_worlds files) j (WorldNamed id.name.now) at) in
+      let f : ⊥ = cc in
+      f)
+  foreign_world j (Foreign p id) at =
+      let v = map_at visited (foreign_worlds files) j (ForeignNamed p id.name.now) at in
+      let q = world_visit files j v.0 v.1 in
+      ap (λ (s : Address). option_map is_foreign_world (foreign_at files s)) (sym v.2) ∙ ap (option_map is_foreign_world) (foreign_at-visited files q.0 v.0 q.1) ∙ ap Some q.2
+
+  included_world : (j : ℕ) (t : Target) → slice_get (world_list files ws) j ≡ Some (included_scope t) → is_world_at files t ≡ Some true
+  included_world j t at = elim (at_part (map visited (foreign_worlds files)) (map address ws) j (included_scope t) at) [
+    | inl h ↦ foreign_world h.0 t h.1
+    | inr h ↦ own_world h.0 t h.1
+  ]
+
+  -- so does each include of an item, where those of its entry are these
+  include_leads : (w : Item) (is : List WorldInclude) (path : UsePath) → AreIncludes (world_list files ws) w is → Contains (include_paths w) path → is_world_at files (leads w.top path) ≡ Some true
+  include_leads w is path says among =
+      let k = include_at w path among in
+      let count = says.count in
+      let lt = slice_get_within (includes w) k.0 k.1 k.2 in
+      let i = at_within is k.0 (omega arith) in
+      included_world i.0.id (leads w.top path) ((says.each k.0 k.1 i.0 k.2 i.1).place ∙ ap (λ (x : UsePath). Some (included_scope (leads w.top x))) (sym k.3))
+
+module _ (files : List PackageFile) (places : List ℕ) (order : IsOrder (item_rows files) places) (names : (f : Fault) → IsBrokenNames files f → ⊥) (uses : (i : Item) → Contains (all_items files) i → (f : Fault) → IsBrokenUse files i f → ⊥) (es middle new : List TypeDef) (front is : List Interface) (wfront ws : List World) (foreign : AddsForeign files es front wfront) (added : AddsInterfaces (map visited (foreign_interfaces files)) es middle front is (interfaces_of (in_order (all_items files) places))) (more : AddsWorlds (map visited (foreign_interfaces files)) (map visited (foreign_worlds files)) is middle new wfront ws (worlds_of (in_order (all_items files) places))) where
   abbrev differ : AllDiffer (map item_name (all_items files))
   differ = distinct_items files names
 
-  abbrev interface_items : List Item
-  interface_items = interfaces_of (in_order (all_items files) places)
+  abbrev is_items : List Item
+  is_items = interfaces_of (in_order (all_items files) places)
 
-  abbrev world_items : List Item
-  world_items = worlds_of (in_order (all_items files) places)
+  abbrev ws_items : List Item
+  ws_items = worlds_of (in_order (all_items files) places)
 
-  -- all interfaces are done, and all worlds
-  interfaces_stand : InterfacesDone files interface_items world_items interface_items middle is
-  interfaces_stand = interfaces_done files interface_items world_items (interfaces_sort (in_order (all_items files) places)) (are_interfaces files places order differ) middle is interface_items (λ k w at. at) added
+  abbrev is_sort : AreOfSort false is_items
+  is_sort = interfaces_sort (in_order (all_items files) places)
 
-  worlds_stand : WorldsDone files interface_items world_items interfaces_stand.ordered interfaces_stand.scopes world_items es ws
-  worlds_stand = worlds_done files interface_items world_items (interfaces_sort (in_order (all_items files) places)) (worlds_sort (in_order (all_items files) places)) middle is interfaces_stand (are_worlds files places order differ) es ws world_items (λ k w at. at) more
+  abbrev ws_sort : AreOfSort true ws_items
+  ws_sort = worlds_sort (in_order (all_items files) places)
+
+  -- the interfaces of the package, and its worlds, behind those of other packages
+  is_done : (own : List Interface) × (is ≡ front ++ own) × InterfacesDone files is_items ws_items front is_items middle own
+  is_done = interfaces_done files is_items ws_items is_sort ws_sort (are_interfaces files places order differ) (are_worlds files places order differ) uses es front wfront foreign middle is is_items (λ k w at. at) added
+
+  ws_done : (own : List World) × (ws ≡ wfront ++ own) × WorldsDone files is_items ws_items front is_done.2.ordered is_done.2.scopes ws_items new own
+  ws_done = worlds_done files is_items ws_items is_sort ws_sort (are_interfaces files places order differ) (are_worlds files places order differ) uses es front wfront foreign middle is_done.0 is_done.2 new ws ws_items (λ k w at. at) (subst (λ (l : List Interface). AddsWorlds (map visited (foreign_interfaces files)) (map visited (foreign_worlds files)) l middle new wfront ws ws_items) is_done.1 more)
 
   -- what is used in an item is a name of the interface that it comes from
   names_stated : (w : Item) → Contains (all_items files) w → (f : Fault) → IsMissingName files (scope_names w) f → ⊥
   names_stated w among f h = elim (cases_Bool (is_world w)) [
-    | inl world ↦ (let t = world_at files places order differ w world among in world_names_stated files interface_items world_items middle es is ws interfaces_stand worlds_stand (are_worlds files places order differ) t.0 w t.1 f h)
-    | inr other ↦ (let t = interface_at files places order differ w other among in interface_names_stated files interface_items world_items middle es is ws interfaces_stand worlds_stand (are_interfaces files places order differ) t.0 w t.1 f h)
+    | inl world ↦ (let t = world_at files places order differ w world among in world_names_stated files is_items ws_items middle new front is_done.0 ws_done.0 is_done.2 ws_done.2 (are_worlds files places order differ) t.0 w t.1 f h)
+    | inr other ↦ (let t = interface_at files places order differ w other among in interface_names_stated files is_items ws_items middle new front is_done.0 ws_done.0 is_done.2 ws_done.2 (are_interfaces files places order differ) t.0 w t.1 f h)
   ]
 
-  -- the item of a world's name is no interface
-  other_than_world : (v : Item) (j : ℕ) (name : List ℕ) (target : Item) → name ≡ item_name v → slice_get world_items j ≡ Some v → is_world v ≡ true → item_named (all_items files) name ≡ Some target → is_world target ≡ false → ⊥
-  other_than_world v j name target same at sort found other =
-      let first : item_named (all_items files) name ≡ Some v = ap (item_named (all_items files)) same ∙ (are_worlds files places order differ).found j v at in
-      let one = same_some (item_named (all_items files) name) target v found first in
-      let wrong : true ≡ false = sym sort ∙ ap is_world (sym one) ∙ other in
+  -- the include of a world leads to a world
+  world_included : (w : Item) → Contains (all_items files) w → is_world w ≡ true → (f : Fault) → IsInterfaceIncluded files w f → ⊥
+  world_included w among world f h =
+      let t = world_at files places order differ w world among in
+      let o = map_at item_of ws_done.2.ordered t.0 w (ap (λ (l : List Item). slice_get l t.0) ws_done.2.all ∙ t.1) in
+      let x = entry_of_item ws_done.2.laid t.0 o.0 o.1 in
+      let says = subst (λ (v : Item). AreIncludes (world_list files ws_items) v x.0.includes) o.2 (ws_done.2.laid.says t.0 o.0 x.0 o.1 x.1).includes in
+      let to_world = include_leads files ws_items (are_worlds files places order differ) ws_sort w x.0.includes h.path says h.among in
+      let wrong : Some true ≡ Some false = sym to_world ∙ h.other in
       let g : ⊥ = cc in
       g
 
-  -- the include of a world leads to a world
-  world_included : (w : Item) → Contains (all_items files) w → is_world w ≡ true → (f : Fault) → IsInterfaceIncluded (all_items files) w f → ⊥
-  world_included w among world f h =
-      let sort = worlds_sort (in_order (all_items files) places) in
-      let t = world_at files places order differ w world among in
-      let o = map_at item_of worlds_stand.ordered t.0 w (ap (λ (l : List Item). slice_get l t.0) worlds_stand.all ∙ t.1) in
-      let x = entry_of_item worlds_stand.laid t.0 o.0 o.1 in
-      let says : AreIncludes (map address world_items) w x.0.includes = subst (λ (i : Item). AreIncludes (map address world_items) i x.0.includes) o.2 (worlds_stand.laid.says t.0 o.0 x.0 o.1 x.1).includes in
-      let k = include_at w h.path h.among in
-      let v = include_leads world_items sort w x.0.includes says k.0 k.1 h.path k.2 k.3 in
-      other_than_world v.1 v.0 (item_edge w.top h.path).name.now h.target v.3 v.2 (sort.each v.0 v.1 v.2) h.found h.other
-
-  -- no include of an item leads to an interface
-  includes_stated : (w : Item) → Contains (all_items files) w → (f : Fault) → IsInterfaceIncluded (all_items files) w f → ⊥
+  includes_stated : (w : Item) → Contains (all_items files) w → (f : Fault) → IsInterfaceIncluded files w f → ⊥
   includes_stated w among f h = elim (cases_Bool (is_world w)) [
     | inl world ↦ world_included w among world f h
     | inr other ↦ interface_includes_none w other h.path h.among
@@ -135,18 +160,13 @@ module _ (files : List PackageFile) (places : List ℕ) (order : IsOrder (item_r
       let t = item_index files places order p.0 i p.1 in
       scopes.legal t.0 i f t.2 h
 
--- the package of these arenas is that of the files, and faithful to them
-module _ (files : List PackageFile) (places : List ℕ) (order : IsOrder (item_rows files) places) (names : (f : Fault) → IsBrokenNames files f → ⊥) (uses : (i : Item) → Contains (all_items files) i → (f : Fault) → IsBrokenUse (all_items files) i f → ⊥) (middle : List TypeDef) (p : UnresolvedPackage) (added : AddsInterfaces [] middle [] p.interfaces (interfaces_of (in_order (all_items files) places))) (more : AddsWorlds p.interfaces middle p.types [] p.worlds (worlds_of (in_order (all_items files) places))) where
-  pub added_package : (header : Header) → last_header files ≡ Some header → p.name.namespace ≡ header.namespace.name.now → p.name.name ≡ header.name.name.now → option_map release_parts p.name.version ≡ option_map parts_of header.version → p.name_span ≡ header.span → NamesNoOther p → IsPackage files p
-  added_package header last namespace name version span others = package_of files (interfaces_of (in_order (all_items files) places)) (worlds_of (in_order (all_items files) places)) middle p (interfaces_stand files places order names uses middle p.types p.interfaces p.worlds added more) (worlds_stand files places order names uses middle p.types p.interfaces p.worlds added more) header places order refl refl last namespace name version span others
+  -- a package that has these arenas, and names what the files name of other packages
+  module _ (p : UnresolvedPackage) (types : p.types ≡ new) (interfaces : p.interfaces ≡ is) (worlds : p.worlds ≡ ws) (others : NamesOthers files p) where
+    package_worlds : WorldsDone files is_items ws_items front is_done.2.ordered is_done.2.scopes ws_items p.types ws_done.0
+    package_worlds = subst (λ (l : List TypeDef). WorldsDone files is_items ws_items front is_done.2.ordered is_done.2.scopes ws_items l ws_done.0) (sym types) ws_done.2
 
-  pub added_faithful : IsFaithful files p
-  added_faithful = faithful_package files (interfaces_of (in_order (all_items files) places)) (worlds_of (in_order (all_items files) places)) middle p (interfaces_stand files places order names uses middle p.types p.interfaces p.worlds added more) (worlds_stand files places order names uses middle p.types p.interfaces p.worlds added more)
+    pub files_package : (header : Header) → last_header files ≡ Some header → p.name.namespace ≡ header.namespace.name.now → p.name.name ≡ header.name.name.now → option_map release_parts p.name.version ≡ option_map parts_of header.version → p.name_span ≡ header.span → IsPackage files p
+    files_package header last namespace name version span = package_of files is_items ws_items es middle front is_done.0 wfront ws_done.0 foreign p is_done.2 package_worlds (interfaces ∙ is_done.1) (worlds ∙ ws_done.1) others header places order refl refl last namespace name version span
 
--- a package that has these arenas
-module _ (files : List PackageFile) (places : List ℕ) (order : IsOrder (item_rows files) places) (names : (f : Fault) → IsBrokenNames files f → ⊥) (uses : (i : Item) → Contains (all_items files) i → (f : Fault) → IsBrokenUse (all_items files) i f → ⊥) (middle es : List TypeDef) (is : List Interface) (ws : List World) (added : AddsInterfaces [] middle [] is (interfaces_of (in_order (all_items files) places))) (more : AddsWorlds is middle es [] ws (worlds_of (in_order (all_items files) places))) (p : UnresolvedPackage) (types : p.types ≡ es) (interfaces : p.interfaces ≡ is) (worlds : p.worlds ≡ ws) where
-  pub files_package : (header : Header) → last_header files ≡ Some header → p.name.namespace ≡ header.namespace.name.now → p.name.name ≡ header.name.name.now → option_map release_parts p.name.version ≡ option_map parts_of header.version → p.name_span ≡ header.span → NamesNoOther p → IsPackage files p
-  files_package header last namespace name version span others = added_package files places order names uses middle p (rw interfaces added) (rw (types, interfaces, worlds) more) header last namespace name version span others
-
-  pub files_faithful : IsFaithful files p
-  files_faithful = added_faithful files places order names uses middle p (rw interfaces added) (rw (types, interfaces, worlds) more)
+    pub files_faithful : IsFaithful files p
+    files_faithful = faithful_package files is_items ws_items es middle front is_done.0 wfront ws_done.0 foreign p is_done.2 package_worlds (interfaces ∙ is_done.1) (worlds ∙ ws_done.1) others

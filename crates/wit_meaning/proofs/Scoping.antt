@@ -1,8 +1,9 @@
 -- Names of a scope, one after another, and their rows.
-use Rattle.std.proofs.Common.{◌≡◌, ℕ, zero, suc, Bool, true, false, cond, List, [], ◌<◌, ◌∷◌, ◌++◌, take, Option, Some, None, IsSome, nat_eq, inl, inr, refl, sym, ap, ◌∙◌, subst, arith}
+use Rattle.std.proofs.Common.{◌≡◌, ℕ, zero, suc, Bool, true, false, cond, List, [], ◌∷◌, ◌++◌, take, Option, Some, None, IsSome, nat_eq, inl, inr, refl, sym, ap, ◌∙◌, subst, arith}
 use Rattle.std.specs.Prelude.{slice_get, slice_index, Contains}
 use Rattle.std.specs.Option.{option_map}
 use Rattle.std.specs.Cmp.Lexicographic.{pointwise}
+use Rattle.std.proofs.lemmas.List.{length-map}
 use Rattle.std.proofs.lemmas.Option.{slice_get-map, slice_get-get_or, slice_get_within, get_or_from_slice_get}
 use Rattle.wit_tree.specs.declared.tree.Id.{Id}
 use Rattle.wit_tree.specs.declared.tree.TypeDef.{TypeDef as Definition}
@@ -37,28 +38,24 @@ pub some_of : (o : Option ℕ) → IsSome o → (b : ℕ) × (o ≡ Some b)
 some_of None h = absurd (let f : ⊥ = cc in f)
 some_of (Some b) h = (b, refl)
 
--- in the order of a table, what a row needs is an earlier one
-pub edge_before : (rs : List Row) (places : List ℕ) (k p j : ℕ) (id : Id) → IsOrder rs places → slice_get places k ≡ Some p → IsEdge rs p j id → (t : ℕ) × (q : ℕ) × (r : Row) × (t < k) × (slice_get places t ≡ Some q) × (slice_get rs q ≡ Some r) × (id.name.now ≡ r.name)
-edge_before rs places k p j id order at edge =
-    let b = some_of (target rs id) (order.complete p j id edge) in
-    let long = order.sorted.long in
-    let lt = slice_get_within places k p at in
-    let here : slice_index places k ≡ p = get_or_from_slice_get places k p 0 at in
-    let leads : Leads rs (slice_index places k) b.0 = subst (λ a. Leads rs a b.0) (sym here) (j, id, edge, b.1) in
-    let before = order.sorted.after k b.0 (omega arith) leads in
-    let below = before.below in
-    let m : slice_get places before.index ≡ Some b.0 = slice_get-get_or places before.index 0 (omega arith) ∙ ap Some before.is in
-    let r = place_of-Some rs id.name.now b.0 b.1 in
-    (before.index, b.0, r.0, below, m, r.1, r.2)
-
 -- in the order of a scope, what a name needs is an earlier one
 pub needed_earlier : (xs : List ScopeName) (places : List ℕ) (k p : ℕ) (x : ScopeName) (id : Id) → IsOrder (rows_of xs) places → slice_get places k ≡ Some p → slice_get xs p ≡ Some x → Contains (needed_ids x) id → (i : ℕ) × (y : ScopeName) × (slice_get (in_order xs (take k places)) i ≡ Some y) × (local_name y ≡ id.name.now)
 needed_earlier xs places k p x id order at there among =
+    let rs = rows_of xs in
     let j = at_contains (needed_ids x) id among in
-    let b = edge_before (rows_of xs) places k p j.0 id order at (row_of x, row_at xs p x there, j.1) in
-    let y = name_at xs b.1 b.2 b.5 in
-    let found = in_order_has xs (take k places) b.0 b.1 y.0 (slice_get-take places k b.0 b.3 ∙ b.4) y.1 in
-    (found.0, y.0, found.1, ap (λ (row : Row). row.name) y.2 ∙ sym b.6)
+    let edge : IsEdge rs p j.0 id = (row_of x, row_at xs p x there, j.1) in
+    let b = some_of (target rs id) (order.complete p j.0 id edge) in
+    let long = order.sorted.long in
+    let lt = slice_get_within places k p at in
+    let here : slice_index places k ≡ p = get_or_from_slice_get places k p 0 at in
+    let leads : Leads rs (slice_index places k) b.0 = subst (λ a. Leads rs a b.0) (sym here) (j.0, id, edge, b.1) in
+    let before = order.sorted.after k b.0 (omega (arith, length-map xs row_of)) leads in
+    let below = before.below in
+    let m : slice_get places before.index ≡ Some b.0 = slice_get-get_or places before.index 0 (omega arith) ∙ ap Some before.is in
+    let r = place_of-Some rs id.name.now b.0 b.1 in
+    let y = name_at xs b.0 r.0 r.1 in
+    let found = in_order_has xs (take k places) before.index b.0 y.0 (slice_get-take places k before.index before.below ∙ m) y.1 in
+    (found.0, y.0, found.1, ap (λ (row : Row). row.name) y.2 ∙ sym r.2)
 
 pub names_none : (env : Env) → HasNames env []
 names_none env = record { has = λ i x at. absurd (let f : ⊥ = cc in f) }

@@ -1,7 +1,7 @@
 -- The names of scopes that are done: each stands for its entry, and what is used is a name of the scope that it comes from.
 use Rattle.std.proofs.Common.{◌≡◌, ℕ, List, [], ◌∷◌, Some, None, sym, ap, ◌∙◌, subst}
 use Rattle.std.specs.Prelude.{slice_get, map}
-use Rattle.std.specs.Option.{option_map, option_map_or}
+use Rattle.std.specs.Option.{option_map}
 use Rattle.std.proofs.lemmas.Option.{slice_get-map}
 use Rattle.wit_tree.specs.declared.tree.UseName.{UseName}
 use Rattle.wit_tree.specs.declared.tree.PackageFile.{PackageFile}
@@ -20,6 +20,7 @@ use Rattle.wit_meaning.proofs.Names.{lookup-at}
 use Rattle.wit_meaning.proofs.Places.{all_at_untaken}
 use Rattle.wit_meaning.proofs.Repeated.{differ_at}
 use Rattle.wit_meaning.proofs.Scoping.{at_contains}
+use Rattle.wit_meaning.proofs.Interfaces.{scope_at}
 use Rattle.wit_meaning.proofs.Shape.{entry_of_key}
 use Rattle.wit_meaning.proofs.Depth.{meaning_found}
 use Rattle.wit_meaning.proofs.Parts.{part_type}
@@ -58,7 +59,7 @@ module _ (files : List PackageFile) (decls : Decls) (written : List Meeting) (cs
   entry_of id s name here = entry_of_key decls ks es d.meeting.keyed id (Def s name) here
 
   -- it is that of a name of its scope
-  decl_at : (t : ℕ) (c : DoneScope) (id : ℕ) (name : List ℕ) (e : TypeDef) → slice_get cs t ≡ Some c → (here : slice_get ks id ≡ Some (Def c.address name)) → (there : slice_get es id ≡ Some e) → (k : ℕ) × (x : ScopeName) × (slice_get (scope files c.address) k ≡ Some x) × (decl_of c.owner c.address x ≡ (d.meeting.keyed.each id (Def c.address name) e here there).decl)
+  pub decl_at : (t : ℕ) (c : DoneScope) (id : ℕ) (name : List ℕ) (e : TypeDef) → slice_get cs t ≡ Some c → (here : slice_get ks id ≡ Some (Def c.address name)) → (there : slice_get es id ≡ Some e) → (k : ℕ) × (x : ScopeName) × (slice_get (scope files c.address) k ≡ Some x) × (decl_of c.owner c.address x ≡ (d.meeting.keyed.each id (Def c.address name) e here there).decl)
   decl_at t c id name e at here there =
       let it = d.meeting.keyed.each id (Def c.address name) e here there in
       let k = it.among.0 in
@@ -114,7 +115,7 @@ module _ (files : List PackageFile) (decls : Decls) (written : List Meeting) (cs
       let j = original_met t c k.0 h.from h.n at k.1 in
       let name = h.n.name.name.now in
       let it = meaning_at j.0 h.from name j.1 in
-      let declared : meaning (scope files h.from) name ≡ meaning (scope_names h.target) name = ap (λ o. meaning (option_map_or scope_names o []) name) h.declared in
+      let declared : meaning (scope files h.from) name ≡ meaning (scope_names h.target) name = ap (λ (xs : List ScopeName). meaning xs name) (scope_at files h.from h.target h.declared) in
       let wrong : None ≡ Some it.0 = sym h.missing ∙ sym declared ∙ it.1 in
       let g : ⊥ = cc in
       g

@@ -1,14 +1,15 @@
 -- The names of a scope as they are resolved: the used ones, and then the definitions in their order.
-use Rattle.std.proofs.Common.{◌≡◌, ℕ, zero, suc, ◌+◌, ◌<◌, Bool, true, not, List, [], ◌∷◌, ◌++◌, length, Some, ◌⊎◌, inl, inr, refl, sym, ap, ◌∙◌, subst, arith}
+use Rattle.std.proofs.Common.{◌≡◌, ℕ, zero, suc, ◌+◌, ◌<◌, Bool, true, false, not, List, [], ◌∷◌, ◌++◌, length, Some, ◌⊎◌, inl, inr, refl, sym, ap, ◌∙◌, subst, arith}
 use Rattle.std.specs.Prelude.{slice_get, map}
 use Rattle.std.proofs.lemmas.List.Elements.{filter-append}
 use Rattle.std.proofs.lemmas.List.{length-map}
 use Rattle.std.proofs.lemmas.Option.{slice_get_within}
 use Rattle.wit_tree.specs.declared.tree.UseName.{UseName}
 use Rattle.wit_tree.specs.declared.tree.TypeDef.{TypeDef as Definition}
+use Rattle.wit_tree.specs.declared.tree.Id.{Id}
 use Rattle.wit_order.specs.Table.{IsOrder}
 use Rattle.wit_meaning.specs.Address.{Address}
-use Rattle.wit_meaning.specs.Source.{ScopeName, Used, Defined, local_name}
+use Rattle.wit_meaning.specs.Source.{ScopeName, Used, Defined, Taken, local_name}
 use Rattle.wit_meaning.specs.Scope.{row_of, rows_of, in_order, is_defined, used, defined, in_turn}
 use Rattle.wit_meaning.specs.Repeats.{AllDiffer}
 use Rattle.wit_meaning.specs.Resolving.{AreDistinct}
@@ -44,20 +45,31 @@ defined_at xs i x at = let it = kept_at is_defined xs i x at in (it.0, it.1)
 pub used_has : (xs : List ScopeName) (p : ℕ) (from : Address) (n : UseName) → slice_get xs p ≡ Some (Used from n) → (i : ℕ) × (slice_get (used xs) i ≡ Some (Used from n))
 used_has xs p from n at = kept_has is_used xs p (Used from n) refl at
 
+taken_has : (xs : List ScopeName) (p : ℕ) (id : Id) → slice_get xs p ≡ Some (Taken id) → (i : ℕ) × (slice_get (used xs) i ≡ Some (Taken id))
+taken_has xs p id at = kept_has is_used xs p (Taken id) refl at
+
 pub defined_has : (xs : List ScopeName) (p : ℕ) (d : Definition) → slice_get xs p ≡ Some (Defined d) → (i : ℕ) × (slice_get (defined xs) i ≡ Some (Defined d))
 defined_has xs p d at = kept_has is_defined xs p (Defined d) refl at
 
-is_used-true : (x : ScopeName) → is_used x ≡ true → (from : Address) × (n : UseName) × (x ≡ Used from n)
-is_used-true (Used from n) h = (from, n, refl)
-is_used-true (Defined d) h = absurd (let f : ⊥ = cc in f)
+-- none of these is taken from another package
+abbrev pub AreOwn : List ScopeName → Type 0
+AreOwn xs = (i : ℕ) (id : Id) → slice_get xs i ≡ Some (Taken id) → ⊥
+
+is_used-true : (x : ScopeName) → is_used x ≡ true → ((id : Id) → x ≡ Taken id → ⊥) → (from : Address) × (n : UseName) × (x ≡ Used from n)
+is_used-true (Used from n) h own = (from, n, refl)
+is_used-true (Defined d) h own = absurd (let f : ⊥ = cc in f)
+is_used-true (Taken id) h own = absurd (own id refl)
 
 is_defined-true : (x : ScopeName) → is_defined x ≡ true → (d : Definition) × (x ≡ Defined d)
 is_defined-true (Used from n) h = absurd (let f : ⊥ = cc in f)
 is_defined-true (Defined d) h = (d, refl)
+is_defined-true (Taken id) h = absurd (let f : ⊥ = cc in f)
 
--- a used name is one that is used
-pub used_is : (xs : List ScopeName) (i : ℕ) (x : ScopeName) → slice_get (used xs) i ≡ Some x → (from : Address) × (n : UseName) × (x ≡ Used from n)
-used_is xs i x at = is_used-true x (kept_at is_used xs i x at).2
+-- a used name is one that is used, where none is taken
+pub used_is : (xs : List ScopeName) → AreOwn xs → (i : ℕ) (x : ScopeName) → slice_get (used xs) i ≡ Some x → (from : Address) × (n : UseName) × (x ≡ Used from n)
+used_is xs own i x at =
+    let it = kept_at is_used xs i x at in
+    is_used-true x it.2 (λ id same. own it.0 id (it.1 ∙ ap Some same))
 
 -- and a defined one is a definition
 pub defined_is : (xs : List ScopeName) (i : ℕ) (x : ScopeName) → slice_get (defined xs) i ≡ Some x → (d : Definition) × (x ≡ Defined d)
@@ -67,6 +79,7 @@ defined_is xs i x at = is_defined-true x (kept_at is_defined xs i x at).2
 pub either_at : (xs : List ScopeName) (p : ℕ) (x : ScopeName) → slice_get xs p ≡ Some x → ((i : ℕ) × (slice_get (used xs) i ≡ Some x)) ⊎ ((i : ℕ) × (slice_get (defined xs) i ≡ Some x))
 either_at xs p (Used from n) at = inl (used_has xs p from n at)
 either_at xs p (Defined d) at = inr (defined_has xs p d at)
+either_at xs p (Taken id) at = inl (taken_has xs p id at)
 
 -- none of these goes by the name
 abbrev pub IsFresh : List ℕ → List ScopeName → Type 0
@@ -122,6 +135,13 @@ parts_distinct (Used from n ∷ xs) a b apart =
       | inr h ↦ apart 0 x refl h.0 y h.1 same
     ] in
     distinct_cons x xs fresh (parts_distinct xs (distinct_tail x (used xs) a) b (λ i y at. apart (suc i) y at))
+parts_distinct (Taken id ∷ xs) a b apart =
+    let x = Taken id in
+    let fresh : IsFresh (local_name x) xs = λ i y at same. elim (either_at xs i y at) [
+      | inl h ↦ distinct_head x (used xs) a h.0 y h.1 same
+      | inr h ↦ apart 0 x refl h.0 y h.1 same
+    ] in
+    distinct_cons x xs fresh (parts_distinct xs (distinct_tail x (used xs) a) b (λ i y at. apart (suc i) y at))
 parts_distinct (Defined d ∷ xs) a b apart =
     let x = Defined d in
     let fresh : IsFresh (local_name x) xs = λ i y at same. elim (either_at xs i y at) [
@@ -172,25 +192,28 @@ pub in_turn_has : (xs : List ScopeName) (order : List ℕ) → IsOrder (rows_of 
 in_turn_has xs order least p (Used from n) at =
     let it = used_has xs p from n at in
     (it.0, at_front (used xs) (defined (in_order xs order)) it.0 (Used from n) it.1)
+in_turn_has xs order least p (Taken id) at =
+    let it = taken_has xs p id at in
+    (it.0, at_front (used xs) (defined (in_order xs order)) it.0 (Taken id) it.1)
 in_turn_has xs order least p (Defined d) at =
     let there = in_order_all xs order least p (Defined d) at in
     let it = defined_has (in_order xs order) there.0 d there.1 in
     (length (used xs) + it.0, at_back (used xs) (defined (in_order xs order)) it.0 (Defined d) it.1)
 
-never_both : (x : ScopeName) (from : Address) (n : UseName) (d : Definition) → x ≡ Used from n → x ≡ Defined d → ⊥
-never_both x from n d a b = let f : ⊥ = cc in f
+never_both : (x y : ScopeName) → is_used x ≡ true → is_defined y ≡ true → y ≡ x → ⊥
+never_both x y u d same =
+    let wrong : is_used x ≡ false = ap is_used (sym same) ∙ ap not d in
+    let f : ⊥ = cc in
+    f
 
 turns_apart : (xs : List ScopeName) (order : List ℕ) → IsOrder (rows_of xs) order → AreDistinct xs → AreApart (used xs) (defined (in_order xs order))
 turns_apart xs order least distinct i x at j y there same =
-    let u = used_is xs i x at in
-    let d = defined_is (in_order xs order) j y there in
-    let p = used_at xs i x at in
-    let it = defined_at (in_order xs order) j y there in
+    let p = kept_at is_used xs i x at in
+    let it = kept_at is_defined (in_order xs order) j y there in
     let q = in_order_among xs order least it.0 y it.1 in
     let places : q.0 ≡ p.0 = differ_at local_name xs distinct q.0 p.0 y x q.1 p.1 same in
     let both : Some y ≡ Some x = sym q.1 ∙ ap (slice_get xs) places ∙ p.1 in
-    let one : y ≡ x = cc in
-    never_both x u.0 u.1 d.0 u.2 (sym one ∙ d.1)
+    never_both x y p.2 it.2 (let one : y ≡ x = cc in one)
 
 pub in_turn_distinct : (xs : List ScopeName) (order : List ℕ) → IsOrder (rows_of xs) order → AreDistinct xs → AreDistinct (in_turn xs order)
 in_turn_distinct xs order least distinct = distinct_join (used xs) (defined (in_order xs order)) (used_distinct xs distinct) (defined_distinct (in_order xs order) (in_order_distinct xs order least distinct)) (turns_apart xs order least distinct)

@@ -143,4 +143,4 @@ module _ (ptr : Ptr) (alloc : Global) where
 
   -- v includes the world at w's place
   v_includes_w : IsInclude (addresses (ordered_w ∷ record { item = v_item; order = [] } ∷ [])) v_item.top include_w included
-  v_includes_w = record { stability = refl; leads = refl; names = refl; span = refl }
+  v_includes_w = record { stability = refl; place = refl; names = refl; span = refl }

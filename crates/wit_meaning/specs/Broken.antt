@@ -1,5 +1,5 @@
 -- The rules, and what it is that breaks each.
-use Rattle.std.specs.Prelude.{◌≡◌, ℕ, zero, suc, ◌<◌, ◌⊎◌, true, false, List, [], ◌∷◌, ◌++◌, map, Option, Some, None, Contains, slice_get}
+use Rattle.std.specs.Prelude.{◌≡◌, ℕ, zero, suc, ◌<◌, ◌⊎◌, Bool, true, false, List, [], ◌∷◌, ◌++◌, map, Option, Some, None, Contains, slice_get}
 use Rattle.std.specs.Char.{to_ascii_lowercase}
 use Rattle.std.specs.Option.{option_map, option_or}
 use Rattle.semver.specs.Identifiers.{parts_of}
@@ -17,6 +17,7 @@ use Rattle.wit_tree.specs.declared.tree.TypeBody.{TypeBody}
 use Rattle.wit_tree.specs.declared.tree.TypeBody.TheVariants.{Record, Flags, Variant, Enum, Plain}
 use Rattle.wit_tree.specs.Parts.{part_types, row_types, body_types}
 use Rattle.wit_tree.specs.declared.tree.TypeDef.{TypeDef}
+use Rattle.wit_tree.specs.declared.tree.UsePath.{UsePath}
 use Rattle.wit_tree.specs.declared.tree.UseName.{UseName}
 use Rattle.wit_tree.specs.declared.tree.ToplevelUse.{ToplevelUse}
 use Rattle.wit_tree.specs.declared.tree.AstItem.{AstItem}
@@ -25,8 +26,9 @@ use Rattle.wit_tree.specs.declared.tree.PackageName.{PackageName as Header}
 use Rattle.wit_tree.specs.declared.tree.PackageFile.{PackageFile}
 use Rattle.wit_order.specs.Table.{Row, IsEdge, IsMissing, IsCyclic, IsOrder}
 use Rattle.wit_meaning.specs.Fault.{Fault, fault_of, fault, missing_at, cyclic_at, item_word, type_word, name_word}
-use Rattle.wit_meaning.specs.Address.{Address}
-use Rattle.wit_meaning.specs.Source.{path_id, TopName, top_names, top_text, item_edge, Item, item_id, item_name, is_world, all_items, item_named, item_at, ScopeName, Used, Defined, local_id, local_name, scope_names, meaning}
+use Rattle.wit_meaning.specs.Address.{Address, ForeignNamed}
+use Rattle.wit_meaning.specs.Source.{path_id, Target, Local, Foreign, path_target, leads, TopName, top_names, top_text, Item, item_id, item_name, is_world, all_items, item_named, item_at, ScopeName, Used, Defined, local_id, local_name, scope_names, meaning}
+use Rattle.wit_meaning.specs.Foreign.{is_foreign_world, foreign_at}
 use Rattle.wit_meaning.specs.Scope.{use_paths, include_paths, item_rows, rows_of, used, defined, in_turn}
 
 -- the key by which labels are told apart: the label in lower case
@@ -67,9 +69,11 @@ pub record IsDuplicateTopName (top : List TopName) (f : Fault) : Type 0 where
 -- the path of a `use` at the top of a file is the name of none of these items
 pub record IsMissingOriginal (items : List Item) (declarations : List AstItem) (f : Fault) : Type 0 where
   pub u : ToplevelUse
+  pub id : Id
   pub among : Contains declarations (ToplevelItem u)
-  pub missing : item_named items (path_id u.item).name.now ≡ None
-  pub is : f ≡ missing_at 7 item_word (path_id u.item)
+  pub local : path_target u.item ≡ Local id
+  pub missing : item_named items id.name.now ≡ None
+  pub is : f ≡ missing_at 7 item_word id
 
 -- the header of the last file that has one
 abbrev pub last_header : List PackageFile → Option Header
@@ -121,30 +125,33 @@ IsMissingItem files f = IsMissingEdge 7 item_word (item_rows files) f
 abbrev pub IsCyclicItem : List PackageFile → Fault → Type 0
 IsCyclicItem files f = IsCyclicEdge 8 item_word (item_rows files) f
 
+-- whether what stands where a path leads is a world, if something stands there
+abbrev pub is_world_at : List PackageFile → Target → Option Bool
+is_world_at files (Local id) = option_map is_world (item_named (all_items files) id.name.now)
+is_world_at files (Foreign p id) = option_map is_foreign_world (foreign_at files (ForeignNamed p id.name.now))
+
 -- the path of a `use` leads to no item
-pub record IsMissingUse (items : List Item) (i : Item) (f : Fault) : Type 0 where
-  pub path : Id
+pub record IsMissingUse (files : List PackageFile) (i : Item) (f : Fault) : Type 0 where
+  pub path : UsePath
+  pub id : Id
   pub among : Contains (use_paths i) path
-  pub missing : item_named items (item_edge i.top path).name.now ≡ None
-  pub is : f ≡ missing_at 7 item_word (item_edge i.top path)
+  pub local : leads i.top path ≡ Local id
+  pub missing : item_named (all_items files) id.name.now ≡ None
+  pub is : f ≡ missing_at 7 item_word id
 
 -- the path of a `use` leads to a world
-pub record IsWorldUsed (items : List Item) (i : Item) (f : Fault) : Type 0 where
-  pub path : Id
+pub record IsWorldUsed (files : List PackageFile) (i : Item) (f : Fault) : Type 0 where
+  pub path : UsePath
   pub among : Contains (use_paths i) path
-  pub target : Item
-  pub found : item_named items (item_edge i.top path).name.now ≡ Some target
-  pub other : is_world target ≡ true
-  pub is : f ≡ fault 10 path.span
+  pub other : is_world_at files (leads i.top path) ≡ Some true
+  pub is : f ≡ fault 10 (path_id path).span
 
 -- the path of an include leads to an interface
-pub record IsInterfaceIncluded (items : List Item) (i : Item) (f : Fault) : Type 0 where
-  pub path : Id
+pub record IsInterfaceIncluded (files : List PackageFile) (i : Item) (f : Fault) : Type 0 where
+  pub path : UsePath
   pub among : Contains (include_paths i) path
-  pub target : Item
-  pub found : item_named items (item_edge i.top path).name.now ≡ Some target
-  pub other : is_world target ≡ false
-  pub is : f ≡ fault 11 path.span
+  pub other : is_world_at files (leads i.top path) ≡ Some false
+  pub is : f ≡ fault 11 (path_id path).span
 
 -- a used name is none of the interface that it comes from
 pub record IsMissingName (files : List PackageFile) (xs : List ScopeName) (f : Fault) : Type 0 where
@@ -316,17 +323,17 @@ pub data IsBrokenNames (files : List PackageFile) (f : Fault) : Type 0 where
   Items : IsBrokenItems files f → IsBrokenNames files f
   MissingOriginal : (file : PackageFile) → Contains files file → IsMissingOriginal (all_items files) file.decl_list.items.items f → IsBrokenNames files f
 
--- what is wrong with where a `use` of an item leads, among these items
-pub data IsBrokenUse (items : List Item) (i : Item) (f : Fault) : Type 0 where
-  MissingUse : IsMissingUse items i f → IsBrokenUse items i f
-  WorldUsed : IsWorldUsed items i f → IsBrokenUse items i f
+-- what is wrong with where a `use` of an item leads
+pub data IsBrokenUse (files : List PackageFile) (i : Item) (f : Fault) : Type 0 where
+  MissingUse : IsMissingUse files i f → IsBrokenUse files i f
+  WorldUsed : IsWorldUsed files i f → IsBrokenUse files i f
 
 -- what is wrong with files
 pub data IsBroken (files : List PackageFile) (f : Fault) : Type 0 where
   Headerless : IsHeaderless files f → IsBroken files f
   Names : IsBrokenNames files f → IsBroken files f
-  Use : (i : Item) → Contains (all_items files) i → IsBrokenUse (all_items files) i f → IsBroken files f
-  InterfaceIncluded : (i : Item) → Contains (all_items files) i → IsInterfaceIncluded (all_items files) i f → IsBroken files f
+  Use : (i : Item) → Contains (all_items files) i → IsBrokenUse files i f → IsBroken files f
+  InterfaceIncluded : (i : Item) → Contains (all_items files) i → IsInterfaceIncluded files i f → IsBroken files f
   MissingName : (i : Item) → Contains (all_items files) i → IsMissingName files (scope_names i) f → IsBroken files f
   Scope : (i : Item) → Contains (all_items files) i → IsBrokenScope (scope_names i) f → IsBroken files f
 

@@ -4,6 +4,7 @@ pub mod Form
 pub mod Node
 pub mod Shape
 pub mod Source
+pub mod Foreign
 pub mod Expr
 pub mod Meet
 pub mod Fault

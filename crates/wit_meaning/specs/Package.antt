@@ -1,8 +1,11 @@
 -- What types of a package mean: the arenas unfolded, whose names are by what the package calls them, and what an interface says.
-use Rattle.std.specs.Prelude.{◌≡◌, ℕ, zero, suc, ◌<◌, List, [], ◌∷◌, Option, Some, None, ◌⊎◌, slice_get}
+use Rattle.std.specs.Prelude.{◌≡◌, ℕ, zero, suc, ◌<◌, Bool, false, nat_eq, List, [], ◌∷◌, Option, Some, None, ◌⊎◌, map, find, slice_get}
 use Rattle.std.specs.List.{flat_map}
 use Rattle.std.specs.Option.{option_map_or}
 use Rattle.wit_tree.specs.declared.tree.Id.{Id}
+use Rattle.wit_model.specs.declared.ast_item.AstItem.{AstItem}
+use Rattle.wit_model.specs.declared.ast_item.AstItem.TheVariants as entry
+use Rattle.wit_model.specs.declared.package_name.PackageName.{PackageName}
 use Rattle.wit_model.specs.declared.interface.Interface.{Interface}
 use Rattle.wit_model.specs.declared.world.World.{World}
 use Rattle.wit_model.specs.declared.world.WorldKey.{WorldKey}
@@ -10,6 +13,7 @@ use Rattle.wit_model.specs.declared.world.WorldKey.TheVariants as key
 use Rattle.wit_model.specs.declared.world.WorldItem.{WorldItem}
 use Rattle.wit_model.specs.declared.world.WorldItem.TheVariants as item
 use Rattle.wit_model.specs.declared.unresolved.UnresolvedPackage.{UnresolvedPackage}
+use Rattle.wit_types.specs.declared.stability.Stability.{Stability}
 use Rattle.wit_types.specs.declared.stability.Stability.TheVariants.{Unknown}
 use Rattle.wit_types.specs.declared.types.«Type».{«Type» as Ty}
 use Rattle.wit_types.specs.declared.types.«Type».TheVariants as type
@@ -17,27 +21,52 @@ use Rattle.wit_types.specs.declared.types.TypeDef.{TypeDef}
 use Rattle.wit_types.specs.declared.types.TypeOwner.{TypeOwner}
 use Rattle.wit_types.specs.declared.types.TypeOwner.TheVariants as owner
 use Rattle.wit_meaning.specs.Form.{kind_of}
-use Rattle.wit_meaning.specs.Address.{InterfaceNamed, WorldNamed}
+use Rattle.wit_meaning.specs.Address.{Address, InterfaceNamed, WorldNamed, ForeignNamed}
 use Rattle.wit_meaning.specs.Node.{Owner, OfScope, Nobody, Head, Node, Leaf, Named, Unnamed, Nothing, Tree, unfolded}
 use Rattle.wit_meaning.specs.Node as node
 use Rattle.wit_meaning.specs.Shape.{no_docs}
 
-abbrev pub named_owner : Option (List ℕ) → Owner
-named_owner None = Nobody
-named_owner (Some name) = OfScope (InterfaceNamed name)
+-- what other packages' items a package names, each with its address
+abbrev pub dep_items : PackageName × List (List ℕ × (AstItem × List Stability)) → List (AstItem × Address)
+dep_items d = map (λ e. (e.1.0, ForeignNamed d.0 e.0)) d.1
 
-abbrev pub interface_owner : Option Interface → Owner
-interface_owner None = Nobody
-interface_owner (Some i) = named_owner i.name
+-- whether two entries of the arenas are one
+abbrev pub same_entry : AstItem → AstItem → Bool
+same_entry (entry.Interface i) (entry.Interface j) = nat_eq i j
+same_entry (entry.World i) (entry.World j) = nat_eq i j
+same_entry (entry.Interface i) (entry.World j) = false
+same_entry (entry.World i) (entry.Interface j) = false
 
-abbrev pub world_owner : Option World → Owner
-world_owner None = Nobody
-world_owner (Some w) = OfScope (WorldNamed w.name)
+abbrev pub address_of : Option (AstItem × Address) → Owner
+address_of None = Nobody
+address_of (Some e) = OfScope e.1
+
+-- an item of another package, by what the package calls it
+abbrev pub foreign_owner : UnresolvedPackage → AstItem → Owner
+foreign_owner p i = address_of (find (λ e. same_entry e.0 i) (flat_map dep_items p.foreign_deps))
+
+-- an interface goes by its name; one without a name is another package's
+abbrev pub named_interface : UnresolvedPackage → ℕ → Option (List ℕ) → Owner
+named_interface p place None = foreign_owner p (entry.Interface place)
+named_interface p place (Some name) = OfScope (InterfaceNamed name)
+
+abbrev pub interface_owner : UnresolvedPackage → ℕ → Option Interface → Owner
+interface_owner p place None = Nobody
+interface_owner p place (Some i) = named_interface p place i.name
+
+-- a world goes by its name; one whose name is empty is another package's
+abbrev pub named_world : UnresolvedPackage → ℕ → List ℕ → Owner
+named_world p place [] = foreign_owner p (entry.World place)
+named_world p place (c ∷ cs) = OfScope (WorldNamed (c ∷ cs))
+
+abbrev pub world_owner : UnresolvedPackage → ℕ → Option World → Owner
+world_owner p place None = Nobody
+world_owner p place (Some w) = named_world p place w.name
 
 -- an owner by what the package calls it
 abbrev pub owner_of : UnresolvedPackage → TypeOwner → Owner
-owner_of p (owner.Interface i) = interface_owner (slice_get p.interfaces i)
-owner_of p (owner.World w) = world_owner (slice_get p.worlds w)
+owner_of p (owner.Interface i) = interface_owner p i (slice_get p.interfaces i)
+owner_of p (owner.World w) = world_owner p w (slice_get p.worlds w)
 owner_of p owner.None = Nobody
 
 abbrev pub interface_types : Interface → List (List ℕ × ℕ)
@@ -134,4 +163,25 @@ pub record IsWorld (id : Id) (w : World) : Type 0 where
   pub exports : w.exports ≡ []
   pub docs : w.docs ≡ no_docs
   pub stability : w.stability ≡ Unknown
+  pub no_package : w.package ≡ None
+
+-- an interface of another package, where a path first leads to it, apart from its types
+pub record IsForeignInterface (id : Id) (i : Interface) : Type 0 where
+  pub name : i.name ≡ None
+  pub span : i.span ≡ id.span
+  pub functions : i.functions ≡ []
+  pub docs : i.docs ≡ no_docs
+  pub stability : i.stability ≡ Unknown
+  pub no_package : i.package ≡ None
+  pub no_source : i.clone_of ≡ None
+
+-- a world of another package, where a path first leads to it
+pub record IsForeignWorld (id : Id) (w : World) : Type 0 where
+  pub name : w.name ≡ []
+  pub span : w.span ≡ id.span
+  pub imports : w.imports ≡ []
+  pub exports : w.exports ≡ []
+  pub docs : w.docs ≡ no_docs
+  pub stability : w.stability ≡ Unknown
+  pub includes : w.includes ≡ []
   pub no_package : w.package ≡ None

@@ -1,5 +1,6 @@
 -- Items that stand twice in a list.
-use Rattle.std.specs.Prelude.{◌≡◌, ℕ, ◌<◌, List, Some, slice_get}
+use Rattle.std.specs.Prelude.{◌≡◌, ℕ, ◌<◌, Bool, not, List, [], ◌∷◌, Some, slice_get}
+use Rattle.std.specs.List.{filter}
 
 -- what stands at an earlier place stands at a later one too
 pub record IsRepeatAt {X : Type 0} (xs : List X) (first second : ℕ) : Type 0 where
@@ -11,3 +12,8 @@ pub record IsRepeatAt {X : Type 0} (xs : List X) (first second : ℕ) : Type 0 w
 -- what stands at two places is not equal
 pub record AllDiffer {X : Type 0} (xs : List X) : Type 0 where
   pub differ : (i j : ℕ) (x : X) → slice_get xs i ≡ Some x → slice_get xs j ≡ Some x → i ≡ j
+
+-- the first of each, where `same` tells which are one
+abbrev pub firsts : {X : Type 0} → (X → X → Bool) → List X → List X
+firsts same [] = []
+firsts same (x ∷ xs) = x ∷ filter (λ y. not (same x y)) (firsts same xs)

@@ -1,12 +1,14 @@
 -- What resolving types and names does to the arena, from whatever was met before.
-use Rattle.std.specs.Prelude.{◌≡◌, ℕ, List, [], ◌∷◌, ◌++◌, length, map, Option, Some, None, ◌⊎◌, slice_get, nat_eq, Contains, IsSome}
+use Rattle.std.specs.Prelude.{◌≡◌, ℕ, false, List, [], ◌∷◌, ◌++◌, length, map, Option, Some, None, ◌⊎◌, slice_get, nat_eq, Contains, IsSome}
 use Rattle.std.specs.Cmp.Lexicographic.{pointwise}
 use Rattle.std.specs.Map.{lookup}
-use Rattle.std.specs.Option.{unwrap_or}
+use Rattle.std.specs.Option.{option_map, unwrap_or}
 use Rattle.indexmap.specs.IndexMap.{insert_entry}
 use Rattle.wit_values.specs.declared.span.Span.{Span}
 use Rattle.wit_tree.specs.declared.tree.Id.{Id}
+use Rattle.wit_tree.specs.declared.tree.UsePath.{UsePath}
 use Rattle.wit_tree.specs.declared.tree.UseName.{UseName}
+use Rattle.wit_tree.specs.declared.tree.PackageFile.{PackageFile}
 use Rattle.wit_tree.specs.declared.tree.«Type».{«Type» as WrittenType}
 use Rattle.wit_tree.specs.declared.tree.TypeBody.{TypeBody}
 use Rattle.wit_tree.specs.declared.tree.TypeDef.{TypeDef as Definition}
@@ -19,9 +21,9 @@ use Rattle.wit_types.specs.declared.types.TypeDef.{TypeDef}
 use Rattle.wit_types.specs.declared.types.TypeOwner.{TypeOwner}
 use Rattle.wit_types.specs.declared.types.TypeOwner.TheVariants as owner
 use Rattle.wit_model.specs.declared.interface.Interface.{Interface}
-use Rattle.wit_model.specs.declared.world.World.{World}
-use Rattle.wit_meaning.specs.Address.{Address, InterfaceNamed, WorldNamed}
-use Rattle.wit_meaning.specs.Source.{item_edge, Item, ScopeName, Used, Defined, local_id, local_name, scope_names}
+use Rattle.wit_meaning.specs.Address.{Address, InterfaceNamed, WorldNamed, ForeignNamed}
+use Rattle.wit_meaning.specs.Source.{path_id, Target, Local, Foreign, leads, Item, ScopeName, Used, Defined, local_id, local_name, scope_names}
+use Rattle.wit_meaning.specs.Foreign.{is_foreign_world, foreign_at}
 use Rattle.wit_meaning.specs.Scope.{include_paths}
 use Rattle.wit_meaning.specs.Shape.{no_docs, shape_of, all_shapes, words, all_words, body_of}
 use Rattle.wit_meaning.specs.Expr.{Expr, Prim, Use, Of, Exprs, End, More}
@@ -111,12 +113,19 @@ pub record Cell : Type 0 where
   pub address : Address
   pub types : Names
 
+-- an interface at an address
+abbrev pub cell_at : Address → Interface → Cell
+cell_at s i = record { address = s; types = i.types }
+
 -- an interface that was resolved, as a scope
 abbrev pub cell : Interface → Cell
-cell i = record { address = InterfaceNamed (unwrap_or i.name []); types = i.types }
+cell i = cell_at (InterfaceNamed (unwrap_or i.name [])) i
 
-abbrev pub cells : List Interface → List Cell
-cells is = map cell is
+-- interfaces that were resolved: at first those of other packages, at these addresses
+abbrev pub cells : List Address → List Interface → List Cell
+cells [] is = map cell is
+cells (s ∷ ss) [] = []
+cells (s ∷ ss) (i ∷ is) = cell_at s i ∷ cells ss is
 
 -- the names of scopes that were resolved stand for their places, and the scope is none of them
 pub record AreKnown (ks : List Key) (s : Address) (cs : List Cell) : Type 0 where
@@ -181,11 +190,6 @@ pub record IsFound (cs : List Cell) (from : Address) (c : Cell) : Type 0 where
 abbrev pub IsUnresolved : Names → Id → Fault → Type 0
 IsUnresolved by_name path f = (env_of by_name path.name.now ≡ None) × (f ≡ missing_at 7 item_word path)
 
--- the name by which a scope is addressed
-abbrev pub address_name : Address → List ℕ
-address_name (InterfaceNamed name) = name
-address_name (WorldNamed name) = name
-
 -- a used name was added, as another word for what it stands for in the interface that it comes from
 pub record IsUsed (old new : List TypeDef) (cs : List Cell) (o : TypeOwner) (names names' : Names) (from : Address) (n : UseName) : Type 0 where
   pub target : Cell
@@ -197,7 +201,7 @@ pub record IsUsed (old new : List TypeDef) (cs : List Cell) (o : TypeOwner) (nam
 
 -- a used name is wrong by what was resolved before: its interface was not, or it is none of that interface's
 pub data IsWrongName (cs : List Cell) (by_name : Names) (from : Address) (n : UseName) (f : Fault) : Type 0 where
-  Unresolved : (path : Id) → path.name.now ≡ address_name from → IsUnresolved by_name path f → IsWrongName cs by_name from n f
+  Unresolved : (path : Id) → from ≡ InterfaceNamed path.name.now → IsUnresolved by_name path f → IsWrongName cs by_name from n f
   Unstated : (target : Cell) → IsFound cs from target → env_of target.types n.name.name.now ≡ None → f ≡ missing_at 12 name_word n.name → IsWrongName cs by_name from n f
 
 -- what is wrong with a used name: it is by what was resolved before, or its local name is taken
@@ -217,19 +221,24 @@ pub record IsAddedInterface (is is' : List Interface) (id : Id) (names : Names) 
   pub says : IsInterface id added
   pub types : added.types ≡ names
 
--- worlds that were resolved, and their places by name
-pub record IsWorldIndex (ws : List World) (by_name : Names) : Type 0 where
-  pub stands : (name : List ℕ) (t : ℕ) → env_of by_name name ≡ Some t → (w : World) × (slice_get ws t ≡ Some w) × (w.name ≡ name)
-  pub has : (t : ℕ) (w : World) → slice_get ws t ≡ Some w → IsSome (env_of by_name w.name)
+-- worlds that were resolved, at these addresses, and the places of those of the package by name
+pub record IsWorldIndex (worlds : List Address) (by_name : Names) : Type 0 where
+  pub stands : (name : List ℕ) (t : ℕ) → env_of by_name name ≡ Some t → slice_get worlds t ≡ Some (WorldNamed name)
+  pub has : (t : ℕ) (name : List ℕ) → slice_get worlds t ≡ Some (WorldNamed name) → IsSome (env_of by_name name)
 
--- an include of an item leads to no world that was resolved
-pub record IsLostInclude (by_name : Names) (item : Item) (f : Fault) : Type 0 where
-  pub path : Id
+-- no world stands where a path leads: of the package none that was resolved, of another package an interface
+abbrev pub IsNoWorld : List PackageFile → Names → Target → Type 0
+IsNoWorld files by_name (Local id) = env_of by_name id.name.now ≡ None
+IsNoWorld files by_name (Foreign p id) = option_map is_foreign_world (foreign_at files (ForeignNamed p id.name.now)) ≡ Some false
+
+-- an include of an item leads to an interface of another package, or to no world that was resolved
+pub record IsLostInclude (files : List PackageFile) (by_name : Names) (item : Item) (f : Fault) : Type 0 where
+  pub path : UsePath
   pub among : Contains (include_paths item) path
-  pub free : env_of by_name (item_edge item.top path).name.now ≡ None
-  pub is : f ≡ fault 11 path.span
+  pub lost : IsNoWorld files by_name (leads item.top path)
+  pub is : f ≡ fault 11 (path_id path).span
 
 -- what is wrong with a world, by what was resolved before
-pub data IsWrongWorld (cs : List Cell) (by_name worlds_by_name : Names) (item : Item) (f : Fault) : Type 0 where
-  WrongWorldScope : IsWrongScope cs by_name (scope_names item) f → IsWrongWorld cs by_name worlds_by_name item f
-  LostInclude : IsLostInclude worlds_by_name item f → IsWrongWorld cs by_name worlds_by_name item f
+pub data IsWrongWorld (files : List PackageFile) (cs : List Cell) (by_name worlds_by_name : Names) (item : Item) (f : Fault) : Type 0 where
+  WrongWorldScope : IsWrongScope cs by_name (scope_names item) f → IsWrongWorld files cs by_name worlds_by_name item f
+  LostInclude : IsLostInclude files worlds_by_name item f → IsWrongWorld files cs by_name worlds_by_name item f

@@ -3,15 +3,17 @@ use Rattle.std.specs.Prelude.{ℕ, Bool, true, false, not, List, [], ◌∷◌, 
 use Rattle.wit_tree.specs.declared.tree.Id.{Id}
 use Rattle.std.specs.List.{flat_map, filter, filter_map}
 use Rattle.wit_tree.specs.declared.tree.Include.{Include}
+use Rattle.wit_tree.specs.declared.tree.UsePath.{UsePath}
 use Rattle.wit_tree.specs.declared.tree.PackageFile.{PackageFile}
 use Rattle.wit_order.specs.Table.{Row}
 use Rattle.wit_meaning.specs.Shape.{all_words, body_of}
-use Rattle.wit_meaning.specs.Source.{ScopeName, Used, Defined, local_name, path_id, item_edge, Declared, TheInterface, TheWorld, Part, Defining, Using, Including, Item, item_name, is_world, parts, all_items}
+use Rattle.wit_meaning.specs.Source.{Target, Local, Foreign, leads, ScopeName, Used, Defined, Taken, local_name, Declared, TheInterface, TheWorld, Part, Defining, Using, Including, Item, item_name, is_world, parts, all_items}
 
 -- the names that a name of a scope needs: those in a definition's body; a used name needs none of its own scope
 abbrev pub needed_ids : ScopeName → List Id
 needed_ids (Used from n) = []
 needed_ids (Defined d) = all_words (body_of d.body).parts
+needed_ids (Taken id) = []
 
 abbrev pub row_of : ScopeName → Row
 row_of x = record { name = local_name x; needs = needed_ids x }
@@ -27,6 +29,7 @@ in_order xs places = filter_map (slice_get xs) places
 abbrev pub is_defined : ScopeName → Bool
 is_defined (Used from n) = false
 is_defined (Defined d) = true
+is_defined (Taken id) = false
 
 -- those that are used
 abbrev pub used : List ScopeName → List ScopeName
@@ -41,36 +44,41 @@ abbrev pub in_turn : List ScopeName → List ℕ → List ScopeName
 in_turn xs order = used xs ++ defined (in_order xs order)
 
 -- the path of a part that is a `use`
-abbrev pub use_path : Part → List Id
+abbrev pub use_path : Part → List UsePath
 use_path (Defining d) = []
-use_path (Using u) = path_id u.from ∷ []
+use_path (Using u) = u.from ∷ []
 use_path (Including i) = []
 
 -- the path of a part that is an include
-abbrev pub include_path : Part → List Id
+abbrev pub include_path : Part → List UsePath
 include_path (Defining d) = []
 include_path (Using u) = []
-include_path (Including i) = path_id i.from ∷ []
+include_path (Including i) = i.from ∷ []
 
 -- the paths of an item's uses
-abbrev pub use_paths : Item → List Id
+abbrev pub use_paths : Item → List UsePath
 use_paths i = flat_map use_path (parts i)
 
 -- the paths of its includes
-abbrev pub include_paths : Item → List Id
+abbrev pub include_paths : Item → List UsePath
 include_paths i = flat_map include_path (parts i)
 
 -- the path of a part to an item that has to come before: of an interface that of a `use`, of a world that of an include
-abbrev pub needed_path : Declared → Part → List Id
+abbrev pub needed_path : Declared → Part → List UsePath
 needed_path (TheInterface i) = use_path
 needed_path (TheWorld w) = include_path
 
-abbrev pub paths : Item → List Id
-paths i = flat_map (needed_path i.declared) (parts i)
+-- the name of an item of the package that a path leads to
+abbrev pub local_target : Target → List Id
+local_target (Local id) = id ∷ []
+local_target (Foreign p id) = []
 
--- an item with what these paths lead to
+-- the names of the items that an item needs
+abbrev pub needed_items : Item → List Id
+needed_items i = flat_map (λ path. local_target (leads i.top path)) (flat_map (needed_path i.declared) (parts i))
+
 abbrev pub item_row : Item → Row
-item_row i = record { name = item_name i; needs = map (item_edge i.top) (paths i) }
+item_row i = record { name = item_name i; needs = needed_items i }
 
 -- the table of the items of all files: each with the items that have to come before it
 abbrev pub item_rows : List PackageFile → List Row

@@ -1,6 +1,6 @@
 -- What written types mean, by lexical scope.
-use Rattle.std.specs.Prelude.{ℕ, Bool, true, false, List, [], ◌∷◌, Option, Some, None, map, find}
-use Rattle.std.specs.List.{flat_map}
+use Rattle.std.specs.Prelude.{ℕ, Bool, true, false, ◌&&◌, List, [], ◌∷◌, Option, Some, None, map, find}
+use Rattle.std.specs.List.{flat_map, filter}
 use Rattle.std.specs.Option.{option_map_or, unwrap_or}
 use Rattle.std.specs.Str.{bytes_eq}
 use Rattle.wit_values.specs.declared.span.Span.{Span}
@@ -20,15 +20,28 @@ use Rattle.wit_tree.specs.declared.tree.World.{World}
 use Rattle.wit_tree.specs.declared.tree.AstItem.{AstItem}
 use Rattle.wit_tree.specs.declared.tree.AstItem.TheVariants as ast
 use Rattle.wit_tree.specs.declared.tree.PackageFile.{PackageFile}
+use Rattle.wit_model.specs.declared.package_name.PackageName.{PackageName}
 use Rattle.wit_types.specs.declared.stability.Stability.TheVariants.{Unknown}
-use Rattle.wit_meaning.specs.Form.{Form, AliasForm}
-use Rattle.wit_meaning.specs.Address.{Address, InterfaceNamed, WorldNamed, same_address}
+use Rattle.wit_meaning.specs.Form.{Form, AliasForm, UnknownForm}
+use Rattle.wit_meaning.specs.Address.{Address, InterfaceNamed, WorldNamed, ForeignNamed, package_of, same_address, is_foreign}
+use Rattle.wit_meaning.specs.Repeats.{firsts}
 use Rattle.wit_meaning.specs.Node.{OfScope, Head, Node, Leaf, Named, Unnamed, Nothing, Tree, unfolded}
 use Rattle.wit_meaning.specs.Shape.{Shape, Prim, Word, Of, Shapes, End, More, one, Body, body_of, no_docs}
 
--- what a path names
+-- the name that a path ends in
 abbrev pub path_id : UsePath → Id
 path_id (path.Id id) = id
+path_id (path.Package p id) = id
+
+-- where a path leads: to the item of a name, or to an item of another package
+pub data Target : Type 0 where
+  Local : (id : Id) → Target
+  Foreign : (of : PackageName) (id : Id) → Target
+
+-- what a path says by itself
+abbrev pub path_target : UsePath → Target
+path_target (path.Id id) = Local id
+path_target (path.Package p id) = Foreign (package_of p) id
 
 -- a declared item: an interface or a world
 pub data Declared : Type 0 where
@@ -68,18 +81,18 @@ abbrev pub declared_parts : Declared → List Part
 declared_parts (TheInterface i) = map interface_part i.items.items
 declared_parts (TheWorld w) = map world_part w.items.items
 
--- a name at the top of a file, and the name of the item that it stands for: of a declared item its own, of a `use` that of its path
+-- a name at the top of a file, and what it stands for: a declared item for itself, a `use` for what its path says
 pub record TopName : Type 0 where
   pub id : Id
-  pub original : Id
+  pub target : Target
 
 abbrev pub itself : Id → TopName
-itself id = record { id = id; original = id }
+itself id = record { id = id; target = Local id }
 
 abbrev pub top_name : AstItem → TopName
 top_name (ast.Interface i) = itself i.name
 top_name (ast.World w) = itself w.name
-top_name (ast.Use u) = record { id = unwrap_or u.as_ (path_id u.item); original = path_id u.item }
+top_name (ast.Use u) = record { id = unwrap_or u.as_ (path_id u.item); target = path_target u.item }
 
 -- the names at the top of a file, in source order
 abbrev pub top_names : PackageFile → List TopName
@@ -92,12 +105,13 @@ top_text t = t.id.name.now
 abbrev pub top_named : List TopName → List ℕ → Option TopName
 top_named top name = find (λ t. bytes_eq (top_text t) name) top
 
-abbrev pub top_original : TopName → Id
-top_original t = t.original
+abbrev pub top_target : TopName → Target
+top_target t = t.target
 
--- the name of the item that a path leads to: what it stands for if it is a name at the top of its file, else itself
-abbrev pub item_edge : List TopName → Id → Id
-item_edge top path = option_map_or top_original (top_named top path.name.now) path
+-- where a path leads in a file: a name at its top leads where that stands for, every other path where it says
+abbrev pub leads : List TopName → UsePath → Target
+leads top (path.Id id) = option_map_or top_target (top_named top id.name.now) (Local id)
+leads top (path.Package p id) = Foreign (package_of p) id
 
 -- a declared item, with the names at the top of its file
 pub record Item : Type 0 where
@@ -141,22 +155,30 @@ item_named is name = find (λ i. bytes_eq (item_name i) name) is
 abbrev pub item_at : List Item → Address → Option Item
 item_at is s = find (λ i. same_address (address i) s) is
 
--- the scope that the path of a `use` leads to, and that of an include's
+-- the scope that is used where a path leads there, and the one that is included
+abbrev pub used_scope : Target → Address
+used_scope (Local id) = InterfaceNamed id.name.now
+used_scope (Foreign p id) = ForeignNamed p id.name.now
+
+abbrev pub included_scope : Target → Address
+included_scope (Local id) = WorldNamed id.name.now
+included_scope (Foreign p id) = ForeignNamed p id.name.now
+
+-- the scope that the path of a `use` leads to
 abbrev pub path_scope : List TopName → UsePath → Address
-path_scope top from = InterfaceNamed (item_edge top (path_id from)).name.now
+path_scope top from = used_scope (leads top from)
 
-abbrev pub included_scope : List TopName → UsePath → Address
-included_scope top from = WorldNamed (item_edge top (path_id from)).name.now
-
--- a name of a scope: one that is used from an interface, or a definition
+-- a name of a scope: one that is used from an interface, or a definition; or, of an item of another package, one that is taken from it
 pub data ScopeName : Type 0 where
   Used : (from : Address) (name : UseName) → ScopeName
   Defined : (d : TypeDef) → ScopeName
+  Taken : (id : Id) → ScopeName
 
 -- a used name goes by the name that `as` gives it, or by its own
 abbrev pub local_id : ScopeName → Id
 local_id (Used from n) = unwrap_or n.as_ n.name
 local_id (Defined d) = d.name
+local_id (Taken id) = id
 
 abbrev pub local_name : ScopeName → List ℕ
 local_name x = (local_id x).name.now
@@ -171,9 +193,47 @@ part_names top (Including i) = []
 abbrev pub scope_names : Item → List ScopeName
 scope_names i = flat_map (part_names i.top) (parts i)
 
+-- a name that is used from a scope
+pub record Taking : Type 0 where
+  pub from : Address
+  pub id : Id
+
+abbrev pub taking : Address → UseName → Taking
+taking s n = record { from = s; id = n.name }
+
+abbrev pub part_takings : List TopName → Part → List Taking
+part_takings top (Defining d) = []
+part_takings top (Using u) = map (taking (path_scope top u.from)) u.names.items
+part_takings top (Including i) = []
+
+-- the names that an item uses from items of other packages
+abbrev pub item_takings : Item → List Taking
+item_takings i = filter (λ t. is_foreign t.from) (flat_map (part_takings i.top) (parts i))
+
+-- those that all items use, in source order
+abbrev pub takings : List PackageFile → List Taking
+takings files = flat_map item_takings (all_items files)
+
+-- whether two of them are one name of one scope
+abbrev pub same_taking : Taking → Taking → Bool
+same_taking a b = same_address a.from b.from && bytes_eq a.id.name.now b.id.name.now
+
+-- each name of another package where it is first used
+abbrev pub first_takings : List PackageFile → List Taking
+first_takings files = firsts same_taking (takings files)
+
+abbrev pub taken : Taking → ScopeName
+taken t = Taken t.id
+
+-- the names that are taken from an item of another package
+abbrev pub taken_names : List PackageFile → Address → List ScopeName
+taken_names files s = map taken (filter (λ t. same_address t.from s) (first_takings files))
+
 -- the names of a scope
 abbrev pub scope : List PackageFile → Address → List ScopeName
-scope files s = option_map_or scope_names (item_at (all_items files) s) []
+scope files (InterfaceNamed name) = option_map_or scope_names (item_at (all_items files) (InterfaceNamed name)) []
+scope files (WorldNamed name) = option_map_or scope_names (item_at (all_items files) (WorldNamed name)) []
+scope files (ForeignNamed p name) = taken_names files (ForeignNamed p name)
 
 -- what a name stands for: the first that goes by it
 abbrev pub meaning : List ScopeName → List ℕ → Option ScopeName
@@ -187,15 +247,17 @@ abbrev pub placed : Address → Shapes → List Place
 placed s End = []
 placed s (More x xs) = (s, x) ∷ placed s xs
 
--- what a name of a scope stands for: a used name is another word for its original
+-- what a name of a scope stands for: a used name is another word for its original, and what another package's stands for is not known
 abbrev pub name_body : ScopeName → Body
 name_body (Used from n) = record { form = AliasForm; parts = one (Word n.name) }
 name_body (Defined d) = body_of d.body
+name_body (Taken id) = record { form = UnknownForm; parts = End }
 
 -- the scope in which that is read: of a used name, the one that it comes from
 abbrev pub name_scope : Address → ScopeName → Address
 name_scope s (Used from n) = from
 name_scope s (Defined d) = s
+name_scope s (Taken id) = s
 
 abbrev pub name_form : ScopeName → Form
 name_form x = (name_body x).form
@@ -207,6 +269,7 @@ name_parts s x = placed (name_scope s x) (name_body x).parts
 abbrev pub name_span : ScopeName → Span
 name_span (Used from n) = n.name.span
 name_span (Defined d) = d.name.span
+name_span (Taken id) = id.span
 
 -- a name of a scope, without what it stands for
 abbrev pub head : Address → ScopeName → Head

@@ -1,5 +1,5 @@
 -- The theorem: what a resolved package is.
-use Rattle.std.specs.Prelude.{◌≡◌, ◌↔◌, ℕ, zero, suc, List, [], ◌∷◌, ◌++◌, length, map, Option, Some, None, slice_get, position}
+use Rattle.std.specs.Prelude.{◌≡◌, ◌↔◌, ◌<◌, ℕ, zero, suc, not, List, [], ◌∷◌, ◌++◌, length, map, Option, Some, None, slice_get, position, if◌then◌else◌}
 use Rattle.wit_values.specs.declared.span.Span.{Span}
 use Rattle.std.specs.Option.{option_map, option_or, unwrap_or}
 use Rattle.semver.specs.Identifiers.{parts_of}
@@ -8,6 +8,9 @@ use Rattle.wit_tree.specs.declared.tree.PackageName.{PackageName as Header}
 use Rattle.wit_tree.specs.declared.tree.PackageFile.{PackageFile}
 use Rattle.wit_tree.specs.declared.tree.Include.{Include}
 use Rattle.wit_tree.specs.declared.tree.IncludeName.{IncludeName as Renaming}
+use Rattle.wit_model.specs.declared.ast_item.AstItem.{AstItem}
+use Rattle.wit_model.specs.declared.ast_item.AstItem.TheVariants as entry
+use Rattle.wit_model.specs.declared.package_name.PackageName.{PackageName}
 use Rattle.wit_model.specs.declared.interface.Interface.{Interface}
 use Rattle.wit_model.specs.declared.world.World.{World}
 use Rattle.wit_model.specs.declared.world.WorldInclude.{WorldInclude}
@@ -16,6 +19,7 @@ use Rattle.wit_model.specs.declared.world.WorldKey.{WorldKey}
 use Rattle.wit_model.specs.declared.world.WorldKey.TheVariants as key
 use Rattle.wit_model.specs.declared.world.WorldItem.{WorldItem}
 use Rattle.wit_model.specs.declared.world.WorldItem.TheVariants.{Type_}
+use Rattle.wit_types.specs.declared.stability.Stability.{Stability}
 use Rattle.wit_types.specs.declared.stability.Stability.TheVariants.{Unknown}
 use Rattle.wit_types.specs.declared.types.«Type».{«Type» as Ty}
 use Rattle.wit_types.specs.declared.types.«Type».TheVariants.{Id}
@@ -25,17 +29,18 @@ use Rattle.wit_types.specs.declared.types.TypeOwner.TheVariants as owner
 use Rattle.wit_order.specs.Table.{IsOrder}
 use Rattle.wit_model.specs.declared.unresolved.UnresolvedPackage.{UnresolvedPackage}
 use Rattle.wit_meaning.specs.Form.{Form, OwnForm, AliasForm, ResourceForm, UnknownForm, RecordForm, FlagsForm, VariantForm, EnumForm, kind_of}
-use Rattle.std.specs.List.{flat_map}
+use Rattle.std.specs.List.{flat_map, prefix_len}
 use Rattle.wit_meaning.specs.Shape.{Word, Of, Shapes}
 use Rattle.wit_meaning.specs.Address.{Address, same_address}
 use Rattle.wit_meaning.specs.Node.{OfScope}
-use Rattle.wit_meaning.specs.Source.{path_id, TopName, Item, item_id, address, included_scope, ScopeName, all_items, scope_names, local_name, local_id, Place, placed, scope, name_parts, source_tree}
+use Rattle.wit_meaning.specs.Source.{path_id, leads, TopName, Item, item_id, address, included_scope, ScopeName, all_items, scope_names, local_name, local_id, Place, placed, Taking, takings, first_takings, scope, name_parts, source_tree}
+use Rattle.wit_meaning.specs.Foreign.{ForeignVisit, visited_package, visited, same_item, foreign_interfaces, foreign_worlds, foreign_packages, items_of_package, visits_of}
 use Rattle.wit_meaning.specs.Expr.{Expr, expr_of}
 use Rattle.wit_meaning.specs.Scope.{item_rows, interfaces_of, worlds_of, includes, rows_of, in_order, in_turn}
 use Rattle.wit_meaning.specs.Broken.{last_header}
 use Rattle.wit_meaning.specs.Meet.{Key, Def, Meeting, keys, all_name_meetings, Meets, IsAt, Decls, decl_of, IsMeeting}
 use Rattle.wit_meaning.specs.Source as source
-use Rattle.wit_meaning.specs.Package.{At, HasPart, IsBelow, Reaches, IsInterface, IsWorld, world_types, owner_of, names_of, package_tree}
+use Rattle.wit_meaning.specs.Package.{At, HasPart, IsBelow, Reaches, IsInterface, IsWorld, IsForeignInterface, IsForeignWorld, world_types, owner_of, names_of, package_tree}
 
 -- an item, with an order of its names
 pub record Ordered : Type 0 where
@@ -101,7 +106,7 @@ renamed n = record { name = n.name.name.now; as_ = n.as_.name.now }
 -- an include, where the worlds have these addresses
 pub record IsInclude (worlds : List Address) (top : List TopName) (written : Include) (i : WorldInclude) : Type 0 where
   pub stability : i.stability ≡ Unknown
-  pub leads : slice_get worlds i.id ≡ Some (included_scope top written.from)
+  pub place : slice_get worlds i.id ≡ Some (included_scope (leads top written.from))
   pub names : i.names ≡ map renamed written.names.items
   pub span : i.span ≡ (path_id written.from).span
 
@@ -118,15 +123,64 @@ pub record AreWorlds (ks : List Key) (worlds : List Address) (os : List Ordered)
   pub imports : (t : ℕ) (o : Ordered) (w : World) → slice_get os t ≡ Some o → slice_get ws t ≡ Some w → w.imports ≡ type_imports (ordered_names o) (world_types w)
   pub includes : (t : ℕ) (o : Ordered) (w : World) → slice_get os t ≡ Some o → slice_get ws t ≡ Some w → AreIncludes worlds o.item w.includes
 
--- the package names no other one
-pub record NamesNoOther (p : UnresolvedPackage) : Type 0 where
-  pub deps : p.foreign_deps ≡ []
-  pub spans : p.foreign_dep_spans ≡ []
-  pub unknown : p.unknown_type_spans ≡ []
+-- a name that is taken from another package, where it is used
+abbrev pub taking_meeting : Taking → Meeting
+taking_meeting t = record { key = Def t.from t.id.name.now; span = t.id.span }
 
--- The package has the name and the version of the last header; the interfaces and the worlds in the least order in which each item
--- comes after those that it needs, each with its used names and then its definitions in the least dependency-first order; and its
--- arena of types is the list of first meetings, those of all interfaces before those of all worlds.
+-- what is met in files: first what they take from other packages, then what stands in their items, in these orders
+abbrev pub all_meetings : List PackageFile → List Ordered → List Meeting
+all_meetings files os = map taking_meeting (takings files) ++ meetings (map turned os)
+
+-- the addresses of other packages' interfaces, and of these
+abbrev pub interface_addresses : List PackageFile → List Ordered → List Address
+interface_addresses files os = map visited (foreign_interfaces files) ++ addresses os
+
+-- the addresses of other packages' worlds, and of these
+abbrev pub world_addresses : List PackageFile → List Ordered → List Address
+world_addresses files os = map visited (foreign_worlds files) ++ addresses os
+
+-- an item of another package, with the names that are taken from it
+abbrev pub foreign_turned : List PackageFile → ForeignVisit → Turned
+foreign_turned files v = record { address = visited v; names = scope files (visited v) }
+
+-- these are interfaces of other packages, each with the names that are taken from it
+pub record AreForeignInterfaces (files : List PackageFile) (ks : List Key) (vs : List ForeignVisit) (is : List Interface) : Type 0 where
+  pub count : length is ≡ length vs
+  pub says : (t : ℕ) (v : ForeignVisit) (i : Interface) → slice_get vs t ≡ Some v → slice_get is t ≡ Some i → IsForeignInterface v.id i
+  pub types : (t : ℕ) (v : ForeignVisit) (i : Interface) → slice_get vs t ≡ Some v → slice_get is t ≡ Some i → HasTypes ks (foreign_turned files v) i.types
+
+-- these are worlds of other packages
+pub record AreForeignWorlds (vs : List ForeignVisit) (ws : List World) : Type 0 where
+  pub count : length ws ≡ length vs
+  pub says : (t : ℕ) (v : ForeignVisit) (w : World) → slice_get vs t ≡ Some v → slice_get ws t ≡ Some w → IsForeignWorld v.id w
+
+-- how many of these stand before the first that is the item
+abbrev pub foreign_place : List ForeignVisit → ForeignVisit → ℕ
+foreign_place vs v = prefix_len (λ u. not (same_item u v)) vs
+
+-- the entry of an item of another package: the arenas begin with these
+abbrev pub foreign_entry : List PackageFile → ForeignVisit → AstItem
+foreign_entry files v = if v.wants_world then entry.World (foreign_place (foreign_worlds files) v) else entry.Interface (foreign_place (foreign_interfaces files) v)
+
+-- the item by its name, with its entry and the stability of each of its visits
+abbrev pub dep_item : List PackageFile → ForeignVisit → List ℕ × (AstItem × List Stability)
+dep_item files v = (v.id.name.now, (foreign_entry files v, map (λ u. Unknown) (visits_of files (visited v))))
+
+-- a package with its items
+abbrev pub dep : List PackageFile → ForeignVisit → PackageName × List (List ℕ × (AstItem × List Stability))
+dep files v = (visited_package v, map (dep_item files) (items_of_package files (visited_package v)))
+
+-- what the package names of others: each of them in the order of its first visit, with its items in the order of theirs, and the types
+-- that are taken from them in the order of their first uses
+pub record NamesOthers (files : List PackageFile) (p : UnresolvedPackage) : Type 0 where
+  pub deps : p.foreign_deps ≡ map (dep files) (foreign_packages files)
+  pub spans : p.foreign_dep_spans ≡ map (λ v. v.of.span) (foreign_packages files)
+  pub unknown : p.unknown_type_spans ≡ map (λ t. t.id.span) (first_takings files)
+
+-- The package has the name and the version of the last header. Its arenas begin with the items of other packages, in the order of
+-- their first visits; then they have the interfaces and the worlds in the least order in which each item comes after those that it
+-- needs, each with its used names and then its definitions in the least dependency-first order. Its arena of types is the list of first
+-- meetings: of what is taken from other packages, then of all interfaces, then of all worlds.
 pub record IsPackage (files : List PackageFile) (p : UnresolvedPackage) : Type 0 where
   pub header : Header
   pub last : last_header files ≡ Some header
@@ -134,7 +188,7 @@ pub record IsPackage (files : List PackageFile) (p : UnresolvedPackage) : Type 0
   pub name : p.name.name ≡ header.name.name.now
   pub version : option_map release_parts p.name.version ≡ option_map parts_of header.version
   pub name_span : p.name_span ≡ header.span
-  pub others : NamesNoOther p
+  pub others : NamesOthers files p
   pub places : List ℕ
   pub item_order : IsOrder (item_rows files) places
   pub interfaces : List Ordered
@@ -143,10 +197,18 @@ pub record IsPackage (files : List PackageFile) (p : UnresolvedPackage) : Type 0
   pub all_worlds : map item_of worlds ≡ worlds_of (in_order (all_items files) places)
   pub least : (t : ℕ) (o : Ordered) → slice_get (interfaces ++ worlds) t ≡ Some o → IsOrder (rows_of (scope_names o.item)) o.order
   pub met : List Meeting
-  pub meets : Meets [] (meetings (map turned (interfaces ++ worlds))) met
-  pub meeting : IsMeeting (declarations files (addresses interfaces) (addresses worlds)) met p.types
-  pub are_interfaces : AreInterfaces (keys met) interfaces p.interfaces
-  pub are_worlds : AreWorlds (keys met) (addresses worlds) worlds p.worlds
+  pub meets : Meets [] (all_meetings files (interfaces ++ worlds)) met
+  pub meeting : IsMeeting (declarations files (interface_addresses files interfaces) (world_addresses files worlds)) met p.types
+  pub foreign_front : List Interface
+  pub own_interfaces : List Interface
+  pub interface_arena : p.interfaces ≡ foreign_front ++ own_interfaces
+  pub are_foreign_interfaces : AreForeignInterfaces files (keys met) (foreign_interfaces files) foreign_front
+  pub are_interfaces : AreInterfaces (keys met) interfaces own_interfaces
+  pub worlds_front : List World
+  pub own_worlds : List World
+  pub world_arena : p.worlds ≡ worlds_front ++ own_worlds
+  pub are_foreign_worlds : AreForeignWorlds (foreign_worlds files) worlds_front
+  pub are_worlds : AreWorlds (keys met) (world_addresses files worlds) worlds own_worlds
   -- two written types are one type exactly where they are one expression
   pub one : (x y : Expr) (t u : Ty) → IsAt (keys met) x t → IsAt (keys met) y u → (t ≡ u) ↔ (x ≡ y)
 
@@ -227,6 +289,8 @@ pub record IsFaithful (files : List PackageFile) (p : UnresolvedPackage) : Type 
   pub interned : (i j : ℕ) (e f : TypeDef) → At p.types i e → At p.types j f → e.name ≡ None → f.name ≡ None → e.kind ≡ f.kind → i ≡ j
   -- an unnamed entry has a form that a type can have without a name: it is no own handle, no other word for a type, no resource
   pub formed : (i : ℕ) (e : TypeDef) → At p.types i e → e.name ≡ None → IsAnonymousForm (kind_of e.kind).form
+  -- the types of unknown form are exactly the front of the arena: as many as there are spans of unknown types
+  pub front : (i : ℕ) (e : TypeDef) → At p.types i e → ((kind_of e.kind).form ≡ UnknownForm) ↔ (i < length p.unknown_type_spans)
   -- a named entry stands among the names of its owner
   pub named : (j : ℕ) (e : TypeDef) (name : List ℕ) → At p.types j e → e.name ≡ Some name → IsOwned p j e name
   -- an unnamed one is reached from a name of an owner

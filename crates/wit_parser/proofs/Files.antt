@@ -1,5 +1,5 @@
 -- What holds of files whose interfaces and worlds were added.
-use Rattle.std.proofs.Common.{◌≡◌, ◌<◌, ℕ, All, List, [], length, map, get_or, Some, Contains, inl, inr, sym, ap, ◌∙◌, subst}
+use Rattle.std.proofs.Common.{◌≡◌, ◌<◌, ℕ, All, List, length, map, get_or, Some, inl, inr, sym, ap, ◌∙◌, subst}
 use Rattle.std.specs.Prelude.{not}
 use Rattle.std.proofs.lemmas.List.{length-map}
 use Rattle.std.proofs.lemmas.Option.{slice_get-get_or}
@@ -20,13 +20,14 @@ use Rattle.wit_types.specs.declared.types.TypeDef.{TypeDef}
 use Rattle.wit_model.specs.declared.unresolved.UnresolvedPackage.{UnresolvedPackage}
 use Rattle.wit_meaning.specs.Source.{Item, all_items, is_world}
 use Rattle.wit_meaning.specs.Scope.{in_order, item_rows, interfaces_of, worlds_of}
-use Rattle.wit_meaning.specs.Broken.{IsMissingOriginal, IsBrokenItems, IsBrokenNames, Items, MissingOriginal, IsLegal, last_header}
-use Rattle.wit_meaning.specs.Resolved.{AddsInterfaces, AreLegalScopes, IsWrongWorldAmong}
+use Rattle.wit_meaning.specs.Broken.{IsLegal, last_header}
+use Rattle.wit_meaning.specs.Foreign.{visited, foreign_interfaces, foreign_worlds}
+use Rattle.wit_meaning.specs.Resolved.{AddsForeign, AddsInterfaces, AreLegalScopes, IsWrongAmong, IsWrongWorldAmong}
 use Rattle.wit_meaning.specs.Resolving.{Names, cells, IsIndex}
-use Rattle.wit_meaning.specs.Whole.{NamesNoOther, IsPackage, IsFaithful}
+use Rattle.wit_meaning.specs.Whole.{NamesOthers, IsPackage, IsFaithful}
 use Rattle.wit_meaning.proofs.Kept.{kept_has}
 use Rattle.wit_meaning.proofs.Resolved.{files_legal as legal_by, files_package as package_by, files_faithful as faithful_by}
-use Rattle.wit_parser.specs.Between.{IsWrongWorldNow, AddsFiles}
+use Rattle.wit_parser.specs.Between.{IsWrongNow, IsWrongWorldNow, AddsFiles}
 
 -- where the scopes of interfaces are legal and those of worlds, all are
 pub legal_both : (items : List Item) → AreLegalScopes (interfaces_of items) → AreLegalScopes (worlds_of items) → AreLegalScopes items
@@ -37,11 +38,6 @@ legal_both items interfaces worlds = record {
   ];
 }
 
--- where no rule about items is broken, and the `use`s at the top of files lead to items, none about names is
-pub legal_names : (files : List PackageFile) → ((f : Fault) → IsBrokenItems files f → ⊥) → ((file : PackageFile) → Contains files file → (f : Fault) → IsMissingOriginal (all_items files) file.decl_list.items.items f → ⊥) → (f : Fault) → IsBrokenNames files f → ⊥
-legal_names files items originals f (Items h) = items f h
-legal_names files items originals f (MissingOriginal file among h) = originals file among f h
-
 -- the places of items are those of the items that are held
 pub held_within : (files : List PackageFile) (places : List ℕ) (items : List Held) → IsOrder (item_rows files) places → map item_behind items ≡ all_items files → All (λ (place : ℕ). place < length items) places
 held_within files places items order all = λ i d lt. (
@@ -49,16 +45,21 @@ held_within files places items order all = λ i d lt. (
     let long : length (all_items files) ≡ length items = sym (ap length all) ∙ length-map items item_behind in
     subst (λ (n : ℕ). p < n) long (items_within files places order i p (slice_get-get_or places i d lt)))
 
+-- an interface that is wrong behind what stands in front
+pub wrong_interface : (files : List PackageFile) (es : List TypeDef) (front : List Interface) (ws : List World) (items : List Item) (places : List ℕ) (f : Fault) → AddsForeign files es front ws → IsWrongNow (map visited (foreign_interfaces files)) es front items places f → IsWrongAmong files items places f
+wrong_interface files es front ws items places f foreign h = record { count = h.count; item = h.item; next = h.next; sort = h.sort; es = es; front = front; ws = ws; foreign = foreign; mid = h.mid; before = h.before; added = h.added; by_name = h.by_name; index = h.index; wrong = h.wrong }
+
 -- a world that is wrong once all interfaces were added
-pub wrong_world : (middle : List TypeDef) (is : List Interface) (by_name : Names) (items : List Item) (places : List ℕ) (f : Fault) → AddsInterfaces [] middle [] is (interfaces_of (in_order items places)) → IsIndex (cells is) by_name → IsWrongWorldNow middle is by_name items places f → IsWrongWorldAmong items places f
-wrong_world middle is by_name items places f added index h = record { middle = middle; is = is; interfaces = added; count = h.count; item = h.item; next = h.next; sort = h.sort; mid = h.mid; before = h.before; added = h.added; by_name = by_name; index = index; worlds_by_name = h.worlds_by_name; worlds_index = h.worlds_index; wrong = h.wrong }
+pub wrong_world : (files : List PackageFile) (es : List TypeDef) (front : List Interface) (wfront : List World) (middle : List TypeDef) (is : List Interface) (by_name : Names) (items : List Item) (places : List ℕ) (f : Fault) → AddsForeign files es front wfront → AddsInterfaces (map visited (foreign_interfaces files)) es middle front is (interfaces_of (in_order items places)) → IsIndex (cells (map visited (foreign_interfaces files)) is) by_name → IsWrongWorldNow files (map visited (foreign_interfaces files)) (map visited (foreign_worlds files)) middle is by_name wfront items places f → IsWrongWorldAmong files items places f
+wrong_world files es front wfront middle is by_name items places f foreign added index h = record { es = es; front = front; worlds_front = wfront; foreign = foreign; middle = middle; is = is; interfaces = added; count = h.count; item = h.item; next = h.next; sort = h.sort; mid = h.mid; before = h.before; added = h.added; by_name = by_name; index = index; worlds_by_name = h.worlds_by_name; worlds_index = h.worlds_index; wrong = h.wrong }
 
 module _ (files : List PackageFile) (es : List TypeDef) (is : List Interface) (ws : List World) (a : AddsFiles files es is ws) where
   pub files_legal : (header : Header) → last_header files ≡ Some header → IsLegal files
-  files_legal header last = legal_by files a.places a.order a.names a.uses a.middle es is ws a.interfaces a.worlds a.legal header last
+  files_legal header last = legal_by files a.places a.order a.names a.uses a.first a.middle es a.front is a.worlds_front ws a.foreign a.interfaces a.worlds a.legal header last
 
-  pub files_package : (p : UnresolvedPackage) → p.types ≡ es → p.interfaces ≡ is → p.worlds ≡ ws → (header : Header) → last_header files ≡ Some header → p.name.namespace ≡ header.namespace.name.now → p.name.name ≡ header.name.name.now → option_map release_parts p.name.version ≡ option_map parts_of header.version → p.name_span ≡ header.span → NamesNoOther p → IsPackage files p
-  files_package p types interfaces worlds header last namespace name version span others = package_by files a.places a.order a.names a.uses a.middle es is ws a.interfaces a.worlds p types interfaces worlds header last namespace name version span others
+  module _ (p : UnresolvedPackage) (types : p.types ≡ es) (interfaces : p.interfaces ≡ is) (worlds : p.worlds ≡ ws) (others : NamesOthers files p) where
+    pub files_package : (header : Header) → last_header files ≡ Some header → p.name.namespace ≡ header.namespace.name.now → p.name.name ≡ header.name.name.now → option_map release_parts p.name.version ≡ option_map parts_of header.version → p.name_span ≡ header.span → IsPackage files p
+    files_package header last namespace name version span = package_by files a.places a.order a.names a.uses a.first a.middle es a.front is a.worlds_front ws a.foreign a.interfaces a.worlds p types interfaces worlds others header last namespace name version span
 
-  pub files_faithful : (p : UnresolvedPackage) → p.types ≡ es → p.interfaces ≡ is → p.worlds ≡ ws → IsFaithful files p
-  files_faithful p types interfaces worlds = faithful_by files a.places a.order a.names a.uses a.middle es is ws a.interfaces a.worlds p types interfaces worlds
+    pub files_faithful : IsFaithful files p
+    files_faithful = faithful_by files a.places a.order a.names a.uses a.first a.middle es a.front is a.worlds_front ws a.foreign a.interfaces a.worlds p types interfaces worlds others

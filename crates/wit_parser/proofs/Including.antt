@@ -10,15 +10,14 @@ use Rattle.wit_tree.specs.declared.tree.Include.{Include}
 use Rattle.wit_tree.specs.declared.tree.World.{World as Written}
 use Rattle.wit_tree.specs.declared.tree.WorldItem.{WorldItem}
 use Rattle.wit_tree.specs.declared.tree.WorldItem.TheVariants as world_item
-use Rattle.wit_model.specs.declared.world.World.{World}
+use Rattle.wit_tree.specs.declared.tree.PackageFile.{PackageFile}
 use Rattle.wit_model.specs.declared.world.WorldInclude.{WorldInclude}
-use Rattle.wit_meaning.specs.Address.{Address, WorldNamed}
-use Rattle.wit_meaning.specs.Source.{TopName, TheWorld, Including, Item, item_edge, path_id, included_scope, world_part}
+use Rattle.wit_meaning.specs.Address.{Address}
+use Rattle.wit_meaning.specs.Source.{TopName, TheWorld, Including, world_part}
 use Rattle.wit_meaning.specs.Scope.{part_includes, include_path}
 use Rattle.wit_meaning.specs.Fault.{Fault}
 use Rattle.wit_meaning.specs.Whole.{IsInclude, AreIncludes}
-use Rattle.wit_meaning.specs.Resolved.{world_addresses}
-use Rattle.wit_meaning.specs.Resolving.{Names, env_of, IsWorldIndex, IsLostInclude}
+use Rattle.wit_meaning.specs.Resolving.{Names, IsLostInclude}
 use Rattle.wit_meaning.proofs.Lists.{at_either}
 use Rattle.wit_meaning.proofs.Orders.{take_next}
 use Rattle.wit_meaning.proofs.Scoping.{contains_at}
@@ -71,18 +70,12 @@ included_more worlds top ws is w i are one = record {
 }
 
 -- the includes of a world are those of its item
-pub includes_are : (worlds : List Address) (top : List TopName) (w : Written) (item : Item) (is : List WorldInclude) → item ≡ record { top = top; declared = TheWorld w } → AreIncluded worlds top (included w.items.items) is → AreIncludes worlds item is
-includes_are worlds top w item is same are = subst (λ (x : Item). AreIncludes worlds x is) (sym same) (record { count = are.count; each = are.each })
+pub includes_are : (worlds : List Address) (top : List TopName) (w : Written) (is : List WorldInclude) → AreIncluded worlds top (included w.items.items) is → AreIncludes worlds (record { top = top; declared = TheWorld w }) is
+includes_are worlds top w is are = record { count = are.count; each = are.each }
 
--- the address of a world that was found by a name
-pub address_found : (ws : List World) (by_name : Names) (top : List TopName) (i : Include) (t : ℕ) → IsWorldIndex ws by_name → env_of by_name (item_edge top (path_id i.from)).name.now ≡ Some t → slice_get (world_addresses ws) t ≡ Some (included_scope top i.from)
-address_found ws by_name top i t index found =
-    let w = index.stands (item_edge top (path_id i.from)).name.now t found in
-    slice_get-map (λ (x : World). WorldNamed x.name) ws t ∙ ap (option_map (λ (x : World). WorldNamed x.name)) w.1 ∙ ap (λ n. Some (WorldNamed n)) w.2
-
--- an include of a world that leads nowhere is one of its item
-pub lost_among : (by_name : Names) (top : List TopName) (w : Written) (item : Item) (k : ℕ) (i : Include) (f : Fault) → item ≡ record { top = top; declared = TheWorld w } → slice_get w.items.items k ≡ Some (world_item.Include i) → IsLost by_name top i f → IsLostInclude by_name item f
-lost_among by_name top w item k i f same at lost =
+-- an include of a world that leads to no world is one of its item
+pub lost_among : (files : List PackageFile) (by_name : Names) (top : List TopName) (w : Written) (k : ℕ) (i : Include) (f : Fault) → slice_get w.items.items k ≡ Some (world_item.Include i) → IsLost files by_name top i f → IsLostInclude files by_name (record { top = top; declared = TheWorld w }) f
+lost_among files by_name top w k i f at lost =
     let ps = map world_part w.items.items in
-    let p = at_flat include_path ps k 0 (Including i) (path_id i.from) (slice_get-map world_part w.items.items k ∙ ap (option_map world_part) at) refl in
-    subst (λ (x : Item). IsLostInclude by_name x f) (sym same) (record { path = path_id i.from; among = contains_at (flat_map include_path ps) p.0 (path_id i.from) p.1; free = lost.free; is = lost.is })
+    let p = at_flat include_path ps k 0 (Including i) i.from (slice_get-map world_part w.items.items k ∙ ap (option_map world_part) at) refl in
+    record { path = i.from; among = contains_at (flat_map include_path ps) p.0 i.from p.1; lost = lost.lost; is = lost.is }

@@ -7,7 +7,13 @@ mod LastHeader
 mod Repeating
 mod Declaring
 mod Finding
+mod Others
+mod Placed
+mod Cells
 mod Usable
 mod Backward
 mod Including
 mod Importing
+mod Fronts
+mod Taken
+mod Fronting

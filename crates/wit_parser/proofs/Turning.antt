@@ -6,7 +6,7 @@ use Rattle.std.specs.Option.{option_map}
 use Rattle.std.proofs.lemmas.Option.{slice_get-map}
 use Rattle.std.proofs.lemmas.List.{map-append}
 use Rattle.std.proofs.lemmas.Bool.{cases_Bool, cond-true, cond-false}
-use Rattle.wit_meaning.specs.Source.{ScopeName, Used, Defined, local_id, local_name}
+use Rattle.wit_meaning.specs.Source.{ScopeName, Used, Defined, Taken, local_id, local_name}
 use Rattle.wit_tree.specs.declared.tree.Id.{Id}
 use Rattle.wit_tree.specs.declared.tree.TypeDef.{TypeDef as Definition}
 use Rattle.wit_meaning.specs.Shape.{all_words, body_of}
@@ -19,9 +19,12 @@ use Rattle.wit_meaning.specs.Resolving.{Env, AreLegalBodies, HasNames, IsUnknown
 use Rattle.wit_meaning.proofs.Lists.{at_within, at_take, map_at, map_map}
 use Rattle.wit_meaning.proofs.Repeated.{differ_at, differ_by}
 use Rattle.wit_meaning.proofs.Orders.{in_order_at}
-use Rattle.wit_meaning.proofs.Turns.{used_is, used_has, defined_at, defined_has, either_at, names_within, in_order_among}
+use Rattle.wit_meaning.proofs.Turns.{AreOwn, used_is, used_has, defined_at, defined_has, either_at, names_within, in_order_among}
 use Rattle.wit_meaning.proofs.Scoping.{at_contains, contains_at, needed_earlier}
 use Rattle.wit_meaning.proofs.Legal.{only_folded, no_fold}
+use Rattle.wit_parser.specs.declared.scope_name.ScopeName.{ScopeName as Held}
+use Rattle.wit_parser.specs.declared.scope_name.ScopeName.TheVariants as held
+use Rattle.wit_parser.specs.Held.{name_behind}
 use Rattle.wit_parser.specs.Between.{AreOrdered, AreInTurn, IsBrokenAmong, IsRepeatedId}
 
 -- what stands at the first n places
@@ -65,8 +68,8 @@ kept_before test (y ∷ ys) k x at = elim (cases_Bool (test y)) [
 ]
 
 -- in its order, each name that a definition needs is used, or a definition before it has it
-pub in_their_turn : (xs ds : List ScopeName) (env : Env) → AreOrdered xs ds → HasNames env (used xs) → AreInTurn env ds
-in_their_turn xs ds env o has = record {
+pub in_their_turn : (xs ds : List ScopeName) (env : Env) → AreOwn xs → AreOrdered xs ds → HasNames env (used xs) → AreInTurn env ds
+in_their_turn xs ds env own o has = record {
   known = used xs;
   has = has;
   earlier = λ k d id at among fresh. (
@@ -77,13 +80,21 @@ in_their_turn xs ds env o has = record {
       let front : slice_get (take it.0 ordered) y.0 ≡ Some y.1 = ap (λ l. slice_get l y.0) (sym (in_order-take xs o.order it.0 (names_within xs o.order o.least))) ∙ y.2 in
       elim (either_at (take it.0 ordered) y.0 y.1 front) [
         | inl u ↦ absurd (
-            let is = used_is (take it.0 ordered) u.0 y.1 u.1 in
+            let is = used_is (take it.0 ordered) (λ i id at_i. (let q = in_order_among xs o.order o.least i (Taken id) (at_take ordered it.0 i (Taken id) at_i).0 in own q.0 id q.1)) u.0 y.1 u.1 in
             let q = in_order_among xs o.order o.least y.0 y.1 (at_take ordered it.0 y.0 y.1 front).0 in
             let there = used_has xs q.0 is.0 is.1 (q.1 ∙ ap Some is.2) in
             fresh there.0 (Used is.0 is.1) there.1 (ap local_name (sym is.2) ∙ y.3))
         | inr e ↦ (e.0, y.1, ap (λ l. slice_get l e.0) (ap (take k) o.are ∙ sym it.2) ∙ e.1, y.3)
       ]);
 }
+
+-- the names that are held are used or defined
+pub own_held : (names : List Held) → AreOwn (map name_behind names)
+own_held names i id at = let x = map_at name_behind names i (Taken id) at in not_taken x.0 x.2
+  where
+    not_taken : (x : Held) → name_behind x ≡ Taken id → ⊥
+    not_taken (held.Used u) h = let f : ⊥ = cc in f
+    not_taken (held.Defined d) h = let f : ⊥ = cc in f
 
 -- so none is unknown
 pub none_unknown : (old env : Env) (ds : List ScopeName) (k : ℕ) (d : Definition) (f : Fault) → AreInTurn old ds → slice_get ds k ≡ Some (Defined d) → ((xs : List ScopeName) → HasNames old xs → HasNames env xs) → HasNames env (take k ds) → IsUnknown env (all_words (body_of d.body).parts) f → ⊥

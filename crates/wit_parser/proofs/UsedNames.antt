@@ -1,15 +1,20 @@
 -- Used names that stand among those of a scope.
-use Rattle.std.proofs.Common.{◌≡◌, ◌++◌, ℕ, List, take, Some, IsSome, sym, ap, ◌∙◌}
+use Rattle.std.proofs.Common.{◌≡◌, ◌++◌, ◌+◌, ◌∷◌, [], not, ℕ, List, take, Some, IsSome, sym, ap, ◌∙◌}
 use Rattle.std.specs.Prelude.{slice_get, map}
 use Rattle.std.specs.Option.{option_map}
+use Rattle.std.proofs.lemmas.List.{map-append}
+use Rattle.std.proofs.lemmas.List.Elements.{filter-append}
 use Rattle.std.proofs.lemmas.Option.{slice_get-map}
 use Rattle.wit_tree.specs.declared.tree.UseName.{UseName}
 use Rattle.wit_meaning.specs.Address.{Address}
 use Rattle.wit_meaning.specs.Source.{ScopeName, Used, local_name}
-use Rattle.wit_meaning.specs.Scope.{used, defined}
+use Rattle.wit_meaning.specs.Scope.{is_defined, used, defined}
 use Rattle.wit_meaning.specs.Fault.{Fault}
 use Rattle.wit_meaning.specs.Broken.{IsRepeated, DefinedTwice}
 use Rattle.wit_meaning.specs.Resolving.{Names, Cell, env_of, local_names, IsWrongUse, Wrong, Taken, IsWrongScope, WrongName, WrongItself}
+use Rattle.wit_parser.specs.declared.scope_name.ScopeName.{ScopeName as Held}
+use Rattle.wit_parser.specs.Held.{name_behind}
+use Rattle.wit_meaning.proofs.Orders.{take_next}
 use Rattle.wit_meaning.proofs.Lists.{at_front, at_take, map_at}
 use Rattle.wit_meaning.proofs.Names.{lookup-place}
 use Rattle.wit_meaning.proofs.Turns.{used_at}
@@ -39,3 +44,7 @@ repeated_used xs names i from n at listed some =
 pub wrong_used : (cs : List Cell) (by_name names : Names) (xs : List ScopeName) (i : ℕ) (from : Address) (n : UseName) → slice_get (used xs) i ≡ Some (Used from n) → map (λ p. p.0) names ≡ local_names (take i (used xs)) → (f : Fault) → IsWrongUse cs by_name names from n f → IsWrongScope cs by_name xs f
 wrong_used cs by_name names xs i from n at listed f (Wrong w) = (let p = used_at xs i (Used from n) at in WrongName from n (contains_at xs p.0 (Used from n) p.1) w)
 wrong_used cs by_name names xs i from n at listed f (Taken some says) = WrongItself (DefinedTwice (record { later = Used from n; repeated = repeated_used xs names i from n at listed some; is = says }))
+
+-- the used ones of some names, one name more
+pub used_more : (xs : List Held) (i : ℕ) (x : Held) → slice_get xs i ≡ Some x → used (map name_behind (take (i + 1) xs)) ≡ used (map name_behind (take i xs)) ++ used (name_behind x ∷ [])
+used_more xs i x at = ap (λ (l : List Held). used (map name_behind l)) (take_next xs i x at) ∙ ap used (map-append name_behind (take i xs) (x ∷ [])) ∙ filter-append (λ (y : ScopeName). not (is_defined y)) (map name_behind (take i xs)) (name_behind x ∷ [])

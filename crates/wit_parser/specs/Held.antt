@@ -1,14 +1,27 @@
--- What the resolver holds by reference: names of a scope, used names and definitions.
+-- What the resolver holds by reference: names of a scope, used names and definitions, and interfaces of other packages.
+use Rattle.std.specs.Prelude.{◌≡◌, ℕ, List, Some, ⊤, map, slice_get}
+use Rattle.wit_scope.specs.Foreign.{foreign_behind}
+use Rattle.wit_scope.specs.declared.foreign.ForeignVisit.{ForeignVisit}
+use Rattle.wit_parser.specs.declared.uses.Interfaces.{Interfaces}
+use Rattle.wit_meaning.specs.Foreign.{visited}
+use Rattle.wit_meaning.specs.Resolving.{Cell, cells}
 use Rattle.wit_parser.specs.declared.scope_name.UsedName.{UsedName}
 use Rattle.wit_parser.specs.declared.scope_name.DefinedName.{DefinedName}
 use Rattle.wit_parser.specs.declared.scope_name.ScopeName.{ScopeName as Held}
 use Rattle.wit_parser.specs.declared.scope_name.ScopeName.TheVariants as held
-use Rattle.wit_meaning.specs.Address.{InterfaceNamed}
+use Rattle.wit_parser.specs.declared.scope_name.Source.{Source as HeldSource}
+use Rattle.wit_parser.specs.declared.scope_name.Source.TheVariants as held_source
+use Rattle.wit_meaning.specs.Address.{Address, InterfaceNamed, ForeignNamed, package_of}
 use Rattle.wit_meaning.specs.Source.{ScopeName, Used, Defined}
+
+-- the scope that a used name comes from
+abbrev pub source_behind : HeldSource → Address
+source_behind (held_source.Declared id) = InterfaceNamed id.name.now
+source_behind (held_source.Foreign id of name) = ForeignNamed (package_of of.now) name.name.now
 
 -- the used name that is held
 abbrev pub use_behind : UsedName → ScopeName
-use_behind u = Used (InterfaceNamed u.from.name.now) u.name.now
+use_behind u = Used (source_behind u.from) u.name.now
 
 -- the definition that is held
 abbrev pub definition_behind : DefinedName → ScopeName
@@ -18,3 +31,20 @@ definition_behind d = Defined d.definition.now
 abbrev pub name_behind : Held → ScopeName
 name_behind (held.Used u) = use_behind u
 name_behind (held.Defined d) = definition_behind d
+
+-- the addresses of interfaces of other packages
+abbrev pub front_of : List ForeignVisit → List Address
+front_of vs = map (λ v. visited (foreign_behind v)) vs
+
+-- the scopes of the interfaces that were resolved: those of other packages are in front
+abbrev pub cells_of : Interfaces → List Cell
+cells_of is = cells (front_of is.foreign.now) is.arena
+
+-- a used name comes from a declared interface, or from the one of another package at its place
+abbrev pub IsPlaced : List Address → HeldSource → Type 0
+IsPlaced front (held_source.Declared id) = ⊤
+IsPlaced front (held_source.Foreign id of name) = slice_get front id ≡ Some (ForeignNamed (package_of of.now) name.name.now)
+
+-- so do all used names of a scope
+pub record ArePlaced (front : List Address) (uses : List UsedName) : Type 0 where
+  pub each : (k : ℕ) (u : UsedName) → slice_get uses k ≡ Some u → IsPlaced front u.from

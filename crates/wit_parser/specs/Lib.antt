@@ -1,4 +1,5 @@
 pub mod Headers
 pub mod Held
 pub mod Items
+pub mod Front
 pub mod Between

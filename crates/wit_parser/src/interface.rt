@@ -1,13 +1,16 @@
 //! Declared interfaces.
-ghost use Rattle.std.specs.Prelude.{◌≡◌, ◌<◌, [], All, length, IfErr, OnOk, map};
+ghost use Rattle.std.specs.Prelude.{◌≡◌, ◌<◌, ◌≤◌, All, length, IfErr, OnOk, map};
 ghost use Rattle.wit_meaning.specs.Source.{item_id, scope_names as the_names};
 ghost use Rattle.wit_meaning.specs.Scope.{in_order, interfaces_of};
 ghost use Rattle.wit_meaning.specs.Fault.{Fault};
 ghost use Rattle.wit_meaning.specs.Broken.{IsBrokenScope, Refused};
 ghost use Rattle.wit_tree.specs.Refusal.{IsWantOfMemory};
 ghost use Rattle.wit_parser.specs.Items.{item_behind, names_behind};
-ghost use Rattle.wit_meaning.specs.Resolving.{cells, IsIndex, IsAddedInterface, IsWrongScope};
-ghost use Rattle.wit_meaning.specs.Resolved.{AddsInterface, AddsInterfaces, AreLegalScopes, IsWrongAmong};
+ghost use Rattle.wit_meaning.specs.Resolving.{IsIndex, IsAddedInterface, IsWrongScope};
+ghost use Rattle.wit_meaning.specs.Resolved.{AddsInterface, AddsInterfaces, AreLegalScopes};
+ghost use Rattle.wit_parser.specs.Held.{front_of, cells_of};
+ghost use Rattle.wit_parser.specs.Front.{AreNamesPlaced, AreItemsPlaced};
+ghost use Rattle.wit_parser.specs.Between.{IsWrongNow};
 
 use crate::distinct::check_folded_names;
 use crate::items::{Declared, Item};
@@ -23,13 +26,15 @@ use wit_values::{Text, TextTable};
 /// Adds an interface of this name with these names of types.
 fn add_interface(
     alloc: Global,
-    interfaces: &mut Interfaces,
+    interfaces: &mut Interfaces<'_, '_, '_>,
     id: Id<'_>,
     types: TextTable<TypeId>,
 ) -> ParseResult<()>
-    requires index { IsIndex (cells interfaces.old.arena) interfaces.old.by_name }
+    requires front { length interfaces.old.foreign.now ≤ length interfaces.old.arena }
+    requires index { IsIndex (cells_of interfaces.old) interfaces.old.by_name }
+    ensures foreign { OnOk result (interfaces.new.foreign ≡ interfaces.old.foreign) }
     ensures added { OnOk result (IsAddedInterface interfaces.old.arena interfaces.new.arena id.entry types) }
-    ensures index { OnOk result (IsIndex (cells interfaces.new.arena) interfaces.new.by_name) }
+    ensures index { OnOk result (IsIndex (cells_of interfaces.new) interfaces.new.by_name) }
     ensures refused { IfErr result IsWantOfMemory }
 {
     let place = interfaces.arena.alloc(Interface {
@@ -52,17 +57,20 @@ fn add_interface(
 fn resolve_interface<'a>(
     alloc: Global,
     types: &mut Entries,
-    interfaces: &mut Interfaces,
+    interfaces: &mut Interfaces<'_, '_, '_>,
     item: &Item<'_, 'a>,
     id: Id<'a>,
 ) -> ParseResult<()>
     requires id { id ≡ item_id (item_behind item.now) }
     requires named { names_behind item.now ≡ the_names (item_behind item.now) }
-    requires index { IsIndex (cells interfaces.old.arena) interfaces.old.by_name }
-    ensures added { OnOk result (AddsInterface types.old types.new interfaces.old.arena interfaces.new.arena (item_behind item.now)) }
-    ensures index { OnOk result (IsIndex (cells interfaces.new.arena) interfaces.new.by_name) }
+    requires placed { AreNamesPlaced (front_of interfaces.old.foreign.now) item.now.names.items }
+    requires front { length interfaces.old.foreign.now ≤ length interfaces.old.arena }
+    requires index { IsIndex (cells_of interfaces.old) interfaces.old.by_name }
+    ensures foreign { OnOk result (interfaces.new.foreign ≡ interfaces.old.foreign) }
+    ensures added { OnOk result (AddsInterface (front_of interfaces.old.foreign.now) types.old types.new interfaces.old.arena interfaces.new.arena (item_behind item.now)) }
+    ensures index { OnOk result (IsIndex (cells_of interfaces.new) interfaces.new.by_name) }
     ensures legal { OnOk result ((f : Fault) → IsBrokenScope (the_names (item_behind item.now)) f → ⊥) }
-    ensures refused { IfErr result (Refused (IsWrongScope (cells interfaces.old.arena) interfaces.old.by_name (the_names (item_behind item.now)))) }
+    ensures refused { IfErr result (Refused (IsWrongScope (cells_of interfaces.old) interfaces.old.by_name (the_names (item_behind item.now)))) }
 {
     let owner = TypeOwner::Interface(interfaces.arena.next_id());
     let names = resolve_names(alloc, types, interfaces, owner, &item.names)?;
@@ -71,23 +79,25 @@ fn resolve_interface<'a>(
     Ok(())
 }
 
-/// Adds the interfaces among items, in the order of their places.
+/// Adds the interfaces among items, in the order of their places, behind those of other packages.
 pub(crate) fn resolve_interfaces(
     alloc: Global,
     types: &mut Entries,
-    interfaces: &mut Interfaces,
+    interfaces: &mut Interfaces<'_, '_, '_>,
     items: &[Item<'_, '_>],
     places: &[usize],
 ) -> ParseResult<()>
     requires within { All (λ place. place < length items.now) places.now }
     requires named { map names_behind items.now ≡ map the_names (map item_behind items.now) }
-    requires no_type { types.old ≡ [] }
-    requires no_interface { interfaces.old.arena ≡ [] }
-    requires index { IsIndex (cells interfaces.old.arena) interfaces.old.by_name }
-    ensures added { OnOk result (AddsInterfaces [] types.new [] interfaces.new.arena (interfaces_of (in_order (map item_behind items.now) places.now))) }
-    ensures index { OnOk result (IsIndex (cells interfaces.new.arena) interfaces.new.by_name) }
+    requires placed { AreItemsPlaced (front_of interfaces.old.foreign.now) items.now }
+    requires front { length interfaces.old.foreign.now ≤ length interfaces.old.arena }
+    requires index { IsIndex (cells_of interfaces.old) interfaces.old.by_name }
+    ensures foreign { OnOk result (interfaces.new.foreign ≡ interfaces.old.foreign) }
+    ensures front { OnOk result (length interfaces.old.foreign.now ≤ length interfaces.new.arena) }
+    ensures added { OnOk result (AddsInterfaces (front_of interfaces.old.foreign.now) types.old types.new interfaces.old.arena interfaces.new.arena (interfaces_of (in_order (map item_behind items.now) places.now))) }
+    ensures index { OnOk result (IsIndex (cells_of interfaces.new) interfaces.new.by_name) }
     ensures legal { OnOk result (AreLegalScopes (interfaces_of (in_order (map item_behind items.now) places.now))) }
-    ensures refused { IfErr result (Refused (IsWrongAmong (map item_behind items.now) places.now)) }
+    ensures refused { IfErr result (Refused (IsWrongNow (front_of interfaces.old.foreign.now) types.old interfaces.old.arena (map item_behind items.now) places.now)) }
 {
     for place in places {
         let item = &items[*place];

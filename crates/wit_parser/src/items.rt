@@ -1,25 +1,28 @@
 //! The declared items of all files, each with the names of its scope.
 ghost use Rattle.std.specs.Prelude.{◌≡◌, ◌++◌, List, map, Contains, IfOk, IfErr, OnOk};
 ghost use Rattle.std.specs.List.{flat_map};
+ghost use Rattle.std.specs.Option.{option_copied};
 ghost use Rattle.wit_tree.specs.declared.tree.PackageFile.{PackageFile as TheFile};
-ghost use Rattle.wit_meaning.specs.Source.{Item as TheItem, interface_part as the_interface_part, world_part as the_world_part, part_names, top_names, scope_names, file_items, all_items, path_id as the_path};
+ghost use Rattle.wit_meaning.specs.Source.{Item as TheItem, TheInterface, TheWorld, Using, interface_part as the_interface_part, world_part as the_world_part, part_names, top_names, scope_names, file_items, all_items, path_id as the_path, Local, leads, path_scope};
 ghost use Rattle.wit_meaning.specs.Scope.{use_path};
-ghost use Rattle.wit_meaning.specs.Fault.{Fault};
-ghost use Rattle.wit_meaning.specs.Broken.{IsMissingOriginal, IsBrokenUse, IsBroken, Refused};
+ghost use Rattle.wit_meaning.specs.Foreign.{visited, foreign_interfaces};
+ghost use Rattle.wit_meaning.specs.Fault.{Fault, fault};
+ghost use Rattle.wit_meaning.specs.Broken.{IsBrokenUse, IsBroken, Refused};
 ghost use Rattle.wit_scope.specs.FileNames.{AreNamesOf};
-ghost use Rattle.wit_scope.specs.declared.file_names.Found.TheVariants.{Item as ItemAt};
-ghost use Rattle.wit_parser.specs.Held.{name_behind};
-ghost use Rattle.wit_parser.specs.Items.{part_behind, item_behind, names_behind, AreNamesAt, HasFile, IsNamedAt, IsUsable, IsUnusable, AreUsable, IsUnusableAmong, AreUsableItems, IsUnusableItem, AreFiled};
+ghost use Rattle.wit_parser.specs.Held.{source_behind, name_behind, IsPlaced};
+ghost use Rattle.wit_parser.specs.Items.{part_behind, item_behind, names_behind, AreNamesAt, HasFile, HasItem, HasPart, IsNamedAt, AreFiled, AreEntriesOf, item_place as the_item_place, other_place as the_other_place, entry_at, interface_entry, IsUsable, IsUnusable, AreUsable, IsUnusableAmong, AreUsableItems, IsUnusableItem};
+ghost use Rattle.wit_parser.specs.Front.{AreNamesPlaced, AreItemsPlaced};
 
-use crate::scope_name::{DefinedName, ScopeName, add_used_names};
+use crate::scope_name::{DefinedName, ScopeName, Source, add_used_names};
 use std::alloc::{AllocError, Global};
+use wit_model::AstItem as Entry;
 use wit_scope::refusal::{refuse, refuse_missing};
-use wit_scope::{FileNames, Found, path_id};
-use wit_tree::ParseResult;
+use wit_scope::{FileNames, Found, Target, path_id};
 use wit_tree::tree::{
-    AstItem, Include, Interface, InterfaceItem, PackageFile, TypeDef, Use, UsePath, World,
+    AstItem, Id, Include, Interface, InterfaceItem, PackageFile, TypeDef, Use, UsePath, World,
     WorldItem,
 };
+use wit_tree::{ParseError, ParseResult};
 
 /// A declared interface or world.
 #[derive(Clone, Copy)]
@@ -67,12 +70,25 @@ fn world_part<'f, 'a>(part: &'f WorldItem<'a>) -> Part<'f, 'a>
     }
 }
 
-/// The place of the item that was found.
-fn item_place(found: Found) -> usize
-    ensures { found ≡ ItemAt result }
+/// The place of a declared item that was found.
+fn item_place(found: Option<Found>) -> Option<usize>
+    ensures { result ≡ the_item_place found }
 {
     match found {
-        Found::Item(place) => place,
+        Some(Found::Item(place)) => Some(place),
+        Some(Found::Foreign(_)) => None,
+        None => None,
+    }
+}
+
+/// The place of an item of another package that was found.
+fn other_place(found: Option<Found>) -> Option<usize>
+    ensures { result ≡ the_other_place found }
+{
+    match found {
+        Some(Found::Foreign(place)) => Some(place),
+        Some(Found::Item(_)) => None,
+        None => None,
     }
 }
 
@@ -81,53 +97,126 @@ fn not_an_interface(alloc: Global, name: &str) -> Result<String, AllocError> {
     format!(in alloc; "name `{name}` is defined as a world, not an interface")
 }
 
-/// Refuses a path of a `use` in the file at a place that leads to no item, or to a world.
-fn check_use(
-    alloc: Global,
-    files: &FileNames<'_>,
+/// The refusal of a path of a `use` that leads to a world.
+fn world_used(alloc: Global, path: &UsePath<'_>) -> ParseError
+    ensures { Refused (λ f. f ≡ fault 10 (the_path path.now).span) result }
+{
+    let id = path_id(path);
+    match not_an_interface(alloc, id.name) {
+        Ok(message) => refuse(alloc, 10, id.span, message.as_str()),
+        Err(error) => ParseError::from(error),
+    }
+}
+
+/// The entry of the item of another package that a path in the file at a place leads to; none where
+/// it leads to none. `entries` are those of other packages' items.
+pub(crate) fn entry_of<'e, 'f, 'a>(
+    files: &FileNames<'f, 'a>,
+    entries: &'e [Entry],
     place: usize,
-    path: &UsePath<'_>,
+    path: &'f UsePath<'a>,
+) -> Option<&'e Entry>
+    requires named { HasFile files.now place }
+    requires entries { AreEntriesOf files.now entries.now }
+    ensures { (fs : List TheFile) (file : TheFile) → AreNamesAt fs files.now place file → option_copied result ≡ entry_at fs (leads (top_names file) path.now) }
+{
+    let found = other_place(files.lookup(place, path))?;
+    entries.get(found)
+}
+
+/// The place of the interface that an entry is; none where there is no entry, or a world's.
+fn interface_place(entry: Option<&Entry>) -> Option<usize>
+    ensures { result ≡ interface_entry (option_copied entry.entry) }
+{
+    match entry {
+        Some(Entry::Interface(id)) => Some(id.index()),
+        Some(Entry::World(_)) => None,
+        None => None,
+    }
+}
+
+/// Refuses a path, of a `use` in the file at a place, that leads to no item of this name, or to a
+/// world.
+fn check_use<'f, 'a>(
+    alloc: Global,
+    files: &FileNames<'f, 'a>,
+    place: usize,
+    path: &'f UsePath<'a>,
+    target: Id<'a>,
 ) -> ParseResult<()>
     requires named { HasFile files.now place }
-    ensures usable { OnOk result ((fs : List TheFile) (file : TheFile) → AreNamesAt fs files.now place file → IsUsable (all_items fs) (top_names file) (the_path path.now)) }
-    ensures refused { IfErr result (λ e. (fs : List TheFile) (file : TheFile) → AreNamesAt fs files.now place file → Refused (IsUnusable (all_items fs) (top_names file) (the_path path.now)) e) }
+    requires local { (fs : List TheFile) (file : TheFile) → AreNamesAt fs files.now place file → leads (top_names file) path.now ≡ Local target }
+    ensures usable { OnOk result ((fs : List TheFile) (file : TheFile) → AreNamesAt fs files.now place file → IsUsable fs (top_names file) path.now) }
+    ensures refused { IfErr result (λ e. (fs : List TheFile) (file : TheFile) → AreNamesAt fs files.now place file → Refused (IsUnusable fs (top_names file) path.now) e) }
 {
-    let found = match files.lookup(place, path) {
+    let found = match item_place(files.lookup(place, path)) {
         Some(found) => found,
-        None => {
-            let original = files.original(place, path);
-            return Err(refuse_missing(alloc, 7, "interface or world", original));
-        }
+        None => return Err(refuse_missing(alloc, 7, "interface or world", target)),
     };
-    if files.is_world(item_place(found)) {
-        let id = path_id(path);
-        let message = not_an_interface(alloc, id.name)?;
-        return Err(refuse(alloc, 10, id.span, message.as_str()));
+    if files.is_world(found) {
+        return Err(world_used(alloc, path));
     }
     Ok(())
+}
+
+/// The interface that a `use` in the file at a place leads to; refuses one that leads to no item, or
+/// to a world. `entries` are those of other packages' items.
+fn use_source<'f, 'a>(
+    alloc: Global,
+    files: &FileNames<'f, 'a>,
+    entries: &[Entry],
+    place: usize,
+    used: &'f Use<'a>,
+) -> ParseResult<Source<'f, 'a>>
+    requires part { HasPart files.now place (Using used.now) }
+    requires entries { AreEntriesOf files.now entries.now }
+    ensures source { IfOk result (λ source. (fs : List TheFile) (file : TheFile) → AreNamesAt fs files.now place file → source_behind source ≡ path_scope (top_names file) used.now.from) }
+    ensures placed { IfOk result (λ source. (fs : List TheFile) (file : TheFile) → AreNamesAt fs files.now place file → IsPlaced (map visited (foreign_interfaces fs)) source) }
+    ensures usable { OnOk result ((fs : List TheFile) (file : TheFile) → AreNamesAt fs files.now place file → IsUsable fs (top_names file) used.now.from) }
+    ensures refused { IfErr result (λ e. (fs : List TheFile) (file : TheFile) → AreNamesAt fs files.now place file → Refused (IsUnusable fs (top_names file) used.now.from) e) }
+{
+    let path = &used.from;
+    match files.target(place, path) {
+        Target::Local(id) => {
+            check_use(alloc, files, place, path, id)?;
+            Ok(Source::Declared(id))
+        }
+        Target::Foreign { package, name } => {
+            match interface_place(entry_of(files, entries, place, path)) {
+                Some(place) => Ok(Source::Foreign {
+                    place,
+                    package,
+                    name,
+                }),
+                None => Err(world_used(alloc, path)),
+            }
+        }
+    }
 }
 
 /// Adds the names that a part of an item of the file at a place brings.
 fn add_part<'f, 'a>(
     alloc: Global,
-    files: &FileNames<'a>,
+    files: &FileNames<'f, 'a>,
+    entries: &[Entry],
     place: usize,
     names: &mut Vec<ScopeName<'f, 'a>>,
     part: Part<'f, 'a>,
 ) -> ParseResult<()>
-    requires named { HasFile files.now place }
+    requires part { HasPart files.now place (part_behind part) }
+    requires entries { AreEntriesOf files.now entries.now }
     ensures names { OnOk result ((fs : List TheFile) (file : TheFile) → AreNamesAt fs files.now place file → map name_behind names.new.items ≡ map name_behind names.old.items ++ part_names (top_names file) (part_behind part.entry)) }
-    ensures usable { OnOk result ((fs : List TheFile) (file : TheFile) → AreNamesAt fs files.now place file → AreUsable (all_items fs) (top_names file) (use_path (part_behind part.entry))) }
-    ensures refused { IfErr result (λ e. (fs : List TheFile) (file : TheFile) → AreNamesAt fs files.now place file → Refused (IsUnusableAmong (all_items fs) (top_names file) (use_path (part_behind part.entry))) e) }
+    ensures placed { OnOk result ((fs : List TheFile) (file : TheFile) → AreNamesAt fs files.now place file → AreNamesPlaced (map visited (foreign_interfaces fs)) names.old.items → AreNamesPlaced (map visited (foreign_interfaces fs)) names.new.items) }
+    ensures usable { OnOk result ((fs : List TheFile) (file : TheFile) → AreNamesAt fs files.now place file → AreUsable fs (top_names file) (use_path (part_behind part.entry))) }
+    ensures refused { IfErr result (λ e. (fs : List TheFile) (file : TheFile) → AreNamesAt fs files.now place file → Refused (IsUnusableAmong fs (top_names file) (use_path (part_behind part.entry))) e) }
 {
     match part {
         Part::Defining(definition) => {
             names.push(ScopeName::Defined(DefinedName { definition }))?;
         }
         Part::Using(used) => {
-            check_use(alloc, files, place, &used.from)?;
-            let from = files.original(place, &used.from);
-            add_used_names(names, from, &used.names)?;
+            let from = use_source(alloc, files, entries, place, used)?;
+            add_used_names(names, &from, &used.names)?;
         }
         Part::Including(_) => {}
     }
@@ -137,18 +226,28 @@ fn add_part<'f, 'a>(
 /// The names of an interface of the file at a place.
 fn interface_names<'f, 'a>(
     alloc: Global,
-    files: &FileNames<'a>,
+    files: &FileNames<'f, 'a>,
+    entries: &[Entry],
     place: usize,
     interface: &'f Interface<'a>,
 ) -> ParseResult<Vec<ScopeName<'f, 'a>>>
-    requires named { HasFile files.now place }
+    requires item { HasItem files.now place (TheInterface interface.now) }
+    requires entries { AreEntriesOf files.now entries.now }
     ensures names { IfOk result (λ names. (fs : List TheFile) (file : TheFile) → AreNamesAt fs files.now place file → map name_behind names.items ≡ flat_map (part_names (top_names file)) (map the_interface_part interface.now.items.items)) }
-    ensures usable { OnOk result ((fs : List TheFile) (file : TheFile) → AreNamesAt fs files.now place file → AreUsable (all_items fs) (top_names file) (flat_map use_path (map the_interface_part interface.now.items.items))) }
-    ensures refused { IfErr result (λ e. (fs : List TheFile) (file : TheFile) → AreNamesAt fs files.now place file → Refused (IsUnusableAmong (all_items fs) (top_names file) (flat_map use_path (map the_interface_part interface.now.items.items))) e) }
+    ensures placed { IfOk result (λ names. (fs : List TheFile) (file : TheFile) → AreNamesAt fs files.now place file → AreNamesPlaced (map visited (foreign_interfaces fs)) names.items) }
+    ensures usable { OnOk result ((fs : List TheFile) (file : TheFile) → AreNamesAt fs files.now place file → AreUsable fs (top_names file) (flat_map use_path (map the_interface_part interface.now.items.items))) }
+    ensures refused { IfErr result (λ e. (fs : List TheFile) (file : TheFile) → AreNamesAt fs files.now place file → Refused (IsUnusableAmong fs (top_names file) (flat_map use_path (map the_interface_part interface.now.items.items))) e) }
 {
     let mut names = Vec::new(alloc);
     for part in &interface.items {
-        add_part(alloc, files, place, &mut names, interface_part(part))?;
+        add_part(
+            alloc,
+            files,
+            entries,
+            place,
+            &mut names,
+            interface_part(part),
+        )?;
     }
     Ok(names)
 }
@@ -156,18 +255,21 @@ fn interface_names<'f, 'a>(
 /// The names of a world of the file at a place.
 fn world_names<'f, 'a>(
     alloc: Global,
-    files: &FileNames<'a>,
+    files: &FileNames<'f, 'a>,
+    entries: &[Entry],
     place: usize,
     world: &'f World<'a>,
 ) -> ParseResult<Vec<ScopeName<'f, 'a>>>
-    requires named { HasFile files.now place }
+    requires item { HasItem files.now place (TheWorld world.now) }
+    requires entries { AreEntriesOf files.now entries.now }
     ensures names { IfOk result (λ names. (fs : List TheFile) (file : TheFile) → AreNamesAt fs files.now place file → map name_behind names.items ≡ flat_map (part_names (top_names file)) (map the_world_part world.now.items.items)) }
-    ensures usable { OnOk result ((fs : List TheFile) (file : TheFile) → AreNamesAt fs files.now place file → AreUsable (all_items fs) (top_names file) (flat_map use_path (map the_world_part world.now.items.items))) }
-    ensures refused { IfErr result (λ e. (fs : List TheFile) (file : TheFile) → AreNamesAt fs files.now place file → Refused (IsUnusableAmong (all_items fs) (top_names file) (flat_map use_path (map the_world_part world.now.items.items))) e) }
+    ensures placed { IfOk result (λ names. (fs : List TheFile) (file : TheFile) → AreNamesAt fs files.now place file → AreNamesPlaced (map visited (foreign_interfaces fs)) names.items) }
+    ensures usable { OnOk result ((fs : List TheFile) (file : TheFile) → AreNamesAt fs files.now place file → AreUsable fs (top_names file) (flat_map use_path (map the_world_part world.now.items.items))) }
+    ensures refused { IfErr result (λ e. (fs : List TheFile) (file : TheFile) → AreNamesAt fs files.now place file → Refused (IsUnusableAmong fs (top_names file) (flat_map use_path (map the_world_part world.now.items.items))) e) }
 {
     let mut names = Vec::new(alloc);
     for part in &world.items {
-        add_part(alloc, files, place, &mut names, world_part(part))?;
+        add_part(alloc, files, entries, place, &mut names, world_part(part))?;
     }
     Ok(names)
 }
@@ -175,17 +277,20 @@ fn world_names<'f, 'a>(
 /// Adds the items of the file at a place.
 fn add_items<'f, 'a>(
     alloc: Global,
-    files: &FileNames<'a>,
+    files: &FileNames<'f, 'a>,
+    entries: &[Entry],
     items: &mut Vec<Item<'f, 'a>>,
     place: usize,
     file: &'f PackageFile<'a>,
 ) -> ParseResult<()>
     requires named { IsNamedAt files.now place file.now }
+    requires entries { AreEntriesOf files.now entries.now }
     ensures items { OnOk result (map item_behind items.new.items ≡ map item_behind items.old.items ++ file_items file.now) }
     ensures names { OnOk result (map names_behind items.new.items ≡ map names_behind items.old.items ++ map scope_names (file_items file.now)) }
-    ensures filed { OnOk result (AreFiled files.now items.old.items → AreFiled files.now items.new.items) }
-    ensures usable { OnOk result ((fs : List TheFile) → AreNamesAt fs files.now place file.now → AreUsableItems (all_items fs) (file_items file.now)) }
-    ensures refused { IfErr result (λ e. (fs : List TheFile) → AreNamesAt fs files.now place file.now → Refused (IsUnusableItem (all_items fs) (file_items file.now)) e) }
+    ensures filed { OnOk result ((fs : List TheFile) → AreNamesAt fs files.now place file.now → AreFiled fs files.now items.old.items → AreFiled fs files.now items.new.items) }
+    ensures placed { OnOk result ((fs : List TheFile) → AreNamesAt fs files.now place file.now → AreItemsPlaced (map visited (foreign_interfaces fs)) items.old.items → AreItemsPlaced (map visited (foreign_interfaces fs)) items.new.items) }
+    ensures usable { OnOk result ((fs : List TheFile) → AreNamesAt fs files.now place file.now → AreUsableItems fs (file_items file.now)) }
+    ensures refused { IfErr result (λ e. (fs : List TheFile) → AreNamesAt fs files.now place file.now → Refused (IsUnusableItem fs (file_items file.now)) e) }
 {
     for item in &file.decl_list.items {
         match item {
@@ -193,13 +298,13 @@ fn add_items<'f, 'a>(
                 place,
                 file,
                 declared: Declared::Interface(interface),
-                names: interface_names(alloc, files, place, interface)?,
+                names: interface_names(alloc, files, entries, place, interface)?,
             })?,
             AstItem::World(world) => items.push(Item {
                 place,
                 file,
                 declared: Declared::World(world),
-                names: world_names(alloc, files, place, world)?,
+                names: world_names(alloc, files, entries, place, world)?,
             })?,
             AstItem::Use(_) => {}
         }
@@ -209,25 +314,26 @@ fn add_items<'f, 'a>(
 
 /// The items of all files, in push order and then in source order.
 ///
-/// File by file, a `use` at its top whose path is no item's name is refused (7), and then a `use` in
-/// an item that leads to no item (7) or to a world (10).
+/// A `use` in an item that leads to no item is refused (7), and one that leads to a world (10).
+/// `entries` are those of other packages' items.
 pub(crate) fn declared_items<'f, 'a>(
     alloc: Global,
-    names: &FileNames<'a>,
+    names: &FileNames<'f, 'a>,
+    entries: &[Entry],
     files: &'f [PackageFile<'a>],
 ) -> ParseResult<Vec<Item<'f, 'a>>>
     requires named { AreNamesOf files.now names.now }
+    requires entries { AreEntriesOf names.now entries.now }
     ensures items { IfOk result (λ items. map item_behind items.items ≡ all_items files.now) }
     ensures names { IfOk result (λ items. map names_behind items.items ≡ map scope_names (all_items files.now)) }
-    ensures filed { IfOk result (λ items. AreFiled names.now items.items) }
-    ensures originals { OnOk result ((file : TheFile) → Contains files.now file → (f : Fault) → IsMissingOriginal (all_items files.now) file.decl_list.items.items f → ⊥) }
-    ensures uses { OnOk result ((i : TheItem) → Contains (all_items files.now) i → (f : Fault) → IsBrokenUse (all_items files.now) i f → ⊥) }
+    ensures filed { IfOk result (λ items. AreFiled files.now names.now items.items) }
+    ensures placed { IfOk result (λ items. AreItemsPlaced (map visited (foreign_interfaces files.now)) items.items) }
+    ensures uses { OnOk result ((i : TheItem) → Contains (all_items files.now) i → (f : Fault) → IsBrokenUse files.now i f → ⊥) }
     ensures refused { IfErr result (Refused (IsBroken files.now)) }
 {
     let mut items = Vec::with_capacity(alloc, names.item_order().len())?;
     for (place, file) in files.iter().enumerate() {
-        names.check_top(alloc, file)?;
-        add_items(alloc, names, &mut items, place, file)?;
+        add_items(alloc, names, entries, &mut items, place, file)?;
     }
     Ok(items)
 }

@@ -3,6 +3,7 @@
 
 mod deps;
 mod distinct;
+mod foreign;
 mod header;
 mod interface;
 mod items;

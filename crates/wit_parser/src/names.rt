@@ -1,12 +1,13 @@
 //! The names of a scope as entries: those that it uses, and then its definitions.
-ghost use Rattle.std.specs.Prelude.{◌≡◌, List, [], IfOk, IfErr, OnOk, map};
+ghost use Rattle.std.specs.Prelude.{◌≡◌, ◌≤◌, List, [], length, IfOk, IfErr, OnOk, map};
 ghost use Rattle.wit_meaning.specs.Address.{Address};
 ghost use Rattle.wit_meaning.specs.Scope.{used};
 ghost use Rattle.wit_meaning.specs.Fault.{Fault};
 ghost use Rattle.wit_meaning.specs.Broken.{IsBrokenScope, IsFoldedTwice, Refused};
-ghost use Rattle.wit_parser.specs.Held.{name_behind, use_behind, definition_behind};
+ghost use Rattle.wit_parser.specs.Held.{name_behind, use_behind, definition_behind, front_of, cells_of};
+ghost use Rattle.wit_parser.specs.Front.{AreNamesPlaced};
 ghost use Rattle.wit_parser.specs.Between.{AreInTurn, IsBrokenAmong, DefinesTurn, AddsTurn};
-ghost use Rattle.wit_meaning.specs.Resolving.{Cell, cells, env_of, Defines, AreLegalBodies, HasNames, IsIndex, IsWrongScope};
+ghost use Rattle.wit_meaning.specs.Resolving.{Cell, env_of, Defines, AreLegalBodies, HasNames, IsIndex, IsWrongScope};
 
 use crate::distinct::{add_definition_ids, check_unique_names, used_ids};
 use crate::scope::ordered_definitions;
@@ -81,14 +82,16 @@ fn resolve_types<'t, 'a>(
 pub(crate) fn resolve_names<'a>(
     alloc: Global,
     types: &mut Entries,
-    interfaces: &Interfaces,
+    interfaces: &Interfaces<'_, '_, '_>,
     owner: TypeOwner,
     names: &[ScopeName<'_, 'a>],
 ) -> ParseResult<ResolvedNames<'a>>
-    requires index { IsIndex (cells interfaces.now.arena) interfaces.now.by_name }
-    ensures adds { IfOk result (λ r. AddsTurn types.old types.new (cells interfaces.now.arena) owner (map name_behind names.now) r.types r.turn.items) }
+    requires index { IsIndex (cells_of interfaces.now) interfaces.now.by_name }
+    requires placed { AreNamesPlaced (front_of interfaces.now.foreign.now) names.now }
+    requires front { length interfaces.now.foreign.now ≤ length interfaces.now.arena }
+    ensures adds { IfOk result (λ r. AddsTurn types.old types.new (cells_of interfaces.now) owner (map name_behind names.now) r.types r.turn.items) }
     ensures legal { OnOk result ((f : Fault) → IsBrokenScope (map name_behind names.now) f → IsFoldedTwice (map name_behind names.now) f) }
-    ensures refused { IfErr result (Refused (IsWrongScope (cells interfaces.now.arena) interfaces.now.by_name (map name_behind names.now))) }
+    ensures refused { IfErr result (Refused (IsWrongScope (cells_of interfaces.now) interfaces.now.by_name (map name_behind names.now))) }
 {
     let uses = used_names(alloc, names)?;
     let mut scope = Scope {

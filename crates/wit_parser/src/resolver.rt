@@ -1,20 +1,28 @@
 //! From parsed files to a package.
-ghost use Rattle.std.specs.Prelude.{◌≡◌, ◌++◌, ◌∷◌, [], IfOk, IfErr, OnOk, OnErr};
+ghost use Rattle.std.specs.Prelude.{◌≡◌, ◌++◌, ◌∷◌, List, [], map, IfOk, IfErr, OnOk, OnErr};
 ghost use Rattle.std.specs.Option.{option_copied};
 ghost use Rattle.wit_meaning.specs.Fault.{Fault};
-ghost use Rattle.wit_meaning.specs.Broken.{IsMismatch, IsOtherPackage, IsBroken, IsLegal, Refused, last_header};
+ghost use Rattle.wit_order.specs.Table.{IsOrder};
+ghost use Rattle.wit_meaning.specs.Source.{first_takings};
+ghost use Rattle.wit_meaning.specs.Scope.{item_rows};
+ghost use Rattle.wit_scope.specs.FileNames.{AreNamesOf};
+ghost use Rattle.wit_meaning.specs.Broken.{IsMismatch, IsOtherPackage, IsBrokenNames, IsBroken, IsLegal, Refused, last_header};
 ghost use Rattle.wit_parser.specs.Headers.{header_at};
 ghost use Rattle.wit_parser.specs.Between.{AddsFiles};
 ghost use Rattle.wit_types.specs.Types.{IsBackward};
-ghost use Rattle.wit_meaning.specs.Whole.{IsPackage, IsFaithful};
+ghost use Rattle.wit_tree.specs.declared.tree.PackageFile.{PackageFile as TheFile};
+ghost use Rattle.wit_meaning.specs.Foreign.{foreign_packages};
+ghost use Rattle.wit_meaning.specs.Whole.{dep, IsPackage, IsFaithful};
 
+use crate::foreign::ForeignArenas;
 use crate::header::{is_same, mismatch};
 use crate::interface::resolve_interfaces;
 use crate::items::declared_items;
 use crate::uses::Interfaces;
 use crate::world::{Worlds, resolve_worlds};
-use std::alloc::Global;
+use std::alloc::{AllocError, Global};
 use wit_entries::entries::Entries;
+use wit_foreign::foreign_deps;
 use wit_model::{
     Arena, ForeignItems, Interface, InterfacePlace, UnresolvedPackage, World, WorldPlace,
 };
@@ -22,7 +30,7 @@ use wit_scope::refusal::refuse;
 use wit_scope::{FileNames, package_name};
 use wit_tree::tree::{self, PackageFile};
 use wit_tree::{ParseResult, Span};
-use wit_values::TextTable;
+use wit_values::{Row, TextTable};
 
 /// The words for files without a header.
 const NO_HEADER: &str = "no `package` header was found in any WIT file for this package";
@@ -56,38 +64,73 @@ fn check_header(
     Ok(())
 }
 
-/// The interfaces and the worlds of files.
+/// The interfaces and the worlds of files, and where types of other packages are first used.
 #[derive(Drop)]
 struct Resolved {
     interfaces: Arena<Interface, InterfacePlace>,
     worlds: Arena<World, WorldPlace>,
+    unknown_type_spans: Vec<Span>,
 }
 
-/// Adds the interfaces and worlds of files, and their types, to nothing.
+/// Adds the interfaces and worlds of files with these names, and their types, to nothing.
 fn resolve_files<'f, 'a>(
     alloc: Global,
     types: &mut Entries,
+    names: &FileNames<'f, 'a>,
     files: &'f [PackageFile<'a>],
 ) -> ParseResult<Resolved>
     requires empty { types.old ≡ [] }
+    requires names { AreNamesOf files.now names.now }
+    requires order { IsOrder (item_rows files.now) names.now.order.items }
+    requires legal { (f : Fault) → IsBrokenNames files.now f → ⊥ }
     ensures added { IfOk result (λ r. AddsFiles files.now types.new r.interfaces r.worlds) }
+    ensures unknown { IfOk result (λ r. r.unknown_type_spans.items ≡ map (λ t. t.id.span) (first_takings files.now)) }
     ensures refused { IfErr result (Refused (IsBroken files.now)) }
 {
-    let names = FileNames::gather_items(alloc, files)?;
-    let items = declared_items(alloc, &names, files)?;
+    let mut front = ForeignArenas::of_items(alloc, names.foreign())?;
+    let items = declared_items(alloc, names, &front.entries, files)?;
+    front.take_all(alloc, types, &items)?;
+    let ForeignArenas {
+        visits,
+        interfaces,
+        worlds,
+        entries,
+        spans,
+    } = front;
     let mut interfaces = Interfaces {
-        arena: Arena::new(alloc),
+        foreign: &visits,
+        arena: interfaces,
         by_name: TextTable::new(alloc),
     };
     resolve_interfaces(alloc, types, &mut interfaces, &items, names.item_order())?;
     let mut worlds = Worlds {
-        arena: Arena::new(alloc),
+        entries: &entries,
+        arena: worlds,
         by_name: TextTable::new(alloc),
     };
-    resolve_worlds(alloc, types, &names, &interfaces, &mut worlds, &items)?;
+    resolve_worlds(alloc, types, names, &interfaces, &mut worlds, &items)?;
     Ok(Resolved {
         interfaces: interfaces.arena,
         worlds: worlds.arena,
+        unknown_type_spans: spans,
+    })
+}
+
+/// What files with these names name of other packages, whose types are first used at these spans.
+fn foreign_items(
+    alloc: Global,
+    names: &FileNames<'_, '_>,
+    unknown_type_spans: Vec<Span>,
+) -> Result<ForeignItems, AllocError>
+    ensures deps { IfOk result (λ foreign. (files : List TheFile) → AreNamesOf files names.now → foreign.deps ≡ map (dep files) (foreign_packages files)) }
+    ensures spans { IfOk result (λ foreign. (files : List TheFile) → AreNamesOf files names.now → foreign.dep_spans ≡ map (λ v. v.of.span) (foreign_packages files)) }
+    ensures unknown { IfOk result (λ foreign. foreign.unknown_type_spans ≡ unknown_type_spans.items) }
+{
+    let (deps, dep_spans) = foreign_deps(alloc, names.foreign_visits())?;
+    Ok(ForeignItems {
+        deps,
+        dep_spans,
+        unknown_type_spans: Row::from(unknown_type_spans),
     })
 }
 
@@ -175,14 +218,16 @@ impl<'a> Resolver<'a> {
             None => return Err(refuse(alloc, 4, Span::default(), NO_HEADER)),
         };
         let mut types = Entries::new(alloc);
-        let resolved = resolve_files(alloc, &mut types, &self.files)?;
+        let names = FileNames::gather(alloc, &self.files)?;
+        let resolved = resolve_files(alloc, &mut types, &names, &self.files)?;
+        let foreign = foreign_items(alloc, &names, resolved.unknown_type_spans)?;
         Ok(UnresolvedPackage::new(
             package_name(alloc, header)?,
             resolved.worlds,
             resolved.interfaces,
             types.into_arena(),
             header.span,
-            ForeignItems::none(alloc),
+            foreign,
         ))
     }
 }

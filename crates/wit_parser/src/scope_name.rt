@@ -1,18 +1,32 @@
 //! The names of a scope: those that it uses, and its definitions.
-ghost use Rattle.std.specs.Prelude.{◌≡◌, ◌++◌, map, IfOk, OnOk};
+ghost use Rattle.std.specs.Prelude.{◌≡◌, ◌++◌, List, map, IfOk, OnOk};
 ghost use Rattle.std.specs.Option.{unwrap_or};
-ghost use Rattle.wit_meaning.specs.Address.{InterfaceNamed};
+ghost use Rattle.wit_meaning.specs.Address.{Address};
 ghost use Rattle.wit_meaning.specs.Source.{Used, local_id as the_local_id};
 ghost use Rattle.wit_meaning.specs.Scope.{used, defined};
-ghost use Rattle.wit_parser.specs.Held.{name_behind, use_behind, definition_behind};
+ghost use Rattle.wit_parser.specs.Held.{source_behind, name_behind, use_behind, definition_behind, IsPlaced, ArePlaced};
+ghost use Rattle.wit_parser.specs.Front.{AreNamesPlaced};
 
 use std::alloc::{AllocError, Global};
-use wit_tree::tree::{Id, TypeDef, UseName};
+use wit_tree::tree::{Id, PackageName, TypeDef, UseName};
 
-/// A used name, and the name of the interface that it comes from.
+/// The interface that names are used from.
+#[derive(Clone, Copy)]
+pub(crate) enum Source<'t, 'a> {
+    /// The declared one of this name.
+    Declared(Id<'a>),
+    /// The one of this name in another package, and its place.
+    Foreign {
+        place: usize,
+        package: &'t PackageName<'a>,
+        name: Id<'a>,
+    },
+}
+
+/// A used name, and the interface that it comes from.
 #[derive(Clone, Copy)]
 pub(crate) struct UsedName<'t, 'a> {
-    pub(crate) from: Id<'a>,
+    pub(crate) from: Source<'t, 'a>,
     pub(crate) name: &'t UseName<'a>,
 }
 
@@ -34,12 +48,14 @@ pub(crate) enum ScopeName<'t, 'a> {
 /// Adds the names that are used from an interface.
 pub(crate) fn add_used_names<'t, 'a>(
     names: &mut Vec<ScopeName<'t, 'a>>,
-    from: Id<'a>,
+    from: &Source<'t, 'a>,
     used: &'t [UseName<'a>],
 ) -> Result<(), AllocError>
-    ensures { OnOk result (map name_behind names.new.items ≡ map name_behind names.old.items ++ map (Used (InterfaceNamed from.entry.name.now)) used.now) }
+    ensures names { OnOk result (map name_behind names.new.items ≡ map name_behind names.old.items ++ map (Used (source_behind from.now)) used.now) }
+    ensures placed { OnOk result ((front : List Address) → IsPlaced front from.now → AreNamesPlaced front names.old.items → AreNamesPlaced front names.new.items) }
 {
     for name in used {
+        let from = *from;
         names.push(ScopeName::Used(UsedName { from, name }))?;
     }
     Ok(())
@@ -50,7 +66,8 @@ pub(crate) fn used_names<'t, 'a>(
     alloc: Global,
     names: &[ScopeName<'t, 'a>],
 ) -> Result<Vec<UsedName<'t, 'a>>, AllocError>
-    ensures { IfOk result (λ uses. map use_behind uses.items ≡ used (map name_behind names.now)) }
+    ensures uses { IfOk result (λ uses. map use_behind uses.items ≡ used (map name_behind names.now)) }
+    ensures placed { IfOk result (λ uses. (front : List Address) → AreNamesPlaced front names.now → ArePlaced front uses.items) }
 {
     let mut uses = Vec::new(alloc);
     for name in names {

@@ -1,44 +1,55 @@
 //! Names that a scope uses from interfaces.
-ghost use Rattle.std.specs.Prelude.{◌≡◌, List, [], map, OnOk, IfOk, IfErr};
+ghost use Rattle.std.specs.Prelude.{◌≡◌, ◌≤◌, List, [], length, map, OnOk, IfOk, IfErr};
 ghost use Rattle.wit_tree.specs.Refusal.{IsWantOfMemory};
+ghost use Rattle.wit_tree.specs.declared.tree.Id.{Id as TheId};
 ghost use Rattle.wit_meaning.specs.Address.{Address, InterfaceNamed};
 ghost use Rattle.wit_meaning.specs.Source.{ScopeName};
 ghost use Rattle.wit_meaning.specs.Scope.{used};
 ghost use Rattle.wit_meaning.specs.Broken.{Refused};
-ghost use Rattle.wit_parser.specs.Held.{use_behind};
-ghost use Rattle.wit_meaning.specs.Resolving.{cell, cells, env_of, Defines, HasNames, IsIndex, IsFound, IsUnresolved, IsUsed, IsWrongUse, IsWrongScope};
+ghost use Rattle.wit_parser.specs.Held.{source_behind, use_behind, front_of, cells_of, IsPlaced, ArePlaced};
+ghost use Rattle.wit_meaning.specs.Resolving.{cell_at, env_of, Defines, HasNames, IsIndex, IsFound, IsUnresolved, IsUsed, IsWrongUse, IsWrongScope};
 
 use crate::distinct::defined_twice;
-use crate::scope_name::{UsedName, local_of};
+use crate::scope_name::{Source, UsedName, local_of};
 use std::alloc::Global;
 use wit_entries::entries::Entries;
 use wit_entries::scope::Scope;
 use wit_model::{Arena, Interface, InterfaceId, InterfacePlace, Type, TypeDefKind};
+use wit_scope::ForeignVisit;
 use wit_scope::refusal::{refuse, refuse_missing};
 use wit_tree::ParseResult;
-use wit_tree::tree::Id;
 use wit_values::TextTable;
 
-/// The interfaces that are resolved, and the place of each by its name.
+/// The interfaces that are resolved, and the places of the declared ones by their names.
 #[derive(Drop)]
-pub(crate) struct Interfaces {
+pub(crate) struct Interfaces<'n, 'f, 'a> {
+    /// The first visits of those of other packages, which are the front of the arena.
+    pub(crate) foreign: &'n [ForeignVisit<'f, 'a>],
     pub(crate) arena: Arena<Interface, InterfacePlace>,
     pub(crate) by_name: TextTable<InterfaceId>,
 }
 
-/// The interface of a name.
+/// The interface that a name comes from.
 fn used_interface<'i>(
     alloc: Global,
-    interfaces: &'i Interfaces,
-    path: Id<'_>,
+    interfaces: &'i Interfaces<'_, '_, '_>,
+    from: &Source<'_, '_>,
 ) -> ParseResult<&'i Interface>
-    requires index { IsIndex (cells interfaces.now.arena) interfaces.now.by_name }
-    ensures found { IfOk result (λ i. IsFound (cells interfaces.now.arena) (InterfaceNamed path.entry.name.now) (cell i.now)) }
-    ensures refused { IfErr result (Refused (IsUnresolved interfaces.now.by_name path.entry)) }
+    requires index { IsIndex (cells_of interfaces.now) interfaces.now.by_name }
+    requires placed { IsPlaced (front_of interfaces.now.foreign.now) from.now }
+    requires front { length interfaces.now.foreign.now ≤ length interfaces.now.arena }
+    ensures found { IfOk result (λ i. IsFound (cells_of interfaces.now) (source_behind from.now) (cell_at (source_behind from.now) i.now)) }
+    ensures refused { IfErr result (Refused (λ f. (path : TheId) × (source_behind from.now ≡ InterfaceNamed path.name.now) × IsUnresolved interfaces.now.by_name path f)) }
 {
-    match interfaces.by_name.get(path.name) {
-        Some(id) => Ok(interfaces.arena.get(*id)),
-        None => Err(refuse_missing(alloc, 7, "interface or world", path)),
+    match from {
+        Source::Declared(path) => match interfaces.by_name.get(path.name) {
+            Some(id) => Ok(interfaces.arena.get(*id)),
+            None => Err(refuse_missing(alloc, 7, "interface or world", *path)),
+        },
+        Source::Foreign { place, .. } => {
+            let id = interfaces.arena.id_at(*place);
+            Ok(interfaces.arena.get(id))
+        }
     }
 }
 
@@ -46,17 +57,19 @@ fn used_interface<'i>(
 fn resolve_use(
     alloc: Global,
     types: &mut Entries,
-    interfaces: &Interfaces,
+    interfaces: &Interfaces<'_, '_, '_>,
     scope: &mut Scope,
     used: &UsedName<'_, '_>,
 ) -> ParseResult<()>
-    requires index { IsIndex (cells interfaces.now.arena) interfaces.now.by_name }
-    ensures used { OnOk result (IsUsed types.old types.new (cells interfaces.now.arena) scope.old.owner scope.old.names scope.new.names (InterfaceNamed used.now.from.name.now) used.now.name.now) }
+    requires index { IsIndex (cells_of interfaces.now) interfaces.now.by_name }
+    requires placed { IsPlaced (front_of interfaces.now.foreign.now) used.now.from }
+    requires front { length interfaces.now.foreign.now ≤ length interfaces.now.arena }
+    ensures used { OnOk result (IsUsed types.old types.new (cells_of interfaces.now) scope.old.owner scope.old.names scope.new.names (source_behind used.now.from) used.now.name.now) }
     ensures owner { OnOk result (scope.new.owner ≡ scope.old.owner) }
-    ensures refused { IfErr result (Refused (IsWrongUse (cells interfaces.now.arena) interfaces.now.by_name scope.old.names (InterfaceNamed used.now.from.name.now) used.now.name.now)) }
+    ensures refused { IfErr result (Refused (IsWrongUse (cells_of interfaces.now) interfaces.now.by_name scope.old.names (source_behind used.now.from) used.now.name.now)) }
 {
     let name = used.name;
-    let interface = used_interface(alloc, interfaces, used.from)?;
+    let interface = used_interface(alloc, interfaces, &used.from)?;
     let original = match interface.types.get(name.name.name) {
         Some(original) => *original,
         None => return Err(refuse_missing(alloc, 12, "name", name.name)),
@@ -75,16 +88,18 @@ fn resolve_use(
 pub(crate) fn resolve_uses(
     alloc: Global,
     types: &mut Entries,
-    interfaces: &Interfaces,
+    interfaces: &Interfaces<'_, '_, '_>,
     scope: &mut Scope,
     uses: &[UsedName<'_, '_>],
 ) -> ParseResult<()>
-    requires index { IsIndex (cells interfaces.now.arena) interfaces.now.by_name }
+    requires index { IsIndex (cells_of interfaces.now) interfaces.now.by_name }
+    requires placed { ArePlaced (front_of interfaces.now.foreign.now) uses.now }
+    requires front { length interfaces.now.foreign.now ≤ length interfaces.now.arena }
     requires empty { scope.old.names ≡ [] }
-    ensures defines { OnOk result ((s : Address) → Defines types.old types.new (cells interfaces.now.arena) scope.old.owner s scope.old.names scope.new.names (map use_behind uses.now)) }
+    ensures defines { OnOk result ((s : Address) → Defines types.old types.new (cells_of interfaces.now) scope.old.owner s scope.old.names scope.new.names (map use_behind uses.now)) }
     ensures owner { OnOk result (scope.new.owner ≡ scope.old.owner) }
     ensures has { OnOk result (HasNames (env_of scope.new.names) (map use_behind uses.now)) }
-    ensures refused { IfErr result (λ e. (xs : List ScopeName) → map use_behind uses.now ≡ used xs → Refused (IsWrongScope (cells interfaces.now.arena) interfaces.now.by_name xs) e) }
+    ensures refused { IfErr result (λ e. (xs : List ScopeName) → map use_behind uses.now ≡ used xs → Refused (IsWrongScope (cells_of interfaces.now) interfaces.now.by_name xs) e) }
 {
     for name in uses {
         resolve_use(alloc, types, interfaces, scope, name)?;

@@ -1,41 +1,47 @@
 //! Declared worlds.
-ghost use Rattle.std.specs.Prelude.{◌≡◌, ◌<◌, List, [], All, length, IfOk, IfErr, OnOk, map};
+ghost use Rattle.std.specs.Prelude.{◌≡◌, ◌<◌, ◌≤◌, List, All, length, IfOk, IfErr, OnOk, map};
+ghost use Rattle.std.specs.Option.{option_copied};
 ghost use Rattle.wit_tree.specs.declared.tree.PackageFile.{PackageFile as TheFile};
 ghost use Rattle.indexmap.specs.IndexMap.{insert_entry};
 ghost use Rattle.wit_tree.specs.Refusal.{IsWantOfMemory};
 ghost use Rattle.wit_model.specs.declared.world.WorldKey.TheVariants.{Name};
 ghost use Rattle.wit_model.specs.declared.world.WorldItem.TheVariants.{Type_ as TypeItem};
 ghost use Rattle.wit_model.specs.contracts.world.WorldKeyPartialEq.TheImpl.{eq-value as key_test};
-ghost use Rattle.wit_meaning.specs.Source.{top_names, TheWorld, local_id, scope_names as the_names, ScopeName};
+ghost use Rattle.wit_meaning.specs.Address.{Address};
+ghost use Rattle.wit_meaning.specs.Source.{top_names, leads, TheWorld, Including, local_id, scope_names as the_names, ScopeName};
 ghost use Rattle.wit_meaning.specs.Scope.{in_order, worlds_of};
 ghost use Rattle.wit_meaning.specs.Fault.{Fault};
 ghost use Rattle.wit_meaning.specs.Broken.{IsBrokenScope, Refused};
 ghost use Rattle.wit_meaning.specs.Whole.{renamed, IsInclude, AreIncludes, type_imports as the_imports};
-ghost use Rattle.wit_meaning.specs.Resolving.{cells, IsIndex, IsWorldIndex, IsLostInclude, IsWrongWorld};
+ghost use Rattle.wit_meaning.specs.Resolving.{IsIndex, IsWorldIndex, IsLostInclude, IsWrongWorld};
 ghost use Rattle.wit_meaning.specs.Repeats.{AllDiffer};
-ghost use Rattle.wit_meaning.specs.Resolved.{world_addresses, AddsWorld, AddsWorlds, AreLegalScopes};
-ghost use Rattle.wit_parser.specs.Items.{item_behind, names_behind, IsNamedAt, AreFiled};
+ghost use Rattle.wit_meaning.specs.Resolved.{worlds_at, AddsWorld, AddsWorlds, AreLegalScopes};
+ghost use Rattle.wit_parser.specs.Held.{front_of, cells_of};
+ghost use Rattle.wit_parser.specs.Items.{item_behind, names_behind, AreNamesAt, HasFile, HasItem, HasPart, IsNamedAt, AreFiled, HasFiles, AreEntriesOf, others_of, world_entry, world_at};
+ghost use Rattle.wit_parser.specs.Front.{AreNamesPlaced, AreItemsPlaced};
 ghost use Rattle.wit_parser.specs.Between.{IsLost, IsAddedWorld, IsWrongWorldNow};
 
 use crate::distinct::check_folded_names;
-use crate::items::{Declared, Item};
+use crate::items::{Declared, Item, entry_of};
 use crate::names::resolve_names;
 use crate::uses::Interfaces;
 use std::alloc::{AllocError, Global};
 use wit_entries::entries::Entries;
 use wit_model::{
-    Arena, Docs, IncludeName, Stability, TypeId, TypeOwner, World, WorldId, WorldInclude,
-    WorldItem, WorldKey, WorldPlace,
+    Arena, AstItem as Entry, Docs, IncludeName, Stability, TypeId, TypeOwner, World, WorldId,
+    WorldInclude, WorldItem, WorldKey, WorldPlace,
 };
 use wit_scope::refusal::refuse;
-use wit_scope::{FileNames, path_id};
+use wit_scope::{FileNames, Target, path_id};
 use wit_tree::ParseResult;
-use wit_tree::tree::{self, Id};
+use wit_tree::tree::{self, Id, UsePath};
 use wit_values::{Row, Table, Text, TextTable};
 
-/// The worlds that are resolved, and the place of each by its name.
+/// The worlds that are resolved, and the places of the declared ones by their names.
 #[derive(Drop)]
-pub(crate) struct Worlds {
+pub(crate) struct Worlds<'n> {
+    /// The entries of other packages' items, the worlds of which are the front of the arena.
+    pub(crate) entries: &'n [Entry],
     pub(crate) arena: Arena<World, WorldPlace>,
     pub(crate) by_name: TextTable<WorldId>,
 }
@@ -59,23 +65,55 @@ fn not_a_world(alloc: Global, name: &str) -> Result<String, AllocError> {
     format!(in alloc; "name `{name}` is defined as an interface, not a world")
 }
 
-/// An include in the file at a place; refuses one of an interface.
-fn resolve_include(
-    alloc: Global,
-    files: &FileNames<'_>,
+/// The world that an entry is; none where there is no entry, or an interface's.
+fn world_of(entry: Option<&Entry>) -> Option<WorldId>
+    ensures { result ≡ world_entry (option_copied entry.entry) }
+{
+    match entry {
+        Some(Entry::World(id)) => Some(*id),
+        Some(Entry::Interface(_)) => None,
+        None => None,
+    }
+}
+
+/// The world that a path in the file at a place leads to; none where that is no world.
+fn included_world<'f, 'a>(
+    files: &FileNames<'f, 'a>,
+    worlds: &Worlds<'_>,
     place: usize,
-    worlds: &Worlds,
-    include: &tree::Include<'_>,
+    path: &'f UsePath<'a>,
+) -> Option<WorldId>
+    requires named { HasFile files.now place }
+    requires entries { AreEntriesOf files.now worlds.now.entries.now }
+    ensures { (fs : List TheFile) (file : TheFile) → AreNamesAt fs files.now place file → result ≡ world_at fs worlds.now.by_name (leads (top_names file) path.now) }
+{
+    match files.target(place, path) {
+        Target::Local(id) => match worlds.by_name.get(id.name) {
+            Some(id) => Some(*id),
+            None => None,
+        },
+        Target::Foreign { .. } => world_of(entry_of(files, worlds.entries, place, path)),
+    }
+}
+
+/// An include in the file at a place; refuses one of an interface.
+fn resolve_include<'f, 'a>(
+    alloc: Global,
+    files: &FileNames<'f, 'a>,
+    place: usize,
+    worlds: &Worlds<'_>,
+    include: &'f tree::Include<'a>,
 ) -> ParseResult<WorldInclude>
-    requires within { place < length files.now.tops.items }
-    requires index { IsWorldIndex worlds.now.arena worlds.now.by_name }
-    ensures is { IfOk result (λ i. (file : TheFile) → IsNamedAt files.now place file → IsInclude (world_addresses worlds.now.arena) (top_names file) include.now i) }
-    ensures refused { IfErr result (λ e. (file : TheFile) → IsNamedAt files.now place file → Refused (IsLost worlds.now.by_name (top_names file) include.now) e) }
+    requires part { HasPart files.now place (Including include.now) }
+    requires entries { AreEntriesOf files.now worlds.now.entries.now }
+    requires front { length (others_of files.now) ≤ length worlds.now.arena }
+    requires index { IsWorldIndex (worlds_at (others_of files.now) worlds.now.arena) worlds.now.by_name }
+    ensures is { IfOk result (λ i. (fs : List TheFile) (file : TheFile) → AreNamesAt fs files.now place file → IsInclude (worlds_at (others_of files.now) worlds.now.arena) (top_names file) include.now i) }
+    ensures refused { IfErr result (λ e. (fs : List TheFile) (file : TheFile) → AreNamesAt fs files.now place file → Refused (IsLost fs worlds.now.by_name (top_names file) include.now) e) }
 {
     let path = path_id(&include.from);
-    let original = files.original(place, &include.from);
-    let id = match worlds.by_name.get(original.name) {
-        Some(id) => *id,
+    let id = match included_world(files, worlds, place, &include.from) {
+        Some(id) => id,
         None => {
             let message = not_a_world(alloc, path.name)?;
             return Err(refuse(alloc, 11, path.span, message.as_str()));
@@ -90,23 +128,24 @@ fn resolve_include(
 }
 
 /// The includes of a world.
-fn resolve_includes(
+fn resolve_includes<'f, 'a>(
     alloc: Global,
-    files: &FileNames<'_>,
-    worlds: &Worlds,
-    item: &Item<'_, '_>,
-    world: &tree::World<'_>,
+    files: &FileNames<'f, 'a>,
+    worlds: &Worlds<'_>,
+    place: usize,
+    world: &'f tree::World<'a>,
 ) -> ParseResult<Row<WorldInclude>>
-    requires file { IsNamedAt files.now item.now.place item.now.file.now }
-    requires world { item_behind item.now ≡ record { top = top_names item.now.file.now; declared = TheWorld world.now } }
-    requires index { IsWorldIndex worlds.now.arena worlds.now.by_name }
-    ensures are { IfOk result (AreIncludes (world_addresses worlds.now.arena) (item_behind item.now)) }
-    ensures refused { IfErr result (Refused (IsLostInclude worlds.now.by_name (item_behind item.now))) }
+    requires item { HasItem files.now place (TheWorld world.now) }
+    requires entries { AreEntriesOf files.now worlds.now.entries.now }
+    requires front { length (others_of files.now) ≤ length worlds.now.arena }
+    requires index { IsWorldIndex (worlds_at (others_of files.now) worlds.now.arena) worlds.now.by_name }
+    ensures are { IfOk result (λ includes. (fs : List TheFile) (file : TheFile) → AreNamesAt fs files.now place file → AreIncludes (worlds_at (others_of files.now) worlds.now.arena) (record { top = top_names file; declared = TheWorld world.now }) includes) }
+    ensures refused { IfErr result (λ e. (fs : List TheFile) (file : TheFile) → AreNamesAt fs files.now place file → Refused (IsLostInclude fs worlds.now.by_name (record { top = top_names file; declared = TheWorld world.now })) e) }
 {
     let mut includes = Vec::new(alloc);
     for part in &world.items {
         if let tree::WorldItem::Include(include) = part {
-            let include = resolve_include(alloc, files, item.place, worlds, include)?;
+            let include = resolve_include(alloc, files, place, worlds, include)?;
             includes.push(include)?;
         }
     }
@@ -152,14 +191,14 @@ fn type_imports(
 /// Adds a world of this name with these imports and includes.
 fn add_world(
     alloc: Global,
-    worlds: &mut Worlds,
+    worlds: &mut Worlds<'_>,
     id: Id<'_>,
     imports: Table<WorldKey, WorldItem>,
     includes: Row<WorldInclude>,
 ) -> ParseResult<()>
-    requires index { IsWorldIndex worlds.old.arena worlds.old.by_name }
+    ensures entries { OnOk result (worlds.new.entries ≡ worlds.old.entries) }
     ensures added { OnOk result (IsAddedWorld worlds.old.arena worlds.new.arena id.entry imports includes) }
-    ensures index { OnOk result (IsWorldIndex worlds.new.arena worlds.new.by_name) }
+    ensures index { OnOk result ((others : List Address) → length others ≤ length worlds.old.arena → IsWorldIndex (worlds_at others worlds.old.arena) worlds.old.by_name → IsWorldIndex (worlds_at others worlds.new.arena) worlds.new.by_name) }
     ensures refused { IfErr result IsWantOfMemory }
 {
     let place = worlds.arena.alloc(World {
@@ -179,52 +218,61 @@ fn add_world(
 }
 
 /// Adds a world with its names, and what is in them, and its includes.
-fn resolve_world(
+fn resolve_world<'f, 'a>(
     alloc: Global,
     types: &mut Entries,
-    files: &FileNames<'_>,
-    interfaces: &Interfaces,
-    worlds: &mut Worlds,
-    item: &Item<'_, '_>,
-    world: &tree::World<'_>,
+    files: &FileNames<'f, 'a>,
+    interfaces: &Interfaces<'_, '_, '_>,
+    worlds: &mut Worlds<'_>,
+    item: &Item<'f, 'a>,
+    world: &'f tree::World<'a>,
 ) -> ParseResult<()>
+    requires item { HasItem files.now item.now.place (TheWorld world.now) }
     requires file { IsNamedAt files.now item.now.place item.now.file.now }
     requires world { item_behind item.now ≡ record { top = top_names item.now.file.now; declared = TheWorld world.now } }
     requires named { names_behind item.now ≡ the_names (item_behind item.now) }
-    requires index { IsIndex (cells interfaces.now.arena) interfaces.now.by_name }
-    requires worlds_index { IsWorldIndex worlds.old.arena worlds.old.by_name }
-    ensures added { OnOk result (AddsWorld interfaces.now.arena types.old types.new worlds.old.arena worlds.new.arena (item_behind item.now)) }
-    ensures index { OnOk result (IsWorldIndex worlds.new.arena worlds.new.by_name) }
+    requires placed { AreNamesPlaced (front_of interfaces.now.foreign.now) item.now.names.items }
+    requires front { length interfaces.now.foreign.now ≤ length interfaces.now.arena }
+    requires index { IsIndex (cells_of interfaces.now) interfaces.now.by_name }
+    requires entries { AreEntriesOf files.now worlds.old.entries.now }
+    requires worlds_front { length (others_of files.now) ≤ length worlds.old.arena }
+    requires worlds_index { IsWorldIndex (worlds_at (others_of files.now) worlds.old.arena) worlds.old.by_name }
+    ensures entries { OnOk result (worlds.new.entries ≡ worlds.old.entries) }
+    ensures added { OnOk result (AddsWorld (front_of interfaces.now.foreign.now) (others_of files.now) interfaces.now.arena types.old types.new worlds.old.arena worlds.new.arena (item_behind item.now)) }
+    ensures index { OnOk result (IsWorldIndex (worlds_at (others_of files.now) worlds.new.arena) worlds.new.by_name) }
     ensures legal { OnOk result ((f : Fault) → IsBrokenScope (the_names (item_behind item.now)) f → ⊥) }
-    ensures refused { IfErr result (Refused (IsWrongWorld (cells interfaces.now.arena) interfaces.now.by_name worlds.old.by_name (item_behind item.now))) }
+    ensures refused { IfErr result (λ e. (fs : List TheFile) → AreNamesAt fs files.now item.now.place item.now.file.now → Refused (IsWrongWorld fs (cells_of interfaces.now) interfaces.now.by_name worlds.old.by_name (item_behind item.now)) e) }
 {
     let owner = TypeOwner::World(worlds.arena.next_id());
     let names = resolve_names(alloc, types, interfaces, owner, &item.names)?;
-    let includes = resolve_includes(alloc, files, worlds, item, world)?;
+    let includes = resolve_includes(alloc, files, worlds, item.place, world)?;
     check_folded_names(alloc, &names.turn)?;
     let imports = type_imports(alloc, &names.turn, &names.types)?;
     add_world(alloc, worlds, world.name, imports, includes)?;
     Ok(())
 }
 
-/// Adds the worlds among items, in the order of their places.
-pub(crate) fn resolve_worlds(
+/// Adds the worlds among items, in the order of their places, behind those of other packages.
+pub(crate) fn resolve_worlds<'f, 'a>(
     alloc: Global,
     types: &mut Entries,
-    files: &FileNames<'_>,
-    interfaces: &Interfaces,
-    worlds: &mut Worlds,
-    items: &[Item<'_, '_>],
+    files: &FileNames<'f, 'a>,
+    interfaces: &Interfaces<'_, '_, '_>,
+    worlds: &mut Worlds<'_>,
+    items: &[Item<'f, 'a>],
 ) -> ParseResult<()>
     requires within { All (λ place. place < length items.now) files.now.order.items }
-    requires filed { AreFiled files.now items.now }
+    requires filed { HasFiles files.now items.now }
     requires named { map names_behind items.now ≡ map the_names (map item_behind items.now) }
-    requires no_world { worlds.old.arena ≡ [] }
-    requires index { IsIndex (cells interfaces.now.arena) interfaces.now.by_name }
-    requires worlds_index { IsWorldIndex worlds.old.arena worlds.old.by_name }
-    ensures added { OnOk result (AddsWorlds interfaces.now.arena types.old types.new [] worlds.new.arena (worlds_of (in_order (map item_behind items.now) files.now.order.items))) }
+    requires placed { AreItemsPlaced (front_of interfaces.now.foreign.now) items.now }
+    requires front { length interfaces.now.foreign.now ≤ length interfaces.now.arena }
+    requires index { IsIndex (cells_of interfaces.now) interfaces.now.by_name }
+    requires entries { AreEntriesOf files.now worlds.old.entries.now }
+    requires worlds_front { length (others_of files.now) ≤ length worlds.old.arena }
+    requires worlds_index { IsWorldIndex (worlds_at (others_of files.now) worlds.old.arena) worlds.old.by_name }
+    ensures added { OnOk result (AddsWorlds (front_of interfaces.now.foreign.now) (others_of files.now) interfaces.now.arena types.old types.new worlds.old.arena worlds.new.arena (worlds_of (in_order (map item_behind items.now) files.now.order.items))) }
     ensures legal { OnOk result (AreLegalScopes (worlds_of (in_order (map item_behind items.now) files.now.order.items))) }
-    ensures refused { IfErr result (Refused (IsWrongWorldNow types.old interfaces.now.arena interfaces.now.by_name (map item_behind items.now) files.now.order.items)) }
+    ensures refused { IfErr result (λ e. (fs : List TheFile) → AreFiled fs files.now items.now → Refused (IsWrongWorldNow fs (front_of interfaces.now.foreign.now) (others_of files.now) types.old interfaces.now.arena interfaces.now.by_name worlds.old.arena (map item_behind items.now) files.now.order.items) e) }
 {
     for place in files.item_order() {
         let item = &items[*place];

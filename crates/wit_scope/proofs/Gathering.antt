@@ -1,5 +1,5 @@
 -- What is gathered from files, one file and one item at a time.
-use Rattle.std.proofs.Common.{◌≡◌, ℕ, zero, suc, ◌+◌, ◌<◌, List, [], ◌∷◌, ◌++◌, length, map, take, Some, None, inl, inr, refl, sym, ap, ◌∙◌, subst, arith, append_assoc, length-append, Vec, Global, Bor}
+use Rattle.std.proofs.Common.{◌≡◌, ℕ, zero, suc, ◌+◌, ◌<◌, List, [], ◌∷◌, ◌++◌, ◌⊎◌, length, map, take, Some, None, inl, inr, refl, sym, ap, ◌∙◌, subst, arith, append_assoc, length-append, Vec, Global, Bor}
 use Rattle.std.specs.Prelude.{slice_get, position}
 use Rattle.std.specs.List.{flat_map}
 use Rattle.std.specs.Option.{option_map}
@@ -16,7 +16,7 @@ use Rattle.wit_order.proofs.Tables.{place_by_key}
 use Rattle.wit_meaning.specs.Source.{TopName, top_names, top_text, declared_items, Item, file_items, all_items, item_name, is_world}
 use Rattle.wit_meaning.specs.Scope.{item_row, item_rows}
 use Rattle.wit_meaning.specs.Fault.{Fault, item_word}
-use Rattle.wit_meaning.specs.Broken.{IsBrokenItems, DuplicateItem, DuplicateTopName, MissingItem, CyclicItem, IsBrokenNames, Items, MissingOriginal}
+use Rattle.wit_meaning.specs.Broken.{IsMissingEdge, IsCyclicEdge, IsBrokenItems, DuplicateItem, DuplicateTopName, MissingItem, CyclicItem, IsBrokenNames, Items, MissingOriginal}
 use Rattle.wit_meaning.specs.Repeats.{AllDiffer}
 use Rattle.wit_meaning.proofs.Lists.{at_front, at_back, at_either, map_map}
 use Rattle.wit_meaning.proofs.Orders.{take_next}
@@ -124,6 +124,11 @@ tops_added files file old new tops more = record {
         ]
       ]);
 }
+
+-- what is wrong with the order of a table is wrong with the items that it has
+pub broken_order : (files : List PackageFile) (rs : List Row) → rs ≡ item_rows files → (f : Fault) → IsMissingEdge 7 item_word rs f ⊎ IsCyclicEdge 8 item_word rs f → IsBrokenItems files f
+broken_order files rs same f (inl h) = MissingItem (subst (λ (l : List Row). IsMissingEdge 7 item_word l f) same h)
+broken_order files rs same f (inr h) = CyclicItem (subst (λ (l : List Row). IsCyclicEdge 8 item_word l f) same h)
 
 -- where names differ and the items have an order, no rule about items is broken
 pub legal_items : (files : List PackageFile) (places : List ℕ) → AllDiffer (map item_name (all_items files)) → AreDistinctTops files → IsOrder (item_rows files) places → (f : Fault) → IsBrokenItems files f → ⊥

@@ -9,4 +9,6 @@ pub mod Telling
 pub mod Refusals
 pub mod FirstNames
 pub mod Lost
+pub mod Others
+pub mod Visited
 pub mod Gathering

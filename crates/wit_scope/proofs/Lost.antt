@@ -11,10 +11,11 @@ use Rattle.wit_tree.specs.declared.tree.ToplevelUse.{ToplevelUse}
 use Rattle.wit_tree.specs.declared.tree.AstItem.{AstItem}
 use Rattle.wit_tree.specs.declared.tree.AstItem.TheVariants.{Use as ToplevelItem}
 use Rattle.wit_tree.specs.declared.tree.Id.{Id}
+use Rattle.wit_tree.specs.declared.tree.UsePath.{UsePath}
 use Rattle.wit_tree.specs.declared.tree.PackageFile.{PackageFile}
 use Rattle.wit_order.specs.Table.{place_of}
-use Rattle.wit_meaning.specs.Source.{TopName, path_id, declared_items, top_names, top_text, item_edge, Item, file_items, all_items, item_name, item_named}
-use Rattle.wit_meaning.specs.Scope.{paths, item_row}
+use Rattle.wit_meaning.specs.Source.{TopName, Target, path_target, leads, declared_items, top_names, top_text, Item, file_items, all_items, item_name, item_named}
+use Rattle.wit_meaning.specs.Scope.{local_target, item_row}
 use Rattle.wit_meaning.specs.Fault.{Fault, fault}
 use Rattle.wit_meaning.specs.Broken.{IsRepeatedItem, IsDuplicateTopName, IsMissingOriginal, IsBrokenItems, DuplicateTopName, MissingItem}
 use Rattle.wit_meaning.specs.Repeats.{AllDiffer}
@@ -24,7 +25,7 @@ use Rattle.wit_meaning.proofs.Tables.{place_of-Some, none_if}
 use Rattle.wit_meaning.proofs.Scoping.{contains_at, at_contains}
 use Rattle.wit_meaning.proofs.Itemizing.{item_row_at}
 use Rattle.wit_scope.specs.Tops.{item_top}
-use Rattle.wit_scope.specs.Checks.{AreDistinctTops, AreDeclaredUses, AreDeclaredTops, IsRepeatedName, IsUndeclared, IsLostAmong, IsWrongFile, WrongTop, WrongPath}
+use Rattle.wit_scope.specs.Checks.{AreDistinctTops, AreDeclaredUses, AreDeclaredTops, IsDeclaredTarget, IsRepeatedName, IsLostTarget, IsLostAmong, needed_paths, IsWrongFile, WrongTop, WrongPath}
 use Rattle.wit_scope.proofs.FirstNames.{find_none}
 
 -- what stands in a part stands in the whole
@@ -45,17 +46,19 @@ missing_row is name none = none_if (place_of (map item_row is) name) (λ b some.
     find_none (λ (i : Item). bytes_eq (item_name i) name) is none b w.0 w.1 (ap (λ n. bytes_eq n name) (ap (λ row. row.name) w.2 ∙ sym r.2) ∙ name_itself name)))
 
 -- a path that leads nowhere is an edge to no item
-lost_path : (files : List PackageFile) (p : ℕ) (w : Item) (f : Fault) → slice_get (all_items files) p ≡ Some w → IsLostAmong (all_items files) w.top (paths w) f → IsBrokenItems files f
+lost_path : (files : List PackageFile) (p : ℕ) (w : Item) (f : Fault) → slice_get (all_items files) p ≡ Some w → IsLostAmong (all_items files) w.top (needed_paths w) f → IsBrokenItems files f
 lost_path files p w f at h =
-    let k = at_contains (paths w) h.path h.among in
-    let id = item_edge w.top h.path in
+    let k = at_contains (needed_paths w) h.path h.among in
+    let id = h.lost.id in
+    let edges : UsePath → List Id = λ path. local_target (leads w.top path) in
+    let e = at_flat edges (needed_paths w) k.0 0 h.path id k.1 (ap (λ (t : Target). slice_get (local_target t) 0) h.lost.local) in
     MissingItem (record {
       place = p;
-      index = k.0;
+      index = e.0;
       id = id;
-      edge = (item_row w, item_row_at files p w at, slice_get-map (item_edge w.top) (paths w) k.0 ∙ ap (option_map (item_edge w.top)) k.1);
-      missing = missing_row (all_items files) id.name.now h.lost.missing;
-      is = h.lost.is;
+      edge = (item_row w, item_row_at files p w at, e.1);
+      missing = missing_row (all_items files) id.name.now h.lost.undeclared.missing;
+      is = h.lost.undeclared.is;
     })
 
 pub broken_file : (files : List PackageFile) (i : ℕ) (file : PackageFile) (f : Fault) → slice_get files i ≡ Some file → IsWrongFile (all_items files) file f → IsBrokenItems files f
@@ -85,7 +88,7 @@ tops_declared_more is files file tops one = record {
 }
 
 -- a declaration more
-pub declared_more : (is : List Item) (ds : List AstItem) (d : AstItem) → AreDeclaredUses is ds → ((u : ToplevelUse) → d ≡ ToplevelItem u → IsSome (item_named is (path_id u.item).name.now)) → AreDeclaredUses is (ds ++ d ∷ [])
+pub declared_more : (is : List Item) (ds : List AstItem) (d : AstItem) → AreDeclaredUses is ds → ((u : ToplevelUse) → d ≡ ToplevelItem u → IsDeclaredTarget is (path_target u.item)) → AreDeclaredUses is (ds ++ d ∷ [])
 declared_more is ds d uses one = record {
   declared = λ k u at. elim (at_either ds d k (ToplevelItem u) at) [
     | inl old ↦ uses.declared k u old
@@ -111,22 +114,22 @@ duplicate_item is f h =
       says = h.is ∙ ap (λ (t : TopName). fault 5 t.id.span) (sym b.2);
     }
 
-pub missing_original : (is : List Item) (ds : List AstItem) (i : ℕ) (u : ToplevelUse) (f : Fault) → slice_get ds i ≡ Some (ToplevelItem u) → IsUndeclared is (path_id u.item) f → IsMissingOriginal is ds f
-missing_original is ds i u f at h = record { u = u; among = contains_at ds i (ToplevelItem u) at; missing = h.missing; is = h.is }
+pub missing_original : (is : List Item) (ds : List AstItem) (i : ℕ) (u : ToplevelUse) (f : Fault) → slice_get ds i ≡ Some (ToplevelItem u) → IsLostTarget is (path_target u.item) f → IsMissingOriginal is ds f
+missing_original is ds i u f at h = record { u = u; id = h.id; among = contains_at ds i (ToplevelItem u) at; local = h.local; missing = h.undeclared.missing; is = h.undeclared.is }
 
 -- where each path is the name of an item, none is missing
 pub no_missing_original : (is : List Item) (ds : List AstItem) (f : Fault) → AreDeclaredUses is ds → IsMissingOriginal is ds f → ⊥
 no_missing_original is ds f uses h =
     let k = at_contains ds (ToplevelItem h.u) h.among in
-    let wrong : IsSome {T = Item} None = subst (λ (o : Option Item). IsSome o) h.missing (uses.declared k.0 h.u k.1) in
+    let wrong : IsSome {T = Item} None = subst (λ (o : Option Item). IsSome o) h.missing (uses.declared k.0 h.u k.1 h.id h.local) in
     cc
 
 -- a path that leads nowhere, alone
-pub lost_one : (is : List Item) (top : List TopName) (path : Id) (f : Fault) → IsUndeclared is (item_edge top path) f → IsLostAmong is top (path ∷ []) f
+pub lost_one : (is : List Item) (top : List TopName) (path : UsePath) (f : Fault) → IsLostTarget is (leads top path) f → IsLostAmong is top (path ∷ []) f
 lost_one is top path f h = record { path = path; among = (0, lit< tt, refl); lost = h }
 
 -- a part of an item whose path leads nowhere
-pub lost_part : {P Q : Type 0} (path_of : Q → List Id) (part_of : P → Q) (is : List Item) (top : List TopName) (parts : List P) (i : ℕ) (part : P) (f : Fault) → slice_get parts i ≡ Some part → IsLostAmong is top (path_of (part_of part)) f → IsLostAmong is top (flat_map path_of (map part_of parts)) f
+pub lost_part : {P Q : Type 0} (path_of : Q → List UsePath) (part_of : P → Q) (is : List Item) (top : List TopName) (parts : List P) (i : ℕ) (part : P) (f : Fault) → slice_get parts i ≡ Some part → IsLostAmong is top (path_of (part_of part)) f → IsLostAmong is top (flat_map path_of (map part_of parts)) f
 lost_part path_of part_of is top parts i part f at h =
     let k = at_contains (path_of (part_of part)) h.path h.among in
     let there = slice_get-map part_of parts i ∙ ap (option_map part_of) at in
@@ -134,7 +137,7 @@ lost_part path_of part_of is top parts i part f at h =
     record { path = h.path; among = contains_at (flat_map path_of (map part_of parts)) p.0 h.path p.1; lost = h.lost }
 
 -- an item with such a part
-pub lost_item : (is : List Item) (file : PackageFile) (i : ℕ) (d : AstItem) (w : Item) (f : Fault) → slice_get file.decl_list.items.items i ≡ Some d → declared_items (top_names file) d ≡ w ∷ [] → IsLostAmong is w.top (paths w) f → IsWrongFile is file f
+pub lost_item : (is : List Item) (file : PackageFile) (i : ℕ) (d : AstItem) (w : Item) (f : Fault) → slice_get file.decl_list.items.items i ≡ Some d → declared_items (top_names file) d ≡ w ∷ [] → IsLostAmong is w.top (needed_paths w) f → IsWrongFile is file f
 lost_item is file i d w f at one h =
     let p = at_flat (declared_items (top_names file)) file.decl_list.items.items i 0 d w at (ap (λ (l : List Item). slice_get l 0) one) in
     WrongPath w (contains_at (file_items file) p.0 w p.1) h

@@ -1,6 +1,7 @@
 pub mod Attributes
 pub mod Checks
 pub mod Docs
+pub mod Foreign
 pub mod FileNames
 pub mod Hint
 pub mod Kinds

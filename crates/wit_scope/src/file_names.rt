@@ -3,20 +3,22 @@ ghost use Rattle.std.specs.Prelude.{◌≡◌, ◌<◌, ◌++◌, [], List, Some
 ghost use Rattle.std.specs.Option.{option_map};
 ghost use Rattle.wit_tree.specs.declared.tree.PackageFile.{PackageFile as TheFile};
 ghost use Rattle.wit_order.specs.Table.{rows, target, IsOrder};
-ghost use Rattle.wit_meaning.specs.Source.{Item as TheItem, path_id as the_path, top_names, top_text, item_edge, file_items, all_items, item_name, is_world as is_the_world};
+ghost use Rattle.wit_meaning.specs.Source.{Item as TheItem, top_names, top_text, leads as the_leads, file_items, all_items, item_name, is_world as is_the_world};
 ghost use Rattle.wit_meaning.specs.Scope.{item_row, item_rows};
 ghost use Rattle.wit_meaning.specs.Fault.{Fault};
 ghost use Rattle.wit_meaning.specs.Broken.{IsMissingOriginal, IsBrokenItems, IsBrokenNames, Refused};
 ghost use Rattle.wit_meaning.specs.Repeats.{AllDiffer};
-ghost use Rattle.wit_scope.specs.Tops.{AreDeclared};
+ghost use Rattle.wit_meaning.specs.Foreign.{foreign_visits as the_visits, foreign_items};
+ghost use Rattle.wit_scope.specs.Tops.{target_behind, AreDeclared};
 ghost use Rattle.wit_scope.specs.Checks.{AreDistinctTops, IsWrongFile};
-ghost use Rattle.wit_scope.specs.FileNames.{AddsTop, AreNamesOf};
-ghost use Rattle.wit_scope.specs.declared.file_names.Found.TheVariants.{Item as ItemAt};
+ghost use Rattle.wit_scope.specs.Foreign.{foreign_behind, AreItemsOf};
+ghost use Rattle.wit_scope.specs.FileNames.{AddsTop, AreNamesOf, AreDeclarationsOf, found_at};
 
+use crate::foreign::{ForeignItems, ForeignVisit, foreign_visits};
 use crate::item_table::{add_items, add_kinds, table_order};
-use crate::top_name::{Paths, check_originals, file_names, item_names, path_id};
+use crate::top_name::{Paths, Target, check_originals, file_names, item_names, leads};
 use indexmap::IndexMap;
-use std::alloc::Global;
+use std::alloc::{AllocError, Global};
 use wit_tree::ParseResult;
 use wit_tree::tree::{Id, PackageFile, UsePath};
 
@@ -25,50 +27,64 @@ use wit_tree::tree::{Id, PackageFile, UsePath};
 pub enum Found {
     /// A declared item: its place among all of them, in push order and then in source order.
     Item(usize),
+    /// An item of another package: its place in [`FileNames::foreign`].
+    Foreign(usize),
 }
 
-/// The items that files declare, each with the items that have to come before it, and the names at
-/// the top of each file. An interface comes after those that it uses, and a world after those that
-/// it includes.
+/// The items that files declare, each with the items that have to come before it, the names at the
+/// top of each file, and the items of other packages. An interface comes after those of the package
+/// that it uses, and a world after those that it includes.
 #[derive(Drop)]
-pub struct FileNames<'a> {
+pub struct FileNames<'f, 'a> {
+    /// The paths with a package of all files.
+    visits: Vec<ForeignVisit<'f, 'a>>,
+    /// The items of other packages.
+    foreign: ForeignItems<'f, 'a>,
     /// The items by name, each with the names of the items that have to come before it.
     items: IndexMap<&'a str, Vec<Id<'a>>>,
     /// Of each item whether it is a world.
     kinds: Vec<bool>,
-    /// Of each file the names at its top, with the name of the item that each stands for.
-    tops: Vec<IndexMap<&'a str, Id<'a>>>,
+    /// Of each file the names at its top, with what each stands for.
+    tops: Vec<IndexMap<&'a str, Target<'f, 'a>>>,
     /// The places of the items in their order.
     order: Vec<usize>,
 }
 
-impl<'a> FileNames<'a> {
-    /// The names of no file.
-    fn new(alloc: Global) -> Self
-        ensures items { rows result.items ≡ [] }
-        ensures kinds { result.kinds.items ≡ [] }
-        ensures tops { result.tops.items ≡ [] }
+impl<'f, 'a> FileNames<'f, 'a> {
+    /// The items of other packages that files name, and no name of theirs yet.
+    fn of_others(alloc: Global, files: &'f [PackageFile<'a>]) -> Result<Self, AllocError>
+        ensures visits { IfOk result (λ names. map foreign_behind names.visits.items ≡ the_visits files.now) }
+        ensures foreign { IfOk result (λ names. AreItemsOf (the_visits files.now) names.foreign) }
+        ensures items { IfOk result (λ names. rows names.items ≡ []) }
+        ensures kinds { IfOk result (λ names. names.kinds.items ≡ []) }
+        ensures tops { IfOk result (λ names. names.tops.items ≡ []) }
     {
-        FileNames {
+        let visits = foreign_visits(alloc, files)?;
+        let foreign = ForeignItems::of(alloc, &visits)?;
+        Ok(FileNames {
+            visits,
+            foreign,
             items: IndexMap::new(alloc),
             kinds: Vec::new(alloc),
             tops: Vec::new(alloc),
             order: Vec::new(alloc),
-        }
+        })
     }
 
     /// Adds a file; refuses a name that stands twice at its top, and then a path that leads nowhere.
     fn add_file(
         &mut self,
         alloc: Global,
-        declared: &IndexMap<&'a str, Id<'a>>,
-        file: &PackageFile<'a>,
+        declared: &IndexMap<&'a str, Target<'f, 'a>>,
+        file: &'f PackageFile<'a>,
     ) -> ParseResult<()>
         requires distinct { AllDiffer (map (λ row. row.name) (rows self.old.items) ++ map item_name (file_items file.now)) }
         ensures items { OnOk result (rows self.new.items ≡ rows self.old.items ++ map item_row (file_items file.now)) }
         ensures kinds { OnOk result (self.new.kinds.items ≡ self.old.kinds.items ++ map is_the_world (file_items file.now)) }
         ensures tops { OnOk result (AddsTop file.now self.old.tops.items self.new.tops.items) }
         ensures distinct { OnOk result (AllDiffer (map top_text (top_names file.now))) }
+        ensures visits { OnOk result (self.new.visits ≡ self.old.visits) }
+        ensures foreign { OnOk result (self.new.foreign ≡ self.old.foreign) }
         ensures refused { IfErr result (λ e. (is : List TheItem) → AreDeclared is declared.now → Refused (IsWrongFile is file.now) e) }
     {
         let top = file_names(alloc, file)?;
@@ -86,16 +102,18 @@ impl<'a> FileNames<'a> {
     fn add_files(
         &mut self,
         alloc: Global,
-        declared: &IndexMap<&'a str, Id<'a>>,
-        files: &[PackageFile<'a>],
+        declared: &IndexMap<&'a str, Target<'f, 'a>>,
+        files: &'f [PackageFile<'a>],
     ) -> ParseResult<()>
         requires empty { rows self.old.items ≡ [] }
         requires kindless { self.old.kinds.items ≡ [] }
         requires none { self.old.tops.items ≡ [] }
         requires declared { AreDeclared (all_items files.now) declared.now }
         requires distinct { AllDiffer (map item_name (all_items files.now)) }
-        ensures names { OnOk result (AreNamesOf files.now self.new) }
+        ensures names { OnOk result (AreDeclarationsOf files.now self.new) }
         ensures distinct { OnOk result (AreDistinctTops files.now) }
+        ensures visits { OnOk result (self.new.visits ≡ self.old.visits) }
+        ensures foreign { OnOk result (self.new.foreign ≡ self.old.foreign) }
         ensures refused { IfErr result (Refused (IsBrokenItems files.now)) }
     {
         for file in files {
@@ -105,44 +123,24 @@ impl<'a> FileNames<'a> {
     }
 
     /// The names of files, whatever the `use`s at the top of files name.
-    ///
-    /// # Errors
-    ///
-    /// The names are given exactly where none of these rules is broken, unless memory is wanted.
-    /// Breaches are found in this order: 5, by place; then file by file 6, and 7 of the paths of
-    /// that file's items that are no name at its top; then 7 of the other paths of items, and 8. The
-    /// paths of an item are here those of an interface's `use`s and those of a world's includes.
-    ///
-    /// - 5, at the later name: an item is declared twice.
-    /// - 6, at the later name: a name stands twice at the top of a file.
-    /// - 7: the path of an item leads to no declared item. It is at that path; for one that is a
-    ///   name at the top of its file, at what that name stands for.
-    /// - 8: interfaces use, or worlds include, one another in a cycle. It is where a path on the way
-    ///   to one leads: at the name that the same file declares, at the path of the `use` at its top,
-    ///   else at the path itself.
-    /// - 45: a growth was refused.
-    pub fn gather_items(alloc: Global, files: &[PackageFile<'a>]) -> ParseResult<FileNames<'a>>
+    fn gather_items(
+        alloc: Global,
+        files: &'f [PackageFile<'a>],
+    ) -> ParseResult<FileNames<'f, 'a>>
         ensures legal { OnOk result ((f : Fault) → IsBrokenItems files.now f → ⊥) }
         ensures names { IfOk result (AreNamesOf files.now) }
         ensures order { IfOk result (λ names. IsOrder (item_rows files.now) names.order.items) }
         ensures refused { IfErr result (Refused (IsBrokenItems files.now)) }
     {
+        let mut names = FileNames::of_others(alloc, files)?;
         let declared = item_names(alloc, files)?;
-        let mut names = FileNames::new(alloc);
         names.add_files(alloc, &declared, files)?;
         names.order = table_order(alloc, &names.items)?;
         Ok(names)
     }
 
-    /// Looks at the `use`s at the top of a file of those that the names are of.
-    ///
-    /// # Errors
-    ///
-    /// There is none exactly where this rule is not broken, unless memory is wanted.
-    ///
-    /// - 7, at the path of a `use` at the top of the file: it is the name of no declared item.
-    /// - 45: a growth was refused.
-    pub fn check_top(&self, alloc: Global, file: &PackageFile<'_>) -> ParseResult<()>
+    /// Refuses a `use` at the top of a file whose path is the name of no item.
+    fn check_top(&self, alloc: Global, file: &PackageFile<'_>) -> ParseResult<()>
         ensures legal { OnOk result ((files : List TheFile) → AreNamesOf files self.now → (f : Fault) → IsMissingOriginal (all_items files) file.now.decl_list.items.items f → ⊥) }
         ensures refused { IfErr result (λ e. (files : List TheFile) → AreNamesOf files self.now → Refused (IsMissingOriginal (all_items files) file.now.decl_list.items.items) e) }
     {
@@ -151,12 +149,28 @@ impl<'a> FileNames<'a> {
 
     /// The names of files.
     ///
+    /// What stands in other packages is not known: a path with a package leads to an item there, and
+    /// whether that is an interface or a world its first path tells.
+    ///
     /// # Errors
     ///
-    /// The names are given exactly where no rule of [`FileNames::gather_items`] is broken and none
-    /// of [`FileNames::check_top`] of a file, unless memory is wanted. Breaches are found in this
-    /// order: those of all items, and then those at the top of each file.
-    pub fn gather(alloc: Global, files: &[PackageFile<'a>]) -> ParseResult<FileNames<'a>>
+    /// The names are given exactly where none of these rules is broken, unless memory is wanted.
+    /// Breaches are found in this order: 5, by place; then file by file 6, and 7 of the paths of
+    /// that file's items that are no name at its top; then 7 of the other paths of items, and 8; then
+    /// file by file 7 of the `use`s at its top. The paths of an item are here those of an
+    /// interface's `use`s and those of a world's includes.
+    ///
+    /// - 5, at the later name: an item is declared twice.
+    /// - 6, at the later name: a name stands twice at the top of a file.
+    /// - 7: a path without a package, of an item, leads to no declared item and to none of another
+    ///   package. It is at that path; for one that is a name at the top of its file, at what that
+    ///   name stands for. Or the path of a `use` at the top of a file, without a package, is the name
+    ///   of no declared item.
+    /// - 8: interfaces use, or worlds include, one another in a cycle. It is where a path on the way
+    ///   to one leads: at the name that the same file declares, at the path of the `use` at its top,
+    ///   else at the path itself.
+    /// - 45: a growth was refused.
+    pub fn gather(alloc: Global, files: &'f [PackageFile<'a>]) -> ParseResult<FileNames<'f, 'a>>
         ensures legal { OnOk result ((f : Fault) → IsBrokenNames files.now f → ⊥) }
         ensures names { IfOk result (AreNamesOf files.now) }
         ensures order { IfOk result (λ names. IsOrder (item_rows files.now) names.order.items) }
@@ -185,33 +199,56 @@ impl<'a> FileNames<'a> {
         self.kinds[place]
     }
 
-    /// The name of the item that a path leads to in the file at a place: what the name at the top
-    /// of the file stands for, where it is one, else the path's own.
-    pub fn original(&self, file: usize, path: &UsePath<'a>) -> Id<'a>
-        requires within { file < length self.now.tops.items }
-        ensures { (files : List TheFile) (f : TheFile) → AreNamesOf files self.now → slice_get files file ≡ Some f → result ≡ item_edge (top_names f) (the_path path.now) }
+    /// The items of other packages, each at its first visit, in the order of [`Self::foreign_visits`].
+    pub fn foreign(&self) -> &[ForeignVisit<'f, 'a>]
+        ensures kept { result.now ≡ self.now.foreign.items.items }
+        ensures items { (files : List TheFile) → AreNamesOf files self.now → map foreign_behind result.now ≡ foreign_items files }
     {
-        let id = path_id(path);
-        match self.tops[file].get(id.name) {
-            Some(original) => *original,
-            None => id,
+        &self.foreign.items
+    }
+
+    /// The paths with a package of all files, in push order and then in source order.
+    pub fn foreign_visits(&self) -> &[ForeignVisit<'f, 'a>]
+        ensures kept { result.now ≡ self.now.visits.items }
+        ensures visits { (files : List TheFile) → AreNamesOf files self.now → map foreign_behind result.now ≡ the_visits files }
+    {
+        &self.visits
+    }
+
+    /// Where a path in an item of the file at a place leads: where the name at the top of the file
+    /// stands for, where it is one, else where the path says.
+    pub fn target(&self, file: usize, path: &'f UsePath<'a>) -> Target<'f, 'a>
+        requires within { file < length self.now.tops.items }
+        ensures { (files : List TheFile) (f : TheFile) → AreNamesOf files self.now → slice_get files file ≡ Some f → target_behind result ≡ the_leads (top_names f) path.now }
+    {
+        leads(&self.tops[file], path)
+    }
+
+    /// What stands where a path leads; none where no item has the name, or no path of the files leads
+    /// to that item of another package.
+    fn found(&self, target: Target<'f, 'a>) -> Option<Found>
+        ensures { (files : List TheFile) → AreNamesOf files self.now → result ≡ found_at files (target_behind target.entry) }
+    {
+        match target {
+            Target::Local(id) => {
+                let place = self.items.get_index_of(id.name)?;
+                Some(Found::Item(place))
+            }
+            Target::Foreign { package, name } => {
+                let place = self.foreign.place(package, name)?;
+                Some(Found::Foreign(place))
+            }
         }
     }
 
-    /// The item that a path in an item of the file at a place leads to; none where no item has the
-    /// name.
+    /// What a path in an item of the file at a place leads to; none where no item has the name, or no
+    /// path of the files leads to that item of another package.
     ///
-    /// A path of a `use` at the top of a file names an item itself: it is not read here.
-    pub fn lookup(&self, file: usize, path: &UsePath<'_>) -> Option<Found>
+    /// A path of a `use` at the top of a file says itself where it leads: it is not read here.
+    pub fn lookup(&self, file: usize, path: &'f UsePath<'a>) -> Option<Found>
         requires within { file < length self.now.tops.items }
-        ensures { (files : List TheFile) (f : TheFile) → AreNamesOf files self.now → slice_get files file ≡ Some f → result ≡ option_map ItemAt (target (item_rows files) (item_edge (top_names f) (the_path path.now))) }
+        ensures { (files : List TheFile) (f : TheFile) → AreNamesOf files self.now → slice_get files file ≡ Some f → result ≡ found_at files (the_leads (top_names f) path.now) }
     {
-        let id = path_id(path);
-        let name = match self.tops[file].get(id.name) {
-            Some(original) => original.name,
-            None => id.name,
-        };
-        let place = self.items.get_index_of(name)?;
-        Some(Found::Item(place))
+        self.found(self.target(file, path))
     }
 }

@@ -2,16 +2,16 @@
 ghost use Rattle.std.specs.Prelude.{◌≡◌, ◌++◌, ◌⊎◌, List, map, IfOk, IfErr, OnOk};
 ghost use Rattle.std.specs.List.{flat_map};
 ghost use Rattle.wit_order.specs.Table.{rows, IsOrder};
-ghost use Rattle.wit_meaning.specs.Source.{TopName as Top, Item, interface_part, world_part, top_names, item_edge as the_edge, file_items, item_name, is_world};
+ghost use Rattle.wit_meaning.specs.Source.{TopName as Top, Item, interface_part, world_part, top_names, file_items, item_name, is_world};
 ghost use Rattle.wit_meaning.specs.Scope.{use_path, include_path, item_row};
 ghost use Rattle.wit_meaning.specs.Fault.{item_word};
 ghost use Rattle.wit_meaning.specs.Broken.{IsMissingEdge, IsCyclicEdge, Refused};
 ghost use Rattle.wit_meaning.specs.Repeats.{AllDiffer};
 ghost use Rattle.wit_scope.specs.Tops.{AreNamed, AreDeclared};
-ghost use Rattle.wit_scope.specs.Checks.{IsLostAmong, IsWrongFile};
+ghost use Rattle.wit_scope.specs.Checks.{edges_of, IsLostAmong, IsWrongFile};
 
 use crate::order_refusal::refuse_item_order;
-use crate::top_name::{Paths, item_edge};
+use crate::top_name::{Paths, add_edge};
 use indexmap::IndexMap;
 use std::alloc::{AllocError, Global};
 use wit_order::order_places;
@@ -21,18 +21,17 @@ use wit_tree::tree::{AstItem, Id, Interface, InterfaceItem, PackageFile, World, 
 /// Adds the edge of the path of a part of an interface, where that is a `use`.
 fn add_use<'a>(
     alloc: Global,
-    paths: Paths<'_, 'a>,
+    paths: Paths<'_, '_, 'a>,
     edges: &mut Vec<Id<'a>>,
     part: &InterfaceItem<'a>,
 ) -> ParseResult<()>
-    ensures edges { OnOk result ((top : List Top) → AreNamed top paths.entry.top.now → edges.new.items ≡ edges.old.items ++ map (the_edge top) (use_path (interface_part part.now))) }
+    ensures edges { OnOk result ((top : List Top) → AreNamed top paths.entry.top.now → edges.new.items ≡ edges.old.items ++ edges_of top (use_path (interface_part part.now))) }
     ensures refused { IfErr result (λ e. (top : List Top) (is : List Item) → AreNamed top paths.entry.top.now → AreDeclared is paths.entry.declared.now → Refused (IsLostAmong is top (use_path (interface_part part.now))) e) }
 {
     match part {
         InterfaceItem::TypeDef(_) => {}
         InterfaceItem::Use(used) => {
-            let edge = item_edge(alloc, paths, &used.from)?;
-            edges.push(edge)?;
+            add_edge(alloc, paths, edges, &used.from)?;
         }
     }
     Ok(())
@@ -41,10 +40,10 @@ fn add_use<'a>(
 /// The items that an interface uses, as edges.
 fn interface_edges<'a>(
     alloc: Global,
-    paths: Paths<'_, 'a>,
+    paths: Paths<'_, '_, 'a>,
     interface: &Interface<'a>,
 ) -> ParseResult<Vec<Id<'a>>>
-    ensures edges { IfOk result (λ edges. (top : List Top) → AreNamed top paths.entry.top.now → edges.items ≡ map (the_edge top) (flat_map use_path (map interface_part interface.now.items.items))) }
+    ensures edges { IfOk result (λ edges. (top : List Top) → AreNamed top paths.entry.top.now → edges.items ≡ edges_of top (flat_map use_path (map interface_part interface.now.items.items))) }
     ensures refused { IfErr result (λ e. (top : List Top) (is : List Item) → AreNamed top paths.entry.top.now → AreDeclared is paths.entry.declared.now → Refused (IsLostAmong is top (flat_map use_path (map interface_part interface.now.items.items))) e) }
 {
     let mut edges = Vec::new(alloc);
@@ -57,18 +56,17 @@ fn interface_edges<'a>(
 /// Adds the edge of the path of a part of a world, where that is an include.
 fn add_include<'a>(
     alloc: Global,
-    paths: Paths<'_, 'a>,
+    paths: Paths<'_, '_, 'a>,
     edges: &mut Vec<Id<'a>>,
     part: &WorldItem<'a>,
 ) -> ParseResult<()>
-    ensures edges { OnOk result ((top : List Top) → AreNamed top paths.entry.top.now → edges.new.items ≡ edges.old.items ++ map (the_edge top) (include_path (world_part part.now))) }
+    ensures edges { OnOk result ((top : List Top) → AreNamed top paths.entry.top.now → edges.new.items ≡ edges.old.items ++ edges_of top (include_path (world_part part.now))) }
     ensures refused { IfErr result (λ e. (top : List Top) (is : List Item) → AreNamed top paths.entry.top.now → AreDeclared is paths.entry.declared.now → Refused (IsLostAmong is top (include_path (world_part part.now))) e) }
 {
     match part {
         WorldItem::TypeDef(_) | WorldItem::Use(_) => {}
         WorldItem::Include(include) => {
-            let edge = item_edge(alloc, paths, &include.from)?;
-            edges.push(edge)?;
+            add_edge(alloc, paths, edges, &include.from)?;
         }
     }
     Ok(())
@@ -77,10 +75,10 @@ fn add_include<'a>(
 /// The items that a world includes, as edges.
 fn world_edges<'a>(
     alloc: Global,
-    paths: Paths<'_, 'a>,
+    paths: Paths<'_, '_, 'a>,
     world: &World<'a>,
 ) -> ParseResult<Vec<Id<'a>>>
-    ensures edges { IfOk result (λ edges. (top : List Top) → AreNamed top paths.entry.top.now → edges.items ≡ map (the_edge top) (flat_map include_path (map world_part world.now.items.items))) }
+    ensures edges { IfOk result (λ edges. (top : List Top) → AreNamed top paths.entry.top.now → edges.items ≡ edges_of top (flat_map include_path (map world_part world.now.items.items))) }
     ensures refused { IfErr result (λ e. (top : List Top) (is : List Item) → AreNamed top paths.entry.top.now → AreDeclared is paths.entry.declared.now → Refused (IsLostAmong is top (flat_map include_path (map world_part world.now.items.items))) e) }
 {
     let mut edges = Vec::new(alloc);
@@ -94,7 +92,7 @@ fn world_edges<'a>(
 /// path that leads nowhere.
 pub(crate) fn add_items<'a>(
     alloc: Global,
-    paths: Paths<'_, 'a>,
+    paths: Paths<'_, '_, 'a>,
     table: &mut IndexMap<&'a str, Vec<Id<'a>>>,
     file: &PackageFile<'a>,
 ) -> ParseResult<()>

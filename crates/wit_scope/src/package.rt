@@ -3,6 +3,7 @@ ghost use Rattle.std.specs.Prelude.{◌≡◌, IfOk};
 ghost use Rattle.std.specs.Option.{option_copied, option_map};
 ghost use Rattle.semver.specs.Identifiers.{parts_of};
 ghost use Rattle.wit_values.specs.ReleaseText.{release_parts};
+ghost use Rattle.wit_meaning.specs.Address.{package_of, release_of as the_release};
 
 use semver::Version;
 use std::alloc::{AllocError, Global};
@@ -12,7 +13,8 @@ use wit_values::{Release, Text};
 
 /// A version that is written or absent, as a package keeps it.
 pub(crate) fn release_of(version: Option<&Version>) -> Result<Option<Release>, AllocError>
-    ensures { IfOk result (λ release. option_map release_parts release ≡ option_map parts_of (option_copied version.entry)) }
+    ensures parts { IfOk result (λ release. option_map release_parts release ≡ option_map parts_of (option_copied version.entry)) }
+    ensures release { IfOk result (λ release. release ≡ option_map the_release (option_copied version.entry)) }
 {
     match version {
         Some(version) => Ok(Some(Release::from(version.clone()?))),
@@ -20,20 +22,21 @@ pub(crate) fn release_of(version: Option<&Version>) -> Result<Option<Release>, A
     }
 }
 
-/// The name that a header gives.
+/// The name of a package, as a header or a path gives it.
 ///
 /// The error is want of memory.
 pub fn package_name(
     alloc: Global,
-    header: &tree::PackageName<'_>,
+    written: &tree::PackageName<'_>,
 ) -> Result<PackageName, AllocError>
-    ensures namespace { IfOk result (λ name. name.namespace ≡ header.now.namespace.name.now) }
-    ensures name { IfOk result (λ name. name.name ≡ header.now.name.name.now) }
-    ensures version { IfOk result (λ name. option_map release_parts name.version ≡ option_map parts_of header.now.version) }
+    ensures namespace { IfOk result (λ name. name.namespace ≡ written.now.namespace.name.now) }
+    ensures name { IfOk result (λ name. name.name ≡ written.now.name.name.now) }
+    ensures version { IfOk result (λ name. option_map release_parts name.version ≡ option_map parts_of written.now.version) }
+    ensures whole { IfOk result (λ name. name ≡ package_of written.now) }
 {
     Ok(PackageName {
-        namespace: Text::from_str(alloc, header.namespace.name)?,
-        name: Text::from_str(alloc, header.name.name)?,
-        version: release_of(header.version.as_ref())?,
+        namespace: Text::from_str(alloc, written.namespace.name)?,
+        name: Text::from_str(alloc, written.name.name)?,
+        version: release_of(written.version.as_ref())?,
     })
 }

@@ -1,67 +1,96 @@
 //! Names at the top of files, and what paths lead to.
 ghost use Rattle.std.specs.Prelude.{◌≡◌, ◌++◌, List, IsSome, map, IfOk, IfErr, OnOk};
-ghost use Rattle.wit_meaning.specs.Source.{TopName as Top, Item, itself as the_itself, top_name as the_name, top_names as the_names, top_text, path_id as the_path, item_edge as the_edge, file_items, all_items, item_name, item_named};
+ghost use Rattle.wit_meaning.specs.Source.{TopName as Top, Item, itself as the_itself, top_name as the_name, top_names as the_names, top_text, path_id as the_path, path_target as the_target, leads as the_leads, file_items, all_items, item_name, item_named};
+ghost use Rattle.wit_meaning.specs.Scope.{local_target};
 ghost use Rattle.wit_meaning.specs.Broken.{IsDuplicateTopName, IsMissingOriginal, IsBrokenItems, Refused};
 ghost use Rattle.wit_meaning.specs.Repeats.{AllDiffer};
-ghost use Rattle.wit_scope.specs.Tops.{top_behind, item_top, AreNamed, AreDeclared};
-ghost use Rattle.wit_scope.specs.Checks.{AreDeclaredUses, IsRepeatedName, IsUndeclared};
+ghost use Rattle.wit_scope.specs.Tops.{target_behind, top_behind, item_top, AreNamed, AreDeclared};
+ghost use Rattle.wit_scope.specs.Checks.{AreDeclaredUses, IsDeclaredTarget, IsRepeatedName, IsUndeclared, IsLostTarget};
 
 use crate::refusal::{refuse, refuse_missing};
 use indexmap::IndexMap;
 use std::alloc::{AllocError, Global};
 use wit_tree::ParseResult;
-use wit_tree::tree::{AstItem, Id, PackageFile, UsePath};
+use wit_tree::tree::{AstItem, Id, PackageFile, PackageName, UsePath};
 
-/// A name at the top of a file, and the name of the item that it stands for.
+/// Where a path leads.
+#[derive(Clone, Copy, Debug)]
+pub enum Target<'f, 'a> {
+    /// To the item of a name.
+    Local(Id<'a>),
+    /// To an item of a package, by its name there.
+    Foreign {
+        package: &'f PackageName<'a>,
+        name: Id<'a>,
+    },
+}
+
+/// A name at the top of a file, and what it stands for.
 #[derive(Clone, Copy)]
-pub(crate) struct TopName<'a> {
+pub(crate) struct TopName<'f, 'a> {
     pub(crate) id: Id<'a>,
-    pub(crate) original: Id<'a>,
+    pub(crate) target: Target<'f, 'a>,
 }
 
-/// The names at the top of a file, and the declared items, each with the name of the item that it
-/// stands for.
+/// The names at the top of a file, and the declared items, each with what it stands for.
 #[derive(Clone, Copy)]
-pub(crate) struct Paths<'n, 'a> {
-    pub(crate) top: &'n IndexMap<&'a str, Id<'a>>,
-    pub(crate) declared: &'n IndexMap<&'a str, Id<'a>>,
+pub(crate) struct Paths<'n, 'f, 'a> {
+    pub(crate) top: &'n IndexMap<&'a str, Target<'f, 'a>>,
+    pub(crate) declared: &'n IndexMap<&'a str, Target<'f, 'a>>,
 }
 
-/// What a path names.
+/// The name that a path ends in.
 pub fn path_id<'a>(path: &UsePath<'a>) -> Id<'a>
     ensures { result ≡ the_path path.now }
 {
     match path {
         UsePath::Id(id) => *id,
+        UsePath::Package { name, .. } => *name,
+    }
+}
+
+/// What a path says by itself.
+fn path_target<'f, 'a>(path: &'f UsePath<'a>) -> Target<'f, 'a>
+    ensures { target_behind result ≡ the_target path.now }
+{
+    match path {
+        UsePath::Id(id) => Target::Local(*id),
+        UsePath::Package { id, name } => Target::Foreign {
+            package: id,
+            name: *name,
+        },
     }
 }
 
 /// The name of a declared item, which stands for itself.
-fn itself<'a>(id: Id<'a>) -> TopName<'a>
+fn itself<'f, 'a>(id: Id<'a>) -> TopName<'f, 'a>
     ensures { top_behind result ≡ the_itself id.entry }
 {
-    TopName { id, original: id }
+    TopName {
+        id,
+        target: Target::Local(id),
+    }
 }
 
 /// The name at the top of a file that a declaration makes.
-fn top_name<'a>(item: &AstItem<'a>) -> TopName<'a>
+fn top_name<'f, 'a>(item: &'f AstItem<'a>) -> TopName<'f, 'a>
     ensures { top_behind result ≡ the_name item.now }
 {
     match item {
         AstItem::Interface(interface) => itself(interface.name),
         AstItem::World(world) => itself(world.name),
-        AstItem::Use(used) => {
-            let original = path_id(&used.item);
-            TopName {
-                id: used.as_.unwrap_or(original),
-                original,
-            }
-        }
+        AstItem::Use(used) => TopName {
+            id: used.as_.unwrap_or(path_id(&used.item)),
+            target: path_target(&used.item),
+        },
     }
 }
 
 /// The names at the top of a file, in source order.
-fn top_names<'a>(alloc: Global, items: &[AstItem<'a>]) -> Result<Vec<TopName<'a>>, AllocError>
+fn top_names<'f, 'a>(
+    alloc: Global,
+    items: &'f [AstItem<'a>],
+) -> Result<Vec<TopName<'f, 'a>>, AllocError>
     ensures { IfOk result (λ names. map top_behind names.items ≡ map the_name items.now) }
 {
     let mut names = Vec::with_capacity(alloc, items.len())?;
@@ -72,7 +101,10 @@ fn top_names<'a>(alloc: Global, items: &[AstItem<'a>]) -> Result<Vec<TopName<'a>
 }
 
 /// Adds the names of the items that a file declares.
-fn add_declared<'a>(names: &mut Vec<TopName<'a>>, file: &PackageFile<'a>) -> Result<(), AllocError>
+fn add_declared<'f, 'a>(
+    names: &mut Vec<TopName<'f, 'a>>,
+    file: &'f PackageFile<'a>,
+) -> Result<(), AllocError>
     ensures { OnOk result (map top_behind names.new.items ≡ map top_behind names.old.items ++ map item_top (file_items file.now)) }
 {
     for item in &file.decl_list.items {
@@ -85,10 +117,10 @@ fn add_declared<'a>(names: &mut Vec<TopName<'a>>, file: &PackageFile<'a>) -> Res
 }
 
 /// The names of the items that files declare, in push order and then in source order.
-fn declared_names<'a>(
+fn declared_names<'f, 'a>(
     alloc: Global,
-    files: &[PackageFile<'a>],
-) -> Result<Vec<TopName<'a>>, AllocError>
+    files: &'f [PackageFile<'a>],
+) -> Result<Vec<TopName<'f, 'a>>, AllocError>
     ensures { IfOk result (λ names. map top_behind names.items ≡ map item_top (all_items files.now)) }
 {
     let mut names = Vec::new(alloc);
@@ -104,13 +136,13 @@ fn repeated(alloc: Global, front: &str, name: &str, back: &str) -> Result<String
 }
 
 /// Names with what they stand for; refuses one that stands twice, in words around it.
-fn unique_names<'a>(
+fn unique_names<'f, 'a>(
     alloc: Global,
     rule: u8,
     front: &str,
     back: &str,
-    names: &[TopName<'a>],
-) -> ParseResult<IndexMap<&'a str, Id<'a>>>
+    names: &[TopName<'f, 'a>],
+) -> ParseResult<IndexMap<&'a str, Target<'f, 'a>>>
     ensures named { IfOk result (AreNamed (map top_behind names.now)) }
     ensures distinct { OnOk result (AllDiffer (map top_text (map top_behind names.now))) }
     ensures refused { IfErr result (Refused (IsRepeatedName rule (map top_behind names.now))) }
@@ -122,16 +154,16 @@ fn unique_names<'a>(
             let message = repeated(alloc, front, id.name, back)?;
             return Err(refuse(alloc, rule, id.span, message.as_str()));
         }
-        found.insert(id.name, name.original)?;
+        found.insert(id.name, name.target)?;
     }
     Ok(found)
 }
 
 /// The names at the top of a file; refuses one that stands twice.
-pub(crate) fn file_names<'a>(
+pub(crate) fn file_names<'f, 'a>(
     alloc: Global,
-    file: &PackageFile<'a>,
-) -> ParseResult<IndexMap<&'a str, Id<'a>>>
+    file: &'f PackageFile<'a>,
+) -> ParseResult<IndexMap<&'a str, Target<'f, 'a>>>
     ensures named { IfOk result (AreNamed (the_names file.now)) }
     ensures distinct { OnOk result (AllDiffer (map top_text (the_names file.now))) }
     ensures refused { IfErr result (Refused (IsDuplicateTopName (the_names file.now))) }
@@ -141,10 +173,10 @@ pub(crate) fn file_names<'a>(
 }
 
 /// The names of all declared items; refuses one that stands twice.
-pub(crate) fn item_names<'a>(
+pub(crate) fn item_names<'f, 'a>(
     alloc: Global,
-    files: &[PackageFile<'a>],
-) -> ParseResult<IndexMap<&'a str, Id<'a>>>
+    files: &'f [PackageFile<'a>],
+) -> ParseResult<IndexMap<&'a str, Target<'f, 'a>>>
     ensures declared { IfOk result (AreDeclared (all_items files.now)) }
     ensures distinct { OnOk result (AllDiffer (map item_name (all_items files.now))) }
     ensures refused { IfErr result (Refused (IsBrokenItems files.now)) }
@@ -164,27 +196,75 @@ fn check_declared<V>(alloc: Global, declared: &IndexMap<&str, V>, id: Id<'_>) ->
     Ok(())
 }
 
-/// The name of the item that a path leads to: what the name at the top of its file stands for,
-/// else that of a declared item.
-pub(crate) fn item_edge<'a>(
-    alloc: Global,
-    paths: Paths<'_, 'a>,
-    path: &UsePath<'a>,
-) -> ParseResult<Id<'a>>
-    ensures edge { IfOk result (λ id. (top : List Top) → AreNamed top paths.entry.top.now → id ≡ the_edge top (the_path path.now)) }
-    ensures refused { IfErr result (λ e. (top : List Top) (is : List Item) → AreNamed top paths.entry.top.now → AreDeclared is paths.entry.declared.now → Refused (IsUndeclared is (the_edge top (the_path path.now))) e) }
+/// Where a path leads in a file with these names at its top: a name at the top leads where that
+/// stands for, every other path where it says.
+pub(crate) fn leads<'f, 'a>(
+    top: &IndexMap<&'a str, Target<'f, 'a>>,
+    path: &'f UsePath<'a>,
+) -> Target<'f, 'a>
+    ensures { (names : List Top) → AreNamed names top.now → target_behind result ≡ the_leads names path.now }
 {
-    let id = path_id(path);
-    match paths.top.get(id.name) {
-        Some(original) => Ok(*original),
-        None => {
-            check_declared(alloc, paths.declared, id)?;
-            Ok(id)
-        }
+    match path {
+        UsePath::Id(id) => match top.get(id.name) {
+            Some(target) => *target,
+            None => Target::Local(*id),
+        },
+        UsePath::Package { .. } => path_target(path),
     }
 }
 
-/// Refuses a `use` at the top of a file whose path is the name of no item.
+/// Adds the name of the item of the package that something leads to, as an edge.
+fn add_local<'a>(edges: &mut Vec<Id<'a>>, target: Target<'_, 'a>) -> Result<(), AllocError>
+    ensures { OnOk result (edges.new.items ≡ edges.old.items ++ local_target (target_behind target.entry)) }
+{
+    match target {
+        Target::Local(id) => edges.push(id)?,
+        Target::Foreign { .. } => {}
+    }
+    Ok(())
+}
+
+/// Adds the name of the item of the package that a path leads to, as an edge; refuses a path that is
+/// neither a name at the top of its file nor that of a declared item.
+pub(crate) fn add_edge<'a>(
+    alloc: Global,
+    paths: Paths<'_, '_, 'a>,
+    edges: &mut Vec<Id<'a>>,
+    path: &UsePath<'a>,
+) -> ParseResult<()>
+    ensures edges { OnOk result ((top : List Top) → AreNamed top paths.entry.top.now → edges.new.items ≡ edges.old.items ++ local_target (the_leads top path.now)) }
+    ensures refused { IfErr result (λ e. (top : List Top) (is : List Item) → AreNamed top paths.entry.top.now → AreDeclared is paths.entry.declared.now → Refused (IsLostTarget is (the_leads top path.now)) e) }
+{
+    match path {
+        UsePath::Id(id) => match paths.top.get(id.name) {
+            Some(target) => add_local(edges, *target)?,
+            None => {
+                check_declared(alloc, paths.declared, *id)?;
+                edges.push(*id)?;
+            }
+        },
+        UsePath::Package { .. } => {}
+    }
+    Ok(())
+}
+
+/// Refuses a path that is a name, but no declared item's.
+fn check_original<V>(
+    alloc: Global,
+    declared: &IndexMap<&str, V>,
+    path: &UsePath<'_>,
+) -> ParseResult<()>
+    ensures declared { OnOk result ((is : List Item) → AreDeclared is declared.now → IsDeclaredTarget is (the_target path.now)) }
+    ensures refused { IfErr result (λ e. (is : List Item) → AreDeclared is declared.now → Refused (IsLostTarget is (the_target path.now)) e) }
+{
+    match path {
+        UsePath::Id(id) => check_declared(alloc, declared, *id)?,
+        UsePath::Package { .. } => {}
+    }
+    Ok(())
+}
+
+/// Refuses a `use` at the top of a file whose path is a name, but no declared item's.
 pub(crate) fn check_originals(
     alloc: Global,
     declared: &IndexMap<&str, Vec<Id<'_>>>,
@@ -195,7 +275,7 @@ pub(crate) fn check_originals(
 {
     for item in &file.decl_list.items {
         if let AstItem::Use(used) = item {
-            check_declared(alloc, declared, path_id(&used.item))?;
+            check_original(alloc, declared, &used.item)?;
         }
     }
     Ok(())

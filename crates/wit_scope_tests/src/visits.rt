@@ -5,8 +5,7 @@ use std::test::Fail;
 use wit_scope::{Visit, Wanted, visits};
 use wit_tree::Span;
 use wit_tree::tree::{
-    AstItem, DeclList, Id, Include, Interface, InterfaceItem, ToplevelUse, Use, UseName, UsePath,
-    World, WorldItem,
+    AstItem, DeclList, Id, Interface, InterfaceItem, ToplevelUse, Use, UseName, UsePath,
 };
 
 /// A label.
@@ -14,15 +13,19 @@ fn label(name: &'static str) -> Result<Id<'static>, AllocError> {
     Id::new(name, Span::default()).ok_or(AllocError)
 }
 
-/// A `use` of one name.
-fn used(alloc: Global, from: &'static str, name: &'static str) -> Result<Use<'static>, Fail> {
+/// A `use` of one name in an interface.
+fn used(
+    alloc: Global,
+    from: &'static str,
+    name: &'static str,
+) -> Result<InterfaceItem<'static>, Fail> {
     let mut names = Vec::new(alloc);
     names.push(UseName {
         name: label(name)?,
         as_: None,
     })?;
     let from = UsePath::Id(label(from)?);
-    Ok(Use { from, names })
+    Ok(InterfaceItem::Use(Use { from, names }))
 }
 
 /// An interface that uses a name from each of two others.
@@ -33,27 +36,10 @@ fn interface(
     second: &'static str,
 ) -> Result<AstItem<'static>, Fail> {
     let mut items = Vec::new(alloc);
-    items.push(InterfaceItem::Use(used(alloc, first, "t")?))?;
-    items.push(InterfaceItem::Use(used(alloc, second, "u")?))?;
+    items.push(used(alloc, first, "t")?)?;
+    items.push(used(alloc, second, "u")?)?;
     let name = label(name)?;
     Ok(AstItem::Interface(Interface { name, items }))
-}
-
-/// A world that includes one and uses a name from an interface.
-fn world(
-    alloc: Global,
-    name: &'static str,
-    included: &'static str,
-    from: &'static str,
-) -> Result<AstItem<'static>, Fail> {
-    let mut items = Vec::new(alloc);
-    items.push(WorldItem::Include(Include {
-        from: UsePath::Id(label(included)?),
-        names: Vec::new(alloc),
-    }))?;
-    items.push(WorldItem::Use(used(alloc, from, "t")?))?;
-    let name = label(name)?;
-    Ok(AstItem::World(World { name, items }))
 }
 
 /// A `use` at the top of a file.
@@ -73,9 +59,16 @@ fn name_of<'a>(visit: &Visit<'_, 'a>) -> &'a str {
     }
 }
 
+/// The name that a path ends with.
+fn last_name<'a>(path: &UsePath<'a>) -> &'a str {
+    match path {
+        UsePath::Id(id) => id.name,
+        UsePath::Package { name, .. } => name.name,
+    }
+}
+
 /// What a visit says: whose it is, its path, what is used and what is wanted.
 fn told(alloc: Global, visit: &Visit<'_, '_>) -> Result<String, AllocError> {
-    let UsePath::Id(path) = visit.path;
     let owner = match visit.owner {
         Some(owner) => owner.name,
         None => "-",
@@ -85,7 +78,7 @@ fn told(alloc: Global, visit: &Visit<'_, '_>) -> Result<String, AllocError> {
         Wanted::World => "world",
         Wanted::Unknown => "item",
     };
-    let path = path.name;
+    let path = last_name(visit.path);
     let name = name_of(visit);
     format!(in alloc; "{owner} {path} {name} {wanted};")
 }
@@ -106,13 +99,11 @@ fn visits_in_source_order(rt: HostRuntime) -> Result<(), Fail> {
     items.push(toplevel("c")?)?;
     items.push(interface(alloc, "i", "a", "b")?)?;
     items.push(toplevel("i")?)?;
-    items.push(world(alloc, "w", "v", "i")?)?;
     items.push(interface(alloc, "j", "i", "a")?)?;
     let said = told_all(alloc, &DeclList { items })?;
     assert_eq!(rt;
         said.as_str(),
-        "- c - item;i a t interface;i b u interface;- i - item;w v - world;- i t interface;\
-         j i t interface;j a u interface;"
+        "- c - item;i a t interface;i b u interface;- i - item;j i t interface;j a u interface;"
     );
     Ok(())
 }

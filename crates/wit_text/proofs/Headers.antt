@@ -1,13 +1,14 @@
--- The marks of a header.
+-- The marks of a header, and of a path with a package.
 use Rattle.std.proofs.Common.{◌≡◌, ℕ, List, [], ◌∷◌, Option, Some, None, ◌∙◌, sym, subst, arith}
 use Rattle.semver.specs.declared.Version.{Version}
 use Rattle.wit_values.specs.declared.span.Span.{Span}
 use Rattle.wit_tree.specs.declared.tree.Id.{Id}
 use Rattle.wit_tree.specs.declared.tree.PackageName.{PackageName}
-use Rattle.wit_tree.specs.Marks.{Mark, named, whole_mark, header_marks}
-use Rattle.wit_tree.specs.Slices.{Rise}
+use Rattle.wit_tree.specs.declared.tree.UsePath.TheVariants.{Package as PathPackage}
+use Rattle.wit_tree.specs.Marks.{Mark, named, joined, whole_mark, header_marks, release_marks, path_marks}
+use Rattle.wit_tree.specs.Slices.{IsJoined, Rise}
 use Rattle.wit_text.specs.declared.reader.Reader.{Reader}
-use Rattle.wit_text.specs.Headers.{IsWhole, found_marks}
+use Rattle.wit_text.specs.Headers.{IsWhole, found_version, found_marks}
 use Rattle.wit_text.specs.Reading.{IsRead}
 
 whole_rise : (source : List ℕ) (offset low high : ℕ) (namespace name : Id) (found : Option (Span × Version)) (p : PackageName) → IsWhole namespace name found p →
@@ -42,3 +43,36 @@ header_read {a} {b} namespace name found p first last w h =
       rise = (h.rise.0, h.rise.1, (h.rise.2.0, h.rise.2.1, whole_rise a.source.now a.offset _ _ namespace name found p w h.rise.2.2));
     } in
     subst (λ n. IsRead a (marks n p.name) b) (sym first) (subst (λ m. IsRead a (marks namespace m) b) (sym last) names)
+
+-- what was found behind an item's name is the version of its package
+release_rise : (source : List ℕ) (offset low high : ℕ) (found : Option (Span × Version)) (version : Option Version) → version ≡ found_version found →
+    Rise source offset low (found_marks found) high → Rise source offset low (release_marks version) high
+release_rise source offset low high None version e h = rw e h
+release_rise source offset low high (Some (place, found)) version e h =
+    let end = h.0.end in
+    let onward = h.1 in
+    rw e (
+      record {
+        text = h.0.text;
+        at = h.0.at;
+        behind = h.0.behind;
+        stands = h.0.stands;
+        reads = h.0.reads;
+      },
+      omega arith,
+    )
+
+-- three names and what was found behind them are a path with a package
+pub path_read : {a b : Reader} (first second name : Id) (found : Option (Span × Version)) (p : PackageName) → p.namespace ≡ first → p.name ≡ second →
+    IsJoined p.span first.span second.span → p.version ≡ found_version found →
+    IsRead a (named first ∷ named second ∷ named name ∷ found_marks found) b → IsRead a (path_marks (PathPackage p name)) b
+path_read {a} {b} first second name found p one two spans version h =
+    let marks : Id → Id → List Mark = λ n m. named n ∷ named m ∷ joined p.span n.span m.span ∷ named name ∷ release_marks p.version in
+    let names : IsRead a (marks first second) b = record {
+      source = h.source;
+      offset = h.offset;
+      onward = h.onward;
+      past = h.past;
+      rise = (h.rise.0, h.rise.1, (h.rise.2.0, h.rise.2.1, (spans, (h.rise.2.2.0, h.rise.2.2.1, release_rise a.source.now a.offset _ _ found p.version version h.rise.2.2.2))));
+    } in
+    subst (λ n. IsRead a (marks n p.name) b) (sym one) (subst (λ m. IsRead a (marks first m) b) (sym two) names)

@@ -7,8 +7,8 @@ use Rattle.std.proofs.lemmas.List.{append-nil}
 use Rattle.semver.specs.declared.Version.{Version}
 use Rattle.wit_values.specs.declared.span.Span.{Span}
 use Rattle.wit_tree.specs.declared.tree.Id.{Id}
-use Rattle.wit_tree.specs.Marks.{Mark, named, spelled, joined, versioned, counted}
-use Rattle.wit_tree.specs.Slices.{unescaped, IsNamed, StandsAt, IsVersioned, IsCounted, Rise}
+use Rattle.wit_tree.specs.Marks.{Mark, named, spelled, joined, versioned, released, counted}
+use Rattle.wit_tree.specs.Slices.{unescaped, IsNamed, StandsAt, IsVersioned, IsReleased, IsCounted, Rise}
 
 pub is_named : (source : List ℕ) (offset : ℕ) (id : Id) (start end : ℕ) (text : List ℕ) → start ≤ end → end ≤ length source → text ≡ slice_range source start end →
     id.span.start ≡ offset + start → id.span.end ≡ offset + end → id.name.now ≡ unescaped text → IsNamed source offset id
@@ -40,6 +40,7 @@ rise_later source offset a b c (named id ∷ rest) h le = (h.0, h.1, rise_later 
 rise_later source offset a b c (spelled span word ∷ rest) h le = (h.0, h.1, rise_later source offset span.end b c rest h.2 le)
 rise_later source offset a b c (joined span first last ∷ rest) h le = (h.0, rise_later source offset a b c rest h.1 le)
 rise_later source offset a b c (versioned span first version ∷ rest) h le = (h.0, rise_later source offset span.end b c rest h.1 le)
+rise_later source offset a b c (released version ∷ rest) h le = (h.0, rise_later source offset h.0.at.end b c rest h.1 le)
 rise_later source offset a b c (counted number ∷ rest) h le = (h.0, rise_later source offset h.0.at.end b c rest h.1 le)
 
 versioned_sooner : (source : List ℕ) (offset a b : ℕ) (span first : Span) (version : Version) → a ≤ b → IsVersioned source offset b span first version → IsVersioned source offset a span first version
@@ -55,6 +56,9 @@ versioned_sooner source offset a b span first version le h =
       reads = h.reads;
     }
 
+abbrev released_sooner : (source : List ℕ) (offset a b : ℕ) (version : Version) → a ≤ b → IsReleased source offset b version → IsReleased source offset a version
+released_sooner source offset a b version le h = let low = h.behind in record { text = h.text; at = h.at; behind = omega arith; stands = h.stands; reads = h.reads }
+
 abbrev counted_sooner : (source : List ℕ) (offset a b number : ℕ) → a ≤ b → IsCounted source offset b number → IsCounted source offset a number
 counted_sooner source offset a b number le h = let low = h.behind in record { text = h.text; at = h.at; behind = omega arith; stands = h.stands; reads = h.reads }
 
@@ -64,6 +68,7 @@ rise_sooner source offset a b c (named id ∷ rest) le h = let low = h.0 in (ome
 rise_sooner source offset a b c (spelled span word ∷ rest) le h = let low = h.0 in (omega arith, h.1, h.2)
 rise_sooner source offset a b c (joined span first last ∷ rest) le h = (h.0, rise_sooner source offset a b c rest le h.1)
 rise_sooner source offset a b c (versioned span first version ∷ rest) le h = (versioned_sooner source offset a b span first version le h.0, h.1)
+rise_sooner source offset a b c (released version ∷ rest) le h = (released_sooner source offset a b version le h.0, h.1)
 rise_sooner source offset a b c (counted number ∷ rest) le h = (counted_sooner source offset a b number le h.0, h.1)
 
 pub rise_on : (source : List ℕ) (offset a b c : ℕ) (xs ys : List Mark) → Rise source offset a xs b → Rise source offset b ys c → Rise source offset a (xs ++ ys) c
@@ -72,6 +77,7 @@ rise_on source offset a b c (named id ∷ xs) ys h k = (h.0, h.1, rise_on source
 rise_on source offset a b c (spelled span word ∷ xs) ys h k = (h.0, h.1, rise_on source offset span.end b c xs ys h.2 k)
 rise_on source offset a b c (joined span first last ∷ xs) ys h k = (h.0, rise_on source offset a b c xs ys h.1 k)
 rise_on source offset a b c (versioned span first version ∷ xs) ys h k = (h.0, rise_on source offset span.end b c xs ys h.1 k)
+rise_on source offset a b c (released version ∷ xs) ys h k = (h.0, rise_on source offset h.0.at.end b c xs ys h.1 k)
 rise_on source offset a b c (counted number ∷ xs) ys h k = (h.0, rise_on source offset h.0.at.end b c xs ys h.1 k)
 
 pub one_more : {A : Type 0} (f : A → List Mark) (xs : List A) (x : A) → flat_map f (xs ++ x ∷ []) ≡ flat_map f xs ++ f x
@@ -96,6 +102,11 @@ rise_order source offset a b (versioned span first version ∷ rest) h =
     let order = h.0.stands.order in
     let end = h.0.end in
     let onward = rise_order source offset span.end b rest h.1 in
+    omega arith
+rise_order source offset a b (released version ∷ rest) h =
+    let low = h.0.behind in
+    let order = h.0.stands.order in
+    let onward = rise_order source offset h.0.at.end b rest h.1 in
     omega arith
 rise_order source offset a b (counted number ∷ rest) h =
     let low = h.0.behind in

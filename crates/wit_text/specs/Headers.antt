@@ -1,4 +1,4 @@
--- Headers of a package, with the version that was found behind the name.
+-- Packages in headers and in paths, with the version that was found behind a name.
 use Rattle.std.specs.Prelude.{◌≡◌, List, [], ◌∷◌, Option, Some, None}
 use Rattle.semver.specs.declared.Version.{Version}
 use Rattle.wit_values.specs.declared.span.Span.{Span}
@@ -6,6 +6,11 @@ use Rattle.wit_tree.specs.declared.tree.Id.{Id}
 use Rattle.wit_tree.specs.declared.tree.PackageName.{PackageName}
 use Rattle.wit_tree.specs.Marks.{Mark, versioned}
 use Rattle.wit_tree.specs.Slices.{IsJoined}
+
+-- the version alone, where one was found
+abbrev pub found_version : Option (Span × Version) → Option Version
+found_version None = None
+found_version (Some (place, version)) = Some version
 
 -- a version where it stands
 abbrev pub found_marks : Option (Span × Version) → List Mark

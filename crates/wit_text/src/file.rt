@@ -4,7 +4,7 @@ ghost use Rattle.std.specs.List.{flat_map};
 ghost use Rattle.wit_tree.specs.Marks.{interface_marks, declaration_marks, header_marks, package_marks, file_marks};
 ghost use Rattle.wit_tree.specs.Slices.{Rise};
 ghost use Rattle.wit_lex.specs.Faults.{IsRefusal};
-ghost use Rattle.wit_text.specs.Headers.{IsWhole, found_marks};
+ghost use Rattle.wit_text.specs.Headers.{IsWhole};
 
 use crate::reader::Reader;
 use semver::Version;
@@ -68,19 +68,6 @@ impl<'a> Reader<'a> {
         Ok(AstItem::Interface(interface))
     }
 
-    /// Reads `@` and a version, where there is one, and tells where it stands.
-    fn read_at_version(&mut self) -> ParseResult<Option<(Span, Version)>>
-        ensures read { IfOk result (λ found. IsReadOn self.old (found_marks found) self.new) }
-        ensures refused { IfErr result (λ e. IsRefused self.old e) }
-    {
-        if !self.at(Kind::At) {
-            return Ok(None);
-        }
-        self.bump()?;
-        let found = self.read_version()?;
-        Ok(Some(found))
-    }
-
     /// Reads `package name:name;`, perhaps with a version behind the name.
     fn read_header(&mut self) -> ParseResult<PackageName<'a>>
         ensures read { IfOk result (λ p. IsRead self.old (header_marks p) self.new) }
@@ -124,7 +111,8 @@ impl<'a> Reader<'a> {
 /// The tree of a file whose first byte has the place `offset`.
 ///
 /// Its names and words are slices of the source at their spans, which rise in the order of the
-/// tree's fields; a `%` in front of a name belongs to its span alone. Spans are shifted by `offset`.
+/// tree's fields; a `%` in front of a name belongs to its span alone. The version in a path stands
+/// behind the item's name, and is in no span. Spans are shifted by `offset`.
 ///
 /// A file that cannot be read is refused under the number and at the place of the first fault:
 /// 46 at a character that begins no token, 47 at a token that the grammar does not allow there or a

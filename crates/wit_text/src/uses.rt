@@ -2,12 +2,42 @@
 ghost use Rattle.std.specs.Prelude.{◌≡◌, ◌+◌, [], ◌∷◌, IfOk, IfErr};
 ghost use Rattle.std.specs.List.{flat_map};
 ghost use Rattle.wit_tree.specs.Marks.{named, path_marks, local_marks, used_marks, use_marks, toplevel_marks};
+ghost use Rattle.wit_tree.specs.Slices.{IsJoined};
+ghost use Rattle.wit_text.specs.Headers.{found_version};
 
 use crate::reader::Reader;
+use semver::Version;
 use wit_lex::kind::Kind;
 use wit_lex::word::Word;
-use wit_tree::ParseResult;
-use wit_tree::tree::{Id, ToplevelUse, Use, UseName, UsePath};
+use wit_tree::tree::{Id, PackageName, ToplevelUse, Use, UseName, UsePath};
+use wit_tree::{ParseResult, Span};
+
+/// The package that a path names, with the version that was found behind the item's name.
+fn path_package<'a>(
+    namespace: Id<'a>,
+    name: Id<'a>,
+    found: Option<(Span, Version)>,
+) -> PackageName<'a>
+    ensures namespace { result.namespace ≡ namespace.entry }
+    ensures name { result.name ≡ name.entry }
+    ensures span { IsJoined result.span namespace.entry.span name.entry.span }
+    ensures version { result.version ≡ found_version found }
+{
+    let version = match found {
+        Some((_, version)) => Some(version),
+        None => None,
+    };
+    let span = Span {
+        start: namespace.span.start,
+        end: name.span.end,
+    };
+    PackageName {
+        span,
+        namespace,
+        name,
+        version,
+    }
+}
 
 /// The used name, with the local name that was found behind it.
 fn used_name<'a>(name: Id<'a>, local: Option<Id<'a>>) -> UseName<'a>
@@ -19,13 +49,22 @@ fn used_name<'a>(name: Id<'a>, local: Option<Id<'a>>) -> UseName<'a>
 impl<'a> Reader<'a> {
     ghost use Rattle.wit_text.specs.Reading.{IsRead, IsReadOn, IsRefused};
 
-    /// Reads a path: a name of the package.
+    /// Reads a path: a name of the package, or `name:name/name` with perhaps a version behind it.
     pub fn read_path(&mut self) -> ParseResult<UsePath<'a>>
         ensures read { IfOk result (λ path. IsRead self.old (path_marks path) self.new) }
         ensures refused { IfErr result (λ e. IsRefused self.old e) }
     {
-        let id = self.read_id()?;
-        Ok(UsePath::Id(id))
+        let first = self.read_id()?;
+        if !self.at(Kind::Colon) {
+            return Ok(UsePath::Id(first));
+        }
+        self.bump()?;
+        let second = self.read_id()?;
+        self.expect(Kind::Slash)?;
+        let name = self.read_id()?;
+        let found = self.read_at_version()?;
+        let id = path_package(first, second, found);
+        Ok(UsePath::Package { id, name })
     }
 
     /// Reads `as` and the local name, where there is one.
@@ -71,7 +110,7 @@ impl<'a> Reader<'a> {
         Ok(names)
     }
 
-    /// Reads `use name.{name, name as name, ..};`.
+    /// Reads `use path.{name, name as name, ..};`.
     pub fn read_use(&mut self) -> ParseResult<Use<'a>>
         ensures read { IfOk result (λ u. IsRead self.old (use_marks u) self.new) }
         ensures refused { IfErr result (λ e. IsRefused self.old e) }
@@ -84,7 +123,7 @@ impl<'a> Reader<'a> {
         Ok(Use { from, names })
     }
 
-    /// Reads `use name;` or `use name as name;`.
+    /// Reads `use path;` or `use path as name;`.
     pub fn read_toplevel_use(&mut self) -> ParseResult<ToplevelUse<'a>>
         ensures read { IfOk result (λ u. IsRead self.old (toplevel_marks u) self.new) }
         ensures refused { IfErr result (λ e. IsRefused self.old e) }

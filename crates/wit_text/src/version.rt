@@ -1,6 +1,7 @@
 //! Reading versions.
 ghost use Rattle.std.specs.Prelude.{◌≡◌, ◌+◌, ◌<◌, ◌≤◌, ◌^◌, [], ◌∷◌, ◌-◌, length, slice_index, IfOk, IfErr};
 ghost use Rattle.wit_tree.specs.Marks.{versioned};
+ghost use Rattle.wit_text.specs.Headers.{found_marks};
 ghost use Rattle.wit_lex.specs.Faults.{IsRefusal};
 
 use crate::reader::Reader;
@@ -34,7 +35,7 @@ fn refuse_from(alloc: Global, source: &str, offset: u32, from: usize) -> ParseEr
 }
 
 impl<'a> Reader<'a> {
-    ghost use Rattle.wit_text.specs.Reading.{IsRead, IsRefused};
+    ghost use Rattle.wit_text.specs.Reading.{IsRead, IsReadOn, IsRefused};
 
     /// The end of the version whose first number is the token.
     fn find_version_end(&self) -> ParseResult<usize>
@@ -53,8 +54,21 @@ impl<'a> Reader<'a> {
         }
     }
 
+    /// Reads `@` and a version, where there is one, and tells where it stands.
+    pub fn read_at_version(&mut self) -> ParseResult<Option<(Span, Version)>>
+        ensures read { IfOk result (λ found. IsReadOn self.old (found_marks found) self.new) }
+        ensures refused { IfErr result (λ e. IsRefused self.old e) }
+    {
+        if !self.at(Kind::At) {
+            return Ok(None);
+        }
+        self.bump()?;
+        let found = self.read_version()?;
+        Ok(Some(found))
+    }
+
     /// Reads a version, and tells where it stands.
-    pub fn read_version(&mut self) -> ParseResult<(Span, Version)>
+    fn read_version(&mut self) -> ParseResult<(Span, Version)>
         ensures read { IfOk result (λ r. IsRead self.old (versioned r.0 r.0 r.1 ∷ []) self.new) }
         ensures refused { IfErr result (λ e. IsRefused self.old e) }
     {

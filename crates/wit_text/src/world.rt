@@ -69,7 +69,7 @@ impl<'a> Reader<'a> {
         Ok(names)
     }
 
-    /// Reads `include name;`, perhaps with names that are renamed.
+    /// Reads `include path;`, perhaps with names that are renamed.
     fn read_include(&mut self) -> ParseResult<Include<'a>>
         ensures read { IfOk result (λ i. IsRead self.old (include_marks i) self.new) }
         ensures refused { IfErr result (λ e. IsRefused self.old e) }

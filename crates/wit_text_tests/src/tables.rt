@@ -29,6 +29,9 @@ interface i { type a = option<%option>; type b = result<%result, %map>; }
 world w {} interface i {} world %world{include/**/w;} use x;
 world w { include x; include y with {} include z with { a as b }; use x.{t as s, u}; use %use.{}; include v with {a as b, %with as %as,} }
 world w { type a = u8; record r { a: u8 } flags f { a } variant v { a(u8) } enum e { a } include x with {}; type %include = a; }
+use a:b/c; use a:b/c as d; use a:b/c@1.2.3; use %use : %world / %c @ 1.2.3-rc.1+b as %as;
+interface i { use a:b/c.{t}; use a:b/c@1.0.0.{t}; use a:b/c@1.0.0-rc.1.{t as s,}; use a:b/c@1.0.0+1.a.{}; }
+world w { use a:b/c.{t}; use a:b/c@1.0.0.{t}; include a:b/c; include a:b/c@1.0.0; include a:b/c@1.0.0-a with { a as b } include a:b/c with {}; }
 interface %map { flags %flags { %enum, %u8 } variant %variant { %tuple(%tuple) } enum %enum { %future } }";
 
 /// Texts in three parts, a line each, behind the number under which the one in the middle is refused.
@@ -59,7 +62,21 @@ pub const REFUSED: &str = "\
 47|package a:b||
 47|package a|;|
 47|interface i {} |package| a:b;
-47|use a|:|b/c;
+47|use a:b|;|
+47|use a:|;|
+47|use a:|use|/c;
+47|use a:b|.|{t};
+47|use a:b|:|c/d;
+47|use a:b|@|1.0.0/c;
+47|use a:b/|;|
+47|use a:b/|use|;
+47|use a:b/c|/|d;
+47|use a:b/c@|x|;
+47|use a:b/c@1.0|;|
+47|use a|/|b;
+47|use a|@|1.0.0;
+50|use a:b/c@|01.0.0|;
+50|use a:b/c@|1.0.0-01| as d;
 47|use |as| y;
 47|use x |y|;
 47|use x as |as|;
@@ -139,7 +156,14 @@ pub const REFUSED: &str = "\
 47|interface i { record r { a: u8,|,| } }
 47|interface i { |f|: func(); }
 47|interface i { use x|;| }
-47|interface i { use a|:|b/c.{t}; }
+47|interface i { use a:b|.|{t}; }
+47|interface i { use a:b/c@1.0.0|;| }
+47|interface i { use a:b/c@1.0.|{|t}; }
+50|interface i { use a:b/c@|01.0.0|.{t}; }
+47|world w { use a:b/c@1.0.0|;| }
+47|world w { include a:b|;| }
+47|world w { include a:b/c@1.0.0|.|{t}; }
+50|world w { include a:b/c@|1.0.0-01|; }
 47|interface i { use |use|.{t}; }
 47|interface i { use x|{|t}; }
 47|interface i { use x.{|,|}; }

@@ -81,6 +81,12 @@ fn drops_nothing(rt: HostRuntime) -> Result<(), Fail> {
         "world w { use x.{t}; type s = t; include v; include %u with { a as %b, c as d } }",
         WORLD_TREE,
     )?;
+    check_tree(
+        &rt,
+        alloc,
+        "use %a:b/c as d; interface i { use a:b/c@1.0.0.{t}; } world w { include e : f / %g @ 2.0.0-rc.1; }",
+        PATHS_TREE,
+    )?;
     Ok(())
 }
 
@@ -95,3 +101,6 @@ const TOPLEVEL_TREE: &str =
 
 const WORLD_TREE: &str =
     "PackageFile { package_id: None, decl_list: DeclList { items: [World(World { name: Id { name: \"w\", span: Span { start: 1006, end: 1007 } }, items: [Use(Use { from: Id(Id { name: \"x\", span: Span { start: 1014, end: 1015 } }), names: [UseName { name: Id { name: \"t\", span: Span { start: 1017, end: 1018 } }, as_: None }] }), TypeDef(TypeDef { name: Id { name: \"s\", span: Span { start: 1026, end: 1027 } }, body: Plain(Name(Id { name: \"t\", span: Span { start: 1030, end: 1031 } })) }), Include(Include { from: Id(Id { name: \"v\", span: Span { start: 1041, end: 1042 } }), names: [] }), Include(Include { from: Id(Id { name: \"u\", span: Span { start: 1052, end: 1054 } }), names: [IncludeName { name: Id { name: \"a\", span: Span { start: 1062, end: 1063 } }, as_: Id { name: \"b\", span: Span { start: 1067, end: 1069 } } }, IncludeName { name: Id { name: \"c\", span: Span { start: 1071, end: 1072 } }, as_: Id { name: \"d\", span: Span { start: 1076, end: 1077 } } }] })] })] } }";
+
+const PATHS_TREE: &str =
+    "PackageFile { package_id: None, decl_list: DeclList { items: [Use(ToplevelUse { span: Span { start: 1000, end: 1003 }, item: Package { id: PackageName { span: Span { start: 1004, end: 1008 }, namespace: Id { name: \"a\", span: Span { start: 1004, end: 1006 } }, name: Id { name: \"b\", span: Span { start: 1007, end: 1008 } }, version: None }, name: Id { name: \"c\", span: Span { start: 1009, end: 1010 } } }, as_: Some(Id { name: \"d\", span: Span { start: 1014, end: 1015 } }) }), Interface(Interface { name: Id { name: \"i\", span: Span { start: 1027, end: 1028 } }, items: [Use(Use { from: Package { id: PackageName { span: Span { start: 1035, end: 1038 }, namespace: Id { name: \"a\", span: Span { start: 1035, end: 1036 } }, name: Id { name: \"b\", span: Span { start: 1037, end: 1038 } }, version: Some(Version { major: 1, minor: 0, patch: 0 }) }, name: Id { name: \"c\", span: Span { start: 1039, end: 1040 } } }, names: [UseName { name: Id { name: \"t\", span: Span { start: 1048, end: 1049 } }, as_: None }] })] }), World(World { name: Id { name: \"w\", span: Span { start: 1060, end: 1061 } }, items: [Include(Include { from: Package { id: PackageName { span: Span { start: 1072, end: 1077 }, namespace: Id { name: \"e\", span: Span { start: 1072, end: 1073 } }, name: Id { name: \"f\", span: Span { start: 1076, end: 1077 } }, version: Some(Version { major: 2, minor: 0, patch: 0, pre: Prerelease(\"rc.1\") }) }, name: Id { name: \"g\", span: Span { start: 1080, end: 1082 } } }, names: [] })] })] } }";

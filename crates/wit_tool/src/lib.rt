@@ -20,6 +20,3 @@ pub use fault::RunFault;
 pub use package::listing;
 pub use refusal::error_line;
 pub use running::run;
-
-#[cfg(test)]
-mod tests;

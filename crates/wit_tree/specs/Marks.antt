@@ -1,4 +1,4 @@
--- What a tree takes from its text: names, words, versions, and spans over several of them, in the order of its fields.
+-- What a tree takes from its text: names, words, versions, and spans over several of them, in the order of its fields, the version of a path behind its names.
 use Rattle.std.specs.Prelude.{ℕ, List, [], ◌∷◌, ◌++◌, Option, Some, None, Box, codes}
 use Rattle.std.specs.List.{flat_map}
 use Rattle.std.specs.declared.alloc.Global.{Global}
@@ -16,7 +16,7 @@ use Rattle.wit_tree.specs.declared.tree.InterfaceItem.{InterfaceItem}
 use Rattle.wit_tree.specs.declared.tree.InterfaceItem.TheVariants.{TypeDef as TypeDefItem, Use as UseItem}
 use Rattle.wit_tree.specs.declared.tree.Use.{Use}
 use Rattle.wit_tree.specs.declared.tree.UsePath.{UsePath}
-use Rattle.wit_tree.specs.declared.tree.UsePath.TheVariants.{Id as PathName}
+use Rattle.wit_tree.specs.declared.tree.UsePath.TheVariants.{Id as PathName, Package as PathPackage}
 use Rattle.wit_tree.specs.declared.tree.UseName.{UseName}
 use Rattle.wit_tree.specs.declared.tree.Interface.{Interface}
 use Rattle.wit_tree.specs.declared.tree.World.{World}
@@ -40,6 +40,8 @@ pub data Mark : Type 0 where
   joined : (span : Span) (first last : Span) → Mark
   -- a span from the first name to the end of a version
   versioned : (span : Span) (first : Span) (version : Version) → Mark
+  -- a version
+  released : (version : Version) → Mark
   -- a number
   counted : (number : ℕ) → Mark
 
@@ -117,8 +119,15 @@ body_marks name (Plain t) = type_marks t
 abbrev pub definition_marks : TypeDef → List Mark
 definition_marks d = named d.name ∷ body_marks d.name.span d.body
 
+-- of a version, where there is one
+abbrev pub release_marks : Option Version → List Mark
+release_marks None = []
+release_marks (Some version) = released version ∷ []
+
+-- the span of a path's package goes to the end of its name, and its version stands behind the item's name
 abbrev pub path_marks : UsePath → List Mark
 path_marks (PathName id) = named id ∷ []
+path_marks (PathPackage p name) = named p.namespace ∷ named p.name ∷ joined p.span p.namespace.span p.name.span ∷ named name ∷ release_marks p.version
 
 -- the local name, where there is one
 abbrev pub local_marks : Option Id → List Mark

@@ -6,7 +6,7 @@ use Rattle.semver.specs.Identifiers.{parts_of}
 use Rattle.semver.specs.Parse.{version_parts}
 use Rattle.wit_values.specs.declared.span.Span.{Span}
 use Rattle.wit_tree.specs.declared.tree.Id.{Id}
-use Rattle.wit_tree.specs.Marks.{Mark, named, spelled, joined, versioned, counted}
+use Rattle.wit_tree.specs.Marks.{Mark, named, spelled, joined, versioned, released, counted}
 
 -- a front `%` taken off
 abbrev pub unescaped : List ℕ → List ℕ
@@ -41,6 +41,14 @@ pub record IsVersioned (source : List ℕ) (offset low : ℕ) (span first : Span
   pub stands : StandsAt source offset at text
   pub reads : version_parts text ≡ Ok (parts_of version)
 
+-- the version that `semver` reads in a slice behind the place `low`
+pub record IsReleased (source : List ℕ) (offset low : ℕ) (version : Version) : Type 0 where
+  pub text : List ℕ
+  pub at : Span
+  pub behind : low ≤ at.start
+  pub stands : StandsAt source offset at text
+  pub reads : version_parts text ≡ Ok (parts_of version)
+
 -- the number that std reads in a slice behind the place `low`
 pub record IsCounted (source : List ℕ) (offset low number : ℕ) : Type 0 where
   pub text : List ℕ
@@ -56,4 +64,5 @@ Rise source offset low (named id ∷ rest) high = (low ≤ id.span.start) × IsN
 Rise source offset low (spelled span word ∷ rest) high = (low ≤ span.start) × StandsAt source offset span word × Rise source offset span.end rest high
 Rise source offset low (joined span first last ∷ rest) high = IsJoined span first last × Rise source offset low rest high
 Rise source offset low (versioned span first version ∷ rest) high = IsVersioned source offset low span first version × Rise source offset span.end rest high
+Rise source offset low (released version ∷ rest) high = (r : IsReleased source offset low version) × Rise source offset r.at.end rest high
 Rise source offset low (counted number ∷ rest) high = (c : IsCounted source offset low number) × Rise source offset c.at.end rest high

@@ -60,10 +60,11 @@ pub struct PackageFile<'a> {
     pub decl_list: DeclList<'a>,
 }
 
-/// The name of a package, as a header writes it.
+/// The name of a package, as a header or a path writes it.
 #[derive(Debug, Drop)]
 pub struct PackageName<'a> {
-    /// From the namespace to the end of the version, or of the name where there is none.
+    /// In a header from the namespace to the end of the version, or of the name where there is
+    /// none; in a path to the end of the name, since the version stands behind the item's.
     pub span: Span,
     pub namespace: Id<'a>,
     pub name: Id<'a>,
@@ -149,6 +150,8 @@ pub struct Use<'a> {
 pub enum UsePath<'a> {
     /// A name of the package.
     Id(Id<'a>),
+    /// An item of a package, also where that is this one's own name.
+    Package { id: PackageName<'a>, name: Id<'a> },
 }
 
 /// A used name, and the local name that `as` gives it.

@@ -1,6 +1,14 @@
-use Rattle.std.proofs.Common.{Some, ap}
+use Rattle.std.proofs.Common.{◌≤◌, Some, length, ap, arith}
+use Rattle.std.proofs.lemmas.List.{length-map}
+use Rattle.wit_scope.specs.Foreign.{foreign_behind}
+use Rattle.wit_meaning.specs.Foreign.{visited}
 use Rattle.wit_meaning.proofs.Indexing.{index_interface}
+use Rattle.wit_parser.specs.Held.{front_of}
 use Rattle.wit_parser.proofs.interface.add_interface.Goals as goal
 
 pub returns-clause-index : goal.returns-clause-index
-returns-clause-index c = rw (c.in_ok-place.ensures.ok, c.in_ok-insert.ensures.ok, c.in_ok-from_str-2.ensures.ok, c.in_ok-place.ensures.id) (index_interface c.args.interfaces.now.arena c.args.interfaces.now.by_name _ c.args.id.name.now c.requires.index (ap Some c.in_ok-from_str.ensures))
+returns-clause-index c =
+    let is = c.args.interfaces.now in
+    let front = front_of is.foreign.now in
+    let enough : length front ≤ length is.arena = omega (arith, length-map is.foreign.now (λ v. visited (foreign_behind v)), c.requires.front) in
+    rw (c.in_ok-place.ensures.ok, c.in_ok-insert.ensures.ok, c.in_ok-from_str-2.ensures.ok, c.in_ok-place.ensures.id) (index_interface front is.arena is.by_name _ c.args.id.name.now enough c.requires.index (ap Some c.in_ok-from_str.ensures))

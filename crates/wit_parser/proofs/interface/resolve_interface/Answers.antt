@@ -5,12 +5,12 @@ use Rattle.wit_meaning.specs.Source.{ScopeName, local_id, scope_names}
 use Rattle.wit_meaning.specs.Scope.{in_turn}
 use Rattle.wit_meaning.specs.Fault.{Fault}
 use Rattle.wit_meaning.specs.Broken.{IsBrokenScope, folded}
-use Rattle.wit_meaning.specs.Resolving.{cells, IsWrongScope, WrongItself}
+use Rattle.wit_meaning.specs.Resolving.{IsWrongScope, WrongItself}
 use Rattle.wit_meaning.specs.Package.{IsInterface}
 use Rattle.wit_meaning.specs.Resolved.{AddsScope}
 use Rattle.wit_types.specs.declared.types.TypeOwner.TheVariants.{Interface as OfInterface}
 use Rattle.wit_meaning.proofs.Refusing.{refused_weaker}
-use Rattle.wit_parser.specs.Held.{name_behind}
+use Rattle.wit_parser.specs.Held.{name_behind, cells_of}
 use Rattle.wit_parser.specs.Items.{item_behind}
 use Rattle.wit_parser.specs.Between.{IsRepeatedId}
 use Rattle.wit_parser.proofs.Turning.{broken_folded, legal_folded}
@@ -19,7 +19,7 @@ use Rattle.wit_parser.proofs.interface.resolve_interface.Goals as goal
 pub returns-in_err-check_folded_names-clause-refused : goal.returns-in_err-check_folded_names-clause-refused
 returns-in_err-check_folded_names-clause-refused c =
     let p = err_from_is_err_and c.from_residual-in_err-check_folded_names.result c.from_residual-in_err-check_folded_names.ensures.1 in
-    let cs = cells c.args.interfaces.now.arena in
+    let cs = cells_of c.args.interfaces.now in
     let by_name = c.args.interfaces.now.by_name in
     let xs = scope_names (item_behind c.args.item.now) in
     let ys = map name_behind c.deref.result.now in
@@ -44,7 +44,7 @@ returns-clause-added c =
     let is = c.args.interfaces.now.arena in
     let xs = scope_names (item_behind c.args.item.now) in
     let names : map name_behind c.deref.result.now ≡ xs = ap (map name_behind) c.deref.ensures.value ∙ c.requires.named in
-    let adds : AddsScope c.args.types.now c.resolve_names.new.types (cells is) (OfInterface (length is)) xs c.in_ok-names.names.types = rw (names, c.next_id.ensures) at c.in_ok-names.ensures.adds.adds in
+    let adds : AddsScope c.args.types.now c.resolve_names.new.types (cells_of c.args.interfaces.now) (OfInterface (length is)) xs c.in_ok-names.names.types = rw (names, c.next_id.ensures) at c.in_ok-names.ensures.adds.adds in
     let a = c.in_ok-add_interface.ensures.added in
     record {
       added = a.added;

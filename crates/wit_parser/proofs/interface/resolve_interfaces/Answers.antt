@@ -1,11 +1,18 @@
-use Rattle.std.proofs.Common.{◌≡◌, ◌<◌, ◌+◌, ◌++◌, ◌∷◌, [], take, length, get_or, true, false, not, Some, ap, sym, ◌∙◌}
+use Rattle.std.proofs.Common.{◌≡◌, ℕ, ◌<◌, ◌≤◌, ◌+◌, ◌++◌, ◌∷◌, List, [], All, arith, take, length, get_or, true, false, not, Some, ap, sym, ◌∙◌}
 use Rattle.std.specs.Prelude.{slice_get, map}
 use Rattle.std.proofs.lemmas.Option.{slice_get-get_or}
 use Rattle.std.proofs.lemmas.Result.{err_from_is_err_and}
-use Rattle.wit_meaning.specs.Source.{is_declared_world, is_world, scope_names}
+use Rattle.std.proofs.lemmas.List.{length-append}
+use Rattle.wit_types.specs.declared.types.TypeDef.{TypeDef}
+use Rattle.wit_model.specs.declared.interface.Interface.{Interface}
+use Rattle.wit_meaning.specs.Address.{Address}
+use Rattle.wit_meaning.specs.Source.{Item, is_declared_world, is_world, scope_names}
 use Rattle.wit_meaning.specs.Scope.{in_order, interfaces_of}
 use Rattle.wit_meaning.specs.Resolving.{cells, IsWrongScope}
-use Rattle.wit_meaning.specs.Resolved.{AddsInterface, IsWrongAmong}
+use Rattle.wit_meaning.specs.Resolved.{AddsInterface}
+use Rattle.wit_parser.specs.Held.{front_of}
+use Rattle.wit_parser.specs.Between.{IsWrongNow}
+use Rattle.wit_parser.specs.declared.items.Item.{Item as HeldItem}
 use Rattle.wit_meaning.proofs.Lists.{read_map, map_map}
 use Rattle.wit_meaning.proofs.Kept.{kept_next, kept_past}
 use Rattle.wit_meaning.proofs.Refusing.{refused_weaker}
@@ -15,6 +22,27 @@ use Rattle.wit_parser.specs.Items.{declared_behind, item_behind, names_behind}
 use Rattle.wit_parser.proofs.Declaring.{alike}
 use Rattle.wit_parser.proofs.interface.resolve_interfaces.Goals.{in-Interface+in_ok-resolve_interface, in_default}
 use Rattle.wit_parser.proofs.interface.resolve_interfaces.Goals as goal
+
+-- the interfaces have one more
+grown : (foreign : List Address) (old new : List TypeDef) (is is' : List Interface) (w : Item) (n : ℕ) → AddsInterface foreign old new is is' w → n ≤ length is → n ≤ length is'
+grown foreign old new is is' w n one enough = omega (arith, ap length one.last, length-append is (one.added ∷ []), enough)
+
+item_at : (items : List HeldItem) (places : List ℕ) (k : ℕ) (x : HeldItem) → All (λ (place : ℕ). place < length items) places → k < length places → x ≡ get_or items (get_or places k 0) x → slice_get items (get_or places k 0) ≡ Some x
+item_at items places k x within lt is = slice_get-get_or items (get_or places k 0) x (within k 0 lt) ∙ ap Some (sym is)
+
+pub resolve_interface-requires-clause-placed : goal.resolve_interface-requires-clause-placed
+resolve_interface-requires-clause-placed c =
+    let there = item_at c.args.items.now c.args.places.now c.loop-place.place-index c.index-items-place.result c.requires.within c.loop-place-test.true c.index-items-place.is in
+    rw c.loop-place.invariant.foreign (c.requires.placed.each _ c.index-items-place.result there)
+
+pub resolve_interface-requires-clause-front : goal.resolve_interface-requires-clause-front
+resolve_interface-requires-clause-front c = rw c.loop-place.invariant.foreign c.loop-place.invariant.front
+
+pub resolve_interface-requires-clause-index : goal.resolve_interface-requires-clause-index
+resolve_interface-requires-clause-index c = rw c.loop-place.invariant.foreign c.loop-place.invariant.index
+
+pub returns-clause-index : goal.returns-clause-index
+returns-clause-index c = rw c.loop-place.invariant.foreign c.loop-place.invariant.index
 
 pub resolve_interface-requires-clause-named : goal.resolve_interface-requires-clause-named
 resolve_interface-requires-clause-named c =
@@ -39,7 +67,8 @@ returns-in_err-resolve_interface-clause-refused c =
     let within : p < length c.args.items.now = c.requires.within i 0 c.loop-place-test.true in
     let there : slice_get ws p ≡ Some w = read_map item_behind c.args.items.now p x within c.index-items-place.is in
     let sort : is_world w ≡ false = ap (λ (d : HeldDeclared). is_declared_world (declared_behind d)) c.in-Interface.is in
-    rw (q.1, q.2) (refused_weaker (IsWrongScope (cells now.arena) now.by_name (scope_names w)) (IsWrongAmong ws places) _ (λ f h. record {
+    let foreign = front_of c.args.interfaces.now.foreign.now in
+    rw (q.1, q.2) (refused_weaker (IsWrongScope (cells foreign now.arena) now.by_name (scope_names w)) (IsWrongNow foreign c.args.types.now c.args.interfaces.now.arena ws places) _ (λ f h. record {
       count = i;
       item = w;
       next = record { place = p; next = at; at = there };
@@ -50,7 +79,7 @@ returns-in_err-resolve_interface-clause-refused c =
       by_name = now.by_name;
       index = c.loop-place.invariant.index;
       wrong = h;
-    }) c.in_err-resolve_interface.ensures.refused)
+    }) (rw c.loop-place.invariant.foreign at c.in_err-resolve_interface.ensures.refused))
 
 pub loop-place-preserved : goal.loop-place-preserved
 loop-place-preserved c =
@@ -73,13 +102,18 @@ loop-place-preserved c =
           let e = b.in_ok-resolve_interface.ensures in
           let new = b.resolve_interface.new.interfaces.arena in
           let types = b.resolve_interface.new.types in
+          let foreign = front_of c.args.interfaces.now.foreign.now in
+          let one : AddsInterface foreign c.loop-place.types types before new w = rw was.foreign at e.added in
+          let same = e.foreign ∙ was.foreign in
           rw (b.interfaces-is, b.types-is) (record {
-            added = rw more (adds_append AddsInterface [] c.loop-place.types types [] before new front (w ∷ []) was.added (adds_one AddsInterface c.loop-place.types types before new w e.added));
-            index = e.index;
+            foreign = same;
+            front = grown foreign c.loop-place.types types before new w _ one was.front;
+            added = rw more (adds_append (AddsInterface foreign) c.args.types.now c.loop-place.types types c.args.interfaces.now.arena before new front (w ∷ []) was.added (adds_one (AddsInterface foreign) c.loop-place.types types before new w one));
+            index = rw same at e.index;
             legal = rw more (scopes_more front w was.legal e.legal);
           }))
       | in_default b ↦ (
           let sort : not (is_world w) ≡ false = ap (λ (d : HeldDeclared). not (is_declared_world (declared_behind d))) b.in_default.is in
           let past : interfaces_of (in_order ws (take (i + 1) places)) ≡ front = kept_past (λ v. not (is_world v)) ws places i p w at there sort in
-          rw (b.interfaces-is, b.types-is) (record { added = rw past was.added; index = was.index; legal = rw past was.legal }))
+          rw (b.interfaces-is, b.types-is) (record { foreign = was.foreign; front = was.front; added = rw past was.added; index = was.index; legal = rw past was.legal }))
     ]

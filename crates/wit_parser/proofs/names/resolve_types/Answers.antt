@@ -9,7 +9,7 @@ use Rattle.wit_meaning.proofs.Refusing.{refused_weaker}
 use Rattle.wit_meaning.proofs.Turns.{distinct_names}
 use Rattle.wit_parser.specs.Held.{name_behind, use_behind, definition_behind}
 use Rattle.wit_parser.specs.Between.{AreOrdered, IsBrokenAmong, IsRepeatedId}
-use Rattle.wit_parser.proofs.Turning.{in_their_turn, ids_are, broken_twice, broken_body, differ_names, legal_unfolded}
+use Rattle.wit_parser.proofs.Turning.{in_their_turn, own_held, ids_are, broken_twice, broken_body, differ_names, legal_unfolded}
 use Rattle.wit_parser.proofs.names.resolve_types.Goals as goal
 
 pub returns-in_err-check_unique_names-clause-refused : goal.returns-in_err-check_unique_names-clause-refused
@@ -38,7 +38,7 @@ define_all-requires c =
     let xs = map name_behind c.args.names.now in
     let ds = map definition_behind c.deref-3.result.now in
     let o : AreOrdered xs ds = subst (λ l. AreOrdered xs (map definition_behind l)) (sym c.deref-3.ensures.value) c.in_ok-ordered.ensures.ordered in
-    record { turn = in_their_turn xs ds (env_of c.args.scope.now.names) o c.requires.has }
+    record { turn = in_their_turn xs ds (env_of c.args.scope.now.names) (own_held c.args.names.now) o c.requires.has }
 
 pub returns-in_err-define_all-clause-refused : goal.returns-in_err-define_all-clause-refused
 returns-in_err-define_all-clause-refused c =

@@ -1,28 +1,35 @@
-use Rattle.std.proofs.Common.{◌≡◌, ◌+◌, ◌++◌, ◌∷◌, [], take, Some, ap, sym, ◌∙◌, subst, arith}
+use Rattle.std.proofs.Common.{◌≡◌, ◌+◌, ◌++◌, ◌∷◌, [], take, Some, refl, ap, sym, ◌∙◌, subst, arith}
 use Rattle.std.specs.Prelude.{slice_get, map}
 use Rattle.std.proofs.lemmas.List.{take_all, length-map}
+use Rattle.std.proofs.lemmas.Option.{slice_get_read}
 use Rattle.std.proofs.lemmas.Result.{err_from_is_err_and}
 use Rattle.wit_types.specs.declared.types.TypeOwner.{TypeOwner}
-use Rattle.wit_meaning.specs.Address.{InterfaceNamed}
 use Rattle.wit_meaning.specs.Source.{Used}
-use Rattle.wit_meaning.specs.Resolving.{cells, Defines, local_names, IsWrongUse, IsWrongScope}
+use Rattle.wit_meaning.specs.Resolving.{Defines, local_names, IsWrongUse, IsWrongScope}
 use Rattle.wit_meaning.proofs.Lists.{read_map}
 use Rattle.wit_meaning.proofs.Orders.{take_next}
 use Rattle.wit_meaning.proofs.Defining.{defines_used, defines_more}
 use Rattle.wit_meaning.proofs.Refusing.{refused_weaker}
 use Rattle.wit_meaning.proofs.Using.{listed_has, listed_more}
-use Rattle.wit_parser.specs.Held.{use_behind}
+use Rattle.wit_parser.specs.Held.{source_behind, use_behind, cells_of}
 use Rattle.wit_parser.proofs.UsedNames.{wrong_used}
 use Rattle.wit_parser.proofs.uses.resolve_uses.Goals as goal
+
+pub resolve_use-requires-clause-placed : goal.resolve_use-requires-clause-placed
+resolve_use-requires-clause-placed c =
+    let uses = c.args.uses.now in
+    let i = c.loop-name.name-index in
+    let u = c.name-item.result in
+    c.requires.placed.each i u (slice_get_read uses _ i u refl c.loop-name-test.true c.name-item.is)
 
 pub returns-in_err-resolve_use-clause-refused : goal.returns-in_err-resolve_use-clause-refused
 returns-in_err-resolve_use-clause-refused c =
     let p = err_from_is_err_and c.from_residual.result c.from_residual.ensures.1 in
     let us = map use_behind c.args.uses.now in
     let i = c.loop-name.name-index in
-    let from = InterfaceNamed c.name-item.result.from.name.now in
+    let from = source_behind c.name-item.result.from in
     let n = c.name-item.result.name.now in
-    let cs = cells c.args.interfaces.now.arena in
+    let cs = cells_of c.args.interfaces.now in
     let by_name = c.args.interfaces.now.by_name in
     let names = c.loop-name.scope.names in
     let at : slice_get us i ≡ Some (Used from n) = read_map use_behind c.args.uses.now i c.name-item.result c.loop-name-test.true c.name-item.is in
@@ -32,9 +39,9 @@ pub loop-name-preserved : goal.loop-name-preserved
 loop-name-preserved c =
     let us = map use_behind c.args.uses.now in
     let i = c.loop-name.name-index in
-    let from = InterfaceNamed c.name-item.result.from.name.now in
+    let from = source_behind c.name-item.result.from in
     let n = c.name-item.result.name.now in
-    let cs = cells c.args.interfaces.now.arena in
+    let cs = cells_of c.args.interfaces.now in
     let o = c.args.scope.now.owner in
     let at : slice_get us i ≡ Some (Used from n) = read_map use_behind c.args.uses.now i c.name-item.result c.loop-name-test.true c.name-item.is in
     let more : take (i + 1) us ≡ take i us ++ Used from n ∷ [] = take_next us i (Used from n) at in

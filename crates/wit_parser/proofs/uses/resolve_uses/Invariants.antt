@@ -1,12 +1,12 @@
 use Rattle.std.proofs.Common.{◌≡◌, map, take}
 use Rattle.wit_meaning.specs.Address.{Address}
-use Rattle.wit_meaning.specs.Resolving.{cells, Defines, local_names}
-use Rattle.wit_parser.specs.Held.{use_behind}
+use Rattle.wit_meaning.specs.Resolving.{Defines, local_names}
+use Rattle.wit_parser.specs.Held.{use_behind, cells_of}
 use Rattle.wit_parser.proofs.uses.resolve_uses.Given as goal
 
 abbrev pub invariant-loop-name : goal.invariant-loop-name
 invariant-loop-name l = record {
-  defines : (s : Address) → Defines l.fn.types l.types (cells l.interfaces.arena) l.fn.scope.owner s l.fn.scope.names l.scope.names (take l.name-index (map use_behind l.uses));
+  defines : (s : Address) → Defines l.fn.types l.types (cells_of l.interfaces) l.fn.scope.owner s l.fn.scope.names l.scope.names (take l.name-index (map use_behind l.uses));
   owner : l.scope.owner ≡ l.fn.scope.owner;
   listed : map (λ p. p.0) l.scope.names ≡ local_names (take l.name-index (map use_behind l.uses));
 }

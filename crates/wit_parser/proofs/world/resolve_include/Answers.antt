@@ -1,33 +1,41 @@
-use Rattle.std.proofs.Common.{rules, ◌≡◌, Some, None, map, inl, inr, ap, ◌∙◌, subst}
+use Rattle.std.proofs.Common.{◌≡◌, ◌≤◌, true, length, Some, map, inl, inr, refl, sym, ap, ◌∙◌, subst}
+use Rattle.std.specs.Prelude.{slice_get}
 use Rattle.wit_tree.specs.declared.tree.Id.{Id}
-use Rattle.wit_meaning.specs.Source.{top_names}
+use Rattle.wit_meaning.specs.Source.{Target, Including, top_names, leads, included_scope}
 use Rattle.wit_meaning.specs.Fault.{fault}
 use Rattle.wit_meaning.specs.Whole.{renamed}
-use Rattle.wit_meaning.specs.Resolving.{env_of}
-use Rattle.wit_parser.proofs.Including.{address_found}
+use Rattle.wit_meaning.specs.Resolving.{IsWorldIndex}
+use Rattle.wit_meaning.specs.Resolved.{worlds_at}
+use Rattle.wit_parser.proofs.Others.{part_visited, world_missing, world_found, others_are}
 use Rattle.wit_parser.proofs.world.resolve_include.Goals as goal
 
+pub included_world-requires-clause-named : goal.included_world-requires-clause-named
+included_world-requires-clause-named c = let h = c.requires.part.item in record { files = h.files; file = h.file; are = h.declared.are }
+
 pub returns-in-None-clause-refused : goal.returns-in-None-clause-refused
-returns-in-None-clause-refused c = λ file named.
-    let by_name = c.args.worlds.now.by_name in
-    let edge = c.original-original.ensures named.files file named.are.are named.are.at in
-    let free : env_of by_name c.original-original.result.name.now ≡ None = search rules in
+returns-in-None-clause-refused c = λ fs file at.
+    let i = c.args.include.now in
+    let to : Target = leads (top_names file) i.from in
+    let visited = part_visited c.args.files.now c.args.place (Including i) true i.from c.requires.part refl fs file at in
     elim c.refuse.ensures [
       | inl memory ↦ inl memory
       | inr says ↦ inr (record {
-        free = subst (λ (id : Id). env_of by_name id.name.now ≡ None) edge free;
+        lost = world_missing fs c.args.worlds.now.by_name to visited (sym (c.included_world.ensures fs file at) ∙ c.in-None.is);
         is = says ∙ ap (λ (id : Id). fault 11 id.span) c.path_id-path.ensures;
       })
     ]
 
 pub returns-clause-is : goal.returns-clause-is
-returns-clause-is c = λ file named.
+returns-clause-is c = λ fs file at.
+    let i = c.args.include.now in
+    let ws = c.args.worlds.now.arena in
     let by_name = c.args.worlds.now.by_name in
-    let edge = c.original-original.ensures named.files file named.are.are named.are.at in
-    let found : env_of by_name c.original-original.result.name.now ≡ Some c.in-Some.id.now = search rules in
+    let to : Target = leads (top_names file) i.from in
+    let same = others_are c.args.files.now c.args.place fs file at in
+    let found = sym (c.included_world.ensures fs file at) ∙ c.in-Some.is in
     record {
       stability = c.default.ensures;
-      leads = address_found c.args.worlds.now.arena by_name (top_names file) c.args.include.now c.in-Some.id.now c.requires.index (subst (λ (id : Id). env_of by_name id.name.now ≡ Some c.in-Some.id.now) edge found);
+      place = subst (λ ss. slice_get (worlds_at ss ws) c.in-Some.id ≡ Some (included_scope to)) (sym same) (world_found fs by_name ws to c.in-Some.id (subst (λ ss. IsWorldIndex (worlds_at ss ws) by_name) same c.requires.index) (subst (λ ss. length ss ≤ length ws) same c.requires.front) found);
       names = c.in_ok-renames.ensures ∙ ap (map renamed) c.deref.ensures.value;
       span = ap (λ (id : Id). id.span) c.path_id-path.ensures;
     }

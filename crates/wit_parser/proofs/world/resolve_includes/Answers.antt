@@ -1,59 +1,71 @@
-use Rattle.std.proofs.Common.{◌≡◌, ◌+◌, List, [], ◌∷◌, ◌++◌, take, Some, sym, ap, ◌∙◌, subst, arith}
-use Rattle.std.specs.Prelude.{slice_get}
+use Rattle.std.proofs.Common.{◌≡◌, ◌+◌, ℕ, List, [], ◌∷◌, ◌++◌, ◌<◌, length, get_or, take, Some, refl, sym, ap, ◌∙◌, subst, arith}
+use Rattle.std.specs.Prelude.{slice_get, map}
+use Rattle.std.specs.Option.{option_map}
 use Rattle.std.proofs.lemmas.List.{take_all}
-use Rattle.std.proofs.lemmas.Option.{slice_get-get_or}
+use Rattle.std.proofs.lemmas.Option.{slice_get-get_or, slice_get-map}
 use Rattle.std.proofs.lemmas.Result.{err_from_is_err_and}
 use Rattle.wit_tree.specs.declared.tree.WorldItem.{WorldItem}
 use Rattle.wit_tree.specs.declared.tree.WorldItem.TheVariants as world_item
-use Rattle.wit_meaning.specs.Source.{top_names}
+use Rattle.wit_meaning.specs.Source.{top_names, TheWorld, Including, world_part}
 use Rattle.wit_meaning.specs.Resolving.{IsLostInclude}
-use Rattle.wit_meaning.specs.Resolved.{world_addresses}
+use Rattle.wit_meaning.specs.Resolved.{worlds_at}
 use Rattle.wit_meaning.proofs.Refusing.{refused_weaker}
-use Rattle.wit_parser.specs.Items.{item_behind}
+use Rattle.wit_meaning.proofs.Scoping.{contains_at}
+use Rattle.wit_parser.specs.Items.{others_of}
 use Rattle.wit_parser.specs.Between.{IsLost}
-use Rattle.wit_parser.proofs.Including.{included, AreIncluded, included_next, no_include, included_past, included_more, includes_are, lost_among}
+use Rattle.wit_parser.proofs.Including.{included, AreIncluded, included_none, included_next, no_include, included_past, included_more, includes_are, lost_among}
 use Rattle.wit_parser.proofs.world.resolve_includes.Goals.{in-Include+in_ok-include+in_ok-push, in_default}
 use Rattle.wit_parser.proofs.world.resolve_includes.Goals as goal
+
+-- the part at hand
+part_at : (items xs : List WorldItem) (k : ℕ) (x y : WorldItem) → xs ≡ items → k < length xs → x ≡ get_or xs k x → x ≡ y → slice_get items k ≡ Some y
+part_at items xs k x y all lt is same = ap (λ (l : List WorldItem). slice_get l k) (sym all) ∙ slice_get-get_or xs k x lt ∙ ap Some (sym is ∙ same)
+
+pub loop-part-init : goal.loop-part-init
+loop-part-init c = λ fs file named. rw c.new-includes.ensures.items (included_none (worlds_at (others_of c.args.files.now) c.args.worlds.now.arena) (top_names file))
+
+pub resolve_include-requires-clause-part : goal.resolve_include-requires-clause-part
+resolve_include-requires-clause-part c =
+    let w = c.args.world.now in
+    let k = c.loop-part.part-index in
+    let i = c.in-Include.include in
+    let at = part_at w.items.items c.deref-part-items.result.now k c.part-item.result (world_item.Include i) c.deref-part-items.ensures.value c.loop-part-test.true c.part-item.is c.in-Include.is in
+    let there = slice_get-map world_part w.items.items k ∙ ap (option_map world_part) at in
+    record { declared = TheWorld w; item = c.requires.item; among = contains_at (map world_part w.items.items) k (Including i) there }
 
 pub returns-in_err-include-clause-refused : goal.returns-in_err-include-clause-refused
 returns-in_err-include-clause-refused c =
     let p = err_from_is_err_and c.from_residual.result c.from_residual.ensures.1 in
     let by_name = c.args.worlds.now.by_name in
-    let item = item_behind c.args.item.now in
-    let file = c.args.item.now.file.now in
     let w = c.args.world.now in
-    let xs = c.deref-part-items.result.now in
     let k = c.loop-part.part-index in
-    let x = c.part-item.result in
     let i = c.in-Include.include in
-    let at : slice_get w.items.items k ≡ Some (world_item.Include i) = ap (λ (l : List WorldItem). slice_get l k) (sym c.deref-part-items.ensures.value) ∙ slice_get-get_or xs k x c.loop-part-test.true ∙ ap Some (sym c.part-item.is ∙ c.in-Include.is) in
-    rw (p.1, p.2) (refused_weaker (IsLost by_name (top_names file) i) (IsLostInclude by_name item) _ (λ f h. lost_among by_name (top_names file) w item k i f c.requires.world at h) (c.in_err-include.ensures.refused file c.requires.file))
+    let at = part_at w.items.items c.deref-part-items.result.now k c.part-item.result (world_item.Include i) c.deref-part-items.ensures.value c.loop-part-test.true c.part-item.is c.in-Include.is in
+    rw (p.1, p.2) (λ fs file named. refused_weaker (IsLost fs by_name (top_names file) i) (IsLostInclude fs by_name (record { top = top_names file; declared = TheWorld w })) _ (λ f h. lost_among fs by_name (top_names file) w k i f at h) (c.in_err-include.ensures.refused fs file named))
 
 pub loop-part-preserved : goal.loop-part-preserved
-loop-part-preserved c =
-    let worlds = world_addresses c.args.worlds.now.arena in
-    let file = c.args.item.now.file.now in
+loop-part-preserved c = λ fs file named.
+    let worlds = worlds_at (others_of c.args.files.now) c.args.worlds.now.arena in
     let items = c.args.world.now.items.items in
-    let xs = c.deref-part-items.result.now in
     let k = c.loop-part.part-index in
     let x = c.part-item.result in
-    let at : slice_get items k ≡ Some x = ap (λ (l : List WorldItem). slice_get l k) (sym c.deref-part-items.ensures.value) ∙ slice_get-get_or xs k x c.loop-part-test.true ∙ ap Some (sym c.part-item.is) in
+    let at : slice_get items k ≡ Some x = part_at items c.deref-part-items.result.now k x x c.deref-part-items.ensures.value c.loop-part-test.true c.part-item.is refl in
+    let was = c.loop-part.invariant fs file named in
     elim c.match-part.branch [
       | in-Include+in_ok-include+in_ok-push b ↦ (
           let i = b.in-Include.include in
           let next : included (take (k + 1) items) ≡ included (take k items) ++ i ∷ [] = included_next items k i (at ∙ ap Some b.in-Include.is) in
-          rw (b.includes-is, next, b.in_ok-push.ensures.items) (included_more worlds (top_names file) (included (take k items)) c.loop-part.includes.items i _ c.loop-part.invariant (b.in_ok-include.ensures.is file c.requires.file)))
+          rw (b.includes-is, next, b.in_ok-push.ensures.items) (included_more worlds (top_names file) (included (take k items)) c.loop-part.includes.items i _ was (b.in_ok-include.ensures.is fs file named)))
       | in_default b ↦ (
           let past : included (take (k + 1) items) ≡ included (take k items) = included_past items k x at (no_include x b.in_default.not-Include) in
-          rw (b.includes-is, past) c.loop-part.invariant)
+          rw (b.includes-is, past) was)
     ]
 
 pub returns-clause-are : goal.returns-clause-are
-returns-clause-are c =
-    let worlds = world_addresses c.args.worlds.now.arena in
-    let file = c.args.item.now.file.now in
+returns-clause-are c = λ fs file named.
+    let worlds = worlds_at (others_of c.args.files.now) c.args.worlds.now.arena in
     let w = c.args.world.now in
     let xs = c.deref-part-items.result.now in
     let k = c.loop-part.part-index in
     let all : take k w.items.items ≡ w.items.items = ap (take k) (sym c.deref-part-items.ensures.value) ∙ take_all k xs (omega arith) ∙ c.deref-part-items.ensures.value in
-    rw c.from.ensures (includes_are worlds (top_names file) w (item_behind c.args.item.now) c.loop-part.includes.items c.requires.world (subst (λ (l : List WorldItem). AreIncluded worlds (top_names file) (included l) c.loop-part.includes.items) all c.loop-part.invariant))
+    rw c.from.ensures (includes_are worlds (top_names file) w c.loop-part.includes.items (subst (λ (l : List WorldItem). AreIncluded worlds (top_names file) (included l) c.loop-part.includes.items) all (c.loop-part.invariant fs file named)))

@@ -8,10 +8,9 @@ use Rattle.wit_tree.specs.declared.tree.AstItem.{AstItem}
 use Rattle.wit_tree.specs.declared.tree.AstItem.TheVariants.{Interface as InterfaceItem', World as WorldItem'}
 use Rattle.wit_order.specs.Table.{rows}
 use Rattle.wit_meaning.specs.Source.{Item, TheInterface, TheWorld, top_names, declared_items, item_name}
-use Rattle.wit_meaning.specs.Scope.{paths}
 use Rattle.wit_meaning.specs.Repeats.{AllDiffer}
 use Rattle.wit_meaning.proofs.Refusing.{refused_weaker}
-use Rattle.wit_scope.specs.Checks.{IsLostAmong, IsWrongFile}
+use Rattle.wit_scope.specs.Checks.{IsLostAmong, needed_paths, IsWrongFile}
 use Rattle.wit_scope.proofs.Lost.{lost_item}
 use Rattle.wit_scope.proofs.Gathering.{item_added}
 use Rattle.wit_scope.proofs.item_table.add_items.Goals.{in-Interface+in_ok-interface_edges-in-Interface, in-World+in_ok-world_edges-in-World}
@@ -26,7 +25,7 @@ returns-in_err-interface_edges-in-Interface-clause-refused c =
     let i = c.loop-item.item-index in
     let w : Item = record { top = top; declared = TheInterface c.in-Interface.interface } in
     let at : slice_get file.decl_list.items.items i ≡ Some (InterfaceItem' c.in-Interface.interface) = ap (λ (l : List AstItem). slice_get l i) (sym c.deref-item-items.ensures.value) ∙ slice_get-get_or xs i c.item-item.result c.loop-item-test.true ∙ ap Some (sym c.item-item.is ∙ c.in-Interface.is) in
-    rw (p.1, p.2) (λ is all. refused_weaker (IsLostAmong is top (paths w)) (IsWrongFile is file) _ (λ f h. lost_item is file i (InterfaceItem' c.in-Interface.interface) w f at refl h) (c.in_err-interface_edges-in-Interface.ensures.refused top is c.requires.named all))
+    rw (p.1, p.2) (λ is all. refused_weaker (IsLostAmong is top (needed_paths w)) (IsWrongFile is file) _ (λ f h. lost_item is file i (InterfaceItem' c.in-Interface.interface) w f at refl h) (c.in_err-interface_edges-in-Interface.ensures.refused top is c.requires.named all))
 
 pub returns-in_err-world_edges-in-World-clause-refused : goal.returns-in_err-world_edges-in-World-clause-refused
 returns-in_err-world_edges-in-World-clause-refused c =
@@ -37,7 +36,7 @@ returns-in_err-world_edges-in-World-clause-refused c =
     let i = c.loop-item.item-index in
     let w : Item = record { top = top; declared = TheWorld c.in-World.world } in
     let at : slice_get file.decl_list.items.items i ≡ Some (WorldItem' c.in-World.world) = ap (λ (l : List AstItem). slice_get l i) (sym c.deref-item-items.ensures.value) ∙ slice_get-get_or xs i c.item-item.result c.loop-item-test.true ∙ ap Some (sym c.item-item.is ∙ c.in-World.is) in
-    rw (p.1, p.2) (λ is all. refused_weaker (IsLostAmong is top (paths w)) (IsWrongFile is file) _ (λ f h. lost_item is file i (WorldItem' c.in-World.world) w f at refl h) (c.in_err-world_edges-in-World.ensures.refused top is c.requires.named all))
+    rw (p.1, p.2) (λ is all. refused_weaker (IsLostAmong is top (needed_paths w)) (IsWrongFile is file) _ (λ f h. lost_item is file i (WorldItem' c.in-World.world) w f at refl h) (c.in_err-world_edges-in-World.ensures.refused top is c.requires.named all))
 
 pub loop-item-preserved : goal.loop-item-preserved
 loop-item-preserved c =

@@ -46,4 +46,6 @@ loop-file-preserved c =
       kinds = e.kinds ∙ ap (λ l. l ++ map is_world own) was.kinds ∙ sym (map-append is_world before own) ∙ ap (map is_world) (sym grown);
       tops = rw more (tops_added (take i files) file c.loop-file.self.tops.items c.add_file.new.self.tops.items was.tops e.tops);
       distinct = rw more (tops_more (take i files) file was.distinct e.distinct);
+      visits = e.visits ∙ was.visits;
+      foreign = e.foreign ∙ was.foreign;
     }

@@ -12,4 +12,6 @@ invariant-loop-file l = record {
   kinds : l.self.kinds.items ≡ map is_world (all_items (take l.file-index l.files));
   tops : AreTopsOf (take l.file-index l.files) l.self.tops.items;
   distinct : AreDistinctTops (take l.file-index l.files);
+  visits : l.self.visits ≡ l.fn.self.visits;
+  foreign : l.self.foreign ≡ l.fn.self.foreign;
 }

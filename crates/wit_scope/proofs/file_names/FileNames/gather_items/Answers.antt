@@ -1,12 +1,23 @@
-use Rattle.std.proofs.Common.{subst}
-use Rattle.wit_order.specs.Table.{IsOrder}
+use Rattle.std.proofs.Common.{subst, ◌⊎◌}
+use Rattle.std.proofs.lemmas.Result.{err_from_is_err_and}
+use Rattle.wit_order.specs.Table.{rows, IsOrder}
 use Rattle.wit_meaning.specs.Scope.{item_rows}
-use Rattle.wit_scope.proofs.Gathering.{legal_items}
+use Rattle.wit_meaning.specs.Fault.{item_word}
+use Rattle.wit_meaning.specs.Broken.{IsMissingEdge, IsCyclicEdge, IsBrokenItems}
+use Rattle.wit_meaning.proofs.Refusing.{refused_weaker}
+use Rattle.wit_scope.proofs.Gathering.{broken_order, legal_items}
 use Rattle.wit_scope.proofs.file_names.FileNames.gather_items.Goals as goal
+
+pub returns-in_err-names-2-clause-refused : goal.returns-in_err-names-2-clause-refused
+returns-in_err-names-2-clause-refused c =
+    let p = err_from_is_err_and c.from_residual-in_err-names-2.result c.from_residual-in_err-names-2.ensures.1 in
+    let files = c.args.files.now in
+    let rs = rows c.add_files.new.self.items in
+    rw (p.1, p.2) (refused_weaker (λ f. IsMissingEdge 7 item_word rs f ⊎ IsCyclicEdge 8 item_word rs f) (IsBrokenItems files) _ (broken_order files rs c.in_ok-add_files.ensures.names.items) c.in_err-names-2.ensures.refused)
 
 pub returns-clause-legal : goal.returns-clause-legal
 returns-clause-legal c =
     let files = c.args.files.now in
-    let places = c.in_ok-names.field-0.items in
-    let order : IsOrder (item_rows files) places = subst (λ rs. IsOrder rs places) c.in_ok-add_files.ensures.names.items c.in_ok-names.ensures.order in
+    let places = c.in_ok-names-2.field-0.items in
+    let order : IsOrder (item_rows files) places = subst (λ rs. IsOrder rs places) c.in_ok-add_files.ensures.names.items c.in_ok-names-2.ensures.order in
     legal_items files places c.in_ok-declared.ensures.distinct c.in_ok-add_files.ensures.distinct order

@@ -1,0 +1,68 @@
+-- The table of other packages' items, as it grows visit by visit.
+use Rattle.std.specs.Prelude.{ℕ, not, List, [], ◌∷◌, ◌++◌, length, map, Option, Some, None, nat_eq, if◌then◌else◌}
+use Rattle.std.specs.List.{filter}
+use Rattle.std.specs.Map.{lookup}
+use Rattle.std.specs.Option.{unwrap_or}
+use Rattle.std.specs.Cmp.Lexicographic.{pointwise}
+use Rattle.indexmap.specs.IndexMap.{insert_entry}
+use Rattle.wit_types.specs.declared.stability.Stability.{Stability}
+use Rattle.wit_types.specs.declared.stability.Stability.TheVariants.{Unknown}
+use Rattle.wit_model.specs.declared.ast_item.AstItem.{AstItem}
+use Rattle.wit_model.specs.declared.ast_item.AstItem.TheVariants as entry
+use Rattle.wit_model.specs.declared.package_name.PackageName.{PackageName}
+use Rattle.wit_meaning.specs.Address.{same_package, same_address}
+use Rattle.wit_meaning.specs.Repeats.{firsts}
+use Rattle.wit_meaning.specs.Foreign.{ForeignVisit, visited_package, visited, same_item, is_foreign_world}
+use Rattle.wit_meaning.specs.Whole.{foreign_place}
+
+abbrev pub Visited : Type 0
+Visited = AstItem × List Stability
+
+abbrev pub Items : Type 0
+Items = List (List ℕ × Visited)
+
+-- an item with one more visit: it gets the entry if it had none
+abbrev pub item_more : Option Visited → AstItem → Visited
+item_more None e = (e, Unknown ∷ [])
+item_more (Some i) e = (i.0, i.1 ++ Unknown ∷ [])
+
+-- the items of a package with one more visit
+abbrev pub row_more : Items → List ℕ → AstItem → Items
+row_more es name e = insert_entry (pointwise nat_eq) es name (item_more (lookup (pointwise nat_eq name) es) e)
+
+-- a table of packages with one more visit
+abbrev pub table_more : List (PackageName × Items) → PackageName → List ℕ → AstItem → List (PackageName × Items)
+table_more t p name e = insert_entry same_package t p (row_more (unwrap_or (lookup (same_package p) t) []) name e)
+
+-- the items of visits, and among them interfaces and worlds
+abbrev pub items_of : List ForeignVisit → List ForeignVisit
+items_of vs = firsts same_item vs
+
+abbrev pub interfaces_in : List ForeignVisit → List ForeignVisit
+interfaces_in vs = filter (λ v. not (is_foreign_world v)) (items_of vs)
+
+abbrev pub worlds_in : List ForeignVisit → List ForeignVisit
+worlds_in vs = filter is_foreign_world (items_of vs)
+
+abbrev pub packages_of : List ForeignVisit → List ForeignVisit
+packages_of vs = firsts (λ a b. same_package (visited_package a) (visited_package b)) vs
+
+-- the entry of an item of visits
+abbrev pub entry_in : List ForeignVisit → ForeignVisit → AstItem
+entry_in vs v = if v.wants_world then entry.World (foreign_place (worlds_in vs) v) else entry.Interface (foreign_place (interfaces_in vs) v)
+
+-- an item of visits, with its entry and the stability of each of its visits
+abbrev pub item_in : List ForeignVisit → ForeignVisit → Visited
+item_in vs v = (entry_in vs v, map (λ u. Unknown) (filter (λ u. same_address (visited u) (visited v)) vs))
+
+-- the items of a package
+abbrev pub row_in : List ForeignVisit → PackageName → Items
+row_in vs p = map (λ v. (v.id.name.now, item_in vs v)) (filter (λ v. same_package (visited_package v) p) (items_of vs))
+
+-- the packages of visits, each with its items
+abbrev pub table_in : List ForeignVisit → List (PackageName × Items)
+table_in vs = map (λ v. (visited_package v, row_in vs (visited_package v))) (packages_of vs)
+
+-- the entry that the item of a visit gets if it is new
+abbrev pub entry_next : List ForeignVisit → ForeignVisit → AstItem
+entry_next vs v = if v.wants_world then entry.World (length (worlds_in vs)) else entry.Interface (length (interfaces_in vs))

@@ -1,0 +1,62 @@
+//! The packages that are named, each with its items.
+ghost use Rattle.std.specs.Prelude.{◌≡◌, [], IfOk, OnOk, map, not, nat_eq, position};
+ghost use Rattle.std.specs.Cmp.Lexicographic.{pointwise};
+ghost use Rattle.std.specs.Map.{lookup};
+ghost use Rattle.std.specs.Option.{is_some, unwrap_or};
+ghost use Rattle.indexmap.specs.IndexMap.{insert_entry};
+ghost use Rattle.wit_meaning.specs.Address.{same_package};
+ghost use Rattle.wit_foreign.specs.Kept.{row_more, table_more};
+
+use crate::items::{Items, add_visit_of};
+use std::alloc::{AllocError, Global};
+use wit_model::{AstItem, PackageName};
+use wit_values::{Table, TextTable};
+
+/// Packages, each with its items.
+pub type Packages = Table<PackageName, Items>;
+
+/// The place of a package.
+fn place_of(packages: &Packages, key: &PackageName) -> Option<usize>
+    ensures { result ≡ position (same_package key.now) (map (λ p. p.0) packages.now) }
+{
+    packages.as_map().get_index_of(key)
+}
+
+/// Adds a package, with the item of its first visit.
+fn add_package(
+    alloc: Global,
+    packages: &mut Packages,
+    key: PackageName,
+    name: &str,
+    entry: AstItem,
+) -> Result<(), AllocError>
+    ensures { OnOk result (packages.new ≡ insert_entry same_package packages.old key (row_more [] name.now entry)) }
+{
+    let mut items = TextTable::new(alloc);
+    add_visit_of(alloc, &mut items, name, entry)?;
+    match packages.insert(key, items) {
+        Ok(_) => Ok(()),
+        Err(_) => Err(AllocError),
+    }
+}
+
+/// Adds a visit of an item of a package, which gets the entry if nothing has visited it yet; tells
+/// whether it gets it.
+pub(crate) fn add_visit_in(
+    alloc: Global,
+    packages: &mut Packages,
+    key: PackageName,
+    name: &str,
+    entry: AstItem,
+) -> Result<bool, AllocError>
+    ensures packages { OnOk result (packages.new ≡ table_more packages.old key name.now entry) }
+    ensures fresh { IfOk result (λ fresh. fresh ≡ not (is_some (lookup (pointwise nat_eq name.now) (unwrap_or (lookup (same_package key) packages.old) [])))) }
+{
+    match place_of(packages, &key) {
+        Some(place) => Ok(add_visit_of(alloc, packages.value_mut(place), name, entry)?),
+        None => {
+            add_package(alloc, packages, key, name, entry)?;
+            Ok(true)
+        }
+    }
+}

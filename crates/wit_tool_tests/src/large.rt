@@ -1,0 +1,93 @@
+//! Large packages.
+
+use crate::cases::check_cases;
+use std::alloc::{AllocError, Global};
+use std::test::Fail;
+
+/// A table in which `|N*PIECE|` stands for N times the piece. `$` in a piece is the number of the
+/// time, from 0 on, `^` the next number, and `~` how many times come after it.
+const LARGE: &str = r#"package foo:foo; interface i { type t = |99*list<|u8|99*>|; }
+=>
+package foo:foo
+types 99
+#0 - = list u8
+|97*#^ - = list #$
+|#98 i0.t = list #97
+interfaces 1
+i0 i
+  t = type #98
+worlds 0
+foreign 0
+
+package foo:foo; interface i { type t = |100*list<|u8|100*>|; }
+=>
+error E49 stdin.wit "u8": nested too deeply
+
+package foo:foo; interface i { record r { |300*x$: u8, |} }
+=>
+package foo:foo
+types 1
+#0 i0.r = record|300* x$:u8|
+interfaces 1
+i0 i
+  r = type #0
+worlds 0
+foreign 0
+
+package foo:foo; |199*interface i$ { use i^.{t}; } |interface i199 { type t = u8; }
+=>
+package foo:foo
+types 200
+#0 i0.t = alias u8
+|199*#^ i^.t = alias #$
+|interfaces 200
+|200*i$ i~
+  t = type #$
+|worlds 0
+foreign 0
+
+package foo:foo; interface i { |1999*type d$ = d^; |type d1999 = u8; }
+=>
+package foo:foo
+types 2000
+#0 i0.d1999 = alias u8
+|1999*#^ i0.d~ = alias #$
+|interfaces 1
+i0 i
+|2000*  d~ = type #$
+|worlds 0
+foreign 0"#;
+
+/// Puts a piece of a table behind a text, so many times.
+fn push_times(text: &mut String, times: u32, piece: &str) -> Result<(), AllocError> {
+    for number in 0..times {
+        for letter in piece.chars() {
+            match letter {
+                '$' => write!(text, "{number}")?,
+                '^' => write!(text, "{}", number + 1)?,
+                '~' => write!(text, "{}", times - number - 1)?,
+                _ => text.push(letter)?,
+            }
+        }
+    }
+    Ok(())
+}
+
+/// A table with each piece as often as it stands there.
+fn unfold(alloc: Global, table: &str) -> Result<String, Fail> {
+    let mut text = String::new(alloc);
+    for part in table.split('|') {
+        match part.split_once('*') {
+            Some((times, piece)) => push_times(&mut text, times.parse()?, piece)?,
+            None => text.push_str(part)?,
+        }
+    }
+    Ok(text)
+}
+
+#[test]
+fn goes_through_large_packages(rt: HostRuntime) -> Result<(), Fail> {
+    let alloc = rt.alloc();
+    let cases = unfold(alloc, LARGE)?;
+    check_cases(&rt, alloc, cases.as_str())
+}
