@@ -1,8 +1,8 @@
 //! The names of files.
 //!
-//! A file is written as words: `i:a,b` is an interface `i` that uses from `a` and `b`, `w!a,b` a
-//! world `w` that includes them, `x=a` a `use` of `a` as `x`. A path `q/a` is of a package `p:q`, and
-//! `q/a@1.0.0` of its version. A `|` stands between files. Names have their numbers as spans.
+//! A file is written as words: `i:a,b` is an interface `i` that uses from `a` and `b`, `w!a,.b` a
+//! world `w` that includes `a` and uses from `b`, `x=a` a `use` of `a` as `x`. A path `q/a` is of a
+//! package `p:q`, and `q/a@1.0.0` of its version. A `|` stands between files. Names have their numbers as spans.
 
 ghost use Rattle.wit_scope.specs.FileNames.{AreNamesOf};
 
@@ -62,7 +62,19 @@ fn interface<'a>(
     Ok(AstItem::Interface(Interface { name, items }))
 }
 
-/// A world that includes what some paths lead to.
+/// A part of a world: a `use` of what stands behind a dot, else an include.
+fn world_item<'a>(alloc: Global, word: &'a str, number: &mut u32) -> Result<WorldItem<'a>, Fail> {
+    if let Some(word) = word.strip_prefix('.') {
+        let from = path(alloc, word, number)?;
+        let names = Vec::new(alloc);
+        return Ok(WorldItem::Use(Use { from, names }));
+    }
+    let from = path(alloc, word, number)?;
+    let names = Vec::new(alloc);
+    Ok(WorldItem::Include(Include { from, names }))
+}
+
+/// A world of some parts.
 fn world<'a>(
     alloc: Global,
     name: &'a str,
@@ -73,9 +85,7 @@ fn world<'a>(
     let mut items = Vec::new(alloc);
     for word in paths.split(',') {
         if !word.is_empty() {
-            let from = path(alloc, word, number)?;
-            let names = Vec::new(alloc);
-            items.push(WorldItem::Include(Include { from, names }))?;
+            items.push(world_item(alloc, word, number)?)?;
         }
     }
     Ok(AstItem::World(World { name, items }))
@@ -146,7 +156,14 @@ x=z a:x b:c c:b => E7 1 interface or world `z` does not exist;
 x=z a:b b:a => E8 4 interface or world `b` depends on itself;
 a: a=z | b: => E6 1 duplicate name `a` in this file;
 a: | x=z => E7 2 interface or world `z` does not exist;
-x=a a: | y=x => E7 4 interface or world `x` does not exist";
+x=a a: | y=x => E7 4 interface or world `x` does not exist;
+a!b b! => 1 0 ;
+w!v i:j v! j: => 2 0 3 1 ;
+a!.b,.z b!a => 0 1 ;
+a!q/b b!a => 0 1 ;
+i: i! => E5 1 duplicate item named `i`;
+a!b b!a => E8 2 interface or world `b` depends on itself;
+a!z => E7 1 interface or world `z` does not exist";
 
 #[test]
 fn items_in_order(rt: HostRuntime) -> Result<(), Fail> {

@@ -5,7 +5,8 @@ use std::test::Fail;
 use wit_scope::{Visit, Wanted, visits};
 use wit_tree::Span;
 use wit_tree::tree::{
-    AstItem, DeclList, Id, Interface, InterfaceItem, ToplevelUse, Use, UseName, UsePath,
+    AstItem, DeclList, Id, Include, Interface, InterfaceItem, ToplevelUse, Use, UseName, UsePath,
+    World, WorldItem,
 };
 
 /// A label.
@@ -13,19 +14,15 @@ fn label(name: &'static str) -> Result<Id<'static>, AllocError> {
     Id::new(name, Span::default()).ok_or(AllocError)
 }
 
-/// A `use` of one name in an interface.
-fn used(
-    alloc: Global,
-    from: &'static str,
-    name: &'static str,
-) -> Result<InterfaceItem<'static>, Fail> {
+/// A `use` of one name.
+fn used(alloc: Global, from: &'static str, name: &'static str) -> Result<Use<'static>, Fail> {
     let mut names = Vec::new(alloc);
     names.push(UseName {
         name: label(name)?,
         as_: None,
     })?;
     let from = UsePath::Id(label(from)?);
-    Ok(InterfaceItem::Use(Use { from, names }))
+    Ok(Use { from, names })
 }
 
 /// An interface that uses a name from each of two others.
@@ -36,10 +33,27 @@ fn interface(
     second: &'static str,
 ) -> Result<AstItem<'static>, Fail> {
     let mut items = Vec::new(alloc);
-    items.push(used(alloc, first, "t")?)?;
-    items.push(used(alloc, second, "u")?)?;
+    items.push(InterfaceItem::Use(used(alloc, first, "t")?))?;
+    items.push(InterfaceItem::Use(used(alloc, second, "u")?))?;
     let name = label(name)?;
     Ok(AstItem::Interface(Interface { name, items }))
+}
+
+/// A world that includes one and uses a name from an interface.
+fn world(
+    alloc: Global,
+    name: &'static str,
+    included: &'static str,
+    from: &'static str,
+) -> Result<AstItem<'static>, Fail> {
+    let mut items = Vec::new(alloc);
+    items.push(WorldItem::Include(Include {
+        from: UsePath::Id(label(included)?),
+        names: Vec::new(alloc),
+    }))?;
+    items.push(WorldItem::Use(used(alloc, from, "t")?))?;
+    let name = label(name)?;
+    Ok(AstItem::World(World { name, items }))
 }
 
 /// A `use` at the top of a file.
@@ -99,11 +113,13 @@ fn visits_in_source_order(rt: HostRuntime) -> Result<(), Fail> {
     items.push(toplevel("c")?)?;
     items.push(interface(alloc, "i", "a", "b")?)?;
     items.push(toplevel("i")?)?;
+    items.push(world(alloc, "w", "v", "i")?)?;
     items.push(interface(alloc, "j", "i", "a")?)?;
     let said = told_all(alloc, &DeclList { items })?;
     assert_eq!(rt;
         said.as_str(),
-        "- c - item;i a t interface;i b u interface;- i - item;j i t interface;j a u interface;"
+        "- c - item;i a t interface;i b u interface;- i - item;w v - world;- i t interface;\
+         j i t interface;j a u interface;"
     );
     Ok(())
 }
