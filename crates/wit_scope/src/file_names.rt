@@ -123,10 +123,7 @@ impl<'f, 'a> FileNames<'f, 'a> {
     }
 
     /// The names of files, whatever the `use`s at the top of files name.
-    fn gather_items(
-        alloc: Global,
-        files: &'f [PackageFile<'a>],
-    ) -> ParseResult<FileNames<'f, 'a>>
+    fn gather_items(alloc: Global, files: &'f [PackageFile<'a>]) -> ParseResult<FileNames<'f, 'a>>
         ensures legal { OnOk result ((f : Fault) → IsBrokenItems files.now f → ⊥) }
         ensures names { IfOk result (AreNamesOf files.now) }
         ensures order { IfOk result (λ names. IsOrder (item_rows files.now) names.order.items) }
