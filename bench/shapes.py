@@ -135,8 +135,49 @@ def foreign_names(n):
     return HEADER + interface('z', ['use wasi:io/streams@0.2.0.{%s};' % ', '.join('t%d' % k for k in range(n))])
 
 
+def functions(n):
+    """n functions of an interface, each of two parameters and a result, over one definition."""
+    return HEADER + interface('i', ['type t = list<u8>;'] + ['g%d: func(a: t, b: option<u32>) -> result<t, string>;' % k for k in range(n)])
+
+
+def resources(n):
+    """n resources, each with a constructor, a method and a static function."""
+    return HEADER + interface('i', ['resource r%d { constructor(a: u8); m: func(b: borrow<r%d>) -> u8; s: static func() -> r%d; }' % (k, k, k) for k in range(n)])
+
+
+def handles(n):
+    """n functions over handles of one resource."""
+    return HEADER + interface('i', ['resource r;'] + ['g%d: func(a: borrow<r>, b: own<r>);' % k for k in range(n)])
+
+
+def handle_ends(n):
+    """A chain of n other words for a resource, each with a handle."""
+    return HEADER + interface('i', ['resource r;', 'type t0 = r;'] + ['type t%d = t%d;\ng%d: func(a: borrow<t%d>);' % (k, k - 1, k, k) for k in range(1, n)])
+
+
+def methods(n):
+    """A resource with n methods."""
+    return HEADER + interface('i', ['resource r {'] + ['m%d: func(a: u8) -> r;' % k for k in range(n)] + ['}'])
+
+
+def accessors(n):
+    """n getters and their setters, each setter behind its getter."""
+    return HEADER + interface('i', ['v%d: get() -> u8; v%d: set(a: u8);' % (k, k) for k in range(n)])
+
+
+def early_setters(n):
+    """n setters, and behind them their getters."""
+    return HEADER + interface('i', ['v%d: set(a: u8);' % k for k in range(n)] + ['v%d: get() -> u8;' % k for k in range(n)])
+
+
+def parameters(n):
+    """A function of n parameters."""
+    return HEADER + interface('i', ['f: func(' + ', '.join('p%d: u8' % k for k in range(n)) + ');'])
+
+
 SHAPES = [platform, chain, turned_chain, interfaces, apart, shared, uses, one_use, lists, same_list, fields, nested, worlds,
-          aliases, foreign, foreign_uses, foreign_names, comment]
+          aliases, foreign, foreign_uses, foreign_names, functions, methods, resources, handles, handle_ends, accessors, early_setters,
+          parameters, comment]
 
 if __name__ == '__main__':
     by_name = {shape.__name__.replace('_', '-'): shape for shape in SHAPES}

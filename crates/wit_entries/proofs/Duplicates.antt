@@ -2,7 +2,7 @@
 use Rattle.std.proofs.Common.{◌≡◌, ℕ, false, List, [], ◌∷◌, length, ◌==◌, Some, sym, ap, ◌∙◌}
 use Rattle.wit_tree.specs.declared.tree.Id.{Id}
 use Rattle.wit_meaning.specs.Fault.{Fault}
-use Rattle.wit_meaning.specs.Broken.{folded, IsDuplicateName}
+use Rattle.wit_meaning.specs.Bodies.{folded, IsDuplicateName}
 use Rattle.wit_scope.specs.Names.{IsSecond, IsFirstSecond}
 
 pub duplicate : (names : List Id) (f : Fault) → IsFirstSecond names f → IsDuplicateName names f

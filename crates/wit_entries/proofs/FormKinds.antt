@@ -1,10 +1,12 @@
 -- The kinds of forms over their resolved parts, and what is wrong with a form by its parts.
-use Rattle.std.proofs.Common.{◌≡◌, ℕ, List, [], ◌∷◌, ◌++◌, Option, Some, None, is_some, true, false, inl, inr, refl, sym, ap, ◌∙◌, subst, Contains, Vec, Box, arith}
+use Rattle.std.proofs.Common.{◌≡◌, ℕ, List, [], ◌∷◌, Option, Some, None, is_some, true, false, inl, inr, refl, sym, ap, ◌∙◌, subst, Vec, Box, arith}
 use Rattle.std.specs.Prelude.{slice_get}
 use Rattle.std.specs.Option.{option_to_list}
+use Rattle.std.proofs.lemmas.List.{append-nil}
 use Rattle.std.specs.declared.alloc.Global.{Global}
 use Rattle.wit_values.specs.declared.span.Span.{Span}
 use Rattle.wit_tree.specs.declared.error.ParseError.{ParseError}
+use Rattle.wit_tree.specs.declared.tree.Id.{Id}
 use Rattle.wit_tree.specs.declared.tree.«Type».{«Type» as Written}
 use Rattle.wit_tree.specs.declared.tree.«Type».TheVariants as written
 use Rattle.wit_tree.specs.declared.tree.TypeBody.TheVariants.{Plain}
@@ -13,13 +15,14 @@ use Rattle.wit_types.specs.declared.types.«Type».{«Type» as Ty}
 use Rattle.wit_types.specs.declared.types.TypeDef.{TypeDef}
 use Rattle.wit_types.specs.declared.types.TypeDefKind.TheVariants as kind
 use Rattle.wit_meaning.specs.Form.{ResultForm, FutureForm, StreamForm}
-use Rattle.wit_meaning.specs.Shape.{shape_of}
+use Rattle.wit_meaning.specs.Shape.{shape_of, written_body, words, all_words, handles, all_handles}
 use Rattle.wit_meaning.specs.Address.{Address}
 use Rattle.wit_meaning.specs.Expr.{exprs_of}
 use Rattle.wit_meaning.specs.Meet.{shapes_meetings}
 use Rattle.wit_meaning.specs.Fault.{Fault}
-use Rattle.wit_meaning.specs.Broken.{IsBrokenForm, IsBrokenType, Refused}
-use Rattle.wit_meaning.specs.Resolving.{Env, AreResolved, IsWrongType, AreWrongTypes, IsWrongBody}
+use Rattle.wit_meaning.specs.Bodies.{IsBrokenForm, IsBrokenType}
+use Rattle.wit_meaning.specs.Broken.{Refused}
+use Rattle.wit_meaning.specs.Resolving.{Env, AreResolved, IsWrongWord, IsWrongType, AreWrongTypes, IsWrongBody}
 use Rattle.wit_meaning.proofs.Refusing.{refused_weaker}
 use Rattle.wit_meaning.proofs.Written.{tuple_inner, words-head, wrong_at, wrong_inside, broken_here, AreLegal, legal_none, legal_one, legal_whole}
 use Rattle.wit_entries.specs.Reading.{primitive_in, IsResolved, AreTypes, IsForm}
@@ -47,16 +50,20 @@ stream_form old new env span None o a p = (refl, ap StreamForm a, tt, p)
 stream_form old new env span (Some t) o a p = (refl, ap StreamForm a, tt, p)
 
 -- a refusal of a part is one of the whole
-pub refused_part : (env : Env) (whole : Written) (i : ℕ) (part : Written) (e : ParseError) → slice_get (part_types whole) i ≡ Some part → Refused (IsWrongType env part) e → Refused (IsWrongType env whole) e
-refused_part env whole i part e at h = refused_weaker (IsWrongType env part) (IsWrongType env whole) e (λ f wrong. wrong_inside env whole f (wrong_at env (part_types whole) i part f at wrong)) h
+pub refused_part : (env : Env) (es : List TypeDef) (whole : Written) (i : ℕ) (part : Written) (e : ParseError) → slice_get (part_types whole) i ≡ Some part → Refused (IsWrongType env es part) e → Refused (IsWrongType env es whole) e
+refused_part env es whole i part e at h = refused_weaker (IsWrongType env es part) (IsWrongType env es whole) e (λ f wrong. wrong_inside env es whole f (wrong_at env es (part_types whole) i part f at wrong)) h
 
 -- and one of some of its parts
-pub refused_parts : (env : Env) (whole : Written) (ts : List Written) (e : ParseError) → ((f : Fault) → AreWrongTypes env ts f → AreWrongTypes env (part_types whole) f) → Refused (AreWrongTypes env ts) e → Refused (IsWrongType env whole) e
-refused_parts env whole ts e among h = refused_weaker (AreWrongTypes env ts) (IsWrongType env whole) e (λ f wrong. wrong_inside env whole f (among f wrong)) h
+pub refused_parts : (env : Env) (es : List TypeDef) (whole : Written) (ts : List Written) (e : ParseError) → ((some : List TypeDef) (f : Fault) → AreWrongTypes env some ts f → AreWrongTypes env some (part_types whole) f) → Refused (AreWrongTypes env es ts) e → Refused (IsWrongType env es whole) e
+refused_parts env es whole ts e among h = refused_weaker (AreWrongTypes env es ts) (IsWrongType env es whole) e (λ f wrong. wrong_inside env es whole f (among es f wrong)) h
+
+-- and one of a type by itself
+pub refused_boxed : (env : Env) (es : List TypeDef) (t u : Written) (e : ParseError) → t ≡ u → Refused (IsWrongType env es t) e → Refused (AreWrongTypes env es (u ∷ [])) e
+refused_boxed env es t u e same h = refused_weaker (IsWrongType env es t) (AreWrongTypes env es (u ∷ [])) e (λ f wrong. wrong_at env es (u ∷ []) 0 t f (ap Some (sym same)) wrong) h
 
 -- and one of its form
-pub refused_form : (env : Env) (whole : Written) (P : Fault → Type 0) (e : ParseError) → ((f : Fault) → P f → IsBrokenForm whole f) → Refused P e → Refused (IsWrongType env whole) e
-refused_form env whole P e own h = refused_weaker P (IsWrongType env whole) e (λ f wrong. inl (broken_here whole f (own f wrong))) h
+pub refused_form : (env : Env) (es : List TypeDef) (whole : Written) (P : Fault → Type 0) (e : ParseError) → ((f : Fault) → P f → IsBrokenForm whole f) → Refused P e → Refused (IsWrongType env es whole) e
+refused_form env es whole P e own h = refused_weaker P (IsWrongType env es whole) e (λ f wrong. inl (broken_here whole f (own f wrong))) h
 
 -- a form is legal where its parts are
 pub legal_parts : (whole : Written) (ts : List Written) → ((f : Fault) → IsBrokenForm whole f → ⊥) → part_types whole ≡ ts → AreLegal ts → (f : Fault) → IsBrokenType whole f → ⊥
@@ -75,13 +82,24 @@ legal_primitive (written.Result' span ok err) ty is = absurd (let wrong : ⊥ = 
 legal_primitive (written.Tuple' span shape ts) ty is = absurd (let wrong : ⊥ = cc in wrong)
 legal_primitive (written.Future' span t) ty is = absurd (let wrong : ⊥ = cc in wrong)
 legal_primitive (written.Stream' span t) ty is = absurd (let wrong : ⊥ = cc in wrong)
+legal_primitive (written.Own span id) ty is = absurd (let wrong : ⊥ = cc in wrong)
+legal_primitive (written.Borrow span id) ty is = absurd (let wrong : ⊥ = cc in wrong)
 legal_primitive t ty is = legal_whole t (λ f own. own) legal_none
 
+-- nor does a handle
+pub legal_handle : (t : Written) → part_types t ≡ [] → ((f : Fault) → IsBrokenForm t f → ⊥) → (f : Fault) → IsBrokenType t f → ⊥
+legal_handle t none own = legal_whole t own (subst AreLegal (sym none) legal_none)
+
+-- what is wrong with the name of a handle
+pub refused_handle : (env : Env) (es : List TypeDef) (t : Written) (ids : List Id) (e : ParseError) → words (shape_of t) ≡ ids → handles t ≡ ids → Refused (IsWrongWord env es ids ids) e → Refused (IsWrongType env es t) e
+refused_handle env es t ids e word handle h = refused_weaker (IsWrongWord env es ids ids) (IsWrongType env es t) e (λ f wrong. inr (subst (λ (l : List Id). IsWrongWord env es l (handles t) f) (sym word) (subst (λ (l : List Id). IsWrongWord env es ids l f) (sym handle) wrong))) h
+
+-- a definition has the names of the type that it is
+words-written : (t : Written) → all_words (written_body t).parts ≡ words (shape_of t)
+words-written (written.Own span id) = refl
+words-written t = words-head (shape_of t)
+
 -- what is wrong with a type is wrong with a definition that is the type
-pub wrong_plain : (env : Env) (t : Written) (f : Fault) → IsWrongType env t f → IsWrongBody env (Plain t) f
-wrong_plain env t f (inl broken) = inl (inr (record { t = t; among = (0, omega arith, refl); broken = broken }))
-wrong_plain env t f (inr unknown) = inr (record {
-  id = unknown.id;
-  among = subst (λ ids. Contains ids unknown.id) (sym (words-head (shape_of t))) unknown.among;
-  free = unknown.free;
-})
+pub wrong_plain : (env : Env) (es : List TypeDef) (t : Written) (f : Fault) → IsWrongType env es t f → IsWrongBody env es (Plain t) f
+wrong_plain env es t f (inl broken) = inl (inr (record { t = t; among = (0, omega arith, refl); broken = broken }))
+wrong_plain env es t f (inr word) = inr (subst (λ (l : List Id). IsWrongWord env es l (all_handles (t ∷ [])) f) (sym (words-written t)) (subst (λ (l : List Id). IsWrongWord env es (words (shape_of t)) l f) (sym (append-nil (handles t))) word))

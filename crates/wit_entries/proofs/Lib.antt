@@ -1,5 +1,16 @@
 mod Reading
 mod Known
+mod SignatureTypes
+mod Lost
+mod FunctionParts
+mod FunctionFaults
+mod WholeFunctions
 mod FormKinds
 mod Duplicates
 mod Payloads
+mod Told
+mod Requiring
+pub mod Mangling
+mod Paired
+mod Defining
+mod FunctionRules

@@ -1,15 +1,16 @@
 -- Written types whose parts are resolved: as they stand in a type, and under a name.
-use Rattle.std.proofs.Common.{◌≡◌, ℕ, List, [], ◌∷◌, ◌++◌, Some, refl, sym, ap, subst}
+use Rattle.std.proofs.Common.{◌≡◌, ℕ, List, [], ◌∷◌, ◌++◌, Some, refl, sym, ap, ◌∙◌, subst}
 use Rattle.std.proofs.lemmas.List.{append-nil}
 use Rattle.wit_types.specs.declared.types.«Type».{«Type» as Ty}
 use Rattle.wit_types.specs.declared.types.«Type».TheVariants.{Id}
 use Rattle.wit_types.specs.declared.types.TypeDef.{TypeDef}
 use Rattle.wit_tree.specs.declared.tree.Id.{Id as Name}
 use Rattle.wit_tree.specs.declared.tree.«Type».{«Type» as Written}
+use Rattle.wit_tree.specs.declared.tree.«Type».TheVariants as written
 use Rattle.wit_types.specs.declared.types.TypeDefKind.{TypeDefKind}
 use Rattle.wit_values.specs.declared.span.Span.{Span}
 use Rattle.wit_meaning.specs.Form.{AliasForm, kind_of}
-use Rattle.wit_meaning.specs.Shape.{Shape, Prim, Word, Of, one, shape_of, Body, head}
+use Rattle.wit_meaning.specs.Shape.{Shape, Prim, Word, Of, one, shape_of, Body, head, written_body}
 use Rattle.wit_meaning.specs.Address.{Address}
 use Rattle.wit_meaning.specs.Expr.{exprs_of, expr_of}
 use Rattle.wit_meaning.specs.Expr as exprs
@@ -21,14 +22,14 @@ use Rattle.wit_meaning.proofs.Resolving.{resolved_none, resolved_more, resolved_
 use Rattle.wit_meaning.proofs.Written.{all_exprs-append, all_meetings-append}
 use Rattle.wit_entries.specs.declared.types.Reading.{Reading}
 use Rattle.wit_entries.specs.declared.types.Reading.TheVariants as reading
-use Rattle.wit_entries.specs.Reading.{IsResolved, AreTypes, IsLeaf, IsForm, IsRead, StandsFor, named_kind}
+use Rattle.wit_entries.specs.Reading.{IsResolved, AreTypes, IsLeaf, IsOwn, IsForm, IsRead, StandsFor, named_kind}
 
 -- the type of a name
 pub resolved_word : (es : List TypeDef) (env : Env) (id : Name) (i : ℕ) → env id.name.now ≡ Some i → IsResolved es es env (Word id) (Id i)
 resolved_word es env id i found s = record { same = refl; from = λ decls ms m names. record { now = ms; meets = refl; meeting = m; at = ((i, refl, names.stands id.name.now i found), tt) } }
 
 -- the type of a form, once it is interned
-whole_stands : (old mid new : List TypeDef) (env : Env) (x : Shape) (k : TypeDefKind) (span : Span) (i : ℕ) → IsForm old mid env x k span → IsInterned mid new k span i → IsResolved old new env x (Id i)
+pub whole_stands : (old mid new : List TypeDef) (env : Env) (x : Shape) (k : TypeDefKind) (span : Span) (i : ℕ) → IsForm old mid env x k span → IsInterned mid new k span i → IsResolved old new env x (Id i)
 whole_stands old mid new env (Prim p) k span i form interned s = absurd form
 whole_stands old mid new env (Word id) k span i form interned s = absurd form
 whole_stands old mid new env (Of at f parts) k span i form interned s =
@@ -71,3 +72,14 @@ read_parts old new env x (reading.Leaf t) read s = rw (leaf_head x read.0) (alon
 read_parts old new env (Prim p) (reading.Form k span) read s = absurd read
 read_parts old new env (Word id) (reading.Form k span) read s = absurd read
 read_parts old new env (Of at form parts) (reading.Form k span) read s = read.3 s
+
+-- every other type than one that is handed over stands under a name as it does by itself
+plain_body : (t : Written) → (IsOwn t → ⊥) → written_body t ≡ head (shape_of t)
+plain_body (written.Own span id) other = absurd (other tt)
+plain_body t other = refl
+
+pub plain_form : (old new : List TypeDef) (env : Env) (t : Written) (r : Reading) → (IsOwn t → ⊥) → IsRead old new env (shape_of t) r → (kind_of (named_kind r)).form ≡ (written_body t).form
+plain_form old new env t r other read = read_form old new env (shape_of t) r read ∙ ap (λ (b : Body). b.form) (sym (plain_body t other))
+
+pub plain_parts : (old new : List TypeDef) (env : Env) (t : Written) (r : Reading) → (IsOwn t → ⊥) → IsRead old new env (shape_of t) r → (s : Address) → AreResolved old new s env (shapes_meetings s (written_body t).parts) (exprs_of s (written_body t).parts) (kind_of (named_kind r)).parts
+plain_parts old new env t r other read s = subst (λ (b : Body). AreResolved old new s env (shapes_meetings s b.parts) (exprs_of s b.parts) (kind_of (named_kind r)).parts) (sym (plain_body t other)) (read_parts old new env (shape_of t) r read s)

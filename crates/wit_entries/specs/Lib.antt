@@ -1,2 +1,7 @@
 pub mod Known
 pub mod Reading
+pub mod Told
+pub mod Requiring
+pub mod Held
+pub mod Signatures
+pub mod Taken

@@ -2,6 +2,7 @@
 use Rattle.std.specs.Prelude.{◌≡◌, ℕ, List, [], ◌∷◌, Option, Some, None}
 use Rattle.wit_values.specs.declared.span.Span.{Span}
 use Rattle.wit_tree.specs.declared.tree.«Type».{«Type» as Written}
+use Rattle.wit_tree.specs.declared.tree.«Type».TheVariants as written
 use Rattle.wit_types.specs.declared.types.«Type».{«Type» as Ty}
 use Rattle.wit_types.specs.declared.types.«Type».TheVariants.{Id}
 use Rattle.wit_types.specs.declared.types.TypeDef.{TypeDef}
@@ -36,6 +37,11 @@ abbrev pub IsLeaf : Shape → Type 0
 IsLeaf (Prim p) = Unit {0}
 IsLeaf (Word id) = Unit {0}
 IsLeaf (Of span form parts) = ⊥
+
+-- a resource that is handed over
+abbrev pub IsOwn : Written → Type 0
+IsOwn (written.Own span id) = Unit {0}
+IsOwn t = ⊥
 
 -- a form with this span, and its kind over its resolved parts
 abbrev pub IsForm : List TypeDef → List TypeDef → Env → Shape → TypeDefKind → Span → Type 0

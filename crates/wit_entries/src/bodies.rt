@@ -1,27 +1,31 @@
 //! Bodies of definitions, as kinds of entries.
 ghost use Rattle.std.specs.Prelude.{◌≡◌, ◌⊎◌, [], map, IfOk, IfErr, OnOk};
 ghost use Rattle.std.specs.Option.{option_to_list};
-ghost use Rattle.wit_tree.specs.Parts.{field_types, case_types};
+ghost use Rattle.wit_tree.specs.Parts.{field_types, case_types, body_types};
 ghost use Rattle.wit_meaning.specs.Form.{RecordForm, FlagsForm, VariantForm, EnumForm, kind_of, field_member, flag_member, case_member, enum_case_member, payloads};
-ghost use Rattle.wit_meaning.specs.Shape.{member, written_field, written_flag, written_case, written_enum_case, body_of};
+ghost use Rattle.wit_meaning.specs.Shape.{member, written_field, written_flag, written_case, written_enum_case, written_body, body_of, handles, all_handles};
 ghost use Rattle.wit_meaning.specs.Address.{Address};
 ghost use Rattle.wit_meaning.specs.Expr.{exprs_of};
 ghost use Rattle.wit_meaning.specs.Meet.{shapes_meetings};
 ghost use Rattle.wit_meaning.specs.Fault.{Fault};
-ghost use Rattle.wit_meaning.specs.Broken.{IsBrokenPart, IsBrokenRecord, IsBrokenFlags, IsBrokenVariant, IsBrokenEnum, IsBrokenBody, Refused};
-ghost use Rattle.wit_meaning.specs.Resolving.{env_of, AreResolved, AreWrongTypes, IsWrongBody};
-ghost use Rattle.wit_entries.specs.Reading.{AreTypes};
+ghost use Rattle.wit_meaning.specs.Bodies.{IsBrokenType, IsBrokenPart, IsBrokenRecord, IsBrokenFlags, IsBrokenVariant, IsBrokenEnum, IsBrokenBody};
+ghost use Rattle.wit_meaning.specs.Broken.{Refused};
+ghost use Rattle.wit_meaning.specs.Resolving.{env_of, AreResolved, IsWrongType, AreWrongTypes, IsWrongBody};
+ghost use Rattle.wit_entries.specs.Reading.{AreTypes, IsOwn};
+ghost use Rattle.wit_entries.specs.Requiring.{IsGrown, Requires};
 
 use crate::entries::Entries;
+use crate::names::find_resource;
 use crate::rules::{check_enum, check_flags, check_record, check_variant};
-use crate::scope::Scope;
+use crate::scope::Required;
 use crate::types::{named_kind, read, resolve_type};
 use std::alloc::{AllocError, Global};
 use wit_model::{
-    Case, Docs, Enum, EnumCase, Field, Flag, Flags, Record, Type, TypeDefKind, Variant,
+    Case, Docs, Enum, EnumCase, Field, Flag, Flags, Handle, Record, Type, TypeDefKind, TypeId,
+    Variant,
 };
 use wit_tree::{ParseResult, Span, tree};
-use wit_values::{Row, Text};
+use wit_values::{Row, Text, TextTable};
 
 /// A field of this type.
 fn field(alloc: Global, field: &tree::Field<'_>, ty: Type) -> Result<Field, AllocError>
@@ -40,17 +44,20 @@ fn field(alloc: Global, field: &tree::Field<'_>, ty: Type) -> Result<Field, Allo
 fn resolve_fields(
     alloc: Global,
     types: &mut Entries,
-    scope: &Scope,
+    names: &TextTable<TypeId>,
+    required: &mut Vec<Required>,
     fields: &[tree::Field<'_>],
 ) -> ParseResult<Row<Field>>
-    ensures types { IfOk result (λ r. AreTypes types.old types.new (env_of scope.now.names) (field_types fields.now) (map (λ f. f.ty) r)) }
+    ensures types { IfOk result (λ r. AreTypes types.old types.new (env_of names.now) (field_types fields.now) (map (λ f. f.ty) r)) }
     ensures members { IfOk result (λ r. map field_member r ≡ map written_field fields.now) }
     ensures legal { OnOk result ((f : Fault) → IsBrokenPart (field_types fields.now) f → ⊥) }
-    ensures refused { IfErr result (Refused (AreWrongTypes (env_of scope.now.names) (field_types fields.now))) }
+    ensures handled { OnOk result (Requires (env_of names.now) types.new (all_handles (field_types fields.now)) required.old.items required.new.items) }
+    ensures grown { IsGrown types.old types.new }
+    ensures refused { IfErr result (Refused (AreWrongTypes (env_of names.now) types.new (field_types fields.now))) }
 {
     let mut resolved = Vec::with_capacity(alloc, fields.len())?;
     for written in fields {
-        let ty = resolve_type(alloc, types, scope, &written.ty)?;
+        let ty = resolve_type(alloc, types, names, required, &written.ty)?;
         resolved.push(field(alloc, written, ty)?)?;
     }
     Ok(Row::from(resolved))
@@ -60,18 +67,21 @@ fn resolve_fields(
 fn resolve_record(
     alloc: Global,
     types: &mut Entries,
-    scope: &Scope,
+    names: &TextTable<TypeId>,
+    required: &mut Vec<Required>,
     span: Span,
     fields: &[tree::Field<'_>],
 ) -> ParseResult<TypeDefKind>
-    ensures types { IfOk result (λ r. AreTypes types.old types.new (env_of scope.now.names) (field_types fields.now) (kind_of r).parts) }
+    ensures types { IfOk result (λ r. AreTypes types.old types.new (env_of names.now) (field_types fields.now) (kind_of r).parts) }
     ensures form { IfOk result (λ r. (kind_of r).form ≡ RecordForm (map written_field fields.now)) }
     ensures list { OnOk result ((f : Fault) → IsBrokenRecord fields.now span f → ⊥) }
     ensures legal { OnOk result ((f : Fault) → IsBrokenPart (field_types fields.now) f → ⊥) }
-    ensures refused { IfErr result (Refused (λ f. IsBrokenRecord fields.now span f ⊎ AreWrongTypes (env_of scope.now.names) (field_types fields.now) f)) }
+    ensures handled { OnOk result (Requires (env_of names.now) types.new (all_handles (field_types fields.now)) required.old.items required.new.items) }
+    ensures grown { IsGrown types.old types.new }
+    ensures refused { IfErr result (Refused (λ f. IsBrokenRecord fields.now span f ⊎ AreWrongTypes (env_of names.now) types.new (field_types fields.now) f)) }
 {
     check_record(alloc, span, fields)?;
-    let fields = resolve_fields(alloc, types, scope, fields)?;
+    let fields = resolve_fields(alloc, types, names, required, fields)?;
     Ok(TypeDefKind::Record(Record { fields }))
 }
 
@@ -126,17 +136,20 @@ fn case(alloc: Global, case: &tree::Case<'_>, ty: Option<Type>) -> Result<Case, 
 fn resolve_case(
     alloc: Global,
     types: &mut Entries,
-    scope: &Scope,
+    names: &TextTable<TypeId>,
+    required: &mut Vec<Required>,
     written: &tree::Case<'_>,
 ) -> ParseResult<Case>
-    ensures types { IfOk result (λ r. AreTypes types.old types.new (env_of scope.now.names) (option_to_list written.now.ty) (option_to_list r.ty)) }
+    ensures types { IfOk result (λ r. AreTypes types.old types.new (env_of names.now) (option_to_list written.now.ty) (option_to_list r.ty)) }
     ensures member { IfOk result (λ r. case_member r ≡ written_case written.now) }
     ensures legal { OnOk result ((f : Fault) → IsBrokenPart (option_to_list written.now.ty) f → ⊥) }
-    ensures refused { IfErr result (Refused (AreWrongTypes (env_of scope.now.names) (option_to_list written.now.ty))) }
+    ensures handled { OnOk result (Requires (env_of names.now) types.new (all_handles (option_to_list written.now.ty)) required.old.items required.new.items) }
+    ensures grown { IsGrown types.old types.new }
+    ensures refused { IfErr result (Refused (AreWrongTypes (env_of names.now) types.new (option_to_list written.now.ty))) }
 {
     match &written.ty {
         Some(ty) => {
-            let ty = resolve_type(alloc, types, scope, ty)?;
+            let ty = resolve_type(alloc, types, names, required, ty)?;
             Ok(case(alloc, written, Some(ty))?)
         }
         None => Ok(case(alloc, written, None)?),
@@ -147,17 +160,20 @@ fn resolve_case(
 fn resolve_cases(
     alloc: Global,
     types: &mut Entries,
-    scope: &Scope,
+    names: &TextTable<TypeId>,
+    required: &mut Vec<Required>,
     cases: &[tree::Case<'_>],
 ) -> ParseResult<Row<Case>>
-    ensures types { IfOk result (λ r. AreTypes types.old types.new (env_of scope.now.names) (case_types cases.now) (payloads r)) }
+    ensures types { IfOk result (λ r. AreTypes types.old types.new (env_of names.now) (case_types cases.now) (payloads r)) }
     ensures members { IfOk result (λ r. map case_member r ≡ map written_case cases.now) }
     ensures legal { OnOk result ((f : Fault) → IsBrokenPart (case_types cases.now) f → ⊥) }
-    ensures refused { IfErr result (Refused (AreWrongTypes (env_of scope.now.names) (case_types cases.now))) }
+    ensures handled { OnOk result (Requires (env_of names.now) types.new (all_handles (case_types cases.now)) required.old.items required.new.items) }
+    ensures grown { IsGrown types.old types.new }
+    ensures refused { IfErr result (Refused (AreWrongTypes (env_of names.now) types.new (case_types cases.now))) }
 {
     let mut resolved = Vec::with_capacity(alloc, cases.len())?;
     for written in cases {
-        let case = resolve_case(alloc, types, scope, written)?;
+        let case = resolve_case(alloc, types, names, required, written)?;
         resolved.push(case)?;
     }
     Ok(Row::from(resolved))
@@ -167,18 +183,21 @@ fn resolve_cases(
 fn resolve_variant(
     alloc: Global,
     types: &mut Entries,
-    scope: &Scope,
+    names: &TextTable<TypeId>,
+    required: &mut Vec<Required>,
     span: Span,
     cases: &[tree::Case<'_>],
 ) -> ParseResult<TypeDefKind>
-    ensures types { IfOk result (λ r. AreTypes types.old types.new (env_of scope.now.names) (case_types cases.now) (kind_of r).parts) }
+    ensures types { IfOk result (λ r. AreTypes types.old types.new (env_of names.now) (case_types cases.now) (kind_of r).parts) }
     ensures form { IfOk result (λ r. (kind_of r).form ≡ VariantForm (map written_case cases.now)) }
     ensures list { OnOk result ((f : Fault) → IsBrokenVariant cases.now span f → ⊥) }
     ensures legal { OnOk result ((f : Fault) → IsBrokenPart (case_types cases.now) f → ⊥) }
-    ensures refused { IfErr result (Refused (λ f. IsBrokenVariant cases.now span f ⊎ AreWrongTypes (env_of scope.now.names) (case_types cases.now) f)) }
+    ensures handled { OnOk result (Requires (env_of names.now) types.new (all_handles (case_types cases.now)) required.old.items required.new.items) }
+    ensures grown { IsGrown types.old types.new }
+    ensures refused { IfErr result (Refused (λ f. IsBrokenVariant cases.now span f ⊎ AreWrongTypes (env_of names.now) types.new (case_types cases.now) f)) }
 {
     check_variant(alloc, span, cases)?;
-    let cases = resolve_cases(alloc, types, scope, cases)?;
+    let cases = resolve_cases(alloc, types, names, required, cases)?;
     Ok(TypeDefKind::Variant(Variant { cases }))
 }
 
@@ -220,24 +239,71 @@ fn resolve_enum(
     Ok(TypeDefKind::Enum(Enum { cases }))
 }
 
+/// The kind of a definition that is another word for a type, or its form.
+fn resolve_word(
+    alloc: Global,
+    types: &mut Entries,
+    names: &TextTable<TypeId>,
+    required: &mut Vec<Required>,
+    ty: &tree::Type<'_>,
+) -> ParseResult<TypeDefKind>
+    requires { IsOwn ty.now → ⊥ }
+    ensures parts { IfOk result (λ r. (s : Address) → AreResolved types.old types.new s (env_of names.now)
+        (shapes_meetings s (written_body ty.now).parts) (exprs_of s (written_body ty.now).parts) (kind_of r).parts) }
+    ensures form { IfOk result (λ r. (kind_of r).form ≡ (written_body ty.now).form) }
+    ensures legal { OnOk result ((f : Fault) → IsBrokenType ty.now f → ⊥) }
+    ensures handled { OnOk result (Requires (env_of names.now) types.new (handles ty.now) required.old.items required.new.items) }
+    ensures grown { IsGrown types.old types.new }
+    ensures refused { IfErr result (Refused (IsWrongType (env_of names.now) types.new ty.now)) }
+{
+    let reading = read(alloc, types, names, required, ty)?;
+    Ok(named_kind(reading))
+}
+
+/// The kind of a definition that is a type: a resource that is handed over is a handle there.
+fn resolve_plain(
+    alloc: Global,
+    types: &mut Entries,
+    names: &TextTable<TypeId>,
+    required: &mut Vec<Required>,
+    ty: &tree::Type<'_>,
+) -> ParseResult<TypeDefKind>
+    ensures parts { IfOk result (λ r. (s : Address) → AreResolved types.old types.new s (env_of names.now)
+        (shapes_meetings s (written_body ty.now).parts) (exprs_of s (written_body ty.now).parts) (kind_of r).parts) }
+    ensures form { IfOk result (λ r. (kind_of r).form ≡ (written_body ty.now).form) }
+    ensures legal { OnOk result ((f : Fault) → IsBrokenType ty.now f → ⊥) }
+    ensures handled { OnOk result (Requires (env_of names.now) types.new (handles ty.now) required.old.items required.new.items) }
+    ensures grown { IsGrown types.old types.new }
+    ensures refused { IfErr result (Refused (IsWrongType (env_of names.now) types.new ty.now)) }
+{
+    if let tree::Type::Own(_, id) = ty {
+        let resource = find_resource(alloc, types, names, required, *id)?;
+        return Ok(TypeDefKind::Handle(Handle::Own(resource)));
+    }
+    resolve_word(alloc, types, names, required, ty)
+}
+
 /// The kind of a definition.
 ///
-/// A refusal is E15, a broken rule of types, fields, flags or cases, or want of memory.
+/// A refusal is E15, E27, a broken rule of types, fields, flags or cases, or want of memory.
 pub fn resolve_body(
     alloc: Global,
     types: &mut Entries,
-    scope: &Scope,
+    names: &TextTable<TypeId>,
+    required: &mut Vec<Required>,
     body: &tree::TypeBody<'_>,
 ) -> ParseResult<TypeDefKind>
-    ensures parts { IfOk result (λ r. (s : Address) → AreResolved types.old types.new s (env_of scope.now.names)
+    ensures parts { IfOk result (λ r. (s : Address) → AreResolved types.old types.new s (env_of names.now)
         (shapes_meetings s (body_of body.now).parts) (exprs_of s (body_of body.now).parts) (kind_of r).parts) }
     ensures form { IfOk result (λ r. (kind_of r).form ≡ (body_of body.now).form) }
     ensures legal { OnOk result ((f : Fault) → IsBrokenBody body.now f → ⊥) }
-    ensures refused { IfErr result (Refused (IsWrongBody (env_of scope.now.names) body.now)) }
+    ensures handled { OnOk result (Requires (env_of names.now) types.new (all_handles (body_types body.now)) required.old.items required.new.items) }
+    ensures grown { IsGrown types.old types.new }
+    ensures refused { IfErr result (Refused (IsWrongBody (env_of names.now) types.new body.now)) }
 {
     match body {
         tree::TypeBody::Record { span, fields } => {
-            let kind = resolve_record(alloc, types, scope, *span, fields)?;
+            let kind = resolve_record(alloc, types, names, required, *span, fields)?;
             Ok(kind)
         }
         tree::TypeBody::Flags { span, flags } => {
@@ -245,16 +311,17 @@ pub fn resolve_body(
             Ok(kind)
         }
         tree::TypeBody::Variant { span, cases } => {
-            let kind = resolve_variant(alloc, types, scope, *span, cases)?;
+            let kind = resolve_variant(alloc, types, names, required, *span, cases)?;
             Ok(kind)
         }
         tree::TypeBody::Enum { span, cases } => {
             let kind = resolve_enum(alloc, *span, cases)?;
             Ok(kind)
         }
+        tree::TypeBody::Resource { .. } => Ok(TypeDefKind::Resource),
         tree::TypeBody::Plain(ty) => {
-            let reading = read(alloc, types, scope, ty)?;
-            Ok(named_kind(reading))
+            let kind = resolve_plain(alloc, types, names, required, ty)?;
+            Ok(kind)
         }
     }
 }

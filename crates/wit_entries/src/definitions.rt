@@ -1,10 +1,14 @@
 //! Definitions, as named entries of the arena.
 ghost use Rattle.std.specs.Prelude.{◌≡◌, List, [], ◌∷◌, OnOk, IfErr};
+ghost use Rattle.wit_tree.specs.Parts.{body_types};
 ghost use Rattle.wit_meaning.specs.Address.{Address};
+ghost use Rattle.wit_meaning.specs.Shape.{all_handles};
 ghost use Rattle.wit_meaning.specs.Source.{Defined};
 ghost use Rattle.wit_meaning.specs.Fault.{Fault};
-ghost use Rattle.wit_meaning.specs.Broken.{IsBrokenBody, Refused};
+ghost use Rattle.wit_meaning.specs.Bodies.{IsBrokenBody};
+ghost use Rattle.wit_meaning.specs.Broken.{Refused};
 ghost use Rattle.wit_meaning.specs.Resolving.{Cell, env_of, IsStored, Defines, IsWrongBody};
+ghost use Rattle.wit_entries.specs.Requiring.{IsGrown, Requires};
 
 use crate::bodies::resolve_body;
 use crate::entries::Entries;
@@ -14,7 +18,7 @@ use wit_tree::{ParseResult, tree};
 
 /// Adds a definition behind what is in its body.
 ///
-/// A refusal is E15, a broken rule of types, fields, flags or cases, or want of memory.
+/// A refusal is E15, E27, a broken rule of types, fields, flags or cases, or want of memory.
 pub fn define(
     alloc: Global,
     types: &mut Entries,
@@ -25,9 +29,17 @@ pub fn define(
     ensures owner { OnOk result (scope.new.owner ≡ scope.old.owner) }
     ensures legal { OnOk result ((f : Fault) → IsBrokenBody definition.now.body f → ⊥) }
     ensures stored { OnOk result (IsStored scope.old.names scope.new.names definition.now.name.name.now) }
-    ensures refused { IfErr result (Refused (IsWrongBody (env_of scope.old.names) definition.now.body)) }
+    ensures handled { OnOk result (Requires (env_of scope.old.names) types.new (all_handles (body_types definition.now.body)) scope.old.required.items scope.new.required.items) }
+    ensures grown { IsGrown types.old types.new }
+    ensures refused { IfErr result (Refused (IsWrongBody (env_of scope.old.names) types.new definition.now.body)) }
 {
-    let kind = resolve_body(alloc, types, scope, &definition.body)?;
+    let kind = resolve_body(
+        alloc,
+        types,
+        &scope.names,
+        &mut scope.required,
+        &definition.body,
+    )?;
     let id = definition.name;
     scope.declare(alloc, types, id.name, id.span, kind)?;
     Ok(())

@@ -6,7 +6,10 @@ ghost use Rattle.wit_meaning.specs.Package.{At};
 ghost use Rattle.wit_meaning.specs.Resolving.{IsUnnamedOf, IsInterned, named, unnamed};
 ghost use Rattle.wit_intern.specs.Keys.{key_of};
 ghost use Rattle.wit_entries.specs.Known.{AreKnown, with_key};
+ghost use Rattle.wit_entries.specs.Told.{EndsAt};
+ghost use Rattle.wit_entries.specs.Requiring.{IsGrown};
 
+use crate::ends::{End, add_entry, end_at};
 use std::alloc::{AllocFailed, Global};
 use std::collections::HashMap;
 use std::marker::Model;
@@ -27,18 +30,21 @@ pub struct Entries {
     arena: Arena<TypeDef, TypePlace>,
     // Each unnamed entry stands here; a place that was meant for a refused one may stand here too.
     table: Table,
+    // Where each entry ends.
+    ends: Vec<End>,
 }
 
 impl Model for Entries {
     ghost use Rattle.std.specs.Prelude.{List};
     ghost use Rattle.wit_types.specs.declared.types.TypeDef.{TypeDef};
     ghost use Rattle.wit_entries.specs.Known.{AreKnown};
+    ghost use Rattle.wit_entries.specs.Told.{AreTold};
 
     ghost Value = { List TypeDef };
 
     ghost view = { λ e. e.arena };
 
-    ghost invariant = { λ e. AreKnown (⟦<HashMap<InternKey, TypeId> as InternTable>⟧.content e.table) e.arena };
+    ghost invariant = { λ e. AreKnown (⟦<HashMap<InternKey, TypeId> as InternTable>⟧.content e.table) e.arena × AreTold e.ends.items e.arena };
 }
 
 /// Whether an entry is the unnamed type of a kind.
@@ -94,6 +100,7 @@ impl Entries {
         Entries {
             arena: Arena::new(alloc),
             table: HashMap::new(alloc),
+            ends: Vec::new(alloc),
         }
     }
 
@@ -116,9 +123,10 @@ impl Entries {
     ) -> ParseResult<TypeId>
         ensures id { IfOk result (λ id. id ≡ length self.old) }
         ensures added { OnOk result (self.new ≡ self.old ++ named owner name kind span ∷ []) }
+        ensures grown { IsGrown self.old self.new }
         ensures refused { IfErr result IsWantOfMemory }
     {
-        let id = self.arena.alloc(TypeDef {
+        let entry = TypeDef {
             name: Some(name),
             kind,
             owner,
@@ -126,8 +134,16 @@ impl Entries {
             stability: Stability::default(),
             span,
             external_id: None,
-        })?;
+        };
+        let id = add_entry(&mut self.arena, &mut self.ends, entry)?;
         Ok(id)
+    }
+
+    /// Where the entry at an id ends, through names that are other words for a type.
+    pub fn end(&self, id: TypeId) -> End
+        ensures { EndsAt self.now id result }
+    {
+        end_at(&self.ends, id)
     }
 
     /// The unnamed type of a kind, where there is one. A kind without a key is looked for in each entry.
@@ -160,10 +176,11 @@ impl Entries {
         requires missing { (j : ℕ) (e : TypeDef) → At self.old j e → IsUnnamedOf kind e → ⊥ }
         ensures id { IfOk result (λ id. id ≡ length self.old) }
         ensures added { OnOk result (self.new ≡ self.old ++ unnamed kind span ∷ []) }
+        ensures grown { IsGrown self.old self.new }
         ensures refused { IfErr result IsWantOfMemory }
     {
         set(&mut self.table, key, self.arena.next_id())?;
-        let id = self.arena.alloc(TypeDef {
+        let entry = TypeDef {
             name: None,
             kind,
             owner: TypeOwner::None,
@@ -171,7 +188,8 @@ impl Entries {
             stability: Stability::default(),
             span,
             external_id: None,
-        })?;
+        };
+        let id = add_entry(&mut self.arena, &mut self.ends, entry)?;
         Ok(id)
     }
 
@@ -180,6 +198,7 @@ impl Entries {
     /// The error is want of memory.
     pub fn intern(&mut self, kind: TypeDefKind, span: Span) -> ParseResult<TypeId>
         ensures interned { IfOk result (λ id. IsInterned self.old self.new kind span id) }
+        ensures grown { IsGrown self.old self.new }
         ensures refused { IfErr result IsWantOfMemory }
     {
         let key = InternKey::of(&kind)?;

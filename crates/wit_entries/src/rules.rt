@@ -1,7 +1,8 @@
 //! The rules of types, fields, flags and cases.
 ghost use Rattle.std.specs.Prelude.{◌≡◌, ◌↔◌, OnOk, IfOk, IfErr, IsTrue, map};
 ghost use Rattle.wit_meaning.specs.Fault.{Fault};
-ghost use Rattle.wit_meaning.specs.Broken.{IsKey, IsInvalidKey, IsEmptyTuple, IsFlagTooMany, IsDuplicateName, IsBrokenRecord, IsBrokenFlags, IsBrokenVariant, IsBrokenEnum, Refused};
+ghost use Rattle.wit_meaning.specs.Bodies.{IsKey, IsInvalidKey, IsEmptyTuple, IsFlagTooMany, IsDuplicateName, IsBrokenRecord, IsBrokenFlags, IsBrokenVariant, IsBrokenEnum};
+ghost use Rattle.wit_meaning.specs.Broken.{Refused};
 
 use std::alloc::{AllocError, Global};
 use wit_scope::check_unique_names;

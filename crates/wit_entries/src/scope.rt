@@ -2,12 +2,16 @@
 ghost use Rattle.std.specs.Prelude.{◌≡◌, OnOk, IfErr};
 ghost use Rattle.wit_tree.specs.Refusal.{IsWantOfMemory};
 ghost use Rattle.wit_meaning.specs.Resolving.{IsAdded};
+ghost use Rattle.wit_entries.specs.Requiring.{IsGrown};
 
 use crate::entries::Entries;
 use std::alloc::Global;
 use wit_model::{TypeDefKind, TypeId, TypeOwner};
 use wit_tree::{ParseResult, Span};
 use wit_values::{Text, TextTable};
+
+/// A type of another package that has to be a resource, and where a handle names it.
+pub type Required = (TypeId, Span);
 
 /// The names of an interface or a world, while it is resolved.
 #[derive(Drop)]
@@ -16,6 +20,8 @@ pub struct Scope {
     pub owner: TypeOwner,
     /// What each name stands for.
     pub names: TextTable<TypeId>,
+    /// What handles require of types of other packages, in the order in which they are resolved.
+    pub required: Vec<Required>,
 }
 
 impl Scope {
@@ -32,6 +38,8 @@ impl Scope {
     ) -> ParseResult<()>
         ensures added { OnOk result (IsAdded types.old types.new self.old.owner self.old.names self.new.names name.now span kind) }
         ensures owner { OnOk result (self.new.owner ≡ self.old.owner) }
+        ensures required { self.new.required ≡ self.old.required }
+        ensures grown { IsGrown types.old types.new }
         ensures refused { IfErr result IsWantOfMemory }
     {
         let id = types.add_named(self.owner, Text::from_str(alloc, name)?, kind, span)?;

@@ -1,24 +1,24 @@
 //! Written types, as types of the arena.
-ghost use Rattle.std.specs.Prelude.{◌≡◌, List, [], ◌∷◌, IfOk, IfErr, OnOk, is_some};
+ghost use Rattle.std.specs.Prelude.{◌≡◌, IfOk, IfErr, OnOk, is_some};
 ghost use Rattle.std.specs.Option.{option_to_list};
 ghost use Rattle.wit_tree.specs.Refusal.{IsWantOfMemory};
 ghost use Rattle.wit_tree.specs.Parts.{boxed_types};
-ghost use Rattle.wit_types.specs.declared.types.TypeDef.{TypeDef};
-ghost use Rattle.wit_meaning.specs.Shape.{Word, shape_of};
+ghost use Rattle.wit_meaning.specs.Shape.{shape_of, handles, all_handles};
 ghost use Rattle.wit_meaning.specs.Fault.{Fault};
-ghost use Rattle.wit_meaning.specs.Broken.{IsBrokenType, IsBrokenPart, Refused};
-ghost use Rattle.wit_meaning.specs.Resolving.{env_of, IsUnknown, IsWrongType, AreWrongTypes};
+ghost use Rattle.wit_meaning.specs.Bodies.{IsBrokenType, IsBrokenPart};
+ghost use Rattle.wit_meaning.specs.Broken.{Refused};
+ghost use Rattle.wit_meaning.specs.Resolving.{env_of, IsWrongType, AreWrongTypes};
 ghost use Rattle.wit_entries.specs.Reading.{primitive_in, IsResolved, AreTypes, IsLeaf, IsRead, StandsFor, named_kind as the_named_kind};
+ghost use Rattle.wit_entries.specs.Requiring.{IsGrown, Requires};
 
 use crate::entries::Entries;
+use crate::names::{find_name, find_resource};
 use crate::rules::{check_key, check_tuple};
-use crate::scope::Scope;
+use crate::scope::Required;
 use std::alloc::Global;
-use wit_model::{Result_, Tuple, Type, TypeDefKind};
-use wit_scope::refusal::refuse_missing_type;
-use wit_tree::tree::Id;
+use wit_model::{Handle, Result_, Tuple, Type, TypeDefKind, TypeId};
 use wit_tree::{ParseResult, Span, tree};
-use wit_values::Row;
+use wit_values::{Row, TextTable};
 
 /// A written type over its resolved parts.
 #[derive(Drop)]
@@ -56,24 +56,16 @@ fn primitive(ty: &tree::Type<'_>) -> Option<Type>
         | tree::Type::Result(_, _, _)
         | tree::Type::Tuple(_, _)
         | tree::Type::Future(_, _)
-        | tree::Type::Stream(_, _) => None,
-    }
-}
-
-/// What a name of the scope stands for.
-fn find_type(alloc: Global, scope: &Scope, id: Id<'_>) -> ParseResult<Type>
-    ensures found { IfOk result (λ ty. (types : List TypeDef) → IsResolved types types (env_of scope.now.names) (Word id.entry) ty) }
-    ensures refused { IfErr result (Refused (IsUnknown (env_of scope.now.names) (id.entry ∷ []))) }
-{
-    match scope.names.get(id.name) {
-        Some(found) => Ok(Type::Id(*found)),
-        None => Err(refuse_missing_type(alloc, id)),
+        | tree::Type::Stream(_, _)
+        | tree::Type::Own(_, _)
+        | tree::Type::Borrow(_, _) => None,
     }
 }
 
 /// The type that this is; a form's kind is interned.
 fn type_of(types: &mut Entries, reading: Reading) -> ParseResult<Type>
     ensures stands { IfOk result (StandsFor types.old types.new reading) }
+    ensures grown { IsGrown types.old types.new }
     ensures refused { IfErr result IsWantOfMemory }
 {
     match reading {
@@ -90,72 +82,86 @@ fn type_of(types: &mut Entries, reading: Reading) -> ParseResult<Type>
 pub(crate) fn read(
     alloc: Global,
     types: &mut Entries,
-    scope: &Scope,
+    names: &TextTable<TypeId>,
+    required: &mut Vec<Required>,
     ty: &tree::Type<'_>,
 ) -> ParseResult<Reading>
-    ensures read { IfOk result (IsRead types.old types.new (env_of scope.now.names) (shape_of ty.now)) }
+    ensures read { IfOk result (IsRead types.old types.new (env_of names.now) (shape_of ty.now)) }
     ensures legal { OnOk result ((f : Fault) → IsBrokenType ty.now f → ⊥) }
-    ensures refused { IfErr result (Refused (IsWrongType (env_of scope.now.names) ty.now)) }
+    ensures handled { OnOk result (Requires (env_of names.now) types.new (handles ty.now) required.old.items required.new.items) }
+    ensures grown { IsGrown types.old types.new }
+    ensures refused { IfErr result (Refused (IsWrongType (env_of names.now) types.new ty.now)) }
 {
     if let Some(found) = primitive(ty) {
         return Ok(Reading::Leaf(found));
     }
     if let tree::Type::Name(id) = ty {
-        let found = find_type(alloc, scope, *id)?;
-        return Ok(Reading::Leaf(found));
+        let found = find_name(alloc, names, *id)?;
+        return Ok(Reading::Leaf(Type::Id(found)));
     }
-    read_form(alloc, types, scope, ty)
+    if let tree::Type::Own(_, id) = ty {
+        let resource = find_resource(alloc, types, names, required, *id)?;
+        return Ok(Reading::Leaf(Type::Id(resource)));
+    }
+    read_form(alloc, types, names, required, ty)
 }
 
-/// A type that is neither a primitive nor a name. Each form of types is told here alone.
+/// A type that is neither a primitive nor a name, nor a resource that is handed over. Each form of types is told here alone.
 #[cycle(types)]
 fn read_form(
     alloc: Global,
     types: &mut Entries,
-    scope: &Scope,
+    names: &TextTable<TypeId>,
+    required: &mut Vec<Required>,
     ty: &tree::Type<'_>,
 ) -> ParseResult<Reading>
     requires { IsLeaf (shape_of ty.now) → ⊥ }
-    ensures read { IfOk result (IsRead types.old types.new (env_of scope.now.names) (shape_of ty.now)) }
+    ensures read { IfOk result (IsRead types.old types.new (env_of names.now) (shape_of ty.now)) }
     ensures legal { OnOk result ((f : Fault) → IsBrokenType ty.now f → ⊥) }
-    ensures refused { IfErr result (Refused (IsWrongType (env_of scope.now.names) ty.now)) }
+    ensures handled { OnOk result (Requires (env_of names.now) types.new (handles ty.now) required.old.items required.new.items) }
+    ensures grown { IsGrown types.old types.new }
+    ensures refused { IfErr result (Refused (IsWrongType (env_of names.now) types.new ty.now)) }
 {
     match ty {
         tree::Type::List(span, item) => {
-            let item = resolve_type(alloc, types, scope, item)?;
+            let item = resolve_type(alloc, types, names, required, item)?;
             Ok(Reading::Form(TypeDefKind::List(item), *span))
         }
         tree::Type::FixedLengthList(span, item, size) => {
-            let item = resolve_type(alloc, types, scope, item)?;
+            let item = resolve_type(alloc, types, names, required, item)?;
             Ok(Reading::Form(TypeDefKind::FixedLengthList(item, *size), *span))
         }
         tree::Type::Map(span, key, value) => {
-            let key_type = resolve_type(alloc, types, scope, key)?;
-            let value_type = resolve_type(alloc, types, scope, value)?;
+            let key_type = resolve_type(alloc, types, names, required, key)?;
+            let value_type = resolve_type(alloc, types, names, required, value)?;
             check_key(alloc, *span, key)?;
             Ok(Reading::Form(TypeDefKind::Map(key_type, value_type), *span))
         }
         tree::Type::Option(span, value) => {
-            let value = resolve_type(alloc, types, scope, value)?;
+            let value = resolve_type(alloc, types, names, required, value)?;
             Ok(Reading::Form(TypeDefKind::Option(value), *span))
         }
         tree::Type::Result(span, ok, err) => {
-            let ok = resolve_optional(alloc, types, scope, ok)?;
-            let err = resolve_optional(alloc, types, scope, err)?;
+            let ok = resolve_optional(alloc, types, names, required, ok)?;
+            let err = resolve_optional(alloc, types, names, required, err)?;
             Ok(Reading::Form(TypeDefKind::Result(Result_ { ok, err }), *span))
         }
         tree::Type::Tuple(span, parts) => {
             check_tuple(alloc, *span, parts)?;
-            let types = resolve_types(alloc, types, scope, parts)?;
+            let types = resolve_types(alloc, types, names, required, parts)?;
             Ok(Reading::Form(TypeDefKind::Tuple(Tuple { types }), *span))
         }
         tree::Type::Future(span, value) => {
-            let value = resolve_optional(alloc, types, scope, value)?;
+            let value = resolve_optional(alloc, types, names, required, value)?;
             Ok(Reading::Form(TypeDefKind::Future(value), *span))
         }
         tree::Type::Stream(span, item) => {
-            let item = resolve_optional(alloc, types, scope, item)?;
+            let item = resolve_optional(alloc, types, names, required, item)?;
             Ok(Reading::Form(TypeDefKind::Stream(item), *span))
+        }
+        tree::Type::Borrow(span, id) => {
+            let resource = find_resource(alloc, types, names, required, *id)?;
+            Ok(Reading::Form(TypeDefKind::Handle(Handle::Borrow(resource)), *span))
         }
         _ => unreachable!(),
     }
@@ -166,17 +172,20 @@ fn read_form(
 fn resolve_optional(
     alloc: Global,
     types: &mut Entries,
-    scope: &Scope,
+    names: &TextTable<TypeId>,
+    required: &mut Vec<Required>,
     ty: &Option<Box<tree::Type<'_>>>,
 ) -> ParseResult<Option<Type>>
     ensures is_some { IfOk result (λ r. is_some r ≡ is_some ty.now) }
-    ensures resolved { IfOk result (λ r. AreTypes types.old types.new (env_of scope.now.names) (boxed_types ty.now) (option_to_list r)) }
+    ensures resolved { IfOk result (λ r. AreTypes types.old types.new (env_of names.now) (boxed_types ty.now) (option_to_list r)) }
     ensures legal { OnOk result ((f : Fault) → IsBrokenPart (boxed_types ty.now) f → ⊥) }
-    ensures refused { IfErr result (Refused (AreWrongTypes (env_of scope.now.names) (boxed_types ty.now))) }
+    ensures handled { OnOk result (Requires (env_of names.now) types.new (all_handles (boxed_types ty.now)) required.old.items required.new.items) }
+    ensures grown { IsGrown types.old types.new }
+    ensures refused { IfErr result (Refused (AreWrongTypes (env_of names.now) types.new (boxed_types ty.now))) }
 {
     match ty {
         Some(ty) => {
-            let found = resolve_type(alloc, types, scope, ty)?;
+            let found = resolve_type(alloc, types, names, required, ty)?;
             Ok(Some(found))
         }
         None => Ok(None),
@@ -188,16 +197,19 @@ fn resolve_optional(
 fn resolve_types(
     alloc: Global,
     types: &mut Entries,
-    scope: &Scope,
+    names: &TextTable<TypeId>,
+    required: &mut Vec<Required>,
     parts: &[tree::Type<'_>],
 ) -> ParseResult<Row<Type>>
-    ensures resolved { IfOk result (λ r. AreTypes types.old types.new (env_of scope.now.names) parts.now r) }
+    ensures resolved { IfOk result (λ r. AreTypes types.old types.new (env_of names.now) parts.now r) }
     ensures legal { OnOk result ((f : Fault) → IsBrokenPart parts.now f → ⊥) }
-    ensures refused { IfErr result (Refused (AreWrongTypes (env_of scope.now.names) parts.now)) }
+    ensures handled { OnOk result (Requires (env_of names.now) types.new (all_handles parts.now) required.old.items required.new.items) }
+    ensures grown { IsGrown types.old types.new }
+    ensures refused { IfErr result (Refused (AreWrongTypes (env_of names.now) types.new parts.now)) }
 {
     let mut resolved = Vec::with_capacity(alloc, parts.len())?;
     for part in parts {
-        let ty = resolve_type(alloc, types, scope, part)?;
+        let ty = resolve_type(alloc, types, names, required, part)?;
         resolved.push(ty)?;
     }
     Ok(Row::from(resolved))
@@ -205,19 +217,22 @@ fn resolve_types(
 
 /// The type that a written one stands for.
 ///
-/// A refusal is E15, E22 or E26 at a type in it, or want of memory.
+/// A refusal is E15, E22, E26 or E27 at a type in it, or want of memory.
 #[cycle(types)]
 pub fn resolve_type(
     alloc: Global,
     types: &mut Entries,
-    scope: &Scope,
+    names: &TextTable<TypeId>,
+    required: &mut Vec<Required>,
     ty: &tree::Type<'_>,
 ) -> ParseResult<Type>
-    ensures resolved { IfOk result (IsResolved types.old types.new (env_of scope.now.names) (shape_of ty.now)) }
+    ensures resolved { IfOk result (IsResolved types.old types.new (env_of names.now) (shape_of ty.now)) }
     ensures legal { OnOk result ((f : Fault) → IsBrokenType ty.now f → ⊥) }
-    ensures refused { IfErr result (Refused (IsWrongType (env_of scope.now.names) ty.now)) }
+    ensures handled { OnOk result (Requires (env_of names.now) types.new (handles ty.now) required.old.items required.new.items) }
+    ensures grown { IsGrown types.old types.new }
+    ensures refused { IfErr result (Refused (IsWrongType (env_of names.now) types.new ty.now)) }
 {
-    let reading = read(alloc, types, scope, ty)?;
+    let reading = read(alloc, types, names, required, ty)?;
     let ty = type_of(types, reading)?;
     Ok(ty)
 }

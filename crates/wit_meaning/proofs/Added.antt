@@ -19,10 +19,16 @@ use Rattle.wit_meaning.specs.Source.{address, Item, all_items, item_id, item_nam
 use Rattle.wit_meaning.specs.Foreign.{visited, foreign_interfaces, foreign_worlds}
 use Rattle.wit_meaning.specs.Scope.{in_turn}
 use Rattle.wit_meaning.specs.Meet.{Meeting, Decls}
+use Rattle.wit_model.specs.declared.function.Function.{Function}
+use Rattle.wit_meaning.specs.Signature.{IsUnpairedSetter}
+use Rattle.wit_meaning.specs.Functions.{by_name, placed_functions, function_import}
+use Rattle.wit_meaning.proofs.FreeNames.{free_of, AreStated}
+use Rattle.wit_meaning.proofs.Placed.{function_placed, function_from}
+use Rattle.std.proofs.lemmas.Grind.{flat_map-append}
 use Rattle.wit_meaning.specs.Broken.{IsBrokenUse}
-use Rattle.wit_meaning.specs.Package.{IsInterface, IsWorld, import_types, world_types}
-use Rattle.wit_meaning.specs.Whole.{Ordered, Turned, owner_at, ordered_names, taking_meeting, all_meetings, declarations, type_imports, IsInclude, AreIncludes}
-use Rattle.wit_meaning.specs.Resolving.{Names, Cell, cell, cells, Defines, decls_of, local_names}
+use Rattle.wit_meaning.specs.Package.{IsInterface, IsWorld, import_types, world_types, import_functions, world_functions}
+use Rattle.wit_meaning.specs.Whole.{Ordered, Turned, owner_at, taking_meeting, all_meetings, declarations, type_imports, IsInclude, AreIncludes}
+use Rattle.wit_meaning.specs.Resolving.{Names, Cell, Required, cell, cells, Defines, decls_of, local_names}
 use Rattle.wit_meaning.specs.Resolved.{AddsInterface, AddsInterfaces, worlds_at, AddsWorld, AddsWorlds, AddsForeign}
 use Rattle.wit_meaning.proofs.Lists.{at_front, at_back, at_split, append-cancel, map_at}
 use Rattle.wit_meaning.proofs.Turns.{at_part}
@@ -38,15 +44,25 @@ use Rattle.wit_meaning.proofs.Laid.{AreDone, ordered_at, item_of_entry, IsNextDo
 abbrev pub SaysInterface : Ordered → Interface → Type 0
 SaysInterface o i = IsInterface (item_id o.item) i
 
--- a world of the arena is the item, with its types as its imports and with its includes, where the worlds have these addresses
+-- it has the functions of a scope, each setter behind its getter
+pub record MakesInterface (c : DoneScope) (i : Interface) : Type 0 where
+  pub functions : i.functions ≡ placed_functions c.made
+  pub stated : c.stated ≡ i.functions
+  pub paired : (f : Fault) → IsUnpairedSetter c.functions f → ⊥
+
+-- a world of the arena is the item, with its includes, where the worlds have these addresses
 pub record SaysWorld (worlds : List Address) (o : Ordered) (w : World) : Type 0 where
   pub says : IsWorld (item_id o.item) w
-  pub imports : w.imports ≡ type_imports (ordered_names o) (world_types w)
   pub includes : AreIncludes worlds o.item w.includes
+
+-- it has the types of a scope as its imports, and then the functions
+pub record MakesWorld (c : DoneScope) (w : World) : Type 0 where
+  pub imports : w.imports ≡ type_imports c.names c.types ++ map function_import c.made
+  pub stated : c.stated ≡ world_functions w
 
 -- a world that was resolved, as a scope
 abbrev pub world_cell : World → Cell
-world_cell w = record { address = WorldNamed w.name; types = world_types w }
+world_cell w = record { address = WorldNamed w.name; types = world_types w; functions = free_of (world_functions w) }
 
 -- the types among imports that names of a scope are
 pub world_types_of : (xs : List ScopeName) (types : Names) → map (λ p. p.0) types ≡ local_names xs → flat_map import_types (type_imports xs types) ≡ types
@@ -57,6 +73,43 @@ world_types_of (x ∷ xs) ((name, id) ∷ types) listed =
     let first : name ≡ local_name x = cc in
     let rest : map (λ p. p.0) types ≡ local_names xs = cc in
     ap (λ (n : List ℕ). (n, id) ∷ flat_map import_types (type_imports xs types)) (sym first) ∙ ap (λ (l : Names). (name, id) ∷ l) (world_types_of xs types rest)
+
+-- none of these is a function, and no function is one of them
+no_functions_of : (xs : List ScopeName) (types : Names) → flat_map import_functions (type_imports xs types) ≡ []
+no_functions_of [] [] = refl
+no_functions_of [] (t ∷ types) = refl
+no_functions_of (x ∷ xs) [] = refl
+no_functions_of (x ∷ xs) ((name, id) ∷ types) = no_functions_of xs types
+
+no_types_of : (fs : List Function) → flat_map import_types (map function_import fs) ≡ []
+no_types_of [] = refl
+no_types_of (f ∷ fs) = no_types_of fs
+
+functions_imported : (fs : List Function) → flat_map import_functions (map function_import fs) ≡ map by_name fs
+functions_imported [] = refl
+functions_imported (f ∷ fs) = ap (λ (l : List (List ℕ × Function)). (f.name, f) ∷ l) (functions_imported fs)
+
+-- the types among imports, and the functions
+world_types-all : (xs : List ScopeName) (types : Names) (fs : List Function) → map (λ p. p.0) types ≡ local_names xs → flat_map import_types (type_imports xs types ++ map function_import fs) ≡ types
+world_types-all xs types fs listed = flat_map-append import_types (type_imports xs types) (map function_import fs) ∙ ap (λ (l : Names). l ++ flat_map import_types (map function_import fs)) (world_types_of xs types listed) ∙ ap (λ (l : Names). types ++ l) (no_types_of fs) ∙ append-nil types
+
+world_functions-all : (xs : List ScopeName) (types : Names) (fs : List Function) → flat_map import_functions (type_imports xs types ++ map function_import fs) ≡ map by_name fs
+world_functions-all xs types fs = flat_map-append import_functions (type_imports xs types) (map function_import fs) ∙ ap (λ (l : List (List ℕ × Function)). l ++ flat_map import_functions (map function_import fs)) (no_functions_of xs types) ∙ functions_imported fs
+
+-- functions under their names
+stated_by_name : (fs : List Function) → AreStated fs (map by_name fs)
+stated_by_name fs = record {
+  has = λ k f at. (k, slice_get-map by_name fs k ∙ ap (option_map by_name) at);
+  from = λ place name f at. (
+      let g = map_at by_name fs place (name, f) at in
+      let same : g.0 ≡ f = ap (λ (x : List ℕ × Function). x.1) g.2 in
+      let called : g.0.name ≡ name = ap (λ (x : List ℕ × Function). x.0) g.2 in
+      (place, g.1 ∙ ap Some same, ap (λ (x : Function). x.name) (sym same) ∙ called));
+}
+
+-- functions whose setters were placed
+stated_placed : (fs : List Function) (stated : List (List ℕ × Function)) → stated ≡ placed_functions fs → AreStated fs stated
+stated_placed fs stated are = subst (AreStated fs) (sym are) (record { has = function_placed fs; from = function_from fs })
 
 -- what names define beside some scopes, they define beside more
 pub defines_wider : (old new : List TypeDef) (cs ds : List Cell) (o : TypeOwner) (s : Address) (names names' : Names) (xs : List ScopeName) → ((t : ℕ) (c : Cell) → slice_get cs t ≡ Some c → (j : ℕ) × (slice_get ds j ≡ Some c)) → Defines old new cs o s names names' xs → Defines old new ds o s names names' xs
@@ -77,11 +130,11 @@ includes_wider some all item is wider h = record {
   each = λ k written i at there. include_wider some all item.top written i wider (h.each k written i at there);
 }
 
-abbrev called_cell : Names → Option (List ℕ) → Cell
-called_cell types name = record { address = InterfaceNamed (unwrap_or name []); types = types }
+abbrev called_cell : Names → List (List ℕ × Function) → Option (List ℕ) → Cell
+called_cell types stated name = record { address = InterfaceNamed (unwrap_or name []); types = types; functions = free_of stated }
 
-abbrev named_world : Names → List ℕ → Cell
-named_world types name = record { address = WorldNamed name; types = types }
+abbrev named_world : Names → List (List ℕ × Function) → List ℕ → Cell
+named_world types stated name = record { address = WorldNamed name; types = types; functions = free_of stated }
 
 -- the addresses of interfaces, behind those of other packages, and of worlds
 abbrev pub interface_list : List PackageFile → List Item → List Address
@@ -102,11 +155,11 @@ declared_by : (files : List PackageFile) (is ws : List Item) (s : Address) (o : 
 declared_by files is ws s o known = ap (λ (x : TypeOwner). decls_of x s (scope files s)) known
 
 -- each adds one entry
-interface_grows : (ss : List Address) (old new : List TypeDef) (xs xs' : List Interface) (w : Item) → AddsInterface ss old new xs xs' w → (x : Interface) × (xs' ≡ xs ++ x ∷ [])
-interface_grows ss old new xs xs' w a = (a.added, a.last)
+interface_grows : (ss : List Address) (old new : List TypeDef) (xs xs' : List Interface) (rs : List Required) (w : Item) → AddsInterface ss old new xs xs' rs w → (x : Interface) × (xs' ≡ xs ++ x ∷ [])
+interface_grows ss old new xs xs' rs w a = (a.added, a.last)
 
-world_grows : (ss others : List Address) (is : List Interface) (old new : List TypeDef) (xs xs' : List World) (w : Item) → AddsWorld ss others is old new xs xs' w → (x : World) × (xs' ≡ xs ++ x ∷ [])
-world_grows ss others is old new xs xs' w a = (a.added, a.last)
+world_grows : (ss others : List Address) (is : List Interface) (old new : List TypeDef) (xs xs' : List World) (rs : List Required) (w : Item) → AddsWorld ss others is old new xs xs' rs w → (x : World) × (xs' ≡ xs ++ x ∷ [])
+world_grows ss others is old new xs xs' rs w a = (a.added, a.last)
 
 -- one more behind a front
 last_behind : {X : Type 0} (front xs xs' : List X) (x : X) → front ++ xs' ≡ (front ++ xs) ++ x ∷ [] → xs' ≡ xs ++ x ∷ []
@@ -117,22 +170,22 @@ module _ (files : List PackageFile) (is ws : List Item) where
   decls = declarations files (interface_list files is) (world_list files ws)
 
   -- the first interfaces are done, behind these of other packages
-  abbrev pub InterfacesDone : List Interface → List Item → List TypeDef → List Interface → Type 0
-  InterfacesDone front us es xs = AreDone (InterfaceOwner files) SaysInterface cell files decls [] (front_scopes files front) is us es xs
+  abbrev pub InterfacesDone : List Interface → List Item → List TypeDef → List Interface → List Required → Type 0
+  InterfacesDone front us es xs rs = AreDone (InterfaceOwner files) SaysInterface cell MakesInterface files decls [] (front_scopes files front) is us es xs rs
 
   -- the first worlds are done, behind interfaces
-  abbrev pub WorldsDone : List Interface → List Ordered → List DoneScope → List Item → List TypeDef → List World → Type 0
-  WorldsDone front base first us es xs = AreDone (WorldOwner files) (SaysWorld (world_list files ws)) world_cell files decls base (front_scopes files front ++ first) ws us es xs
+  abbrev pub WorldsDone : List Interface → List Ordered → List DoneScope → List Item → List TypeDef → List World → List Required → Type 0
+  WorldsDone front base first us es xs rs = AreDone (WorldOwner files) (SaysWorld (world_list files ws)) world_cell MakesWorld files decls base (front_scopes files front ++ first) ws us es xs rs
 
   module _ (interfaces : AreOfSort false is) (worlds : AreOfSort true ws) (is_items : AreItems files is) (ws_items : AreItems files ws) where
     -- no two addresses are one
     all_addresses : AreAddresses (interface_list files is) (world_list files ws)
     all_addresses = addresses_join (map visited (foreign_interfaces files)) (map visited (foreign_worlds files)) (map address is) (map address ws) (visited_addresses files) (item_addresses files is ws interfaces worlds is_items ws_items) (visited_foreign (foreign_interfaces files)) (visited_foreign (foreign_worlds files)) (address_own is) (address_own ws)
 
-    interface_declared : (t : ℕ) (s : Address) → slice_get (interface_list files is) t ≡ Some s → decls s ≡ decls_of (owner.Interface t) s (scope files s)
+    pub interface_declared : (t : ℕ) (s : Address) → slice_get (interface_list files is) t ≡ Some s → decls s ≡ decls_of (owner.Interface t) s (scope files s)
     interface_declared t s at = declared_by files is ws s (owner.Interface t) (interface_owner_at (interface_list files is) (world_list files ws) all_addresses t s at)
 
-    world_declared : (t : ℕ) (s : Address) → slice_get (world_list files ws) t ≡ Some s → decls s ≡ decls_of (owner.World t) s (scope files s)
+    pub world_declared : (t : ℕ) (s : Address) → slice_get (world_list files ws) t ≡ Some s → decls s ≡ decls_of (owner.World t) s (scope files s)
     world_declared t s at = declared_by files is ws s (owner.World t) (world_owner_at (interface_list files is) (world_list files ws) all_addresses t s at)
 
     module _ (uses : (i : Item) → Contains (all_items files) i → (f : Fault) → IsBrokenUse files i f → ⊥) (es : List TypeDef) (front : List Interface) (wfront : List World) (foreign : AddsForeign files es front wfront) where
@@ -141,7 +194,7 @@ module _ (files : List PackageFile) (is ws : List Item) where
       foreign_done = subst (λ (ms : List Meeting). IsDone files decls ms (front_scopes files front) es) (sym (append-nil (map taking_meeting (takings files)))) (front_done files uses es front wfront foreign decls (λ i v at. interface_declared i (visited v) (at_front (map visited (foreign_interfaces files)) (map address is) i (visited v) (slice_get-map visited (foreign_interfaces files) i ∙ ap (option_map visited) at))) (λ i v at. world_declared i (visited v) (at_front (map visited (foreign_worlds files)) (map address ws) i (visited v) (slice_get-map visited (foreign_worlds files) i ∙ ap (option_map visited) at))))
 
       -- no scope in front is that of an item
-      front_apart : (w : Item) (k : ℕ) (c : DoneScope) → slice_get (front_scopes files front) k ≡ Some c → c.address ≡ address w → ⊥
+      pub front_apart : (w : Item) (k : ℕ) (c : DoneScope) → slice_get (front_scopes files front) k ≡ Some c → c.address ≡ address w → ⊥
       front_apart w k c at same =
           let foreign_is : is_foreign c.address ≡ true = elim (front_at files front foreign.interfaces.count k c at) [
             | FrontInterface i v x v_at x_at is ↦ ap (λ (b : DoneScope). is_foreign b.address) is
@@ -152,7 +205,7 @@ module _ (files : List PackageFile) (is ws : List Item) where
           f
 
       -- the cells of interfaces are among the scopes that are done
-      cells_among : (xs : List Interface) (cs : List DoneScope) → map cell_of cs ≡ map cell xs → (t : ℕ) (c : Cell) → slice_get (cells (map visited (foreign_interfaces files)) (front ++ xs)) t ≡ Some c → (j : ℕ) × (slice_get (map cell_of (front_scopes files front ++ cs)) j ≡ Some c)
+      pub cells_among : (xs : List Interface) (cs : List DoneScope) → map cell_of cs ≡ map cell xs → (t : ℕ) (c : Cell) → slice_get (cells (map visited (foreign_interfaces files)) (front ++ xs)) t ≡ Some c → (j : ℕ) × (slice_get (map cell_of (front_scopes files front ++ cs)) j ≡ Some c)
       cells_among xs cs same t c at =
           let vs = foreign_interfaces files in
           let ahead = interface_scopes files 0 vs front in
@@ -166,38 +219,44 @@ module _ (files : List PackageFile) (is ws : List Item) where
           ]
 
       -- whom the next one's place stands for
-      next_interface : (xs : List Interface) → owner.Interface (length (front ++ xs)) ≡ InterfaceOwner files (length xs)
+      pub next_interface : (xs : List Interface) → owner.Interface (length (front ++ xs)) ≡ InterfaceOwner files (length xs)
       next_interface xs = ap owner.Interface (length-append front xs ∙ ap (λ n. n + length xs) (foreign.interfaces.count ∙ sym (length-map (foreign_interfaces files) visited)))
 
-      next_world : (xs : List World) → owner.World (length (wfront ++ xs)) ≡ WorldOwner files (length xs)
+      pub next_world : (xs : List World) → owner.World (length (wfront ++ xs)) ≡ WorldOwner files (length xs)
       next_world xs = ap owner.World (length-append wfront xs ∙ ap (λ n. n + length xs) (foreign.worlds.count ∙ sym (length-map (foreign_worlds files) visited)))
 
       -- what an interface adds is done
-      interface_next : (us : List Item) (old new : List TypeDef) (xs xs' : List Interface) (w : Item) → slice_get is (length us) ≡ Some w → (d : InterfacesDone front us old xs) → Behind (AddsInterface (map visited (foreign_interfaces files))) (interface_grows (map visited (foreign_interfaces files))) front old new xs xs' w → IsNextDone (InterfaceOwner files) SaysInterface cell files decls [] (front_scopes files front) is us old new xs xs' w d
-      interface_next us old new xs xs' w there d a =
+      interface_next : (us : List Item) (old new : List TypeDef) (xs xs' : List Interface) (qs rs : List Required) (w : Item) → slice_get is (length us) ≡ Some w → (d : InterfacesDone front us old xs qs) → Behind (AddsInterface (map visited (foreign_interfaces files))) (interface_grows (map visited (foreign_interfaces files))) front old new xs xs' rs w → IsNextDone (InterfaceOwner files) SaysInterface cell MakesInterface files decls [] (front_scopes files front) is us old new xs xs' qs rs w d
+      interface_next us old new xs xs' qs rs w there d a =
           let names = in_turn (scope_names w) a.adds.order in
           record {
             order = a.adds.order;
             least = a.adds.least;
             distinct = a.adds.distinct;
             types = a.added.types;
-            defines = subst (λ (o : TypeOwner). Defines old new (map cell_of (front_scopes files front ++ d.scopes)) o (address w) [] a.added.types names) (next_interface xs) (defines_wider old new (cells (map visited (foreign_interfaces files)) (front ++ xs)) (map cell_of (front_scopes files front ++ d.scopes)) (owner.Interface (length (front ++ xs))) (address w) [] a.added.types names (cells_among xs d.scopes d.laid.types) (a.adds.defines (address w)));
+            middle = a.middle;
+            defines = subst (λ (o : TypeOwner). Defines old a.middle (map cell_of (front_scopes files front ++ d.scopes)) o (address w) [] a.added.types names) (next_interface xs) (defines_wider old a.middle (cells (map visited (foreign_interfaces files)) (front ++ xs)) (map cell_of (front_scopes files front ++ d.scopes)) (owner.Interface (length (front ++ xs))) (address w) [] a.added.types names (cells_among xs d.scopes d.laid.types) (a.adds.defines (address w)));
+            made = a.functions;
+            behind = a.behind;
+            stated = a.added.functions;
+            are_stated = stated_placed a.functions a.added.functions a.stand;
             added = a.added;
             last = last_behind front xs xs' a.added a.last;
             says = λ listed. a.says;
-            is_cell = λ listed. ap (λ (s : Address). record { address = s; types = a.added.types }) (interface_address w (interfaces.each (length us) w there)) ∙ ap (called_cell a.added.types) (sym a.says.name);
+            is_cell = λ listed. ap (λ (s : Address). record { address = s; types = a.added.types; functions = free_of a.added.functions }) (interface_address w (interfaces.each (length us) w there)) ∙ ap (called_cell a.added.types a.added.functions) (sym a.says.name);
+            makes = λ listed. record { functions = a.stand; stated = refl; paired = a.paired };
           }
 
       -- the first interfaces, behind those of other packages
-      pub interfaces_done : (new : List TypeDef) (all : List Interface) (vs : List Item) → ((k : ℕ) (w : Item) → slice_get vs k ≡ Some w → slice_get is k ≡ Some w) → AddsInterfaces (map visited (foreign_interfaces files)) es new front all vs → (own : List Interface) × (all ≡ front ++ own) × InterfacesDone front vs new own
-      interfaces_done new all vs there a =
+      pub interfaces_done : (new : List TypeDef) (all : List Interface) (rs : List Required) (vs : List Item) → ((k : ℕ) (w : Item) → slice_get vs k ≡ Some w → slice_get is k ≡ Some w) → AddsInterfaces (map visited (foreign_interfaces files)) es new front all rs vs → (own : List Interface) × (all ≡ front ++ own) × InterfacesDone front vs new own rs
+      interfaces_done new all rs vs there a =
           let ss = map visited (foreign_interfaces files) in
-          let own = adds_behind (AddsInterface ss) (interface_grows ss) front [] all es new vs (subst (λ (l : List Interface). AddsInterfaces ss es new l all vs) (sym (append-nil front)) a) in
-          (own.0, own.1, done_front (InterfaceOwner files) SaysInterface cell files decls [] (front_scopes files front) is is_items (λ t w at. interface_declared (length ss + t) (address w) (at_back ss (map address is) t (address w) (slice_get-map address is t ∙ ap (option_map address) at))) (λ t w at. front_apart w) (Behind (AddsInterface ss) (interface_grows ss) front) interface_next es new own.0 vs there foreign_done own.2)
+          let own = adds_behind (AddsInterface ss) (interface_grows ss) front [] all es new rs vs (subst (λ (l : List Interface). AddsInterfaces ss es new l all rs vs) (sym (append-nil front)) a) in
+          (own.0, own.1, done_front (InterfaceOwner files) SaysInterface cell MakesInterface files decls [] (front_scopes files front) is is_items (λ t w at. interface_declared (length ss + t) (address w) (at_back ss (map address is) t (address w) (slice_get-map address is t ∙ ap (option_map address) at))) (λ t w at. front_apart w) (Behind (AddsInterface ss) (interface_grows ss) front) interface_next es new own.0 rs vs there foreign_done own.2)
 
-      module _ (middle : List TypeDef) (xs : List Interface) (d : InterfacesDone front is middle xs) where
+      module _ (middle : List TypeDef) (xs : List Interface) (irs : List Required) (d : InterfacesDone front is middle xs irs) where
         -- the scope of a world is none of the interfaces
-        world_apart : (t : ℕ) (w : Item) → slice_get ws t ≡ Some w → (k : ℕ) (c : DoneScope) → slice_get (front_scopes files front ++ d.scopes) k ≡ Some c → c.address ≡ address w → ⊥
+        pub world_apart : (t : ℕ) (w : Item) → slice_get ws t ≡ Some w → (k : ℕ) (c : DoneScope) → slice_get (front_scopes files front ++ d.scopes) k ≡ Some c → c.address ≡ address w → ⊥
         world_apart t w at k c there same = elim (at_part (front_scopes files front) d.scopes k c there) [
           | inl h ↦ front_apart w h.0 c h.1 same
           | inr h ↦ (
@@ -210,8 +269,8 @@ module _ (files : List PackageFile) (is ws : List Item) where
         ]
 
         -- the address of a world that was added is that of its item, behind those of other packages
-        added_address : (us : List Item) (new : List TypeDef) (ys : List World) (e : WorldsDone front d.ordered d.scopes us new ys) (t : ℕ) (a : Address) → slice_get (worlds_at (map visited (foreign_worlds files)) (wfront ++ ys)) t ≡ Some a → slice_get (world_list files ws) t ≡ Some a
-        added_address us new ys e t a at =
+        added_address : (us : List Item) (new : List TypeDef) (ys : List World) (qs : List Required) (e : WorldsDone front d.ordered d.scopes us new ys qs) (t : ℕ) (a : Address) → slice_get (worlds_at (map visited (foreign_worlds files)) (wfront ++ ys)) t ≡ Some a → slice_get (world_list files ws) t ≡ Some a
+        added_address us new ys qs e t a at =
             let ss = map visited (foreign_worlds files) in
             let named = map (λ (w : World). WorldNamed w.name) ys in
             elim (at_split ss named t a (ap (λ (l : List Address). slice_get l t) (sym (worlds_at-append ss wfront ys (foreign.worlds.count ∙ sym (length-map (foreign_worlds files) visited)))) ∙ at)) [
@@ -225,41 +284,52 @@ module _ (files : List PackageFile) (is ws : List Item) where
             ]
 
         -- the scopes of interfaces are among those that are done
-        world_cells : (cs : List DoneScope) (t : ℕ) (c : Cell) → slice_get (cells (map visited (foreign_interfaces files)) (front ++ xs)) t ≡ Some c → (j : ℕ) × (slice_get (map cell_of ((front_scopes files front ++ d.scopes) ++ cs)) j ≡ Some c)
+        pub world_cells : (cs : List DoneScope) (t : ℕ) (c : Cell) → slice_get (cells (map visited (foreign_interfaces files)) (front ++ xs)) t ≡ Some c → (j : ℕ) × (slice_get (map cell_of ((front_scopes files front ++ d.scopes) ++ cs)) j ≡ Some c)
         world_cells cs t c at =
             let before = front_scopes files front ++ d.scopes in
             let it = cells_among xs d.scopes d.laid.types t c at in
             (it.0, ap (λ (l : List Cell). slice_get l it.0) (map-append cell_of before cs) ∙ at_front (map cell_of before) (map cell_of cs) it.0 c it.1)
 
         -- what a world adds is done
-        world_next : (us : List Item) (old new : List TypeDef) (ys ys' : List World) (w : Item) → slice_get ws (length us) ≡ Some w → (e : WorldsDone front d.ordered d.scopes us old ys) → Behind (AddsWorld (map visited (foreign_interfaces files)) (map visited (foreign_worlds files)) (front ++ xs)) (world_grows (map visited (foreign_interfaces files)) (map visited (foreign_worlds files)) (front ++ xs)) wfront old new ys ys' w → IsNextDone (WorldOwner files) (SaysWorld (world_list files ws)) world_cell files decls d.ordered (front_scopes files front ++ d.scopes) ws us old new ys ys' w e
-        world_next us old new ys ys' w there e a =
+        world_next : (us : List Item) (old new : List TypeDef) (ys ys' : List World) (qs rs : List Required) (w : Item) → slice_get ws (length us) ≡ Some w → (e : WorldsDone front d.ordered d.scopes us old ys qs) → Behind (AddsWorld (map visited (foreign_interfaces files)) (map visited (foreign_worlds files)) (front ++ xs)) (world_grows (map visited (foreign_interfaces files)) (map visited (foreign_worlds files)) (front ++ xs)) wfront old new ys ys' rs w → IsNextDone (WorldOwner files) (SaysWorld (world_list files ws)) world_cell MakesWorld files decls d.ordered (front_scopes files front ++ d.scopes) ws us old new ys ys' qs rs w e
+        world_next us old new ys ys' qs rs w there e a =
             let names = in_turn (scope_names w) a.adds.order in
             let before = front_scopes files front ++ d.scopes in
             let ss = map visited (foreign_interfaces files) in
+            let stated : world_functions a.added ≡ map by_name a.functions = ap (flat_map import_functions) a.imports ∙ world_functions-all names a.types a.functions in
             record {
               order = a.adds.order;
               least = a.adds.least;
               distinct = a.adds.distinct;
               types = a.types;
-              defines = subst (λ (o : TypeOwner). Defines old new (map cell_of (before ++ e.scopes)) o (address w) [] a.types names) (next_world ys) (defines_wider old new (cells ss (front ++ xs)) (map cell_of (before ++ e.scopes)) (owner.World (length (wfront ++ ys))) (address w) [] a.types names (world_cells e.scopes) (a.adds.defines (address w)));
+              middle = a.middle;
+              defines = subst (λ (o : TypeOwner). Defines old a.middle (map cell_of (before ++ e.scopes)) o (address w) [] a.types names) (next_world ys) (defines_wider old a.middle (cells ss (front ++ xs)) (map cell_of (before ++ e.scopes)) (owner.World (length (wfront ++ ys))) (address w) [] a.types names (world_cells e.scopes) (a.adds.defines (address w)));
+              made = a.functions;
+              behind = a.behind;
+              stated = map by_name a.functions;
+              are_stated = stated_by_name a.functions;
               added = a.added;
               last = last_behind wfront ys ys' a.added a.last;
-              says = λ listed. (let types = own_types names a.types a.added listed a.imports in record {
+              says = λ listed. record {
                 says = a.says;
-                imports = a.imports ∙ ap (type_imports names) (sym types);
-                includes = includes_wider (worlds_at (map visited (foreign_worlds files)) (wfront ++ ys)) (world_list files ws) w a.added.includes (added_address us old ys e) a.includes;
-              });
-              is_cell = λ listed. (let types = own_types names a.types a.added listed a.imports in ap (λ (s : Address). record { address = s; types = a.types }) (world_address w (worlds.each (length us) w there)) ∙ ap (named_world a.types) (sym a.says.name) ∙ ap (λ (x : Names). named_world x a.added.name) (sym types));
+                includes = includes_wider (worlds_at (map visited (foreign_worlds files)) (wfront ++ ys)) (world_list files ws) w a.added.includes (added_address us old ys qs e) a.includes;
+              };
+              is_cell = λ listed. (
+                  let types = own_types names a.types a.functions a.added listed a.imports in
+                  ap (λ (s : Address). record { address = s; types = a.types; functions = free_of (map by_name a.functions) }) (world_address w (worlds.each (length us) w there))
+                  ∙ ap (named_world a.types (map by_name a.functions)) (sym a.says.name)
+                  ∙ ap (λ (x : Names). named_world x (map by_name a.functions) a.added.name) (sym types)
+                  ∙ ap (λ (x : List (List ℕ × Function)). named_world (world_types a.added) x a.added.name) (sym stated));
+              makes = λ listed. record { imports = a.imports; stated = sym stated };
             }
           where
-            own_types : (xs : List ScopeName) (types : Names) (w : World) → map (λ p. p.0) types ≡ local_names xs → w.imports ≡ type_imports xs types → world_types w ≡ types
-            own_types xs types w listed imports = ap (flat_map import_types) imports ∙ world_types_of xs types listed
+            own_types : (xs : List ScopeName) (types : Names) (fs : List Function) (w : World) → map (λ p. p.0) types ≡ local_names xs → w.imports ≡ type_imports xs types ++ map function_import fs → world_types w ≡ types
+            own_types xs types fs w listed imports = ap (flat_map import_types) imports ∙ world_types-all xs types fs listed
 
         -- the first worlds, behind all interfaces and behind the worlds of other packages
-        pub worlds_done : (new : List TypeDef) (all : List World) (vs : List Item) → ((k : ℕ) (w : Item) → slice_get vs k ≡ Some w → slice_get ws k ≡ Some w) → AddsWorlds (map visited (foreign_interfaces files)) (map visited (foreign_worlds files)) (front ++ xs) middle new wfront all vs → (own : List World) × (all ≡ wfront ++ own) × WorldsDone front d.ordered d.scopes vs new own
-        worlds_done new all vs there a =
+        pub worlds_done : (new : List TypeDef) (all : List World) (rs : List Required) (vs : List Item) → ((k : ℕ) (w : Item) → slice_get vs k ≡ Some w → slice_get ws k ≡ Some w) → AddsWorlds (map visited (foreign_interfaces files)) (map visited (foreign_worlds files)) (front ++ xs) middle new wfront all rs vs → (own : List World) × (all ≡ wfront ++ own) × WorldsDone front d.ordered d.scopes vs new own rs
+        worlds_done new all rs vs there a =
             let ss = map visited (foreign_interfaces files) in
             let others = map visited (foreign_worlds files) in
-            let own = adds_behind (AddsWorld ss others (front ++ xs)) (world_grows ss others (front ++ xs)) wfront [] all middle new vs (subst (λ (l : List World). AddsWorlds ss others (front ++ xs) middle new l all vs) (sym (append-nil wfront)) a) in
-            (own.0, own.1, done_front (WorldOwner files) (SaysWorld (world_list files ws)) world_cell files decls d.ordered (front_scopes files front ++ d.scopes) ws ws_items (λ t w at. world_declared (length others + t) (address w) (at_back others (map address ws) t (address w) (slice_get-map address ws t ∙ ap (option_map address) at))) world_apart (Behind (AddsWorld ss others (front ++ xs)) (world_grows ss others (front ++ xs)) wfront) world_next middle new own.0 vs there d.done own.2)
+            let own = adds_behind (AddsWorld ss others (front ++ xs)) (world_grows ss others (front ++ xs)) wfront [] all middle new rs vs (subst (λ (l : List World). AddsWorlds ss others (front ++ xs) middle new l all rs vs) (sym (append-nil wfront)) a) in
+            (own.0, own.1, done_front (WorldOwner files) (SaysWorld (world_list files ws)) world_cell MakesWorld files decls d.ordered (front_scopes files front ++ d.scopes) ws ws_items (λ t w at. world_declared (length others + t) (address w) (at_back others (map address ws) t (address w) (slice_get-map address ws t ∙ ap (option_map address) at))) world_apart (Behind (AddsWorld ss others (front ++ xs)) (world_grows ss others (front ++ xs)) wfront) world_next middle new own.0 rs vs there d.done own.2)

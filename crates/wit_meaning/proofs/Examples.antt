@@ -42,7 +42,8 @@ use Rattle.wit_meaning.specs.Scope.{rows_of, item_rows, in_turn}
 use Rattle.wit_tree.specs.Refusal.{Missing, Cyclic}
 use Rattle.wit_meaning.specs.Fault.{fault}
 use Rattle.wit_meaning.specs.Shape.{Word, no_docs}
-use Rattle.wit_meaning.specs.Broken.{folded, last_header, IsMissingType, IsCyclicType, IsDuplicateName, IsDuplicateTopName, IsMissingOriginal, IsBroken, Headerless}
+use Rattle.wit_meaning.specs.Bodies.{folded, IsDuplicateName}
+use Rattle.wit_meaning.specs.Broken.{last_header, IsMissingType, IsCyclicType, IsDuplicateTopName, IsMissingOriginal, IsBroken, Headerless}
 use Rattle.wit_meaning.specs.Package.{package_tree}
 use Rattle.wit_meaning.specs.Whole.{turned, meetings}
 use Rattle.wit_meaning.proofs.SmallOrders.{two, three, two_order, three_order}
@@ -151,7 +152,7 @@ module _ (ptr : Ptr) (alloc : Global) where
 
   -- a package of these arenas
   abbrev package_with : List Interface → List TypeDef → UnresolvedPackage
-  package_with is es = record { name = record { namespace = codes "foo"; name = codes "foo"; version = None }; worlds = []; interfaces = is; types = es; foreign_deps = []; name_span = at 8 15; unknown_type_spans = []; foreign_dep_spans = [] }
+  package_with is es = record { name = record { namespace = codes "foo"; name = codes "foo"; version = None }; worlds = []; interfaces = is; types = es; foreign_deps = []; name_span = at 8 15; unknown_type_spans = []; foreign_dep_spans = []; required_resource_types = [] }
 
   arenas : package_tree (package_with (i_entry ∷ []) (list_entry ∷ p_entry ∷ [])) 3 (type.Id 1) ≡ p_tree
   arenas = refl

@@ -109,6 +109,7 @@ module _ (ptr : Ptr) (alloc : Global) where
     name_span = at 8 15;
     unknown_type_spans = at 54 55 ∷ [];
     foreign_dep_spans = at 21 24 ∷ [];
+    required_resource_types = [];
   }
 
   named : NamesOthers files whole

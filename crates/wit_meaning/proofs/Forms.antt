@@ -3,10 +3,10 @@ use Rattle.std.proofs.Common.{◌≡◌, List, [], ◌∷◌, inl, inr, subst}
 use Rattle.wit_tree.specs.declared.tree.«Type».{«Type» as Written, Held-Type-Result-1 as Held, None', Some', Row_of-Type, end_of-Type, more_of-Type}
 use Rattle.wit_tree.specs.declared.tree.«Type».TheVariants as written
 use Rattle.wit_tree.specs.declared.tree.TypeBody.{TypeBody}
-use Rattle.wit_tree.specs.declared.tree.TypeBody.TheVariants.{Record, Flags, Variant, Enum, Plain}
+use Rattle.wit_tree.specs.declared.tree.TypeBody.TheVariants.{Record, Flags, Variant, Enum, Resource, Plain}
 use Rattle.wit_tree.specs.Parts.{field_types, case_types}
 use Rattle.wit_meaning.specs.Form.{Form, UnknownForm}
-use Rattle.wit_meaning.specs.Shape.{Shape, Shapes, shape_of, held_shape, row_shapes, all_shapes, head, body_of}
+use Rattle.wit_meaning.specs.Shape.{Shape, Shapes, shape_of, held_shape, row_shapes, all_shapes, head, written_body, body_of}
 use Rattle.wit_meaning.specs.Shape as shape
 use Rattle.wit_meaning.specs.Address.{Address}
 use Rattle.wit_meaning.specs.Source.{ScopeName, Used, Defined, Taken}
@@ -18,18 +18,18 @@ use Rattle.wit_meaning.proofs.Meeting.{Has, has_either}
 
 -- each form in a type is one that an unnamed type can have
 abbrev mutual
-  AreAnonymous : Shape → Type 0
+  pub AreAnonymous : Shape → Type 0
   AreAnonymous (shape.Prim p) = Unit {0}
   AreAnonymous (shape.Word id) = Unit {0}
   AreAnonymous (shape.Of span form parts) = IsAnonymousForm form × AllAnonymous parts
 
-  AllAnonymous : Shapes → Type 0
+  pub AllAnonymous : Shapes → Type 0
   AllAnonymous shape.End = Unit {0}
   AllAnonymous (shape.More x xs) = AreAnonymous x × AllAnonymous xs
 
 -- so it is for a written type
 mutual
-  written_anonymous : (t : Written) → AreAnonymous (shape_of t)
+  pub written_anonymous : (t : Written) → AreAnonymous (shape_of t)
   written_anonymous (written.Bool span) = tt
   written_anonymous (written.U8 span) = tt
   written_anonymous (written.U16 span) = tt
@@ -45,6 +45,8 @@ mutual
   written_anonymous (written.String span) = tt
   written_anonymous (written.ErrorContext span) = tt
   written_anonymous (written.Name id) = tt
+  written_anonymous (written.Own span id) = tt
+  written_anonymous (written.Borrow span id) = (tt, (tt, tt))
   written_anonymous (written.List' span p t) = (tt, (written_anonymous t, tt))
   written_anonymous (written.FixedLengthList' span p t size) = (tt, (written_anonymous t, tt))
   written_anonymous (written.Map' span p key q value) = (tt, (written_anonymous key, (written_anonymous value, tt)))
@@ -71,12 +73,17 @@ head_anonymous (shape.Prim p) h = (tt, tt)
 head_anonymous (shape.Word id) h = (tt, tt)
 head_anonymous (shape.Of span form parts) h = h.1
 
+written_body_anonymous : (t : Written) → AllAnonymous (written_body t).parts
+written_body_anonymous (written.Own span id) = (tt, tt)
+written_body_anonymous t = head_anonymous (shape_of t) (written_anonymous t)
+
 body_anonymous : (b : TypeBody) → AllAnonymous (body_of b).parts
 body_anonymous (Record span fields) = all_anonymous_shapes (field_types fields.items)
 body_anonymous (Flags span flags) = tt
 body_anonymous (Variant span cases) = all_anonymous_shapes (case_types cases.items)
 body_anonymous (Enum span cases) = tt
-body_anonymous (Plain t) = head_anonymous (shape_of t) (written_anonymous t)
+body_anonymous (Resource funcs) = tt
+body_anonymous (Plain t) = written_body_anonymous t
 
 -- what a definition says is known
 head_known : (x : Shape) → AreAnonymous x → (head x).form ≡ UnknownForm → ⊥
@@ -84,16 +91,21 @@ head_known (shape.Prim p) a h = let f : ⊥ = cc in f
 head_known (shape.Word id) a h = let f : ⊥ = cc in f
 head_known (shape.Of span form parts) a h = subst IsAnonymousForm h a.0
 
+written_known : (t : Written) → (written_body t).form ≡ UnknownForm → ⊥
+written_known (written.Own span id) h = let f : ⊥ = cc in f
+written_known t h = head_known (shape_of t) (written_anonymous t) h
+
 pub body_known : (b : TypeBody) → (body_of b).form ≡ UnknownForm → ⊥
 body_known (Record span fields) h = let f : ⊥ = cc in f
 body_known (Flags span flags) h = let f : ⊥ = cc in f
 body_known (Variant span cases) h = let f : ⊥ = cc in f
 body_known (Enum span cases) h = let f : ⊥ = cc in f
-body_known (Plain t) h = head_known (shape_of t) (written_anonymous t) h
+body_known (Resource funcs) h = let f : ⊥ = cc in f
+body_known (Plain t) h = written_known t h
 
 -- what is met in such types has such a form
 mutual
-  met_anonymous : (s : Address) (x : Shape) (form : Form) (parts : Exprs) → AreAnonymous x → Has (met (expr_of s x)) (Whole form parts) → IsAnonymousForm form
+  pub met_anonymous : (s : Address) (x : Shape) (form : Form) (parts : Exprs) → AreAnonymous x → Has (met (expr_of s x)) (Whole form parts) → IsAnonymousForm form
   met_anonymous s (shape.Prim p) form parts a h = absurd h
   met_anonymous s (shape.Word id) form parts a h = absurd h
   met_anonymous s (shape.Of span own inner) form parts a h = elim (has_either (all_met (exprs_of s inner)) (Whole own (exprs_of s inner) ∷ []) (Whole form parts) h) [

@@ -1,7 +1,8 @@
 -- What other packages put in front of the arenas, as scopes that are done.
-use Rattle.std.proofs.Common.{◌≡◌, ℕ, zero, suc, ◌+◌, List, [], ◌∷◌, ◌++◌, length, take, Some, inl, inr, refl, sym, ap, ◌∙◌, subst, arith, Contains}
+use Rattle.std.proofs.Common.{◌≡◌, ℕ, zero, suc, ◌+◌, false, List, [], ◌∷◌, ◌++◌, length, take, Option, Some, None, inl, inr, refl, sym, ap, ◌∙◌, subst, arith, Contains}
 use Rattle.std.specs.Prelude.{slice_get, map, IsSome}
-use Rattle.std.specs.Option.{option_map}
+use Rattle.std.specs.Option.{option_map, option_map_or}
+use Rattle.std.specs.List.{flat_map, filter}
 use Rattle.std.proofs.lemmas.List.{map-append, length-map}
 use Rattle.std.proofs.lemmas.Option.{slice_get-map, slice_get_within}
 use Rattle.wit_tree.specs.declared.tree.PackageFile.{PackageFile}
@@ -12,14 +13,19 @@ use Rattle.wit_model.specs.declared.interface.Interface.{Interface}
 use Rattle.wit_model.specs.declared.world.World.{World}
 use Rattle.wit_meaning.specs.Fault.{Fault}
 use Rattle.wit_meaning.specs.Form.{Form}
-use Rattle.wit_meaning.specs.Address.{Address}
-use Rattle.wit_meaning.specs.Source.{Item, all_items, Taken, local_name, Taking, takings, same_taking, first_takings, scope, taken_names}
-use Rattle.wit_meaning.specs.Foreign.{ForeignVisit, visited, foreign_interfaces, foreign_worlds}
+use Rattle.wit_tree.specs.declared.tree.«Type».{«Type» as Written}
+use Rattle.wit_model.specs.declared.package_name.PackageName.{PackageName}
+use Rattle.wit_meaning.specs.Shape.{all_handles}
+use Rattle.wit_meaning.specs.Function.{functions, name_types}
+use Rattle.wit_meaning.specs.Functions.{AreFunctions}
+use Rattle.wit_meaning.specs.Address.{Address, ForeignNamed, same_address}
+use Rattle.wit_meaning.specs.Source.{Declared, TheInterface, TheWorld, declared_address, Item, all_items, item_at, Taken, taken, local_name, Taking, takings, same_taking, first_takings, scope, taken_names}
+use Rattle.wit_meaning.specs.Foreign.{ForeignVisit, visited_package, visited, foreign_interfaces, foreign_worlds}
 use Rattle.wit_meaning.specs.Expr.{Exprs}
 use Rattle.wit_meaning.specs.Meet.{Key, Def, Whole, Meeting, keys, Decls, decl_of, IsEntry, IsNamedEntry, IsMeeting}
 use Rattle.wit_meaning.specs.Repeats.{AllDiffer}
 use Rattle.wit_meaning.specs.Broken.{IsBrokenUse}
-use Rattle.wit_meaning.specs.Whole.{owner_at, taking_meeting}
+use Rattle.wit_meaning.specs.Whole.{owner_at, taking_meeting, functions_at, turn_handles, AreRequired}
 use Rattle.wit_meaning.specs.Resolving.{cell_at, cells, env_of, AreNames, decls_of}
 use Rattle.wit_meaning.specs.Resolved.{foreign_type, AddsForeign}
 use Rattle.wit_meaning.proofs.Lists.{at_front, at_within, map_at, map_map}
@@ -29,19 +35,20 @@ use Rattle.wit_meaning.proofs.Firsts.{firsts_at}
 use Rattle.wit_meaning.proofs.Scoping.{some_of}
 use Rattle.wit_meaning.proofs.Using.{lookup-listed}
 use Rattle.wit_meaning.proofs.Meeting.{Has}
+use Rattle.wit_meaning.proofs.FreeNames.{AreStated}
 use Rattle.wit_meaning.proofs.Turns.{at_part}
-use Rattle.wit_meaning.proofs.Standing.{DoneScope, done_address, cell_of, IsDoneScope, IsNameOf, IsDone}
+use Rattle.wit_meaning.proofs.Standing.{DoneScope, done_address, turn_of, cell_of, IsDoneScope, IsNameOf, IsDone}
 use Rattle.wit_meaning.proofs.Interfaces.{interface_owner_at}
 use Rattle.wit_meaning.proofs.Visits.{visited_addresses, interface_apart}
 use Rattle.wit_meaning.proofs.Takings.{taking_key, keys-takings, takings_met, takings_differ, taken_from, taken_has, taken_name_at, taken_distinct}
 
 -- the scope of an interface of another package at a place, with the types that it has in the arena
 abbrev pub interface_scope : List PackageFile → ℕ → ForeignVisit → Interface → DoneScope
-interface_scope files t v i = record { address = visited v; owner = owner.Interface t; names = scope files (visited v); types = i.types }
+interface_scope files t v i = record { address = visited v; owner = owner.Interface t; names = scope files (visited v); types = i.types; functions = []; made = []; stated = i.functions; required = [] }
 
 -- the scope of a world of another package, from which nothing is taken
 abbrev pub world_scope : ℕ → ForeignVisit → DoneScope
-world_scope t v = record { address = visited v; owner = owner.World t; names = []; types = [] }
+world_scope t v = record { address = visited v; owner = owner.World t; names = []; types = []; functions = []; made = []; stated = []; required = [] }
 
 -- the scopes of interfaces from a place on
 abbrev pub interface_scopes : List PackageFile → ℕ → List ForeignVisit → List Interface → List DoneScope
@@ -129,6 +136,33 @@ front_at files front count t c at = elim (at_part (interface_scopes files 0 (for
       FrontWorld h.0 v.0 v.1 (let same : c ≡ world_scope h.0 v.0 = cc in same))
 ]
 
+-- no declared item is of another package
+not_declared : (d : Declared) (p : PackageName) (name : List ℕ) → same_address (declared_address d) (ForeignNamed p name) ≡ false
+not_declared (TheInterface i) p name = refl
+not_declared (TheWorld w) p name = refl
+
+no_item : (is : List Item) (p : PackageName) (name : List ℕ) → item_at is (ForeignNamed p name) ≡ None
+no_item [] p name = refl
+no_item (i ∷ is) p name = rw (not_declared i.declared p name) (no_item is p name)
+
+-- so nothing is known of functions of another package's items
+no_functions_at : (files : List PackageFile) (p : PackageName) (name : List ℕ) → functions_at files (ForeignNamed p name) ≡ []
+no_functions_at files p name = ap (λ (o : Option Item). option_map_or functions o []) (no_item (all_items files) p name)
+
+nothing_stated : AreStated [] []
+nothing_stated = record { has = λ k f at. absurd (let f : ⊥ = cc in f); from = λ place name f at. absurd (let f : ⊥ = cc in f) }
+
+no_functions : (ks : List Key) (s : Address) → AreFunctions ks s [] []
+no_functions ks s = record { count = refl; each = λ k fn f at. absurd (let f : ⊥ = cc in f) }
+
+-- what is taken holds no type
+no_types_taken : (ts : List Taking) → flat_map name_types (map taken ts) ≡ []
+no_types_taken [] = refl
+no_types_taken (t ∷ ts) = no_types_taken ts
+
+nothing_required : (files : List PackageFile) (ks : List Key) (s : Address) (ts : List Taking) → AreRequired files ks (turn_handles (record { address = s; names = map taken ts; functions = [] })) []
+nothing_required files ks s ts = subst (λ (types : List Written). AreRequired files ks (map (λ id. (s, id)) (all_handles (types ++ []))) []) (sym (no_types_taken ts)) refl
+
 -- nothing unnamed is taken
 no_whole_taken : (ts : List Taking) (form : Form) (parts : Exprs) → Has (keys (map taking_meeting ts)) (Whole form parts) → ⊥
 no_whole_taken [] form parts h = h
@@ -168,6 +202,8 @@ module _ (files : List PackageFile) (uses : (i : Item) → Contains (all_items f
   interface_done i v x at there = record {
     turn = record { distinct = taken_distinct files (visited v); differ = taken_distinct files (visited v); among = λ k y yat. (k, yat); has = λ k y yat. (k, yat) };
     listed = (adds.interfaces.types i v x at there).names;
+    functions = sym (no_functions_at files (visited_package v) v.id.name.now);
+    stated = rw (adds.interfaces.says i v x at there).functions nothing_stated;
   }
 
   world_done : (i : ℕ) (w : ForeignVisit) → slice_get (foreign_worlds files) i ≡ Some w → IsDoneScope files (world_scope i w)
@@ -179,6 +215,8 @@ module _ (files : List PackageFile) (uses : (i : Item) → Contains (all_items f
       has = λ k y yat. (let t = taken_name_at files (visited w) k y yat in absurd (none_from_world i w at t.0 t.1 t.2 t.3));
     };
     listed = refl;
+    functions = sym (no_functions_at files (visited_package w) w.id.name.now);
+    stated = nothing_stated;
   }
 
   -- a name that is taken from an interface stands among its types
@@ -290,4 +328,12 @@ module _ (files : List PackageFile) (uses : (i : Item) → Contains (all_items f
       before = taken_before;
       unique = front_differ;
       wholes = λ form parts h. absurd (no_whole_taken (takings files) form parts h);
+      made = λ t c at. elim (front_at files front adds.interfaces.count t c at) [
+        | FrontInterface i v x v_at x_at is ↦ subst (λ (b : DoneScope). AreFunctions (keys met) b.address b.functions b.made) (sym is) (no_functions (keys met) (visited v))
+        | FrontWorld i w w_at is ↦ subst (λ (b : DoneScope). AreFunctions (keys met) b.address b.functions b.made) (sym is) (no_functions (keys met) (visited w))
+      ];
+      required = λ t c at. elim (front_at files front adds.interfaces.count t c at) [
+        | FrontInterface i v x v_at x_at is ↦ subst (λ (b : DoneScope). AreRequired files (keys met) (turn_handles (turn_of b)) b.required) (sym is) (nothing_required files (keys met) (visited v) (filter (λ t. same_address t.from (visited v)) (first_takings files)))
+        | FrontWorld i w w_at is ↦ subst (λ (b : DoneScope). AreRequired files (keys met) (turn_handles (turn_of b)) b.required) (sym is) refl
+      ];
     }

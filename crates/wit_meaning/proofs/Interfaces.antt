@@ -13,7 +13,8 @@ use Rattle.wit_meaning.specs.Address.{Address, InterfaceNamed, WorldNamed, Forei
 use Rattle.wit_meaning.specs.Source.{Declared, TheInterface, TheWorld, declared_id, declared_address, is_declared_world, address, Item, all_items, item_name, is_world, item_named, item_at, scope_names, scope}
 use Rattle.wit_meaning.specs.Scope.{interfaces_of, worlds_of}
 use Rattle.wit_meaning.specs.Repeats.{AllDiffer}
-use Rattle.wit_meaning.specs.Whole.{place_at, owner_at}
+use Rattle.wit_meaning.specs.Whole.{place_at, owner_at, functions_at}
+use Rattle.wit_meaning.specs.Function.{functions}
 use Rattle.wit_meaning.proofs.Lists.{map_at}
 use Rattle.wit_meaning.proofs.Names.{name_equal}
 use Rattle.wit_meaning.proofs.Addresses.{same_address-itself, same_address-equal}
@@ -195,6 +196,10 @@ module _ (files : List PackageFile) (ws : List Item) (items : AreItems files ws)
   -- the scope of an item has its names
   pub scope_of : (t : ℕ) (w : Item) → slice_get ws t ≡ Some w → scope files (address w) ≡ scope_names w
   scope_of t w at = scope_at files (address w) w (item_of_scope t w at)
+
+  -- and its functions
+  pub functions_of : (t : ℕ) (w : Item) → slice_get ws t ≡ Some w → functions_at files (address w) ≡ functions w
+  functions_of t w at = ap (λ (o : Option Item). option_map_or functions o []) (item_of_scope t w at)
 
 -- the addresses of interfaces and of worlds
 pub item_addresses : (files : List PackageFile) (is ws : List Item) → AreOfSort false is → AreOfSort true ws → AreItems files is → AreItems files ws → AreAddresses (map address is) (map address ws)

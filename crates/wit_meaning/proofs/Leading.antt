@@ -21,7 +21,7 @@ use Rattle.wit_order.specs.Table.{Row, target, IsEdge, Leads, IsOrder}
 use Rattle.wit_order.proofs.Tables.{slice_get-take}
 use Rattle.wit_meaning.specs.Fault.{Fault, fault, missing_at, item_word}
 use Rattle.wit_meaning.specs.Address.{Address, InterfaceNamed, ForeignNamed, is_foreign}
-use Rattle.wit_meaning.specs.Source.{Declared, TheInterface, TheWorld, is_declared_world, Part, Defining, Using, Including, interface_part, declared_parts, path_id, Target, Local, Foreign, leads, used_scope, path_scope, Item, Used, all_items, item_name, is_world, parts, item_named, scope_names, taking, takings}
+use Rattle.wit_meaning.specs.Source.{Declared, TheInterface, TheWorld, is_declared_world, Part, Defining, Using, Including, Doing, interface_part, declared_parts, path_id, Target, Local, Foreign, leads, used_scope, path_scope, Item, Used, all_items, item_name, is_world, parts, item_named, scope_names, taking, takings}
 use Rattle.wit_meaning.specs.Foreign.{ForeignVisit, visited, foreign_interfaces}
 use Rattle.wit_meaning.specs.Scope.{in_order, use_path, include_path, use_paths, include_paths, needed_path, local_target, item_row, item_rows, part_includes, includes}
 use Rattle.wit_meaning.specs.Broken.{is_world_at, IsBrokenUse, MissingUse, WorldUsed}
@@ -82,6 +82,7 @@ include_of : (ps : List Part) (k : ℕ) (path : UsePath) → slice_get (flat_map
 include_of [] k path at = absurd (let f : ⊥ = cc in f)
 include_of (Defining d ∷ ps) k path at = include_of ps k path at
 include_of (Using u ∷ ps) k path at = include_of ps k path at
+include_of (Doing f ∷ ps) k path at = include_of ps k path at
 include_of (Including i ∷ ps) zero path at = (i, refl, cc)
 include_of (Including i ∷ ps) (suc k) path at = include_of ps k path at
 
@@ -96,6 +97,7 @@ none_included : (items : List InterfaceItem) (path : UsePath) → Contains (flat
 none_included [] path h = let lt = h.1 in omega arith
 none_included (interface_item.TypeDef d ∷ items) path h = none_included items path h
 none_included (interface_item.Use u ∷ items) path h = none_included items path h
+none_included (interface_item.Func f ∷ items) path h = none_included items path h
 
 pub interface_includes_none : (w : Item) → is_world w ≡ false → (path : UsePath) → Contains (include_paths w) path → ⊥
 interface_includes_none w h path among = of_declared w.declared h among

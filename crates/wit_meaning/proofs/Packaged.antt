@@ -3,7 +3,9 @@ use Rattle.std.proofs.Common.{◌≡◌, ℕ, ◌+◌, true, List, [], ◌∷◌
 use Rattle.std.specs.Prelude.{slice_get, map}
 use Rattle.std.specs.List.{flat_map}
 use Rattle.std.specs.Option.{option_map, option_map_or, unwrap_or}
-use Rattle.std.proofs.lemmas.List.{length-map}
+use Rattle.std.proofs.lemmas.List.{length-map, map-append}
+use Rattle.std.proofs.lemmas.Grind.{flat_map-append}
+use Rattle.wit_tree.specs.declared.tree.Id.{Id}
 use Rattle.std.proofs.lemmas.Option.{slice_get_within}
 use Rattle.wit_names.specs.Label.{is_label}
 use Rattle.wit_tree.specs.declared.tree.PackageName.{PackageName as Header}
@@ -19,25 +21,29 @@ use Rattle.semver.specs.Identifiers.{parts_of}
 use Rattle.wit_values.specs.ReleaseText.{release_parts}
 use Rattle.wit_meaning.specs.Address.{Address, InterfaceNamed, WorldNamed}
 use Rattle.wit_meaning.specs.Node.{OfScope, Nobody}
-use Rattle.wit_meaning.specs.Source.{address, Item, item_id, ScopeName, all_items, first_takings, scope, scope_names}
+use Rattle.wit_meaning.specs.Source.{address, Item, item_id, ScopeName, all_items, first_takings, scope_names}
 use Rattle.wit_meaning.specs.Foreign.{ForeignVisit, visited, foreign_interfaces, foreign_worlds}
 use Rattle.wit_meaning.specs.Meet.{Meeting, Key, keys, IsMeeting}
-use Rattle.wit_meaning.specs.Fault.{Fault}
+use Rattle.wit_meaning.specs.Repeats.{AllDiffer}
+use Rattle.wit_model.specs.declared.function.Function.{Function}
+use Rattle.wit_meaning.specs.Function.{functions}
+use Rattle.wit_meaning.specs.Functions.{AreFunctions, placed_functions, function_import}
 use Rattle.wit_meaning.specs.Scope.{item_rows, rows_of, in_order, interfaces_of, worlds_of}
-use Rattle.wit_meaning.specs.Broken.{last_header, IsMissingName}
-use Rattle.wit_meaning.specs.Package.{owner_of, names_of, named_interface, interface_owner, named_world, world_owner, interface_types, import_types, world_types}
-use Rattle.wit_meaning.specs.Whole.{Ordered, Turned, item_of, turned, meetings, all_meetings, addresses, interface_addresses, world_addresses, declarations, HasTypes, AreIncludes, foreign_turned, AreForeignInterfaces, AreInterfaces, AreWorlds, IsFaithful, NamesOthers, IsPackage}
-use Rattle.wit_meaning.specs.Resolving.{Names, Cell, cell}
+use Rattle.wit_meaning.specs.Broken.{last_header}
+use Rattle.wit_meaning.specs.Package.{owner_of, names_of, functions_of, named_interface, interface_owner, named_world, world_owner, interface_types, interface_functions, import_types, world_types, import_functions, world_functions}
+use Rattle.wit_meaning.specs.Whole.{Ordered, Turned, item_of, ordered_names, turned, turn_handles, AreRequired, meetings, all_meetings, type_imports, addresses, interface_addresses, world_addresses, declarations, HasTypes, AreIncludes, foreign_turned, AreForeignInterfaces, AreInterfaces, AreWorlds, IsFaithful, NamesOthers, IsPackage}
+use Rattle.wit_meaning.specs.Resolving.{Names, Cell, Required, cell}
 use Rattle.wit_meaning.specs.Resolved.{AddsForeign}
-use Rattle.wit_meaning.proofs.Lists.{at_front, at_back, at_split, at_within, map_at, map_map}
+use Rattle.wit_meaning.proofs.Lists.{at_front, at_back, at_split, at_within, map_map}
 use Rattle.wit_meaning.proofs.Turns.{at_part}
 use Rattle.wit_meaning.proofs.Standing.{DoneScope, turn_of, cell_of}
-use Rattle.wit_meaning.proofs.Interfaces.{AreItems, scope_of}
 use Rattle.wit_meaning.proofs.Front.{interface_scope, world_scope, interface_scopes, world_scopes, front_scopes, interface_scope_at, world_scope_at, front_at, FrontInterface, FrontWorld}
 use Rattle.wit_meaning.proofs.Deps.{foreign_interface_owner, foreign_world_owner}
-use Rattle.wit_meaning.proofs.Laid.{scope_at, ordered_at, entry_of, scope_of_entry}
+use Rattle.wit_meaning.proofs.Laid.{done_required, required_in_turn, scope_at, ordered_at, entry_of, scope_of_entry}
 use Rattle.wit_meaning.proofs.Added.{world_cell, decls, InterfacesDone, WorldsDone}
-use Rattle.wit_meaning.proofs.Stated.{has_types, stated}
+use Rattle.wit_meaning.proofs.Required.{required_append}
+use Rattle.wit_meaning.proofs.Stated.{has_types}
+use Rattle.wit_meaning.proofs.Legal.{function_name}
 use Rattle.wit_meaning.proofs.Faithful.{IsOwnerOf, AreOwners, one_type, faithful}
 use Rattle.wit_meaning.proofs.Unknowns.{takings_front}
 
@@ -56,43 +62,8 @@ named_world-label : (p : UnresolvedPackage) (place : ℕ) (name : List ℕ) → 
 named_world-label p place [] h = absurd (let f : ⊥ = cc in f)
 named_world-label p place (c ∷ cs) h = refl
 
-module _ (files : List PackageFile) (is ws : List Item) (middle es : List TypeDef) (front xs : List Interface) (ys : List World) (d : InterfacesDone files is ws front is middle xs) (e : WorldsDone files is ws front d.ordered d.scopes ws es ys) where
-  abbrev cs : List DoneScope
-  cs = (front_scopes files front ++ d.scopes) ++ e.scopes
-
-  -- the scope of an interface, and of a world
-  interface_at : (t : ℕ) (o : Ordered) → slice_get d.ordered t ≡ Some o → (c : DoneScope) × (k : ℕ) × (slice_get cs k ≡ Some c) × (turn_of c ≡ turned o)
-  interface_at t o at =
-      let c = scope_at d.laid t o at in
-      let k = length (front_scopes files front) + t in
-      (c.0, k, at_front (front_scopes files front ++ d.scopes) e.scopes k c.0 (at_back (front_scopes files front) d.scopes t c.0 c.1), c.2)
-
-  world_at : (t : ℕ) (o : Ordered) → slice_get e.ordered t ≡ Some o → (c : DoneScope) × (k : ℕ) × (slice_get cs k ≡ Some c) × (turn_of c ≡ turned o)
-  world_at t o at =
-      let c = scope_at e.laid t o at in
-      (c.0, length (front_scopes files front ++ d.scopes) + t, at_back (front_scopes files front ++ d.scopes) e.scopes t c.0 c.1, c.2)
-
-  -- what is used in an item of a scope that is done is a name of the interface that it comes from
-  stated_in : (w : Item) (o : Ordered) (k : ℕ) (c : DoneScope) → o.item ≡ w → slice_get cs k ≡ Some c → turn_of c ≡ turned o → scope files (address w) ≡ scope_names w → (f : Fault) → IsMissingName files (scope_names w) f → ⊥
-  stated_in w o k c is_w at same scope_is f h =
-      let here : c.address ≡ address w = ap (λ (x : Turned). x.address) same ∙ ap address is_w in
-      let names : scope_names w ≡ scope files c.address = sym (ap (scope files) here ∙ scope_is) in
-      stated files (decls files is ws) (all_meetings files (d.ordered ++ e.ordered)) cs es e.done k c f at (subst (λ (l : List ScopeName). IsMissingName files l f) names h)
-
-  pub interface_names_stated : AreItems files is → (t : ℕ) (w : Item) → slice_get is t ≡ Some w → (f : Fault) → IsMissingName files (scope_names w) f → ⊥
-  interface_names_stated items t w at f h =
-      let o = map_at item_of d.ordered t w (ap (λ (l : List Item). slice_get l t) d.all ∙ at) in
-      let c = interface_at t o.0 o.1 in
-      stated_in w o.0 c.1 c.0 o.2 c.2 c.3 (scope_of files is items t w at) f h
-
-  pub world_names_stated : AreItems files ws → (t : ℕ) (w : Item) → slice_get ws t ≡ Some w → (f : Fault) → IsMissingName files (scope_names w) f → ⊥
-  world_names_stated items t w at f h =
-      let o = map_at item_of e.ordered t w (ap (λ (l : List Item). slice_get l t) e.all ∙ at) in
-      let c = world_at t o.0 o.1 in
-      stated_in w o.0 c.1 c.0 o.2 c.2 c.3 (scope_of files ws items t w at) f h
-
 -- a package of what other packages put in front, and of interfaces and worlds that are done
-module _ (files : List PackageFile) (is ws : List Item) (start middle : List TypeDef) (front xs : List Interface) (wfront ys : List World) (foreign : AddsForeign files start front wfront) (p : UnresolvedPackage) (d : InterfacesDone files is ws front is middle xs) (e : WorldsDone files is ws front d.ordered d.scopes ws p.types ys) (interface_arena : p.interfaces ≡ front ++ xs) (world_arena : p.worlds ≡ wfront ++ ys) (others : NamesOthers files p) where
+module _ (files : List PackageFile) (is ws : List Item) (start middle : List TypeDef) (front xs : List Interface) (wfront ys : List World) (foreign : AddsForeign files start front wfront) (irs wrs : List Required) (p : UnresolvedPackage) (d : InterfacesDone files is ws front is middle xs irs) (e : WorldsDone files is ws front d.ordered d.scopes ws p.types ys wrs) (interface_arena : p.interfaces ≡ front ++ xs) (world_arena : p.worlds ≡ wfront ++ ys) (others : NamesOthers files p) where
   abbrev ahead : List DoneScope
   ahead = front_scopes files front
 
@@ -132,18 +103,18 @@ module _ (files : List PackageFile) (is ws : List Item) (start middle : List Typ
   world_by t w name at is = ap (world_owner p t) at ∙ ap (named_world p t) is
 
   -- a scope in front, by what the package calls it, with its names
-  front_called : (t : ℕ) (c : DoneScope) → slice_get ahead t ≡ Some c → (owner_of p c.owner ≡ OfScope c.address) × (names_of p c.owner ≡ c.types)
+  front_called : (t : ℕ) (c : DoneScope) → slice_get ahead t ≡ Some c → (owner_of p c.owner ≡ OfScope c.address) × (names_of p c.owner ≡ c.types) × (functions_of p c.owner ≡ c.stated)
   front_called t c at = elim (front_at files front foreign.interfaces.count t c at) [
     | FrontInterface k v i v_at i_at is ↦ (
         let there = interface_in_front k i i_at in
-        (ap (λ (b : DoneScope). owner_of p b.owner) is ∙ interface_by k i None there (foreign.interfaces.says k v i v_at i_at).name ∙ foreign_interface_owner files p others.deps k v v_at ∙ ap (λ (b : DoneScope). OfScope b.address) (sym is), ap (λ (b : DoneScope). names_of p b.owner) is ∙ ap (λ (o : Option Interface). option_map_or interface_types o []) there ∙ ap (λ (b : DoneScope). b.types) (sym is)))
+        (ap (λ (b : DoneScope). owner_of p b.owner) is ∙ interface_by k i None there (foreign.interfaces.says k v i v_at i_at).name ∙ foreign_interface_owner files p others.deps k v v_at ∙ ap (λ (b : DoneScope). OfScope b.address) (sym is), ap (λ (b : DoneScope). names_of p b.owner) is ∙ ap (λ (o : Option Interface). option_map_or interface_types o []) there ∙ ap (λ (b : DoneScope). b.types) (sym is), ap (λ (b : DoneScope). functions_of p b.owner) is ∙ ap (λ (o : Option Interface). option_map_or interface_functions o []) there ∙ ap (λ (b : DoneScope). b.stated) (sym is)))
     | FrontWorld k v v_at is ↦ (
         let lt = slice_get_within (foreign_worlds files) k v v_at in
         let count = foreign.worlds.count in
         let w = at_within wfront k (omega arith) in
         let there = world_in_front k w.0 w.1 in
         let says = foreign.worlds.says k v w.0 v_at w.1 in
-        (ap (λ (b : DoneScope). owner_of p b.owner) is ∙ world_by k w.0 [] there says.name ∙ foreign_world_owner files p others.deps k v v_at ∙ ap (λ (b : DoneScope). OfScope b.address) (sym is), ap (λ (b : DoneScope). names_of p b.owner) is ∙ ap (λ (o : Option World). option_map_or world_types o []) there ∙ ap (flat_map import_types) says.imports ∙ ap (λ (b : DoneScope). b.types) (sym is)))
+        (ap (λ (b : DoneScope). owner_of p b.owner) is ∙ world_by k w.0 [] there says.name ∙ foreign_world_owner files p others.deps k v v_at ∙ ap (λ (b : DoneScope). OfScope b.address) (sym is), ap (λ (b : DoneScope). names_of p b.owner) is ∙ ap (λ (o : Option World). option_map_or world_types o []) there ∙ ap (flat_map import_types) says.imports ∙ ap (λ (b : DoneScope). b.types) (sym is), ap (λ (b : DoneScope). functions_of p b.owner) is ∙ ap (λ (o : Option World). option_map_or world_functions o []) there ∙ ap (flat_map import_functions) says.imports ∙ ap (λ (b : DoneScope). b.stated) (sym is)))
   ]
 
   -- an interface of the package by what it calls it
@@ -174,6 +145,16 @@ module _ (files : List PackageFile) (is ws : List Item) (start middle : List Typ
       let w = entry_of e.laid t c at in
       ap (names_of p) (e.laid.whose t c at) ∙ ap (λ (o : Option World). option_map_or world_types o []) (world_behind t w.0 w.1) ∙ types_of_cell c (world_cell w.0) w.2
 
+  interface_functions_at : (t : ℕ) (c : DoneScope) → slice_get d.scopes t ≡ Some c → functions_of p c.owner ≡ c.stated
+  interface_functions_at t c at =
+      let i = entry_of d.laid t c at in
+      ap (functions_of p) (d.laid.whose t c at) ∙ ap (λ (o : Option Interface). option_map_or interface_functions o []) (interface_behind t i.0 i.1) ∙ sym (d.laid.makes t c i.0 at i.1).stated
+
+  world_functions_at : (t : ℕ) (c : DoneScope) → slice_get e.scopes t ≡ Some c → functions_of p c.owner ≡ c.stated
+  world_functions_at t c at =
+      let w = entry_of e.laid t c at in
+      ap (functions_of p) (e.laid.whose t c at) ∙ ap (λ (o : Option World). option_map_or world_functions o []) (world_behind t w.0 w.1) ∙ sym (e.laid.makes t c w.0 at w.1).stated
+
   called_at : (t : ℕ) (c : DoneScope) → slice_get scopes t ≡ Some c → owner_of p c.owner ≡ OfScope c.address
   called_at t c at = elim (at_part (ahead ++ d.scopes) e.scopes t c at) [
     | inl h ↦ elim (at_part ahead d.scopes h.0 c h.1) [ inl g ↦ (front_called g.0 c g.1).0 | inr g ↦ interface_called g.0 c g.1 ]
@@ -184,6 +165,12 @@ module _ (files : List PackageFile) (is ws : List Item) (start middle : List Typ
   names_at t c at = elim (at_part (ahead ++ d.scopes) e.scopes t c at) [
     | inl h ↦ elim (at_part ahead d.scopes h.0 c h.1) [ inl g ↦ (front_called g.0 c g.1).1 | inr g ↦ interface_names g.0 c g.1 ]
     | inr h ↦ world_names h.0 c h.1
+  ]
+
+  functions_at_owner : (t : ℕ) (c : DoneScope) → slice_get scopes t ≡ Some c → functions_of p c.owner ≡ c.stated
+  functions_at_owner t c at = elim (at_part (ahead ++ d.scopes) e.scopes t c at) [
+    | inl h ↦ elim (at_part ahead d.scopes h.0 c h.1) [ inl g ↦ (front_called g.0 c g.1).2 | inr g ↦ interface_functions_at g.0 c g.1 ]
+    | inr h ↦ world_functions_at h.0 c h.1
   ]
 
   -- where the scopes in front stand among all
@@ -239,10 +226,10 @@ module _ (files : List PackageFile) (is ws : List Item) (start middle : List Typ
   all_owners owner.None s h = absurd (let wrong : Nobody ≡ OfScope s = h in let f : ⊥ = cc in f)
 
   pub owners : AreOwners p scopes
-  owners = record { called = called_at; names = names_at; all = all_owners }
+  owners = record { called = called_at; names = names_at; functions = functions_at_owner; all = all_owners }
 
-  pub faithful_package : IsFaithful files p
-  faithful_package = faithful files (decls files is ws) written scopes p e.done owners (takings_front files (meetings (map turned (d.ordered ++ e.ordered))) e.done.met e.done.meets) (ap length others.unknown ∙ length-map (first_takings files) (λ t. t.id.span))
+  pub faithful_package : ((t : ℕ) (c : DoneScope) → slice_get scopes t ≡ Some c → AllDiffer (map function_name c.functions)) → IsFaithful files p
+  faithful_package apart = faithful files (decls files is ws) written scopes p e.done owners apart (takings_front files (meetings (map turned (d.ordered ++ e.ordered))) e.done.met e.done.meets) (ap length others.unknown ∙ length-map (first_takings files) (λ t. t.id.span))
 
   abbrev met_keys : List Key
   met_keys = keys e.done.met
@@ -268,6 +255,27 @@ module _ (files : List PackageFile) (is ws : List Item) (start middle : List Typ
       let one : c.0 ≡ j.0 = cc in
       types_at (length (ahead ++ d.scopes) + t) c.0 (turned o) (world_types w) (at_back (ahead ++ d.scopes) e.scopes t c.0 c.1) c.2 (ap (λ (x : DoneScope). x.types) one ∙ sym (types_of_cell j.0 (world_cell w) (sym j.2)))
 
+  -- the functions of an entry
+  functions_made : (k : ℕ) (c : DoneScope) (o : Ordered) → slice_get scopes k ≡ Some c → turn_of c ≡ turned o → AreFunctions met_keys (address o.item) (functions o.item) c.made
+  functions_made k c o at same = subst (λ (x : Turned). AreFunctions met_keys x.address x.functions c.made) same (e.done.made k c at)
+
+  interface_makes : (t : ℕ) (o : Ordered) (i : Interface) → slice_get d.ordered t ≡ Some o → slice_get xs t ≡ Some i → (fs : List Function) × AreFunctions met_keys (address o.item) (functions o.item) fs × (i.functions ≡ placed_functions fs)
+  interface_makes t o i at there =
+      let c = scope_at d.laid t o at in
+      let k = length ahead + t in
+      (c.0.made, functions_made k c.0 o (at_front (ahead ++ d.scopes) e.scopes k c.0 (at_back ahead d.scopes t c.0 c.1)) c.2, (d.laid.makes t c.0 i c.1 there).functions)
+
+  world_makes : (t : ℕ) (o : Ordered) (w : World) → slice_get e.ordered t ≡ Some o → slice_get ys t ≡ Some w → (fs : List Function) × AreFunctions met_keys (address o.item) (functions o.item) fs × (w.imports ≡ type_imports (ordered_names o) (world_types w) ++ map function_import fs)
+  world_makes t o w at there =
+      let c = scope_at e.laid t o at in
+      let k = length (ahead ++ d.scopes) + t in
+      let j = scope_of_entry e.laid t w there in
+      let both : Some c.0 ≡ Some j.0 = sym c.1 ∙ j.1 in
+      let one : c.0 ≡ j.0 = cc in
+      let types : c.0.types ≡ world_types w = ap (λ (x : DoneScope). x.types) one ∙ sym (types_of_cell j.0 (world_cell w) (sym j.2)) in
+      let names : c.0.names ≡ ordered_names o = ap (λ (x : Turned). x.names) c.2 in
+      (c.0.made, functions_made k c.0 o (at_back (ahead ++ d.scopes) e.scopes t c.0 c.1) c.2, (e.laid.makes t c.0 w c.1 there).imports ∙ ap (λ (l : List ScopeName). type_imports l c.0.types ++ map function_import c.0.made) names ∙ ap (λ (l : Names). type_imports (ordered_names o) l ++ map function_import c.0.made) types)
+
   foreign_interfaces_are : AreForeignInterfaces files met_keys (foreign_interfaces files) front
   foreign_interfaces_are = record {
     count = foreign.interfaces.count;
@@ -276,16 +284,26 @@ module _ (files : List PackageFile) (is ws : List Item) (start middle : List Typ
   }
 
   interfaces_are : AreInterfaces met_keys d.ordered xs
-  interfaces_are = record { count = d.laid.count; says = d.laid.says; types = interface_types_at }
+  interfaces_are = record { count = d.laid.count; says = d.laid.says; types = interface_types_at; functions = interface_makes }
 
   worlds_are : AreWorlds met_keys (world_addresses files e.ordered) e.ordered ys
   worlds_are = record {
     count = e.laid.count;
     says = λ t o w at there. (e.laid.says t o w at there).says;
     types = world_types_at;
-    imports = λ t o w at there. (e.laid.says t o w at there).imports;
+    imports = world_makes;
     includes = λ t o w at there. subst (λ (x : List Address). AreIncludes (map visited (foreign_worlds files) ++ x) o.item w.includes) (ordered_addresses e.ordered ws e.all) (e.laid.says t o w at there).includes;
   }
+
+  -- what their handles require of other packages
+  pub required_of : AreRequired files met_keys (flat_map turn_handles (map turned (d.ordered ++ e.ordered))) (irs ++ wrs)
+  required_of =
+      let turns : map turned (d.ordered ++ e.ordered) ≡ map turned d.ordered ++ map turned e.ordered = map-append turned d.ordered e.ordered in
+      let whole = ap (flat_map turn_handles) turns ∙ flat_map-append turn_handles (map turned d.ordered) (map turned e.ordered) in
+      let interfaces = required_in_turn files met_keys d.scopes d.ordered d.laid.turns (λ t c at. (let k = length ahead + t in e.done.required k c (at_front (ahead ++ d.scopes) e.scopes k c (at_back ahead d.scopes t c at)))) in
+      let worlds = required_in_turn files met_keys e.scopes e.ordered e.laid.turns (λ t c at. e.done.required (length (ahead ++ d.scopes) + t) c (at_back (ahead ++ d.scopes) e.scopes t c at)) in
+      let both = required_append files met_keys (flat_map turn_handles (map turned d.ordered)) (flat_map turn_handles (map turned e.ordered)) (flat_map done_required d.scopes) (flat_map done_required e.scopes) interfaces worlds in
+      subst (λ (hs : List (Address × Id)). AreRequired files met_keys hs (irs ++ wrs)) (sym whole) (subst (λ (rs : List Required). AreRequired files met_keys (flat_map turn_handles (map turned d.ordered) ++ flat_map turn_handles (map turned e.ordered)) (irs ++ rs)) e.required (subst (λ (rs : List Required). AreRequired files met_keys (flat_map turn_handles (map turned d.ordered) ++ flat_map turn_handles (map turned e.ordered)) (rs ++ flat_map done_required e.scopes)) d.required both))
 
   least_orders : (t : ℕ) (o : Ordered) → slice_get (d.ordered ++ e.ordered) t ≡ Some o → IsOrder (rows_of (scope_names o.item)) o.order
   least_orders t o at = elim (at_part d.ordered e.ordered t o at) [ inl h ↦ d.laid.least h.0 o h.1 | inr h ↦ e.laid.least h.0 o h.1 ]
@@ -296,8 +314,8 @@ module _ (files : List PackageFile) (is ws : List Item) (start middle : List Typ
       let aft = map visited (foreign_worlds files) in
       subst (λ (y : List Address). IsMeeting (declarations files (fore ++ addresses d.ordered) (aft ++ y)) e.done.met p.types) (ordered_addresses e.ordered ws e.all) (subst (λ (y : List Address). IsMeeting (declarations files (fore ++ y) (aft ++ map address ws)) e.done.met p.types) (ordered_addresses d.ordered is d.all) e.done.meeting)
 
-  pub package_of : (header : Header) (places : List ℕ) → IsOrder (item_rows files) places → is ≡ interfaces_of (in_order (all_items files) places) → ws ≡ worlds_of (in_order (all_items files) places) → last_header files ≡ Some header → p.name.namespace ≡ header.namespace.name.now → p.name.name ≡ header.name.name.now → option_map release_parts p.name.version ≡ option_map parts_of header.version → p.name_span ≡ header.span → IsPackage files p
-  package_of header places order interfaces worlds last namespace name version span = record {
+  pub package_of : p.required_resource_types ≡ irs ++ wrs → (header : Header) (places : List ℕ) → IsOrder (item_rows files) places → is ≡ interfaces_of (in_order (all_items files) places) → ws ≡ worlds_of (in_order (all_items files) places) → last_header files ≡ Some header → p.name.namespace ≡ header.namespace.name.now → p.name.name ≡ header.name.name.now → option_map release_parts p.name.version ≡ option_map parts_of header.version → p.name_span ≡ header.span → IsPackage files p
+  package_of requires header places order interfaces worlds last namespace name version span = record {
     header = header;
     last = last;
     namespace = namespace;
@@ -325,5 +343,6 @@ module _ (files : List PackageFile) (is ws : List Item) (start middle : List Typ
     world_arena = world_arena;
     are_foreign_worlds = foreign.worlds;
     are_worlds = worlds_are;
+    required = subst (AreRequired files met_keys (flat_map turn_handles (map turned (d.ordered ++ e.ordered)))) (sym requires) required_of;
     one = one_type files (decls files is ws) written scopes p e.done owners;
   }

@@ -3,7 +3,7 @@ use Rattle.std.proofs.Common.{◌≡◌, ℕ, ◌+◌, List, [], ◌∷◌, ◌+
 use Rattle.std.specs.Prelude.{slice_get, map}
 use Rattle.std.specs.Option.{option_map}
 use Rattle.std.proofs.lemmas.Option.{slice_get-map}
-use Rattle.wit_meaning.specs.Broken.{IsRepeated}
+use Rattle.wit_meaning.specs.Bodies.{IsRepeated}
 use Rattle.wit_meaning.specs.Repeats.{IsRepeatAt, AllDiffer}
 use Rattle.wit_meaning.proofs.Lists.{at_either, at_split, map_at}
 

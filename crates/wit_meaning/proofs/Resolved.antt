@@ -1,5 +1,5 @@
 -- Files whose interfaces and then worlds were added: no rule is broken, and they are a package that is faithful to them.
-use Rattle.std.proofs.Common.{◌≡◌, ◌⊎◌, ◌<◌, ℕ, true, false, List, ◌++◌, Some, None, map, inl, inr, refl, sym, ap, ◌∙◌, subst, arith, Contains}
+use Rattle.std.proofs.Common.{◌≡◌, ◌<◌, ℕ, Bool, true, false, not, List, ◌++◌, Some, None, map, inl, inr, refl, sym, ap, ◌∙◌, subst, arith, Contains}
 use Rattle.std.specs.Prelude.{slice_get}
 use Rattle.std.specs.Option.{option_map}
 use Rattle.std.proofs.lemmas.Bool.{cases_Bool}
@@ -18,28 +18,35 @@ use Rattle.wit_order.specs.Table.{IsOrder}
 use Rattle.wit_meaning.specs.Address.{Address, WorldNamed, ForeignNamed}
 use Rattle.wit_meaning.specs.Source.{address, Target, Local, Foreign, leads, item_id, item_named, included_scope, is_world, Item, all_items, item_name, scope_names}
 use Rattle.wit_meaning.specs.Foreign.{visited, is_foreign_world, foreign_interfaces, foreign_worlds, foreign_at}
-use Rattle.wit_meaning.specs.Scope.{in_order, include_paths, includes, item_rows, interfaces_of, worlds_of}
+use Rattle.wit_meaning.specs.Scope.{in_order, include_paths, includes, item_rows, interfaces_of, worlds_of, rows_of}
+use Rattle.std.specs.List.{filter, flat_map}
+use Rattle.wit_meaning.specs.Meet.{keys}
+use Rattle.wit_meaning.specs.Function.{functions}
+use Rattle.wit_meaning.specs.Resolving.{Required}
 use Rattle.wit_meaning.specs.Fault.{Fault, fault}
-use Rattle.wit_meaning.specs.Broken.{IsDuplicateItem, is_world_at, IsInterfaceIncluded, IsMissingName, IsBrokenNames, DuplicateItem, Items, IsBrokenUse, Headerless, Names, Use, InterfaceIncluded, MissingName, Scope, IsLegal, last_header}
+use Rattle.wit_meaning.specs.Broken.{IsDuplicateItem, is_world_at, IsInterfaceIncluded, IsBrokenNames, DuplicateItem, Items, IsBrokenUse, Headerless, Names, Use, InterfaceIncluded, MissingName, FunctionUsed, Scope, Handle, Setter, IsLegal, last_header}
 use Rattle.wit_meaning.specs.Repeats.{AllDiffer}
-use Rattle.wit_meaning.specs.Whole.{item_of, AreIncludes, NamesOthers, IsPackage, IsFaithful}
-use Rattle.wit_meaning.specs.Resolved.{AddsInterfaces, AddsWorlds, AddsForeign, AreLegalScopes}
+use Rattle.wit_meaning.specs.Whole.{Ordered, Turned, item_of, turned, turn_handles, AreRequired, AreIncludes, NamesOthers, IsPackage, IsFaithful}
+use Rattle.wit_meaning.specs.Resolved.{AddsInterfaces, AddsWorlds, AddsForeign, AreLegalScopes, AreSoundScopes}
 use Rattle.wit_meaning.proofs.Lists.{at_within, map_at}
 use Rattle.wit_meaning.proofs.Headers.{some_header}
 use Rattle.wit_meaning.proofs.Turns.{at_part}
-use Rattle.wit_meaning.proofs.Repeated.{differ_by}
-use Rattle.wit_meaning.proofs.Scoping.{at_contains}
+use Rattle.wit_meaning.proofs.Repeated.{differ_by, differ_none}
+use Rattle.wit_meaning.proofs.Kept.{kept_at}
+use Rattle.wit_meaning.proofs.Legal.{three_ways, function_name, functions_differ}
+use Rattle.wit_meaning.proofs.Standing.{DoneScope, turn_of}
+use Rattle.wit_meaning.proofs.Front.{front_scopes, front_at, FrontInterface, FrontWorld}
+use Rattle.wit_meaning.proofs.Scoping.{at_contains, contains_at}
 use Rattle.wit_meaning.proofs.Interfaces.{AreItems, AreOfSort, world_address, interfaces_sort, worlds_sort}
-use Rattle.wit_meaning.proofs.Itemizing.{item_index}
+use Rattle.wit_meaning.proofs.Itemizing.{items_within, item_index}
+use Rattle.wit_meaning.proofs.Orders.{in_order_at}
 use Rattle.wit_meaning.proofs.Visits.{world_visit, foreign_at-visited, visited_foreign, address_own}
 use Rattle.wit_meaning.proofs.Leading.{include_at, interface_includes_none}
-use Rattle.wit_meaning.proofs.Laid.{entry_of_item}
+use Rattle.wit_meaning.proofs.Laid.{ordered_at, entry_of_item}
+use Rattle.wit_meaning.proofs.Upheld.{IsItemDone, interface_done, world_done, names_stated, types_stated, handles_stated, names_meant, setters_paired}
 use Rattle.wit_meaning.proofs.Added.{world_list, InterfacesDone, WorldsDone, interfaces_done, worlds_done}
 use Rattle.wit_meaning.proofs.Finished.{are_interfaces, are_worlds, interface_at, world_at}
-use Rattle.wit_meaning.proofs.Packaged.{interface_names_stated, world_names_stated, faithful_package, package_of}
-
-three_ways : (m n : ℕ) → (m < n) ⊎ ((m ≡ n) ⊎ (n < m))
-three_ways m n = grind arith
+use Rattle.wit_meaning.proofs.Packaged.{faithful_package, required_of, package_of}
 
 -- an item whose name an earlier one has is declared twice
 twice : (files : List PackageFile) (i j : ℕ) (x y : Item) → i < j → slice_get (all_items files) i ≡ Some x → slice_get (all_items files) j ≡ Some y → item_name x ≡ item_name y → IsDuplicateItem files (fault 5 (item_id y).span)
@@ -96,7 +103,7 @@ module _ (files : List PackageFile) (ws : List Item) (items : AreItems files ws)
       let i = at_within is k.0 (omega arith) in
       included_world i.0.id (leads w.top path) ((says.each k.0 k.1 i.0 k.2 i.1).place ∙ ap (λ (x : UsePath). Some (included_scope (leads w.top x))) (sym k.3))
 
-module _ (files : List PackageFile) (places : List ℕ) (order : IsOrder (item_rows files) places) (names : (f : Fault) → IsBrokenNames files f → ⊥) (uses : (i : Item) → Contains (all_items files) i → (f : Fault) → IsBrokenUse files i f → ⊥) (es middle new : List TypeDef) (front is : List Interface) (wfront ws : List World) (foreign : AddsForeign files es front wfront) (added : AddsInterfaces (map visited (foreign_interfaces files)) es middle front is (interfaces_of (in_order (all_items files) places))) (more : AddsWorlds (map visited (foreign_interfaces files)) (map visited (foreign_worlds files)) is middle new wfront ws (worlds_of (in_order (all_items files) places))) where
+module _ (files : List PackageFile) (places : List ℕ) (order : IsOrder (item_rows files) places) (names : (f : Fault) → IsBrokenNames files f → ⊥) (uses : (i : Item) → Contains (all_items files) i → (f : Fault) → IsBrokenUse files i f → ⊥) (es middle new : List TypeDef) (front is : List Interface) (wfront ws : List World) (irs wrs : List Required) (foreign : AddsForeign files es front wfront) (added : AddsInterfaces (map visited (foreign_interfaces files)) es middle front is irs (interfaces_of (in_order (all_items files) places))) (more : AddsWorlds (map visited (foreign_interfaces files)) (map visited (foreign_worlds files)) is middle new wfront ws wrs (worlds_of (in_order (all_items files) places))) where
   abbrev differ : AllDiffer (map item_name (all_items files))
   differ = distinct_items files names
 
@@ -113,17 +120,20 @@ module _ (files : List PackageFile) (places : List ℕ) (order : IsOrder (item_r
   ws_sort = worlds_sort (in_order (all_items files) places)
 
   -- the interfaces of the package, and its worlds, behind those of other packages
-  is_done : (own : List Interface) × (is ≡ front ++ own) × InterfacesDone files is_items ws_items front is_items middle own
-  is_done = interfaces_done files is_items ws_items is_sort ws_sort (are_interfaces files places order differ) (are_worlds files places order differ) uses es front wfront foreign middle is is_items (λ k w at. at) added
+  pub is_done : (own : List Interface) × (is ≡ front ++ own) × InterfacesDone files is_items ws_items front is_items middle own irs
+  is_done = interfaces_done files is_items ws_items is_sort ws_sort (are_interfaces files places order differ) (are_worlds files places order differ) uses es front wfront foreign middle is irs is_items (λ k w at. at) added
 
-  ws_done : (own : List World) × (ws ≡ wfront ++ own) × WorldsDone files is_items ws_items front is_done.2.ordered is_done.2.scopes ws_items new own
-  ws_done = worlds_done files is_items ws_items is_sort ws_sort (are_interfaces files places order differ) (are_worlds files places order differ) uses es front wfront foreign middle is_done.0 is_done.2 new ws ws_items (λ k w at. at) (subst (λ (l : List Interface). AddsWorlds (map visited (foreign_interfaces files)) (map visited (foreign_worlds files)) l middle new wfront ws ws_items) is_done.1 more)
+  pub ws_done : (own : List World) × (ws ≡ wfront ++ own) × WorldsDone files is_items ws_items front is_done.2.ordered is_done.2.scopes ws_items new own wrs
+  ws_done = worlds_done files is_items ws_items is_sort ws_sort (are_interfaces files places order differ) (are_worlds files places order differ) uses es front wfront foreign middle is_done.0 irs is_done.2 new ws wrs ws_items (λ k w at. at) (subst (λ (l : List Interface). AddsWorlds (map visited (foreign_interfaces files)) (map visited (foreign_worlds files)) l middle new wfront ws wrs ws_items) is_done.1 more)
 
-  -- what is used in an item is a name of the interface that it comes from
-  names_stated : (w : Item) → Contains (all_items files) w → (f : Fault) → IsMissingName files (scope_names w) f → ⊥
-  names_stated w among f h = elim (cases_Bool (is_world w)) [
-    | inl world ↦ (let t = world_at files places order differ w world among in world_names_stated files is_items ws_items middle new front is_done.0 ws_done.0 is_done.2 ws_done.2 (are_worlds files places order differ) t.0 w t.1 f h)
-    | inr other ↦ (let t = interface_at files places order differ w other among in interface_names_stated files is_items ws_items middle new front is_done.0 ws_done.0 is_done.2 ws_done.2 (are_interfaces files places order differ) t.0 w t.1 f h)
+  -- the scope of an item
+  abbrev IsDoneItem : Item → Type 0
+  IsDoneItem w = IsItemDone files is_items ws_items middle new front is_done.0 ws_done.0 irs wrs is_done.2 ws_done.2 w
+
+  item_done : (w : Item) → Contains (all_items files) w → IsDoneItem w
+  item_done w among = elim (cases_Bool (is_world w)) [
+    | inl world ↦ (let t = world_at files places order differ w world among in world_done files is_items ws_items middle new front is_done.0 ws_done.0 irs wrs is_done.2 ws_done.2 (are_worlds files places order differ) t.0 w t.1)
+    | inr other ↦ (let t = interface_at files places order differ w other among in interface_done files is_items ws_items middle new front is_done.0 ws_done.0 irs wrs is_done.2 ws_done.2 (are_interfaces files places order differ) t.0 w t.1)
   ]
 
   -- the include of a world leads to a world
@@ -144,6 +154,15 @@ module _ (files : List PackageFile) (places : List ℕ) (order : IsOrder (item_r
     | inr other ↦ interface_includes_none w other h.path h.among
   ]
 
+  -- scopes that are sound by themselves are legal: each name in a signature means something
+  pub scopes_legal : AreSoundScopes (in_order (all_items files) places) → AreLegalScopes (in_order (all_items files) places)
+  scopes_legal scopes = record {
+    legal = λ t w f at broken. (
+        let it = scopes.sound t w f at broken in
+        let p = in_order_at (all_items files) places t w (items_within files places order) at in
+        names_meant files is_items ws_items middle new front is_done.0 ws_done.0 irs wrs is_done.2 ws_done.2 w (item_done w (contains_at (all_items files) p.0 w p.2)) it.k it.fn it.id it.at it.among it.missing);
+  }
+
   -- no rule is broken, where the scopes are legal by themselves
   pub files_legal : AreLegalScopes (in_order (all_items files) places) → (header : Header) → last_header files ≡ Some header → IsLegal files
   files_legal scopes header last f (Headerless h) =
@@ -154,7 +173,12 @@ module _ (files : List PackageFile) (places : List ℕ) (order : IsOrder (item_r
   files_legal scopes header last f (Names h) = names f h
   files_legal scopes header last f (Use i among h) = uses i among f h
   files_legal scopes header last f (InterfaceIncluded i among h) = includes_stated i among f h
-  files_legal scopes header last f (MissingName i among h) = names_stated i among f h
+  files_legal scopes header last f (MissingName i among h) = names_stated files is_items ws_items middle new front is_done.0 ws_done.0 irs wrs is_done.2 ws_done.2 i (item_done i among) f h
+  files_legal scopes header last f (FunctionUsed i among h) = types_stated files is_items ws_items middle new front is_done.0 ws_done.0 irs wrs is_done.2 ws_done.2 i (item_done i among) f h
+  files_legal scopes header last f (Handle i among h) = handles_stated files is_items ws_items middle new front is_done.0 ws_done.0 irs wrs is_done.2 ws_done.2 i (item_done i among) f h
+  files_legal scopes header last f (Setter i among h) =
+      let t = interface_at files places order differ i h.interface among in
+      setters_paired files is_items ws_items middle new front is_done.0 ws_done.0 irs wrs is_done.2 ws_done.2 t.0 i t.1 f h.alone
   files_legal scopes header last f (Scope i among h) =
       let p = at_contains (all_items files) i among in
       let t = item_index files places order p.0 i p.1 in
@@ -162,11 +186,37 @@ module _ (files : List PackageFile) (places : List ℕ) (order : IsOrder (item_r
 
   -- a package that has these arenas, and names what the files name of other packages
   module _ (p : UnresolvedPackage) (types : p.types ≡ new) (interfaces : p.interfaces ≡ is) (worlds : p.worlds ≡ ws) (others : NamesOthers files p) where
-    package_worlds : WorldsDone files is_items ws_items front is_done.2.ordered is_done.2.scopes ws_items p.types ws_done.0
-    package_worlds = subst (λ (l : List TypeDef). WorldsDone files is_items ws_items front is_done.2.ordered is_done.2.scopes ws_items l ws_done.0) (sym types) ws_done.2
+    pub package_worlds : WorldsDone files is_items ws_items front is_done.2.ordered is_done.2.scopes ws_items p.types ws_done.0 wrs
+    package_worlds = subst (λ (l : List TypeDef). WorldsDone files is_items ws_items front is_done.2.ordered is_done.2.scopes ws_items l ws_done.0 wrs) (sym types) ws_done.2
 
-    pub files_package : (header : Header) → last_header files ≡ Some header → p.name.namespace ≡ header.namespace.name.now → p.name.name ≡ header.name.name.now → option_map release_parts p.name.version ≡ option_map parts_of header.version → p.name_span ≡ header.span → IsPackage files p
-    files_package header last namespace name version span = package_of files is_items ws_items es middle front is_done.0 wfront ws_done.0 foreign p is_done.2 package_worlds (interfaces ∙ is_done.1) (worlds ∙ ws_done.1) others header places order refl refl last namespace name version span
+    pub files_package : p.required_resource_types ≡ irs ++ wrs → (header : Header) → last_header files ≡ Some header → p.name.namespace ≡ header.namespace.name.now → p.name.name ≡ header.name.name.now → option_map release_parts p.name.version ≡ option_map parts_of header.version → p.name_span ≡ header.span → IsPackage files p
+    files_package requires header last namespace name version span = package_of files is_items ws_items es middle front is_done.0 wfront ws_done.0 foreign irs wrs p is_done.2 package_worlds (interfaces ∙ is_done.1) (worlds ∙ ws_done.1) others requires header places order refl refl last namespace name version span
 
-    pub files_faithful : IsFaithful files p
-    files_faithful = faithful_package files is_items ws_items es middle front is_done.0 wfront ws_done.0 foreign p is_done.2 package_worlds (interfaces ∙ is_done.1) (worlds ∙ ws_done.1) others
+    -- what handles require of other packages: first those of interfaces, then those of worlds
+    pub files_required : AreRequired files (keys package_worlds.done.met) (flat_map turn_handles (map turned (is_done.2.ordered ++ package_worlds.ordered))) (irs ++ wrs)
+    files_required = required_of files is_items ws_items es middle front is_done.0 wfront ws_done.0 foreign irs wrs p is_done.2 package_worlds (interfaces ∙ is_done.1) (worlds ∙ ws_done.1) others
+
+    -- no two functions of a scope that is legal by itself have one name
+    apart_in : AreLegalScopes (in_order (all_items files) places) → (test : Item → Bool) (o : Ordered) (c : DoneScope) (t : ℕ) → slice_get (filter test (in_order (all_items files) places)) t ≡ Some o.item → IsOrder (rows_of (scope_names o.item)) o.order → turned o ≡ turn_of c → AllDiffer (map function_name c.functions)
+    apart_in scopes test o c t at least same =
+        let p = kept_at test (in_order (all_items files) places) t o.item at in
+        subst (λ (x : Turned). AllDiffer (map function_name x.functions)) same (functions_differ (scope_names o.item) (functions o.item) o.order least (λ f broken. scopes.legal p.0 o.item f p.1 broken))
+
+    functions_apart : AreLegalScopes (in_order (all_items files) places) → (t : ℕ) (c : DoneScope) → slice_get ((front_scopes files front ++ is_done.2.scopes) ++ package_worlds.scopes) t ≡ Some c → AllDiffer (map function_name c.functions)
+    functions_apart scopes t c at = elim (at_part (front_scopes files front ++ is_done.2.scopes) package_worlds.scopes t c at) [
+      | inl h ↦ elim (at_part (front_scopes files front) is_done.2.scopes h.0 c h.1) [
+        | inl g ↦ elim (front_at files front foreign.interfaces.count g.0 c g.1) [
+          | FrontInterface k v i v_at i_at is ↦ subst (λ (b : DoneScope). AllDiffer (map function_name b.functions)) (sym is) differ_none
+          | FrontWorld k v v_at is ↦ subst (λ (b : DoneScope). AllDiffer (map function_name b.functions)) (sym is) differ_none
+        ]
+        | inr g ↦ (
+            let o = ordered_at is_done.2.laid g.0 c g.1 in
+            apart_in scopes (λ (i : Item). not (is_world i)) o.0 c g.0 (is_done.2.laid.front g.0 o.0 o.1) (is_done.2.laid.least g.0 o.0 o.1) o.2)
+      ]
+      | inr h ↦ (
+          let o = ordered_at package_worlds.laid h.0 c h.1 in
+          apart_in scopes is_world o.0 c h.0 (package_worlds.laid.front h.0 o.0 o.1) (package_worlds.laid.least h.0 o.0 o.1) o.2)
+    ]
+
+    pub files_faithful : AreLegalScopes (in_order (all_items files) places) → IsFaithful files p
+    files_faithful scopes = faithful_package files is_items ws_items es middle front is_done.0 wfront ws_done.0 foreign irs wrs p is_done.2 package_worlds (interfaces ∙ is_done.1) (worlds ∙ ws_done.1) others (functions_apart scopes)

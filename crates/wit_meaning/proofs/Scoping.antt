@@ -12,7 +12,7 @@ use Rattle.wit_order.proofs.Tables.{slice_get-take}
 use Rattle.wit_meaning.specs.Source.{ScopeName, Defined, local_name}
 use Rattle.wit_meaning.specs.Fault.{Fault}
 use Rattle.wit_meaning.specs.Scope.{needed_ids, row_of, rows_of, in_order}
-use Rattle.wit_meaning.specs.Broken.{IsBrokenBody}
+use Rattle.wit_meaning.specs.Bodies.{IsBrokenBody}
 use Rattle.wit_meaning.specs.Resolving.{AreLegalBodies, Env, Names, env_of, HasNames, IsStored}
 use Rattle.wit_meaning.proofs.Lists.{at_either}
 use Rattle.wit_meaning.proofs.Names.{name_itself, lookup-insert_entry}

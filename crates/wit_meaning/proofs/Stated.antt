@@ -1,21 +1,24 @@
 -- The names of scopes that are done: each stands for its entry, and what is used is a name of the scope that it comes from.
-use Rattle.std.proofs.Common.{◌≡◌, ℕ, List, [], ◌∷◌, Some, None, sym, ap, ◌∙◌, subst}
+use Rattle.std.proofs.Common.{◌≡◌, ℕ, List, [], ◌∷◌, Some, None, sym, ap, ◌∙◌, subst, Contains, arith}
 use Rattle.std.specs.Prelude.{slice_get, map}
 use Rattle.std.specs.Option.{option_map}
-use Rattle.std.proofs.lemmas.Option.{slice_get-map}
+use Rattle.std.proofs.lemmas.Option.{slice_get-map, slice_get_within}
+use Rattle.wit_model.specs.declared.function.Function.{Function}
+use Rattle.wit_meaning.specs.Function.{SourceFunction}
+use Rattle.wit_meaning.specs.Functions.{IsFunction}
 use Rattle.wit_tree.specs.declared.tree.UseName.{UseName}
 use Rattle.wit_tree.specs.declared.tree.PackageFile.{PackageFile}
 use Rattle.wit_types.specs.declared.types.«Type».{«Type» as Ty}
 use Rattle.wit_types.specs.declared.types.TypeDef.{TypeDef}
 use Rattle.wit_meaning.specs.Form.{kind_of}
 use Rattle.wit_meaning.specs.Address.{Address}
-use Rattle.wit_meaning.specs.Source.{ScopeName, Used, Place, local_name, scope_names, scope, meaning, name_body, name_scope, name_parts}
+use Rattle.wit_meaning.specs.Source.{Item, all_items, item_at, ScopeName, Used, Place, local_name, scope_names, scope, meaning, name_body, name_scope, name_parts}
 use Rattle.wit_meaning.specs.Expr.{Use, Exprs, one, expr_of, name_exprs}
 use Rattle.wit_meaning.specs.Meet.{Key, Def, Meeting, keys, IsAt, AreAt, Decl, Decls, decl_of}
 use Rattle.wit_meaning.specs.Fault.{Fault}
-use Rattle.wit_meaning.specs.Broken.{IsMissingName}
+use Rattle.wit_meaning.specs.Broken.{IsMissingName, IsFunctionUsed}
 use Rattle.wit_meaning.specs.Whole.{HasTypes}
-use Rattle.wit_meaning.proofs.Lists.{map_at}
+use Rattle.wit_meaning.proofs.Lists.{at_within, map_at}
 use Rattle.wit_meaning.proofs.Names.{lookup-at}
 use Rattle.wit_meaning.proofs.Places.{all_at_untaken}
 use Rattle.wit_meaning.proofs.Repeated.{differ_at}
@@ -86,6 +89,15 @@ module _ (files : List PackageFile) (decls : Decls) (written : List Meeting) (cs
       let exprs : it.decl.parts ≡ name_exprs s x = sym (ap (λ (z : Decl). z.parts) y.3) ∙ ap (name_exprs s) same in
       subst (λ (z : Exprs). AreAt ks z (kind_of e.kind).parts) exprs (all_at_untaken id ks it.decl.parts (kind_of e.kind).parts it.parts)
 
+  -- a function of a scope, and the one of the package that it is
+  pub function_at : (t : ℕ) (c : DoneScope) (k : ℕ) (fn : SourceFunction) → slice_get cs t ≡ Some c → slice_get c.functions k ≡ Some fn → (f : Function) × (slice_get c.made k ≡ Some f) × IsFunction ks c.address fn f
+  function_at t c k fn at fat =
+      let are = d.made t c at in
+      let lt = slice_get_within c.functions k fn fat in
+      let count = are.count in
+      let f = at_within c.made k (omega arith) in
+      (f.0, f.1, are.each k fn f.0 fat f.1)
+
   -- a part of the entry of a name of a scope
   pub part_in : (t : ℕ) (c : DoneScope) (k : ℕ) (x : ScopeName) (index id : ℕ) (e : TypeDef) (part : ℕ) (place : Place) (ty : Ty) → slice_get cs t ≡ Some c → slice_get (scope files c.address) k ≡ Some x → slice_get c.types index ≡ Some (local_name x, id) → slice_get es id ≡ Some e → slice_get (name_parts c.address x) part ≡ Some place → slice_get (kind_of e.kind).parts part ≡ Some ty → IsAt ks (expr_of place.0 place.1) ty
   part_in t c k x index id e part place ty at xat stands entry written type =
@@ -93,7 +105,7 @@ module _ (files : List PackageFile) (decls : Decls) (written : List Meeting) (cs
       part_type ks (name_scope c.address x) (name_body x).parts (kind_of e.kind).parts part place ty (parts_at t c k x id e at xat here entry) written type
 
   -- a name that was met means something in its scope
-  meaning_at : (j : ℕ) (s : Address) (name : List ℕ) → slice_get ks j ≡ Some (Def s name) → (x : ScopeName) × (meaning (scope files s) name ≡ Some x)
+  pub meaning_at : (j : ℕ) (s : Address) (name : List ℕ) → slice_get ks j ≡ Some (Def s name) → (x : ScopeName) × (meaning (scope files s) name ≡ Some x)
   meaning_at j s name here =
       let it = d.before j s name here in
       let turn = (d.each it.place it.cell it.at).turn in
@@ -108,14 +120,21 @@ module _ (files : List PackageFile) (decls : Decls) (written : List Meeting) (cs
       let e = entry_of id.0 c.address (local_name (Used from n)) id.2 in
       used_key ks from n.name.name.now (kind_of e.0.kind).parts (parts_at t c k (Used from n) id.0 e.0 at kat id.2 e.1)
 
-  -- what is used in a scope is a name of the scope that it comes from
-  pub stated : (t : ℕ) (c : DoneScope) (f : Fault) → slice_get cs t ≡ Some c → IsMissingName files (scope files c.address) f → ⊥
-  stated t c f at h =
-      let k = at_contains (scope files c.address) (Used h.from h.n) h.among in
-      let j = original_met t c k.0 h.from h.n at k.1 in
-      let name = h.n.name.name.now in
-      let it = meaning_at j.0 h.from name j.1 in
-      let declared : meaning (scope files h.from) name ≡ meaning (scope_names h.target) name = ap (λ (xs : List ScopeName). meaning xs name) (scope_at files h.from h.target h.declared) in
-      let wrong : None ≡ Some it.0 = sym h.missing ∙ sym declared ∙ it.1 in
+  -- what is used in a scope means something where it comes from
+  stated_name : (t : ℕ) (c : DoneScope) (from : Address) (n : UseName) (target : Item) → slice_get cs t ≡ Some c → Contains (scope files c.address) (Used from n) → item_at (all_items files) from ≡ Some target → meaning (scope_names target) n.name.name.now ≡ None → ⊥
+  stated_name t c from n target at among declared missing =
+      let k = at_contains (scope files c.address) (Used from n) among in
+      let j = original_met t c k.0 from n at k.1 in
+      let name = n.name.name.now in
+      let it = meaning_at j.0 from name j.1 in
+      let same : meaning (scope files from) name ≡ meaning (scope_names target) name = ap (λ (xs : List ScopeName). meaning xs name) (scope_at files from target declared) in
+      let wrong : None ≡ Some it.0 = sym missing ∙ sym same ∙ it.1 in
       let g : ⊥ = cc in
       g
+
+  -- so it is a name of the scope that it comes from, and no function's
+  pub stated : (t : ℕ) (c : DoneScope) (f : Fault) → slice_get cs t ≡ Some c → IsMissingName files (scope files c.address) f → ⊥
+  stated t c f at h = stated_name t c h.from h.n h.target at h.among h.declared h.missing
+
+  pub stated_type : (t : ℕ) (c : DoneScope) (f : Fault) → slice_get cs t ≡ Some c → IsFunctionUsed files (scope files c.address) f → ⊥
+  stated_type t c f at h = stated_name t c h.from h.n h.target at h.among h.declared h.missing

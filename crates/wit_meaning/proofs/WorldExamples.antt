@@ -124,7 +124,7 @@ module _ (ptr : Ptr) (alloc : Global) where
   worlds = world (codes "w") (type_imports (ordered_names ordered_w) ((codes "t", 1) ∷ (codes "s", 2) ∷ [])) [] (at 75 76) ∷ world (codes "v") [] (included ∷ []) (at 52 53) ∷ []
 
   abbrev whole : UnresolvedPackage
-  whole = record { name = record { namespace = codes "foo"; name = codes "foo"; version = None }; worlds = worlds; interfaces = x_entry ∷ []; types = types; foreign_deps = []; name_span = at 8 15; unknown_type_spans = []; foreign_dep_spans = [] }
+  whole = record { name = record { namespace = codes "foo"; name = codes "foo"; version = None }; worlds = worlds; interfaces = x_entry ∷ []; types = types; foreign_deps = []; name_span = at 8 15; unknown_type_spans = []; foreign_dep_spans = []; required_resource_types = [] }
 
   -- w has its types under their names
   names_in_package : names_of whole (owner.World 0) ≡ ((codes "t", 1) ∷ (codes "s", 2) ∷ [])

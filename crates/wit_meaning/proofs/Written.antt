@@ -1,6 +1,7 @@
 -- Written types by their parts: the shapes of these, the names in them, and what is wrong with them.
 use Rattle.std.proofs.Common.{◌≡◌, ℕ, zero, suc, List, [], ◌∷◌, ◌++◌, Some, inl, inr, refl, sym, ap, ◌∙◌, subst, append_assoc, Contains, Vec, arith}
 use Rattle.std.specs.Prelude.{slice_get}
+use Rattle.std.proofs.lemmas.List.{append-nil}
 use Rattle.std.proofs.lemmas.List.Elements.{Contains-append_left, Contains-append_right, Contains-append_cases}
 use Rattle.std.specs.declared.alloc.Global.{Global}
 use Rattle.wit_values.specs.declared.span.Span.{Span}
@@ -9,14 +10,15 @@ use Rattle.wit_tree.specs.declared.tree.«Type».{«Type» as Written, Held-Type
 use Rattle.wit_tree.specs.declared.tree.«Type».TheVariants as written
 use Rattle.wit_tree.proofs.Rows.{tuple_types}
 use Rattle.wit_tree.specs.Parts.{held_types, row_types, part_types}
-use Rattle.wit_meaning.specs.Shape.{Shape, Prim, Word, Of, Shapes, End, More, shape_of, held_shape, row_shapes, all_shapes, head, words, all_words}
+use Rattle.wit_types.specs.declared.types.TypeDef.{TypeDef}
+use Rattle.wit_meaning.specs.Shape.{Shape, Prim, Word, Of, Shapes, End, More, shape_of, held_shape, row_shapes, all_shapes, head, words, all_words, handles, held_handles, row_handles, all_handles}
 use Rattle.wit_meaning.specs.Address.{Address}
 use Rattle.wit_meaning.specs.Expr.{joined, expr_of, exprs_of}
 use Rattle.wit_meaning.specs.Expr as exprs
 use Rattle.wit_meaning.specs.Meet.{shape_meetings, shapes_meetings}
 use Rattle.wit_meaning.specs.Fault.{Fault}
-use Rattle.wit_meaning.specs.Broken.{IsBrokenForm, StandsIn, IsBrokenType, IsBrokenPart}
-use Rattle.wit_meaning.specs.Resolving.{Env, IsWrongType, AreWrongTypes}
+use Rattle.wit_meaning.specs.Bodies.{IsBrokenForm, StandsIn, IsBrokenType, IsBrokenPart}
+use Rattle.wit_meaning.specs.Resolving.{Env, IsWrongWord, IsWrongType, AreWrongTypes}
 use Rattle.wit_meaning.proofs.Scoping.{contains_at}
 
 pub row_shapes-all : {m : _} (ts : Row_of-Type m) → row_shapes ts ≡ all_shapes (row_types ts)
@@ -36,17 +38,23 @@ result_shapes : (ok err : Held) → held_shape ok (held_shape err End) ≡ all_s
 result_shapes None' err = held_shape-all err
 result_shapes (Some' p t) err = ap (More (shape_of t)) (held_shape-all err)
 
+-- the parts of a type's shape are types: what a handle lends is a name alone
+abbrev pub IsOfTypes : Written → Type 0
+IsOfTypes (written.Borrow span id) = ⊥
+IsOfTypes t = Unit {0}
+
 -- the parts of a type's shape are the shapes of its parts
-pub inner-parts : (t : Written) → inner (shape_of t) ≡ all_shapes (part_types t)
-inner-parts (written.Result' span ok err) = result_shapes ok err
-inner-parts (written.Tuple' span shape ts) = row_shapes-all ts
-inner-parts (written.Future' span t) = held_shape-all t
-inner-parts (written.Stream' span t) = held_shape-all t
-inner-parts _ = refl
+pub inner-parts : (t : Written) → IsOfTypes t → inner (shape_of t) ≡ all_shapes (part_types t)
+inner-parts (written.Result' span ok err) h = result_shapes ok err
+inner-parts (written.Tuple' span shape ts) h = row_shapes-all ts
+inner-parts (written.Future' span t) h = held_shape-all t
+inner-parts (written.Stream' span t) h = held_shape-all t
+inner-parts (written.Borrow span id) h = absurd h
+inner-parts _ h = refl
 
 -- of a tuple, too
 pub tuple_inner : (span : Span) (v : Vec Written Global) → inner (shape_of (written.Tuple span v)) ≡ all_shapes v.items
-tuple_inner span v = inner-parts (written.Tuple span v) ∙ ap all_shapes (tuple_types span v)
+tuple_inner span v = inner-parts (written.Tuple span v) tt ∙ ap all_shapes (tuple_types span v)
 
 -- types behind others
 pub all_exprs-append : (s : Address) (ts us : List Written) → exprs_of s (all_shapes (ts ++ us)) ≡ joined (exprs_of s (all_shapes ts)) (exprs_of s (all_shapes us))
@@ -79,26 +87,76 @@ words_inner (Prim p) id h = h
 words_inner (Word i) id (k, lt, is) = absurd (let wrong : ⊥ = omega arith in wrong)
 words_inner (Of span form parts) id h = h
 
-pub wrong_at : (env : Env) (ts : List Written) (i : ℕ) (t : Written) (f : Fault) → slice_get ts i ≡ Some t → IsWrongType env t f → AreWrongTypes env ts f
-wrong_at env ts i t f at (inl broken) = inl (record { t = t; among = contains_at ts i t at; broken = broken })
-wrong_at env ts i t f at (inr unknown) = inr (record { id = unknown.id; among = words_at ts i t unknown.id at unknown.among; free = unknown.free })
+-- those in the types that are parts are among those in the parts
+words_parts : (t : Written) (id : Id) → Contains (all_words (all_shapes (part_types t))) id → Contains (all_words (inner (shape_of t))) id
+words_parts (written.Borrow span own) id (k, lt, is) = absurd (let wrong : ⊥ = omega arith in wrong)
+words_parts t id h = subst (λ xs. Contains (all_words xs) id) (sym (inner-parts t tt)) h
+
+-- the names in handles, of types and of further ones
+pub all_handles-append : (ts us : List Written) → all_handles (ts ++ us) ≡ all_handles ts ++ all_handles us
+all_handles-append [] us = refl
+all_handles-append (t ∷ ts) us = ap (λ (l : List Id). handles t ++ l) (all_handles-append ts us) ∙ sym (append_assoc (handles t) (all_handles ts) (all_handles us))
+
+pub handles_at : (ts : List Written) (i : ℕ) (t : Written) (id : Id) → slice_get ts i ≡ Some t → Contains (handles t) id → Contains (all_handles ts) id
+handles_at [] i t id at h = absurd (let wrong : ⊥ = cc in wrong)
+handles_at (u ∷ ts) zero t id at h = let same : u ≡ t = cc in Contains-append_left (handles u) (all_handles ts) id (rw same h)
+handles_at (u ∷ ts) (suc i) t id at h = Contains-append_right (handles u) (all_handles ts) id (handles_at ts i t id at h)
+
+held_handles-all : (t : Held) → held_handles t ≡ all_handles (held_types t)
+held_handles-all None' = refl
+held_handles-all (Some' p t) = sym (append-nil (handles t))
+
+row_handles-all : {m : _} (ts : Row_of-Type m) → row_handles ts ≡ all_handles (row_types ts)
+row_handles-all end_of-Type = refl
+row_handles-all (more_of-Type t rest) = ap (λ (l : List Id). handles t ++ l) (row_handles-all rest)
+
+-- a type is no handle itself
+abbrev pub IsNoHandle : Written → Type 0
+IsNoHandle (written.Own span id) = ⊥
+IsNoHandle (written.Borrow span id) = ⊥
+IsNoHandle t = Unit {0}
+
+-- the handles in a type that is none are those in its parts
+pub handles-parts : (t : Written) → IsNoHandle t → handles t ≡ all_handles (part_types t)
+handles-parts (written.Own span id) h = absurd h
+handles-parts (written.Borrow span id) h = absurd h
+handles-parts (written.List' span p t) h = sym (append-nil (handles t))
+handles-parts (written.FixedLengthList' span p t size) h = sym (append-nil (handles t))
+handles-parts (written.Map' span p key q value) h = ap (λ (l : List Id). handles key ++ l) (sym (append-nil (handles value)))
+handles-parts (written.Option' span p t) h = sym (append-nil (handles t))
+handles-parts (written.Result' span ok err) h = ap (λ (l : List Id). l ++ held_handles err) (held_handles-all ok) ∙ ap (λ (l : List Id). all_handles (held_types ok) ++ l) (held_handles-all err) ∙ sym (all_handles-append (held_types ok) (held_types err))
+handles-parts (written.Tuple' span shape ts) h = row_handles-all ts
+handles-parts (written.Future' span t) h = held_handles-all t
+handles-parts (written.Stream' span t) h = held_handles-all t
+handles-parts _ h = refl
+
+-- those in its parts are among those in the whole
+handles_inside : (t : Written) (id : Id) → Contains (all_handles (part_types t)) id → Contains (handles t) id
+handles_inside (written.Own span own) id (k, lt, is) = absurd (let wrong : ⊥ = omega arith in wrong)
+handles_inside (written.Borrow span own) id (k, lt, is) = absurd (let wrong : ⊥ = omega arith in wrong)
+handles_inside t id h = subst (λ (l : List Id). Contains l id) (sym (handles-parts t tt)) h
+
+-- names that are wrong are so among more of them
+pub word_wider : (env : Env) (es : List TypeDef) (ids hs jds gs : List Id) (f : Fault) → ((id : Id) → Contains ids id → Contains jds id) → ((id : Id) → Contains hs id → Contains gs id) → IsWrongWord env es ids hs f → IsWrongWord env es jds gs f
+word_wider env es ids hs jds gs f p q (inl unknown) = inl (record { id = unknown.id; among = p unknown.id unknown.among; free = unknown.free; is = unknown.is })
+word_wider env es ids hs jds gs f p q (inr handle) = inr (record { id = handle.id; among = q handle.id handle.among; place = handle.place; stands = handle.stands; steps = handle.steps; other = handle.other; is = handle.is })
+
+pub wrong_at : (env : Env) (es : List TypeDef) (ts : List Written) (i : ℕ) (t : Written) (f : Fault) → slice_get ts i ≡ Some t → IsWrongType env es t f → AreWrongTypes env es ts f
+wrong_at env es ts i t f at (inl broken) = inl (record { t = t; among = contains_at ts i t at; broken = broken })
+wrong_at env es ts i t f at (inr word) = inr (word_wider env es (words (shape_of t)) (handles t) (all_words (all_shapes ts)) (all_handles ts) f (λ id h. words_at ts i t id at h) (λ id h. handles_at ts i t id at h) word)
 
 -- what is wrong with some of the types is wrong with all
-pub wrong_left : (env : Env) (ts us : List Written) (f : Fault) → AreWrongTypes env ts f → AreWrongTypes env (ts ++ us) f
-wrong_left env ts us f (inl broken) = inl (record { t = broken.t; among = Contains-append_left ts us broken.t broken.among; broken = broken.broken })
-wrong_left env ts us f (inr unknown) = inr (record {
-  id = unknown.id;
-  among = subst (λ ids. Contains ids unknown.id) (sym (all_words-append ts us)) (Contains-append_left (all_words (all_shapes ts)) (all_words (all_shapes us)) unknown.id unknown.among);
-  free = unknown.free;
-})
+pub wrong_left : (env : Env) (es : List TypeDef) (ts us : List Written) (f : Fault) → AreWrongTypes env es ts f → AreWrongTypes env es (ts ++ us) f
+wrong_left env es ts us f (inl broken) = inl (record { t = broken.t; among = Contains-append_left ts us broken.t broken.among; broken = broken.broken })
+wrong_left env es ts us f (inr word) = inr (word_wider env es (all_words (all_shapes ts)) (all_handles ts) (all_words (all_shapes (ts ++ us))) (all_handles (ts ++ us)) f
+    (λ id h. subst (λ ids. Contains ids id) (sym (all_words-append ts us)) (Contains-append_left (all_words (all_shapes ts)) (all_words (all_shapes us)) id h))
+    (λ id h. subst (λ ids. Contains ids id) (sym (all_handles-append ts us)) (Contains-append_left (all_handles ts) (all_handles us) id h)) word)
 
-pub wrong_right : (env : Env) (ts us : List Written) (f : Fault) → AreWrongTypes env us f → AreWrongTypes env (ts ++ us) f
-wrong_right env ts us f (inl broken) = inl (record { t = broken.t; among = Contains-append_right ts us broken.t broken.among; broken = broken.broken })
-wrong_right env ts us f (inr unknown) = inr (record {
-  id = unknown.id;
-  among = subst (λ ids. Contains ids unknown.id) (sym (all_words-append ts us)) (Contains-append_right (all_words (all_shapes ts)) (all_words (all_shapes us)) unknown.id unknown.among);
-  free = unknown.free;
-})
+pub wrong_right : (env : Env) (es : List TypeDef) (ts us : List Written) (f : Fault) → AreWrongTypes env es us f → AreWrongTypes env es (ts ++ us) f
+wrong_right env es ts us f (inl broken) = inl (record { t = broken.t; among = Contains-append_right ts us broken.t broken.among; broken = broken.broken })
+wrong_right env es ts us f (inr word) = inr (word_wider env es (all_words (all_shapes us)) (all_handles us) (all_words (all_shapes (ts ++ us))) (all_handles (ts ++ us)) f
+    (λ id h. subst (λ ids. Contains ids id) (sym (all_words-append ts us)) (Contains-append_right (all_words (all_shapes ts)) (all_words (all_shapes us)) id h))
+    (λ id h. subst (λ ids. Contains ids id) (sym (all_handles-append ts us)) (Contains-append_right (all_handles ts) (all_handles us) id h)) word)
 
 broken_in : (t : Written) (f : Fault) → IsBrokenPart (part_types t) f → IsBrokenType t f
 broken_in t f h = record { level = suc h.broken.level; t = h.broken.t; stands = (h.t, h.among, h.broken.stands); broken = h.broken.broken }
@@ -107,13 +165,9 @@ pub broken_here : (t : Written) (f : Fault) → IsBrokenForm t f → IsBrokenTyp
 broken_here t f h = record { level = zero; t = t; stands = refl; broken = h }
 
 -- what is wrong with the parts of a type is wrong with the type
-pub wrong_inside : (env : Env) (t : Written) (f : Fault) → AreWrongTypes env (part_types t) f → IsWrongType env t f
-wrong_inside env t f (inl broken) = inl (broken_in t f broken)
-wrong_inside env t f (inr unknown) = inr (record {
-  id = unknown.id;
-  among = words_inner (shape_of t) unknown.id (subst (λ xs. Contains (all_words xs) unknown.id) (sym (inner-parts t)) unknown.among);
-  free = unknown.free;
-})
+pub wrong_inside : (env : Env) (es : List TypeDef) (t : Written) (f : Fault) → AreWrongTypes env es (part_types t) f → IsWrongType env es t f
+wrong_inside env es t f (inl broken) = inl (broken_in t f broken)
+wrong_inside env es t f (inr word) = inr (word_wider env es (all_words (all_shapes (part_types t))) (all_handles (part_types t)) (words (shape_of t)) (handles t) f (λ id h. words_inner (shape_of t) id (words_parts t id h)) (handles_inside t) word)
 
 -- no rule is broken in these types
 abbrev pub AreLegal : List Written → Type 0

@@ -11,7 +11,7 @@ use Rattle.wit_tree.specs.declared.tree.PackageFile.{PackageFile}
 use Rattle.wit_model.specs.declared.package_name.PackageName.{PackageName}
 use Rattle.wit_meaning.specs.Address.{Address, ForeignNamed, package_of, same_package, same_address}
 use Rattle.wit_meaning.specs.Repeats.{firsts}
-use Rattle.wit_meaning.specs.Source.{Declared, TheInterface, TheWorld, declared_parts, Part, Defining, Using, Including}
+use Rattle.wit_meaning.specs.Source.{Declared, TheInterface, TheWorld, declared_parts, Part, Defining, Using, Including, Doing}
 
 -- a path with a package, and whether it wants a world
 pub record ForeignVisit : Type 0 where
@@ -35,6 +35,7 @@ abbrev pub part_visits : Part → List ForeignVisit
 part_visits (Defining d) = []
 part_visits (Using u) = path_visits false u.from
 part_visits (Including i) = path_visits true i.from
+part_visits (Doing f) = []
 
 abbrev pub declared_visits : Declared → List ForeignVisit
 declared_visits d = flat_map part_visits (declared_parts d)

@@ -9,8 +9,14 @@ pub mod Expr
 pub mod Meet
 pub mod Fault
 pub mod Scope
+pub mod Bodies
+pub mod Function
+pub mod Ends
+pub mod Signature
 pub mod Broken
+pub mod Functions
 pub mod Package
 pub mod Whole
 pub mod Resolving
 pub mod Resolved
+pub mod Adding

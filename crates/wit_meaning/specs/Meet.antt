@@ -16,6 +16,7 @@ use Rattle.wit_meaning.specs.Shape.{Shape, Shapes, no_docs}
 use Rattle.wit_meaning.specs.Shape as shape
 use Rattle.wit_meaning.specs.Address.{Address}
 use Rattle.wit_meaning.specs.Source.{ScopeName, local_name, name_form, name_span, name_body, name_scope}
+use Rattle.wit_meaning.specs.Function.{SourceFunction, signature}
 use Rattle.wit_meaning.specs.Expr.{Expr, Prim, Use, Of, Exprs, End, More, exprs_of, name_exprs}
 
 -- what is met: a name of a scope, or an unnamed type
@@ -55,6 +56,13 @@ name_meetings s x = parts_meetings s x ++ record { key = Def s (local_name x); s
 
 abbrev pub all_name_meetings : Address → List ScopeName → List Meeting
 all_name_meetings s xs = flat_map (name_meetings s) xs
+
+-- what is met in a function: in its parameters, and then in its result
+abbrev pub function_meetings : Address → SourceFunction → List Meeting
+function_meetings s fn = flat_map (shape_meetings s) (signature fn)
+
+abbrev pub all_function_meetings : Address → List SourceFunction → List Meeting
+all_function_meetings s fns = flat_map (function_meetings s) fns
 
 abbrev pub IsMet : List Key → Key → Type 0
 IsMet ks k = (i : ℕ) × (slice_get ks i ≡ Some k)

@@ -1,7 +1,9 @@
 -- What types of a package mean: the arenas unfolded, whose names are by what the package calls them, and what an interface says.
-use Rattle.std.specs.Prelude.{◌≡◌, ℕ, zero, suc, ◌<◌, Bool, false, nat_eq, List, [], ◌∷◌, Option, Some, None, ◌⊎◌, map, find, slice_get}
+use Rattle.std.specs.Prelude.{◌≡◌, ℕ, zero, suc, ◌<◌, Bool, false, nat_eq, List, [], ◌∷◌, ◌++◌, Option, Some, None, ◌⊎◌, map, find, slice_get}
 use Rattle.std.specs.List.{flat_map}
-use Rattle.std.specs.Option.{option_map_or}
+use Rattle.std.specs.Option.{option_map_or, option_to_list}
+use Rattle.wit_model.specs.declared.function.Function.{Function}
+use Rattle.wit_model.specs.declared.function.Param.{Param}
 use Rattle.wit_tree.specs.declared.tree.Id.{Id}
 use Rattle.wit_model.specs.declared.ast_item.AstItem.{AstItem}
 use Rattle.wit_model.specs.declared.ast_item.AstItem.TheVariants as entry
@@ -83,6 +85,30 @@ import_types (key.Interface i, it) = []
 abbrev pub world_types : World → List (List ℕ × ℕ)
 world_types w = flat_map import_types w.imports
 
+-- the function that an import is, under its name
+abbrev pub import_functions : WorldKey × WorldItem → List (List ℕ × Function)
+import_functions (key.Name name, item.Function f) = (name, f) ∷ []
+import_functions (key.Name name, item.Type_ id span) = []
+import_functions (key.Name name, item.Interface id stability external_id docs span) = []
+import_functions (key.Interface i, it) = []
+
+-- the functions among the imports of a world, under their names
+abbrev pub world_functions : World → List (List ℕ × Function)
+world_functions w = flat_map import_functions w.imports
+
+abbrev pub interface_functions : Interface → List (List ℕ × Function)
+interface_functions i = i.functions
+
+-- the functions of an owner, under their names
+abbrev pub functions_of : UnresolvedPackage → TypeOwner → List (List ℕ × Function)
+functions_of p (owner.Interface i) = option_map_or interface_functions (slice_get p.interfaces i) []
+functions_of p (owner.World w) = option_map_or world_functions (slice_get p.worlds w) []
+functions_of p owner.None = []
+
+-- the types of a function, in order
+abbrev pub function_types : Function → List Ty
+function_types f = map (λ (x : Param). x.ty) f.params ++ option_to_list f.result
+
 -- the names of an owner's types, with their places
 abbrev pub names_of : UnresolvedPackage → TypeOwner → List (List ℕ × ℕ)
 names_of p (owner.Interface i) = option_map_or interface_types (slice_get p.interfaces i) []
@@ -146,11 +172,10 @@ LeadsTo es (suc n) ty j = (i : ℕ) × (e : TypeDef) × (part : Ty) × (ty ≡ t
 abbrev pub Reaches : List TypeDef → Ty → ℕ → Type 0
 Reaches es ty j = (n : ℕ) × LeadsTo es n ty j
 
--- an interface of the arena is the declared one of a name, apart from its types
+-- an interface of the arena is the declared one of a name, apart from its types and functions
 pub record IsInterface (id : Id) (i : Interface) : Type 0 where
   pub name : i.name ≡ Some id.name.now
   pub span : i.span ≡ id.span
-  pub functions : i.functions ≡ []
   pub docs : i.docs ≡ no_docs
   pub stability : i.stability ≡ Unknown
   pub no_package : i.package ≡ None

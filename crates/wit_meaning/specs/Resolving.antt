@@ -1,6 +1,7 @@
 -- What resolving types and names does to the arena, from whatever was met before.
 use Rattle.std.specs.Prelude.{◌≡◌, ℕ, false, List, [], ◌∷◌, ◌++◌, length, map, Option, Some, None, ◌⊎◌, slice_get, nat_eq, Contains, IsSome}
 use Rattle.std.specs.Cmp.Lexicographic.{pointwise}
+use Rattle.std.specs.List.{flat_map}
 use Rattle.std.specs.Map.{lookup}
 use Rattle.std.specs.Option.{option_map, unwrap_or}
 use Rattle.indexmap.specs.IndexMap.{insert_entry}
@@ -12,6 +13,7 @@ use Rattle.wit_tree.specs.declared.tree.PackageFile.{PackageFile}
 use Rattle.wit_tree.specs.declared.tree.«Type».{«Type» as WrittenType}
 use Rattle.wit_tree.specs.declared.tree.TypeBody.{TypeBody}
 use Rattle.wit_tree.specs.declared.tree.TypeDef.{TypeDef as Definition}
+use Rattle.wit_tree.specs.Parts.{body_types}
 use Rattle.wit_types.specs.declared.stability.Stability.TheVariants.{Unknown}
 use Rattle.wit_types.specs.declared.types.«Type».{«Type» as Ty}
 use Rattle.wit_types.specs.declared.types.«Type».TheVariants as type
@@ -22,16 +24,21 @@ use Rattle.wit_types.specs.declared.types.TypeOwner.{TypeOwner}
 use Rattle.wit_types.specs.declared.types.TypeOwner.TheVariants as owner
 use Rattle.wit_model.specs.declared.interface.Interface.{Interface}
 use Rattle.wit_meaning.specs.Address.{Address, InterfaceNamed, WorldNamed, ForeignNamed}
-use Rattle.wit_meaning.specs.Source.{path_id, Target, Local, Foreign, leads, Item, ScopeName, Used, Defined, local_id, local_name, scope_names}
+use Rattle.wit_meaning.specs.Source.{path_id, Target, Local, Foreign, leads, Item, ScopeName, Used, Defined, local_id, local_name}
 use Rattle.wit_meaning.specs.Foreign.{is_foreign_world, foreign_at}
 use Rattle.wit_meaning.specs.Scope.{include_paths}
-use Rattle.wit_meaning.specs.Shape.{no_docs, shape_of, all_shapes, words, all_words, body_of}
+use Rattle.wit_meaning.specs.Shape.{no_docs, shape_of, all_shapes, words, all_words, handles, all_handles, body_of}
 use Rattle.wit_meaning.specs.Expr.{Expr, Prim, Use, Of, Exprs, End, More}
-use Rattle.wit_meaning.specs.Meet.{Key, Def, Whole, Meeting, keys, IsMet, Meets, AreAt, Decl, Decls, IsAmong, IsMeeting, all_name_meetings, decl_of}
+use Rattle.wit_meaning.specs.Meet.{Key, Def, Whole, Meeting, keys, IsMet, Meets, AreAt, Decl, Decls, IsAmong, IsMeeting, all_name_meetings, all_function_meetings, decl_of}
 use Rattle.wit_meaning.specs.Repeats.{AllDiffer}
-use Rattle.wit_meaning.specs.Fault.{Fault, fault, missing_at, item_word, name_word}
+use Rattle.wit_meaning.specs.Fault.{Fault, fault, missing_at, item_word, type_word, name_word}
 use Rattle.wit_meaning.specs.Package.{At, IsInterface}
-use Rattle.wit_meaning.specs.Broken.{IsBrokenType, IsBrokenPart, IsBrokenBody, IsBrokenScope}
+use Rattle.wit_meaning.specs.Bodies.{IsBrokenType, IsBrokenPart, IsBrokenBody}
+use Rattle.wit_meaning.specs.Function.{SourceFunction}
+use Rattle.wit_model.specs.declared.function.Function.{Function}
+use Rattle.wit_meaning.specs.Functions.{AreFunctions, freestanding_names}
+use Rattle.wit_meaning.specs.Ends.{IsResource, IsUnknown as IsUnknownEntry, IsOther, entry_end}
+use Rattle.wit_meaning.specs.Broken.{IsBrokenScope}
 
 -- what the names of a scope stand for
 abbrev pub Env : Type 0
@@ -108,14 +115,19 @@ AreDistinct xs = AllDiffer (map local_name xs)
 pub record AreNew (ks : List Key) (s : Address) (xs : List ScopeName) : Type 0 where
   pub new : (i : ℕ) (x : ScopeName) → slice_get xs i ≡ Some x → IsMet ks (Def s (local_name x)) → ⊥
 
--- a scope that was resolved, with what its names stand for
+-- a scope that was resolved, with what its names stand for, and the names of its functions
 pub record Cell : Type 0 where
   pub address : Address
   pub types : Names
+  pub functions : List (List ℕ)
+
+-- the written names of an interface's functions that are no resource's
+abbrev pub free_functions : Interface → List (List ℕ)
+free_functions i = flat_map (λ f. freestanding_names f.1.kind f.1.name) i.functions
 
 -- an interface at an address
 abbrev pub cell_at : Address → Interface → Cell
-cell_at s i = record { address = s; types = i.types }
+cell_at s i = record { address = s; types = i.types; functions = free_functions i }
 
 -- an interface that was resolved, as a scope
 abbrev pub cell : Interface → Cell
@@ -149,18 +161,33 @@ pub record IsUnknown (env : Env) (ids : List Id) (f : Fault) : Type 0 where
   pub id : Id
   pub among : Contains ids id
   pub free : env id.name.now ≡ None
+  pub is : f ≡ missing_at 15 type_word id
 
--- what is wrong with a type that is resolved: with it or in it a rule is broken, or a name in it stands for nothing yet
-abbrev pub IsWrongType : Env → WrittenType → Fault → Type 0
-IsWrongType env t f = IsBrokenType t f ⊎ IsUnknown env (words (shape_of t)) f
+-- a name in a handle ends at something else than a resource
+pub record IsWrongHandle (env : Env) (es : List TypeDef) (ids : List Id) (f : Fault) : Type 0 where
+  pub id : Id
+  pub among : Contains ids id
+  pub place : ℕ
+  pub stands : env id.name.now ≡ Some place
+  pub steps : ℕ
+  pub other : entry_end steps es place ≡ Some IsOther
+  pub is : f ≡ fault 27 id.span
+
+-- a name stands for nothing yet, or one in a handle ends, in the arena, at something else than a resource
+abbrev pub IsWrongWord : Env → List TypeDef → List Id → List Id → Fault → Type 0
+IsWrongWord env es ids handled f = IsUnknown env ids f ⊎ IsWrongHandle env es handled f
+
+-- what is wrong with a type that is resolved: with it or in it a rule is broken, or a name in it is wrong
+abbrev pub IsWrongType : Env → List TypeDef → WrittenType → Fault → Type 0
+IsWrongType env es t f = IsBrokenType t f ⊎ IsWrongWord env es (words (shape_of t)) (handles t) f
 
 -- what is wrong with types
-abbrev pub AreWrongTypes : Env → List WrittenType → Fault → Type 0
-AreWrongTypes env ts f = IsBrokenPart ts f ⊎ IsUnknown env (all_words (all_shapes ts)) f
+abbrev pub AreWrongTypes : Env → List TypeDef → List WrittenType → Fault → Type 0
+AreWrongTypes env es ts f = IsBrokenPart ts f ⊎ IsWrongWord env es (all_words (all_shapes ts)) (all_handles ts) f
 
--- what is wrong with a body that is resolved: a broken rule, or a name that stands for nothing yet
-abbrev pub IsWrongBody : Env → TypeBody → Fault → Type 0
-IsWrongBody env body f = IsBrokenBody body f ⊎ IsUnknown env (all_words (body_of body).parts) f
+-- what is wrong with a body that is resolved: a broken rule, or a wrong name
+abbrev pub IsWrongBody : Env → List TypeDef → TypeBody → Fault → Type 0
+IsWrongBody env es body f = IsBrokenBody body f ⊎ IsWrongWord env es (all_words (body_of body).parts) (all_handles (body_types body)) f
 
 -- a name was put into a table
 pub record IsStored (names names' : Names) (name : List ℕ) : Type 0 where
@@ -199,27 +226,29 @@ pub record IsUsed (old new : List TypeDef) (cs : List Cell) (o : TypeOwner) (nam
   pub free : env_of names (local_name (Used from n)) ≡ None
   pub added : IsAdded old new o names names' (local_name (Used from n)) n.name.span (Type_ (type.Id id))
 
--- a used name is wrong by what was resolved before: its interface was not, or it is none of that interface's
+-- a used name is wrong by what was resolved before: its interface was not, or it is none of that interface's, or that of a function there
 pub data IsWrongName (cs : List Cell) (by_name : Names) (from : Address) (n : UseName) (f : Fault) : Type 0 where
   Unresolved : (path : Id) → from ≡ InterfaceNamed path.name.now → IsUnresolved by_name path f → IsWrongName cs by_name from n f
-  Unstated : (target : Cell) → IsFound cs from target → env_of target.types n.name.name.now ≡ None → f ≡ missing_at 12 name_word n.name → IsWrongName cs by_name from n f
+  Unstated : (target : Cell) → IsFound cs from target → env_of target.types n.name.name.now ≡ None → (Contains target.functions n.name.name.now → ⊥) → f ≡ missing_at 12 name_word n.name → IsWrongName cs by_name from n f
+  OfFunction : (target : Cell) → IsFound cs from target → env_of target.types n.name.name.now ≡ None → Contains target.functions n.name.name.now → f ≡ fault 13 n.name.span → IsWrongName cs by_name from n f
 
 -- what is wrong with a used name: it is by what was resolved before, or its local name is taken
 pub data IsWrongUse (cs : List Cell) (by_name names : Names) (from : Address) (n : UseName) (f : Fault) : Type 0 where
   Wrong : IsWrongName cs by_name from n f → IsWrongUse cs by_name names from n f
   Taken : IsSome (env_of names (local_name (Used from n))) → f ≡ fault 14 (local_id (Used from n)).span → IsWrongUse cs by_name names from n f
 
--- what is wrong with a scope, by what was resolved before
-pub data IsWrongScope (cs : List Cell) (by_name : Names) (xs : List ScopeName) (f : Fault) : Type 0 where
-  WrongName : (from : Address) (n : UseName) → Contains xs (Used from n) → IsWrongName cs by_name from n f → IsWrongScope cs by_name xs f
-  WrongItself : IsBrokenScope xs f → IsWrongScope cs by_name xs f
+-- what is wrong with a scope, by what was resolved before, where it has these functions
+pub data IsWrongScope (cs : List Cell) (by_name : Names) (xs : List ScopeName) (fns : List SourceFunction) (f : Fault) : Type 0 where
+  WrongName : (from : Address) (n : UseName) → Contains xs (Used from n) → IsWrongName cs by_name from n f → IsWrongScope cs by_name xs fns f
+  WrongItself : IsBrokenScope xs fns f → IsWrongScope cs by_name xs fns f
 
--- an interface was added, with these names
-pub record IsAddedInterface (is is' : List Interface) (id : Id) (names : Names) : Type 0 where
+-- an interface was added, with these names and functions
+pub record IsAddedInterface (is is' : List Interface) (id : Id) (names : Names) (functions : List (List ℕ × Function)) : Type 0 where
   pub added : Interface
   pub last : is' ≡ is ++ added ∷ []
   pub says : IsInterface id added
   pub types : added.types ≡ names
+  pub has : added.functions ≡ functions
 
 -- worlds that were resolved, at these addresses, and the places of those of the package by name
 pub record IsWorldIndex (worlds : List Address) (by_name : Names) : Type 0 where
@@ -238,7 +267,23 @@ pub record IsLostInclude (files : List PackageFile) (by_name : Names) (item : It
   pub lost : IsNoWorld files by_name (leads item.top path)
   pub is : f ≡ fault 11 (path_id path).span
 
--- what is wrong with a world, by what was resolved before
-pub data IsWrongWorld (files : List PackageFile) (cs : List Cell) (by_name worlds_by_name : Names) (item : Item) (f : Fault) : Type 0 where
-  WrongWorldScope : IsWrongScope cs by_name (scope_names item) f → IsWrongWorld files cs by_name worlds_by_name item f
-  LostInclude : IsLostInclude files worlds_by_name item f → IsWrongWorld files cs by_name worlds_by_name item f
+-- what was met, extended by what is met in functions of a scope, and the functions over that
+pub record HasFunctions (decls : Decls) (ms : List Meeting) (new : List TypeDef) (s : Address) (fns : List SourceFunction) (fs : List Function) : Type 0 where
+  pub now : List Meeting
+  pub meets : Meets ms (all_function_meetings s fns) now
+  pub meeting : IsMeeting decls now new
+  pub are : AreFunctions (keys now) s fns fs
+
+-- From whatever was met, the new arena is that with what is met in functions of a scope, whose names these are.
+pub record AddsFunctions (old new : List TypeDef) (s : Address) (names : Names) (fns : List SourceFunction) (fs : List Function) : Type 0 where
+  pub from : (decls : Decls) (ms : List Meeting) → IsMeeting decls ms old → AreNames (keys ms) s (env_of names) → HasFunctions decls ms new s fns fs
+
+-- a type of another package that a handle needs to be a resource, and where it is written
+abbrev pub Required : Type 0
+Required = ℕ × Span
+
+-- The names in handles, one after another, end at resources or at unknown types, and these are the unknown ones, each where its name is
+-- written.
+abbrev pub AreEnded : Env → List TypeDef → List Id → List Required → Type 0
+AreEnded env es [] rs = rs ≡ []
+AreEnded env es (id ∷ ids) rs = (place : ℕ) × (steps : ℕ) × (env id.name.now ≡ Some place) × (((entry_end steps es place ≡ Some IsResource) × AreEnded env es ids rs) ⊎ ((unknown : ℕ) × (rest : List Required) × (entry_end steps es place ≡ Some (IsUnknownEntry unknown)) × (rs ≡ (unknown, id.span) ∷ rest) × AreEnded env es ids rest))

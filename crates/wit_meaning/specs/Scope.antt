@@ -7,7 +7,7 @@ use Rattle.wit_tree.specs.declared.tree.UsePath.{UsePath}
 use Rattle.wit_tree.specs.declared.tree.PackageFile.{PackageFile}
 use Rattle.wit_order.specs.Table.{Row}
 use Rattle.wit_meaning.specs.Shape.{all_words, body_of}
-use Rattle.wit_meaning.specs.Source.{Target, Local, Foreign, leads, ScopeName, Used, Defined, Taken, local_name, Declared, TheInterface, TheWorld, Part, Defining, Using, Including, Item, item_name, is_world, parts, all_items}
+use Rattle.wit_meaning.specs.Source.{Target, Local, Foreign, leads, ScopeName, Used, Defined, Taken, local_name, Declared, TheInterface, TheWorld, Part, Defining, Using, Including, Doing, Item, item_name, is_world, parts, all_items}
 
 -- the names that a name of a scope needs: those in a definition's body; a used name needs none of its own scope
 abbrev pub needed_ids : ScopeName → List Id
@@ -48,12 +48,14 @@ abbrev pub use_path : Part → List UsePath
 use_path (Defining d) = []
 use_path (Using u) = u.from ∷ []
 use_path (Including i) = []
+use_path (Doing f) = []
 
 -- the path of a part that is an include
 abbrev pub include_path : Part → List UsePath
 include_path (Defining d) = []
 include_path (Using u) = []
 include_path (Including i) = i.from ∷ []
+include_path (Doing f) = []
 
 -- the paths of an item's uses
 abbrev pub use_paths : Item → List UsePath
@@ -96,6 +98,7 @@ abbrev pub part_includes : Part → List Include
 part_includes (Defining d) = []
 part_includes (Using u) = []
 part_includes (Including i) = i ∷ []
+part_includes (Doing f) = []
 
 -- the includes of an item, in source order
 abbrev pub includes : Item → List Include

@@ -9,10 +9,10 @@ use Rattle.wit_tree.specs.declared.tree.Flag.{Flag}
 use Rattle.wit_tree.specs.declared.tree.Case.{Case}
 use Rattle.wit_tree.specs.declared.tree.EnumCase.{EnumCase}
 use Rattle.wit_tree.specs.declared.tree.TypeBody.{TypeBody}
-use Rattle.wit_tree.specs.declared.tree.TypeBody.TheVariants.{Record, Flags, Variant, Enum, Plain}
+use Rattle.wit_tree.specs.declared.tree.TypeBody.TheVariants.{Record, Flags, Variant, Enum, Resource, Plain}
 use Rattle.wit_tree.specs.Parts.{field_types, case_types}
 use Rattle.wit_types.specs.declared.docs.Docs.{Docs}
-use Rattle.wit_meaning.specs.Form.{Member, Form, RecordForm, FlagsForm, VariantForm, EnumForm, OptionForm, ResultForm, TupleForm, ListForm, MapForm, FixedLengthListForm, FutureForm, StreamForm, AliasForm}
+use Rattle.wit_meaning.specs.Form.{Member, Form, RecordForm, FlagsForm, VariantForm, EnumForm, OptionForm, ResultForm, TupleForm, ListForm, MapForm, FixedLengthListForm, FutureForm, StreamForm, AliasForm, OwnForm, BorrowForm, ResourceForm}
 use Rattle.wit_meaning.specs.Node.{Primitive}
 use Rattle.wit_meaning.specs.Node as node
 
@@ -61,6 +61,9 @@ abbrev mutual
   shape_of (written.Tuple' span shape ts) = Of span TupleForm (row_shapes ts)
   shape_of (written.Future' span t) = Of span (FutureForm (is_held t)) (held_shape t End)
   shape_of (written.Stream' span t) = Of span (StreamForm (is_held t)) (held_shape t End)
+  -- a resource that is owned is written as the resource
+  shape_of (written.Own span id) = Word id
+  shape_of (written.Borrow span id) = Of span BorrowForm (one (Word id))
 
   -- that of a type, where there is one, in front of others
   pub held_shape : Held → Shapes → Shapes
@@ -88,6 +91,11 @@ head (Of span form parts) = record { form = form; parts = parts }
 head (Prim p) = record { form = AliasForm; parts = one (Prim p) }
 head (Word id) = record { form = AliasForm; parts = one (Word id) }
 
+-- what a type that is written under a name says: a handle that owns is one there
+abbrev pub written_body : Written → Body
+written_body (written.Own span id) = record { form = OwnForm; parts = one (Word id) }
+written_body t = head (shape_of t)
+
 -- no docs were written
 abbrev pub no_docs : Docs
 no_docs = record { contents = None }
@@ -114,7 +122,8 @@ body_of (Record span fields) = record { form = RecordForm (map written_field fie
 body_of (Flags span flags) = record { form = FlagsForm (map written_flag flags.items); parts = End }
 body_of (Variant span cases) = record { form = VariantForm (map written_case cases.items); parts = all_shapes (case_types cases.items) }
 body_of (Enum span cases) = record { form = EnumForm (map written_enum_case cases.items); parts = End }
-body_of (Plain t) = head (shape_of t)
+body_of (Resource funcs) = record { form = ResourceForm; parts = End }
+body_of (Plain t) = written_body t
 
 -- the names written in a type, in written order
 abbrev mutual
@@ -126,3 +135,30 @@ abbrev mutual
   pub all_words : Shapes → List Id
   all_words End = []
   all_words (More x xs) = words x ++ all_words xs
+
+-- the names written in handles, in written order
+abbrev mutual
+  pub handles : Written → List Id
+  handles (written.Own span id) = id ∷ []
+  handles (written.Borrow span id) = id ∷ []
+  handles (written.List' span p t) = handles t
+  handles (written.FixedLengthList' span p t size) = handles t
+  handles (written.Map' span p key q value) = handles key ++ handles value
+  handles (written.Option' span p t) = handles t
+  handles (written.Result' span ok err) = held_handles ok ++ held_handles err
+  handles (written.Tuple' span shape ts) = row_handles ts
+  handles (written.Future' span t) = held_handles t
+  handles (written.Stream' span t) = held_handles t
+  handles _ = []
+
+  pub held_handles : Held → List Id
+  held_handles None' = []
+  held_handles (Some' p t) = handles t
+
+  pub row_handles : {m : _} → Row_of-Type m → List Id
+  row_handles end_of-Type = []
+  row_handles (more_of-Type t rest) = handles t ++ row_handles rest
+
+abbrev pub all_handles : List Written → List Id
+all_handles [] = []
+all_handles (t ∷ ts) = handles t ++ all_handles ts

@@ -15,6 +15,7 @@ use Rattle.wit_tree.specs.declared.tree.UsePath.{UsePath}
 use Rattle.wit_tree.specs.declared.tree.UsePath.TheVariants as path
 use Rattle.wit_tree.specs.declared.tree.UseName.{UseName}
 use Rattle.wit_tree.specs.declared.tree.Include.{Include}
+use Rattle.wit_tree.specs.declared.tree.NamedFunc.{NamedFunc}
 use Rattle.wit_tree.specs.declared.tree.Interface.{Interface}
 use Rattle.wit_tree.specs.declared.tree.World.{World}
 use Rattle.wit_tree.specs.declared.tree.AstItem.{AstItem}
@@ -66,10 +67,12 @@ pub data Part : Type 0 where
   Defining : (d : TypeDef) → Part
   Using : (u : Use) → Part
   Including : (i : Include) → Part
+  Doing : (f : NamedFunc) → Part
 
 abbrev pub interface_part : InterfaceItem → Part
 interface_part (interface_item.TypeDef d) = Defining d
 interface_part (interface_item.Use u) = Using u
+interface_part (interface_item.Func f) = Doing f
 
 abbrev pub world_part : WorldItem → Part
 world_part (world_item.TypeDef d) = Defining d
@@ -188,6 +191,7 @@ abbrev pub part_names : List TopName → Part → List ScopeName
 part_names top (Defining d) = Defined d ∷ []
 part_names top (Using u) = map (Used (path_scope top u.from)) u.names.items
 part_names top (Including i) = []
+part_names top (Doing f) = []
 
 -- the names of an item, in source order
 abbrev pub scope_names : Item → List ScopeName
@@ -205,6 +209,7 @@ abbrev pub part_takings : List TopName → Part → List Taking
 part_takings top (Defining d) = []
 part_takings top (Using u) = map (taking (path_scope top u.from)) u.names.items
 part_takings top (Including i) = []
+part_takings top (Doing f) = []
 
 -- the names that an item uses from items of other packages
 abbrev pub item_takings : Item → List Taking

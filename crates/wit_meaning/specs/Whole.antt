@@ -1,7 +1,7 @@
 -- The theorem: what a resolved package is.
-use Rattle.std.specs.Prelude.{◌≡◌, ◌↔◌, ◌<◌, ℕ, zero, suc, not, List, [], ◌∷◌, ◌++◌, length, map, Option, Some, None, slice_get, position, if◌then◌else◌}
+use Rattle.std.specs.Prelude.{◌≡◌, ◌↔◌, ◌<◌, ℕ, zero, suc, not, List, [], ◌∷◌, ◌++◌, length, map, Option, Some, None, slice_get, ◌⊎◌, position, if◌then◌else◌}
 use Rattle.wit_values.specs.declared.span.Span.{Span}
-use Rattle.std.specs.Option.{option_map, option_or, unwrap_or}
+use Rattle.std.specs.Option.{option_map, option_map_or, option_or, unwrap_or}
 use Rattle.semver.specs.Identifiers.{parts_of}
 use Rattle.wit_values.specs.ReleaseText.{release_parts}
 use Rattle.wit_tree.specs.declared.tree.PackageName.{PackageName as Header}
@@ -22,7 +22,7 @@ use Rattle.wit_model.specs.declared.world.WorldItem.TheVariants.{Type_}
 use Rattle.wit_types.specs.declared.stability.Stability.{Stability}
 use Rattle.wit_types.specs.declared.stability.Stability.TheVariants.{Unknown}
 use Rattle.wit_types.specs.declared.types.«Type».{«Type» as Ty}
-use Rattle.wit_types.specs.declared.types.«Type».TheVariants.{Id}
+use Rattle.wit_types.specs.declared.types.«Type».TheVariants.{Id as IdType}
 use Rattle.wit_types.specs.declared.types.TypeDef.{TypeDef}
 use Rattle.wit_types.specs.declared.types.TypeOwner.{TypeOwner}
 use Rattle.wit_types.specs.declared.types.TypeOwner.TheVariants as owner
@@ -30,17 +30,22 @@ use Rattle.wit_order.specs.Table.{IsOrder}
 use Rattle.wit_model.specs.declared.unresolved.UnresolvedPackage.{UnresolvedPackage}
 use Rattle.wit_meaning.specs.Form.{Form, OwnForm, AliasForm, ResourceForm, UnknownForm, RecordForm, FlagsForm, VariantForm, EnumForm, kind_of}
 use Rattle.std.specs.List.{flat_map, prefix_len}
-use Rattle.wit_meaning.specs.Shape.{Word, Of, Shapes}
+use Rattle.wit_meaning.specs.Shape.{Shape, Word, Of, Shapes, all_handles}
 use Rattle.wit_meaning.specs.Address.{Address, same_address}
 use Rattle.wit_meaning.specs.Node.{OfScope}
-use Rattle.wit_meaning.specs.Source.{path_id, leads, TopName, Item, item_id, address, included_scope, ScopeName, all_items, scope_names, local_name, local_id, Place, placed, Taking, takings, first_takings, scope, name_parts, source_tree}
+use Rattle.wit_meaning.specs.Source.{path_id, leads, TopName, Item, item_id, address, included_scope, ScopeName, all_items, item_at, scope_names, local_name, local_id, Place, placed, Taking, takings, first_takings, scope, name_parts, source_tree}
 use Rattle.wit_meaning.specs.Foreign.{ForeignVisit, visited_package, visited, same_item, foreign_interfaces, foreign_worlds, foreign_packages, items_of_package, visits_of}
 use Rattle.wit_meaning.specs.Expr.{Expr, expr_of}
+use Rattle.wit_model.specs.declared.function.Function.{Function}
+use Rattle.wit_meaning.specs.Function.{SourceFunction, signature, functions as item_functions, all_types}
+use Rattle.wit_meaning.specs.Ends.{AtResource, AtForeign, EndsAt}
+use Rattle.wit_tree.specs.declared.tree.Id.{Id}
+use Rattle.wit_meaning.specs.Functions.{AreFunctions, placed_functions, function_import}
 use Rattle.wit_meaning.specs.Scope.{item_rows, interfaces_of, worlds_of, includes, rows_of, in_order, in_turn}
 use Rattle.wit_meaning.specs.Broken.{last_header}
-use Rattle.wit_meaning.specs.Meet.{Key, Def, Meeting, keys, all_name_meetings, Meets, IsAt, Decls, decl_of, IsMeeting}
+use Rattle.wit_meaning.specs.Meet.{Key, Def, Meeting, keys, all_name_meetings, all_function_meetings, Meets, IsAt, Decls, decl_of, IsMeeting}
 use Rattle.wit_meaning.specs.Source as source
-use Rattle.wit_meaning.specs.Package.{At, HasPart, IsBelow, Reaches, IsInterface, IsWorld, IsForeignInterface, IsForeignWorld, world_types, owner_of, names_of, package_tree}
+use Rattle.wit_meaning.specs.Package.{At, HasPart, IsBelow, Reaches, IsInterface, IsWorld, IsForeignInterface, IsForeignWorld, world_types, owner_of, names_of, functions_of, function_types, package_tree}
 
 -- an item, with an order of its names
 pub record Ordered : Type 0 where
@@ -54,17 +59,22 @@ item_of o = o.item
 abbrev pub ordered_names : Ordered → List ScopeName
 ordered_names o = in_turn (scope_names o.item) o.order
 
--- a scope, with its names as they are resolved
+-- a scope, with its names as they are resolved, and its functions
 pub record Turned : Type 0 where
   pub address : Address
   pub names : List ScopeName
+  pub functions : List SourceFunction
 
 abbrev pub turned : Ordered → Turned
-turned o = record { address = address o.item; names = ordered_names o }
+turned o = record { address = address o.item; names = ordered_names o; functions = item_functions o.item }
+
+-- what is met in a scope: in its names, and then in its functions
+abbrev pub turn_meetings : Turned → List Meeting
+turn_meetings t = all_name_meetings t.address t.names ++ all_function_meetings t.address t.functions
 
 -- what is met in scopes, in order
 abbrev pub meetings : List Turned → List Meeting
-meetings ts = flat_map (λ t. all_name_meetings t.address t.names) ts
+meetings ts = flat_map turn_meetings ts
 
 -- the place of an address among these
 abbrev pub place_at : List Address → Address → Option ℕ
@@ -87,11 +97,12 @@ pub record HasTypes (ks : List Key) (t : Turned) (types : List (List ℕ × ℕ)
   pub names : map (λ n. n.0) types ≡ map local_name t.names
   pub places : (k : ℕ) (name : List ℕ) (id : ℕ) → slice_get types k ≡ Some (name, id) → slice_get ks id ≡ Some (Def t.address name)
 
--- these are the interfaces of files, each with its names in turn
+-- these are the interfaces of files, each with its names in turn, and its functions
 pub record AreInterfaces (ks : List Key) (os : List Ordered) (is : List Interface) : Type 0 where
   pub count : length is ≡ length os
   pub says : (t : ℕ) (o : Ordered) (i : Interface) → slice_get os t ≡ Some o → slice_get is t ≡ Some i → IsInterface (item_id o.item) i
   pub types : (t : ℕ) (o : Ordered) (i : Interface) → slice_get os t ≡ Some o → slice_get is t ≡ Some i → HasTypes ks (turned o) i.types
+  pub functions : (t : ℕ) (o : Ordered) (i : Interface) → slice_get os t ≡ Some o → slice_get is t ≡ Some i → (fs : List Function) × AreFunctions ks (address o.item) (item_functions o.item) fs × (i.functions ≡ placed_functions fs)
 
 -- names of a scope as imports: each is the type that it stands for, at its local name
 abbrev pub type_imports : List ScopeName → List (List ℕ × ℕ) → List (WorldKey × WorldItem)
@@ -115,13 +126,23 @@ pub record AreIncludes (worlds : List Address) (item : Item) (is : List WorldInc
   pub count : length is ≡ length (includes item)
   pub each : (k : ℕ) (written : Include) (i : WorldInclude) → slice_get (includes item) k ≡ Some written → slice_get is k ≡ Some i → IsInclude worlds item.top written i
 
--- these are the worlds of files, each with its names in turn as its imports, and with its includes, where the worlds have these addresses
+-- these are the worlds of files, each with its names in turn as its imports, and then its functions, and with its includes, where the worlds have these addresses
 pub record AreWorlds (ks : List Key) (worlds : List Address) (os : List Ordered) (ws : List World) : Type 0 where
   pub count : length ws ≡ length os
   pub says : (t : ℕ) (o : Ordered) (w : World) → slice_get os t ≡ Some o → slice_get ws t ≡ Some w → IsWorld (item_id o.item) w
   pub types : (t : ℕ) (o : Ordered) (w : World) → slice_get os t ≡ Some o → slice_get ws t ≡ Some w → HasTypes ks (turned o) (world_types w)
-  pub imports : (t : ℕ) (o : Ordered) (w : World) → slice_get os t ≡ Some o → slice_get ws t ≡ Some w → w.imports ≡ type_imports (ordered_names o) (world_types w)
+  pub imports : (t : ℕ) (o : Ordered) (w : World) → slice_get os t ≡ Some o → slice_get ws t ≡ Some w → (fs : List Function) × AreFunctions ks (address o.item) (item_functions o.item) fs × (w.imports ≡ type_imports (ordered_names o) (world_types w) ++ map function_import fs)
   pub includes : (t : ℕ) (o : Ordered) (w : World) → slice_get os t ≡ Some o → slice_get ws t ≡ Some w → AreIncludes worlds o.item w.includes
+
+-- the names in the handles of a scope, each with the scope, in the order in which they are resolved
+abbrev pub turn_handles : Turned → List (Address × Id)
+turn_handles t = map (λ id. (t.address, id)) (all_handles (all_types t.names t.functions))
+
+-- These names end at resources or at names of other packages, and these are the latter, at the places of their meetings, each where its
+-- name is written.
+abbrev pub AreRequired : List PackageFile → List Key → List (Address × Id) → List (ℕ × Span) → Type 0
+AreRequired files ks [] rs = rs ≡ []
+AreRequired files ks (h ∷ hs) rs = (EndsAt files h.0 h.1 AtResource × AreRequired files ks hs rs) ⊎ ((s : Address) × (name : List ℕ) × (place : ℕ) × (rest : List (ℕ × Span)) × EndsAt files h.0 h.1 (AtForeign s name) × (slice_get ks place ≡ Some (Def s name)) × (rs ≡ (place, h.1.span) ∷ rest) × AreRequired files ks hs rest)
 
 -- a name that is taken from another package, where it is used
 abbrev pub taking_meeting : Taking → Meeting
@@ -141,7 +162,7 @@ world_addresses files os = map visited (foreign_worlds files) ++ addresses os
 
 -- an item of another package, with the names that are taken from it
 abbrev pub foreign_turned : List PackageFile → ForeignVisit → Turned
-foreign_turned files v = record { address = visited v; names = scope files (visited v) }
+foreign_turned files v = record { address = visited v; names = scope files (visited v); functions = [] }
 
 -- these are interfaces of other packages, each with the names that are taken from it
 pub record AreForeignInterfaces (files : List PackageFile) (ks : List Key) (vs : List ForeignVisit) (is : List Interface) : Type 0 where
@@ -209,6 +230,8 @@ pub record IsPackage (files : List PackageFile) (p : UnresolvedPackage) : Type 0
   pub world_arena : p.worlds ≡ worlds_front ++ own_worlds
   pub are_foreign_worlds : AreForeignWorlds (foreign_worlds files) worlds_front
   pub are_worlds : AreWorlds (keys met) (world_addresses files worlds) worlds own_worlds
+  -- the types of other packages that must be resources: those at which names in handles end, of all interfaces and then of all worlds
+  pub required : AreRequired files (keys met) (flat_map turn_handles (map turned (interfaces ++ worlds))) p.required_resource_types
   -- two written types are one type exactly where they are one expression
   pub one : (x y : Expr) (t u : Ty) → IsAt (keys met) x t → IsAt (keys met) y u → (t ≡ u) ↔ (x ≡ y)
 
@@ -217,7 +240,20 @@ pub record HasTree (files : List PackageFile) (p : UnresolvedPackage) (o : TypeO
   pub place : ℕ
   pub id : ℕ
   pub stands : slice_get (names_of p o) place ≡ Some (local_name x, id)
-  pub tree : (n : ℕ) → package_tree p n (Id id) ≡ source_tree files n (s, Word (local_id x))
+  pub tree : (n : ℕ) → package_tree p n (IdType id) ≡ source_tree files n (s, Word (local_id x))
+
+-- the functions of a scope
+abbrev pub functions_at : List PackageFile → Address → List SourceFunction
+functions_at files s = option_map_or item_functions (item_at (all_items files) s) []
+
+-- a function of a scope stands under its name among the functions of its owner, with a type for each of its own, whose tree is that at
+-- every depth
+pub record HasFunctionTree (files : List PackageFile) (p : UnresolvedPackage) (o : TypeOwner) (s : Address) (fn : SourceFunction) : Type 0 where
+  pub place : ℕ
+  pub f : Function
+  pub stands : slice_get (functions_of p o) place ≡ Some (fn.name, f)
+  pub count : length (function_types f) ≡ length (signature fn)
+  pub trees : (k : ℕ) (x : Shape) (ty : Ty) → slice_get (signature fn) k ≡ Some x → slice_get (function_types f) k ≡ Some ty → (n : ℕ) → package_tree p n ty ≡ source_tree files n (s, x)
 
 -- an entry stands under its name among the names of its owner
 pub record IsOwned (p : UnresolvedPackage) (j : ℕ) (e : TypeDef) (name : List ℕ) : Type 0 where
@@ -231,7 +267,32 @@ pub record IsReached (p : UnresolvedPackage) (j : ℕ) : Type 0 where
   pub name : List ℕ
   pub id : ℕ
   pub stands : slice_get (names_of p owner) place ≡ Some (name, id)
-  pub leads : Reaches p.types (Id id) j
+  pub leads : Reaches p.types (IdType id) j
+
+-- a type of a function of an owner leads to the entry at a place
+pub record IsReachedByFunction (p : UnresolvedPackage) (j : ℕ) : Type 0 where
+  pub owner : TypeOwner
+  pub place : ℕ
+  pub name : List ℕ
+  pub f : Function
+  pub ty : Ty
+  pub stands : slice_get (functions_of p owner) place ≡ Some (name, f)
+  pub among : HasPart (function_types f) ty
+  pub leads : Reaches p.types ty j
+
+-- the written type at an index of a function's signature has the type at that index of the package's function
+pub record IsInSignature (files : List PackageFile) (p : UnresolvedPackage) (written : Place) (ty : Ty) : Type 0 where
+  pub owner : TypeOwner
+  pub k : ℕ
+  pub fn : SourceFunction
+  pub place : ℕ
+  pub f : Function
+  pub index : ℕ
+  pub called : owner_of p owner ≡ OfScope written.0
+  pub among : slice_get (functions_at files written.0) k ≡ Some fn
+  pub stands : slice_get (functions_of p owner) place ≡ Some (fn.name, f)
+  pub shape : slice_get (signature fn) index ≡ Some written.1
+  pub is : slice_get (function_types f) index ≡ Some ty
 
 -- the written type at an index of what a name of a scope stands for has the type at that index of the name's entry
 pub record IsPartOfName (files : List PackageFile) (p : UnresolvedPackage) (written : Place) (ty : Ty) : Type 0 where
@@ -259,15 +320,15 @@ pub record IsPartOfWhole (p : UnresolvedPackage) (has : Place → Ty → Type 0)
   pub id : ℕ
   pub e : TypeDef
   pub part : ℕ
-  pub whole : has (scope, Of span form parts) (Id id)
+  pub whole : has (scope, Of span form parts) (IdType id)
   pub entry : slice_get p.types id ≡ Some e
   pub place : slice_get (placed scope parts) part ≡ Some written
   pub is : slice_get (kind_of e.kind).parts part ≡ Some ty
 
--- A written type has this type at its position in the package: at first as a part of what a name stands for, then by steps from
--- an unnamed type to its parts.
+-- A written type has this type at its position in the package: at first as a part of what a name stands for, or in a signature, then by
+-- steps from an unnamed type to its parts.
 abbrev pub HasType : List PackageFile → UnresolvedPackage → (n : ℕ) → Place → Ty → Type 0
-HasType files p zero place ty = IsPartOfName files p place ty
+HasType files p zero place ty = IsPartOfName files p place ty ⊎ IsInSignature files p place ty
 HasType files p (suc n) place ty = IsPartOfWhole p (HasType files p n) place ty
 
 -- a form that an unnamed type can have
@@ -293,8 +354,9 @@ pub record IsFaithful (files : List PackageFile) (p : UnresolvedPackage) : Type 
   pub front : (i : ℕ) (e : TypeDef) → At p.types i e → ((kind_of e.kind).form ≡ UnknownForm) ↔ (i < length p.unknown_type_spans)
   -- a named entry stands among the names of its owner
   pub named : (j : ℕ) (e : TypeDef) (name : List ℕ) → At p.types j e → e.name ≡ Some name → IsOwned p j e name
-  -- an unnamed one is reached from a name of an owner
-  pub reached : (j : ℕ) (e : TypeDef) → At p.types j e → e.name ≡ None → IsReached p j
+  -- an unnamed one is reached from a name of an owner, or from a function
+  pub reached : (j : ℕ) (e : TypeDef) → At p.types j e → e.name ≡ None → IsReached p j ⊎ IsReachedByFunction p j
   -- two written types have one type exactly where they are one expression
   pub same : (m n : ℕ) (x y : Place) (t u : Ty) → HasType files p m x t → HasType files p n y u → (t ≡ u) ↔ (expr_of x.0 x.1 ≡ expr_of y.0 y.1)
   pub trees : (o : TypeOwner) (s : Address) (k : ℕ) (x : ScopeName) → owner_of p o ≡ OfScope s → slice_get (scope files s) k ≡ Some x → HasTree files p o s x
+  pub functions : (o : TypeOwner) (s : Address) (k : ℕ) (fn : SourceFunction) → owner_of p o ≡ OfScope s → slice_get (functions_at files s) k ≡ Some fn → HasFunctionTree files p o s fn

@@ -10,6 +10,8 @@ use Rattle.std.proofs.lemmas.Bool.Decides.{Decides-and, Decides-at, Decides-eqb,
 use Rattle.std.proofs.lemmas.Map.Lookups.{hash_map_eq-Decides}
 use Rattle.indexmap.specs.Layout.{hash_map}
 use Rattle.wit_types.proofs.Same.{Decides-docs, Decides-option, Decides-optional_text, Decides-row, Decides-span, Decides-stability, Decides-text, Decides-type_def}
+use Rattle.wit_values.specs.contracts.span.SpanPartialEq.TheImpl.{eq-value as span_test}
+use Rattle.wit_values.specs.declared.span.Span.{Span}
 use Rattle.wit_model.proofs.Same.{Decides-function, Decides-include, Decides-world_item}
 use Rattle.wit_types.specs.contracts.stability.StabilityPartialEq.TheImpl.{eq-value as stability_test}
 use Rattle.wit_types.specs.declared.stability.Stability.{Stability}
@@ -106,5 +108,12 @@ Decides-same_package_name a b = Decides-package_name a b
 Decides-foreign : (xs ys : List (PackageName × List (List ℕ × Visited))) → Decides (entries_eq name_test.it (λ p q. entries_eq is_same_name (λ v w. visited_test v.1 w.1) p.1 q.1) xs ys) (HoldSameValues is_same_package_name (HoldSamePairs is_same_name) xs ys)
 Decides-foreign xs ys = Decides-values (decided is_same_package_name Decides-same_package_name) (Decides-named Decides-visited) xs ys
 
+-- a type that a handle requires, and where it is named
+abbrev Required : Type 0
+Required = ℕ × Span
+
+Decides-required : (a b : Required) → Decides (nat_eq a.0 b.0 && span_test.it a.1 b.1) (a ≡ b)
+Decides-required a b = Decides-like _ same_pair (λ e. (ap (λ r. r.0) e, ap (λ r. r.1) e)) (Decides-and _ _ (Decides-id a.0 b.0) (Decides-span a.1 b.1))
+
 pub Decides-package : (a b : UnresolvedPackage) → Decides (package_test.it a b) (IsSamePackage a b)
-Decides-package a b = Decides-like _ (λ e. record { name = e.0; worlds = e.1.0; interfaces = e.1.1.0; types = e.1.1.1.0; foreign_deps = e.1.1.1.1.0; name_span = e.1.1.1.1.1.0; unknown_type_spans = e.1.1.1.1.1.1.0; foreign_dep_spans = e.1.1.1.1.1.1.1 }) (λ s. (s.name, (s.worlds, (s.interfaces, (s.types, (s.foreign_deps, (s.name_span, (s.unknown_type_spans, s.foreign_dep_spans)))))))) (Decides-and _ _ (Decides-package_name a.name b.name) (Decides-and _ _ (Decides-lists Decides-world a.worlds b.worlds) (Decides-and _ _ (Decides-lists Decides-interface a.interfaces b.interfaces) (Decides-and _ _ (Decides-row Decides-type_def a.types b.types) (Decides-and _ _ (Decides-foreign a.foreign_deps b.foreign_deps) (Decides-and _ _ (Decides-span a.name_span b.name_span) (Decides-and _ _ (Decides-row Decides-span a.unknown_type_spans b.unknown_type_spans) (Decides-row Decides-span a.foreign_dep_spans b.foreign_dep_spans))))))))
+Decides-package a b = Decides-like _ (λ e. record { name = e.0; worlds = e.1.0; interfaces = e.1.1.0; types = e.1.1.1.0; foreign_deps = e.1.1.1.1.0; name_span = e.1.1.1.1.1.0; unknown_type_spans = e.1.1.1.1.1.1.0; foreign_dep_spans = e.1.1.1.1.1.1.1.0; required_resource_types = e.1.1.1.1.1.1.1.1 }) (λ s. (s.name, (s.worlds, (s.interfaces, (s.types, (s.foreign_deps, (s.name_span, (s.unknown_type_spans, (s.foreign_dep_spans, s.required_resource_types))))))))) (Decides-and _ _ (Decides-package_name a.name b.name) (Decides-and _ _ (Decides-lists Decides-world a.worlds b.worlds) (Decides-and _ _ (Decides-lists Decides-interface a.interfaces b.interfaces) (Decides-and _ _ (Decides-row Decides-type_def a.types b.types) (Decides-and _ _ (Decides-foreign a.foreign_deps b.foreign_deps) (Decides-and _ _ (Decides-span a.name_span b.name_span) (Decides-and _ _ (Decides-row Decides-span a.unknown_type_spans b.unknown_type_spans) (Decides-and _ _ (Decides-row Decides-span a.foreign_dep_spans b.foreign_dep_spans) (Decides-row Decides-required a.required_resource_types b.required_resource_types)))))))))

@@ -81,3 +81,4 @@ pub record IsSamePackage (a b : UnresolvedPackage) : Type 0 where
   pub name_span : a.name_span ≡ b.name_span
   pub unknown_type_spans : a.unknown_type_spans ≡ b.unknown_type_spans
   pub foreign_dep_spans : a.foreign_dep_spans ≡ b.foreign_dep_spans
+  pub required_resource_types : a.required_resource_types ≡ b.required_resource_types

@@ -4,7 +4,7 @@ ghost use Rattle.std.specs.Prelude.{◌≡◌, []};
 use crate::ast_item::AstItem;
 use crate::package_name::PackageName;
 use std::alloc::Global;
-use wit_types::Stability;
+use wit_types::{Stability, TypeId};
 use wit_values::{Row, Span, Table, TextTable};
 
 /// What a package names of other packages.
@@ -21,6 +21,9 @@ pub struct ForeignItems {
     /// For each type of another package, where it is first used. These types are the unknown ones
     /// at the front of the arena of types.
     pub unknown_type_spans: Row<Span>,
+    /// For each handle that names a type of another package: that type, which must be a resource,
+    /// and where its name is written, in the order in which they are read, with repeats.
+    pub required_resource_types: Row<(TypeId, Span)>,
 }
 
 impl ForeignItems {
@@ -29,11 +32,13 @@ impl ForeignItems {
         ensures deps { result.deps ≡ [] }
         ensures dep_spans { result.dep_spans ≡ [] }
         ensures unknown_type_spans { result.unknown_type_spans ≡ [] }
+        ensures required_resource_types { result.required_resource_types ≡ [] }
     {
         ForeignItems {
             deps: Table::new(alloc),
             dep_spans: Row::new(alloc),
             unknown_type_spans: Row::new(alloc),
+            required_resource_types: Row::new(alloc),
         }
     }
 }

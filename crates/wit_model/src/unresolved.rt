@@ -8,13 +8,13 @@ use crate::laws::copies::copy_package_name;
 use crate::package_name::PackageName;
 use crate::world::World;
 use std::alloc::AllocError;
-use wit_types::{Arena, InterfacePlace, Stability, TypeDef, TypePlace, WorldPlace};
+use wit_types::{Arena, InterfacePlace, Stability, TypeDef, TypeId, TypePlace, WorldPlace};
 use wit_values::{Row, Span, Table, TextTable};
 
 /// A package whose names are resolved, but not those of other packages.
 ///
-/// Two are equal if their names, spans, arenas and items of other packages are, where two maps are
-/// equal if they hold the same pairs in any order.
+/// Two are equal if their names, spans, arenas, items of other packages and types that handles
+/// require are, where two maps are equal if they hold the same pairs in any order.
 #[derive(Debug, PartialEq, Eq, Drop)]
 pub struct UnresolvedPackage {
     /// The name that the headers give.
@@ -31,6 +31,7 @@ pub struct UnresolvedPackage {
     name_span: Span,
     unknown_type_spans: Row<Span>,
     foreign_dep_spans: Row<Span>,
+    required_resource_types: Row<(TypeId, Span)>,
 }
 
 impl UnresolvedPackage {
@@ -52,6 +53,7 @@ impl UnresolvedPackage {
         ensures foreign_deps { result.foreign_deps ≡ foreign.deps }
         ensures foreign_dep_spans { result.foreign_dep_spans ≡ foreign.dep_spans }
         ensures unknown_type_spans { result.unknown_type_spans ≡ foreign.unknown_type_spans }
+        ensures required_resource_types { result.required_resource_types ≡ foreign.required_resource_types }
     {
         UnresolvedPackage {
             name,
@@ -62,6 +64,7 @@ impl UnresolvedPackage {
             name_span,
             unknown_type_spans: foreign.unknown_type_spans,
             foreign_dep_spans: foreign.dep_spans,
+            required_resource_types: foreign.required_resource_types,
         }
     }
 
@@ -85,6 +88,14 @@ impl UnresolvedPackage {
         ensures { result.now ≡ self.now.foreign_dep_spans }
     {
         self.foreign_dep_spans.as_slice()
+    }
+
+    /// For each handle that names a type of another package: that type, which must be a resource,
+    /// and where its name is written, in the order in which they are read, with repeats.
+    pub fn required_resource_types(&self) -> &[(TypeId, Span)]
+        ensures { result.now ≡ self.now.required_resource_types }
+    {
+        self.required_resource_types.as_slice()
     }
 }
 
@@ -114,6 +125,12 @@ fn copy_spans(spans: &Row<Span>) -> Result<Row<Span>, AllocError>
     spans.clone()
 }
 
+fn copy_required(required: &Row<(TypeId, Span)>) -> Result<Row<(TypeId, Span)>, AllocError>
+    ensures { IfOk result (λ copy. copy ≡ required.now) }
+{
+    required.clone()
+}
+
 fn copy_foreign_deps(
     deps: &Table<PackageName, TextTable<(AstItem, Row<Stability>)>>,
 ) -> Result<Table<PackageName, TextTable<(AstItem, Row<Stability>)>>, AllocError>
@@ -135,6 +152,7 @@ impl Clone for UnresolvedPackage {
             name_span: self.name_span,
             unknown_type_spans: copy_spans(&self.unknown_type_spans)?,
             foreign_dep_spans: copy_spans(&self.foreign_dep_spans)?,
+            required_resource_types: copy_required(&self.required_resource_types)?,
         })
     }
 }

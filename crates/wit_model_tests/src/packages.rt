@@ -1,12 +1,12 @@
 //! Copies and equality of packages.
 use crate::alike::are_told_apart;
-use crate::fixtures::{SPAN, add_interface, add_type, interface_at, package, row, stable};
+use crate::fixtures::{SPAN, add_interface, add_type, interface_at, package, row, stable, type_at};
 use std::alloc::{AllocError, Global};
 use std::test::Fail;
 use wit_model::laws::equality::is_same_package;
 use wit_model::{
     Arena, AstItem, ForeignItems, Interface, InterfacePlace, PackageName, Stability, TypeDef,
-    TypeDefKind, TypePlace, UnresolvedPackage,
+    TypeDefKind, TypeId, TypePlace, UnresolvedPackage,
 };
 use wit_tree::Span;
 use wit_values::{Row, Table, TextTable};
@@ -81,18 +81,30 @@ fn spans_of(alloc: Global, count: usize) -> Result<Row<Span>, AllocError> {
     Ok(Row::from(spans))
 }
 
-// Puts a package behind others, with items of these packages and so many spans.
+// The types at these places, which handles require.
+fn required_of(alloc: Global, places: &[usize]) -> Result<Row<(TypeId, Span)>, AllocError> {
+    let mut required = Vec::new(alloc);
+    for place in places {
+        required.push((type_at(alloc, *place)?, SPAN))?;
+    }
+    Ok(Row::from(required))
+}
+
+// Puts a package behind others, with items of these packages, so many spans, and handles that
+// require the types at these places.
 fn add_foreign(
     alloc: Global,
     packages: &mut Vec<UnresolvedPackage>,
     names: &[&str],
     dep_spans: usize,
     type_spans: usize,
+    required: &[usize],
 ) -> Result<(), Fail> {
     let foreign = ForeignItems {
         deps: deps_of(alloc, names)?,
         dep_spans: spans_of(alloc, dep_spans)?,
         unknown_type_spans: spans_of(alloc, type_spans)?,
+        required_resource_types: required_of(alloc, required)?,
     };
     let package = UnresolvedPackage::new(
         package(alloc, "a", "b")?,
@@ -127,16 +139,22 @@ fn packages(rt: HostRuntime) -> Result<(), Fail> {
 fn items_of_other_packages(rt: HostRuntime) -> Result<(), Fail> {
     let alloc = rt.alloc();
     let mut packages = Vec::new(alloc);
-    add_foreign(alloc, &mut packages, &["c", "d"], 2, 1)?;
-    add_foreign(alloc, &mut packages, &["c"], 2, 1)?;
-    add_foreign(alloc, &mut packages, &["c", "d"], 1, 1)?;
-    add_foreign(alloc, &mut packages, &["c", "d"], 2, 0)?;
+    add_foreign(alloc, &mut packages, &["c", "d"], 2, 1, &[0, 2])?;
+    add_foreign(alloc, &mut packages, &["c"], 2, 1, &[0, 2])?;
+    add_foreign(alloc, &mut packages, &["c", "d"], 1, 1, &[0, 2])?;
+    add_foreign(alloc, &mut packages, &["c", "d"], 2, 0, &[0, 2])?;
+    add_foreign(alloc, &mut packages, &["c", "d"], 2, 1, &[2, 0])?;
+    add_foreign(alloc, &mut packages, &["c", "d"], 2, 1, &[0, 0, 2])?;
     let told_apart = are_told_apart(packages.as_slice(), is_same_package)?;
     assert!(rt; told_apart);
-    add_foreign(alloc, &mut packages, &["d", "c"], 2, 1)?;
-    assert_eq!(rt; packages.len(), 5);
-    assert!(rt; is_same_package(&packages[0], &packages[4]));
+    add_foreign(alloc, &mut packages, &["d", "c"], 2, 1, &[0, 2])?;
+    assert_eq!(rt; packages.len(), 7);
+    assert!(rt; is_same_package(&packages[0], &packages[6]));
     assert_eq!(rt; packages[0].foreign_dep_spans().len(), 2);
     assert_eq!(rt; packages[0].unknown_type_spans().len(), 1);
+    assert_eq!(rt; packages[0].required_resource_types().len(), 2);
+    let (id, span) = packages[0].required_resource_types()[1];
+    assert_eq!(rt; id, type_at(alloc, 2)?);
+    assert_eq!(rt; span, SPAN);
     Ok(())
 }

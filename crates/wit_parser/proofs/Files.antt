@@ -22,19 +22,19 @@ use Rattle.wit_meaning.specs.Source.{Item, all_items, is_world}
 use Rattle.wit_meaning.specs.Scope.{in_order, item_rows, interfaces_of, worlds_of}
 use Rattle.wit_meaning.specs.Broken.{IsLegal, last_header}
 use Rattle.wit_meaning.specs.Foreign.{visited, foreign_interfaces, foreign_worlds}
-use Rattle.wit_meaning.specs.Resolved.{AddsForeign, AddsInterfaces, AreLegalScopes, IsWrongAmong, IsWrongWorldAmong}
-use Rattle.wit_meaning.specs.Resolving.{Names, cells, IsIndex}
+use Rattle.wit_meaning.specs.Resolved.{AddsForeign, AddsInterfaces, AreLegalScopes, AreSoundScopes, IsWrongAmong, IsWrongWorldAmong}
+use Rattle.wit_meaning.specs.Resolving.{Names, Required, cells, IsIndex}
 use Rattle.wit_meaning.specs.Whole.{NamesOthers, IsPackage, IsFaithful}
 use Rattle.wit_meaning.proofs.Kept.{kept_has}
-use Rattle.wit_meaning.proofs.Resolved.{files_legal as legal_by, files_package as package_by, files_faithful as faithful_by}
+use Rattle.wit_meaning.proofs.Resolved.{scopes_legal as legal_scopes, files_legal as legal_by, files_package as package_by, files_faithful as faithful_by}
 use Rattle.wit_parser.specs.Between.{IsWrongNow, IsWrongWorldNow, AddsFiles}
 
--- where the scopes of interfaces are legal and those of worlds, all are
-pub legal_both : (items : List Item) → AreLegalScopes (interfaces_of items) → AreLegalScopes (worlds_of items) → AreLegalScopes items
-legal_both items interfaces worlds = record {
-  legal = λ i w f at. elim (cases_Bool (is_world w)) [
-    | inl world ↦ (let k = kept_has is_world items i w world at in worlds.legal k.0 w f k.1)
-    | inr other ↦ (let k = kept_has (λ (v : Item). not (is_world v)) items i w (ap not other) at in interfaces.legal k.0 w f k.1)
+-- where the scopes of interfaces are sound and those of worlds, all are
+pub sound_both : (items : List Item) → AreSoundScopes (interfaces_of items) → AreSoundScopes (worlds_of items) → AreSoundScopes items
+sound_both items interfaces worlds = record {
+  sound = λ i w f at. elim (cases_Bool (is_world w)) [
+    | inl world ↦ (let k = kept_has is_world items i w world at in worlds.sound k.0 w f k.1)
+    | inr other ↦ (let k = kept_has (λ (v : Item). not (is_world v)) items i w (ap not other) at in interfaces.sound k.0 w f k.1)
   ];
 }
 
@@ -47,19 +47,23 @@ held_within files places items order all = λ i d lt. (
 
 -- an interface that is wrong behind what stands in front
 pub wrong_interface : (files : List PackageFile) (es : List TypeDef) (front : List Interface) (ws : List World) (items : List Item) (places : List ℕ) (f : Fault) → AddsForeign files es front ws → IsWrongNow (map visited (foreign_interfaces files)) es front items places f → IsWrongAmong files items places f
-wrong_interface files es front ws items places f foreign h = record { count = h.count; item = h.item; next = h.next; sort = h.sort; es = es; front = front; ws = ws; foreign = foreign; mid = h.mid; before = h.before; added = h.added; by_name = h.by_name; index = h.index; wrong = h.wrong }
+wrong_interface files es front ws items places f foreign h = record { count = h.count; item = h.item; next = h.next; sort = h.sort; es = es; front = front; ws = ws; foreign = foreign; mid = h.mid; before = h.before; rs = h.rs; added = h.added; by_name = h.by_name; index = h.index; wrong = h.wrong }
 
 -- a world that is wrong once all interfaces were added
-pub wrong_world : (files : List PackageFile) (es : List TypeDef) (front : List Interface) (wfront : List World) (middle : List TypeDef) (is : List Interface) (by_name : Names) (items : List Item) (places : List ℕ) (f : Fault) → AddsForeign files es front wfront → AddsInterfaces (map visited (foreign_interfaces files)) es middle front is (interfaces_of (in_order items places)) → IsIndex (cells (map visited (foreign_interfaces files)) is) by_name → IsWrongWorldNow files (map visited (foreign_interfaces files)) (map visited (foreign_worlds files)) middle is by_name wfront items places f → IsWrongWorldAmong files items places f
-wrong_world files es front wfront middle is by_name items places f foreign added index h = record { es = es; front = front; worlds_front = wfront; foreign = foreign; middle = middle; is = is; interfaces = added; count = h.count; item = h.item; next = h.next; sort = h.sort; mid = h.mid; before = h.before; added = h.added; by_name = by_name; index = index; worlds_by_name = h.worlds_by_name; worlds_index = h.worlds_index; wrong = h.wrong }
+pub wrong_world : (files : List PackageFile) (es : List TypeDef) (front : List Interface) (wfront : List World) (middle : List TypeDef) (is : List Interface) (by_name : Names) (rs : List Required) (items : List Item) (places : List ℕ) (f : Fault) → AddsForeign files es front wfront → AddsInterfaces (map visited (foreign_interfaces files)) es middle front is rs (interfaces_of (in_order items places)) → IsIndex (cells (map visited (foreign_interfaces files)) is) by_name → IsWrongWorldNow files (map visited (foreign_interfaces files)) (map visited (foreign_worlds files)) middle is by_name wfront items places f → IsWrongWorldAmong files items places f
+wrong_world files es front wfront middle is by_name rs items places f foreign added index h = record { es = es; front = front; worlds_front = wfront; foreign = foreign; middle = middle; is = is; rs = rs; interfaces = added; count = h.count; item = h.item; next = h.next; sort = h.sort; mid = h.mid; before = h.before; worlds_rs = h.rs; added = h.added; by_name = by_name; index = index; worlds_by_name = h.worlds_by_name; worlds_index = h.worlds_index; wrong = h.wrong }
 
-module _ (files : List PackageFile) (es : List TypeDef) (is : List Interface) (ws : List World) (a : AddsFiles files es is ws) where
+module _ (files : List PackageFile) (es : List TypeDef) (is : List Interface) (ws : List World) (rs : List Required) (a : AddsFiles files es is ws rs) where
+  -- no scope is broken by itself
+  scopes_legal : AreLegalScopes (in_order (all_items files) a.places)
+  scopes_legal = legal_scopes files a.places a.order a.names a.uses a.first a.middle es a.front is a.worlds_front ws a.irs a.wrs a.foreign a.interfaces a.worlds a.sound
+
   pub files_legal : (header : Header) → last_header files ≡ Some header → IsLegal files
-  files_legal header last = legal_by files a.places a.order a.names a.uses a.first a.middle es a.front is a.worlds_front ws a.foreign a.interfaces a.worlds a.legal header last
+  files_legal header last = legal_by files a.places a.order a.names a.uses a.first a.middle es a.front is a.worlds_front ws a.irs a.wrs a.foreign a.interfaces a.worlds scopes_legal header last
 
   module _ (p : UnresolvedPackage) (types : p.types ≡ es) (interfaces : p.interfaces ≡ is) (worlds : p.worlds ≡ ws) (others : NamesOthers files p) where
-    pub files_package : (header : Header) → last_header files ≡ Some header → p.name.namespace ≡ header.namespace.name.now → p.name.name ≡ header.name.name.now → option_map release_parts p.name.version ≡ option_map parts_of header.version → p.name_span ≡ header.span → IsPackage files p
-    files_package header last namespace name version span = package_by files a.places a.order a.names a.uses a.first a.middle es a.front is a.worlds_front ws a.foreign a.interfaces a.worlds p types interfaces worlds others header last namespace name version span
+    pub files_package : p.required_resource_types ≡ rs → (header : Header) → last_header files ≡ Some header → p.name.namespace ≡ header.namespace.name.now → p.name.name ≡ header.name.name.now → option_map release_parts p.name.version ≡ option_map parts_of header.version → p.name_span ≡ header.span → IsPackage files p
+    files_package required header last namespace name version span = package_by files a.places a.order a.names a.uses a.first a.middle es a.front is a.worlds_front ws a.irs a.wrs a.foreign a.interfaces a.worlds p types interfaces worlds others (required ∙ a.requires) header last namespace name version span
 
     pub files_faithful : IsFaithful files p
-    files_faithful = faithful_by files a.places a.order a.names a.uses a.first a.middle es a.front is a.worlds_front ws a.foreign a.interfaces a.worlds p types interfaces worlds others
+    files_faithful = faithful_by files a.places a.order a.names a.uses a.first a.middle es a.front is a.worlds_front ws a.irs a.wrs a.foreign a.interfaces a.worlds p types interfaces worlds others scopes_legal

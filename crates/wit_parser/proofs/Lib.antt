@@ -1,5 +1,8 @@
 mod TypeWords
 mod Turning
+mod Handled
+mod Calling
+mod WrongNames
 mod NeedingNone
 mod UsedNames
 mod Files
@@ -17,3 +20,15 @@ mod Importing
 mod Fronts
 mod Taken
 mod Fronting
+mod Emitting
+mod Results
+mod SettersPlaced
+mod Inserting
+mod FunctionTables
+mod Behind
+mod ScopeFunctions
+mod Owners
+mod WorldImports
+mod GetterNames
+mod Parting
+mod PlacedNames

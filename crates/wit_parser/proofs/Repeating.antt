@@ -1,11 +1,11 @@
 -- Names whose texts stand twice.
-use Rattle.std.proofs.Common.{◌≡◌, ℕ, ◌<◌, List, Some, length, get_or, map, sym, ap, ◌∙◌, subst, Bor, arith}
+use Rattle.std.proofs.Common.{◌≡◌, ℕ, ◌<◌, List, Some, length, get_or, map, sym, ap, ◌∙◌, subst, arith}
 use Rattle.std.proofs.lemmas.List.{length-map}
 use Rattle.std.proofs.lemmas.Option.{get_or_from_slice_get, slice_get_within}
 use Rattle.wit_tree.specs.declared.tree.Id.{Id}
-use Rattle.wit_meaning.specs.Broken.{IsRepeated, folded}
+use Rattle.wit_meaning.specs.Bodies.{IsRepeated}
 use Rattle.wit_meaning.specs.Repeats.{IsRepeatAt, AllDiffer}
-use Rattle.wit_meaning.proofs.Lists.{map_at, map_map}
+use Rattle.wit_meaning.proofs.Lists.{map_at}
 use Rattle.wit_meaning.proofs.Repeated.{repeated_key}
 
 -- a key that stands twice, by the name that is read at the later place
@@ -15,10 +15,6 @@ named_twice key ids keys first second later keyed repeat read =
     let x = map_at key ids second r.x r.at_second in
     let same : later ≡ x.0 = read ∙ get_or_from_slice_get ids second x.0 later x.1 in
     repeated_key key ids first second later r (x.1 ∙ ap Some (sym same))
-
--- texts in lower case
-pub folded_keys : (ids : List Id) (texts : List (Bor (List ℕ))) → map (λ t. t.now) texts ≡ map (λ id. id.name.now) ids → map (λ t. folded t.now) texts ≡ map (λ id. folded id.name.now) ids
-folded_keys ids texts is = sym (map_map folded (λ (t : Bor (List ℕ)). t.now) texts) ∙ ap (map folded) is ∙ map_map folded (λ (id : Id). id.name.now) ids
 
 -- one name does not stand twice
 pub few_differ : {X Y : Type 0} (f : X → Y) (xs : List X) → length xs < 2 → AllDiffer (map f xs)

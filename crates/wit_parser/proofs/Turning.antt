@@ -10,22 +10,23 @@ use Rattle.wit_meaning.specs.Source.{ScopeName, Used, Defined, Taken, local_id, 
 use Rattle.wit_tree.specs.declared.tree.Id.{Id}
 use Rattle.wit_tree.specs.declared.tree.TypeDef.{TypeDef as Definition}
 use Rattle.wit_meaning.specs.Shape.{all_words, body_of}
-use Rattle.wit_order.specs.Table.{IsOrder}
-use Rattle.wit_meaning.specs.Scope.{in_order, is_defined, rows_of, used, defined, in_turn}
-use Rattle.wit_meaning.specs.Fault.{Fault, fault}
-use Rattle.wit_meaning.specs.Broken.{IsRepeated, IsBrokenScope, IsFoldedTwice, DefinedTwice, Body, FoldedTwice, folded}
+use Rattle.wit_meaning.specs.Scope.{in_order, is_defined, rows_of, used, defined}
+use Rattle.wit_meaning.specs.Fault.{Fault, fault, type_word}
+use Rattle.wit_meaning.specs.Bodies.{IsRepeated}
+use Rattle.wit_meaning.specs.Function.{SourceFunction}
+use Rattle.wit_meaning.specs.Broken.{IsBrokenScope, DefinedTwice, MissingType, CyclicType, Body, Function, FoldedTwice}
 use Rattle.wit_meaning.specs.Repeats.{AllDiffer}
-use Rattle.wit_meaning.specs.Resolving.{Env, AreLegalBodies, HasNames, IsUnknown}
+use Rattle.wit_meaning.specs.Resolving.{Env, AreDistinct, AreLegalBodies, HasNames, IsUnknown, local_names}
 use Rattle.wit_meaning.proofs.Lists.{at_within, at_take, map_at, map_map}
-use Rattle.wit_meaning.proofs.Repeated.{differ_at, differ_by}
+use Rattle.wit_meaning.proofs.Repeated.{no_repeat}
 use Rattle.wit_meaning.proofs.Orders.{in_order_at}
-use Rattle.wit_meaning.proofs.Turns.{AreOwn, used_is, used_has, defined_at, defined_has, either_at, names_within, in_order_among}
+use Rattle.wit_meaning.proofs.Turns.{AreOwn, used_is, used_has, defined_at, defined_has, either_at, names_within, in_order_among, in_order_all, in_turn_distinct}
 use Rattle.wit_meaning.proofs.Scoping.{at_contains, contains_at, needed_earlier}
-use Rattle.wit_meaning.proofs.Legal.{only_folded, no_fold}
+use Rattle.wit_meaning.proofs.Legal.{no_missing_edge, no_cyclic_edge}
 use Rattle.wit_parser.specs.declared.scope_name.ScopeName.{ScopeName as Held}
 use Rattle.wit_parser.specs.declared.scope_name.ScopeName.TheVariants as held
 use Rattle.wit_parser.specs.Held.{name_behind}
-use Rattle.wit_parser.specs.Between.{AreOrdered, AreInTurn, IsBrokenAmong, IsRepeatedId}
+use Rattle.wit_parser.specs.Between.{AreOrdered, AreInTurn, IsBrokenAmong, IsRepeatedId, OfFunction, OfFolded, IsOfFunctions}
 
 -- what stands at the first n places
 in_order-take : {X : Type 0} (xs : List X) (places : List ℕ) (n : ℕ) → ((j p : ℕ) → slice_get places j ≡ Some p → p < length xs) → in_order xs (take n places) ≡ take n (in_order xs places)
@@ -106,12 +107,9 @@ none_unknown old env ds k d f turn at kept has u =
     let e = turn.earlier k d u.id at u.among (λ i y there same. free y same ((kept turn.known turn.has).has i y there)) in
     free e.1 e.3 (has.has e.0 e.1 e.2)
 
--- where the definitions break no rule, none of the scope's names does
-pub legal_all : (ys : List ScopeName) → AreLegalBodies (defined ys) → AreLegalBodies ys
-legal_all ys legal = record { legal = λ i d f at broken. (let it = defined_has ys i d at in legal.legal it.0 d f it.1 broken) }
-
-pub broken_body : (xs ds : List ScopeName) (f : Fault) → AreOrdered xs ds → IsBrokenAmong ds f → IsBrokenScope xs f
-broken_body xs ds f o b =
+-- a body among the definitions that is broken
+pub broken_body : (xs ds : List ScopeName) (f : Fault) → AreOrdered xs ds → IsBrokenAmong ds f → (fns : List SourceFunction) → IsBrokenScope xs fns f
+broken_body xs ds f o b fns =
     let at = at_contains ds (Defined b.d) b.among in
     let it = defined_at (in_order xs o.order) at.0 (Defined b.d) (sym (ap (λ l. slice_get l at.0) o.are) ∙ at.1) in
     let p = in_order_among xs o.order o.least it.0 (Defined b.d) it.1 in
@@ -130,33 +128,29 @@ unmapped key zs later r =
 abbrev text : Id → List ℕ
 text id = id.name.now
 
-abbrev folded_text : Id → List ℕ
-folded_text id = folded id.name.now
-
-pub broken_twice : (xs : List ScopeName) (ids : List Id) (f : Fault) → ids ≡ map local_id (used xs ++ defined xs) → IsRepeatedId 14 text ids f → IsBrokenScope xs f
-broken_twice xs ids f are h =
+-- a text that stands twice
+pub broken_twice : (xs : List ScopeName) (ids : List Id) (f : Fault) → ids ≡ map local_id (used xs ++ defined xs) → IsRepeatedId 14 text ids f → (fns : List SourceFunction) → IsBrokenScope xs fns f
+broken_twice xs ids f are h fns =
     let u = unmapped text (used xs ++ defined xs) h.later (subst (λ l. IsRepeated text l h.later) are h.repeated) in
     DefinedTwice (record { later = u.0; repeated = u.1; is = h.is ∙ ap (λ (id : Id). fault 14 id.span) (sym u.2) })
-
-pub broken_folded : (xs : List ScopeName) (order : List ℕ) (ids : List Id) (f : Fault) → IsOrder (rows_of xs) order → ids ≡ map local_id (in_turn xs order) → IsRepeatedId 17 folded_text ids f → IsBrokenScope xs f
-broken_folded xs order ids f least are h =
-    let u = unmapped folded_text (in_turn xs order) h.later (subst (λ l. IsRepeated folded_text l h.later) are h.repeated) in
-    FoldedTwice (record { order = order; least = least; later = u.0; repeated = u.1; is = h.is ∙ ap (λ (id : Id). fault 17 id.span) (sym u.2) })
 
 -- where texts differ, the names do
 pub differ_names : (xs : List ScopeName) (ids : List Id) → ids ≡ map local_id (used xs ++ defined xs) → AllDiffer (map text ids) → AllDiffer (map local_name (used xs ++ defined xs))
 differ_names xs ids are differ = subst AllDiffer (ap (map text) are ∙ map_map text local_id (used xs ++ defined xs)) differ
 
--- before case is folded, a repeat once it is folded is all that can be wrong
-pub legal_unfolded : (xs ds : List ScopeName) (ids : List Id) (o : AreOrdered xs ds) → ids ≡ map local_id (used xs ++ defined xs) → AllDiffer (map text ids) → AreLegalBodies ds → (f : Fault) → IsBrokenScope xs f → IsFoldedTwice xs f
-legal_unfolded xs ds ids o are distinct bodies =
-    only_folded xs o.order (differ_names xs ids are distinct) o.least (legal_all (in_order xs o.order) (rw o.are at bodies))
+-- so those of a table with the used names differ from the definitions, in their order
+pub turn_differs : (xs ds : List ScopeName) (names : List (List ℕ)) → AreOrdered xs ds → names ≡ local_names (used xs) → AreDistinct xs → AllDiffer (names ++ local_names ds)
+turn_differs xs ds names o are distinct = rw (are, o.are) (subst AllDiffer (map-append local_name (used xs) (defined (in_order xs o.order))) (in_turn_distinct xs o.order o.least distinct))
 
--- and where keys differ in turn, nothing is
-pub legal_folded : (xs : List ScopeName) (order : List ℕ) (turn : List Id) → IsOrder (rows_of xs) order → turn ≡ map local_id (in_turn xs order) → AllDiffer (map folded_text turn) → ((f : Fault) → IsBrokenScope xs f → IsFoldedTwice xs f) → (f : Fault) → IsBrokenScope xs f → ⊥
-legal_folded xs order turn least turned differ only f broken =
-    no_fold xs order f least (subst AllDiffer (ap (map folded_text) turned ∙ map_map folded_text local_id (in_turn xs order)) differ) (only f broken)
-
--- names that differ once case is folded differ
-pub differ_unfolded : (ids : List Id) → AllDiffer (map folded_text ids) → AllDiffer (map text ids)
-differ_unfolded ids differ = differ_by text ids (λ i j x y at_i at_j same. differ_at folded_text ids differ i j x y at_i at_j (ap folded same))
+-- where the names and the definitions break no rule, functions or folded names do
+pub legal_unfolded : (xs ds : List ScopeName) (ids : List Id) → AreOrdered xs ds → ids ≡ map local_id (used xs ++ defined xs) → AllDiffer (map text ids) → AreLegalBodies ds → (fns : List SourceFunction) (f : Fault) → IsBrokenScope xs fns f → IsOfFunctions xs fns f
+legal_unfolded xs ds ids o are distinct bodies fns f (DefinedTwice h) = absurd (no_repeat local_name (used xs ++ defined xs) h.later (differ_names xs ids are distinct) h.repeated)
+legal_unfolded xs ds ids o are distinct bodies fns f (MissingType h) = absurd (no_missing_edge 15 type_word (rows_of xs) o.order f o.least h)
+legal_unfolded xs ds ids o are distinct bodies fns f (CyclicType h) = absurd (no_cyclic_edge 16 type_word (rows_of xs) o.order f o.least h)
+legal_unfolded xs ds ids o are distinct bodies fns f (Body d among broken) = absurd (
+    let p = at_contains xs (Defined d) among in
+    let k = in_order_all xs o.order o.least p.0 (Defined d) p.1 in
+    let it = defined_has (in_order xs o.order) k.0 d k.1 in
+    bodies.legal it.0 d f (ap (λ l. slice_get l it.0) o.are ∙ it.1) broken)
+legal_unfolded xs ds ids o are distinct bodies fns f (Function k fn at broken) = OfFunction k fn at broken
+legal_unfolded xs ds ids o are distinct bodies fns f (FoldedTwice h) = OfFolded h

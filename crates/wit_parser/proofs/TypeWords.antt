@@ -1,5 +1,5 @@
 -- Names written in types, by their parts.
-use Rattle.std.proofs.Common.{◌≡◌, List, [], ◌∷◌, ◌++◌, Some, None, Vec, refl, sym, ap, ◌∙◌, append_assoc}
+use Rattle.std.proofs.Common.{◌≡◌, List, [], ◌∷◌, ◌++◌, Some, None, Vec, sym, ap, ◌∙◌, append_assoc}
 use Rattle.std.specs.declared.alloc.Global.{Global}
 use Rattle.std.proofs.lemmas.List.{append-nil}
 use Rattle.std.specs.Option.{option_to_list}
@@ -7,22 +7,18 @@ use Rattle.wit_values.specs.declared.span.Span.{Span}
 use Rattle.wit_tree.specs.declared.tree.Id.{Id}
 use Rattle.wit_tree.specs.declared.tree.Case.{Case}
 use Rattle.wit_tree.specs.declared.tree.«Type».{«Type» as Written, Tuple}
-use Rattle.wit_tree.specs.Parts.{part_types, case_types}
-use Rattle.wit_tree.proofs.Rows.{tuple_types}
+use Rattle.wit_tree.specs.Parts.{case_types}
 use Rattle.wit_meaning.specs.Shape.{shape_of, all_shapes, words, all_words}
 use Rattle.wit_meaning.proofs.Lists.{filter_map_more}
-use Rattle.wit_meaning.proofs.Written.{inner, inner-parts, all_words-append}
+use Rattle.wit_meaning.proofs.Written.{tuple_inner, all_words-append}
 
 -- of types in turn
 abbrev pub type_words : List Written → List Id
 type_words ts = all_words (all_shapes ts)
 
--- the names in a type whose parts are these
-words-parts : (t : Written) (ts : List Written) → words (shape_of t) ≡ all_words (inner (shape_of t)) → part_types t ≡ ts → words (shape_of t) ≡ type_words ts
-words-parts t ts whole same = whole ∙ ap all_words (inner-parts t) ∙ ap type_words same
-
+-- the names in a tuple are those in its types
 pub tuple_words : (span : Span) (v : Vec Written Global) → words (shape_of (Tuple span v)) ≡ type_words v.items
-tuple_words span v = words-parts (Tuple span v) v.items refl (tuple_types span v)
+tuple_words span v = ap all_words (tuple_inner span v)
 
 -- one type more
 pub words_more : (old now new : List Id) (ts us : List Written) (t : Written) → us ≡ ts ++ t ∷ [] → now ≡ old ++ type_words ts → new ≡ now ++ words (shape_of t) → new ≡ old ++ type_words us

@@ -1,5 +1,5 @@
 -- Used names that stand among those of a scope.
-use Rattle.std.proofs.Common.{◌≡◌, ◌++◌, ◌+◌, ◌∷◌, [], not, ℕ, List, take, Some, IsSome, sym, ap, ◌∙◌}
+use Rattle.std.proofs.Common.{◌≡◌, ◌++◌, ◌+◌, ◌∷◌, [], not, ℕ, List, take, Some, None, IsSome, sym, ap, ◌∙◌}
 use Rattle.std.specs.Prelude.{slice_get, map}
 use Rattle.std.specs.Option.{option_map}
 use Rattle.std.proofs.lemmas.List.{map-append}
@@ -10,10 +10,13 @@ use Rattle.wit_meaning.specs.Address.{Address}
 use Rattle.wit_meaning.specs.Source.{ScopeName, Used, local_name}
 use Rattle.wit_meaning.specs.Scope.{is_defined, used, defined}
 use Rattle.wit_meaning.specs.Fault.{Fault}
-use Rattle.wit_meaning.specs.Broken.{IsRepeated, DefinedTwice}
-use Rattle.wit_meaning.specs.Resolving.{Names, Cell, env_of, local_names, IsWrongUse, Wrong, Taken, IsWrongScope, WrongName, WrongItself}
+use Rattle.wit_meaning.specs.Function.{SourceFunction}
+use Rattle.wit_meaning.specs.Bodies.{IsRepeated}
+use Rattle.wit_meaning.specs.Broken.{DefinedTwice}
+use Rattle.wit_meaning.specs.Resolving.{Names, Cell, env_of, local_names, IsFound, IsWrongName, Unstated, OfFunction, IsWrongUse, Wrong, Taken, IsWrongScope, WrongName, WrongItself}
 use Rattle.wit_parser.specs.declared.scope_name.ScopeName.{ScopeName as Held}
 use Rattle.wit_parser.specs.Held.{name_behind}
+use Rattle.wit_parser.specs.Between.{IsUnstated, AtFunction, AtNothing}
 use Rattle.wit_meaning.proofs.Orders.{take_next}
 use Rattle.wit_meaning.proofs.Lists.{at_front, at_take, map_at}
 use Rattle.wit_meaning.proofs.Names.{lookup-place}
@@ -40,10 +43,15 @@ repeated_used xs names i from n at listed some =
       same = e.2;
     }
 
+-- one that is no name of its interface's types is that of a function there, or of nothing
+pub unstated_name : (cs : List Cell) (by_name : Names) (from : Address) (n : UseName) (target : Cell) (f : Fault) → IsFound cs from target → env_of target.types n.name.name.now ≡ None → IsUnstated target.functions n.name f → IsWrongName cs by_name from n f
+unstated_name cs by_name from n target f found free (AtFunction among is) = OfFunction target found free among is
+unstated_name cs by_name from n target f found free (AtNothing other is) = Unstated target found free other is
+
 -- what is wrong with a used name is wrong with its scope
-pub wrong_used : (cs : List Cell) (by_name names : Names) (xs : List ScopeName) (i : ℕ) (from : Address) (n : UseName) → slice_get (used xs) i ≡ Some (Used from n) → map (λ p. p.0) names ≡ local_names (take i (used xs)) → (f : Fault) → IsWrongUse cs by_name names from n f → IsWrongScope cs by_name xs f
-wrong_used cs by_name names xs i from n at listed f (Wrong w) = (let p = used_at xs i (Used from n) at in WrongName from n (contains_at xs p.0 (Used from n) p.1) w)
-wrong_used cs by_name names xs i from n at listed f (Taken some says) = WrongItself (DefinedTwice (record { later = Used from n; repeated = repeated_used xs names i from n at listed some; is = says }))
+pub wrong_used : (cs : List Cell) (by_name names : Names) (xs : List ScopeName) (i : ℕ) (from : Address) (n : UseName) → slice_get (used xs) i ≡ Some (Used from n) → map (λ p. p.0) names ≡ local_names (take i (used xs)) → (f : Fault) → IsWrongUse cs by_name names from n f → (fns : List SourceFunction) → IsWrongScope cs by_name xs fns f
+wrong_used cs by_name names xs i from n at listed f (Wrong w) fns = (let p = used_at xs i (Used from n) at in WrongName from n (contains_at xs p.0 (Used from n) p.1) w)
+wrong_used cs by_name names xs i from n at listed f (Taken some says) fns = WrongItself (DefinedTwice (record { later = Used from n; repeated = repeated_used xs names i from n at listed some; is = says }))
 
 -- the used ones of some names, one name more
 pub used_more : (xs : List Held) (i : ℕ) (x : Held) → slice_get xs i ≡ Some x → used (map name_behind (take (i + 1) xs)) ≡ used (map name_behind (take i xs)) ++ used (name_behind x ∷ [])

@@ -3,3 +3,5 @@ pub mod Held
 pub mod Items
 pub mod Front
 pub mod Between
+pub mod Behind
+pub mod Parted

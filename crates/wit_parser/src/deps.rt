@@ -12,7 +12,7 @@ fn collect_deps<'a>(deps: &mut Vec<Id<'a>>, ty: &Type<'a>) -> Result<(), AllocEr
     ensures { OnOk result (deps.new.items ≡ deps.old.items ++ words (shape_of ty.now)) }
 {
     match ty {
-        Type::Name(id) => deps.push(*id)?,
+        Type::Name(id) | Type::Own(_, id) | Type::Borrow(_, id) => deps.push(*id)?,
         Type::List(_, part) => collect_deps(deps, part)?,
         Type::FixedLengthList(_, part, _) => collect_deps(deps, part)?,
         Type::Option(_, part) => collect_deps(deps, part)?,
@@ -80,7 +80,8 @@ fn collect_case_deps<'a>(deps: &mut Vec<Id<'a>>, cases: &[Case<'a>]) -> Result<(
     Ok(())
 }
 
-/// The names written in the body of a definition, in written order.
+/// The names written in the body of a definition, in written order; those in the functions of a
+/// resource are none of them.
 pub(crate) fn body_deps<'a>(alloc: Global, body: &TypeBody<'a>) -> Result<Vec<Id<'a>>, AllocError>
     ensures { IfOk result (λ deps. deps.items ≡ all_words (body_of body.now).parts) }
 {
@@ -89,7 +90,7 @@ pub(crate) fn body_deps<'a>(alloc: Global, body: &TypeBody<'a>) -> Result<Vec<Id
         TypeBody::Record { fields, .. } => collect_field_deps(&mut deps, fields)?,
         TypeBody::Variant { cases, .. } => collect_case_deps(&mut deps, cases)?,
         TypeBody::Plain(ty) => collect_deps(&mut deps, ty)?,
-        TypeBody::Flags { .. } | TypeBody::Enum { .. } => {}
+        TypeBody::Flags { .. } | TypeBody::Enum { .. } | TypeBody::Resource { .. } => {}
     }
     Ok(deps)
 }

@@ -1,14 +1,14 @@
-//! Names of a scope that are one, to the letter or once case is folded.
+//! Names of a scope that stand twice.
 ghost use Rattle.std.specs.Prelude.{◌≡◌, ◌++◌, map, IfOk, IfErr, OnOk};
 ghost use Rattle.wit_meaning.specs.Source.{local_id as the_local_id};
-ghost use Rattle.wit_meaning.specs.Broken.{Refused, folded};
+ghost use Rattle.wit_meaning.specs.Broken.{Refused};
 ghost use Rattle.wit_parser.specs.Held.{use_behind, definition_behind};
 ghost use Rattle.wit_parser.specs.Between.{IsRepeatedId};
 ghost use Rattle.wit_meaning.specs.Repeats.{AllDiffer};
 
 use crate::scope_name::{DefinedName, UsedName, local_of};
 use std::alloc::{AllocError, Global};
-use wit_entries::repeats::{first_folded_repeat, first_repeat};
+use wit_entries::repeats::first_repeat;
 use wit_scope::refusal::refuse;
 use wit_tree::ParseResult;
 use wit_tree::tree::Id;
@@ -56,11 +56,6 @@ pub(crate) fn defined_twice(alloc: Global, name: &str) -> Result<String, AllocEr
     format!(in alloc; "name `{name}` is defined more than once")
 }
 
-/// The words for a name that an earlier one has once case is folded.
-fn conflict(alloc: Global, earlier: &str, later: &str) -> Result<String, AllocError> {
-    format!(in alloc; "name `{later}` conflicts with previous name `{earlier}`")
-}
-
 /// Refuses a name that an earlier one has.
 pub(crate) fn check_unique_names(alloc: Global, ids: &[Id<'_>]) -> ParseResult<()>
     ensures legal { OnOk result (AllDiffer (map (λ id. id.name.now) ids.now)) }
@@ -75,25 +70,6 @@ pub(crate) fn check_unique_names(alloc: Global, ids: &[Id<'_>]) -> ParseResult<(
             let later = &ids[second];
             let message = defined_twice(alloc, later.name)?;
             Err(refuse(alloc, 14, later.span, message.as_str()))
-        }
-        None => Ok(()),
-    }
-}
-
-/// Refuses a name that an earlier one has once case is folded.
-pub(crate) fn check_folded_names(alloc: Global, ids: &[Id<'_>]) -> ParseResult<()>
-    ensures legal { OnOk result (AllDiffer (map (λ id. folded id.name.now) ids.now)) }
-    ensures refused { IfErr result (Refused (IsRepeatedId 17 (λ id. folded id.name.now) ids.now)) }
-{
-    if ids.len() < 2 {
-        return Ok(());
-    }
-    let texts = texts(alloc, ids)?;
-    match first_folded_repeat(alloc, &texts)? {
-        Some((first, second)) => {
-            let later = &ids[second];
-            let message = conflict(alloc, ids[first].name, later.name)?;
-            Err(refuse(alloc, 17, later.span, message.as_str()))
         }
         None => Ok(()),
     }

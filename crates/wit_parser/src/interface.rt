@@ -1,46 +1,53 @@
 //! Declared interfaces.
-ghost use Rattle.std.specs.Prelude.{◌≡◌, ◌<◌, ◌≤◌, All, length, IfErr, OnOk, map};
+ghost use Rattle.std.specs.Prelude.{◌≡◌, ◌<◌, ◌≤◌, ◌++◌, All, length, IfErr, OnOk, map};
+ghost use Rattle.wit_types.specs.declared.types.TypeOwner.TheVariants.{Interface as InterfaceOwner};
 ghost use Rattle.wit_meaning.specs.Source.{item_id, scope_names as the_names};
 ghost use Rattle.wit_meaning.specs.Scope.{in_order, interfaces_of};
+ghost use Rattle.wit_meaning.specs.Function.{functions as the_functions};
 ghost use Rattle.wit_meaning.specs.Fault.{Fault};
 ghost use Rattle.wit_meaning.specs.Broken.{IsBrokenScope, Refused};
 ghost use Rattle.wit_tree.specs.Refusal.{IsWantOfMemory};
 ghost use Rattle.wit_parser.specs.Items.{item_behind, names_behind};
-ghost use Rattle.wit_meaning.specs.Resolving.{IsIndex, IsAddedInterface, IsWrongScope};
-ghost use Rattle.wit_meaning.specs.Resolved.{AddsInterface, AddsInterfaces, AreLegalScopes};
+ghost use Rattle.wit_meaning.specs.Resolving.{IsIndex, IsAddedInterface};
+ghost use Rattle.wit_meaning.specs.Resolved.{AddsInterface, AddsInterfaces, AreSoundScopes, IsNameless, IsWrongInterface};
 ghost use Rattle.wit_parser.specs.Held.{front_of, cells_of};
 ghost use Rattle.wit_parser.specs.Front.{AreNamesPlaced, AreItemsPlaced};
-ghost use Rattle.wit_parser.specs.Between.{IsWrongNow};
+ghost use Rattle.wit_parser.specs.Between.{Emits, IsWrongNow};
 
-use crate::distinct::check_folded_names;
+use crate::functions::{function_table, held_functions};
 use crate::items::{Declared, Item};
 use crate::names::resolve_names;
+use crate::signatures::resolve_signatures;
 use crate::uses::Interfaces;
-use std::alloc::Global;
+use std::alloc::{AllocError, Global};
 use wit_entries::entries::Entries;
-use wit_model::{Docs, Interface, Stability, TypeId, TypeOwner};
+use wit_entries::scope::Required;
+use wit_entries::taken::check_setters;
+use wit_model::{Docs, Function, Interface, Stability, TypeId, TypeOwner};
+use wit_scope::NameScope;
 use wit_tree::ParseResult;
 use wit_tree::tree::Id;
 use wit_values::{Text, TextTable};
 
-/// Adds an interface of this name with these names of types.
+/// Adds an interface of this name with these names of types and these functions.
 fn add_interface(
     alloc: Global,
     interfaces: &mut Interfaces<'_, '_, '_>,
     id: Id<'_>,
     types: TextTable<TypeId>,
+    functions: TextTable<Function>,
 ) -> ParseResult<()>
     requires front { length interfaces.old.foreign.now ≤ length interfaces.old.arena }
     requires index { IsIndex (cells_of interfaces.old) interfaces.old.by_name }
     ensures foreign { OnOk result (interfaces.new.foreign ≡ interfaces.old.foreign) }
-    ensures added { OnOk result (IsAddedInterface interfaces.old.arena interfaces.new.arena id.entry types) }
+    ensures added { OnOk result (IsAddedInterface interfaces.old.arena interfaces.new.arena id.entry types functions) }
     ensures index { OnOk result (IsIndex (cells_of interfaces.new) interfaces.new.by_name) }
     ensures refused { IfErr result IsWantOfMemory }
 {
     let place = interfaces.arena.alloc(Interface {
         name: Some(Text::from_str(alloc, id.name)?),
         types,
-        functions: TextTable::new(alloc),
+        functions,
         docs: Docs::default(),
         stability: Stability::default(),
         package: None,
@@ -53,10 +60,21 @@ fn add_interface(
     Ok(())
 }
 
-/// Adds an interface with its names, and what is in them.
+/// Adds what handles of a scope require behind what others do.
+pub(crate) fn add_required(required: &mut Vec<Required>, own: &[Required]) -> Result<(), AllocError>
+    ensures { OnOk result (required.new.items ≡ required.old.items ++ own.now) }
+{
+    for one in own {
+        required.push(*one)?;
+    }
+    Ok(())
+}
+
+/// Adds an interface with its names, and what is in them, and then its functions.
 fn resolve_interface<'a>(
     alloc: Global,
     types: &mut Entries,
+    required: &mut Vec<Required>,
     interfaces: &mut Interfaces<'_, '_, '_>,
     item: &Item<'_, 'a>,
     id: Id<'a>,
@@ -67,15 +85,27 @@ fn resolve_interface<'a>(
     requires front { length interfaces.old.foreign.now ≤ length interfaces.old.arena }
     requires index { IsIndex (cells_of interfaces.old) interfaces.old.by_name }
     ensures foreign { OnOk result (interfaces.new.foreign ≡ interfaces.old.foreign) }
-    ensures added { OnOk result (AddsInterface (front_of interfaces.old.foreign.now) types.old types.new interfaces.old.arena interfaces.new.arena (item_behind item.now)) }
+    ensures added { OnOk result (Emits required.old.items required.new.items (λ rs. AddsInterface (front_of interfaces.old.foreign.now) types.old types.new interfaces.old.arena interfaces.new.arena rs (item_behind item.now))) }
     ensures index { OnOk result (IsIndex (cells_of interfaces.new) interfaces.new.by_name) }
-    ensures legal { OnOk result ((f : Fault) → IsBrokenScope (the_names (item_behind item.now)) f → ⊥) }
-    ensures refused { IfErr result (Refused (IsWrongScope (cells_of interfaces.old) interfaces.old.by_name (the_names (item_behind item.now)))) }
+    ensures sound { OnOk result ((f : Fault) → IsBrokenScope (the_names (item_behind item.now)) (the_functions (item_behind item.now)) f → IsNameless (the_names (item_behind item.now)) (the_functions (item_behind item.now))) }
+    ensures refused { IfErr result (Refused (IsWrongInterface types.old (cells_of interfaces.old) interfaces.old.by_name (InterfaceOwner (length interfaces.old.arena)) (item_behind item.now))) }
 {
     let owner = TypeOwner::Interface(interfaces.arena.next_id());
-    let names = resolve_names(alloc, types, interfaces, owner, &item.names)?;
-    check_folded_names(alloc, &names.turn)?;
-    add_interface(alloc, interfaces, id, names.types)?;
+    let mut names = resolve_names(alloc, types, interfaces, owner, &item.names)?;
+    let written = held_functions(alloc, item.declared)?;
+    let mut taken = NameScope::new(alloc);
+    let functions = resolve_signatures(
+        alloc,
+        types,
+        &mut names,
+        &item.names,
+        &written,
+        &mut taken,
+    )?;
+    check_setters(&taken, &names.turn, &written)?;
+    let functions = function_table(alloc, functions)?;
+    add_interface(alloc, interfaces, id, names.types, functions)?;
+    add_required(required, &names.required)?;
     Ok(())
 }
 
@@ -83,6 +113,7 @@ fn resolve_interface<'a>(
 pub(crate) fn resolve_interfaces(
     alloc: Global,
     types: &mut Entries,
+    required: &mut Vec<Required>,
     interfaces: &mut Interfaces<'_, '_, '_>,
     items: &[Item<'_, '_>],
     places: &[usize],
@@ -94,15 +125,15 @@ pub(crate) fn resolve_interfaces(
     requires index { IsIndex (cells_of interfaces.old) interfaces.old.by_name }
     ensures foreign { OnOk result (interfaces.new.foreign ≡ interfaces.old.foreign) }
     ensures front { OnOk result (length interfaces.old.foreign.now ≤ length interfaces.new.arena) }
-    ensures added { OnOk result (AddsInterfaces (front_of interfaces.old.foreign.now) types.old types.new interfaces.old.arena interfaces.new.arena (interfaces_of (in_order (map item_behind items.now) places.now))) }
+    ensures added { OnOk result (Emits required.old.items required.new.items (λ rs. AddsInterfaces (front_of interfaces.old.foreign.now) types.old types.new interfaces.old.arena interfaces.new.arena rs (interfaces_of (in_order (map item_behind items.now) places.now)))) }
     ensures index { OnOk result (IsIndex (cells_of interfaces.new) interfaces.new.by_name) }
-    ensures legal { OnOk result (AreLegalScopes (interfaces_of (in_order (map item_behind items.now) places.now))) }
+    ensures sound { OnOk result (AreSoundScopes (interfaces_of (in_order (map item_behind items.now) places.now))) }
     ensures refused { IfErr result (Refused (IsWrongNow (front_of interfaces.old.foreign.now) types.old interfaces.old.arena (map item_behind items.now) places.now)) }
 {
     for place in places {
         let item = &items[*place];
         if let Declared::Interface(interface) = item.declared {
-            resolve_interface(alloc, types, interfaces, item, interface.name)?;
+            resolve_interface(alloc, types, required, interfaces, item, interface.name)?;
         }
     }
     Ok(())

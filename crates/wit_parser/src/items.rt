@@ -19,8 +19,8 @@ use wit_model::AstItem as Entry;
 use wit_scope::refusal::{refuse, refuse_missing};
 use wit_scope::{FileNames, Found, Target, path_id};
 use wit_tree::tree::{
-    AstItem, Id, Include, Interface, InterfaceItem, PackageFile, TypeDef, Use, UsePath, World,
-    WorldItem,
+    AstItem, Id, Include, Interface, InterfaceItem, NamedFunc, PackageFile, TypeDef, Use, UsePath,
+    World, WorldItem,
 };
 use wit_tree::{ParseError, ParseResult};
 
@@ -47,6 +47,7 @@ enum Part<'f, 'a> {
     Defining(&'f TypeDef<'a>),
     Using(&'f Use<'a>),
     Including(&'f Include<'a>),
+    Doing(&'f NamedFunc<'a>),
 }
 
 /// A part of an interface.
@@ -56,6 +57,7 @@ fn interface_part<'f, 'a>(part: &'f InterfaceItem<'a>) -> Part<'f, 'a>
     match part {
         InterfaceItem::TypeDef(definition) => Part::Defining(definition),
         InterfaceItem::Use(used) => Part::Using(used),
+        InterfaceItem::Func(function) => Part::Doing(function),
     }
 }
 
@@ -219,6 +221,7 @@ fn add_part<'f, 'a>(
             add_used_names(names, &from, &used.names)?;
         }
         Part::Including(_) => {}
+        Part::Doing(_) => {}
     }
     Ok(())
 }

@@ -4,6 +4,7 @@
 mod deps;
 mod distinct;
 mod foreign;
+mod functions;
 mod header;
 mod interface;
 mod items;
@@ -12,6 +13,8 @@ mod order;
 pub mod resolver;
 mod scope;
 mod scope_name;
+mod setters;
+mod signatures;
 mod uses;
 mod world;
 

@@ -1,13 +1,18 @@
 //! The names of a scope as entries: those that it uses, and then its definitions.
-ghost use Rattle.std.specs.Prelude.{◌≡◌, ◌≤◌, List, [], length, IfOk, IfErr, OnOk, map};
+ghost use Rattle.std.specs.Prelude.{◌≡◌, ◌≤◌, ◌⊎◌, ◌++◌, List, [], length, IfOk, IfErr, OnOk, map};
+ghost use Rattle.std.specs.List.{flat_map};
 ghost use Rattle.wit_meaning.specs.Address.{Address};
 ghost use Rattle.wit_meaning.specs.Scope.{used};
 ghost use Rattle.wit_meaning.specs.Fault.{Fault};
-ghost use Rattle.wit_meaning.specs.Broken.{IsBrokenScope, IsFoldedTwice, Refused};
+ghost use Rattle.wit_meaning.specs.Broken.{IsBrokenScope, Refused};
+ghost use Rattle.wit_meaning.specs.Repeats.{AllDiffer};
+ghost use Rattle.wit_meaning.specs.Shape.{all_handles};
+ghost use Rattle.wit_meaning.specs.Function.{SourceFunction, name_types};
+ghost use Rattle.wit_entries.specs.Requiring.{Requires};
 ghost use Rattle.wit_parser.specs.Held.{name_behind, use_behind, definition_behind, front_of, cells_of};
 ghost use Rattle.wit_parser.specs.Front.{AreNamesPlaced};
-ghost use Rattle.wit_parser.specs.Between.{AreInTurn, IsBrokenAmong, DefinesTurn, AddsTurn};
-ghost use Rattle.wit_meaning.specs.Resolving.{Cell, env_of, Defines, AreLegalBodies, HasNames, IsIndex, IsWrongScope};
+ghost use Rattle.wit_parser.specs.Between.{names_in, AreInTurn, IsBrokenAmong, IsWrongHandleIn, IsWrongHandleTurn, IsOfFunctions, IsWrongNames, DefinesTurn, AddsTurn};
+ghost use Rattle.wit_meaning.specs.Resolving.{Cell, env_of, local_names, Defines, AreLegalBodies, HasNames, IsIndex};
 
 use crate::distinct::{add_definition_ids, check_unique_names, used_ids};
 use crate::scope::ordered_definitions;
@@ -16,7 +21,7 @@ use crate::uses::{Interfaces, resolve_uses};
 use std::alloc::Global;
 use wit_entries::definitions::define;
 use wit_entries::entries::Entries;
-use wit_entries::scope::Scope;
+use wit_entries::scope::{Required, Scope};
 use wit_model::{TypeId, TypeOwner};
 use wit_tree::ParseResult;
 use wit_tree::tree::Id;
@@ -29,6 +34,8 @@ pub(crate) struct ResolvedNames<'a> {
     pub(crate) types: TextTable<TypeId>,
     /// The names in the order in which they were resolved.
     pub(crate) turn: Vec<Id<'a>>,
+    /// What handles in definitions require of types of other packages.
+    pub(crate) required: Vec<Required>,
 }
 
 /// Adds definitions that stand in their order.
@@ -39,10 +46,13 @@ fn define_all(
     definitions: &[DefinedName<'_, '_>],
 ) -> ParseResult<()>
     requires turn { AreInTurn (env_of scope.old.names) (map definition_behind definitions.now) }
+    requires differ { AllDiffer (names_in scope.old.names ++ local_names (map definition_behind definitions.now)) }
     ensures defines { OnOk result ((cs : List Cell) (s : Address) → Defines types.old types.new cs scope.old.owner s scope.old.names scope.new.names (map definition_behind definitions.now)) }
     ensures owner { OnOk result (scope.new.owner ≡ scope.old.owner) }
+    ensures listed { OnOk result (names_in scope.new.names ≡ names_in scope.old.names ++ local_names (map definition_behind definitions.now)) }
     ensures legal { OnOk result (AreLegalBodies (map definition_behind definitions.now)) }
-    ensures refused { IfErr result (Refused (IsBrokenAmong (map definition_behind definitions.now))) }
+    ensures handled { OnOk result (Requires (env_of scope.new.names) types.new (all_handles (flat_map name_types (map definition_behind definitions.now))) scope.old.required.items scope.new.required.items) }
+    ensures refused { IfErr result (Refused (λ f. IsBrokenAmong (map definition_behind definitions.now) f ⊎ IsWrongHandleIn types.old scope.old.owner scope.old.names (map definition_behind definitions.now) f)) }
 {
     for definition in definitions {
         define(alloc, types, scope, definition.definition)?;
@@ -61,9 +71,10 @@ fn resolve_types<'t, 'a>(
 ) -> ParseResult<Vec<Id<'a>>>
     requires uses { map use_behind uses.now ≡ used (map name_behind names.now) }
     requires has { HasNames (env_of scope.old.names) (used (map name_behind names.now)) }
-    ensures defines { IfOk result (λ turn. DefinesTurn types.old types.new scope.old.owner scope.old.names scope.new.names (map name_behind names.now) turn.items) }
-    ensures legal { OnOk result ((f : Fault) → IsBrokenScope (map name_behind names.now) f → IsFoldedTwice (map name_behind names.now) f) }
-    ensures refused { IfErr result (Refused (IsBrokenScope (map name_behind names.now))) }
+    requires listed { names_in scope.old.names ≡ local_names (used (map name_behind names.now)) }
+    ensures defines { IfOk result (λ turn. DefinesTurn types.old types.new scope.old.owner scope.old.names scope.new.names (map name_behind names.now) turn.items scope.old.required.items scope.new.required.items) }
+    ensures legal { OnOk result ((fns : List SourceFunction) (f : Fault) → IsBrokenScope (map name_behind names.now) fns f → IsOfFunctions (map name_behind names.now) fns f) }
+    ensures refused { IfErr result (Refused (λ f. ((fns : List SourceFunction) → IsBrokenScope (map name_behind names.now) fns f) ⊎ IsWrongHandleTurn types.old scope.old.owner scope.old.names (map name_behind names.now) f)) }
 {
     let written = definitions(alloc, names)?;
     let mut ids = used_ids(alloc, uses)?;
@@ -78,7 +89,7 @@ fn resolve_types<'t, 'a>(
 
 /// Adds the names of a scope of this owner, and what is in them.
 ///
-/// Whether two names are one once case is folded is left to the caller.
+/// Its functions, and whether two names are one once case is folded, are left to the caller.
 pub(crate) fn resolve_names<'a>(
     alloc: Global,
     types: &mut Entries,
@@ -89,19 +100,21 @@ pub(crate) fn resolve_names<'a>(
     requires index { IsIndex (cells_of interfaces.now) interfaces.now.by_name }
     requires placed { AreNamesPlaced (front_of interfaces.now.foreign.now) names.now }
     requires front { length interfaces.now.foreign.now ≤ length interfaces.now.arena }
-    ensures adds { IfOk result (λ r. AddsTurn types.old types.new (cells_of interfaces.now) owner (map name_behind names.now) r.types r.turn.items) }
-    ensures legal { OnOk result ((f : Fault) → IsBrokenScope (map name_behind names.now) f → IsFoldedTwice (map name_behind names.now) f) }
-    ensures refused { IfErr result (Refused (IsWrongScope (cells_of interfaces.now) interfaces.now.by_name (map name_behind names.now))) }
+    ensures adds { IfOk result (λ r. AddsTurn types.old types.new (cells_of interfaces.now) owner (map name_behind names.now) r.types r.turn.items r.required.items) }
+    ensures legal { OnOk result ((fns : List SourceFunction) (f : Fault) → IsBrokenScope (map name_behind names.now) fns f → IsOfFunctions (map name_behind names.now) fns f) }
+    ensures refused { IfErr result (Refused (IsWrongNames types.old (cells_of interfaces.now) interfaces.now.by_name owner (map name_behind names.now))) }
 {
     let uses = used_names(alloc, names)?;
     let mut scope = Scope {
         owner,
         names: TextTable::new(alloc),
+        required: Vec::new(alloc),
     };
     resolve_uses(alloc, types, interfaces, &mut scope, &uses)?;
     let turn = resolve_types(alloc, types, &mut scope, names, &uses)?;
     Ok(ResolvedNames {
         types: scope.names,
         turn,
+        required: scope.required,
     })
 }

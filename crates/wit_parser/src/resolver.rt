@@ -17,11 +17,12 @@ ghost use Rattle.wit_meaning.specs.Whole.{dep, IsPackage, IsFaithful};
 use crate::foreign::ForeignArenas;
 use crate::header::{is_same, mismatch};
 use crate::interface::resolve_interfaces;
-use crate::items::declared_items;
+use crate::items::{Item, declared_items};
 use crate::uses::Interfaces;
 use crate::world::{Worlds, resolve_worlds};
 use std::alloc::{AllocError, Global};
 use wit_entries::entries::Entries;
+use wit_entries::scope::Required;
 use wit_foreign::foreign_deps;
 use wit_model::{
     Arena, ForeignItems, Interface, InterfacePlace, UnresolvedPackage, World, WorldPlace,
@@ -64,12 +65,14 @@ fn check_header(
     Ok(())
 }
 
-/// The interfaces and the worlds of files, and where types of other packages are first used.
+/// The interfaces and the worlds of files, where types of other packages are first used, and which of
+/// these have to be resources.
 #[derive(Drop)]
 struct Resolved {
     interfaces: Arena<Interface, InterfacePlace>,
     worlds: Arena<World, WorldPlace>,
     unknown_type_spans: Vec<Span>,
+    required: Vec<Required>,
 }
 
 /// Adds the interfaces and worlds of files with these names, and their types, to nothing.
@@ -83,13 +86,14 @@ fn resolve_files<'f, 'a>(
     requires names { AreNamesOf files.now names.now }
     requires order { IsOrder (item_rows files.now) names.now.order.items }
     requires legal { (f : Fault) → IsBrokenNames files.now f → ⊥ }
-    ensures added { IfOk result (λ r. AddsFiles files.now types.new r.interfaces r.worlds) }
+    ensures added { IfOk result (λ r. AddsFiles files.now types.new r.interfaces r.worlds r.required.items) }
     ensures unknown { IfOk result (λ r. r.unknown_type_spans.items ≡ map (λ t. t.id.span) (first_takings files.now)) }
     ensures refused { IfErr result (Refused (IsBroken files.now)) }
 {
     let mut front = ForeignArenas::of_items(alloc, names.foreign())?;
-    let items = declared_items(alloc, names, &front.entries, files)?;
-    front.take_all(alloc, types, &items)?;
+    let mut items = declared_items(alloc, names, &front.entries, files)?;
+    let lent: &mut [Item<'_, '_>] = &mut items;
+    front.take_all(alloc, types, lent)?;
     let ForeignArenas {
         visits,
         interfaces,
@@ -102,35 +106,56 @@ fn resolve_files<'f, 'a>(
         arena: interfaces,
         by_name: TextTable::new(alloc),
     };
-    resolve_interfaces(alloc, types, &mut interfaces, &items, names.item_order())?;
+    let mut required = Vec::new(alloc);
+    resolve_interfaces(
+        alloc,
+        types,
+        &mut required,
+        &mut interfaces,
+        lent,
+        names.item_order(),
+    )?;
     let mut worlds = Worlds {
         entries: &entries,
         arena: worlds,
         by_name: TextTable::new(alloc),
     };
-    resolve_worlds(alloc, types, names, &interfaces, &mut worlds, &items)?;
+    resolve_worlds(
+        alloc,
+        types,
+        &mut required,
+        names,
+        &interfaces,
+        &mut worlds,
+        lent,
+    )?;
     Ok(Resolved {
         interfaces: interfaces.arena,
         worlds: worlds.arena,
         unknown_type_spans: spans,
+        required,
     })
 }
 
-/// What files with these names name of other packages, whose types are first used at these spans.
+/// What files with these names name of other packages, whose types are first used at these spans, and
+/// these have to be resources.
 fn foreign_items(
     alloc: Global,
     names: &FileNames<'_, '_>,
     unknown_type_spans: Vec<Span>,
+    required: Vec<Required>,
 ) -> Result<ForeignItems, AllocError>
     ensures deps { IfOk result (λ foreign. (files : List TheFile) → AreNamesOf files names.now → foreign.deps ≡ map (dep files) (foreign_packages files)) }
     ensures spans { IfOk result (λ foreign. (files : List TheFile) → AreNamesOf files names.now → foreign.dep_spans ≡ map (λ v. v.of.span) (foreign_packages files)) }
     ensures unknown { IfOk result (λ foreign. foreign.unknown_type_spans ≡ unknown_type_spans.items) }
+    ensures required { IfOk result (λ foreign. foreign.required_resource_types ≡ required.items) }
 {
     let (deps, dep_spans) = foreign_deps(alloc, names.foreign_visits())?;
     Ok(ForeignItems {
         deps,
         dep_spans,
         unknown_type_spans: Row::from(unknown_type_spans),
+        required_resource_types: Row::from(required),
     })
 }
 
@@ -183,8 +208,10 @@ impl<'a> Resolver<'a> {
     /// interface after those that it uses, a world after those that it includes. The interfaces
     /// and the worlds each keep that order. Each has the names that it uses and then its
     /// definitions, in the least order in which each comes after those that it names; those of a
-    /// world are imports. The arena of types has what is met in the interfaces and then in the
-    /// worlds, each once, in the order of its first meeting. What the files hold in which order
+    /// world are imports. Behind them it has its functions, in source order, but that in an
+    /// interface a setter that is written before its getter stands directly behind it. The arena
+    /// of types has what is met in the interfaces and then in the worlds, each once, in the order of
+    /// its first meeting. What the files hold in which order
     /// beyond that changes nothing.
     ///
     /// # Errors
@@ -197,14 +224,21 @@ impl<'a> Resolver<'a> {
     /// - 7, 8: a path leads to no interface or world; interfaces use, or worlds include, one another
     ///   in a cycle.
     /// - 10, 11: a `use` leads to a world; an include leads to an interface.
-    /// - 12: a used name is none of the interface that it comes from.
+    /// - 12, 13: a used name is none of the interface that it comes from; it is that of a function.
     /// - 14, 17: a name stands twice in an interface or a world, to the letter or once case is folded.
+    /// - 18: a setter of an interface has no getter.
     /// - 15, 16: a name in a definition is none of its scope; definitions name one another in
     ///   a cycle.
     /// - 19, 20, 22 to 24: a record, flags, a tuple, a variant or an enum is empty.
     /// - 21: flags have more than 32 flags.
     /// - 25: two fields, flags or cases have one name once case is folded.
     /// - 26: a map's key is written as a type that no key can have.
+    /// - 27: a name in a handle ends at no resource.
+    /// - 28, 29: a name in a signature is that of a function, or of nothing.
+    /// - 36, 37: a getter has a parameter, or a setter has not just one.
+    /// - 38: two parameters have one name once case is folded.
+    /// - 39 to 42: a getter has no result; that of a setter, or of a constructor, is another than it
+    ///   has to be.
     /// - 45: a growth was refused.
     pub fn resolve(self, alloc: Global) -> ParseResult<UnresolvedPackage>
         ensures legal { OnOk result (IsLegal self.entry.files.items) }
@@ -220,7 +254,12 @@ impl<'a> Resolver<'a> {
         let mut types = Entries::new(alloc);
         let names = FileNames::gather(alloc, &self.files)?;
         let resolved = resolve_files(alloc, &mut types, &names, &self.files)?;
-        let foreign = foreign_items(alloc, &names, resolved.unknown_type_spans)?;
+        let foreign = foreign_items(
+            alloc,
+            &names,
+            resolved.unknown_type_spans,
+            resolved.required,
+        )?;
         Ok(UnresolvedPackage::new(
             package_name(alloc, header)?,
             resolved.worlds,

@@ -1,8 +1,9 @@
 //! The order in which the definitions of a scope are resolved.
-ghost use Rattle.std.specs.Prelude.{◌≡◌, map, IfOk, IfErr};
+ghost use Rattle.std.specs.Prelude.{◌≡◌, List, map, IfOk, IfErr};
 ghost use Rattle.std.specs.Bool.{MatchBool};
 ghost use Rattle.wit_order.specs.Table.{rows, IsOrder};
 ghost use Rattle.wit_meaning.specs.Scope.{needed_ids as the_needed, rows_of};
+ghost use Rattle.wit_meaning.specs.Function.{SourceFunction};
 ghost use Rattle.wit_meaning.specs.Broken.{IsBrokenScope, Refused};
 ghost use Rattle.wit_meaning.specs.Resolving.{AreDistinct};
 ghost use Rattle.wit_parser.specs.Held.{name_behind, definition_behind};
@@ -48,7 +49,7 @@ fn scope_table<'a>(
 fn scope_order(alloc: Global, names: &[ScopeName<'_, '_>]) -> ParseResult<Vec<usize>>
     requires distinct { AreDistinct (map name_behind names.now) }
     ensures order { IfOk result (λ places. IsOrder (rows_of (map name_behind names.now)) places.items) }
-    ensures refused { IfErr result (Refused (IsBrokenScope (map name_behind names.now))) }
+    ensures refused { IfErr result (Refused (λ f. (fns : List SourceFunction) → IsBrokenScope (map name_behind names.now) fns f)) }
 {
     let table = scope_table(alloc, names)?;
     match order_places(alloc, &table) {
@@ -64,7 +65,7 @@ fn sorted_definitions<'t, 'a>(
 ) -> ParseResult<Vec<DefinedName<'t, 'a>>>
     requires distinct { AreDistinct (map name_behind names.now) }
     ensures ordered { IfOk result (λ ordered. AreOrdered (map name_behind names.now) (map definition_behind ordered.items)) }
-    ensures refused { IfErr result (Refused (IsBrokenScope (map name_behind names.now))) }
+    ensures refused { IfErr result (Refused (λ f. (fns : List SourceFunction) → IsBrokenScope (map name_behind names.now) fns f)) }
 {
     let places = scope_order(alloc, names)?;
     let ordered = in_order(alloc, names, &places)?;
@@ -92,7 +93,7 @@ pub(crate) fn ordered_definitions<'t, 'a>(
 ) -> ParseResult<Vec<DefinedName<'t, 'a>>>
     requires distinct { AreDistinct (map name_behind names.now) }
     ensures ordered { IfOk result (λ ordered. AreOrdered (map name_behind names.now) (map definition_behind ordered.items)) }
-    ensures refused { IfErr result (Refused (IsBrokenScope (map name_behind names.now))) }
+    ensures refused { IfErr result (Refused (λ f. (fns : List SourceFunction) → IsBrokenScope (map name_behind names.now) fns f)) }
 {
     if need_none(alloc, names)? {
         return Ok(definitions(alloc, names)?);

@@ -1,23 +1,32 @@
 //! Names that a scope uses from interfaces.
-ghost use Rattle.std.specs.Prelude.{◌≡◌, ◌≤◌, List, [], length, map, OnOk, IfOk, IfErr};
+ghost use Rattle.std.specs.Prelude.{◌≡◌, ◌≤◌, ◌↔◌, List, [], Contains, length, map, OnOk, IfOk, IfErr, IsTrue};
+ghost use Rattle.std.specs.List.{flat_map};
+ghost use Rattle.std.specs.Option.{option_copied, option_to_list};
 ghost use Rattle.wit_tree.specs.Refusal.{IsWantOfMemory};
 ghost use Rattle.wit_tree.specs.declared.tree.Id.{Id as TheId};
 ghost use Rattle.wit_meaning.specs.Address.{Address, InterfaceNamed};
 ghost use Rattle.wit_meaning.specs.Source.{ScopeName};
 ghost use Rattle.wit_meaning.specs.Scope.{used};
 ghost use Rattle.wit_meaning.specs.Broken.{Refused};
+ghost use Rattle.wit_meaning.specs.Function.{SourceFunction};
+ghost use Rattle.wit_meaning.specs.Functions.{freestanding_names};
+ghost use Rattle.wit_parser.specs.Between.{names_in, IsUnstated};
 ghost use Rattle.wit_parser.specs.Held.{source_behind, use_behind, front_of, cells_of, IsPlaced, ArePlaced};
-ghost use Rattle.wit_meaning.specs.Resolving.{cell_at, env_of, Defines, HasNames, IsIndex, IsFound, IsUnresolved, IsUsed, IsWrongUse, IsWrongScope};
+ghost use Rattle.wit_meaning.specs.Resolving.{cell_at, env_of, free_functions, local_names, Defines, HasNames, IsIndex, IsFound, IsUnresolved, IsUsed, IsWrongUse, IsWrongScope};
 
 use crate::distinct::defined_twice;
 use crate::scope_name::{Source, UsedName, local_of};
-use std::alloc::Global;
+use std::alloc::{AllocError, Global};
 use wit_entries::entries::Entries;
 use wit_entries::scope::Scope;
-use wit_model::{Arena, Interface, InterfaceId, InterfacePlace, Type, TypeDefKind};
+use wit_model::{
+    Arena, Function, FunctionKind, Interface, InterfaceId, InterfacePlace, Type, TypeDefKind,
+};
+use wit_names::front::behind;
 use wit_scope::ForeignVisit;
-use wit_scope::refusal::{refuse, refuse_missing};
-use wit_tree::ParseResult;
+use wit_scope::refusal::{refuse, refuse_in, refuse_missing};
+use wit_tree::tree::Id;
+use wit_tree::{ParseError, ParseResult};
 use wit_values::TextTable;
 
 /// The interfaces that are resolved, and the places of the declared ones by their names.
@@ -53,6 +62,61 @@ fn used_interface<'i>(
     }
 }
 
+/// The written name of a function that is one by itself.
+fn free_name(function: &Function) -> Option<&str>
+    ensures { option_to_list (option_copied result) ≡ freestanding_names function.now.kind function.now.name }
+{
+    let called = function.name.as_str();
+    match function.kind {
+        FunctionKind::Freestanding | FunctionKind::AsyncFreestanding => Some(called),
+        FunctionKind::Getter => behind(called, "[get]"),
+        FunctionKind::Setter => behind(called, "[set]"),
+        _ => None,
+    }
+}
+
+/// Whether a function is one by itself, of this written name.
+fn is_called(function: &Function, name: &str) -> bool
+    ensures { IsTrue result ↔ Contains (freestanding_names function.now.kind function.now.name) name.now }
+{
+    match free_name(function) {
+        Some(written) => written == name,
+        None => false,
+    }
+}
+
+/// Whether a function of an interface, one by itself, has a name.
+fn has_function(functions: &TextTable<Function>, name: &str) -> bool
+    ensures { IsTrue result ↔ Contains (flat_map (λ f. freestanding_names f.1.kind f.1.name) functions.now) name.now }
+{
+    for place in 0..functions.len() {
+        if let Some((_, function)) = functions.get_index(place) {
+            if is_called(function, name) {
+                return true;
+            }
+        }
+    }
+    false
+}
+
+/// The words for a function that is used as a name.
+fn function_used(alloc: Global, name: &str) -> Result<String, AllocError> {
+    format!(in alloc; "cannot import function `{name}`")
+}
+
+/// The refusal of a used name that is none of the interface's: that of a function (13), or of
+/// nothing (12).
+#[cold]
+#[inline(never)]
+fn refuse_used(alloc: Global, interface: &Interface, name: Id<'_>) -> ParseError
+    ensures { Refused (IsUnstated (free_functions interface.now) name.entry) result }
+{
+    if has_function(&interface.functions, name.name) {
+        return refuse_in(13, name.span, function_used(alloc, name.name));
+    }
+    refuse_missing(alloc, 12, "name", name)
+}
+
 /// Adds a name that is used from an interface.
 fn resolve_use(
     alloc: Global,
@@ -66,13 +130,14 @@ fn resolve_use(
     requires front { length interfaces.now.foreign.now ≤ length interfaces.now.arena }
     ensures used { OnOk result (IsUsed types.old types.new (cells_of interfaces.now) scope.old.owner scope.old.names scope.new.names (source_behind used.now.from) used.now.name.now) }
     ensures owner { OnOk result (scope.new.owner ≡ scope.old.owner) }
+    ensures required { scope.new.required ≡ scope.old.required }
     ensures refused { IfErr result (Refused (IsWrongUse (cells_of interfaces.now) interfaces.now.by_name scope.old.names (source_behind used.now.from) used.now.name.now)) }
 {
     let name = used.name;
     let interface = used_interface(alloc, interfaces, &used.from)?;
     let original = match interface.types.get(name.name.name) {
         Some(original) => *original,
-        None => return Err(refuse_missing(alloc, 12, "name", name.name)),
+        None => return Err(refuse_used(alloc, interface, name.name)),
     };
     let local = local_of(name);
     if scope.names.get(local.name).is_some() {
@@ -98,8 +163,10 @@ pub(crate) fn resolve_uses(
     requires empty { scope.old.names ≡ [] }
     ensures defines { OnOk result ((s : Address) → Defines types.old types.new (cells_of interfaces.now) scope.old.owner s scope.old.names scope.new.names (map use_behind uses.now)) }
     ensures owner { OnOk result (scope.new.owner ≡ scope.old.owner) }
+    ensures listed { OnOk result (names_in scope.new.names ≡ local_names (map use_behind uses.now)) }
+    ensures required { scope.new.required ≡ scope.old.required }
     ensures has { OnOk result (HasNames (env_of scope.new.names) (map use_behind uses.now)) }
-    ensures refused { IfErr result (λ e. (xs : List ScopeName) → map use_behind uses.now ≡ used xs → Refused (IsWrongScope (cells_of interfaces.now) interfaces.now.by_name xs) e) }
+    ensures refused { IfErr result (λ e. (xs : List ScopeName) → map use_behind uses.now ≡ used xs → Refused (λ f. (fns : List SourceFunction) → IsWrongScope (cells_of interfaces.now) interfaces.now.by_name xs fns f) e) }
 {
     for name in uses {
         resolve_use(alloc, types, interfaces, scope, name)?;

@@ -13,26 +13,31 @@ ghost use Rattle.wit_meaning.specs.Scope.{in_order, worlds_of};
 ghost use Rattle.wit_meaning.specs.Fault.{Fault};
 ghost use Rattle.wit_meaning.specs.Broken.{IsBrokenScope, Refused};
 ghost use Rattle.wit_meaning.specs.Whole.{renamed, IsInclude, AreIncludes, type_imports as the_imports};
-ghost use Rattle.wit_meaning.specs.Resolving.{IsIndex, IsWorldIndex, IsLostInclude, IsWrongWorld};
+ghost use Rattle.wit_meaning.specs.Resolving.{IsIndex, IsWorldIndex, IsLostInclude};
+ghost use Rattle.wit_types.specs.declared.types.TypeOwner.TheVariants.{World as WorldOwner};
+ghost use Rattle.wit_meaning.specs.Function.{functions as the_functions};
 ghost use Rattle.wit_meaning.specs.Repeats.{AllDiffer};
-ghost use Rattle.wit_meaning.specs.Resolved.{worlds_at, AddsWorld, AddsWorlds, AreLegalScopes};
+ghost use Rattle.wit_meaning.specs.Resolved.{worlds_at, AddsWorld, AddsWorlds, AreSoundScopes, IsNameless, IsWrongWorld};
 ghost use Rattle.wit_parser.specs.Held.{front_of, cells_of};
 ghost use Rattle.wit_parser.specs.Items.{item_behind, names_behind, AreNamesAt, HasFile, HasItem, HasPart, IsNamedAt, AreFiled, HasFiles, AreEntriesOf, others_of, world_entry, world_at};
 ghost use Rattle.wit_parser.specs.Front.{AreNamesPlaced, AreItemsPlaced};
-ghost use Rattle.wit_parser.specs.Between.{IsLost, IsAddedWorld, IsWrongWorldNow};
+ghost use Rattle.wit_parser.specs.Between.{Emits, IsLost, IsAddedWorld, IsWrongWorldNow};
 
-use crate::distinct::check_folded_names;
+use crate::functions::{add_function_imports, held_functions};
+use crate::interface::add_required;
 use crate::items::{Declared, Item, entry_of};
 use crate::names::resolve_names;
+use crate::signatures::resolve_signatures;
 use crate::uses::Interfaces;
 use std::alloc::{AllocError, Global};
 use wit_entries::entries::Entries;
+use wit_entries::scope::Required;
 use wit_model::{
     Arena, AstItem as Entry, Docs, IncludeName, Stability, TypeId, TypeOwner, World, WorldId,
     WorldInclude, WorldItem, WorldKey, WorldPlace,
 };
 use wit_scope::refusal::refuse;
-use wit_scope::{FileNames, Target, path_id};
+use wit_scope::{FileNames, NameScope, Target, path_id};
 use wit_tree::ParseResult;
 use wit_tree::tree::{self, Id, UsePath};
 use wit_values::{Row, Table, Text, TextTable};
@@ -217,10 +222,12 @@ fn add_world(
     Ok(())
 }
 
-/// Adds a world with its names, and what is in them, and its includes.
+/// Adds a world with its names, and what is in them, its includes, and the functions of its
+/// resources.
 fn resolve_world<'f, 'a>(
     alloc: Global,
     types: &mut Entries,
+    required: &mut Vec<Required>,
     files: &FileNames<'f, 'a>,
     interfaces: &Interfaces<'_, '_, '_>,
     worlds: &mut Worlds<'_>,
@@ -238,17 +245,28 @@ fn resolve_world<'f, 'a>(
     requires worlds_front { length (others_of files.now) ≤ length worlds.old.arena }
     requires worlds_index { IsWorldIndex (worlds_at (others_of files.now) worlds.old.arena) worlds.old.by_name }
     ensures entries { OnOk result (worlds.new.entries ≡ worlds.old.entries) }
-    ensures added { OnOk result (AddsWorld (front_of interfaces.now.foreign.now) (others_of files.now) interfaces.now.arena types.old types.new worlds.old.arena worlds.new.arena (item_behind item.now)) }
+    ensures added { OnOk result (Emits required.old.items required.new.items (λ rs. AddsWorld (front_of interfaces.now.foreign.now) (others_of files.now) interfaces.now.arena types.old types.new worlds.old.arena worlds.new.arena rs (item_behind item.now))) }
     ensures index { OnOk result (IsWorldIndex (worlds_at (others_of files.now) worlds.new.arena) worlds.new.by_name) }
-    ensures legal { OnOk result ((f : Fault) → IsBrokenScope (the_names (item_behind item.now)) f → ⊥) }
-    ensures refused { IfErr result (λ e. (fs : List TheFile) → AreNamesAt fs files.now item.now.place item.now.file.now → Refused (IsWrongWorld fs (cells_of interfaces.now) interfaces.now.by_name worlds.old.by_name (item_behind item.now)) e) }
+    ensures sound { OnOk result ((f : Fault) → IsBrokenScope (the_names (item_behind item.now)) (the_functions (item_behind item.now)) f → IsNameless (the_names (item_behind item.now)) (the_functions (item_behind item.now))) }
+    ensures refused { IfErr result (λ e. (fs : List TheFile) → AreNamesAt fs files.now item.now.place item.now.file.now → Refused (IsWrongWorld fs types.old (cells_of interfaces.now) interfaces.now.by_name worlds.old.by_name (WorldOwner (length worlds.old.arena)) (item_behind item.now)) e) }
 {
     let owner = TypeOwner::World(worlds.arena.next_id());
-    let names = resolve_names(alloc, types, interfaces, owner, &item.names)?;
+    let mut names = resolve_names(alloc, types, interfaces, owner, &item.names)?;
     let includes = resolve_includes(alloc, files, worlds, item.place, world)?;
-    check_folded_names(alloc, &names.turn)?;
-    let imports = type_imports(alloc, &names.turn, &names.types)?;
+    let written = held_functions(alloc, item.declared)?;
+    let mut taken = NameScope::new(alloc);
+    let functions = resolve_signatures(
+        alloc,
+        types,
+        &mut names,
+        &item.names,
+        &written,
+        &mut taken,
+    )?;
+    let mut imports = type_imports(alloc, &names.turn, &names.types)?;
+    add_function_imports(&mut imports, functions)?;
     add_world(alloc, worlds, world.name, imports, includes)?;
+    add_required(required, &names.required)?;
     Ok(())
 }
 
@@ -256,6 +274,7 @@ fn resolve_world<'f, 'a>(
 pub(crate) fn resolve_worlds<'f, 'a>(
     alloc: Global,
     types: &mut Entries,
+    required: &mut Vec<Required>,
     files: &FileNames<'f, 'a>,
     interfaces: &Interfaces<'_, '_, '_>,
     worlds: &mut Worlds<'_>,
@@ -270,14 +289,16 @@ pub(crate) fn resolve_worlds<'f, 'a>(
     requires entries { AreEntriesOf files.now worlds.old.entries.now }
     requires worlds_front { length (others_of files.now) ≤ length worlds.old.arena }
     requires worlds_index { IsWorldIndex (worlds_at (others_of files.now) worlds.old.arena) worlds.old.by_name }
-    ensures added { OnOk result (AddsWorlds (front_of interfaces.now.foreign.now) (others_of files.now) interfaces.now.arena types.old types.new worlds.old.arena worlds.new.arena (worlds_of (in_order (map item_behind items.now) files.now.order.items))) }
-    ensures legal { OnOk result (AreLegalScopes (worlds_of (in_order (map item_behind items.now) files.now.order.items))) }
+    ensures added { OnOk result (Emits required.old.items required.new.items (λ rs. AddsWorlds (front_of interfaces.now.foreign.now) (others_of files.now) interfaces.now.arena types.old types.new worlds.old.arena worlds.new.arena rs (worlds_of (in_order (map item_behind items.now) files.now.order.items)))) }
+    ensures sound { OnOk result (AreSoundScopes (worlds_of (in_order (map item_behind items.now) files.now.order.items))) }
     ensures refused { IfErr result (λ e. (fs : List TheFile) → AreFiled fs files.now items.now → Refused (IsWrongWorldNow fs (front_of interfaces.now.foreign.now) (others_of files.now) types.old interfaces.now.arena interfaces.now.by_name worlds.old.arena (map item_behind items.now) files.now.order.items) e) }
 {
     for place in files.item_order() {
         let item = &items[*place];
         if let Declared::World(world) = item.declared {
-            resolve_world(alloc, types, files, interfaces, worlds, item, world)?;
+            resolve_world(
+                alloc, types, required, files, interfaces, worlds, item, world,
+            )?;
         }
     }
     Ok(())

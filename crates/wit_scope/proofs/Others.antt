@@ -48,6 +48,7 @@ flat_mapped g f (x ∷ xs) = ap (λ l. g (f x) ++ l) (flat_mapped g f xs)
 of_part : (owner : Id) (p : InterfaceItem) → flat_map foreign_of (part_visits owner p) ≡ the_part_visits (interface_part p)
 of_part owner (interface_item.TypeDef d) = refl
 of_part owner (interface_item.Use u) = append-nil (path_visits false u.from)
+of_part owner (interface_item.Func f) = refl
 
 of_world_part : (owner : Id) (p : WorldItem) → flat_map foreign_of (world_part_visits owner p) ≡ the_part_visits (world_part p)
 of_world_part owner (world_item.TypeDef d) = refl

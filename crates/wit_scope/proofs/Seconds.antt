@@ -3,7 +3,7 @@ use Rattle.std.proofs.Common.{ℕ, ◌<◌, List, take, Some, sym, ap, ◌∙◌
 use Rattle.std.specs.Prelude.{map}
 use Rattle.wit_tree.specs.declared.tree.Id.{Id}
 use Rattle.wit_meaning.proofs.Lists.{map_at}
-use Rattle.wit_meaning.specs.Broken.{folded}
+use Rattle.wit_meaning.specs.Bodies.{folded}
 use Rattle.wit_meaning.specs.Repeats.{IsRepeatAt, AllDiffer}
 use Rattle.wit_meaning.proofs.Repeated.{key_at}
 use Rattle.wit_scope.specs.Names.{IsSecond}

@@ -10,7 +10,8 @@ use Rattle.wit_tree.specs.declared.tree.PackageFile.{PackageFile}
 use Rattle.wit_meaning.specs.Source.{TopName, Target, Local, path_target, leads, top_names, top_text, Item, parts, file_items, item_named}
 use Rattle.wit_meaning.specs.Scope.{needed_path, local_target}
 use Rattle.wit_meaning.specs.Fault.{Fault, fault, missing_at, item_word}
-use Rattle.wit_meaning.specs.Broken.{IsRepeated, IsDuplicateTopName, IsMissingOriginal}
+use Rattle.wit_meaning.specs.Bodies.{IsRepeated}
+use Rattle.wit_meaning.specs.Broken.{IsDuplicateTopName, IsMissingOriginal}
 use Rattle.wit_meaning.specs.Repeats.{AllDiffer}
 
 -- an earlier one of these names at the top of a file is the same

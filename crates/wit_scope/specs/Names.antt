@@ -4,7 +4,7 @@ use Rattle.wit_names.specs.Folded.{folded_key}
 use Rattle.wit_names.specs.Setter.{getter_of, is_setter}
 use Rattle.wit_values.specs.declared.span.Span.{Span}
 use Rattle.wit_tree.specs.declared.tree.Id.{Id}
-use Rattle.wit_meaning.specs.Broken.{folded}
+use Rattle.wit_meaning.specs.Bodies.{folded}
 use Rattle.wit_meaning.specs.Fault.{Fault, fault}
 
 -- an earlier name is the one at this place once case is folded

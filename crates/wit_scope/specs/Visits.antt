@@ -8,7 +8,7 @@ use Rattle.wit_tree.specs.declared.tree.UsePath.{UsePath}
 use Rattle.wit_tree.specs.declared.tree.UseName.{UseName}
 use Rattle.wit_tree.specs.declared.tree.Interface.{Interface}
 use Rattle.wit_tree.specs.declared.tree.InterfaceItem.{InterfaceItem}
-use Rattle.wit_tree.specs.declared.tree.InterfaceItem.TheVariants.{TypeDef as TypeItem, Use as UseItem}
+use Rattle.wit_tree.specs.declared.tree.InterfaceItem.TheVariants.{TypeDef as TypeItem, Use as UseItem, Func as FuncItem}
 use Rattle.wit_tree.specs.declared.tree.World.{World}
 use Rattle.wit_tree.specs.declared.tree.WorldItem.{WorldItem}
 use Rattle.wit_tree.specs.declared.tree.WorldItem.TheVariants as world_item
@@ -31,6 +31,7 @@ pub record Visit : Type 0 where
 abbrev pub part_visits : Id → InterfaceItem → List Visit
 part_visits owner (TypeItem d) = []
 part_visits owner (UseItem u) = record { owner = Some owner; path = u.from; names = Some u.names.items; wanted = wanted.Interface } ∷ []
+part_visits owner (FuncItem f) = []
 
 abbrev pub interface_visits : Interface → List Visit
 interface_visits i = flat_map (part_visits i.name) i.items.items

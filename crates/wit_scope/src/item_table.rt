@@ -29,7 +29,7 @@ fn add_use<'a>(
     ensures refused { IfErr result (λ e. (top : List Top) (is : List Item) → AreNamed top paths.entry.top.now → AreDeclared is paths.entry.declared.now → Refused (IsLostAmong is top (use_path (interface_part part.now))) e) }
 {
     match part {
-        InterfaceItem::TypeDef(_) => {}
+        InterfaceItem::TypeDef(_) | InterfaceItem::Func(_) => {}
         InterfaceItem::Use(used) => {
             add_edge(alloc, paths, edges, &used.from)?;
         }

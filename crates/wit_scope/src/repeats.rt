@@ -6,7 +6,7 @@ ghost use Rattle.std.specs.List.{list_any};
 ghost use Rattle.std.specs.Map.{lookup};
 ghost use Rattle.indexmap.specs.IndexMap.{insert_entry};
 ghost use Rattle.wit_scope.specs.Lent.{lent_entries};
-ghost use Rattle.wit_meaning.specs.Broken.{folded};
+ghost use Rattle.wit_meaning.specs.Bodies.{folded};
 ghost use Rattle.wit_meaning.specs.Repeats.{IsRepeatAt, AllDiffer};
 
 use indexmap::IndexMap;

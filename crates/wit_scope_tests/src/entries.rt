@@ -7,7 +7,7 @@ use std::test::Fail;
 use wit_entries::definitions::define;
 use wit_entries::entries::Entries;
 use wit_entries::scope::Scope;
-use wit_model::{Arena, InterfacePlace, Type, TypeDef, TypeDefKind, TypeOwner, TypePlace};
+use wit_model::{Arena, Handle, InterfacePlace, Type, TypeDef, TypeDefKind, TypeOwner, TypePlace};
 use wit_scope::refusal::{refuse, refuse_cycle, refuse_missing, refuse_missing_type};
 use wit_tree::tree::{self, Field, Id, TypeBody};
 use wit_tree::{ParseError, ParseResult, Span};
@@ -49,8 +49,15 @@ fn refuses_in_words(rt: HostRuntime) -> Result<(), Fail> {
     check_words(&rt, alloc, old, RENAMED)
 }
 
-/// The type that a word stands for: `u8`, a name, or a list of one, where the word ends in `*`.
+/// The type that a word stands for: `u8`, a name, a list of one, where the word ends in `*`, or a
+/// resource that is lent, behind `&`, or handed over, behind `!`.
 fn written<'a>(rt: &impl Abort, alloc: Global, word: &'a str) -> ParseResult<tree::Type<'a>> {
+    if let Some(name) = word.strip_prefix("&") {
+        return Ok(tree::Type::Borrow(HERE, id(rt, name)));
+    }
+    if let Some(name) = word.strip_prefix("!") {
+        return Ok(tree::Type::Own(HERE, id(rt, name)));
+    }
     match word.strip_suffix("*") {
         Some("u8") => Ok(tree::Type::List(HERE, Box::new(alloc, tree::Type::U8(HERE))?)),
         Some(name) => Ok(tree::Type::List(HERE, Box::new(alloc, tree::Type::Name(id(rt, name)))?)),
@@ -59,8 +66,12 @@ fn written<'a>(rt: &impl Abort, alloc: Global, word: &'a str) -> ParseResult<tre
     }
 }
 
-/// The body that a text writes: a type, or behind `:` fields with their types.
+/// The body that a text writes: a type, `+` for a resource, or behind `:` fields with their types.
 fn body<'a>(rt: &impl Abort, alloc: Global, text: &'a str) -> ParseResult<TypeBody<'a>> {
+    if text == "+" {
+        let funcs = Vec::new(alloc);
+        return Ok(TypeBody::Resource { funcs });
+    }
     let Some(rest) = text.strip_prefix(":") else {
         return Ok(TypeBody::Plain(written(rt, alloc, text)?));
     };
@@ -83,6 +94,10 @@ fn word(kind: &TypeDefKind) -> &'static str {
         TypeDefKind::List(_) => "list",
         TypeDefKind::Type_(_) => "alias",
         TypeDefKind::Record(_) => "record",
+        TypeDefKind::Resource => "resource",
+        TypeDefKind::Handle(Handle::Own(_)) => "own",
+        TypeDefKind::Handle(Handle::Borrow(_)) => "borrow",
+        TypeDefKind::Unknown => "unknown",
         _ => "other",
     }
 }
@@ -123,6 +138,13 @@ const DEFINITIONS: &str = "a|u8* => ;
 b|a => ;
 r|:f=u8* g=b h=u8* i=a* => ;
 s|:f=a* => ;
+res|+ => ;
+x|!res => ;
+al|res => ;
+y|:f=&res g=!res h=&res i=&al => ;
+t|&a => 27 type `a` used in a handle must be a resource;
+t|:f=!x => 27 type `x` used in a handle must be a resource;
+t|&gone => 15 type `gone` does not exist;
 t|gone => 15 type `gone` does not exist;
 t|: => 19 empty record;
 t|:f=u8 F=u8 => 25 field `F` conflicts with previous field `f`;
@@ -135,6 +157,7 @@ fn defines(rt: HostRuntime) -> Result<(), Fail> {
     let mut scope = Scope {
         owner: TypeOwner::Interface(Arena::<u8, InterfacePlace>::new(alloc).next_id()),
         names: TextTable::new(alloc),
+        required: Vec::new(alloc),
     };
     for row in DEFINITIONS.split(";\n") {
         let (given, want) = parts_of(&rt, row);
@@ -143,6 +166,37 @@ fn defines(rt: HostRuntime) -> Result<(), Fail> {
         assert_eq!(rt; said.as_str(), want, "at {text}");
     }
     let entries = listing(alloc, &types.into_arena())?;
-    assert!(rt; entries.as_str() == "a list u8; b alias; - list u8; - list; r record; s record; ");
+    assert_eq!(rt;
+        entries.as_str(),
+        "a list u8; b alias; - list u8; - list; r record; s record; res resource; x own; al alias; - borrow; - borrow; y record; "
+    );
+    assert!(rt; scope.required.is_empty());
+    Ok(())
+}
+
+#[test]
+fn requires_resources_of_other_packages(rt: HostRuntime) -> Result<(), Fail> {
+    let alloc = rt.alloc();
+    let owner = TypeOwner::Interface(Arena::<u8, InterfacePlace>::new(alloc).next_id());
+    let mut types = Entries::new(alloc);
+    let mut scope = Scope {
+        owner,
+        names: TextTable::new(alloc),
+        required: Vec::new(alloc),
+    };
+    scope.declare(alloc, &mut types, "far", HERE, TypeDefKind::Unknown)?;
+    let said = defined(&rt, alloc, &mut types, &mut scope, "near", "far")?;
+    assert_eq!(rt; said.as_str(), "");
+    let said = defined(&rt, alloc, &mut types, &mut scope, "r", ":f=&near g=!far")?;
+    assert_eq!(rt; said.as_str(), "");
+    assert_eq!(rt; scope.required.len(), 2);
+    for (place, span) in &scope.required {
+        assert!(rt; place.index() == 0 && *span == HERE);
+    }
+    let entries = listing(alloc, &types.into_arena())?;
+    assert_eq!(rt;
+        entries.as_str(),
+        "far unknown; near alias; - borrow; r record; "
+    );
     Ok(())
 }

@@ -1,8 +1,9 @@
 //! The names of files.
 //!
-//! A file is written as words: `i:a,b` is an interface `i` that uses from `a` and `b`, `w!a,.b` a
-//! world `w` that includes `a` and uses from `b`, `x=a` a `use` of `a` as `x`. A path `q/a` is of a
-//! package `p:q`, and `q/a@1.0.0` of its version. A `|` stands between files. Names have their numbers as spans.
+//! A file is written as words: `i:a,b` is an interface `i` that uses from `a` and `b`, where `f()`
+//! in place of a path is a function, `w!a,.b` a world `w` that includes `a` and uses from `b`, `x=a`
+//! a `use` of `a` as `x`. A path `q/a` is of a package `p:q`, and `q/a@1.0.0` of its version. A `|`
+//! stands between files. Names have their numbers as spans.
 
 ghost use Rattle.wit_scope.specs.FileNames.{AreNamesOf};
 
@@ -13,8 +14,8 @@ use std::test::Fail;
 use wit_scope::{FileNames, ForeignVisit, Found};
 use wit_tree::Span;
 use wit_tree::tree::{
-    AstItem, DeclList, Id, Include, Interface, InterfaceItem, PackageFile, PackageName,
-    ToplevelUse, Use, UsePath, World, WorldItem,
+    AstItem, DeclList, Func, FuncForm, Id, Include, Interface, InterfaceItem, NamedFunc,
+    PackageFile, PackageName, ToplevelUse, Use, UsePath, World, WorldItem,
 };
 
 /// The next label.
@@ -43,7 +44,30 @@ fn path<'a>(alloc: Global, word: &'a str, number: &mut u32) -> Result<UsePath<'a
     Ok(UsePath::Package { id, name })
 }
 
-/// An interface that uses from what some paths lead to.
+/// A function without parameters and without a result.
+fn function<'a>(alloc: Global, name: &'a str, number: &mut u32) -> Result<InterfaceItem<'a>, Fail> {
+    Ok(InterfaceItem::Func(NamedFunc {
+        name: label(name, number)?,
+        func: Func {
+            span: Span::default(),
+            form: FuncForm::Plain,
+            params: Vec::new(alloc),
+            result: None,
+        },
+    }))
+}
+
+/// A part of an interface: a function, or a `use` of what a path leads to.
+fn part<'a>(alloc: Global, word: &'a str, number: &mut u32) -> Result<InterfaceItem<'a>, Fail> {
+    if let Some(name) = word.strip_suffix("()") {
+        return Ok(function(alloc, name, number)?);
+    }
+    let from = path(alloc, word, number)?;
+    let names = Vec::new(alloc);
+    Ok(InterfaceItem::Use(Use { from, names }))
+}
+
+/// An interface with functions, and that uses from what some paths lead to.
 fn interface<'a>(
     alloc: Global,
     name: &'a str,
@@ -54,9 +78,7 @@ fn interface<'a>(
     let mut items = Vec::new(alloc);
     for word in paths.split(',') {
         if !word.is_empty() {
-            let from = path(alloc, word, number)?;
-            let names = Vec::new(alloc);
-            items.push(InterfaceItem::Use(Use { from, names }))?;
+            items.push(part(alloc, word, number)?)?;
         }
     }
     Ok(AstItem::Interface(Interface { name, items }))
@@ -147,6 +169,9 @@ a:b b:c c: => 2 1 0 ;
 c: a:b | b:c => 0 2 1 ;
 x=b a:x | b: => 1 0 ;
 a:q/b b:q/a => 0 1 ;
+a:b(),f() b: => 0 1 ;
+a:f(),b,g() b:a() => 1 0 ;
+a:f(),z => E7 2 interface or world `z` does not exist;
 x=q/b a:x,b b:x => 1 0 ;
 a: x=z x=z | b: a: => E5 6 duplicate item named `a`;
 a:z x=a x=a => E6 4 duplicate name `x` in this file;
@@ -245,6 +270,7 @@ fn paths_lead_to_items(rt: HostRuntime) -> Result<(), Fail> {
 const VISITS: &str = "a: => / ;
 a:q/b w!q/b => b:false b:true / b:false ;
 w!q/b a:q/b => b:true b:false / b:true ;
+a:f(),q/b,g() => b:false / b:false ;
 a:q/b@1.0.0,q/b@1.0.0-x,q/b => b:false b:false b:false / b:false b:false b:false ;
 x=q/c a:r/c,q/c | w!q/d y=r/c => c:false c:false c:false d:true c:false / c:false c:false d:true ";
 

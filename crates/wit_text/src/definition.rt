@@ -109,6 +109,7 @@ impl<'a> Reader<'a> {
             Kind::Word(Word::Flags) => self.read_flags_definition(),
             Kind::Word(Word::Variant) => self.read_variant(),
             Kind::Word(Word::Enum) => self.read_enum(),
+            Kind::Word(Word::Resource) => self.read_resource(),
             _ => Err(self.refuse(ReadFault::Token)),
         }
     }
@@ -121,6 +122,10 @@ impl<'a> Reader<'a> {
         if self.at_word(Word::Use) {
             let names = self.read_use()?;
             return Ok(InterfaceItem::Use(names));
+        }
+        if self.at(Kind::Name) {
+            let func = self.read_named_func()?;
+            return Ok(InterfaceItem::Func(func));
         }
         let definition = self.read_definition()?;
         Ok(InterfaceItem::TypeDef(definition))

@@ -3,9 +3,12 @@
 
 mod definition;
 mod file;
+mod function;
+mod handle;
 mod members;
 mod primitive;
 mod reader;
+mod resource;
 mod types;
 mod uses;
 mod version;

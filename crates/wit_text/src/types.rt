@@ -15,7 +15,7 @@ use wit_tree::{ParseError, ParseResult, Span};
 /// How many levels of types are read.
 pub const MOST_NESTED: u8 = 100;
 
-/// Whether a word begins a type with parts.
+/// Whether a word begins a type that is no primitive.
 fn is_form(word: Word) -> bool {
     matches!(
         word,
@@ -26,6 +26,8 @@ fn is_form(word: Word) -> bool {
             | Word::Tuple
             | Word::Future
             | Word::Stream
+            | Word::Own
+            | Word::Borrow
     )
 }
 
@@ -134,6 +136,8 @@ impl<'a> Reader<'a> {
             Kind::Word(Word::Tuple) => self.read_tuple(left - 1),
             Kind::Word(Word::Future) => self.read_future(left - 1),
             Kind::Word(Word::Stream) => self.read_stream(left - 1),
+            Kind::Word(Word::Own) => self.read_own(),
+            Kind::Word(Word::Borrow) => self.read_borrow(),
             Kind::Word(_) => self.read_primitive(),
             _ => {
                 let id = self.read_id()?;

@@ -64,7 +64,7 @@ fn first_body<'f, 'a>(file: &'f PackageFile<'a>) -> Option<&'f TypeBody<'a>> {
     };
     match interface.items.first()? {
         InterfaceItem::TypeDef(definition) => Some(&definition.body),
-        InterfaceItem::Use(_) => None,
+        InterfaceItem::Use(_) | InterfaceItem::Func(_) => None,
     }
 }
 
@@ -87,25 +87,33 @@ fn reads_primitives(rt: HostRuntime) -> Result<(), Fail> {
     Ok(())
 }
 
+/// Types, or what is none, that stand a hundred and one levels deep, with what ends them.
+const TYPES_TOO_DEEP: &str =
+    "|u8|> |t|> |%u8|> |list|<u8>> |map|<u8,u8>> |option|<u8>> |result|> |tuple|<>> |future|> |stream|> |own|<t>> |borrow|<u8>>";
+
+const NO_TYPES_TOO_DEEP: &str = "|>| |->|> |func|> |_|>";
+
+/// Checks each of some types inside ninety-nine lists.
+fn check_deep(rt: &impl Abort, alloc: Global, number: &str, parts: &str) -> Result<(), AllocError> {
+    let front = repeated(alloc, "interface i { type t = ", "list<", 99, "")?;
+    let back = repeated(alloc, "", ">", 99, "; }")?;
+    for part in parts.split(' ') {
+        let line = format!(in alloc; "{number}|{}list<{part}{}", front.as_str(), back.as_str())?;
+        check_refused(rt, alloc, line.as_str())?;
+    }
+    Ok(())
+}
+
 #[test]
 fn reads_a_hundred_levels(rt: HostRuntime) -> Result<(), Fail> {
     let alloc = rt.alloc();
-    let front = repeated(alloc, "interface i { type t = ", "list<", 99, "")?;
-    let back = repeated(alloc, "", ">", 99, "; }")?;
-    let front = front.as_str();
-    let back = back.as_str();
-    let read = format!(in alloc; "{front}u8{back}")?;
-    check_read(&rt, alloc, read.as_str())?;
-    for part in "|u8|> |t|> |%u8|> |list|<u8>> |map|<u8,u8>> |option|<u8>> |result|> |tuple|<>> |future|> |stream|>".split(
-        ' ',
-    ) {
-        let line = format!(in alloc; "49|{front}list<{part}{back}")?;
-        check_refused(&rt, alloc, line.as_str())?;
+    for last in "u8 own<t> borrow<t>".split(' ') {
+        let front = repeated(alloc, "interface i { type t = ", "list<", 99, last)?;
+        let read = repeated(alloc, front.as_str(), ">", 99, "; }")?;
+        check_read(&rt, alloc, read.as_str())?;
     }
-    for part in "|>| |->|> |own|<t>> |_|>".split(' ') {
-        let line = format!(in alloc; "47|{front}list<{part}{back}")?;
-        check_refused(&rt, alloc, line.as_str())?;
-    }
+    check_deep(&rt, alloc, "49", TYPES_TOO_DEEP)?;
+    check_deep(&rt, alloc, "47", NO_TYPES_TOO_DEEP)?;
     Ok(())
 }
 
@@ -125,6 +133,33 @@ fn counts_levels_of_all_forms(rt: HostRuntime) -> Result<(), Fail> {
     for part in "|u8| |t|".split(' ') {
         let line = format!(in alloc; "49|{}future<{part}>{}", front.as_str(), back.as_str())?;
         check_refused(&rt, alloc, line.as_str())?;
+    }
+    Ok(())
+}
+
+/// Files with one place for a type each, a line each: the place is the `?`.
+const PLACES: &str = "\
+interface i { f: func(a: ?); }
+interface i { f: set(a: u8) -> ?; }
+interface i { resource r { constructor(a: ?); } }
+interface i { resource r { f: static func() -> ?; } }";
+
+/// Checks that a type of a hundred levels is read in a place, and one of more is not.
+fn check_levels(rt: &impl Abort, alloc: Global, place: &str) -> Result<(), AllocError> {
+    let (front, back) = place.split_once('?').unwrap_or(("", ""));
+    let front = repeated(alloc, front, "option<", 99, "")?;
+    let back = repeated(alloc, "", ">", 99, back)?;
+    let read = format!(in alloc; "{}u8{}", front.as_str(), back.as_str())?;
+    check_read(rt, alloc, read.as_str())?;
+    let refused = format!(in alloc; "49|{}list<|own|<t>>{}", front.as_str(), back.as_str())?;
+    check_refused(rt, alloc, refused.as_str())
+}
+
+#[test]
+fn counts_levels_in_functions(rt: HostRuntime) -> Result<(), Fail> {
+    let alloc = rt.alloc();
+    for place in PLACES.split('\n') {
+        check_levels(&rt, alloc, place)?;
     }
     Ok(())
 }

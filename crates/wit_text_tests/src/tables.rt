@@ -32,7 +32,19 @@ world w { type a = u8; record r { a: u8 } flags f { a } variant v { a(u8) } enum
 use a:b/c; use a:b/c as d; use a:b/c@1.2.3; use %use : %world / %c @ 1.2.3-rc.1+b as %as;
 interface i { use a:b/c.{t}; use a:b/c@1.0.0.{t}; use a:b/c@1.0.0-rc.1.{t as s,}; use a:b/c@1.0.0+1.a.{}; }
 world w { use a:b/c.{t}; use a:b/c@1.0.0.{t}; include a:b/c; include a:b/c@1.0.0; include a:b/c@1.0.0-a with { a as b } include a:b/c with {}; }
-interface %map { flags %flags { %enum, %u8 } variant %variant { %tuple(%tuple) } enum %enum { %future } }";
+interface %map { flags %flags { %enum, %u8 } variant %variant { %tuple(%tuple) } enum %enum { %future } }
+interface i { f: func(); g: func(a: u8,); h: async func(a: u8, b: t) -> result<list<u8, 4>, t>; a: func(a: u8, a: u8) -> u8; use x.{t}; type a = u8; }
+interface i { x: get() -> u8; x: set(v: u8) -> result<_, u8>; y: get(a: u8); y: set() -> u8; z: set(a: u8, b: u8); }
+interface i { get: get() -> get; set: set(get: get, set: set); %func: func(%self: u8) -> %own; static-f: func(); async-f: async/**/func/**/(/**/)/**/->/**/u8/**/; }
+interface i { resource r; resource s {} resource %resource{constructor();constructor(a:u8,b:r,)->result<r>;constructor(a:u8)->u8;%constructor:func();} }
+interface i { resource r { m: func(); m: async func(x: borrow<r>) -> future<u8>; s: static func() -> r; s: static async func(); x: get() -> u8; x: set(v: u8); y: static get() -> u8; y: static set(v: u8); } }
+interface i { resource get { get: get(); set: static set(); %static: static func(self: u8); r: func() -> list<u8>; } type t = u8; }
+interface i { type a = own<r>; type b = list<borrow<r>>; type c = own < %own >; f: func(a: own<r>, b: option<borrow<%borrow>>) -> own<get>; }
+world w { resource r; resource s { constructor(n: u32); m: func() -> own<s>; } type t = borrow<r>; resource %import {} use x.{t}; }
+package foo:foo; interface i { resource r { constructor(n: u32); m: async func(x: borrow<r>) -> future<u8>; s: static func() -> r; } f: func(a: map<string, list<u8, 4>>) -> option<stream>; }
+package foo:foo; interface i { resource r; type a = r; f: func(x: borrow<r>, y: borrow<a>, z: own<a>); }
+package foo:foo; interface a { f: func(); } interface b { use a.{f}; }
+package foo:foo; interface i { f: func(x: f); t: func(); type t = f; resource r { m: func(self: u8); r: func(); } x: set(v: u8); }";
 
 /// Texts in three parts, a line each, behind the number under which the one in the middle is refused.
 pub const REFUSED: &str = "\
@@ -89,7 +101,9 @@ pub const REFUSED: &str = "\
 47|world w|;|
 47|world w { |import| i; }
 47|world w { |export| i; }
-47|world w { |resource| r; }
+47|world w { resource |resource|; }
+47|world w { resource r { |import| f: func(); } }
+47|world w { resource r; |constructor|(); }
 47|world w { |f|: func(); }
 47|world w { |%include| x; }
 47|world w { include |with| {} }
@@ -120,8 +134,19 @@ pub const REFUSED: &str = "\
 46|interface i { type t = list<u8, |-|1>; }
 51|interface i { type t = list<u8, |4294967296|>; }
 51|interface i { type t = list<u8, |99999999999999999999999999999999999999|>; }
-47|interface i { type t = |own|<u8>; }
-47|interface i { type t = |borrow|<u8>; }
+47|interface i { type t = own<|u8|>; }
+47|interface i { type t = own|;| }
+47|interface i { type t = own<|>|; }
+47|interface i { type t = own<|list|<r>>; }
+47|interface i { type t = own<r|,|>; }
+47|interface i { type t = own<r|;| }
+47|interface i { type t = own<|aB|>; }
+47|interface i { type t = borrow<|u8|>; }
+47|interface i { type t = borrow|;| }
+47|interface i { type t = borrow<|_|>; }
+47|interface i { type t = borrow<|borrow|<r>>; }
+47|interface i { type t = borrow<a|:|b/c>; }
+47|interface i { type t = borrow<r||
 47|interface i { type t = option|;| }
 47|interface i { type t = option<u8|,| u8>; }
 47|interface i { type t = option<|_|>; }
@@ -150,11 +175,76 @@ pub const REFUSED: &str = "\
 47|interface i { enum e { |,| } }
 47|interface i { enum e { |enum| } }
 47|interface i { type t = list<|record|>; }
-47|interface i { |resource| r; }
+47|interface i { resource |resource|; }
+47|interface i { resource r|}|
+47|interface i { resource r |(|); }
+47|interface i { resource r |=| s; }
+47|interface i { resource r {}|;| }
+47|interface i { resource r { |use| x.{t}; } }
+47|interface i { resource r { |type| t = u8; } }
+47|interface i { resource r { |resource| s; } }
+47|interface i { resource r { |static| f: func(); } }
+47|interface i { resource r { |,| } }
+47|interface i { resource r { constructor|:| func(); } }
+47|interface i { resource r { constructor|;| } }
+47|interface i { resource r { constructor() -> |;| } }
+47|interface i { resource r { constructor()|}| }
+47|interface i { resource r { %constructor|(|); } }
+47|interface i { resource r { c: |constructor|(); } }
+47|interface i { resource r { f|;| } }
+47|interface i { resource r { f: async |static| func(); } }
+47|interface i { resource r { f: static |static| func(); } }
+47|interface i { resource r { f: |%static| func(); } }
+47|interface i { resource r { f: static|;| } }
+47|interface i { resource r { f: static |u8|; } }
+47|interface i { resource r { f: func()|,| } }
+47|interface i { resource r { f: func();||
 47|interface i { type t = u8 |}|
 47|interface i { record r { a: u8 |b|: u8 } }
 47|interface i { record r { a: u8,|,| } }
-47|interface i { |f|: func(); }
+47|interface i { f|;| }
+47|interface i { f|(|); }
+47|interface i { |func|: func(); }
+47|interface i { |constructor|(); }
+47|interface i { f: |;| }
+47|interface i { f: |u8|; }
+47|interface i { f: |f|(); }
+47|interface i { f: |interface| {} }
+47|interface i { f: |%func|(); }
+47|interface i { f: |%get|() -> u8; }
+47|interface i { f: |%set|(a: u8); }
+47|interface i { f: |static| func(); }
+47|interface i { f: async |get|() -> u8; }
+47|interface i { f: async |set|(a: u8); }
+47|interface i { f: async|;| }
+47|interface i { f: func |async|(); }
+47|interface i { f: func|;| }
+47|interface i { f: get|;| }
+47|interface i { f: set|:| u8; }
+47|interface i { f: get |set|(); }
+47|interface i { f: func(|u8|); }
+47|interface i { f: func(|list|: u8); }
+47|interface i { f: func(a|)|; }
+47|interface i { f: func(a: |)|; }
+47|interface i { f: func(a: u8 |b|: u8); }
+47|interface i { f: func(a: u8,|,|); }
+47|interface i { f: func(|,|); }
+47|interface i { f: func(a: u8|;| }
+47|interface i { f: func(|_|: u8); }
+47|interface i { f: func(a: |a--b|); }
+47|interface i { f: func() |u8|; }
+47|interface i { f: func() -> |;| }
+47|interface i { f: func() -> |(|a: u8); }
+47|interface i { f: func() -> |_|; }
+47|interface i { f: func() -> u8|,| u8; }
+47|interface i { f: func() -> u8 |->| u8; }
+46|interface i { f: func() |-| u8; }
+47|interface i { f: func() |}|
+47|interface i { f: func()||
+48|interface i { f: func(|/*|); }
+51|interface i { f: func(a: list<u8, |4294967296|>); }
+51|interface i { f: func() -> list<u8, |4294967296|>; }
+47|interface i { f: func()|,| g: func(); }
 47|interface i { use x|;| }
 47|interface i { use a:b|.|{t}; }
 47|interface i { use a:b/c@1.0.0|;| }

@@ -7,7 +7,7 @@ use std::test::Fail;
 use wit_text::read_file;
 use wit_tree::tree::{AstItem, Interface, InterfaceItem, TypeBody, World, WorldItem};
 
-/// How many fields, used names or renamed names the first item of a text's first declaration has.
+/// How many fields, used names, renamed names, parameters or functions the first item of a text's first declaration has.
 fn part_count(rt: &impl Abort, alloc: Global, text: &str) -> usize {
     assert!(rt; text.len() < 1_000_000);
     match read_file(alloc, text, 0) {
@@ -27,9 +27,11 @@ fn first_part_count(interface: &Interface) -> usize {
             TypeBody::Flags { flags, .. } => flags.len(),
             TypeBody::Variant { cases, .. } => cases.len(),
             TypeBody::Enum { cases, .. } => cases.len(),
+            TypeBody::Resource { funcs } => funcs.len(),
             TypeBody::Plain(_) => 0,
         },
         Some(InterfaceItem::Use(used)) => used.names.len(),
+        Some(InterfaceItem::Func(named)) => named.func.params.len(),
         None => 0,
     }
 }
@@ -62,6 +64,22 @@ fn drops_nothing(rt: HostRuntime) -> Result<(), Fail> {
     assert_eq!(rt; part_count(&rt, alloc, names.as_str()), 300);
     let renamed = repeated(alloc, "world w { include x with { ", "a as b, ", 300, "} }")?;
     assert_eq!(rt; part_count(&rt, alloc, renamed.as_str()), 300);
+    let params = repeated(alloc, "interface i { f: func(", "a: u8, ", 300, "); }")?;
+    assert_eq!(rt; part_count(&rt, alloc, params.as_str()), 300);
+    let funcs = repeated(
+        alloc,
+        "interface i { resource r { ",
+        "f: get(); ",
+        300,
+        "} }",
+    )?;
+    assert_eq!(rt; part_count(&rt, alloc, funcs.as_str()), 300);
+    Ok(())
+}
+
+#[test]
+fn keeps_trees(rt: HostRuntime) -> Result<(), Fail> {
+    let alloc = rt.alloc();
     check_tree(
         &rt,
         alloc,
@@ -87,6 +105,18 @@ fn drops_nothing(rt: HostRuntime) -> Result<(), Fail> {
         "use %a:b/c as d; interface i { use a:b/c@1.0.0.{t}; } world w { include e : f / %g @ 2.0.0-rc.1; }",
         PATHS_TREE,
     )?;
+    check_tree(
+        &rt,
+        alloc,
+        "interface i { f: async func(a: own<r>) -> t; %x: get() -> u8; x: set(v: u8); g: func(); }",
+        FUNCS_TREE,
+    )?;
+    check_tree(
+        &rt,
+        alloc,
+        "world w { resource r { constructor(a: u8) -> r; m: func(); s: static async func(v: borrow<%r>,) -> result; } resource e; }",
+        RESOURCES_TREE,
+    )?;
     Ok(())
 }
 
@@ -104,3 +134,9 @@ const WORLD_TREE: &str =
 
 const PATHS_TREE: &str =
     "PackageFile { package_id: None, decl_list: DeclList { items: [Use(ToplevelUse { span: Span { start: 1000, end: 1003 }, item: Package { id: PackageName { span: Span { start: 1004, end: 1008 }, namespace: Id { name: \"a\", span: Span { start: 1004, end: 1006 } }, name: Id { name: \"b\", span: Span { start: 1007, end: 1008 } }, version: None }, name: Id { name: \"c\", span: Span { start: 1009, end: 1010 } } }, as_: Some(Id { name: \"d\", span: Span { start: 1014, end: 1015 } }) }), Interface(Interface { name: Id { name: \"i\", span: Span { start: 1027, end: 1028 } }, items: [Use(Use { from: Package { id: PackageName { span: Span { start: 1035, end: 1038 }, namespace: Id { name: \"a\", span: Span { start: 1035, end: 1036 } }, name: Id { name: \"b\", span: Span { start: 1037, end: 1038 } }, version: Some(Version { major: 1, minor: 0, patch: 0 }) }, name: Id { name: \"c\", span: Span { start: 1039, end: 1040 } } }, names: [UseName { name: Id { name: \"t\", span: Span { start: 1048, end: 1049 } }, as_: None }] })] }), World(World { name: Id { name: \"w\", span: Span { start: 1060, end: 1061 } }, items: [Include(Include { from: Package { id: PackageName { span: Span { start: 1072, end: 1077 }, namespace: Id { name: \"e\", span: Span { start: 1072, end: 1073 } }, name: Id { name: \"f\", span: Span { start: 1076, end: 1077 } }, version: Some(Version { major: 2, minor: 0, patch: 0, pre: Prerelease(\"rc.1\") }) }, name: Id { name: \"g\", span: Span { start: 1080, end: 1082 } } }, names: [] })] })] } }";
+
+const FUNCS_TREE: &str =
+    "PackageFile { package_id: None, decl_list: DeclList { items: [Interface(Interface { name: Id { name: \"i\", span: Span { start: 1010, end: 1011 } }, items: [Func(NamedFunc { name: Id { name: \"f\", span: Span { start: 1014, end: 1015 } }, func: Func { span: Span { start: 1023, end: 1027 }, form: Async, params: [Param { name: Id { name: \"a\", span: Span { start: 1028, end: 1029 } }, ty: Own(Span { start: 1031, end: 1034 }, Id { name: \"r\", span: Span { start: 1035, end: 1036 } }) }], result: Some(Name(Id { name: \"t\", span: Span { start: 1042, end: 1043 } })) } }), Func(NamedFunc { name: Id { name: \"x\", span: Span { start: 1045, end: 1047 } }, func: Func { span: Span { start: 1049, end: 1052 }, form: Getter, params: [], result: Some(U8(Span { start: 1058, end: 1060 })) } }), Func(NamedFunc { name: Id { name: \"x\", span: Span { start: 1062, end: 1063 } }, func: Func { span: Span { start: 1065, end: 1068 }, form: Setter, params: [Param { name: Id { name: \"v\", span: Span { start: 1069, end: 1070 } }, ty: U8(Span { start: 1072, end: 1074 }) }], result: None } }), Func(NamedFunc { name: Id { name: \"g\", span: Span { start: 1077, end: 1078 } }, func: Func { span: Span { start: 1080, end: 1084 }, form: Plain, params: [], result: None } })] })] } }";
+
+const RESOURCES_TREE: &str =
+    "PackageFile { package_id: None, decl_list: DeclList { items: [World(World { name: Id { name: \"w\", span: Span { start: 1006, end: 1007 } }, items: [TypeDef(TypeDef { name: Id { name: \"r\", span: Span { start: 1019, end: 1020 } }, body: Resource { funcs: [Constructor { span: Span { start: 1023, end: 1034 }, params: [Param { name: Id { name: \"a\", span: Span { start: 1035, end: 1036 } }, ty: U8(Span { start: 1038, end: 1040 }) }], result: Some(Name(Id { name: \"r\", span: Span { start: 1045, end: 1046 } })) }, Method(NamedFunc { name: Id { name: \"m\", span: Span { start: 1048, end: 1049 } }, func: Func { span: Span { start: 1051, end: 1055 }, form: Plain, params: [], result: None } }), Static(NamedFunc { name: Id { name: \"s\", span: Span { start: 1059, end: 1060 } }, func: Func { span: Span { start: 1075, end: 1079 }, form: Async, params: [Param { name: Id { name: \"v\", span: Span { start: 1080, end: 1081 } }, ty: Borrow(Span { start: 1083, end: 1089 }, Id { name: \"r\", span: Span { start: 1090, end: 1092 } }) }], result: Some(Result(Span { start: 1099, end: 1105 }, None, None)) } })] } }), TypeDef(TypeDef { name: Id { name: \"e\", span: Span { start: 1118, end: 1119 } }, body: Resource { funcs: [] } })] })] } }";

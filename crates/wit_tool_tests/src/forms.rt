@@ -92,6 +92,10 @@ const RULES: &str = r#"package foo:foo; interface i { flags f {} }
 =>
 error E20 stdin.wit "f": empty flags
 
+package foo:foo; interface i { flags %f {} type t = tuple<>; f: func(a: gone); }
+=>
+error E20 stdin.wit "%f": empty flags
+
 package foo:foo; interface i { flags f { g0, g1, g2, g3, g4, g5, g6, g7, g8, g9, g10, g11, g12, g13, g14, g15, g16, g17, g18, g19, g20, g21, g22, g23, g24, g25, g26, g27, g28, g29, g30, g31, g32 } }
 =>
 error E21 stdin.wit "g32": cannot have more than 32 flags
@@ -112,9 +116,17 @@ package foo:foo; interface i { variant v {} }
 =>
 error E23 stdin.wit "v": empty variant
 
+package foo:foo; interface i { variant %v {} enum e {} type T = u8; type t = u8; }
+=>
+error E23 stdin.wit "%v": empty variant
+
 package foo:foo; interface i { enum e {} }
 =>
 error E24 stdin.wit "e": empty enum
+
+package foo:foo; interface i { enum %e {} record r { a: u8, a: u8 } }
+=>
+error E24 stdin.wit "%e": empty enum
 
 package foo:foo; interface i { flags f { a, b, %a } }
 =>
@@ -154,7 +166,11 @@ error E16 stdin.wit "%v": type `v` depends on itself
 
 package foo:foo; interface i { type t = list<u8, 4294967296>; }
 =>
-error E51 stdin.wit "4294967296": number too large"#;
+error E51 stdin.wit "4294967296": number too large
+
+package foo:foo; interface i { type t = gone; f: func(a: list<u8, 99999999999999999999>) - u8; }
+=>
+error E51 stdin.wit "99999999999999999999": number too large"#;
 
 #[test]
 fn refuses_forms(rt: HostRuntime) -> Result<(), Fail> {

@@ -1,4 +1,4 @@
-//! A package with resources and functions, which no text makes yet.
+//! A package with resources and functions, made by a caller and not from a text.
 
 use std::alloc::{AllocError, Global};
 use std::str;

@@ -20,7 +20,17 @@ mod lines;
 #[cfg(test)]
 mod listings;
 #[cfg(test)]
+mod names_of_functions;
+#[cfg(test)]
+mod nested;
+#[cfg(test)]
 mod refusals;
+#[cfg(test)]
+mod required;
+#[cfg(test)]
+mod resources;
+#[cfg(test)]
+mod signatures;
 #[cfg(test)]
 mod spans;
 #[cfg(test)]

@@ -9,7 +9,7 @@ use wit_text::SourceMap;
 use wit_tree::{ParseResult, Span};
 
 /// Puts what stands at a span behind a text, after a blank.
-fn push_slice(text: &mut String, map: &SourceMap, span: Span) -> Result<(), AllocError> {
+pub fn push_slice(text: &mut String, map: &SourceMap, span: Span) -> Result<(), AllocError> {
     let slice = match map.locate(span) {
         Some((_, slice)) => slice,
         None => "?",

@@ -10,10 +10,17 @@ use Rattle.wit_tree.specs.declared.tree.TypeBody.{TypeBody}
 use Rattle.wit_tree.specs.declared.tree.Flag.{Flag}
 use Rattle.wit_tree.specs.declared.tree.Case.{Case}
 use Rattle.wit_tree.specs.declared.tree.EnumCase.{EnumCase}
-use Rattle.wit_tree.specs.declared.tree.TypeBody.TheVariants.{Record, Flags, Variant, Enum, Plain}
+use Rattle.wit_tree.specs.declared.tree.TypeBody.TheVariants.{Record, Flags, Variant, Enum, Resource, Plain}
+use Rattle.wit_tree.specs.declared.tree.ResourceFunc.{ResourceFunc}
+use Rattle.wit_tree.specs.declared.tree.ResourceFunc.TheVariants.{Method, Static, Constructor}
+use Rattle.wit_tree.specs.declared.tree.NamedFunc.{NamedFunc}
+use Rattle.wit_tree.specs.declared.tree.Func.{Func}
+use Rattle.wit_tree.specs.declared.tree.FuncForm.{FuncForm}
+use Rattle.wit_tree.specs.declared.tree.FuncForm.TheVariants.{Plain as PlainForm, Async, Getter, Setter}
+use Rattle.wit_tree.specs.declared.tree.Param.{Param}
 use Rattle.wit_tree.specs.declared.tree.TypeDef.{TypeDef}
 use Rattle.wit_tree.specs.declared.tree.InterfaceItem.{InterfaceItem}
-use Rattle.wit_tree.specs.declared.tree.InterfaceItem.TheVariants.{TypeDef as TypeDefItem, Use as UseItem}
+use Rattle.wit_tree.specs.declared.tree.InterfaceItem.TheVariants.{TypeDef as TypeDefItem, Use as UseItem, Func as FuncItem}
 use Rattle.wit_tree.specs.declared.tree.Use.{Use}
 use Rattle.wit_tree.specs.declared.tree.UsePath.{UsePath}
 use Rattle.wit_tree.specs.declared.tree.UsePath.TheVariants.{Id as PathName, Package as PathPackage}
@@ -29,7 +36,7 @@ use Rattle.wit_tree.specs.declared.tree.AstItem.TheVariants.{Interface as Interf
 use Rattle.wit_tree.specs.declared.tree.ToplevelUse.{ToplevelUse}
 use Rattle.wit_tree.specs.declared.tree.PackageName.{PackageName}
 use Rattle.wit_tree.specs.declared.tree.PackageFile.{PackageFile}
-use Rattle.wit_tree.specs.declared.tree.«Type».{«Type» as Written, Bool, U8, U16, U32, U64, S8, S16, S32, S64, F32, F64, Char, String, ErrorContext, Name, List', FixedLengthList', Map', Option', Result', Tuple', Future', Stream', Held-Type-Result-1, None', Some', Row_of-Type, end_of-Type, more_of-Type}
+use Rattle.wit_tree.specs.declared.tree.«Type».{«Type» as Written, Bool, U8, U16, U32, U64, S8, S16, S32, S64, F32, F64, Char, String, ErrorContext, Name, List', FixedLengthList', Map', Option', Result', Tuple', Future', Stream', Own, Borrow, Held-Type-Result-1, None', Some', Row_of-Type, end_of-Type, more_of-Type}
 
 pub data Mark : Type 0 where
   -- a name of the tree
@@ -70,6 +77,8 @@ abbrev mutual
   type_marks (Tuple' s shape ts) = spelled s (codes "tuple") ∷ row_marks ts
   type_marks (Future' s t) = spelled s (codes "future") ∷ held_marks t
   type_marks (Stream' s t) = spelled s (codes "stream") ∷ held_marks t
+  type_marks (Own s id) = spelled s (codes "own") ∷ named id ∷ []
+  type_marks (Borrow s id) = spelled s (codes "borrow") ∷ named id ∷ []
 
   -- of a type, where there is one
   pub held_marks : Held-Type-Result-1 → List Mark
@@ -108,12 +117,38 @@ case_marks c = named c.name ∷ payload_marks c.ty
 abbrev pub enum_case_marks : EnumCase → List Mark
 enum_case_marks c = named c.name ∷ []
 
+abbrev pub param_marks : Param → List Mark
+param_marks p = named p.name ∷ type_marks p.ty
+
+-- the word that a form of functions is told by
+abbrev pub form_word : FuncForm → List ℕ
+form_word PlainForm = codes "func"
+form_word Async = codes "func"
+form_word Getter = codes "get"
+form_word Setter = codes "set"
+
+-- the parameters, and the result where there is one, stand behind a word
+abbrev pub signature_marks : Span → List ℕ → List Param → Option Written → List Mark
+signature_marks span word params result = spelled span word ∷ flat_map param_marks params ++ payload_marks result
+
+abbrev pub func_marks : Func → List Mark
+func_marks f = signature_marks f.span (form_word f.form) f.params.items f.result
+
+abbrev pub named_func_marks : NamedFunc → List Mark
+named_func_marks f = named f.name ∷ func_marks f.func
+
+abbrev pub resource_func_marks : ResourceFunc → List Mark
+resource_func_marks (Method f) = named_func_marks f
+resource_func_marks (Static f) = named_func_marks f
+resource_func_marks (Constructor span params result) = signature_marks span (codes "constructor") params.items result
+
 -- a body that has a span has the span of the definition's name
 abbrev pub body_marks : Span → TypeBody → List Mark
 body_marks name (Record span fields) = joined span name name ∷ flat_map field_marks fields.items
 body_marks name (Flags span flags) = joined span name name ∷ flat_map flag_marks flags.items
 body_marks name (Variant span cases) = joined span name name ∷ flat_map case_marks cases.items
 body_marks name (Enum span cases) = joined span name name ∷ flat_map enum_case_marks cases.items
+body_marks name (Resource funcs) = flat_map resource_func_marks funcs.items
 body_marks name (Plain t) = type_marks t
 
 abbrev pub definition_marks : TypeDef → List Mark
@@ -143,6 +178,7 @@ use_marks u = path_marks u.from ++ flat_map used_marks u.names.items
 abbrev pub item_marks : InterfaceItem → List Mark
 item_marks (TypeDefItem d) = definition_marks d
 item_marks (UseItem u) = use_marks u
+item_marks (FuncItem f) = named_func_marks f
 
 abbrev pub interface_marks : Interface → List Mark
 interface_marks i = named i.name ∷ flat_map item_marks i.items.items

@@ -5,7 +5,7 @@ use Rattle.std.specs.declared.alloc.Global.{Global}
 use Rattle.wit_tree.specs.declared.tree.Field.{Field}
 use Rattle.wit_tree.specs.declared.tree.Case.{Case}
 use Rattle.wit_tree.specs.declared.tree.TypeBody.{TypeBody}
-use Rattle.wit_tree.specs.declared.tree.TypeBody.TheVariants.{Record, Flags, Variant, Enum, Plain}
+use Rattle.wit_tree.specs.declared.tree.TypeBody.TheVariants.{Record, Flags, Variant, Enum, Resource, Plain}
 use Rattle.wit_tree.specs.declared.tree.«Type».{«Type» as Written, List', FixedLengthList', Map', Option', Result', Tuple', Future', Stream', Held-Type-Result-1, None', Some', Row_of-Type, end_of-Type, more_of-Type}
 
 -- a type, where there is one
@@ -41,9 +41,11 @@ field_types fs = map (λ f. f.ty) fs
 abbrev pub case_types : List Case → List Written
 case_types cs = filter_map (λ c. c.ty) cs
 
+-- the functions of a resource are signatures, and no part of its body
 abbrev pub body_types : TypeBody → List Written
 body_types (Record span fields) = field_types fields.items
 body_types (Flags span flags) = []
 body_types (Variant span cases) = case_types cases.items
 body_types (Enum span cases) = []
+body_types (Resource funcs) = []
 body_types (Plain t) = t ∷ []

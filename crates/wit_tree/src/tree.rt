@@ -107,6 +107,7 @@ pub struct Interface<'a> {
 pub enum InterfaceItem<'a> {
     TypeDef(TypeDef<'a>),
     Use(Use<'a>),
+    Func(NamedFunc<'a>),
 }
 
 /// A declared world.
@@ -187,6 +188,10 @@ pub enum TypeBody<'a> {
         span: Span,
         cases: Vec<EnumCase<'a>>,
     },
+    /// A resource, with the functions that belong to it.
+    Resource {
+        funcs: Vec<ResourceFunc<'a>>,
+    },
     /// Another word for a type.
     Plain(Type<'a>),
 }
@@ -215,6 +220,58 @@ pub struct Case<'a> {
 #[derive(Debug, Drop)]
 pub struct EnumCase<'a> {
     pub name: Id<'a>,
+}
+
+/// A function that belongs to a resource.
+#[derive(Debug, Drop)]
+pub enum ResourceFunc<'a> {
+    /// Of one value of the resource.
+    Method(NamedFunc<'a>),
+    /// Of the resource alone.
+    Static(NamedFunc<'a>),
+    /// Makes a value of the resource. The span is that of the word `constructor`.
+    Constructor {
+        span: Span,
+        params: Vec<Param<'a>>,
+        result: Option<Type<'a>>,
+    },
+}
+
+/// A function and its name.
+#[derive(Debug, Drop)]
+pub struct NamedFunc<'a> {
+    pub name: Id<'a>,
+    pub func: Func<'a>,
+}
+
+/// A function: its form, its parameters, and the type of its result, where there is one.
+#[derive(Debug, Drop)]
+pub struct Func<'a> {
+    /// That of the word `func`, `get` or `set`.
+    pub span: Span,
+    pub form: FuncForm,
+    pub params: Vec<Param<'a>>,
+    pub result: Option<Type<'a>>,
+}
+
+/// The form of a function.
+#[derive(Clone, Copy, Debug, PartialEq, Eq)]
+pub enum FuncForm {
+    /// `func`
+    Plain,
+    /// `async func`
+    Async,
+    /// `get`
+    Getter,
+    /// `set`
+    Setter,
+}
+
+/// A parameter of a function.
+#[derive(Debug, Drop)]
+pub struct Param<'a> {
+    pub name: Id<'a>,
+    pub ty: Type<'a>,
 }
 
 /// A written type, with the span of its first word.
@@ -248,4 +305,8 @@ pub enum Type<'a> {
     Future(Span, Option<Box<Type<'a>>>),
     /// The type of the items, where they have one.
     Stream(Span, Option<Box<Type<'a>>>),
+    /// A resource that is handed over.
+    Own(Span, Id<'a>),
+    /// A resource that is lent.
+    Borrow(Span, Id<'a>),
 }

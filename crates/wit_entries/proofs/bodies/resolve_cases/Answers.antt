@@ -1,5 +1,5 @@
 use Rattle.std.proofs.Common.{◌≡◌, [], ◌∷◌, ◌++◌, ◌+◌, Some, take, sym, ap, ◌∙◌, subst}
-use Rattle.std.specs.Prelude.{map, slice_get}
+use Rattle.std.specs.Prelude.{map}
 use Rattle.std.specs.Option.{option_to_list}
 use Rattle.std.proofs.lemmas.List.{map-append, take_more, take_all}
 use Rattle.std.proofs.lemmas.Option.{slice_get-get_or}
@@ -15,6 +15,7 @@ use Rattle.wit_meaning.proofs.Refusing.{refused_weaker}
 use Rattle.wit_meaning.proofs.Written.{AreLegal, legal_more}
 use Rattle.wit_entries.proofs.Reading.{types_then}
 use Rattle.wit_entries.proofs.Payloads.{wrong_case}
+use Rattle.wit_entries.proofs.Requiring.{grown_then, requires_types}
 use Rattle.wit_entries.proofs.bodies.resolve_cases.Goals as goal
 
 pub loop-written-preserved : goal.loop-written-preserved
@@ -31,12 +32,19 @@ loop-written-preserved c =
       types = rw (written, types) (types_then (case_types (take i cs)) (option_to_list case.ty) c.loop-written.invariant.types c.in_ok-case.ensures.types);
       members = ap (map case_member) c.in_ok-push.ensures.items ∙ map-append case_member out (made ∷ []) ∙ ap (λ ms. ms ++ case_member made ∷ []) c.loop-written.invariant.members ∙ ap (λ m. map written_case (take i cs) ++ m ∷ []) c.in_ok-case.ensures.member ∙ sym (map-append written_case (take i cs) (case ∷ [])) ∙ ap (map written_case) (sym taken);
       legal = subst AreLegal (sym written) (legal_more (case_types (take i cs)) (option_to_list case.ty) c.loop-written.invariant.legal c.in_ok-case.ensures.legal);
+      handled = rw written (requires_types (env_of c.args.names.now) _ _ (case_types (take i cs)) (option_to_list case.ty) _ _ _ c.in_ok-case.ensures.grown c.loop-written.invariant.handled c.in_ok-case.ensures.handled);
+      grown = grown_then _ _ _ c.loop-written.invariant.grown c.in_ok-case.ensures.grown;
     }
 
 pub returns-clause-types : goal.returns-clause-types
 returns-clause-types c =
     let all = take_all c.loop-written.written-index c.args.cases.now c.loop-written-test.false in
     rw (← all, c.from.ensures) c.loop-written.invariant.types
+
+pub returns-clause-handled : goal.returns-clause-handled
+returns-clause-handled c =
+    let all = take_all c.loop-written.written-index c.args.cases.now c.loop-written-test.false in
+    rw (← all) c.loop-written.invariant.handled
 
 pub returns-clause-members : goal.returns-clause-members
 returns-clause-members c =
@@ -49,9 +57,9 @@ returns-clause-legal c = subst (λ cs. AreLegal (case_types cs)) (take_all c.loo
 pub returns-in_err-case-clause-refused : goal.returns-in_err-case-clause-refused
 returns-in_err-case-clause-refused c =
     let p = err_from_is_err_and c.from_residual-in_err-case.result c.from_residual-in_err-case.ensures.1 in
-    let env = env_of c.args.scope.now.names in
+    let env = env_of c.args.names.now in
     let cs = c.args.cases.now in
     let i = c.loop-written.written-index in
     let case = c.written-item.result in
     let at = slice_get-get_or cs i case c.loop-written-test.true ∙ ap Some (sym c.written-item.is) in
-    rw (p.1, p.2) (refused_weaker (AreWrongTypes env (option_to_list case.ty)) (AreWrongTypes env (case_types cs)) _ (λ f wrong. wrong_case env cs i case f at wrong) c.in_err-case.ensures.refused)
+    rw (p.1, p.2) (refused_weaker (AreWrongTypes env _ (option_to_list case.ty)) (AreWrongTypes env _ (case_types cs)) _ (λ f wrong. wrong_case env _ cs i case f at wrong) c.in_err-case.ensures.refused)

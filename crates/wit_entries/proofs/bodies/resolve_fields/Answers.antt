@@ -13,6 +13,7 @@ use Rattle.wit_meaning.specs.Resolving.{env_of, IsWrongType, AreWrongTypes}
 use Rattle.wit_meaning.proofs.Refusing.{refused_weaker}
 use Rattle.wit_meaning.proofs.Written.{AreLegal, legal_one, legal_more, wrong_at}
 use Rattle.wit_entries.proofs.Reading.{types_one, types_then}
+use Rattle.wit_entries.proofs.Requiring.{grown_then, requires_types, requires_one}
 use Rattle.wit_entries.proofs.bodies.resolve_fields.Goals as goal
 
 pub loop-written-preserved : goal.loop-written-preserved
@@ -29,12 +30,19 @@ loop-written-preserved c =
       types = rw (written, types) (types_then (field_types (take i fs)) (f.ty ∷ []) c.loop-written.invariant.types (types_one f.ty c.in_ok-ty.ensures.resolved));
       members = ap (map field_member) c.in_ok-push.ensures.items ∙ map-append field_member out (made ∷ []) ∙ ap (λ ms. ms ++ field_member made ∷ []) c.loop-written.invariant.members ∙ ap (λ m. map written_field (take i fs) ++ m ∷ []) c.in_ok-field.ensures.member ∙ sym (map-append written_field (take i fs) (f ∷ [])) ∙ ap (map written_field) (sym taken);
       legal = subst AreLegal (sym written) (legal_more (field_types (take i fs)) (f.ty ∷ []) c.loop-written.invariant.legal (legal_one f.ty c.in_ok-ty.ensures.legal));
+      handled = rw written (requires_types (env_of c.args.names.now) _ _ (field_types (take i fs)) (f.ty ∷ []) _ _ _ c.in_ok-ty.ensures.grown c.loop-written.invariant.handled (requires_one (env_of c.args.names.now) _ f.ty _ _ c.in_ok-ty.ensures.handled));
+      grown = grown_then _ _ _ c.loop-written.invariant.grown c.in_ok-ty.ensures.grown;
     }
 
 pub returns-clause-types : goal.returns-clause-types
 returns-clause-types c =
     let all = take_all c.loop-written.written-index c.args.fields.now c.loop-written-test.false in
     rw (← all, c.from.ensures) c.loop-written.invariant.types
+
+pub returns-clause-handled : goal.returns-clause-handled
+returns-clause-handled c =
+    let all = take_all c.loop-written.written-index c.args.fields.now c.loop-written-test.false in
+    rw (← all) c.loop-written.invariant.handled
 
 pub returns-clause-members : goal.returns-clause-members
 returns-clause-members c =
@@ -47,9 +55,9 @@ returns-clause-legal c = subst (λ fs. AreLegal (field_types fs)) (take_all c.lo
 pub returns-in_err-ty-clause-refused : goal.returns-in_err-ty-clause-refused
 returns-in_err-ty-clause-refused c =
     let p = err_from_is_err_and c.from_residual-in_err-ty.result c.from_residual-in_err-ty.ensures.1 in
-    let env = env_of c.args.scope.now.names in
+    let env = env_of c.args.names.now in
     let fs = c.args.fields.now in
     let i = c.loop-written.written-index in
     let f = c.written-item.result in
     let at : slice_get (field_types fs) i ≡ Some f.ty = slice_get-map (λ (x : WrittenField). x.ty) fs i ∙ ap (option_map (λ (x : WrittenField). x.ty)) (slice_get-get_or fs i f c.loop-written-test.true ∙ ap Some (sym c.written-item.is)) in
-    rw (p.1, p.2) (refused_weaker (IsWrongType env f.ty) (AreWrongTypes env (field_types fs)) _ (λ x wrong. wrong_at env (field_types fs) i f.ty x at wrong) c.in_err-ty.ensures.refused)
+    rw (p.1, p.2) (refused_weaker (IsWrongType env _ f.ty) (AreWrongTypes env _ (field_types fs)) _ (λ x wrong. wrong_at env _ (field_types fs) i f.ty x at wrong) c.in_err-ty.ensures.refused)

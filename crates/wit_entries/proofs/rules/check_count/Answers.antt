@@ -1,8 +1,6 @@
-use Rattle.std.proofs.Common.{◌≡◌, Some, inl, inr, refl, sym, ap, ◌∙◌, arith}
+use Rattle.std.proofs.Common.{◌≡◌, Some, inl, inr, sym, ap, ◌∙◌, arith}
 use Rattle.std.specs.Prelude.{slice_get}
 use Rattle.std.proofs.lemmas.Option.{slice_get-get_or, slice_get_within}
-use Rattle.wit_tree.specs.declared.tree.Flag.{Flag}
-use Rattle.wit_meaning.specs.Fault.{fault}
 use Rattle.wit_entries.proofs.rules.check_count.Goals as goal
 
 pub returns-in-Some-clause-refused : goal.returns-in-Some-clause-refused

@@ -1,5 +1,5 @@
 use Rattle.std.proofs.lemmas.Result.{err_from_is_err_and}
-use Rattle.wit_meaning.specs.Broken.{IsDuplicateName}
+use Rattle.wit_meaning.specs.Bodies.{IsDuplicateName}
 use Rattle.wit_meaning.proofs.Refusing.{refused_weaker}
 use Rattle.wit_scope.specs.Names.{IsFirstSecond}
 use Rattle.wit_entries.proofs.Duplicates.{duplicate, no_duplicate}

@@ -1,6 +1,6 @@
 use Rattle.std.proofs.Common.{◌∙◌, subst}
 use Rattle.std.proofs.lemmas.Result.{err_from_is_err_and}
-use Rattle.wit_meaning.specs.Broken.{IsDuplicateName, IsBrokenRecord, EmptyRecord, DuplicateField}
+use Rattle.wit_meaning.specs.Bodies.{IsDuplicateName, IsBrokenRecord, EmptyRecord, DuplicateField}
 use Rattle.wit_meaning.proofs.Refusing.{refused_weaker}
 use Rattle.wit_entries.proofs.Duplicates.{not_empty}
 use Rattle.wit_entries.proofs.rules.check_record.Goals as goal

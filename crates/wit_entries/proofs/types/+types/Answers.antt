@@ -1,85 +1,88 @@
-use Rattle.std.proofs.Common.{◌≡◌, [], ◌∷◌, ◌++◌, ◌+◌, Some, take, refl, sym, ap, ◌∙◌, subst}
+use Rattle.std.proofs.Common.{◌≡◌, List, [], ◌∷◌, ◌++◌, ◌+◌, Some, take, sym, ap, ◌∙◌, subst}
 use Rattle.std.proofs.lemmas.List.{take_more, take_all}
 use Rattle.std.proofs.lemmas.Option.{slice_get-get_or}
 use Rattle.std.proofs.lemmas.Result.{err_from_is_err_and}
+use Rattle.wit_tree.specs.declared.tree.Id.{Id}
 use Rattle.wit_tree.specs.declared.tree.«Type».TheVariants as written
 use Rattle.wit_tree.specs.Parts.{boxed_types}
 use Rattle.wit_tree.proofs.Rows.{tuple_types, types_of_held, result_types}
 use Rattle.wit_meaning.specs.Fault.{Fault}
-use Rattle.wit_meaning.specs.Broken.{IsInvalidKey, IsEmptyTuple, IsBrokenType}
+use Rattle.wit_meaning.specs.Bodies.{IsInvalidKey, IsEmptyTuple, IsBrokenType}
 use Rattle.wit_meaning.specs.Resolving.{env_of, IsWrongType, AreWrongTypes}
-use Rattle.wit_meaning.specs.Shape.{shape_of}
+use Rattle.wit_meaning.specs.Shape.{shape_of, handles}
 use Rattle.wit_meaning.proofs.Refusing.{refused_weaker}
 use Rattle.wit_meaning.proofs.Written.{AreLegal, legal_one, legal_more, wrong_at, wrong_left, wrong_right}
-use Rattle.wit_entries.proofs.Reading.{read_stands, types_one, types_then}
-use Rattle.wit_entries.proofs.FormKinds.{map_form, tuple_form, result_form, future_form, stream_form, refused_part, refused_parts, refused_form, legal_parts, legal_only, legal_primitive}
+use Rattle.wit_entries.specs.Requiring.{Requires}
+use Rattle.wit_entries.proofs.Reading.{resolved_word, read_stands, types_one, types_then}
+use Rattle.wit_entries.proofs.Requiring.{grown_then, requires_none, requires_grown, requires_types, requires_one, requires_boxed, requires_parts, requires_only, no_handles}
+use Rattle.wit_entries.proofs.FormKinds.{map_form, tuple_form, result_form, future_form, stream_form, refused_part, refused_parts, refused_form, refused_boxed, legal_parts, legal_only, legal_primitive}
 use Rattle.wit_entries.proofs.types.+types.Goals as goal
 
 pub read-returns-in-Some-clause-legal : goal.read-returns-in-Some-clause-legal
 read-returns-in-Some-clause-legal t c = legal_primitive c.args.ty.now c.in-Some.found (sym c.primitive.ensures ∙ c.in-Some.is)
 
 pub read-returns-in-Name-clause-read : goal.read-returns-in-Name-clause-read
-read-returns-in-Name-clause-read t c = rw c.in-Name.is (tt, c.in_ok-found.ensures.found c.args.types.now)
+read-returns-in-Name-clause-read t c = rw c.in-Name.is (tt, resolved_word c.args.types.now (env_of c.args.names.now) c.in-Name.id c.in_ok-found.found c.in_ok-found.ensures.found)
 
 pub read_form-returns-in_err-item-in-List-clause-refused : goal.read_form-returns-in_err-item-in-List-clause-refused
 read_form-returns-in_err-item-in-List-clause-refused t c =
     let p = err_from_is_err_and c.from_residual.result c.from_residual.ensures.1 in
-    rw (c.in-List.is, p.1, p.2) (refused_part (env_of c.args.scope.now.names) (written.List c.in-List.span c.in-List.item) 0 c.deref.result.now _ (ap Some (sym c.deref.ensures)) c.in_err-item-in-List.ensures.refused)
+    rw (c.in-List.is, p.1, p.2) (refused_part (env_of c.args.names.now) _ (written.List c.in-List.span c.in-List.item) 0 c.deref.result.now _ (ap Some (sym c.deref.ensures)) c.in_err-item-in-List.ensures.refused)
 
 pub read_form-returns-in_err-item-in-FixedLengthList-clause-refused : goal.read_form-returns-in_err-item-in-FixedLengthList-clause-refused
 read_form-returns-in_err-item-in-FixedLengthList-clause-refused t c =
     let p = err_from_is_err_and c.from_residual-in_err-item-in-FixedLengthList.result c.from_residual-in_err-item-in-FixedLengthList.ensures.1 in
-    rw (c.in-FixedLengthList.is, p.1, p.2) (refused_part (env_of c.args.scope.now.names) (written.FixedLengthList c.in-FixedLengthList.span c.in-FixedLengthList.item c.in-FixedLengthList.size) 0 c.deref-in-FixedLengthList.result.now _ (ap Some (sym c.deref-in-FixedLengthList.ensures)) c.in_err-item-in-FixedLengthList.ensures.refused)
+    rw (c.in-FixedLengthList.is, p.1, p.2) (refused_part (env_of c.args.names.now) _ (written.FixedLengthList c.in-FixedLengthList.span c.in-FixedLengthList.item c.in-FixedLengthList.size) 0 c.deref-in-FixedLengthList.result.now _ (ap Some (sym c.deref-in-FixedLengthList.ensures)) c.in_err-item-in-FixedLengthList.ensures.refused)
 
 pub read_form-returns-in_err-key_type-in-Map-clause-refused : goal.read_form-returns-in_err-key_type-in-Map-clause-refused
 read_form-returns-in_err-key_type-in-Map-clause-refused t c =
     let p = err_from_is_err_and c.from_residual-in_err-key_type-in-Map.result c.from_residual-in_err-key_type-in-Map.ensures.1 in
-    rw (c.in-Map.is, p.1, p.2) (refused_part (env_of c.args.scope.now.names) (written.Map c.in-Map.span c.in-Map.key c.in-Map.value) 0 c.deref-in-Map.result.now _ (ap Some (sym c.deref-in-Map.ensures)) c.in_err-key_type-in-Map.ensures.refused)
+    rw (c.in-Map.is, p.1, p.2) (refused_part (env_of c.args.names.now) _ (written.Map c.in-Map.span c.in-Map.key c.in-Map.value) 0 c.deref-in-Map.result.now _ (ap Some (sym c.deref-in-Map.ensures)) c.in_err-key_type-in-Map.ensures.refused)
 
 pub read_form-returns-in_err-value_type-in-Map-clause-refused : goal.read_form-returns-in_err-value_type-in-Map-clause-refused
 read_form-returns-in_err-value_type-in-Map-clause-refused t c =
     let p = err_from_is_err_and c.from_residual-in_err-value_type-in-Map.result c.from_residual-in_err-value_type-in-Map.ensures.1 in
-    rw (c.in-Map.is, p.1, p.2) (refused_part (env_of c.args.scope.now.names) (written.Map c.in-Map.span c.in-Map.key c.in-Map.value) 1 c.deref-in-Map-2.result.now _ (ap Some (sym c.deref-in-Map-2.ensures)) c.in_err-value_type-in-Map.ensures.refused)
+    rw (c.in-Map.is, p.1, p.2) (refused_part (env_of c.args.names.now) _ (written.Map c.in-Map.span c.in-Map.key c.in-Map.value) 1 c.deref-in-Map-2.result.now _ (ap Some (sym c.deref-in-Map-2.ensures)) c.in_err-value_type-in-Map.ensures.refused)
 
 pub read_form-returns-in_err-check_key-in-Map-clause-refused : goal.read_form-returns-in_err-check_key-in-Map-clause-refused
 read_form-returns-in_err-check_key-in-Map-clause-refused t c =
     let p = err_from_is_err_and c.from_residual-in_err-check_key-in-Map.result c.from_residual-in_err-check_key-in-Map.ensures.1 in
-    rw (c.in-Map.is, p.1, p.2) (refused_form (env_of c.args.scope.now.names) (written.Map c.in-Map.span c.in-Map.key c.in-Map.value) (IsInvalidKey c.deref-in-Map-3.result.now c.in-Map.span) _ (λ f own. subst (λ t. IsInvalidKey t c.in-Map.span f) c.deref-in-Map-3.ensures own) c.in_err-check_key-in-Map.ensures.refused)
+    rw (c.in-Map.is, p.1, p.2) (refused_form (env_of c.args.names.now) _ (written.Map c.in-Map.span c.in-Map.key c.in-Map.value) (IsInvalidKey c.deref-in-Map-3.result.now c.in-Map.span) _ (λ f own. subst (λ t. IsInvalidKey t c.in-Map.span f) c.deref-in-Map-3.ensures own) c.in_err-check_key-in-Map.ensures.refused)
 
 pub read_form-returns-in_err-value-in-Option-clause-refused : goal.read_form-returns-in_err-value-in-Option-clause-refused
 read_form-returns-in_err-value-in-Option-clause-refused t c =
     let p = err_from_is_err_and c.from_residual-in_err-value-in-Option.result c.from_residual-in_err-value-in-Option.ensures.1 in
-    rw (c.in-Option.is, p.1, p.2) (refused_part (env_of c.args.scope.now.names) (written.Option c.in-Option.span c.in-Option.value) 0 c.deref-in-Option.result.now _ (ap Some (sym c.deref-in-Option.ensures)) c.in_err-value-in-Option.ensures.refused)
+    rw (c.in-Option.is, p.1, p.2) (refused_part (env_of c.args.names.now) _ (written.Option c.in-Option.span c.in-Option.value) 0 c.deref-in-Option.result.now _ (ap Some (sym c.deref-in-Option.ensures)) c.in_err-value-in-Option.ensures.refused)
 
 pub read_form-returns-in_err-ok-in-Result-clause-refused : goal.read_form-returns-in_err-ok-in-Result-clause-refused
 read_form-returns-in_err-ok-in-Result-clause-refused t c =
     let p = err_from_is_err_and c.from_residual-in_err-ok-in-Result.result c.from_residual-in_err-ok-in-Result.ensures.1 in
-    rw (c.in-Result.is, p.1, p.2) (refused_parts (env_of c.args.scope.now.names) (written.Result c.in-Result.span c.in-Result.ok c.in-Result.err) (boxed_types c.in-Result.ok) _ (λ f wrong. subst (λ ts. AreWrongTypes (env_of c.args.scope.now.names) ts f) (sym (result_types c.in-Result.ok c.in-Result.err)) (wrong_left (env_of c.args.scope.now.names) (boxed_types c.in-Result.ok) (boxed_types c.in-Result.err) f wrong)) c.in_err-ok-in-Result.ensures.refused)
+    rw (c.in-Result.is, p.1, p.2) (refused_parts (env_of c.args.names.now) _ (written.Result c.in-Result.span c.in-Result.ok c.in-Result.err) (boxed_types c.in-Result.ok) _ (λ es f wrong. subst (λ ts. AreWrongTypes (env_of c.args.names.now) es ts f) (sym (result_types c.in-Result.ok c.in-Result.err)) (wrong_left (env_of c.args.names.now) es (boxed_types c.in-Result.ok) (boxed_types c.in-Result.err) f wrong)) c.in_err-ok-in-Result.ensures.refused)
 
 pub read_form-returns-in_err-err-in-Result-clause-refused : goal.read_form-returns-in_err-err-in-Result-clause-refused
 read_form-returns-in_err-err-in-Result-clause-refused t c =
     let p = err_from_is_err_and c.from_residual-in_err-err-in-Result.result c.from_residual-in_err-err-in-Result.ensures.1 in
-    rw (c.in-Result.is, p.1, p.2) (refused_parts (env_of c.args.scope.now.names) (written.Result c.in-Result.span c.in-Result.ok c.in-Result.err) (boxed_types c.in-Result.err) _ (λ f wrong. subst (λ ts. AreWrongTypes (env_of c.args.scope.now.names) ts f) (sym (result_types c.in-Result.ok c.in-Result.err)) (wrong_right (env_of c.args.scope.now.names) (boxed_types c.in-Result.ok) (boxed_types c.in-Result.err) f wrong)) c.in_err-err-in-Result.ensures.refused)
+    rw (c.in-Result.is, p.1, p.2) (refused_parts (env_of c.args.names.now) _ (written.Result c.in-Result.span c.in-Result.ok c.in-Result.err) (boxed_types c.in-Result.err) _ (λ es f wrong. subst (λ ts. AreWrongTypes (env_of c.args.names.now) es ts f) (sym (result_types c.in-Result.ok c.in-Result.err)) (wrong_right (env_of c.args.names.now) es (boxed_types c.in-Result.ok) (boxed_types c.in-Result.err) f wrong)) c.in_err-err-in-Result.ensures.refused)
 
 pub read_form-returns-in_err-check_tuple-in-Tuple-clause-refused : goal.read_form-returns-in_err-check_tuple-in-Tuple-clause-refused
 read_form-returns-in_err-check_tuple-in-Tuple-clause-refused t c =
     let p = err_from_is_err_and c.from_residual-in_err-check_tuple-in-Tuple.result c.from_residual-in_err-check_tuple-in-Tuple.ensures.1 in
-    rw (c.in-Tuple.is, p.1, p.2) (refused_form (env_of c.args.scope.now.names) (written.Tuple c.in-Tuple.span c.in-Tuple.parts) (IsEmptyTuple c.deref-in-Tuple.result.now c.in-Tuple.span) _ (λ f own. subst (λ ts. IsEmptyTuple ts c.in-Tuple.span f) (c.deref-in-Tuple.ensures.value ∙ sym (tuple_types c.in-Tuple.span c.in-Tuple.parts)) own) c.in_err-check_tuple-in-Tuple.ensures.refused)
+    rw (c.in-Tuple.is, p.1, p.2) (refused_form (env_of c.args.names.now) _ (written.Tuple c.in-Tuple.span c.in-Tuple.parts) (IsEmptyTuple c.deref-in-Tuple.result.now c.in-Tuple.span) _ (λ f own. subst (λ ts. IsEmptyTuple ts c.in-Tuple.span f) (c.deref-in-Tuple.ensures.value ∙ sym (tuple_types c.in-Tuple.span c.in-Tuple.parts)) own) c.in_err-check_tuple-in-Tuple.ensures.refused)
 
 pub read_form-returns-in_err-types-in-Tuple-clause-refused : goal.read_form-returns-in_err-types-in-Tuple-clause-refused
 read_form-returns-in_err-types-in-Tuple-clause-refused t c =
     let p = err_from_is_err_and c.from_residual-in_err-types-in-Tuple.result c.from_residual-in_err-types-in-Tuple.ensures.1 in
-    rw (c.in-Tuple.is, p.1, p.2) (refused_parts (env_of c.args.scope.now.names) (written.Tuple c.in-Tuple.span c.in-Tuple.parts) c.deref-in-Tuple-2.result.now _ (λ f wrong. subst (λ ts. AreWrongTypes (env_of c.args.scope.now.names) ts f) (c.deref-in-Tuple-2.ensures.value ∙ sym (tuple_types c.in-Tuple.span c.in-Tuple.parts)) wrong) c.in_err-types-in-Tuple.ensures.refused)
+    rw (c.in-Tuple.is, p.1, p.2) (refused_parts (env_of c.args.names.now) _ (written.Tuple c.in-Tuple.span c.in-Tuple.parts) c.deref-in-Tuple-2.result.now _ (λ es f wrong. subst (λ ts. AreWrongTypes (env_of c.args.names.now) es ts f) (c.deref-in-Tuple-2.ensures.value ∙ sym (tuple_types c.in-Tuple.span c.in-Tuple.parts)) wrong) c.in_err-types-in-Tuple.ensures.refused)
 
 pub read_form-returns-in_err-value-in-Future-clause-refused : goal.read_form-returns-in_err-value-in-Future-clause-refused
 read_form-returns-in_err-value-in-Future-clause-refused t c =
     let p = err_from_is_err_and c.from_residual-in_err-value-in-Future.result c.from_residual-in_err-value-in-Future.ensures.1 in
-    rw (c.in-Future.is, p.1, p.2) (refused_parts (env_of c.args.scope.now.names) (written.Future c.in-Future.span c.in-Future.value) (boxed_types c.in-Future.value) _ (λ f wrong. subst (λ ts. AreWrongTypes (env_of c.args.scope.now.names) ts f) (sym (types_of_held c.in-Future.value)) wrong) c.in_err-value-in-Future.ensures.refused)
+    rw (c.in-Future.is, p.1, p.2) (refused_parts (env_of c.args.names.now) _ (written.Future c.in-Future.span c.in-Future.value) (boxed_types c.in-Future.value) _ (λ es f wrong. subst (λ ts. AreWrongTypes (env_of c.args.names.now) es ts f) (sym (types_of_held c.in-Future.value)) wrong) c.in_err-value-in-Future.ensures.refused)
 
 pub read_form-returns-in_err-item-in-Stream-clause-refused : goal.read_form-returns-in_err-item-in-Stream-clause-refused
 read_form-returns-in_err-item-in-Stream-clause-refused t c =
     let p = err_from_is_err_and c.from_residual-in_err-item-in-Stream.result c.from_residual-in_err-item-in-Stream.ensures.1 in
-    rw (c.in-Stream.is, p.1, p.2) (refused_parts (env_of c.args.scope.now.names) (written.Stream c.in-Stream.span c.in-Stream.item) (boxed_types c.in-Stream.item) _ (λ f wrong. subst (λ ts. AreWrongTypes (env_of c.args.scope.now.names) ts f) (sym (types_of_held c.in-Stream.item)) wrong) c.in_err-item-in-Stream.ensures.refused)
+    rw (c.in-Stream.is, p.1, p.2) (refused_parts (env_of c.args.names.now) _ (written.Stream c.in-Stream.span c.in-Stream.item) (boxed_types c.in-Stream.item) _ (λ es f wrong. subst (λ ts. AreWrongTypes (env_of c.args.names.now) es ts f) (sym (types_of_held c.in-Stream.item)) wrong) c.in_err-item-in-Stream.ensures.refused)
 
 pub read_form-returns-in_ok-item-in-List-clause-legal : goal.read_form-returns-in_ok-item-in-List-clause-legal
 read_form-returns-in_ok-item-in-List-clause-legal t c = rw c.in-List.is (legal_only (written.List c.in-List.span c.in-List.item) c.deref.result.now (λ f own. own) (ap (λ t. t ∷ []) (sym c.deref.ensures)) c.in_ok-item-in-List.ensures.legal)
@@ -88,7 +91,7 @@ pub read_form-returns-in_ok-item-in-FixedLengthList-clause-legal : goal.read_for
 read_form-returns-in_ok-item-in-FixedLengthList-clause-legal t c = rw c.in-FixedLengthList.is (legal_only (written.FixedLengthList c.in-FixedLengthList.span c.in-FixedLengthList.item c.in-FixedLengthList.size) c.deref-in-FixedLengthList.result.now (λ f own. own) (ap (λ t. t ∷ []) (sym c.deref-in-FixedLengthList.ensures)) c.in_ok-item-in-FixedLengthList.ensures.legal)
 
 pub read_form-returns-in_ok-check_key-in-Map-clause-read : goal.read_form-returns-in_ok-check_key-in-Map-clause-read
-read_form-returns-in_ok-check_key-in-Map-clause-read t c = rw c.in-Map.is (map_form c.args.types.now c.resolve_type-in-Map.new.types c.resolve_type-in-Map-2.new.types (env_of c.args.scope.now.names) c.in-Map.span c.in-Map.key c.in-Map.value c.in_ok-key_type-in-Map.key_type c.in_ok-value_type-in-Map.value_type
+read_form-returns-in_ok-check_key-in-Map-clause-read t c = rw c.in-Map.is (map_form c.args.types.now c.resolve_type-in-Map.new.types c.resolve_type-in-Map-2.new.types (env_of c.args.names.now) c.in-Map.span c.in-Map.key c.in-Map.value c.in_ok-key_type-in-Map.key_type c.in_ok-value_type-in-Map.value_type
     (rw (← c.deref-in-Map.ensures) c.in_ok-key_type-in-Map.ensures.resolved)
     (rw (← c.deref-in-Map-2.ensures) c.in_ok-value_type-in-Map.ensures.resolved))
 
@@ -102,7 +105,7 @@ pub read_form-returns-in_ok-value-in-Option-clause-legal : goal.read_form-return
 read_form-returns-in_ok-value-in-Option-clause-legal t c = rw c.in-Option.is (legal_only (written.Option c.in-Option.span c.in-Option.value) c.deref-in-Option.result.now (λ f own. own) (ap (λ t. t ∷ []) (sym c.deref-in-Option.ensures)) c.in_ok-value-in-Option.ensures.legal)
 
 pub read_form-returns-in_ok-err-in-Result-clause-read : goal.read_form-returns-in_ok-err-in-Result-clause-read
-read_form-returns-in_ok-err-in-Result-clause-read t c = rw c.in-Result.is (result_form c.args.types.now c.resolve_optional.new.types c.resolve_optional-in-Result.new.types (env_of c.args.scope.now.names) c.in-Result.span c.in-Result.ok c.in-Result.err c.in_ok-ok-in-Result.ok c.in_ok-err-in-Result.err
+read_form-returns-in_ok-err-in-Result-clause-read t c = rw c.in-Result.is (result_form c.args.types.now c.resolve_optional.new.types c.resolve_optional-in-Result.new.types (env_of c.args.names.now) c.in-Result.span c.in-Result.ok c.in-Result.err c.in_ok-ok-in-Result.ok c.in_ok-err-in-Result.err
     c.in_ok-ok-in-Result.ensures.is_some c.in_ok-err-in-Result.ensures.is_some c.in_ok-ok-in-Result.ensures.resolved c.in_ok-err-in-Result.ensures.resolved)
 
 pub read_form-returns-in_ok-err-in-Result-clause-legal : goal.read_form-returns-in_ok-err-in-Result-clause-legal
@@ -110,7 +113,7 @@ read_form-returns-in_ok-err-in-Result-clause-legal t c = rw c.in-Result.is (lega
     (legal_more (boxed_types c.in-Result.ok) (boxed_types c.in-Result.err) c.in_ok-ok-in-Result.ensures.legal c.in_ok-err-in-Result.ensures.legal))
 
 pub read_form-returns-in_ok-types-in-Tuple-clause-read : goal.read_form-returns-in_ok-types-in-Tuple-clause-read
-read_form-returns-in_ok-types-in-Tuple-clause-read t c = rw c.in-Tuple.is (tuple_form c.args.types.now c.resolve_types.new.types (env_of c.args.scope.now.names) c.in-Tuple.span c.in-Tuple.parts c.in_ok-types-in-Tuple.types (rw (← c.deref-in-Tuple-2.ensures.value) c.in_ok-types-in-Tuple.ensures.resolved))
+read_form-returns-in_ok-types-in-Tuple-clause-read t c = rw c.in-Tuple.is (tuple_form c.args.types.now c.resolve_types.new.types (env_of c.args.names.now) c.in-Tuple.span c.in-Tuple.parts c.in_ok-types-in-Tuple.types (rw (← c.deref-in-Tuple-2.ensures.value) c.in_ok-types-in-Tuple.ensures.resolved))
 
 pub read_form-returns-in_ok-types-in-Tuple-clause-legal : goal.read_form-returns-in_ok-types-in-Tuple-clause-legal
 read_form-returns-in_ok-types-in-Tuple-clause-legal t c = rw c.in-Tuple.is (legal_parts (written.Tuple c.in-Tuple.span c.in-Tuple.parts) c.deref-in-Tuple-2.result.now
@@ -118,13 +121,13 @@ read_form-returns-in_ok-types-in-Tuple-clause-legal t c = rw c.in-Tuple.is (lega
     (tuple_types c.in-Tuple.span c.in-Tuple.parts ∙ sym c.deref-in-Tuple-2.ensures.value) c.in_ok-types-in-Tuple.ensures.legal)
 
 pub read_form-returns-in_ok-value-in-Future-clause-read : goal.read_form-returns-in_ok-value-in-Future-clause-read
-read_form-returns-in_ok-value-in-Future-clause-read t c = rw c.in-Future.is (future_form c.args.types.now c.resolve_optional-in-Future.new.types (env_of c.args.scope.now.names) c.in-Future.span c.in-Future.value c.in_ok-value-in-Future.value c.in_ok-value-in-Future.ensures.is_some c.in_ok-value-in-Future.ensures.resolved)
+read_form-returns-in_ok-value-in-Future-clause-read t c = rw c.in-Future.is (future_form c.args.types.now c.resolve_optional-in-Future.new.types (env_of c.args.names.now) c.in-Future.span c.in-Future.value c.in_ok-value-in-Future.value c.in_ok-value-in-Future.ensures.is_some c.in_ok-value-in-Future.ensures.resolved)
 
 pub read_form-returns-in_ok-value-in-Future-clause-legal : goal.read_form-returns-in_ok-value-in-Future-clause-legal
 read_form-returns-in_ok-value-in-Future-clause-legal t c = rw c.in-Future.is (legal_parts (written.Future c.in-Future.span c.in-Future.value) (boxed_types c.in-Future.value) (λ f own. own) (types_of_held c.in-Future.value) c.in_ok-value-in-Future.ensures.legal)
 
 pub read_form-returns-in_ok-item-in-Stream-clause-read : goal.read_form-returns-in_ok-item-in-Stream-clause-read
-read_form-returns-in_ok-item-in-Stream-clause-read t c = rw c.in-Stream.is (stream_form c.args.types.now c.resolve_optional-in-Stream.new.types (env_of c.args.scope.now.names) c.in-Stream.span c.in-Stream.item c.in_ok-item-in-Stream.item c.in_ok-item-in-Stream.ensures.is_some c.in_ok-item-in-Stream.ensures.resolved)
+read_form-returns-in_ok-item-in-Stream-clause-read t c = rw c.in-Stream.is (stream_form c.args.types.now c.resolve_optional-in-Stream.new.types (env_of c.args.names.now) c.in-Stream.span c.in-Stream.item c.in_ok-item-in-Stream.item c.in_ok-item-in-Stream.ensures.is_some c.in_ok-item-in-Stream.ensures.resolved)
 
 pub read_form-returns-in_ok-item-in-Stream-clause-legal : goal.read_form-returns-in_ok-item-in-Stream-clause-legal
 read_form-returns-in_ok-item-in-Stream-clause-legal t c = rw c.in-Stream.is (legal_parts (written.Stream c.in-Stream.span c.in-Stream.item) (boxed_types c.in-Stream.item) (λ f own. own) (types_of_held c.in-Stream.item) c.in_ok-item-in-Stream.ensures.legal)
@@ -133,16 +136,16 @@ pub resolve_optional-returns-in_ok-found-in-Some-clause-legal : goal.resolve_opt
 resolve_optional-returns-in_ok-found-in-Some-clause-legal t c = rw c.in-Some.is (legal_one c.in-Some.ty.value (subst (λ ty. (f : Fault) → IsBrokenType ty f → ⊥) c.deref.ensures c.in_ok-found-in-Some.ensures.legal))
 
 pub resolve_type-returns-clause-resolved : goal.resolve_type-returns-clause-resolved
-resolve_type-returns-clause-resolved t c = read_stands c.args.types.now c.read.new.types c.type_of.new.types (env_of c.args.scope.now.names) (shape_of c.args.ty.now) c.in_ok-reading.reading c.in_ok-ty.ty c.in_ok-reading.ensures.read c.in_ok-ty.ensures.stands
+resolve_type-returns-clause-resolved t c = read_stands c.args.types.now c.read.new.types c.type_of.new.types (env_of c.args.names.now) (shape_of c.args.ty.now) c.in_ok-reading.reading c.in_ok-ty.ty c.in_ok-reading.ensures.read c.in_ok-ty.ensures.stands
 
 pub resolve_types-returns-in_err-ty-clause-refused : goal.resolve_types-returns-in_err-ty-clause-refused
 resolve_types-returns-in_err-ty-clause-refused t c =
     let p = err_from_is_err_and c.from_residual-in_err-ty.result c.from_residual-in_err-ty.ensures.1 in
-    let env = env_of c.args.scope.now.names in
+    let env = env_of c.args.names.now in
     let parts = c.args.parts.now in
     let part = c.part-item.result in
     let at = slice_get-get_or parts c.loop-part.part-index part c.loop-part-test.true ∙ ap Some (sym c.part-item.is) in
-    rw (p.1, p.2) (refused_weaker (IsWrongType env part) (AreWrongTypes env parts) _ (λ f wrong. wrong_at env parts c.loop-part.part-index part f at wrong) c.in_err-ty.ensures.refused)
+    rw (p.1, p.2) (refused_weaker (IsWrongType env _ part) (AreWrongTypes env _ parts) _ (λ f wrong. wrong_at env _ parts c.loop-part.part-index part f at wrong) c.in_err-ty.ensures.refused)
 
 pub resolve_types-loop-part-preserved : goal.resolve_types-loop-part-preserved
 resolve_types-loop-part-preserved t c =
@@ -153,6 +156,8 @@ resolve_types-loop-part-preserved t c =
     record {
       types = rw (taken, c.in_ok-push.ensures.items) (types_then (take i parts) (part ∷ []) c.loop-part.invariant.types (types_one part c.in_ok-ty.ensures.resolved));
       legal = subst AreLegal (sym taken) (legal_more (take i parts) (part ∷ []) c.loop-part.invariant.legal (legal_one part c.in_ok-ty.ensures.legal));
+      handled = rw taken (requires_types (env_of c.args.names.now) _ _ (take i parts) (part ∷ []) _ _ _ c.in_ok-ty.ensures.grown c.loop-part.invariant.handled (requires_one (env_of c.args.names.now) _ part _ _ c.in_ok-ty.ensures.handled));
+      grown = grown_then _ _ _ c.loop-part.invariant.grown c.in_ok-ty.ensures.grown;
     }
 
 pub resolve_types-returns-clause-resolved : goal.resolve_types-returns-clause-resolved
@@ -162,3 +167,54 @@ resolve_types-returns-clause-resolved t c =
 
 pub resolve_types-returns-clause-legal : goal.resolve_types-returns-clause-legal
 resolve_types-returns-clause-legal t c = subst AreLegal (take_all c.loop-part.part-index c.args.parts.now c.loop-part-test.false) c.loop-part.invariant.legal
+
+pub resolve_types-returns-clause-handled : goal.resolve_types-returns-clause-handled
+resolve_types-returns-clause-handled t c =
+    let all = take_all c.loop-part.part-index c.args.parts.now c.loop-part-test.false in
+    rw (← all) c.loop-part.invariant.handled
+
+pub read-returns-in-Some-clause-handled : goal.read-returns-in-Some-clause-handled
+read-returns-in-Some-clause-handled t c = subst (λ (l : List Id). Requires (env_of c.args.names.now) c.args.types.now l c.args.required.now.items c.args.required.now.items) (sym (no_handles c.args.ty.now c.in-Some.found (sym c.primitive.ensures ∙ c.in-Some.is))) (requires_none (env_of c.args.names.now) c.args.types.now c.args.required.now.items)
+
+pub read-returns-in-Own-clause-read : goal.read-returns-in-Own-clause-read
+read-returns-in-Own-clause-read t c = rw c.in-Own.is (tt, resolved_word c.args.types.now (env_of c.args.names.now) c.in-Own.id c.in_ok-resource.resource c.in_ok-resource.ensures.found)
+
+pub read_form-returns-in_ok-item-in-List-clause-handled : goal.read_form-returns-in_ok-item-in-List-clause-handled
+read_form-returns-in_ok-item-in-List-clause-handled t c = rw c.in-List.is (requires_only (env_of c.args.names.now) _ (written.List c.in-List.span c.in-List.item) c.deref.result.now _ _ tt (ap (λ t. t ∷ []) (sym c.deref.ensures)) c.in_ok-item-in-List.ensures.handled)
+
+pub read_form-returns-in_ok-item-in-FixedLengthList-clause-handled : goal.read_form-returns-in_ok-item-in-FixedLengthList-clause-handled
+read_form-returns-in_ok-item-in-FixedLengthList-clause-handled t c = rw c.in-FixedLengthList.is (requires_only (env_of c.args.names.now) _ (written.FixedLengthList c.in-FixedLengthList.span c.in-FixedLengthList.item c.in-FixedLengthList.size) c.deref-in-FixedLengthList.result.now _ _ tt (ap (λ t. t ∷ []) (sym c.deref-in-FixedLengthList.ensures)) c.in_ok-item-in-FixedLengthList.ensures.handled)
+
+pub read_form-returns-in_ok-check_key-in-Map-clause-handled : goal.read_form-returns-in_ok-check_key-in-Map-clause-handled
+read_form-returns-in_ok-check_key-in-Map-clause-handled t c = rw c.in-Map.is (requires_parts (env_of c.args.names.now) _ (written.Map c.in-Map.span c.in-Map.key c.in-Map.value) (c.deref-in-Map.result.now ∷ c.deref-in-Map-2.result.now ∷ []) _ _ tt
+    (ap (λ t. t ∷ c.in-Map.value.value ∷ []) (sym c.deref-in-Map.ensures) ∙ ap (λ t. c.deref-in-Map.result.now ∷ t ∷ []) (sym c.deref-in-Map-2.ensures))
+    (requires_types (env_of c.args.names.now) _ _ (c.deref-in-Map.result.now ∷ []) (c.deref-in-Map-2.result.now ∷ []) _ _ _ c.in_ok-value_type-in-Map.ensures.grown
+    (requires_one (env_of c.args.names.now) _ c.deref-in-Map.result.now _ _ c.in_ok-key_type-in-Map.ensures.handled)
+    (requires_one (env_of c.args.names.now) _ c.deref-in-Map-2.result.now _ _ c.in_ok-value_type-in-Map.ensures.handled)))
+
+pub read_form-returns-in_ok-value-in-Option-clause-handled : goal.read_form-returns-in_ok-value-in-Option-clause-handled
+read_form-returns-in_ok-value-in-Option-clause-handled t c = rw c.in-Option.is (requires_only (env_of c.args.names.now) _ (written.Option c.in-Option.span c.in-Option.value) c.deref-in-Option.result.now _ _ tt (ap (λ t. t ∷ []) (sym c.deref-in-Option.ensures)) c.in_ok-value-in-Option.ensures.handled)
+
+pub read_form-returns-in_ok-err-in-Result-clause-handled : goal.read_form-returns-in_ok-err-in-Result-clause-handled
+read_form-returns-in_ok-err-in-Result-clause-handled t c = rw c.in-Result.is (requires_parts (env_of c.args.names.now) _ (written.Result c.in-Result.span c.in-Result.ok c.in-Result.err) (boxed_types c.in-Result.ok ++ boxed_types c.in-Result.err) _ _ tt (result_types c.in-Result.ok c.in-Result.err)
+    (requires_types (env_of c.args.names.now) _ _ (boxed_types c.in-Result.ok) (boxed_types c.in-Result.err) _ _ _ c.in_ok-err-in-Result.ensures.grown c.in_ok-ok-in-Result.ensures.handled c.in_ok-err-in-Result.ensures.handled))
+
+pub read_form-returns-in_ok-types-in-Tuple-clause-handled : goal.read_form-returns-in_ok-types-in-Tuple-clause-handled
+read_form-returns-in_ok-types-in-Tuple-clause-handled t c = rw c.in-Tuple.is (requires_parts (env_of c.args.names.now) _ (written.Tuple c.in-Tuple.span c.in-Tuple.parts) c.deref-in-Tuple-2.result.now _ _ tt (tuple_types c.in-Tuple.span c.in-Tuple.parts ∙ sym c.deref-in-Tuple-2.ensures.value) c.in_ok-types-in-Tuple.ensures.handled)
+
+pub read_form-returns-in_ok-value-in-Future-clause-handled : goal.read_form-returns-in_ok-value-in-Future-clause-handled
+read_form-returns-in_ok-value-in-Future-clause-handled t c = rw c.in-Future.is (requires_parts (env_of c.args.names.now) _ (written.Future c.in-Future.span c.in-Future.value) (boxed_types c.in-Future.value) _ _ tt (types_of_held c.in-Future.value) c.in_ok-value-in-Future.ensures.handled)
+
+pub read_form-returns-in_ok-item-in-Stream-clause-handled : goal.read_form-returns-in_ok-item-in-Stream-clause-handled
+read_form-returns-in_ok-item-in-Stream-clause-handled t c = rw c.in-Stream.is (requires_parts (env_of c.args.names.now) _ (written.Stream c.in-Stream.span c.in-Stream.item) (boxed_types c.in-Stream.item) _ _ tt (types_of_held c.in-Stream.item) c.in_ok-item-in-Stream.ensures.handled)
+
+pub resolve_optional-returns-in_ok-found-in-Some-clause-handled : goal.resolve_optional-returns-in_ok-found-in-Some-clause-handled
+resolve_optional-returns-in_ok-found-in-Some-clause-handled t c = rw c.in-Some.is (requires_boxed (env_of c.args.names.now) _ c.deref.result.now c.in-Some.ty.value _ _ c.deref.ensures c.in_ok-found-in-Some.ensures.handled)
+
+pub resolve_type-returns-clause-handled : goal.resolve_type-returns-clause-handled
+resolve_type-returns-clause-handled t c = requires_grown (env_of c.args.names.now) _ _ (handles c.args.ty.now) _ _ c.in_ok-ty.ensures.grown c.in_ok-reading.ensures.handled
+
+pub resolve_optional-returns-in_err-found-in-Some-clause-refused : goal.resolve_optional-returns-in_err-found-in-Some-clause-refused
+resolve_optional-returns-in_err-found-in-Some-clause-refused t c =
+    let p = err_from_is_err_and c.from_residual.result c.from_residual.ensures.1 in
+    rw (c.in-Some.is, p.1, p.2) (refused_boxed (env_of c.args.names.now) _ c.deref.result.now c.in-Some.ty.value _ c.deref.ensures c.in_err-found-in-Some.ensures.refused)

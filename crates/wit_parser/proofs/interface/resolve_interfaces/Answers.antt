@@ -8,15 +8,17 @@ use Rattle.wit_model.specs.declared.interface.Interface.{Interface}
 use Rattle.wit_meaning.specs.Address.{Address}
 use Rattle.wit_meaning.specs.Source.{Item, is_declared_world, is_world, scope_names}
 use Rattle.wit_meaning.specs.Scope.{in_order, interfaces_of}
-use Rattle.wit_meaning.specs.Resolving.{cells, IsWrongScope}
-use Rattle.wit_meaning.specs.Resolved.{AddsInterface}
+use Rattle.wit_meaning.specs.Resolving.{Required, cells}
+use Rattle.wit_meaning.specs.Resolved.{AddsInterface, IsWrongInterface}
+use Rattle.wit_types.specs.declared.types.TypeOwner.TheVariants.{Interface as OfInterface}
 use Rattle.wit_parser.specs.Held.{front_of}
-use Rattle.wit_parser.specs.Between.{IsWrongNow}
+use Rattle.wit_parser.specs.Between.{Emits, IsWrongNow}
 use Rattle.wit_parser.specs.declared.items.Item.{Item as HeldItem}
 use Rattle.wit_meaning.proofs.Lists.{read_map, map_map}
 use Rattle.wit_meaning.proofs.Kept.{kept_next, kept_past}
 use Rattle.wit_meaning.proofs.Refusing.{refused_weaker}
-use Rattle.wit_meaning.proofs.Adding.{adds_append, adds_one, scopes_more}
+use Rattle.wit_meaning.proofs.Adding.{sounds_more}
+use Rattle.wit_parser.proofs.Emitting.{emits_more}
 use Rattle.wit_parser.specs.declared.items.Declared.{Declared as HeldDeclared}
 use Rattle.wit_parser.specs.Items.{declared_behind, item_behind, names_behind}
 use Rattle.wit_parser.proofs.Declaring.{alike}
@@ -24,8 +26,8 @@ use Rattle.wit_parser.proofs.interface.resolve_interfaces.Goals.{in-Interface+in
 use Rattle.wit_parser.proofs.interface.resolve_interfaces.Goals as goal
 
 -- the interfaces have one more
-grown : (foreign : List Address) (old new : List TypeDef) (is is' : List Interface) (w : Item) (n : ℕ) → AddsInterface foreign old new is is' w → n ≤ length is → n ≤ length is'
-grown foreign old new is is' w n one enough = omega (arith, ap length one.last, length-append is (one.added ∷ []), enough)
+grown : (foreign : List Address) (old new : List TypeDef) (is is' : List Interface) (rs : List Required) (w : Item) (n : ℕ) → AddsInterface foreign old new is is' rs w → n ≤ length is → n ≤ length is'
+grown foreign old new is is' rs w n one enough = omega (arith, ap length one.last, length-append is (one.added ∷ []), enough)
 
 item_at : (items : List HeldItem) (places : List ℕ) (k : ℕ) (x : HeldItem) → All (λ (place : ℕ). place < length items) places → k < length places → x ≡ get_or items (get_or places k 0) x → slice_get items (get_or places k 0) ≡ Some x
 item_at items places k x within lt is = slice_get-get_or items (get_or places k 0) x (within k 0 lt) ∙ ap Some (sym is)
@@ -68,14 +70,15 @@ returns-in_err-resolve_interface-clause-refused c =
     let there : slice_get ws p ≡ Some w = read_map item_behind c.args.items.now p x within c.index-items-place.is in
     let sort : is_world w ≡ false = ap (λ (d : HeldDeclared). is_declared_world (declared_behind d)) c.in-Interface.is in
     let foreign = front_of c.args.interfaces.now.foreign.now in
-    rw (q.1, q.2) (refused_weaker (IsWrongScope (cells foreign now.arena) now.by_name (scope_names w)) (IsWrongNow foreign c.args.types.now c.args.interfaces.now.arena ws places) _ (λ f h. record {
+    rw (q.1, q.2) (refused_weaker (IsWrongInterface c.loop-place.types (cells foreign now.arena) now.by_name (OfInterface (length now.arena)) w) (IsWrongNow foreign c.args.types.now c.args.interfaces.now.arena ws places) _ (λ f h. record {
       count = i;
       item = w;
       next = record { place = p; next = at; at = there };
       sort = sort;
       mid = c.loop-place.types;
       before = now.arena;
-      added = c.loop-place.invariant.added;
+      rs = c.loop-place.invariant.added.own;
+      added = c.loop-place.invariant.added.holds;
       by_name = now.by_name;
       index = c.loop-place.invariant.index;
       wrong = h;
@@ -103,17 +106,18 @@ loop-place-preserved c =
           let new = b.resolve_interface.new.interfaces.arena in
           let types = b.resolve_interface.new.types in
           let foreign = front_of c.args.interfaces.now.foreign.now in
-          let one : AddsInterface foreign c.loop-place.types types before new w = rw was.foreign at e.added in
+          let required = b.resolve_interface.new.required.items in
+          let one : Emits c.loop-place.required.items required (λ rs. AddsInterface foreign c.loop-place.types types before new rs w) = rw was.foreign at e.added in
           let same = e.foreign ∙ was.foreign in
-          rw (b.interfaces-is, b.types-is) (record {
+          rw (b.interfaces-is, b.types-is, b.required-is) (record {
             foreign = same;
-            front = grown foreign c.loop-place.types types before new w _ one was.front;
-            added = rw more (adds_append (AddsInterface foreign) c.args.types.now c.loop-place.types types c.args.interfaces.now.arena before new front (w ∷ []) was.added (adds_one (AddsInterface foreign) c.loop-place.types types before new w one));
+            front = grown foreign c.loop-place.types types before new one.own w _ one.holds was.front;
+            added = rw more (emits_more (AddsInterface foreign) c.args.types.now c.loop-place.types types c.args.interfaces.now.arena before new c.args.required.now.items c.loop-place.required.items required front w was.added one);
             index = rw same at e.index;
-            legal = rw more (scopes_more front w was.legal e.legal);
+            sound = rw more (sounds_more front w was.sound e.sound);
           }))
       | in_default b ↦ (
           let sort : not (is_world w) ≡ false = ap (λ (d : HeldDeclared). not (is_declared_world (declared_behind d))) b.in_default.is in
           let past : interfaces_of (in_order ws (take (i + 1) places)) ≡ front = kept_past (λ v. not (is_world v)) ws places i p w at there sort in
-          rw (b.interfaces-is, b.types-is) (record { foreign = was.foreign; front = was.front; added = rw past was.added; index = was.index; legal = rw past was.legal }))
+          rw (b.interfaces-is, b.types-is, b.required-is) (record { foreign = was.foreign; front = was.front; added = rw past was.added; index = was.index; sound = rw past was.sound }))
     ]

@@ -10,7 +10,7 @@ use Rattle.wit_parser.specs.Items.{IsUnusable, IsUnusableAmong}
 use Rattle.wit_meaning.specs.Foreign.{visited, foreign_interfaces}
 use Rattle.wit_parser.proofs.Placed.{names_more}
 use Rattle.wit_parser.proofs.Usable.{usable_none, usable_one, unusable_one}
-use Rattle.wit_parser.proofs.items.add_part.Goals.{in-Defining+in_ok-push-in-Defining, in-Using+in_ok-from-in-Using+in_ok-add_used_names-in-Using, in-Including}
+use Rattle.wit_parser.proofs.items.add_part.Goals.{in-Defining+in_ok-push-in-Defining, in-Using+in_ok-from-in-Using+in_ok-add_used_names-in-Using, in-Including, in-Doing}
 use Rattle.wit_parser.proofs.items.add_part.Goals as goal
 
 pub use_source-requires-clause-part : goal.use_source-requires-clause-part
@@ -30,6 +30,7 @@ returns-clause-names c = elim c.match-part.branch [
       let from = ap (λ (s : Address). map name_behind c.args.names.now.items ++ map (Used s) b.in-Using.used.now.names.items) (b.in_ok-from-in-Using.ensures.source fs file at) in
       rw (b.names-is, b.in-Using.is) ((rw b.deref.ensures.value at b.in_ok-add_used_names-in-Using.ensures.names) ∙ from))
   | in-Including b ↦ λ fs file at. rw (b.names-is, b.in-Including.is) (sym (append-nil (map name_behind c.args.names.now.items)))
+  | in-Doing b ↦ λ fs file at. rw (b.names-is, b.in-Doing.is) (sym (append-nil (map name_behind c.args.names.now.items)))
 ]
 
 pub returns-clause-usable : goal.returns-clause-usable
@@ -37,6 +38,7 @@ returns-clause-usable c = elim c.match-part.branch [
   | in-Defining+in_ok-push-in-Defining b ↦ λ fs file at. rw b.in-Defining.is (usable_none fs (top_names file))
   | in-Using+in_ok-from-in-Using+in_ok-add_used_names-in-Using b ↦ λ fs file at. rw b.in-Using.is (usable_one fs (top_names file) b.in-Using.used.now.from (b.in_ok-from-in-Using.ensures.usable fs file at))
   | in-Including b ↦ λ fs file at. rw b.in-Including.is (usable_none fs (top_names file))
+  | in-Doing b ↦ λ fs file at. rw b.in-Doing.is (usable_none fs (top_names file))
 ]
 
 pub returns-clause-placed : goal.returns-clause-placed
@@ -44,4 +46,5 @@ returns-clause-placed c = elim c.match-part.branch [
   | in-Defining+in_ok-push-in-Defining b ↦ λ fs file at before. rw b.names-is (names_more (map visited (foreign_interfaces fs)) c.args.names.now.items _ _ b.in_ok-push-in-Defining.ensures.items before tt)
   | in-Using+in_ok-from-in-Using+in_ok-add_used_names-in-Using b ↦ λ fs file at before. rw b.names-is (b.in_ok-add_used_names-in-Using.ensures.placed (map visited (foreign_interfaces fs)) (b.in_ok-from-in-Using.ensures.placed fs file at) before)
   | in-Including b ↦ λ fs file at before. rw b.names-is before
+  | in-Doing b ↦ λ fs file at before. rw b.names-is before
 ]

@@ -1,4 +1,4 @@
-use Rattle.std.proofs.Common.{◌≡◌, List, map, sym, ap, ◌∙◌, subst}
+use Rattle.std.proofs.Common.{◌≡◌, List, [], ◌++◌, map, sym, ap, ◌∙◌, subst}
 use Rattle.std.proofs.lemmas.Result.{err_from_is_err_and}
 use Rattle.wit_order.specs.Table.{IsOrder}
 use Rattle.wit_meaning.specs.Address.{Address}
@@ -6,74 +6,74 @@ use Rattle.wit_meaning.specs.Source.{Item, all_items}
 use Rattle.wit_meaning.specs.Foreign.{visited, foreign_interfaces, foreign_worlds}
 use Rattle.wit_meaning.specs.Scope.{in_order, item_rows, interfaces_of, worlds_of}
 use Rattle.wit_meaning.specs.Broken.{IsBroken}
-use Rattle.wit_meaning.specs.Resolving.{cells, IsIndex}
-use Rattle.wit_meaning.specs.Resolved.{AddsInterfaces, AddsWorlds, AreLegalScopes}
+use Rattle.wit_meaning.specs.Resolving.{Required, cells, IsIndex}
+use Rattle.wit_meaning.specs.Resolved.{AddsInterfaces, AddsWorlds, AreSoundScopes}
 use Rattle.wit_meaning.proofs.Refusing.{refused_weaker}
 use Rattle.wit_meaning.proofs.Resolved.{distinct_items}
 use Rattle.wit_meaning.proofs.Finished.{broken_among, broken_world_among}
 use Rattle.wit_parser.specs.Items.{item_behind, AreFiled, others_of}
 use Rattle.wit_parser.specs.Held.{front_of}
 use Rattle.wit_parser.specs.Front.{IsFront}
-use Rattle.wit_parser.specs.Between.{IsWrongNow, IsWrongWorldNow}
-use Rattle.wit_parser.proofs.Files.{legal_both, held_within, wrong_interface, wrong_world}
+use Rattle.wit_parser.specs.Between.{Emits, IsWrongNow, IsWrongWorldNow}
+use Rattle.wit_parser.proofs.Files.{sound_both, held_within, wrong_interface, wrong_world}
 use Rattle.wit_parser.proofs.Fronting.{front_started, front_taken, lent_front, lent_placed, lent_enough, lent_index, worlds_enough, worlds_index, others_names}
 use Rattle.wit_parser.proofs.resolver.resolve_files.Goals as goal
 
 pub take_all-requires : goal.take_all-requires
 take_all-requires c =
     let files = c.args.files.now in
-    front_started files c.foreign.result.now c.args.types.now c.in_ok-front.front c.in_ok-items.items.items c.deref-2.result.now (c.foreign.ensures.items files c.requires.names) c.requires.empty c.in_ok-front.ensures.bare c.deref-2.ensures.value c.in_ok-items.ensures.placed
+    front_started files c.foreign.result.now c.args.types.now c.in_ok-front.front c.in_ok-items.items.items c.deref_mut-lent.result.now (c.foreign.ensures.items files c.requires.names) c.requires.empty c.in_ok-front.ensures.bare c.deref_mut-lent.ensures.value c.in_ok-items.ensures.placed
 
 pub resolve_interfaces-requires-clause-within : goal.resolve_interfaces-requires-clause-within
 resolve_interfaces-requires-clause-within c =
     let files = c.args.files.now in
     let places = c.item_order.result.now in
     let order : IsOrder (item_rows files) places = subst (IsOrder (item_rows files)) (sym c.item_order.ensures) c.requires.order in
-    held_within files places c.deref-4.result.now order (ap (map item_behind) c.deref-4.ensures.value ∙ c.in_ok-items.ensures.items)
+    held_within files places c.deref_mut-lent.result.now order (ap (map item_behind) c.deref_mut-lent.ensures.value ∙ c.in_ok-items.ensures.items)
 
 pub resolve_interfaces-requires-clause-placed : goal.resolve_interfaces-requires-clause-placed
 resolve_interfaces-requires-clause-placed c =
     let files = c.args.files.now in
     let e = c.in_ok-items.ensures in
-    let front : IsFront files c.take_all.new.types c.take_all.new.self = front_taken files c.foreign.result.now c.args.types.now c.in_ok-front.front c.in_ok-items.items.items c.deref-2.result.now (c.foreign.ensures.items files c.requires.names) c.requires.empty c.in_ok-front.ensures.bare c.deref-2.ensures.value e.placed c.take_all.new.types c.take_all.new.self e.names c.in_ok-take_all.ensures.taken in
-    lent_placed files c.take_all.new.types c.take_all.new.self front c.deref-3.result.now c.deref-3.ensures.value c.in_ok-items.items.items c.deref-4.result.now c.deref-4.ensures.value e.placed
+    let front : IsFront files c.take_all.new.types c.take_all.new.self = front_taken files c.foreign.result.now c.args.types.now c.in_ok-front.front c.in_ok-items.items.items c.deref_mut-lent.result.now (c.foreign.ensures.items files c.requires.names) c.requires.empty c.in_ok-front.ensures.bare c.deref_mut-lent.ensures.value e.placed c.take_all.new.types c.take_all.new.self e.names c.in_ok-take_all.ensures.taken in
+    lent_placed files c.take_all.new.types c.take_all.new.self front c.deref-2.result.now c.deref-2.ensures.value c.in_ok-items.items.items c.deref_mut-lent.result.now c.deref_mut-lent.ensures.value e.placed
 
 pub resolve_interfaces-requires-clause-front : goal.resolve_interfaces-requires-clause-front
 resolve_interfaces-requires-clause-front c =
     let files = c.args.files.now in
     let e = c.in_ok-items.ensures in
-    let front : IsFront files c.take_all.new.types c.take_all.new.self = front_taken files c.foreign.result.now c.args.types.now c.in_ok-front.front c.in_ok-items.items.items c.deref-2.result.now (c.foreign.ensures.items files c.requires.names) c.requires.empty c.in_ok-front.ensures.bare c.deref-2.ensures.value e.placed c.take_all.new.types c.take_all.new.self e.names c.in_ok-take_all.ensures.taken in
-    lent_enough files c.take_all.new.types c.take_all.new.self front c.deref-3.result.now c.deref-3.ensures.value
+    let front : IsFront files c.take_all.new.types c.take_all.new.self = front_taken files c.foreign.result.now c.args.types.now c.in_ok-front.front c.in_ok-items.items.items c.deref_mut-lent.result.now (c.foreign.ensures.items files c.requires.names) c.requires.empty c.in_ok-front.ensures.bare c.deref_mut-lent.ensures.value e.placed c.take_all.new.types c.take_all.new.self e.names c.in_ok-take_all.ensures.taken in
+    lent_enough files c.take_all.new.types c.take_all.new.self front c.deref-2.result.now c.deref-2.ensures.value
 
 pub resolve_interfaces-requires-clause-index : goal.resolve_interfaces-requires-clause-index
 resolve_interfaces-requires-clause-index c =
     let files = c.args.files.now in
     let e = c.in_ok-items.ensures in
-    let front : IsFront files c.take_all.new.types c.take_all.new.self = front_taken files c.foreign.result.now c.args.types.now c.in_ok-front.front c.in_ok-items.items.items c.deref-2.result.now (c.foreign.ensures.items files c.requires.names) c.requires.empty c.in_ok-front.ensures.bare c.deref-2.ensures.value e.placed c.take_all.new.types c.take_all.new.self e.names c.in_ok-take_all.ensures.taken in
-    lent_index files c.take_all.new.types c.take_all.new.self front c.deref-3.result.now c.deref-3.ensures.value c.new.result c.new.ensures
+    let front : IsFront files c.take_all.new.types c.take_all.new.self = front_taken files c.foreign.result.now c.args.types.now c.in_ok-front.front c.in_ok-items.items.items c.deref_mut-lent.result.now (c.foreign.ensures.items files c.requires.names) c.requires.empty c.in_ok-front.ensures.bare c.deref_mut-lent.ensures.value e.placed c.take_all.new.types c.take_all.new.self e.names c.in_ok-take_all.ensures.taken in
+    lent_index files c.take_all.new.types c.take_all.new.self front c.deref-2.result.now c.deref-2.ensures.value c.new.result c.new.ensures
 
 pub resolve_worlds-requires-clause-within : goal.resolve_worlds-requires-clause-within
-resolve_worlds-requires-clause-within c = held_within c.args.files.now c.args.names.now.order.items c.deref-6.result.now c.requires.order (ap (map item_behind) c.deref-6.ensures.value ∙ c.in_ok-items.ensures.items)
+resolve_worlds-requires-clause-within c = held_within c.args.files.now c.args.names.now.order.items c.deref_mut-lent.result.now c.requires.order (ap (map item_behind) c.deref_mut-lent.ensures.value ∙ c.in_ok-items.ensures.items)
 
 pub resolve_worlds-requires-clause-placed : goal.resolve_worlds-requires-clause-placed
 resolve_worlds-requires-clause-placed c =
     let files = c.args.files.now in
     let e = c.in_ok-items.ensures in
-    let front : IsFront files c.take_all.new.types c.take_all.new.self = front_taken files c.foreign.result.now c.args.types.now c.in_ok-front.front c.in_ok-items.items.items c.deref-2.result.now (c.foreign.ensures.items files c.requires.names) c.requires.empty c.in_ok-front.ensures.bare c.deref-2.ensures.value e.placed c.take_all.new.types c.take_all.new.self e.names c.in_ok-take_all.ensures.taken in
-    lent_placed files c.take_all.new.types c.take_all.new.self front c.resolve_interfaces.new.interfaces.foreign.now (ap (λ r. r.now) c.in_ok-resolve_interfaces.ensures.foreign ∙ c.deref-3.ensures.value) c.in_ok-items.items.items c.deref-6.result.now c.deref-6.ensures.value e.placed
+    let front : IsFront files c.take_all.new.types c.take_all.new.self = front_taken files c.foreign.result.now c.args.types.now c.in_ok-front.front c.in_ok-items.items.items c.deref_mut-lent.result.now (c.foreign.ensures.items files c.requires.names) c.requires.empty c.in_ok-front.ensures.bare c.deref_mut-lent.ensures.value e.placed c.take_all.new.types c.take_all.new.self e.names c.in_ok-take_all.ensures.taken in
+    lent_placed files c.take_all.new.types c.take_all.new.self front c.resolve_interfaces.new.interfaces.foreign.now (ap (λ r. r.now) c.in_ok-resolve_interfaces.ensures.foreign ∙ c.deref-2.ensures.value) c.in_ok-items.items.items c.deref_mut-lent.result.now c.deref_mut-lent.ensures.value e.placed
 
 pub resolve_worlds-requires-clause-worlds_front : goal.resolve_worlds-requires-clause-worlds_front
 resolve_worlds-requires-clause-worlds_front c =
     let files = c.args.files.now in
     let e = c.in_ok-items.ensures in
-    let front : IsFront files c.take_all.new.types c.take_all.new.self = front_taken files c.foreign.result.now c.args.types.now c.in_ok-front.front c.in_ok-items.items.items c.deref-2.result.now (c.foreign.ensures.items files c.requires.names) c.requires.empty c.in_ok-front.ensures.bare c.deref-2.ensures.value e.placed c.take_all.new.types c.take_all.new.self e.names c.in_ok-take_all.ensures.taken in
+    let front : IsFront files c.take_all.new.types c.take_all.new.self = front_taken files c.foreign.result.now c.args.types.now c.in_ok-front.front c.in_ok-items.items.items c.deref_mut-lent.result.now (c.foreign.ensures.items files c.requires.names) c.requires.empty c.in_ok-front.ensures.bare c.deref_mut-lent.ensures.value e.placed c.take_all.new.types c.take_all.new.self e.names c.in_ok-take_all.ensures.taken in
     worlds_enough files c.take_all.new.types c.take_all.new.self front c.args.names.now c.requires.names
 
 pub resolve_worlds-requires-clause-worlds_index : goal.resolve_worlds-requires-clause-worlds_index
 resolve_worlds-requires-clause-worlds_index c =
     let files = c.args.files.now in
     let e = c.in_ok-items.ensures in
-    let front : IsFront files c.take_all.new.types c.take_all.new.self = front_taken files c.foreign.result.now c.args.types.now c.in_ok-front.front c.in_ok-items.items.items c.deref-2.result.now (c.foreign.ensures.items files c.requires.names) c.requires.empty c.in_ok-front.ensures.bare c.deref-2.ensures.value e.placed c.take_all.new.types c.take_all.new.self e.names c.in_ok-take_all.ensures.taken in
+    let front : IsFront files c.take_all.new.types c.take_all.new.self = front_taken files c.foreign.result.now c.args.types.now c.in_ok-front.front c.in_ok-items.items.items c.deref_mut-lent.result.now (c.foreign.ensures.items files c.requires.names) c.requires.empty c.in_ok-front.ensures.bare c.deref_mut-lent.ensures.value e.placed c.take_all.new.types c.take_all.new.self e.names c.in_ok-take_all.ensures.taken in
     worlds_index files c.take_all.new.types c.take_all.new.self front c.args.names.now c.requires.names c.new-2.result c.new-2.ensures
 
 pub returns-in_err-resolve_interfaces-clause-refused : goal.returns-in_err-resolve_interfaces-clause-refused
@@ -81,16 +81,16 @@ returns-in_err-resolve_interfaces-clause-refused c =
     let p = err_from_is_err_and c.from_residual-in_err-resolve_interfaces.result c.from_residual-in_err-resolve_interfaces.ensures.1 in
     let files = c.args.files.now in
     let e = c.in_ok-items.ensures in
-    let front : IsFront files c.take_all.new.types c.take_all.new.self = front_taken files c.foreign.result.now c.args.types.now c.in_ok-front.front c.in_ok-items.items.items c.deref-2.result.now (c.foreign.ensures.items files c.requires.names) c.requires.empty c.in_ok-front.ensures.bare c.deref-2.ensures.value e.placed c.take_all.new.types c.take_all.new.self e.names c.in_ok-take_all.ensures.taken in
-    let held = c.deref-3.result.now in
-    let items = c.deref-4.result.now in
+    let front : IsFront files c.take_all.new.types c.take_all.new.self = front_taken files c.foreign.result.now c.args.types.now c.in_ok-front.front c.in_ok-items.items.items c.deref_mut-lent.result.now (c.foreign.ensures.items files c.requires.names) c.requires.empty c.in_ok-front.ensures.bare c.deref_mut-lent.ensures.value e.placed c.take_all.new.types c.take_all.new.self e.names c.in_ok-take_all.ensures.taken in
+    let held = c.deref-2.result.now in
+    let items = c.deref_mut-lent.result.now in
     let places = c.item_order.result.now in
     let types = c.take_all.new.types in
     let a = c.take_all.new.self in
-    let all : map item_behind items ≡ all_items files = ap (map item_behind) c.deref-4.ensures.value ∙ e.items in
+    let all : map item_behind items ≡ all_items files = ap (map item_behind) c.deref_mut-lent.ensures.value ∙ e.items in
     let order : IsOrder (item_rows files) places = subst (IsOrder (item_rows files)) (sym c.item_order.ensures) c.requires.order in
     let differ = distinct_items files c.requires.legal in
-    let same = lent_front files types a front held c.deref-3.ensures.value in
+    let same = lent_front files types a front held c.deref-2.ensures.value in
     rw (p.1, p.2) (refused_weaker (IsWrongNow (front_of held) types a.interfaces (map item_behind items) places) (IsBroken files) _ (λ f h. broken_among files places order differ e.uses f (wrong_interface files types a.interfaces a.worlds (all_items files) places f front.adds (subst (λ (l : List Item). IsWrongNow (map visited (foreign_interfaces files)) types a.interfaces l places f) all (subst (λ (ss : List Address). IsWrongNow ss types a.interfaces (map item_behind items) places f) same h)))) c.in_err-resolve_interfaces.ensures.refused)
 
 pub returns-in_err-resolve_worlds-clause-refused : goal.returns-in_err-resolve_worlds-clause-refused
@@ -100,22 +100,23 @@ returns-in_err-resolve_worlds-clause-refused c =
     let e = c.in_ok-items.ensures in
     let types = c.take_all.new.types in
     let a = c.take_all.new.self in
-    let front : IsFront files types a = front_taken files c.foreign.result.now c.args.types.now c.in_ok-front.front c.in_ok-items.items.items c.deref-2.result.now (c.foreign.ensures.items files c.requires.names) c.requires.empty c.in_ok-front.ensures.bare c.deref-2.ensures.value e.placed types a e.names c.in_ok-take_all.ensures.taken in
+    let front : IsFront files types a = front_taken files c.foreign.result.now c.args.types.now c.in_ok-front.front c.in_ok-items.items.items c.deref_mut-lent.result.now (c.foreign.ensures.items files c.requires.names) c.requires.empty c.in_ok-front.ensures.bare c.deref_mut-lent.ensures.value e.placed types a e.names c.in_ok-take_all.ensures.taken in
     let places = c.args.names.now.order.items in
     let now = c.resolve_interfaces.new.interfaces in
     let middle = c.resolve_interfaces.new.types in
-    let all : map item_behind c.deref-4.result.now ≡ all_items files = ap (map item_behind) c.deref-4.ensures.value ∙ e.items in
-    let again : map item_behind c.deref-6.result.now ≡ all_items files = ap (map item_behind) c.deref-6.ensures.value ∙ e.items in
-    let held : front_of c.deref-3.result.now ≡ map visited (foreign_interfaces files) = lent_front files types a front c.deref-3.result.now c.deref-3.ensures.value in
-    let kept : front_of now.foreign.now ≡ map visited (foreign_interfaces files) = lent_front files types a front now.foreign.now (ap (λ r. r.now) c.in_ok-resolve_interfaces.ensures.foreign ∙ c.deref-3.ensures.value) in
+    let all : map item_behind c.deref_mut-lent.result.now ≡ all_items files = ap (map item_behind) c.deref_mut-lent.ensures.value ∙ e.items in
+    let again : map item_behind c.deref_mut-lent.result.now ≡ all_items files = ap (map item_behind) c.deref_mut-lent.ensures.value ∙ e.items in
+    let held : front_of c.deref-2.result.now ≡ map visited (foreign_interfaces files) = lent_front files types a front c.deref-2.result.now c.deref-2.ensures.value in
+    let kept : front_of now.foreign.now ≡ map visited (foreign_interfaces files) = lent_front files types a front now.foreign.now (ap (λ r. r.now) c.in_ok-resolve_interfaces.ensures.foreign ∙ c.deref-2.ensures.value) in
     let others : others_of c.args.names.now ≡ map visited (foreign_worlds files) = others_names files c.args.names.now c.requires.names in
-    let from : AddsInterfaces (front_of c.deref-3.result.now) types middle a.interfaces now.arena (interfaces_of (in_order (all_items files) places)) = rw (all, c.item_order.ensures) at c.in_ok-resolve_interfaces.ensures.added in
-    let added : AddsInterfaces (map visited (foreign_interfaces files)) types middle a.interfaces now.arena (interfaces_of (in_order (all_items files) places)) = subst (λ (ss : List Address). AddsInterfaces ss types middle a.interfaces now.arena (interfaces_of (in_order (all_items files) places))) held from in
-    let items = c.deref-6.result.now in
+    let irs = c.resolve_interfaces.new.required.items in
+    let from : Emits c.new-required.result.items irs (λ rs. AddsInterfaces (front_of c.deref-2.result.now) types middle a.interfaces now.arena rs (interfaces_of (in_order (all_items files) places))) = rw (all, c.item_order.ensures) at c.in_ok-resolve_interfaces.ensures.added in
+    let added : AddsInterfaces (map visited (foreign_interfaces files)) types middle a.interfaces now.arena from.own (interfaces_of (in_order (all_items files) places)) = subst (λ (ss : List Address). AddsInterfaces ss types middle a.interfaces now.arena from.own (interfaces_of (in_order (all_items files) places))) held from.holds in
+    let items = c.deref_mut-lent.result.now in
     let index : IsIndex (cells (map visited (foreign_interfaces files)) now.arena) now.by_name = subst (λ (ss : List Address). IsIndex (cells ss now.arena) now.by_name) kept c.in_ok-resolve_interfaces.ensures.index in
     let differ = distinct_items files c.requires.legal in
-    let filed : AreFiled files c.args.names.now items = subst (AreFiled files c.args.names.now) (sym c.deref-6.ensures.value) e.filed in
-    rw (p.1, p.2) (refused_weaker (IsWrongWorldNow files (front_of now.foreign.now) (others_of c.args.names.now) middle now.arena now.by_name a.worlds (map item_behind items) places) (IsBroken files) _ (λ f h. broken_world_among files places c.requires.order differ e.uses f (wrong_world files types a.interfaces a.worlds middle now.arena now.by_name (all_items files) places f front.adds added index (
+    let filed : AreFiled files c.args.names.now items = subst (AreFiled files c.args.names.now) (sym c.deref_mut-lent.ensures.value) e.filed in
+    rw (p.1, p.2) (refused_weaker (IsWrongWorldNow files (front_of now.foreign.now) (others_of c.args.names.now) middle now.arena now.by_name a.worlds (map item_behind items) places) (IsBroken files) _ (λ f h. broken_world_among files places c.requires.order differ e.uses f (wrong_world files types a.interfaces a.worlds middle now.arena now.by_name from.own (all_items files) places f front.adds added index (
     subst (λ (l : List Item). IsWrongWorldNow files (map visited (foreign_interfaces files)) (map visited (foreign_worlds files)) middle now.arena now.by_name a.worlds l places f) again (
     subst (λ (ss : List Address). IsWrongWorldNow files (map visited (foreign_interfaces files)) ss middle now.arena now.by_name a.worlds (map item_behind items) places f) others (
     subst (λ (ss : List Address). IsWrongWorldNow files ss (others_of c.args.names.now) middle now.arena now.by_name a.worlds (map item_behind items) places f) kept h))))) (c.in_err-resolve_worlds.ensures.refused files filed))
@@ -126,22 +127,23 @@ returns-clause-added c =
     let e = c.in_ok-items.ensures in
     let types = c.take_all.new.types in
     let a = c.take_all.new.self in
-    let front : IsFront files types a = front_taken files c.foreign.result.now c.args.types.now c.in_ok-front.front c.in_ok-items.items.items c.deref-2.result.now (c.foreign.ensures.items files c.requires.names) c.requires.empty c.in_ok-front.ensures.bare c.deref-2.ensures.value e.placed types a e.names c.in_ok-take_all.ensures.taken in
+    let front : IsFront files types a = front_taken files c.foreign.result.now c.args.types.now c.in_ok-front.front c.in_ok-items.items.items c.deref_mut-lent.result.now (c.foreign.ensures.items files c.requires.names) c.requires.empty c.in_ok-front.ensures.bare c.deref_mut-lent.ensures.value e.placed types a e.names c.in_ok-take_all.ensures.taken in
     let places = c.args.names.now.order.items in
     let now = c.resolve_interfaces.new.interfaces in
     let middle = c.resolve_interfaces.new.types in
-    let all : map item_behind c.deref-4.result.now ≡ all_items files = ap (map item_behind) c.deref-4.ensures.value ∙ e.items in
-    let again : map item_behind c.deref-6.result.now ≡ all_items files = ap (map item_behind) c.deref-6.ensures.value ∙ e.items in
-    let held : front_of c.deref-3.result.now ≡ map visited (foreign_interfaces files) = lent_front files types a front c.deref-3.result.now c.deref-3.ensures.value in
-    let kept : front_of now.foreign.now ≡ map visited (foreign_interfaces files) = lent_front files types a front now.foreign.now (ap (λ r. r.now) c.in_ok-resolve_interfaces.ensures.foreign ∙ c.deref-3.ensures.value) in
+    let all : map item_behind c.deref_mut-lent.result.now ≡ all_items files = ap (map item_behind) c.deref_mut-lent.ensures.value ∙ e.items in
+    let again : map item_behind c.deref_mut-lent.result.now ≡ all_items files = ap (map item_behind) c.deref_mut-lent.ensures.value ∙ e.items in
+    let held : front_of c.deref-2.result.now ≡ map visited (foreign_interfaces files) = lent_front files types a front c.deref-2.result.now c.deref-2.ensures.value in
+    let kept : front_of now.foreign.now ≡ map visited (foreign_interfaces files) = lent_front files types a front now.foreign.now (ap (λ r. r.now) c.in_ok-resolve_interfaces.ensures.foreign ∙ c.deref-2.ensures.value) in
     let others : others_of c.args.names.now ≡ map visited (foreign_worlds files) = others_names files c.args.names.now c.requires.names in
-    let from : AddsInterfaces (front_of c.deref-3.result.now) types middle a.interfaces now.arena (interfaces_of (in_order (all_items files) places)) = rw (all, c.item_order.ensures) at c.in_ok-resolve_interfaces.ensures.added in
-    let added : AddsInterfaces (map visited (foreign_interfaces files)) types middle a.interfaces now.arena (interfaces_of (in_order (all_items files) places)) = subst (λ (ss : List Address). AddsInterfaces ss types middle a.interfaces now.arena (interfaces_of (in_order (all_items files) places))) held from in
+    let irs = c.resolve_interfaces.new.required.items in
+    let from : Emits c.new-required.result.items irs (λ rs. AddsInterfaces (front_of c.deref-2.result.now) types middle a.interfaces now.arena rs (interfaces_of (in_order (all_items files) places))) = rw (all, c.item_order.ensures) at c.in_ok-resolve_interfaces.ensures.added in
+    let added : AddsInterfaces (map visited (foreign_interfaces files)) types middle a.interfaces now.arena from.own (interfaces_of (in_order (all_items files) places)) = subst (λ (ss : List Address). AddsInterfaces ss types middle a.interfaces now.arena from.own (interfaces_of (in_order (all_items files) places))) held from.holds in
     let ws = c.in_ok-resolve_worlds.ensures in
     let new = c.resolve_worlds.new in
-    let legal : AreLegalScopes (interfaces_of (in_order (all_items files) places)) = rw (all, c.item_order.ensures) at c.in_ok-resolve_interfaces.ensures.legal in
-    let legal' : AreLegalScopes (worlds_of (in_order (all_items files) places)) = rw again at ws.legal in
-    let said : AddsWorlds (front_of now.foreign.now) (others_of c.args.names.now) now.arena middle new.types a.worlds new.worlds.arena (worlds_of (in_order (all_items files) places)) = rw again at ws.added in
+    let sound : AreSoundScopes (interfaces_of (in_order (all_items files) places)) = rw (all, c.item_order.ensures) at c.in_ok-resolve_interfaces.ensures.sound in
+    let sound' : AreSoundScopes (worlds_of (in_order (all_items files) places)) = rw again at ws.sound in
+    let said : Emits irs new.required.items (λ rs. AddsWorlds (front_of now.foreign.now) (others_of c.args.names.now) now.arena middle new.types a.worlds new.worlds.arena rs (worlds_of (in_order (all_items files) places))) = rw again at ws.added in
     record {
       places = places;
       order = c.requires.order;
@@ -152,7 +154,10 @@ returns-clause-added c =
       worlds_front = a.worlds;
       foreign = front.adds;
       middle = middle;
+      irs = from.own;
+      wrs = said.own;
+      requires = said.list ∙ ap (λ (l : List Required). l ++ said.own) (from.list ∙ ap (λ (l : List Required). l ++ from.own) c.new-required.ensures.items);
       interfaces = added;
-      worlds = subst (λ (ss : List Address). AddsWorlds (map visited (foreign_interfaces files)) ss now.arena middle new.types a.worlds new.worlds.arena (worlds_of (in_order (all_items files) places))) others (subst (λ (ss : List Address). AddsWorlds ss (others_of c.args.names.now) now.arena middle new.types a.worlds new.worlds.arena (worlds_of (in_order (all_items files) places))) kept said);
-      legal = legal_both (in_order (all_items files) places) legal legal';
+      worlds = subst (λ (ss : List Address). AddsWorlds (map visited (foreign_interfaces files)) ss now.arena middle new.types a.worlds new.worlds.arena said.own (worlds_of (in_order (all_items files) places))) others (subst (λ (ss : List Address). AddsWorlds ss (others_of c.args.names.now) now.arena middle new.types a.worlds new.worlds.arena said.own (worlds_of (in_order (all_items files) places))) kept said.holds);
+      sound = sound_both (in_order (all_items files) places) sound sound';
     }

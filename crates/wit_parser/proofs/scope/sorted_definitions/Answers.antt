@@ -1,6 +1,7 @@
 use Rattle.std.proofs.Common.{◌≡◌, get_or, map, ap, sym, ◌∙◌, subst, arith}
 use Rattle.std.proofs.lemmas.List.{length-map}
 use Rattle.std.proofs.lemmas.Option.{slice_get-get_or}
+use Rattle.std.proofs.lemmas.Result.{err_from_is_err_and}
 use Rattle.wit_order.specs.Table.{IsOrder}
 use Rattle.wit_meaning.specs.Scope.{rows_of, in_order, defined}
 use Rattle.wit_meaning.proofs.Turns.{names_within}
@@ -27,3 +28,8 @@ returns-clause-ordered c =
       least = c.in_ok-places.ensures.order;
       are = c.in_ok-definitions.ensures ∙ ap (λ l. defined (map name_behind l)) (c.deref-2.ensures.value ∙ are) ∙ ap defined (map-in_order name_behind names places);
     }
+
+pub returns-in_err-places-clause-refused : goal.returns-in_err-places-clause-refused
+returns-in_err-places-clause-refused c =
+    let p = err_from_is_err_and c.from_residual.result c.from_residual.ensures.1 in
+    rw (p.1, p.2) c.in_err-places.ensures.refused

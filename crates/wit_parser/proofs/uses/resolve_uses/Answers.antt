@@ -1,10 +1,11 @@
-use Rattle.std.proofs.Common.{◌≡◌, ◌+◌, ◌++◌, ◌∷◌, [], take, Some, refl, ap, sym, ◌∙◌, subst, arith}
+use Rattle.std.proofs.Common.{◌≡◌, ◌+◌, ◌++◌, ◌∷◌, List, [], take, Some, refl, ap, sym, ◌∙◌, subst, arith}
 use Rattle.std.specs.Prelude.{slice_get, map}
 use Rattle.std.proofs.lemmas.List.{take_all, length-map}
 use Rattle.std.proofs.lemmas.Option.{slice_get_read}
 use Rattle.std.proofs.lemmas.Result.{err_from_is_err_and}
 use Rattle.wit_types.specs.declared.types.TypeOwner.{TypeOwner}
 use Rattle.wit_meaning.specs.Source.{Used}
+use Rattle.wit_meaning.specs.Function.{SourceFunction}
 use Rattle.wit_meaning.specs.Resolving.{Defines, local_names, IsWrongUse, IsWrongScope}
 use Rattle.wit_meaning.proofs.Lists.{read_map}
 use Rattle.wit_meaning.proofs.Orders.{take_next}
@@ -33,7 +34,7 @@ returns-in_err-resolve_use-clause-refused c =
     let by_name = c.args.interfaces.now.by_name in
     let names = c.loop-name.scope.names in
     let at : slice_get us i ≡ Some (Used from n) = read_map use_behind c.args.uses.now i c.name-item.result c.loop-name-test.true c.name-item.is in
-    rw (p.1, p.2) (λ xs are. refused_weaker (IsWrongUse cs by_name names from n) (IsWrongScope cs by_name xs) _ (λ f h. wrong_used cs by_name names xs i from n (ap (λ l. slice_get l i) (sym are) ∙ at) (c.loop-name.invariant.listed ∙ ap (λ l. local_names (take i l)) are) f h) c.in_err-resolve_use.ensures.refused)
+    rw (p.1, p.2) (λ xs are. refused_weaker (IsWrongUse cs by_name names from n) (λ f. (fns : List SourceFunction) → IsWrongScope cs by_name xs fns f) _ (wrong_used cs by_name names xs i from n (ap (λ l. slice_get l i) (sym are) ∙ at) (c.loop-name.invariant.listed ∙ ap (λ l. local_names (take i l)) are)) c.in_err-resolve_use.ensures.refused)
 
 pub loop-name-preserved : goal.loop-name-preserved
 loop-name-preserved c =
@@ -51,6 +52,7 @@ loop-name-preserved c =
     record {
       defines = λ s. rw more (defines_more c.args.types.now c.loop-name.types c.resolve_use.new.types cs o s c.args.scope.now.names old new (take i us) (Used from n ∷ []) (c.loop-name.invariant.defines s) (subst (λ (m : TypeOwner). Defines c.loop-name.types c.resolve_use.new.types cs m s old new (Used from n ∷ [])) c.loop-name.invariant.owner (defines_used c.loop-name.types c.resolve_use.new.types cs c.loop-name.scope.owner s old new from n e.used)));
       owner = e.owner ∙ c.loop-name.invariant.owner;
+      required = e.required ∙ c.loop-name.invariant.required;
       listed = rw more (listed_more (take i us) from n c.loop-name.invariant.listed e.used);
     }
 
@@ -58,3 +60,8 @@ pub returns-clause-has : goal.returns-clause-has
 returns-clause-has c =
     let us = map use_behind c.args.uses.now in
     listed_has c.loop-name.scope.names us (c.loop-name.invariant.listed ∙ ap local_names (take_all c.loop-name.name-index us (omega (arith, length-map c.args.uses.now use_behind))))
+
+pub returns-clause-listed : goal.returns-clause-listed
+returns-clause-listed c =
+    let us = map use_behind c.args.uses.now in
+    c.loop-name.invariant.listed ∙ ap local_names (take_all c.loop-name.name-index us (omega (arith, length-map c.args.uses.now use_behind)))

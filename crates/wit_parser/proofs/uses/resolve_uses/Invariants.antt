@@ -8,5 +8,6 @@ abbrev pub invariant-loop-name : goal.invariant-loop-name
 invariant-loop-name l = record {
   defines : (s : Address) → Defines l.fn.types l.types (cells_of l.interfaces) l.fn.scope.owner s l.fn.scope.names l.scope.names (take l.name-index (map use_behind l.uses));
   owner : l.scope.owner ≡ l.fn.scope.owner;
+  required : l.scope.required ≡ l.fn.scope.required;
   listed : map (λ p. p.0) l.scope.names ≡ local_names (take l.name-index (map use_behind l.uses));
 }

@@ -15,12 +15,14 @@ use Rattle.wit_parser.specs.declared.items.Declared.TheVariants as held
 use Rattle.wit_parser.specs.Held.{front_of, cells_of}
 use Rattle.wit_meaning.specs.Source.{Item, TheWorld, is_declared_world, is_world, scope_names}
 use Rattle.wit_meaning.specs.Scope.{in_order, worlds_of}
-use Rattle.wit_meaning.specs.Resolving.{IsWrongWorld}
-use Rattle.wit_meaning.specs.Resolved.{AddsWorld}
+use Rattle.wit_meaning.specs.Resolving.{Required}
+use Rattle.wit_meaning.specs.Resolved.{AddsWorld, IsWrongWorld}
+use Rattle.wit_types.specs.declared.types.TypeOwner.TheVariants.{World as OfWorld}
 use Rattle.wit_meaning.proofs.Lists.{read_map, map_map}
 use Rattle.wit_meaning.proofs.Kept.{kept_next, kept_past}
 use Rattle.wit_meaning.proofs.Refusing.{refused_weaker}
-use Rattle.wit_meaning.proofs.Adding.{adds_append, adds_one, scopes_more}
+use Rattle.wit_meaning.proofs.Adding.{sounds_more}
+use Rattle.wit_parser.proofs.Emitting.{emits_more}
 use Rattle.wit_parser.specs.declared.items.Declared.{Declared as HeldDeclared}
 use Rattle.wit_parser.specs.Items.{declared_behind, item_behind, names_behind, HasItem, HasFiles, IsDeclaredIn, others_of}
 use Rattle.wit_parser.specs.Between.{IsWrongWorldNow}
@@ -29,8 +31,8 @@ use Rattle.wit_parser.proofs.world.resolve_worlds.Goals.{in-World+in_ok-resolve_
 use Rattle.wit_parser.proofs.world.resolve_worlds.Goals as goal
 
 -- the worlds have one more
-grown : (foreign others : List Address) (is : List Interface) (old new : List TypeDef) (ws ws' : List World) (w : Item) (n : ℕ) → AddsWorld foreign others is old new ws ws' w → n ≤ length ws → n ≤ length ws'
-grown foreign others is old new ws ws' w n one enough = omega (arith, ap length one.last, length-append ws (one.added ∷ []), enough)
+grown : (foreign others : List Address) (is : List Interface) (old new : List TypeDef) (ws ws' : List World) (rs : List Required) (w : Item) (n : ℕ) → AddsWorld foreign others is old new ws ws' rs w → n ≤ length ws → n ≤ length ws'
+grown foreign others is old new ws ws' rs w n one enough = omega (arith, ap length one.last, length-append ws (one.added ∷ []), enough)
 
 -- the item at hand
 item_at : (items : List HeldItem) (listed places : List ℕ) (k : ℕ) (x : HeldItem) → listed ≡ places → All (λ (place : ℕ). place < length items) places → k < length listed → x ≡ get_or items (get_or listed k 0) x → slice_get items (get_or listed k 0) ≡ Some x
@@ -88,14 +90,15 @@ returns-in_err-resolve_world-clause-refused c =
     let held : slice_get c.args.items.now p ≡ Some x = slice_get-get_or c.args.items.now p x within ∙ ap Some (sym c.index-items-place.is) in
     let foreign = front_of c.args.interfaces.now.foreign.now in
     let others = others_of c.args.files.now in
-    rw (q.1, q.2) (λ fs filed. refused_weaker (IsWrongWorld fs cs by_name now.by_name w) (IsWrongWorldNow fs foreign others c.args.types.now c.args.interfaces.now.arena by_name c.args.worlds.now.arena ws places) _ (λ f h. record {
+    rw (q.1, q.2) (λ fs filed. refused_weaker (IsWrongWorld fs c.loop-place.types cs by_name now.by_name (OfWorld (length now.arena)) w) (IsWrongWorldNow fs foreign others c.args.types.now c.args.interfaces.now.arena by_name c.args.worlds.now.arena ws places) _ (λ f h. record {
       count = i;
       item = w;
       next = record { place = p; next = at; at = there };
       sort = sort;
       mid = c.loop-place.types;
       before = now.arena;
-      added = c.loop-place.invariant.added;
+      rs = c.loop-place.invariant.added.own;
+      added = c.loop-place.invariant.added.holds;
       worlds_by_name = now.by_name;
       worlds_index = c.loop-place.invariant.index;
       wrong = h;
@@ -125,15 +128,16 @@ loop-place-preserved c =
           let new = b.resolve_world.new.worlds.arena in
           let types = b.resolve_world.new.types in
           let Adds = AddsWorld (front_of c.args.interfaces.now.foreign.now) (others_of c.args.files.now) is in
-          rw (b.worlds-is, b.types-is) (record {
+          let required = b.resolve_world.new.required.items in
+          rw (b.worlds-is, b.types-is, b.required-is) (record {
             entries = e.entries ∙ was.entries;
-            front = grown (front_of c.args.interfaces.now.foreign.now) (others_of c.args.files.now) is c.loop-place.types types before new w _ e.added was.front;
-            added = rw more (adds_append Adds c.args.types.now c.loop-place.types types c.args.worlds.now.arena before new front (w ∷ []) was.added (adds_one Adds c.loop-place.types types before new w e.added));
+            front = grown (front_of c.args.interfaces.now.foreign.now) (others_of c.args.files.now) is c.loop-place.types types before new e.added.own w _ e.added.holds was.front;
+            added = rw more (emits_more Adds c.args.types.now c.loop-place.types types c.args.worlds.now.arena before new c.args.required.now.items c.loop-place.required.items required front w was.added e.added);
             index = e.index;
-            legal = rw more (scopes_more front w was.legal e.legal);
+            sound = rw more (sounds_more front w was.sound e.sound);
           }))
       | in_default b ↦ (
           let sort : is_world w ≡ false = ap (λ (d : HeldDeclared). is_declared_world (declared_behind d)) b.in_default.is in
           let past : worlds_of (in_order ws (take (i + 1) places)) ≡ front = kept_past is_world ws places i p w at there sort in
-          rw (b.worlds-is, b.types-is) (record { entries = was.entries; front = was.front; added = rw past was.added; index = was.index; legal = rw past was.legal }))
+          rw (b.worlds-is, b.types-is, b.required-is) (record { entries = was.entries; front = was.front; added = rw past was.added; index = was.index; sound = rw past was.sound }))
     ]

@@ -1,16 +1,17 @@
 use Rattle.std.proofs.Common.{◌≡◌, ◌≤◌, length, map, take}
 use Rattle.wit_meaning.specs.Scope.{in_order, worlds_of}
 use Rattle.wit_meaning.specs.Resolving.{IsWorldIndex}
-use Rattle.wit_meaning.specs.Resolved.{worlds_at, AddsWorlds, AreLegalScopes}
+use Rattle.wit_meaning.specs.Resolved.{worlds_at, AddsWorlds, AreSoundScopes}
 use Rattle.wit_parser.specs.Held.{front_of}
 use Rattle.wit_parser.specs.Items.{item_behind, others_of}
+use Rattle.wit_parser.specs.Between.{Emits}
 use Rattle.wit_parser.proofs.world.resolve_worlds.Given as goal
 
 abbrev pub invariant-loop-place : goal.invariant-loop-place
 invariant-loop-place l = record {
-  added : AddsWorlds (front_of l.interfaces.foreign.now) (others_of l.files) l.interfaces.arena l.fn.types l.types l.fn.worlds.arena l.worlds.arena (worlds_of (in_order (map item_behind l.items) (take l.place-index l.files.order.items)));
+  added : Emits l.fn.required.items l.required.items (λ rs. AddsWorlds (front_of l.interfaces.foreign.now) (others_of l.files) l.interfaces.arena l.fn.types l.types l.fn.worlds.arena l.worlds.arena rs (worlds_of (in_order (map item_behind l.items) (take l.place-index l.files.order.items))));
   entries : l.worlds.entries ≡ l.fn.worlds.entries;
   front : length (others_of l.files) ≤ length l.worlds.arena;
   index : IsWorldIndex (worlds_at (others_of l.files) l.worlds.arena) l.worlds.by_name;
-  legal : AreLegalScopes (worlds_of (in_order (map item_behind l.items) (take l.place-index l.files.order.items)));
+  sound : AreSoundScopes (worlds_of (in_order (map item_behind l.items) (take l.place-index l.files.order.items)));
 }

@@ -1,5 +1,5 @@
 use Rattle.std.proofs.Common.{◌≡◌, map, take}
-use Rattle.wit_meaning.specs.Broken.{folded}
+use Rattle.wit_meaning.specs.Bodies.{folded}
 use Rattle.wit_scope.proofs.repeats.in_lower_case.Given as goal
 
 abbrev pub invariant-loop-text : goal.invariant-loop-text

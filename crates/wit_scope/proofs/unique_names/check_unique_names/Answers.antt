@@ -3,7 +3,7 @@ use Rattle.std.specs.Prelude.{map, slice_get}
 use Rattle.std.specs.Borrow.{Bor}
 use Rattle.std.proofs.lemmas.Option.{slice_get-get_or, slice_get_within}
 use Rattle.wit_meaning.proofs.Lists.{map_at}
-use Rattle.wit_meaning.specs.Broken.{folded}
+use Rattle.wit_meaning.specs.Bodies.{folded}
 use Rattle.wit_meaning.specs.Repeats.{IsRepeatAt, AllDiffer}
 use Rattle.wit_scope.proofs.Cases.{names-folded}
 use Rattle.wit_scope.proofs.Seconds.{key, second-repeat, no_second-take, no_second}

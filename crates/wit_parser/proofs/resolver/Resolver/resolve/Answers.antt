@@ -29,22 +29,23 @@ pub returns-clause-legal : goal.returns-clause-legal
 returns-clause-legal c =
     let files : List PackageFile = c.args.self.files.items in
     let last : last_header files ≡ Some c.in-Some.header.now = sym c.last_header.ensures ∙ ap option_copied c.in-Some.is in
-    let added : AddsFiles files c.resolve_files.new.types c.in_ok-resolved.resolved.interfaces c.in_ok-resolved.resolved.worlds = rw c.deref-2.ensures.value at c.in_ok-resolved.ensures.added in
-    files_legal files _ _ _ added c.in-Some.header.now last
+    let added : AddsFiles files c.resolve_files.new.types c.in_ok-resolved.resolved.interfaces c.in_ok-resolved.resolved.worlds c.in_ok-resolved.resolved.required.items = rw c.deref-2.ensures.value at c.in_ok-resolved.ensures.added in
+    files_legal files _ _ _ _ added c.in-Some.header.now last
 
 pub returns-clause-package : goal.returns-clause-package
 returns-clause-package c =
     let files : List PackageFile = c.args.self.files.items in
     let last : last_header files ≡ Some c.in-Some.header.now = sym c.last_header.ensures ∙ ap option_copied c.in-Some.is in
     let resolved = c.in_ok-resolved.resolved in
-    let added : AddsFiles files c.resolve_files.new.types resolved.interfaces resolved.worlds = rw c.deref-2.ensures.value at c.in_ok-resolved.ensures.added in
+    let added : AddsFiles files c.resolve_files.new.types resolved.interfaces resolved.worlds resolved.required.items = rw c.deref-2.ensures.value at c.in_ok-resolved.ensures.added in
     let are : AreNamesOf files c.in_ok-names.names = rw c.deref.ensures.value at c.in_ok-names.ensures.names in
     let spans : resolved.unknown_type_spans.items ≡ map (λ (t : Taking). t.id.span) (first_takings files) = rw c.deref-2.ensures.value at c.in_ok-resolved.ensures.unknown in
     let e = c.new.ensures in
     let n = c.in_ok-package_name.ensures in
     let o = c.in_ok-foreign.ensures in
-    files_package files _ _ _ added c.new.result (e.types ∙ c.into_arena.ensures) e.interfaces e.worlds
+    files_package files _ _ _ _ added c.new.result (e.types ∙ c.into_arena.ensures) e.interfaces e.worlds
     (record { deps = e.foreign_deps ∙ o.deps files are; spans = e.foreign_dep_spans ∙ o.spans files are; unknown = e.unknown_type_spans ∙ o.unknown ∙ spans })
+    (e.required_resource_types ∙ o.required)
     c.in-Some.header.now last
     (ap (λ (p : PackageName). p.namespace) e.name ∙ n.namespace)
     (ap (λ (p : PackageName). p.name) e.name ∙ n.name)
@@ -55,24 +56,24 @@ pub returns-clause-faithful : goal.returns-clause-faithful
 returns-clause-faithful c =
     let files : List PackageFile = c.args.self.files.items in
     let resolved = c.in_ok-resolved.resolved in
-    let added : AddsFiles files c.resolve_files.new.types resolved.interfaces resolved.worlds = rw c.deref-2.ensures.value at c.in_ok-resolved.ensures.added in
+    let added : AddsFiles files c.resolve_files.new.types resolved.interfaces resolved.worlds resolved.required.items = rw c.deref-2.ensures.value at c.in_ok-resolved.ensures.added in
     let are : AreNamesOf files c.in_ok-names.names = rw c.deref.ensures.value at c.in_ok-names.ensures.names in
     let spans : resolved.unknown_type_spans.items ≡ map (λ (t : Taking). t.id.span) (first_takings files) = rw c.deref-2.ensures.value at c.in_ok-resolved.ensures.unknown in
     let e = c.new.ensures in
     let o = c.in_ok-foreign.ensures in
-    files_faithful files _ _ _ added c.new.result (e.types ∙ c.into_arena.ensures) e.interfaces e.worlds
+    files_faithful files _ _ _ _ added c.new.result (e.types ∙ c.into_arena.ensures) e.interfaces e.worlds
     (record { deps = e.foreign_deps ∙ o.deps files are; spans = e.foreign_dep_spans ∙ o.spans files are; unknown = e.unknown_type_spans ∙ o.unknown ∙ spans })
 
 pub returns-clause-backward : goal.returns-clause-backward
 returns-clause-backward c =
     let files : List PackageFile = c.args.self.files.items in
     let resolved = c.in_ok-resolved.resolved in
-    let added : AddsFiles files c.resolve_files.new.types resolved.interfaces resolved.worlds = rw c.deref-2.ensures.value at c.in_ok-resolved.ensures.added in
+    let added : AddsFiles files c.resolve_files.new.types resolved.interfaces resolved.worlds resolved.required.items = rw c.deref-2.ensures.value at c.in_ok-resolved.ensures.added in
     let are : AreNamesOf files c.in_ok-names.names = rw c.deref.ensures.value at c.in_ok-names.ensures.names in
     let spans : resolved.unknown_type_spans.items ≡ map (λ (t : Taking). t.id.span) (first_takings files) = rw c.deref-2.ensures.value at c.in_ok-resolved.ensures.unknown in
     let e = c.new.ensures in
     let o = c.in_ok-foreign.ensures in
-    let f = files_faithful files _ _ _ added c.new.result (e.types ∙ c.into_arena.ensures) e.interfaces e.worlds (record { deps = e.foreign_deps ∙ o.deps files are; spans = e.foreign_dep_spans ∙ o.spans files are; unknown = e.unknown_type_spans ∙ o.unknown ∙ spans }) in
+    let f = files_faithful files _ _ _ _ added c.new.result (e.types ∙ c.into_arena.ensures) e.interfaces e.worlds (record { deps = e.foreign_deps ∙ o.deps files are; spans = e.foreign_dep_spans ∙ o.spans files are; unknown = e.unknown_type_spans ∙ o.unknown ∙ spans }) in
     λ i e at. kind_below i e.kind (λ part has. f.backward i e part (record { is = at }) has)
 
 pub returns-in_err-names-clause-refused : goal.returns-in_err-names-clause-refused

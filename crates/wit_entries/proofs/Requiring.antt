@@ -1,0 +1,86 @@
+-- Arenas that grow, and what handles require, one after another.
+use Rattle.std.proofs.Common.{◌≡◌, ℕ, List, [], ◌∷◌, ◌++◌, Some, inl, inr, refl, sym, ap, ◌∙◌, subst, append_assoc}
+use Rattle.std.proofs.lemmas.List.{append-nil}
+use Rattle.wit_tree.specs.declared.tree.Id.{Id}
+use Rattle.wit_tree.specs.declared.tree.«Type».{«Type» as Written}
+use Rattle.wit_tree.specs.declared.tree.«Type».TheVariants as written
+use Rattle.wit_tree.specs.Parts.{part_types}
+use Rattle.wit_types.specs.declared.types.«Type».{«Type» as Ty}
+use Rattle.wit_types.specs.declared.types.TypeDef.{TypeDef}
+use Rattle.wit_types.specs.declared.types.TypeDefKind.{TypeDefKind}
+use Rattle.wit_values.specs.declared.span.Span.{Span}
+use Rattle.wit_meaning.specs.Shape.{shape_of, handles, all_handles}
+use Rattle.wit_meaning.specs.Resolving.{Env, Required, AreEnded, IsInterned}
+use Rattle.wit_meaning.proofs.Written.{all_handles-append, IsNoHandle, handles-parts}
+use Rattle.wit_meaning.proofs.Required.{ended_append, ended_more}
+use Rattle.wit_entries.specs.Reading.{primitive_in}
+use Rattle.wit_entries.specs.Requiring.{IsGrown, Requires}
+
+pub grown_same : (es : List TypeDef) → IsGrown es es
+grown_same es = record { more = []; is = sym (append-nil es) }
+
+pub grown_by : (old new : List TypeDef) (e : TypeDef) → new ≡ old ++ e ∷ [] → IsGrown old new
+grown_by old new e is = record { more = e ∷ []; is = is }
+
+pub grown_then : (old mid new : List TypeDef) → IsGrown old mid → IsGrown mid new → IsGrown old new
+grown_then old mid new p q = record { more = p.more ++ q.more; is = q.is ∙ ap (λ (l : List TypeDef). l ++ q.more) p.is ∙ append_assoc old p.more q.more }
+
+pub grown_interned : (old new : List TypeDef) (k : TypeDefKind) (span : Span) (i : ℕ) → IsInterned old new k span i → IsGrown old new
+grown_interned old new k span i h = elim h.either [
+  | inl was ↦ record { more = []; is = was.0 ∙ sym (append-nil old) }
+  | inr added ↦ grown_by old new _ added.0
+]
+
+-- nothing is required
+pub requires_none : (env : Env) (es : List TypeDef) (rs : List Required) → Requires env es [] rs rs
+requires_none env es rs = record { list = []; added = sym (append-nil rs); ended = refl }
+
+-- in a grown arena
+pub requires_grown : (env : Env) (es new : List TypeDef) (ids : List Id) (a b : List Required) → IsGrown es new → Requires env es ids a b → Requires env new ids a b
+requires_grown env es new ids a b g p = record {
+  list = p.list;
+  added = p.added;
+  ended = subst (λ (l : List TypeDef). AreEnded env l ids p.list) (sym g.is) (ended_more env env es g.more ids p.list (λ name i stands. stands) p.ended);
+}
+
+-- by names, and then by further ones
+pub requires_then : (env : Env) (mid new : List TypeDef) (ids more : List Id) (a b c : List Required) → IsGrown mid new → Requires env mid ids a b → Requires env new more b c → Requires env new (ids ++ more) a c
+requires_then env mid new ids more a b c g p q =
+    let first = requires_grown env mid new ids a b g p in
+    record {
+      list = first.list ++ q.list;
+      added = q.added ∙ ap (λ (l : List Required). l ++ q.list) first.added ∙ append_assoc a first.list q.list;
+      ended = ended_append env new ids more first.list q.list first.ended q.ended;
+    }
+
+-- by types, and then by further ones
+pub requires_types : (env : Env) (mid new : List TypeDef) (ts us : List Written) (a b c : List Required) → IsGrown mid new → Requires env mid (all_handles ts) a b → Requires env new (all_handles us) b c → Requires env new (all_handles (ts ++ us)) a c
+requires_types env mid new ts us a b c g p q = subst (λ (l : List Id). Requires env new l a c) (sym (all_handles-append ts us)) (requires_then env mid new (all_handles ts) (all_handles us) a b c g p q)
+
+-- by one type
+pub requires_one : (env : Env) (es : List TypeDef) (t : Written) (a b : List Required) → Requires env es (handles t) a b → Requires env es (all_handles (t ∷ [])) a b
+requires_one env es t a b p = subst (λ (l : List Id). Requires env es l a b) (sym (append-nil (handles t))) p
+
+pub requires_boxed : (env : Env) (es : List TypeDef) (t u : Written) (a b : List Required) → t ≡ u → Requires env es (handles t) a b → Requires env es (all_handles (u ∷ [])) a b
+requires_boxed env es t u a b same p = subst (λ (x : Written). Requires env es (all_handles (x ∷ [])) a b) same (requires_one env es t a b p)
+
+-- by the parts of a type that is no handle
+pub requires_parts : (env : Env) (es : List TypeDef) (whole : Written) (ts : List Written) (a b : List Required) → IsNoHandle whole → part_types whole ≡ ts → Requires env es (all_handles ts) a b → Requires env es (handles whole) a b
+requires_parts env es whole ts a b other same p = subst (λ (l : List Id). Requires env es l a b) (sym (handles-parts whole other ∙ ap all_handles same)) p
+
+pub requires_only : (env : Env) (es : List TypeDef) (whole part : Written) (a b : List Required) → IsNoHandle whole → part_types whole ≡ (part ∷ []) → Requires env es (handles part) a b → Requires env es (handles whole) a b
+requires_only env es whole part a b other same p = requires_parts env es whole (part ∷ []) a b other same (requires_one env es part a b p)
+
+-- a primitive is no handle
+pub no_handles : (t : Written) (ty : Ty) → primitive_in (shape_of t) ≡ Some ty → handles t ≡ []
+no_handles (written.Own span id) ty is = absurd (let f : ⊥ = cc in f)
+no_handles (written.Borrow span id) ty is = absurd (let f : ⊥ = cc in f)
+no_handles (written.List' span p t) ty is = absurd (let f : ⊥ = cc in f)
+no_handles (written.FixedLengthList' span p t size) ty is = absurd (let f : ⊥ = cc in f)
+no_handles (written.Map' span p key q value) ty is = absurd (let f : ⊥ = cc in f)
+no_handles (written.Option' span p t) ty is = absurd (let f : ⊥ = cc in f)
+no_handles (written.Result' span ok err) ty is = absurd (let f : ⊥ = cc in f)
+no_handles (written.Tuple' span shape ts) ty is = absurd (let f : ⊥ = cc in f)
+no_handles (written.Future' span t) ty is = absurd (let f : ⊥ = cc in f)
+no_handles (written.Stream' span t) ty is = absurd (let f : ⊥ = cc in f)
+no_handles t ty is = refl

@@ -1,0 +1,64 @@
+//! Names that are written in types: what they stand for, and whether a handle may name them.
+ghost use Rattle.std.specs.Prelude.{◌≡◌, ◌⊎◌, List, [], ◌∷◌, IfOk, IfErr, OnOk, Some};
+ghost use Rattle.wit_tree.specs.Refusal.{IsWantOfMemory};
+ghost use Rattle.wit_meaning.specs.Fault.{fault, fault_of};
+ghost use Rattle.wit_meaning.specs.Broken.{Refused};
+ghost use Rattle.wit_meaning.specs.Resolving.{env_of, IsUnknown, IsWrongWord};
+ghost use Rattle.wit_entries.specs.Requiring.{Requires};
+
+use crate::ends::End;
+use crate::entries::Entries;
+use crate::scope::Required;
+use std::alloc::Global;
+use wit_model::TypeId;
+use wit_scope::refusal::{refuse_in, refuse_missing_type};
+use wit_tree::tree::Id;
+use wit_tree::{ParseError, ParseResult};
+use wit_values::TextTable;
+
+/// What a name of the scope stands for.
+pub(crate) fn find_name(alloc: Global, names: &TextTable<TypeId>, id: Id<'_>) -> ParseResult<TypeId>
+    ensures found { IfOk result (λ place. env_of names.now id.entry.name.now ≡ Some place) }
+    ensures refused { IfErr result (Refused (IsUnknown (env_of names.now) (id.entry ∷ []))) }
+{
+    match names.get(id.name) {
+        Some(found) => Ok(*found),
+        None => Err(refuse_missing_type(alloc, id)),
+    }
+}
+
+/// A name in a handle that ends at no resource.
+#[cold]
+#[inline(never)]
+fn refuse_handle(alloc: Global, id: Id<'_>) -> ParseError
+    ensures { IsWantOfMemory result ⊎ (fault_of result ≡ fault 27 id.entry.span) }
+{
+    let name = id.name;
+    let words = format!(in alloc; "type `{name}` used in a handle must be a resource");
+    refuse_in(27, id.span, words)
+}
+
+/// What a name in a handle stands for: a resource, or a type of another package, which has to be one.
+///
+/// A refusal is E15, E27, or want of memory.
+pub(crate) fn find_resource(
+    alloc: Global,
+    types: &Entries,
+    names: &TextTable<TypeId>,
+    required: &mut Vec<Required>,
+    id: Id<'_>,
+) -> ParseResult<TypeId>
+    ensures found { IfOk result (λ place. env_of names.now id.entry.name.now ≡ Some place) }
+    ensures handled { OnOk result (Requires (env_of names.now) types.now (id.entry ∷ []) required.old.items required.new.items) }
+    ensures refused { IfErr result (Refused (IsWrongWord (env_of names.now) types.now (id.entry ∷ []) (id.entry ∷ []))) }
+{
+    let place = find_name(alloc, names, id)?;
+    match types.end(place) {
+        End::Resource => Ok(place),
+        End::Unknown(unknown) => {
+            required.push((unknown, id.span))?;
+            Ok(place)
+        }
+        End::Other => Err(refuse_handle(alloc, id)),
+    }
+}

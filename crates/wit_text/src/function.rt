@@ -1,0 +1,121 @@
+//! Reading functions.
+ghost use Rattle.std.specs.Prelude.{◌≡◌, ◌+◌, [], ◌∷◌, IfOk, IfErr, IfSome};
+ghost use Rattle.std.specs.List.{flat_map};
+ghost use Rattle.wit_tree.specs.Marks.{spelled, param_marks, payload_marks, form_word, func_marks, named_func_marks};
+
+use crate::reader::Reader;
+use crate::types::MOST_NESTED;
+use wit_lex::kind::Kind;
+use wit_lex::word::Word;
+use wit_tree::tree::{Func, FuncForm, NamedFunc, Param, Type};
+use wit_tree::{ParseResult, Span};
+
+/// The form of a getter or a setter, where the text is its word.
+fn accessor_form(text: &str) -> Option<FuncForm>
+    ensures { IfSome result (λ form. text.now ≡ form_word form) }
+{
+    match text {
+        "get" => Some(FuncForm::Getter),
+        "set" => Some(FuncForm::Setter),
+        _ => None,
+    }
+}
+
+impl<'a> Reader<'a> {
+    ghost use Rattle.wit_text.specs.Reading.{IsRead, IsReadOn, IsRefused};
+
+    fn read_param(&mut self) -> ParseResult<Param<'a>>
+        ensures read { IfOk result (λ p. IsRead self.old (param_marks p) self.new) }
+        ensures refused { IfErr result (λ e. IsRefused self.old e) }
+    {
+        let name = self.read_id()?;
+        self.expect(Kind::Colon)?;
+        let ty = self.read_type(MOST_NESTED)?;
+        Ok(Param { name, ty })
+    }
+
+    /// Reads parameters in parentheses.
+    pub fn read_params(&mut self) -> ParseResult<Vec<Param<'a>>>
+        ensures read { IfOk result (λ ps. IsRead self.old (flat_map param_marks ps.items) self.new) }
+        ensures refused { IfErr result (λ e. IsRefused self.old e) }
+    {
+        self.expect(Kind::OpenParen)?;
+        let mut params = Vec::new(self.alloc);
+        'params: while !self.at(Kind::CloseParen) {
+            let param = self.read_param()?;
+            params.push(param)?;
+            if !self.at(Kind::Comma) {
+                self.expect(Kind::CloseParen)?;
+                return Ok(params);
+            }
+            self.bump()?;
+        }
+        self.bump()?;
+        Ok(params)
+    }
+
+    /// Reads `->` and the type of what a function returns, where there is one.
+    pub fn read_returned(&mut self) -> ParseResult<Option<Type<'a>>>
+        ensures read { IfOk result (λ ty. IsReadOn self.old (payload_marks ty) self.new) }
+        ensures refused { IfErr result (λ e. IsRefused self.old e) }
+    {
+        if !self.at(Kind::Arrow) {
+            return Ok(None);
+        }
+        self.bump()?;
+        let ty = self.read_type(MOST_NESTED)?;
+        Ok(Some(ty))
+    }
+
+    /// Reads `func`, `async func`, `get` or `set`, and tells where the word of these stands that is
+    /// not `async`.
+    fn read_form(&mut self) -> ParseResult<(Span, FuncForm)>
+        ensures read { IfOk result (λ r. IsRead self.old (spelled r.0 (form_word r.1) ∷ []) self.new) }
+        ensures refused { IfErr result (λ e. IsRefused self.old e) }
+    {
+        if self.at_word(Word::Async) {
+            self.bump()?;
+            let span = self.read_word(Word::Func)?;
+            return Ok((span, FuncForm::Async));
+        }
+        match accessor_form(self.token.text) {
+            Some(form) => {
+                let span = self.span();
+                self.bump()?;
+                Ok((span, form))
+            }
+            None => {
+                let span = self.read_word(Word::Func)?;
+                Ok((span, FuncForm::Plain))
+            }
+        }
+    }
+
+    /// Reads a function without its name.
+    pub fn read_func(&mut self) -> ParseResult<Func<'a>>
+        ensures read { IfOk result (λ f. IsRead self.old (func_marks f) self.new) }
+        ensures refused { IfErr result (λ e. IsRefused self.old e) }
+    {
+        let form = self.read_form()?;
+        let params = self.read_params()?;
+        let returned = self.read_returned()?;
+        Ok(Func {
+            span: form.0,
+            form: form.1,
+            params,
+            result: returned,
+        })
+    }
+
+    /// Reads `name: function;`.
+    pub fn read_named_func(&mut self) -> ParseResult<NamedFunc<'a>>
+        ensures read { IfOk result (λ f. IsRead self.old (named_func_marks f) self.new) }
+        ensures refused { IfErr result (λ e. IsRefused self.old e) }
+    {
+        let name = self.read_id()?;
+        self.expect(Kind::Colon)?;
+        let func = self.read_func()?;
+        self.expect(Kind::Semicolon)?;
+        Ok(NamedFunc { name, func })
+    }
+}
