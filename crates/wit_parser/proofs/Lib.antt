@@ -32,3 +32,5 @@ mod WorldImports
 mod GetterNames
 mod Parting
 mod PlacedNames
+mod WrittenMarks
+mod FunctionMarks

@@ -5,3 +5,4 @@ pub mod Front
 pub mod Between
 pub mod Behind
 pub mod Parted
+pub mod Marks

@@ -8,6 +8,7 @@ mod functions;
 mod header;
 mod interface;
 mod items;
+pub mod laws;
 mod names;
 mod order;
 pub mod resolver;

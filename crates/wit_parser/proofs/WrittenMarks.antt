@@ -1,0 +1,84 @@
+-- A written function has the mark of its role in its name.
+use Rattle.std.proofs.Common.{◌≡◌, ℕ, zero, suc, ◌==◌, List, ◌++◌, Option, Some, refl, sym, ap, ◌∙◌, subst}
+use Rattle.std.specs.Prelude.{slice_get, codes}
+use Rattle.std.specs.List.{list_any}
+use Rattle.std.proofs.lemmas.Bool.{or_left, or_right}
+use Rattle.std.proofs.lemmas.List.Folds.{list_any-append}
+use Rattle.wit_tree.specs.declared.tree.FuncForm.{FuncForm}
+use Rattle.wit_tree.specs.declared.tree.FuncForm.TheVariants as form
+use Rattle.wit_tree.specs.declared.tree.Id.{Id}
+use Rattle.wit_tree.specs.declared.tree.TypeBody.{TypeBody}
+use Rattle.wit_tree.specs.declared.tree.TypeBody.TheVariants as body
+use Rattle.wit_tree.specs.declared.tree.NamedFunc.{NamedFunc}
+use Rattle.wit_tree.specs.declared.tree.ResourceFunc.{ResourceFunc}
+use Rattle.wit_tree.specs.declared.tree.ResourceFunc.TheVariants as resource
+use Rattle.wit_model.specs.Names.{mark_of, HasMark, HasMarkOf}
+use Rattle.wit_model.specs.declared.function.FunctionKind.{FunctionKind}
+use Rattle.wit_meaning.specs.Address.{Address}
+use Rattle.wit_meaning.specs.Source.{Item, Part, Defining, Using, Including, Doing, parts}
+use Rattle.wit_meaning.specs.Function.{SourceFunction, accessor, dotted, free_function, resource_function, definition_functions, part_functions, functions}
+use Rattle.wit_meaning.specs.Functions.{freestanding_kind, method_kind, static_kind, IsKind}
+use Rattle.wit_meaning.specs.Meet.{Key}
+use Rattle.wit_meaning.proofs.Lists.{map_at, flat_map_at}
+
+-- a mark in one of two texts is in both together
+mark_before : (mark : ℕ) (text more : List ℕ) → HasMark mark text → HasMark mark (text ++ more)
+mark_before mark text more has = list_any-append (λ b. b == mark) text more ∙ or_left (list_any (λ b. b == mark) text) (list_any (λ b. b == mark) more) has
+
+mark_behind : (mark : ℕ) (front text : List ℕ) → HasMark mark text → HasMark mark (front ++ text)
+mark_behind mark front text has = list_any-append (λ b. b == mark) front text ∙ or_right (list_any (λ b. b == mark) front) (list_any (λ b. b == mark) text) has
+
+-- the name of a resource's function has a dot
+dot_named : (front back : List ℕ) (r f : Id) → HasMark 46 (front ++ (back ++ dotted r f))
+dot_named front back r f = mark_behind 46 front (back ++ dotted r f) (mark_behind 46 back (dotted r f) (mark_before 46 (r.name.now ++ codes ".") f.name.now (mark_behind 46 r.name.now (codes ".") refl)))
+
+method_mark : (form : FuncForm) (r : ℕ) → mark_of (method_kind form r) ≡ Some 46
+method_mark form.Plain r = refl
+method_mark form.Async r = refl
+method_mark form.Getter r = refl
+method_mark form.Setter r = refl
+
+static_mark : (form : FuncForm) (r : ℕ) → mark_of (static_kind form r) ≡ Some 46
+static_mark form.Plain r = refl
+static_mark form.Async r = refl
+static_mark form.Getter r = refl
+static_mark form.Setter r = refl
+
+free_mark : (form : FuncForm) (name : List ℕ) → HasMarkOf (mark_of (freestanding_kind form)) (accessor form ++ name)
+free_mark form.Plain name = tt
+free_mark form.Async name = tt
+free_mark form.Getter name = refl
+free_mark form.Setter name = refl
+
+-- its name has the mark of each kind that its role makes
+abbrev pub IsMarked : SourceFunction → Type 0
+IsMarked fn = (ks : List Key) (s : Address) (k : FunctionKind) → IsKind ks s fn.role k → HasMarkOf (mark_of k) fn.name
+
+free_marked : (f : NamedFunc) → IsMarked (free_function f)
+free_marked f ks s k is = subst (λ (x : FunctionKind). HasMarkOf (mark_of x) (free_function f).name) (sym is) (free_mark f.func.form f.name.name.now)
+
+resource_marked : (r : Id) (g : ResourceFunc) → IsMarked (resource_function r g)
+resource_marked r (resource.Method f) ks s k is = subst (λ (o : Option ℕ). HasMarkOf o (resource_function r (resource.Method f)).name) (sym (ap mark_of is.1 ∙ method_mark f.func.form is.0)) (dot_named (codes "[method]") (accessor f.func.form) r f.name)
+resource_marked r (resource.Static f) ks s k is = subst (λ (o : Option ℕ). HasMarkOf o (resource_function r (resource.Static f)).name) (sym (ap mark_of is.1 ∙ static_mark f.func.form is.0)) (dot_named (codes "[static]") (accessor f.func.form) r f.name)
+resource_marked r (resource.Constructor span params result) ks s k is = subst (λ (o : Option ℕ). HasMarkOf o (resource_function r (resource.Constructor span params result)).name) (sym (ap mark_of is.1)) tt
+
+definition_marked : (r : Id) (b : TypeBody) (k : ℕ) (fn : SourceFunction) → slice_get (definition_functions r b) k ≡ Some fn → IsMarked fn
+definition_marked r (body.Resource funcs) k fn at = (let g = map_at (resource_function r) funcs.items k fn at in subst IsMarked g.2 (resource_marked r g.0))
+definition_marked r (body.Record span fields) k fn at = absurd (let f : ⊥ = cc in f)
+definition_marked r (body.Flags span flags) k fn at = absurd (let f : ⊥ = cc in f)
+definition_marked r (body.Variant span cases) k fn at = absurd (let f : ⊥ = cc in f)
+definition_marked r (body.Enum span cases) k fn at = absurd (let f : ⊥ = cc in f)
+definition_marked r (body.Plain t) k fn at = absurd (let f : ⊥ = cc in f)
+
+part_marked : (p : Part) (k : ℕ) (fn : SourceFunction) → slice_get (part_functions p) k ≡ Some fn → IsMarked fn
+part_marked (Defining d) k fn at = definition_marked d.name d.body k fn at
+part_marked (Using u) k fn at = absurd (let f : ⊥ = cc in f)
+part_marked (Including i) k fn at = absurd (let f : ⊥ = cc in f)
+part_marked (Doing g) zero fn at = (let same : free_function g ≡ fn = cc in subst IsMarked same (free_marked g))
+part_marked (Doing g) (suc k) fn at = absurd (let f : ⊥ = cc in f)
+
+-- so it is with the functions of an item
+pub written_marked : (i : Item) (k : ℕ) (fn : SourceFunction) → slice_get (functions i) k ≡ Some fn → IsMarked fn
+written_marked i k fn at =
+    let it = flat_map_at part_functions (parts i) k fn at in
+    part_marked it.1 it.3.0 fn it.3.1
