@@ -175,9 +175,24 @@ def parameters(n):
     return HEADER + interface('i', ['f: func(' + ', '.join('p%d: u8' % k for k in range(n)) + ');'])
 
 
+def docs(n):
+    """n functions of an interface, each with three lines of docs."""
+    return HEADER + interface('i', ['/// What it does,\n///   in some words,\n/// and no more.\nm%d: func(a: u8);' % k for k in range(n)])
+
+
+def long_docs(n):
+    """Docs of n lines."""
+    return HEADER + '/// a line of docs, as long as such lines are\n' * n + 'interface i {}\n'
+
+
+def stable(n):
+    """n definitions with attributes, every other one of a type of its own."""
+    return HEADER + interface('i', ['@since(version = 1.0.0)\n@deprecated(version = 1.2.0)\ntype t%d = %s;' % (k, 'u8' if k % 2 else 'list<t%d>' % (k - 1) if k else 'u16') for k in range(n)])
+
+
 SHAPES = [platform, chain, turned_chain, interfaces, apart, shared, uses, one_use, lists, same_list, fields, nested, worlds,
           aliases, foreign, foreign_uses, foreign_names, functions, methods, resources, handles, handle_ends, accessors, early_setters,
-          parameters, comment]
+          parameters, docs, long_docs, stable, comment]
 
 if __name__ == '__main__':
     by_name = {shape.__name__.replace('_', '-'): shape for shape in SHAPES}

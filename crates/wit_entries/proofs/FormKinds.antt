@@ -12,6 +12,7 @@ use Rattle.wit_tree.specs.declared.tree.«Type».TheVariants as written
 use Rattle.wit_tree.specs.declared.tree.TypeBody.TheVariants.{Plain}
 use Rattle.wit_tree.specs.Parts.{part_types, boxed_types}
 use Rattle.wit_types.specs.declared.types.«Type».{«Type» as Ty}
+use Rattle.wit_types.specs.declared.stability.Stability.{Stability}
 use Rattle.wit_types.specs.declared.types.TypeDef.{TypeDef}
 use Rattle.wit_types.specs.declared.types.TypeDefKind.TheVariants as kind
 use Rattle.wit_meaning.specs.Form.{ResultForm, FutureForm, StreamForm}
@@ -28,26 +29,26 @@ use Rattle.wit_meaning.proofs.Written.{tuple_inner, words-head, wrong_at, wrong_
 use Rattle.wit_entries.specs.Reading.{primitive_in, IsResolved, AreTypes, IsForm}
 use Rattle.wit_entries.proofs.Reading.{types_one, types_then}
 
-pub map_form : (old mid new : List TypeDef) (env : Env) (span : Span) (key value : Box Written Global) (k v : Ty) → IsResolved old mid env (shape_of key.value) k → IsResolved mid new env (shape_of value.value) v → IsForm old new env (shape_of (written.Map span key value)) (kind.Map k v) span
-map_form old mid new env span key value k v p q = (refl, refl, tt, types_then (key.value ∷ []) (value.value ∷ []) (types_one key.value p) (types_one value.value q))
+pub map_form : (old mid new : List TypeDef) (env : Env) (given : Stability) (span : Span) (key value : Box Written Global) (k v : Ty) → IsResolved old mid env given (shape_of key.value) k → IsResolved mid new env given (shape_of value.value) v → IsForm old new env given (shape_of (written.Map span key value)) (kind.Map k v) span
+map_form old mid new env given span key value k v p q = (refl, refl, tt, types_then given (key.value ∷ []) (value.value ∷ []) (types_one given key.value p) (types_one given value.value q))
 
-pub tuple_form : (old new : List TypeDef) (env : Env) (span : Span) (v : Vec Written Global) (ts : List Ty) → AreTypes old new env v.items ts → IsForm old new env (shape_of (written.Tuple span v)) (kind.Tuple (record { types = ts })) span
-tuple_form old new env span v ts p =
-    (refl, refl, tt, subst (λ xs. (s : Address) → AreResolved old new s env (shapes_meetings s xs) (exprs_of s xs) ts) (sym (tuple_inner span v)) p)
+pub tuple_form : (old new : List TypeDef) (env : Env) (given : Stability) (span : Span) (v : Vec Written Global) (ts : List Ty) → AreTypes old new env given v.items ts → IsForm old new env given (shape_of (written.Tuple span v)) (kind.Tuple (record { types = ts })) span
+tuple_form old new env given span v ts p =
+    (refl, refl, tt, subst (λ xs. (s : Address) → AreResolved old new s env (shapes_meetings s given xs) (exprs_of s xs) ts) (sym (tuple_inner span v)) p)
 
-pub result_form : (old mid new : List TypeDef) (env : Env) (span : Span) (ok err : Option (Box Written Global)) (o e : Option Ty) → is_some o ≡ is_some ok → is_some e ≡ is_some err → AreTypes old mid env (boxed_types ok) (option_to_list o) → AreTypes mid new env (boxed_types err) (option_to_list e) → IsForm old new env (shape_of (written.Result span ok err)) (kind.Result (record { ok = o; err = e })) span
-result_form old mid new env span None None o e a b p q = (refl, ap (λ x. ResultForm x (is_some e)) a ∙ ap (ResultForm false) b, tt, types_then [] [] p q)
-result_form old mid new env span (Some t) None o e a b p q = (refl, ap (λ x. ResultForm x (is_some e)) a ∙ ap (ResultForm true) b, tt, types_then (t.value ∷ []) [] p q)
-result_form old mid new env span None (Some u) o e a b p q = (refl, ap (λ x. ResultForm x (is_some e)) a ∙ ap (ResultForm false) b, tt, types_then [] (u.value ∷ []) p q)
-result_form old mid new env span (Some t) (Some u) o e a b p q = (refl, ap (λ x. ResultForm x (is_some e)) a ∙ ap (ResultForm true) b, tt, types_then (t.value ∷ []) (u.value ∷ []) p q)
+pub result_form : (old mid new : List TypeDef) (env : Env) (given : Stability) (span : Span) (ok err : Option (Box Written Global)) (o e : Option Ty) → is_some o ≡ is_some ok → is_some e ≡ is_some err → AreTypes old mid env given (boxed_types ok) (option_to_list o) → AreTypes mid new env given (boxed_types err) (option_to_list e) → IsForm old new env given (shape_of (written.Result span ok err)) (kind.Result (record { ok = o; err = e })) span
+result_form old mid new env given span None None o e a b p q = (refl, ap (λ x. ResultForm x (is_some e)) a ∙ ap (ResultForm false) b, tt, types_then given [] [] p q)
+result_form old mid new env given span (Some t) None o e a b p q = (refl, ap (λ x. ResultForm x (is_some e)) a ∙ ap (ResultForm true) b, tt, types_then given (t.value ∷ []) [] p q)
+result_form old mid new env given span None (Some u) o e a b p q = (refl, ap (λ x. ResultForm x (is_some e)) a ∙ ap (ResultForm false) b, tt, types_then given [] (u.value ∷ []) p q)
+result_form old mid new env given span (Some t) (Some u) o e a b p q = (refl, ap (λ x. ResultForm x (is_some e)) a ∙ ap (ResultForm true) b, tt, types_then given (t.value ∷ []) (u.value ∷ []) p q)
 
-pub future_form : (old new : List TypeDef) (env : Env) (span : Span) (t : Option (Box Written Global)) (o : Option Ty) → is_some o ≡ is_some t → AreTypes old new env (boxed_types t) (option_to_list o) → IsForm old new env (shape_of (written.Future span t)) (kind.Future o) span
-future_form old new env span None o a p = (refl, ap FutureForm a, tt, p)
-future_form old new env span (Some t) o a p = (refl, ap FutureForm a, tt, p)
+pub future_form : (old new : List TypeDef) (env : Env) (given : Stability) (span : Span) (t : Option (Box Written Global)) (o : Option Ty) → is_some o ≡ is_some t → AreTypes old new env given (boxed_types t) (option_to_list o) → IsForm old new env given (shape_of (written.Future span t)) (kind.Future o) span
+future_form old new env given span None o a p = (refl, ap FutureForm a, tt, p)
+future_form old new env given span (Some t) o a p = (refl, ap FutureForm a, tt, p)
 
-pub stream_form : (old new : List TypeDef) (env : Env) (span : Span) (t : Option (Box Written Global)) (o : Option Ty) → is_some o ≡ is_some t → AreTypes old new env (boxed_types t) (option_to_list o) → IsForm old new env (shape_of (written.Stream span t)) (kind.Stream o) span
-stream_form old new env span None o a p = (refl, ap StreamForm a, tt, p)
-stream_form old new env span (Some t) o a p = (refl, ap StreamForm a, tt, p)
+pub stream_form : (old new : List TypeDef) (env : Env) (given : Stability) (span : Span) (t : Option (Box Written Global)) (o : Option Ty) → is_some o ≡ is_some t → AreTypes old new env given (boxed_types t) (option_to_list o) → IsForm old new env given (shape_of (written.Stream span t)) (kind.Stream o) span
+stream_form old new env given span None o a p = (refl, ap StreamForm a, tt, p)
+stream_form old new env given span (Some t) o a p = (refl, ap StreamForm a, tt, p)
 
 -- a refusal of a part is one of the whole
 pub refused_part : (env : Env) (es : List TypeDef) (whole : Written) (i : ℕ) (part : Written) (e : ParseError) → slice_get (part_types whole) i ≡ Some part → Refused (IsWrongType env es part) e → Refused (IsWrongType env es whole) e

@@ -6,6 +6,7 @@ use Rattle.std.specs.Option.{option_to_list}
 use Rattle.std.proofs.lemmas.List.Elements.{Contains-append_left, Contains-append_right}
 use Rattle.std.proofs.lemmas.Option.{same_Some, slice_get_within}
 use Rattle.wit_tree.specs.declared.error.ParseError.{ParseError}
+use Rattle.wit_tree.specs.declared.tree.Attribute.{Attribute}
 use Rattle.wit_tree.specs.declared.tree.«Type».{«Type» as Written}
 use Rattle.wit_types.specs.declared.types.TypeDef.{TypeDef}
 use Rattle.wit_meaning.specs.Shape.{words}
@@ -13,7 +14,8 @@ use Rattle.wit_meaning.specs.Source.{ScopeName, meaning}
 use Rattle.wit_meaning.specs.Broken.{Refused}
 use Rattle.wit_meaning.specs.Fault.{Fault}
 use Rattle.wit_meaning.specs.Function.{SourceParam, SourceFunction, all_params, written_types, signature}
-use Rattle.wit_meaning.specs.Signature.{param_key, IsBrokenFunction, BrokenTypes, FunctionAsType, MissingInSignature, GetterGiven, SetterGiven, DuplicateParam, GetterWithoutResult, SetterWithResult, ConstructorWithoutResult, ConstructorOfOther, IsGetterGiven, IsSetterGiven, IsDuplicateParam}
+use Rattle.wit_meaning.specs.Notes.{IsBrokenNotes}
+use Rattle.wit_meaning.specs.Signature.{param_key, IsBrokenFunction, BrokenNotes, BrokenTypes, FunctionAsType, MissingInSignature, GetterGiven, SetterGiven, DuplicateParam, GetterWithoutResult, SetterWithResult, ConstructorWithoutResult, ConstructorOfOther, IsGetterGiven, IsSetterGiven, IsDuplicateParam}
 use Rattle.wit_meaning.specs.Resolving.{Env}
 use Rattle.wit_meaning.specs.Resolved.{IsNameless}
 use Rattle.wit_meaning.proofs.Lists.{at_back}
@@ -96,6 +98,9 @@ wrong_result env es xs fns k h f names (inr wrong) = wrong_result_type env es xs
 held_refused : (env : Env) (es : List TypeDef) (xs : List ScopeName) (fns : List SourceFunction) (k : ℕ) (h : HeldFunction) (fn : SourceFunction) (P : Fault → Type 0) (e : ParseError) → function_behind h ≡ fn → ((f : Fault) → P f → IsWrongFunction env es xs fns k (function_behind h) f) → Refused P e → Refused (IsWrongFunction env es xs fns k fn) e
 held_refused env es xs fns k h fn P e same wrong refused = refused_weaker P (IsWrongFunction env es xs fns k fn) e (λ f p. subst (λ (g : SourceFunction). IsWrongFunction env es xs fns k g f) same (wrong f p)) refused
 
+pub refused_notes : (env : Env) (es : List TypeDef) (xs : List ScopeName) (fns : List SourceFunction) (k : ℕ) (h : HeldFunction) (fn : SourceFunction) (attributes : List Attribute) (e : ParseError) → function_behind h ≡ fn → attributes ≡ (function_behind h).attributes → Refused (IsBrokenNotes attributes) e → Refused (IsWrongFunction env es xs fns k fn) e
+refused_notes env es xs fns k h fn attributes e same written refused = held_refused env es xs fns k h fn (IsBrokenNotes attributes) e same (λ f broken. inl (BrokenNotes (subst (λ (l : List Attribute). IsBrokenNotes l f) written broken))) refused
+
 pub refused_given : (env : Env) (es : List TypeDef) (xs : List ScopeName) (fns : List SourceFunction) (k : ℕ) (h : HeldFunction) (fn : SourceFunction) (e : ParseError) → function_behind h ≡ fn → Refused (λ f. IsGetterGiven (function_behind h) f ⊎ IsSetterGiven (function_behind h) f) e → Refused (IsWrongFunction env es xs fns k fn) e
 refused_given env es xs fns k h fn e same refused = held_refused env es xs fns k h fn (λ (f : Fault). IsGetterGiven (function_behind h) f ⊎ IsSetterGiven (function_behind h) f) e same (wrong_given env es xs fns k (function_behind h)) refused
 
@@ -116,22 +121,23 @@ no_duplicate fn (Some k) front count few long written told none distinct f h =
     omega arith
 
 -- a function is legal, but where a name in its signature means nothing
-legal_function : (xs : List ScopeName) (fns : List SourceFunction) (k : ℕ) (fn : SourceFunction) → slice_get fns k ≡ Some fn → AreLegal (written_types fn) → ((f : Fault) → IsGetterGiven fn f → ⊥) → ((f : Fault) → IsSetterGiven fn f → ⊥) → ((f : Fault) → IsDuplicateParam fn f → ⊥) → ((f : Fault) → IsBrokenReturn xs fn f → ⊥) → (f : Fault) → IsBrokenFunction xs fns k fn f → IsNameless xs fns
-legal_function xs fns k fn at types getter setter duplicate return f (BrokenTypes h) = absurd (types f h)
-legal_function xs fns k fn at types getter setter duplicate return f (FunctionAsType h) = record { k = k; fn = fn; at = at; id = h.id; among = h.among; missing = h.missing }
-legal_function xs fns k fn at types getter setter duplicate return f (MissingInSignature h) = record { k = k; fn = fn; at = at; id = h.id; among = h.among; missing = h.missing }
-legal_function xs fns k fn at types getter setter duplicate return f (GetterGiven h) = absurd (getter f h)
-legal_function xs fns k fn at types getter setter duplicate return f (SetterGiven h) = absurd (setter f h)
-legal_function xs fns k fn at types getter setter duplicate return f (DuplicateParam h) = absurd (duplicate f h)
-legal_function xs fns k fn at types getter setter duplicate return f (GetterWithoutResult h) = absurd (return f (inl h))
-legal_function xs fns k fn at types getter setter duplicate return f (SetterWithResult h) = absurd (return f (inr (inl h)))
-legal_function xs fns k fn at types getter setter duplicate return f (ConstructorWithoutResult h) = absurd (return f (inr (inr (inl h))))
-legal_function xs fns k fn at types getter setter duplicate return f (ConstructorOfOther h) = absurd (return f (inr (inr (inr h))))
+legal_function : (xs : List ScopeName) (fns : List SourceFunction) (k : ℕ) (fn : SourceFunction) → slice_get fns k ≡ Some fn → ((f : Fault) → IsBrokenNotes fn.attributes f → ⊥) → AreLegal (written_types fn) → ((f : Fault) → IsGetterGiven fn f → ⊥) → ((f : Fault) → IsSetterGiven fn f → ⊥) → ((f : Fault) → IsDuplicateParam fn f → ⊥) → ((f : Fault) → IsBrokenReturn xs fn f → ⊥) → (f : Fault) → IsBrokenFunction xs fns k fn f → IsNameless xs fns
+legal_function xs fns k fn at notes types getter setter duplicate return f (BrokenNotes h) = absurd (notes f h)
+legal_function xs fns k fn at notes types getter setter duplicate return f (BrokenTypes h) = absurd (types f h)
+legal_function xs fns k fn at notes types getter setter duplicate return f (FunctionAsType h) = record { k = k; fn = fn; at = at; id = h.id; among = h.among; missing = h.missing }
+legal_function xs fns k fn at notes types getter setter duplicate return f (MissingInSignature h) = record { k = k; fn = fn; at = at; id = h.id; among = h.among; missing = h.missing }
+legal_function xs fns k fn at notes types getter setter duplicate return f (GetterGiven h) = absurd (getter f h)
+legal_function xs fns k fn at notes types getter setter duplicate return f (SetterGiven h) = absurd (setter f h)
+legal_function xs fns k fn at notes types getter setter duplicate return f (DuplicateParam h) = absurd (duplicate f h)
+legal_function xs fns k fn at notes types getter setter duplicate return f (GetterWithoutResult h) = absurd (return f (inl h))
+legal_function xs fns k fn at notes types getter setter duplicate return f (SetterWithResult h) = absurd (return f (inr (inl h)))
+legal_function xs fns k fn at notes types getter setter duplicate return f (ConstructorWithoutResult h) = absurd (return f (inr (inr (inl h))))
+legal_function xs fns k fn at notes types getter setter duplicate return f (ConstructorOfOther h) = absurd (return f (inr (inr (inr h))))
 
 -- the same of one that is held
-pub held_legal : (xs : List ScopeName) (fns : List SourceFunction) (k : ℕ) (h : HeldFunction) (fn : SourceFunction) (found : Option ℕ) (front count : ℕ) (ts : List Written) → function_behind h ≡ fn → slice_get fns k ≡ Some fn → front ≡ length (function_behind h).given → count ≡ length (function_behind h).params → ts ≡ (function_behind h).param_types → IsRepeatTold (function_behind h) found → IfNone found ((f : Fault) → IsDuplicateParam (function_behind h) f → ⊥) → ((n : ℕ) → found ≡ Some n → front ≤ n → front + count ≤ n) → ((f : Fault) → IsGetterGiven (function_behind h) f → ⊥) → ((f : Fault) → IsSetterGiven (function_behind h) f → ⊥) → AreLegal ts → AreLegal (option_to_list (function_behind h).result_type) → ((f : Fault) → IsBrokenReturn xs (function_behind h) f → ⊥) → (f : Fault) → IsBrokenFunction xs fns k fn f → IsNameless xs fns
-held_legal xs fns k h fn found front count ts same at long written types told none distinct getter setter params result return f broken =
+pub held_legal : (xs : List ScopeName) (fns : List SourceFunction) (k : ℕ) (h : HeldFunction) (fn : SourceFunction) (found : Option ℕ) (front count : ℕ) (ts : List Written) (attributes : List Attribute) → function_behind h ≡ fn → slice_get fns k ≡ Some fn → attributes ≡ (function_behind h).attributes → ((f : Fault) → IsBrokenNotes attributes f → ⊥) → front ≡ length (function_behind h).given → count ≡ length (function_behind h).params → ts ≡ (function_behind h).param_types → IsRepeatTold (function_behind h) found → IfNone found ((f : Fault) → IsDuplicateParam (function_behind h) f → ⊥) → ((n : ℕ) → found ≡ Some n → front ≤ n → front + count ≤ n) → ((f : Fault) → IsGetterGiven (function_behind h) f → ⊥) → ((f : Fault) → IsSetterGiven (function_behind h) f → ⊥) → AreLegal ts → AreLegal (option_to_list (function_behind h).result_type) → ((f : Fault) → IsBrokenReturn xs (function_behind h) f → ⊥) → (f : Fault) → IsBrokenFunction xs fns k fn f → IsNameless xs fns
+held_legal xs fns k h fn found front count ts attributes same at stood notes long written types told none distinct getter setter params result return f broken =
     let g = function_behind h in
     let legal = legal_more g.param_types (option_to_list g.result_type) (subst AreLegal types params) result in
     let duplicate = no_duplicate g found front count (given_few h) long written told none distinct in
-    legal_function xs fns k g (at ∙ ap (λ (x : SourceFunction). Some x) (sym same)) legal getter setter duplicate return f (subst (λ (x : SourceFunction). IsBrokenFunction xs fns k x f) (sym same) broken)
+    legal_function xs fns k g (at ∙ ap (λ (x : SourceFunction). Some x) (sym same)) (subst (λ (l : List Attribute). (f : Fault) → IsBrokenNotes l f → ⊥) stood notes) legal getter setter duplicate return f (subst (λ (x : SourceFunction). IsBrokenFunction xs fns k x f) (sym same) broken)

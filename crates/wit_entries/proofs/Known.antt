@@ -2,6 +2,7 @@
 use Rattle.std.proofs.Common.{◌≡◌, ℕ, Bool, true, false, List, [], ◌∷◌, ◌++◌, length, Option, Some, None, if◌then◌else◌, inl, inr, refl, sym, ap, ◌∙◌}
 use Rattle.std.specs.Bool.{Decides}
 use Rattle.wit_values.specs.declared.span.Span.{Span}
+use Rattle.wit_types.specs.declared.stability.Stability.{Stability}
 use Rattle.wit_types.specs.declared.types.TypeDef.{TypeDef}
 use Rattle.wit_types.specs.declared.types.TypeDefKind.{TypeDefKind}
 use Rattle.wit_meaning.specs.Package.{At}
@@ -41,9 +42,9 @@ known_named t es e name named known = λ j x k at none key.
     ]
 
 -- an unnamed entry more, whose place was set before
-pub known_unnamed : (t : FiniteMap) (es : List TypeDef) (kind : TypeDefKind) (span : Span) (key : Option InternKey) → key ≡ key_of kind → IsMissing kind es → AreKnown t es → AreKnown (with_key key (length es) t) (es ++ unnamed kind span ∷ [])
-known_unnamed t es kind span key is missing known = λ j x k at none has.
-    elim (at_either es (unnamed kind span) j x at.is) [
+pub known_unnamed : (t : FiniteMap) (es : List TypeDef) (kind : TypeDefKind) (stability : Stability) (span : Span) (key : Option InternKey) → key ≡ key_of kind → IsMissing kind es → AreKnown t es → AreKnown (with_key key (length es) t) (es ++ unnamed kind stability span ∷ [])
+known_unnamed t es kind stability span key is missing known = λ j x k at none has.
+    elim (at_either es (unnamed kind stability span) j x at.is) [
       | inl there ↦ known_set t es kind key (length es) is missing known j x k (record { is = there }) none has
       | inr last ↦ (let here : key ≡ Some k = is ∙ ap (λ (e : TypeDef). key_of e.kind) (sym last.1) ∙ has in rw (here, last.0) (chosen _ (Some (length es)) (t k) (Decides-key k k) refl))
     ]

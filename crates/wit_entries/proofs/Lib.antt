@@ -10,6 +10,8 @@ mod Duplicates
 mod Payloads
 mod Told
 mod Requiring
+mod Settled
+mod Noted
 pub mod Mangling
 mod Paired
 mod Defining

@@ -49,7 +49,7 @@ is_dotted-ids r f = rw (dotted_bytes r f) (is_dotted-labels r.name.now f.name.no
 mangled_resource : (r : Id) (f : ResourceFunc) → is_mangled (resource_function r f).name ≡ true
 mangled_resource r (resource.Method f) = mangled_method f.func.form (dotted r f.name) (is_dotted-ids r f.name)
 mangled_resource r (resource.Static f) = mangled_static f.func.form (dotted r f.name) (is_dotted-ids r f.name)
-mangled_resource r (resource.Constructor span params result) = is_mangled-constructor r.name.now r.label
+mangled_resource r (resource.Constructor docs attributes span params result) = is_mangled-constructor r.name.now r.label
 
 -- the name of a function is mangled
 pub mangled_behind : (h : HeldFunction) → IsTrue (is_mangled (function_behind h).name)
@@ -128,7 +128,7 @@ letter-dotted r f = rw (dotted_bytes r f) (letter-append r.name.now (46 ∷ f.na
 set_resource : (r : Id) (f : ResourceFunc) → is_setter (resource_function r f).name ≡ is_set (role_form (resource_function r f).role)
 set_resource r (resource.Method f) = set_method f.func.form (dotted r f.name) (letter-dotted r f.name) (is_dotted-ids r f.name)
 set_resource r (resource.Static f) = set_static f.func.form (dotted r f.name) (letter-dotted r f.name) (is_dotted-ids r f.name)
-set_resource r (resource.Constructor span params result) = refl
+set_resource r (resource.Constructor docs attributes span params result) = refl
 
 set_behind : (h : HeldFunction) → is_setter (function_behind h).name ≡ is_set (role_form (function_behind h).role)
 set_behind (Free f) = set_free f.now.func.form f.now.name.name.now f.now.name.label

@@ -8,6 +8,7 @@ use Rattle.wit_tree.specs.declared.tree.Id.{Id as Name}
 use Rattle.wit_tree.specs.declared.tree.«Type».{«Type» as Written}
 use Rattle.wit_tree.specs.declared.tree.«Type».TheVariants as written
 use Rattle.wit_types.specs.declared.types.TypeDefKind.{TypeDefKind}
+use Rattle.wit_types.specs.declared.stability.Stability.{Stability}
 use Rattle.wit_values.specs.declared.span.Span.{Span}
 use Rattle.wit_meaning.specs.Form.{AliasForm, kind_of}
 use Rattle.wit_meaning.specs.Shape.{Shape, Prim, Word, Of, one, shape_of, Body, head, written_body}
@@ -25,34 +26,34 @@ use Rattle.wit_entries.specs.declared.types.Reading.TheVariants as reading
 use Rattle.wit_entries.specs.Reading.{IsResolved, AreTypes, IsLeaf, IsOwn, IsForm, IsRead, StandsFor, named_kind}
 
 -- the type of a name
-pub resolved_word : (es : List TypeDef) (env : Env) (id : Name) (i : ℕ) → env id.name.now ≡ Some i → IsResolved es es env (Word id) (Id i)
-resolved_word es env id i found s = record { same = refl; from = λ decls ms m names. record { now = ms; meets = refl; meeting = m; at = ((i, refl, names.stands id.name.now i found), tt) } }
+pub resolved_word : (es : List TypeDef) (env : Env) (given : Stability) (id : Name) (i : ℕ) → env id.name.now ≡ Some i → IsResolved es es env given (Word id) (Id i)
+resolved_word es env given id i found s = record { same = refl; from = λ decls ms m names. record { now = ms; meets = refl; meeting = m; at = ((i, refl, names.stands id.name.now i found), tt) } }
 
 -- the type of a form, once it is interned
-pub whole_stands : (old mid new : List TypeDef) (env : Env) (x : Shape) (k : TypeDefKind) (span : Span) (i : ℕ) → IsForm old mid env x k span → IsInterned mid new k span i → IsResolved old new env x (Id i)
-whole_stands old mid new env (Prim p) k span i form interned s = absurd form
-whole_stands old mid new env (Word id) k span i form interned s = absurd form
-whole_stands old mid new env (Of at f parts) k span i form interned s =
-    rw (form.0, ← form.1) (resolved_whole k span i (only_anonymous k (subst IsAnonymousForm (sym form.1) form.2)) (form.3 s) interned)
+pub whole_stands : (old mid new : List TypeDef) (env : Env) (given : Stability) (x : Shape) (k : TypeDefKind) (span : Span) (i : ℕ) → IsForm old mid env given x k span → IsInterned mid new k given span i → IsResolved old new env given x (Id i)
+whole_stands old mid new env given (Prim p) k span i form interned s = absurd form
+whole_stands old mid new env given (Word id) k span i form interned s = absurd form
+whole_stands old mid new env given (Of at f parts) k span i form interned s =
+    rw (form.0, ← form.1) (resolved_whole k given span i (only_anonymous k (subst IsAnonymousForm (sym form.1) form.2)) (form.3 s) interned)
 
 -- the type that stands for what was read
-pub read_stands : (old mid new : List TypeDef) (env : Env) (x : Shape) (r : Reading) (ty : Ty) → IsRead old mid env x r → StandsFor mid new r ty → IsResolved old new env x ty
-read_stands old mid new env x (reading.Leaf t) ty read stands = rw (stands.0, stands.1) read.1
-read_stands old mid new env x (reading.Form k span) ty read stands = rw stands.1 (whole_stands old mid new env x k span stands.0 read stands.2)
+pub read_stands : (old mid new : List TypeDef) (env : Env) (given : Stability) (x : Shape) (r : Reading) (ty : Ty) → IsRead old mid env given x r → StandsFor mid new given r ty → IsResolved old new env given x ty
+read_stands old mid new env given x (reading.Leaf t) ty read stands = rw (stands.0, stands.1) read.1
+read_stands old mid new env given x (reading.Form k span) ty read stands = rw stands.1 (whole_stands old mid new env given x k span stands.0 read stands.2)
 
 -- a type by itself as one part
-pub alone : {old new : List TypeDef} {env : Env} {ty : Ty} (x : Shape) → IsResolved old new env x ty → (s : Address) → AreResolved old new s env (shapes_meetings s (one x)) (exprs_of s (one x)) (ty ∷ [])
-alone {old} {new} {env} {ty} x is s = subst (λ ms. AreResolved old new s env ms (exprs.one (expr_of s x)) (ty ∷ [])) (sym (append-nil (shape_meetings s x))) (is s)
+pub alone : {old new : List TypeDef} {env : Env} {ty : Ty} (given : Stability) (x : Shape) → IsResolved old new env given x ty → (s : Address) → AreResolved old new s env (shapes_meetings s given (one x)) (exprs_of s (one x)) (ty ∷ [])
+alone {old} {new} {env} {ty} given x is s = subst (λ ms. AreResolved old new s env ms (exprs.one (expr_of s x)) (ty ∷ [])) (sym (append-nil (shape_meetings s given x))) (is s)
 
 -- types one after another
-pub types_none : (es : List TypeDef) (env : Env) → AreTypes es es env [] []
-types_none es env s = resolved_none es s env
+pub types_none : (es : List TypeDef) (env : Env) (given : Stability) → AreTypes es es env given [] []
+types_none es env given s = resolved_none es s env
 
-pub types_one : {old new : List TypeDef} {env : Env} {ty : Ty} (t : Written) → IsResolved old new env (shape_of t) ty → AreTypes old new env (t ∷ []) (ty ∷ [])
-types_one t is s = alone (shape_of t) is s
+pub types_one : {old new : List TypeDef} {env : Env} {ty : Ty} (given : Stability) (t : Written) → IsResolved old new env given (shape_of t) ty → AreTypes old new env given (t ∷ []) (ty ∷ [])
+types_one given t is s = alone given (shape_of t) is s
 
-pub types_then : {old mid new : List TypeDef} {env : Env} {tys uys : List Ty} (ts us : List Written) → AreTypes old mid env ts tys → AreTypes mid new env us uys → AreTypes old new env (ts ++ us) (tys ++ uys)
-types_then ts us p q s = rw (all_exprs-append s ts us, all_meetings-append s ts us) (resolved_more (p s) (q s))
+pub types_then : {old mid new : List TypeDef} {env : Env} {tys uys : List Ty} (given : Stability) (ts us : List Written) → AreTypes old mid env given ts tys → AreTypes mid new env given us uys → AreTypes old new env given (ts ++ us) (tys ++ uys)
+types_then given ts us p q s = rw (all_exprs-append s ts us, all_meetings-append s given ts us) (resolved_more (p s) (q s))
 
 leaf_head : (x : Shape) → IsLeaf x → head x ≡ record { form = AliasForm; parts = one x }
 leaf_head (Prim p) leaf = refl
@@ -60,26 +61,26 @@ leaf_head (Word id) leaf = refl
 leaf_head (Of span form parts) leaf = absurd leaf
 
 -- under a name it has the form of the head
-pub read_form : (old new : List TypeDef) (env : Env) (x : Shape) (r : Reading) → IsRead old new env x r → (kind_of (named_kind r)).form ≡ (head x).form
-read_form old new env x (reading.Leaf t) read = ap (λ (b : Body). b.form) (sym (leaf_head x read.0))
-read_form old new env (Prim p) (reading.Form k span) read = absurd read
-read_form old new env (Word id) (reading.Form k span) read = absurd read
-read_form old new env (Of at form parts) (reading.Form k span) read = read.1
+pub read_form : (old new : List TypeDef) (env : Env) (given : Stability) (x : Shape) (r : Reading) → IsRead old new env given x r → (kind_of (named_kind r)).form ≡ (head x).form
+read_form old new env given x (reading.Leaf t) read = ap (λ (b : Body). b.form) (sym (leaf_head x read.0))
+read_form old new env given (Prim p) (reading.Form k span) read = absurd read
+read_form old new env given (Word id) (reading.Form k span) read = absurd read
+read_form old new env given (Of at form parts) (reading.Form k span) read = read.1
 
 -- and its parts are those of the head
-pub read_parts : (old new : List TypeDef) (env : Env) (x : Shape) (r : Reading) → IsRead old new env x r → (s : Address) → AreResolved old new s env (shapes_meetings s (head x).parts) (exprs_of s (head x).parts) (kind_of (named_kind r)).parts
-read_parts old new env x (reading.Leaf t) read s = rw (leaf_head x read.0) (alone x read.1 s)
-read_parts old new env (Prim p) (reading.Form k span) read s = absurd read
-read_parts old new env (Word id) (reading.Form k span) read s = absurd read
-read_parts old new env (Of at form parts) (reading.Form k span) read s = read.3 s
+pub read_parts : (old new : List TypeDef) (env : Env) (given : Stability) (x : Shape) (r : Reading) → IsRead old new env given x r → (s : Address) → AreResolved old new s env (shapes_meetings s given (head x).parts) (exprs_of s (head x).parts) (kind_of (named_kind r)).parts
+read_parts old new env given x (reading.Leaf t) read s = rw (leaf_head x read.0) (alone given x read.1 s)
+read_parts old new env given (Prim p) (reading.Form k span) read s = absurd read
+read_parts old new env given (Word id) (reading.Form k span) read s = absurd read
+read_parts old new env given (Of at form parts) (reading.Form k span) read s = read.3 s
 
 -- every other type than one that is handed over stands under a name as it does by itself
 plain_body : (t : Written) → (IsOwn t → ⊥) → written_body t ≡ head (shape_of t)
 plain_body (written.Own span id) other = absurd (other tt)
 plain_body t other = refl
 
-pub plain_form : (old new : List TypeDef) (env : Env) (t : Written) (r : Reading) → (IsOwn t → ⊥) → IsRead old new env (shape_of t) r → (kind_of (named_kind r)).form ≡ (written_body t).form
-plain_form old new env t r other read = read_form old new env (shape_of t) r read ∙ ap (λ (b : Body). b.form) (sym (plain_body t other))
+pub plain_form : (old new : List TypeDef) (env : Env) (given : Stability) (t : Written) (r : Reading) → (IsOwn t → ⊥) → IsRead old new env given (shape_of t) r → (kind_of (named_kind r)).form ≡ (written_body t).form
+plain_form old new env given t r other read = read_form old new env given (shape_of t) r read ∙ ap (λ (b : Body). b.form) (sym (plain_body t other))
 
-pub plain_parts : (old new : List TypeDef) (env : Env) (t : Written) (r : Reading) → (IsOwn t → ⊥) → IsRead old new env (shape_of t) r → (s : Address) → AreResolved old new s env (shapes_meetings s (written_body t).parts) (exprs_of s (written_body t).parts) (kind_of (named_kind r)).parts
-plain_parts old new env t r other read s = subst (λ (b : Body). AreResolved old new s env (shapes_meetings s b.parts) (exprs_of s b.parts) (kind_of (named_kind r)).parts) (sym (plain_body t other)) (read_parts old new env (shape_of t) r read s)
+pub plain_parts : (old new : List TypeDef) (env : Env) (given : Stability) (t : Written) (r : Reading) → (IsOwn t → ⊥) → IsRead old new env given (shape_of t) r → (s : Address) → AreResolved old new s env (shapes_meetings s given (written_body t).parts) (exprs_of s (written_body t).parts) (kind_of (named_kind r)).parts
+plain_parts old new env given t r other read s = subst (λ (b : Body). AreResolved old new s env (shapes_meetings s given b.parts) (exprs_of s b.parts) (kind_of (named_kind r)).parts) (sym (plain_body t other)) (read_parts old new env given (shape_of t) r read s)

@@ -6,6 +6,7 @@ use Rattle.wit_tree.specs.declared.tree.«Type».{«Type» as Written}
 use Rattle.wit_tree.specs.declared.tree.«Type».TheVariants as written
 use Rattle.wit_tree.specs.Parts.{part_types}
 use Rattle.wit_types.specs.declared.types.«Type».{«Type» as Ty}
+use Rattle.wit_types.specs.declared.stability.Stability.{Stability}
 use Rattle.wit_types.specs.declared.types.TypeDef.{TypeDef}
 use Rattle.wit_types.specs.declared.types.TypeDefKind.{TypeDefKind}
 use Rattle.wit_values.specs.declared.span.Span.{Span}
@@ -25,8 +26,8 @@ grown_by old new e is = record { more = e ∷ []; is = is }
 pub grown_then : (old mid new : List TypeDef) → IsGrown old mid → IsGrown mid new → IsGrown old new
 grown_then old mid new p q = record { more = p.more ++ q.more; is = q.is ∙ ap (λ (l : List TypeDef). l ++ q.more) p.is ∙ append_assoc old p.more q.more }
 
-pub grown_interned : (old new : List TypeDef) (k : TypeDefKind) (span : Span) (i : ℕ) → IsInterned old new k span i → IsGrown old new
-grown_interned old new k span i h = elim h.either [
+pub grown_interned : (old new : List TypeDef) (k : TypeDefKind) (given : Stability) (span : Span) (i : ℕ) → IsInterned old new k given span i → IsGrown old new
+grown_interned old new k given span i h = elim h.either [
   | inl was ↦ record { more = []; is = was.0 ∙ sym (append-nil old) }
   | inr added ↦ grown_by old new _ added.0
 ]

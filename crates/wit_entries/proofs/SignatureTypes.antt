@@ -33,7 +33,7 @@ written_with name role given f = record { params = params_written f.func.params.
 written_of : (r : Id) (f : ResourceFunc) → AreWritten (resource_function r f)
 written_of r (resource.Method f) = written_with (resource_function r (resource.Method f)).name (resource_function r (resource.Method f)).role (resource_function r (resource.Method f)).given f
 written_of r (resource.Static f) = written_with (resource_function r (resource.Static f)).name (resource_function r (resource.Static f)).role [] f
-written_of r (resource.Constructor span params result) = record { params = params_written params.items; result = λ t is. ap (λ (o : Option Written). Some (option_map_or shape_of o (Word r))) is }
+written_of r (resource.Constructor docs attributes span params result) = record { params = params_written params.items; result = λ t is. ap (λ (o : Option Written). Some (option_map_or shape_of o (Word r))) is }
 
 written_behind : (h : HeldFunction) → AreWritten (function_behind h)
 written_behind (held.Free f) = written_with (free_function f.now).name (free_function f.now).role [] f.now

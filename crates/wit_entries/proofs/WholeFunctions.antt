@@ -1,5 +1,5 @@
 -- Functions over their types, from their parameters and their results, and one behind the other.
-use Rattle.std.proofs.Common.{◌≡◌, ◌<◌, ◌≤◌, ◌+◌, ℕ, List, [], ◌∷◌, ◌++◌, length, map, take, Some, None, All, IsTrue, inl, inr, sym, ap, ◌∙◌, subst, arith}
+use Rattle.std.proofs.Common.{◌≡◌, ◌<◌, ◌≤◌, ◌+◌, ℕ, List, [], ◌∷◌, ◌++◌, length, map, take, Some, All, IsTrue, inl, inr, sym, ap, ◌∙◌, subst, arith}
 use Rattle.std.specs.Prelude.{slice_get, get_or}
 use Rattle.std.specs.List.{flat_map}
 use Rattle.std.specs.Option.{option_map, option_to_list}
@@ -10,18 +10,18 @@ use Rattle.std.proofs.lemmas.Option.{same_Some, slice_get-map, slice_get-get_or,
 use Rattle.wit_names.specs.Mangled.{is_mangled}
 use Rattle.wit_values.specs.declared.span.Span.{Span}
 use Rattle.wit_scope.specs.Names.{Name}
-use Rattle.wit_types.specs.declared.stability.Stability.TheVariants.{Unknown}
 use Rattle.wit_types.specs.declared.types.TypeDef.{TypeDef}
 use Rattle.wit_model.specs.declared.function.Function.{Function}
 use Rattle.wit_model.specs.declared.function.Param.{Param}
 use Rattle.wit_tree.specs.declared.error.ParseError.{ParseError}
 use Rattle.wit_tree.specs.declared.tree.«Type».{«Type» as Written}
 use Rattle.wit_meaning.specs.Address.{Address}
-use Rattle.wit_meaning.specs.Shape.{no_docs, all_handles}
+use Rattle.wit_meaning.specs.Shape.{all_handles}
 use Rattle.wit_meaning.specs.Source.{ScopeName}
 use Rattle.wit_meaning.specs.Fault.{Fault}
 use Rattle.wit_meaning.specs.Broken.{Refused}
 use Rattle.wit_meaning.specs.Function.{SourceParam, SourceFunction, all_params, written_types}
+use Rattle.wit_meaning.specs.Functions.{IsNoted}
 use Rattle.wit_meaning.specs.Signature.{IsBrokenFunction}
 use Rattle.wit_meaning.specs.Adding.{IsKindIn}
 use Rattle.wit_meaning.specs.Resolving.{Env, Names, Required, env_of, AddsFunctions}
@@ -45,16 +45,16 @@ pub held_at : (hs : List HeldFunction) (place : ℕ) (d : HeldFunction) (fn : So
 held_at hs place d fn lt at = same_Some (function_behind (get_or hs place d)) fn (sym (held_here hs place d lt) ∙ at)
 
 -- a function over its parameters and its result
-function_adds : (old mid new : List TypeDef) (s : Address) (names : Names) (fn : SourceFunction) (f : Function) → AreParamsOver old mid (env_of names) (all_params fn) f.params → IsResultOver mid new (env_of names) fn.result f.result → f.name ≡ fn.name → IsKindIn (env_of names) fn.role f.kind → f.span ≡ fn.span → f.docs ≡ no_docs → f.stability ≡ Unknown → f.external_id ≡ None → AddsFunctions old new s names (fn ∷ []) (f ∷ [])
-function_adds old mid new s names fn f params result name kind span docs stability external_id =
-    function_one old new s names fn f (record { name = name; kind = kind; count = params.count; params = params.each; span = span; docs = docs; stability = stability; external_id = external_id })
+function_adds : (old mid new : List TypeDef) (s : Address) (names : Names) (fn : SourceFunction) (f : Function) → AreParamsOver old mid (env_of names) (all_params fn) f.params → IsResultOver mid new (env_of names) fn.result f.result → f.name ≡ fn.name → IsKindIn (env_of names) fn.role f.kind → f.span ≡ fn.span → IsNoted fn f → AddsFunctions old new s names (fn ∷ []) (f ∷ [])
+function_adds old mid new s names fn f params result name kind span noted =
+    function_one old new s names fn f (record { name = name; kind = kind; count = params.count; params = params.each; span = span; notes = noted })
     (shapes_append old mid new s (env_of names) (map (λ (p : SourceParam). p.shape) (all_params fn)) (option_to_list fn.result) (map (λ (p : Param). p.ty) f.params) (option_to_list f.result) (params.types s) (result.types s))
 
 -- the same of one that is held
-pub held_adds : (old mid new : List TypeDef) (s : Address) (names : Names) (h : HeldFunction) (fn : SourceFunction) (f : Function) (ws : List SourceParam) (ps : List Param) → function_behind h ≡ fn → ws ≡ (function_behind h).params → f.params ≡ ps → AreParamsOver old mid (env_of names) ((function_behind h).given ++ ws) ps → IsResultOver mid new (env_of names) (function_behind h).result f.result → f.name ≡ (function_behind h).name → IsKindIn (env_of names) (function_behind h).role f.kind → f.span ≡ (function_behind h).span → f.docs ≡ no_docs → f.stability ≡ Unknown → f.external_id ≡ None → AddsFunctions old new s names (fn ∷ []) (f ∷ [])
-held_adds old mid new s names h fn f ws ps same written made params result name kind span docs stability external_id =
+pub held_adds : (old mid new : List TypeDef) (s : Address) (names : Names) (h : HeldFunction) (fn : SourceFunction) (f : Function) (ws : List SourceParam) (ps : List Param) → function_behind h ≡ fn → ws ≡ (function_behind h).params → f.params ≡ ps → AreParamsOver old mid (env_of names) ((function_behind h).given ++ ws) ps → IsResultOver mid new (env_of names) (function_behind h).result f.result → f.name ≡ (function_behind h).name → IsKindIn (env_of names) (function_behind h).role f.kind → f.span ≡ (function_behind h).span → IsNoted (function_behind h) f → AddsFunctions old new s names (fn ∷ []) (f ∷ [])
+held_adds old mid new s names h fn f ws ps same written made params result name kind span noted =
     let whole = subst (λ (l : List SourceParam). AreParamsOver old mid (env_of names) ((function_behind h).given ++ l) ps) written params in
-    subst (λ (g : SourceFunction). AddsFunctions old new s names (g ∷ []) (f ∷ [])) same (function_adds old mid new s names (function_behind h) f (subst (AreParamsOver old mid (env_of names) (all_params (function_behind h))) (sym made) whole) result name kind span docs stability external_id)
+    subst (λ (g : SourceFunction). AddsFunctions old new s names (g ∷ []) (f ∷ [])) same (function_adds old mid new s names (function_behind h) f (subst (AreParamsOver old mid (env_of names) (all_params (function_behind h))) (sym made) whole) result name kind span noted)
 
 -- what handles in it require: those of its parameters, and then that of its result
 pub held_requires : (mid new : List TypeDef) (env : Env) (h : HeldFunction) (fn : SourceFunction) (ts : List Written) (a b c : List Required) → function_behind h ≡ fn → ts ≡ (function_behind h).param_types → IsGrown mid new → Requires env mid (all_handles ts) a b → Requires env new (all_handles (option_to_list (function_behind h).result_type)) b c → Requires env new (all_handles (written_types fn)) a c

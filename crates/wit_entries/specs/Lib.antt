@@ -1,5 +1,6 @@
 pub mod Known
 pub mod Reading
+pub mod Settled
 pub mod Told
 pub mod Requiring
 pub mod Held

@@ -3,6 +3,7 @@ use Rattle.std.specs.Prelude.{◌≡◌, ℕ, List, [], ◌∷◌, Option, Some,
 use Rattle.wit_values.specs.declared.span.Span.{Span}
 use Rattle.wit_tree.specs.declared.tree.«Type».{«Type» as Written}
 use Rattle.wit_tree.specs.declared.tree.«Type».TheVariants as written
+use Rattle.wit_types.specs.declared.stability.Stability.{Stability}
 use Rattle.wit_types.specs.declared.types.«Type».{«Type» as Ty}
 use Rattle.wit_types.specs.declared.types.«Type».TheVariants.{Id}
 use Rattle.wit_types.specs.declared.types.TypeDef.{TypeDef}
@@ -24,13 +25,13 @@ primitive_in (Prim p) = Some (primitive_type p)
 primitive_in (Word id) = None
 primitive_in (Of span form parts) = None
 
--- from whatever was met, the new arena is that with what is met in a type, and it stands for this
-abbrev pub IsResolved : List TypeDef → List TypeDef → Env → Shape → Ty → Type 0
-IsResolved old new env x ty = (s : Address) → AreResolved old new s env (shape_meetings s x) (one (expr_of s x)) (ty ∷ [])
+-- from whatever was met, the new arena is that with what is met in a type, which stands in a definition of this stability, and it stands for this
+abbrev pub IsResolved : List TypeDef → List TypeDef → Env → Stability → Shape → Ty → Type 0
+IsResolved old new env given x ty = (s : Address) → AreResolved old new s env (shape_meetings s given x) (one (expr_of s x)) (ty ∷ [])
 
 -- the same of types, one after another
-abbrev pub AreTypes : List TypeDef → List TypeDef → Env → List Written → List Ty → Type 0
-AreTypes old new env ts tys = (s : Address) → AreResolved old new s env (shapes_meetings s (all_shapes ts)) (exprs_of s (all_shapes ts)) tys
+abbrev pub AreTypes : List TypeDef → List TypeDef → Env → Stability → List Written → List Ty → Type 0
+AreTypes old new env given ts tys = (s : Address) → AreResolved old new s env (shapes_meetings s given (all_shapes ts)) (exprs_of s (all_shapes ts)) tys
 
 -- a primitive or a name
 abbrev pub IsLeaf : Shape → Type 0
@@ -44,20 +45,20 @@ IsOwn (written.Own span id) = Unit {0}
 IsOwn t = ⊥
 
 -- a form with this span, and its kind over its resolved parts
-abbrev pub IsForm : List TypeDef → List TypeDef → Env → Shape → TypeDefKind → Span → Type 0
-IsForm old new env (Prim p) kind span = ⊥
-IsForm old new env (Word id) kind span = ⊥
-IsForm old new env (Of at form parts) kind span = (at ≡ span) × ((kind_of kind).form ≡ form) × IsAnonymousForm form × ((s : Address) → AreResolved old new s env (shapes_meetings s parts) (exprs_of s parts) (kind_of kind).parts)
+abbrev pub IsForm : List TypeDef → List TypeDef → Env → Stability → Shape → TypeDefKind → Span → Type 0
+IsForm old new env given (Prim p) kind span = ⊥
+IsForm old new env given (Word id) kind span = ⊥
+IsForm old new env given (Of at form parts) kind span = (at ≡ span) × ((kind_of kind).form ≡ form) × IsAnonymousForm form × ((s : Address) → AreResolved old new s env (shapes_meetings s given parts) (exprs_of s parts) (kind_of kind).parts)
 
 -- a primitive or a name is a type by now, and a form is a kind
-abbrev pub IsRead : List TypeDef → List TypeDef → Env → Shape → Reading → Type 0
-IsRead old new env x (reading.Leaf ty) = IsLeaf x × IsResolved old new env x ty
-IsRead old new env x (reading.Form kind span) = IsForm old new env x kind span
+abbrev pub IsRead : List TypeDef → List TypeDef → Env → Stability → Shape → Reading → Type 0
+IsRead old new env given x (reading.Leaf ty) = IsLeaf x × IsResolved old new env given x ty
+IsRead old new env given x (reading.Form kind span) = IsForm old new env given x kind span
 
 -- the type that this is: a kind is interned
-abbrev pub StandsFor : List TypeDef → List TypeDef → Reading → Ty → Type 0
-StandsFor old new (reading.Leaf ty) t = (t ≡ ty) × (new ≡ old)
-StandsFor old new (reading.Form kind span) t = (i : ℕ) × (t ≡ Id i) × IsInterned old new kind span i
+abbrev pub StandsFor : List TypeDef → List TypeDef → Stability → Reading → Ty → Type 0
+StandsFor old new given (reading.Leaf ty) t = (t ≡ ty) × (new ≡ old)
+StandsFor old new given (reading.Form kind span) t = (i : ℕ) × (t ≡ Id i) × IsInterned old new kind given span i
 
 -- the kind that this is under a name by itself: another word for a type, or the kind
 abbrev pub named_kind : Reading → TypeDefKind

@@ -21,9 +21,10 @@ use crate::scope::Required;
 use crate::types::{named_kind, read, resolve_type};
 use std::alloc::{AllocError, Global};
 use wit_model::{
-    Case, Docs, Enum, EnumCase, Field, Flag, Flags, Handle, Record, Type, TypeDefKind, TypeId,
+    Case, Enum, EnumCase, Field, Flag, Flags, Handle, Record, Stability, Type, TypeDefKind, TypeId,
     Variant,
 };
+use wit_scope::docs;
 use wit_tree::{ParseResult, Span, tree};
 use wit_values::{Row, Text, TextTable};
 
@@ -35,7 +36,7 @@ fn field(alloc: Global, field: &tree::Field<'_>, ty: Type) -> Result<Field, Allo
     Ok(Field {
         name: Text::from_str(alloc, field.name.name)?,
         ty,
-        docs: Docs::default(),
+        docs: docs(alloc, &field.docs)?,
         span: field.name.span,
     })
 }
@@ -46,9 +47,10 @@ fn resolve_fields(
     types: &mut Entries,
     names: &TextTable<TypeId>,
     required: &mut Vec<Required>,
+    given: &Stability,
     fields: &[tree::Field<'_>],
 ) -> ParseResult<Row<Field>>
-    ensures types { IfOk result (λ r. AreTypes types.old types.new (env_of names.now) (field_types fields.now) (map (λ f. f.ty) r)) }
+    ensures types { IfOk result (λ r. AreTypes types.old types.new (env_of names.now) given.now (field_types fields.now) (map (λ f. f.ty) r)) }
     ensures members { IfOk result (λ r. map field_member r ≡ map written_field fields.now) }
     ensures legal { OnOk result ((f : Fault) → IsBrokenPart (field_types fields.now) f → ⊥) }
     ensures handled { OnOk result (Requires (env_of names.now) types.new (all_handles (field_types fields.now)) required.old.items required.new.items) }
@@ -57,7 +59,7 @@ fn resolve_fields(
 {
     let mut resolved = Vec::with_capacity(alloc, fields.len())?;
     for written in fields {
-        let ty = resolve_type(alloc, types, names, required, &written.ty)?;
+        let ty = resolve_type(alloc, types, names, required, given, &written.ty)?;
         resolved.push(field(alloc, written, ty)?)?;
     }
     Ok(Row::from(resolved))
@@ -69,10 +71,11 @@ fn resolve_record(
     types: &mut Entries,
     names: &TextTable<TypeId>,
     required: &mut Vec<Required>,
+    given: &Stability,
     span: Span,
     fields: &[tree::Field<'_>],
 ) -> ParseResult<TypeDefKind>
-    ensures types { IfOk result (λ r. AreTypes types.old types.new (env_of names.now) (field_types fields.now) (kind_of r).parts) }
+    ensures types { IfOk result (λ r. AreTypes types.old types.new (env_of names.now) given.now (field_types fields.now) (kind_of r).parts) }
     ensures form { IfOk result (λ r. (kind_of r).form ≡ RecordForm (map written_field fields.now)) }
     ensures list { OnOk result ((f : Fault) → IsBrokenRecord fields.now span f → ⊥) }
     ensures legal { OnOk result ((f : Fault) → IsBrokenPart (field_types fields.now) f → ⊥) }
@@ -81,7 +84,7 @@ fn resolve_record(
     ensures refused { IfErr result (Refused (λ f. IsBrokenRecord fields.now span f ⊎ AreWrongTypes (env_of names.now) types.new (field_types fields.now) f)) }
 {
     check_record(alloc, span, fields)?;
-    let fields = resolve_fields(alloc, types, names, required, fields)?;
+    let fields = resolve_fields(alloc, types, names, required, given, fields)?;
     Ok(TypeDefKind::Record(Record { fields }))
 }
 
@@ -91,7 +94,7 @@ fn flag(alloc: Global, flag: &tree::Flag<'_>) -> Result<Flag, AllocError>
 {
     Ok(Flag {
         name: Text::from_str(alloc, flag.name.name)?,
-        docs: Docs::default(),
+        docs: docs(alloc, &flag.docs)?,
         span: flag.name.span,
     })
 }
@@ -121,13 +124,13 @@ fn resolve_flags(alloc: Global, span: Span, written: &[tree::Flag<'_>]) -> Parse
 
 /// A case of a variant, with the type of what it holds.
 fn case(alloc: Global, case: &tree::Case<'_>, ty: Option<Type>) -> Result<Case, AllocError>
-    ensures name { IfOk result (λ r. (case_member r).0 ≡ member case.now.name) }
+    ensures name { IfOk result (λ r. (case_member r).0 ≡ member case.now.docs case.now.name) }
     ensures ty { IfOk result (λ r. r.ty ≡ ty) }
 {
     Ok(Case {
         name: Text::from_str(alloc, case.name.name)?,
         ty,
-        docs: Docs::default(),
+        docs: docs(alloc, &case.docs)?,
         span: case.name.span,
     })
 }
@@ -138,9 +141,10 @@ fn resolve_case(
     types: &mut Entries,
     names: &TextTable<TypeId>,
     required: &mut Vec<Required>,
+    given: &Stability,
     written: &tree::Case<'_>,
 ) -> ParseResult<Case>
-    ensures types { IfOk result (λ r. AreTypes types.old types.new (env_of names.now) (option_to_list written.now.ty) (option_to_list r.ty)) }
+    ensures types { IfOk result (λ r. AreTypes types.old types.new (env_of names.now) given.now (option_to_list written.now.ty) (option_to_list r.ty)) }
     ensures member { IfOk result (λ r. case_member r ≡ written_case written.now) }
     ensures legal { OnOk result ((f : Fault) → IsBrokenPart (option_to_list written.now.ty) f → ⊥) }
     ensures handled { OnOk result (Requires (env_of names.now) types.new (all_handles (option_to_list written.now.ty)) required.old.items required.new.items) }
@@ -149,7 +153,7 @@ fn resolve_case(
 {
     match &written.ty {
         Some(ty) => {
-            let ty = resolve_type(alloc, types, names, required, ty)?;
+            let ty = resolve_type(alloc, types, names, required, given, ty)?;
             Ok(case(alloc, written, Some(ty))?)
         }
         None => Ok(case(alloc, written, None)?),
@@ -162,9 +166,10 @@ fn resolve_cases(
     types: &mut Entries,
     names: &TextTable<TypeId>,
     required: &mut Vec<Required>,
+    given: &Stability,
     cases: &[tree::Case<'_>],
 ) -> ParseResult<Row<Case>>
-    ensures types { IfOk result (λ r. AreTypes types.old types.new (env_of names.now) (case_types cases.now) (payloads r)) }
+    ensures types { IfOk result (λ r. AreTypes types.old types.new (env_of names.now) given.now (case_types cases.now) (payloads r)) }
     ensures members { IfOk result (λ r. map case_member r ≡ map written_case cases.now) }
     ensures legal { OnOk result ((f : Fault) → IsBrokenPart (case_types cases.now) f → ⊥) }
     ensures handled { OnOk result (Requires (env_of names.now) types.new (all_handles (case_types cases.now)) required.old.items required.new.items) }
@@ -173,7 +178,7 @@ fn resolve_cases(
 {
     let mut resolved = Vec::with_capacity(alloc, cases.len())?;
     for written in cases {
-        let case = resolve_case(alloc, types, names, required, written)?;
+        let case = resolve_case(alloc, types, names, required, given, written)?;
         resolved.push(case)?;
     }
     Ok(Row::from(resolved))
@@ -185,10 +190,11 @@ fn resolve_variant(
     types: &mut Entries,
     names: &TextTable<TypeId>,
     required: &mut Vec<Required>,
+    given: &Stability,
     span: Span,
     cases: &[tree::Case<'_>],
 ) -> ParseResult<TypeDefKind>
-    ensures types { IfOk result (λ r. AreTypes types.old types.new (env_of names.now) (case_types cases.now) (kind_of r).parts) }
+    ensures types { IfOk result (λ r. AreTypes types.old types.new (env_of names.now) given.now (case_types cases.now) (kind_of r).parts) }
     ensures form { IfOk result (λ r. (kind_of r).form ≡ VariantForm (map written_case cases.now)) }
     ensures list { OnOk result ((f : Fault) → IsBrokenVariant cases.now span f → ⊥) }
     ensures legal { OnOk result ((f : Fault) → IsBrokenPart (case_types cases.now) f → ⊥) }
@@ -197,7 +203,7 @@ fn resolve_variant(
     ensures refused { IfErr result (Refused (λ f. IsBrokenVariant cases.now span f ⊎ AreWrongTypes (env_of names.now) types.new (case_types cases.now) f)) }
 {
     check_variant(alloc, span, cases)?;
-    let cases = resolve_cases(alloc, types, names, required, cases)?;
+    let cases = resolve_cases(alloc, types, names, required, given, cases)?;
     Ok(TypeDefKind::Variant(Variant { cases }))
 }
 
@@ -207,7 +213,7 @@ fn enum_case(alloc: Global, case: &tree::EnumCase<'_>) -> Result<EnumCase, Alloc
 {
     Ok(EnumCase {
         name: Text::from_str(alloc, case.name.name)?,
-        docs: Docs::default(),
+        docs: docs(alloc, &case.docs)?,
         span: case.name.span,
     })
 }
@@ -245,18 +251,19 @@ fn resolve_word(
     types: &mut Entries,
     names: &TextTable<TypeId>,
     required: &mut Vec<Required>,
+    given: &Stability,
     ty: &tree::Type<'_>,
 ) -> ParseResult<TypeDefKind>
     requires { IsOwn ty.now → ⊥ }
     ensures parts { IfOk result (λ r. (s : Address) → AreResolved types.old types.new s (env_of names.now)
-        (shapes_meetings s (written_body ty.now).parts) (exprs_of s (written_body ty.now).parts) (kind_of r).parts) }
+        (shapes_meetings s given.now (written_body ty.now).parts) (exprs_of s (written_body ty.now).parts) (kind_of r).parts) }
     ensures form { IfOk result (λ r. (kind_of r).form ≡ (written_body ty.now).form) }
     ensures legal { OnOk result ((f : Fault) → IsBrokenType ty.now f → ⊥) }
     ensures handled { OnOk result (Requires (env_of names.now) types.new (handles ty.now) required.old.items required.new.items) }
     ensures grown { IsGrown types.old types.new }
     ensures refused { IfErr result (Refused (IsWrongType (env_of names.now) types.new ty.now)) }
 {
-    let reading = read(alloc, types, names, required, ty)?;
+    let reading = read(alloc, types, names, required, given, ty)?;
     Ok(named_kind(reading))
 }
 
@@ -266,10 +273,11 @@ fn resolve_plain(
     types: &mut Entries,
     names: &TextTable<TypeId>,
     required: &mut Vec<Required>,
+    given: &Stability,
     ty: &tree::Type<'_>,
 ) -> ParseResult<TypeDefKind>
     ensures parts { IfOk result (λ r. (s : Address) → AreResolved types.old types.new s (env_of names.now)
-        (shapes_meetings s (written_body ty.now).parts) (exprs_of s (written_body ty.now).parts) (kind_of r).parts) }
+        (shapes_meetings s given.now (written_body ty.now).parts) (exprs_of s (written_body ty.now).parts) (kind_of r).parts) }
     ensures form { IfOk result (λ r. (kind_of r).form ≡ (written_body ty.now).form) }
     ensures legal { OnOk result ((f : Fault) → IsBrokenType ty.now f → ⊥) }
     ensures handled { OnOk result (Requires (env_of names.now) types.new (handles ty.now) required.old.items required.new.items) }
@@ -280,7 +288,7 @@ fn resolve_plain(
         let resource = find_resource(alloc, types, names, required, *id)?;
         return Ok(TypeDefKind::Handle(Handle::Own(resource)));
     }
-    resolve_word(alloc, types, names, required, ty)
+    resolve_word(alloc, types, names, required, given, ty)
 }
 
 /// The kind of a definition.
@@ -291,10 +299,11 @@ pub fn resolve_body(
     types: &mut Entries,
     names: &TextTable<TypeId>,
     required: &mut Vec<Required>,
+    given: &Stability,
     body: &tree::TypeBody<'_>,
 ) -> ParseResult<TypeDefKind>
     ensures parts { IfOk result (λ r. (s : Address) → AreResolved types.old types.new s (env_of names.now)
-        (shapes_meetings s (body_of body.now).parts) (exprs_of s (body_of body.now).parts) (kind_of r).parts) }
+        (shapes_meetings s given.now (body_of body.now).parts) (exprs_of s (body_of body.now).parts) (kind_of r).parts) }
     ensures form { IfOk result (λ r. (kind_of r).form ≡ (body_of body.now).form) }
     ensures legal { OnOk result ((f : Fault) → IsBrokenBody body.now f → ⊥) }
     ensures handled { OnOk result (Requires (env_of names.now) types.new (all_handles (body_types body.now)) required.old.items required.new.items) }
@@ -303,7 +312,7 @@ pub fn resolve_body(
 {
     match body {
         tree::TypeBody::Record { span, fields } => {
-            let kind = resolve_record(alloc, types, names, required, *span, fields)?;
+            let kind = resolve_record(alloc, types, names, required, given, *span, fields)?;
             Ok(kind)
         }
         tree::TypeBody::Flags { span, flags } => {
@@ -311,7 +320,7 @@ pub fn resolve_body(
             Ok(kind)
         }
         tree::TypeBody::Variant { span, cases } => {
-            let kind = resolve_variant(alloc, types, names, required, *span, cases)?;
+            let kind = resolve_variant(alloc, types, names, required, given, *span, cases)?;
             Ok(kind)
         }
         tree::TypeBody::Enum { span, cases } => {
@@ -320,7 +329,7 @@ pub fn resolve_body(
         }
         tree::TypeBody::Resource { .. } => Ok(TypeDefKind::Resource),
         tree::TypeBody::Plain(ty) => {
-            let kind = resolve_plain(alloc, types, names, required, ty)?;
+            let kind = resolve_plain(alloc, types, names, required, given, ty)?;
             Ok(kind)
         }
     }

@@ -1,5 +1,5 @@
 //! Definitions, as named entries of the arena.
-ghost use Rattle.std.specs.Prelude.{◌≡◌, List, [], ◌∷◌, OnOk, IfErr};
+ghost use Rattle.std.specs.Prelude.{◌≡◌, ◌⊎◌, List, [], ◌∷◌, OnOk, IfErr};
 ghost use Rattle.wit_tree.specs.Parts.{body_types};
 ghost use Rattle.wit_meaning.specs.Address.{Address};
 ghost use Rattle.wit_meaning.specs.Shape.{all_handles};
@@ -7,6 +7,7 @@ ghost use Rattle.wit_meaning.specs.Source.{Defined};
 ghost use Rattle.wit_meaning.specs.Fault.{Fault};
 ghost use Rattle.wit_meaning.specs.Bodies.{IsBrokenBody};
 ghost use Rattle.wit_meaning.specs.Broken.{Refused};
+ghost use Rattle.wit_meaning.specs.Notes.{IsBrokenNotes};
 ghost use Rattle.wit_meaning.specs.Resolving.{Cell, env_of, IsStored, Defines, IsWrongBody};
 ghost use Rattle.wit_entries.specs.Requiring.{IsGrown, Requires};
 
@@ -14,11 +15,12 @@ use crate::bodies::resolve_body;
 use crate::entries::Entries;
 use crate::scope::Scope;
 use std::alloc::Global;
+use wit_scope::notes_of;
 use wit_tree::{ParseResult, tree};
 
 /// Adds a definition behind what is in its body.
 ///
-/// A refusal is E15, E27, a broken rule of types, fields, flags or cases, or want of memory.
+/// A refusal is E15, E27, a broken rule of attributes, types, fields, flags or cases, or want of memory.
 pub fn define(
     alloc: Global,
     types: &mut Entries,
@@ -27,20 +29,23 @@ pub fn define(
 ) -> ParseResult<()>
     ensures defines { OnOk result ((cs : List Cell) (s : Address) → Defines types.old types.new cs scope.old.owner s scope.old.names scope.new.names (Defined definition.now ∷ [])) }
     ensures owner { OnOk result (scope.new.owner ≡ scope.old.owner) }
+    ensures noted { OnOk result ((f : Fault) → IsBrokenNotes definition.now.attributes.items f → ⊥) }
     ensures legal { OnOk result ((f : Fault) → IsBrokenBody definition.now.body f → ⊥) }
     ensures stored { OnOk result (IsStored scope.old.names scope.new.names definition.now.name.name.now) }
     ensures handled { OnOk result (Requires (env_of scope.old.names) types.new (all_handles (body_types definition.now.body)) scope.old.required.items scope.new.required.items) }
     ensures grown { IsGrown types.old types.new }
-    ensures refused { IfErr result (Refused (IsWrongBody (env_of scope.old.names) types.new definition.now.body)) }
+    ensures refused { IfErr result (Refused (λ f. IsBrokenNotes definition.now.attributes.items f ⊎ IsWrongBody (env_of scope.old.names) types.new definition.now.body f)) }
 {
+    let notes = notes_of(alloc, &definition.docs, &definition.attributes)?;
     let kind = resolve_body(
         alloc,
         types,
         &scope.names,
         &mut scope.required,
+        &notes.stability,
         &definition.body,
     )?;
     let id = definition.name;
-    scope.declare(alloc, types, id.name, id.span, kind)?;
+    scope.declare(alloc, types, id.name, notes, id.span, kind)?;
     Ok(())
 }

@@ -2,14 +2,17 @@
 ghost use Rattle.std.specs.Prelude.{◌≡◌, ℕ, [], ◌∷◌, ◌++◌, ◌↔◌, length, IsTrue, IfOk, OnOk, OnErr, IfErr, IfSome, IfNone};
 ghost use Rattle.wit_tree.specs.Refusal.{IsWantOfMemory};
 ghost use Rattle.wit_types.specs.declared.types.TypeDef.{TypeDef};
+ghost use Rattle.wit_meaning.specs.Meet.{settled as the_settled};
 ghost use Rattle.wit_meaning.specs.Package.{At};
 ghost use Rattle.wit_meaning.specs.Resolving.{IsUnnamedOf, IsInterned, named, unnamed};
 ghost use Rattle.wit_intern.specs.Keys.{key_of};
+ghost use Rattle.wit_scope.specs.Notes.{notes_behind};
 ghost use Rattle.wit_entries.specs.Known.{AreKnown, with_key};
 ghost use Rattle.wit_entries.specs.Told.{EndsAt};
 ghost use Rattle.wit_entries.specs.Requiring.{IsGrown};
 
 use crate::ends::{End, add_entry, end_at};
+use crate::settling::settled;
 use std::alloc::{AllocFailed, Global};
 use std::collections::HashMap;
 use std::marker::Model;
@@ -17,6 +20,7 @@ use wit_intern::{InternKey, InternTable};
 use wit_model::{
     Arena, Docs, Stability, TypeDef, TypeDefKind, TypeId, TypeOwner, TypePlace, is_same_kind,
 };
+use wit_scope::Notes;
 use wit_tree::{ParseResult, Span};
 use wit_values::Text;
 
@@ -111,7 +115,7 @@ impl Entries {
         self.arena
     }
 
-    /// Adds a named entry behind the others.
+    /// Adds a named entry, with its notes, behind the others.
     ///
     /// The error is want of memory.
     pub fn add_named(
@@ -119,10 +123,11 @@ impl Entries {
         owner: TypeOwner,
         name: Text,
         kind: TypeDefKind,
+        notes: Notes,
         span: Span,
     ) -> ParseResult<TypeId>
         ensures id { IfOk result (λ id. id ≡ length self.old) }
-        ensures added { OnOk result (self.new ≡ self.old ++ named owner name kind span ∷ []) }
+        ensures added { OnOk result (self.new ≡ self.old ++ named owner name kind (notes_behind notes) span ∷ []) }
         ensures grown { IsGrown self.old self.new }
         ensures refused { IfErr result IsWantOfMemory }
     {
@@ -130,10 +135,10 @@ impl Entries {
             name: Some(name),
             kind,
             owner,
-            docs: Docs::default(),
-            stability: Stability::default(),
+            docs: notes.docs,
+            stability: notes.stability,
             span,
-            external_id: None,
+            external_id: notes.external_id,
         };
         let id = add_entry(&mut self.arena, &mut self.ends, entry)?;
         Ok(id)
@@ -161,7 +166,8 @@ impl Entries {
         }
     }
 
-    /// Adds the unnamed type of a kind that has none yet, written at `span`, behind the others.
+    /// Adds the unnamed type of a kind that has none yet, written at `span` in a definition of the
+    /// stability `given`, behind the others.
     ///
     /// The error is want of memory. It stands by itself since a `TypeDef` is large: what finds one
     /// needs no room for it.
@@ -170,22 +176,24 @@ impl Entries {
         &mut self,
         key: Option<InternKey>,
         kind: TypeDefKind,
+        given: &Stability,
         span: Span,
     ) -> ParseResult<TypeId>
         requires keyed { key ≡ key_of kind }
         requires missing { (j : ℕ) (e : TypeDef) → At self.old j e → IsUnnamedOf kind e → ⊥ }
         ensures id { IfOk result (λ id. id ≡ length self.old) }
-        ensures added { OnOk result (self.new ≡ self.old ++ unnamed kind span ∷ []) }
+        ensures added { OnOk result (self.new ≡ self.old ++ unnamed kind (the_settled self.old given.now kind) span ∷ []) }
         ensures grown { IsGrown self.old self.new }
         ensures refused { IfErr result IsWantOfMemory }
     {
+        let stability = settled(&self.arena, given, &kind)?;
         set(&mut self.table, key, self.arena.next_id())?;
         let entry = TypeDef {
             name: None,
             kind,
             owner: TypeOwner::None,
             docs: Docs::default(),
-            stability: Stability::default(),
+            stability,
             span,
             external_id: None,
         };
@@ -193,11 +201,17 @@ impl Entries {
         Ok(id)
     }
 
-    /// The unnamed type of a kind; a new entry, written at `span`, only if there is none.
+    /// The unnamed type of a kind; a new entry, written at `span` in a definition of the stability
+    /// `given`, only if there is none.
     ///
     /// The error is want of memory.
-    pub fn intern(&mut self, kind: TypeDefKind, span: Span) -> ParseResult<TypeId>
-        ensures interned { IfOk result (λ id. IsInterned self.old self.new kind span id) }
+    pub fn intern(
+        &mut self,
+        kind: TypeDefKind,
+        given: &Stability,
+        span: Span,
+    ) -> ParseResult<TypeId>
+        ensures interned { IfOk result (λ id. IsInterned self.old self.new kind given.now span id) }
         ensures grown { IsGrown self.old self.new }
         ensures refused { IfErr result IsWantOfMemory }
     {
@@ -205,7 +219,7 @@ impl Entries {
         if let Some(id) = self.find(&key, &kind) {
             return Ok(id);
         }
-        let id = self.add_unnamed(key, kind, span)?;
+        let id = self.add_unnamed(key, kind, given, span)?;
         Ok(id)
     }
 }

@@ -3,6 +3,7 @@ ghost use Rattle.std.specs.Prelude.{◌≡◌, ◌<◌, ◌≤◌, ◌⊎◌, �
 ghost use Rattle.std.specs.Option.{option_to_list};
 ghost use Rattle.wit_tree.specs.Refusal.{IsWantOfMemory};
 ghost use Rattle.wit_types.specs.declared.types.TypeDef.{TypeDef as Entry};
+ghost use Rattle.wit_types.specs.declared.stability.Stability.TheVariants.{Unknown};
 ghost use Rattle.wit_names.specs.Mangled.{is_mangled};
 ghost use Rattle.wit_meaning.specs.Address.{Address};
 ghost use Rattle.wit_meaning.specs.Shape.{all_handles};
@@ -30,9 +31,8 @@ use crate::held::HeldFunction;
 use crate::scope::Required;
 use crate::signatures::resolve_in_signature;
 use std::alloc::{AllocError, Global};
-use wit_model::{
-    Docs, Function, FunctionKind, Handle, Param, Stability, Type, TypeDefKind, TypeId,
-};
+use wit_model::{Function, FunctionKind, Handle, Param, Stability, Type, TypeDefKind, TypeId};
+use wit_scope::notes_of;
 use wit_tree::tree::{self, FuncForm, Id, ResourceFunc};
 use wit_tree::{ParseResult, Span};
 use wit_values::{Row, Text, TextTable};
@@ -126,12 +126,12 @@ fn self_param(
 ) -> ParseResult<Param>
     requires { HasOwner (env_of names.now) (Some resource) }
     ensures says { IfOk result (λ p. SaysParam (the_self resource.entry word) p) }
-    ensures resolved { IfOk result (λ p. IsResolved types.old types.new (env_of names.now) (the_self resource.entry word).shape p.ty) }
+    ensures resolved { IfOk result (λ p. IsResolved types.old types.new (env_of names.now) Unknown (the_self resource.entry word).shape p.ty) }
     ensures grown { IsGrown types.old types.new }
     ensures refused { IfErr result IsWantOfMemory }
 {
     let borrow = TypeDefKind::Handle(Handle::Borrow(place_of(names, resource)));
-    let id = types.intern(borrow, word)?;
+    let id = types.intern(borrow, &Stability::Unknown, word)?;
     Ok(Param {
         name: Text::from_str(alloc, "self")?,
         ty: Type::Id(id),
@@ -236,11 +236,12 @@ fn resolve_result<'t, 'a>(
     }
 }
 
-/// The function at a place of a scope, over its types, which are added to the arena: those of its
-/// parameters and then that of its result.
+/// The function at a place of a scope, with its notes, over its types, which are added to the arena:
+/// those of its parameters and then that of its result.
 ///
-/// A refusal is E28 or E29 at a name in its signature, E27 at one in a handle, E22 or E26 at a type,
-/// E36 or E37 at its parameters, E38 at one of them, E39 to E42 at its result, or want of memory.
+/// A refusal is E30 to E35 at its attributes, E28 or E29 at a name in its signature, E27 at one in a
+/// handle, E22 or E26 at a type, E36 or E37 at its parameters, E38 at one of them, E39 to E42 at its
+/// result, or want of memory.
 pub fn resolve_function(
     alloc: Global,
     types: &mut Entries,
@@ -259,6 +260,7 @@ pub fn resolve_function(
     ensures refused { IfErr result (λ e. (xs : List ScopeName) → IsScopeOf scope.entry xs → (fn : SourceFunction) → slice_get (functions_behind scope.entry) place ≡ Some fn → Refused (IsWrongFunction (env_of scope.entry.names.now) types.new xs (functions_behind scope.entry) place fn) e) }
 {
     let function = scope.functions[place];
+    let notes = notes_of(alloc, function.docs(), function.attributes())?;
     check_given(alloc, function)?;
     let repeated = repeated_param(alloc, function)?;
     let mut params = given_params(alloc, types, scope.names, function)?;
@@ -279,9 +281,9 @@ pub fn resolve_function(
         kind: kind_of(scope.names, function),
         params: Row::from(params),
         result,
-        docs: Docs::default(),
-        stability: Stability::default(),
+        docs: notes.docs,
+        stability: notes.stability,
         span: function.span(),
-        external_id: None,
+        external_id: notes.external_id,
     })
 }

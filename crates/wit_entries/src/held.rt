@@ -7,7 +7,7 @@ ghost use Rattle.wit_entries.specs.Held.{function_behind, owner_of, given_of, ma
 
 use std::alloc::{AllocError, Global};
 use wit_tree::Span;
-use wit_tree::tree::{FuncForm, Id, NamedFunc, Param, ResourceFunc, Type};
+use wit_tree::tree::{Attribute, Docs, FuncForm, Id, NamedFunc, Param, ResourceFunc, Type};
 use wit_values::Text;
 
 /// A written function: one by itself, or one of a resource.
@@ -165,6 +165,28 @@ impl<'t, 'a> HeldFunction<'t, 'a> {
                 .result
                 .as_ref(),
             HeldFunction::Of(_, ResourceFunc::Constructor { result, .. }) => result.as_ref(),
+        }
+    }
+
+    /// The docs in front of it.
+    pub fn docs(self) -> &'t Docs<'a>
+        ensures { result.now ≡ (function_behind self.entry).docs }
+    {
+        match self {
+            HeldFunction::Free(f) => &f.docs,
+            HeldFunction::Of(_, ResourceFunc::Method(f) | ResourceFunc::Static(f)) => &f.docs,
+            HeldFunction::Of(_, ResourceFunc::Constructor { docs, .. }) => docs,
+        }
+    }
+
+    /// The attributes in front of it.
+    pub fn attributes(self) -> &'t [Attribute<'a>]
+        ensures { result.now ≡ (function_behind self.entry).attributes }
+    {
+        match self {
+            HeldFunction::Free(f) => &f.attributes,
+            HeldFunction::Of(_, ResourceFunc::Method(f) | ResourceFunc::Static(f)) => &f.attributes,
+            HeldFunction::Of(_, ResourceFunc::Constructor { attributes, .. }) => attributes,
         }
     }
 }

@@ -13,6 +13,7 @@ mod names;
 pub mod rules;
 pub mod scope;
 pub mod scope_functions;
+mod settling;
 mod signatures;
 pub mod taken;
 pub mod types;

@@ -2,11 +2,13 @@
 ghost use Rattle.std.specs.Prelude.{◌≡◌, OnOk, IfErr};
 ghost use Rattle.wit_tree.specs.Refusal.{IsWantOfMemory};
 ghost use Rattle.wit_meaning.specs.Resolving.{IsAdded};
+ghost use Rattle.wit_scope.specs.Notes.{notes_behind};
 ghost use Rattle.wit_entries.specs.Requiring.{IsGrown};
 
 use crate::entries::Entries;
 use std::alloc::Global;
 use wit_model::{TypeDefKind, TypeId, TypeOwner};
+use wit_scope::Notes;
 use wit_tree::{ParseResult, Span};
 use wit_values::{Text, TextTable};
 
@@ -25,7 +27,7 @@ pub struct Scope {
 }
 
 impl Scope {
-    /// Adds the entry of a name of the scope, and the name.
+    /// Adds the entry of a name of the scope, with its notes, and the name.
     ///
     /// The error is want of memory.
     pub fn declare(
@@ -33,16 +35,18 @@ impl Scope {
         alloc: Global,
         types: &mut Entries,
         name: &str,
+        notes: Notes,
         span: Span,
         kind: TypeDefKind,
     ) -> ParseResult<()>
-        ensures added { OnOk result (IsAdded types.old types.new self.old.owner self.old.names self.new.names name.now span kind) }
+        ensures added { OnOk result (IsAdded types.old types.new self.old.owner self.old.names self.new.names name.now (notes_behind notes) span kind) }
         ensures owner { OnOk result (self.new.owner ≡ self.old.owner) }
         ensures required { self.new.required ≡ self.old.required }
         ensures grown { IsGrown types.old types.new }
         ensures refused { IfErr result IsWantOfMemory }
     {
-        let id = types.add_named(self.owner, Text::from_str(alloc, name)?, kind, span)?;
+        let text = Text::from_str(alloc, name)?;
+        let id = types.add_named(self.owner, text, kind, notes, span)?;
         self.names.insert(String::from_str(alloc, name)?, id)?;
         Ok(())
     }

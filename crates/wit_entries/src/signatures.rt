@@ -3,6 +3,7 @@ ghost use Rattle.std.specs.Prelude.{◌<◌, ◌↔◌, List, IfOk, IfErr, IsTru
 ghost use Rattle.wit_tree.specs.Refusal.{IsItemNotFound};
 ghost use Rattle.wit_tree.specs.declared.tree.«Type».{«Type» as Written};
 ghost use Rattle.wit_types.specs.declared.types.TypeDef.{TypeDef};
+ghost use Rattle.wit_types.specs.declared.stability.Stability.TheVariants.{Unknown};
 ghost use Rattle.wit_meaning.specs.Shape.{shape_of, handles};
 ghost use Rattle.wit_meaning.specs.Fault.{Fault, name_word};
 ghost use Rattle.wit_meaning.specs.Bodies.{IsBrokenType};
@@ -20,7 +21,7 @@ use crate::held::HeldFunction;
 use crate::scope::Required;
 use crate::types::resolve_type;
 use std::alloc::{AllocError, Global};
-use wit_model::Type;
+use wit_model::{Stability, Type};
 use wit_scope::refusal::refuse_in;
 use wit_tree::{ParseError, ParseErrorKind, ParseResult, Span, tree};
 
@@ -114,7 +115,8 @@ fn in_signature(
     }
 }
 
-/// The type that a written one in the signature of the function at a place stands for.
+/// The type that a written one in the signature of the function at a place stands for. It stands in
+/// no definition, so that no stability is given it.
 ///
 /// A refusal is E22, E26, E27, E28 or E29 at a type in it, or want of memory.
 pub(crate) fn resolve_in_signature(
@@ -126,13 +128,13 @@ pub(crate) fn resolve_in_signature(
     ty: &tree::Type<'_>,
 ) -> ParseResult<Type>
     requires { place < length scope.functions.now }
-    ensures resolved { IfOk result (IsResolved types.old types.new (env_of scope.entry.names.now) (shape_of ty.now)) }
+    ensures resolved { IfOk result (IsResolved types.old types.new (env_of scope.entry.names.now) Unknown (shape_of ty.now)) }
     ensures legal { OnOk result ((f : Fault) → IsBrokenType ty.now f → ⊥) }
     ensures handled { OnOk result (Requires (env_of scope.entry.names.now) types.new (handles ty.now) required.old.items required.new.items) }
     ensures grown { IsGrown types.old types.new }
     ensures refused { IfErr result (Refused (IsWrongInSignature (env_of scope.entry.names.now) types.new (functions_behind scope.entry) place ty.now)) }
 {
-    match resolve_type(alloc, types, scope.names, required, ty) {
+    match resolve_type(alloc, types, scope.names, required, &Stability::Unknown, ty) {
         Ok(ty) => Ok(ty),
         Err(error) => Err(in_signature(alloc, scope.functions, place, error)),
     }

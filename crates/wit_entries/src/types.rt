@@ -16,7 +16,7 @@ use crate::names::{find_name, find_resource};
 use crate::rules::{check_key, check_tuple};
 use crate::scope::Required;
 use std::alloc::Global;
-use wit_model::{Handle, Result_, Tuple, Type, TypeDefKind, TypeId};
+use wit_model::{Handle, Result_, Stability, Tuple, Type, TypeDefKind, TypeId};
 use wit_tree::{ParseResult, Span, tree};
 use wit_values::{Row, TextTable};
 
@@ -62,16 +62,17 @@ fn primitive(ty: &tree::Type<'_>) -> Option<Type>
     }
 }
 
-/// The type that this is; a form's kind is interned.
-fn type_of(types: &mut Entries, reading: Reading) -> ParseResult<Type>
-    ensures stands { IfOk result (StandsFor types.old types.new reading) }
+/// The type that this is; a form's kind is interned, where it stands in a definition of the stability
+/// `given`.
+fn type_of(types: &mut Entries, given: &Stability, reading: Reading) -> ParseResult<Type>
+    ensures stands { IfOk result (StandsFor types.old types.new given.now reading) }
     ensures grown { IsGrown types.old types.new }
     ensures refused { IfErr result IsWantOfMemory }
 {
     match reading {
         Reading::Leaf(ty) => Ok(ty),
         Reading::Form(kind, span) => {
-            let id = types.intern(kind, span)?;
+            let id = types.intern(kind, given, span)?;
             Ok(Type::Id(id))
         }
     }
@@ -84,9 +85,10 @@ pub(crate) fn read(
     types: &mut Entries,
     names: &TextTable<TypeId>,
     required: &mut Vec<Required>,
+    given: &Stability,
     ty: &tree::Type<'_>,
 ) -> ParseResult<Reading>
-    ensures read { IfOk result (IsRead types.old types.new (env_of names.now) (shape_of ty.now)) }
+    ensures read { IfOk result (IsRead types.old types.new (env_of names.now) given.now (shape_of ty.now)) }
     ensures legal { OnOk result ((f : Fault) → IsBrokenType ty.now f → ⊥) }
     ensures handled { OnOk result (Requires (env_of names.now) types.new (handles ty.now) required.old.items required.new.items) }
     ensures grown { IsGrown types.old types.new }
@@ -103,7 +105,7 @@ pub(crate) fn read(
         let resource = find_resource(alloc, types, names, required, *id)?;
         return Ok(Reading::Leaf(Type::Id(resource)));
     }
-    read_form(alloc, types, names, required, ty)
+    read_form(alloc, types, names, required, given, ty)
 }
 
 /// A type that is neither a primitive nor a name, nor a resource that is handed over. Each form of types is told here alone.
@@ -113,10 +115,11 @@ fn read_form(
     types: &mut Entries,
     names: &TextTable<TypeId>,
     required: &mut Vec<Required>,
+    given: &Stability,
     ty: &tree::Type<'_>,
 ) -> ParseResult<Reading>
     requires { IsLeaf (shape_of ty.now) → ⊥ }
-    ensures read { IfOk result (IsRead types.old types.new (env_of names.now) (shape_of ty.now)) }
+    ensures read { IfOk result (IsRead types.old types.new (env_of names.now) given.now (shape_of ty.now)) }
     ensures legal { OnOk result ((f : Fault) → IsBrokenType ty.now f → ⊥) }
     ensures handled { OnOk result (Requires (env_of names.now) types.new (handles ty.now) required.old.items required.new.items) }
     ensures grown { IsGrown types.old types.new }
@@ -124,39 +127,39 @@ fn read_form(
 {
     match ty {
         tree::Type::List(span, item) => {
-            let item = resolve_type(alloc, types, names, required, item)?;
+            let item = resolve_type(alloc, types, names, required, given, item)?;
             Ok(Reading::Form(TypeDefKind::List(item), *span))
         }
         tree::Type::FixedLengthList(span, item, size) => {
-            let item = resolve_type(alloc, types, names, required, item)?;
+            let item = resolve_type(alloc, types, names, required, given, item)?;
             Ok(Reading::Form(TypeDefKind::FixedLengthList(item, *size), *span))
         }
         tree::Type::Map(span, key, value) => {
-            let key_type = resolve_type(alloc, types, names, required, key)?;
-            let value_type = resolve_type(alloc, types, names, required, value)?;
+            let key_type = resolve_type(alloc, types, names, required, given, key)?;
+            let value_type = resolve_type(alloc, types, names, required, given, value)?;
             check_key(alloc, *span, key)?;
             Ok(Reading::Form(TypeDefKind::Map(key_type, value_type), *span))
         }
         tree::Type::Option(span, value) => {
-            let value = resolve_type(alloc, types, names, required, value)?;
+            let value = resolve_type(alloc, types, names, required, given, value)?;
             Ok(Reading::Form(TypeDefKind::Option(value), *span))
         }
         tree::Type::Result(span, ok, err) => {
-            let ok = resolve_optional(alloc, types, names, required, ok)?;
-            let err = resolve_optional(alloc, types, names, required, err)?;
+            let ok = resolve_optional(alloc, types, names, required, given, ok)?;
+            let err = resolve_optional(alloc, types, names, required, given, err)?;
             Ok(Reading::Form(TypeDefKind::Result(Result_ { ok, err }), *span))
         }
         tree::Type::Tuple(span, parts) => {
             check_tuple(alloc, *span, parts)?;
-            let types = resolve_types(alloc, types, names, required, parts)?;
+            let types = resolve_types(alloc, types, names, required, given, parts)?;
             Ok(Reading::Form(TypeDefKind::Tuple(Tuple { types }), *span))
         }
         tree::Type::Future(span, value) => {
-            let value = resolve_optional(alloc, types, names, required, value)?;
+            let value = resolve_optional(alloc, types, names, required, given, value)?;
             Ok(Reading::Form(TypeDefKind::Future(value), *span))
         }
         tree::Type::Stream(span, item) => {
-            let item = resolve_optional(alloc, types, names, required, item)?;
+            let item = resolve_optional(alloc, types, names, required, given, item)?;
             Ok(Reading::Form(TypeDefKind::Stream(item), *span))
         }
         tree::Type::Borrow(span, id) => {
@@ -174,10 +177,11 @@ fn resolve_optional(
     types: &mut Entries,
     names: &TextTable<TypeId>,
     required: &mut Vec<Required>,
+    given: &Stability,
     ty: &Option<Box<tree::Type<'_>>>,
 ) -> ParseResult<Option<Type>>
     ensures is_some { IfOk result (λ r. is_some r ≡ is_some ty.now) }
-    ensures resolved { IfOk result (λ r. AreTypes types.old types.new (env_of names.now) (boxed_types ty.now) (option_to_list r)) }
+    ensures resolved { IfOk result (λ r. AreTypes types.old types.new (env_of names.now) given.now (boxed_types ty.now) (option_to_list r)) }
     ensures legal { OnOk result ((f : Fault) → IsBrokenPart (boxed_types ty.now) f → ⊥) }
     ensures handled { OnOk result (Requires (env_of names.now) types.new (all_handles (boxed_types ty.now)) required.old.items required.new.items) }
     ensures grown { IsGrown types.old types.new }
@@ -185,7 +189,7 @@ fn resolve_optional(
 {
     match ty {
         Some(ty) => {
-            let found = resolve_type(alloc, types, names, required, ty)?;
+            let found = resolve_type(alloc, types, names, required, given, ty)?;
             Ok(Some(found))
         }
         None => Ok(None),
@@ -199,9 +203,10 @@ fn resolve_types(
     types: &mut Entries,
     names: &TextTable<TypeId>,
     required: &mut Vec<Required>,
+    given: &Stability,
     parts: &[tree::Type<'_>],
 ) -> ParseResult<Row<Type>>
-    ensures resolved { IfOk result (λ r. AreTypes types.old types.new (env_of names.now) parts.now r) }
+    ensures resolved { IfOk result (λ r. AreTypes types.old types.new (env_of names.now) given.now parts.now r) }
     ensures legal { OnOk result ((f : Fault) → IsBrokenPart parts.now f → ⊥) }
     ensures handled { OnOk result (Requires (env_of names.now) types.new (all_handles parts.now) required.old.items required.new.items) }
     ensures grown { IsGrown types.old types.new }
@@ -209,7 +214,7 @@ fn resolve_types(
 {
     let mut resolved = Vec::with_capacity(alloc, parts.len())?;
     for part in parts {
-        let ty = resolve_type(alloc, types, names, required, part)?;
+        let ty = resolve_type(alloc, types, names, required, given, part)?;
         resolved.push(ty)?;
     }
     Ok(Row::from(resolved))
@@ -224,16 +229,17 @@ pub fn resolve_type(
     types: &mut Entries,
     names: &TextTable<TypeId>,
     required: &mut Vec<Required>,
+    given: &Stability,
     ty: &tree::Type<'_>,
 ) -> ParseResult<Type>
-    ensures resolved { IfOk result (IsResolved types.old types.new (env_of names.now) (shape_of ty.now)) }
+    ensures resolved { IfOk result (IsResolved types.old types.new (env_of names.now) given.now (shape_of ty.now)) }
     ensures legal { OnOk result ((f : Fault) → IsBrokenType ty.now f → ⊥) }
     ensures handled { OnOk result (Requires (env_of names.now) types.new (handles ty.now) required.old.items required.new.items) }
     ensures grown { IsGrown types.old types.new }
     ensures refused { IfErr result (Refused (IsWrongType (env_of names.now) types.new ty.now)) }
 {
-    let reading = read(alloc, types, names, required, ty)?;
-    let ty = type_of(types, reading)?;
+    let reading = read(alloc, types, names, required, given, ty)?;
+    let ty = type_of(types, given, reading)?;
     Ok(ty)
 }
 

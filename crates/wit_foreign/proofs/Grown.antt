@@ -9,7 +9,6 @@ use Rattle.std.proofs.lemmas.List.{append-nil, map-append}
 use Rattle.std.proofs.lemmas.Bool.{and_parts}
 use Rattle.std.proofs.lemmas.List.Elements.{filter-append}
 use Rattle.wit_types.specs.declared.stability.Stability.{Stability}
-use Rattle.wit_types.specs.declared.stability.Stability.TheVariants.{Unknown}
 use Rattle.wit_model.specs.declared.ast_item.AstItem.{AstItem}
 use Rattle.wit_model.specs.declared.ast_item.AstItem.TheVariants as entry
 use Rattle.wit_model.specs.declared.package_name.PackageName.{PackageName}
@@ -17,7 +16,7 @@ use Rattle.wit_meaning.specs.Address.{same_package, same_address}
 use Rattle.wit_meaning.specs.Foreign.{ForeignVisit, visited_package, visited, same_item, is_foreign_world}
 use Rattle.wit_meaning.specs.Whole.{foreign_place}
 use Rattle.wit_meaning.proofs.Names.{name_itself, name_equal}
-use Rattle.wit_foreign.specs.Kept.{Visited, Items, item_more, row_more, table_more, items_of, interfaces_in, worlds_in, packages_of, entry_in, item_in, row_in, table_in, entry_next}
+use Rattle.wit_foreign.specs.Kept.{Visited, Items, item_more, row_more, table_more, items_of, interfaces_in, worlds_in, packages_of, entry_in, visit_stability, item_in, row_in, table_in, entry_next}
 use Rattle.wit_meaning.proofs.Addresses.{same_package-itself, same_package-equal}
 use Rattle.wit_foreign.proofs.Same.{same_package-flip, name-flip}
 use Rattle.wit_foreign.proofs.Firsts.{firsts-more, Each, each_map, each_both, each_filter, each_firsts, each_passed, each_lost, filter_lost, map_each, Apart, apart_filter, apart_firsts, each_found, prefix_len-found, prefix_len-next, any-firsts, any-filter}
@@ -68,26 +67,25 @@ entries_stay vs x = each_map (λ u. (is_foreign_world u ≡ true → list_any (�
 
 -- the stability of each visit of an item
 abbrev stabilities : List ForeignVisit → ForeignVisit → List Stability
-stabilities vs u = map (λ v. Unknown) (filter (λ v. same_address (visited v) (visited u)) vs)
+stabilities vs u = map visit_stability (filter (λ v. same_address (visited v) (visited u)) vs)
 
-stabilities-more : (vs : List ForeignVisit) (x u : ForeignVisit) → stabilities (more vs x) u ≡ stabilities vs u ++ cond (same_item x u) (Unknown ∷ []) []
+stabilities-more : (vs : List ForeignVisit) (x u : ForeignVisit) → stabilities (more vs x) u ≡ stabilities vs u ++ cond (same_item x u) (visit_stability x ∷ []) []
 stabilities-more vs x u =
     let t : ForeignVisit → Bool = λ v. same_address (visited v) (visited u) in
-    let f : ForeignVisit → Stability = λ v. Unknown in
-    ap (map f) (filter-append t vs (x ∷ [])) ∙ (map-append f (filter t vs) (filter t (x ∷ [])) ∙ ap (λ l. stabilities vs u ++ l) (one (t x)))
+    ap (map visit_stability) (filter-append t vs (x ∷ [])) ∙ (map-append visit_stability (filter t vs) (filter t (x ∷ [])) ∙ ap (λ l. stabilities vs u ++ l) (one (t x)))
   where
-    one : (b : Bool) → map (λ (v : ForeignVisit). Unknown) (cond b (x ∷ []) []) ≡ cond b (Unknown ∷ []) []
+    one : (b : Bool) → map visit_stability (cond b (x ∷ []) []) ≡ cond b (visit_stability x ∷ []) []
     one true = refl
     one false = refl
 
 -- an item that is there gets one more stability if the visit is of it
-item_in-more : (vs : List ForeignVisit) (x u : ForeignVisit) (e : AstItem) → entry_in (more vs x) u ≡ entry_in vs u → item_in (more vs x) u ≡ cond (same_item x u) (item_more (Some (item_in vs u)) e) (item_in vs u)
+item_in-more : (vs : List ForeignVisit) (x u : ForeignVisit) (e : AstItem) → entry_in (more vs x) u ≡ entry_in vs u → item_in (more vs x) u ≡ cond (same_item x u) (item_more (Some (item_in vs u)) e (visit_stability x)) (item_in vs u)
 item_in-more vs x u e stays =
     let said = stabilities-more vs x u in
-    let both : item_in (more vs x) u ≡ (entry_in vs u, stabilities vs u ++ cond (same_item x u) (Unknown ∷ []) []) = λ i. (stays i, said i) in
+    let both : item_in (more vs x) u ≡ (entry_in vs u, stabilities vs u ++ cond (same_item x u) (visit_stability x ∷ []) []) = λ i. (stays i, said i) in
     both ∙ go (same_item x u)
   where
-    go : (b : Bool) → (entry_in vs u, stabilities vs u ++ cond b (Unknown ∷ []) []) ≡ cond b (item_more (Some (item_in vs u)) e) (item_in vs u)
+    go : (b : Bool) → (entry_in vs u, stabilities vs u ++ cond b (visit_stability x ∷ []) []) ≡ cond b (item_more (Some (item_in vs u)) e (visit_stability x)) (item_in vs u)
     go true = refl
     go false = ap (λ l. (entry_in vs u, l)) (append-nil (stabilities vs u))
 
@@ -108,11 +106,11 @@ entry_in-new vs x new = go x.wants_world refl
     go true e = ap (λ b. if b then entry.World (foreign_place (worlds_in (more vs x)) x) else entry.Interface (foreign_place (interfaces_in (more vs x)) x)) e ∙ (ap entry.World (place_new is_foreign_world vs x e new) ∙ sym (ap (λ b. if b then entry.World (length (worlds_in vs)) else entry.Interface (length (interfaces_in vs))) e))
     go false e = ap (λ b. if b then entry.World (foreign_place (worlds_in (more vs x)) x) else entry.Interface (foreign_place (interfaces_in (more vs x)) x)) e ∙ (ap entry.Interface (place_new no_world vs x (ap not e) new) ∙ sym (ap (λ b. if b then entry.World (length (worlds_in vs)) else entry.Interface (length (interfaces_in vs))) e))
 
-item_in-new : (vs : List ForeignVisit) (x : ForeignVisit) → is_known vs x ≡ false → item_in (more vs x) x ≡ item_more None (entry_next vs x)
+item_in-new : (vs : List ForeignVisit) (x : ForeignVisit) → is_known vs x ≡ false → item_in (more vs x) x ≡ item_more None (entry_next vs x) (visit_stability x)
 item_in-new vs x new =
     let is = entry_in-new vs x new in
-    let none : stabilities vs x ≡ [] = ap (map (λ (v : ForeignVisit). Unknown)) (filter_lost (λ v. same_address (visited v) (visited x)) vs (lost vs x new)) in
-    let said : stabilities (more vs x) x ≡ Unknown ∷ [] = stabilities-more vs x x ∙ (ap (λ l. l ++ cond (same_item x x) (Unknown ∷ []) []) none ∙ ap (λ b. cond b (Unknown ∷ []) []) (item_itself x)) in
+    let none : stabilities vs x ≡ [] = ap (map visit_stability) (filter_lost (λ v. same_address (visited v) (visited x)) vs (lost vs x new)) in
+    let said : stabilities (more vs x) x ≡ visit_stability x ∷ [] = stabilities-more vs x x ∙ (ap (λ l. l ++ cond (same_item x x) (visit_stability x ∷ []) []) none ∙ ap (λ b. cond b (visit_stability x ∷ []) []) (item_itself x)) in
     λ i. (is i, said i)
 
 -- the items of a package
@@ -148,7 +146,7 @@ row_in-other vs x p other =
     none false = ap (λ b. cond b (x ∷ []) []) other
 
     stays : (u : ForeignVisit) → entry_in (more vs x) u ≡ entry_in vs u → same_package (visited_package u) p ≡ true → item_row (more vs x) u ≡ item_row vs u
-    stays u h g = ap (λ i. (name_of u, i)) (item_in-more vs x u (entry_next vs x) h ∙ ap (λ b. cond b (item_more (Some (item_in vs u)) (entry_next vs x)) (item_in vs u)) (same_item-apart p x u other g))
+    stays u h g = ap (λ i. (name_of u, i)) (item_in-more vs x u (entry_next vs x) h ∙ ap (λ b. cond b (item_more (Some (item_in vs u)) (entry_next vs x) (visit_stability x)) (item_in vs u)) (same_item-apart p x u other g))
 
 -- what two visits of one item are to a third
 alike_item : (x a b : ForeignVisit) → same_item a b ≡ true → same_item a x ≡ same_item b x
@@ -170,14 +168,14 @@ apart_names p [] h apart = tt
 apart_names p (u ∷ us) h apart = (each_map (λ y. (same_item u y ≡ false) × (same_package (visited_package y) p ≡ true)) (λ y. bytes_eq (name_of u) (name_of y) ≡ false) us (λ y g. sym (same_item-within p u y h.0 g.1) ∙ g.0) (each_both (λ y. same_item u y ≡ false) (λ y. same_package (visited_package y) p ≡ true) us apart.0 h.1), apart_names p us h.1 apart.1)
 
 -- the package of a visit gets one more visit
-row_in-same : (vs : List ForeignVisit) (x : ForeignVisit) → row_in (more vs x) (visited_package x) ≡ row_more (row_in vs (visited_package x)) (name_of x) (entry_next vs x)
+row_in-same : (vs : List ForeignVisit) (x : ForeignVisit) → row_in (more vs x) (visited_package x) ≡ row_more (row_in vs (visited_package x)) (name_of x) (entry_next vs x) (visit_stability x)
 row_in-same vs x =
     let p = visited_package x in
     let e = entry_next vs x in
     let t : ForeignVisit → Bool = λ v. same_package (visited_package v) p in
     let us = group vs p in
-    let grown : ForeignVisit → List ℕ × Visited = λ u. (name_of u, cond (bytes_eq (name_of x) (name_of u)) (item_more (Some (item_in vs u)) e) (item_in vs u)) in
-    let last : List (List ℕ × Visited) = (name_of x, item_more None e) ∷ [] in
+    let grown : ForeignVisit → List ℕ × Visited = λ u. (name_of u, cond (bytes_eq (name_of x) (name_of u)) (item_more (Some (item_in vs u)) e (visit_stability x)) (item_in vs u)) in
+    let last : List (List ℕ × Visited) = (name_of x, item_more None e (visit_stability x)) ∷ [] in
     let whole : group (more vs x) p ≡ us ++ new_one (is_known vs x) x = kind-more t vs x ∙ ap (λ l. us ++ l) (one (is_known vs x)) in
     let front : map (item_row (more vs x)) us ≡ map grown us = map_each (item_row (more vs x)) grown us (each_map (λ u. (entry_in (more vs x) u ≡ entry_in vs u) × (same_package (visited_package u) p ≡ true)) (λ u. item_row (more vs x) u ≡ grown u) us (λ u h. grows u h.0 h.1) (in_group vs x p)) in
     let back : map (item_row (more vs x)) (new_one (is_known vs x) x) ≡ cond (list_any (λ u. bytes_eq (name_of x) (name_of u)) us) [] last = behind (is_known vs x) refl ∙ ap (λ b. cond b [] last) (is_known-group vs x) in
@@ -185,16 +183,16 @@ row_in-same vs x =
     ap (map (item_row (more vs x))) whole
     ∙ (map-append (item_row (more vs x)) us (new_one (is_known vs x) x)
     ∙ ((λ i. front i ++ back i)
-    ∙ upsert-map (pointwise nat_eq) name_equal name_of (item_in vs) (λ o. item_more o e) x us apart))
+    ∙ upsert-map (pointwise nat_eq) name_equal name_of (item_in vs) (λ o. item_more o e (visit_stability x)) x us apart))
   where
     one : (known : Bool) → filter (λ v. same_package (visited_package v) (visited_package x)) (cond known [] (x ∷ [])) ≡ cond known [] (x ∷ [])
     one true = refl
     one false = ap (λ b. cond b (x ∷ []) []) (same_package-itself (visited_package x))
 
-    grows : (u : ForeignVisit) → entry_in (more vs x) u ≡ entry_in vs u → same_package (visited_package u) (visited_package x) ≡ true → item_row (more vs x) u ≡ (name_of u, cond (bytes_eq (name_of x) (name_of u)) (item_more (Some (item_in vs u)) (entry_next vs x)) (item_in vs u))
-    grows u h g = ap (λ i. (name_of u, i)) (item_in-more vs x u (entry_next vs x) h ∙ ap (λ b. cond b (item_more (Some (item_in vs u)) (entry_next vs x)) (item_in vs u)) (same_item-within (visited_package x) x u (same_package-itself (visited_package x)) g))
+    grows : (u : ForeignVisit) → entry_in (more vs x) u ≡ entry_in vs u → same_package (visited_package u) (visited_package x) ≡ true → item_row (more vs x) u ≡ (name_of u, cond (bytes_eq (name_of x) (name_of u)) (item_more (Some (item_in vs u)) (entry_next vs x) (visit_stability x)) (item_in vs u))
+    grows u h g = ap (λ i. (name_of u, i)) (item_in-more vs x u (entry_next vs x) h ∙ ap (λ b. cond b (item_more (Some (item_in vs u)) (entry_next vs x) (visit_stability x)) (item_in vs u)) (same_item-within (visited_package x) x u (same_package-itself (visited_package x)) g))
 
-    behind : (known : Bool) → is_known vs x ≡ known → map (item_row (more vs x)) (cond known [] (x ∷ [])) ≡ cond known [] ((name_of x, item_more None (entry_next vs x)) ∷ [])
+    behind : (known : Bool) → is_known vs x ≡ known → map (item_row (more vs x)) (cond known [] (x ∷ [])) ≡ cond known [] ((name_of x, item_more None (entry_next vs x) (visit_stability x)) ∷ [])
     behind true h = refl
     behind false h = ap (λ i. (name_of x, i) ∷ []) (item_in-new vs x h)
 
@@ -225,10 +223,10 @@ pub packages_of-more : (vs : List ForeignVisit) (x : ForeignVisit) → packages_
 packages_of-more vs x = firsts-more (λ a b. same_package (visited_package a) (visited_package b)) vs x
 
 -- the table of visits with a visit more
-pub table_in-more : (vs : List ForeignVisit) (x : ForeignVisit) → table_in (vs ++ x ∷ []) ≡ table_more (table_in vs) (visited_package x) x.id.name.now (entry_next vs x)
+pub table_in-more : (vs : List ForeignVisit) (x : ForeignVisit) → table_in (vs ++ x ∷ []) ≡ table_more (table_in vs) (visited_package x) x.id.name.now (entry_next vs x) (visit_stability x)
 table_in-more vs x =
     let line : ForeignVisit → PackageName × Items = λ u. (visited_package u, row_in (more vs x) (visited_package u)) in
-    let grow : Option Items → Items = λ o. row_more (unwrap_or o []) (name_of x) (entry_next vs x) in
+    let grow : Option Items → Items = λ o. row_more (unwrap_or o []) (name_of x) (entry_next vs x) (visit_stability x) in
     let grown : ForeignVisit → PackageName × Items = λ u. (visited_package u, cond (same_package (visited_package x) (visited_package u)) (grow (Some (row_in vs (visited_package u)))) (row_in vs (visited_package u))) in
     let last : List (PackageName × Items) = (visited_package x, grow None) ∷ [] in
     let us = packages_of vs in
@@ -239,15 +237,15 @@ table_in-more vs x =
     ∙ ((λ i. front i ++ back i)
     ∙ upsert-map same_package same_package-equal visited_package (λ u. row_in vs (visited_package u)) grow x us (apart_firsts (λ a b. same_package (visited_package a) (visited_package b)) vs)))
   where
-    turns : (u : ForeignVisit) (b : Bool) → same_package (visited_package x) (visited_package u) ≡ b → row_in (more vs x) (visited_package u) ≡ cond (same_package (visited_package x) (visited_package u)) (row_more (row_in vs (visited_package u)) (name_of x) (entry_next vs x)) (row_in vs (visited_package u))
+    turns : (u : ForeignVisit) (b : Bool) → same_package (visited_package x) (visited_package u) ≡ b → row_in (more vs x) (visited_package u) ≡ cond (same_package (visited_package x) (visited_package u)) (row_more (row_in vs (visited_package u)) (name_of x) (entry_next vs x) (visit_stability x)) (row_in vs (visited_package u))
     turns u true h =
         let one = same_package-equal (visited_package x) (visited_package u) h in
-        ap (row_in (more vs x)) (sym one) ∙ (row_in-same vs x ∙ (ap (λ p. row_more (row_in vs p) (name_of x) (entry_next vs x)) one ∙ sym (ap (λ b. cond b (row_more (row_in vs (visited_package u)) (name_of x) (entry_next vs x)) (row_in vs (visited_package u))) h)))
-    turns u false h = row_in-other vs x (visited_package u) h ∙ sym (ap (λ b. cond b (row_more (row_in vs (visited_package u)) (name_of x) (entry_next vs x)) (row_in vs (visited_package u))) h)
+        ap (row_in (more vs x)) (sym one) ∙ (row_in-same vs x ∙ (ap (λ p. row_more (row_in vs p) (name_of x) (entry_next vs x) (visit_stability x)) one ∙ sym (ap (λ b. cond b (row_more (row_in vs (visited_package u)) (name_of x) (entry_next vs x) (visit_stability x)) (row_in vs (visited_package u))) h)))
+    turns u false h = row_in-other vs x (visited_package u) h ∙ sym (ap (λ b. cond b (row_more (row_in vs (visited_package u)) (name_of x) (entry_next vs x) (visit_stability x)) (row_in vs (visited_package u))) h)
 
-    behind : (named : Bool) → is_named vs x ≡ named → map {B = PackageName × Items} (λ (u : ForeignVisit). (visited_package u, row_in (more vs x) (visited_package u))) (cond named [] (x ∷ [])) ≡ cond named [] ((visited_package x, row_more [] (name_of x) (entry_next vs x)) ∷ [])
+    behind : (named : Bool) → is_named vs x ≡ named → map {B = PackageName × Items} (λ (u : ForeignVisit). (visited_package u, row_in (more vs x) (visited_package u))) (cond named [] (x ∷ [])) ≡ cond named [] ((visited_package x, row_more [] (name_of x) (entry_next vs x) (visit_stability x)) ∷ [])
     behind true h = refl
-    behind false h = ap (λ r. (visited_package x, r) ∷ []) (row_in-same vs x ∙ ap (λ r. row_more r (name_of x) (entry_next vs x)) (row_in-unnamed vs x h))
+    behind false h = ap (λ r. (visited_package x, r) ∷ []) (row_in-same vs x ∙ ap (λ r. row_more r (name_of x) (entry_next vs x) (visit_stability x)) (row_in-unnamed vs x h))
 
 -- whether the items that a package finds have the name of a visit
 pub is_known-lookup : (vs : List ForeignVisit) (x : ForeignVisit) → is_some (lookup (pointwise nat_eq x.id.name.now) (unwrap_or (lookup (same_package (visited_package x)) (table_in vs)) [])) ≡ is_known vs x

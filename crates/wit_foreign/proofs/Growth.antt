@@ -11,7 +11,7 @@ use Rattle.wit_model.specs.declared.ast_item.AstItem.TheVariants as entry
 use Rattle.wit_meaning.specs.Address.{same_package}
 use Rattle.wit_meaning.specs.Foreign.{ForeignVisit, visited_package, is_foreign_world}
 use Rattle.wit_foreign.specs.declared.deps.Deps.{Deps}
-use Rattle.wit_foreign.specs.Kept.{table_more, interfaces_in, worlds_in, packages_of, table_in, entry_next, row_in}
+use Rattle.wit_foreign.specs.Kept.{table_more, interfaces_in, worlds_in, packages_of, table_in, visit_stability, entry_next, row_in}
 use Rattle.wit_foreign.specs.Growing.{AreDeps}
 use Rattle.wit_foreign.proofs.Grown.{is_known, is_named, table_in-more, is_known-lookup, packages_of-more, worlds_in-more, interfaces_in-more}
 
@@ -51,7 +51,7 @@ noted false x = refl
 pub record Adds (x : ForeignVisit) (fresh : Bool) (e : AstItem) (d d' : Deps) : Type 0 where
   pub entry_is : e ≡ if x.wants_world then entry.World (length d.worlds) else entry.Interface (length d.interfaces)
   pub fresh_is : fresh ≡ not (is_some (lookup (pointwise nat_eq x.id.name.now) (unwrap_or (lookup (same_package (visited_package x)) d.packages) [])))
-  pub packages : d'.packages ≡ table_more d.packages (visited_package x) x.id.name.now e
+  pub packages : d'.packages ≡ table_more d.packages (visited_package x) x.id.name.now e (visit_stability x)
   pub spans : d'.spans ≡ d.spans ++ cond (nat_lt (length d.spans) (length d'.packages)) (x.of.span ∷ []) []
   pub interfaces : d'.interfaces ≡ d.interfaces ++ cond fresh (cond x.wants_world nothing one) nothing
   pub worlds : d'.worlds ≡ d.worlds ++ cond fresh (cond x.wants_world one nothing) nothing
@@ -60,7 +60,7 @@ pub record Adds (x : ForeignVisit) (fresh : Bool) (e : AstItem) (d d' : Deps) : 
 pub deps_more : (vs : List ForeignVisit) (x : ForeignVisit) (fresh : Bool) (e : AstItem) (d d' : Deps) → Adds x fresh e d d' → AreDeps vs d → AreDeps (vs ++ x ∷ []) d'
 deps_more vs x fresh e d d' adds are =
     let entry_same : e ≡ entry_next vs x = adds.entry_is ∙ (λ i. if x.wants_world then entry.World (are.worlds i) else entry.Interface (are.interfaces i)) in
-    let table : d'.packages ≡ table_in (vs ++ x ∷ []) = adds.packages ∙ ((λ i. table_more (are.packages i) (visited_package x) x.id.name.now (entry_same i)) ∙ sym (table_in-more vs x)) in
+    let table : d'.packages ≡ table_in (vs ++ x ∷ []) = adds.packages ∙ ((λ i. table_more (are.packages i) (visited_package x) x.id.name.now (entry_same i) (visit_stability x)) ∙ sym (table_in-more vs x)) in
     let new : fresh ≡ not (is_known vs x) = adds.fresh_is ∙ (ap (λ t. not (is_some (lookup (pointwise nat_eq x.id.name.now) (unwrap_or (lookup (same_package (visited_package x)) t) [])))) are.packages ∙ ap not (is_known-lookup vs x)) in
     let span : ForeignVisit → Span = λ v. v.of.span in
     let spans_len : length d.spans ≡ length (packages_of vs) = ap (λ (l : List Span). length l) are.spans ∙ length-map (packages_of vs) span in

@@ -6,11 +6,11 @@ use Rattle.std.specs.Option.{unwrap_or}
 use Rattle.std.specs.Cmp.Lexicographic.{pointwise}
 use Rattle.indexmap.specs.IndexMap.{insert_entry}
 use Rattle.wit_types.specs.declared.stability.Stability.{Stability}
-use Rattle.wit_types.specs.declared.stability.Stability.TheVariants.{Unknown}
 use Rattle.wit_model.specs.declared.ast_item.AstItem.{AstItem}
 use Rattle.wit_model.specs.declared.ast_item.AstItem.TheVariants as entry
 use Rattle.wit_model.specs.declared.package_name.PackageName.{PackageName}
 use Rattle.wit_meaning.specs.Address.{same_package, same_address}
+use Rattle.wit_meaning.specs.Notes.{stability_of}
 use Rattle.wit_meaning.specs.Repeats.{firsts}
 use Rattle.wit_meaning.specs.Foreign.{ForeignVisit, visited_package, visited, same_item, is_foreign_world}
 use Rattle.wit_meaning.specs.Whole.{foreign_place}
@@ -21,18 +21,18 @@ Visited = AstItem × List Stability
 abbrev pub Items : Type 0
 Items = List (List ℕ × Visited)
 
--- an item with one more visit: it gets the entry if it had none
-abbrev pub item_more : Option Visited → AstItem → Visited
-item_more None e = (e, Unknown ∷ [])
-item_more (Some i) e = (i.0, i.1 ++ Unknown ∷ [])
+-- an item with one more visit, of a stability: it gets the entry if it had none
+abbrev pub item_more : Option Visited → AstItem → Stability → Visited
+item_more None e s = (e, s ∷ [])
+item_more (Some i) e s = (i.0, i.1 ++ s ∷ [])
 
 -- the items of a package with one more visit
-abbrev pub row_more : Items → List ℕ → AstItem → Items
-row_more es name e = insert_entry (pointwise nat_eq) es name (item_more (lookup (pointwise nat_eq name) es) e)
+abbrev pub row_more : Items → List ℕ → AstItem → Stability → Items
+row_more es name e s = insert_entry (pointwise nat_eq) es name (item_more (lookup (pointwise nat_eq name) es) e s)
 
 -- a table of packages with one more visit
-abbrev pub table_more : List (PackageName × Items) → PackageName → List ℕ → AstItem → List (PackageName × Items)
-table_more t p name e = insert_entry same_package t p (row_more (unwrap_or (lookup (same_package p) t) []) name e)
+abbrev pub table_more : List (PackageName × Items) → PackageName → List ℕ → AstItem → Stability → List (PackageName × Items)
+table_more t p name e s = insert_entry same_package t p (row_more (unwrap_or (lookup (same_package p) t) []) name e s)
 
 -- the items of visits, and among them interfaces and worlds
 abbrev pub items_of : List ForeignVisit → List ForeignVisit
@@ -51,9 +51,13 @@ packages_of vs = firsts (λ a b. same_package (visited_package a) (visited_packa
 abbrev pub entry_in : List ForeignVisit → ForeignVisit → AstItem
 entry_in vs v = if v.wants_world then entry.World (foreign_place (worlds_in vs) v) else entry.Interface (foreign_place (interfaces_in vs) v)
 
+-- the stability that the attributes of a visit tell
+abbrev pub visit_stability : ForeignVisit → Stability
+visit_stability v = stability_of v.attributes
+
 -- an item of visits, with its entry and the stability of each of its visits
 abbrev pub item_in : List ForeignVisit → ForeignVisit → Visited
-item_in vs v = (entry_in vs v, map (λ u. Unknown) (filter (λ u. same_address (visited u) (visited v)) vs))
+item_in vs v = (entry_in vs v, map visit_stability (filter (λ u. same_address (visited u) (visited v)) vs))
 
 -- the items of a package
 abbrev pub row_in : List ForeignVisit → PackageName → Items

@@ -10,7 +10,7 @@ ghost use Rattle.wit_foreign.specs.Growing.{AreDeps};
 use crate::packages::{Packages, add_visit_in};
 use std::alloc::{AllocError, Global};
 use wit_model::AstItem;
-use wit_scope::{ForeignVisit, package_name};
+use wit_scope::{ForeignVisit, package_name, told_stability};
 use wit_types::{Arena, InterfacePlace, WorldPlace};
 use wit_values::{Row, Span, Table};
 
@@ -83,8 +83,10 @@ impl Deps {
         ensures { OnOk result ((vs : List Visit) → AreDeps vs self.old → AreDeps (vs ++ foreign_behind visit.now ∷ []) self.new) }
     {
         let key = package_name(alloc, visit.package)?;
+        let stability = told_stability(alloc, visit.attributes)?;
         let entry = self.next_entry(visit.wants_world);
-        let fresh = add_visit_in(alloc, &mut self.packages, key, visit.name.name, entry)?;
+        let name = visit.name.name;
+        let fresh = add_visit_in(alloc, &mut self.packages, key, name, entry, stability)?;
         self.note_span(visit.package.span)?;
         if fresh {
             self.count(visit.wants_world)?;
@@ -98,8 +100,8 @@ impl Deps {
 ///
 /// The packages stand in the order in which visits first name them. Each has the names of its items
 /// in the order of their first visits: what each is, an interface or a world by its place among
-/// those of other packages, and the stability of every visit of it, in order. The error is want of
-/// memory.
+/// those of other packages, and the stability that the attributes of every visit of it tell, in
+/// order. Whether these break a rule is not looked at. The error is want of memory.
 pub fn foreign_deps(
     alloc: Global,
     visits: &[ForeignVisit<'_, '_>],

@@ -4,7 +4,6 @@ ghost use Rattle.std.specs.Cmp.Lexicographic.{pointwise};
 ghost use Rattle.std.specs.Map.{lookup};
 ghost use Rattle.std.specs.Option.{is_some};
 ghost use Rattle.indexmap.specs.IndexMap.{insert_entry};
-ghost use Rattle.wit_types.specs.declared.stability.Stability.TheVariants.{Unknown as unknown};
 ghost use Rattle.wit_foreign.specs.Kept.{item_more, row_more};
 
 use std::alloc::{AllocError, Global};
@@ -15,28 +14,38 @@ use wit_values::{Row, TextTable};
 /// Items by their names, each with its entry and the stability of each of its visits.
 pub type Items = TextTable<(AstItem, Row<Stability>)>;
 
-/// Adds a visit of an item.
-fn visit_again(item: &mut (AstItem, Row<Stability>)) -> Result<(), AllocError>
-    ensures { OnOk result (item.new ≡ (item.old.0, item.old.1 ++ unknown ∷ [])) }
+/// Adds a visit of an item, of a stability.
+fn visit_again(item: &mut (AstItem, Row<Stability>), stability: Stability) -> Result<(), AllocError>
+    ensures { OnOk result (item.new ≡ (item.old.0, item.old.1 ++ stability ∷ [])) }
 {
-    item.1.push(Stability::Unknown)?;
+    item.1.push(stability)?;
     Ok(())
 }
 
-/// An item that is visited once.
-fn visited_once(alloc: Global, entry: AstItem) -> Result<(AstItem, Row<Stability>), AllocError>
-    ensures { IfOk result (λ item. item ≡ (entry, unknown ∷ [])) }
+/// An item that is visited once, with that visit's stability.
+fn visited_once(
+    alloc: Global,
+    entry: AstItem,
+    stability: Stability,
+) -> Result<(AstItem, Row<Stability>), AllocError>
+    ensures { IfOk result (λ item. item ≡ (entry, stability ∷ [])) }
 {
     let mut stabilities = Row::new(alloc);
-    stabilities.push(Stability::Unknown)?;
+    stabilities.push(stability)?;
     Ok((entry, stabilities))
 }
 
 /// Adds an item that is visited for the first time.
-fn add_item(alloc: Global, items: &mut Items, name: &str, entry: AstItem) -> Result<(), AllocError>
-    ensures { OnOk result (items.new ≡ insert_entry (pointwise nat_eq) items.old name.now (entry, unknown ∷ [])) }
+fn add_item(
+    alloc: Global,
+    items: &mut Items,
+    name: &str,
+    entry: AstItem,
+    stability: Stability,
+) -> Result<(), AllocError>
+    ensures { OnOk result (items.new ≡ insert_entry (pointwise nat_eq) items.old name.now (entry, stability ∷ [])) }
 {
-    let item = visited_once(alloc, entry)?;
+    let item = visited_once(alloc, entry, stability)?;
     match items.insert(String::from_str(alloc, name)?, item) {
         Ok(_) => Ok(()),
         Err(_) => Err(AllocError),
@@ -50,24 +59,25 @@ fn place_of(items: &Items, name: &str) -> Option<usize>
     items.as_map().get_index_of(name)
 }
 
-/// Adds a visit of the item of a name, which gets the entry if nothing has visited it yet; tells
-/// whether it gets it.
+/// Adds a visit of the item of a name, of a stability; the item gets the entry if nothing has
+/// visited it yet. Tells whether it gets it.
 pub(crate) fn add_visit_of(
     alloc: Global,
     items: &mut Items,
     name: &str,
     entry: AstItem,
+    stability: Stability,
 ) -> Result<bool, AllocError>
-    ensures items { OnOk result (items.new ≡ row_more items.old name.now entry) }
+    ensures items { OnOk result (items.new ≡ row_more items.old name.now entry stability) }
     ensures fresh { IfOk result (λ fresh. fresh ≡ not (is_some (lookup (pointwise nat_eq name.now) items.old))) }
 {
     match place_of(items, name) {
         Some(place) => {
-            visit_again(items.value_mut(place))?;
+            visit_again(items.value_mut(place), stability)?;
             Ok(false)
         }
         None => {
-            add_item(alloc, items, name, entry)?;
+            add_item(alloc, items, name, entry, stability)?;
             Ok(true)
         }
     }

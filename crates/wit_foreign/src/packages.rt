@@ -10,6 +10,7 @@ ghost use Rattle.wit_foreign.specs.Kept.{row_more, table_more};
 use crate::items::{Items, add_visit_of};
 use std::alloc::{AllocError, Global};
 use wit_model::{AstItem, PackageName};
+use wit_types::Stability;
 use wit_values::{Table, TextTable};
 
 /// Packages, each with its items.
@@ -29,33 +30,38 @@ fn add_package(
     key: PackageName,
     name: &str,
     entry: AstItem,
+    stability: Stability,
 ) -> Result<(), AllocError>
-    ensures { OnOk result (packages.new ≡ insert_entry same_package packages.old key (row_more [] name.now entry)) }
+    ensures { OnOk result (packages.new ≡ insert_entry same_package packages.old key (row_more [] name.now entry stability)) }
 {
     let mut items = TextTable::new(alloc);
-    add_visit_of(alloc, &mut items, name, entry)?;
+    add_visit_of(alloc, &mut items, name, entry, stability)?;
     match packages.insert(key, items) {
         Ok(_) => Ok(()),
         Err(_) => Err(AllocError),
     }
 }
 
-/// Adds a visit of an item of a package, which gets the entry if nothing has visited it yet; tells
-/// whether it gets it.
+/// Adds a visit of an item of a package, of a stability; the item gets the entry if nothing has
+/// visited it yet. Tells whether it gets it.
 pub(crate) fn add_visit_in(
     alloc: Global,
     packages: &mut Packages,
     key: PackageName,
     name: &str,
     entry: AstItem,
+    stability: Stability,
 ) -> Result<bool, AllocError>
-    ensures packages { OnOk result (packages.new ≡ table_more packages.old key name.now entry) }
+    ensures packages { OnOk result (packages.new ≡ table_more packages.old key name.now entry stability) }
     ensures fresh { IfOk result (λ fresh. fresh ≡ not (is_some (lookup (pointwise nat_eq name.now) (unwrap_or (lookup (same_package key) packages.old) [])))) }
 {
     match place_of(packages, &key) {
-        Some(place) => Ok(add_visit_of(alloc, packages.value_mut(place), name, entry)?),
+        Some(place) => {
+            let items = packages.value_mut(place);
+            Ok(add_visit_of(alloc, items, name, entry, stability)?)
+        }
         None => {
-            add_package(alloc, packages, key, name, entry)?;
+            add_package(alloc, packages, key, name, entry, stability)?;
             Ok(true)
         }
     }

@@ -1,1 +1,2 @@
+mod Comments
 pub mod Maps

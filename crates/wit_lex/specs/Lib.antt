@@ -1,3 +1,4 @@
+pub mod Blanks
 pub mod Faults
 pub mod Sources
 pub mod Tokens

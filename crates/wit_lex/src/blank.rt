@@ -1,29 +1,48 @@
 //! Blanks and comments.
 ghost use Rattle.std.specs.Prelude.{◌≡◌, ◌+◌, ◌-◌, ◌<◌, ◌≤◌, length, slice_index, MatchResult, IfSome};
+ghost use Rattle.wit_tree.specs.Comments.{IsComment, IsLine, IsNested, IsPair, is_blank as is_blank_byte};
+ghost use Rattle.wit_lex.specs.Blanks.{Begins};
+
+/// What begins at a place.
+#[derive(Clone, Copy)]
+pub enum Blank {
+    /// A blank.
+    Space,
+    /// A comment, and where it ends: in front of the LF of its line, or behind its `*/`.
+    Comment(usize),
+    /// A comment that has no end.
+    Endless,
+    /// Neither a blank nor a comment.
+    Nothing,
+}
 
 /// Space, tab, LF or CR.
-fn is_blank(c: u8) -> bool {
+fn is_blank(c: u8) -> bool
+    ensures { result ≡ is_blank_byte c }
+{
     c == b' ' || c == b'\n' || c == b'\t' || c == b'\r'
 }
 
-/// The end of the line that holds a place: behind its LF, or the text's end.
+/// The end of the line that a `//` at a place stands in: that of its LF, or the text's end.
 fn line_end(bytes: &[u8], from: usize) -> usize
-    requires { from < length bytes.now }
-    ensures after { from < result }
-    ensures within { result ≤ length bytes.now }
-    ensures last { result < length bytes.now → slice_index bytes.now (result - 1) ≡ 10 }
+    requires { IsPair bytes.now from 47 47 }
+    ensures { IsLine bytes.now from result }
 {
     let len = bytes.len();
-    let mut at = from;
-    while at + 1 < len && bytes[at] != b'\n' {
+    let mut at = from + 2;
+    while at < len {
+        if bytes[at] == b'\n' {
+            return at;
+        }
         at += 1;
     }
-    at + 1
+    at
 }
 
 /// The end of the block comment whose first two bytes stand at a place. Such comments nest.
 fn block_end(bytes: &[u8], from: usize) -> Option<usize>
-    requires { from + 2 ≤ length bytes.now }
+    requires { IsPair bytes.now from 47 42 }
+    ensures whole { IfSome result (λ end. IsNested bytes.now from 0 end) }
     ensures range { IfSome result (λ end. (from + 2 ≤ end) × (end ≤ length bytes.now)) }
     ensures last { IfSome result (λ end. slice_index bytes.now (end - 1) ≡ 47) }
 {
@@ -49,6 +68,32 @@ fn block_end(bytes: &[u8], from: usize) -> Option<usize>
     None
 }
 
+/// What begins at a place.
+#[inline(always)]
+pub fn blank_at(bytes: &[u8], at: usize) -> Blank
+    requires { at < length bytes.now }
+    ensures { Begins bytes.now at result }
+{
+    let first = bytes[at];
+    if is_blank(first) {
+        return Blank::Space;
+    }
+    if first != b'/' || bytes.len() - at < 2 {
+        return Blank::Nothing;
+    }
+    let second = bytes[at + 1];
+    if second == b'/' {
+        return Blank::Comment(line_end(bytes, at));
+    }
+    if second != b'*' {
+        return Blank::Nothing;
+    }
+    match block_end(bytes, at) {
+        Some(end) => Blank::Comment(end),
+        None => Blank::Endless,
+    }
+}
+
 /// The first place from `from` on where neither a blank nor a comment begins; else the place of the
 /// comment that has no end.
 pub fn skip_blanks(bytes: &[u8], from: usize) -> Result<usize, usize>
@@ -58,25 +103,11 @@ pub fn skip_blanks(bytes: &[u8], from: usize) -> Result<usize, usize>
     let len = bytes.len();
     let mut at = from;
     while at < len {
-        let first = bytes[at];
-        if is_blank(first) {
-            at += 1;
-            continue;
-        }
-        if first != b'/' || len - at < 2 {
-            return Ok(at);
-        }
-        let second = bytes[at + 1];
-        if second == b'/' {
-            at = line_end(bytes, at);
-            continue;
-        }
-        if second != b'*' {
-            return Ok(at);
-        }
-        match block_end(bytes, at) {
-            Some(end) => at = end,
-            None => return Err(at),
+        match blank_at(bytes, at) {
+            Blank::Space => at += 1,
+            Blank::Comment(end) => at = end,
+            Blank::Endless => return Err(at),
+            Blank::Nothing => return Ok(at),
         }
     }
     Ok(at)

@@ -2,6 +2,7 @@
 #![tactic(auto)]
 
 pub mod blank;
+pub mod docs;
 pub mod fault;
 pub mod kind;
 pub mod scan;

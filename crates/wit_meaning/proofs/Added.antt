@@ -15,7 +15,7 @@ use Rattle.wit_types.specs.declared.types.TypeOwner.{TypeOwner}
 use Rattle.wit_types.specs.declared.types.TypeOwner.TheVariants as owner
 use Rattle.wit_meaning.specs.Fault.{Fault}
 use Rattle.wit_meaning.specs.Address.{Address, InterfaceNamed, WorldNamed, is_foreign}
-use Rattle.wit_meaning.specs.Source.{address, Item, all_items, item_id, item_name, TopName, leads, ScopeName, local_name, takings, included_scope, scope, scope_names}
+use Rattle.wit_meaning.specs.Source.{address, Item, all_items, item_id, item_notes, item_name, TopName, leads, ScopeName, local_name, takings, included_scope, scope, scope_names}
 use Rattle.wit_meaning.specs.Foreign.{visited, foreign_interfaces, foreign_worlds}
 use Rattle.wit_meaning.specs.Scope.{in_turn}
 use Rattle.wit_meaning.specs.Meet.{Meeting, Decls}
@@ -42,7 +42,7 @@ use Rattle.wit_meaning.proofs.Laid.{AreDone, ordered_at, item_of_entry, IsNextDo
 
 -- an interface of the arena is the item
 abbrev pub SaysInterface : Ordered → Interface → Type 0
-SaysInterface o i = IsInterface (item_id o.item) i
+SaysInterface o i = IsInterface (item_id o.item) (item_notes o.item) i
 
 -- it has the functions of a scope, each setter behind its getter
 pub record MakesInterface (c : DoneScope) (i : Interface) : Type 0 where
@@ -52,7 +52,7 @@ pub record MakesInterface (c : DoneScope) (i : Interface) : Type 0 where
 
 -- a world of the arena is the item, with its includes, where the worlds have these addresses
 pub record SaysWorld (worlds : List Address) (o : Ordered) (w : World) : Type 0 where
-  pub says : IsWorld (item_id o.item) w
+  pub says : IsWorld (item_id o.item) (item_notes o.item) w
   pub includes : AreIncludes worlds o.item w.includes
 
 -- it has the types of a scope as its imports, and then the functions

@@ -13,7 +13,7 @@ use Rattle.wit_model.specs.declared.function.Function.{Function}
 use Rattle.wit_model.specs.declared.function.FunctionKind.{FunctionKind}
 use Rattle.wit_model.specs.declared.function.FunctionKind.TheVariants as kind
 use Rattle.wit_model.specs.declared.function.Param.{Param}
-use Rattle.wit_meaning.specs.Shape.{Shape, no_docs}
+use Rattle.wit_meaning.specs.Shape.{Shape}
 use Rattle.wit_meaning.specs.Address.{Address}
 use Rattle.wit_meaning.specs.Function.{Role, Freestanding, Method, Static, Constructor, SourceParam, SourceFunction, all_params, signature}
 use Rattle.wit_meaning.specs.Functions.{freestanding_kind, method_kind, static_kind, IsKind, IsResult, IsFunction, AreFunctions}
@@ -62,7 +62,7 @@ functions_append old mid new s names fns gns fs gs p q = record {
       let y = q.from decls x.now x.meeting (names_beside s fns ms x.now s (env_of names) x.meets stand) in
       let front = all_function_meetings s fns in
       let back = all_function_meetings s gns in
-      let whole : all_function_meetings s (fns ++ gns) ≡ front ++ back = flat_map-append (λ (fn : SourceFunction). flat_map (shape_meetings s) (signature fn)) fns gns in
+      let whole : all_function_meetings s (fns ++ gns) ≡ front ++ back = flat_map-append (λ (fn : SourceFunction). flat_map (shape_meetings s Unknown) (signature fn)) fns gns in
       record {
         now = y.now;
         meets = subst (λ (l : List Meeting). Meets ms l y.now) (sym whole) (meets_append front back ms x.now y.now x.meets y.meets);
@@ -74,15 +74,15 @@ functions_append old mid new s names fns gns fs gs p q = record {
 pub shapes_none : (es : List TypeDef) (s : Address) (env : Env) → AreShapes es es s env [] []
 shapes_none es s env = resolved_none es s env
 
-pub shapes_one : (old new : List TypeDef) (s : Address) (env : Env) (x : Shape) (t : Ty) → AreResolved old new s env (shape_meetings s x) (one (expr_of s x)) (t ∷ []) → AreShapes old new s env (x ∷ []) (t ∷ [])
-shapes_one old new s env x t h = subst (λ (ms : List Meeting). AreResolved old new s env ms (one (expr_of s x)) (t ∷ [])) (sym (append-nil (shape_meetings s x))) h
+pub shapes_one : (old new : List TypeDef) (s : Address) (env : Env) (x : Shape) (t : Ty) → AreResolved old new s env (shape_meetings s Unknown x) (one (expr_of s x)) (t ∷ []) → AreShapes old new s env (x ∷ []) (t ∷ [])
+shapes_one old new s env x t h = subst (λ (ms : List Meeting). AreResolved old new s env ms (one (expr_of s x)) (t ∷ [])) (sym (append-nil (shape_meetings s Unknown x))) h
 
 gathered_exprs : (s : Address) (xs ys : List Shape) → exprs_of s (gathered (xs ++ ys)) ≡ joined (exprs_of s (gathered xs)) (exprs_of s (gathered ys))
 gathered_exprs s [] ys = refl
 gathered_exprs s (x ∷ xs) ys = ap (λ (es : Exprs). exprs.More (expr_of s x) es) (gathered_exprs s xs ys)
 
 pub shapes_append : (old mid new : List TypeDef) (s : Address) (env : Env) (xs ys : List Shape) (ts us : List Ty) → AreShapes old mid s env xs ts → AreShapes mid new s env ys us → AreShapes old new s env (xs ++ ys) (ts ++ us)
-shapes_append old mid new s env xs ys ts us p q = subst (λ (ms : List Meeting). AreResolved old new s env ms (exprs_of s (gathered (xs ++ ys))) (ts ++ us)) (sym (flat_map-append (shape_meetings s) xs ys)) (subst (λ (es : Exprs). AreResolved old new s env (flat_map (shape_meetings s) xs ++ flat_map (shape_meetings s) ys) es (ts ++ us)) (sym (gathered_exprs s xs ys)) (resolved_more p q))
+shapes_append old mid new s env xs ys ts us p q = subst (λ (ms : List Meeting). AreResolved old new s env ms (exprs_of s (gathered (xs ++ ys))) (ts ++ us)) (sym (flat_map-append (shape_meetings s Unknown) xs ys)) (subst (λ (es : Exprs). AreResolved old new s env (flat_map (shape_meetings s Unknown) xs ++ flat_map (shape_meetings s Unknown) ys) es (ts ++ us)) (sym (gathered_exprs s xs ys)) (resolved_more p q))
 
 kind_stands : (ks : List Key) (s : Address) (env : Env) (role : Role) (k : FunctionKind) → AreNames ks s env → IsKindIn env role k → IsKind ks s role k
 kind_stands ks s env (Freestanding id form) k names h = h
@@ -146,9 +146,7 @@ function_is ks s env fn f names says at =
       };
       result = result_of ks s fn.result f.result back;
       span = says.span;
-      docs = says.docs;
-      stability = says.stability;
-      external_id = says.external_id;
+      notes = says.notes;
     }
 
 -- one function
@@ -156,7 +154,7 @@ pub function_one : (old new : List TypeDef) (s : Address) (names : Names) (fn : 
 function_one old new s names fn f says h = record {
   from = λ decls ms m stand. (
       let x = h.from decls ms m stand in
-      let more = flat_map (shape_meetings s) (signature fn) in
+      let more = flat_map (shape_meetings s Unknown) (signature fn) in
       let kept = names_kept ms x.now more s (env_of names) (exprs_of s (gathered (signature fn))) h.same x.meets stand in
       record {
         now = x.now;

@@ -9,17 +9,17 @@ use Rattle.wit_types.specs.declared.types.«Type».{«Type» as Ty}
 use Rattle.wit_types.specs.declared.types.«Type».TheVariants as type
 use Rattle.wit_types.specs.declared.docs.Docs.{Docs}
 use Rattle.wit_types.specs.declared.stability.Stability.{Stability}
-use Rattle.wit_types.specs.declared.stability.Stability.TheVariants.{Unknown}
 use Rattle.wit_types.specs.declared.types.TypeDef.{TypeDef}
 use Rattle.wit_types.specs.declared.types.TypeOwner.{TypeOwner}
 use Rattle.wit_meaning.specs.Form.{Form, kind_of}
 use Rattle.wit_meaning.specs.Node.{Primitive, Tree, Head, Owner, OfScope, Leaf, Named, Unnamed, node_map}
-use Rattle.wit_meaning.specs.Shape.{Shape, Shapes, no_docs}
+use Rattle.wit_meaning.specs.Shape.{Shape, Shapes}
 use Rattle.wit_meaning.specs.Shape as shape
+use Rattle.wit_meaning.specs.Notes.{Notes, HasNotes}
 use Rattle.wit_meaning.specs.Address.{Address}
-use Rattle.wit_meaning.specs.Source.{ScopeName, local_name, scope, meaning, head, named_node, name_form, name_body, name_scope, name_span, placed, source_tree}
+use Rattle.wit_meaning.specs.Source.{ScopeName, local_name, scope, meaning, head, named_node, name_form, name_body, name_scope, name_span, name_notes, placed, source_tree}
 use Rattle.wit_meaning.specs.Expr.{expr_of, exprs_of, name_exprs, Exprs}
-use Rattle.wit_meaning.specs.Meet.{Key, Def, Whole, IsAt, AreAt, Decl, Decls, decl_of, IsKeyed, IsBare, primitive_type}
+use Rattle.wit_meaning.specs.Meet.{Key, Def, Whole, IsAt, AreAt, Decl, Decls, decl_of, IsKeyed, primitive_type}
 use Rattle.wit_meaning.specs.Package.{package_tree, node_at, entry_head, entry_node, owner_of}
 use Rattle.wit_meaning.specs.Resolving.{AreDistinct, decls_of}
 use Rattle.wit_meaning.proofs.Lists.{map_at}
@@ -68,14 +68,14 @@ module _ (files : List PackageFile) (decls : Decls) (ks : List Key) (p : Unresol
   parts_agree n agree s (shape.More x xs) [] h = absurd h
 
   -- the heads agree
-  head_agrees : (s : Address) (called : List ℕ) (x : ScopeName) (e : TypeDef) → local_name x ≡ called → e.span ≡ name_span x → owner_of p e.owner ≡ OfScope s → IsBare e → entry_head p called e ≡ head s x
-  head_agrees s called x e name span own bare =
+  head_agrees : (s : Address) (called : List ℕ) (x : ScopeName) (e : TypeDef) → local_name x ≡ called → e.span ≡ name_span x → owner_of p e.owner ≡ OfScope s → HasNotes (name_notes x) e → entry_head p called e ≡ head s x
+  head_agrees s called x e name span own told =
       ap (λ (o : Owner). made o called e.span e.docs e.stability e.external_id) own
       ∙ ap (λ (n : List ℕ). made (OfScope s) n e.span e.docs e.stability e.external_id) (sym name)
       ∙ ap (λ (z : Span). made (OfScope s) (local_name x) z e.docs e.stability e.external_id) span
-      ∙ ap (λ (z : Docs). made (OfScope s) (local_name x) (name_span x) z e.stability e.external_id) bare.docs
-      ∙ ap (λ (z : Stability). made (OfScope s) (local_name x) (name_span x) no_docs z e.external_id) bare.stability
-      ∙ ap (λ (z : Option (List ℕ)). made (OfScope s) (local_name x) (name_span x) no_docs Unknown z) bare.external_id
+      ∙ ap (λ (z : Docs). made (OfScope s) (local_name x) (name_span x) z e.stability e.external_id) told.docs
+      ∙ ap (λ (z : Stability). made (OfScope s) (local_name x) (name_span x) (name_notes x).docs z e.external_id) told.stability
+      ∙ ap (λ (z : Option (List ℕ)). made (OfScope s) (local_name x) (name_span x) (name_notes x).docs (name_notes x).stability z) told.external_id
 
   name_agrees : (n : ℕ) → Agree n → (s : Address) (name : List ℕ) (i : ℕ) → slice_get ks i ≡ Some (Def s name) → package_tree p (suc n) (type.Id i) ≡ node_map (source_tree files n) (named_node s (meaning (scope files s) name))
   name_agrees n agree s name i there =
@@ -91,7 +91,8 @@ module _ (files : List PackageFile) (decls : Decls) (ks : List Key) (p : Unresol
       let parts : AreAt ks (name_exprs s x.0) (kind_of e.0.kind).parts = subst (λ (y : Exprs). AreAt ks y (kind_of e.0.kind).parts) (sym (ap (λ (y : Decl). y.parts) x.2)) (all_at_untaken i ks it.decl.parts (kind_of e.0.kind).parts it.parts) in
       let inner = parts_agree n agree (name_scope s x.0) (name_body x.0).parts (kind_of e.0.kind).parts parts in
       let found = meaning_found (scope files s) k x.0 name here.distinct x.1 called in
-      let heads = head_agrees s name x.0 e.0 called span own it.bare in
+      let told : HasNotes (name_notes x.0) e.0 = subst (λ (y : Notes). HasNotes y e.0) (sym (ap (λ (y : Decl). y.notes) x.2)) it.notes in
+      let heads = head_agrees s name x.0 e.0 called span own told in
       ap (λ (o : Option TypeDef). node_map (package_tree p n) (node_at p o)) e.1
       ∙ ap (λ (o : Option (List ℕ)). node_map (package_tree p n) (entry_node p o e.0)) it.name
       ∙ ap (λ (y : Head). named_of n y (kind_of e.0.kind).form (map (package_tree p n) (kind_of e.0.kind).parts)) heads

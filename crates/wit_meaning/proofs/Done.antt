@@ -32,7 +32,7 @@ pub done_none : (files : List PackageFile) (decls : Decls) → IsDone files decl
 done_none files decls = record {
   met = [];
   meets = refl;
-  meeting = record { keyed = record { count = refl; once = record { differ = λ i j k at. absurd (let f : ⊥ = cc in f) }; each = λ i k e at. absurd (let f : ⊥ = cc in f) }; spans = refl };
+  meeting = record { keyed = record { count = refl; once = record { differ = λ i j k at. absurd (let f : ⊥ = cc in f) }; each = λ i k e at. absurd (let f : ⊥ = cc in f) }; spans = refl; settled = λ i m e at. absurd (let f : ⊥ = cc in f) };
   each = λ t c at. absurd (let f : ⊥ = cc in f);
   own = λ t c at. absurd (let f : ⊥ = cc in f);
   stand = λ t c at. absurd (let f : ⊥ = cc in f);

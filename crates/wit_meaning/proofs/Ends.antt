@@ -142,9 +142,9 @@ alias_defined (Plain t) h = alias_written t h
 alias_defined _ h = absurd (let f : ⊥ = cc in f)
 
 alias_named : (x : ScopeName) → name_form x ≡ AliasForm → IsWord (name_body x).parts
-alias_named (Used from n) h = inr (n.name, refl)
+alias_named (Used from attributes n) h = inr (n.name, refl)
 alias_named (Defined d) h = alias_defined d.body h
-alias_named (Taken id) h = absurd (let f : ⊥ = cc in f)
+alias_named (Taken attributes id) h = absurd (let f : ⊥ = cc in f)
 
 -- a primitive is no entry
 part_primitive : (f : ℕ → Option EntryEnd) (p : Primitive) (ts : List Ty) → part_end f (primitive_type p ∷ ts) ≡ Some IsOther

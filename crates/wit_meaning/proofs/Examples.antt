@@ -6,6 +6,8 @@ use denote.RawPtr.{Ptr}
 use Rattle.wit_names.specs.Label.{is_label}
 use Rattle.wit_values.specs.declared.span.Span.{Span}
 use Rattle.wit_tree.specs.declared.tree.Id.{Id}
+use Rattle.wit_tree.specs.declared.tree.Docs.{Docs as Comments}
+use Rattle.wit_tree.specs.declared.tree.Attribute.{Attribute}
 use Rattle.wit_tree.specs.declared.tree.Field.{Field as WrittenField}
 use Rattle.wit_tree.specs.declared.tree.«Type».{«Type» as Written}
 use Rattle.wit_tree.specs.declared.tree.«Type».TheVariants as written
@@ -35,13 +37,14 @@ use Rattle.wit_meaning.specs.Form.{Member, RecordForm, ListForm, AliasForm, kind
 use Rattle.wit_meaning.specs.Node.{OfScope, Head, Leaf, Named, Unnamed, Tree}
 use Rattle.wit_meaning.specs.Node as node
 use Rattle.wit_meaning.specs.Address.{InterfaceNamed}
+use Rattle.wit_meaning.specs.Notes.{no_docs}
 use Rattle.wit_meaning.specs.Source.{path_id, Local, top_names, TheInterface, Item, all_items, ScopeName, Used, Defined, scope_names, source_tree}
 use Rattle.wit_meaning.specs.Expr.{Prim, one}
 use Rattle.wit_meaning.specs.Meet.{Def, Whole, Meeting, IsMet, Meets}
 use Rattle.wit_meaning.specs.Scope.{rows_of, item_rows, in_turn}
 use Rattle.wit_tree.specs.Refusal.{Missing, Cyclic}
 use Rattle.wit_meaning.specs.Fault.{fault}
-use Rattle.wit_meaning.specs.Shape.{Word, no_docs}
+use Rattle.wit_meaning.specs.Shape.{Word}
 use Rattle.wit_meaning.specs.Bodies.{folded, IsDuplicateName}
 use Rattle.wit_meaning.specs.Broken.{last_header, IsMissingType, IsCyclicType, IsDuplicateTopName, IsMissingOriginal, IsBroken, Headerless}
 use Rattle.wit_meaning.specs.Package.{package_tree}
@@ -62,27 +65,34 @@ module _ (ptr : Ptr) (alloc : Global) where
   abbrev pub vec : {X : Type 0} (xs : List X) → length xs < 2 ^ 63 → Vec X Global
   vec xs h = record { ptr = ptr; len = length xs; cap = length xs; alloc = alloc; items = xs; ok = (refl, omega arith); small = h }
 
+  -- nothing is written in front
+  abbrev pub no_comments : Comments
+  no_comments = record { docs = vec [] (lit< tt); span = at 0 0 }
+
+  abbrev pub untold : Vec Attribute Global
+  untold = vec [] (lit< tt)
+
   abbrev box : Box (Unit {0}) Global
   box = record { ptr = ptr; alloc = alloc; value = tt }
 
   -- package foo:foo; interface i { record p { a: list<u8>, b: list<u8> } }
   abbrev pub header : Header
-  header = record { span = at 8 15; namespace = id (codes "foo") (at 8 11) refl; name = id (codes "foo") (at 12 15) refl; version = None }
+  header = record { docs = no_comments; span = at 8 15; namespace = id (codes "foo") (at 8 11) refl; name = id (codes "foo") (at 12 15) refl; version = None }
 
   abbrev list_at : Span → Span → Written
   list_at whole element = written.List' whole box (written.U8 element)
 
   abbrev written_fields : List WrittenField
-  written_fields = record { name = id (codes "a") (at 42 43) refl; ty = list_at (at 45 49) (at 50 52) } ∷ record { name = id (codes "b") (at 55 56) refl; ty = list_at (at 58 62) (at 63 65) } ∷ []
+  written_fields = record { docs = no_comments; name = id (codes "a") (at 42 43) refl; ty = list_at (at 45 49) (at 50 52) } ∷ record { docs = no_comments; name = id (codes "b") (at 55 56) refl; ty = list_at (at 58 62) (at 63 65) } ∷ []
 
   abbrev p_id : Id
   p_id = id (codes "p") (at 38 39) refl
 
   abbrev p : Definition
-  p = record { name = p_id; body = Record (at 38 39) (vec written_fields (lit< tt)) }
+  p = record { docs = no_comments; attributes = untold; name = p_id; body = Record (at 38 39) (vec written_fields (lit< tt)) }
 
   abbrev i : WrittenInterface
-  i = record { name = id (codes "i") (at 27 28) refl; items = vec (TypeItem p ∷ []) (lit< tt) }
+  i = record { docs = no_comments; attributes = untold; name = id (codes "i") (at 27 28) refl; items = vec (TypeItem p ∷ []) (lit< tt) }
 
   abbrev file : PackageFile
   file = record { package_id = Some header; decl_list = record { items = vec (InterfaceItem i ∷ []) (lit< tt) } }
@@ -109,10 +119,10 @@ module _ (ptr : Ptr) (alloc : Global) where
   source = refl
 
   abbrev list_met : Span → Meeting
-  list_met span = record { key = Whole ListForm (one (Prim node.U8)); span = span }
+  list_met span = record { key = Whole ListForm (one (Prim node.U8)); span = span; given = Unknown }
 
   abbrev p_met : Meeting
-  p_met = record { key = Def (InterfaceNamed (codes "i")) (codes "p"); span = at 38 39 }
+  p_met = record { key = Def (InterfaceNamed (codes "i")) (codes "p"); span = at 38 39; given = Unknown }
 
   -- both lists are met before p, each at its own word
   met : meetings (map turned (record { item = item; order = 0 ∷ [] } ∷ [])) ≡ (list_met (at 45 49) ∷ list_met (at 58 62) ∷ p_met ∷ [])
@@ -152,7 +162,7 @@ module _ (ptr : Ptr) (alloc : Global) where
 
   -- a package of these arenas
   abbrev package_with : List Interface → List TypeDef → UnresolvedPackage
-  package_with is es = record { name = record { namespace = codes "foo"; name = codes "foo"; version = None }; worlds = []; interfaces = is; types = es; foreign_deps = []; name_span = at 8 15; unknown_type_spans = []; foreign_dep_spans = []; required_resource_types = [] }
+  package_with is es = record { docs = no_docs; name = record { namespace = codes "foo"; name = codes "foo"; version = None }; worlds = []; interfaces = is; types = es; foreign_deps = []; name_span = at 8 15; unknown_type_spans = []; foreign_dep_spans = []; required_resource_types = [] }
 
   arenas : package_tree (package_with (i_entry ∷ []) (list_entry ∷ p_entry ∷ [])) 3 (type.Id 1) ≡ p_tree
   arenas = refl
@@ -168,7 +178,7 @@ module _ (ptr : Ptr) (alloc : Global) where
   around = record { name = codes "a"; needs = in_a ∷ [] } ∷ record { name = codes "b"; needs = in_b ∷ [] } ∷ []
 
   abbrev around_names : List ScopeName
-  around_names = Defined (record { name = id (codes "a") (at 19 20) refl; body = Plain (written.Name in_a) }) ∷ Defined (record { name = id (codes "b") (at 31 32) refl; body = Plain (written.Name in_b) }) ∷ []
+  around_names = Defined (record { docs = no_comments; attributes = untold; name = id (codes "a") (at 19 20) refl; body = Plain (written.Name in_a) }) ∷ Defined (record { docs = no_comments; attributes = untold; name = id (codes "b") (at 31 32) refl; body = Plain (written.Name in_b) }) ∷ []
 
   rows_around : rows_of around_names ≡ around
   rows_around = refl
@@ -200,7 +210,7 @@ module _ (ptr : Ptr) (alloc : Global) where
   u = id (codes "u") (at 23 24) refl
 
   abbrev t_names : List ScopeName
-  t_names = Defined (record { name = id (codes "t") (at 19 20) refl; body = Plain (written.Name u) }) ∷ []
+  t_names = Defined (record { docs = no_comments; attributes = untold; name = id (codes "t") (at 19 20) refl; body = Plain (written.Name u) }) ∷ []
 
   u_missing : IsMissing (rows_of t_names) 0 u
   u_missing = refl
@@ -210,7 +220,7 @@ module _ (ptr : Ptr) (alloc : Global) where
 
   -- record { a: u8, A: u8 }
   abbrev twice : List WrittenField
-  twice = record { name = id (codes "a") (at 9 10) refl; ty = written.U8 (at 12 14) } ∷ record { name = id (codes "A") (at 16 17) refl; ty = written.U8 (at 19 21) } ∷ []
+  twice = record { docs = no_comments; name = id (codes "a") (at 9 10) refl; ty = written.U8 (at 12 14) } ∷ record { docs = no_comments; name = id (codes "A") (at 16 17) refl; ty = written.U8 (at 19 21) } ∷ []
 
   twice_refused : IsDuplicateName (map (λ x. x.name) twice) (fault 25 (at 16 17))
   twice_refused = record { later = id (codes "A") (at 16 17) refl; repeated = record { first = 0; second = 1; earlier = id (codes "a") (at 9 10) refl; before = lit< tt; at_first = refl; at_second = refl; same = refl }; is = refl }
@@ -224,7 +234,7 @@ module _ (ptr : Ptr) (alloc : Global) where
   in_list = id (codes "t") (at 28 29) refl
 
   abbrev list_names : List ScopeName
-  list_names = Defined (record { name = id (codes "b") (at 19 20) refl; body = Plain (written.List' (at 23 27) box (written.Name in_list)) }) ∷ Defined (record { name = id (codes "t") (at 37 38) refl; body = Plain (written.U8 (at 41 43)) }) ∷ []
+  list_names = Defined (record { docs = no_comments; attributes = untold; name = id (codes "b") (at 19 20) refl; body = Plain (written.List' (at 23 27) box (written.Name in_list)) }) ∷ Defined (record { docs = no_comments; attributes = untold; name = id (codes "t") (at 37 38) refl; body = Plain (written.U8 (at 41 43)) }) ∷ []
 
   list_rows : rows_of list_names ≡ two (codes "b") (codes "t") in_list
   list_rows = refl
@@ -239,10 +249,10 @@ module _ (ptr : Ptr) (alloc : Global) where
     of_a = id (codes "t") (at 40 41) refl
 
     abbrev a : Definition
-    a = record { name = id (codes "a") (at 36 37) refl; body = Plain (written.Name of_a) }
+    a = record { docs = no_comments; attributes = untold; name = id (codes "a") (at 36 37) refl; body = Plain (written.Name of_a) }
 
     abbrev b : Definition
-    b = record { name = id (codes "b") (at 48 49) refl; body = Plain (written.U8 (at 52 54)) }
+    b = record { docs = no_comments; attributes = untold; name = id (codes "b") (at 48 49) refl; body = Plain (written.U8 (at 52 54)) }
 
     abbrev path_x : Id
     path_x = id (codes "x") (at 60 61) refl
@@ -251,16 +261,16 @@ module _ (ptr : Ptr) (alloc : Global) where
     used_t = record { name = id (codes "t") (at 63 64) refl; as_ = None }
 
     abbrev use_t : Use
-    use_t = record { from = path.Id path_x; names = vec (used_t ∷ []) (lit< tt) }
+    use_t = record { attributes = untold; from = path.Id path_x; names = vec (used_t ∷ []) (lit< tt) }
 
     abbrev t : Definition
-    t = record { name = id (codes "t") (at 88 89) refl; body = Plain (written.U32 (at 92 95)) }
+    t = record { docs = no_comments; attributes = untold; name = id (codes "t") (at 88 89) refl; body = Plain (written.U32 (at 92 95)) }
 
     abbrev user : WrittenInterface
-    user = record { name = id (codes "i") (at 27 28) refl; items = vec (TypeItem a ∷ TypeItem b ∷ UseItem use_t ∷ []) (lit< tt) }
+    user = record { docs = no_comments; attributes = untold; name = id (codes "i") (at 27 28) refl; items = vec (TypeItem a ∷ TypeItem b ∷ UseItem use_t ∷ []) (lit< tt) }
 
     abbrev x : WrittenInterface
-    x = record { name = id (codes "x") (at 79 80) refl; items = vec (TypeItem t ∷ []) (lit< tt) }
+    x = record { docs = no_comments; attributes = untold; name = id (codes "x") (at 79 80) refl; items = vec (TypeItem t ∷ []) (lit< tt) }
 
     abbrev used_file : PackageFile
     used_file = record { package_id = Some header; decl_list = record { items = vec (InterfaceItem user ∷ InterfaceItem x ∷ []) (lit< tt) } }
@@ -289,7 +299,7 @@ module _ (ptr : Ptr) (alloc : Global) where
     order_of_user = three_order (codes "a") (codes "b") (codes "t") of_a refl
 
     -- the used name comes first, and then the definitions in that order
-    turns_of_user : in_turn (scope_names user_item) (1 ∷ 2 ∷ 0 ∷ []) ≡ (Used (InterfaceNamed (codes "x")) used_t ∷ Defined b ∷ Defined a ∷ [])
+    turns_of_user : in_turn (scope_names user_item) (1 ∷ 2 ∷ 0 ∷ []) ≡ (Used (InterfaceNamed (codes "x")) [] used_t ∷ Defined b ∷ Defined a ∷ [])
     turns_of_user = refl
 
     abbrev t_head : List ℕ → Span → Head
@@ -300,7 +310,7 @@ module _ (ptr : Ptr) (alloc : Global) where
     tree_of_used = refl
 
     abbrev name_met : List ℕ → List ℕ → Span → Meeting
-    name_met interface name span = record { key = Def (InterfaceNamed interface) name; span = span }
+    name_met interface name span = record { key = Def (InterfaceNamed interface) name; span = span; given = Unknown }
 
     -- x's t is met before i's, which is met before b and a
     met_in_turn : meetings (map turned (record { item = x_item; order = 0 ∷ [] } ∷ record { item = user_item; order = 1 ∷ 2 ∷ 0 ∷ [] } ∷ []))
@@ -327,19 +337,19 @@ module _ (ptr : Ptr) (alloc : Global) where
   -- use z as x; interface i { use x.{t}; }
   module _ where
     abbrev x_here : WrittenInterface
-    x_here = record { name = id (codes "x") (at 27 28) refl; items = vec (TypeItem (record { name = id (codes "t") (at 36 37) refl; body = Plain (written.U8 (at 40 42)) }) ∷ []) (lit< tt) }
+    x_here = record { docs = no_comments; attributes = untold; name = id (codes "x") (at 27 28) refl; items = vec (TypeItem (record { docs = no_comments; attributes = untold; name = id (codes "t") (at 36 37) refl; body = Plain (written.U8 (at 40 42)) }) ∷ []) (lit< tt) }
 
     abbrev z : WrittenInterface
-    z = record { name = id (codes "z") (at 56 57) refl; items = vec (TypeItem (record { name = id (codes "t") (at 65 66) refl; body = Plain (written.U16 (at 69 72)) }) ∷ []) (lit< tt) }
+    z = record { docs = no_comments; attributes = untold; name = id (codes "z") (at 56 57) refl; items = vec (TypeItem (record { docs = no_comments; attributes = untold; name = id (codes "t") (at 65 66) refl; body = Plain (written.U16 (at 69 72)) }) ∷ []) (lit< tt) }
 
     abbrev alias : ToplevelUse
-    alias = record { span = at 77 80; item = path.Id (id (codes "z") (at 81 82) refl); as_ = Some (id (codes "x") (at 86 87) refl) }
+    alias = record { attributes = untold; span = at 77 80; item = path.Id (id (codes "z") (at 81 82) refl); as_ = Some (id (codes "x") (at 86 87) refl) }
 
     abbrev t_of_x : UseName
     t_of_x = record { name = id (codes "t") (at 108 109) refl; as_ = None }
 
     abbrev i_of_x : WrittenInterface
-    i_of_x = record { name = id (codes "i") (at 99 100) refl; items = vec (UseItem (record { from = path.Id (id (codes "x") (at 105 106) refl); names = vec (t_of_x ∷ []) (lit< tt) }) ∷ []) (lit< tt) }
+    i_of_x = record { docs = no_comments; attributes = untold; name = id (codes "i") (at 99 100) refl; items = vec (UseItem (record { attributes = untold; from = path.Id (id (codes "x") (at 105 106) refl); names = vec (t_of_x ∷ []) (lit< tt) }) ∷ []) (lit< tt) }
 
     abbrev first_file : PackageFile
     first_file = record { package_id = Some header; decl_list = record { items = vec (InterfaceItem x_here ∷ InterfaceItem z ∷ []) (lit< tt) } }
@@ -365,7 +375,7 @@ module _ (ptr : Ptr) (alloc : Global) where
 
     -- use x as y; use y as z;
     abbrev of_an_alias : ToplevelUse
-    of_an_alias = record { span = at 12 15; item = path.Id (id (codes "y") (at 16 17) refl); as_ = Some (id (codes "z") (at 21 22) refl) }
+    of_an_alias = record { attributes = untold; span = at 12 15; item = path.Id (id (codes "y") (at 16 17) refl); as_ = Some (id (codes "z") (at 21 22) refl) }
 
     original_missing : IsMissingOriginal (all_items two_files) (ToplevelItem alias ∷ ToplevelItem of_an_alias ∷ []) (record { rule = 7; span = at 16 17; name = Some (codes "y"); sort = Missing (codes "interface or world") })
     original_missing = record { u = of_an_alias; id = id (codes "y") (at 16 17) refl; among = (1, lit< tt, refl); local = refl; missing = refl; is = refl }

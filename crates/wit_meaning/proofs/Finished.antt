@@ -6,6 +6,7 @@ use Rattle.std.proofs.lemmas.Bool.{cases_Bool}
 use Rattle.std.proofs.lemmas.List.{length-map}
 use Rattle.std.proofs.lemmas.Option.{slice_get-map}
 use Rattle.wit_tree.specs.declared.tree.UsePath.{UsePath}
+use Rattle.wit_tree.specs.declared.tree.Attribute.{Attribute}
 use Rattle.wit_tree.specs.declared.tree.UseName.{UseName}
 use Rattle.wit_tree.specs.declared.tree.PackageFile.{PackageFile}
 use Rattle.wit_types.specs.declared.types.TypeDef.{TypeDef}
@@ -22,11 +23,11 @@ use Rattle.wit_meaning.specs.Function.{SourceFunction, functions, free_names}
 use Rattle.wit_meaning.specs.Functions.{AreFunctions}
 use Rattle.std.specs.List.{filter}
 use Rattle.wit_types.specs.declared.types.TypeOwner.TheVariants as owner
-use Rattle.wit_meaning.specs.Broken.{is_world_at, IsBrokenUse, IsBroken, InterfaceIncluded, MissingName, FunctionUsed, Scope, Handle, Setter}
+use Rattle.wit_meaning.specs.Broken.{is_world_at, IsBrokenUse, IsBroken, ItemStability, IncludeStability, InterfaceIncluded, MissingName, FunctionUsed, Scope, Handle, Setter}
 use Rattle.wit_meaning.specs.Repeats.{AllDiffer}
 use Rattle.wit_meaning.specs.Whole.{Ordered, Turned, item_of}
 use Rattle.wit_meaning.specs.Resolving.{Names as Table, Cell, cell, cells, env_of, Required, IsIndex, IsFound, Unresolved, Unstated, OfFunction, WrongName, WrongItself, IsWrongScope, IsWorldIndex, IsNoWorld, IsLostInclude}
-use Rattle.wit_meaning.specs.Resolved.{worlds_at, AddsWorlds, AddsForeign, IsWrongHandleNow, WrongScope, WrongHandle, Unpaired, WrongWorldScope, WrongWorldHandle, LostInclude, IsWrongAmong, IsWrongWorldAmong}
+use Rattle.wit_meaning.specs.Resolved.{worlds_at, AddsWorlds, AddsForeign, IsBrokenItemStability, OwnStability, OfInclude, IsWrongHandleNow, WrongStability, WrongScope, WrongHandle, Unpaired, WrongWorldStability, WrongWorldScope, WrongWorldHandle, LostInclude, IsWrongAmong, IsWrongWorldAmong}
 use Rattle.wit_meaning.proofs.Lists.{at_back, at_seam, at_split, map_at}
 use Rattle.wit_meaning.proofs.Firsts.{firsts_has}
 use Rattle.wit_meaning.proofs.Scoping.{at_contains, contains_at}
@@ -44,6 +45,11 @@ use Rattle.wit_meaning.proofs.Leading.{kept_front, kept_early, paths_of_world, n
 use Rattle.wit_meaning.proofs.Front.{front_scopes, taken_listed}
 use Rattle.wit_meaning.proofs.Laid.{scope_at, ordered_at, entry_of_item}
 use Rattle.wit_meaning.proofs.Added.{InterfacesDone, WorldsDone, interfaces_done, worlds_done}
+
+-- what is wrong with the stability of an item is wrong with the files
+stability_broken : (files : List PackageFile) (w : Item) → Contains (all_items files) w → (f : Fault) → IsBrokenItemStability w f → IsBroken files f
+stability_broken files w here f (OwnStability h) = ItemStability w here h
+stability_broken files w here f (OfInclude n among h) = IncludeStability w here n among h
 
 -- a name that the table of a scope lacks means nothing in it
 pub unstated : (files : List PackageFile) (c : DoneScope) (name : List ℕ) → IsDoneScope files c → env_of c.types name ≡ None → meaning (scope files c.address) name ≡ None
@@ -120,7 +126,7 @@ module _ (files : List PackageFile) (places : List ℕ) (order : IsOrder (item_r
     taken_found : (from : Address) (n : UseName) (t : ℕ) (s : Address) (i : Interface) → IsForeignUse files from n → slice_get ss t ≡ Some s → slice_get front t ≡ Some i → from ≡ s → IsSome (env_of i.types n.name.name.now)
     taken_found from n t s i u at there same =
         let v = map_at visited (foreign_interfaces files) t s at in
-        let x = firsts_has same_taking taking_key taking-from taking-equal (takings files) u.index (taking from n) u.taken in
+        let x = firsts_has same_taking taking_key taking-from taking-equal (takings files) u.index (taking from u.attributes n) u.taken in
         let key : taking_key x.1 ≡ Def from n.name.name.now = x.3 in
         let scope : x.1.from ≡ from = cc in
         let called : x.1.id.name.now ≡ n.name.name.now = cc in
@@ -171,15 +177,15 @@ module _ (files : List PackageFile) (places : List ℕ) (order : IsOrder (item_r
           }
 
       -- a name that an interface of the package lacks is a missing one, or that of a function
-      missing_own : (w : Item) → Contains all w → (from : Address) (n : UseName) → Contains (scope_names w) (Used from n) → (j : ℕ) (target : Cell) → slice_get (map cell own) j ≡ Some target → target.address ≡ from → env_of target.types n.name.name.now ≡ None → (Contains target.functions n.name.name.now → ⊥) → (f : Fault) → f ≡ missing_at 12 name_word n.name → IsBroken files f
-      missing_own w here_w from n among j target at called none other f says =
+      missing_own : (w : Item) → Contains all w → (from : Address) (attributes : List Attribute) (n : UseName) → Contains (scope_names w) (Used from attributes n) → (j : ℕ) (target : Cell) → slice_get (map cell own) j ≡ Some target → target.address ≡ from → env_of target.types n.name.name.now ≡ None → (Contains target.functions n.name.name.now → ⊥) → (f : Fault) → f ≡ missing_at 12 name_word n.name → IsBroken files f
+      missing_own w here_w from attributes n among j target at called none other f says =
           let t = target_of from n.name.name.now j target at called none in
-          MissingName w here_w (record { from = from; n = n; among = among; target = t.item; declared = t.declared; missing = t.missing; other = λ h. other (t.free h); is = says })
+          MissingName w here_w (record { from = from; attributes = attributes; n = n; among = among; target = t.item; declared = t.declared; missing = t.missing; other = λ h. other (t.free h); is = says })
 
-      function_own : (w : Item) → Contains all w → (from : Address) (n : UseName) → Contains (scope_names w) (Used from n) → (j : ℕ) (target : Cell) → slice_get (map cell own) j ≡ Some target → target.address ≡ from → env_of target.types n.name.name.now ≡ None → Contains target.functions n.name.name.now → (f : Fault) → f ≡ fault 13 n.name.span → IsBroken files f
-      function_own w here_w from n among j target at called none function f says =
+      function_own : (w : Item) → Contains all w → (from : Address) (attributes : List Attribute) (n : UseName) → Contains (scope_names w) (Used from attributes n) → (j : ℕ) (target : Cell) → slice_get (map cell own) j ≡ Some target → target.address ≡ from → env_of target.types n.name.name.now ≡ None → Contains target.functions n.name.name.now → (f : Fault) → f ≡ fault 13 n.name.span → IsBroken files f
+      function_own w here_w from attributes n among j target at called none function f says =
           let t = target_of from n.name.name.now j target at called none in
-          FunctionUsed w here_w (record { from = from; n = n; among = among; target = t.item; declared = t.declared; missing = t.missing; function = t.stated function; is = says })
+          FunctionUsed w here_w (record { from = from; attributes = attributes; n = n; among = among; target = t.item; declared = t.declared; missing = t.missing; function = t.stated function; is = says })
 
       -- a name that is used was resolved in an interface of the package, or is taken from another one
       none_lacks : (from : Address) (n : UseName) (target : Cell) (found : IsFound (cells ss (front ++ own)) from target) → env_of target.types n.name.name.now ≡ None → IsResolvedUse vs from ⊎ IsForeignUse files from n → (j : ℕ) × (slice_get (map cell own) j ≡ Some target)
@@ -200,21 +206,21 @@ module _ (files : List PackageFile) (places : List ℕ) (order : IsOrder (item_r
 
       -- What is wrong with the scope of an item, by interfaces that were resolved, is wrong with the files where those of the package that
       -- it uses from are among them.
-      wrong_scope : (w : Item) → Contains all w → ((from : Address) (n : UseName) → Contains (scope_names w) (Used from n) → IsResolvedUse vs from ⊎ IsForeignUse files from n) → (f : Fault) → IsWrongScope (cells ss (front ++ own)) by_name (scope_names w) (functions w) f → IsBroken files f
+      wrong_scope : (w : Item) → Contains all w → ((from : Address) (attributes : List Attribute) (n : UseName) → Contains (scope_names w) (Used from attributes n) → IsResolvedUse vs from ⊎ IsForeignUse files from n) → (f : Fault) → IsWrongScope (cells ss (front ++ own)) by_name (scope_names w) (functions w) f → IsBroken files f
       wrong_scope w here_w earlier f (WrongItself b) = Scope w here_w b
-      wrong_scope w here_w earlier f (WrongName from n among (Unresolved path same free)) = elim (earlier from n among) [
+      wrong_scope w here_w earlier f (WrongName from attributes n among (Unresolved path same free)) = elim (earlier from attributes n among) [
         | inl u ↦ absurd (
             let wrong : IsSome {T = ℕ} None = subst (λ (x : Option ℕ). IsSome x) free.0 (resolved_found from path.name.now u same) in
             let g : ⊥ = cc in
             g)
         | inr u ↦ absurd (foreign_not_own from n path.name.now u same)
       ]
-      wrong_scope w here_w earlier f (WrongName from n among (Unstated target found none other says)) =
-          let j = none_lacks from n target found none (earlier from n among) in
-          missing_own w here_w from n among j.0 target j.1 found.called none other f says
-      wrong_scope w here_w earlier f (WrongName from n among (OfFunction target found none function says)) =
-          let j = none_lacks from n target found none (earlier from n among) in
-          function_own w here_w from n among j.0 target j.1 found.called none function f says
+      wrong_scope w here_w earlier f (WrongName from attributes n among (Unstated target found none other says)) =
+          let j = none_lacks from n target found none (earlier from attributes n among) in
+          missing_own w here_w from attributes n among j.0 target j.1 found.called none other f says
+      wrong_scope w here_w earlier f (WrongName from attributes n among (OfFunction target found none function says)) =
+          let j = none_lacks from n target found none (earlier from attributes n among) in
+          function_own w here_w from attributes n among j.0 target j.1 found.called none function f says
 
     -- no world stands where the include of a world leads, where the worlds before it were resolved
     module _ (k p : ℕ) (w : Item) (next : slice_get places k ≡ Some p) (at : slice_get all p ≡ Some w) (sort : is_world w ≡ true) (base : List Ordered) (first : List DoneScope) (mid : List TypeDef) (own : List World) (rs : List Required) (e : WorldsDone files interfaces worlds front base first (worlds_of (in_order all (take k places))) mid own rs) (by_name : Table) (index : IsWorldIndex (worlds_at others (wfront ++ own)) by_name) where
@@ -260,7 +266,7 @@ module _ (files : List PackageFile) (places : List ℕ) (order : IsOrder (item_r
         let fore = map visited (foreign_interfaces files) in
         let vs = interfaces_of (in_order all (take k places)) in
         let d = interfaces_done files interfaces worlds (interfaces_sort (in_order all places)) (worlds_sort (in_order all places)) are_interfaces are_worlds uses h.es h.front h.ws h.foreign h.mid h.before h.rs vs (λ j v at. kept_front (λ (i : Item). not (is_world i)) all places k j v at) h.added in
-        let earlier : (from : Address) (n : UseName) → Contains (scope_names w) (Used from n) → IsResolvedUse vs from ⊎ IsForeignUse files from n = λ from n among. elim (used_before files uses differ places order k p w from n h.sort h.next.next h.next.at among) [
+        let earlier : (from : Address) (attributes : List Attribute) (n : UseName) → Contains (scope_names w) (Used from attributes n) → IsResolvedUse vs from ⊎ IsForeignUse files from n = λ from attributes n among. elim (used_before files uses differ places order k p w from attributes n h.sort h.next.next h.next.at among) [
           | inl b ↦ (
               let it = kept_early (λ (i : Item). not (is_world i)) all places k b.index b.own.place b.own.item b.before b.at b.own.at (ap not b.own.sort) in
               inl (record { place = it.0; item = b.own.item; at = it.1; sort = b.own.sort; is = b.own.is }))
@@ -269,6 +275,7 @@ module _ (files : List PackageFile) (places : List ℕ) (order : IsOrder (item_r
         let here = contains_at all p w h.next.at in
         let next = next_kept (λ (i : Item). not (is_world i)) k p w h.next.next h.next.at (ap not h.sort) in
         elim h.wrong [
+          | WrongStability wrong ↦ stability_broken files w here f wrong
           | WrongScope wrong ↦ wrong_scope uses h.es h.front h.ws h.foreign vs h.mid d.0 h.rs d.2 h.by_name (subst (λ (l : List Interface). IsIndex (cells fore l) h.by_name) d.1 h.index) w here earlier f (subst (λ (l : List Interface). IsWrongScope (cells fore l) h.by_name (scope_names w) (functions w) f) d.1 wrong)
           | WrongHandle wrong ↦ Handle w here (interface_handle files interfaces worlds (interfaces_sort (in_order all places)) (worlds_sort (in_order all places)) are_interfaces are_worlds uses h.es h.front h.ws h.foreign vs h.mid d.0 h.rs w next d.2 f (subst (λ (l : List Interface). IsWrongHandleNow h.mid (cells fore l) (owner.Interface (length l)) w f) d.1 wrong))
           | Unpaired alone ↦ Setter w here (record { interface = h.sort; alone = alone })
@@ -289,13 +296,14 @@ module _ (files : List PackageFile) (places : List ℕ) (order : IsOrder (item_r
         let more = subst (λ (l : List Interface). AddsWorlds fore aft l h.middle h.mid h.worlds_front h.before h.worlds_rs vs) d.1 h.added in
         let e = worlds_done files interfaces worlds is_sort ws_sort are_interfaces are_worlds uses h.es h.front h.worlds_front h.foreign h.middle d.0 h.rs d.2 h.mid h.before h.worlds_rs vs (λ j v at. kept_front is_world all places k j v at) more in
         let here = contains_at all p w h.next.at in
-        let earlier : (from : Address) (n : UseName) → Contains (scope_names w) (Used from n) → IsResolvedUse interfaces from ⊎ IsForeignUse files from n = λ from n among. elim (used_interface files uses w from n here among) [
+        let earlier : (from : Address) (attributes : List Attribute) (n : UseName) → Contains (scope_names w) (Used from attributes n) → IsResolvedUse interfaces from ⊎ IsForeignUse files from n = λ from attributes n among. elim (used_interface files uses w from attributes n here among) [
           | inl b ↦ (
               let it = interface_at b.item b.sort (contains_at all b.place b.item b.at) in
               inl (record { place = it.0; item = b.item; at = it.1; sort = b.sort; is = b.is }))
           | inr b ↦ inr b
         ] in
         elim h.wrong [
+          | WrongWorldStability wrong ↦ stability_broken files w here f wrong
           | WrongWorldScope wrong ↦ wrong_scope uses h.es h.front h.worlds_front h.foreign interfaces h.middle d.0 h.rs d.2 h.by_name (subst (λ (l : List Interface). IsIndex (cells fore l) h.by_name) d.1 h.index) w here earlier f (subst (λ (l : List Interface). IsWrongScope (cells fore l) h.by_name (scope_names w) (functions w) f) d.1 wrong)
           | WrongWorldHandle wrong ↦ Handle w here (world_handle files interfaces worlds is_sort ws_sort are_interfaces are_worlds uses h.es h.front h.worlds_front h.foreign h.middle d.0 h.rs d.2 vs h.mid e.0 h.worlds_rs w (next_kept is_world k p w h.next.next h.next.at h.sort) e.2 f (subst (λ (l : List World). IsWrongHandleNow h.mid (cells fore (h.front ++ d.0)) (owner.World (length l)) w f) e.1 (subst (λ (l : List Interface). IsWrongHandleNow h.mid (cells fore l) (owner.World (length h.before)) w f) d.1 wrong)))
           | LostInclude lost ↦ lost_include uses h.es h.front h.worlds_front h.foreign k p w h.next.next h.next.at h.sort d.2.ordered d.2.scopes h.mid e.0 h.worlds_rs e.2 h.worlds_by_name (subst (λ (l : List World). IsWorldIndex (worlds_at aft l) h.worlds_by_name) e.1 h.worlds_index) f lost

@@ -25,26 +25,27 @@ use Rattle.wit_model.specs.declared.unresolved.UnresolvedPackage.{UnresolvedPack
 use Rattle.wit_meaning.specs.Form.{AliasForm, UnknownForm}
 use Rattle.wit_meaning.specs.Address.{Address, InterfaceNamed, ForeignNamed}
 use Rattle.wit_meaning.specs.Node.{OfScope, Head, Named, Tree}
+use Rattle.wit_meaning.specs.Notes.{no_docs}
 use Rattle.wit_meaning.specs.Source.{top_names, TheInterface, Item, takings, source_tree}
 use Rattle.wit_meaning.specs.Foreign.{foreign_items}
 use Rattle.wit_meaning.specs.Scope.{item_rows}
 use Rattle.wit_meaning.specs.Meet.{Def, Meeting}
-use Rattle.wit_meaning.specs.Shape.{Word, no_docs}
+use Rattle.wit_meaning.specs.Shape.{Word}
 use Rattle.wit_meaning.specs.Package.{owner_of, package_tree}
 use Rattle.wit_meaning.specs.Whole.{all_meetings, NamesOthers}
 use Rattle.wit_meaning.specs.Resolved.{foreign_type}
-use Rattle.wit_meaning.proofs.Examples.{at, id, vec, header}
+use Rattle.wit_meaning.proofs.Examples.{at, id, vec, no_comments, untold, header}
 
 -- package foo:foo; use a:b/c as d; interface i { use d.{t}; }
 module _ (ptr : Ptr) (alloc : Global) where
   abbrev other : Written
-  other = record { span = at 21 24; namespace = id ptr alloc (codes "a") (at 21 22) refl; name = id ptr alloc (codes "b") (at 23 24) refl; version = None }
+  other = record { docs = no_comments ptr alloc; span = at 21 24; namespace = id ptr alloc (codes "a") (at 21 22) refl; name = id ptr alloc (codes "b") (at 23 24) refl; version = None }
 
   abbrev c_id : Id
   c_id = id ptr alloc (codes "c") (at 25 26) refl
 
   abbrev alias : ToplevelUse
-  alias = record { span = at 17 20; item = path.Package other c_id; as_ = Some (id ptr alloc (codes "d") (at 30 31) refl) }
+  alias = record { attributes = untold ptr alloc; span = at 17 20; item = path.Package other c_id; as_ = Some (id ptr alloc (codes "d") (at 30 31) refl) }
 
   abbrev t_id : Id
   t_id = id ptr alloc (codes "t") (at 54 55) refl
@@ -53,7 +54,7 @@ module _ (ptr : Ptr) (alloc : Global) where
   used_t = record { name = t_id; as_ = None }
 
   abbrev i : WrittenInterface
-  i = record { name = id ptr alloc (codes "i") (at 43 44) refl; items = vec ptr alloc (UseItem (record { from = path.Id (id ptr alloc (codes "d") (at 51 52) refl); names = vec ptr alloc (used_t ∷ []) (lit< tt) }) ∷ []) (lit< tt) }
+  i = record { docs = no_comments ptr alloc; attributes = untold ptr alloc; name = id ptr alloc (codes "i") (at 43 44) refl; items = vec ptr alloc (UseItem (record { attributes = untold ptr alloc; from = path.Id (id ptr alloc (codes "d") (at 51 52) refl); names = vec ptr alloc (used_t ∷ []) (lit< tt) }) ∷ []) (lit< tt) }
 
   abbrev file : PackageFile
   file = record { package_id = Some (header ptr alloc); decl_list = record { items = vec ptr alloc (ToplevelItem alias ∷ InterfaceItem i ∷ []) (lit< tt) } }
@@ -72,10 +73,10 @@ module _ (ptr : Ptr) (alloc : Global) where
   c_of_ab = ForeignNamed ab (codes "c")
 
   -- t is taken from c of a:b, which the `use` at the top of the file visits first
-  taken : takings files ≡ (record { from = c_of_ab; id = t_id } ∷ [])
+  taken : takings files ≡ (record { from = c_of_ab; id = t_id; attributes = [] } ∷ [])
   taken = refl
 
-  visits : foreign_items files ≡ (record { of = other; id = c_id; wants_world = false } ∷ [])
+  visits : foreign_items files ≡ (record { attributes = []; of = other; id = c_id; wants_world = false } ∷ [])
   visits = refl
 
   -- its path makes no edge
@@ -84,7 +85,7 @@ module _ (ptr : Ptr) (alloc : Global) where
 
   -- c's t is met before i's
   abbrev t_met : Address → Meeting
-  t_met s = record { key = Def s (codes "t"); span = at 54 55 }
+  t_met s = record { key = Def s (codes "t"); span = at 54 55; given = Unknown }
 
   meetings_of_files : all_meetings files (record { item = item; order = 0 ∷ [] } ∷ []) ≡ (t_met c_of_ab ∷ t_met (InterfaceNamed (codes "i")) ∷ [])
   meetings_of_files = refl
@@ -101,6 +102,7 @@ module _ (ptr : Ptr) (alloc : Global) where
 
   abbrev whole : UnresolvedPackage
   whole = record {
+    docs = no_docs;
     name = record { namespace = codes "foo"; name = codes "foo"; version = None };
     worlds = [];
     interfaces = c_entry ∷ interface ∷ [];

@@ -125,6 +125,6 @@ mutual
 
 -- a used name has no unnamed type, and a taken one neither
 pub name_anonymous : (s : Address) (x : ScopeName) (form : Form) (parts : Exprs) → Has (all_met (name_exprs s x)) (Whole form parts) → IsAnonymousForm form
-name_anonymous s (Used from n) form parts h = absurd h
-name_anonymous s (Taken id) form parts h = absurd h
+name_anonymous s (Used from attributes n) form parts h = absurd h
+name_anonymous s (Taken attributes id) form parts h = absurd h
 name_anonymous s (Defined d) form parts h = all_anonymous s (body_of d.body).parts form parts (body_anonymous d.body) h

@@ -64,7 +64,7 @@ free_role ks s (Constructor of) k name called is = ap (λ x. freestanding_names 
 resource_called : (r : Id) (g : ResourceFunc) → IsCalled (resource_function r g).role (resource_function r g).name
 resource_called r (resource.Method f) = tt
 resource_called r (resource.Static f) = tt
-resource_called r (resource.Constructor span params result) = tt
+resource_called r (resource.Constructor docs attributes span params result) = tt
 
 definition_called : (r : Id) (b : TypeBody) (k : ℕ) (fn : SourceFunction) → slice_get (definition_functions r b) k ≡ Some fn → IsCalled fn.role fn.name
 definition_called r (body.Resource funcs) k fn at =

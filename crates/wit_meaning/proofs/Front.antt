@@ -22,7 +22,7 @@ use Rattle.wit_meaning.specs.Address.{Address, ForeignNamed, same_address}
 use Rattle.wit_meaning.specs.Source.{Declared, TheInterface, TheWorld, declared_address, Item, all_items, item_at, Taken, taken, local_name, Taking, takings, same_taking, first_takings, scope, taken_names}
 use Rattle.wit_meaning.specs.Foreign.{ForeignVisit, visited_package, visited, foreign_interfaces, foreign_worlds}
 use Rattle.wit_meaning.specs.Expr.{Exprs}
-use Rattle.wit_meaning.specs.Meet.{Key, Def, Whole, Meeting, keys, Decls, decl_of, IsEntry, IsNamedEntry, IsMeeting}
+use Rattle.wit_meaning.specs.Meet.{Key, Def, Whole, Meeting, keys, Decls, decl_of, IsEntry, IsNamedEntry, IsSettled, IsMeeting}
 use Rattle.wit_meaning.specs.Repeats.{AllDiffer}
 use Rattle.wit_meaning.specs.Broken.{IsBrokenUse}
 use Rattle.wit_meaning.specs.Whole.{owner_at, taking_meeting, functions_at, turn_handles, AreRequired}
@@ -168,6 +168,10 @@ no_whole_taken : (ts : List Taking) (form : Form) (parts : Exprs) → Has (keys 
 no_whole_taken [] form parts h = h
 no_whole_taken (t ∷ ts) form parts h = elim h [ inl here ↦ (let f : ⊥ = cc in f) | inr rest ↦ no_whole_taken ts form parts rest ]
 
+-- what is taken is named, so nothing has to be settled of it
+taken_settled : (ts : List Taking) (es : List TypeDef) (i : ℕ) (m : Meeting) (e : TypeDef) → slice_get (map taking_meeting ts) i ≡ Some m → slice_get es i ≡ Some e → IsSettled (take i es) m.given m.key e
+taken_settled ts es i m e at there = let t = map_at taking_meeting ts i m at in subst (λ (x : Meeting). IsSettled (take i es) x.given x.key e) t.2 tt
+
 -- What is taken is met once, and its entries are those of the scopes that it is taken from; `decls` declares each of these scopes by the
 -- owner that the front alone gives it.
 module _ (files : List PackageFile) (uses : (i : Item) → Contains (all_items files) i → (f : Fault) → IsBrokenUse files i f → ⊥) (es : List TypeDef) (front : List Interface) (ws : List World) (adds : AddsForeign files es front ws) where
@@ -260,7 +264,7 @@ module _ (files : List PackageFile) (uses : (i : Item) → Contains (all_items f
         let declared : decls s ≡ decls_of o s (scope files s) = subst (λ z. decls z ≡ decls_of o z (scope files z)) v.3 (interfaces_own v.0 v.1 v.2) in
         let whose : front_owner s ≡ o = ap front_owner (sym v.3) ∙ interface_owner_at (map visited visits) (map visited (foreign_worlds files)) (visited_addresses files) v.0 (visited v.1) (slice_get-map visited visits v.0 ∙ ap (option_map visited) v.2) in
         record {
-          decl = decl_of o s (Taken t.id);
+          decl = decl_of o s (Taken t.attributes t.id);
           among = (k.0, ap (λ l. slice_get l k.0) declared ∙ slice_get-map (decl_of o s) (scope files s) k.0 ∙ ap (option_map (decl_of o s)) (ap (λ l. slice_get l k.0) names ∙ k.1));
           same = refl;
           name = refl;
@@ -268,7 +272,7 @@ module _ (files : List PackageFile) (uses : (i : Item) → Contains (all_items f
           owner = whose;
           form = refl;
           parts = tt;
-          bare = record { docs = refl; stability = refl; external_id = refl };
+          notes = record { docs = refl; stability = refl; external_id = refl };
         }
 
     taken_meeting : IsMeeting decls met es
@@ -284,6 +288,7 @@ module _ (files : List PackageFile) (uses : (i : Item) → Contains (all_items f
             subst (λ x. IsEntry decls (take j (keys met)) x e) t.2 (subst (λ x. IsNamedEntry decls (take j (keys met)) t.0.from t.0.id.name.now x) (ap (foreign_type files) one ∙ u.2) (taken_entry (take j (keys met)) j t.0 t.1)));
       };
       spans = ap (map (λ (e : TypeDef). e.span)) adds.types ∙ map_map (λ (e : TypeDef). e.span) (foreign_type files) ts ∙ sym (map_map (λ (m : Meeting). m.span) taking_meeting ts);
+      settled = taken_settled ts es;
     }
 
     -- a name that was met is one of its scope
@@ -303,7 +308,7 @@ module _ (files : List PackageFile) (uses : (i : Item) → Contains (all_items f
           at = at_front (interface_scopes files 0 visits front) (world_scopes 0 (foreign_worlds files)) v.0 (interface_scope files v.0 v.1 x.0) (interface_scope_at files visits front v.0 v.1 x.0 v.2 x.1);
           scope = v.3 ∙ from;
           index = k.0;
-          x = Taken t.0.id;
+          x = Taken t.0.attributes t.0.id;
           among = k.1;
           called = called;
         }

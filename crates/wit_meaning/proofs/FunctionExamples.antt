@@ -36,17 +36,18 @@ use Rattle.wit_model.specs.declared.unresolved.UnresolvedPackage.{UnresolvedPack
 use Rattle.wit_meaning.specs.Form.{BorrowForm, FutureForm, FixedLengthListForm, MapForm, StreamForm, OptionForm}
 use Rattle.wit_meaning.specs.Node as node
 use Rattle.wit_meaning.specs.Address.{Address, InterfaceNamed}
+use Rattle.wit_meaning.specs.Notes.{no_docs}
 use Rattle.wit_meaning.specs.Source.{top_names, TheInterface, Item, scope_names, source_tree}
 use Rattle.wit_meaning.specs.Scope.{rows_of}
 use Rattle.wit_meaning.specs.Expr.{Expr, Prim, Use, Of, End, More, one}
 use Rattle.wit_meaning.specs.Meet.{Key, Def, Whole, Meeting}
-use Rattle.wit_meaning.specs.Shape.{Word, no_docs, all_handles}
+use Rattle.wit_meaning.specs.Shape.{Word, all_handles}
 use Rattle.wit_meaning.specs.Shape as shape
 use Rattle.wit_meaning.specs.Function.{Freestanding, Method, Static, Constructor, SourceParam, SourceFunction, constructor_of, resource_function, free_function, functions, free_names, item_types, signature}
 use Rattle.wit_meaning.specs.Functions.{IsParam, AreParams, IsFunction, AreFunctions, placed_functions}
 use Rattle.wit_meaning.specs.Package.{package_tree, functions_of, function_types}
 use Rattle.wit_meaning.specs.Whole.{turned, meetings}
-use Rattle.wit_meaning.proofs.Examples.{at, id, vec, header}
+use Rattle.wit_meaning.proofs.Examples.{at, id, vec, no_comments, untold, header}
 
 -- what holds of two lists, place by place
 abbrev pub Pairs : {X Y : Type 0} → (X → Y → Type 0) → List X → List Y → Type 0
@@ -81,13 +82,13 @@ module _ (ptr : Ptr) (alloc : Global) where
   x_borrow = record { name = id ptr alloc (codes "x") (at 79 80) refl; ty = written.Borrow (at 82 88) (named_r (at 89 90)) }
 
   abbrev method_m : NamedFunc
-  method_m = record { name = id ptr alloc (codes "m") (at 65 66) refl; func = record { span = at 74 78; form = form.Async; params = vec ptr alloc (x_borrow ∷ []) (lit< tt); result = Some (written.Future' (at 96 102) (Some' box (written.U8 (at 103 105)))) } }
+  method_m = record { docs = no_comments ptr alloc; attributes = untold ptr alloc; name = id ptr alloc (codes "m") (at 65 66) refl; func = record { span = at 74 78; form = form.Async; params = vec ptr alloc (x_borrow ∷ []) (lit< tt); result = Some (written.Future' (at 96 102) (Some' box (written.U8 (at 103 105)))) } }
 
   abbrev static_s : NamedFunc
-  static_s = record { name = id ptr alloc (codes "s") (at 108 109) refl; func = record { span = at 118 122; form = form.Plain; params = vec ptr alloc [] (lit< tt); result = Some (written.Name (named_r (at 128 129))) } }
+  static_s = record { docs = no_comments ptr alloc; attributes = untold ptr alloc; name = id ptr alloc (codes "s") (at 108 109) refl; func = record { span = at 118 122; form = form.Plain; params = vec ptr alloc [] (lit< tt); result = Some (written.Name (named_r (at 128 129))) } }
 
   abbrev r : Definition
-  r = record { name = named_r (at 40 41); body = Resource (vec ptr alloc (resource.Constructor (at 44 55) (vec ptr alloc (n_u32 ∷ []) (lit< tt)) None ∷ resource.Method method_m ∷ resource.Static static_s ∷ []) (lit< tt)) }
+  r = record { docs = no_comments ptr alloc; attributes = untold ptr alloc; name = named_r (at 40 41); body = Resource (vec ptr alloc (resource.Constructor (no_comments ptr alloc) (untold ptr alloc) (at 44 55) (vec ptr alloc (n_u32 ∷ []) (lit< tt)) None ∷ resource.Method method_m ∷ resource.Static static_s ∷ []) (lit< tt)) }
 
   abbrev map_type : Written
   map_type = written.Map' (at 144 147) box (written.String (at 148 154)) box (written.FixedLengthList' (at 156 160) box (written.U8 (at 161 163)) 4)
@@ -96,10 +97,10 @@ module _ (ptr : Ptr) (alloc : Global) where
   a_map = record { name = id ptr alloc (codes "a") (at 141 142) refl; ty = map_type }
 
   abbrev f : NamedFunc
-  f = record { name = id ptr alloc (codes "f") (at 133 134) refl; func = record { span = at 136 140; form = form.Plain; params = vec ptr alloc (a_map ∷ []) (lit< tt); result = Some (written.Option' (at 173 179) box (written.Stream' (at 180 186) None')) } }
+  f = record { docs = no_comments ptr alloc; attributes = untold ptr alloc; name = id ptr alloc (codes "f") (at 133 134) refl; func = record { span = at 136 140; form = form.Plain; params = vec ptr alloc (a_map ∷ []) (lit< tt); result = Some (written.Option' (at 173 179) box (written.Stream' (at 180 186) None')) } }
 
   abbrev i : WrittenInterface
-  i = record { name = id ptr alloc (codes "i") (at 27 28) refl; items = vec ptr alloc (TypeItem r ∷ FuncItem f ∷ []) (lit< tt) }
+  i = record { docs = no_comments ptr alloc; attributes = untold ptr alloc; name = id ptr alloc (codes "i") (at 27 28) refl; items = vec ptr alloc (TypeItem r ∷ FuncItem f ∷ []) (lit< tt) }
 
   abbrev file : PackageFile
   file = record { package_id = Some (header ptr alloc); decl_list = record { items = vec ptr alloc (InterfaceItem i ∷ []) (lit< tt) } }
@@ -151,10 +152,10 @@ module _ (ptr : Ptr) (alloc : Global) where
 
   -- what is met: the resource, and then each signature with its parts in front
   abbrev whole_met : Span → node.Primitive → Meeting
-  whole_met span p = record { key = Whole (FutureForm true) (one (Prim p)); span = span }
+  whole_met span p = record { key = Whole (FutureForm true) (one (Prim p)); span = span; given = Unknown }
 
   abbrev borrow_met : Span → Meeting
-  borrow_met span = record { key = Whole BorrowForm (one (Use in_i (codes "r"))); span = span }
+  borrow_met span = record { key = Whole BorrowForm (one (Use in_i (codes "r"))); span = span; given = Unknown }
 
   abbrev fixed : Expr
   fixed = Of (FixedLengthListForm 4) (one (Prim node.U8))
@@ -164,12 +165,12 @@ module _ (ptr : Ptr) (alloc : Global) where
 
   abbrev behind_names : List Meeting
   behind_names = borrow_met (at 74 78) ∷ borrow_met (at 82 88) ∷ whole_met (at 96 102) node.U8
-      ∷ record { key = Whole (FixedLengthListForm 4) (one (Prim node.U8)); span = at 156 160 }
-      ∷ record { key = Whole MapForm (More (Prim node.String) (one fixed)); span = at 144 147 }
-      ∷ record { key = Whole (StreamForm false) End; span = at 180 186 }
-      ∷ record { key = Whole OptionForm (one stream); span = at 173 179 } ∷ []
+      ∷ record { key = Whole (FixedLengthListForm 4) (one (Prim node.U8)); span = at 156 160; given = Unknown }
+      ∷ record { key = Whole MapForm (More (Prim node.String) (one fixed)); span = at 144 147; given = Unknown }
+      ∷ record { key = Whole (StreamForm false) End; span = at 180 186; given = Unknown }
+      ∷ record { key = Whole OptionForm (one stream); span = at 173 179; given = Unknown } ∷ []
 
-  met : meetings (map turned (record { item = item; order = 0 ∷ [] } ∷ [])) ≡ (record { key = Def in_i (codes "r"); span = at 40 41 } ∷ behind_names)
+  met : meetings (map turned (record { item = item; order = 0 ∷ [] } ∷ [])) ≡ (record { key = Def in_i (codes "r"); span = at 40 41; given = Unknown } ∷ behind_names)
   met = refl
 
   -- the arena: each once
@@ -216,24 +217,24 @@ module _ (ptr : Ptr) (alloc : Global) where
   interface = record { name = Some (codes "i"); types = (codes "r", 0) ∷ []; functions = placed_functions made; docs = no_docs; stability = Unknown; «package» = None; span = at 27 28; clone_of = None }
 
   abbrev whole : UnresolvedPackage
-  whole = record { name = record { namespace = codes "foo"; name = codes "foo"; version = None }; worlds = []; interfaces = interface ∷ []; types = types; foreign_deps = []; name_span = at 8 15; unknown_type_spans = []; foreign_dep_spans = []; required_resource_types = [] }
+  whole = record { docs = no_docs; name = record { namespace = codes "foo"; name = codes "foo"; version = None }; worlds = []; interfaces = interface ∷ []; types = types; foreign_deps = []; name_span = at 8 15; unknown_type_spans = []; foreign_dep_spans = []; required_resource_types = [] }
 
   -- no setter is among them, so each keeps its place
   placed : map (λ (g : List ℕ × Function). g.0) (functions_of whole (owner.Interface 0)) ≡ (codes "[constructor]r" ∷ codes "[method]r.m" ∷ codes "[static]r.s" ∷ codes "f" ∷ [])
   placed = refl
 
   -- each is the written one
-  is_constructor : IsFunction ks in_i (constructor_of r.name (at 44 55) (n_u32 ∷ []) None) made_constructor
-  is_constructor = record { name = refl; kind = (0, refl, refl); params = params_are ks in_i _ _ refl (record { name = refl; span = refl; type = refl }, tt); result = (0, refl, refl); span = refl; docs = refl; stability = refl; external_id = refl }
+  is_constructor : IsFunction ks in_i (constructor_of r.name (no_comments ptr alloc) [] (at 44 55) (n_u32 ∷ []) None) made_constructor
+  is_constructor = record { name = refl; kind = (0, refl, refl); params = params_are ks in_i _ _ refl (record { name = refl; span = refl; type = refl }, tt); result = (0, refl, refl); span = refl; notes = record { docs = refl; stability = refl; external_id = refl } }
 
   is_method : IsFunction ks in_i (resource_function r.name (resource.Method method_m)) made_method
-  is_method = record { name = refl; kind = (0, refl, refl); params = params_are ks in_i _ _ refl (record { name = refl; span = refl; type = (1, refl, refl) }, (record { name = refl; span = refl; type = (1, refl, refl) }, tt)); result = (2, refl, refl); span = refl; docs = refl; stability = refl; external_id = refl }
+  is_method = record { name = refl; kind = (0, refl, refl); params = params_are ks in_i _ _ refl (record { name = refl; span = refl; type = (1, refl, refl) }, (record { name = refl; span = refl; type = (1, refl, refl) }, tt)); result = (2, refl, refl); span = refl; notes = record { docs = refl; stability = refl; external_id = refl } }
 
   is_static : IsFunction ks in_i (resource_function r.name (resource.Static static_s)) made_static
-  is_static = record { name = refl; kind = (0, refl, refl); params = params_are ks in_i _ _ refl tt; result = (0, refl, refl); span = refl; docs = refl; stability = refl; external_id = refl }
+  is_static = record { name = refl; kind = (0, refl, refl); params = params_are ks in_i _ _ refl tt; result = (0, refl, refl); span = refl; notes = record { docs = refl; stability = refl; external_id = refl } }
 
   is_f : IsFunction ks in_i (free_function f) made_f
-  is_f = record { name = refl; kind = refl; params = params_are ks in_i _ _ refl (record { name = refl; span = refl; type = (4, refl, refl) }, tt); result = (6, refl, refl); span = refl; docs = refl; stability = refl; external_id = refl }
+  is_f = record { name = refl; kind = refl; params = params_are ks in_i _ _ refl (record { name = refl; span = refl; type = (4, refl, refl) }, tt); result = (6, refl, refl); span = refl; notes = record { docs = refl; stability = refl; external_id = refl } }
 
   are_functions : AreFunctions ks in_i (functions item) made
   are_functions = record { count = refl; each = pairs (IsFunction ks in_i) (functions item) made (is_constructor, (is_method, (is_static, (is_f, tt)))) }

@@ -30,15 +30,16 @@ use Rattle.wit_types.specs.declared.types.TypeDefKind.TheVariants as kind
 use Rattle.wit_types.specs.declared.types.TypeOwner.TheVariants as owner
 use Rattle.wit_meaning.specs.Form.{BorrowForm}
 use Rattle.wit_meaning.specs.Address.{Address, InterfaceNamed, ForeignNamed}
+use Rattle.wit_meaning.specs.Notes.{no_docs}
 use Rattle.wit_meaning.specs.Source.{top_names, TheInterface, Item}
 use Rattle.wit_meaning.specs.Expr.{Use, More, expr_of, one}
 use Rattle.wit_meaning.specs.Meet.{Key, Def, Whole, Meeting, IsMet, Meets, IsAt}
 use Rattle.wit_meaning.specs.Fault.{fault}
-use Rattle.wit_meaning.specs.Shape.{no_docs, shape_of}
+use Rattle.wit_meaning.specs.Shape.{shape_of}
 use Rattle.wit_meaning.specs.Ends.{AtResource, AtForeign, Elsewhere, EndsAt, IsResource, IsUnknown, IsOther, entry_end}
 use Rattle.wit_meaning.specs.Broken.{IsBroken, Handle}
 use Rattle.wit_meaning.specs.Whole.{Ordered, turned, turn_handles, all_meetings, AreRequired}
-use Rattle.wit_meaning.proofs.Examples.{at, id, vec, header}
+use Rattle.wit_meaning.proofs.Examples.{at, id, vec, no_comments, untold, header}
 
 none_is_met : {k : Key} → IsMet [] k → ⊥
 none_is_met (k, is) = let f : ⊥ = cc in f
@@ -54,10 +55,10 @@ abbrev in_i : Address
 in_i = InterfaceNamed (codes "i")
 
 abbrev name_met : Address → List ℕ → Span → Meeting
-name_met s name span = record { key = Def s name; span = span }
+name_met s name span = record { key = Def s name; span = span; given = Unknown }
 
 abbrev borrow_met : List ℕ → Span → Meeting
-borrow_met name span = record { key = Whole BorrowForm (one (Use in_i name)); span = span }
+borrow_met name span = record { key = Whole BorrowForm (one (Use in_i name)); span = span; given = Unknown }
 
 abbrev named : List ℕ → TypeDefKind → ℕ → Span → TypeDef
 named name kind place span = record { name = Some name; kind = kind; owner = owner.Interface place; docs = no_docs; stability = Unknown; span = span; external_id = None }
@@ -68,7 +69,7 @@ borrowed place span = record { name = None; kind = kind.Handle (Borrow place); o
 module _ (ptr : Ptr) (alloc : Global) where
   -- package foo:foo; interface i { .. }
   abbrev i_of : (parts : List Part) → length parts < 2 ^ 63 → Interface
-  i_of parts small = record { name = id ptr alloc (codes "i") (at 27 28) refl; items = vec ptr alloc parts small }
+  i_of parts small = record { docs = no_comments ptr alloc; attributes = untold ptr alloc; name = id ptr alloc (codes "i") (at 27 28) refl; items = vec ptr alloc parts small }
 
   abbrev file_of : Interface → PackageFile
   file_of i = record { package_id = Some (header ptr alloc); decl_list = record { items = vec ptr alloc (InterfaceItem i ∷ []) (lit< tt) } }
@@ -92,6 +93,8 @@ module _ (ptr : Ptr) (alloc : Global) where
   module _ where
     abbrev f : NamedFunc
     f = record {
+      docs = no_comments ptr alloc;
+      attributes = untold ptr alloc;
       name = id ptr alloc (codes "f") (at 55 56) refl;
       func = record {
         span = at 58 62;
@@ -105,10 +108,10 @@ module _ (ptr : Ptr) (alloc : Global) where
     }
 
     abbrev r : Definition
-    r = record { name = r_id (at 40 41); body = Resource (vec ptr alloc [] (lit< tt)) }
+    r = record { docs = no_comments ptr alloc; attributes = untold ptr alloc; name = r_id (at 40 41); body = Resource (vec ptr alloc [] (lit< tt)) }
 
     abbrev a : Definition
-    a = record { name = a_id (at 48 49); body = Plain (written.Name (r_id (at 52 53))) }
+    a = record { docs = no_comments ptr alloc; attributes = untold ptr alloc; name = a_id (at 48 49); body = Plain (written.Name (r_id (at 52 53))) }
 
     abbrev i : Interface
     i = i_of (TypeItem r ∷ TypeItem a ∷ FuncItem f ∷ []) (lit< tt)
@@ -177,10 +180,12 @@ module _ (ptr : Ptr) (alloc : Global) where
     used_r = record { name = r_id (at 42 43); as_ = None }
 
     abbrev path_c : UsePath
-    path_c = path.Package (record { span = at 35 38; namespace = a_id (at 35 36); name = id ptr alloc (codes "b") (at 37 38) refl; version = None }) (id ptr alloc (codes "c") (at 39 40) refl)
+    path_c = path.Package (record { docs = no_comments ptr alloc; span = at 35 38; namespace = a_id (at 35 36); name = id ptr alloc (codes "b") (at 37 38) refl; version = None }) (id ptr alloc (codes "c") (at 39 40) refl)
 
     abbrev user : Interface
-    user = i_of (UseItem (record { from = path_c; names = vec ptr alloc (used_r ∷ []) (lit< tt) }) ∷ FuncItem (record {
+    user = i_of (UseItem (record { attributes = untold ptr alloc; from = path_c; names = vec ptr alloc (used_r ∷ []) (lit< tt) }) ∷ FuncItem (record {
+      docs = no_comments ptr alloc;
+      attributes = untold ptr alloc;
       name = id ptr alloc (codes "f") (at 46 47) refl;
       func = record { span = at 49 53; form = form.Plain; params = vec ptr alloc (x_of (at 54 55) (written.Borrow (at 57 63) (r_id (at 64 65))) ∷ []) (lit< tt); result = None };
     }) ∷ []) (lit< tt)
@@ -218,7 +223,9 @@ module _ (ptr : Ptr) (alloc : Global) where
   -- type t = u8; f: func(x: borrow<t>);
   module _ where
     abbrev lender : Interface
-    lender = i_of (TypeItem (record { name = t_id (at 36 37); body = Plain (written.U8 (at 40 42)) }) ∷ FuncItem (record {
+    lender = i_of (TypeItem (record { docs = no_comments ptr alloc; attributes = untold ptr alloc; name = t_id (at 36 37); body = Plain (written.U8 (at 40 42)) }) ∷ FuncItem (record {
+      docs = no_comments ptr alloc;
+      attributes = untold ptr alloc;
       name = id ptr alloc (codes "f") (at 44 45) refl;
       func = record { span = at 47 51; form = form.Plain; params = vec ptr alloc (x_of (at 52 53) (written.Borrow (at 55 61) (t_id (at 62 63))) ∷ []) (lit< tt); result = None };
     }) ∷ []) (lit< tt)

@@ -5,6 +5,7 @@ use Rattle.std.specs.Str.{bytes_eq}
 use Rattle.std.proofs.lemmas.Bool.{cases_Bool}
 use Rattle.std.proofs.lemmas.List.{length-map}
 use Rattle.std.proofs.lemmas.Option.{slice_get_within, slice_get-map}
+use Rattle.wit_tree.specs.declared.tree.Attribute.{Attribute}
 use Rattle.wit_tree.specs.declared.tree.UseName.{UseName}
 use Rattle.wit_tree.specs.declared.tree.Use.{Use}
 use Rattle.wit_tree.specs.declared.tree.PackageFile.{PackageFile}
@@ -50,17 +51,17 @@ pub item_row_at : (files : List PackageFile) (p : ℕ) (w : Item) → slice_get 
 item_row_at files p w at = slice_get-map item_row (all_items files) p ∙ ap (option_map item_row) at
 
 -- a used name is that of a `use` among the parts, and comes from where its path leads to
-pub used_part : (top : List TopName) (ps : List Part) (k : ℕ) (from : Address) (n : UseName) → slice_get (flat_map (part_names top) ps) k ≡ Some (Used from n) → (m : ℕ) × (u : Use) × (slice_get ps m ≡ Some (Using u)) × ((j : ℕ) × (slice_get u.names.items j ≡ Some n)) × (from ≡ path_scope top u.from)
-used_part top ps k from n at =
-    let it = flat_map_at (part_names top) ps k (Used from n) at in
+pub used_part : (top : List TopName) (ps : List Part) (k : ℕ) (from : Address) (attributes : List Attribute) (n : UseName) → slice_get (flat_map (part_names top) ps) k ≡ Some (Used from attributes n) → (m : ℕ) × (u : Use) × (slice_get ps m ≡ Some (Using u)) × ((j : ℕ) × (slice_get u.names.items j ≡ Some n)) × (from ≡ path_scope top u.from)
+used_part top ps k from attributes n at =
+    let it = flat_map_at (part_names top) ps k (Used from attributes n) at in
     of_part it.0 it.1 it.2 it.3.0 it.3.1
   where
-    of_part : (m : ℕ) (part : Part) → slice_get ps m ≡ Some part → (j : ℕ) → slice_get (part_names top part) j ≡ Some (Used from n) → (m : ℕ) × (u : Use) × (slice_get ps m ≡ Some (Using u)) × ((j : ℕ) × (slice_get u.names.items j ≡ Some n)) × (from ≡ path_scope top u.from)
+    of_part : (m : ℕ) (part : Part) → slice_get ps m ≡ Some part → (j : ℕ) → slice_get (part_names top part) j ≡ Some (Used from attributes n) → (m : ℕ) × (u : Use) × (slice_get ps m ≡ Some (Using u)) × ((j : ℕ) × (slice_get u.names.items j ≡ Some n)) × (from ≡ path_scope top u.from)
     of_part m (Defining d) there zero is = absurd (let f : ⊥ = cc in f)
     of_part m (Defining d) there (suc j) is = absurd (let f : ⊥ = cc in f)
     of_part m (Using u) there j is =
-        let x = map_at (Used (path_scope top u.from)) u.names.items j (Used from n) is in
-        let same : Used (path_scope top u.from) x.0 ≡ Used from n = x.2 in
+        let x = map_at (Used (path_scope top u.from) u.attributes.items) u.names.items j (Used from attributes n) is in
+        let same : Used (path_scope top u.from) u.attributes.items x.0 ≡ Used from attributes n = x.2 in
         let scope : from ≡ path_scope top u.from = cc in
         let name : x.0 ≡ n = cc in
         (m, u, there, (j, x.1 ∙ ap Some name), scope)
@@ -69,16 +70,16 @@ used_part top ps k from n at =
 
 -- no name of an item is taken from another package
 pub own_names : (w : Item) → AreOwn (scope_names w)
-own_names w k id at =
-    let it = flat_map_at (part_names w.top) (parts w) k (Taken id) at in
+own_names w k attributes id at =
+    let it = flat_map_at (part_names w.top) (parts w) k (Taken attributes id) at in
     of_part it.1 it.3.0 it.3.1
   where
-    of_part : (part : Part) (j : ℕ) → slice_get (part_names w.top part) j ≡ Some (Taken id) → ⊥
+    of_part : (part : Part) (j : ℕ) → slice_get (part_names w.top part) j ≡ Some (Taken attributes id) → ⊥
     of_part (Defining d) zero is = let f : ⊥ = cc in f
     of_part (Defining d) (suc j) is = let f : ⊥ = cc in f
     of_part (Using u) j is =
-        let x = map_at (Used (path_scope w.top u.from)) u.names.items j (Taken id) is in
-        let same : Used (path_scope w.top u.from) x.0 ≡ Taken id = x.2 in
+        let x = map_at (Used (path_scope w.top u.from) u.attributes.items) u.names.items j (Taken attributes id) is in
+        let same : Used (path_scope w.top u.from) u.attributes.items x.0 ≡ Taken attributes id = x.2 in
         let f : ⊥ = cc in
         f
     of_part (Including i) j is = let f : ⊥ = cc in f

@@ -12,6 +12,7 @@ use Rattle.wit_tree.specs.declared.tree.Id.{Id}
 use Rattle.wit_tree.specs.declared.tree.Include.{Include}
 use Rattle.wit_tree.specs.declared.tree.UsePath.{UsePath}
 use Rattle.wit_tree.specs.declared.tree.Use.{Use}
+use Rattle.wit_tree.specs.declared.tree.Attribute.{Attribute}
 use Rattle.wit_tree.specs.declared.tree.UseName.{UseName}
 use Rattle.wit_tree.specs.declared.tree.InterfaceItem.{InterfaceItem}
 use Rattle.wit_tree.specs.declared.tree.InterfaceItem.TheVariants as interface_item
@@ -170,8 +171,9 @@ module _ (files : List PackageFile) where
     pub v : ForeignVisit
     pub at : slice_get (foreign_interfaces files) place ≡ Some v
     pub is : visited v ≡ from
+    pub attributes : List Attribute
     pub index : ℕ
-    pub taken : slice_get (takings files) index ≡ Some (taking from n)
+    pub taken : slice_get (takings files) index ≡ Some (taking from attributes n)
 
   module _ (uses : (i : Item) → Contains all i → (f : Fault) → IsBrokenUse files i f → ⊥) where
     -- where no use is broken, none leads to a world
@@ -187,14 +189,14 @@ module _ (files : List PackageFile) where
         let v = used_interface_visit files uses q w m u p id at part lead in
         let from : path_scope w.top u.from ≡ ForeignNamed p id.name.now = ap used_scope lead in
         let t = taking_has files q w m u j n at part name (ap is_foreign from) in
-        record { place = v.0; v = v.1; at = v.2; is = v.3 ∙ sym from; index = t.0; taken = t.1 }
+        record { place = v.0; v = v.1; at = v.2; is = v.3 ∙ sym from; attributes = u.attributes.items; index = t.0; taken = t.1 }
 
     -- a used name comes from an interface of the package, or is taken from one of another
-    pub used_interface : (w : Item) (from : Address) (n : UseName) → Contains all w → Contains (scope_names w) (Used from n) → IsOwnUse from ⊎ IsForeignUse from n
-    used_interface w from n here among =
+    pub used_interface : (w : Item) (from : Address) (attributes : List Attribute) (n : UseName) → Contains all w → Contains (scope_names w) (Used from attributes n) → IsOwnUse from ⊎ IsForeignUse from n
+    used_interface w from attributes n here among =
         let q = at_contains all w here in
-        let k = at_contains (scope_names w) (Used from n) among in
-        let it = used_part w.top (parts w) k.0 from n k.1 in
+        let k = at_contains (scope_names w) (Used from attributes n) among in
+        let it = used_part w.top (parts w) k.0 from attributes n k.1 in
         by_target q.0 it.0 it.1 it.3.0 q.1 it.2 it.3.1 it.4 (leads w.top it.1.from) refl
       where
         by_target : (q m : ℕ) (u : Use) (j : ℕ) → slice_get all q ≡ Some w → slice_get (parts w) m ≡ Some (Using u) → slice_get u.names.items j ≡ Some n → from ≡ path_scope w.top u.from → (t : Target) → leads w.top u.from ≡ t → IsOwnUse from ⊎ IsForeignUse from n
@@ -207,10 +209,10 @@ module _ (files : List PackageFile) where
         by_target q m u j at part name is (Foreign p id) lead = inr (subst (λ (s : Address). IsForeignUse s n) (sym is) (foreign_use q w m u j n p id at part name lead))
 
     -- what an interface of the package uses from stands before it in the order, or is of another package
-    pub used_before : AllDiffer (map item_name all) → (places : List ℕ) → IsOrder (item_rows files) places → (k p : ℕ) (w : Item) (from : Address) (n : UseName) → is_world w ≡ false → slice_get places k ≡ Some p → slice_get all p ≡ Some w → Contains (scope_names w) (Used from n) → IsUseBefore places k from ⊎ IsForeignUse from n
-    used_before differ places order k p w from n sort next at among =
-        let i = at_contains (scope_names w) (Used from n) among in
-        let it = used_part w.top (parts w) i.0 from n i.1 in
+    pub used_before : AllDiffer (map item_name all) → (places : List ℕ) → IsOrder (item_rows files) places → (k p : ℕ) (w : Item) (from : Address) (attributes : List Attribute) (n : UseName) → is_world w ≡ false → slice_get places k ≡ Some p → slice_get all p ≡ Some w → Contains (scope_names w) (Used from attributes n) → IsUseBefore places k from ⊎ IsForeignUse from n
+    used_before differ places order k p w from attributes n sort next at among =
+        let i = at_contains (scope_names w) (Used from attributes n) among in
+        let it = used_part w.top (parts w) i.0 from attributes n i.1 in
         by_target it.0 it.1 it.3.0 it.2 it.3.1 it.4 (leads w.top it.1.from) refl
       where
         by_target : (m : ℕ) (u : Use) (j : ℕ) → slice_get (parts w) m ≡ Some (Using u) → slice_get u.names.items j ≡ Some n → from ≡ path_scope w.top u.from → (t : Target) → leads w.top u.from ≡ t → IsUseBefore places k from ⊎ IsForeignUse from n

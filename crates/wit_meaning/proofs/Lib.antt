@@ -67,3 +67,4 @@ pub mod FunctionExamples
 pub mod HandleExamples
 pub mod SignatureExamples
 pub mod RuleExamples
+pub mod NotesExamples

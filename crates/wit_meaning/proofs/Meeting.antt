@@ -1,15 +1,16 @@
 -- The list of meetings, as it grows.
 use Rattle.std.proofs.Common.{◌≡◌, ℕ, ◌+◌, List, [], ◌∷◌, ◌++◌, length, take, Some, None, ◌⊎◌, inl, inr, refl, sym, ap, ◌∙◌, subst, arith, length-append}
 use Rattle.std.specs.Prelude.{slice_get}
-use Rattle.std.proofs.lemmas.List.{map-append}
+use Rattle.std.proofs.lemmas.List.{map-append, length-map}
 use Rattle.std.proofs.lemmas.Option.{slice_get_within}
 use Rattle.wit_types.specs.declared.types.TypeDef.{TypeDef}
 use Rattle.wit_types.specs.declared.types.TypeDefKind.{TypeDefKind}
+use Rattle.wit_types.specs.declared.stability.Stability.{Stability}
 use Rattle.wit_values.specs.declared.span.Span.{Span}
 use Rattle.wit_meaning.specs.Form.{kind_of}
 use Rattle.wit_meaning.specs.Address.{Address}
 use Rattle.wit_meaning.specs.Expr.{Expr, Prim, Use, Of, Exprs, End, More}
-use Rattle.wit_meaning.specs.Meet.{Key, Def, Whole, Meeting, keys, spans, IsMet, Meets, AreAt, Decls, IsEntry, IsKeyed, IsMeeting}
+use Rattle.wit_meaning.specs.Meet.{Key, Def, Whole, Meeting, keys, spans, IsMet, Meets, AreAt, Decls, IsEntry, IsKeyed, IsSettled, IsMeeting, settled}
 use Rattle.wit_meaning.specs.Repeats.{AllDiffer}
 use Rattle.wit_meaning.specs.Resolving.{met, all_met, Env, AreNames, IsInterned, unnamed}
 use Rattle.wit_meaning.proofs.Lists.{at_seam, at_either, take_front, take_seam, at_within}
@@ -128,11 +129,27 @@ keyed_more {decls} {ks} {es} k e m new it = record {
   ];
 }
 
+-- where each entry is settled, one more is among those before it
+settled_more : (ms : List Meeting) (es : List TypeDef) (m : Meeting) (e : TypeDef) → length es ≡ length ms → ((i : ℕ) (x : Meeting) (f : TypeDef) → slice_get ms i ≡ Some x → slice_get es i ≡ Some f → IsSettled (take i es) x.given x.key f) → IsSettled es m.given m.key e → (i : ℕ) (x : Meeting) (f : TypeDef) → slice_get (ms ++ m ∷ []) i ≡ Some x → slice_get (es ++ e ∷ []) i ≡ Some f → IsSettled (take i (es ++ e ∷ [])) x.given x.key f
+settled_more ms es m e count each it i x f met entry = elim (at_either ms m i x met) [
+  | inl oldm ↦ (
+      let lt = slice_get_within ms i x oldm in
+      elim (at_either es e i f entry) [
+        | inl olde ↦ subst (λ front. IsSettled front x.given x.key f) (sym (take_front es (e ∷ []) i (omega arith))) (each i x f oldm olde)
+        | inr newe ↦ absurd (let at = newe.0 in let f : ⊥ = omega arith in f)
+      ])
+  | inr newm ↦ elim (at_either es e i f entry) [
+    | inl olde ↦ absurd (let lt = slice_get_within es i f olde in let at = newm.0 in let f : ⊥ = omega arith in f)
+    | inr newe ↦ rw (newe.0, newm.1, newe.1) (subst (λ front. IsSettled front m.given m.key e) (sym (take_seam es (e ∷ []))) it)
+  ]
+]
+
 -- one meeting more, with its entry
-pub meeting_more : {decls : Decls} {ms : List Meeting} {es : List TypeDef} (m : Meeting) (e : TypeDef) → IsMeeting decls ms es → (IsMet (keys ms) m.key → ⊥) → IsEntry decls (keys ms) m.key e → e.span ≡ m.span → IsMeeting decls (ms ++ m ∷ []) (es ++ e ∷ [])
-meeting_more {decls} {ms} {es} m e meeting new it here = record {
+pub meeting_more : {decls : Decls} {ms : List Meeting} {es : List TypeDef} (m : Meeting) (e : TypeDef) → IsMeeting decls ms es → (IsMet (keys ms) m.key → ⊥) → IsEntry decls (keys ms) m.key e → e.span ≡ m.span → IsSettled es m.given m.key e → IsMeeting decls (ms ++ m ∷ []) (es ++ e ∷ [])
+meeting_more {decls} {ms} {es} m e meeting new it here settled = record {
   keyed = subst (λ ks. IsKeyed decls ks (es ++ e ∷ [])) (sym (keys-append ms (m ∷ []))) (keyed_more m.key e meeting.keyed new it);
   spans = map-append (λ (e : TypeDef). e.span) es (e ∷ []) ∙ ap (λ ss. ss ++ e.span ∷ []) meeting.spans ∙ ap (λ s. spans ms ++ s ∷ []) here ∙ sym (map-append (λ (m : Meeting). m.span) ms (m ∷ []));
+  settled = settled_more ms es m e (meeting.keyed.count ∙ length-map ms (λ (m : Meeting). m.key)) meeting.settled settled;
 }
 
 -- the unnamed type of a form over parts
@@ -156,8 +173,8 @@ pub record IsOnly (what : TypeDefKind) : Type 0 where
   pub same : (k : TypeDefKind) → (kind_of k).form ≡ (kind_of what).form → (kind_of k).parts ≡ (kind_of what).parts → k ≡ what
 
 -- an unnamed type is met, whether it was there or was added
-pub meet_whole : (decls : Decls) (ms : List Meeting) (old new : List TypeDef) (kind : TypeDefKind) (span : Span) (parts : Exprs) (i : ℕ) → IsOnly kind → IsMeeting decls ms old → AreAt (keys ms) parts (kind_of kind).parts → IsInterned old new kind span i → IsWhole decls ms new (record { key = Whole (kind_of kind).form parts; span = span }) i
-meet_whole decls ms old new kind span parts i only m at interned = elim interned.either [
+pub meet_whole : (decls : Decls) (ms : List Meeting) (old new : List TypeDef) (kind : TypeDefKind) (given : Stability) (span : Span) (parts : Exprs) (i : ℕ) → IsOnly kind → IsMeeting decls ms old → AreAt (keys ms) parts (kind_of kind).parts → IsInterned old new kind given span i → IsWhole decls ms new (record { key = Whole (kind_of kind).form parts; span = span; given = given }) i
+meet_whole decls ms old new kind given span parts i only m at interned = elim interned.either [
   | inl found ↦ (
       let e = found.1.0 in
       let is = found.1.2 in
@@ -180,9 +197,9 @@ meet_whole decls ms old new kind span parts i only m at interned = elim interned
       let tys = all_at_functional (keys ms) (once_of keyed) parts (kind_of e.0.kind).parts (kind_of kind).parts (all_at_untaken was.0 (keys ms) parts (kind_of e.0.kind).parts it.parts) at in
       added.2 was.0 e.0 (record { is = e.1 }) (record { name = it.name; kind = only.same e.0.kind it.form tys })) in
       record {
-        now = ms ++ record { key = key; span = span } ∷ [];
+        now = ms ++ record { key = key; span = span; given = given } ∷ [];
         meets = inr (fresh, refl);
-        meeting = subst (IsMeeting decls (ms ++ record { key = key; span = span } ∷ [])) (sym added.0) (meeting_more (record { key = key; span = span }) (unnamed kind span) m fresh (record { name = refl; owner = refl; form = refl; parts = at; bare = record { docs = refl; stability = refl; external_id = refl } }) refl);
-        at = rw (added.1, keyed.count) (ap (λ l. slice_get l (length (keys ms))) (keys-append ms (record { key = key; span = span } ∷ [])) ∙ at_seam (keys ms) key);
+        meeting = subst (IsMeeting decls (ms ++ record { key = key; span = span; given = given } ∷ [])) (sym added.0) (meeting_more (record { key = key; span = span; given = given }) (unnamed kind (settled old given kind) span) m fresh (record { name = refl; owner = refl; form = refl; parts = at; docs = refl; external_id = refl }) refl refl);
+        at = rw (added.1, keyed.count) (ap (λ l. slice_get l (length (keys ms))) (keys-append ms (record { key = key; span = span; given = given } ∷ [])) ∙ at_seam (keys ms) key);
       })
 ]

@@ -29,9 +29,9 @@ use Rattle.wit_model.specs.declared.function.Function.{Function}
 use Rattle.wit_meaning.specs.Function.{functions}
 use Rattle.wit_meaning.specs.Functions.{AreFunctions, placed_functions, function_import}
 use Rattle.wit_meaning.specs.Scope.{item_rows, rows_of, in_order, interfaces_of, worlds_of}
-use Rattle.wit_meaning.specs.Broken.{last_header}
+use Rattle.wit_meaning.specs.Broken.{headers, last_header}
 use Rattle.wit_meaning.specs.Package.{owner_of, names_of, functions_of, named_interface, interface_owner, named_world, world_owner, interface_types, interface_functions, import_types, world_types, import_functions, world_functions}
-use Rattle.wit_meaning.specs.Whole.{Ordered, Turned, item_of, ordered_names, turned, turn_handles, AreRequired, meetings, all_meetings, type_imports, addresses, interface_addresses, world_addresses, declarations, HasTypes, AreIncludes, foreign_turned, AreForeignInterfaces, AreInterfaces, AreWorlds, IsFaithful, NamesOthers, IsPackage}
+use Rattle.wit_meaning.specs.Whole.{Ordered, Turned, item_of, ordered_names, turned, turn_handles, AreRequired, meetings, all_meetings, type_imports, addresses, interface_addresses, world_addresses, declarations, HasTypes, AreIncludes, foreign_turned, AreForeignInterfaces, AreInterfaces, AreWorlds, IsFaithful, NamesOthers, first_docs, IsPackage}
 use Rattle.wit_meaning.specs.Resolving.{Names, Cell, Required, cell}
 use Rattle.wit_meaning.specs.Resolved.{AddsForeign}
 use Rattle.wit_meaning.proofs.Lists.{at_front, at_back, at_split, at_within, map_map}
@@ -314,14 +314,15 @@ module _ (files : List PackageFile) (is ws : List Item) (start middle : List Typ
       let aft = map visited (foreign_worlds files) in
       subst (λ (y : List Address). IsMeeting (declarations files (fore ++ addresses d.ordered) (aft ++ y)) e.done.met p.types) (ordered_addresses e.ordered ws e.all) (subst (λ (y : List Address). IsMeeting (declarations files (fore ++ y) (aft ++ map address ws)) e.done.met p.types) (ordered_addresses d.ordered is d.all) e.done.meeting)
 
-  pub package_of : p.required_resource_types ≡ irs ++ wrs → (header : Header) (places : List ℕ) → IsOrder (item_rows files) places → is ≡ interfaces_of (in_order (all_items files) places) → ws ≡ worlds_of (in_order (all_items files) places) → last_header files ≡ Some header → p.name.namespace ≡ header.namespace.name.now → p.name.name ≡ header.name.name.now → option_map release_parts p.name.version ≡ option_map parts_of header.version → p.name_span ≡ header.span → IsPackage files p
-  package_of requires header places order interfaces worlds last namespace name version span = record {
+  pub package_of : p.required_resource_types ≡ irs ++ wrs → (header : Header) (places : List ℕ) → IsOrder (item_rows files) places → is ≡ interfaces_of (in_order (all_items files) places) → ws ≡ worlds_of (in_order (all_items files) places) → last_header files ≡ Some header → p.name.namespace ≡ header.namespace.name.now → p.name.name ≡ header.name.name.now → option_map release_parts p.name.version ≡ option_map parts_of header.version → p.name_span ≡ header.span → p.docs ≡ first_docs (headers files) → IsPackage files p
+  package_of requires header places order interfaces worlds last namespace name version span docs = record {
     header = header;
     last = last;
     namespace = namespace;
     name = name;
     version = version;
     name_span = span;
+    docs = docs;
     others = others;
     places = places;
     item_order = order;

@@ -8,6 +8,7 @@ use Rattle.semver.specs.Identifiers.{parts_of}
 use Rattle.wit_values.specs.ReleaseText.{release_parts}
 use Rattle.wit_tree.specs.declared.tree.PackageName.{PackageName as Header}
 use Rattle.wit_tree.specs.declared.tree.PackageFile.{PackageFile}
+use Rattle.wit_tree.specs.declared.tree.Use.{Use as WrittenUse}
 use Rattle.wit_tree.specs.declared.tree.UsePath.{UsePath}
 use Rattle.wit_model.specs.declared.interface.Interface.{Interface}
 use Rattle.wit_model.specs.declared.world.World.{World}
@@ -18,16 +19,17 @@ use Rattle.wit_order.specs.Table.{IsOrder}
 use Rattle.wit_meaning.specs.Address.{Address, WorldNamed, ForeignNamed}
 use Rattle.wit_meaning.specs.Source.{address, Target, Local, Foreign, leads, item_id, item_named, included_scope, is_world, Item, all_items, item_name, scope_names}
 use Rattle.wit_meaning.specs.Foreign.{visited, is_foreign_world, foreign_interfaces, foreign_worlds, foreign_at}
-use Rattle.wit_meaning.specs.Scope.{in_order, include_paths, includes, item_rows, interfaces_of, worlds_of, rows_of}
+use Rattle.wit_meaning.specs.Scope.{in_order, uses as uses_of, include_paths, includes, item_rows, interfaces_of, worlds_of, rows_of}
 use Rattle.std.specs.List.{filter, flat_map}
 use Rattle.wit_meaning.specs.Meet.{keys}
 use Rattle.wit_meaning.specs.Function.{functions}
 use Rattle.wit_meaning.specs.Resolving.{Required}
 use Rattle.wit_meaning.specs.Fault.{Fault, fault}
-use Rattle.wit_meaning.specs.Broken.{IsDuplicateItem, is_world_at, IsInterfaceIncluded, IsBrokenNames, DuplicateItem, Items, IsBrokenUse, Headerless, Names, Use, InterfaceIncluded, MissingName, FunctionUsed, Scope, Handle, Setter, IsLegal, last_header}
+use Rattle.wit_meaning.specs.Notes.{IsBrokenNotes}
+use Rattle.wit_meaning.specs.Broken.{IsDuplicateItem, is_world_at, IsInterfaceIncluded, IsBrokenNames, DuplicateItem, Items, IsBrokenUse, Headerless, Names, ItemStability, UseNotes, IncludeStability, Use, InterfaceIncluded, MissingName, FunctionUsed, Scope, Handle, Setter, IsLegal, headers, last_header}
 use Rattle.wit_meaning.specs.Repeats.{AllDiffer}
-use Rattle.wit_meaning.specs.Whole.{Ordered, Turned, item_of, turned, turn_handles, AreRequired, AreIncludes, NamesOthers, IsPackage, IsFaithful}
-use Rattle.wit_meaning.specs.Resolved.{AddsInterfaces, AddsWorlds, AddsForeign, AreLegalScopes, AreSoundScopes}
+use Rattle.wit_meaning.specs.Whole.{Ordered, Turned, item_of, turned, turn_handles, AreRequired, AreIncludes, NamesOthers, first_docs, IsPackage, IsFaithful}
+use Rattle.wit_meaning.specs.Resolved.{AddsInterfaces, AddsWorlds, AddsForeign, AreLegalScopes, AreSoundScopes, IsBrokenItemStability, OwnStability, OfInclude, HaveLegalStability}
 use Rattle.wit_meaning.proofs.Lists.{at_within, map_at}
 use Rattle.wit_meaning.proofs.Headers.{some_header}
 use Rattle.wit_meaning.proofs.Turns.{at_part}
@@ -163,23 +165,33 @@ module _ (files : List PackageFile) (places : List ℕ) (order : IsOrder (item_r
         names_meant files is_items ws_items middle new front is_done.0 ws_done.0 irs wrs is_done.2 ws_done.2 w (item_done w (contains_at (all_items files) p.0 w p.2)) it.k it.fn it.id it.at it.among it.missing);
   }
 
-  -- no rule is broken, where the scopes are legal by themselves
-  pub files_legal : AreLegalScopes (in_order (all_items files) places) → (header : Header) → last_header files ≡ Some header → IsLegal files
-  files_legal scopes header last f (Headerless h) =
+  -- nothing is wrong with the stability of an item
+  stability_told : HaveLegalStability (in_order (all_items files) places) → (w : Item) → Contains (all_items files) w → (f : Fault) → IsBrokenItemStability w f → ⊥
+  stability_told stability w among f h =
+      let p = at_contains (all_items files) w among in
+      let t = item_index files places order p.0 w p.1 in
+      stability.legal t.0 w f t.2 h
+
+  -- no rule is broken, where the scopes are legal by themselves, and the stability of items and the notes of their uses
+  pub files_legal : AreLegalScopes (in_order (all_items files) places) → HaveLegalStability (in_order (all_items files) places) → ((i : Item) → Contains (all_items files) i → (u : WrittenUse) → Contains (uses_of i) u → (f : Fault) → IsBrokenNotes u.attributes.items f → ⊥) → (header : Header) → last_header files ≡ Some header → IsLegal files
+  files_legal scopes stability notes header last f (Headerless h) =
       let it = some_header files header last in
       let wrong : None ≡ Some header = sym (h.none it.0 it.1 it.2) ∙ it.3 in
       let g : ⊥ = cc in
       g
-  files_legal scopes header last f (Names h) = names f h
-  files_legal scopes header last f (Use i among h) = uses i among f h
-  files_legal scopes header last f (InterfaceIncluded i among h) = includes_stated i among f h
-  files_legal scopes header last f (MissingName i among h) = names_stated files is_items ws_items middle new front is_done.0 ws_done.0 irs wrs is_done.2 ws_done.2 i (item_done i among) f h
-  files_legal scopes header last f (FunctionUsed i among h) = types_stated files is_items ws_items middle new front is_done.0 ws_done.0 irs wrs is_done.2 ws_done.2 i (item_done i among) f h
-  files_legal scopes header last f (Handle i among h) = handles_stated files is_items ws_items middle new front is_done.0 ws_done.0 irs wrs is_done.2 ws_done.2 i (item_done i among) f h
-  files_legal scopes header last f (Setter i among h) =
+  files_legal scopes stability notes header last f (Names h) = names f h
+  files_legal scopes stability notes header last f (ItemStability i among h) = stability_told stability i among f (OwnStability h)
+  files_legal scopes stability notes header last f (UseNotes i among u used h) = notes i among u used f h
+  files_legal scopes stability notes header last f (IncludeStability i among n included h) = stability_told stability i among f (OfInclude n included h)
+  files_legal scopes stability notes header last f (Use i among h) = uses i among f h
+  files_legal scopes stability notes header last f (InterfaceIncluded i among h) = includes_stated i among f h
+  files_legal scopes stability notes header last f (MissingName i among h) = names_stated files is_items ws_items middle new front is_done.0 ws_done.0 irs wrs is_done.2 ws_done.2 i (item_done i among) f h
+  files_legal scopes stability notes header last f (FunctionUsed i among h) = types_stated files is_items ws_items middle new front is_done.0 ws_done.0 irs wrs is_done.2 ws_done.2 i (item_done i among) f h
+  files_legal scopes stability notes header last f (Handle i among h) = handles_stated files is_items ws_items middle new front is_done.0 ws_done.0 irs wrs is_done.2 ws_done.2 i (item_done i among) f h
+  files_legal scopes stability notes header last f (Setter i among h) =
       let t = interface_at files places order differ i h.interface among in
       setters_paired files is_items ws_items middle new front is_done.0 ws_done.0 irs wrs is_done.2 ws_done.2 t.0 i t.1 f h.alone
-  files_legal scopes header last f (Scope i among h) =
+  files_legal scopes stability notes header last f (Scope i among h) =
       let p = at_contains (all_items files) i among in
       let t = item_index files places order p.0 i p.1 in
       scopes.legal t.0 i f t.2 h
@@ -189,8 +201,8 @@ module _ (files : List PackageFile) (places : List ℕ) (order : IsOrder (item_r
     pub package_worlds : WorldsDone files is_items ws_items front is_done.2.ordered is_done.2.scopes ws_items p.types ws_done.0 wrs
     package_worlds = subst (λ (l : List TypeDef). WorldsDone files is_items ws_items front is_done.2.ordered is_done.2.scopes ws_items l ws_done.0 wrs) (sym types) ws_done.2
 
-    pub files_package : p.required_resource_types ≡ irs ++ wrs → (header : Header) → last_header files ≡ Some header → p.name.namespace ≡ header.namespace.name.now → p.name.name ≡ header.name.name.now → option_map release_parts p.name.version ≡ option_map parts_of header.version → p.name_span ≡ header.span → IsPackage files p
-    files_package requires header last namespace name version span = package_of files is_items ws_items es middle front is_done.0 wfront ws_done.0 foreign irs wrs p is_done.2 package_worlds (interfaces ∙ is_done.1) (worlds ∙ ws_done.1) others requires header places order refl refl last namespace name version span
+    pub files_package : p.required_resource_types ≡ irs ++ wrs → (header : Header) → last_header files ≡ Some header → p.name.namespace ≡ header.namespace.name.now → p.name.name ≡ header.name.name.now → option_map release_parts p.name.version ≡ option_map parts_of header.version → p.name_span ≡ header.span → p.docs ≡ first_docs (headers files) → IsPackage files p
+    files_package requires header last namespace name version span docs = package_of files is_items ws_items es middle front is_done.0 wfront ws_done.0 foreign irs wrs p is_done.2 package_worlds (interfaces ∙ is_done.1) (worlds ∙ ws_done.1) others requires header places order refl refl last namespace name version span docs
 
     -- what handles require of other packages: first those of interfaces, then those of worlds
     pub files_required : AreRequired files (keys package_worlds.done.met) (flat_map turn_handles (map turned (is_done.2.ordered ++ package_worlds.ordered))) (irs ++ wrs)

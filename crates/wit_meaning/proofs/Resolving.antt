@@ -2,6 +2,7 @@
 use Rattle.std.proofs.Common.{ℕ, List, [], ◌∷◌, ◌++◌, refl, sym, ap, ◌∙◌}
 use Rattle.std.proofs.lemmas.List.{append-nil}
 use Rattle.wit_values.specs.declared.span.Span.{Span}
+use Rattle.wit_types.specs.declared.stability.Stability.{Stability}
 use Rattle.wit_types.specs.declared.types.«Type».{«Type» as Ty}
 use Rattle.wit_types.specs.declared.types.«Type».TheVariants.{Id}
 use Rattle.wit_types.specs.declared.types.TypeDef.{TypeDef}
@@ -34,15 +35,15 @@ resolved_more {old} {mid} {new} {s} {env} {a} {b} {es} {fs} {ts} {us} p q = reco
 }
 
 -- the whole behind its parts
-pub resolved_whole : {old mid new : List TypeDef} {s : Address} {env : Env} {a : List Meeting} {es : Exprs} (kind : TypeDefKind) (span : Span) (i : ℕ) → IsOnly kind → AreResolved old mid s env a es (kind_of kind).parts → IsInterned mid new kind span i → AreResolved old new s env (a ++ record { key = Whole (kind_of kind).form es; span = span } ∷ []) (one (Of (kind_of kind).form es)) (Id i ∷ [])
-resolved_whole {old} {mid} {new} {s} {env} {a} {es} kind span i only p interned = record {
-  same = keys-append a (record { key = Whole (kind_of kind).form es; span = span } ∷ []) ∙ ap (λ ks. ks ++ Whole (kind_of kind).form es ∷ []) p.same ∙ sym (append-nil (all_met es ++ Whole (kind_of kind).form es ∷ []));
+pub resolved_whole : {old mid new : List TypeDef} {s : Address} {env : Env} {a : List Meeting} {es : Exprs} (kind : TypeDefKind) (given : Stability) (span : Span) (i : ℕ) → IsOnly kind → AreResolved old mid s env a es (kind_of kind).parts → IsInterned mid new kind given span i → AreResolved old new s env (a ++ record { key = Whole (kind_of kind).form es; span = span; given = given } ∷ []) (one (Of (kind_of kind).form es)) (Id i ∷ [])
+resolved_whole {old} {mid} {new} {s} {env} {a} {es} kind given span i only p interned = record {
+  same = keys-append a (record { key = Whole (kind_of kind).form es; span = span; given = given } ∷ []) ∙ ap (λ ks. ks ++ Whole (kind_of kind).form es ∷ []) p.same ∙ sym (append-nil (all_met es ++ Whole (kind_of kind).form es ∷ []));
   from = λ decls ms m names. (
       let x = p.from decls ms m names in
-      let y = meet_whole decls x.now mid new kind span es i only x.meeting x.at interned in
+      let y = meet_whole decls x.now mid new kind given span es i only x.meeting x.at interned in
       record {
         now = y.now;
-        meets = meets_append a (record { key = Whole (kind_of kind).form es; span = span } ∷ []) ms x.now y.now x.meets y.meets;
+        meets = meets_append a (record { key = Whole (kind_of kind).form es; span = span; given = given } ∷ []) ms x.now y.now x.meets y.meets;
         meeting = y.meeting;
         at = ((i, refl, y.at), tt);
       });

@@ -32,15 +32,16 @@ use Rattle.wit_model.specs.declared.function.FunctionKind.TheVariants as functio
 use Rattle.wit_model.specs.declared.unresolved.UnresolvedPackage.{UnresolvedPackage}
 use Rattle.wit_meaning.specs.Fault.{Fault, fault}
 use Rattle.wit_meaning.specs.Address.{WorldNamed}
+use Rattle.wit_meaning.specs.Notes.{no_docs}
 use Rattle.wit_meaning.specs.Source.{top_names, TheWorld, Item, ScopeName, Defined, source_tree}
-use Rattle.wit_meaning.specs.Shape.{Shape, Prim, no_docs}
+use Rattle.wit_meaning.specs.Shape.{Shape}
 use Rattle.wit_meaning.specs.Function.{Role, Freestanding, SourceFunction, functions, signature}
 use Rattle.wit_meaning.specs.Functions.{function_import}
 use Rattle.wit_meaning.specs.Signature.{MissingInSignature, GetterGiven, SetterGiven, GetterWithoutResult, SetterWithResult, ConstructorWithoutResult, ConstructorOfOther, IsEntered, result_ok}
 use Rattle.wit_meaning.specs.Broken.{IsBroken, Function, IsSetterAlone}
 use Rattle.wit_meaning.specs.Package.{names_of, functions_of, function_types, package_tree}
 use Rattle.wit_meaning.specs.Whole.{Ordered, ordered_names, type_imports}
-use Rattle.wit_meaning.proofs.Examples.{at, id, vec, header}
+use Rattle.wit_meaning.proofs.Examples.{at, id, vec, no_comments, untold, header}
 use Rattle.wit_meaning.proofs.SignatureExamples.{i_of, file_of, item_of, in_scope, f_id, r_id, t_id, x_id, param, func, func_of, v_u8, resource_of}
 
 module _ (ptr : Ptr) (alloc : Global) where
@@ -94,6 +95,8 @@ module _ (ptr : Ptr) (alloc : Global) where
   -- x: set(v: u8, t: u8); x: get() -> u8;
   abbrev double : Interface
   double = i_of ptr alloc (FuncItem (record {
+    docs = no_comments ptr alloc;
+    attributes = untold ptr alloc;
     name = x_id ptr alloc (at 31 32);
     func = record { span = at 34 37; form = form.Setter; params = vec ptr alloc (v_u8 ptr alloc (at 38 39) (at 41 43) ∷ param ptr alloc (t_id ptr alloc (at 45 46)) (written.U8 (at 48 50)) ∷ []) (lit< tt); result = None };
   }) ∷ FuncItem (getter (at 53 54) (at 56 59) (at 65 67)) ∷ []) (lit< tt)
@@ -110,7 +113,7 @@ module _ (ptr : Ptr) (alloc : Global) where
 
   -- resource r { constructor() -> u8; }
   abbrev making : Written → Interface
-  making t = i_of ptr alloc (TypeItem (resource_of ptr alloc (r_id ptr alloc (at 40 41)) (resource.Constructor (at 44 55) (vec ptr alloc [] (lit< tt)) (Some t) ∷ []) (lit< tt)) ∷ []) (lit< tt)
+  making t = i_of ptr alloc (TypeItem (resource_of ptr alloc (r_id ptr alloc (at 40 41)) (resource.Constructor (no_comments ptr alloc) (untold ptr alloc) (at 44 55) (vec ptr alloc [] (lit< tt)) (Some t) ∷ []) (lit< tt)) ∷ []) (lit< tt)
 
   plain_refused : IsBroken (file_of ptr alloc (making (written.U8 (at 61 63))) ∷ []) (fault 41 (at 61 63))
   plain_refused = in_scope ptr alloc (making (written.U8 (at 61 63))) (fault 41 (at 61 63)) (Function 0 _ refl (ConstructorWithoutResult (record { of = r_id ptr alloc (at 40 41); constructs = refl; t = _; result = refl; none = refl; is = refl })))
@@ -125,7 +128,7 @@ module _ (ptr : Ptr) (alloc : Global) where
   -- type t = result<u8>; x: set(v: u8) -> t; x: get() -> u8;
   module _ where
     abbrev some_ok : Definition
-    some_ok = record { name = t_id ptr alloc (at 36 37); body = Plain (written.Result' (at 40 46) (Some' (record { ptr = ptr; alloc = alloc; value = tt }) (written.U8 (at 47 49))) None') }
+    some_ok = record { docs = no_comments ptr alloc; attributes = untold ptr alloc; name = t_id ptr alloc (at 36 37); body = Plain (written.Result' (at 40 46) (Some' (record { ptr = ptr; alloc = alloc; value = tt }) (written.U8 (at 47 49))) None') }
 
     abbrev called : Interface
     called = i_of ptr alloc (TypeItem some_ok ∷ FuncItem (func_of ptr alloc (x_id ptr alloc (at 52 53)) (at 55 58) form.Setter (v_u8 ptr alloc (at 59 60) (at 62 64)) (Some (written.Name (t_id ptr alloc (at 69 70))))) ∷ FuncItem (getter (at 72 73) (at 75 78) (at 84 86)) ∷ []) (lit< tt)
@@ -135,7 +138,7 @@ module _ (ptr : Ptr) (alloc : Global) where
 
   -- type t = result; type f = t;
   abbrev words : List ScopeName
-  words = Defined (record { name = t_id ptr alloc (at 36 37); body = Plain (written.Result' (at 40 46) None' None') }) ∷ Defined (record { name = f_id ptr alloc (at 53 54); body = Plain (written.Name (t_id ptr alloc (at 57 58))) }) ∷ []
+  words = Defined (record { docs = no_comments ptr alloc; attributes = untold ptr alloc; name = t_id ptr alloc (at 36 37); body = Plain (written.Result' (at 40 46) None' None') }) ∷ Defined (record { docs = no_comments ptr alloc; attributes = untold ptr alloc; name = f_id ptr alloc (at 53 54); body = Plain (written.Name (t_id ptr alloc (at 57 58))) }) ∷ []
 
   -- t is a result, f is only another word for one
   t_is_result : result_ok words (written.Name (t_id ptr alloc (at 69 70))) ≡ Some None
@@ -147,7 +150,7 @@ module _ (ptr : Ptr) (alloc : Global) where
   -- package foo:foo; world w { resource r { constructor(); x: set(v: u8); } }
   module _ where
     abbrev w : WrittenWorld
-    w = record { name = id ptr alloc (codes "w") (at 23 24) refl; items = vec ptr alloc (world_item.TypeDef (resource_of ptr alloc (r_id ptr alloc (at 36 37)) (resource.Constructor (at 40 51) (vec ptr alloc [] (lit< tt)) None ∷ resource.Method (func_of ptr alloc (x_id ptr alloc (at 55 56)) (at 58 61) form.Setter (v_u8 ptr alloc (at 62 63) (at 65 67)) None) ∷ []) (lit< tt)) ∷ []) (lit< tt) }
+    w = record { docs = no_comments ptr alloc; attributes = untold ptr alloc; name = id ptr alloc (codes "w") (at 23 24) refl; items = vec ptr alloc (world_item.TypeDef (resource_of ptr alloc (r_id ptr alloc (at 36 37)) (resource.Constructor (no_comments ptr alloc) (untold ptr alloc) (at 40 51) (vec ptr alloc [] (lit< tt)) None ∷ resource.Method (func_of ptr alloc (x_id ptr alloc (at 55 56)) (at 58 61) form.Setter (v_u8 ptr alloc (at 62 63) (at 65 67)) None) ∷ []) (lit< tt)) ∷ []) (lit< tt) }
 
     abbrev file : PackageFile
     file = record { package_id = Some (header ptr alloc); decl_list = record { items = vec ptr alloc (ast.World w ∷ []) (lit< tt) } }
@@ -176,6 +179,7 @@ module _ (ptr : Ptr) (alloc : Global) where
     -- its imports are its names as types, and then the functions
     abbrev whole : UnresolvedPackage
     whole = record {
+      docs = no_docs;
       name = record { namespace = codes "foo"; name = codes "foo"; version = None };
       worlds = record { name = codes "w"; imports = type_imports (ordered_names ordered) ((codes "r", 0) ∷ []) ++ map function_import made; exports = []; «package» = None; docs = no_docs; stability = Unknown; includes = []; span = at 23 24 } ∷ [];
       interfaces = [];

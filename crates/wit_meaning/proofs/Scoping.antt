@@ -13,7 +13,8 @@ use Rattle.wit_meaning.specs.Source.{ScopeName, Defined, local_name}
 use Rattle.wit_meaning.specs.Fault.{Fault}
 use Rattle.wit_meaning.specs.Scope.{needed_ids, row_of, rows_of, in_order}
 use Rattle.wit_meaning.specs.Bodies.{IsBrokenBody}
-use Rattle.wit_meaning.specs.Resolving.{AreLegalBodies, Env, Names, env_of, HasNames, IsStored}
+use Rattle.wit_meaning.specs.Notes.{IsBrokenNotes}
+use Rattle.wit_meaning.specs.Resolving.{AreLegalBodies, AreLegalNotes, Env, Names, env_of, HasNames, IsStored}
 use Rattle.wit_meaning.proofs.Lists.{at_either}
 use Rattle.wit_meaning.proofs.Names.{name_itself, lookup-insert_entry}
 use Rattle.wit_meaning.proofs.Tables.{place_of-Some}
@@ -97,5 +98,16 @@ legal_more xs d legal one = record {
   legal = λ i e f at broken. elim (at_either xs (Defined d) i (Defined e) at) [
     | inl old ↦ legal.legal i e f old broken
     | inr new ↦ (let same : e ≡ d = (let q = new.1 in cc) in one f (subst (λ (x : Definition). IsBrokenBody x.body f) same broken))
+  ];
+}
+
+pub noted_none : AreLegalNotes []
+noted_none = record { legal = λ i d f at. absurd (let f : ⊥ = cc in f) }
+
+pub noted_more : (xs : List ScopeName) (d : Definition) → AreLegalNotes xs → ((f : Fault) → IsBrokenNotes d.attributes.items f → ⊥) → AreLegalNotes (xs ++ Defined d ∷ [])
+noted_more xs d legal one = record {
+  legal = λ i e f at broken. elim (at_either xs (Defined d) i (Defined e) at) [
+    | inl old ↦ legal.legal i e f old broken
+    | inr new ↦ (let same : e ≡ d = (let q = new.1 in cc) in one f (subst (λ (x : Definition). IsBrokenNotes x.attributes.items f) same broken))
   ];
 }

@@ -32,18 +32,19 @@ use Rattle.wit_order.specs.Order.{IsDependencyFirst}
 use Rattle.wit_order.specs.Table.{Row, IsEdge, Leads, IsOrder}
 use Rattle.wit_meaning.specs.Form.{ResultForm}
 use Rattle.wit_meaning.specs.Address.{InterfaceNamed}
+use Rattle.wit_meaning.specs.Notes.{no_docs}
 use Rattle.wit_meaning.specs.Source.{top_names, TheInterface, Item, scope_names}
 use Rattle.wit_meaning.specs.Expr.{Use, one}
 use Rattle.wit_meaning.specs.Meet.{Def, Whole}
 use Rattle.wit_meaning.specs.Fault.{Fault, fault}
-use Rattle.wit_meaning.specs.Shape.{Shape, Word, shape_of, no_docs}
+use Rattle.wit_meaning.specs.Shape.{Shape, Word, shape_of}
 use Rattle.wit_meaning.specs.Function.{SourceFunction, functions, free_names}
 use Rattle.wit_meaning.specs.Functions.{placed_functions}
 use Rattle.wit_meaning.specs.Signature.{Called, called_key, FunctionAsType, DuplicateParam, SetterWithResult, ConstructorOfOther, IsWrittenAs, result_ok}
 use Rattle.wit_meaning.specs.Broken.{all_called, IsBrokenScope, MissingType, Function, FoldedTwice, IsBroken, Scope, FunctionUsed, Setter}
 use Rattle.wit_meaning.specs.Whole.{turned, meetings}
 use Rattle.wit_meaning.proofs.Scoping.{at_contains}
-use Rattle.wit_meaning.proofs.Examples.{at, id, vec, header}
+use Rattle.wit_meaning.proofs.Examples.{at, id, vec, no_comments, untold, header}
 
 -- a scope of one name that needs none has one order
 abbrev alone : List ℕ → List Row
@@ -95,7 +96,7 @@ module _ (ptr : Ptr) (alloc : Global) where
 
   -- package foo:foo; interface i { .. }
   abbrev pub i_of : (parts : List Part) → length parts < 2 ^ 63 → Interface
-  i_of parts small = record { name = id ptr alloc (codes "i") (at 27 28) refl; items = vec ptr alloc parts small }
+  i_of parts small = record { docs = no_comments ptr alloc; attributes = untold ptr alloc; name = id ptr alloc (codes "i") (at 27 28) refl; items = vec ptr alloc parts small }
 
   abbrev pub file_of : Interface → PackageFile
   file_of i = record { package_id = Some (header ptr alloc); decl_list = record { items = vec ptr alloc (InterfaceItem i ∷ []) (lit< tt) } }
@@ -127,17 +128,17 @@ module _ (ptr : Ptr) (alloc : Global) where
 
   -- a function with at most one parameter
   abbrev pub func : Id → Span → FuncForm → Option Written → NamedFunc
-  func name span form result = record { name = name; func = record { span = span; form = form; params = vec ptr alloc [] (lit< tt); result = result } }
+  func name span form result = record { docs = no_comments ptr alloc; attributes = untold ptr alloc; name = name; func = record { span = span; form = form; params = vec ptr alloc [] (lit< tt); result = result } }
 
   abbrev pub func_of : Id → Span → FuncForm → Param → Option Written → NamedFunc
-  func_of name span form given result = record { name = name; func = record { span = span; form = form; params = vec ptr alloc (given ∷ []) (lit< tt); result = result } }
+  func_of name span form given result = record { docs = no_comments ptr alloc; attributes = untold ptr alloc; name = name; func = record { span = span; form = form; params = vec ptr alloc (given ∷ []) (lit< tt); result = result } }
 
   abbrev pub v_u8 : Span → Span → Param
   v_u8 name ty = param (id ptr alloc (codes "v") name refl) (written.U8 ty)
 
   -- a resource with at most two functions
   abbrev pub resource_of : Id → (funcs : List ResourceFunc) → length funcs < 2 ^ 63 → Definition
-  resource_of name funcs small = record { name = name; body = Resource (vec ptr alloc funcs small) }
+  resource_of name funcs small = record { docs = no_comments ptr alloc; attributes = untold ptr alloc; name = name; body = Resource (vec ptr alloc funcs small) }
 
   -- resource r { r: func(); }
   module _ where
@@ -164,14 +165,14 @@ module _ (ptr : Ptr) (alloc : Global) where
 
   -- resource r { constructor(); }
   abbrev maker : Interface
-  maker = i_of (TypeItem (resource_of (r_id (at 40 41)) (resource.Constructor (at 44 55) (vec ptr alloc [] (lit< tt)) None ∷ []) (lit< tt)) ∷ []) (lit< tt)
+  maker = i_of (TypeItem (resource_of (r_id (at 40 41)) (resource.Constructor (no_comments ptr alloc) (untold ptr alloc) (at 44 55) (vec ptr alloc [] (lit< tt)) None ∷ []) (lit< tt)) ∷ []) (lit< tt)
 
   two_keys : map called_key (all_called (scope_names (item_of maker)) (functions (item_of maker)) (0 ∷ [])) ≡ (codes "r" ∷ codes "[constructor]r" ∷ [])
   two_keys = refl
 
   -- type x = u8; x: get() -> u8;
   abbrev getter_beside : Interface
-  getter_beside = i_of (TypeItem (record { name = x_id (at 36 37); body = Plain (written.U8 (at 40 42)) }) ∷ FuncItem (func (x_id (at 44 45)) (at 47 50) form.Getter (Some (written.U8 (at 56 58)))) ∷ []) (lit< tt)
+  getter_beside = i_of (TypeItem (record { docs = no_comments ptr alloc; attributes = untold ptr alloc; name = x_id (at 36 37); body = Plain (written.U8 (at 40 42)) }) ∷ FuncItem (func (x_id (at 44 45)) (at 47 50) form.Getter (Some (written.U8 (at 56 58)))) ∷ []) (lit< tt)
 
   keys_beside : map called_key (all_called (scope_names (item_of getter_beside)) (functions (item_of getter_beside)) (0 ∷ [])) ≡ (codes "x" ∷ codes "[get]x" ∷ [])
   keys_beside = refl
@@ -226,11 +227,11 @@ module _ (ptr : Ptr) (alloc : Global) where
     owning = written.Result' (at 61 67) (Some' box (written.Own (at 68 71) (r_id (at 72 73)))) None'
 
     abbrev owned : Interface
-    owned = i_of (TypeItem (resource_of (r_id (at 40 41)) (resource.Constructor (at 44 55) (vec ptr alloc [] (lit< tt)) (Some owning) ∷ []) (lit< tt)) ∷ []) (lit< tt)
+    owned = i_of (TypeItem (resource_of (r_id (at 40 41)) (resource.Constructor (no_comments ptr alloc) (untold ptr alloc) (at 44 55) (vec ptr alloc [] (lit< tt)) (Some owning) ∷ []) (lit< tt)) ∷ []) (lit< tt)
 
     -- the result stands behind r, over it
     met : meetings (map turned (record { item = item_of owned; order = 0 ∷ [] } ∷ []))
-        ≡ (record { key = Def (InterfaceNamed (codes "i")) (codes "r"); span = at 40 41 } ∷ record { key = Whole (ResultForm true false) (one (Use (InterfaceNamed (codes "i")) (codes "r"))); span = at 61 67 } ∷ [])
+        ≡ (record { key = Def (InterfaceNamed (codes "i")) (codes "r"); span = at 40 41; given = Unknown } ∷ record { key = Whole (ResultForm true false) (one (Use (InterfaceNamed (codes "i")) (codes "r"))); span = at 61 67; given = Unknown } ∷ [])
     met = refl
 
     gives_r : result_ok (scope_names (item_of owned)) owning ≡ Some (Some (written.Own (at 68 71) (r_id (at 72 73))))
@@ -245,7 +246,7 @@ module _ (ptr : Ptr) (alloc : Global) where
     in_a = id ptr alloc (codes "a") (at 68 69) refl
 
     abbrev other : Interface
-    other = i_of (TypeItem (resource_of (r_id (at 40 41)) (resource.Constructor (at 44 55) (vec ptr alloc [] (lit< tt)) (Some (written.Result' (at 61 67) (Some' box (written.Name in_a)) None')) ∷ []) (lit< tt)) ∷ TypeItem (record { name = id ptr alloc (codes "a") (at 79 80) refl; body = Plain (written.Name (r_id (at 83 84))) }) ∷ []) (lit< tt)
+    other = i_of (TypeItem (resource_of (r_id (at 40 41)) (resource.Constructor (no_comments ptr alloc) (untold ptr alloc) (at 44 55) (vec ptr alloc [] (lit< tt)) (Some (written.Result' (at 61 67) (Some' box (written.Name in_a)) None')) ∷ []) (lit< tt)) ∷ TypeItem (record { docs = no_comments ptr alloc; attributes = untold ptr alloc; name = id ptr alloc (codes "a") (at 79 80) refl; body = Plain (written.Name (r_id (at 83 84))) }) ∷ []) (lit< tt)
 
     -- whether a type is written with the name r
     abbrev is_word_r : Shape → Bool
@@ -277,7 +278,7 @@ module _ (ptr : Ptr) (alloc : Global) where
 
   -- type t = f; f: func();
   abbrev behind_name : Interface
-  behind_name = i_of (TypeItem (record { name = t_id (at 36 37); body = Plain (written.Name (f_id (at 40 41))) }) ∷ FuncItem (func (f_id (at 43 44)) (at 46 50) form.Plain None) ∷ []) (lit< tt)
+  behind_name = i_of (TypeItem (record { docs = no_comments ptr alloc; attributes = untold ptr alloc; name = t_id (at 36 37); body = Plain (written.Name (f_id (at 40 41))) }) ∷ FuncItem (func (f_id (at 43 44)) (at 46 50) form.Plain None) ∷ []) (lit< tt)
 
   behind_name_refused : IsBroken (file_of behind_name ∷ []) (record { rule = 15; span = at 40 41; name = Some (codes "f"); sort = Missing (codes "type") })
   behind_name_refused = in_scope behind_name _ (MissingType (record { place = 0; index = 0; id = f_id (at 40 41); edge = (record { name = codes "t"; needs = f_id (at 40 41) ∷ [] }, refl, refl); missing = refl; is = refl }))
@@ -317,13 +318,13 @@ module _ (ptr : Ptr) (alloc : Global) where
   -- package foo:foo; interface a { f: func(); } interface b { use a.{f}; }
   module _ where
     abbrev a : Interface
-    a = record { name = id ptr alloc (codes "a") (at 27 28) refl; items = vec ptr alloc (FuncItem (func (f_id (at 31 32)) (at 34 38) form.Plain None) ∷ []) (lit< tt) }
+    a = record { docs = no_comments ptr alloc; attributes = untold ptr alloc; name = id ptr alloc (codes "a") (at 27 28) refl; items = vec ptr alloc (FuncItem (func (f_id (at 31 32)) (at 34 38) form.Plain None) ∷ []) (lit< tt) }
 
     abbrev used_f : UseName
     used_f = record { name = f_id (at 65 66); as_ = None }
 
     abbrev b : Interface
-    b = record { name = id ptr alloc (codes "b") (at 54 55) refl; items = vec ptr alloc (UseItem (record { from = path.Id (id ptr alloc (codes "a") (at 62 63) refl); names = vec ptr alloc (used_f ∷ []) (lit< tt) }) ∷ []) (lit< tt) }
+    b = record { docs = no_comments ptr alloc; attributes = untold ptr alloc; name = id ptr alloc (codes "b") (at 54 55) refl; items = vec ptr alloc (UseItem (record { attributes = untold ptr alloc; from = path.Id (id ptr alloc (codes "a") (at 62 63) refl); names = vec ptr alloc (used_f ∷ []) (lit< tt) }) ∷ []) (lit< tt) }
 
     abbrev both : PackageFile
     both = record { package_id = Some (header ptr alloc); decl_list = record { items = vec ptr alloc (InterfaceItem a ∷ InterfaceItem b ∷ []) (lit< tt) } }
@@ -332,4 +333,4 @@ module _ (ptr : Ptr) (alloc : Global) where
     item_in_both i = record { top = top_names both; declared = TheInterface i }
 
     used_refused : IsBroken (both ∷ []) (fault 13 (at 65 66))
-    used_refused = FunctionUsed (item_in_both b) (1, lit< tt, refl) (record { from = InterfaceNamed (codes "a"); n = used_f; among = (0, lit< tt, refl); target = item_in_both a; declared = refl; missing = refl; function = (0, lit< tt, refl); is = refl })
+    used_refused = FunctionUsed (item_in_both b) (1, lit< tt, refl) (record { from = InterfaceNamed (codes "a"); attributes = []; n = used_f; among = (0, lit< tt, refl); target = item_in_both a; declared = refl; missing = refl; function = (0, lit< tt, refl); is = refl })

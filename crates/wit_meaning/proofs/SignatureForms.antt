@@ -67,7 +67,7 @@ one_given q h (suc k) p at = absurd (let f : ⊥ = cc in f)
 plain_resource : (r : Id) (g : ResourceFunc) → IsPlain (resource_function r g)
 plain_resource r (resource.Method f) = plain_with (resource_function r (resource.Method f)).name (resource_function r (resource.Method f)).role (resource_function r (resource.Method f)).given f (one_given (self_param r f.func.span) (tt, (tt, tt)))
 plain_resource r (resource.Static f) = plain_with (resource_function r (resource.Static f)).name (resource_function r (resource.Static f)).role [] f none_given
-plain_resource r (resource.Constructor span params result) = record { given = none_given; params = plain_params params.items; result = plain_made r result }
+plain_resource r (resource.Constructor docs attributes span params result) = record { given = none_given; params = plain_params params.items; result = plain_made r result }
 
 plain_definition : (r : Id) (b : TypeBody) (k : ℕ) (fn : SourceFunction) → slice_get (definition_functions r b) k ≡ Some fn → IsPlain fn
 plain_definition r (body.Resource funcs) k fn at =

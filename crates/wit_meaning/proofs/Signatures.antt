@@ -6,6 +6,7 @@ use Rattle.std.specs.Option.{option_to_list}
 use Rattle.std.proofs.lemmas.Grind.{flat_map-append}
 use Rattle.std.proofs.lemmas.List.{length-map}
 use Rattle.std.proofs.lemmas.Option.{slice_get_within}
+use Rattle.wit_types.specs.declared.stability.Stability.TheVariants.{Unknown}
 use Rattle.wit_types.specs.declared.types.«Type».{«Type» as Ty}
 use Rattle.wit_model.specs.declared.function.Function.{Function}
 use Rattle.wit_model.specs.declared.function.FunctionKind.{FunctionKind}
@@ -29,9 +30,9 @@ use Rattle.wit_meaning.proofs.Places.{Grown, key_grown, at_grown}
 abbrev pub function_exprs : Address → List SourceFunction → Exprs
 function_exprs s fns = exprs_of s (gathered (flat_map signature fns))
 
-gathered_meetings : (s : Address) (xs : List Shape) → flat_map (shape_meetings s) xs ≡ shapes_meetings s (gathered xs)
+gathered_meetings : (s : Address) (xs : List Shape) → flat_map (shape_meetings s Unknown) xs ≡ shapes_meetings s Unknown (gathered xs)
 gathered_meetings s [] = refl
-gathered_meetings s (x ∷ xs) = ap (λ ms. shape_meetings s x ++ ms) (gathered_meetings s xs)
+gathered_meetings s (x ∷ xs) = ap (λ ms. shape_meetings s Unknown x ++ ms) (gathered_meetings s xs)
 
 flat_map_twice : {X Y Z : Type 0} (g : Y → List Z) (f : X → List Y) (xs : List X) → flat_map (λ x. flat_map g (f x)) xs ≡ flat_map g (flat_map f xs)
 flat_map_twice g f [] = refl
@@ -39,7 +40,7 @@ flat_map_twice g f (x ∷ xs) = ap (λ zs. flat_map g (f x) ++ zs) (flat_map_twi
 
 -- what is met in functions are the unnamed expressions in them
 pub function_keys : (s : Address) (fns : List SourceFunction) → keys (all_function_meetings s fns) ≡ all_met (function_exprs s fns)
-function_keys s fns = ap keys (flat_map_twice (shape_meetings s) signature fns ∙ gathered_meetings s (flat_map signature fns)) ∙ keys-shapes s (gathered (flat_map signature fns))
+function_keys s fns = ap keys (flat_map_twice (shape_meetings s Unknown) signature fns ∙ gathered_meetings s (flat_map signature fns)) ∙ keys-shapes s Unknown (gathered (flat_map signature fns))
 
 -- no name is met in functions
 pub no_name_in_functions : (s : Address) (fns : List SourceFunction) (t : Address) (name : List ℕ) → Has (keys (all_function_meetings s fns)) (Def t name) → ⊥
@@ -56,10 +57,10 @@ known_beside s fns a b t cs h known = record {
 }
 
 -- a type that is met in a list of types is met in one of them
-whole_in_shapes : (s : Address) (xs : List Shape) (form : Form) (parts : Exprs) → Has (keys (flat_map (shape_meetings s) xs)) (Whole form parts) → (j : ℕ) × (x : Shape) × (slice_get xs j ≡ Some x) × Has (met (expr_of s x)) (Whole form parts)
+whole_in_shapes : (s : Address) (xs : List Shape) (form : Form) (parts : Exprs) → Has (keys (flat_map (shape_meetings s Unknown) xs)) (Whole form parts) → (j : ℕ) × (x : Shape) × (slice_get xs j ≡ Some x) × Has (met (expr_of s x)) (Whole form parts)
 whole_in_shapes s [] form parts h = absurd h
-whole_in_shapes s (x ∷ xs) form parts h = elim (has_either (keys (shape_meetings s x)) (keys (flat_map (shape_meetings s) xs)) (Whole form parts) (subst (λ (ks : List Key). Has ks (Whole form parts)) (keys-append (shape_meetings s x) (flat_map (shape_meetings s) xs)) h)) [
-  | inl first ↦ (0, x, refl, subst (λ (ks : List Key). Has ks (Whole form parts)) (keys-shape s x) first)
+whole_in_shapes s (x ∷ xs) form parts h = elim (has_either (keys (shape_meetings s Unknown x)) (keys (flat_map (shape_meetings s Unknown) xs)) (Whole form parts) (subst (λ (ks : List Key). Has ks (Whole form parts)) (keys-append (shape_meetings s Unknown x) (flat_map (shape_meetings s Unknown) xs)) h)) [
+  | inl first ↦ (0, x, refl, subst (λ (ks : List Key). Has ks (Whole form parts)) (keys-shape s Unknown x) first)
   | inr rest ↦ (let it = whole_in_shapes s xs form parts rest in (suc it.0, it.1, it.2, it.3))
 ]
 
@@ -102,9 +103,7 @@ function_grown g s fn f h = record {
   };
   result = result_grown g s fn.result f.result h.result;
   span = h.span;
-  docs = h.docs;
-  stability = h.stability;
-  external_id = h.external_id;
+  notes = h.notes;
 }
 
 pub functions_grown : {a b : List Key} → Grown a b → (s : Address) (fns : List SourceFunction) (fs : List Function) → AreFunctions a s fns fs → AreFunctions b s fns fs

@@ -6,6 +6,7 @@ use Rattle.std.proofs.lemmas.Option.{slice_get-map, slice_get_within}
 use Rattle.wit_model.specs.declared.function.Function.{Function}
 use Rattle.wit_meaning.specs.Function.{SourceFunction}
 use Rattle.wit_meaning.specs.Functions.{IsFunction}
+use Rattle.wit_tree.specs.declared.tree.Attribute.{Attribute}
 use Rattle.wit_tree.specs.declared.tree.UseName.{UseName}
 use Rattle.wit_tree.specs.declared.tree.PackageFile.{PackageFile}
 use Rattle.wit_types.specs.declared.types.«Type».{«Type» as Ty}
@@ -113,18 +114,18 @@ module _ (files : List PackageFile) (decls : Decls) (written : List Meeting) (cs
       (it.x, ap (λ (z : Address). meaning (scope files z) name) (sym it.scope) ∙ meaning_found (scope files it.cell.address) p.0 it.x name turn.distinct p.1 it.called)
 
   -- the original of a used name was met
-  original_met : (t : ℕ) (c : DoneScope) (k : ℕ) (from : Address) (n : UseName) → slice_get cs t ≡ Some c → slice_get (scope files c.address) k ≡ Some (Used from n) → (j : ℕ) × (slice_get ks j ≡ Some (Def from n.name.name.now))
-  original_met t c k from n at kat =
-      let q = (d.each t c at).turn.has k (Used from n) kat in
-      let id = named_at t c q.0 (Used from n) at q.1 in
-      let e = entry_of id.0 c.address (local_name (Used from n)) id.2 in
-      used_key ks from n.name.name.now (kind_of e.0.kind).parts (parts_at t c k (Used from n) id.0 e.0 at kat id.2 e.1)
+  original_met : (t : ℕ) (c : DoneScope) (k : ℕ) (from : Address) (attributes : List Attribute) (n : UseName) → slice_get cs t ≡ Some c → slice_get (scope files c.address) k ≡ Some (Used from attributes n) → (j : ℕ) × (slice_get ks j ≡ Some (Def from n.name.name.now))
+  original_met t c k from attributes n at kat =
+      let q = (d.each t c at).turn.has k (Used from attributes n) kat in
+      let id = named_at t c q.0 (Used from attributes n) at q.1 in
+      let e = entry_of id.0 c.address (local_name (Used from attributes n)) id.2 in
+      used_key ks from n.name.name.now (kind_of e.0.kind).parts (parts_at t c k (Used from attributes n) id.0 e.0 at kat id.2 e.1)
 
   -- what is used in a scope means something where it comes from
-  stated_name : (t : ℕ) (c : DoneScope) (from : Address) (n : UseName) (target : Item) → slice_get cs t ≡ Some c → Contains (scope files c.address) (Used from n) → item_at (all_items files) from ≡ Some target → meaning (scope_names target) n.name.name.now ≡ None → ⊥
-  stated_name t c from n target at among declared missing =
-      let k = at_contains (scope files c.address) (Used from n) among in
-      let j = original_met t c k.0 from n at k.1 in
+  stated_name : (t : ℕ) (c : DoneScope) (from : Address) (attributes : List Attribute) (n : UseName) (target : Item) → slice_get cs t ≡ Some c → Contains (scope files c.address) (Used from attributes n) → item_at (all_items files) from ≡ Some target → meaning (scope_names target) n.name.name.now ≡ None → ⊥
+  stated_name t c from attributes n target at among declared missing =
+      let k = at_contains (scope files c.address) (Used from attributes n) among in
+      let j = original_met t c k.0 from attributes n at k.1 in
       let name = n.name.name.now in
       let it = meaning_at j.0 from name j.1 in
       let same : meaning (scope files from) name ≡ meaning (scope_names target) name = ap (λ (xs : List ScopeName). meaning xs name) (scope_at files from target declared) in
@@ -134,7 +135,7 @@ module _ (files : List PackageFile) (decls : Decls) (written : List Meeting) (cs
 
   -- so it is a name of the scope that it comes from, and no function's
   pub stated : (t : ℕ) (c : DoneScope) (f : Fault) → slice_get cs t ≡ Some c → IsMissingName files (scope files c.address) f → ⊥
-  stated t c f at h = stated_name t c h.from h.n h.target at h.among h.declared h.missing
+  stated t c f at h = stated_name t c h.from h.attributes h.n h.target at h.among h.declared h.missing
 
   pub stated_type : (t : ℕ) (c : DoneScope) (f : Fault) → slice_get cs t ≡ Some c → IsFunctionUsed files (scope files c.address) f → ⊥
-  stated_type t c f at h = stated_name t c h.from h.n h.target at h.among h.declared h.missing
+  stated_type t c f at h = stated_name t c h.from h.attributes h.n h.target at h.among h.declared h.missing

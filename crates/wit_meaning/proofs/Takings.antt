@@ -80,7 +80,7 @@ pub record IsTakenAt (files : List PackageFile) (t : Taking) : Type 0 where
   pub part : Use
   pub among : slice_get (parts item) index ≡ Some (Using part)
   pub name : UseName
-  pub is : t ≡ taking (path_scope item.top part.from) name
+  pub is : t ≡ taking (path_scope item.top part.from) part.attributes.items name
   pub foreign : is_foreign t.from ≡ true
 
 pub taken_at : (files : List PackageFile) (k : ℕ) (t : Taking) → slice_get (takings files) k ≡ Some t → IsTakenAt files t
@@ -93,18 +93,19 @@ taken_at files k t at =
     of_part : (p : ℕ) (w : Item) → slice_get (all_items files) p ≡ Some w → (m : ℕ) (part : Part) → slice_get (parts w) m ≡ Some part → (j : ℕ) → slice_get (part_takings w.top part) j ≡ Some t → is_foreign t.from ≡ true → IsTakenAt files t
     of_part p w here m (Defining d) there j is foreign = absurd (let f : ⊥ = cc in f)
     of_part p w here m (Using u) there j is foreign =
-        let n = map_at (taking (path_scope w.top u.from)) u.names.items j t is in
+        let n = map_at (taking (path_scope w.top u.from) u.attributes.items) u.names.items j t is in
         record { place = p; item = w; at = here; index = m; part = u; among = there; name = n.0; is = sym n.2; foreign = foreign }
     of_part p w here m (Including i) there j is foreign = absurd (let f : ⊥ = cc in f)
     of_part p w here m (Doing g) there j is foreign = absurd (let f : ⊥ = cc in f)
 
 -- what is used from another package is taken
-pub taking_has : (files : List PackageFile) (q : ℕ) (w : Item) (m : ℕ) (u : Use) (j : ℕ) (n : UseName) → slice_get (all_items files) q ≡ Some w → slice_get (parts w) m ≡ Some (Using u) → slice_get u.names.items j ≡ Some n → is_foreign (path_scope w.top u.from) ≡ true → (k : ℕ) × (slice_get (takings files) k ≡ Some (taking (path_scope w.top u.from) n))
+pub taking_has : (files : List PackageFile) (q : ℕ) (w : Item) (m : ℕ) (u : Use) (j : ℕ) (n : UseName) → slice_get (all_items files) q ≡ Some w → slice_get (parts w) m ≡ Some (Using u) → slice_get u.names.items j ≡ Some n → is_foreign (path_scope w.top u.from) ≡ true → (k : ℕ) × (slice_get (takings files) k ≡ Some (taking (path_scope w.top u.from) u.attributes.items n))
 taking_has files q w m u j n at part name foreign =
     let s = path_scope w.top u.from in
-    let inner = flat_map_has (part_takings w.top) (parts w) m j (Using u) (taking s n) part (slice_get-map (taking s) u.names.items j ∙ ap (option_map (taking s)) name) in
-    let kept = kept_has (λ (x : Taking). is_foreign x.from) (flat_map (part_takings w.top) (parts w)) inner.0 (taking s n) foreign inner.1 in
-    flat_map_has item_takings (all_items files) q kept.0 w (taking s n) at kept.1
+    let xs = u.attributes.items in
+    let inner = flat_map_has (part_takings w.top) (parts w) m j (Using u) (taking s xs n) part (slice_get-map (taking s xs) u.names.items j ∙ ap (option_map (taking s xs)) name) in
+    let kept = kept_has (λ (x : Taking). is_foreign x.from) (flat_map (part_takings w.top) (parts w)) inner.0 (taking s xs n) foreign inner.1 in
+    flat_map_has item_takings (all_items files) q kept.0 w (taking s xs n) at kept.1
 
 -- a scope of another package is used where a path leads there
 pub foreign_target : (t : Target) → is_foreign (used_scope t) ≡ true → (p : PackageName) × (id : Id) × (t ≡ Foreign p id)
@@ -129,13 +130,13 @@ module _ (files : List PackageFile) where
     test t = same_address t.from s
 
     -- a name that is taken from a scope is one of it
-    pub taken_has : (j : ℕ) (t : Taking) → slice_get (first_takings files) j ≡ Some t → t.from ≡ s → (k : ℕ) × (slice_get (taken_names files s) k ≡ Some (Taken t.id))
+    pub taken_has : (j : ℕ) (t : Taking) → slice_get (first_takings files) j ≡ Some t → t.from ≡ s → (k : ℕ) × (slice_get (taken_names files s) k ≡ Some (Taken t.attributes t.id))
     taken_has j t at from =
         let k = kept_has test (first_takings files) j t (same_address-from t.from s from) at in
         (k.0, slice_get-map taken (filter test (first_takings files)) k.0 ∙ ap (option_map taken) k.1)
 
     -- and a name of it is taken
-    pub taken_name_at : (k : ℕ) (x : ScopeName) → slice_get (taken_names files s) k ≡ Some x → (j : ℕ) × (t : Taking) × (slice_get (first_takings files) j ≡ Some t) × (t.from ≡ s) × (x ≡ Taken t.id)
+    pub taken_name_at : (k : ℕ) (x : ScopeName) → slice_get (taken_names files s) k ≡ Some x → (j : ℕ) × (t : Taking) × (slice_get (first_takings files) j ≡ Some t) × (t.from ≡ s) × (x ≡ Taken t.attributes t.id)
     taken_name_at k x at =
         let t = map_at taken (filter test (first_takings files)) k x at in
         let it = kept_at test (first_takings files) k t.0 t.1 in

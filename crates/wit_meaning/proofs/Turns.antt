@@ -4,6 +4,7 @@ use Rattle.std.specs.Prelude.{slice_get, map}
 use Rattle.std.proofs.lemmas.List.Elements.{filter-append}
 use Rattle.std.proofs.lemmas.List.{length-map}
 use Rattle.std.proofs.lemmas.Option.{slice_get_within}
+use Rattle.wit_tree.specs.declared.tree.Attribute.{Attribute}
 use Rattle.wit_tree.specs.declared.tree.UseName.{UseName}
 use Rattle.wit_tree.specs.declared.tree.TypeDef.{TypeDef as Definition}
 use Rattle.wit_tree.specs.declared.tree.Id.{Id}
@@ -42,34 +43,34 @@ used_at xs i x at = let it = kept_at is_used xs i x at in (it.0, it.1)
 pub defined_at : (xs : List ScopeName) (i : ℕ) (x : ScopeName) → slice_get (defined xs) i ≡ Some x → (p : ℕ) × (slice_get xs p ≡ Some x)
 defined_at xs i x at = let it = kept_at is_defined xs i x at in (it.0, it.1)
 
-pub used_has : (xs : List ScopeName) (p : ℕ) (from : Address) (n : UseName) → slice_get xs p ≡ Some (Used from n) → (i : ℕ) × (slice_get (used xs) i ≡ Some (Used from n))
-used_has xs p from n at = kept_has is_used xs p (Used from n) refl at
+pub used_has : (xs : List ScopeName) (p : ℕ) (from : Address) (attributes : List Attribute) (n : UseName) → slice_get xs p ≡ Some (Used from attributes n) → (i : ℕ) × (slice_get (used xs) i ≡ Some (Used from attributes n))
+used_has xs p from attributes n at = kept_has is_used xs p (Used from attributes n) refl at
 
-taken_has : (xs : List ScopeName) (p : ℕ) (id : Id) → slice_get xs p ≡ Some (Taken id) → (i : ℕ) × (slice_get (used xs) i ≡ Some (Taken id))
-taken_has xs p id at = kept_has is_used xs p (Taken id) refl at
+taken_has : (xs : List ScopeName) (p : ℕ) (attributes : List Attribute) (id : Id) → slice_get xs p ≡ Some (Taken attributes id) → (i : ℕ) × (slice_get (used xs) i ≡ Some (Taken attributes id))
+taken_has xs p attributes id at = kept_has is_used xs p (Taken attributes id) refl at
 
 pub defined_has : (xs : List ScopeName) (p : ℕ) (d : Definition) → slice_get xs p ≡ Some (Defined d) → (i : ℕ) × (slice_get (defined xs) i ≡ Some (Defined d))
 defined_has xs p d at = kept_has is_defined xs p (Defined d) refl at
 
 -- none of these is taken from another package
 abbrev pub AreOwn : List ScopeName → Type 0
-AreOwn xs = (i : ℕ) (id : Id) → slice_get xs i ≡ Some (Taken id) → ⊥
+AreOwn xs = (i : ℕ) (attributes : List Attribute) (id : Id) → slice_get xs i ≡ Some (Taken attributes id) → ⊥
 
-is_used-true : (x : ScopeName) → is_used x ≡ true → ((id : Id) → x ≡ Taken id → ⊥) → (from : Address) × (n : UseName) × (x ≡ Used from n)
-is_used-true (Used from n) h own = (from, n, refl)
+is_used-true : (x : ScopeName) → is_used x ≡ true → ((attributes : List Attribute) (id : Id) → x ≡ Taken attributes id → ⊥) → (from : Address) × (attributes : List Attribute) × (n : UseName) × (x ≡ Used from attributes n)
+is_used-true (Used from attributes n) h own = (from, attributes, n, refl)
 is_used-true (Defined d) h own = absurd (let f : ⊥ = cc in f)
-is_used-true (Taken id) h own = absurd (own id refl)
+is_used-true (Taken attributes id) h own = absurd (own attributes id refl)
 
 is_defined-true : (x : ScopeName) → is_defined x ≡ true → (d : Definition) × (x ≡ Defined d)
-is_defined-true (Used from n) h = absurd (let f : ⊥ = cc in f)
+is_defined-true (Used from attributes n) h = absurd (let f : ⊥ = cc in f)
 is_defined-true (Defined d) h = (d, refl)
-is_defined-true (Taken id) h = absurd (let f : ⊥ = cc in f)
+is_defined-true (Taken attributes id) h = absurd (let f : ⊥ = cc in f)
 
 -- a used name is one that is used, where none is taken
-pub used_is : (xs : List ScopeName) → AreOwn xs → (i : ℕ) (x : ScopeName) → slice_get (used xs) i ≡ Some x → (from : Address) × (n : UseName) × (x ≡ Used from n)
+pub used_is : (xs : List ScopeName) → AreOwn xs → (i : ℕ) (x : ScopeName) → slice_get (used xs) i ≡ Some x → (from : Address) × (attributes : List Attribute) × (n : UseName) × (x ≡ Used from attributes n)
 used_is xs own i x at =
     let it = kept_at is_used xs i x at in
-    is_used-true x it.2 (λ id same. own it.0 id (it.1 ∙ ap Some same))
+    is_used-true x it.2 (λ attributes id same. own it.0 attributes id (it.1 ∙ ap Some same))
 
 -- and a defined one is a definition
 pub defined_is : (xs : List ScopeName) (i : ℕ) (x : ScopeName) → slice_get (defined xs) i ≡ Some x → (d : Definition) × (x ≡ Defined d)
@@ -77,9 +78,9 @@ defined_is xs i x at = is_defined-true x (kept_at is_defined xs i x at).2
 
 -- a name of a scope is used or defined
 pub either_at : (xs : List ScopeName) (p : ℕ) (x : ScopeName) → slice_get xs p ≡ Some x → ((i : ℕ) × (slice_get (used xs) i ≡ Some x)) ⊎ ((i : ℕ) × (slice_get (defined xs) i ≡ Some x))
-either_at xs p (Used from n) at = inl (used_has xs p from n at)
+either_at xs p (Used from attributes n) at = inl (used_has xs p from attributes n at)
 either_at xs p (Defined d) at = inr (defined_has xs p d at)
-either_at xs p (Taken id) at = inl (taken_has xs p id at)
+either_at xs p (Taken attributes id) at = inl (taken_has xs p attributes id at)
 
 -- none of these goes by the name
 abbrev pub IsFresh : List ℕ → List ScopeName → Type 0
@@ -128,15 +129,15 @@ distinct_apart xs ys d i x at j y there same =
 -- the used ones and the definitions hold every name
 parts_distinct : (xs : List ScopeName) → AreDistinct (used xs) → AreDistinct (defined xs) → AreApart (used xs) (defined xs) → AreDistinct xs
 parts_distinct [] a b apart = distinct_none
-parts_distinct (Used from n ∷ xs) a b apart =
-    let x = Used from n in
+parts_distinct (Used from attributes n ∷ xs) a b apart =
+    let x = Used from attributes n in
     let fresh : IsFresh (local_name x) xs = λ i y at same. elim (either_at xs i y at) [
       | inl h ↦ distinct_head x (used xs) a h.0 y h.1 same
       | inr h ↦ apart 0 x refl h.0 y h.1 same
     ] in
     distinct_cons x xs fresh (parts_distinct xs (distinct_tail x (used xs) a) b (λ i y at. apart (suc i) y at))
-parts_distinct (Taken id ∷ xs) a b apart =
-    let x = Taken id in
+parts_distinct (Taken attributes id ∷ xs) a b apart =
+    let x = Taken attributes id in
     let fresh : IsFresh (local_name x) xs = λ i y at same. elim (either_at xs i y at) [
       | inl h ↦ distinct_head x (used xs) a h.0 y h.1 same
       | inr h ↦ apart 0 x refl h.0 y h.1 same
@@ -189,12 +190,12 @@ in_turn_among xs order least i x at = elim (at_part (used xs) (defined (in_order
 
 -- and each name of the scope comes in turn
 pub in_turn_has : (xs : List ScopeName) (order : List ℕ) → IsOrder (rows_of xs) order → (p : ℕ) (x : ScopeName) → slice_get xs p ≡ Some x → (i : ℕ) × (slice_get (in_turn xs order) i ≡ Some x)
-in_turn_has xs order least p (Used from n) at =
-    let it = used_has xs p from n at in
-    (it.0, at_front (used xs) (defined (in_order xs order)) it.0 (Used from n) it.1)
-in_turn_has xs order least p (Taken id) at =
-    let it = taken_has xs p id at in
-    (it.0, at_front (used xs) (defined (in_order xs order)) it.0 (Taken id) it.1)
+in_turn_has xs order least p (Used from attributes n) at =
+    let it = used_has xs p from attributes n at in
+    (it.0, at_front (used xs) (defined (in_order xs order)) it.0 (Used from attributes n) it.1)
+in_turn_has xs order least p (Taken attributes id) at =
+    let it = taken_has xs p attributes id at in
+    (it.0, at_front (used xs) (defined (in_order xs order)) it.0 (Taken attributes id) it.1)
 in_turn_has xs order least p (Defined d) at =
     let there = in_order_all xs order least p (Defined d) at in
     let it = defined_has (in_order xs order) there.0 d there.1 in

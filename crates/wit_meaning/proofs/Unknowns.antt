@@ -5,6 +5,7 @@ use Rattle.std.specs.Option.{option_map, option_map_or}
 use Rattle.std.proofs.lemmas.Bool.{cases_Bool}
 use Rattle.std.proofs.lemmas.Option.{slice_get-map, slice_get_within}
 use Rattle.wit_tree.specs.declared.tree.Id.{Id}
+use Rattle.wit_tree.specs.declared.tree.Attribute.{Attribute}
 use Rattle.wit_tree.specs.declared.tree.PackageFile.{PackageFile}
 use Rattle.wit_types.specs.declared.types.TypeDef.{TypeDef}
 use Rattle.wit_meaning.specs.Form.{UnknownForm, kind_of}
@@ -44,26 +45,26 @@ first_foreign : (files : List PackageFile) (j : ℕ) (t : Taking) → slice_get 
 first_foreign files j t at = let k = firsts_at same_taking (takings files) j t at in (taken_at files k.0 t k.1).foreign
 
 -- a name of another package's scope is taken
-foreign_name : (files : List PackageFile) (s : Address) (k : ℕ) (x : ScopeName) → is_foreign s ≡ true → slice_get (scope files s) k ≡ Some x → (j : ℕ) × (t : Taking) × (slice_get (first_takings files) j ≡ Some t) × (t.from ≡ s) × (x ≡ Taken t.id)
+foreign_name : (files : List PackageFile) (s : Address) (k : ℕ) (x : ScopeName) → is_foreign s ≡ true → slice_get (scope files s) k ≡ Some x → (j : ℕ) × (t : Taking) × (slice_get (first_takings files) j ≡ Some t) × (t.from ≡ s) × (x ≡ Taken t.attributes t.id)
 foreign_name files (InterfaceNamed name) k x foreign at = absurd (let f : ⊥ = cc in f)
 foreign_name files (WorldNamed name) k x foreign at = absurd (let f : ⊥ = cc in f)
 foreign_name files (ForeignNamed p name) k x foreign at = taken_name_at files (ForeignNamed p name) k x at
 
 -- a name of a declared item is not
-own_in : (w : Option Item) (k : ℕ) (id : Id) → slice_get (option_map_or scope_names w []) k ≡ Some (Taken id) → ⊥
-own_in None k id at = let f : ⊥ = cc in f
-own_in (Some w) k id at = own_names w k id at
+own_in : (w : Option Item) (k : ℕ) (attributes : List Attribute) (id : Id) → slice_get (option_map_or scope_names w []) k ≡ Some (Taken attributes id) → ⊥
+own_in None k attributes id at = let f : ⊥ = cc in f
+own_in (Some w) k attributes id at = own_names w k attributes id at
 
-own_name : (files : List PackageFile) (s : Address) (k : ℕ) (id : Id) → is_foreign s ≡ false → slice_get (scope files s) k ≡ Some (Taken id) → ⊥
-own_name files (InterfaceNamed name) k id own at = own_in (item_at (all_items files) (InterfaceNamed name)) k id at
-own_name files (WorldNamed name) k id own at = own_in (item_at (all_items files) (WorldNamed name)) k id at
-own_name files (ForeignNamed p name) k id own at = let f : ⊥ = cc in f
+own_name : (files : List PackageFile) (s : Address) (k : ℕ) (attributes : List Attribute) (id : Id) → is_foreign s ≡ false → slice_get (scope files s) k ≡ Some (Taken attributes id) → ⊥
+own_name files (InterfaceNamed name) k attributes id own at = own_in (item_at (all_items files) (InterfaceNamed name)) k attributes id at
+own_name files (WorldNamed name) k attributes id own at = own_in (item_at (all_items files) (WorldNamed name)) k attributes id at
+own_name files (ForeignNamed p name) k attributes id own at = let f : ⊥ = cc in f
 
 -- only what is taken has an unknown form
-unknown_taken : (x : ScopeName) → name_form x ≡ UnknownForm → (id : Id) × (x ≡ Taken id)
-unknown_taken (Used from n) h = absurd (let f : ⊥ = cc in f)
+unknown_taken : (x : ScopeName) → name_form x ≡ UnknownForm → (attributes : List Attribute) × (id : Id) × (x ≡ Taken attributes id)
+unknown_taken (Used from attributes n) h = absurd (let f : ⊥ = cc in f)
 unknown_taken (Defined d) h = absurd (body_known d.body h)
-unknown_taken (Taken id) h = (id, refl)
+unknown_taken (Taken attributes id) h = (attributes, id, refl)
 
 module _ (files : List PackageFile) (decls : Decls) (written : List Meeting) (cs : List DoneScope) (es : List TypeDef) (d : IsDone files decls written cs es) (front : Grown (map taking_key (first_takings files)) (keys d.met)) (formed : (j : ℕ) (e : TypeDef) → At es j e → e.name ≡ None → IsAnonymousForm (kind_of e.kind).form) where
   abbrev ks : List Key
@@ -108,7 +109,7 @@ module _ (files : List PackageFile) (decls : Decls) (written : List Meeting) (cs
       let x = name_at i s name e here there in
       elim (cases_Bool (is_foreign s)) [
         | inl foreign ↦ foreign_front i s name x.0 x.1 here foreign x.2 x.4
-        | inr own ↦ absurd (let t = unknown_taken x.1 (sym x.3 ∙ unknown) in own_name files s x.0 t.0 own (x.2 ∙ ap Some t.1))
+        | inr own ↦ absurd (let t = unknown_taken x.1 (sym x.3 ∙ unknown) in own_name files s x.0 t.0 t.1 own (x.2 ∙ ap Some t.2))
       ]
   unknown_at i (Whole form parts) e here there unknown = absurd (subst IsAnonymousForm unknown (formed i e (record { is = there }) (d.meeting.keyed.each i (Whole form parts) e here there).name))
 

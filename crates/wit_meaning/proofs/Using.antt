@@ -8,6 +8,7 @@ use Rattle.std.proofs.lemmas.Option.{slice_get-map}
 use Rattle.std.proofs.lemmas.List.{map-append}
 use Rattle.wit_types.specs.declared.types.TypeDef.{TypeDef}
 use Rattle.wit_types.specs.declared.types.TypeOwner.{TypeOwner}
+use Rattle.wit_tree.specs.declared.tree.Attribute.{Attribute}
 use Rattle.wit_tree.specs.declared.tree.UseName.{UseName}
 use Rattle.wit_meaning.specs.Address.{Address}
 use Rattle.wit_meaning.specs.Source.{ScopeName, Used, local_name}
@@ -30,7 +31,7 @@ listed_has names xs listed = record {
 }
 
 -- a used name more
-pub listed_more : {old new : List TypeDef} {cs : List Cell} {o : TypeOwner} {names names' : Names} (xs : List ScopeName) (from : Address) (n : UseName) → map (λ p. p.0) names ≡ local_names xs → IsUsed old new cs o names names' from n → map (λ p. p.0) names' ≡ local_names (xs ++ Used from n ∷ [])
-listed_more {old} {new} {cs} {o} {names} {names'} xs from n listed u =
-    let x = Used from n in
+pub listed_more : {old new : List TypeDef} {cs : List Cell} {o : TypeOwner} {names names' : Names} (xs : List ScopeName) (from : Address) (attributes : List Attribute) (n : UseName) → map (λ p. p.0) names ≡ local_names xs → IsUsed old new cs o names names' from attributes n → map (λ p. p.0) names' ≡ local_names (xs ++ Used from attributes n ∷ [])
+listed_more {old} {new} {cs} {o} {names} {names'} xs from attributes n listed u =
+    let x = Used from attributes n in
     ap (map (λ (p : List ℕ × ℕ). p.0)) u.added.inserted ∙ names-insert_entry names (local_name x) (length old) u.free ∙ ap (λ ns. ns ++ local_name x ∷ []) listed ∙ sym (map-append local_name xs (x ∷ []))

@@ -5,6 +5,7 @@ use Rattle.std.specs.Option.{option_map, option_map_or}
 use Rattle.std.specs.Str.{bytes_eq}
 use Rattle.std.proofs.lemmas.Bool.{cases_Bool, not-true}
 use Rattle.wit_tree.specs.declared.tree.Id.{Id}
+use Rattle.wit_tree.specs.declared.tree.Attribute.{Attribute}
 use Rattle.wit_tree.specs.declared.tree.Use.{Use}
 use Rattle.wit_tree.specs.declared.tree.UsePath.{UsePath}
 use Rattle.wit_tree.specs.declared.tree.UsePath.TheVariants as path
@@ -163,26 +164,26 @@ pub record IsVisited (files : List PackageFile) (p : PackageName) (id : Id) : Ty
   pub at : slice_get (foreign_visits files) place ≡ Some v
   pub is : visited v ≡ ForeignNamed p id.name.now
 
-foreign_path : (world : Bool) (from : UsePath) (p : PackageName) (id : Id) → path_target from ≡ Foreign p id → (v : ForeignVisit) × (slice_get (path_visits world from) 0 ≡ Some v) × (visited v ≡ ForeignNamed p id.name.now)
-foreign_path world (path.Id other) p id h = absurd (let f : ⊥ = cc in f)
-foreign_path world (path.Package of other) p id h =
+foreign_path : (attributes : List Attribute) (world : Bool) (from : UsePath) (p : PackageName) (id : Id) → path_target from ≡ Foreign p id → (v : ForeignVisit) × (slice_get (path_visits attributes world from) 0 ≡ Some v) × (visited v ≡ ForeignNamed p id.name.now)
+foreign_path attributes world (path.Id other) p id h = absurd (let f : ⊥ = cc in f)
+foreign_path attributes world (path.Package of other) p id h =
     let whose : package_of of ≡ p = cc in
     let name : other ≡ id = cc in
-    (record { of = of; id = other; wants_world = world }, refl, ap (λ x. ForeignNamed x other.name.now) whose ∙ ap (λ (x : Id). ForeignNamed p x.name.now) name)
+    (record { attributes = attributes; of = of; id = other; wants_world = world }, refl, ap (λ x. ForeignNamed x other.name.now) whose ∙ ap (λ (x : Id). ForeignNamed p x.name.now) name)
 
 -- a name at the top of a file that leads to another package is that of a `use`
 foreign_top : (a : AstItem) (p : PackageName) (id : Id) → (top_name a).target ≡ Foreign p id → (v : ForeignVisit) × (slice_get (declaration_visits a) 0 ≡ Some v) × (visited v ≡ ForeignNamed p id.name.now)
 foreign_top (ast.Interface i) p id h = absurd (let wrong : Local i.name ≡ Foreign p id = h in let f : ⊥ = cc in f)
 foreign_top (ast.World w) p id h = absurd (let wrong : Local w.name ≡ Foreign p id = h in let f : ⊥ = cc in f)
-foreign_top (ast.Use u) p id h = foreign_path false u.item p id h
+foreign_top (ast.Use u) p id h = foreign_path u.attributes.items false u.item p id h
 
 top_leads : (o : Option TopName) (other : Id) (p : PackageName) (id : Id) → option_map_or top_target o (Local other) ≡ Foreign p id → (t : TopName) × (o ≡ Some t) × (t.target ≡ Foreign p id)
 top_leads None other p id h = absurd (let f : ⊥ = cc in f)
 top_leads (Some t) other p id h = (t, refl, h)
 
 -- where a path of a part of an item leads to another package, that item is visited
-pub path_visited : (files : List PackageFile) (q : ℕ) (w : Item) (m : ℕ) (x : Part) (world : Bool) (from : UsePath) (p : PackageName) (id : Id) → slice_get (all_items files) q ≡ Some w → slice_get (parts w) m ≡ Some x → part_visits x ≡ path_visits world from → leads w.top from ≡ Foreign p id → IsVisited files p id
-path_visited files q w m x world from p id at part visits lead = by_path (item_origin files q w at) from refl lead
+pub path_visited : (files : List PackageFile) (q : ℕ) (w : Item) (m : ℕ) (x : Part) (attributes : List Attribute) (world : Bool) (from : UsePath) (p : PackageName) (id : Id) → slice_get (all_items files) q ≡ Some w → slice_get (parts w) m ≡ Some x → part_visits x ≡ path_visits attributes world from → leads w.top from ≡ Foreign p id → IsVisited files p id
+path_visited files q w m x attributes world from p id at part visits lead = by_path (item_origin files q w at) from refl lead
   where
     by_path : IsOrigin files w → (to : UsePath) → from ≡ to → leads w.top to ≡ Foreign p id → IsVisited files p id
     by_path origin (path.Id other) same h =
@@ -193,14 +194,14 @@ path_visited files q w m x world from p id at part visits lead = by_path (item_o
         let n = declaration_visited files origin.place j.0 0 origin.file a.0 v.0 origin.at a.1 v.1 in
         record { place = n.0; v = v.0; at = n.1; is = v.2 }
     by_path origin (path.Package of other) same h =
-        let v = foreign_path world from p id (ap path_target same ∙ h) in
+        let v = foreign_path attributes world from p id (ap path_target same ∙ h) in
         let inner = flat_map_has part_visits (parts w) m 0 x v.0 part (ap (λ (l : List ForeignVisit). slice_get l 0) visits ∙ v.1) in
         let n = declaration_visited files origin.place origin.index inner.0 origin.file origin.declaration v.0 origin.at origin.among (ap (λ (l : List ForeignVisit). slice_get l inner.0) origin.visits ∙ inner.1) in
         record { place = n.0; v = v.0; at = n.1; is = v.2 }
 
 -- so where the path of a `use` does
 pub leads_visited : (files : List PackageFile) (q : ℕ) (w : Item) (m : ℕ) (u : Use) (p : PackageName) (id : Id) → slice_get (all_items files) q ≡ Some w → slice_get (parts w) m ≡ Some (Using u) → leads w.top u.from ≡ Foreign p id → IsVisited files p id
-leads_visited files q w m u p id at part lead = path_visited files q w m (Using u) false u.from p id at part refl lead
+leads_visited files q w m u p id at part lead = path_visited files q w m (Using u) u.attributes.items false u.from p id at part refl lead
 
 -- the path of a `use` is one of an item's
 pub use_path_at : (w : Item) (m : ℕ) (u : Use) → slice_get (parts w) m ≡ Some (Using u) → Contains (use_paths w) u.from

@@ -33,36 +33,37 @@ use Rattle.wit_meaning.specs.Form.{AliasForm}
 use Rattle.wit_meaning.specs.Node.{OfScope, Head, Leaf, Named}
 use Rattle.wit_meaning.specs.Node as node
 use Rattle.wit_meaning.specs.Address.{Address, InterfaceNamed, WorldNamed}
+use Rattle.wit_meaning.specs.Notes.{no_docs}
 use Rattle.wit_meaning.specs.Source.{TheInterface, TheWorld, Item, top_names, all_items, Used, Defined, scope_names, source_tree}
 use Rattle.wit_meaning.specs.Meet.{Def, Meeting}
 use Rattle.wit_meaning.specs.Scope.{in_order, item_rows, interfaces_of, worlds_of}
-use Rattle.wit_meaning.specs.Shape.{Word, no_docs}
+use Rattle.wit_meaning.specs.Shape.{Word}
 use Rattle.wit_meaning.specs.Package.{names_of, package_tree}
 use Rattle.wit_meaning.specs.Whole.{Ordered, addresses, turned, ordered_names, meetings, type_imports, IsInclude}
-use Rattle.wit_meaning.proofs.Examples.{at, id, vec, header}
+use Rattle.wit_meaning.proofs.Examples.{at, id, vec, no_comments, untold, header}
 
 -- package foo:foo; interface x { type t = u8; } world v { include w; } world w { use x.{t}; type s = t; }
 module _ (ptr : Ptr) (alloc : Global) where
   abbrev t : Definition
-  t = record { name = id ptr alloc (codes "t") (at 36 37) refl; body = Plain (written.U8 (at 40 42)) }
+  t = record { docs = no_comments ptr alloc; attributes = untold ptr alloc; name = id ptr alloc (codes "t") (at 36 37) refl; body = Plain (written.U8 (at 40 42)) }
 
   abbrev x : WrittenInterface
-  x = record { name = id ptr alloc (codes "x") (at 27 28) refl; items = vec ptr alloc (interface_item.TypeDef t ∷ []) (lit< tt) }
+  x = record { docs = no_comments ptr alloc; attributes = untold ptr alloc; name = id ptr alloc (codes "x") (at 27 28) refl; items = vec ptr alloc (interface_item.TypeDef t ∷ []) (lit< tt) }
 
   abbrev include_w : Include
-  include_w = record { from = path.Id (id ptr alloc (codes "w") (at 64 65) refl); names = vec ptr alloc [] (lit< tt) }
+  include_w = record { attributes = untold ptr alloc; from = path.Id (id ptr alloc (codes "w") (at 64 65) refl); names = vec ptr alloc [] (lit< tt) }
 
   abbrev v : WrittenWorld
-  v = record { name = id ptr alloc (codes "v") (at 52 53) refl; items = vec ptr alloc (world_item.Include include_w ∷ []) (lit< tt) }
+  v = record { docs = no_comments ptr alloc; attributes = untold ptr alloc; name = id ptr alloc (codes "v") (at 52 53) refl; items = vec ptr alloc (world_item.Include include_w ∷ []) (lit< tt) }
 
   abbrev used_t : UseName
   used_t = record { name = id ptr alloc (codes "t") (at 86 87) refl; as_ = None }
 
   abbrev s : Definition
-  s = record { name = id ptr alloc (codes "s") (at 95 96) refl; body = Plain (written.Name (id ptr alloc (codes "t") (at 99 100) refl)) }
+  s = record { docs = no_comments ptr alloc; attributes = untold ptr alloc; name = id ptr alloc (codes "s") (at 95 96) refl; body = Plain (written.Name (id ptr alloc (codes "t") (at 99 100) refl)) }
 
   abbrev w : WrittenWorld
-  w = record { name = id ptr alloc (codes "w") (at 75 76) refl; items = vec ptr alloc (world_item.Use (record { from = path.Id (id ptr alloc (codes "x") (at 83 84) refl); names = vec ptr alloc (used_t ∷ []) (lit< tt) }) ∷ world_item.TypeDef s ∷ []) (lit< tt) }
+  w = record { docs = no_comments ptr alloc; attributes = untold ptr alloc; name = id ptr alloc (codes "w") (at 75 76) refl; items = vec ptr alloc (world_item.Use (record { attributes = untold ptr alloc; from = path.Id (id ptr alloc (codes "x") (at 83 84) refl); names = vec ptr alloc (used_t ∷ []) (lit< tt) }) ∷ world_item.TypeDef s ∷ []) (lit< tt) }
 
   abbrev file : PackageFile
   file = record { package_id = Some (header ptr alloc); decl_list = record { items = vec ptr alloc (ast.Interface x ∷ ast.World v ∷ ast.World w ∷ []) (lit< tt) } }
@@ -90,14 +91,14 @@ module _ (ptr : Ptr) (alloc : Global) where
   worlds_in_order : worlds_of (in_order (all_items files) (0 ∷ 2 ∷ 1 ∷ [])) ≡ (w_item ∷ v_item ∷ [])
   worlds_in_order = refl
 
-  names_of_w : scope_names w_item ≡ (Used (InterfaceNamed (codes "x")) used_t ∷ Defined s ∷ [])
+  names_of_w : scope_names w_item ≡ (Used (InterfaceNamed (codes "x")) [] used_t ∷ Defined s ∷ [])
   names_of_w = refl
 
   abbrev ordered_w : Ordered
   ordered_w = record { item = w_item; order = 0 ∷ 1 ∷ [] }
 
   abbrev name_met : Address → List ℕ → Span → Meeting
-  name_met scope name span = record { key = Def scope name; span = span }
+  name_met scope name span = record { key = Def scope name; span = span; given = Unknown }
 
   -- x's t is met before w's, which is met before s
   met_in_turn : meetings (map turned (record { item = x_item; order = 0 ∷ [] } ∷ ordered_w ∷ record { item = v_item; order = [] } ∷ []))
@@ -124,7 +125,7 @@ module _ (ptr : Ptr) (alloc : Global) where
   worlds = world (codes "w") (type_imports (ordered_names ordered_w) ((codes "t", 1) ∷ (codes "s", 2) ∷ [])) [] (at 75 76) ∷ world (codes "v") [] (included ∷ []) (at 52 53) ∷ []
 
   abbrev whole : UnresolvedPackage
-  whole = record { name = record { namespace = codes "foo"; name = codes "foo"; version = None }; worlds = worlds; interfaces = x_entry ∷ []; types = types; foreign_deps = []; name_span = at 8 15; unknown_type_spans = []; foreign_dep_spans = []; required_resource_types = [] }
+  whole = record { docs = no_docs; name = record { namespace = codes "foo"; name = codes "foo"; version = None }; worlds = worlds; interfaces = x_entry ∷ []; types = types; foreign_deps = []; name_span = at 8 15; unknown_type_spans = []; foreign_dep_spans = []; required_resource_types = [] }
 
   -- w has its types under their names
   names_in_package : names_of whole (owner.World 0) ≡ ((codes "t", 1) ∷ (codes "s", 2) ∷ [])

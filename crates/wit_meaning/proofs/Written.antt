@@ -10,6 +10,7 @@ use Rattle.wit_tree.specs.declared.tree.«Type».{«Type» as Written, Held-Type
 use Rattle.wit_tree.specs.declared.tree.«Type».TheVariants as written
 use Rattle.wit_tree.proofs.Rows.{tuple_types}
 use Rattle.wit_tree.specs.Parts.{held_types, row_types, part_types}
+use Rattle.wit_types.specs.declared.stability.Stability.{Stability}
 use Rattle.wit_types.specs.declared.types.TypeDef.{TypeDef}
 use Rattle.wit_meaning.specs.Shape.{Shape, Prim, Word, Of, Shapes, End, More, shape_of, held_shape, row_shapes, all_shapes, head, words, all_words, handles, held_handles, row_handles, all_handles}
 use Rattle.wit_meaning.specs.Address.{Address}
@@ -61,9 +62,9 @@ pub all_exprs-append : (s : Address) (ts us : List Written) → exprs_of s (all_
 all_exprs-append s [] us = refl
 all_exprs-append s (t ∷ ts) us = ap (exprs.More (expr_of s (shape_of t))) (all_exprs-append s ts us)
 
-pub all_meetings-append : (s : Address) (ts us : List Written) → shapes_meetings s (all_shapes (ts ++ us)) ≡ shapes_meetings s (all_shapes ts) ++ shapes_meetings s (all_shapes us)
-all_meetings-append s [] us = refl
-all_meetings-append s (t ∷ ts) us = ap (λ ms. shape_meetings s (shape_of t) ++ ms) (all_meetings-append s ts us) ∙ sym (append_assoc (shape_meetings s (shape_of t)) (shapes_meetings s (all_shapes ts)) (shapes_meetings s (all_shapes us)))
+pub all_meetings-append : (s : Address) (given : Stability) (ts us : List Written) → shapes_meetings s given (all_shapes (ts ++ us)) ≡ shapes_meetings s given (all_shapes ts) ++ shapes_meetings s given (all_shapes us)
+all_meetings-append s given [] us = refl
+all_meetings-append s given (t ∷ ts) us = ap (λ ms. shape_meetings s given (shape_of t) ++ ms) (all_meetings-append s given ts us) ∙ sym (append_assoc (shape_meetings s given (shape_of t)) (shapes_meetings s given (all_shapes ts)) (shapes_meetings s given (all_shapes us)))
 
 pub all_words-append : (ts us : List Written) → all_words (all_shapes (ts ++ us)) ≡ all_words (all_shapes ts) ++ all_words (all_shapes us)
 all_words-append [] us = refl

@@ -1,5 +1,5 @@
 -- What resolving a function does to the arena, and what the function then says, from what the names of a scope stand for.
-use Rattle.std.specs.Prelude.{◌≡◌, ℕ, List, [], ◌∷◌, length, None, Some, slice_get}
+use Rattle.std.specs.Prelude.{◌≡◌, ℕ, List, [], ◌∷◌, length, Some, slice_get}
 use Rattle.std.specs.List.{flat_map}
 use Rattle.wit_types.specs.declared.stability.Stability.TheVariants.{Unknown}
 use Rattle.wit_types.specs.declared.types.«Type».{«Type» as Ty}
@@ -8,10 +8,10 @@ use Rattle.wit_model.specs.declared.function.Function.{Function}
 use Rattle.wit_model.specs.declared.function.FunctionKind.{FunctionKind}
 use Rattle.wit_model.specs.declared.function.FunctionKind.TheVariants as kind
 use Rattle.wit_model.specs.declared.function.Param.{Param}
-use Rattle.wit_meaning.specs.Shape.{Shape, Shapes, End, More, no_docs}
+use Rattle.wit_meaning.specs.Shape.{Shape, Shapes, End, More}
 use Rattle.wit_meaning.specs.Address.{Address}
 use Rattle.wit_meaning.specs.Function.{Role, Freestanding, Method, Static, Constructor, SourceParam, SourceFunction, all_params}
-use Rattle.wit_meaning.specs.Functions.{freestanding_kind, method_kind, static_kind}
+use Rattle.wit_meaning.specs.Functions.{freestanding_kind, method_kind, static_kind, IsNoted}
 use Rattle.wit_meaning.specs.Expr.{exprs_of}
 use Rattle.wit_meaning.specs.Meet.{shape_meetings}
 use Rattle.wit_meaning.specs.Resolving.{Env, AreResolved}
@@ -23,7 +23,7 @@ gathered (x ∷ xs) = More x (gathered xs)
 
 -- From whatever was met, the new arena is that with what is met in these types, and they stand for those.
 abbrev pub AreShapes : List TypeDef → List TypeDef → Address → Env → List Shape → List Ty → Type 0
-AreShapes old new s env xs ts = AreResolved old new s env (flat_map (shape_meetings s) xs) (exprs_of s (gathered xs)) ts
+AreShapes old new s env xs ts = AreResolved old new s env (flat_map (shape_meetings s Unknown) xs) (exprs_of s (gathered xs)) ts
 
 -- the kind of a function of a role, where the names of a scope stand for these places
 abbrev pub IsKindIn : Env → Role → FunctionKind → Type 0
@@ -43,6 +43,4 @@ pub record SaysFunction (env : Env) (fn : SourceFunction) (f : Function) : Type 
   pub count : length f.params ≡ length (all_params fn)
   pub params : (k : ℕ) (w : SourceParam) (p : Param) → slice_get (all_params fn) k ≡ Some w → slice_get f.params k ≡ Some p → SaysParam w p
   pub span : f.span ≡ fn.span
-  pub docs : f.docs ≡ no_docs
-  pub stability : f.stability ≡ Unknown
-  pub external_id : f.external_id ≡ None
+  pub notes : IsNoted fn f

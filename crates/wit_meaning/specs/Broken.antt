@@ -1,10 +1,14 @@
 -- The rules, and what it is that breaks each.
-use Rattle.std.specs.Prelude.{◌≡◌, ℕ, ◌⊎◌, Bool, true, false, List, [], ◌∷◌, ◌++◌, map, Option, Some, None, Contains, slice_get}
+use Rattle.std.specs.Prelude.{◌≡◌, ◌≢◌, ℕ, ◌⊎◌, Bool, true, false, List, [], ◌∷◌, ◌++◌, map, Option, Some, None, Contains, slice_get}
+use Rattle.std.specs.List.{filter_map}
 use Rattle.std.specs.Option.{option_map, option_or}
 use Rattle.semver.specs.Identifiers.{parts_of}
 use Rattle.wit_tree.specs.declared.error.ParseError.{ParseError}
 use Rattle.wit_tree.specs.Refusal.{IsWantOfMemory}
 use Rattle.wit_tree.specs.declared.tree.Id.{Id}
+use Rattle.wit_tree.specs.declared.tree.Attribute.{Attribute}
+use Rattle.wit_tree.specs.declared.tree.Use.{Use as WrittenUse}
+use Rattle.wit_tree.specs.declared.tree.Include.{Include}
 use Rattle.wit_tree.specs.declared.tree.TypeDef.{TypeDef}
 use Rattle.wit_tree.specs.declared.tree.UsePath.{UsePath}
 use Rattle.wit_tree.specs.declared.tree.UseName.{UseName}
@@ -14,14 +18,15 @@ use Rattle.wit_tree.specs.declared.tree.AstItem.TheVariants.{Use as ToplevelItem
 use Rattle.wit_tree.specs.declared.tree.PackageName.{PackageName as Header}
 use Rattle.wit_tree.specs.declared.tree.PackageFile.{PackageFile}
 use Rattle.wit_order.specs.Table.{Row, IsEdge, IsMissing, IsCyclic, IsOrder}
+use Rattle.wit_meaning.specs.Notes.{IsBrokenStability, IsBrokenNotes}
 use Rattle.wit_meaning.specs.Bodies.{IsRepeated, IsBrokenBody}
 use Rattle.wit_meaning.specs.Fault.{Fault, fault_of, fault, missing_at, cyclic_at, item_word, type_word, name_word}
 use Rattle.wit_meaning.specs.Address.{Address, ForeignNamed}
-use Rattle.wit_meaning.specs.Source.{path_id, Target, Local, Foreign, path_target, leads, TopName, top_names, top_text, Item, item_id, item_name, is_world, all_items, item_named, item_at, ScopeName, Used, Defined, local_id, local_name, scope_names, meaning, address}
-use Rattle.wit_meaning.specs.Foreign.{is_foreign_world, foreign_at}
+use Rattle.wit_meaning.specs.Source.{path_id, Target, Local, Foreign, path_target, leads, TopName, top_names, top_text, Item, item_id, item_name, declared_attributes, is_world, all_items, item_named, item_at, ScopeName, Used, Defined, local_id, local_name, scope_names, meaning, address}
+use Rattle.wit_meaning.specs.Foreign.{ForeignVisit, foreign_visits, is_foreign_world, foreign_at}
 use Rattle.wit_meaning.specs.Function.{SourceFunction, functions, free_names, item_types}
 use Rattle.wit_meaning.specs.Signature.{Called, called_key, name_called, function_called, IsBrokenFunction, IsNoResource, IsUnpairedSetter}
-use Rattle.wit_meaning.specs.Scope.{use_paths, include_paths, item_rows, rows_of, used, defined, in_turn}
+use Rattle.wit_meaning.specs.Scope.{use_paths, include_paths, uses, includes, item_rows, rows_of, used, defined, in_turn}
 
 -- no file has a header
 pub record IsHeaderless (files : List PackageFile) (f : Fault) : Type 0 where
@@ -58,6 +63,14 @@ abbrev pub last_header : List PackageFile → Option Header
 last_header [] = None
 last_header (f ∷ fs) = option_or (last_header fs) f.package_id
 
+-- the headers of files, in push order
+abbrev pub headers : List PackageFile → List Header
+headers files = filter_map (λ f. f.package_id) files
+
+-- a header has docs
+abbrev pub IsDocumented : Header → Type 0
+IsDocumented h = h.docs.docs.items ≢ []
+
 -- two headers name one package, in one version or both in none
 pub record IsSamePackage (a b : Header) : Type 0 where
   pub namespace : a.namespace.name.now ≡ b.namespace.name.now
@@ -72,6 +85,20 @@ pub record IsMismatch (previous current : Option Header) (f : Fault) : Type 0 wh
   pub now : current ≡ Some own
   pub other : IsSamePackage before own → ⊥
   pub is : f ≡ fault 1 own.span
+
+-- a header that has docs comes behind one that has docs
+pub record IsSecondDocs (earlier : List Header) (current : Option Header) (f : Fault) : Type 0 where
+  pub own : Header
+  pub now : current ≡ Some own
+  pub documented : IsDocumented own
+  pub before : Header
+  pub among : Contains earlier before
+  pub documented_before : IsDocumented before
+  pub is : f ≡ fault 2 own.docs.span
+
+-- both a file's header and one of the files before it have docs
+abbrev pub IsDocumentedTwice : List PackageFile → PackageFile → Fault → Type 0
+IsDocumentedTwice files file f = IsSecondDocs (headers files) file.package_id f
 
 -- a file's header names another package than the last header of the files before it
 abbrev pub IsOtherPackage : List PackageFile → PackageFile → Fault → Type 0
@@ -134,8 +161,9 @@ pub record IsInterfaceIncluded (files : List PackageFile) (i : Item) (f : Fault)
 -- a used name is none of the interface that it comes from, nor of a function there
 pub record IsMissingName (files : List PackageFile) (xs : List ScopeName) (f : Fault) : Type 0 where
   pub from : Address
+  pub attributes : List Attribute
   pub n : UseName
-  pub among : Contains xs (Used from n)
+  pub among : Contains xs (Used from attributes n)
   pub target : Item
   pub declared : item_at (all_items files) from ≡ Some target
   pub missing : meaning (scope_names target) n.name.name.now ≡ None
@@ -145,8 +173,9 @@ pub record IsMissingName (files : List PackageFile) (xs : List ScopeName) (f : F
 -- it is that of a function
 pub record IsFunctionUsed (files : List PackageFile) (xs : List ScopeName) (f : Fault) : Type 0 where
   pub from : Address
+  pub attributes : List Attribute
   pub n : UseName
-  pub among : Contains xs (Used from n)
+  pub among : Contains xs (Used from attributes n)
   pub target : Item
   pub declared : item_at (all_items files) from ≡ Some target
   pub missing : meaning (scope_names target) n.name.name.now ≡ None
@@ -184,6 +213,7 @@ pub data IsBrokenScope (xs : List ScopeName) (fns : List SourceFunction) (f : Fa
   DefinedTwice : IsDefinedTwice xs f → IsBrokenScope xs fns f
   MissingType : IsMissingType xs f → IsBrokenScope xs fns f
   CyclicType : IsCyclicType xs f → IsBrokenScope xs fns f
+  Notes : (d : TypeDef) → Contains xs (Defined d) → IsBrokenNotes d.attributes.items f → IsBrokenScope xs fns f
   Body : (d : TypeDef) → Contains xs (Defined d) → IsBrokenBody d.body f → IsBrokenScope xs fns f
   Function : (k : ℕ) (fn : SourceFunction) → slice_get fns k ≡ Some fn → IsBrokenFunction xs fns k fn f → IsBrokenScope xs fns f
   FoldedTwice : IsFoldedTwice xs fns f → IsBrokenScope xs fns f
@@ -195,9 +225,18 @@ pub data IsBrokenItems (files : List PackageFile) (f : Fault) : Type 0 where
   MissingItem : IsMissingItem files f → IsBrokenItems files f
   CyclicItem : IsCyclicItem files f → IsBrokenItems files f
 
--- what is wrong with those, or with what paths at the top of files lead to
+-- a `use` at the top of a file has attributes
+pub record IsAttributedTopUse (declarations : List AstItem) (f : Fault) : Type 0 where
+  pub u : ToplevelUse
+  pub among : Contains declarations (ToplevelItem u)
+  pub attributed : u.attributes.items ≢ []
+  pub is : f ≡ fault 9 u.span
+
+-- what is wrong with those, with attributes in front of paths to other packages, with a `use` at the top of a file, or with what such a path leads to
 pub data IsBrokenNames (files : List PackageFile) (f : Fault) : Type 0 where
   Items : IsBrokenItems files f → IsBrokenNames files f
+  ForeignStability : (v : ForeignVisit) → Contains (foreign_visits files) v → IsBrokenStability v.attributes f → IsBrokenNames files f
+  AttributedTopUse : (file : PackageFile) → Contains files file → IsAttributedTopUse file.decl_list.items.items f → IsBrokenNames files f
   MissingOriginal : (file : PackageFile) → Contains files file → IsMissingOriginal (all_items files) file.decl_list.items.items f → IsBrokenNames files f
 
 -- what is wrong with where a `use` of an item leads
@@ -218,6 +257,9 @@ pub record IsSetterAlone (i : Item) (f : Fault) : Type 0 where
 pub data IsBroken (files : List PackageFile) (f : Fault) : Type 0 where
   Headerless : IsHeaderless files f → IsBroken files f
   Names : IsBrokenNames files f → IsBroken files f
+  ItemStability : (i : Item) → Contains (all_items files) i → IsBrokenStability (declared_attributes i.declared) f → IsBroken files f
+  UseNotes : (i : Item) → Contains (all_items files) i → (u : WrittenUse) → Contains (uses i) u → IsBrokenNotes u.attributes.items f → IsBroken files f
+  IncludeStability : (i : Item) → Contains (all_items files) i → (n : Include) → Contains (includes i) n → IsBrokenStability n.attributes.items f → IsBroken files f
   Use : (i : Item) → Contains (all_items files) i → IsBrokenUse files i f → IsBroken files f
   InterfaceIncluded : (i : Item) → Contains (all_items files) i → IsInterfaceIncluded files i f → IsBroken files f
   MissingName : (i : Item) → Contains (all_items files) i → IsMissingName files (scope_names i) f → IsBroken files f

@@ -2,6 +2,7 @@
 use Rattle.std.specs.Prelude.{Bool, true, false, not, List, [], ◌∷◌, Option, find}
 use Rattle.std.specs.List.{flat_map, filter}
 use Rattle.wit_tree.specs.declared.tree.Id.{Id}
+use Rattle.wit_tree.specs.declared.tree.Attribute.{Attribute}
 use Rattle.wit_tree.specs.declared.tree.PackageName.{PackageName as Written}
 use Rattle.wit_tree.specs.declared.tree.UsePath.{UsePath}
 use Rattle.wit_tree.specs.declared.tree.UsePath.TheVariants as path
@@ -13,8 +14,9 @@ use Rattle.wit_meaning.specs.Address.{Address, ForeignNamed, package_of, same_pa
 use Rattle.wit_meaning.specs.Repeats.{firsts}
 use Rattle.wit_meaning.specs.Source.{Declared, TheInterface, TheWorld, declared_parts, Part, Defining, Using, Including, Doing}
 
--- a path with a package, and whether it wants a world
+-- a path with a package, the attributes in front of it, and whether it wants a world
 pub record ForeignVisit : Type 0 where
+  pub attributes : List Attribute
   pub of : Written
   pub id : Id
   pub wants_world : Bool
@@ -26,15 +28,15 @@ visited_package v = package_of v.of
 abbrev pub visited : ForeignVisit → Address
 visited v = ForeignNamed (visited_package v) v.id.name.now
 
-abbrev pub path_visits : Bool → UsePath → List ForeignVisit
-path_visits world (path.Id id) = []
-path_visits world (path.Package p id) = record { of = p; id = id; wants_world = world } ∷ []
+abbrev pub path_visits : List Attribute → Bool → UsePath → List ForeignVisit
+path_visits attributes world (path.Id id) = []
+path_visits attributes world (path.Package p id) = record { attributes = attributes; of = p; id = id; wants_world = world } ∷ []
 
 -- an include wants a world, a `use` does not
 abbrev pub part_visits : Part → List ForeignVisit
 part_visits (Defining d) = []
-part_visits (Using u) = path_visits false u.from
-part_visits (Including i) = path_visits true i.from
+part_visits (Using u) = path_visits u.attributes.items false u.from
+part_visits (Including i) = path_visits i.attributes.items true i.from
 part_visits (Doing f) = []
 
 abbrev pub declared_visits : Declared → List ForeignVisit
@@ -43,7 +45,7 @@ declared_visits d = flat_map part_visits (declared_parts d)
 abbrev pub declaration_visits : AstItem → List ForeignVisit
 declaration_visits (ast.Interface i) = declared_visits (TheInterface i)
 declaration_visits (ast.World w) = declared_visits (TheWorld w)
-declaration_visits (ast.Use u) = path_visits false u.item
+declaration_visits (ast.Use u) = path_visits u.attributes.items false u.item
 
 abbrev pub file_visits : PackageFile → List ForeignVisit
 file_visits f = flat_map declaration_visits f.decl_list.items.items

@@ -4,6 +4,8 @@ use Rattle.std.specs.List.{flat_map}
 use Rattle.std.specs.Option.{option_map, option_map_or, option_to_list}
 use Rattle.wit_values.specs.declared.span.Span.{Span}
 use Rattle.wit_tree.specs.declared.tree.Id.{Id}
+use Rattle.wit_tree.specs.declared.tree.Attribute.{Attribute}
+use Rattle.wit_tree.specs.declared.tree.Docs.{Docs}
 use Rattle.wit_tree.specs.declared.tree.«Type».{«Type» as Written}
 use Rattle.wit_tree.specs.declared.tree.TypeBody.{TypeBody}
 use Rattle.wit_tree.specs.declared.tree.TypeBody.TheVariants as body
@@ -16,6 +18,7 @@ use Rattle.wit_tree.specs.declared.tree.ResourceFunc.TheVariants as resource
 use Rattle.wit_tree.specs.Parts.{body_types}
 use Rattle.wit_meaning.specs.Form.{BorrowForm}
 use Rattle.wit_meaning.specs.Shape.{Shape, Word, Of, one, shape_of}
+use Rattle.wit_meaning.specs.Notes.{Notes, notes, docs_of}
 use Rattle.wit_meaning.specs.Source.{Item, Part, Defining, Using, Including, Doing, parts, ScopeName, Used, Defined, Taken, scope_names}
 
 -- what a function is: by itself, or of a resource
@@ -32,7 +35,7 @@ pub record SourceParam : Type 0 where
   pub shape : Shape
 
 -- A function: its mangled name, the places of its written name and of the word that begins its signature, what it is first given, its
--- written parameters, and its result; and the types as they are written.
+-- written parameters, and its result; and the types, the docs and the attributes as they are written.
 pub record SourceFunction : Type 0 where
   pub name : List ℕ
   pub role : Role
@@ -43,6 +46,12 @@ pub record SourceFunction : Type 0 where
   pub result : Option Shape
   pub param_types : List Written
   pub result_type : Option Written
+  pub docs : Docs
+  pub attributes : List Attribute
+
+-- what is told of it
+abbrev pub function_notes : SourceFunction → Notes
+function_notes f = notes (docs_of f.docs) f.attributes
 
 -- all its parameters
 abbrev pub all_params : SourceFunction → List SourceParam
@@ -82,6 +91,8 @@ function_with name role given f = record {
   result = option_map shape_of f.func.result;
   param_types = map (λ p. p.ty) f.func.params.items;
   result_type = f.func.result;
+  docs = f.docs;
+  attributes = f.attributes.items;
 }
 
 -- a function of an interface
@@ -89,8 +100,8 @@ abbrev pub free_function : NamedFunc → SourceFunction
 free_function f = function_with (accessor f.func.form ++ f.name.name.now) (Freestanding f.name f.func.form) [] f
 
 -- a constructor without a result makes its resource
-abbrev pub constructor_of : Id → Span → List Param → Option Written → SourceFunction
-constructor_of r span params result = record {
+abbrev pub constructor_of : Id → Docs → List Attribute → Span → List Param → Option Written → SourceFunction
+constructor_of r docs attributes span params result = record {
   name = codes "[constructor]" ++ r.name.now;
   role = Constructor r;
   span = span;
@@ -100,13 +111,15 @@ constructor_of r span params result = record {
   result = Some (option_map_or shape_of result (Word r));
   param_types = map (λ p. p.ty) params;
   result_type = result;
+  docs = docs;
+  attributes = attributes;
 }
 
 -- a function of a resource
 abbrev pub resource_function : Id → ResourceFunc → SourceFunction
 resource_function r (resource.Method f) = function_with (codes "[method]" ++ accessor f.func.form ++ dotted r f.name) (Method r f.func.form) (self_param r f.func.span ∷ []) f
 resource_function r (resource.Static f) = function_with (codes "[static]" ++ accessor f.func.form ++ dotted r f.name) (Static r f.func.form) [] f
-resource_function r (resource.Constructor span params result) = constructor_of r span params.items result
+resource_function r (resource.Constructor docs attributes span params result) = constructor_of r docs attributes.items span params.items result
 
 -- the functions of a definition: those of a resource
 abbrev pub definition_functions : Id → TypeBody → List SourceFunction
@@ -136,9 +149,9 @@ free_names i = flat_map (λ f. role_names f.role) (functions i)
 
 -- the types that are written in a name of a scope: those of a definition's body
 abbrev pub name_types : ScopeName → List Written
-name_types (Used from n) = []
+name_types (Used from attributes n) = []
 name_types (Defined d) = body_types d.body
-name_types (Taken id) = []
+name_types (Taken attributes id) = []
 
 -- the types that are written in names of a scope, and then in its functions
 abbrev pub all_types : List ScopeName → List SourceFunction → List Written

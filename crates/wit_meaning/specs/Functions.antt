@@ -5,7 +5,6 @@ use Rattle.wit_names.specs.Front.{behind}
 use Rattle.wit_tree.specs.declared.tree.Id.{Id}
 use Rattle.wit_tree.specs.declared.tree.FuncForm.{FuncForm}
 use Rattle.wit_tree.specs.declared.tree.FuncForm.TheVariants as form
-use Rattle.wit_types.specs.declared.stability.Stability.TheVariants.{Unknown}
 use Rattle.wit_types.specs.declared.types.«Type».{«Type» as Ty}
 use Rattle.wit_model.specs.declared.function.Function.{Function}
 use Rattle.wit_model.specs.declared.function.FunctionKind.{FunctionKind}
@@ -17,8 +16,8 @@ use Rattle.wit_model.specs.declared.world.WorldItem.{WorldItem}
 use Rattle.wit_model.specs.declared.world.WorldItem.TheVariants as item
 use Rattle.wit_model.specs.Setters.{placed}
 use Rattle.wit_meaning.specs.Address.{Address}
-use Rattle.wit_meaning.specs.Shape.{Shape, no_docs}
-use Rattle.wit_meaning.specs.Function.{Role, Freestanding, Method, Static, Constructor, SourceParam, SourceFunction, all_params}
+use Rattle.wit_meaning.specs.Shape.{Shape}
+use Rattle.wit_meaning.specs.Function.{Role, Freestanding, Method, Static, Constructor, SourceParam, SourceFunction, all_params, function_notes}
 use Rattle.wit_meaning.specs.Expr.{expr_of}
 use Rattle.wit_meaning.specs.Meet.{Key, Def, IsAt}
 
@@ -67,6 +66,12 @@ IsResult ks s None t = t ≡ None
 IsResult ks s (Some x) None = ⊥
 IsResult ks s (Some x) (Some t) = IsAt ks (expr_of s x) t
 
+-- a function of the package has what is told of the written one
+pub record IsNoted (written : SourceFunction) (f : Function) : Type 0 where
+  pub docs : f.docs ≡ (function_notes written).docs
+  pub stability : f.stability ≡ (function_notes written).stability
+  pub external_id : f.external_id ≡ (function_notes written).external_id
+
 -- a function of the package is the written one
 pub record IsFunction (ks : List Key) (s : Address) (written : SourceFunction) (f : Function) : Type 0 where
   pub name : f.name ≡ written.name
@@ -74,9 +79,7 @@ pub record IsFunction (ks : List Key) (s : Address) (written : SourceFunction) (
   pub params : AreParams ks s (all_params written) f.params
   pub result : IsResult ks s written.result f.result
   pub span : f.span ≡ written.span
-  pub docs : f.docs ≡ no_docs
-  pub stability : f.stability ≡ Unknown
-  pub external_id : f.external_id ≡ None
+  pub notes : IsNoted written f
 
 -- these are the functions of a scope, in source order
 pub record AreFunctions (ks : List Key) (s : Address) (written : List SourceFunction) (fs : List Function) : Type 0 where

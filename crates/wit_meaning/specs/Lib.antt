@@ -1,5 +1,8 @@
 pub mod Repeats
 pub mod Address
+pub mod Docs
+pub mod Fault
+pub mod Notes
 pub mod Form
 pub mod Node
 pub mod Shape
@@ -7,7 +10,6 @@ pub mod Source
 pub mod Foreign
 pub mod Expr
 pub mod Meet
-pub mod Fault
 pub mod Scope
 pub mod Bodies
 pub mod Function

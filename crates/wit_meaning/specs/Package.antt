@@ -26,7 +26,7 @@ use Rattle.wit_meaning.specs.Form.{kind_of}
 use Rattle.wit_meaning.specs.Address.{Address, InterfaceNamed, WorldNamed, ForeignNamed}
 use Rattle.wit_meaning.specs.Node.{Owner, OfScope, Nobody, Head, Node, Leaf, Named, Unnamed, Nothing, Tree, unfolded}
 use Rattle.wit_meaning.specs.Node as node
-use Rattle.wit_meaning.specs.Shape.{no_docs}
+use Rattle.wit_meaning.specs.Notes.{Notes, no_docs}
 
 -- what other packages' items a package names, each with its address
 abbrev pub dep_items : PackageName × List (List ℕ × (AstItem × List Stability)) → List (AstItem × Address)
@@ -172,22 +172,22 @@ LeadsTo es (suc n) ty j = (i : ℕ) × (e : TypeDef) × (part : Ty) × (ty ≡ t
 abbrev pub Reaches : List TypeDef → Ty → ℕ → Type 0
 Reaches es ty j = (n : ℕ) × LeadsTo es n ty j
 
--- an interface of the arena is the declared one of a name, apart from its types and functions
-pub record IsInterface (id : Id) (i : Interface) : Type 0 where
+-- an interface of the arena is the declared one of a name and these notes, apart from its types and functions
+pub record IsInterface (id : Id) (n : Notes) (i : Interface) : Type 0 where
   pub name : i.name ≡ Some id.name.now
   pub span : i.span ≡ id.span
-  pub docs : i.docs ≡ no_docs
-  pub stability : i.stability ≡ Unknown
+  pub docs : i.docs ≡ n.docs
+  pub stability : i.stability ≡ n.stability
   pub no_package : i.package ≡ None
   pub no_source : i.clone_of ≡ None
 
--- a world of the arena is the declared one of a name, apart from its imports and includes
-pub record IsWorld (id : Id) (w : World) : Type 0 where
+-- a world of the arena is the declared one of a name and these notes, apart from its imports and includes
+pub record IsWorld (id : Id) (n : Notes) (w : World) : Type 0 where
   pub name : w.name ≡ id.name.now
   pub span : w.span ≡ id.span
   pub exports : w.exports ≡ []
-  pub docs : w.docs ≡ no_docs
-  pub stability : w.stability ≡ Unknown
+  pub docs : w.docs ≡ n.docs
+  pub stability : w.stability ≡ n.stability
   pub no_package : w.package ≡ None
 
 -- an interface of another package, where a path first leads to it, apart from its types

@@ -2,6 +2,7 @@
 use Rattle.std.specs.Prelude.{◌≡◌, ℕ, true, false, List, [], ◌∷◌, ◌++◌, length, map, take, Some, None, slice_get, Contains}
 use Rattle.std.specs.List.{flat_map}
 use Rattle.wit_tree.specs.declared.tree.Id.{Id}
+use Rattle.wit_tree.specs.declared.tree.Include.{Include}
 use Rattle.wit_tree.specs.declared.tree.PackageFile.{PackageFile}
 use Rattle.wit_types.specs.declared.types.TypeDef.{TypeDef}
 use Rattle.wit_types.specs.declared.types.TypeDefKind.TheVariants.{Unknown}
@@ -11,12 +12,13 @@ use Rattle.wit_model.specs.declared.interface.Interface.{Interface}
 use Rattle.wit_model.specs.declared.world.World.{World}
 use Rattle.wit_order.specs.Table.{IsOrder}
 use Rattle.wit_meaning.specs.Address.{Address, WorldNamed}
-use Rattle.wit_meaning.specs.Source.{Item, item_id, address, is_world, ScopeName, scope_names, meaning, Taking, first_takings}
+use Rattle.wit_meaning.specs.Notes.{notes, no_docs, IsBrokenStability}
+use Rattle.wit_meaning.specs.Source.{Item, item_id, item_notes, declared_attributes, address, is_world, ScopeName, scope_names, meaning, Taking, first_takings}
 use Rattle.wit_meaning.specs.Foreign.{visited, foreign_interfaces, foreign_worlds}
 use Rattle.wit_meaning.specs.Meet.{keys}
 use Rattle.wit_meaning.specs.Fault.{Fault}
 use Rattle.wit_meaning.specs.Package.{IsInterface, IsWorld}
-use Rattle.wit_meaning.specs.Scope.{interfaces_of, worlds_of, rows_of, in_order, defined, in_turn}
+use Rattle.wit_meaning.specs.Scope.{includes, interfaces_of, worlds_of, rows_of, in_order, defined, in_turn}
 use Rattle.wit_model.specs.declared.function.Function.{Function}
 use Rattle.wit_meaning.specs.Function.{SourceFunction, functions as item_functions, signature, all_types, item_types}
 use Rattle.wit_meaning.specs.Signature.{IsUnpairedSetter}
@@ -49,7 +51,7 @@ pub record AddsBehind (old new : List TypeDef) (item : Item) (order : List ℕ) 
 pub record AddsInterface (foreign : List Address) (old new : List TypeDef) (is is' : List Interface) (rs : List Required) (item : Item) : Type 0 where
   pub added : Interface
   pub last : is' ≡ is ++ added ∷ []
-  pub says : IsInterface (item_id item) added
+  pub says : IsInterface (item_id item) (item_notes item) added
   pub middle : List TypeDef
   pub adds : AddsScope old middle (cells foreign is) (owner.Interface (length is)) (scope_names item) added.types
   pub functions : List Function
@@ -67,7 +69,7 @@ worlds_at (s ∷ ss) (w ∷ ws) = s ∷ worlds_at ss ws
 pub record AddsWorld (foreign others : List Address) (is : List Interface) (old new : List TypeDef) (ws ws' : List World) (rs : List Required) (item : Item) : Type 0 where
   pub added : World
   pub last : ws' ≡ ws ++ added ∷ []
-  pub says : IsWorld (item_id item) added
+  pub says : IsWorld (item_id item) (item_notes item) added
   pub types : Names
   pub middle : List TypeDef
   pub adds : AddsScope old middle (cells foreign is) (owner.World (length ws)) (scope_names item) types
@@ -106,6 +108,15 @@ pub record IsNameless (xs : List ScopeName) (fns : List SourceFunction) : Type 0
 pub record AreSoundScopes (items : List Item) : Type 0 where
   pub sound : (i : ℕ) (item : Item) (f : Fault) → slice_get items i ≡ Some item → IsBrokenScope (scope_names item) (item_functions item) f → IsNameless (scope_names item) (item_functions item)
 
+-- what is wrong with the stability that the attributes of an item tell, or those of its includes
+pub data IsBrokenItemStability (item : Item) (f : Fault) : Type 0 where
+  OwnStability : IsBrokenStability (declared_attributes item.declared) f → IsBrokenItemStability item f
+  OfInclude : (n : Include) → Contains (includes item) n → IsBrokenStability n.attributes.items f → IsBrokenItemStability item f
+
+-- nothing is wrong with the stability of these items
+pub record HaveLegalStability (items : List Item) : Type 0 where
+  pub legal : (i : ℕ) (item : Item) (f : Fault) → slice_get items i ≡ Some item → IsBrokenItemStability item f → ⊥
+
 -- an item at a place, once some of those at places were gone over
 pub record IsNext (items : List Item) (places : List ℕ) (count : ℕ) (item : Item) : Type 0 where
   pub place : ℕ
@@ -114,7 +125,7 @@ pub record IsNext (items : List Item) (places : List ℕ) (count : ℕ) (item : 
 
 -- the entry of a name of another package: nothing is known of it but whose it is
 abbrev pub foreign_type : List PackageFile → Taking → TypeDef
-foreign_type files t = named (owner_at (map visited (foreign_interfaces files)) (map visited (foreign_worlds files)) t.from) t.id.name.now Unknown t.id.span
+foreign_type files t = named (owner_at (map visited (foreign_interfaces files)) (map visited (foreign_worlds files)) t.from) t.id.name.now Unknown (notes no_docs t.attributes) t.id.span
 
 -- what other packages' items put in front of the arenas: the names that are taken from them, and their interfaces and worlds
 pub record AddsForeign (files : List PackageFile) (es : List TypeDef) (is : List Interface) (ws : List World) : Type 0 where
@@ -137,12 +148,14 @@ pub record IsWrongHandleNow (old : List TypeDef) (cs : List Cell) (o : TypeOwner
 
 -- what is wrong with an interface, by what was resolved before
 pub data IsWrongInterface (old : List TypeDef) (cs : List Cell) (by_name : Names) (o : TypeOwner) (item : Item) (f : Fault) : Type 0 where
+  WrongStability : IsBrokenItemStability item f → IsWrongInterface old cs by_name o item f
   WrongScope : IsWrongScope cs by_name (scope_names item) (item_functions item) f → IsWrongInterface old cs by_name o item f
   WrongHandle : IsWrongHandleNow old cs o item f → IsWrongInterface old cs by_name o item f
   Unpaired : IsUnpairedSetter (item_functions item) f → IsWrongInterface old cs by_name o item f
 
 -- what is wrong with a world, by what was resolved before
 pub data IsWrongWorld (files : List PackageFile) (old : List TypeDef) (cs : List Cell) (by_name worlds_by_name : Names) (o : TypeOwner) (item : Item) (f : Fault) : Type 0 where
+  WrongWorldStability : IsBrokenItemStability item f → IsWrongWorld files old cs by_name worlds_by_name o item f
   WrongWorldScope : IsWrongScope cs by_name (scope_names item) (item_functions item) f → IsWrongWorld files old cs by_name worlds_by_name o item f
   WrongWorldHandle : IsWrongHandleNow old cs o item f → IsWrongWorld files old cs by_name worlds_by_name o item f
   LostInclude : IsLostInclude files worlds_by_name item f → IsWrongWorld files old cs by_name worlds_by_name o item f

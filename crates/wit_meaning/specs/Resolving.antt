@@ -7,6 +7,7 @@ use Rattle.std.specs.Option.{option_map, unwrap_or}
 use Rattle.indexmap.specs.IndexMap.{insert_entry}
 use Rattle.wit_values.specs.declared.span.Span.{Span}
 use Rattle.wit_tree.specs.declared.tree.Id.{Id}
+use Rattle.wit_tree.specs.declared.tree.Attribute.{Attribute}
 use Rattle.wit_tree.specs.declared.tree.UsePath.{UsePath}
 use Rattle.wit_tree.specs.declared.tree.UseName.{UseName}
 use Rattle.wit_tree.specs.declared.tree.PackageFile.{PackageFile}
@@ -14,7 +15,7 @@ use Rattle.wit_tree.specs.declared.tree.«Type».{«Type» as WrittenType}
 use Rattle.wit_tree.specs.declared.tree.TypeBody.{TypeBody}
 use Rattle.wit_tree.specs.declared.tree.TypeDef.{TypeDef as Definition}
 use Rattle.wit_tree.specs.Parts.{body_types}
-use Rattle.wit_types.specs.declared.stability.Stability.TheVariants.{Unknown}
+use Rattle.wit_types.specs.declared.stability.Stability.{Stability}
 use Rattle.wit_types.specs.declared.types.«Type».{«Type» as Ty}
 use Rattle.wit_types.specs.declared.types.«Type».TheVariants as type
 use Rattle.wit_types.specs.declared.types.TypeDefKind.{TypeDefKind}
@@ -27,9 +28,10 @@ use Rattle.wit_meaning.specs.Address.{Address, InterfaceNamed, WorldNamed, Forei
 use Rattle.wit_meaning.specs.Source.{path_id, Target, Local, Foreign, leads, Item, ScopeName, Used, Defined, local_id, local_name}
 use Rattle.wit_meaning.specs.Foreign.{is_foreign_world, foreign_at}
 use Rattle.wit_meaning.specs.Scope.{include_paths}
-use Rattle.wit_meaning.specs.Shape.{no_docs, shape_of, all_shapes, words, all_words, handles, all_handles, body_of}
+use Rattle.wit_meaning.specs.Shape.{shape_of, all_shapes, words, all_words, handles, all_handles, body_of}
+use Rattle.wit_meaning.specs.Notes.{Notes, notes, no_docs, IsBrokenNotes}
 use Rattle.wit_meaning.specs.Expr.{Expr, Prim, Use, Of, Exprs, End, More}
-use Rattle.wit_meaning.specs.Meet.{Key, Def, Whole, Meeting, keys, IsMet, Meets, AreAt, Decl, Decls, IsAmong, IsMeeting, all_name_meetings, all_function_meetings, decl_of}
+use Rattle.wit_meaning.specs.Meet.{Key, Def, Whole, Meeting, keys, IsMet, Meets, AreAt, Decl, Decls, IsAmong, IsMeeting, all_name_meetings, all_function_meetings, decl_of, settled}
 use Rattle.wit_meaning.specs.Repeats.{AllDiffer}
 use Rattle.wit_meaning.specs.Fault.{Fault, fault, missing_at, item_word, type_word, name_word}
 use Rattle.wit_meaning.specs.Package.{At, IsInterface}
@@ -79,26 +81,26 @@ pub record AreResolved (old new : List TypeDef) (s : Address) (env : Env) (more 
   pub same : keys more ≡ all_met es
   pub from : (decls : Decls) (ms : List Meeting) → IsMeeting decls ms old → AreNames (keys ms) s env → IsExtended decls ms new more es tys
 
--- the unnamed type of a kind, written at a span
-abbrev pub unnamed : TypeDefKind → Span → TypeDef
-unnamed kind span = record { name = None; kind = kind; owner = owner.None; docs = no_docs; stability = Unknown; span = span; external_id = None }
+-- the unnamed type of a kind and a stability, written at a span
+abbrev pub unnamed : TypeDefKind → Stability → Span → TypeDef
+unnamed kind known span = record { name = None; kind = kind; owner = owner.None; docs = no_docs; stability = known; span = span; external_id = None }
 
 -- an unnamed type of this kind
 pub record IsUnnamedOf (what : TypeDefKind) (e : TypeDef) : Type 0 where
   pub name : e.name ≡ None
   pub kind : e.kind ≡ what
 
--- the unnamed type of a kind stands at a place of the new arena: an old entry, or the one that was added
-pub record IsInterned (old new : List TypeDef) (kind : TypeDefKind) (span : Span) (i : ℕ) : Type 0 where
-  pub either : ((new ≡ old) × ((e : TypeDef) × At old i e × IsUnnamedOf kind e)) ⊎ ((new ≡ old ++ unnamed kind span ∷ []) × (i ≡ length old) × ((j : ℕ) (e : TypeDef) → At old j e → IsUnnamedOf kind e → ⊥))
+-- the unnamed type of a kind stands at a place of the new arena: an old entry, or the one that was added, where this is the stability of the definition that it stands in
+pub record IsInterned (old new : List TypeDef) (kind : TypeDefKind) (given : Stability) (span : Span) (i : ℕ) : Type 0 where
+  pub either : ((new ≡ old) × ((e : TypeDef) × At old i e × IsUnnamedOf kind e)) ⊎ ((new ≡ old ++ unnamed kind (settled old given kind) span ∷ []) × (i ≡ length old) × ((j : ℕ) (e : TypeDef) → At old j e → IsUnnamedOf kind e → ⊥))
 
--- the named type of an owner
-abbrev pub named : TypeOwner → List ℕ → TypeDefKind → Span → TypeDef
-named o name kind span = record { name = Some name; kind = kind; owner = o; docs = no_docs; stability = Unknown; span = span; external_id = None }
+-- the named type of an owner, with its notes
+abbrev pub named : TypeOwner → List ℕ → TypeDefKind → Notes → Span → TypeDef
+named o name kind n span = record { name = Some name; kind = kind; owner = o; docs = n.docs; stability = n.stability; span = span; external_id = n.external_id }
 
 -- one entry was added, and its name stands for it
-pub record IsAdded (old new : List TypeDef) (o : TypeOwner) (names names' : Names) (name : List ℕ) (span : Span) (kind : TypeDefKind) : Type 0 where
-  pub last : new ≡ old ++ named o name kind span ∷ []
+pub record IsAdded (old new : List TypeDef) (o : TypeOwner) (names names' : Names) (name : List ℕ) (n : Notes) (span : Span) (kind : TypeDefKind) : Type 0 where
+  pub last : new ≡ old ++ named o name kind n span ∷ []
   pub inserted : names' ≡ insert_entry (pointwise nat_eq) names name (length old)
 
 abbrev pub decls_of : TypeOwner → Address → List ScopeName → List Decl
@@ -198,6 +200,10 @@ pub record IsStored (names names' : Names) (name : List ℕ) : Type 0 where
 pub record AreLegalBodies (xs : List ScopeName) : Type 0 where
   pub legal : (i : ℕ) (d : Definition) (f : Fault) → slice_get xs i ≡ Some (Defined d) → IsBrokenBody d.body f → ⊥
 
+-- no attributes of definitions among these are broken
+pub record AreLegalNotes (xs : List ScopeName) : Type 0 where
+  pub legal : (i : ℕ) (d : Definition) (f : Fault) → slice_get xs i ≡ Some (Defined d) → IsBrokenNotes d.attributes.items f → ⊥
+
 -- each of these stands in a table of names
 pub record HasNames (env : Env) (xs : List ScopeName) : Type 0 where
   pub has : (i : ℕ) (x : ScopeName) → slice_get xs i ≡ Some x → IsSome (env (local_name x))
@@ -218,13 +224,13 @@ abbrev pub IsUnresolved : Names → Id → Fault → Type 0
 IsUnresolved by_name path f = (env_of by_name path.name.now ≡ None) × (f ≡ missing_at 7 item_word path)
 
 -- a used name was added, as another word for what it stands for in the interface that it comes from
-pub record IsUsed (old new : List TypeDef) (cs : List Cell) (o : TypeOwner) (names names' : Names) (from : Address) (n : UseName) : Type 0 where
+pub record IsUsed (old new : List TypeDef) (cs : List Cell) (o : TypeOwner) (names names' : Names) (from : Address) (attributes : List Attribute) (n : UseName) : Type 0 where
   pub target : Cell
   pub found : IsFound cs from target
   pub id : ℕ
   pub stands : env_of target.types n.name.name.now ≡ Some id
-  pub free : env_of names (local_name (Used from n)) ≡ None
-  pub added : IsAdded old new o names names' (local_name (Used from n)) n.name.span (Type_ (type.Id id))
+  pub free : env_of names (local_name (Used from attributes n)) ≡ None
+  pub added : IsAdded old new o names names' (local_name (Used from attributes n)) (notes no_docs attributes) n.name.span (Type_ (type.Id id))
 
 -- a used name is wrong by what was resolved before: its interface was not, or it is none of that interface's, or that of a function there
 pub data IsWrongName (cs : List Cell) (by_name : Names) (from : Address) (n : UseName) (f : Fault) : Type 0 where
@@ -233,20 +239,20 @@ pub data IsWrongName (cs : List Cell) (by_name : Names) (from : Address) (n : Us
   OfFunction : (target : Cell) → IsFound cs from target → env_of target.types n.name.name.now ≡ None → Contains target.functions n.name.name.now → f ≡ fault 13 n.name.span → IsWrongName cs by_name from n f
 
 -- what is wrong with a used name: it is by what was resolved before, or its local name is taken
-pub data IsWrongUse (cs : List Cell) (by_name names : Names) (from : Address) (n : UseName) (f : Fault) : Type 0 where
-  Wrong : IsWrongName cs by_name from n f → IsWrongUse cs by_name names from n f
-  Taken : IsSome (env_of names (local_name (Used from n))) → f ≡ fault 14 (local_id (Used from n)).span → IsWrongUse cs by_name names from n f
+pub data IsWrongUse (cs : List Cell) (by_name names : Names) (from : Address) (attributes : List Attribute) (n : UseName) (f : Fault) : Type 0 where
+  Wrong : IsWrongName cs by_name from n f → IsWrongUse cs by_name names from attributes n f
+  Taken : IsSome (env_of names (local_name (Used from attributes n))) → f ≡ fault 14 (local_id (Used from attributes n)).span → IsWrongUse cs by_name names from attributes n f
 
 -- what is wrong with a scope, by what was resolved before, where it has these functions
 pub data IsWrongScope (cs : List Cell) (by_name : Names) (xs : List ScopeName) (fns : List SourceFunction) (f : Fault) : Type 0 where
-  WrongName : (from : Address) (n : UseName) → Contains xs (Used from n) → IsWrongName cs by_name from n f → IsWrongScope cs by_name xs fns f
+  WrongName : (from : Address) (attributes : List Attribute) (n : UseName) → Contains xs (Used from attributes n) → IsWrongName cs by_name from n f → IsWrongScope cs by_name xs fns f
   WrongItself : IsBrokenScope xs fns f → IsWrongScope cs by_name xs fns f
 
 -- an interface was added, with these names and functions
-pub record IsAddedInterface (is is' : List Interface) (id : Id) (names : Names) (functions : List (List ℕ × Function)) : Type 0 where
+pub record IsAddedInterface (is is' : List Interface) (id : Id) (n : Notes) (names : Names) (functions : List (List ℕ × Function)) : Type 0 where
   pub added : Interface
   pub last : is' ≡ is ++ added ∷ []
-  pub says : IsInterface id added
+  pub says : IsInterface id n added
   pub types : added.types ≡ names
   pub has : added.functions ≡ functions
 

@@ -3,6 +3,7 @@ use Rattle.std.specs.Prelude.{ℕ, Bool, true, false, not, List, [], ◌∷◌, 
 use Rattle.wit_tree.specs.declared.tree.Id.{Id}
 use Rattle.std.specs.List.{flat_map, filter, filter_map}
 use Rattle.wit_tree.specs.declared.tree.Include.{Include}
+use Rattle.wit_tree.specs.declared.tree.Use.{Use}
 use Rattle.wit_tree.specs.declared.tree.UsePath.{UsePath}
 use Rattle.wit_tree.specs.declared.tree.PackageFile.{PackageFile}
 use Rattle.wit_order.specs.Table.{Row}
@@ -11,9 +12,9 @@ use Rattle.wit_meaning.specs.Source.{Target, Local, Foreign, leads, ScopeName, U
 
 -- the names that a name of a scope needs: those in a definition's body; a used name needs none of its own scope
 abbrev pub needed_ids : ScopeName → List Id
-needed_ids (Used from n) = []
+needed_ids (Used from attributes n) = []
 needed_ids (Defined d) = all_words (body_of d.body).parts
-needed_ids (Taken id) = []
+needed_ids (Taken attributes id) = []
 
 abbrev pub row_of : ScopeName → Row
 row_of x = record { name = local_name x; needs = needed_ids x }
@@ -27,9 +28,9 @@ abbrev pub in_order : {X : Type 0} → List X → List ℕ → List X
 in_order xs places = filter_map (slice_get xs) places
 
 abbrev pub is_defined : ScopeName → Bool
-is_defined (Used from n) = false
+is_defined (Used from attributes n) = false
 is_defined (Defined d) = true
-is_defined (Taken id) = false
+is_defined (Taken attributes id) = false
 
 -- those that are used
 abbrev pub used : List ScopeName → List ScopeName
@@ -93,6 +94,16 @@ interfaces_of is = filter (λ i. not (is_world i)) is
 -- the worlds among items
 abbrev pub worlds_of : List Item → List Item
 worlds_of is = filter is_world is
+
+abbrev pub part_uses : Part → List Use
+part_uses (Defining d) = []
+part_uses (Using u) = u ∷ []
+part_uses (Including i) = []
+part_uses (Doing f) = []
+
+-- the uses of an item, in source order
+abbrev pub uses : Item → List Use
+uses i = flat_map part_uses (parts i)
 
 abbrev pub part_includes : Part → List Include
 part_includes (Defining d) = []

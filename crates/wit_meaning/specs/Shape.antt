@@ -1,5 +1,5 @@
 -- A written type as a shape: a primitive, a name, or a form over parts.
-use Rattle.std.specs.Prelude.{Bool, true, false, List, [], ◌∷◌, ◌++◌, None, map, is_some}
+use Rattle.std.specs.Prelude.{Bool, true, false, List, [], ◌∷◌, ◌++◌, map, is_some}
 use Rattle.wit_values.specs.declared.span.Span.{Span}
 use Rattle.wit_tree.specs.declared.tree.Id.{Id}
 use Rattle.wit_tree.specs.declared.tree.«Type».{«Type» as Written, Held-Type-Result-1 as Held, None', Some', Row_of-Type, end_of-Type, more_of-Type}
@@ -11,7 +11,8 @@ use Rattle.wit_tree.specs.declared.tree.EnumCase.{EnumCase}
 use Rattle.wit_tree.specs.declared.tree.TypeBody.{TypeBody}
 use Rattle.wit_tree.specs.declared.tree.TypeBody.TheVariants.{Record, Flags, Variant, Enum, Resource, Plain}
 use Rattle.wit_tree.specs.Parts.{field_types, case_types}
-use Rattle.wit_types.specs.declared.docs.Docs.{Docs}
+use Rattle.wit_tree.specs.declared.tree.Docs.{Docs as Comments}
+use Rattle.wit_meaning.specs.Notes.{docs_of}
 use Rattle.wit_meaning.specs.Form.{Member, Form, RecordForm, FlagsForm, VariantForm, EnumForm, OptionForm, ResultForm, TupleForm, ListForm, MapForm, FixedLengthListForm, FutureForm, StreamForm, AliasForm, OwnForm, BorrowForm, ResourceForm}
 use Rattle.wit_meaning.specs.Node.{Primitive}
 use Rattle.wit_meaning.specs.Node as node
@@ -96,25 +97,21 @@ abbrev pub written_body : Written → Body
 written_body (written.Own span id) = record { form = OwnForm; parts = one (Word id) }
 written_body t = head (shape_of t)
 
--- no docs were written
-abbrev pub no_docs : Docs
-no_docs = record { contents = None }
-
--- a field, flag or case of this name
-abbrev pub member : Id → Member
-member id = record { name = id.name.now; docs = no_docs; span = id.span }
+-- a field, flag or case of this name, with what documents it
+abbrev pub member : Comments → Id → Member
+member docs id = record { name = id.name.now; docs = docs_of docs; span = id.span }
 
 abbrev pub written_field : Field → Member
-written_field f = member f.name
+written_field f = member f.docs f.name
 
 abbrev pub written_flag : Flag → Member
-written_flag f = member f.name
+written_flag f = member f.docs f.name
 
 abbrev pub written_case : Case → Member × Bool
-written_case c = (member c.name, is_some c.ty)
+written_case c = (member c.docs c.name, is_some c.ty)
 
 abbrev pub written_enum_case : EnumCase → Member
-written_enum_case c = member c.name
+written_enum_case c = member c.docs c.name
 
 -- what a definition says
 abbrev pub body_of : TypeBody → Body

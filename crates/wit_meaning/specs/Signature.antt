@@ -19,6 +19,7 @@ use Rattle.wit_meaning.specs.Shape.{Word, shape_of, words, all_handles}
 use Rattle.wit_meaning.specs.Source.{ScopeName, Defined, local_id, local_name, meaning}
 use Rattle.wit_meaning.specs.Function.{Role, Freestanding, Method, Static, Constructor, SourceParam, SourceFunction, all_params, written_types, signature}
 use Rattle.wit_meaning.specs.Ends.{Elsewhere, EndsAt}
+use Rattle.wit_meaning.specs.Notes.{IsBrokenNotes}
 use Rattle.wit_meaning.specs.Bodies.{folded, IsRepeated, IsBrokenPart}
 
 -- a name of a scope, and where it stands: no two of them may clash
@@ -198,6 +199,7 @@ pub record IsConstructorOfOther (xs : List ScopeName) (fn : SourceFunction) (f :
 
 -- what is wrong with a function at a place among those of a scope
 pub data IsBrokenFunction (xs : List ScopeName) (fs : List SourceFunction) (k : ℕ) (fn : SourceFunction) (f : Fault) : Type 0 where
+  BrokenNotes : IsBrokenNotes fn.attributes f → IsBrokenFunction xs fs k fn f
   BrokenTypes : IsBrokenPart (written_types fn) f → IsBrokenFunction xs fs k fn f
   FunctionAsType : IsFunctionAsType xs fs k fn f → IsBrokenFunction xs fs k fn f
   MissingInSignature : IsMissingInSignature xs fs k fn f → IsBrokenFunction xs fs k fn f

@@ -5,6 +5,7 @@ use Rattle.std.specs.Option.{option_map_or, unwrap_or}
 use Rattle.std.specs.Str.{bytes_eq}
 use Rattle.wit_values.specs.declared.span.Span.{Span}
 use Rattle.wit_tree.specs.declared.tree.Id.{Id}
+use Rattle.wit_tree.specs.declared.tree.Attribute.{Attribute}
 use Rattle.wit_tree.specs.declared.tree.TypeDef.{TypeDef}
 use Rattle.wit_tree.specs.declared.tree.InterfaceItem.{InterfaceItem}
 use Rattle.wit_tree.specs.declared.tree.InterfaceItem.TheVariants as interface_item
@@ -22,12 +23,13 @@ use Rattle.wit_tree.specs.declared.tree.AstItem.{AstItem}
 use Rattle.wit_tree.specs.declared.tree.AstItem.TheVariants as ast
 use Rattle.wit_tree.specs.declared.tree.PackageFile.{PackageFile}
 use Rattle.wit_model.specs.declared.package_name.PackageName.{PackageName}
-use Rattle.wit_types.specs.declared.stability.Stability.TheVariants.{Unknown}
+use Rattle.wit_types.specs.declared.stability.Stability.{Stability}
 use Rattle.wit_meaning.specs.Form.{Form, AliasForm, UnknownForm}
 use Rattle.wit_meaning.specs.Address.{Address, InterfaceNamed, WorldNamed, ForeignNamed, package_of, same_address, is_foreign}
 use Rattle.wit_meaning.specs.Repeats.{firsts}
 use Rattle.wit_meaning.specs.Node.{OfScope, Head, Node, Leaf, Named, Unnamed, Nothing, Tree, unfolded}
-use Rattle.wit_meaning.specs.Shape.{Shape, Prim, Word, Of, Shapes, End, More, one, Body, body_of, no_docs}
+use Rattle.wit_meaning.specs.Shape.{Shape, Prim, Word, Of, Shapes, End, More, one, Body, body_of}
+use Rattle.wit_meaning.specs.Notes.{Notes, notes, docs_of, no_docs}
 
 -- the name that a path ends in
 abbrev pub path_id : UsePath → Id
@@ -52,6 +54,15 @@ pub data Declared : Type 0 where
 abbrev pub declared_id : Declared → Id
 declared_id (TheInterface i) = i.name
 declared_id (TheWorld w) = w.name
+
+-- what is told of a declared item
+abbrev pub declared_notes : Declared → Notes
+declared_notes (TheInterface i) = notes (docs_of i.docs) i.attributes.items
+declared_notes (TheWorld w) = notes (docs_of w.docs) w.attributes.items
+
+abbrev pub declared_attributes : Declared → List Attribute
+declared_attributes (TheInterface i) = i.attributes.items
+declared_attributes (TheWorld w) = w.attributes.items
 
 -- the scope of an item
 abbrev pub declared_address : Declared → Address
@@ -137,6 +148,9 @@ all_items files = flat_map file_items files
 abbrev pub item_id : Item → Id
 item_id i = declared_id i.declared
 
+abbrev pub item_notes : Item → Notes
+item_notes i = declared_notes i.declared
+
 abbrev pub item_name : Item → List ℕ
 item_name i = (item_id i).name.now
 
@@ -171,17 +185,17 @@ included_scope (Foreign p id) = ForeignNamed p id.name.now
 abbrev pub path_scope : List TopName → UsePath → Address
 path_scope top from = used_scope (leads top from)
 
--- a name of a scope: one that is used from an interface, or a definition; or, of an item of another package, one that is taken from it
+-- a name of a scope: one that is used from an interface, with the attributes of its `use`, or a definition; or, of an item of another package, one that is taken from it
 pub data ScopeName : Type 0 where
-  Used : (from : Address) (name : UseName) → ScopeName
+  Used : (from : Address) (attributes : List Attribute) (name : UseName) → ScopeName
   Defined : (d : TypeDef) → ScopeName
-  Taken : (id : Id) → ScopeName
+  Taken : (attributes : List Attribute) (id : Id) → ScopeName
 
 -- a used name goes by the name that `as` gives it, or by its own
 abbrev pub local_id : ScopeName → Id
-local_id (Used from n) = unwrap_or n.as_ n.name
+local_id (Used from attributes n) = unwrap_or n.as_ n.name
 local_id (Defined d) = d.name
-local_id (Taken id) = id
+local_id (Taken attributes id) = id
 
 abbrev pub local_name : ScopeName → List ℕ
 local_name x = (local_id x).name.now
@@ -189,7 +203,7 @@ local_name x = (local_id x).name.now
 -- the names that a part of an item brings
 abbrev pub part_names : List TopName → Part → List ScopeName
 part_names top (Defining d) = Defined d ∷ []
-part_names top (Using u) = map (Used (path_scope top u.from)) u.names.items
+part_names top (Using u) = map (Used (path_scope top u.from) u.attributes.items) u.names.items
 part_names top (Including i) = []
 part_names top (Doing f) = []
 
@@ -197,17 +211,18 @@ part_names top (Doing f) = []
 abbrev pub scope_names : Item → List ScopeName
 scope_names i = flat_map (part_names i.top) (parts i)
 
--- a name that is used from a scope
+-- a name that is used from a scope, with the attributes of the `use`
 pub record Taking : Type 0 where
   pub from : Address
+  pub attributes : List Attribute
   pub id : Id
 
-abbrev pub taking : Address → UseName → Taking
-taking s n = record { from = s; id = n.name }
+abbrev pub taking : Address → List Attribute → UseName → Taking
+taking s attributes n = record { from = s; attributes = attributes; id = n.name }
 
 abbrev pub part_takings : List TopName → Part → List Taking
 part_takings top (Defining d) = []
-part_takings top (Using u) = map (taking (path_scope top u.from)) u.names.items
+part_takings top (Using u) = map (taking (path_scope top u.from) u.attributes.items) u.names.items
 part_takings top (Including i) = []
 part_takings top (Doing f) = []
 
@@ -228,7 +243,7 @@ abbrev pub first_takings : List PackageFile → List Taking
 first_takings files = firsts same_taking (takings files)
 
 abbrev pub taken : Taking → ScopeName
-taken t = Taken t.id
+taken t = Taken t.attributes t.id
 
 -- the names that are taken from an item of another package
 abbrev pub taken_names : List PackageFile → Address → List ScopeName
@@ -254,15 +269,15 @@ placed s (More x xs) = (s, x) ∷ placed s xs
 
 -- what a name of a scope stands for: a used name is another word for its original, and what another package's stands for is not known
 abbrev pub name_body : ScopeName → Body
-name_body (Used from n) = record { form = AliasForm; parts = one (Word n.name) }
+name_body (Used from attributes n) = record { form = AliasForm; parts = one (Word n.name) }
 name_body (Defined d) = body_of d.body
-name_body (Taken id) = record { form = UnknownForm; parts = End }
+name_body (Taken attributes id) = record { form = UnknownForm; parts = End }
 
 -- the scope in which that is read: of a used name, the one that it comes from
 abbrev pub name_scope : Address → ScopeName → Address
-name_scope s (Used from n) = from
+name_scope s (Used from attributes n) = from
 name_scope s (Defined d) = s
-name_scope s (Taken id) = s
+name_scope s (Taken attributes id) = s
 
 abbrev pub name_form : ScopeName → Form
 name_form x = (name_body x).form
@@ -272,13 +287,22 @@ name_parts s x = placed (name_scope s x) (name_body x).parts
 
 -- a used name stands where its original is written
 abbrev pub name_span : ScopeName → Span
-name_span (Used from n) = n.name.span
+name_span (Used from attributes n) = n.name.span
 name_span (Defined d) = d.name.span
-name_span (Taken id) = id.span
+name_span (Taken attributes id) = id.span
+
+-- what is told of a name: of a used name, and of one that is taken, by the attributes of its `use`
+abbrev pub name_notes : ScopeName → Notes
+name_notes (Used from attributes n) = notes no_docs attributes
+name_notes (Defined d) = notes (docs_of d.docs) d.attributes.items
+name_notes (Taken attributes id) = notes no_docs attributes
+
+abbrev pub name_stability : ScopeName → Stability
+name_stability x = (name_notes x).stability
 
 -- a name of a scope, without what it stands for
 abbrev pub head : Address → ScopeName → Head
-head s x = record { owner = OfScope s; name = local_name x; span = name_span x; docs = no_docs; stability = Unknown; external_id = None }
+head s x = record { owner = OfScope s; name = local_name x; span = name_span x; docs = (name_notes x).docs; stability = (name_notes x).stability; external_id = (name_notes x).external_id }
 
 abbrev pub named_node : Address → Option ScopeName → Node Place
 named_node s None = Nothing

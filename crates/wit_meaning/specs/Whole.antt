@@ -1,5 +1,5 @@
 -- The theorem: what a resolved package is.
-use Rattle.std.specs.Prelude.{◌≡◌, ◌↔◌, ◌<◌, ℕ, zero, suc, not, List, [], ◌∷◌, ◌++◌, length, map, Option, Some, None, slice_get, ◌⊎◌, position, if◌then◌else◌}
+use Rattle.std.specs.Prelude.{◌≡◌, ◌↔◌, ◌<◌, ◌==◌, ℕ, zero, suc, not, List, [], ◌∷◌, ◌++◌, length, map, Option, Some, None, slice_get, ◌⊎◌, position, if◌then◌else◌}
 use Rattle.wit_values.specs.declared.span.Span.{Span}
 use Rattle.std.specs.Option.{option_map, option_map_or, option_or, unwrap_or}
 use Rattle.semver.specs.Identifiers.{parts_of}
@@ -20,7 +20,6 @@ use Rattle.wit_model.specs.declared.world.WorldKey.TheVariants as key
 use Rattle.wit_model.specs.declared.world.WorldItem.{WorldItem}
 use Rattle.wit_model.specs.declared.world.WorldItem.TheVariants.{Type_}
 use Rattle.wit_types.specs.declared.stability.Stability.{Stability}
-use Rattle.wit_types.specs.declared.stability.Stability.TheVariants.{Unknown}
 use Rattle.wit_types.specs.declared.types.«Type».{«Type» as Ty}
 use Rattle.wit_types.specs.declared.types.«Type».TheVariants.{Id as IdType}
 use Rattle.wit_types.specs.declared.types.TypeDef.{TypeDef}
@@ -33,7 +32,7 @@ use Rattle.std.specs.List.{flat_map, prefix_len}
 use Rattle.wit_meaning.specs.Shape.{Shape, Word, Of, Shapes, all_handles}
 use Rattle.wit_meaning.specs.Address.{Address, same_address}
 use Rattle.wit_meaning.specs.Node.{OfScope}
-use Rattle.wit_meaning.specs.Source.{path_id, leads, TopName, Item, item_id, address, included_scope, ScopeName, all_items, item_at, scope_names, local_name, local_id, Place, placed, Taking, takings, first_takings, scope, name_parts, source_tree}
+use Rattle.wit_meaning.specs.Source.{path_id, leads, TopName, Item, item_id, item_notes, address, included_scope, ScopeName, all_items, item_at, scope_names, local_name, local_id, Place, placed, Taking, takings, first_takings, scope, name_parts, source_tree}
 use Rattle.wit_meaning.specs.Foreign.{ForeignVisit, visited_package, visited, same_item, foreign_interfaces, foreign_worlds, foreign_packages, items_of_package, visits_of}
 use Rattle.wit_meaning.specs.Expr.{Expr, expr_of}
 use Rattle.wit_model.specs.declared.function.Function.{Function}
@@ -42,7 +41,9 @@ use Rattle.wit_meaning.specs.Ends.{AtResource, AtForeign, EndsAt}
 use Rattle.wit_tree.specs.declared.tree.Id.{Id}
 use Rattle.wit_meaning.specs.Functions.{AreFunctions, placed_functions, function_import}
 use Rattle.wit_meaning.specs.Scope.{item_rows, interfaces_of, worlds_of, includes, rows_of, in_order, in_turn}
-use Rattle.wit_meaning.specs.Broken.{last_header}
+use Rattle.wit_types.specs.declared.docs.Docs.{Docs}
+use Rattle.wit_meaning.specs.Notes.{docs_of, no_docs, stability_of}
+use Rattle.wit_meaning.specs.Broken.{last_header, headers}
 use Rattle.wit_meaning.specs.Meet.{Key, Def, Meeting, keys, all_name_meetings, all_function_meetings, Meets, IsAt, Decls, decl_of, IsMeeting}
 use Rattle.wit_meaning.specs.Source as source
 use Rattle.wit_meaning.specs.Package.{At, HasPart, IsBelow, Reaches, IsInterface, IsWorld, IsForeignInterface, IsForeignWorld, world_types, owner_of, names_of, functions_of, function_types, package_tree}
@@ -100,7 +101,7 @@ pub record HasTypes (ks : List Key) (t : Turned) (types : List (List ℕ × ℕ)
 -- these are the interfaces of files, each with its names in turn, and its functions
 pub record AreInterfaces (ks : List Key) (os : List Ordered) (is : List Interface) : Type 0 where
   pub count : length is ≡ length os
-  pub says : (t : ℕ) (o : Ordered) (i : Interface) → slice_get os t ≡ Some o → slice_get is t ≡ Some i → IsInterface (item_id o.item) i
+  pub says : (t : ℕ) (o : Ordered) (i : Interface) → slice_get os t ≡ Some o → slice_get is t ≡ Some i → IsInterface (item_id o.item) (item_notes o.item) i
   pub types : (t : ℕ) (o : Ordered) (i : Interface) → slice_get os t ≡ Some o → slice_get is t ≡ Some i → HasTypes ks (turned o) i.types
   pub functions : (t : ℕ) (o : Ordered) (i : Interface) → slice_get os t ≡ Some o → slice_get is t ≡ Some i → (fs : List Function) × AreFunctions ks (address o.item) (item_functions o.item) fs × (i.functions ≡ placed_functions fs)
 
@@ -116,7 +117,7 @@ renamed n = record { name = n.name.name.now; as_ = n.as_.name.now }
 
 -- an include, where the worlds have these addresses
 pub record IsInclude (worlds : List Address) (top : List TopName) (written : Include) (i : WorldInclude) : Type 0 where
-  pub stability : i.stability ≡ Unknown
+  pub stability : i.stability ≡ stability_of written.attributes.items
   pub place : slice_get worlds i.id ≡ Some (included_scope (leads top written.from))
   pub names : i.names ≡ map renamed written.names.items
   pub span : i.span ≡ (path_id written.from).span
@@ -129,7 +130,7 @@ pub record AreIncludes (worlds : List Address) (item : Item) (is : List WorldInc
 -- these are the worlds of files, each with its names in turn as its imports, and then its functions, and with its includes, where the worlds have these addresses
 pub record AreWorlds (ks : List Key) (worlds : List Address) (os : List Ordered) (ws : List World) : Type 0 where
   pub count : length ws ≡ length os
-  pub says : (t : ℕ) (o : Ordered) (w : World) → slice_get os t ≡ Some o → slice_get ws t ≡ Some w → IsWorld (item_id o.item) w
+  pub says : (t : ℕ) (o : Ordered) (w : World) → slice_get os t ≡ Some o → slice_get ws t ≡ Some w → IsWorld (item_id o.item) (item_notes o.item) w
   pub types : (t : ℕ) (o : Ordered) (w : World) → slice_get os t ≡ Some o → slice_get ws t ≡ Some w → HasTypes ks (turned o) (world_types w)
   pub imports : (t : ℕ) (o : Ordered) (w : World) → slice_get os t ≡ Some o → slice_get ws t ≡ Some w → (fs : List Function) × AreFunctions ks (address o.item) (item_functions o.item) fs × (w.imports ≡ type_imports (ordered_names o) (world_types w) ++ map function_import fs)
   pub includes : (t : ℕ) (o : Ordered) (w : World) → slice_get os t ≡ Some o → slice_get ws t ≡ Some w → AreIncludes worlds o.item w.includes
@@ -146,7 +147,7 @@ AreRequired files ks (h ∷ hs) rs = (EndsAt files h.0 h.1 AtResource × AreRequ
 
 -- a name that is taken from another package, where it is used
 abbrev pub taking_meeting : Taking → Meeting
-taking_meeting t = record { key = Def t.from t.id.name.now; span = t.id.span }
+taking_meeting t = record { key = Def t.from t.id.name.now; span = t.id.span; given = stability_of t.attributes }
 
 -- what is met in files: first what they take from other packages, then what stands in their items, in these orders
 abbrev pub all_meetings : List PackageFile → List Ordered → List Meeting
@@ -185,7 +186,7 @@ foreign_entry files v = if v.wants_world then entry.World (foreign_place (foreig
 
 -- the item by its name, with its entry and the stability of each of its visits
 abbrev pub dep_item : List PackageFile → ForeignVisit → List ℕ × (AstItem × List Stability)
-dep_item files v = (v.id.name.now, (foreign_entry files v, map (λ u. Unknown) (visits_of files (visited v))))
+dep_item files v = (v.id.name.now, (foreign_entry files v, map (λ u. stability_of u.attributes) (visits_of files (visited v))))
 
 -- a package with its items
 abbrev pub dep : List PackageFile → ForeignVisit → PackageName × List (List ℕ × (AstItem × List Stability))
@@ -198,7 +199,12 @@ pub record NamesOthers (files : List PackageFile) (p : UnresolvedPackage) : Type
   pub spans : p.foreign_dep_spans ≡ map (λ v. v.of.span) (foreign_packages files)
   pub unknown : p.unknown_type_spans ≡ map (λ t. t.id.span) (first_takings files)
 
--- The package has the name and the version of the last header. Its arenas begin with the items of other packages, in the order of
+-- the docs of the first of these headers that has some
+abbrev pub first_docs : List Header → Docs
+first_docs [] = no_docs
+first_docs (h ∷ hs) = if length h.docs.docs.items == 0 then first_docs hs else docs_of h.docs
+
+-- The package has the name and the version of the last header, and the docs of the one that has some. Its arenas begin with the items of other packages, in the order of
 -- their first visits; then they have the interfaces and the worlds in the least order in which each item comes after those that it
 -- needs, each with its used names and then its definitions in the least dependency-first order. Its arena of types is the list of first
 -- meetings: of what is taken from other packages, then of all interfaces, then of all worlds.
@@ -209,6 +215,7 @@ pub record IsPackage (files : List PackageFile) (p : UnresolvedPackage) : Type 0
   pub name : p.name.name ≡ header.name.name.now
   pub version : option_map release_parts p.name.version ≡ option_map parts_of header.version
   pub name_span : p.name_span ≡ header.span
+  pub docs : p.docs ≡ first_docs (headers files)
   pub others : NamesOthers files p
   pub places : List ℕ
   pub item_order : IsOrder (item_rows files) places

@@ -116,4 +116,4 @@ Decides-required : (a b : Required) → Decides (nat_eq a.0 b.0 && span_test.it 
 Decides-required a b = Decides-like _ same_pair (λ e. (ap (λ r. r.0) e, ap (λ r. r.1) e)) (Decides-and _ _ (Decides-id a.0 b.0) (Decides-span a.1 b.1))
 
 pub Decides-package : (a b : UnresolvedPackage) → Decides (package_test.it a b) (IsSamePackage a b)
-Decides-package a b = Decides-like _ (λ e. record { name = e.0; worlds = e.1.0; interfaces = e.1.1.0; types = e.1.1.1.0; foreign_deps = e.1.1.1.1.0; name_span = e.1.1.1.1.1.0; unknown_type_spans = e.1.1.1.1.1.1.0; foreign_dep_spans = e.1.1.1.1.1.1.1.0; required_resource_types = e.1.1.1.1.1.1.1.1 }) (λ s. (s.name, (s.worlds, (s.interfaces, (s.types, (s.foreign_deps, (s.name_span, (s.unknown_type_spans, (s.foreign_dep_spans, s.required_resource_types))))))))) (Decides-and _ _ (Decides-package_name a.name b.name) (Decides-and _ _ (Decides-lists Decides-world a.worlds b.worlds) (Decides-and _ _ (Decides-lists Decides-interface a.interfaces b.interfaces) (Decides-and _ _ (Decides-row Decides-type_def a.types b.types) (Decides-and _ _ (Decides-foreign a.foreign_deps b.foreign_deps) (Decides-and _ _ (Decides-span a.name_span b.name_span) (Decides-and _ _ (Decides-row Decides-span a.unknown_type_spans b.unknown_type_spans) (Decides-and _ _ (Decides-row Decides-span a.foreign_dep_spans b.foreign_dep_spans) (Decides-row Decides-required a.required_resource_types b.required_resource_types)))))))))
+Decides-package a b = Decides-like _ (λ e. record { name = e.0; worlds = e.1.0; interfaces = e.1.1.0; types = e.1.1.1.0; foreign_deps = e.1.1.1.1.0; docs = e.1.1.1.1.1.0; name_span = e.1.1.1.1.1.1.0; unknown_type_spans = e.1.1.1.1.1.1.1.0; foreign_dep_spans = e.1.1.1.1.1.1.1.1.0; required_resource_types = e.1.1.1.1.1.1.1.1.1 }) (λ s. (s.name, (s.worlds, (s.interfaces, (s.types, (s.foreign_deps, (s.docs, (s.name_span, (s.unknown_type_spans, (s.foreign_dep_spans, s.required_resource_types)))))))))) (Decides-and _ _ (Decides-package_name a.name b.name) (Decides-and _ _ (Decides-lists Decides-world a.worlds b.worlds) (Decides-and _ _ (Decides-lists Decides-interface a.interfaces b.interfaces) (Decides-and _ _ (Decides-row Decides-type_def a.types b.types) (Decides-and _ _ (Decides-foreign a.foreign_deps b.foreign_deps) (Decides-and _ _ (Decides-docs a.docs b.docs) (Decides-and _ _ (Decides-span a.name_span b.name_span) (Decides-and _ _ (Decides-row Decides-span a.unknown_type_spans b.unknown_type_spans) (Decides-and _ _ (Decides-row Decides-span a.foreign_dep_spans b.foreign_dep_spans) (Decides-row Decides-required a.required_resource_types b.required_resource_types))))))))))

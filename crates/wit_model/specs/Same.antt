@@ -78,6 +78,7 @@ pub record IsSamePackage (a b : UnresolvedPackage) : Type 0 where
   pub interfaces : AreSame IsSameInterface a.interfaces b.interfaces
   pub types : a.types ≡ b.types
   pub foreign_deps : HoldSameValues is_same_package_name (HoldSamePairs is_same_name) a.foreign_deps b.foreign_deps
+  pub docs : a.docs ≡ b.docs
   pub name_span : a.name_span ≡ b.name_span
   pub unknown_type_spans : a.unknown_type_spans ≡ b.unknown_type_spans
   pub foreign_dep_spans : a.foreign_dep_spans ≡ b.foreign_dep_spans

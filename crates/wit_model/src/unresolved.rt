@@ -8,12 +8,13 @@ use crate::laws::copies::copy_package_name;
 use crate::package_name::PackageName;
 use crate::world::World;
 use std::alloc::AllocError;
-use wit_types::{Arena, InterfacePlace, Stability, TypeDef, TypeId, TypePlace, WorldPlace};
+use wit_types::laws::copies::copy_docs;
+use wit_types::{Arena, Docs, InterfacePlace, Stability, TypeDef, TypeId, TypePlace, WorldPlace};
 use wit_values::{Row, Span, Table, TextTable};
 
 /// A package whose names are resolved, but not those of other packages.
 ///
-/// Two are equal if their names, spans, arenas, items of other packages and types that handles
+/// Two are equal if their names, docs, spans, arenas, items of other packages and types that handles
 /// require are, where two maps are equal if they hold the same pairs in any order.
 #[derive(Debug, PartialEq, Eq, Drop)]
 pub struct UnresolvedPackage {
@@ -28,6 +29,8 @@ pub struct UnresolvedPackage {
     /// items in the order in which paths first lead to them: what each is, an interface or a world
     /// of the arenas, and the stability of every path that leads to it, in order.
     pub foreign_deps: Table<PackageName, TextTable<(AstItem, Row<Stability>)>>,
+    /// The docs of the first header that has some.
+    pub docs: Docs,
     name_span: Span,
     unknown_type_spans: Row<Span>,
     foreign_dep_spans: Row<Span>,
@@ -35,13 +38,14 @@ pub struct UnresolvedPackage {
 }
 
 impl UnresolvedPackage {
-    /// A package of these parts, whose last header stands at `name_span`, with what it names of
-    /// other packages.
+    /// A package of these parts, with the docs of its headers, whose last header stands at
+    /// `name_span`, and with what it names of other packages.
     pub fn new(
         name: PackageName,
         worlds: Arena<World, WorldPlace>,
         interfaces: Arena<Interface, InterfacePlace>,
         types: Arena<TypeDef, TypePlace>,
+        docs: Docs,
         name_span: Span,
         foreign: ForeignItems,
     ) -> Self
@@ -49,6 +53,7 @@ impl UnresolvedPackage {
         ensures worlds { result.worlds ≡ worlds }
         ensures interfaces { result.interfaces ≡ interfaces }
         ensures types { result.types ≡ types }
+        ensures docs { result.docs ≡ docs }
         ensures name_span { result.name_span ≡ name_span }
         ensures foreign_deps { result.foreign_deps ≡ foreign.deps }
         ensures foreign_dep_spans { result.foreign_dep_spans ≡ foreign.dep_spans }
@@ -61,6 +66,7 @@ impl UnresolvedPackage {
             interfaces,
             types,
             foreign_deps: foreign.deps,
+            docs,
             name_span,
             unknown_type_spans: foreign.unknown_type_spans,
             foreign_dep_spans: foreign.dep_spans,
@@ -149,6 +155,7 @@ impl Clone for UnresolvedPackage {
             interfaces: copy_interfaces(&self.interfaces)?,
             types: copy_types(&self.types)?,
             foreign_deps: copy_foreign_deps(&self.foreign_deps)?,
+            docs: copy_docs(&self.docs)?,
             name_span: self.name_span,
             unknown_type_spans: copy_spans(&self.unknown_type_spans)?,
             foreign_dep_spans: copy_spans(&self.foreign_dep_spans)?,

@@ -1,11 +1,13 @@
 //! Copies and equality of packages.
 use crate::alike::are_told_apart;
-use crate::fixtures::{SPAN, add_interface, add_type, interface_at, package, row, stable, type_at};
+use crate::fixtures::{
+    SPAN, add_interface, add_type, docs, interface_at, package, row, stable, type_at,
+};
 use std::alloc::{AllocError, Global};
 use std::test::Fail;
 use wit_model::laws::equality::is_same_package;
 use wit_model::{
-    Arena, AstItem, ForeignItems, Interface, InterfacePlace, PackageName, Stability, TypeDef,
+    Arena, AstItem, Docs, ForeignItems, Interface, InterfacePlace, PackageName, Stability, TypeDef,
     TypeDefKind, TypeId, TypePlace, UnresolvedPackage,
 };
 use wit_tree::Span;
@@ -45,10 +47,20 @@ fn add_package(
         Arena::new(alloc),
         interfaces_of(alloc, interfaces)?,
         types_of(alloc, types)?,
+        Docs::default(),
         SPAN,
         ForeignItems::none(alloc),
     );
     packages.push(package)?;
+    Ok(())
+}
+
+// Puts the first package of a test behind others, but with docs.
+fn add_documented(alloc: Global, packages: &mut Vec<UnresolvedPackage>) -> Result<(), Fail> {
+    add_package(alloc, packages, "b", Vec::new(alloc), Vec::new(alloc))?;
+    if let Some(last) = packages.last_mut() {
+        last.docs = docs(alloc)?;
+    }
     Ok(())
 }
 
@@ -111,6 +123,7 @@ fn add_foreign(
         Arena::new(alloc),
         Arena::new(alloc),
         Arena::new(alloc),
+        Docs::default(),
         SPAN,
         foreign,
     );
@@ -130,8 +143,11 @@ fn packages(rt: HostRuntime) -> Result<(), Fail> {
     let mut types = Vec::new(alloc);
     add_type(alloc, &mut types, TypeDefKind::Resource)?;
     add_package(alloc, &mut packages, "b", Vec::new(alloc), types)?;
+    add_documented(alloc, &mut packages)?;
     let told_apart = are_told_apart(packages.as_slice(), is_same_package)?;
     assert!(rt; told_apart);
+    assert_eq!(rt; packages.len(), 5);
+    assert_eq!(rt; packages[4].docs, docs(alloc)?);
     Ok(())
 }
 

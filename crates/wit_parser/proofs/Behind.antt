@@ -1,25 +1,23 @@
 -- What is wrong with the functions of an item, and what holds of the names of both.
-use Rattle.std.proofs.Common.{◌≡◌, ℕ, ◌<◌, ◌+◌, List, [], ◌∷◌, ◌++◌, length, map, Option, Some, None, inl, inr, refl, sym, ap, ◌∙◌, subst, arith, Contains, IsSome}
+use Rattle.std.proofs.Common.{◌≡◌, ℕ, List, [], ◌∷◌, ◌++◌, map, Some, inl, inr, refl, sym, ap, ◌∙◌, subst, Contains}
 use Rattle.std.specs.Prelude.{slice_get}
 use Rattle.std.specs.List.{flat_map}
 use Rattle.std.specs.Option.{option_map}
 use Rattle.std.proofs.lemmas.List.{map-append}
-use Rattle.std.proofs.lemmas.List.Elements.{Contains-append_right}
-use Rattle.std.proofs.lemmas.Option.{slice_get-map, slice_get_within}
+use Rattle.std.proofs.lemmas.Option.{slice_get-map}
 use Rattle.wit_tree.specs.declared.tree.Id.{Id}
 use Rattle.wit_types.specs.declared.types.TypeDef.{TypeDef}
-use Rattle.wit_order.specs.Table.{IsOrder}
 use Rattle.wit_meaning.specs.Fault.{Fault}
 use Rattle.wit_meaning.specs.Bodies.{IsRepeated}
 use Rattle.wit_meaning.specs.Repeats.{AllDiffer}
 use Rattle.wit_meaning.specs.Shape.{all_handles}
-use Rattle.wit_meaning.specs.Source.{ScopeName, local_id, local_name}
-use Rattle.wit_meaning.specs.Scope.{rows_of, in_turn}
+use Rattle.wit_meaning.specs.Source.{ScopeName, local_id}
+use Rattle.wit_meaning.specs.Scope.{in_turn}
 use Rattle.wit_meaning.specs.Function.{SourceFunction, written_types}
 use Rattle.wit_meaning.specs.Signature.{Called, called_key, name_called, function_called}
 use Rattle.wit_meaning.specs.Broken.{all_called, IsFoldedTwice}
-use Rattle.wit_meaning.specs.Resolving.{Env, Names, env_of, local_names, IsWrongHandle}
-use Rattle.wit_meaning.proofs.Lists.{at_front, at_back, map_at, map_map, flat_map_has}
+use Rattle.wit_meaning.specs.Resolving.{Env, Names, env_of, local_names}
+use Rattle.wit_meaning.proofs.Lists.{at_front, map_map, flat_map_has}
 use Rattle.wit_meaning.proofs.Meant.{free_unmeant}
 use Rattle.wit_meaning.proofs.Required.{handle_of}
 use Rattle.wit_meaning.proofs.Written.{handles_at}
@@ -27,7 +25,7 @@ use Rattle.wit_scope.specs.Names.{Name}
 use Rattle.wit_entries.specs.Signatures.{AreAllNames, IsWrongFunctionAmong}
 use Rattle.wit_entries.specs.Taken.{name_of_id, name_of_function, name_key, IsTwiceAmong}
 use Rattle.wit_parser.specs.Between.{names_in}
-use Rattle.wit_parser.specs.Behind.{IsTurn, IsWrongFunctions, BrokenFunction, BrokenNames, HandleOfOther}
+use Rattle.wit_parser.specs.Behind.{IsTurn, IsWrongFunctions, BrokenFunction, HandleOfOther}
 use Rattle.wit_parser.proofs.Handled.{handle_wider}
 
 -- a name as it is called

@@ -20,11 +20,11 @@ use Rattle.wit_types.specs.declared.types.TypeDef.{TypeDef}
 use Rattle.wit_model.specs.declared.unresolved.UnresolvedPackage.{UnresolvedPackage}
 use Rattle.wit_meaning.specs.Source.{Item, all_items, is_world}
 use Rattle.wit_meaning.specs.Scope.{in_order, item_rows, interfaces_of, worlds_of}
-use Rattle.wit_meaning.specs.Broken.{IsLegal, last_header}
+use Rattle.wit_meaning.specs.Broken.{IsLegal, headers, last_header}
 use Rattle.wit_meaning.specs.Foreign.{visited, foreign_interfaces, foreign_worlds}
 use Rattle.wit_meaning.specs.Resolved.{AddsForeign, AddsInterfaces, AreLegalScopes, AreSoundScopes, IsWrongAmong, IsWrongWorldAmong}
 use Rattle.wit_meaning.specs.Resolving.{Names, Required, cells, IsIndex}
-use Rattle.wit_meaning.specs.Whole.{NamesOthers, IsPackage, IsFaithful}
+use Rattle.wit_meaning.specs.Whole.{NamesOthers, first_docs, IsPackage, IsFaithful}
 use Rattle.wit_meaning.proofs.Kept.{kept_has}
 use Rattle.wit_meaning.proofs.Resolved.{scopes_legal as legal_scopes, files_legal as legal_by, files_package as package_by, files_faithful as faithful_by}
 use Rattle.wit_parser.specs.Between.{IsWrongNow, IsWrongWorldNow, AddsFiles}
@@ -59,11 +59,11 @@ module _ (files : List PackageFile) (es : List TypeDef) (is : List Interface) (w
   scopes_legal = legal_scopes files a.places a.order a.names a.uses a.first a.middle es a.front is a.worlds_front ws a.irs a.wrs a.foreign a.interfaces a.worlds a.sound
 
   pub files_legal : (header : Header) → last_header files ≡ Some header → IsLegal files
-  files_legal header last = legal_by files a.places a.order a.names a.uses a.first a.middle es a.front is a.worlds_front ws a.irs a.wrs a.foreign a.interfaces a.worlds scopes_legal header last
+  files_legal header last = legal_by files a.places a.order a.names a.uses a.first a.middle es a.front is a.worlds_front ws a.irs a.wrs a.foreign a.interfaces a.worlds scopes_legal a.stable a.noted header last
 
   module _ (p : UnresolvedPackage) (types : p.types ≡ es) (interfaces : p.interfaces ≡ is) (worlds : p.worlds ≡ ws) (others : NamesOthers files p) where
-    pub files_package : p.required_resource_types ≡ rs → (header : Header) → last_header files ≡ Some header → p.name.namespace ≡ header.namespace.name.now → p.name.name ≡ header.name.name.now → option_map release_parts p.name.version ≡ option_map parts_of header.version → p.name_span ≡ header.span → IsPackage files p
-    files_package required header last namespace name version span = package_by files a.places a.order a.names a.uses a.first a.middle es a.front is a.worlds_front ws a.irs a.wrs a.foreign a.interfaces a.worlds p types interfaces worlds others (required ∙ a.requires) header last namespace name version span
+    pub files_package : p.required_resource_types ≡ rs → (header : Header) → last_header files ≡ Some header → p.name.namespace ≡ header.namespace.name.now → p.name.name ≡ header.name.name.now → option_map release_parts p.name.version ≡ option_map parts_of header.version → p.name_span ≡ header.span → p.docs ≡ first_docs (headers files) → IsPackage files p
+    files_package required header last namespace name version span docs = package_by files a.places a.order a.names a.uses a.first a.middle es a.front is a.worlds_front ws a.irs a.wrs a.foreign a.interfaces a.worlds p types interfaces worlds others (required ∙ a.requires) header last namespace name version span docs
 
     pub files_faithful : IsFaithful files p
     files_faithful = faithful_by files a.places a.order a.names a.uses a.first a.middle es a.front is a.worlds_front ws a.irs a.wrs a.foreign a.interfaces a.worlds p types interfaces worlds others scopes_legal

@@ -10,6 +10,7 @@ use Rattle.std.proofs.lemmas.List.Elements.{filter-append}
 use Rattle.std.proofs.lemmas.Grind.{flat_map-append}
 use Rattle.std.proofs.lemmas.Option.{slice_get_within}
 use Rattle.indexmap.specs.IndexMap.{insert_entry}
+use Rattle.wit_tree.specs.declared.tree.Attribute.{Attribute}
 use Rattle.wit_tree.specs.declared.tree.UseName.{UseName}
 use Rattle.wit_tree.specs.declared.tree.PackageFile.{PackageFile}
 use Rattle.wit_model.specs.declared.ast_item.AstItem.{AstItem}
@@ -151,14 +152,14 @@ slice_set-map {X} {Y} f g (z ∷ xs) zero x at others =
 slice_set-map {X} {Y} f g (z ∷ xs) (suc i) x at others = ap (λ (w : Y). w ∷ slice_set (map f xs) i (g x)) (others 0 z refl (λ wrong. (let f : ⊥ = omega arith in f))) ∙ ap (λ (l : List Y). g z ∷ l) (slice_set-map f g xs i x at (λ j y there other. others (suc j) y there (λ same. other (omega arith))))
 
 -- what a `use` takes from other packages
-used-takings : (s : Address) (ns : List UseName) → flat_map name_takings (map (Used s) ns) ≡ filter (λ t. is_foreign t.from) (map (taking s) ns)
-used-takings s [] = refl
-used-takings s (n ∷ ns) = ap (λ (l : List Taking). name_takings (Used s n) ++ l) (used-takings s ns) ∙ sym (filter-append (λ (t : Taking). is_foreign t.from) (taking s n ∷ []) (map (taking s) ns))
+used-takings : (s : Address) (attributes : List Attribute) (ns : List UseName) → flat_map name_takings (map (Used s attributes) ns) ≡ filter (λ t. is_foreign t.from) (map (taking s attributes) ns)
+used-takings s attributes [] = refl
+used-takings s attributes (n ∷ ns) = ap (λ (l : List Taking). name_takings (Used s attributes n) ++ l) (used-takings s attributes ns) ∙ sym (filter-append (λ (t : Taking). is_foreign t.from) (taking s attributes n ∷ []) (map (taking s attributes) ns))
 
 -- those of a part
 part-takings : (top : List TopName) (p : Part) → names_takings (part_names top p) ≡ filter (λ t. is_foreign t.from) (part_takings top p)
 part-takings top (Defining d) = refl
-part-takings top (Using u) = used-takings (path_scope top u.from) u.names.items
+part-takings top (Using u) = used-takings (path_scope top u.from) u.attributes.items u.names.items
 part-takings top (Including i) = refl
 part-takings top (Doing f) = refl
 

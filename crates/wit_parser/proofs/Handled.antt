@@ -94,9 +94,9 @@ requires_next names names' mid new xs d a b c stored free g p q =
 -- no types are written in used names
 types-used : (xs : List ScopeName) → flat_map name_types (used xs) ≡ []
 types-used [] = refl
-types-used (Used from n ∷ xs) = types-used xs
+types-used (Used from attributes n ∷ xs) = types-used xs
 types-used (Defined d ∷ xs) = types-used xs
-types-used (Taken id ∷ xs) = types-used xs
+types-used (Taken attributes id ∷ xs) = types-used xs
 
 -- so those of the names in turn are those of the definitions
 pub types-in_turn : (xs : List ScopeName) (order : List ℕ) → flat_map name_types (in_turn xs order) ≡ flat_map name_types (defined (in_order xs order))

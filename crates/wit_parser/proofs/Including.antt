@@ -1,10 +1,11 @@
 -- Includes of a world, one more.
-use Rattle.std.proofs.Common.{◌≡◌, ℕ, ◌+◌, List, [], ◌∷◌, ◌++◌, length, take, Some, map, inl, inr, refl, sym, ap, ◌∙◌, subst, arith}
+use Rattle.std.proofs.Common.{◌≡◌, ℕ, ◌+◌, List, [], ◌∷◌, ◌++◌, length, take, Some, map, inl, inr, refl, sym, ap, ◌∙◌, subst, arith, Contains}
 use Rattle.std.specs.Prelude.{slice_get}
 use Rattle.std.specs.List.{flat_map}
 use Rattle.std.specs.Option.{option_map}
 use Rattle.std.proofs.lemmas.Grind.{flat_map-append}
 use Rattle.std.proofs.lemmas.List.{append-nil, map-append, length-append}
+use Rattle.std.proofs.lemmas.List.Elements.{Contains-append_cases}
 use Rattle.std.proofs.lemmas.Option.{slice_get-map, slice_get_within}
 use Rattle.wit_tree.specs.declared.tree.Include.{Include}
 use Rattle.wit_tree.specs.declared.tree.World.{World as Written}
@@ -16,13 +17,15 @@ use Rattle.wit_meaning.specs.Address.{Address}
 use Rattle.wit_meaning.specs.Source.{TopName, TheWorld, Including, world_part}
 use Rattle.wit_meaning.specs.Scope.{part_includes, include_path}
 use Rattle.wit_meaning.specs.Fault.{Fault}
+use Rattle.wit_meaning.specs.Notes.{IsBrokenStability}
 use Rattle.wit_meaning.specs.Whole.{IsInclude, AreIncludes}
 use Rattle.wit_meaning.specs.Resolving.{Names, IsLostInclude}
 use Rattle.wit_meaning.proofs.Lists.{at_either}
 use Rattle.wit_meaning.proofs.Orders.{take_next}
 use Rattle.wit_meaning.proofs.Scoping.{contains_at}
 use Rattle.wit_scope.proofs.Lost.{at_flat}
-use Rattle.wit_parser.specs.Between.{IsLost}
+use Rattle.wit_parser.specs.Between.{IsLost, AreStable}
+use Rattle.wit_parser.proofs.Usable.{contains_one}
 
 -- the includes among parts of a world
 abbrev pub included : List WorldItem → List Include
@@ -72,6 +75,25 @@ included_more worlds top ws is w i are one = record {
 -- the includes of a world are those of its item
 pub includes_are : (worlds : List Address) (top : List TopName) (w : Written) (is : List WorldInclude) → AreIncluded worlds top (included w.items.items) is → AreIncludes worlds (record { top = top; declared = TheWorld w }) is
 includes_are worlds top w is are = record { count = are.count; each = are.each }
+
+-- no include, or one more, whose attributes break no rule
+pub stable_none : AreStable []
+stable_none = record { each = λ i among. absurd (let lt = among.1 in let f : ⊥ = omega arith in f) }
+
+pub stable_more : (is : List Include) (i : Include) → AreStable is → ((f : Fault) → IsBrokenStability i.attributes.items f → ⊥) → AreStable (is ++ i ∷ [])
+stable_more is i stable one = record {
+  each = λ j among. elim (Contains-append_cases is (i ∷ []) j among) [
+    | inl early ↦ stable.each j early
+    | inr last ↦ subst (λ (x : Include). (f : Fault) → IsBrokenStability x.attributes.items f → ⊥) (contains_one i j last) one
+  ];
+}
+
+-- an include among the parts of a world is one of its includes
+pub included_among : (w : Written) (k : ℕ) (i : Include) → slice_get w.items.items k ≡ Some (world_item.Include i) → Contains (included w.items.items) i
+included_among w k i at =
+    let ps = map world_part w.items.items in
+    let p = at_flat part_includes ps k 0 (Including i) i (slice_get-map world_part w.items.items k ∙ ap (option_map world_part) at) refl in
+    contains_at (included w.items.items) p.0 i p.1
 
 -- an include of a world that leads to no world is one of its item
 pub lost_among : (files : List PackageFile) (by_name : Names) (top : List TopName) (w : Written) (k : ℕ) (i : Include) (f : Fault) → slice_get w.items.items k ≡ Some (world_item.Include i) → IsLost files by_name top i f → IsLostInclude files by_name (record { top = top; declared = TheWorld w }) f

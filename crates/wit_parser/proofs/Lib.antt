@@ -16,6 +16,8 @@ mod Cells
 mod Usable
 mod Backward
 mod Including
+mod Telling
+mod Documented
 mod Importing
 mod Fronts
 mod Taken

@@ -6,6 +6,7 @@ use Rattle.std.specs.Option.{option_map, option_map_or}
 use Rattle.std.proofs.lemmas.Bool.{cases_Bool}
 use Rattle.std.proofs.lemmas.Option.{slice_get-map, slice_get_within}
 use Rattle.wit_tree.specs.declared.tree.Id.{Id}
+use Rattle.wit_tree.specs.declared.tree.Attribute.{Attribute}
 use Rattle.wit_tree.specs.declared.tree.UsePath.{UsePath}
 use Rattle.wit_tree.specs.declared.tree.UsePath.TheVariants as path
 use Rattle.wit_tree.specs.declared.tree.PackageFile.{PackageFile}
@@ -202,14 +203,14 @@ pub others_are : (names : FileNames) (place : ℕ) (files : List PackageFile) (f
 others_are names place files file are = ap (λ (l : List ForeignVisit). map visited (filter is_foreign_world l)) are.are.foreign.items
 
 -- the item of another package where a path of a part leads is visited
-pub part_visited : (names : FileNames) (place : ℕ) (part : Part) (world : Bool) (from : UsePath) → HasPart names place part → part_visits part ≡ path_visits world from → (files : List PackageFile) (file : PackageFile) → AreNamesAt files names place file → (p : PackageName) (id : Id) → leads (top_names file) from ≡ Foreign p id → (v : ForeignVisit) × (foreign_at files (ForeignNamed p id.name.now) ≡ Some v)
-part_visited names place part world from h visits files file are p id lead =
+pub part_visited : (names : FileNames) (place : ℕ) (part : Part) (attributes : List Attribute) (world : Bool) (from : UsePath) → HasPart names place part → part_visits part ≡ path_visits attributes world from → (files : List PackageFile) (file : PackageFile) → AreNamesAt files names place file → (p : PackageName) (id : Id) → leads (top_names file) from ≡ Foreign p id → (v : ForeignVisit) × (foreign_at files (ForeignNamed p id.name.now) ≡ Some v)
+part_visited names place part attributes world from h visits files file are p id lead =
     let was = h.item.declared.are in
     let item : Item = record { top = top_names h.item.file; declared = h.declared } in
     let s = named p id in
     let q = at_contains (all_items h.item.files) item h.item.declared.among in
     let m = at_contains _ part h.among in
-    let here = path_visited h.item.files q.0 item m.0 part world from p id q.1 m.1 visits (leads_same names place h.item.files files h.item.file file from was are ∙ lead) in
+    let here = path_visited h.item.files q.0 item m.0 part attributes world from p id q.1 m.1 visits (leads_same names place h.item.files files h.item.file file from was are ∙ lead) in
     let it = visit_listed h.item.files here.place here.v here.at in
     let at : slice_get (foreign_items files) it.0 ≡ Some it.1 = ap (λ (l : List ForeignVisit). slice_get l it.0) (sym (items_same names place h.item.files files h.item.file file was are)) ∙ it.2 in
     find_some (is_at s) (foreign_items files) it.0 it.1 at (same_address-from (visited it.1) s (it.3 ∙ here.is))

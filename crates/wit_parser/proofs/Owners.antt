@@ -1,7 +1,6 @@
 -- The resource of a function of an item is a name of its scope.
-use Rattle.std.proofs.Common.{◌≡◌, ℕ, zero, suc, List, [], ◌∷◌, map, Option, Some, None, IsSome, refl, sym, ap, ◌∙◌, subst}
+use Rattle.std.proofs.Common.{◌≡◌, ℕ, zero, suc, List, map, Some, IsSome, refl, ap, ◌∙◌, subst}
 use Rattle.std.specs.Prelude.{slice_get}
-use Rattle.std.specs.List.{flat_map}
 use Rattle.std.specs.Option.{option_map}
 use Rattle.std.proofs.lemmas.Option.{slice_get-map}
 use Rattle.wit_tree.specs.declared.tree.Id.{Id}
@@ -9,10 +8,8 @@ use Rattle.wit_tree.specs.declared.tree.TypeBody.{TypeBody}
 use Rattle.wit_tree.specs.declared.tree.TypeBody.TheVariants as body
 use Rattle.wit_tree.specs.declared.tree.ResourceFunc.{ResourceFunc}
 use Rattle.wit_tree.specs.declared.tree.ResourceFunc.TheVariants as resource
-use Rattle.wit_tree.specs.declared.tree.TypeDef.{TypeDef}
-use Rattle.wit_order.specs.Table.{IsOrder}
 use Rattle.wit_meaning.specs.Source.{Item, Part, Defining, Using, Including, Doing, parts, ScopeName, Defined, part_names, scope_names, local_name}
-use Rattle.wit_meaning.specs.Scope.{rows_of, in_turn}
+use Rattle.wit_meaning.specs.Scope.{in_turn}
 use Rattle.wit_meaning.specs.Function.{SourceFunction, definition_functions, free_function, resource_function, part_functions, functions}
 use Rattle.wit_meaning.specs.Resolving.{Env, Names, env_of, local_names}
 use Rattle.wit_meaning.proofs.Lists.{map_at, flat_map_at, flat_map_has}
@@ -27,7 +24,7 @@ use Rattle.wit_parser.proofs.Behind.{turn_texts}
 resource_owner : (env : Env) (r : Id) (f : ResourceFunc) → IsSome (env r.name.now) → HasOwner env (owner_of (resource_function r f).role)
 resource_owner env r (resource.Method f) has = has
 resource_owner env r (resource.Static f) has = has
-resource_owner env r (resource.Constructor span params result) has = has
+resource_owner env r (resource.Constructor docs attributes span params result) has = has
 
 -- a function of a definition is one of that resource
 definition_owner : (env : Env) (r : Id) (b : TypeBody) (k : ℕ) (fn : SourceFunction) → slice_get (definition_functions r b) k ≡ Some fn → IsSome (env r.name.now) → HasOwner env (owner_of fn.role)

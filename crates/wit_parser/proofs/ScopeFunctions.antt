@@ -1,8 +1,7 @@
 -- The functions of an item, added behind its names.
-use Rattle.std.proofs.Common.{◌≡◌, ℕ, ◌+◌, ◌<◌, List, [], ◌∷◌, ◌++◌, length, map, take, Option, Some, None, inl, inr, refl, sym, ap, ◌∙◌, subst, arith, Contains, IsSome, append_assoc}
+use Rattle.std.proofs.Common.{◌≡◌, ℕ, List, [], ◌++◌, length, map, Some, sym, ap, ◌∙◌, subst, Contains}
 use Rattle.std.specs.Prelude.{slice_get}
 use Rattle.std.specs.List.{flat_map}
-use Rattle.std.specs.Option.{option_map}
 use Rattle.std.proofs.Math.Seq.{take-length}
 use Rattle.std.proofs.lemmas.List.Elements.{Contains-append_right}
 use Rattle.wit_tree.specs.declared.tree.Id.{Id}
@@ -14,13 +13,13 @@ use Rattle.wit_meaning.specs.Address.{Address}
 use Rattle.wit_meaning.specs.Fault.{Fault}
 use Rattle.wit_meaning.specs.Repeats.{AllDiffer}
 use Rattle.wit_meaning.specs.Shape.{all_handles}
-use Rattle.wit_meaning.specs.Source.{Item, address, ScopeName, scope_names, local_id}
+use Rattle.wit_meaning.specs.Source.{Item, address, ScopeName, scope_names}
 use Rattle.wit_meaning.specs.Scope.{in_turn}
 use Rattle.wit_meaning.specs.Function.{SourceFunction, functions, name_types, written_types, item_types}
-use Rattle.wit_meaning.specs.Signature.{IsBrokenFunction, IsUnpairedSetter}
+use Rattle.wit_meaning.specs.Signature.{IsBrokenFunction}
 use Rattle.wit_meaning.specs.Broken.{IsBrokenScope, Function as FunctionBroken, FoldedTwice}
 use Rattle.wit_meaning.specs.Resolving.{Env, Names, env_of, Cell, Required, AreEnded, AddsFunctions, IsWrongHandle, WrongItself}
-use Rattle.wit_meaning.specs.Resolved.{AddsBehind, IsNameless, IsWrongHandleNow, IsWrongInterface, WrongScope, WrongHandle, Unpaired, IsWrongWorld, WrongWorldScope, WrongWorldHandle}
+use Rattle.wit_meaning.specs.Resolved.{AddsBehind, IsNameless, IsWrongHandleNow, IsWrongInterface, WrongScope, WrongHandle, IsWrongWorld, WrongWorldScope, WrongWorldHandle}
 use Rattle.wit_meaning.proofs.Legal.{no_fold, function_name}
 use Rattle.wit_meaning.proofs.FunctionNames.{names_differ, made_name}
 use Rattle.wit_meaning.proofs.Lists.{map_map}
@@ -29,7 +28,7 @@ use Rattle.wit_meaning.proofs.Written.{all_handles-append}
 use Rattle.wit_scope.specs.Names.{Name}
 use Rattle.wit_entries.specs.Requiring.{IsGrown, Requires}
 use Rattle.wit_entries.specs.Taken.{name_of_id, name_of_function, name_of_made, name_key}
-use Rattle.wit_parser.specs.Between.{names_in, AddsTurn, IsOfFunctions, OfFunction, OfFolded, Emits}
+use Rattle.wit_parser.specs.Between.{names_in, AddsTurn, IsOfFunctions, OfFunction, OfFolded}
 use Rattle.wit_parser.specs.Behind.{IsTurn, IsWrongFunctions, BrokenFunction, BrokenNames, HandleOfOther}
 use Rattle.wit_parser.proofs.Handled.{handle_wider}
 use Rattle.wit_parser.proofs.Behind.{differ_called, turn_texts}

@@ -11,6 +11,7 @@ use Rattle.std.proofs.lemmas.Grind.{flat_map-append}
 use Rattle.std.proofs.lemmas.Option.{slice_get-map}
 use Rattle.indexmap.specs.IndexMap.{insert_entry}
 use Rattle.wit_values.specs.declared.span.Span.{Span}
+use Rattle.wit_tree.specs.declared.tree.Attribute.{Attribute}
 use Rattle.wit_tree.specs.declared.tree.UseName.{UseName}
 use Rattle.wit_tree.specs.declared.tree.PackageFile.{PackageFile}
 use Rattle.wit_types.specs.declared.types.TypeDef.{TypeDef}
@@ -23,6 +24,7 @@ use Rattle.wit_model.specs.declared.interface.Interface.{Interface}
 use Rattle.wit_model.specs.declared.world.World.{World}
 use Rattle.wit_meaning.specs.Address.{Address, same_address}
 use Rattle.wit_meaning.specs.Source.{Taking, taking, same_taking, takings, first_takings, local_name, taken}
+use Rattle.wit_meaning.specs.Notes.{notes, no_docs}
 use Rattle.wit_meaning.specs.Repeats.{firsts}
 use Rattle.wit_meaning.specs.Foreign.{ForeignVisit, visited, foreign_items, foreign_interfaces, foreign_worlds}
 use Rattle.wit_meaning.specs.Meet.{Key, Def, keys}
@@ -95,7 +97,7 @@ some_of : (o : Option ℕ) → is_some o ≡ true → (x : ℕ) × (o ≡ Some x
 some_of None h = absurd (let f : ⊥ = cc in f)
 some_of (Some x) h = (x, refl)
 
-module _ (vs : List ForeignVisit) (ts : List Taking) (s : Address) (n : UseName) (id : ℕ) (i : Interface) (es : List TypeDef) (a : ForeignArenas) (place : slice_get (addresses_among vs) id ≡ Some s) (here : slice_get a.interfaces id ≡ Some i) (before : IsTaken vs ts es a) where
+module _ (vs : List ForeignVisit) (ts : List Taking) (s : Address) (attributes : List Attribute) (n : UseName) (id : ℕ) (i : Interface) (es : List TypeDef) (a : ForeignArenas) (place : slice_get (addresses_among vs) id ≡ Some s) (here : slice_get a.interfaces id ≡ Some i) (before : IsTaken vs ts es a) where
   abbrev xs : List ForeignVisit
   xs = interfaces_among vs
 
@@ -103,7 +105,7 @@ module _ (vs : List ForeignVisit) (ts : List Taking) (s : Address) (n : UseName)
   fs = firsts same_taking ts
 
   abbrev t : Taking
-  t = taking s n
+  t = taking s attributes n
 
   abbrev q : List ℕ
   q = n.name.name.now
@@ -181,10 +183,10 @@ module _ (vs : List ForeignVisit) (ts : List Taking) (s : Address) (n : UseName)
         ap (interface_with y.id.span) (sym grown)
 
     -- a name that the interface has not
-    pub taken-fresh : (es' : List TypeDef) (a' : ForeignArenas) → es' ≡ es ++ named (owner.Interface id) q kind.Unknown n.name.span ∷ [] → a'.visits.items ≡ a.visits.items → a'.interfaces ≡ slice_set a.interfaces id (with_types i (insert_entry (pointwise nat_eq) i.types q (length es))) → a'.worlds ≡ a.worlds → a'.entries.items ≡ a.entries.items → a'.spans.items ≡ a.spans.items ++ n.name.span ∷ [] → IsTaken vs (ts ++ t ∷ []) es' a'
+    pub taken-fresh : (es' : List TypeDef) (a' : ForeignArenas) → es' ≡ es ++ named (owner.Interface id) q kind.Unknown (notes no_docs attributes) n.name.span ∷ [] → a'.visits.items ≡ a.visits.items → a'.interfaces ≡ slice_set a.interfaces id (with_types i (insert_entry (pointwise nat_eq) i.types q (length es))) → a'.worlds ≡ a.worlds → a'.entries.items ≡ a.entries.items → a'.spans.items ≡ a.spans.items ++ n.name.span ∷ [] → IsTaken vs (ts ++ t ∷ []) es' a'
     taken-fresh es' a' types visits interfaces worlds entries spans = record {
       visits = ap (map foreign_behind) visits ∙ before.visits;
-      types = types ∙ ap (λ (l : List TypeDef). l ++ named (owner.Interface id) q kind.Unknown n.name.span ∷ []) before.types ∙ ap (λ (o : TypeOwner). map (type_among vs) fs ++ named o q kind.Unknown n.name.span ∷ []) (sym owner_is) ∙ sym (map-append (type_among vs) fs (t ∷ [])) ∙ ap (map (type_among vs)) (sym fresh);
+      types = types ∙ ap (λ (l : List TypeDef). l ++ named (owner.Interface id) q kind.Unknown (notes no_docs attributes) n.name.span ∷ []) before.types ∙ ap (λ (o : TypeOwner). map (type_among vs) fs ++ named o q kind.Unknown (notes no_docs attributes) n.name.span ∷ []) (sym owner_is) ∙ sym (map-append (type_among vs) fs (t ∷ [])) ∙ ap (map (type_among vs)) (sym fresh);
       interfaces = interfaces ∙ ap (λ (x : Interface). slice_set a.interfaces id x) with_name ∙ ap (λ (l : List Interface). slice_set l id (interface_behind (fs ++ t ∷ []) visit.0)) before.interfaces ∙ slice_set-map (interface_behind fs) (interface_behind (fs ++ t ∷ [])) xs id visit.0 visit.1 others ∙ ap (λ (l : List Taking). map (interface_behind l) xs) (sym fresh);
       worlds = worlds ∙ before.worlds;
       entries = entries ∙ before.entries;

@@ -14,9 +14,9 @@ use Rattle.wit_meaning.specs.Scope.{in_order, is_defined, rows_of, used, defined
 use Rattle.wit_meaning.specs.Fault.{Fault, fault, type_word}
 use Rattle.wit_meaning.specs.Bodies.{IsRepeated}
 use Rattle.wit_meaning.specs.Function.{SourceFunction}
-use Rattle.wit_meaning.specs.Broken.{IsBrokenScope, DefinedTwice, MissingType, CyclicType, Body, Function, FoldedTwice}
+use Rattle.wit_meaning.specs.Broken.{IsBrokenScope, DefinedTwice, MissingType, CyclicType, Notes, Body, Function, FoldedTwice}
 use Rattle.wit_meaning.specs.Repeats.{AllDiffer}
-use Rattle.wit_meaning.specs.Resolving.{Env, AreDistinct, AreLegalBodies, HasNames, IsUnknown, local_names}
+use Rattle.wit_meaning.specs.Resolving.{Env, AreDistinct, AreLegalNotes, AreLegalBodies, HasNames, IsUnknown, local_names}
 use Rattle.wit_meaning.proofs.Lists.{at_within, at_take, map_at, map_map}
 use Rattle.wit_meaning.proofs.Repeated.{no_repeat}
 use Rattle.wit_meaning.proofs.Orders.{in_order_at}
@@ -81,19 +81,19 @@ in_their_turn xs ds env own o has = record {
       let front : slice_get (take it.0 ordered) y.0 ≡ Some y.1 = ap (λ l. slice_get l y.0) (sym (in_order-take xs o.order it.0 (names_within xs o.order o.least))) ∙ y.2 in
       elim (either_at (take it.0 ordered) y.0 y.1 front) [
         | inl u ↦ absurd (
-            let is = used_is (take it.0 ordered) (λ i id at_i. (let q = in_order_among xs o.order o.least i (Taken id) (at_take ordered it.0 i (Taken id) at_i).0 in own q.0 id q.1)) u.0 y.1 u.1 in
+            let is = used_is (take it.0 ordered) (λ i attributes id at_i. (let q = in_order_among xs o.order o.least i (Taken attributes id) (at_take ordered it.0 i (Taken attributes id) at_i).0 in own q.0 attributes id q.1)) u.0 y.1 u.1 in
             let q = in_order_among xs o.order o.least y.0 y.1 (at_take ordered it.0 y.0 y.1 front).0 in
-            let there = used_has xs q.0 is.0 is.1 (q.1 ∙ ap Some is.2) in
-            fresh there.0 (Used is.0 is.1) there.1 (ap local_name (sym is.2) ∙ y.3))
+            let there = used_has xs q.0 is.0 is.1 is.2 (q.1 ∙ ap Some is.3) in
+            fresh there.0 (Used is.0 is.1 is.2) there.1 (ap local_name (sym is.3) ∙ y.3))
         | inr e ↦ (e.0, y.1, ap (λ l. slice_get l e.0) (ap (take k) o.are ∙ sym it.2) ∙ e.1, y.3)
       ]);
 }
 
 -- the names that are held are used or defined
 pub own_held : (names : List Held) → AreOwn (map name_behind names)
-own_held names i id at = let x = map_at name_behind names i (Taken id) at in not_taken x.0 x.2
+own_held names i attributes id at = let x = map_at name_behind names i (Taken attributes id) at in not_taken x.0 x.2
   where
-    not_taken : (x : Held) → name_behind x ≡ Taken id → ⊥
+    not_taken : (x : Held) → name_behind x ≡ Taken attributes id → ⊥
     not_taken (held.Used u) h = let f : ⊥ = cc in f
     not_taken (held.Defined d) h = let f : ⊥ = cc in f
 
@@ -107,13 +107,16 @@ none_unknown old env ds k d f turn at kept has u =
     let e = turn.earlier k d u.id at u.among (λ i y there same. free y same ((kept turn.known turn.has).has i y there)) in
     free e.1 e.3 (has.has e.0 e.1 e.2)
 
--- a body among the definitions that is broken
-pub broken_body : (xs ds : List ScopeName) (f : Fault) → AreOrdered xs ds → IsBrokenAmong ds f → (fns : List SourceFunction) → IsBrokenScope xs fns f
-broken_body xs ds f o b fns =
+-- attributes, or a body, among the definitions that are broken
+pub broken_definition : (xs ds : List ScopeName) (f : Fault) → AreOrdered xs ds → IsBrokenAmong ds f → (fns : List SourceFunction) → IsBrokenScope xs fns f
+broken_definition xs ds f o b fns =
     let at = at_contains ds (Defined b.d) b.among in
     let it = defined_at (in_order xs o.order) at.0 (Defined b.d) (sym (ap (λ l. slice_get l at.0) o.are) ∙ at.1) in
     let p = in_order_among xs o.order o.least it.0 (Defined b.d) it.1 in
-    Body b.d (contains_at xs p.0 (Defined b.d) p.1) b.broken
+    elim b.broken [
+      | inl notes ↦ Notes b.d (contains_at xs p.0 (Defined b.d) p.1) notes
+      | inr body ↦ Body b.d (contains_at xs p.0 (Defined b.d) p.1) body
+    ]
 
 -- ids of used names, and behind them those of definitions
 pub ids_are : (us ds vs ws : List ScopeName) (front ids : List Id) → front ≡ map local_id us → ids ≡ front ++ map local_id ds → us ≡ vs → ds ≡ ws → ids ≡ map local_id (vs ++ ws)
@@ -143,14 +146,19 @@ pub turn_differs : (xs ds : List ScopeName) (names : List (List ℕ)) → AreOrd
 turn_differs xs ds names o are distinct = rw (are, o.are) (subst AllDiffer (map-append local_name (used xs) (defined (in_order xs o.order))) (in_turn_distinct xs o.order o.least distinct))
 
 -- where the names and the definitions break no rule, functions or folded names do
-pub legal_unfolded : (xs ds : List ScopeName) (ids : List Id) → AreOrdered xs ds → ids ≡ map local_id (used xs ++ defined xs) → AllDiffer (map text ids) → AreLegalBodies ds → (fns : List SourceFunction) (f : Fault) → IsBrokenScope xs fns f → IsOfFunctions xs fns f
-legal_unfolded xs ds ids o are distinct bodies fns f (DefinedTwice h) = absurd (no_repeat local_name (used xs ++ defined xs) h.later (differ_names xs ids are distinct) h.repeated)
-legal_unfolded xs ds ids o are distinct bodies fns f (MissingType h) = absurd (no_missing_edge 15 type_word (rows_of xs) o.order f o.least h)
-legal_unfolded xs ds ids o are distinct bodies fns f (CyclicType h) = absurd (no_cyclic_edge 16 type_word (rows_of xs) o.order f o.least h)
-legal_unfolded xs ds ids o are distinct bodies fns f (Body d among broken) = absurd (
+pub legal_unfolded : (xs ds : List ScopeName) (ids : List Id) → AreOrdered xs ds → ids ≡ map local_id (used xs ++ defined xs) → AllDiffer (map text ids) → AreLegalNotes ds → AreLegalBodies ds → (fns : List SourceFunction) (f : Fault) → IsBrokenScope xs fns f → IsOfFunctions xs fns f
+legal_unfolded xs ds ids o are distinct notes bodies fns f (DefinedTwice h) = absurd (no_repeat local_name (used xs ++ defined xs) h.later (differ_names xs ids are distinct) h.repeated)
+legal_unfolded xs ds ids o are distinct notes bodies fns f (MissingType h) = absurd (no_missing_edge 15 type_word (rows_of xs) o.order f o.least h)
+legal_unfolded xs ds ids o are distinct notes bodies fns f (CyclicType h) = absurd (no_cyclic_edge 16 type_word (rows_of xs) o.order f o.least h)
+legal_unfolded xs ds ids o are distinct notes bodies fns f (Notes d among broken) = absurd (
+    let p = at_contains xs (Defined d) among in
+    let k = in_order_all xs o.order o.least p.0 (Defined d) p.1 in
+    let it = defined_has (in_order xs o.order) k.0 d k.1 in
+    notes.legal it.0 d f (ap (λ l. slice_get l it.0) o.are ∙ it.1) broken)
+legal_unfolded xs ds ids o are distinct notes bodies fns f (Body d among broken) = absurd (
     let p = at_contains xs (Defined d) among in
     let k = in_order_all xs o.order o.least p.0 (Defined d) p.1 in
     let it = defined_has (in_order xs o.order) k.0 d k.1 in
     bodies.legal it.0 d f (ap (λ l. slice_get l it.0) o.are ∙ it.1) broken)
-legal_unfolded xs ds ids o are distinct bodies fns f (Function k fn at broken) = OfFunction k fn at broken
-legal_unfolded xs ds ids o are distinct bodies fns f (FoldedTwice h) = OfFolded h
+legal_unfolded xs ds ids o are distinct notes bodies fns f (Function k fn at broken) = OfFunction k fn at broken
+legal_unfolded xs ds ids o are distinct notes bodies fns f (FoldedTwice h) = OfFolded h

@@ -5,6 +5,7 @@ use Rattle.std.specs.Option.{option_map}
 use Rattle.std.proofs.lemmas.List.{map-append}
 use Rattle.std.proofs.lemmas.List.Elements.{filter-append}
 use Rattle.std.proofs.lemmas.Option.{slice_get-map}
+use Rattle.wit_tree.specs.declared.tree.Attribute.{Attribute}
 use Rattle.wit_tree.specs.declared.tree.UseName.{UseName}
 use Rattle.wit_meaning.specs.Address.{Address}
 use Rattle.wit_meaning.specs.Source.{ScopeName, Used, local_name}
@@ -24,9 +25,9 @@ use Rattle.wit_meaning.proofs.Turns.{used_at}
 use Rattle.wit_meaning.proofs.Scoping.{contains_at, some_of}
 
 -- one whose local name is taken repeats that of one before it
-repeated_used : (xs : List ScopeName) (names : Names) (i : ℕ) (from : Address) (n : UseName) → slice_get (used xs) i ≡ Some (Used from n) → map (λ p. p.0) names ≡ local_names (take i (used xs)) → IsSome (env_of names (local_name (Used from n))) → IsRepeated local_name (used xs ++ defined xs) (Used from n)
-repeated_used xs names i from n at listed some =
-    let x = Used from n in
+repeated_used : (xs : List ScopeName) (names : Names) (i : ℕ) (from : Address) (attributes : List Attribute) (n : UseName) → slice_get (used xs) i ≡ Some (Used from attributes n) → map (λ p. p.0) names ≡ local_names (take i (used xs)) → IsSome (env_of names (local_name (Used from attributes n))) → IsRepeated local_name (used xs ++ defined xs) (Used from attributes n)
+repeated_used xs names i from attributes n at listed some =
+    let x = Used from attributes n in
     let front = take i (used xs) in
     let v = some_of (env_of names (local_name x)) some in
     let p = lookup-place names (local_name x) v.0 v.1 in
@@ -49,10 +50,14 @@ unstated_name cs by_name from n target f found free (AtFunction among is) = OfFu
 unstated_name cs by_name from n target f found free (AtNothing other is) = Unstated target found free other is
 
 -- what is wrong with a used name is wrong with its scope
-pub wrong_used : (cs : List Cell) (by_name names : Names) (xs : List ScopeName) (i : ℕ) (from : Address) (n : UseName) → slice_get (used xs) i ≡ Some (Used from n) → map (λ p. p.0) names ≡ local_names (take i (used xs)) → (f : Fault) → IsWrongUse cs by_name names from n f → (fns : List SourceFunction) → IsWrongScope cs by_name xs fns f
-wrong_used cs by_name names xs i from n at listed f (Wrong w) fns = (let p = used_at xs i (Used from n) at in WrongName from n (contains_at xs p.0 (Used from n) p.1) w)
-wrong_used cs by_name names xs i from n at listed f (Taken some says) fns = WrongItself (DefinedTwice (record { later = Used from n; repeated = repeated_used xs names i from n at listed some; is = says }))
+pub wrong_used : (cs : List Cell) (by_name names : Names) (xs : List ScopeName) (i : ℕ) (from : Address) (attributes : List Attribute) (n : UseName) → slice_get (used xs) i ≡ Some (Used from attributes n) → map (λ p. p.0) names ≡ local_names (take i (used xs)) → (f : Fault) → IsWrongUse cs by_name names from attributes n f → (fns : List SourceFunction) → IsWrongScope cs by_name xs fns f
+wrong_used cs by_name names xs i from attributes n at listed f (Wrong w) fns = (let p = used_at xs i (Used from attributes n) at in WrongName from attributes n (contains_at xs p.0 (Used from attributes n) p.1) w)
+wrong_used cs by_name names xs i from attributes n at listed f (Taken some says) fns = WrongItself (DefinedTwice (record { later = Used from attributes n; repeated = repeated_used xs names i from attributes n at listed some; is = says }))
 
 -- the used ones of some names, one name more
 pub used_more : (xs : List Held) (i : ℕ) (x : Held) → slice_get xs i ≡ Some x → used (map name_behind (take (i + 1) xs)) ≡ used (map name_behind (take i xs)) ++ used (name_behind x ∷ [])
 used_more xs i x at = ap (λ (l : List Held). used (map name_behind l)) (take_next xs i x at) ∙ ap used (map-append name_behind (take i xs) (x ∷ [])) ∙ filter-append (λ (y : ScopeName). not (is_defined y)) (map name_behind (take i xs)) (name_behind x ∷ [])
+
+-- and the definitions
+pub defined_more : (xs : List Held) (i : ℕ) (x : Held) → slice_get xs i ≡ Some x → defined (map name_behind (take (i + 1) xs)) ≡ defined (map name_behind (take i xs)) ++ defined (name_behind x ∷ [])
+defined_more xs i x at = ap (λ (l : List Held). defined (map name_behind l)) (take_next xs i x at) ∙ ap defined (map-append name_behind (take i xs) (x ∷ [])) ∙ filter-append is_defined (map name_behind (take i xs)) (name_behind x ∷ [])

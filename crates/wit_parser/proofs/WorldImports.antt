@@ -1,6 +1,5 @@
 -- The imports of a world: the names of its scope, and then the functions of its resources.
 use Rattle.std.proofs.Common.{◌≡◌, ℕ, List, [], ◌∷◌, ◌++◌, map, refl, sym, ap, ◌∙◌, subst}
-use Rattle.std.specs.Prelude.{slice_get}
 use Rattle.std.proofs.lemmas.List.{map-append}
 use Rattle.wit_names.specs.Folded.{folded_key}
 use Rattle.wit_tree.specs.declared.tree.Id.{Id}
@@ -14,7 +13,6 @@ use Rattle.wit_meaning.specs.Function.{SourceFunction}
 use Rattle.wit_meaning.specs.Functions.{function_import}
 use Rattle.wit_meaning.specs.Resolving.{Names, local_names}
 use Rattle.wit_meaning.specs.Whole.{type_imports}
-use Rattle.wit_meaning.proofs.Lists.{map_map}
 use Rattle.wit_meaning.proofs.Repeated.{differ_at, differ_by}
 use Rattle.wit_scope.specs.Names.{Name}
 use Rattle.wit_entries.specs.Taken.{name_of_id, name_of_function, name_of_made, name_key}

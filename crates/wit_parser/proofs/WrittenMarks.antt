@@ -60,7 +60,7 @@ free_marked f ks s k is = subst (λ (x : FunctionKind). HasMarkOf (mark_of x) (f
 resource_marked : (r : Id) (g : ResourceFunc) → IsMarked (resource_function r g)
 resource_marked r (resource.Method f) ks s k is = subst (λ (o : Option ℕ). HasMarkOf o (resource_function r (resource.Method f)).name) (sym (ap mark_of is.1 ∙ method_mark f.func.form is.0)) (dot_named (codes "[method]") (accessor f.func.form) r f.name)
 resource_marked r (resource.Static f) ks s k is = subst (λ (o : Option ℕ). HasMarkOf o (resource_function r (resource.Static f)).name) (sym (ap mark_of is.1 ∙ static_mark f.func.form is.0)) (dot_named (codes "[static]") (accessor f.func.form) r f.name)
-resource_marked r (resource.Constructor span params result) ks s k is = subst (λ (o : Option ℕ). HasMarkOf o (resource_function r (resource.Constructor span params result)).name) (sym (ap mark_of is.1)) tt
+resource_marked r (resource.Constructor docs attributes span params result) ks s k is = subst (λ (o : Option ℕ). HasMarkOf o (resource_function r (resource.Constructor docs attributes span params result)).name) (sym (ap mark_of is.1)) tt
 
 definition_marked : (r : Id) (b : TypeBody) (k : ℕ) (fn : SourceFunction) → slice_get (definition_functions r b) k ≡ Some fn → IsMarked fn
 definition_marked r (body.Resource funcs) k fn at = (let g = map_at (resource_function r) funcs.items k fn at in subst IsMarked g.2 (resource_marked r g.0))

@@ -1,9 +1,10 @@
 -- What the resolver's functions tell one another: orders that were found, names that stand twice, and what was resolved so far.
-use Rattle.std.specs.Prelude.{◌≡◌, ℕ, true, false, List, [], ◌∷◌, ◌++◌, length, map, take, Some, Contains, slice_get}
+use Rattle.std.specs.Prelude.{◌≡◌, ◌⊎◌, ℕ, true, false, List, [], ◌∷◌, ◌++◌, length, map, take, Some, Contains, slice_get}
 use Rattle.std.specs.List.{flat_map}
 use Rattle.wit_tree.specs.declared.tree.Id.{Id}
 use Rattle.wit_tree.specs.declared.tree.Include.{Include}
 use Rattle.wit_tree.specs.declared.tree.TypeDef.{TypeDef as Definition}
+use Rattle.wit_tree.specs.declared.tree.Use.{Use}
 use Rattle.wit_tree.specs.declared.tree.PackageFile.{PackageFile}
 use Rattle.wit_order.specs.Table.{IsOrder}
 use Rattle.wit_types.specs.declared.types.TypeDef.{TypeDef}
@@ -16,8 +17,9 @@ use Rattle.wit_model.specs.declared.world.WorldKey.{WorldKey}
 use Rattle.wit_model.specs.declared.world.WorldItem.{WorldItem}
 use Rattle.wit_meaning.specs.Address.{Address}
 use Rattle.wit_meaning.specs.Source.{path_id, leads, TopName, Item, is_world, all_items, ScopeName, Defined, local_id, local_name}
-use Rattle.wit_meaning.specs.Scope.{needed_ids, rows_of, in_order, defined, in_turn, item_rows, interfaces_of, worlds_of}
+use Rattle.wit_meaning.specs.Scope.{needed_ids, rows_of, in_order, defined, in_turn, item_rows, interfaces_of, worlds_of, uses as uses_of}
 use Rattle.wit_meaning.specs.Fault.{Fault, fault, missing_at, name_word}
+use Rattle.wit_meaning.specs.Notes.{Notes, IsBrokenStability, IsBrokenNotes}
 use Rattle.wit_meaning.specs.Bodies.{IsRepeated, IsBrokenBody}
 use Rattle.wit_meaning.specs.Shape.{all_handles}
 use Rattle.wit_meaning.specs.Function.{SourceFunction, name_types}
@@ -26,7 +28,7 @@ use Rattle.wit_meaning.specs.Broken.{IsBrokenUse, IsBrokenNames, IsFoldedTwice}
 use Rattle.wit_meaning.specs.Package.{IsWorld}
 use Rattle.wit_meaning.specs.Foreign.{visited, foreign_interfaces, foreign_worlds}
 use Rattle.wit_meaning.specs.Resolving.{Env, Names, env_of, Cell, cells, local_names, AreDistinct, Defines, HasNames, Required, IsWrongHandle, IsIndex, IsWorldIndex, IsNoWorld, IsWrongScope}
-use Rattle.wit_meaning.specs.Resolved.{DefinesAll, AddsScope, worlds_at, AddsForeign, AddsInterfaces, AddsWorlds, AreSoundScopes, IsNext, IsWrongInterface, IsWrongWorld}
+use Rattle.wit_meaning.specs.Resolved.{DefinesAll, AddsScope, worlds_at, AddsForeign, AddsInterfaces, AddsWorlds, AreSoundScopes, HaveLegalStability, IsNext, IsWrongInterface, IsWrongWorld}
 use Rattle.wit_entries.specs.Requiring.{Requires}
 
 -- no name of a scope needs one
@@ -52,11 +54,11 @@ pub data IsUnstated (functions : List (List ℕ)) (id : Id) (f : Fault) : Type 0
   AtFunction : Contains functions id.name.now → f ≡ fault 13 id.span → IsUnstated functions id f
   AtNothing : (Contains functions id.name.now → ⊥) → f ≡ missing_at 12 name_word id → IsUnstated functions id f
 
--- the body of one of these breaks a rule
+-- the attributes of one of these, or its body, break a rule
 pub record IsBrokenAmong (ds : List ScopeName) (f : Fault) : Type 0 where
   pub d : Definition
   pub among : Contains ds (Defined d)
-  pub broken : IsBrokenBody d.body f
+  pub broken : IsBrokenNotes d.attributes.items f ⊎ IsBrokenBody d.body f
 
 -- the names of a table
 abbrev pub names_in : Names → List (List ℕ)
@@ -127,11 +129,15 @@ pub record IsLost (files : List PackageFile) (by_name : Names) (top : List TopNa
   pub lost : IsNoWorld files by_name (leads top i.from)
   pub is : f ≡ fault 11 (path_id i.from).span
 
--- a world was added, with these imports and includes
-pub record IsAddedWorld (ws ws' : List World) (id : Id) (externs : List (WorldKey × WorldItem)) (included : List WorldInclude) : Type 0 where
+-- no attributes of these includes break a rule of stability
+pub record AreStable (is : List Include) : Type 0 where
+  pub each : (i : Include) → Contains is i → (f : Fault) → IsBrokenStability i.attributes.items f → ⊥
+
+-- a world was added, with these notes, imports and includes
+pub record IsAddedWorld (ws ws' : List World) (id : Id) (n : Notes) (externs : List (WorldKey × WorldItem)) (included : List WorldInclude) : Type 0 where
   pub added : World
   pub last : ws' ≡ ws ++ added ∷ []
-  pub says : IsWorld id added
+  pub says : IsWorld id n added
   pub imports : added.imports ≡ externs
   pub includes : added.includes ≡ included
 
@@ -172,13 +178,14 @@ pub record IsRepeatedId (number : ℕ) (key : Id → List ℕ) (ids : List Id) (
   pub is : f ≡ fault number later.span
 
 -- behind what stands in front, the items of files were added in the least dependency-first order of their table, all interfaces before all
--- worlds; no `use` leads to nothing or to a world, no scope of theirs is broken by itself, but where a name in a signature means nothing, and
--- this is what their handles require
+-- worlds; no `use` leads to nothing or to a world, no attributes of a `use`, of an item or of an include break a rule, no scope of theirs is
+-- broken by itself, but where a name in a signature means nothing, and this is what their handles require
 pub record AddsFiles (files : List PackageFile) (es : List TypeDef) (is : List Interface) (ws : List World) (required : List Required) : Type 0 where
   pub places : List ℕ
   pub order : IsOrder (item_rows files) places
   pub names : (f : Fault) → IsBrokenNames files f → ⊥
   pub uses : (i : Item) → Contains (all_items files) i → (f : Fault) → IsBrokenUse files i f → ⊥
+  pub noted : (i : Item) → Contains (all_items files) i → (u : Use) → Contains (uses_of i) u → (f : Fault) → IsBrokenNotes u.attributes.items f → ⊥
   pub first : List TypeDef
   pub front : List Interface
   pub worlds_front : List World
@@ -190,3 +197,4 @@ pub record AddsFiles (files : List PackageFile) (es : List TypeDef) (is : List I
   pub interfaces : AddsInterfaces (map visited (foreign_interfaces files)) first middle front is irs (interfaces_of (in_order (all_items files) places))
   pub worlds : AddsWorlds (map visited (foreign_interfaces files)) (map visited (foreign_worlds files)) is middle es worlds_front ws wrs (worlds_of (in_order (all_items files) places))
   pub sound : AreSoundScopes (in_order (all_items files) places)
+  pub stable : HaveLegalStability (in_order (all_items files) places)

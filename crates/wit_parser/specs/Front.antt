@@ -12,7 +12,7 @@ use Rattle.wit_model.specs.declared.interface.Interface.{Interface}
 use Rattle.wit_model.specs.declared.world.World.{World}
 use Rattle.wit_meaning.specs.Address.{Address, same_address, is_foreign}
 use Rattle.wit_meaning.specs.Source.{ScopeName, Used, Defined, Taken, Taking, taking, same_taking, first_takings}
-use Rattle.wit_meaning.specs.Shape.{no_docs}
+use Rattle.wit_meaning.specs.Notes.{notes, no_docs}
 use Rattle.wit_meaning.specs.Repeats.{AllDiffer, firsts}
 use Rattle.wit_meaning.specs.Foreign.{ForeignVisit, visited, is_foreign_world, foreign_items, foreign_interfaces}
 use Rattle.wit_meaning.specs.Whole.{foreign_entry, owner_at}
@@ -68,7 +68,7 @@ interface_behind ts v = interface_with v.id.span (taken_from 0 (visited v) ts)
 
 -- the type that is taken, where these are the items
 abbrev pub type_among : List ForeignVisit → Taking → TypeDef
-type_among vs t = named (owner_at (addresses_among vs) (map visited (worlds_among vs)) t.from) t.id.name.now kind.Unknown t.id.span
+type_among vs t = named (owner_at (addresses_among vs) (map visited (worlds_among vs)) t.from) t.id.name.now kind.Unknown (notes no_docs t.attributes) t.id.span
 
 -- the arenas of these items, once these names were taken from them
 pub record IsTaken (vs : List ForeignVisit) (ts : List Taking) (es : List TypeDef) (a : ForeignArenas) : Type 0 where
@@ -85,9 +85,9 @@ AreApart vs = AllDiffer (addresses_among vs)
 
 -- the names among these that come from other packages
 abbrev pub name_takings : ScopeName → List Taking
-name_takings (Used from n) = filter (λ t. is_foreign t.from) (taking from n ∷ [])
+name_takings (Used from attributes n) = filter (λ t. is_foreign t.from) (taking from attributes n ∷ [])
 name_takings (Defined d) = []
-name_takings (Taken id) = []
+name_takings (Taken attributes id) = []
 
 abbrev pub names_takings : List ScopeName → List Taking
 names_takings xs = flat_map name_takings xs

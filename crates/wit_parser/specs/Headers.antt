@@ -1,5 +1,5 @@
--- The header of the file at a place.
-use Rattle.std.specs.Prelude.{ℕ, List, Option, slice_get}
+-- The header of the file at a place, and headers that have docs.
+use Rattle.std.specs.Prelude.{ℕ, ◌==◌, ◌||◌, Bool, false, not, List, [], ◌∷◌, length, Option, slice_get}
 use Rattle.std.specs.Option.{option_and_then}
 use Rattle.wit_tree.specs.declared.tree.PackageName.{PackageName as Header}
 use Rattle.wit_tree.specs.declared.tree.PackageFile.{PackageFile}
@@ -7,3 +7,11 @@ use Rattle.wit_tree.specs.declared.tree.PackageFile.{PackageFile}
 -- none, where there is no such place or the file has none
 abbrev pub header_at : List PackageFile → ℕ → Option Header
 header_at files place = option_and_then (λ (f : PackageFile). f.package_id) (slice_get files place)
+
+-- whether a header has docs, and whether one of some has
+abbrev pub is_documented : Header → Bool
+is_documented h = not (length h.docs.docs.items == 0)
+
+abbrev pub have_docs : List Header → Bool
+have_docs [] = false
+have_docs (h ∷ hs) = is_documented h || have_docs hs

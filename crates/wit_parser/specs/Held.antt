@@ -21,7 +21,7 @@ source_behind (held_source.Foreign id of name) = ForeignNamed (package_of of.now
 
 -- the used name that is held
 abbrev pub use_behind : UsedName → ScopeName
-use_behind u = Used (source_behind u.from) u.name.now
+use_behind u = Used (source_behind u.from) u.attributes.now u.name.now
 
 -- the definition that is held
 abbrev pub definition_behind : DefinedName → ScopeName

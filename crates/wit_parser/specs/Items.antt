@@ -3,16 +3,18 @@ use Rattle.std.specs.Prelude.{◌≡◌, ℕ, true, false, List, Option, Some, N
 use Rattle.std.specs.List.{filter}
 use Rattle.std.specs.Option.{option_map}
 use Rattle.wit_tree.specs.declared.tree.Id.{Id}
+use Rattle.wit_tree.specs.declared.tree.Use.{Use}
 use Rattle.wit_tree.specs.declared.tree.UsePath.{UsePath}
 use Rattle.wit_tree.specs.declared.tree.PackageFile.{PackageFile}
 use Rattle.wit_model.specs.declared.ast_item.AstItem.{AstItem}
 use Rattle.wit_model.specs.declared.ast_item.AstItem.TheVariants as entry
 use Rattle.wit_meaning.specs.Address.{Address, ForeignNamed}
 use Rattle.wit_meaning.specs.Source.{Target, Local, Foreign, leads, path_id, TopName, top_names, Declared, TheInterface, TheWorld, declared_parts, Part, Defining, Using, Including, Doing, Item, item_named, all_items, ScopeName}
-use Rattle.wit_meaning.specs.Scope.{use_paths}
+use Rattle.wit_meaning.specs.Scope.{uses}
 use Rattle.wit_meaning.specs.Foreign.{visited, is_foreign_world, foreign_at, foreign_items}
 use Rattle.wit_meaning.specs.Whole.{foreign_entry}
 use Rattle.wit_meaning.specs.Fault.{Fault, fault, missing_at, item_word}
+use Rattle.wit_meaning.specs.Notes.{IsBrokenNotes}
 use Rattle.wit_meaning.specs.Resolving.{Names, env_of}
 use Rattle.wit_meaning.specs.Broken.{is_world_at}
 use Rattle.wit_scope.specs.Foreign.{foreign_behind}
@@ -150,22 +152,32 @@ pub data IsUnusable (files : List PackageFile) (top : List TopName) (path : UseP
   Nowhere : IsNowhere files top path f → IsUnusable files top path f
   AtWorld : IsAtWorld files top path f → IsUnusable files top path f
 
--- each path of these is usable
-pub record AreUsable (files : List PackageFile) (top : List TopName) (paths : List UsePath) : Type 0 where
-  pub each : (path : UsePath) → Contains paths path → IsUsable files top path
+-- the attributes of a `use` break no rule, and its path leads to an interface
+pub record IsSound (files : List PackageFile) (top : List TopName) (u : Use) : Type 0 where
+  pub noted : (f : Fault) → IsBrokenNotes u.attributes.items f → ⊥
+  pub usable : IsUsable files top u.from
 
--- one of these paths is not usable
-pub record IsUnusableAmong (files : List PackageFile) (top : List TopName) (paths : List UsePath) (f : Fault) : Type 0 where
-  pub path : UsePath
-  pub among : Contains paths path
-  pub broken : IsUnusable files top path f
+-- what is wrong with a `use`: with its attributes, or with where it leads
+pub data IsUnsound (files : List PackageFile) (top : List TopName) (u : Use) (f : Fault) : Type 0 where
+  BrokenNotes : IsBrokenNotes u.attributes.items f → IsUnsound files top u f
+  Unusable : IsUnusable files top u.from f → IsUnsound files top u f
 
--- each `use` of these items is usable
-pub record AreUsableItems (files : List PackageFile) (own : List Item) : Type 0 where
-  pub each : (i : Item) → Contains own i → AreUsable files i.top (use_paths i)
+-- nothing is wrong with these
+pub record AreSound (files : List PackageFile) (top : List TopName) (us : List Use) : Type 0 where
+  pub each : (u : Use) → Contains us u → IsSound files top u
 
--- a `use` of one of these items is not
-pub record IsUnusableItem (files : List PackageFile) (own : List Item) (f : Fault) : Type 0 where
+-- something is wrong with one of these
+pub record IsUnsoundAmong (files : List PackageFile) (top : List TopName) (us : List Use) (f : Fault) : Type 0 where
+  pub u : Use
+  pub among : Contains us u
+  pub broken : IsUnsound files top u f
+
+-- nothing is wrong with the uses of these items
+pub record HaveSoundUses (files : List PackageFile) (own : List Item) : Type 0 where
+  pub each : (i : Item) → Contains own i → AreSound files i.top (uses i)
+
+-- something is wrong with a `use` of one of these items
+pub record HasUnsoundUse (files : List PackageFile) (own : List Item) (f : Fault) : Type 0 where
   pub i : Item
   pub among : Contains own i
-  pub broken : IsUnusableAmong files i.top (use_paths i) f
+  pub broken : IsUnsoundAmong files i.top (uses i) f

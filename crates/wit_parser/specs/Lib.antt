@@ -4,5 +4,6 @@ pub mod Items
 pub mod Front
 pub mod Between
 pub mod Behind
+pub mod Told
 pub mod Parted
 pub mod Marks

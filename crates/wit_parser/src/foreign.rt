@@ -21,8 +21,8 @@ use wit_model::{
     Arena, AstItem, Docs, Interface, InterfaceId, InterfacePlace, Stability, TypeDefKind, TypeId,
     TypeOwner, World, WorldPlace,
 };
-use wit_scope::ForeignVisit;
-use wit_tree::tree::UseName;
+use wit_scope::{ForeignVisit, told_notes};
+use wit_tree::tree::{Attribute, UseName};
 use wit_tree::{ParseResult, Span};
 use wit_values::{Row, Table, Text, TextTable};
 
@@ -150,7 +150,8 @@ impl<'f, 'a> ForeignArenas<'f, 'a> {
         Ok(arenas)
     }
 
-    /// Adds a type that is used from an interface of another package, unless it was used before.
+    /// Adds a type that is used from an interface of another package, by a `use` with these attributes,
+    /// unless it was used before.
     ///
     /// The error is want of memory.
     fn take(
@@ -158,10 +159,11 @@ impl<'f, 'a> ForeignArenas<'f, 'a> {
         alloc: Global,
         types: &mut Entries,
         place: usize,
+        attributes: &[Attribute<'_>],
         name: &UseName<'_>,
     ) -> ParseResult<()>
         requires within { place < length self.old.interfaces }
-        ensures taken { OnOk result ((vs : List TheVisit) (ts : List Taking) (s : Address) → AreApart vs → slice_get (addresses_among vs) place ≡ Some s → IsTaken vs ts types.old self.old → IsTaken vs (ts ++ taking s name.now ∷ []) types.new self.new) }
+        ensures taken { OnOk result ((vs : List TheVisit) (ts : List Taking) (s : Address) → AreApart vs → slice_get (addresses_among vs) place ≡ Some s → IsTaken vs ts types.old self.old → IsTaken vs (ts ++ taking s attributes.now name.now ∷ []) types.new self.new) }
         ensures refused { IfErr result IsWantOfMemory }
     {
         let used = name.name;
@@ -170,8 +172,9 @@ impl<'f, 'a> ForeignArenas<'f, 'a> {
             return Ok(());
         }
         let text = Text::from_str(alloc, used.name)?;
+        let notes = told_notes(alloc, attributes)?;
         let owner = TypeOwner::Interface(id);
-        let ty = types.add_named(owner, text, TypeDefKind::Unknown, used.span)?;
+        let ty = types.add_named(owner, text, TypeDefKind::Unknown, notes, used.span)?;
         add_type(alloc, self.interfaces.get_mut(id), used.name, ty)?;
         self.spans.push(used.span)?;
         Ok(())
@@ -192,7 +195,7 @@ impl<'f, 'a> ForeignArenas<'f, 'a> {
     {
         if let ScopeName::Used(used) = name {
             if let Source::Foreign { place, .. } = used.from {
-                self.take(alloc, types, place, used.name)?;
+                self.take(alloc, types, place, used.attributes, used.name)?;
             }
         }
         Ok(())

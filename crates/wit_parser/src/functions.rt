@@ -69,7 +69,8 @@ fn world_functions<'t, 'a>(
     for part in &world.items {
         match part {
             tree::WorldItem::TypeDef(definition) => add_definition(&mut functions, definition)?,
-            tree::WorldItem::Use(_) | tree::WorldItem::Include(_) => {}
+            tree::WorldItem::Use(_) => {}
+            tree::WorldItem::Include(_) => {}
         }
     }
     Ok(functions)

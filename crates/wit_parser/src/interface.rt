@@ -1,7 +1,8 @@
 //! Declared interfaces.
 ghost use Rattle.std.specs.Prelude.{◌≡◌, ◌<◌, ◌≤◌, ◌++◌, All, length, IfErr, OnOk, map};
 ghost use Rattle.wit_types.specs.declared.types.TypeOwner.TheVariants.{Interface as InterfaceOwner};
-ghost use Rattle.wit_meaning.specs.Source.{item_id, scope_names as the_names};
+ghost use Rattle.wit_meaning.specs.Source.{declared_attributes, item_id, scope_names as the_names};
+ghost use Rattle.wit_meaning.specs.Notes.{IsBrokenStability};
 ghost use Rattle.wit_meaning.specs.Scope.{in_order, interfaces_of};
 ghost use Rattle.wit_meaning.specs.Function.{functions as the_functions};
 ghost use Rattle.wit_meaning.specs.Fault.{Fault};
@@ -9,38 +10,41 @@ ghost use Rattle.wit_meaning.specs.Broken.{IsBrokenScope, Refused};
 ghost use Rattle.wit_tree.specs.Refusal.{IsWantOfMemory};
 ghost use Rattle.wit_parser.specs.Items.{item_behind, names_behind};
 ghost use Rattle.wit_meaning.specs.Resolving.{IsIndex, IsAddedInterface};
-ghost use Rattle.wit_meaning.specs.Resolved.{AddsInterface, AddsInterfaces, AreSoundScopes, IsNameless, IsWrongInterface};
+ghost use Rattle.wit_meaning.specs.Resolved.{AddsInterface, AddsInterfaces, AreSoundScopes, HaveLegalStability, IsNameless, IsWrongInterface};
 ghost use Rattle.wit_parser.specs.Held.{front_of, cells_of};
 ghost use Rattle.wit_parser.specs.Front.{AreNamesPlaced, AreItemsPlaced};
 ghost use Rattle.wit_parser.specs.Between.{Emits, IsWrongNow};
+ghost use Rattle.wit_parser.specs.Told.{notes_behind};
 
 use crate::functions::{function_table, held_functions};
 use crate::items::{Declared, Item};
 use crate::names::resolve_names;
+use crate::notes::{ItemNotes, item_notes};
 use crate::signatures::resolve_signatures;
 use crate::uses::Interfaces;
 use std::alloc::{AllocError, Global};
 use wit_entries::entries::Entries;
 use wit_entries::scope::Required;
 use wit_entries::taken::check_setters;
-use wit_model::{Docs, Function, Interface, Stability, TypeId, TypeOwner};
+use wit_model::{Function, Interface, TypeId, TypeOwner};
 use wit_scope::NameScope;
 use wit_tree::ParseResult;
 use wit_tree::tree::Id;
 use wit_values::{Text, TextTable};
 
-/// Adds an interface of this name with these names of types and these functions.
+/// Adds an interface of this name, with what is told of it, these names of types and these functions.
 fn add_interface(
     alloc: Global,
     interfaces: &mut Interfaces<'_, '_, '_>,
     id: Id<'_>,
+    notes: ItemNotes,
     types: TextTable<TypeId>,
     functions: TextTable<Function>,
 ) -> ParseResult<()>
     requires front { length interfaces.old.foreign.now ≤ length interfaces.old.arena }
     requires index { IsIndex (cells_of interfaces.old) interfaces.old.by_name }
     ensures foreign { OnOk result (interfaces.new.foreign ≡ interfaces.old.foreign) }
-    ensures added { OnOk result (IsAddedInterface interfaces.old.arena interfaces.new.arena id.entry types functions) }
+    ensures added { OnOk result (IsAddedInterface interfaces.old.arena interfaces.new.arena id.entry (notes_behind notes) types functions) }
     ensures index { OnOk result (IsIndex (cells_of interfaces.new) interfaces.new.by_name) }
     ensures refused { IfErr result IsWantOfMemory }
 {
@@ -48,8 +52,8 @@ fn add_interface(
         name: Some(Text::from_str(alloc, id.name)?),
         types,
         functions,
-        docs: Docs::default(),
-        stability: Stability::default(),
+        docs: notes.docs,
+        stability: notes.stability,
         package: None,
         span: id.span,
         clone_of: None,
@@ -70,7 +74,7 @@ pub(crate) fn add_required(required: &mut Vec<Required>, own: &[Required]) -> Re
     Ok(())
 }
 
-/// Adds an interface with its names, and what is in them, and then its functions.
+/// Adds an interface with what is told of it, its names, and what is in them, and then its functions.
 fn resolve_interface<'a>(
     alloc: Global,
     types: &mut Entries,
@@ -87,9 +91,11 @@ fn resolve_interface<'a>(
     ensures foreign { OnOk result (interfaces.new.foreign ≡ interfaces.old.foreign) }
     ensures added { OnOk result (Emits required.old.items required.new.items (λ rs. AddsInterface (front_of interfaces.old.foreign.now) types.old types.new interfaces.old.arena interfaces.new.arena rs (item_behind item.now))) }
     ensures index { OnOk result (IsIndex (cells_of interfaces.new) interfaces.new.by_name) }
+    ensures stable { OnOk result ((f : Fault) → IsBrokenStability (declared_attributes (item_behind item.now).declared) f → ⊥) }
     ensures sound { OnOk result ((f : Fault) → IsBrokenScope (the_names (item_behind item.now)) (the_functions (item_behind item.now)) f → IsNameless (the_names (item_behind item.now)) (the_functions (item_behind item.now))) }
     ensures refused { IfErr result (Refused (IsWrongInterface types.old (cells_of interfaces.old) interfaces.old.by_name (InterfaceOwner (length interfaces.old.arena)) (item_behind item.now))) }
 {
+    let notes = item_notes(alloc, item.declared)?;
     let owner = TypeOwner::Interface(interfaces.arena.next_id());
     let mut names = resolve_names(alloc, types, interfaces, owner, &item.names)?;
     let written = held_functions(alloc, item.declared)?;
@@ -104,7 +110,7 @@ fn resolve_interface<'a>(
     )?;
     check_setters(&taken, &names.turn, &written)?;
     let functions = function_table(alloc, functions)?;
-    add_interface(alloc, interfaces, id, names.types, functions)?;
+    add_interface(alloc, interfaces, id, notes, names.types, functions)?;
     add_required(required, &names.required)?;
     Ok(())
 }
@@ -127,6 +133,7 @@ pub(crate) fn resolve_interfaces(
     ensures front { OnOk result (length interfaces.old.foreign.now ≤ length interfaces.new.arena) }
     ensures added { OnOk result (Emits required.old.items required.new.items (λ rs. AddsInterfaces (front_of interfaces.old.foreign.now) types.old types.new interfaces.old.arena interfaces.new.arena rs (interfaces_of (in_order (map item_behind items.now) places.now)))) }
     ensures index { OnOk result (IsIndex (cells_of interfaces.new) interfaces.new.by_name) }
+    ensures stable { OnOk result (HaveLegalStability (interfaces_of (in_order (map item_behind items.now) places.now))) }
     ensures sound { OnOk result (AreSoundScopes (interfaces_of (in_order (map item_behind items.now) places.now))) }
     ensures refused { IfErr result (Refused (IsWrongNow (front_of interfaces.old.foreign.now) types.old interfaces.old.arena (map item_behind items.now) places.now)) }
 {

@@ -3,21 +3,23 @@ ghost use Rattle.std.specs.Prelude.{◌≡◌, ◌++◌, List, map, Contains, If
 ghost use Rattle.std.specs.List.{flat_map};
 ghost use Rattle.std.specs.Option.{option_copied};
 ghost use Rattle.wit_tree.specs.declared.tree.PackageFile.{PackageFile as TheFile};
+ghost use Rattle.wit_tree.specs.declared.tree.Use.{Use as TheUse};
 ghost use Rattle.wit_meaning.specs.Source.{Item as TheItem, TheInterface, TheWorld, Using, interface_part as the_interface_part, world_part as the_world_part, part_names, top_names, scope_names, file_items, all_items, path_id as the_path, Local, leads, path_scope};
-ghost use Rattle.wit_meaning.specs.Scope.{use_path};
+ghost use Rattle.wit_meaning.specs.Scope.{part_uses, uses};
+ghost use Rattle.wit_meaning.specs.Notes.{IsBrokenNotes};
 ghost use Rattle.wit_meaning.specs.Foreign.{visited, foreign_interfaces};
 ghost use Rattle.wit_meaning.specs.Fault.{Fault, fault};
 ghost use Rattle.wit_meaning.specs.Broken.{IsBrokenUse, IsBroken, Refused};
 ghost use Rattle.wit_scope.specs.FileNames.{AreNamesOf};
 ghost use Rattle.wit_parser.specs.Held.{source_behind, name_behind, IsPlaced};
-ghost use Rattle.wit_parser.specs.Items.{part_behind, item_behind, names_behind, AreNamesAt, HasFile, HasItem, HasPart, IsNamedAt, AreFiled, AreEntriesOf, item_place as the_item_place, other_place as the_other_place, entry_at, interface_entry, IsUsable, IsUnusable, AreUsable, IsUnusableAmong, AreUsableItems, IsUnusableItem};
+ghost use Rattle.wit_parser.specs.Items.{part_behind, item_behind, names_behind, AreNamesAt, HasFile, HasItem, HasPart, IsNamedAt, AreFiled, AreEntriesOf, item_place as the_item_place, other_place as the_other_place, entry_at, interface_entry, IsUsable, IsUnusable, IsSound, IsUnsound, AreSound, IsUnsoundAmong, HaveSoundUses, HasUnsoundUse};
 ghost use Rattle.wit_parser.specs.Front.{AreNamesPlaced, AreItemsPlaced};
 
 use crate::scope_name::{DefinedName, ScopeName, Source, add_used_names};
 use std::alloc::{AllocError, Global};
 use wit_model::AstItem as Entry;
 use wit_scope::refusal::{refuse, refuse_missing};
-use wit_scope::{FileNames, Found, Target, path_id};
+use wit_scope::{FileNames, Found, Target, check_notes, declarations, path_id};
 use wit_tree::tree::{
     AstItem, Id, Include, Interface, InterfaceItem, NamedFunc, PackageFile, TypeDef, Use, UsePath,
     World, WorldItem,
@@ -196,6 +198,27 @@ fn use_source<'f, 'a>(
     }
 }
 
+/// The interface that a `use` in the file at a place leads to; refuses attributes that break a rule, and
+/// then a path that leads to no item, or to a world.
+fn sound_source<'f, 'a>(
+    alloc: Global,
+    files: &FileNames<'f, 'a>,
+    entries: &[Entry],
+    place: usize,
+    used: &'f Use<'a>,
+) -> ParseResult<Source<'f, 'a>>
+    requires part { HasPart files.now place (Using used.now) }
+    requires entries { AreEntriesOf files.now entries.now }
+    ensures source { IfOk result (λ source. (fs : List TheFile) (file : TheFile) → AreNamesAt fs files.now place file → source_behind source ≡ path_scope (top_names file) used.now.from) }
+    ensures placed { IfOk result (λ source. (fs : List TheFile) (file : TheFile) → AreNamesAt fs files.now place file → IsPlaced (map visited (foreign_interfaces fs)) source) }
+    ensures sound { OnOk result ((fs : List TheFile) (file : TheFile) → AreNamesAt fs files.now place file → IsSound fs (top_names file) used.now) }
+    ensures refused { IfErr result (λ e. (fs : List TheFile) (file : TheFile) → AreNamesAt fs files.now place file → Refused (IsUnsound fs (top_names file) used.now) e) }
+{
+    check_notes(alloc, &used.attributes)?;
+    let source = use_source(alloc, files, entries, place, used)?;
+    Ok(source)
+}
+
 /// Adds the names that a part of an item of the file at a place brings.
 fn add_part<'f, 'a>(
     alloc: Global,
@@ -209,16 +232,16 @@ fn add_part<'f, 'a>(
     requires entries { AreEntriesOf files.now entries.now }
     ensures names { OnOk result ((fs : List TheFile) (file : TheFile) → AreNamesAt fs files.now place file → map name_behind names.new.items ≡ map name_behind names.old.items ++ part_names (top_names file) (part_behind part.entry)) }
     ensures placed { OnOk result ((fs : List TheFile) (file : TheFile) → AreNamesAt fs files.now place file → AreNamesPlaced (map visited (foreign_interfaces fs)) names.old.items → AreNamesPlaced (map visited (foreign_interfaces fs)) names.new.items) }
-    ensures usable { OnOk result ((fs : List TheFile) (file : TheFile) → AreNamesAt fs files.now place file → AreUsable fs (top_names file) (use_path (part_behind part.entry))) }
-    ensures refused { IfErr result (λ e. (fs : List TheFile) (file : TheFile) → AreNamesAt fs files.now place file → Refused (IsUnusableAmong fs (top_names file) (use_path (part_behind part.entry))) e) }
+    ensures sound { OnOk result ((fs : List TheFile) (file : TheFile) → AreNamesAt fs files.now place file → AreSound fs (top_names file) (part_uses (part_behind part.entry))) }
+    ensures refused { IfErr result (λ e. (fs : List TheFile) (file : TheFile) → AreNamesAt fs files.now place file → Refused (IsUnsoundAmong fs (top_names file) (part_uses (part_behind part.entry))) e) }
 {
     match part {
         Part::Defining(definition) => {
             names.push(ScopeName::Defined(DefinedName { definition }))?;
         }
         Part::Using(used) => {
-            let from = use_source(alloc, files, entries, place, used)?;
-            add_used_names(names, &from, &used.names)?;
+            let from = sound_source(alloc, files, entries, place, used)?;
+            add_used_names(names, &from, &used.attributes, &used.names)?;
         }
         Part::Including(_) => {}
         Part::Doing(_) => {}
@@ -238,8 +261,8 @@ fn interface_names<'f, 'a>(
     requires entries { AreEntriesOf files.now entries.now }
     ensures names { IfOk result (λ names. (fs : List TheFile) (file : TheFile) → AreNamesAt fs files.now place file → map name_behind names.items ≡ flat_map (part_names (top_names file)) (map the_interface_part interface.now.items.items)) }
     ensures placed { IfOk result (λ names. (fs : List TheFile) (file : TheFile) → AreNamesAt fs files.now place file → AreNamesPlaced (map visited (foreign_interfaces fs)) names.items) }
-    ensures usable { OnOk result ((fs : List TheFile) (file : TheFile) → AreNamesAt fs files.now place file → AreUsable fs (top_names file) (flat_map use_path (map the_interface_part interface.now.items.items))) }
-    ensures refused { IfErr result (λ e. (fs : List TheFile) (file : TheFile) → AreNamesAt fs files.now place file → Refused (IsUnusableAmong fs (top_names file) (flat_map use_path (map the_interface_part interface.now.items.items))) e) }
+    ensures sound { OnOk result ((fs : List TheFile) (file : TheFile) → AreNamesAt fs files.now place file → AreSound fs (top_names file) (flat_map part_uses (map the_interface_part interface.now.items.items))) }
+    ensures refused { IfErr result (λ e. (fs : List TheFile) (file : TheFile) → AreNamesAt fs files.now place file → Refused (IsUnsoundAmong fs (top_names file) (flat_map part_uses (map the_interface_part interface.now.items.items))) e) }
 {
     let mut names = Vec::new(alloc);
     for part in &interface.items {
@@ -267,8 +290,8 @@ fn world_names<'f, 'a>(
     requires entries { AreEntriesOf files.now entries.now }
     ensures names { IfOk result (λ names. (fs : List TheFile) (file : TheFile) → AreNamesAt fs files.now place file → map name_behind names.items ≡ flat_map (part_names (top_names file)) (map the_world_part world.now.items.items)) }
     ensures placed { IfOk result (λ names. (fs : List TheFile) (file : TheFile) → AreNamesAt fs files.now place file → AreNamesPlaced (map visited (foreign_interfaces fs)) names.items) }
-    ensures usable { OnOk result ((fs : List TheFile) (file : TheFile) → AreNamesAt fs files.now place file → AreUsable fs (top_names file) (flat_map use_path (map the_world_part world.now.items.items))) }
-    ensures refused { IfErr result (λ e. (fs : List TheFile) (file : TheFile) → AreNamesAt fs files.now place file → Refused (IsUnusableAmong fs (top_names file) (flat_map use_path (map the_world_part world.now.items.items))) e) }
+    ensures sound { OnOk result ((fs : List TheFile) (file : TheFile) → AreNamesAt fs files.now place file → AreSound fs (top_names file) (flat_map part_uses (map the_world_part world.now.items.items))) }
+    ensures refused { IfErr result (λ e. (fs : List TheFile) (file : TheFile) → AreNamesAt fs files.now place file → Refused (IsUnsoundAmong fs (top_names file) (flat_map part_uses (map the_world_part world.now.items.items))) e) }
 {
     let mut names = Vec::new(alloc);
     for part in &world.items {
@@ -292,10 +315,11 @@ fn add_items<'f, 'a>(
     ensures names { OnOk result (map names_behind items.new.items ≡ map names_behind items.old.items ++ map scope_names (file_items file.now)) }
     ensures filed { OnOk result ((fs : List TheFile) → AreNamesAt fs files.now place file.now → AreFiled fs files.now items.old.items → AreFiled fs files.now items.new.items) }
     ensures placed { OnOk result ((fs : List TheFile) → AreNamesAt fs files.now place file.now → AreItemsPlaced (map visited (foreign_interfaces fs)) items.old.items → AreItemsPlaced (map visited (foreign_interfaces fs)) items.new.items) }
-    ensures usable { OnOk result ((fs : List TheFile) → AreNamesAt fs files.now place file.now → AreUsableItems fs (file_items file.now)) }
-    ensures refused { IfErr result (λ e. (fs : List TheFile) → AreNamesAt fs files.now place file.now → Refused (IsUnusableItem fs (file_items file.now)) e) }
+    ensures sound { OnOk result ((fs : List TheFile) → AreNamesAt fs files.now place file.now → HaveSoundUses fs (file_items file.now)) }
+    ensures refused { IfErr result (λ e. (fs : List TheFile) → AreNamesAt fs files.now place file.now → Refused (HasUnsoundUse fs (file_items file.now)) e) }
 {
-    for item in &file.decl_list.items {
+    let declared = declarations(file);
+    for item in declared {
         match item {
             AstItem::Interface(interface) => items.push(Item {
                 place,
@@ -317,7 +341,8 @@ fn add_items<'f, 'a>(
 
 /// The items of all files, in push order and then in source order.
 ///
-/// A `use` in an item that leads to no item is refused (7), and one that leads to a world (10).
+/// A `use` in an item is refused whose attributes break a rule (30 to 35), which leads to no item (7),
+/// or to a world (10).
 /// `entries` are those of other packages' items.
 pub(crate) fn declared_items<'f, 'a>(
     alloc: Global,
@@ -332,6 +357,7 @@ pub(crate) fn declared_items<'f, 'a>(
     ensures filed { IfOk result (λ items. AreFiled files.now names.now items.items) }
     ensures placed { IfOk result (λ items. AreItemsPlaced (map visited (foreign_interfaces files.now)) items.items) }
     ensures uses { OnOk result ((i : TheItem) → Contains (all_items files.now) i → (f : Fault) → IsBrokenUse files.now i f → ⊥) }
+    ensures noted { OnOk result ((i : TheItem) → Contains (all_items files.now) i → (u : TheUse) → Contains (uses i) u → (f : Fault) → IsBrokenNotes u.attributes.items f → ⊥) }
     ensures refused { IfErr result (Refused (IsBroken files.now)) }
 {
     let mut items = Vec::with_capacity(alloc, names.item_order().len())?;

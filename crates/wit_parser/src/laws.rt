@@ -1,13 +1,13 @@
 //! What holds of all resolved packages.
+ghost use Rattle.std.specs.Prelude.{List};
+ghost use Rattle.wit_tree.specs.declared.tree.PackageFile.{PackageFile as TheFile};
 ghost use Rattle.wit_meaning.specs.Whole.{IsPackage};
 ghost use Rattle.wit_parser.specs.Marks.{HaveMarks};
 
 use wit_model::UnresolvedPackage;
-use wit_tree::tree::PackageFile;
 
 /// `Function::item_name` can be called of each function of a package that files make: its name has
 /// the mark of its kind.
-pub fn functions_have_marks(files: &[PackageFile<'_>], package: &UnresolvedPackage)
-    requires { IsPackage files.now «package».now }
-    ensures { HaveMarks «package».now }
+pub fn functions_have_marks(package: &UnresolvedPackage)
+    ensures { (files : List TheFile) → IsPackage files «package».now → HaveMarks «package».now }
 {}

@@ -10,6 +10,7 @@ mod interface;
 mod items;
 pub mod laws;
 mod names;
+mod notes;
 mod order;
 pub mod resolver;
 mod scope;

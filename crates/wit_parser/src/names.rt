@@ -12,7 +12,7 @@ ghost use Rattle.wit_entries.specs.Requiring.{Requires};
 ghost use Rattle.wit_parser.specs.Held.{name_behind, use_behind, definition_behind, front_of, cells_of};
 ghost use Rattle.wit_parser.specs.Front.{AreNamesPlaced};
 ghost use Rattle.wit_parser.specs.Between.{names_in, AreInTurn, IsBrokenAmong, IsWrongHandleIn, IsWrongHandleTurn, IsOfFunctions, IsWrongNames, DefinesTurn, AddsTurn};
-ghost use Rattle.wit_meaning.specs.Resolving.{Cell, env_of, local_names, Defines, AreLegalBodies, HasNames, IsIndex};
+ghost use Rattle.wit_meaning.specs.Resolving.{Cell, env_of, local_names, Defines, AreLegalBodies, AreLegalNotes, HasNames, IsIndex};
 
 use crate::distinct::{add_definition_ids, check_unique_names, used_ids};
 use crate::scope::ordered_definitions;
@@ -50,6 +50,7 @@ fn define_all(
     ensures defines { OnOk result ((cs : List Cell) (s : Address) → Defines types.old types.new cs scope.old.owner s scope.old.names scope.new.names (map definition_behind definitions.now)) }
     ensures owner { OnOk result (scope.new.owner ≡ scope.old.owner) }
     ensures listed { OnOk result (names_in scope.new.names ≡ names_in scope.old.names ++ local_names (map definition_behind definitions.now)) }
+    ensures noted { OnOk result (AreLegalNotes (map definition_behind definitions.now)) }
     ensures legal { OnOk result (AreLegalBodies (map definition_behind definitions.now)) }
     ensures handled { OnOk result (Requires (env_of scope.new.names) types.new (all_handles (flat_map name_types (map definition_behind definitions.now))) scope.old.required.items scope.new.required.items) }
     ensures refused { IfErr result (Refused (λ f. IsBrokenAmong (map definition_behind definitions.now) f ⊎ IsWrongHandleIn types.old scope.old.owner scope.old.names (map definition_behind definitions.now) f)) }

@@ -1,13 +1,13 @@
 //! From parsed files to a package.
-ghost use Rattle.std.specs.Prelude.{◌≡◌, ◌++◌, ◌∷◌, List, [], map, IfOk, IfErr, OnOk, OnErr};
+ghost use Rattle.std.specs.Prelude.{◌≡◌, ◌⊎◌, ◌++◌, ◌∷◌, List, [], map, IfOk, IfErr, OnOk, OnErr};
 ghost use Rattle.std.specs.Option.{option_copied};
 ghost use Rattle.wit_meaning.specs.Fault.{Fault};
 ghost use Rattle.wit_order.specs.Table.{IsOrder};
 ghost use Rattle.wit_meaning.specs.Source.{first_takings};
 ghost use Rattle.wit_meaning.specs.Scope.{item_rows};
 ghost use Rattle.wit_scope.specs.FileNames.{AreNamesOf};
-ghost use Rattle.wit_meaning.specs.Broken.{IsMismatch, IsOtherPackage, IsBrokenNames, IsBroken, IsLegal, Refused, last_header};
-ghost use Rattle.wit_parser.specs.Headers.{header_at};
+ghost use Rattle.wit_meaning.specs.Broken.{IsMismatch, IsOtherPackage, IsDocumentedTwice, IsBrokenNames, IsBroken, IsLegal, Refused, headers, last_header};
+ghost use Rattle.wit_parser.specs.Headers.{header_at, have_docs as the_docs};
 ghost use Rattle.wit_parser.specs.Between.{AddsFiles};
 ghost use Rattle.wit_types.specs.Types.{IsBackward};
 ghost use Rattle.wit_tree.specs.declared.tree.PackageFile.{PackageFile as TheFile};
@@ -15,7 +15,7 @@ ghost use Rattle.wit_meaning.specs.Foreign.{foreign_packages};
 ghost use Rattle.wit_meaning.specs.Whole.{dep, IsPackage, IsFaithful};
 
 use crate::foreign::ForeignArenas;
-use crate::header::{is_same, mismatch};
+use crate::header::{check_docs, have_docs, is_same, mismatch, package_docs};
 use crate::interface::resolve_interfaces;
 use crate::items::{Item, declared_items};
 use crate::uses::Interfaces;
@@ -42,7 +42,10 @@ pub struct Resolver<'a> {
     files: Vec<PackageFile<'a>>,
     /// The place of the last file that has a header, or 0 where none has one.
     last: usize,
+    /// Whether a file has a header with docs.
+    documented: bool,
     pub ghost header: { header_at files.items last ≡ last_header files.items },
+    pub ghost docs: { documented ≡ the_docs (headers files.items) },
 }
 
 /// The refusal of a header that names another package than the last one before it, if it does.
@@ -167,6 +170,7 @@ impl<'a> Resolver<'a> {
         Resolver {
             files: Vec::new(alloc),
             last: 0,
+            documented: false,
         }
     }
 
@@ -185,17 +189,21 @@ impl<'a> Resolver<'a> {
     /// A refusal leaves the files as they were.
     ///
     /// - 1, at the header: it names another package, or another version, than the last header before it.
+    /// - 2, at the header's docs: it has docs, and so has a header before it.
     /// - 45: a growth was refused.
     pub fn push(&mut self, alloc: Global, file: PackageFile<'a>) -> ParseResult<()>
         ensures ok { OnOk result (self.new.files.items ≡ self.old.files.items ++ file.entry ∷ []) }
-        ensures accepted { OnOk result ((f : Fault) → IsOtherPackage self.old.files.items file.entry f → ⊥) }
+        ensures accepted { OnOk result ((f : Fault) → (IsOtherPackage self.old.files.items file.entry f ⊎ IsDocumentedTwice self.old.files.items file.entry f) → ⊥) }
         ensures unchanged { OnErr result (self.new.files.items ≡ self.old.files.items) }
-        ensures refused { IfErr result (Refused (IsOtherPackage self.old.files.items file.entry)) }
+        ensures refused { IfErr result (Refused (λ f. IsOtherPackage self.old.files.items file.entry f ⊎ IsDocumentedTwice self.old.files.items file.entry f)) }
     {
         check_header(alloc, self.last_header(), &file.package_id)?;
+        check_docs(alloc, self.documented, &file.package_id)?;
         let place = self.files.len();
         let has_header = file.package_id.is_some();
+        let documented = have_docs(self.documented, &file.package_id);
         self.files.push(file)?;
+        self.documented = documented;
         if has_header {
             self.last = place;
         }
@@ -223,6 +231,7 @@ impl<'a> Resolver<'a> {
     /// - 6: a name stands twice at the top of a file.
     /// - 7, 8: a path leads to no interface or world; interfaces use, or worlds include, one another
     ///   in a cycle.
+    /// - 9: a `use` at the top of a file has attributes.
     /// - 10, 11: a `use` leads to a world; an include leads to an interface.
     /// - 12, 13: a used name is none of the interface that it comes from; it is that of a function.
     /// - 14, 17: a name stands twice in an interface or a world, to the letter or once case is folded.
@@ -235,6 +244,7 @@ impl<'a> Resolver<'a> {
     /// - 26: a map's key is written as a type that no key can have.
     /// - 27: a name in a handle ends at no resource.
     /// - 28, 29: a name in a signature is that of a function, or of nothing.
+    /// - 30 to 35: attributes break a rule, of an item, a definition, a function, a `use` or an include.
     /// - 36, 37: a getter has a parameter, or a setter has not just one.
     /// - 38: two parameters have one name once case is folded.
     /// - 39 to 42: a getter has no result; that of a setter, or of a constructor, is another than it
@@ -265,6 +275,7 @@ impl<'a> Resolver<'a> {
             resolved.worlds,
             resolved.interfaces,
             types.into_arena(),
+            package_docs(alloc, &self.files)?,
             header.span,
             foreign,
         ))

@@ -8,7 +8,7 @@ ghost use Rattle.wit_parser.specs.Held.{source_behind, name_behind, use_behind, 
 ghost use Rattle.wit_parser.specs.Front.{AreNamesPlaced};
 
 use std::alloc::{AllocError, Global};
-use wit_tree::tree::{Id, PackageName, TypeDef, UseName};
+use wit_tree::tree::{Attribute, Id, PackageName, TypeDef, UseName};
 
 /// The interface that names are used from.
 #[derive(Clone, Copy)]
@@ -23,10 +23,11 @@ pub(crate) enum Source<'t, 'a> {
     },
 }
 
-/// A used name, and the interface that it comes from.
+/// A used name, the interface that it comes from, and the attributes of its `use`.
 #[derive(Clone, Copy)]
 pub(crate) struct UsedName<'t, 'a> {
     pub(crate) from: Source<'t, 'a>,
+    pub(crate) attributes: &'t [Attribute<'a>],
     pub(crate) name: &'t UseName<'a>,
 }
 
@@ -45,18 +46,23 @@ pub(crate) enum ScopeName<'t, 'a> {
     Defined(DefinedName<'t, 'a>),
 }
 
-/// Adds the names that are used from an interface.
+/// Adds the names that are used from an interface, by a `use` with these attributes.
 pub(crate) fn add_used_names<'t, 'a>(
     names: &mut Vec<ScopeName<'t, 'a>>,
     from: &Source<'t, 'a>,
+    attributes: &'t [Attribute<'a>],
     used: &'t [UseName<'a>],
 ) -> Result<(), AllocError>
-    ensures names { OnOk result (map name_behind names.new.items ≡ map name_behind names.old.items ++ map (Used (source_behind from.now)) used.now) }
+    ensures names { OnOk result (map name_behind names.new.items ≡ map name_behind names.old.items ++ map (Used (source_behind from.now) attributes.now) used.now) }
     ensures placed { OnOk result ((front : List Address) → IsPlaced front from.now → AreNamesPlaced front names.old.items → AreNamesPlaced front names.new.items) }
 {
     for name in used {
         let from = *from;
-        names.push(ScopeName::Used(UsedName { from, name }))?;
+        names.push(ScopeName::Used(UsedName {
+            from,
+            attributes,
+            name,
+        }))?;
     }
     Ok(())
 }

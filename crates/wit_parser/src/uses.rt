@@ -23,8 +23,8 @@ use wit_model::{
     Arena, Function, FunctionKind, Interface, InterfaceId, InterfacePlace, Type, TypeDefKind,
 };
 use wit_names::front::behind;
-use wit_scope::ForeignVisit;
 use wit_scope::refusal::{refuse, refuse_in, refuse_missing};
+use wit_scope::{ForeignVisit, told_notes};
 use wit_tree::tree::Id;
 use wit_tree::{ParseError, ParseResult};
 use wit_values::TextTable;
@@ -128,10 +128,10 @@ fn resolve_use(
     requires index { IsIndex (cells_of interfaces.now) interfaces.now.by_name }
     requires placed { IsPlaced (front_of interfaces.now.foreign.now) used.now.from }
     requires front { length interfaces.now.foreign.now ≤ length interfaces.now.arena }
-    ensures used { OnOk result (IsUsed types.old types.new (cells_of interfaces.now) scope.old.owner scope.old.names scope.new.names (source_behind used.now.from) used.now.name.now) }
+    ensures used { OnOk result (IsUsed types.old types.new (cells_of interfaces.now) scope.old.owner scope.old.names scope.new.names (source_behind used.now.from) used.now.attributes.now used.now.name.now) }
     ensures owner { OnOk result (scope.new.owner ≡ scope.old.owner) }
     ensures required { scope.new.required ≡ scope.old.required }
-    ensures refused { IfErr result (Refused (IsWrongUse (cells_of interfaces.now) interfaces.now.by_name scope.old.names (source_behind used.now.from) used.now.name.now)) }
+    ensures refused { IfErr result (Refused (IsWrongUse (cells_of interfaces.now) interfaces.now.by_name scope.old.names (source_behind used.now.from) used.now.attributes.now used.now.name.now)) }
 {
     let name = used.name;
     let interface = used_interface(alloc, interfaces, &used.from)?;
@@ -144,8 +144,9 @@ fn resolve_use(
         let message = defined_twice(alloc, local.name)?;
         return Err(refuse(alloc, 14, local.span, message.as_str()));
     }
+    let notes = told_notes(alloc, used.attributes)?;
     let kind = TypeDefKind::Type_(Type::Id(original));
-    scope.declare(alloc, types, local.name, name.name.span, kind)?;
+    scope.declare(alloc, types, local.name, notes, name.name.span, kind)?;
     Ok(())
 }
 

@@ -1,5 +1,6 @@
 //! Declared worlds.
-ghost use Rattle.std.specs.Prelude.{◌≡◌, ◌<◌, ◌≤◌, List, All, length, IfOk, IfErr, OnOk, map};
+ghost use Rattle.std.specs.Prelude.{◌≡◌, ◌<◌, ◌≤◌, ◌⊎◌, List, All, length, IfOk, IfErr, OnOk, map};
+ghost use Rattle.std.specs.List.{flat_map};
 ghost use Rattle.std.specs.Option.{option_copied};
 ghost use Rattle.wit_tree.specs.declared.tree.PackageFile.{PackageFile as TheFile};
 ghost use Rattle.indexmap.specs.IndexMap.{insert_entry};
@@ -8,8 +9,9 @@ ghost use Rattle.wit_model.specs.declared.world.WorldKey.TheVariants.{Name};
 ghost use Rattle.wit_model.specs.declared.world.WorldItem.TheVariants.{Type_ as TypeItem};
 ghost use Rattle.wit_model.specs.contracts.world.WorldKeyPartialEq.TheImpl.{eq-value as key_test};
 ghost use Rattle.wit_meaning.specs.Address.{Address};
-ghost use Rattle.wit_meaning.specs.Source.{top_names, leads, TheWorld, Including, local_id, scope_names as the_names, ScopeName};
-ghost use Rattle.wit_meaning.specs.Scope.{in_order, worlds_of};
+ghost use Rattle.wit_meaning.specs.Source.{top_names, leads, TheWorld, Including, world_part, local_id, scope_names as the_names, ScopeName};
+ghost use Rattle.wit_meaning.specs.Scope.{in_order, worlds_of, part_includes};
+ghost use Rattle.wit_meaning.specs.Notes.{IsBrokenStability};
 ghost use Rattle.wit_meaning.specs.Fault.{Fault};
 ghost use Rattle.wit_meaning.specs.Broken.{IsBrokenScope, Refused};
 ghost use Rattle.wit_meaning.specs.Whole.{renamed, IsInclude, AreIncludes, type_imports as the_imports};
@@ -17,27 +19,29 @@ ghost use Rattle.wit_meaning.specs.Resolving.{IsIndex, IsWorldIndex, IsLostInclu
 ghost use Rattle.wit_types.specs.declared.types.TypeOwner.TheVariants.{World as WorldOwner};
 ghost use Rattle.wit_meaning.specs.Function.{functions as the_functions};
 ghost use Rattle.wit_meaning.specs.Repeats.{AllDiffer};
-ghost use Rattle.wit_meaning.specs.Resolved.{worlds_at, AddsWorld, AddsWorlds, AreSoundScopes, IsNameless, IsWrongWorld};
+ghost use Rattle.wit_meaning.specs.Resolved.{worlds_at, AddsWorld, AddsWorlds, AreSoundScopes, IsBrokenItemStability, HaveLegalStability, IsNameless, IsWrongWorld};
 ghost use Rattle.wit_parser.specs.Held.{front_of, cells_of};
 ghost use Rattle.wit_parser.specs.Items.{item_behind, names_behind, AreNamesAt, HasFile, HasItem, HasPart, IsNamedAt, AreFiled, HasFiles, AreEntriesOf, others_of, world_entry, world_at};
 ghost use Rattle.wit_parser.specs.Front.{AreNamesPlaced, AreItemsPlaced};
-ghost use Rattle.wit_parser.specs.Between.{Emits, IsLost, IsAddedWorld, IsWrongWorldNow};
+ghost use Rattle.wit_parser.specs.Between.{Emits, IsLost, AreStable, IsAddedWorld, IsWrongWorldNow};
+ghost use Rattle.wit_parser.specs.Told.{notes_behind};
 
 use crate::functions::{add_function_imports, held_functions};
 use crate::interface::add_required;
 use crate::items::{Declared, Item, entry_of};
 use crate::names::resolve_names;
+use crate::notes::{ItemNotes, item_notes};
 use crate::signatures::resolve_signatures;
 use crate::uses::Interfaces;
 use std::alloc::{AllocError, Global};
 use wit_entries::entries::Entries;
 use wit_entries::scope::Required;
 use wit_model::{
-    Arena, AstItem as Entry, Docs, IncludeName, Stability, TypeId, TypeOwner, World, WorldId,
-    WorldInclude, WorldItem, WorldKey, WorldPlace,
+    Arena, AstItem as Entry, IncludeName, TypeId, TypeOwner, World, WorldId, WorldInclude,
+    WorldItem, WorldKey, WorldPlace,
 };
 use wit_scope::refusal::refuse;
-use wit_scope::{FileNames, NameScope, Target, path_id};
+use wit_scope::{FileNames, NameScope, Target, path_id, stability};
 use wit_tree::ParseResult;
 use wit_tree::tree::{self, Id, UsePath};
 use wit_values::{Row, Table, Text, TextTable};
@@ -101,7 +105,8 @@ fn included_world<'f, 'a>(
     }
 }
 
-/// An include in the file at a place; refuses one of an interface.
+/// An include in the file at a place; refuses attributes that break a rule of stability, and then an
+/// include of an interface.
 fn resolve_include<'f, 'a>(
     alloc: Global,
     files: &FileNames<'f, 'a>,
@@ -114,8 +119,10 @@ fn resolve_include<'f, 'a>(
     requires front { length (others_of files.now) ≤ length worlds.now.arena }
     requires index { IsWorldIndex (worlds_at (others_of files.now) worlds.now.arena) worlds.now.by_name }
     ensures is { IfOk result (λ i. (fs : List TheFile) (file : TheFile) → AreNamesAt fs files.now place file → IsInclude (worlds_at (others_of files.now) worlds.now.arena) (top_names file) include.now i) }
-    ensures refused { IfErr result (λ e. (fs : List TheFile) (file : TheFile) → AreNamesAt fs files.now place file → Refused (IsLost fs worlds.now.by_name (top_names file) include.now) e) }
+    ensures stable { OnOk result ((f : Fault) → IsBrokenStability include.now.attributes.items f → ⊥) }
+    ensures refused { IfErr result (λ e. (fs : List TheFile) (file : TheFile) → AreNamesAt fs files.now place file → Refused (λ f. IsBrokenStability include.now.attributes.items f ⊎ IsLost fs worlds.now.by_name (top_names file) include.now f) e) }
 {
+    let stability = stability(alloc, &include.attributes)?;
     let path = path_id(&include.from);
     let id = match included_world(files, worlds, place, &include.from) {
         Some(id) => id,
@@ -125,7 +132,7 @@ fn resolve_include<'f, 'a>(
         }
     };
     Ok(WorldInclude {
-        stability: Stability::default(),
+        stability,
         id,
         names: renames(alloc, &include.names)?,
         span: path.span,
@@ -145,7 +152,8 @@ fn resolve_includes<'f, 'a>(
     requires front { length (others_of files.now) ≤ length worlds.now.arena }
     requires index { IsWorldIndex (worlds_at (others_of files.now) worlds.now.arena) worlds.now.by_name }
     ensures are { IfOk result (λ includes. (fs : List TheFile) (file : TheFile) → AreNamesAt fs files.now place file → AreIncludes (worlds_at (others_of files.now) worlds.now.arena) (record { top = top_names file; declared = TheWorld world.now }) includes) }
-    ensures refused { IfErr result (λ e. (fs : List TheFile) (file : TheFile) → AreNamesAt fs files.now place file → Refused (IsLostInclude fs worlds.now.by_name (record { top = top_names file; declared = TheWorld world.now })) e) }
+    ensures stable { OnOk result (AreStable (flat_map part_includes (map world_part world.now.items.items))) }
+    ensures refused { IfErr result (λ e. (fs : List TheFile) (file : TheFile) → AreNamesAt fs files.now place file → Refused (λ f. IsBrokenItemStability (record { top = top_names file; declared = TheWorld world.now }) f ⊎ IsLostInclude fs worlds.now.by_name (record { top = top_names file; declared = TheWorld world.now }) f) e) }
 {
     let mut includes = Vec::new(alloc);
     for part in &world.items {
@@ -193,16 +201,17 @@ fn type_imports(
     Ok(imports)
 }
 
-/// Adds a world of this name with these imports and includes.
+/// Adds a world of this name, with what is told of it, these imports and these includes.
 fn add_world(
     alloc: Global,
     worlds: &mut Worlds<'_>,
     id: Id<'_>,
+    notes: ItemNotes,
     imports: Table<WorldKey, WorldItem>,
     includes: Row<WorldInclude>,
 ) -> ParseResult<()>
     ensures entries { OnOk result (worlds.new.entries ≡ worlds.old.entries) }
-    ensures added { OnOk result (IsAddedWorld worlds.old.arena worlds.new.arena id.entry imports includes) }
+    ensures added { OnOk result (IsAddedWorld worlds.old.arena worlds.new.arena id.entry (notes_behind notes) imports includes) }
     ensures index { OnOk result ((others : List Address) → length others ≤ length worlds.old.arena → IsWorldIndex (worlds_at others worlds.old.arena) worlds.old.by_name → IsWorldIndex (worlds_at others worlds.new.arena) worlds.new.by_name) }
     ensures refused { IfErr result IsWantOfMemory }
 {
@@ -211,8 +220,8 @@ fn add_world(
         imports,
         exports: Table::new(alloc),
         package: None,
-        docs: Docs::default(),
-        stability: Stability::default(),
+        docs: notes.docs,
+        stability: notes.stability,
         includes,
         span: id.span,
     })?;
@@ -222,8 +231,8 @@ fn add_world(
     Ok(())
 }
 
-/// Adds a world with its names, and what is in them, its includes, and the functions of its
-/// resources.
+/// Adds a world with what is told of it, its names, and what is in them, its includes, and the
+/// functions of its resources.
 fn resolve_world<'f, 'a>(
     alloc: Global,
     types: &mut Entries,
@@ -247,9 +256,11 @@ fn resolve_world<'f, 'a>(
     ensures entries { OnOk result (worlds.new.entries ≡ worlds.old.entries) }
     ensures added { OnOk result (Emits required.old.items required.new.items (λ rs. AddsWorld (front_of interfaces.now.foreign.now) (others_of files.now) interfaces.now.arena types.old types.new worlds.old.arena worlds.new.arena rs (item_behind item.now))) }
     ensures index { OnOk result (IsWorldIndex (worlds_at (others_of files.now) worlds.new.arena) worlds.new.by_name) }
+    ensures stable { OnOk result ((f : Fault) → IsBrokenItemStability (item_behind item.now) f → ⊥) }
     ensures sound { OnOk result ((f : Fault) → IsBrokenScope (the_names (item_behind item.now)) (the_functions (item_behind item.now)) f → IsNameless (the_names (item_behind item.now)) (the_functions (item_behind item.now))) }
     ensures refused { IfErr result (λ e. (fs : List TheFile) → AreNamesAt fs files.now item.now.place item.now.file.now → Refused (IsWrongWorld fs types.old (cells_of interfaces.now) interfaces.now.by_name worlds.old.by_name (WorldOwner (length worlds.old.arena)) (item_behind item.now)) e) }
 {
+    let notes = item_notes(alloc, item.declared)?;
     let owner = TypeOwner::World(worlds.arena.next_id());
     let mut names = resolve_names(alloc, types, interfaces, owner, &item.names)?;
     let includes = resolve_includes(alloc, files, worlds, item.place, world)?;
@@ -265,7 +276,7 @@ fn resolve_world<'f, 'a>(
     )?;
     let mut imports = type_imports(alloc, &names.turn, &names.types)?;
     add_function_imports(&mut imports, functions)?;
-    add_world(alloc, worlds, world.name, imports, includes)?;
+    add_world(alloc, worlds, world.name, notes, imports, includes)?;
     add_required(required, &names.required)?;
     Ok(())
 }
@@ -290,6 +301,7 @@ pub(crate) fn resolve_worlds<'f, 'a>(
     requires worlds_front { length (others_of files.now) ≤ length worlds.old.arena }
     requires worlds_index { IsWorldIndex (worlds_at (others_of files.now) worlds.old.arena) worlds.old.by_name }
     ensures added { OnOk result (Emits required.old.items required.new.items (λ rs. AddsWorlds (front_of interfaces.now.foreign.now) (others_of files.now) interfaces.now.arena types.old types.new worlds.old.arena worlds.new.arena rs (worlds_of (in_order (map item_behind items.now) files.now.order.items)))) }
+    ensures stable { OnOk result (HaveLegalStability (worlds_of (in_order (map item_behind items.now) files.now.order.items))) }
     ensures sound { OnOk result (AreSoundScopes (worlds_of (in_order (map item_behind items.now) files.now.order.items))) }
     ensures refused { IfErr result (λ e. (fs : List TheFile) → AreFiled fs files.now items.now → Refused (IsWrongWorldNow fs (front_of interfaces.now.foreign.now) (others_of files.now) types.old interfaces.now.arena interfaces.now.by_name worlds.old.arena (map item_behind items.now) files.now.order.items) e) }
 {

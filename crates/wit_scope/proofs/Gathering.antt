@@ -16,16 +16,17 @@ use Rattle.wit_order.proofs.Tables.{place_by_key}
 use Rattle.wit_meaning.specs.Source.{TopName, top_names, top_text, declared_items, Item, file_items, all_items, item_name, is_world}
 use Rattle.wit_meaning.specs.Scope.{item_row, item_rows}
 use Rattle.wit_meaning.specs.Fault.{Fault, item_word}
-use Rattle.wit_meaning.specs.Broken.{IsMissingEdge, IsCyclicEdge, IsBrokenItems, DuplicateItem, DuplicateTopName, MissingItem, CyclicItem, IsBrokenNames, Items, MissingOriginal}
+use Rattle.wit_meaning.specs.Broken.{IsMissingEdge, IsCyclicEdge, IsBrokenItems, DuplicateItem, DuplicateTopName, MissingItem, CyclicItem, IsBrokenNames, Items, ForeignStability, AttributedTopUse, MissingOriginal}
+use Rattle.wit_meaning.specs.Foreign.{foreign_visits}
 use Rattle.wit_meaning.specs.Repeats.{AllDiffer}
 use Rattle.wit_meaning.proofs.Lists.{at_front, at_back, at_either, map_map}
 use Rattle.wit_meaning.proofs.Orders.{take_next}
 use Rattle.wit_meaning.proofs.Repeated.{no_repeat}
 use Rattle.wit_meaning.proofs.Tables.{place_of-Some, none_if}
-use Rattle.wit_meaning.proofs.Scoping.{at_contains}
+use Rattle.wit_meaning.proofs.Scoping.{at_contains, contains_at}
 use Rattle.wit_meaning.proofs.Legal.{no_missing_edge, no_cyclic_edge}
 use Rattle.wit_scope.specs.Tops.{Named, AreNamed, AreDeclared}
-use Rattle.wit_scope.specs.Checks.{AreDistinctTops, AreDeclaredTops}
+use Rattle.wit_scope.specs.Checks.{AreDistinctTops, AreRightTops, IsWrongTop, AttributedUse, MissingUse, IsBrokenVisit, AreLegalVisits}
 use Rattle.wit_scope.specs.FileNames.{AreTopsOf, AreNamesOf, AddsTop}
 use Rattle.wit_scope.specs.declared.file_names.FileNames.{FileNames}
 use Rattle.wit_scope.proofs.FirstNames.{rows_items}
@@ -143,10 +144,20 @@ legal_items files places differ tops order f (CyclicItem h) = no_cyclic_edge 8 i
 pub names_declared : (files : List PackageFile) (names : FileNames) → AreNamesOf files names → AreDeclared (all_items files) names.items
 names_declared files names are = record { finds = λ name. rows_items (all_items files) names.items.entries name are.items }
 
--- so it is with that about names, where none at the top of a file is broken
-pub legal_names : (files : List PackageFile) → ((f : Fault) → IsBrokenItems files f → ⊥) → AreDeclaredTops (all_items files) files → (f : Fault) → IsBrokenNames files f → ⊥
-legal_names files legal tops f (Items h) = legal f h
-legal_names files legal tops f (MissingOriginal file among h) = (let p = at_contains files file among in tops.declared p.0 file p.1 f h)
+-- what is wrong with attributes in front of a path to another package, and at the top of a file, is wrong with names
+pub broken_visit : (files : List PackageFile) (f : Fault) → IsBrokenVisit (foreign_visits files) f → IsBrokenNames files f
+broken_visit files f h = ForeignStability h.visit h.among h.broken
+
+pub broken_top : (files : List PackageFile) (i : ℕ) (file : PackageFile) (f : Fault) → slice_get files i ≡ Some file → IsWrongTop (all_items files) file.decl_list.items.items f → IsBrokenNames files f
+broken_top files i file f at (AttributedUse h) = AttributedTopUse file (contains_at files i file at) h
+broken_top files i file f at (MissingUse h) = MissingOriginal file (contains_at files i file at) h
+
+-- no rule about names is broken where none about items is, and where nothing is wrong with those attributes and at the top of a file
+pub legal_names : (files : List PackageFile) → ((f : Fault) → IsBrokenItems files f → ⊥) → AreLegalVisits (foreign_visits files) → AreRightTops (all_items files) files → (f : Fault) → IsBrokenNames files f → ⊥
+legal_names files legal visits tops f (Items h) = legal f h
+legal_names files legal visits tops f (ForeignStability v among h) = (let p = at_contains (foreign_visits files) v among in visits.each p.0 v p.1 f h)
+legal_names files legal visits tops f (AttributedTopUse file among h) = (let p = at_contains files file among in tops.each p.0 file p.1 f (AttributedUse h))
+legal_names files legal visits tops f (MissingOriginal file among h) = (let p = at_contains files file among in tops.each p.0 file p.1 f (MissingUse h))
 
 -- each item is told to be a world, or to be none
 pub length-kinds : (files : List PackageFile) (names : FileNames) → AreNamesOf files names → length names.kinds.items ≡ length (all_items files)

@@ -11,4 +11,5 @@ pub mod FirstNames
 pub mod Lost
 pub mod Others
 pub mod Visited
+pub mod Unbroken
 pub mod Gathering

@@ -25,7 +25,7 @@ use Rattle.wit_meaning.proofs.Tables.{place_of-Some, none_if}
 use Rattle.wit_meaning.proofs.Scoping.{contains_at, at_contains}
 use Rattle.wit_meaning.proofs.Itemizing.{item_row_at}
 use Rattle.wit_scope.specs.Tops.{item_top}
-use Rattle.wit_scope.specs.Checks.{AreDistinctTops, AreDeclaredUses, AreDeclaredTops, IsDeclaredTarget, IsRepeatedName, IsLostTarget, IsLostAmong, needed_paths, IsWrongFile, WrongTop, WrongPath}
+use Rattle.wit_scope.specs.Checks.{AreDistinctTops, AreRightUses, AreRightTops, IsRightUse, IsRepeatedName, IsLostTarget, IsLostAmong, needed_paths, IsWrongFile, WrongTop, WrongPath, IsWrongUse, Attributed, Lost, IsWrongTop, AttributedUse, MissingUse}
 use Rattle.wit_scope.proofs.FirstNames.{find_none}
 
 -- what stands in a part stands in the whole
@@ -76,28 +76,26 @@ tops_more files file tops one = record {
   ];
 }
 
-pub tops_declared_none : (is : List Item) → AreDeclaredTops is []
-tops_declared_none is = record { declared = λ i file at. absurd (let f : ⊥ = cc in f) }
+-- nothing is wrong at the top of no file, and of one more
+pub tops_right_none : (is : List Item) → AreRightTops is []
+tops_right_none is = record { each = λ i file at. absurd (let f : ⊥ = cc in f) }
 
-pub tops_declared_more : (is : List Item) (files : List PackageFile) (file : PackageFile) → AreDeclaredTops is files → ((f : Fault) → IsMissingOriginal is file.decl_list.items.items f → ⊥) → AreDeclaredTops is (files ++ file ∷ [])
-tops_declared_more is files file tops one = record {
-  declared = λ i g at. elim (at_either files file i g at) [
-    | inl old ↦ tops.declared i g old
-    | inr new ↦ subst (λ (x : PackageFile). (f : Fault) → IsMissingOriginal is x.decl_list.items.items f → ⊥) (sym new.1) one
+pub tops_right_more : (is : List Item) (files : List PackageFile) (file : PackageFile) → AreRightTops is files → ((f : Fault) → IsWrongTop is file.decl_list.items.items f → ⊥) → AreRightTops is (files ++ file ∷ [])
+tops_right_more is files file tops one = record {
+  each = λ i g at. elim (at_either files file i g at) [
+    | inl old ↦ tops.each i g old
+    | inr new ↦ subst (λ (x : PackageFile). (f : Fault) → IsWrongTop is x.decl_list.items.items f → ⊥) (sym new.1) one
   ];
 }
 
 -- a declaration more
-pub declared_more : (is : List Item) (ds : List AstItem) (d : AstItem) → AreDeclaredUses is ds → ((u : ToplevelUse) → d ≡ ToplevelItem u → IsDeclaredTarget is (path_target u.item)) → AreDeclaredUses is (ds ++ d ∷ [])
-declared_more is ds d uses one = record {
-  declared = λ k u at. elim (at_either ds d k (ToplevelItem u) at) [
-    | inl old ↦ uses.declared k u old
+pub uses_right_more : (is : List Item) (ds : List AstItem) (d : AstItem) → AreRightUses is ds → ((u : ToplevelUse) → d ≡ ToplevelItem u → IsRightUse is u) → AreRightUses is (ds ++ d ∷ [])
+uses_right_more is ds d uses one = record {
+  each = λ k u at. elim (at_either ds d k (ToplevelItem u) at) [
+    | inl old ↦ uses.each k u old
     | inr new ↦ one u (sym new.1)
   ];
 }
-
-pub declared_none : (is : List Item) → AreDeclaredUses is []
-declared_none is = record { declared = λ k u at. absurd (let f : ⊥ = cc in f) }
 
 pub duplicate_top : (top : List TopName) (f : Fault) → IsRepeatedName 6 top f → IsDuplicateTopName top f
 duplicate_top top f h = record { later = h.later; repeated = h.repeated; is = h.is }
@@ -114,14 +112,22 @@ duplicate_item is f h =
       says = h.is ∙ ap (λ (t : TopName). fault 5 t.id.span) (sym b.2);
     }
 
-pub missing_original : (is : List Item) (ds : List AstItem) (i : ℕ) (u : ToplevelUse) (f : Fault) → slice_get ds i ≡ Some (ToplevelItem u) → IsLostTarget is (path_target u.item) f → IsMissingOriginal is ds f
+missing_original : (is : List Item) (ds : List AstItem) (i : ℕ) (u : ToplevelUse) (f : Fault) → slice_get ds i ≡ Some (ToplevelItem u) → IsLostTarget is (path_target u.item) f → IsMissingOriginal is ds f
 missing_original is ds i u f at h = record { u = u; id = h.id; among = contains_at ds i (ToplevelItem u) at; local = h.local; missing = h.undeclared.missing; is = h.undeclared.is }
 
--- where each path is the name of an item, none is missing
-pub no_missing_original : (is : List Item) (ds : List AstItem) (f : Fault) → AreDeclaredUses is ds → IsMissingOriginal is ds f → ⊥
-no_missing_original is ds f uses h =
+-- what is wrong with a `use` at the top of a file is wrong there
+pub wrong_top : (is : List Item) (ds : List AstItem) (i : ℕ) (u : ToplevelUse) (f : Fault) → slice_get ds i ≡ Some (ToplevelItem u) → IsWrongUse is u f → IsWrongTop is ds f
+wrong_top is ds i u f at (Attributed some says) = AttributedUse (record { u = u; among = contains_at ds i (ToplevelItem u) at; attributed = some; is = says })
+wrong_top is ds i u f at (Lost lost) = MissingUse (missing_original is ds i u f at lost)
+
+-- where each `use` is right, nothing is wrong with one
+pub no_wrong_top : (is : List Item) (ds : List AstItem) (f : Fault) → AreRightUses is ds → IsWrongTop is ds f → ⊥
+no_wrong_top is ds f uses (AttributedUse h) =
     let k = at_contains ds (ToplevelItem h.u) h.among in
-    let wrong : IsSome {T = Item} None = subst (λ (o : Option Item). IsSome o) h.missing (uses.declared k.0 h.u k.1 h.id h.local) in
+    h.attributed (uses.each k.0 h.u k.1).plain
+no_wrong_top is ds f uses (MissingUse h) =
+    let k = at_contains ds (ToplevelItem h.u) h.among in
+    let wrong : IsSome {T = Item} None = subst (λ (o : Option Item). IsSome o) h.missing ((uses.each k.0 h.u k.1).declared h.id h.local) in
     cc
 
 -- a path that leads nowhere, alone

@@ -35,7 +35,7 @@ use Rattle.wit_scope.specs.contracts.foreign.ForeignKeyPartialEq.TheImpl.{eq-val
 
 -- the visit of an item of another package that a path makes
 abbrev pub foreign_of : Visit → List ForeignVisit
-foreign_of v = path_visits (wants_world v.wanted) v.path
+foreign_of v = path_visits v.attributes (wants_world v.wanted) v.path
 
 flat_inside : {X Y Z : Type 0} (g : Y → List Z) (f : X → List Y) (h : X → List Z) → ((x : X) → flat_map g (f x) ≡ h x) → (xs : List X) → flat_map g (flat_map f xs) ≡ flat_map h xs
 flat_inside g f h each [] = refl
@@ -47,18 +47,18 @@ flat_mapped g f (x ∷ xs) = ap (λ l. g (f x) ++ l) (flat_mapped g f xs)
 
 of_part : (owner : Id) (p : InterfaceItem) → flat_map foreign_of (part_visits owner p) ≡ the_part_visits (interface_part p)
 of_part owner (interface_item.TypeDef d) = refl
-of_part owner (interface_item.Use u) = append-nil (path_visits false u.from)
+of_part owner (interface_item.Use u) = append-nil (path_visits u.attributes.items false u.from)
 of_part owner (interface_item.Func f) = refl
 
 of_world_part : (owner : Id) (p : WorldItem) → flat_map foreign_of (world_part_visits owner p) ≡ the_part_visits (world_part p)
 of_world_part owner (world_item.TypeDef d) = refl
-of_world_part owner (world_item.Use u) = append-nil (path_visits false u.from)
-of_world_part owner (world_item.Include i) = append-nil (path_visits true i.from)
+of_world_part owner (world_item.Use u) = append-nil (path_visits u.attributes.items false u.from)
+of_world_part owner (world_item.Include i) = append-nil (path_visits i.attributes.items true i.from)
 
 of_item : (d : AstItem) → flat_map foreign_of (item_visits d) ≡ declaration_visits d
 of_item (ast.Interface i) = flat_inside foreign_of (part_visits i.name) (λ p. the_part_visits (interface_part p)) (of_part i.name) i.items.items ∙ flat_mapped the_part_visits interface_part i.items.items
 of_item (ast.World w) = flat_inside foreign_of (world_part_visits w.name) (λ p. the_part_visits (world_part p)) (of_world_part w.name) w.items.items ∙ flat_mapped the_part_visits world_part w.items.items
-of_item (ast.Use u) = append-nil (path_visits false u.item)
+of_item (ast.Use u) = append-nil (path_visits u.attributes.items false u.item)
 
 -- those of the paths of a file are its paths with a package
 pub of_file : (f : PackageFile) → flat_map foreign_of (visits f.decl_list) ≡ file_visits f

@@ -9,9 +9,10 @@ use Rattle.wit_tree.specs.declared.tree.Attribute.{Attribute}
 use Rattle.wit_tree.specs.declared.tree.Attribute.TheVariants as attribute
 use Rattle.wit_meaning.specs.Fault.{Fault}
 use Rattle.wit_meaning.proofs.Lists.{at_either, at_take}
-use Rattle.wit_scope.specs.declared.attribute_kind.AttributeKind.{AttributeKind}
-use Rattle.wit_scope.specs.declared.attribute_kind.AttributeKind.TheVariants.{Since, Unstable, Deprecated, ExternalId}
-use Rattle.wit_scope.specs.Attributes.{kind_of, is_of, first_of, StandsAt, IsTwice, IsBrokenStability, SinceTwice, DeprecatedTwice, UnstableTwice, SinceAndUnstable, DeprecatedAlone}
+use Rattle.wit_tree.specs.declared.attribute_kind.AttributeKind.{AttributeKind}
+use Rattle.wit_tree.specs.declared.attribute_kind.AttributeKind.TheVariants.{Since, Unstable, Deprecated, ExternalId}
+use Rattle.wit_tree.specs.Attributes.{kind_of, is_of, first_of, StandsAt}
+use Rattle.wit_meaning.specs.Notes.{IsTwice, IsBrokenStability, SinceTwice, DeprecatedTwice, UnstableTwice, SinceAndUnstable, DeprecatedAlone}
 use Rattle.wit_scope.specs.Kinds.{number_of, IsRepeat, IsOnce, IsEachOnce}
 
 -- kinds

@@ -12,7 +12,7 @@ use Rattle.std.proofs.Math.Seq.{drop-length}
 use native.Mathlib.Numerals.{unary_clauses}
 use denote.Ref.{Bor}
 use Rattle.wit_meaning.proofs.Lists.{map_map}
-use Rattle.wit_scope.specs.Docs.{behind_slashes, behind_spaces, docs_text, indent, is_written, joined, said, without_end, without_last_lines}
+use Rattle.wit_meaning.specs.Docs.{behind_slashes, behind_spaces, docs_text, indent, is_written, joined, said, without_end, without_last_lines}
 
 -- a text whose end was taken off
 pub without_end-stripped : (n s : List ℕ) (x : Bor (List ℕ)) → StripsSuffix (FindsTextSuffix n) s x.now → x.now ≡ without_end n s

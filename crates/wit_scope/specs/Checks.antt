@@ -1,6 +1,6 @@
 -- What is right and what is wrong with the names of files, one file, one declaration or one path at a time.
 use Rattle.std.specs.List.{flat_map}
-use Rattle.std.specs.Prelude.{◌≡◌, ℕ, List, map, Some, None, IsSome, Contains, slice_get}
+use Rattle.std.specs.Prelude.{◌≡◌, ◌≢◌, ℕ, List, [], map, Some, None, IsSome, Contains, slice_get}
 use Rattle.wit_tree.specs.declared.tree.Id.{Id}
 use Rattle.wit_tree.specs.declared.tree.UsePath.{UsePath}
 use Rattle.wit_tree.specs.declared.tree.ToplevelUse.{ToplevelUse}
@@ -11,7 +11,9 @@ use Rattle.wit_meaning.specs.Source.{TopName, Target, Local, path_target, leads,
 use Rattle.wit_meaning.specs.Scope.{needed_path, local_target}
 use Rattle.wit_meaning.specs.Fault.{Fault, fault, missing_at, item_word}
 use Rattle.wit_meaning.specs.Bodies.{IsRepeated}
-use Rattle.wit_meaning.specs.Broken.{IsDuplicateTopName, IsMissingOriginal}
+use Rattle.wit_meaning.specs.Broken.{IsDuplicateTopName, IsMissingOriginal, IsAttributedTopUse}
+use Rattle.wit_meaning.specs.Foreign.{ForeignVisit}
+use Rattle.wit_meaning.specs.Notes.{IsBrokenStability}
 use Rattle.wit_meaning.specs.Repeats.{AllDiffer}
 
 -- an earlier one of these names at the top of a file is the same
@@ -58,10 +60,35 @@ pub record AreDistinctTops (files : List PackageFile) : Type 0 where
 abbrev pub IsDeclaredTarget : List Item → Target → Type 0
 IsDeclaredTarget is target = (id : Id) → target ≡ Local id → IsSome (item_named is id.name.now)
 
--- so it is with the path of each `use` among these declarations, by itself
-pub record AreDeclaredUses (is : List Item) (declarations : List AstItem) : Type 0 where
-  pub declared : (k : ℕ) (u : ToplevelUse) → slice_get declarations k ≡ Some (ToplevelItem u) → IsDeclaredTarget is (path_target u.item)
+-- a `use` at the top of a file has no attributes, and its path, by itself, is declared where it leads to a name
+pub record IsRightUse (is : List Item) (u : ToplevelUse) : Type 0 where
+  pub plain : u.attributes.items ≡ []
+  pub declared : IsDeclaredTarget is (path_target u.item)
 
--- so it is in each file
-pub record AreDeclaredTops (is : List Item) (files : List PackageFile) : Type 0 where
-  pub declared : (i : ℕ) (file : PackageFile) → slice_get files i ≡ Some file → (f : Fault) → IsMissingOriginal is file.decl_list.items.items f → ⊥
+-- it has attributes, or its path is lost
+pub data IsWrongUse (is : List Item) (u : ToplevelUse) (f : Fault) : Type 0 where
+  Attributed : u.attributes.items ≢ [] → f ≡ fault 9 u.span → IsWrongUse is u f
+  Lost : IsLostTarget is (path_target u.item) f → IsWrongUse is u f
+
+-- each `use` among these declarations is right
+pub record AreRightUses (is : List Item) (declarations : List AstItem) : Type 0 where
+  pub each : (k : ℕ) (u : ToplevelUse) → slice_get declarations k ≡ Some (ToplevelItem u) → IsRightUse is u
+
+-- what is wrong with one of them
+pub data IsWrongTop (is : List Item) (declarations : List AstItem) (f : Fault) : Type 0 where
+  AttributedUse : IsAttributedTopUse declarations f → IsWrongTop is declarations f
+  MissingUse : IsMissingOriginal is declarations f → IsWrongTop is declarations f
+
+-- nothing is wrong with those of each file
+pub record AreRightTops (is : List Item) (files : List PackageFile) : Type 0 where
+  pub each : (i : ℕ) (file : PackageFile) → slice_get files i ≡ Some file → (f : Fault) → IsWrongTop is file.decl_list.items.items f → ⊥
+
+-- the attributes in front of one of these paths break a rule
+pub record IsBrokenVisit (visits : List ForeignVisit) (f : Fault) : Type 0 where
+  pub visit : ForeignVisit
+  pub among : Contains visits visit
+  pub broken : IsBrokenStability visit.attributes f
+
+-- those in front of none do
+pub record AreLegalVisits (visits : List ForeignVisit) : Type 0 where
+  pub each : (i : ℕ) (visit : ForeignVisit) → slice_get visits i ≡ Some visit → (f : Fault) → IsBrokenStability visit.attributes f → ⊥

@@ -14,7 +14,7 @@ use Rattle.wit_scope.specs.declared.foreign.ForeignItems.{ForeignItems}
 
 -- the visit that is held
 abbrev pub foreign_behind : Held → ForeignVisit
-foreign_behind v = record { of = v.package.now; id = v.name; wants_world = v.wants_world }
+foreign_behind v = record { attributes = v.attributes.now; of = v.package.now; id = v.name; wants_world = v.wants_world }
 
 -- whether a path is that of an include
 abbrev pub wants_world : Wanted → Bool

@@ -1,12 +1,11 @@
-pub mod Attributes
 pub mod Checks
-pub mod Docs
 pub mod Foreign
 pub mod FileNames
 pub mod Hint
 pub mod Kinds
 pub mod Lent
 pub mod Names
+pub mod Notes
 pub mod Scope
 pub mod Tops
 pub mod Visits

@@ -4,16 +4,17 @@ ghost use Rattle.std.specs.Option.{option_copied, option_map};
 ghost use Rattle.wit_tree.specs.Refusal.{IsWantOfMemory};
 ghost use Rattle.wit_meaning.specs.Broken.{Refused};
 ghost use Rattle.wit_meaning.specs.Fault.{Fault, fault, fault_of};
-ghost use Rattle.wit_scope.specs.Attributes.{IsBrokenStability, IsExternalIdTwice, IsStability, attribute_span, first_of, kind_of, told_text, told_version};
-ghost use Rattle.wit_scope.specs.declared.attribute_kind.AttributeKind.TheVariants.{ExternalId};
+ghost use Rattle.wit_tree.specs.Attributes.{attribute_span, first_of, kind_of, told_text, told_version};
+ghost use Rattle.wit_meaning.specs.Notes.{IsBrokenStability, IsExternalIdTwice, external_id_of, stability_of};
+ghost use Rattle.wit_tree.specs.declared.attribute_kind.AttributeKind.TheVariants.{ExternalId};
 ghost use Rattle.wit_scope.specs.Kinds.{IsEachOnce, IsRepeat, number_of};
 
-use crate::attribute_kind::{AttributeKind, first_of, is_of, kind_of, span_of};
 use crate::package::release_of;
 use crate::refusal::refuse;
 use semver::Version;
 use std::alloc::{AllocError, Global};
 use wit_model::Stability;
+use wit_tree::attribute_kind::{AttributeKind, first_of, is_of, kind_of, span_of};
 use wit_tree::tree::Attribute;
 use wit_tree::{ParseError, ParseResult, Span};
 use wit_values::{Release, Text};
@@ -78,8 +79,8 @@ fn check_each_once(alloc: Global, attributes: &[Attribute<'_>]) -> ParseResult<(
     Ok(())
 }
 
-/// Refuses a second external id.
-fn check_external_once(alloc: Global, attributes: &[Attribute<'_>]) -> ParseResult<()>
+/// Refuses a second external id; other attributes are ignored.
+pub(crate) fn check_external_once(alloc: Global, attributes: &[Attribute<'_>]) -> ParseResult<()>
     ensures once { OnOk result ((f : Fault) → IsExternalIdTwice attributes.now f → ⊥) }
     ensures refused { IfErr result (Refused (IsExternalIdTwice attributes.now)) }
 {
@@ -118,9 +119,12 @@ fn check_together(alloc: Global, attributes: &[Attribute<'_>]) -> ParseResult<()
     }
 }
 
-/// The stability that attributes tell.
-fn told_stability(alloc: Global, attributes: &[Attribute<'_>]) -> Result<Stability, AllocError>
-    ensures { IfOk result (IsStability attributes.now) }
+/// The stability that attributes tell, the first of each kind, whatever rule they break; other
+/// attributes are ignored.
+///
+/// The error is want of memory.
+pub fn told_stability(alloc: Global, attributes: &[Attribute<'_>]) -> Result<Stability, AllocError>
+    ensures { IfOk result (λ stability. stability ≡ stability_of attributes.now) }
 {
     let deprecated = release_of(told_version(attributes, AttributeKind::Deprecated))?;
     if let Some(version) = told_version(attributes, AttributeKind::Since) {
@@ -136,31 +140,55 @@ fn told_stability(alloc: Global, attributes: &[Attribute<'_>]) -> Result<Stabili
     }
 }
 
-/// The stability that attributes tell; other attributes are ignored.
+/// Refuses attributes that break a rule of stability; other attributes are ignored.
 ///
-/// The error is E30, E31 or E32 at a second `@since`, `@deprecated` or `@unstable`, E33 at a
-/// `@since` beside `@unstable`, E34 at a `@deprecated` without either, or want of memory.
-pub fn stability(alloc: Global, attributes: &[Attribute<'_>]) -> ParseResult<Stability>
-    ensures told { IfOk result (IsStability attributes.now) }
+/// The error is that of [`stability`].
+pub fn check_stability(alloc: Global, attributes: &[Attribute<'_>]) -> ParseResult<()>
     ensures legal { OnOk result ((f : Fault) → IsBrokenStability attributes.now f → ⊥) }
     ensures refused { IfErr result (Refused (IsBrokenStability attributes.now)) }
 {
     check_each_once(alloc, attributes)?;
     check_together(alloc, attributes)?;
+    Ok(())
+}
+
+/// The stability that attributes tell; other attributes are ignored.
+///
+/// The error is E30, E31 or E32 at a second `@since`, `@deprecated` or `@unstable`, E33 at a
+/// `@since` beside `@unstable`, E34 at a `@deprecated` without either, or want of memory.
+pub fn stability(alloc: Global, attributes: &[Attribute<'_>]) -> ParseResult<Stability>
+    ensures told { IfOk result (λ stability. stability ≡ stability_of attributes.now) }
+    ensures legal { OnOk result ((f : Fault) → IsBrokenStability attributes.now f → ⊥) }
+    ensures refused { IfErr result (Refused (IsBrokenStability attributes.now)) }
+{
+    check_stability(alloc, attributes)?;
     Ok(told_stability(alloc, attributes)?)
+}
+
+/// The external id that attributes tell, the first, whatever rule they break; other attributes are
+/// ignored.
+///
+/// The error is want of memory.
+pub fn told_external_id(
+    alloc: Global,
+    attributes: &[Attribute<'_>],
+) -> Result<Option<Text>, AllocError>
+    ensures { IfOk result (λ id. id ≡ external_id_of attributes.now) }
+{
+    match told_text(attributes, AttributeKind::ExternalId) {
+        Some(id) => Ok(Some(Text::from_str(alloc, id)?)),
+        None => Ok(None),
+    }
 }
 
 /// The external id that attributes tell, if one does; other attributes are ignored.
 ///
 /// The error is E35 at a second external id, or want of memory.
 pub fn external_id(alloc: Global, attributes: &[Attribute<'_>]) -> ParseResult<Option<Text>>
-    ensures told { IfOk result (λ id. id ≡ told_text ExternalId attributes.now) }
+    ensures told { IfOk result (λ id. id ≡ external_id_of attributes.now) }
     ensures legal { OnOk result ((f : Fault) → IsExternalIdTwice attributes.now f → ⊥) }
     ensures refused { IfErr result (Refused (IsExternalIdTwice attributes.now)) }
 {
     check_external_once(alloc, attributes)?;
-    match told_text(attributes, AttributeKind::ExternalId) {
-        Some(id) => Ok(Some(Text::from_str(alloc, id)?)),
-        None => Ok(None),
-    }
+    Ok(told_external_id(alloc, attributes)?)
 }

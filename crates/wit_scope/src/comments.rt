@@ -1,6 +1,7 @@
 //! The text of docs.
 ghost use Rattle.std.specs.Prelude.{◌≡◌, ◌++◌, IfOk, OnOk, map, string_bytes};
-ghost use Rattle.wit_scope.specs.Docs.{behind_slashes, common_indent, docs_text, ended, ended_lines, indent, joined, said, unmarked, without_end, without_last_lines, without_spaces};
+ghost use Rattle.wit_meaning.specs.Docs.{behind_slashes, common_indent, ended, ended_lines, indent, joined, said, unmarked, without_end, without_last_lines, without_spaces};
+ghost use Rattle.wit_meaning.specs.Notes.{docs_of};
 
 use std::alloc::{AllocError, Global};
 use wit_model::Docs;
@@ -148,7 +149,7 @@ fn joined(alloc: Global, texts: &[&str]) -> Result<String, AllocError>
 ///
 /// The error is want of memory.
 pub fn docs(alloc: Global, docs: &tree::Docs<'_>) -> Result<Docs, AllocError>
-    ensures { IfOk result (λ d. d.contents ≡ docs_text (map (λ c. c.now) docs.now.docs.items)) }
+    ensures { IfOk result (λ d. d ≡ docs_of docs.now) }
 {
     let comments = docs.docs.as_slice();
     if comments.is_empty() {

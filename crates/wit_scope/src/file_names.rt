@@ -6,19 +6,19 @@ ghost use Rattle.wit_order.specs.Table.{rows, target, IsOrder};
 ghost use Rattle.wit_meaning.specs.Source.{Item as TheItem, top_names, top_text, leads as the_leads, file_items, all_items, item_name, is_world as is_the_world};
 ghost use Rattle.wit_meaning.specs.Scope.{item_row, item_rows};
 ghost use Rattle.wit_meaning.specs.Fault.{Fault};
-ghost use Rattle.wit_meaning.specs.Broken.{IsMissingOriginal, IsBrokenItems, IsBrokenNames, Refused};
+ghost use Rattle.wit_meaning.specs.Broken.{IsBrokenItems, IsBrokenNames, Refused};
 ghost use Rattle.wit_meaning.specs.Repeats.{AllDiffer};
 ghost use Rattle.wit_meaning.specs.Foreign.{foreign_visits as the_visits, foreign_items};
 ghost use Rattle.wit_scope.specs.Tops.{target_behind, AreDeclared};
-ghost use Rattle.wit_scope.specs.Checks.{AreDistinctTops, IsWrongFile};
+ghost use Rattle.wit_scope.specs.Checks.{AreDistinctTops, AreLegalVisits, IsBrokenVisit, IsWrongFile, IsWrongTop};
 ghost use Rattle.wit_scope.specs.Foreign.{foreign_behind, AreItemsOf};
 ghost use Rattle.wit_scope.specs.FileNames.{AddsTop, AreNamesOf, AreDeclarationsOf, found_at};
 
-use crate::foreign::{ForeignItems, ForeignVisit, foreign_visits};
+use crate::foreign::{ForeignItems, ForeignVisit, check_visits, foreign_visits};
 use crate::item_table::{add_items, add_kinds, table_order};
-use crate::top_name::{Paths, Target, check_originals, file_names, item_names, leads};
+use crate::top_name::{Paths, Target, check_top_uses, file_names, item_names, leads};
 use indexmap::IndexMap;
-use std::alloc::{AllocError, Global};
+use std::alloc::Global;
 use wit_tree::ParseResult;
 use wit_tree::tree::{Id, PackageFile, UsePath};
 
@@ -51,15 +51,19 @@ pub struct FileNames<'f, 'a> {
 }
 
 impl<'f, 'a> FileNames<'f, 'a> {
-    /// The items of other packages that files name, and no name of theirs yet.
-    fn of_others(alloc: Global, files: &'f [PackageFile<'a>]) -> Result<Self, AllocError>
+    /// The items of other packages that files name, and no name of theirs yet; refuses attributes in
+    /// front of a path to one that break a rule of stability.
+    fn of_others(alloc: Global, files: &'f [PackageFile<'a>]) -> ParseResult<Self>
         ensures visits { IfOk result (λ names. map foreign_behind names.visits.items ≡ the_visits files.now) }
         ensures foreign { IfOk result (λ names. AreItemsOf (the_visits files.now) names.foreign) }
         ensures items { IfOk result (λ names. rows names.items ≡ []) }
         ensures kinds { IfOk result (λ names. names.kinds.items ≡ []) }
         ensures tops { IfOk result (λ names. names.tops.items ≡ []) }
+        ensures legal { OnOk result (AreLegalVisits (the_visits files.now)) }
+        ensures refused { IfErr result (Refused (IsBrokenVisit (the_visits files.now))) }
     {
         let visits = foreign_visits(alloc, files)?;
+        check_visits(alloc, &visits)?;
         let foreign = ForeignItems::of(alloc, &visits)?;
         Ok(FileNames {
             visits,
@@ -124,10 +128,11 @@ impl<'f, 'a> FileNames<'f, 'a> {
 
     /// The names of files, whatever the `use`s at the top of files name.
     fn gather_items(alloc: Global, files: &'f [PackageFile<'a>]) -> ParseResult<FileNames<'f, 'a>>
+        ensures visits { OnOk result (AreLegalVisits (the_visits files.now)) }
         ensures legal { OnOk result ((f : Fault) → IsBrokenItems files.now f → ⊥) }
         ensures names { IfOk result (AreNamesOf files.now) }
         ensures order { IfOk result (λ names. IsOrder (item_rows files.now) names.order.items) }
-        ensures refused { IfErr result (Refused (IsBrokenItems files.now)) }
+        ensures refused { IfErr result (Refused (IsBrokenNames files.now)) }
     {
         let mut names = FileNames::of_others(alloc, files)?;
         let declared = item_names(alloc, files)?;
@@ -136,12 +141,12 @@ impl<'f, 'a> FileNames<'f, 'a> {
         Ok(names)
     }
 
-    /// Refuses a `use` at the top of a file whose path is the name of no item.
+    /// Refuses a `use` at the top of a file that has attributes, or whose path is the name of no item.
     fn check_top(&self, alloc: Global, file: &PackageFile<'_>) -> ParseResult<()>
-        ensures legal { OnOk result ((files : List TheFile) → AreNamesOf files self.now → (f : Fault) → IsMissingOriginal (all_items files) file.now.decl_list.items.items f → ⊥) }
-        ensures refused { IfErr result (λ e. (files : List TheFile) → AreNamesOf files self.now → Refused (IsMissingOriginal (all_items files) file.now.decl_list.items.items) e) }
+        ensures legal { OnOk result ((files : List TheFile) → AreNamesOf files self.now → (f : Fault) → IsWrongTop (all_items files) file.now.decl_list.items.items f → ⊥) }
+        ensures refused { IfErr result (λ e. (files : List TheFile) → AreNamesOf files self.now → Refused (IsWrongTop (all_items files) file.now.decl_list.items.items) e) }
     {
-        Ok(check_originals(alloc, &self.items, file)?)
+        Ok(check_top_uses(alloc, &self.items, file)?)
     }
 
     /// The names of files.
@@ -152,11 +157,13 @@ impl<'f, 'a> FileNames<'f, 'a> {
     /// # Errors
     ///
     /// The names are given exactly where none of these rules is broken, unless memory is wanted.
-    /// Breaches are found in this order: 5, by place; then file by file 6, and 7 of the paths of
-    /// that file's items that are no name at its top; then 7 of the other paths of items, and 8; then
-    /// file by file 7 of the `use`s at its top. The paths of an item are here those of an
-    /// interface's `use`s and those of a world's includes.
+    /// Breaches are found in this order: 30 to 34, path by path; then 5, by place; then file by file
+    /// 6, and 7 of the paths of that file's items that are no name at its top; then 7 of the other
+    /// paths of items, and 8; then file by file, for each `use` at its top, 9 and then 7. The paths of
+    /// an item are here those of an interface's `use`s and those of a world's includes.
     ///
+    /// - 30 to 34, as [`stability`](crate::stability) says: attributes in front of a path with a
+    ///   package break a rule of stability.
     /// - 5, at the later name: an item is declared twice.
     /// - 6, at the later name: a name stands twice at the top of a file.
     /// - 7: a path without a package, of an item, leads to no declared item and to none of another
@@ -166,6 +173,7 @@ impl<'f, 'a> FileNames<'f, 'a> {
     /// - 8: interfaces use, or worlds include, one another in a cycle. It is where a path on the way
     ///   to one leads: at the name that the same file declares, at the path of the `use` at its top,
     ///   else at the path itself.
+    /// - 9, at the word `use`: a `use` at the top of a file has attributes.
     /// - 45: a growth was refused.
     pub fn gather(alloc: Global, files: &'f [PackageFile<'a>]) -> ParseResult<FileNames<'f, 'a>>
         ensures legal { OnOk result ((f : Fault) → IsBrokenNames files.now f → ⊥) }

@@ -1,21 +1,27 @@
 //! Paths to items of other packages, and those items.
-ghost use Rattle.std.specs.Prelude.{◌≡◌, ◌++◌, List, [], ◌∷◌, map, position, IfOk, OnOk};
+ghost use Rattle.std.specs.Prelude.{◌≡◌, ◌++◌, List, [], ◌∷◌, map, position, IfErr, IfOk, OnOk};
 ghost use Rattle.wit_meaning.specs.Address.{ForeignNamed, package_of, release_of, same_address};
 ghost use Rattle.wit_meaning.specs.Foreign.{ForeignVisit as TheVisit, path_visits, file_visits, foreign_visits as the_visits, visited, same_item};
+ghost use Rattle.wit_meaning.specs.Broken.{Refused};
 ghost use Rattle.wit_meaning.specs.Repeats.{firsts};
+ghost use Rattle.wit_scope.specs.Checks.{AreLegalVisits, IsBrokenVisit};
 ghost use Rattle.wit_scope.specs.Foreign.{foreign_behind, wants_world, key_release, key_address, AreItemsOf};
 
+use crate::attributes::check_stability;
 use crate::visit::{Visit, Wanted, visits};
 use indexmap::IndexSet;
 use semver::Version;
 use std::alloc::{AllocError, Global};
-use wit_tree::tree::{Id, PackageFile, PackageName, UsePath};
+use wit_tree::ParseResult;
+use wit_tree::tree::{Attribute, Id, PackageFile, PackageName, UsePath};
 
 /// A path with a package, which leads to an item of that package.
 ///
 /// The first visit of an item tells what it is: a world if that visit wants one, else an interface.
 #[derive(Clone, Copy, Debug)]
 pub struct ForeignVisit<'f, 'a> {
+    /// The attributes in front of the `use` or of the include.
+    pub attributes: &'f [Attribute<'a>],
     pub package: &'f PackageName<'a>,
     /// The name of the item.
     pub name: Id<'a>,
@@ -86,11 +92,12 @@ fn add_visit<'f, 'a>(
     foreign: &mut Vec<ForeignVisit<'f, 'a>>,
     visit: Visit<'f, 'a>,
 ) -> Result<(), AllocError>
-    ensures { OnOk result (map foreign_behind foreign.new.items ≡ map foreign_behind foreign.old.items ++ path_visits (wants_world visit.entry.wanted) visit.entry.path.now) }
+    ensures { OnOk result (map foreign_behind foreign.new.items ≡ map foreign_behind foreign.old.items ++ path_visits visit.entry.attributes.now (wants_world visit.entry.wanted) visit.entry.path.now) }
 {
     match visit.path {
         UsePath::Id(_) => {}
         UsePath::Package { id, name } => foreign.push(ForeignVisit {
+            attributes: visit.attributes,
             package: id,
             name: *name,
             wants_world: visit.wanted == Wanted::World,
@@ -126,6 +133,17 @@ pub(crate) fn foreign_visits<'f, 'a>(
         add_visits(alloc, &mut foreign, file)?;
     }
     Ok(foreign)
+}
+
+/// Refuses attributes in front of a path with a package that break a rule of stability.
+pub(crate) fn check_visits(alloc: Global, visits: &[ForeignVisit<'_, '_>]) -> ParseResult<()>
+    ensures legal { OnOk result (AreLegalVisits (map foreign_behind visits.now)) }
+    ensures refused { IfErr result (Refused (IsBrokenVisit (map foreign_behind visits.now))) }
+{
+    for visit in visits {
+        check_stability(alloc, visit.attributes)?;
+    }
+    Ok(())
 }
 
 impl<'f, 'a> ForeignItems<'f, 'a> {

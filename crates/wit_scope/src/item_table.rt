@@ -10,6 +10,7 @@ ghost use Rattle.wit_meaning.specs.Repeats.{AllDiffer};
 ghost use Rattle.wit_scope.specs.Tops.{AreNamed, AreDeclared};
 ghost use Rattle.wit_scope.specs.Checks.{edges_of, IsLostAmong, IsWrongFile};
 
+use crate::declaration::declarations;
 use crate::order_refusal::refuse_item_order;
 use crate::top_name::{Paths, add_edge};
 use indexmap::IndexMap;
@@ -101,7 +102,8 @@ pub(crate) fn add_items<'a>(
     ensures rows { OnOk result (rows table.new ≡ rows table.old ++ map item_row (file_items file.now)) }
     ensures refused { IfErr result (λ e. (is : List Item) → AreDeclared is paths.entry.declared.now → Refused (IsWrongFile is file.now) e) }
 {
-    for item in &file.decl_list.items {
+    let items = declarations(file);
+    for item in items {
         let (id, edges) = match item {
             AstItem::Interface(interface) => {
                 (interface.name, interface_edges(alloc, paths, interface)?)
@@ -118,7 +120,8 @@ pub(crate) fn add_items<'a>(
 pub(crate) fn add_kinds(kinds: &mut Vec<bool>, file: &PackageFile<'_>) -> Result<(), AllocError>
     ensures { OnOk result (kinds.new.items ≡ kinds.old.items ++ map is_world (file_items file.now)) }
 {
-    for item in &file.decl_list.items {
+    let items = declarations(file);
+    for item in items {
         match item {
             AstItem::Interface(_) => kinds.push(false)?,
             AstItem::World(_) => kinds.push(true)?,

@@ -2,16 +2,17 @@
 ghost use Rattle.std.specs.Prelude.{◌≡◌, ◌++◌, List, IsSome, map, IfOk, IfErr, OnOk};
 ghost use Rattle.wit_meaning.specs.Source.{TopName as Top, Item, itself as the_itself, top_name as the_name, top_names as the_names, top_text, path_id as the_path, path_target as the_target, leads as the_leads, file_items, all_items, item_name, item_named};
 ghost use Rattle.wit_meaning.specs.Scope.{local_target};
-ghost use Rattle.wit_meaning.specs.Broken.{IsDuplicateTopName, IsMissingOriginal, IsBrokenItems, Refused};
+ghost use Rattle.wit_meaning.specs.Broken.{IsDuplicateTopName, IsBrokenItems, Refused};
 ghost use Rattle.wit_meaning.specs.Repeats.{AllDiffer};
 ghost use Rattle.wit_scope.specs.Tops.{target_behind, top_behind, item_top, AreNamed, AreDeclared};
-ghost use Rattle.wit_scope.specs.Checks.{AreDeclaredUses, IsDeclaredTarget, IsRepeatedName, IsUndeclared, IsLostTarget};
+ghost use Rattle.wit_scope.specs.Checks.{AreRightUses, IsDeclaredTarget, IsRepeatedName, IsRightUse, IsUndeclared, IsLostTarget, IsWrongTop, IsWrongUse};
 
+use crate::declaration::declarations;
 use crate::refusal::{refuse, refuse_missing};
 use indexmap::IndexMap;
 use std::alloc::{AllocError, Global};
 use wit_tree::ParseResult;
-use wit_tree::tree::{AstItem, Id, PackageFile, PackageName, UsePath};
+use wit_tree::tree::{AstItem, Id, PackageFile, PackageName, ToplevelUse, UsePath};
 
 /// Where a path leads.
 #[derive(Clone, Copy, Debug)]
@@ -264,18 +265,38 @@ fn check_original<V>(
     Ok(())
 }
 
-/// Refuses a `use` at the top of a file whose path is a name, but no declared item's.
-pub(crate) fn check_originals(
+/// Refuses a `use` at the top of a file that has attributes, or whose path is a name, but no declared
+/// item's.
+fn check_top_use<V>(
+    alloc: Global,
+    declared: &IndexMap<&str, V>,
+    used: &ToplevelUse<'_>,
+) -> ParseResult<()>
+    ensures right { OnOk result ((is : List Item) → AreDeclared is declared.now → IsRightUse is used.now) }
+    ensures refused { IfErr result (λ e. (is : List Item) → AreDeclared is declared.now → Refused (IsWrongUse is used.now) e) }
+{
+    if !used.attributes.is_empty() {
+        let words = "attributes not allowed on top-level use";
+        return Err(refuse(alloc, 9, used.span, words));
+    }
+    check_original(alloc, declared, &used.item)?;
+    Ok(())
+}
+
+/// Refuses a `use` among those at the top of a file that has attributes, or whose path is a name, but
+/// no declared item's.
+pub(crate) fn check_top_uses(
     alloc: Global,
     declared: &IndexMap<&str, Vec<Id<'_>>>,
     file: &PackageFile<'_>,
 ) -> ParseResult<()>
-    ensures declared { OnOk result ((is : List Item) → AreDeclared is declared.now → AreDeclaredUses is file.now.decl_list.items.items) }
-    ensures refused { IfErr result (λ e. (is : List Item) → AreDeclared is declared.now → Refused (IsMissingOriginal is file.now.decl_list.items.items) e) }
+    ensures right { OnOk result ((is : List Item) → AreDeclared is declared.now → AreRightUses is file.now.decl_list.items.items) }
+    ensures refused { IfErr result (λ e. (is : List Item) → AreDeclared is declared.now → Refused (IsWrongTop is file.now.decl_list.items.items) e) }
 {
-    for item in &file.decl_list.items {
+    let items = declarations(file);
+    for item in items {
         if let AstItem::Use(used) = item {
-            check_original(alloc, declared, &used.item)?;
+            check_top_use(alloc, declared, used)?;
         }
     }
     Ok(())

@@ -4,7 +4,7 @@ ghost use Rattle.wit_scope.specs.Visits.{visit_behind, interface_visits, world_v
 
 use std::alloc::{AllocError, Global};
 use wit_tree::tree::{
-    AstItem, DeclList, Id, Interface, InterfaceItem, UseName, UsePath, World, WorldItem,
+    AstItem, Attribute, DeclList, Id, Interface, InterfaceItem, UseName, UsePath, World, WorldItem,
 };
 
 /// What the item that a path leads to has to be.
@@ -18,12 +18,14 @@ pub enum Wanted {
     Unknown,
 }
 
-/// A path of a file, with whose it is and what is taken by it.
+/// A path of a file, with whose it is, what is told in front of it, and what is taken by it.
 #[derive(Clone, Copy, Debug)]
 pub struct Visit<'f, 'a> {
     /// The name of the item that has to come after what the path leads to: of an interface for its
     /// `use`s, of a world for its includes. `None` for a `use` in a world or at the top of a file.
     pub owner: Option<Id<'a>>,
+    /// The attributes in front of the `use` or of the include.
+    pub attributes: &'f [Attribute<'a>],
     pub path: &'f UsePath<'a>,
     /// The names that are used from the item, or `None` where the item itself is named.
     pub names: Option<&'f [UseName<'a>]>,
@@ -41,6 +43,7 @@ fn add_interface_visits<'f, 'a>(
         if let InterfaceItem::Use(used) = item {
             visits.push(Visit {
                 owner: Some(interface.name),
+                attributes: &used.attributes,
                 path: &used.from,
                 names: Some(&used.names),
                 wanted: Wanted::Interface,
@@ -62,12 +65,14 @@ fn add_world_visits<'f, 'a>(
             WorldItem::TypeDef(_) => {}
             WorldItem::Use(used) => visits.push(Visit {
                 owner: None,
+                attributes: &used.attributes,
                 path: &used.from,
                 names: Some(&used.names),
                 wanted: Wanted::Interface,
             })?,
             WorldItem::Include(include) => visits.push(Visit {
                 owner: Some(world.name),
+                attributes: &include.attributes,
                 path: &include.from,
                 names: None,
                 wanted: Wanted::World,
@@ -89,6 +94,7 @@ fn add_visits<'f, 'a>(
         AstItem::World(world) => add_world_visits(visits, world)?,
         AstItem::Use(used) => visits.push(Visit {
             owner: None,
+            attributes: &used.attributes,
             path: &used.item,
             names: None,
             wanted: Wanted::Unknown,

@@ -1,13 +1,17 @@
 //! What no clause says: that calls succeed, and the words of refusals.
 
-use crate::helpers::parts_of;
+use crate::helpers::{attributes, no_docs, parts_of, stability_text};
 use std::alloc::Global;
 use std::process::Abort;
 use std::test::Fail;
 use wit_entries::definitions::define;
 use wit_entries::entries::Entries;
 use wit_entries::scope::Scope;
-use wit_model::{Arena, Handle, InterfacePlace, Type, TypeDef, TypeDefKind, TypeOwner, TypePlace};
+use wit_model::{
+    Arena, Docs, Handle, InterfacePlace, Stability, Type, TypeDef, TypeDefKind, TypeOwner,
+    TypePlace,
+};
+use wit_scope::Notes;
 use wit_scope::refusal::{refuse, refuse_cycle, refuse_missing, refuse_missing_type};
 use wit_tree::tree::{self, Field, Id, TypeBody};
 use wit_tree::{ParseError, ParseResult, Span};
@@ -80,6 +84,7 @@ fn body<'a>(rt: &impl Abort, alloc: Global, text: &'a str) -> ParseResult<TypeBo
         if let Some((name, word)) = field.split_once('=') {
             let ty = written(rt, alloc, word)?;
             fields.push(Field {
+                docs: no_docs(alloc),
                 name: id(rt, name),
                 ty,
             })?;
@@ -114,7 +119,22 @@ fn listing(alloc: Global, types: &Arena<TypeDef, TypePlace>) -> Result<String, F
     Ok(text)
 }
 
-/// Defines a name as a text writes it: nothing, or the refusal.
+/// The entries behind one another, each by its name, its word and its stability.
+fn settled_listing(alloc: Global, types: &Arena<TypeDef, TypePlace>) -> Result<String, Fail> {
+    let mut text = String::new(alloc);
+    for entry in types.iter() {
+        text.push_str(entry.name.as_ref().map_or("-", |name| name.as_str()))?;
+        text.push(' ')?;
+        text.push_str(word(&entry.kind))?;
+        text.push(' ')?;
+        text.push_str(stability_text(alloc, &entry.stability)?.as_str())?;
+        text.push_str("; ")?;
+    }
+    Ok(text)
+}
+
+/// Defines a name, with the attributes that stand in front of its `~`, as a text writes it: nothing,
+/// or the refusal.
 fn defined<'a>(
     rt: &impl Abort,
     alloc: Global,
@@ -123,7 +143,10 @@ fn defined<'a>(
     name: &'a str,
     text: &'a str,
 ) -> Result<String, Fail> {
+    let (letters, name) = name.split_once('~').unwrap_or(("", name));
     let definition = tree::TypeDef {
+        docs: no_docs(alloc),
+        attributes: attributes(alloc, letters, &mut 0)?,
         name: id(rt, name),
         body: body(rt, alloc, text)?,
     };
@@ -150,21 +173,38 @@ t|: => 19 empty record;
 t|:f=u8 F=u8 => 25 field `F` conflicts with previous field `f`;
 t|:f=u8 f=u8 => 25 duplicate field `f`";
 
+/// A scope of no names.
+fn empty_scope(alloc: Global) -> Scope {
+    Scope {
+        owner: TypeOwner::Interface(Arena::<u8, InterfacePlace>::new(alloc).next_id()),
+        names: TextTable::new(alloc),
+        required: Vec::new(alloc),
+    }
+}
+
+/// Defines the names of rows, and looks at what is said of each.
+fn define_rows(
+    rt: &impl Abort,
+    alloc: Global,
+    types: &mut Entries,
+    scope: &mut Scope,
+    rows: &str,
+) -> Result<(), Fail> {
+    for row in rows.split(";\n") {
+        let (given, want) = parts_of(rt, row);
+        let (name, text) = given.split_once('|').expect(rt, "a name and its text");
+        let said = defined(rt, alloc, types, scope, name, text)?;
+        assert_eq!(rt; said.as_str(), want, "at {text}");
+    }
+    Ok(())
+}
+
 #[test]
 fn defines(rt: HostRuntime) -> Result<(), Fail> {
     let alloc = rt.alloc();
     let mut types = Entries::new(alloc);
-    let mut scope = Scope {
-        owner: TypeOwner::Interface(Arena::<u8, InterfacePlace>::new(alloc).next_id()),
-        names: TextTable::new(alloc),
-        required: Vec::new(alloc),
-    };
-    for row in DEFINITIONS.split(";\n") {
-        let (given, want) = parts_of(&rt, row);
-        let (name, text) = given.split_once('|').expect(&rt, "a name and its text");
-        let said = defined(&rt, alloc, &mut types, &mut scope, name, text)?;
-        assert_eq!(rt; said.as_str(), want, "at {text}");
-    }
+    let mut scope = empty_scope(alloc);
+    define_rows(&rt, alloc, &mut types, &mut scope, DEFINITIONS)?;
     let entries = listing(alloc, &types.into_arena())?;
     assert_eq!(rt;
         entries.as_str(),
@@ -174,17 +214,42 @@ fn defines(rt: HostRuntime) -> Result<(), Fail> {
     Ok(())
 }
 
+/// Names with attributes, and what is refused of these.
+const NOTED: &str = "s~a|u8* => ;
+u~b|:f=u8* => ;
+c|:f=a* g=b* h=u8* => ;
+s~d|:f=c* => ;
+u~e|:f=d* => ;
+f|:f=c* => ;
+ss~t|u8 => 30 cannot specify @since twice;
+d~t|gone => 34 cannot specify both @deprecated without @since or @unstable;
+ee~t|: => 35 cannot specify @external-id twice";
+
+#[test]
+fn settles_stabilities(rt: HostRuntime) -> Result<(), Fail> {
+    let alloc = rt.alloc();
+    let mut types = Entries::new(alloc);
+    let mut scope = empty_scope(alloc);
+    define_rows(&rt, alloc, &mut types, &mut scope, NOTED)?;
+    let entries = settled_listing(alloc, &types.into_arena())?;
+    assert_eq!(rt;
+        entries.as_str(),
+        "a list u8 stable 1.0.0; - list u8 unstable x; b record unstable x; - list stable 1.0.0; - list unstable x; c record unknown; - list stable 1.0.0; d record stable 1.0.0; - list unstable x; e record unstable x; f record unknown; "
+    );
+    Ok(())
+}
+
 #[test]
 fn requires_resources_of_other_packages(rt: HostRuntime) -> Result<(), Fail> {
     let alloc = rt.alloc();
-    let owner = TypeOwner::Interface(Arena::<u8, InterfacePlace>::new(alloc).next_id());
     let mut types = Entries::new(alloc);
-    let mut scope = Scope {
-        owner,
-        names: TextTable::new(alloc),
-        required: Vec::new(alloc),
+    let mut scope = empty_scope(alloc);
+    let notes = Notes {
+        docs: Docs::default(),
+        stability: Stability::default(),
+        external_id: None,
     };
-    scope.declare(alloc, &mut types, "far", HERE, TypeDefKind::Unknown)?;
+    scope.declare(alloc, &mut types, "far", notes, HERE, TypeDefKind::Unknown)?;
     let said = defined(&rt, alloc, &mut types, &mut scope, "near", "far")?;
     assert_eq!(rt; said.as_str(), "");
     let said = defined(&rt, alloc, &mut types, &mut scope, "r", ":f=&near g=!far")?;

@@ -1,151 +1,13 @@
 //! The names of files.
-//!
-//! A file is written as words: `i:a,b` is an interface `i` that uses from `a` and `b`, where `f()`
-//! in place of a path is a function, `w!a,.b` a world `w` that includes `a` and uses from `b`, `x=a`
-//! a `use` of `a` as `x`. A path `q/a` is of a package `p:q`, and `q/a@1.0.0` of its version. A `|`
-//! stands between files. Names have their numbers as spans.
 
 ghost use Rattle.wit_scope.specs.FileNames.{AreNamesOf};
 
-use crate::helpers::{numbered, parts_of, refusal};
-use semver::Version;
-use std::alloc::{AllocError, Global};
+use crate::helpers::{parts_of, refusal};
+use crate::words::{files, path};
+use std::alloc::Global;
 use std::test::Fail;
-use wit_scope::{FileNames, ForeignVisit, Found};
-use wit_tree::Span;
-use wit_tree::tree::{
-    AstItem, DeclList, Func, FuncForm, Id, Include, Interface, InterfaceItem, NamedFunc,
-    PackageFile, PackageName, ToplevelUse, Use, UsePath, World, WorldItem,
-};
-
-/// The next label.
-fn label<'a>(name: &'a str, number: &mut u32) -> Result<Id<'a>, AllocError> {
-    let span = numbered(*number);
-    *number = number.wrapping_add(1);
-    Id::new(name, span).ok_or(AllocError)
-}
-
-/// A path.
-fn path<'a>(alloc: Global, word: &'a str, number: &mut u32) -> Result<UsePath<'a>, Fail> {
-    let Some((package, item)) = word.split_once('/') else {
-        return Ok(UsePath::Id(label(word, number)?));
-    };
-    let (item, version) = match item.split_once('@') {
-        Some((item, version)) => (item, Some(Version::parse(alloc, version)?)),
-        None => (item, None),
-    };
-    let id = PackageName {
-        span: Span::default(),
-        namespace: label("p", number)?,
-        name: label(package, number)?,
-        version,
-    };
-    let name = label(item, number)?;
-    Ok(UsePath::Package { id, name })
-}
-
-/// A function without parameters and without a result.
-fn function<'a>(alloc: Global, name: &'a str, number: &mut u32) -> Result<InterfaceItem<'a>, Fail> {
-    Ok(InterfaceItem::Func(NamedFunc {
-        name: label(name, number)?,
-        func: Func {
-            span: Span::default(),
-            form: FuncForm::Plain,
-            params: Vec::new(alloc),
-            result: None,
-        },
-    }))
-}
-
-/// A part of an interface: a function, or a `use` of what a path leads to.
-fn part<'a>(alloc: Global, word: &'a str, number: &mut u32) -> Result<InterfaceItem<'a>, Fail> {
-    if let Some(name) = word.strip_suffix("()") {
-        return Ok(function(alloc, name, number)?);
-    }
-    let from = path(alloc, word, number)?;
-    let names = Vec::new(alloc);
-    Ok(InterfaceItem::Use(Use { from, names }))
-}
-
-/// An interface with functions, and that uses from what some paths lead to.
-fn interface<'a>(
-    alloc: Global,
-    name: &'a str,
-    paths: &'a str,
-    number: &mut u32,
-) -> Result<AstItem<'a>, Fail> {
-    let name = label(name, number)?;
-    let mut items = Vec::new(alloc);
-    for word in paths.split(',') {
-        if !word.is_empty() {
-            items.push(part(alloc, word, number)?)?;
-        }
-    }
-    Ok(AstItem::Interface(Interface { name, items }))
-}
-
-/// A part of a world: a `use` of what stands behind a dot, else an include.
-fn world_item<'a>(alloc: Global, word: &'a str, number: &mut u32) -> Result<WorldItem<'a>, Fail> {
-    if let Some(word) = word.strip_prefix('.') {
-        let from = path(alloc, word, number)?;
-        let names = Vec::new(alloc);
-        return Ok(WorldItem::Use(Use { from, names }));
-    }
-    let from = path(alloc, word, number)?;
-    let names = Vec::new(alloc);
-    Ok(WorldItem::Include(Include { from, names }))
-}
-
-/// A world of some parts.
-fn world<'a>(
-    alloc: Global,
-    name: &'a str,
-    paths: &'a str,
-    number: &mut u32,
-) -> Result<AstItem<'a>, Fail> {
-    let name = label(name, number)?;
-    let mut items = Vec::new(alloc);
-    for word in paths.split(',') {
-        if !word.is_empty() {
-            items.push(world_item(alloc, word, number)?)?;
-        }
-    }
-    Ok(AstItem::World(World { name, items }))
-}
-
-/// What a word declares.
-fn item<'a>(alloc: Global, word: &'a str, number: &mut u32) -> Result<AstItem<'a>, Fail> {
-    if let Some((name, paths)) = word.split_once(':') {
-        return Ok(interface(alloc, name, paths, number)?);
-    }
-    if let Some((name, paths)) = word.split_once('!') {
-        return Ok(world(alloc, name, paths, number)?);
-    }
-    let (name, original) = word.split_once('=').ok_or(AllocError)?;
-    let name = label(name, number)?;
-    Ok(AstItem::Use(ToplevelUse {
-        span: Span::default(),
-        item: path(alloc, original, number)?,
-        as_: Some(name),
-    }))
-}
-
-/// The files of a text.
-fn files<'a>(alloc: Global, text: &'a str) -> Result<Vec<PackageFile<'a>>, Fail> {
-    let mut files = Vec::new(alloc);
-    let mut number = 0u32;
-    for part in text.split('|') {
-        let mut items = Vec::new(alloc);
-        for word in part.split_whitespace() {
-            items.push(item(alloc, word, &mut number)?)?;
-        }
-        files.push(PackageFile {
-            package_id: None,
-            decl_list: DeclList { items },
-        })?;
-    }
-    Ok(files)
-}
+use wit_scope::{FileNames, Found};
+use wit_tree::tree::PackageFile;
 
 /// The order of the items of files, or the refusal.
 fn order(alloc: Global, text: &str) -> Result<String, Fail> {
@@ -188,7 +50,23 @@ a!.b,.z b!a => 0 1 ;
 a!q/b b!a => 0 1 ;
 i: i! => E5 1 duplicate item named `i`;
 a!b b!a => E8 2 interface or world `b` depends on itself;
-a!z => E7 1 interface or world `z` does not exist";
+a!z => E7 1 interface or world `z` does not exist;
+a:ss~b b: => 1 0 ;
+a:ee~q/b w!sd~q/c x=u~q/d => E9 62 attributes not allowed on top-level use;
+a:ss~q/b => E30 2 cannot specify @since twice;
+w!dd~q/b => E31 2 cannot specify @deprecated twice;
+x=uu~q/b => E32 2 cannot specify @unstable twice;
+w!.us~q/b => E33 2 cannot specify both @since and @unstable;
+a:d~q/b => E34 1 cannot specify both @deprecated without @since or @unstable;
+a: a:s~q/b,ss~q/b => E30 7 cannot specify @since twice;
+a:q/c,dd~q/b | b:ss~q/b => E31 5 cannot specify @deprecated twice;
+x=s~a a: => E9 50 attributes not allowed on top-level use;
+x=e~q/a => E9 50 attributes not allowed on top-level use;
+x=s~z => E9 50 attributes not allowed on top-level use;
+x=z y=s~a a: => E7 1 interface or world `z` does not exist;
+x=s~a y=z a: => E9 50 attributes not allowed on top-level use;
+x=a a: | y=s~a => E9 53 attributes not allowed on top-level use;
+x=s~a a: b:c c:b => E8 6 interface or world `c` depends on itself";
 
 #[test]
 fn items_in_order(rt: HostRuntime) -> Result<(), Fail> {
@@ -261,55 +139,6 @@ fn paths_lead_to_items(rt: HostRuntime) -> Result<(), Fail> {
         let (place, path) = given.split_once(' ').expect(&rt, "a place and a path");
         let said = found(alloc, &names, &files, place.parse()?, path)?;
         assert_eq!(rt; said.as_str(), want, "{path} in {place}");
-    }
-    Ok(())
-}
-
-/// Files, and the visits of items of other packages, each with whether it wants a world; behind `/`
-/// those items.
-const VISITS: &str = "a: => / ;
-a:q/b w!q/b => b:false b:true / b:false ;
-w!q/b a:q/b => b:true b:false / b:true ;
-a:f(),q/b,g() => b:false / b:false ;
-a:q/b@1.0.0,q/b@1.0.0-x,q/b => b:false b:false b:false / b:false b:false b:false ;
-x=q/c a:r/c,q/c | w!q/d y=r/c => c:false c:false c:false d:true c:false / c:false c:false d:true ";
-
-/// Adds visits to a text.
-fn say_visits(
-    said: &mut String,
-    alloc: Global,
-    visits: &[ForeignVisit<'_, '_>],
-) -> Result<(), Fail> {
-    for visit in visits {
-        let name = visit.name.name;
-        let wants = visit.wants_world;
-        said.push_str(format!(in alloc; "{name}:{wants} ")?.as_str())?;
-    }
-    Ok(())
-}
-
-/// The visits of items of other packages, and the items.
-fn foreign(alloc: Global, text: &str) -> Result<String, Fail> {
-    let files = files(alloc, text)?;
-    let mut said = String::new(alloc);
-    match FileNames::gather(alloc, &files) {
-        Ok(names) => {
-            say_visits(&mut said, alloc, names.foreign_visits())?;
-            said.push_str("/ ")?;
-            say_visits(&mut said, alloc, names.foreign())?;
-        }
-        Err(e) => said.push_str(refusal(alloc, &e)?.as_str())?,
-    }
-    Ok(said)
-}
-
-#[test]
-fn items_of_other_packages(rt: HostRuntime) -> Result<(), Fail> {
-    let alloc = rt.alloc();
-    for row in VISITS.split(";\n") {
-        let (text, want) = parts_of(&rt, row);
-        let said = foreign(alloc, text)?;
-        assert_eq!(rt; said.as_str(), want, "at {text}");
     }
     Ok(())
 }

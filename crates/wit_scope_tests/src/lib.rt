@@ -1,10 +1,12 @@
-//! Tests of `wit_order`, `wit_intern`, `wit_scope` and `wit_entries`: worked rows.
+//! Tests of `wit_order`, `wit_intern`, `wit_scope`, `wit_foreign` and `wit_entries`: worked rows.
 #![tactic(auto)]
 
 #[cfg(test)]
 mod entries;
 #[cfg(test)]
 mod file_names;
+#[cfg(test)]
+mod foreign;
 #[cfg(test)]
 mod helpers;
 #[cfg(test)]
@@ -15,3 +17,5 @@ mod scopes;
 mod tables;
 #[cfg(test)]
 mod visits;
+#[cfg(test)]
+mod words;

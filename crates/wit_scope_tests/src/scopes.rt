@@ -1,15 +1,17 @@
 //! Worked rows: docs, attributes, names of a scope, headers and repeats.
 
-use crate::helpers::{numbered, parts_of, refusal};
+use crate::helpers::{attributes, no_docs, numbered, parts_of, refusal, stability_text};
 use semver::Version;
 use std::alloc::Global;
 use std::test::Fail;
-use wit_model::Stability;
 use wit_names::is_mangled;
 use wit_scope::repeats::{first_folded_repeat, first_repeat};
-use wit_scope::{NameScope, check_unique_names, docs, external_id, package_name, stability};
-use wit_tree::Span;
-use wit_tree::tree::{self, Attribute, Id};
+use wit_scope::{
+    NameScope, Notes, check_unique_names, docs, external_id, notes_of, package_name, stability,
+    use_notes,
+};
+use wit_tree::tree::{self, Id};
+use wit_tree::{ParseResult, Span};
 
 /// The text of comments that `|` separates; `none` where there are no contents.
 fn text_of(alloc: Global, comments: &str) -> Result<String, Fail> {
@@ -42,6 +44,7 @@ const DOCS: &str = "/// a|///   b => a\n  b;
 ///\ta|/// b => \ta\nb;
 ///    a|/// \tb =>   a\n \tb;
 ///  a|/**   b */ => a\n b;
+///\u{c}a|///  b => \u{c}a\n b;
 /// a|/** b */|///c =>  a\n b\nc;
 /// a\r|/// b\r => a\nb;
 /** a\r\n b */ => a\n b;
@@ -63,67 +66,22 @@ fn texts_of_docs(rt: HostRuntime) -> Result<(), Fail> {
         let text = text_of(alloc, comments)?;
         assert_eq!(rt; text.as_str(), want, "at {comments}");
     }
-    let none = tree::Docs {
-        docs: Vec::new(alloc),
-        span: Span::default(),
-    };
-    assert!(rt; docs(alloc, &none)?.is_empty());
+    assert!(rt; docs(alloc, &no_docs(alloc))?.is_empty());
     Ok(())
-}
-
-/// Attributes, a letter each, with their places as spans.
-fn attributes<'a>(alloc: Global, letters: &str) -> Result<Vec<Attribute<'a>>, Fail> {
-    let mut all = Vec::new(alloc);
-    let mut number = 0u32;
-    for letter in letters.as_bytes() {
-        let span = numbered(number);
-        number = number.wrapping_add(1);
-        match *letter {
-            b's' => all.push(Attribute::Since {
-                span,
-                version: Version::parse(alloc, "1.0.0")?,
-            })?,
-            b'd' => all.push(Attribute::Deprecated {
-                span,
-                version: Version::parse(alloc, "1.2.0-a+b")?,
-            })?,
-            b'e' => all.push(Attribute::ExternalId { span, id: "id" })?,
-            _ => {
-                if let Some(feature) = Id::new("x", Span::default()) {
-                    all.push(Attribute::Unstable { span, feature })?;
-                }
-            }
-        }
-    }
-    Ok(all)
 }
 
 /// The stability that attributes tell, or the refusal.
 fn told_stability(alloc: Global, letters: &str) -> Result<String, Fail> {
-    let attributes = attributes(alloc, letters)?;
-    let told = match stability(alloc, &attributes) {
-        Ok(Stability::Unknown) => String::from_str(alloc, "unknown")?,
-        Ok(Stability::Stable { since, deprecated }) => match deprecated {
-            Some(version) => format!(in alloc; "stable {since}, not from {version}")?,
-            None => format!(in alloc; "stable {since}")?,
-        },
-        Ok(
-            Stability::Unstable {
-                feature,
-                deprecated,
-            },
-        ) => match deprecated {
-            Some(version) => format!(in alloc; "unstable {feature}, not from {version}")?,
-            None => format!(in alloc; "unstable {feature}")?,
-        },
-        Err(e) => refusal(alloc, &e)?,
-    };
-    Ok(told)
+    let attributes = attributes(alloc, letters, &mut 0u32)?;
+    match stability(alloc, &attributes) {
+        Ok(stability) => Ok(stability_text(alloc, &stability)?),
+        Err(e) => Ok(refusal(alloc, &e)?),
+    }
 }
 
 /// The external id that attributes tell, or the refusal.
 fn told_id(alloc: Global, letters: &str) -> Result<String, Fail> {
-    let attributes = attributes(alloc, letters)?;
+    let attributes = attributes(alloc, letters, &mut 0u32)?;
     let told = match external_id(alloc, &attributes) {
         Ok(Some(id)) => id.into_string(),
         Ok(None) => String::from_str(alloc, "none")?,
@@ -131,6 +89,48 @@ fn told_id(alloc: Global, letters: &str) -> Result<String, Fail> {
     };
     Ok(told)
 }
+
+/// The docs, the stability and the external id of a thing.
+fn notes_text(alloc: Global, notes: &Notes) -> Result<String, Fail> {
+    let mut said = match &notes.docs.contents {
+        Some(text) => String::from_str(alloc, text.as_str())?,
+        None => String::from_str(alloc, "none")?,
+    };
+    said.push_str(", ")?;
+    said.push_str(stability_text(alloc, &notes.stability)?.as_str())?;
+    if let Some(id) = &notes.external_id {
+        said.push_str(", ")?;
+        said.push_str(id.as_str())?;
+    }
+    Ok(said)
+}
+
+/// The same, or the refusal.
+fn say_notes(alloc: Global, notes: ParseResult<Notes>) -> Result<String, Fail> {
+    match notes {
+        Ok(notes) => notes_text(alloc, &notes),
+        Err(e) => Ok(refusal(alloc, &e)?),
+    }
+}
+
+/// What is told of a thing behind the comment `/// a` and attributes, and of a name that is used
+/// behind them.
+fn told_notes(alloc: Global, letters: &str) -> Result<String, Fail> {
+    let attributes = attributes(alloc, letters, &mut 0u32)?;
+    let mut comments = no_docs(alloc);
+    comments.docs.push("/// a")?;
+    let mut said = say_notes(alloc, notes_of(alloc, &comments, &attributes))?;
+    said.push_str(" | ")?;
+    said.push_str(say_notes(alloc, use_notes(alloc, &attributes))?.as_str())?;
+    Ok(said)
+}
+
+/// Attributes, and what is told behind them.
+const NOTES: &str = " => a, unknown | none, unknown;
+esd => a, stable 1.0.0, not from 1.2.0-a+b, id | none, stable 1.0.0, not from 1.2.0-a+b, id;
+u => a, unstable x | none, unstable x;
+eess => E30 3 cannot specify @since twice | E30 3 cannot specify @since twice;
+see => E35 2 cannot specify @external-id twice | E35 2 cannot specify @external-id twice";
 
 /// Attributes, and the stability that they tell.
 const STABILITIES: &str = " => unknown;
@@ -168,6 +168,11 @@ fn attributes_tell(rt: HostRuntime) -> Result<(), Fail> {
     for row in IDS.split(";\n") {
         let (letters, want) = parts_of(&rt, row);
         let told = told_id(alloc, letters)?;
+        assert_eq!(rt; told.as_str(), want, "at {letters}");
+    }
+    for row in NOTES.split(";\n") {
+        let (letters, want) = parts_of(&rt, row);
+        let told = told_notes(alloc, letters)?;
         assert_eq!(rt; told.as_str(), want, "at {letters}");
     }
     Ok(())
@@ -254,6 +259,7 @@ fn headers(rt: HostRuntime) -> Result<(), Fail> {
     if let (Some(namespace), Some(name)) = (Id::new("wasi", span), Id::new("http", span)) {
         let version = Some(Version::parse(alloc, "0.2.0-rc.1+b")?);
         let header = tree::PackageName {
+            docs: no_docs(alloc),
             span,
             namespace,
             name,
@@ -262,6 +268,7 @@ fn headers(rt: HostRuntime) -> Result<(), Fail> {
         let text = package_name(alloc, &header)?.to_text(alloc)?;
         assert_eq!(rt; text.as_str(), "wasi:http@0.2.0-rc.1+b");
         let header = tree::PackageName {
+            docs: no_docs(alloc),
             span,
             namespace,
             name,

@@ -1,12 +1,13 @@
 //! The paths of a file.
 
+use crate::helpers::{attributes, no_docs};
 use std::alloc::{AllocError, Global};
 use std::test::Fail;
 use wit_scope::{Visit, Wanted, visits};
 use wit_tree::Span;
 use wit_tree::tree::{
-    AstItem, DeclList, Id, Include, Interface, InterfaceItem, ToplevelUse, Use, UseName, UsePath,
-    World, WorldItem,
+    AstItem, Attribute, DeclList, Id, Include, Interface, InterfaceItem, ToplevelUse, Use, UseName,
+    UsePath, World, WorldItem,
 };
 
 /// A label.
@@ -14,7 +15,7 @@ fn label(name: &'static str) -> Result<Id<'static>, AllocError> {
     Id::new(name, Span::default()).ok_or(AllocError)
 }
 
-/// A `use` of one name.
+/// A `use` of one name, behind `@since`.
 fn used(alloc: Global, from: &'static str, name: &'static str) -> Result<Use<'static>, Fail> {
     let mut names = Vec::new(alloc);
     names.push(UseName {
@@ -22,7 +23,12 @@ fn used(alloc: Global, from: &'static str, name: &'static str) -> Result<Use<'st
         as_: None,
     })?;
     let from = UsePath::Id(label(from)?);
-    Ok(Use { from, names })
+    let attributes = attributes(alloc, "s", &mut 0u32)?;
+    Ok(Use {
+        attributes,
+        from,
+        names,
+    })
 }
 
 /// An interface that uses a name from each of two others.
@@ -36,10 +42,15 @@ fn interface(
     items.push(InterfaceItem::Use(used(alloc, first, "t")?))?;
     items.push(InterfaceItem::Use(used(alloc, second, "u")?))?;
     let name = label(name)?;
-    Ok(AstItem::Interface(Interface { name, items }))
+    Ok(AstItem::Interface(Interface {
+        docs: no_docs(alloc),
+        attributes: attributes(alloc, "e", &mut 0u32)?,
+        name,
+        items,
+    }))
 }
 
-/// A world that includes one and uses a name from an interface.
+/// A world that includes one, behind `@unstable` and `@deprecated`, and uses a name from an interface.
 fn world(
     alloc: Global,
     name: &'static str,
@@ -48,18 +59,25 @@ fn world(
 ) -> Result<AstItem<'static>, Fail> {
     let mut items = Vec::new(alloc);
     items.push(WorldItem::Include(Include {
+        attributes: attributes(alloc, "ud", &mut 0u32)?,
         from: UsePath::Id(label(included)?),
         names: Vec::new(alloc),
     }))?;
     items.push(WorldItem::Use(used(alloc, from, "t")?))?;
     let name = label(name)?;
-    Ok(AstItem::World(World { name, items }))
+    Ok(AstItem::World(World {
+        docs: no_docs(alloc),
+        attributes: Vec::new(alloc),
+        name,
+        items,
+    }))
 }
 
-/// A `use` at the top of a file.
-fn toplevel(item: &'static str) -> Result<AstItem<'static>, AllocError> {
+/// A `use` at the top of a file, behind attributes.
+fn toplevel(alloc: Global, letters: &str, item: &'static str) -> Result<AstItem<'static>, Fail> {
     Ok(AstItem::Use(ToplevelUse {
         span: Span::default(),
+        attributes: attributes(alloc, letters, &mut 0u32)?,
         item: UsePath::Id(label(item)?),
         as_: None,
     }))
@@ -81,7 +99,17 @@ fn last_name<'a>(path: &UsePath<'a>) -> &'a str {
     }
 }
 
-/// What a visit says: whose it is, its path, what is used and what is wanted.
+/// The letter of an attribute.
+fn letter(attribute: &Attribute<'_>) -> char {
+    match attribute {
+        Attribute::Since { .. } => 's',
+        Attribute::Unstable { .. } => 'u',
+        Attribute::Deprecated { .. } => 'd',
+        Attribute::ExternalId { .. } => 'e',
+    }
+}
+
+/// What a visit says: whose it is, its path, what is used and what is wanted, and its attributes.
 fn told(alloc: Global, visit: &Visit<'_, '_>) -> Result<String, AllocError> {
     let owner = match visit.owner {
         Some(owner) => owner.name,
@@ -94,7 +122,12 @@ fn told(alloc: Global, visit: &Visit<'_, '_>) -> Result<String, AllocError> {
     };
     let path = last_name(visit.path);
     let name = name_of(visit);
-    format!(in alloc; "{owner} {path} {name} {wanted};")
+    let mut said = format!(in alloc; "{owner} {path} {name} {wanted} ")?;
+    for attribute in visit.attributes {
+        said.push(letter(attribute))?;
+    }
+    said.push(';')?;
+    Ok(said)
 }
 
 /// What the visits of a file say.
@@ -110,16 +143,16 @@ fn told_all(alloc: Global, list: &DeclList<'_>) -> Result<String, Fail> {
 fn visits_in_source_order(rt: HostRuntime) -> Result<(), Fail> {
     let alloc = rt.alloc();
     let mut items = Vec::new(alloc);
-    items.push(toplevel("c")?)?;
+    items.push(toplevel(alloc, "", "c")?)?;
     items.push(interface(alloc, "i", "a", "b")?)?;
-    items.push(toplevel("i")?)?;
+    items.push(toplevel(alloc, "se", "i")?)?;
     items.push(world(alloc, "w", "v", "i")?)?;
     items.push(interface(alloc, "j", "i", "a")?)?;
     let said = told_all(alloc, &DeclList { items })?;
     assert_eq!(rt;
         said.as_str(),
-        "- c - item;i a t interface;i b u interface;- i - item;w v - world;- i t interface;\
-         j i t interface;j a u interface;"
+        "- c - item ;i a t interface s;i b u interface s;- i - item se;w v - world ud;\
+         - i t interface s;j i t interface s;j a u interface s;"
     );
     Ok(())
 }

@@ -2,10 +2,12 @@
 use Rattle.std.proofs.Common.{◌≡◌, ℕ, List, [], ◌∷◌, Option, Some, None, ◌∙◌, sym, subst, arith}
 use Rattle.semver.specs.declared.Version.{Version}
 use Rattle.wit_values.specs.declared.span.Span.{Span}
+use Rattle.wit_tree.specs.declared.tree.Docs.{Docs}
 use Rattle.wit_tree.specs.declared.tree.Id.{Id}
 use Rattle.wit_tree.specs.declared.tree.PackageName.{PackageName}
 use Rattle.wit_tree.specs.declared.tree.UsePath.TheVariants.{Package as PathPackage}
-use Rattle.wit_tree.specs.Marks.{Mark, named, joined, whole_mark, header_marks, release_marks, path_marks}
+use Rattle.wit_tree.specs.Marks.{Mark, documented, bare, named, joined, whole_mark, header_marks, release_marks, path_marks}
+use Rattle.wit_tree.specs.Comments.{IsNoDocs}
 use Rattle.wit_tree.specs.Slices.{IsJoined, Rise}
 use Rattle.wit_text.specs.declared.reader.Reader.{Reader}
 use Rattle.wit_text.specs.Headers.{IsWhole, found_version, found_marks}
@@ -30,19 +32,20 @@ whole_rise source offset low high namespace name (Some (place, version)) p w h =
       omega arith,
     )
 
--- two names and what was found behind them are a header
-pub header_read : {a b : Reader} (namespace name : Id) (found : Option (Span × Version)) (p : PackageName) → p.namespace ≡ namespace → p.name ≡ name → IsWhole namespace name found p →
-    IsRead a (named namespace ∷ named name ∷ found_marks found) b → IsRead a (header_marks p) b
-header_read {a} {b} namespace name found p first last w h =
-    let marks : Id → Id → List Mark = λ n m. named n ∷ named m ∷ whole_mark p.span n m p.version ∷ [] in
-    let names : IsRead a (marks namespace name) b = record {
+-- docs, two names and what was found behind them are a header
+pub header_read : {a b : Reader} (docs : Docs) (namespace name : Id) (found : Option (Span × Version)) (p : PackageName) → p.docs ≡ docs → p.namespace ≡ namespace → p.name ≡ name →
+    IsWhole namespace name found p → IsRead a (documented docs ∷ named namespace ∷ named name ∷ found_marks found) b → IsRead a (header_marks p) b
+header_read {a} {b} docs namespace name found p same first last w h =
+    let marks : Docs → Id → Id → List Mark = λ d n m. documented d ∷ named n ∷ named m ∷ whole_mark p.span n m p.version ∷ [] in
+    let names : IsRead a (marks docs namespace name) b = record {
       source = h.source;
       offset = h.offset;
       onward = h.onward;
-      past = h.past;
-      rise = (h.rise.0, h.rise.1, (h.rise.2.0, h.rise.2.1, whole_rise a.source.now a.offset _ _ namespace name found p w h.rise.2.2));
+      rise = (h.rise.0, (h.rise.1.0, h.rise.1.1, (h.rise.1.2.0, h.rise.1.2.1, whole_rise a.source.now a.offset _ _ namespace name found p w h.rise.1.2.2)));
     } in
-    subst (λ n. IsRead a (marks n p.name) b) (sym first) (subst (λ m. IsRead a (marks namespace m) b) (sym last) names)
+    let last_named = subst (λ m. IsRead a (marks docs namespace m) b) (sym last) names in
+    let both_named = subst (λ n. IsRead a (marks docs n p.name) b) (sym first) last_named in
+    subst (λ d. IsRead a (marks d p.namespace p.name) b) (sym same) both_named
 
 -- what was found behind an item's name is the version of its package
 release_rise : (source : List ℕ) (offset low high : ℕ) (found : Option (Span × Version)) (version : Option Version) → version ≡ found_version found →
@@ -63,16 +66,16 @@ release_rise source offset low high (Some (place, found)) version e h =
     )
 
 -- three names and what was found behind them are a path with a package
-pub path_read : {a b : Reader} (first second name : Id) (found : Option (Span × Version)) (p : PackageName) → p.namespace ≡ first → p.name ≡ second →
+pub path_read : {a b : Reader} (docs : Docs) (first second name : Id) (found : Option (Span × Version)) (p : PackageName) → IsNoDocs docs → p.docs ≡ docs → p.namespace ≡ first → p.name ≡ second →
     IsJoined p.span first.span second.span → p.version ≡ found_version found →
     IsRead a (named first ∷ named second ∷ named name ∷ found_marks found) b → IsRead a (path_marks (PathPackage p name)) b
-path_read {a} {b} first second name found p one two spans version h =
-    let marks : Id → Id → List Mark = λ n m. named n ∷ named m ∷ joined p.span n.span m.span ∷ named name ∷ release_marks p.version in
+path_read {a} {b} docs first second name found p none same one two spans version h =
+    let no_docs : IsNoDocs p.docs = subst IsNoDocs (sym same) none in
+    let marks : Id → Id → List Mark = λ n m. bare p.docs ∷ named n ∷ named m ∷ joined p.span n.span m.span ∷ named name ∷ release_marks p.version in
     let names : IsRead a (marks first second) b = record {
       source = h.source;
       offset = h.offset;
       onward = h.onward;
-      past = h.past;
-      rise = (h.rise.0, h.rise.1, (h.rise.2.0, h.rise.2.1, (spans, (h.rise.2.2.0, h.rise.2.2.1, release_rise a.source.now a.offset _ _ found p.version version h.rise.2.2.2))));
+      rise = (no_docs, (h.rise.0, h.rise.1, (h.rise.2.0, h.rise.2.1, (spans, (h.rise.2.2.0, h.rise.2.2.1, release_rise a.source.now a.offset _ _ found p.version version h.rise.2.2.2)))));
     } in
     subst (λ n. IsRead a (marks n p.name) b) (sym one) (subst (λ m. IsRead a (marks first m) b) (sym two) names)

@@ -1,5 +1,5 @@
 -- What was read in parts.
-use Rattle.std.proofs.Common.{◌≡◌, ℕ, ◌+◌, List, [], ◌∷◌, ◌++◌, length, ap, ◌∙◌, sym, subst, arith, refl}
+use Rattle.std.proofs.Common.{◌≡◌, ℕ, ◌+◌, ◌≤◌, List, [], ◌∷◌, ◌++◌, length, ap, ◌∙◌, sym, subst, arith, refl}
 use Rattle.std.specs.List.{flat_map}
 use Rattle.std.specs.Str.Parse.{digits_value, without_leading_plus}
 use Rattle.std.proofs.lemmas.List.{append-nil}
@@ -8,20 +8,20 @@ use Rattle.wit_values.specs.declared.span.Span.{Span}
 use Rattle.wit_tree.specs.Marks.{Mark, named, spelled, joined, counted}
 use Rattle.wit_tree.specs.Slices.{Rise, IsJoined, IsCounted, unescaped}
 use Rattle.wit_text.specs.declared.reader.Reader.{Reader}
+use Rattle.wit_text.specs.Fronts.{IsReadBehind}
 use Rattle.wit_text.specs.Reading.{IsRead, IsReadOn}
 use Rattle.wit_text.proofs.Rises.{rise_on, rise_sooner, rise_later, rise_order, one_more, is_named, stands_at}
 
 -- one part, and then another
 pub then : {a b c : Reader} {xs ys : List Mark} → IsRead a xs b → IsRead b ys c → IsRead a (xs ++ ys) c
 then {a} {b} {c} {xs} {ys} p q =
-    let family : (s : ℕ) → Type 0 = λ s. Rise a.source.now s (s + b.token.start) ys (s + c.token.start) in
-    let second : Rise a.source.now b.offset (b.offset + b.token.start) ys (b.offset + c.token.start) =
+    let family : (s : ℕ) → Type 0 = λ s. Rise a.source.now s (s + b.before) ys (s + c.before) in
+    let second : Rise a.source.now b.offset (b.offset + b.before) ys (b.offset + c.before) =
     rw (sym p.source) q.rise in
     record {
       source = q.source ∙ p.source;
       offset = q.offset ∙ p.offset;
       onward = omega arith;
-      past = omega arith;
       rise = rise_on a.source.now a.offset _ _ _ xs ys p.rise (subst family p.offset second);
     }
 
@@ -33,8 +33,8 @@ nothing_on a = record { source = refl; offset = refl; rise = omega arith }
 
 pub then_on : {a b c : Reader} {xs ys : List Mark} → IsReadOn a xs b → IsReadOn b ys c → IsReadOn a (xs ++ ys) c
 then_on {a} {b} {c} {xs} {ys} p q =
-    let family : (s : ℕ) → Type 0 = λ s. Rise a.source.now s (s + b.token.start) ys (s + c.token.start) in
-    let second : Rise a.source.now b.offset (b.offset + b.token.start) ys (b.offset + c.token.start) =
+    let family : (s : ℕ) → Type 0 = λ s. Rise a.source.now s (s + b.before) ys (s + c.before) in
+    let second : Rise a.source.now b.offset (b.offset + b.before) ys (b.offset + c.before) =
     rw (sym p.source) q.rise in
     record {
       source = q.source ∙ p.source;
@@ -47,6 +47,7 @@ pub whole : {a b c : Reader} {xs ys : List Mark} → IsReadOn a xs b → IsReadO
 whole {a} {b} {c} {xs} {ys} p q =
     let both = then_on p q in
     let len : length c.source.now ≡ length a.source.now = ap (λ s. length s.now) both.source in
+    let front = c.front in
     let order = c.within.order in
     let within = c.within.within in
     rise_later a.source.now a.offset a.offset _ _ (xs ++ ys) (rise_sooner a.source.now a.offset a.offset _ _ (xs ++ ys) (omega arith) both.rise) (omega arith)
@@ -74,44 +75,41 @@ join span first last h p = record {
   source = p.source;
   offset = p.offset;
   onward = p.onward;
-  past = p.past;
   rise = (h, p.rise);
 }
 
 -- the name that the token is
-pub name_read : {a b : Reader} (id : Id) (span : Span) (text : List ℕ) → IsRead a [] b → id.span ≡ span → span.start ≡ a.offset + a.token.start → span.end ≡ a.offset + a.token.end →
+pub name_read : {a b : Reader} (id : Id) (span : Span) (text : List ℕ) → IsRead a [] b → a.token.end ≤ b.before → id.span ≡ span → span.start ≡ a.offset + a.token.start → span.end ≡ a.offset + a.token.end →
     id.name.now ≡ text → text ≡ unescaped a.token.text.now → IsRead a (named id ∷ []) b
-name_read {a} {b} id span text p same first last name whole =
+name_read {a} {b} id span text p past same first last name whole =
+    let front = a.front in
     let start : id.span.start ≡ a.offset + a.token.start = ap (λ (s : Span). s.start) same ∙ first in
     let end : id.span.end ≡ a.offset + a.token.end = ap (λ (s : Span). s.end) same ∙ last in
-    let past = p.past in
     record {
       source = p.source;
       offset = p.offset;
       onward = p.onward;
-      past = p.past;
       rise = (omega arith, is_named a.source.now a.offset id a.token.start a.token.end a.token.text.now a.within.order a.within.within a.within.text start end (name ∙ whole), omega arith);
     }
 
 -- the word that the token is
-pub word_read : {a b : Reader} (span : Span) → IsRead a [] b → span.start ≡ a.offset + a.token.start → span.end ≡ a.offset + a.token.end → IsRead a (spelled span a.token.text.now ∷ []) b
-word_read {a} {b} span p first last =
-    let past = p.past in
+pub word_read : {a b : Reader} (span : Span) → IsRead a [] b → a.token.end ≤ b.before → span.start ≡ a.offset + a.token.start → span.end ≡ a.offset + a.token.end → IsRead a (spelled span a.token.text.now ∷ []) b
+word_read {a} {b} span p past first last =
+    let front = a.front in
     record {
       source = p.source;
       offset = p.offset;
       onward = p.onward;
-      past = p.past;
       rise = (omega arith, stands_at a.source.now a.offset span a.token.start a.token.end a.token.text.now a.within.order a.within.within a.within.text first last, omega arith);
     }
 
 -- the number that the token is
-pub number_read : {a b : Reader} (number : ℕ) → IsRead a [] b → number ≡ digits_value 10 (without_leading_plus a.token.text.now) → IsRead a (counted number ∷ []) b
-number_read {a} {b} number p reads =
+pub number_read : {a b : Reader} (number : ℕ) → IsRead a [] b → a.token.end ≤ b.before → number ≡ digits_value 10 (without_leading_plus a.token.text.now) → IsRead a (counted number ∷ []) b
+number_read {a} {b} number p past reads =
+    let front = a.front in
     let order = a.within.order in
-    let past = p.past in
     let at : Span = record { start = a.offset + a.token.start; end = a.offset + a.token.end } in
-    let counted_at : IsCounted a.source.now a.offset (a.offset + a.token.start) number = record {
+    let counted_at : IsCounted a.source.now a.offset (a.offset + a.before) number = record {
       text = a.token.text.now;
       at = at;
       behind = omega arith;
@@ -122,7 +120,6 @@ number_read {a} {b} number p reads =
       source = p.source;
       offset = p.offset;
       onward = p.onward;
-      past = p.past;
       rise = (counted_at, omega arith);
     }
 
@@ -131,13 +128,11 @@ pub then_perhaps : {a b c : Reader} {xs ys : List Mark} → IsRead a xs b → Is
 then_perhaps {a} {b} {c} {xs} {ys} p q =
     let both : IsReadOn a (xs ++ ys) c = then_on (on p) q in
     let first = p.onward in
-    let past = p.past in
     let order = rise_order b.source.now b.offset _ _ ys q.rise in
     record {
       source = both.source;
       offset = both.offset;
       onward = omega arith;
-      past = omega arith;
       rise = both.rise;
     }
 
@@ -148,3 +143,31 @@ close_on p q r = close (then_perhaps p q) r
 -- with a part behind it that perhaps has no token, and has no marks
 pub close_perhaps : {a b c : Reader} {xs : List Mark} → IsRead a xs b → IsReadOn b [] c → IsRead a xs c
 close_perhaps {a} {b} {c} {xs} p q = subst (λ marks. IsRead a marks c) (append-nil xs) (then_perhaps p q)
+
+-- a part that perhaps has no token, and then another
+pub perhaps_then : {a b c : Reader} {xs ys : List Mark} → IsReadOn a xs b → IsRead b ys c → IsRead a (xs ++ ys) c
+perhaps_then {a} {b} {c} {xs} {ys} p q =
+    let both : IsReadOn a (xs ++ ys) c = then_on p (on q) in
+    let second = q.onward in
+    let order = rise_order a.source.now a.offset _ _ xs p.rise in
+    record {
+      source = both.source;
+      offset = both.offset;
+      onward = omega arith;
+      rise = both.rise;
+    }
+
+-- an item behind its front
+pub fronted : {a b c : Reader} {front whole : List Mark} → IsReadOn a front b → IsReadBehind b front whole c → IsRead a whole c
+fronted p q = same_marks q.item (perhaps_then p q.read)
+
+-- the same told by other marks
+pub remark : {a b : Reader} {xs ys : List Mark} →
+    (Rise a.source.now a.offset (a.offset + a.before) xs (a.offset + b.before) → Rise a.source.now a.offset (a.offset + a.before) ys (a.offset + b.before)) →
+    IsRead a xs b → IsRead a ys b
+remark f p = record {
+  source = p.source;
+  offset = p.offset;
+  onward = p.onward;
+  rise = f p.rise;
+}

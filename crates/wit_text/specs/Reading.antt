@@ -10,15 +10,14 @@ use Rattle.wit_lex.specs.Faults.{IsRefusal}
 pub record IsRead (old : Reader) (marks : List Mark) (new : Reader) : Type 0 where
   pub source : new.source ≡ old.source
   pub offset : new.offset ≡ old.offset
-  pub onward : old.token.start < new.token.start
-  pub past : old.token.end ≤ new.token.start
-  pub rise : Rise old.source.now old.offset (old.offset + old.token.start) marks (old.offset + new.token.start)
+  pub onward : old.before < new.before
+  pub rise : Rise old.source.now old.offset (old.offset + old.before) marks (old.offset + new.before)
 
 -- the same where perhaps no token was read
 pub record IsReadOn (old : Reader) (marks : List Mark) (new : Reader) : Type 0 where
   pub source : new.source ≡ old.source
   pub offset : new.offset ≡ old.offset
-  pub rise : Rise old.source.now old.offset (old.offset + old.token.start) marks (old.offset + new.token.start)
+  pub rise : Rise old.source.now old.offset (old.offset + old.before) marks (old.offset + new.before)
 
 -- the source cannot be read
 abbrev pub IsRefused : Reader → ParseError → Type 0

@@ -1,22 +1,24 @@
 //! Reading definitions of types, and the items of an interface.
 ghost use Rattle.std.specs.Prelude.{◌≡◌, ◌+◌, [], ◌∷◌, IfOk, IfErr};
 ghost use Rattle.std.specs.List.{flat_map};
-ghost use Rattle.wit_tree.specs.Marks.{definition_marks, item_marks};
+ghost use Rattle.wit_text.specs.Fronts.{IsReadBehind};
+ghost use Rattle.wit_tree.specs.Marks.{front_marks, defined_marks, definition_marks, item_marks};
 
+use crate::front::Front;
 use crate::reader::Reader;
 use crate::types::MOST_NESTED;
 use wit_lex::fault::ReadFault;
 use wit_lex::kind::Kind;
 use wit_lex::word::Word;
 use wit_tree::ParseResult;
-use wit_tree::tree::{InterfaceItem, TypeBody, TypeDef};
+use wit_tree::tree::{Id, InterfaceItem, TypeBody, TypeDef};
 
 impl<'a> Reader<'a> {
     ghost use Rattle.wit_text.specs.Reading.{IsRead, IsRefused};
 
     /// Reads `type name = type;`.
-    fn read_alias(&mut self) -> ParseResult<TypeDef<'a>>
-        ensures read { IfOk result (λ d. IsRead self.old (definition_marks d) self.new) }
+    fn read_alias(&mut self) -> ParseResult<(Id<'a>, TypeBody<'a>)>
+        ensures read { IfOk result (λ d. IsRead self.old (defined_marks d.0 d.1) self.new) }
         ensures refused { IfErr result (λ e. IsRefused self.old e) }
     {
         self.expect_word(Word::Type)?;
@@ -24,83 +26,60 @@ impl<'a> Reader<'a> {
         self.expect(Kind::Equals)?;
         let ty = self.read_type(MOST_NESTED)?;
         self.expect(Kind::Semicolon)?;
-        Ok(TypeDef {
-            name,
-            body: TypeBody::Plain(ty),
-        })
+        Ok((name, TypeBody::Plain(ty)))
     }
 
     /// Reads `record name { name: type, .. }`.
-    fn read_record(&mut self) -> ParseResult<TypeDef<'a>>
-        ensures read { IfOk result (λ d. IsRead self.old (definition_marks d) self.new) }
+    fn read_record(&mut self) -> ParseResult<(Id<'a>, TypeBody<'a>)>
+        ensures read { IfOk result (λ d. IsRead self.old (defined_marks d.0 d.1) self.new) }
         ensures refused { IfErr result (λ e. IsRefused self.old e) }
     {
         self.expect_word(Word::Record)?;
         let name = self.read_id()?;
         let fields = self.read_fields()?;
-        Ok(TypeDef {
-            name,
-            body: TypeBody::Record {
-                span: name.span,
-                fields,
-            },
-        })
+        let span = name.span;
+        Ok((name, TypeBody::Record { span, fields }))
     }
 
     /// Reads `flags name { name, .. }`.
-    fn read_flags_definition(&mut self) -> ParseResult<TypeDef<'a>>
-        ensures read { IfOk result (λ d. IsRead self.old (definition_marks d) self.new) }
+    fn read_flags_definition(&mut self) -> ParseResult<(Id<'a>, TypeBody<'a>)>
+        ensures read { IfOk result (λ d. IsRead self.old (defined_marks d.0 d.1) self.new) }
         ensures refused { IfErr result (λ e. IsRefused self.old e) }
     {
         self.expect_word(Word::Flags)?;
         let name = self.read_id()?;
         let flags = self.read_flags()?;
-        Ok(TypeDef {
-            name,
-            body: TypeBody::Flags {
-                span: name.span,
-                flags,
-            },
-        })
+        let span = name.span;
+        Ok((name, TypeBody::Flags { span, flags }))
     }
 
     /// Reads `variant name { name(type), .. }`, where a case may have no type.
-    fn read_variant(&mut self) -> ParseResult<TypeDef<'a>>
-        ensures read { IfOk result (λ d. IsRead self.old (definition_marks d) self.new) }
+    fn read_variant(&mut self) -> ParseResult<(Id<'a>, TypeBody<'a>)>
+        ensures read { IfOk result (λ d. IsRead self.old (defined_marks d.0 d.1) self.new) }
         ensures refused { IfErr result (λ e. IsRefused self.old e) }
     {
         self.expect_word(Word::Variant)?;
         let name = self.read_id()?;
         let cases = self.read_cases()?;
-        Ok(TypeDef {
-            name,
-            body: TypeBody::Variant {
-                span: name.span,
-                cases,
-            },
-        })
+        let span = name.span;
+        Ok((name, TypeBody::Variant { span, cases }))
     }
 
     /// Reads `enum name { name, .. }`.
-    fn read_enum(&mut self) -> ParseResult<TypeDef<'a>>
-        ensures read { IfOk result (λ d. IsRead self.old (definition_marks d) self.new) }
+    fn read_enum(&mut self) -> ParseResult<(Id<'a>, TypeBody<'a>)>
+        ensures read { IfOk result (λ d. IsRead self.old (defined_marks d.0 d.1) self.new) }
         ensures refused { IfErr result (λ e. IsRefused self.old e) }
     {
         self.expect_word(Word::Enum)?;
         let name = self.read_id()?;
         let cases = self.read_enum_cases()?;
-        Ok(TypeDef {
-            name,
-            body: TypeBody::Enum {
-                span: name.span,
-                cases,
-            },
-        })
+        let span = name.span;
+        Ok((name, TypeBody::Enum { span, cases }))
     }
 
-    /// Reads a definition, of an interface or of a world.
-    pub fn read_definition(&mut self) -> ParseResult<TypeDef<'a>>
-        ensures read { IfOk result (λ d. IsRead self.old (definition_marks d) self.new) }
+    /// Reads the name and the body of a definition.
+    fn read_body(&mut self) -> ParseResult<(Id<'a>, TypeBody<'a>)>
+        ensures read { IfOk result (λ d. IsRead self.old (defined_marks d.0 d.1) self.new) }
         ensures refused { IfErr result (λ e. IsRefused self.old e) }
     {
         match self.token.kind {
@@ -114,20 +93,35 @@ impl<'a> Reader<'a> {
         }
     }
 
+    /// Reads a definition, of an interface or of a world.
+    pub fn read_definition(&mut self, front: Front<'a>) -> ParseResult<TypeDef<'a>>
+        ensures read { IfOk result (λ d. IsReadBehind self.old (front_marks front.entry.docs front.entry.attributes.items) (definition_marks d) self.new) }
+        ensures refused { IfErr result (λ e. IsRefused self.old e) }
+    {
+        let (name, body) = self.read_body()?;
+        Ok(TypeDef {
+            docs: front.docs,
+            attributes: front.attributes,
+            name,
+            body,
+        })
+    }
+
     /// Reads an item of an interface.
     fn read_item(&mut self) -> ParseResult<InterfaceItem<'a>>
         ensures read { IfOk result (λ item. IsRead self.old (item_marks item) self.new) }
         ensures refused { IfErr result (λ e. IsRefused self.old e) }
     {
+        let front = self.read_front()?;
         if self.at_word(Word::Use) {
-            let names = self.read_use()?;
+            let names = self.read_use(front.attributes)?;
             return Ok(InterfaceItem::Use(names));
         }
         if self.at(Kind::Name) {
-            let func = self.read_named_func()?;
+            let func = self.read_named_func(front)?;
             return Ok(InterfaceItem::Func(func));
         }
-        let definition = self.read_definition()?;
+        let definition = self.read_definition(front)?;
         Ok(InterfaceItem::TypeDef(definition))
     }
 

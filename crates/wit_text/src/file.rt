@@ -1,22 +1,30 @@
 //! Reading a file.
 ghost use Rattle.std.specs.Prelude.{◌≡◌, ◌+◌, ◌<◌, ◌^◌, [], ◌∷◌, length, IfOk, IfErr};
 ghost use Rattle.std.specs.List.{flat_map};
-ghost use Rattle.wit_tree.specs.Marks.{interface_marks, declaration_marks, header_marks, package_marks, file_marks};
+ghost use Rattle.wit_tree.specs.Marks.{front_marks, interface_marks, declaration_marks, header_marks, package_marks, file_marks};
 ghost use Rattle.wit_tree.specs.Slices.{Rise};
 ghost use Rattle.wit_lex.specs.Faults.{IsRefusal};
+ghost use Rattle.wit_text.specs.Fronts.{IsReadBehind};
 ghost use Rattle.wit_text.specs.Headers.{IsWhole};
 
+use crate::front::Front;
 use crate::reader::Reader;
 use semver::Version;
 use std::alloc::Global;
 use wit_lex::kind::Kind;
 use wit_lex::token::next_token;
 use wit_lex::word::Word;
-use wit_tree::tree::{AstItem, DeclList, Id, Interface, PackageFile, PackageName};
+use wit_tree::tree::{AstItem, DeclList, Docs, Id, Interface, PackageFile, PackageName};
 use wit_tree::{ParseResult, Span};
 
 /// The header of these names, with the version that was found.
-fn header<'a>(namespace: Id<'a>, name: Id<'a>, found: Option<(Span, Version)>) -> PackageName<'a>
+fn header<'a>(
+    docs: Docs<'a>,
+    namespace: Id<'a>,
+    name: Id<'a>,
+    found: Option<(Span, Version)>,
+) -> PackageName<'a>
+    ensures docs { result.docs ≡ docs.entry }
     ensures namespace { result.namespace ≡ namespace.entry }
     ensures name { result.name ≡ name.entry }
     ensures spans { IsWhole namespace.entry name.entry found result }
@@ -30,6 +38,7 @@ fn header<'a>(namespace: Id<'a>, name: Id<'a>, found: Option<(Span, Version)>) -
         end,
     };
     PackageName {
+        docs,
         span,
         namespace,
         name,
@@ -41,14 +50,19 @@ impl<'a> Reader<'a> {
     ghost use Rattle.wit_text.specs.Reading.{IsRead, IsReadOn, IsRefused};
 
     /// Reads `interface name { .. }`.
-    fn read_interface(&mut self) -> ParseResult<Interface<'a>>
-        ensures read { IfOk result (λ i. IsRead self.old (interface_marks i) self.new) }
+    fn read_interface(&mut self, front: Front<'a>) -> ParseResult<Interface<'a>>
+        ensures read { IfOk result (λ i. IsReadBehind self.old (front_marks front.entry.docs front.entry.attributes.items) (interface_marks i) self.new) }
         ensures refused { IfErr result (λ e. IsRefused self.old e) }
     {
         self.expect_word(Word::Interface)?;
         let name = self.read_id()?;
         let items = self.read_interface_items()?;
-        Ok(Interface { name, items })
+        Ok(Interface {
+            docs: front.docs,
+            attributes: front.attributes,
+            name,
+            items,
+        })
     }
 
     /// Reads a declaration: an interface, a world, or another name for an item.
@@ -56,15 +70,16 @@ impl<'a> Reader<'a> {
         ensures read { IfOk result (λ item. IsRead self.old (declaration_marks item) self.new) }
         ensures refused { IfErr result (λ e. IsRefused self.old e) }
     {
+        let front = self.read_front()?;
         if self.at_word(Word::Use) {
-            let used = self.read_toplevel_use()?;
+            let used = self.read_toplevel_use(front.attributes)?;
             return Ok(AstItem::Use(used));
         }
         if self.at_word(Word::World) {
-            let world = self.read_world()?;
+            let world = self.read_world(front)?;
             return Ok(AstItem::World(world));
         }
-        let interface = self.read_interface()?;
+        let interface = self.read_interface(front)?;
         Ok(AstItem::Interface(interface))
     }
 
@@ -73,13 +88,14 @@ impl<'a> Reader<'a> {
         ensures read { IfOk result (λ p. IsRead self.old (header_marks p) self.new) }
         ensures refused { IfErr result (λ e. IsRefused self.old e) }
     {
+        let docs = self.read_docs()?;
         self.expect_word(Word::Package)?;
         let namespace = self.read_id()?;
         self.expect(Kind::Colon)?;
         let name = self.read_id()?;
         let found = self.read_at_version()?;
         self.expect(Kind::Semicolon)?;
-        Ok(header(namespace, name, found))
+        Ok(header(docs, namespace, name, found))
     }
 
     /// Reads the header, if there is one.
@@ -110,9 +126,12 @@ impl<'a> Reader<'a> {
 
 /// The tree of a file whose first byte has the place `offset`.
 ///
-/// Its names and words are slices of the source at their spans, which rise in the order of the
+/// Its docs, names and words are slices of the source at their spans, which rise in the order of the
 /// tree's fields; a `%` in front of a name belongs to its span alone. The version in a path stands
-/// behind the item's name, and is in no span. Spans are shifted by `offset`.
+/// behind the item's name, and is in no span. Docs are the comments between two tokens that begin
+/// with `///` or `/**`; their span goes from the first to the end of the last, and is (0, 0) where
+/// there is none. That of an attribute goes from its `@` to the end of its `)`. Spans are shifted by
+/// `offset`, but for the (0, 0).
 ///
 /// A file that cannot be read is refused under the number and at the place of the first fault:
 /// 46 at a character that begins no token, 47 at a token that the grammar does not allow there or a
@@ -134,6 +153,7 @@ pub fn read_file<'a>(alloc: Global, source: &'a str, offset: u32) -> ParseResult
         alloc,
         source,
         offset,
+        before: 0,
         token,
     };
     let package_id = reader.read_package_id()?;

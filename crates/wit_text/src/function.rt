@@ -1,8 +1,10 @@
 //! Reading functions.
 ghost use Rattle.std.specs.Prelude.{◌≡◌, ◌+◌, [], ◌∷◌, IfOk, IfErr, IfSome};
 ghost use Rattle.std.specs.List.{flat_map};
-ghost use Rattle.wit_tree.specs.Marks.{spelled, param_marks, payload_marks, form_word, func_marks, named_func_marks};
+ghost use Rattle.wit_text.specs.Fronts.{IsReadBehind};
+ghost use Rattle.wit_tree.specs.Marks.{spelled, front_marks, param_marks, payload_marks, form_word, func_marks, named_func_marks};
 
+use crate::front::Front;
 use crate::reader::Reader;
 use crate::types::MOST_NESTED;
 use wit_lex::kind::Kind;
@@ -108,14 +110,19 @@ impl<'a> Reader<'a> {
     }
 
     /// Reads `name: function;`.
-    pub fn read_named_func(&mut self) -> ParseResult<NamedFunc<'a>>
-        ensures read { IfOk result (λ f. IsRead self.old (named_func_marks f) self.new) }
+    pub fn read_named_func(&mut self, front: Front<'a>) -> ParseResult<NamedFunc<'a>>
+        ensures read { IfOk result (λ f. IsReadBehind self.old (front_marks front.entry.docs front.entry.attributes.items) (named_func_marks f) self.new) }
         ensures refused { IfErr result (λ e. IsRefused self.old e) }
     {
         let name = self.read_id()?;
         self.expect(Kind::Colon)?;
         let func = self.read_func()?;
         self.expect(Kind::Semicolon)?;
-        Ok(NamedFunc { name, func })
+        Ok(NamedFunc {
+            docs: front.docs,
+            attributes: front.attributes,
+            name,
+            func,
+        })
     }
 }

@@ -1,8 +1,10 @@
 //! The reader, which turns a file into its tree. Sources are given again from `wit_lex`.
 #![tactic(auto)]
 
+mod attribute;
 mod definition;
 mod file;
+mod front;
 mod function;
 mod handle;
 mod members;

@@ -16,10 +16,11 @@ impl<'a> Reader<'a> {
         ensures read { IfOk result (λ f. IsRead self.old (field_marks f) self.new) }
         ensures refused { IfErr result (λ e. IsRefused self.old e) }
     {
+        let docs = self.read_docs()?;
         let name = self.read_id()?;
         self.expect(Kind::Colon)?;
         let ty = self.read_type(MOST_NESTED)?;
-        Ok(Field { name, ty })
+        Ok(Field { docs, name, ty })
     }
 
     /// Reads fields in braces.
@@ -46,8 +47,9 @@ impl<'a> Reader<'a> {
         ensures read { IfOk result (λ f. IsRead self.old (flag_marks f) self.new) }
         ensures refused { IfErr result (λ e. IsRefused self.old e) }
     {
+        let docs = self.read_docs()?;
         let name = self.read_id()?;
-        Ok(Flag { name })
+        Ok(Flag { docs, name })
     }
 
     /// Reads flags in braces.
@@ -88,9 +90,10 @@ impl<'a> Reader<'a> {
         ensures read { IfOk result (λ c. IsRead self.old (case_marks c) self.new) }
         ensures refused { IfErr result (λ e. IsRefused self.old e) }
     {
+        let docs = self.read_docs()?;
         let name = self.read_id()?;
         let ty = self.read_held()?;
-        Ok(Case { name, ty })
+        Ok(Case { docs, name, ty })
     }
 
     /// Reads the cases of a variant in braces.
@@ -117,8 +120,9 @@ impl<'a> Reader<'a> {
         ensures read { IfOk result (λ c. IsRead self.old (enum_case_marks c) self.new) }
         ensures refused { IfErr result (λ e. IsRefused self.old e) }
     {
+        let docs = self.read_docs()?;
         let name = self.read_id()?;
-        Ok(EnumCase { name })
+        Ok(EnumCase { docs, name })
     }
 
     /// Reads the cases of an enum in braces.

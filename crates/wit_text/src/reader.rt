@@ -1,6 +1,6 @@
 //! A reader goes through the tokens of a source, one after the other.
 ghost use Rattle.std.specs.Prelude.{◌≡◌, ◌+◌, ◌<◌, ◌≤◌, ◌^◌, [], ◌∷◌, length, IfOk, OnOk, IfErr, IsTrue};
-ghost use Rattle.wit_tree.specs.Marks.{named, spelled};
+ghost use Rattle.wit_tree.specs.Marks.{named, spelled, told};
 ghost use Rattle.wit_lex.specs.Tokens.{IsToken};
 ghost use Rattle.wit_lex.specs.Words.{word_text};
 
@@ -13,7 +13,8 @@ use wit_lex::word::Word;
 use wit_tree::tree::Id;
 use wit_tree::{ParseError, ParseResult, Span};
 
-/// A source whose first byte has the place `offset`, and its first token that is not read yet.
+/// A source whose first byte has the place `offset`, and its first token that is not read yet, with
+/// the blanks and comments in front of it.
 ///
 /// What each token goes through is inlined: a result with a refusal in it is large, and would be
 /// passed on from one method to the next.
@@ -22,7 +23,10 @@ pub struct Reader<'a> {
     pub alloc: Global,
     pub source: &'a str,
     pub offset: u32,
+    /// Where the blanks in front of the token begin.
+    pub before: usize,
     pub token: Token<'a>,
+    pub ghost front: { before ≤ token.start },
     pub ghost fits: { offset + length source.now < 2 ^ 32 },
     pub ghost within: { IsToken source.now token },
 }
@@ -70,13 +74,16 @@ impl<'a> Reader<'a> {
     /// Goes past the token.
     #[inline(always)]
     pub fn bump(&mut self) -> ParseResult<()>
+        ensures past { OnOk result (self.old.token.end ≤ self.new.before) }
         ensures read { OnOk result (IsRead self.old [] self.new) }
         ensures refused { IfErr result (λ e. IsRefused self.old e) }
     {
         if self.token.start == self.token.end {
             return Err(self.refuse(ReadFault::Token));
         }
-        self.token = next_token(self.alloc, self.source, self.offset, self.token.end)?;
+        let end = self.token.end;
+        self.token = next_token(self.alloc, self.source, self.offset, end)?;
+        self.before = end;
         Ok(())
     }
 
@@ -96,6 +103,7 @@ impl<'a> Reader<'a> {
     #[inline(always)]
     pub fn expect_word(&mut self, word: Word) -> ParseResult<()>
         ensures word { OnOk result (self.old.token.text.now ≡ word_text word) }
+        ensures past { OnOk result (self.old.token.end ≤ self.new.before) }
         ensures read { OnOk result (IsRead self.old [] self.new) }
         ensures refused { IfErr result (λ e. IsRefused self.old e) }
     {
@@ -114,6 +122,28 @@ impl<'a> Reader<'a> {
         let span = self.span();
         self.expect_word(word)?;
         Ok(span)
+    }
+
+    /// Goes past a token of this text, and tells where it stands.
+    pub fn read_text(&mut self, text: &str) -> ParseResult<Span>
+        ensures read { IfOk result (λ span. IsRead self.old (spelled span text.now ∷ []) self.new) }
+        ensures refused { IfErr result (λ e. IsRefused self.old e) }
+    {
+        if self.token.text != text {
+            return Err(self.refuse(ReadFault::Token));
+        }
+        let span = self.span();
+        self.bump()?;
+        Ok(span)
+    }
+
+    /// Goes past a token of this text.
+    pub fn expect_text(&mut self, text: &str) -> ParseResult<()>
+        ensures read { OnOk result (IsRead self.old (told text.now ∷ []) self.new) }
+        ensures refused { IfErr result (λ e. IsRefused self.old e) }
+    {
+        self.read_text(text)?;
+        Ok(())
     }
 
     /// Reads a name.

@@ -1,19 +1,31 @@
 //! Reading resources.
-ghost use Rattle.std.specs.Prelude.{◌≡◌, ◌+◌, [], ◌∷◌, IfOk, IfErr};
+ghost use Rattle.std.specs.Prelude.{◌≡◌, ◌+◌, [], ◌∷◌, ◌++◌, IfOk, IfErr};
 ghost use Rattle.std.specs.List.{flat_map};
-ghost use Rattle.wit_tree.specs.Marks.{named, func_marks, resource_func_marks, definition_marks};
+ghost use Rattle.wit_text.specs.Fronts.{IsReadBehind};
+ghost use Rattle.wit_tree.specs.Marks.{named, front_marks, func_marks, resource_func_marks, defined_marks};
 
+use crate::front::Front;
 use crate::reader::Reader;
 use wit_lex::kind::Kind;
 use wit_lex::word::Word;
 use wit_tree::ParseResult;
-use wit_tree::tree::{Func, Id, NamedFunc, ResourceFunc, TypeBody, TypeDef};
+use wit_tree::tree::{Func, Id, NamedFunc, ResourceFunc, TypeBody};
 
 /// The function of a resource, with this name.
-fn resource_func<'a>(is_static: bool, name: Id<'a>, func: Func<'a>) -> ResourceFunc<'a>
-    ensures { resource_func_marks result ≡ named name.entry ∷ func_marks func.entry }
+fn resource_func<'a>(
+    is_static: bool,
+    front: Front<'a>,
+    name: Id<'a>,
+    func: Func<'a>,
+) -> ResourceFunc<'a>
+    ensures { resource_func_marks result ≡ front_marks front.entry.docs front.entry.attributes.items ++ named name.entry ∷ func_marks func.entry }
 {
-    let named = NamedFunc { name, func };
+    let named = NamedFunc {
+        docs: front.docs,
+        attributes: front.attributes,
+        name,
+        func,
+    };
     if is_static {
         ResourceFunc::Static(named)
     } else {
@@ -25,8 +37,8 @@ impl<'a> Reader<'a> {
     ghost use Rattle.wit_text.specs.Reading.{IsRead, IsReadOn, IsRefused};
 
     /// Reads `constructor(..);`, perhaps with the type of what it returns.
-    fn read_constructor(&mut self) -> ParseResult<ResourceFunc<'a>>
-        ensures read { IfOk result (λ f. IsRead self.old (resource_func_marks f) self.new) }
+    fn read_constructor(&mut self, front: Front<'a>) -> ParseResult<ResourceFunc<'a>>
+        ensures read { IfOk result (λ f. IsReadBehind self.old (front_marks front.entry.docs front.entry.attributes.items) (resource_func_marks f) self.new) }
         ensures refused { IfErr result (λ e. IsRefused self.old e) }
     {
         let span = self.read_word(Word::Constructor)?;
@@ -34,6 +46,8 @@ impl<'a> Reader<'a> {
         let returned = self.read_returned()?;
         self.expect(Kind::Semicolon)?;
         Ok(ResourceFunc::Constructor {
+            docs: front.docs,
+            attributes: front.attributes,
             span,
             params,
             result: returned,
@@ -53,8 +67,8 @@ impl<'a> Reader<'a> {
     }
 
     /// Reads `name: function;`, perhaps with `static` in front of the function.
-    fn read_member(&mut self) -> ParseResult<ResourceFunc<'a>>
-        ensures read { IfOk result (λ f. IsRead self.old (resource_func_marks f) self.new) }
+    fn read_member(&mut self, front: Front<'a>) -> ParseResult<ResourceFunc<'a>>
+        ensures read { IfOk result (λ f. IsReadBehind self.old (front_marks front.entry.docs front.entry.attributes.items) (resource_func_marks f) self.new) }
         ensures refused { IfErr result (λ e. IsRefused self.old e) }
     {
         let name = self.read_id()?;
@@ -62,7 +76,7 @@ impl<'a> Reader<'a> {
         let is_static = self.skip_static()?;
         let func = self.read_func()?;
         self.expect(Kind::Semicolon)?;
-        Ok(resource_func(is_static, name, func))
+        Ok(resource_func(is_static, front, name, func))
     }
 
     /// Reads a function of a resource.
@@ -70,10 +84,13 @@ impl<'a> Reader<'a> {
         ensures read { IfOk result (λ f. IsRead self.old (resource_func_marks f) self.new) }
         ensures refused { IfErr result (λ e. IsRefused self.old e) }
     {
+        let front = self.read_front()?;
         if self.at_word(Word::Constructor) {
-            return self.read_constructor();
+            let constructor = self.read_constructor(front)?;
+            return Ok(constructor);
         }
-        self.read_member()
+        let member = self.read_member(front)?;
+        Ok(member)
     }
 
     /// Reads the functions of a resource in braces.
@@ -104,16 +121,13 @@ impl<'a> Reader<'a> {
     }
 
     /// Reads `resource name;` or `resource name { .. }`.
-    pub fn read_resource(&mut self) -> ParseResult<TypeDef<'a>>
-        ensures read { IfOk result (λ d. IsRead self.old (definition_marks d) self.new) }
+    pub fn read_resource(&mut self) -> ParseResult<(Id<'a>, TypeBody<'a>)>
+        ensures read { IfOk result (λ d. IsRead self.old (defined_marks d.0 d.1) self.new) }
         ensures refused { IfErr result (λ e. IsRefused self.old e) }
     {
         self.expect_word(Word::Resource)?;
         let name = self.read_id()?;
         let funcs = self.read_resource_body()?;
-        Ok(TypeDef {
-            name,
-            body: TypeBody::Resource { funcs },
-        })
+        Ok((name, TypeBody::Resource { funcs }))
     }
 }

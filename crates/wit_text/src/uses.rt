@@ -1,23 +1,26 @@
 //! Reading paths, what an interface or a world uses, and other names for items.
 ghost use Rattle.std.specs.Prelude.{◌≡◌, ◌+◌, [], ◌∷◌, IfOk, IfErr};
 ghost use Rattle.std.specs.List.{flat_map};
-ghost use Rattle.wit_tree.specs.Marks.{named, path_marks, local_marks, used_marks, use_marks, toplevel_marks};
+ghost use Rattle.wit_tree.specs.Marks.{named, attributes_marks, path_marks, local_marks, used_marks, use_marks, toplevel_marks};
 ghost use Rattle.wit_tree.specs.Slices.{IsJoined};
+ghost use Rattle.wit_text.specs.Fronts.{IsReadBehind};
 ghost use Rattle.wit_text.specs.Headers.{found_version};
 
 use crate::reader::Reader;
 use semver::Version;
 use wit_lex::kind::Kind;
 use wit_lex::word::Word;
-use wit_tree::tree::{Id, PackageName, ToplevelUse, Use, UseName, UsePath};
+use wit_tree::tree::{Attribute, Docs, Id, PackageName, ToplevelUse, Use, UseName, UsePath};
 use wit_tree::{ParseResult, Span};
 
 /// The package that a path names, with the version that was found behind the item's name.
 fn path_package<'a>(
+    docs: Docs<'a>,
     namespace: Id<'a>,
     name: Id<'a>,
     found: Option<(Span, Version)>,
 ) -> PackageName<'a>
+    ensures docs { result.docs ≡ docs.entry }
     ensures namespace { result.namespace ≡ namespace.entry }
     ensures name { result.name ≡ name.entry }
     ensures span { IsJoined result.span namespace.entry.span name.entry.span }
@@ -32,6 +35,7 @@ fn path_package<'a>(
         end: name.span.end,
     };
     PackageName {
+        docs,
         span,
         namespace,
         name,
@@ -63,7 +67,8 @@ impl<'a> Reader<'a> {
         self.expect(Kind::Slash)?;
         let name = self.read_id()?;
         let found = self.read_at_version()?;
-        let id = path_package(first, second, found);
+        let docs = Docs::none(self.alloc);
+        let id = path_package(docs, first, second, found);
         Ok(UsePath::Package { id, name })
     }
 
@@ -111,8 +116,8 @@ impl<'a> Reader<'a> {
     }
 
     /// Reads `use path.{name, name as name, ..};`.
-    pub fn read_use(&mut self) -> ParseResult<Use<'a>>
-        ensures read { IfOk result (λ u. IsRead self.old (use_marks u) self.new) }
+    pub fn read_use(&mut self, attributes: Vec<Attribute<'a>>) -> ParseResult<Use<'a>>
+        ensures read { IfOk result (λ u. IsReadBehind self.old (attributes_marks attributes.entry.items) (use_marks u) self.new) }
         ensures refused { IfErr result (λ e. IsRefused self.old e) }
     {
         self.expect_word(Word::Use)?;
@@ -120,12 +125,19 @@ impl<'a> Reader<'a> {
         self.expect(Kind::Dot)?;
         let names = self.read_used_names()?;
         self.expect(Kind::Semicolon)?;
-        Ok(Use { from, names })
+        Ok(Use {
+            attributes,
+            from,
+            names,
+        })
     }
 
     /// Reads `use path;` or `use path as name;`.
-    pub fn read_toplevel_use(&mut self) -> ParseResult<ToplevelUse<'a>>
-        ensures read { IfOk result (λ u. IsRead self.old (toplevel_marks u) self.new) }
+    pub fn read_toplevel_use(
+        &mut self,
+        attributes: Vec<Attribute<'a>>,
+    ) -> ParseResult<ToplevelUse<'a>>
+        ensures read { IfOk result (λ u. IsReadBehind self.old (attributes_marks attributes.entry.items) (toplevel_marks u) self.new) }
         ensures refused { IfErr result (λ e. IsRefused self.old e) }
     {
         let span = self.read_word(Word::Use)?;
@@ -134,6 +146,7 @@ impl<'a> Reader<'a> {
         self.expect(Kind::Semicolon)?;
         Ok(ToplevelUse {
             span,
+            attributes,
             item,
             as_: local,
         })

@@ -68,7 +68,7 @@ impl<'a> Reader<'a> {
     }
 
     /// Reads a version, and tells where it stands.
-    fn read_version(&mut self) -> ParseResult<(Span, Version)>
+    pub fn read_version(&mut self) -> ParseResult<(Span, Version)>
         ensures read { IfOk result (λ r. IsRead self.old (versioned r.0 r.0 r.1 ∷ []) self.new) }
         ensures refused { IfErr result (λ e. IsRefused self.old e) }
     {
@@ -77,6 +77,7 @@ impl<'a> Reader<'a> {
         match parse_version(self.alloc, cut(self.source, start, end))? {
             Some(version) => {
                 self.token = next_token(self.alloc, self.source, self.offset, end)?;
+                self.before = end;
                 Ok((span_at(self.offset, start, end), version))
             }
             None => Err(refusal(

@@ -1,13 +1,15 @@
 //! Reading worlds.
 ghost use Rattle.std.specs.Prelude.{◌≡◌, ◌+◌, [], ◌∷◌, OnOk, IfOk, IfErr};
 ghost use Rattle.std.specs.List.{flat_map};
-ghost use Rattle.wit_tree.specs.Marks.{renamed_marks, include_marks, world_item_marks, world_marks};
+ghost use Rattle.wit_text.specs.Fronts.{IsReadBehind};
+ghost use Rattle.wit_tree.specs.Marks.{attributes_marks, front_marks, renamed_marks, include_marks, world_item_marks, world_marks};
 
+use crate::front::Front;
 use crate::reader::Reader;
 use wit_lex::kind::Kind;
 use wit_lex::word::Word;
 use wit_tree::ParseResult;
-use wit_tree::tree::{Include, IncludeName, World, WorldItem};
+use wit_tree::tree::{Attribute, Include, IncludeName, World, WorldItem};
 
 impl<'a> Reader<'a> {
     ghost use Rattle.wit_text.specs.Reading.{IsRead, IsReadOn, IsRefused};
@@ -70,14 +72,18 @@ impl<'a> Reader<'a> {
     }
 
     /// Reads `include path;`, perhaps with names that are renamed.
-    fn read_include(&mut self) -> ParseResult<Include<'a>>
-        ensures read { IfOk result (λ i. IsRead self.old (include_marks i) self.new) }
+    fn read_include(&mut self, attributes: Vec<Attribute<'a>>) -> ParseResult<Include<'a>>
+        ensures read { IfOk result (λ i. IsReadBehind self.old (attributes_marks attributes.entry.items) (include_marks i) self.new) }
         ensures refused { IfErr result (λ e. IsRefused self.old e) }
     {
         self.expect_word(Word::Include)?;
         let from = self.read_path()?;
         let names = self.read_renames()?;
-        Ok(Include { from, names })
+        Ok(Include {
+            attributes,
+            from,
+            names,
+        })
     }
 
     /// Reads an item of a world.
@@ -85,15 +91,16 @@ impl<'a> Reader<'a> {
         ensures read { IfOk result (λ item. IsRead self.old (world_item_marks item) self.new) }
         ensures refused { IfErr result (λ e. IsRefused self.old e) }
     {
+        let front = self.read_front()?;
         if self.at_word(Word::Use) {
-            let names = self.read_use()?;
+            let names = self.read_use(front.attributes)?;
             return Ok(WorldItem::Use(names));
         }
         if self.at_word(Word::Include) {
-            let include = self.read_include()?;
+            let include = self.read_include(front.attributes)?;
             return Ok(WorldItem::Include(include));
         }
-        let definition = self.read_definition()?;
+        let definition = self.read_definition(front)?;
         Ok(WorldItem::TypeDef(definition))
     }
 
@@ -113,13 +120,18 @@ impl<'a> Reader<'a> {
     }
 
     /// Reads `world name { .. }`.
-    pub fn read_world(&mut self) -> ParseResult<World<'a>>
-        ensures read { IfOk result (λ w. IsRead self.old (world_marks w) self.new) }
+    pub fn read_world(&mut self, front: Front<'a>) -> ParseResult<World<'a>>
+        ensures read { IfOk result (λ w. IsReadBehind self.old (front_marks front.entry.docs front.entry.attributes.items) (world_marks w) self.new) }
         ensures refused { IfErr result (λ e. IsRefused self.old e) }
     {
         self.expect_word(Word::World)?;
         let name = self.read_id()?;
         let items = self.read_world_items()?;
-        Ok(World { name, items })
+        Ok(World {
+            docs: front.docs,
+            attributes: front.attributes,
+            name,
+            items,
+        })
     }
 }

@@ -2,6 +2,8 @@
 #![tactic(auto)]
 
 #[cfg(test)]
+mod documented;
+#[cfg(test)]
 mod files;
 #[cfg(test)]
 mod helpers;

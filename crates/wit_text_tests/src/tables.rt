@@ -41,6 +41,8 @@ interface i { resource r { m: func(); m: async func(x: borrow<r>) -> future<u8>;
 interface i { resource get { get: get(); set: static set(); %static: static func(self: u8); r: func() -> list<u8>; } type t = u8; }
 interface i { type a = own<r>; type b = list<borrow<r>>; type c = own < %own >; f: func(a: own<r>, b: option<borrow<%borrow>>) -> own<get>; }
 world w { resource r; resource s { constructor(n: u32); m: func() -> own<s>; } type t = borrow<r>; resource %import {} use x.{t}; }
+@since(version = 1.0.0) interface i {} @deprecated(version=1.0.0-a+b)world w{} @unstable(feature=%u8)use x;
+@since ( version = 1.0.0 ) /* a */ @unstable(feature = get) @deprecated(version = 1.0.0) @since(version = 1.0.0) interface since {} /// end
 package foo:foo; interface i { resource r { constructor(n: u32); m: async func(x: borrow<r>) -> future<u8>; s: static func() -> r; } f: func(a: map<string, list<u8, 4>>) -> option<stream>; }
 package foo:foo; interface i { resource r; type a = r; f: func(x: borrow<r>, y: borrow<a>, z: own<a>); }
 package foo:foo; interface a { f: func(); } interface b { use a.{f}; }
@@ -57,6 +59,40 @@ pub const REFUSED: &str = "\
 46|interface i { |%| }
 46|interface |%|1 {}
 50|package a:b@|01.0.0|;
+47|@|foo| interface i {}
+47|@|%since|(version = 1.0.0) interface i {}
+47|@|external-id|(a) interface i {}
+47|@|Since|(version = 1.0.0) interface i {}
+47|@since |interface| i {}
+47|@since(|feature| = a) interface i {}
+47|@unstable(|version| = 1.0.0) interface i {}
+47|@deprecated(|feature| = a) interface i {}
+47|@since(version |1|.0.0) interface i {}
+47|@since(version = |a|) interface i {}
+47|@since(version = 1.0|)| interface i {}
+47|@since(version = 1.0.0|,|) interface i {}
+47|@since(version = 1.0.0 |interface| i {}
+47|@unstable(feature = |u8|) interface i {}
+47|@unstable(feature = |aB|) interface i {}
+47|@unstable(feature = |1|) interface i {}
+47|@unstable(feature = a|.|b) interface i {}
+47|@deprecated(version = 1.0.0)||
+47|@since(version = ||
+47|@||
+50|@since(version = |01.0.0|) interface i {}
+50|@deprecated(version = |1.0.0-01|) interface i {}
+47|@since(version = 1.0.0) |package| a:b;
+47|package a:b; @since(version = 1.0.0) |package| c:d {}
+47|interface i { @since(version = 1.0.0) |}|
+47|interface i { type |@|since(version = 1.0.0) t = u8; }
+47|interface i { record r { |@|since(version = 1.0.0) a: u8 } }
+47|interface i { flags f { |@|since(version = 1.0.0) a } }
+47|interface i { variant v { a, |@|since(version = 1.0.0) b } }
+47|interface i { enum e { |@|unstable(feature = a) a } }
+47|interface i { f: func(|@|since(version = 1.0.0) a: u8); }
+47|interface i { use x.{|@|since(version = 1.0.0) t}; }
+47|world w { include x with { |@|since(version = 1.0.0) a as b } }
+47|interface i { resource r { f: |@|since(version = 1.0.0) func(); } }
 50|package a:b@|1.0.0-01|;
 50|package a:b@|1.0.0-.a|;
 50|package a:b@|1.0.18446744073709551616|;

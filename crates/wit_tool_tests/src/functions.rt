@@ -180,7 +180,8 @@ fn add_package(alloc: Global, packages: &mut Vec<UnresolvedPackage>) -> Result<(
     };
     let foreign = ForeignItems::none(alloc);
     let worlds = Arena::new(alloc);
-    packages.push(UnresolvedPackage::new(name, worlds, interfaces, types, SPAN, foreign))?;
+    let docs = Docs::default();
+    packages.push(UnresolvedPackage::new(name, worlds, interfaces, types, docs, SPAN, foreign))?;
     Ok(())
 }
 

@@ -4,6 +4,10 @@
 #[cfg(test)]
 mod cases;
 #[cfg(test)]
+mod documented;
+#[cfg(test)]
+mod external_ids;
+#[cfg(test)]
 mod files;
 #[cfg(test)]
 mod foreign;
@@ -23,6 +27,10 @@ mod listings;
 mod names_of_functions;
 #[cfg(test)]
 mod nested;
+#[cfg(test)]
+mod notes;
+#[cfg(test)]
+mod notes_first;
 #[cfg(test)]
 mod refusals;
 #[cfg(test)]

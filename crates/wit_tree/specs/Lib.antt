@@ -1,3 +1,5 @@
+pub mod Attributes
+pub mod Comments
 pub mod Marks
 pub mod Parts
 pub mod Refusal

@@ -1,10 +1,13 @@
--- What a tree takes from its text: names, words, versions, and spans over several of them, in the order of its fields, the version of a path behind its names.
+-- What a tree takes from its text: docs, attributes, names, words, versions, and spans over several of them, in the order of its fields, the version of a path behind its names.
 use Rattle.std.specs.Prelude.{ℕ, List, [], ◌∷◌, ◌++◌, Option, Some, None, Box, codes}
 use Rattle.std.specs.List.{flat_map}
 use Rattle.std.specs.declared.alloc.Global.{Global}
 use Rattle.semver.specs.declared.Version.{Version}
 use Rattle.wit_values.specs.declared.span.Span.{Span}
 use Rattle.wit_tree.specs.declared.tree.Id.{Id}
+use Rattle.wit_tree.specs.declared.tree.Docs.{Docs}
+use Rattle.wit_tree.specs.declared.tree.Attribute.{Attribute}
+use Rattle.wit_tree.specs.declared.tree.Attribute.TheVariants.{Since, Unstable, Deprecated, ExternalId}
 use Rattle.wit_tree.specs.declared.tree.Field.{Field}
 use Rattle.wit_tree.specs.declared.tree.TypeBody.{TypeBody}
 use Rattle.wit_tree.specs.declared.tree.Flag.{Flag}
@@ -51,6 +54,30 @@ pub data Mark : Type 0 where
   released : (version : Version) → Mark
   -- a number
   counted : (number : ℕ) → Mark
+  -- docs
+  documented : (docs : Docs) → Mark
+  -- docs of what can have none
+  bare : (docs : Docs) → Mark
+  -- a sign or word of the language that begins at a place
+  opened : (start : ℕ) (word : List ℕ) → Mark
+  -- one that stands anywhere
+  told : (word : List ℕ) → Mark
+  -- one that ends at a place
+  closed : (end : ℕ) (word : List ℕ) → Mark
+
+-- an attribute, from its `@` to the end of its `)`
+abbrev pub attribute_marks : Attribute → List Mark
+attribute_marks (Since span version) = opened span.start (codes "@") ∷ told (codes "since") ∷ told (codes "version") ∷ released version ∷ closed span.end (codes ")") ∷ []
+attribute_marks (Unstable span feature) = opened span.start (codes "@") ∷ told (codes "unstable") ∷ told (codes "feature") ∷ named feature ∷ closed span.end (codes ")") ∷ []
+attribute_marks (Deprecated span version) = opened span.start (codes "@") ∷ told (codes "deprecated") ∷ told (codes "version") ∷ released version ∷ closed span.end (codes ")") ∷ []
+attribute_marks (ExternalId span id) = opened span.start (codes "@") ∷ told (codes "external-id") ∷ told id.now ∷ closed span.end (codes ")") ∷ []
+
+abbrev pub attributes_marks : List Attribute → List Mark
+attributes_marks attributes = flat_map attribute_marks attributes
+
+-- docs and attributes in front of an item
+abbrev pub front_marks : Docs → List Attribute → List Mark
+front_marks docs attributes = documented docs ∷ attributes_marks attributes
 
 abbrev mutual
   pub type_marks : Written → List Mark
@@ -101,10 +128,10 @@ size_marks None = []
 size_marks (Some size) = counted size ∷ []
 
 abbrev pub field_marks : Field → List Mark
-field_marks f = named f.name ∷ type_marks f.ty
+field_marks f = documented f.docs ∷ named f.name ∷ type_marks f.ty
 
 abbrev pub flag_marks : Flag → List Mark
-flag_marks f = named f.name ∷ []
+flag_marks f = documented f.docs ∷ named f.name ∷ []
 
 -- of what a case holds, if it holds something
 abbrev pub payload_marks : Option Written → List Mark
@@ -112,10 +139,10 @@ payload_marks None = []
 payload_marks (Some t) = type_marks t
 
 abbrev pub case_marks : Case → List Mark
-case_marks c = named c.name ∷ payload_marks c.ty
+case_marks c = documented c.docs ∷ named c.name ∷ payload_marks c.ty
 
 abbrev pub enum_case_marks : EnumCase → List Mark
-enum_case_marks c = named c.name ∷ []
+enum_case_marks c = documented c.docs ∷ named c.name ∷ []
 
 abbrev pub param_marks : Param → List Mark
 param_marks p = named p.name ∷ type_marks p.ty
@@ -135,12 +162,12 @@ abbrev pub func_marks : Func → List Mark
 func_marks f = signature_marks f.span (form_word f.form) f.params.items f.result
 
 abbrev pub named_func_marks : NamedFunc → List Mark
-named_func_marks f = named f.name ∷ func_marks f.func
+named_func_marks f = front_marks f.docs f.attributes.items ++ named f.name ∷ func_marks f.func
 
 abbrev pub resource_func_marks : ResourceFunc → List Mark
 resource_func_marks (Method f) = named_func_marks f
 resource_func_marks (Static f) = named_func_marks f
-resource_func_marks (Constructor span params result) = signature_marks span (codes "constructor") params.items result
+resource_func_marks (Constructor docs attributes span params result) = front_marks docs attributes.items ++ signature_marks span (codes "constructor") params.items result
 
 -- a body that has a span has the span of the definition's name
 abbrev pub body_marks : Span → TypeBody → List Mark
@@ -151,18 +178,21 @@ body_marks name (Enum span cases) = joined span name name ∷ flat_map enum_case
 body_marks name (Resource funcs) = flat_map resource_func_marks funcs.items
 body_marks name (Plain t) = type_marks t
 
+abbrev pub defined_marks : Id → TypeBody → List Mark
+defined_marks name body = named name ∷ body_marks name.span body
+
 abbrev pub definition_marks : TypeDef → List Mark
-definition_marks d = named d.name ∷ body_marks d.name.span d.body
+definition_marks d = front_marks d.docs d.attributes.items ++ defined_marks d.name d.body
 
 -- of a version, where there is one
 abbrev pub release_marks : Option Version → List Mark
 release_marks None = []
 release_marks (Some version) = released version ∷ []
 
--- the span of a path's package goes to the end of its name, and its version stands behind the item's name
+-- the package of a path has no docs, its span goes to the end of its name, and its version stands behind the item's name
 abbrev pub path_marks : UsePath → List Mark
 path_marks (PathName id) = named id ∷ []
-path_marks (PathPackage p name) = named p.namespace ∷ named p.name ∷ joined p.span p.namespace.span p.name.span ∷ named name ∷ release_marks p.version
+path_marks (PathPackage p name) = bare p.docs ∷ named p.namespace ∷ named p.name ∷ joined p.span p.namespace.span p.name.span ∷ named name ∷ release_marks p.version
 
 -- the local name, where there is one
 abbrev pub local_marks : Option Id → List Mark
@@ -173,7 +203,7 @@ abbrev pub used_marks : UseName → List Mark
 used_marks u = named u.name ∷ local_marks u.as_
 
 abbrev pub use_marks : Use → List Mark
-use_marks u = path_marks u.from ++ flat_map used_marks u.names.items
+use_marks u = attributes_marks u.attributes.items ++ (path_marks u.from ++ flat_map used_marks u.names.items)
 
 abbrev pub item_marks : InterfaceItem → List Mark
 item_marks (TypeDefItem d) = definition_marks d
@@ -181,13 +211,13 @@ item_marks (UseItem u) = use_marks u
 item_marks (FuncItem f) = named_func_marks f
 
 abbrev pub interface_marks : Interface → List Mark
-interface_marks i = named i.name ∷ flat_map item_marks i.items.items
+interface_marks i = front_marks i.docs i.attributes.items ++ named i.name ∷ flat_map item_marks i.items.items
 
 abbrev pub renamed_marks : IncludeName → List Mark
 renamed_marks n = named n.name ∷ named n.as_ ∷ []
 
 abbrev pub include_marks : Include → List Mark
-include_marks i = path_marks i.from ++ flat_map renamed_marks i.names.items
+include_marks i = attributes_marks i.attributes.items ++ (path_marks i.from ++ flat_map renamed_marks i.names.items)
 
 abbrev pub world_item_marks : WorldItem → List Mark
 world_item_marks (WorldTypeDef d) = definition_marks d
@@ -195,10 +225,11 @@ world_item_marks (WorldUse u) = use_marks u
 world_item_marks (WorldInclude i) = include_marks i
 
 abbrev pub world_marks : World → List Mark
-world_marks w = named w.name ∷ flat_map world_item_marks w.items.items
+world_marks w = front_marks w.docs w.attributes.items ++ named w.name ∷ flat_map world_item_marks w.items.items
 
+-- the word stands behind the attributes
 abbrev pub toplevel_marks : ToplevelUse → List Mark
-toplevel_marks u = spelled u.span (codes "use") ∷ path_marks u.item ++ local_marks u.as_
+toplevel_marks u = attributes_marks u.attributes.items ++ (spelled u.span (codes "use") ∷ path_marks u.item ++ local_marks u.as_)
 
 abbrev pub declaration_marks : AstItem → List Mark
 declaration_marks (InterfaceItem' i) = interface_marks i
@@ -211,7 +242,7 @@ whole_mark span namespace name None = joined span namespace.span name.span
 whole_mark span namespace name (Some version) = versioned span namespace.span version
 
 abbrev pub header_marks : PackageName → List Mark
-header_marks p = named p.namespace ∷ named p.name ∷ whole_mark p.span p.namespace p.name p.version ∷ []
+header_marks p = documented p.docs ∷ named p.namespace ∷ named p.name ∷ whole_mark p.span p.namespace p.name p.version ∷ []
 
 abbrev pub package_marks : Option PackageName → List Mark
 package_marks None = []

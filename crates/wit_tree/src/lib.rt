@@ -1,6 +1,7 @@
 //! Syntax trees with borrowed names, spans and refusals.
 #![tactic(auto)]
 
+pub mod attribute_kind;
 pub mod error;
 pub mod tree;
 

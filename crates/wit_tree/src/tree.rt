@@ -3,6 +3,7 @@ ghost use Rattle.std.specs.Prelude.{◌≡◌, ◌↔◌, IsTrue, IsSome, IfSome
 ghost use Rattle.wit_names.specs.Label.{is_label};
 
 use semver::Version;
+use std::alloc::Global;
 use wit_names::validate_id;
 use wit_values::Span;
 
@@ -39,6 +40,20 @@ pub struct Docs<'a> {
     pub span: Span,
 }
 
+impl<'a> Docs<'a> {
+    ghost use Rattle.wit_tree.specs.Comments.{IsNoDocs};
+
+    /// No comment.
+    pub fn none(alloc: Global) -> Self
+        ensures { IsNoDocs result }
+    {
+        Docs {
+            docs: Vec::new(alloc),
+            span: Span::default(),
+        }
+    }
+}
+
 /// What is written in front of an item and tells since when it is there, or how it is named
 /// elsewhere. The span goes from the `@` to the `)`.
 #[derive(Debug, Drop)]
@@ -63,6 +78,8 @@ pub struct PackageFile<'a> {
 /// The name of a package, as a header or a path writes it.
 #[derive(Debug, Drop)]
 pub struct PackageName<'a> {
+    /// Those of a header; a package in a path has none.
+    pub docs: Docs<'a>,
     /// In a header from the namespace to the end of the version, or of the name where there is
     /// none; in a path to the end of the name, since the version stands behind the item's.
     pub span: Span,
@@ -85,11 +102,13 @@ pub enum AstItem<'a> {
     Use(ToplevelUse<'a>),
 }
 
-/// Another name for an item of the package, which holds in one file.
+/// Another name for an item of the package, which holds in one file. Docs in front of it are no part
+/// of it.
 #[derive(Debug, Drop)]
 pub struct ToplevelUse<'a> {
     /// That of the word `use`.
     pub span: Span,
+    pub attributes: Vec<Attribute<'a>>,
     pub item: UsePath<'a>,
     /// The name behind `as`; where there is none, it is the path's.
     pub as_: Option<Id<'a>>,
@@ -98,6 +117,8 @@ pub struct ToplevelUse<'a> {
 /// A declared interface.
 #[derive(Debug, Drop)]
 pub struct Interface<'a> {
+    pub docs: Docs<'a>,
+    pub attributes: Vec<Attribute<'a>>,
     pub name: Id<'a>,
     pub items: Vec<InterfaceItem<'a>>,
 }
@@ -113,6 +134,8 @@ pub enum InterfaceItem<'a> {
 /// A declared world.
 #[derive(Debug, Drop)]
 pub struct World<'a> {
+    pub docs: Docs<'a>,
+    pub attributes: Vec<Attribute<'a>>,
     pub name: Id<'a>,
     pub items: Vec<WorldItem<'a>>,
 }
@@ -128,6 +151,7 @@ pub enum WorldItem<'a> {
 /// Another world, whose items belong to the one that includes it, some under other names.
 #[derive(Debug, Drop)]
 pub struct Include<'a> {
+    pub attributes: Vec<Attribute<'a>>,
     pub from: UsePath<'a>,
     pub names: Vec<IncludeName<'a>>,
 }
@@ -142,6 +166,7 @@ pub struct IncludeName<'a> {
 /// Names that are used from an interface, in source order.
 #[derive(Debug, Drop)]
 pub struct Use<'a> {
+    pub attributes: Vec<Attribute<'a>>,
     pub from: UsePath<'a>,
     pub names: Vec<UseName<'a>>,
 }
@@ -165,6 +190,8 @@ pub struct UseName<'a> {
 /// The definition of a type.
 #[derive(Debug, Drop)]
 pub struct TypeDef<'a> {
+    pub docs: Docs<'a>,
+    pub attributes: Vec<Attribute<'a>>,
     pub name: Id<'a>,
     pub body: TypeBody<'a>,
 }
@@ -199,6 +226,7 @@ pub enum TypeBody<'a> {
 /// A field of a record.
 #[derive(Debug, Drop)]
 pub struct Field<'a> {
+    pub docs: Docs<'a>,
     pub name: Id<'a>,
     pub ty: Type<'a>,
 }
@@ -206,12 +234,14 @@ pub struct Field<'a> {
 /// A flag, which is there or not.
 #[derive(Debug, Drop)]
 pub struct Flag<'a> {
+    pub docs: Docs<'a>,
     pub name: Id<'a>,
 }
 
 /// A case of a variant, with the type of what it holds, if it holds something.
 #[derive(Debug, Drop)]
 pub struct Case<'a> {
+    pub docs: Docs<'a>,
     pub name: Id<'a>,
     pub ty: Option<Type<'a>>,
 }
@@ -219,6 +249,7 @@ pub struct Case<'a> {
 /// A case of an enum.
 #[derive(Debug, Drop)]
 pub struct EnumCase<'a> {
+    pub docs: Docs<'a>,
     pub name: Id<'a>,
 }
 
@@ -231,6 +262,8 @@ pub enum ResourceFunc<'a> {
     Static(NamedFunc<'a>),
     /// Makes a value of the resource. The span is that of the word `constructor`.
     Constructor {
+        docs: Docs<'a>,
+        attributes: Vec<Attribute<'a>>,
         span: Span,
         params: Vec<Param<'a>>,
         result: Option<Type<'a>>,
@@ -240,6 +273,8 @@ pub enum ResourceFunc<'a> {
 /// A function and its name.
 #[derive(Debug, Drop)]
 pub struct NamedFunc<'a> {
+    pub docs: Docs<'a>,
+    pub attributes: Vec<Attribute<'a>>,
     pub name: Id<'a>,
     pub func: Func<'a>,
 }

@@ -29,7 +29,7 @@ loop-written-preserved c =
     let written : case_types (take (i + 1) cs) ≡ case_types (take i cs) ++ option_to_list case.ty = ap case_types taken ∙ filter_map_more (λ (x : WrittenCase). x.ty) (take i cs) case in
     let types : payloads c.push.new.self.items ≡ payloads out ++ option_to_list made.ty = ap payloads c.in_ok-push.ensures.items ∙ filter_map_more (λ (x : Case). x.ty) out made in
     record {
-      types = rw (written, types) (types_then (case_types (take i cs)) (option_to_list case.ty) c.loop-written.invariant.types c.in_ok-case.ensures.types);
+      types = rw (written, types) (types_then c.args.given.now (case_types (take i cs)) (option_to_list case.ty) c.loop-written.invariant.types c.in_ok-case.ensures.types);
       members = ap (map case_member) c.in_ok-push.ensures.items ∙ map-append case_member out (made ∷ []) ∙ ap (λ ms. ms ++ case_member made ∷ []) c.loop-written.invariant.members ∙ ap (λ m. map written_case (take i cs) ++ m ∷ []) c.in_ok-case.ensures.member ∙ sym (map-append written_case (take i cs) (case ∷ [])) ∙ ap (map written_case) (sym taken);
       legal = subst AreLegal (sym written) (legal_more (case_types (take i cs)) (option_to_list case.ty) c.loop-written.invariant.legal c.in_ok-case.ensures.legal);
       handled = rw written (requires_types (env_of c.args.names.now) _ _ (case_types (take i cs)) (option_to_list case.ty) _ _ _ c.in_ok-case.ensures.grown c.loop-written.invariant.handled c.in_ok-case.ensures.handled);

@@ -10,7 +10,7 @@ use Rattle.wit_entries.proofs.bodies.resolve_cases.Given as goal
 
 abbrev pub invariant-loop-written : goal.invariant-loop-written
 invariant-loop-written l = record {
-  types : AreTypes l.fn.types l.types (env_of l.names) (case_types (take l.written-index l.cases)) (payloads l.resolved.items);
+  types : AreTypes l.fn.types l.types (env_of l.names) l.given (case_types (take l.written-index l.cases)) (payloads l.resolved.items);
   members : map case_member l.resolved.items ≡ map written_case (take l.written-index l.cases);
   legal : AreLegal (case_types (take l.written-index l.cases));
   handled : Requires (env_of l.names) l.types (all_handles (case_types (take l.written-index l.cases))) l.fn.required.items l.required.items;

@@ -10,7 +10,7 @@ use Rattle.wit_entries.proofs.bodies.resolve_fields.Given as goal
 
 abbrev pub invariant-loop-written : goal.invariant-loop-written
 invariant-loop-written l = record {
-  types : AreTypes l.fn.types l.types (env_of l.names) (field_types (take l.written-index l.fields)) (map (λ f. f.ty) l.resolved.items);
+  types : AreTypes l.fn.types l.types (env_of l.names) l.given (field_types (take l.written-index l.fields)) (map (λ f. f.ty) l.resolved.items);
   members : map field_member l.resolved.items ≡ map written_field (take l.written-index l.fields);
   legal : AreLegal (field_types (take l.written-index l.fields));
   handled : Requires (env_of l.names) l.types (all_handles (field_types (take l.written-index l.fields))) l.fn.required.items l.required.items;

@@ -1,21 +1,28 @@
-use Rattle.std.proofs.Common.{◌≡◌, List, map, length, rules, refl, sym, ap, ◌∙◌, subst, IsTrue, get_or}
+use Rattle.std.proofs.Common.{List, map, length, refl, sym, ap, ◌∙◌, subst, IsTrue, get_or}
 use Rattle.std.proofs.lemmas.List.{length-map}
 use Rattle.std.proofs.lemmas.Result.{err_from_is_err_and}
 use Rattle.wit_names.specs.Mangled.{is_mangled}
 use Rattle.wit_tree.specs.declared.tree.Param.{Param}
-use Rattle.wit_meaning.specs.Shape.{no_docs}
 use Rattle.wit_meaning.specs.Function.{SourceFunction, SourceParam, written_param}
 use Rattle.wit_meaning.specs.Resolving.{env_of}
 use Rattle.wit_entries.specs.Held.{function_behind}
 use Rattle.wit_entries.specs.Signatures.{functions_behind}
-use Rattle.wit_entries.proofs.FunctionFaults.{refused_given, refused_params, refused_result, held_legal}
+use Rattle.wit_entries.proofs.FunctionFaults.{refused_notes, refused_given, refused_params, refused_result, held_legal}
 use Rattle.wit_entries.proofs.Mangling.{mangled_behind}
+use Rattle.wit_entries.proofs.Noted.{noted_as}
 use Rattle.wit_entries.proofs.WholeFunctions.{held_here, held_at, held_adds, held_requires}
 use Rattle.wit_entries.proofs.functions.resolve_function.Goals as goal
 
+pub returns-in_err-notes-clause-refused : goal.returns-in_err-notes-clause-refused
+returns-in_err-notes-clause-refused c =
+    let p = err_from_is_err_and c.from_residual.result c.from_residual.ensures.1 in
+    let hs = c.args.scope.functions.now in
+    let d = c.index-scope-place.result in
+    rw (p.1, p.2) (λ xs scope fn at. refused_notes (env_of c.args.scope.names.now) c.args.types.now xs (functions_behind c.args.scope) c.args.place (get_or hs c.args.place d) fn c.attributes.result.now _ (held_at hs c.args.place d fn c.requires.place at) c.attributes.ensures c.in_err-notes.ensures.refused)
+
 pub returns-in_err-check_given-clause-refused : goal.returns-in_err-check_given-clause-refused
 returns-in_err-check_given-clause-refused c =
-    let p = err_from_is_err_and c.from_residual.result c.from_residual.ensures.1 in
+    let p = err_from_is_err_and c.from_residual-in_err-check_given.result c.from_residual-in_err-check_given.ensures.1 in
     let hs = c.args.scope.functions.now in
     let d = c.index-scope-place.result in
     rw (p.1, p.2) (λ xs scope fn at. refused_given (env_of c.args.scope.names.now) c.args.types.now xs (functions_behind c.args.scope) c.args.place (get_or hs c.args.place d) fn _ (held_at hs c.args.place d fn c.requires.place at) c.in_err-check_given.ensures.refused)
@@ -49,8 +56,8 @@ returns-clause-adds c = λ fn at s. (
     let hs = c.args.scope.functions.now in
     let d = c.index-scope-place.result in
     let h = get_or hs c.args.place d in
-    let docs : c.default.result ≡ no_docs = search rules in
-    held_adds c.args.types.now c.resolve_params.new.types c.resolve_result.new.types s c.args.scope.names.now h fn _ (map written_param c.params-written.result.now) c.resolve_params.new.params.items (held_at hs c.args.place d fn c.requires.place at) c.params-written.ensures.params c.from.ensures (c.in_ok-resolve_params.ensures.params (function_behind h).given c.args.types.now c.in_ok-params.ensures.params) c.in_ok-result.ensures.result c.in_ok-name.ensures c.kind_of.ensures c.span.ensures docs c.default-2.ensures refl)
+    let noted = noted_as (function_behind h) _ c.in_ok-notes.notes c.docs.result.now c.attributes.result.now c.in_ok-notes.ensures.told c.docs.ensures c.attributes.ensures refl refl refl in
+    held_adds c.args.types.now c.resolve_params.new.types c.resolve_result.new.types s c.args.scope.names.now h fn _ (map written_param c.params-written.result.now) c.resolve_params.new.params.items (held_at hs c.args.place d fn c.requires.place at) c.params-written.ensures.params c.from.ensures (c.in_ok-resolve_params.ensures.params (function_behind h).given c.args.types.now c.in_ok-params.ensures.params) c.in_ok-result.ensures.result c.in_ok-name.ensures c.kind_of.ensures c.span.ensures noted)
 
 pub returns-clause-named : goal.returns-clause-named
 returns-clause-named c = λ fn at. (
@@ -67,7 +74,7 @@ returns-clause-legal c = λ xs scope fn at. (
     let h = get_or hs c.args.place d in
     let ws = c.params-written.result.now in
     let count = sym (length-map ws written_param) ∙ ap (λ (l : List SourceParam). length l) c.params-written.ensures.params in
-    held_legal xs (functions_behind c.args.scope) c.args.place h fn c.in_ok-repeated.repeated (length c.in_ok-params.params.items) (length ws) (map (λ (w : Param). w.ty) ws) (held_at hs c.args.place d fn c.requires.place at) at c.in_ok-params.ensures.params.count count c.params-written.ensures.types c.in_ok-repeated.ensures.some c.in_ok-repeated.ensures.none c.in_ok-resolve_params.ensures.distinct c.in_ok-check_given.ensures.getter c.in_ok-check_given.ensures.setter c.in_ok-resolve_params.ensures.legal c.in_ok-result.ensures.legal (c.in_ok-result.ensures.returns xs scope))
+    held_legal xs (functions_behind c.args.scope) c.args.place h fn c.in_ok-repeated.repeated (length c.in_ok-params.params.items) (length ws) (map (λ (w : Param). w.ty) ws) c.attributes.result.now (held_at hs c.args.place d fn c.requires.place at) at c.attributes.ensures c.in_ok-notes.ensures.legal c.in_ok-params.ensures.params.count count c.params-written.ensures.types c.in_ok-repeated.ensures.some c.in_ok-repeated.ensures.none c.in_ok-resolve_params.ensures.distinct c.in_ok-check_given.ensures.getter c.in_ok-check_given.ensures.setter c.in_ok-resolve_params.ensures.legal c.in_ok-result.ensures.legal (c.in_ok-result.ensures.returns xs scope))
 
 pub returns-clause-handled : goal.returns-clause-handled
 returns-clause-handled c = λ fn at. (

@@ -22,7 +22,7 @@ pub read-returns-in-Some-clause-legal : goal.read-returns-in-Some-clause-legal
 read-returns-in-Some-clause-legal t c = legal_primitive c.args.ty.now c.in-Some.found (sym c.primitive.ensures ∙ c.in-Some.is)
 
 pub read-returns-in-Name-clause-read : goal.read-returns-in-Name-clause-read
-read-returns-in-Name-clause-read t c = rw c.in-Name.is (tt, resolved_word c.args.types.now (env_of c.args.names.now) c.in-Name.id c.in_ok-found.found c.in_ok-found.ensures.found)
+read-returns-in-Name-clause-read t c = rw c.in-Name.is (tt, resolved_word c.args.types.now (env_of c.args.names.now) c.args.given.now c.in-Name.id c.in_ok-found.found c.in_ok-found.ensures.found)
 
 pub read_form-returns-in_err-item-in-List-clause-refused : goal.read_form-returns-in_err-item-in-List-clause-refused
 read_form-returns-in_err-item-in-List-clause-refused t c =
@@ -91,7 +91,7 @@ pub read_form-returns-in_ok-item-in-FixedLengthList-clause-legal : goal.read_for
 read_form-returns-in_ok-item-in-FixedLengthList-clause-legal t c = rw c.in-FixedLengthList.is (legal_only (written.FixedLengthList c.in-FixedLengthList.span c.in-FixedLengthList.item c.in-FixedLengthList.size) c.deref-in-FixedLengthList.result.now (λ f own. own) (ap (λ t. t ∷ []) (sym c.deref-in-FixedLengthList.ensures)) c.in_ok-item-in-FixedLengthList.ensures.legal)
 
 pub read_form-returns-in_ok-check_key-in-Map-clause-read : goal.read_form-returns-in_ok-check_key-in-Map-clause-read
-read_form-returns-in_ok-check_key-in-Map-clause-read t c = rw c.in-Map.is (map_form c.args.types.now c.resolve_type-in-Map.new.types c.resolve_type-in-Map-2.new.types (env_of c.args.names.now) c.in-Map.span c.in-Map.key c.in-Map.value c.in_ok-key_type-in-Map.key_type c.in_ok-value_type-in-Map.value_type
+read_form-returns-in_ok-check_key-in-Map-clause-read t c = rw c.in-Map.is (map_form c.args.types.now c.resolve_type-in-Map.new.types c.resolve_type-in-Map-2.new.types (env_of c.args.names.now) c.args.given.now c.in-Map.span c.in-Map.key c.in-Map.value c.in_ok-key_type-in-Map.key_type c.in_ok-value_type-in-Map.value_type
     (rw (← c.deref-in-Map.ensures) c.in_ok-key_type-in-Map.ensures.resolved)
     (rw (← c.deref-in-Map-2.ensures) c.in_ok-value_type-in-Map.ensures.resolved))
 
@@ -105,7 +105,7 @@ pub read_form-returns-in_ok-value-in-Option-clause-legal : goal.read_form-return
 read_form-returns-in_ok-value-in-Option-clause-legal t c = rw c.in-Option.is (legal_only (written.Option c.in-Option.span c.in-Option.value) c.deref-in-Option.result.now (λ f own. own) (ap (λ t. t ∷ []) (sym c.deref-in-Option.ensures)) c.in_ok-value-in-Option.ensures.legal)
 
 pub read_form-returns-in_ok-err-in-Result-clause-read : goal.read_form-returns-in_ok-err-in-Result-clause-read
-read_form-returns-in_ok-err-in-Result-clause-read t c = rw c.in-Result.is (result_form c.args.types.now c.resolve_optional.new.types c.resolve_optional-in-Result.new.types (env_of c.args.names.now) c.in-Result.span c.in-Result.ok c.in-Result.err c.in_ok-ok-in-Result.ok c.in_ok-err-in-Result.err
+read_form-returns-in_ok-err-in-Result-clause-read t c = rw c.in-Result.is (result_form c.args.types.now c.resolve_optional.new.types c.resolve_optional-in-Result.new.types (env_of c.args.names.now) c.args.given.now c.in-Result.span c.in-Result.ok c.in-Result.err c.in_ok-ok-in-Result.ok c.in_ok-err-in-Result.err
     c.in_ok-ok-in-Result.ensures.is_some c.in_ok-err-in-Result.ensures.is_some c.in_ok-ok-in-Result.ensures.resolved c.in_ok-err-in-Result.ensures.resolved)
 
 pub read_form-returns-in_ok-err-in-Result-clause-legal : goal.read_form-returns-in_ok-err-in-Result-clause-legal
@@ -113,7 +113,7 @@ read_form-returns-in_ok-err-in-Result-clause-legal t c = rw c.in-Result.is (lega
     (legal_more (boxed_types c.in-Result.ok) (boxed_types c.in-Result.err) c.in_ok-ok-in-Result.ensures.legal c.in_ok-err-in-Result.ensures.legal))
 
 pub read_form-returns-in_ok-types-in-Tuple-clause-read : goal.read_form-returns-in_ok-types-in-Tuple-clause-read
-read_form-returns-in_ok-types-in-Tuple-clause-read t c = rw c.in-Tuple.is (tuple_form c.args.types.now c.resolve_types.new.types (env_of c.args.names.now) c.in-Tuple.span c.in-Tuple.parts c.in_ok-types-in-Tuple.types (rw (← c.deref-in-Tuple-2.ensures.value) c.in_ok-types-in-Tuple.ensures.resolved))
+read_form-returns-in_ok-types-in-Tuple-clause-read t c = rw c.in-Tuple.is (tuple_form c.args.types.now c.resolve_types.new.types (env_of c.args.names.now) c.args.given.now c.in-Tuple.span c.in-Tuple.parts c.in_ok-types-in-Tuple.types (rw (← c.deref-in-Tuple-2.ensures.value) c.in_ok-types-in-Tuple.ensures.resolved))
 
 pub read_form-returns-in_ok-types-in-Tuple-clause-legal : goal.read_form-returns-in_ok-types-in-Tuple-clause-legal
 read_form-returns-in_ok-types-in-Tuple-clause-legal t c = rw c.in-Tuple.is (legal_parts (written.Tuple c.in-Tuple.span c.in-Tuple.parts) c.deref-in-Tuple-2.result.now
@@ -121,13 +121,13 @@ read_form-returns-in_ok-types-in-Tuple-clause-legal t c = rw c.in-Tuple.is (lega
     (tuple_types c.in-Tuple.span c.in-Tuple.parts ∙ sym c.deref-in-Tuple-2.ensures.value) c.in_ok-types-in-Tuple.ensures.legal)
 
 pub read_form-returns-in_ok-value-in-Future-clause-read : goal.read_form-returns-in_ok-value-in-Future-clause-read
-read_form-returns-in_ok-value-in-Future-clause-read t c = rw c.in-Future.is (future_form c.args.types.now c.resolve_optional-in-Future.new.types (env_of c.args.names.now) c.in-Future.span c.in-Future.value c.in_ok-value-in-Future.value c.in_ok-value-in-Future.ensures.is_some c.in_ok-value-in-Future.ensures.resolved)
+read_form-returns-in_ok-value-in-Future-clause-read t c = rw c.in-Future.is (future_form c.args.types.now c.resolve_optional-in-Future.new.types (env_of c.args.names.now) c.args.given.now c.in-Future.span c.in-Future.value c.in_ok-value-in-Future.value c.in_ok-value-in-Future.ensures.is_some c.in_ok-value-in-Future.ensures.resolved)
 
 pub read_form-returns-in_ok-value-in-Future-clause-legal : goal.read_form-returns-in_ok-value-in-Future-clause-legal
 read_form-returns-in_ok-value-in-Future-clause-legal t c = rw c.in-Future.is (legal_parts (written.Future c.in-Future.span c.in-Future.value) (boxed_types c.in-Future.value) (λ f own. own) (types_of_held c.in-Future.value) c.in_ok-value-in-Future.ensures.legal)
 
 pub read_form-returns-in_ok-item-in-Stream-clause-read : goal.read_form-returns-in_ok-item-in-Stream-clause-read
-read_form-returns-in_ok-item-in-Stream-clause-read t c = rw c.in-Stream.is (stream_form c.args.types.now c.resolve_optional-in-Stream.new.types (env_of c.args.names.now) c.in-Stream.span c.in-Stream.item c.in_ok-item-in-Stream.item c.in_ok-item-in-Stream.ensures.is_some c.in_ok-item-in-Stream.ensures.resolved)
+read_form-returns-in_ok-item-in-Stream-clause-read t c = rw c.in-Stream.is (stream_form c.args.types.now c.resolve_optional-in-Stream.new.types (env_of c.args.names.now) c.args.given.now c.in-Stream.span c.in-Stream.item c.in_ok-item-in-Stream.item c.in_ok-item-in-Stream.ensures.is_some c.in_ok-item-in-Stream.ensures.resolved)
 
 pub read_form-returns-in_ok-item-in-Stream-clause-legal : goal.read_form-returns-in_ok-item-in-Stream-clause-legal
 read_form-returns-in_ok-item-in-Stream-clause-legal t c = rw c.in-Stream.is (legal_parts (written.Stream c.in-Stream.span c.in-Stream.item) (boxed_types c.in-Stream.item) (λ f own. own) (types_of_held c.in-Stream.item) c.in_ok-item-in-Stream.ensures.legal)
@@ -136,7 +136,7 @@ pub resolve_optional-returns-in_ok-found-in-Some-clause-legal : goal.resolve_opt
 resolve_optional-returns-in_ok-found-in-Some-clause-legal t c = rw c.in-Some.is (legal_one c.in-Some.ty.value (subst (λ ty. (f : Fault) → IsBrokenType ty f → ⊥) c.deref.ensures c.in_ok-found-in-Some.ensures.legal))
 
 pub resolve_type-returns-clause-resolved : goal.resolve_type-returns-clause-resolved
-resolve_type-returns-clause-resolved t c = read_stands c.args.types.now c.read.new.types c.type_of.new.types (env_of c.args.names.now) (shape_of c.args.ty.now) c.in_ok-reading.reading c.in_ok-ty.ty c.in_ok-reading.ensures.read c.in_ok-ty.ensures.stands
+resolve_type-returns-clause-resolved t c = read_stands c.args.types.now c.read.new.types c.type_of.new.types (env_of c.args.names.now) c.args.given.now (shape_of c.args.ty.now) c.in_ok-reading.reading c.in_ok-ty.ty c.in_ok-reading.ensures.read c.in_ok-ty.ensures.stands
 
 pub resolve_types-returns-in_err-ty-clause-refused : goal.resolve_types-returns-in_err-ty-clause-refused
 resolve_types-returns-in_err-ty-clause-refused t c =
@@ -154,7 +154,7 @@ resolve_types-loop-part-preserved t c =
     let part = c.part-item.result in
     let taken : take (i + 1) parts ≡ take i parts ++ part ∷ [] = take_more parts i part c.loop-part-test.true ∙ ap (λ x. take i parts ++ x ∷ []) (sym c.part-item.is) in
     record {
-      types = rw (taken, c.in_ok-push.ensures.items) (types_then (take i parts) (part ∷ []) c.loop-part.invariant.types (types_one part c.in_ok-ty.ensures.resolved));
+      types = rw (taken, c.in_ok-push.ensures.items) (types_then c.args.given.now (take i parts) (part ∷ []) c.loop-part.invariant.types (types_one c.args.given.now part c.in_ok-ty.ensures.resolved));
       legal = subst AreLegal (sym taken) (legal_more (take i parts) (part ∷ []) c.loop-part.invariant.legal (legal_one part c.in_ok-ty.ensures.legal));
       handled = rw taken (requires_types (env_of c.args.names.now) _ _ (take i parts) (part ∷ []) _ _ _ c.in_ok-ty.ensures.grown c.loop-part.invariant.handled (requires_one (env_of c.args.names.now) _ part _ _ c.in_ok-ty.ensures.handled));
       grown = grown_then _ _ _ c.loop-part.invariant.grown c.in_ok-ty.ensures.grown;
@@ -177,7 +177,7 @@ pub read-returns-in-Some-clause-handled : goal.read-returns-in-Some-clause-handl
 read-returns-in-Some-clause-handled t c = subst (λ (l : List Id). Requires (env_of c.args.names.now) c.args.types.now l c.args.required.now.items c.args.required.now.items) (sym (no_handles c.args.ty.now c.in-Some.found (sym c.primitive.ensures ∙ c.in-Some.is))) (requires_none (env_of c.args.names.now) c.args.types.now c.args.required.now.items)
 
 pub read-returns-in-Own-clause-read : goal.read-returns-in-Own-clause-read
-read-returns-in-Own-clause-read t c = rw c.in-Own.is (tt, resolved_word c.args.types.now (env_of c.args.names.now) c.in-Own.id c.in_ok-resource.resource c.in_ok-resource.ensures.found)
+read-returns-in-Own-clause-read t c = rw c.in-Own.is (tt, resolved_word c.args.types.now (env_of c.args.names.now) c.args.given.now c.in-Own.id c.in_ok-resource.resource c.in_ok-resource.ensures.found)
 
 pub read_form-returns-in_ok-item-in-List-clause-handled : goal.read_form-returns-in_ok-item-in-List-clause-handled
 read_form-returns-in_ok-item-in-List-clause-handled t c = rw c.in-List.is (requires_only (env_of c.args.names.now) _ (written.List c.in-List.span c.in-List.item) c.deref.result.now _ _ tt (ap (λ t. t ∷ []) (sym c.deref.ensures)) c.in_ok-item-in-List.ensures.handled)

@@ -8,7 +8,7 @@ use Rattle.wit_entries.proofs.types.+types.Given as goal
 
 abbrev pub invariant-resolve_types-loop-part : goal.invariant-resolve_types-loop-part
 invariant-resolve_types-loop-part l = record {
-  types : AreTypes l.fn.types l.types (env_of l.names) (take l.part-index l.parts) l.resolved.items;
+  types : AreTypes l.fn.types l.types (env_of l.names) l.given (take l.part-index l.parts) l.resolved.items;
   legal : AreLegal (take l.part-index l.parts);
   handled : Requires (env_of l.names) l.types (all_handles (take l.part-index l.parts)) l.fn.required.items l.required.items;
   grown : IsGrown l.fn.types l.types;

@@ -1,8 +1,9 @@
 use Rattle.std.proofs.Common.{◌-◌, ◌≤◌, ◌<◌, ◌+◌}
+use Rattle.wit_tree.specs.Comments.{IsNested}
 use Rattle.wit_lex.proofs.blank.block_end.Given as goal
 
 abbrev pub invariant-loop-at : goal.invariant-loop-at
-invariant-loop-at l = (l.from + 2 ≤ l.at) × (l.at ≤ l.len) × (0 < l.depth) × (l.depth < l.at)
+invariant-loop-at l = (l.from + 2 ≤ l.at) × (l.at ≤ l.len) × (0 < l.depth) × (l.depth < l.at) × IsNested l.bytes l.from l.depth l.at
 
 abbrev pub decreases-loop-at : goal.decreases-loop-at
 decreases-loop-at l = l.len - l.at

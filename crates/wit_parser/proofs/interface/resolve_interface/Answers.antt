@@ -1,8 +1,9 @@
-use Rattle.std.proofs.Common.{◌≡◌, List, ◌++◌, length, map, sym, ap, ◌∙◌, subst}
+use Rattle.std.proofs.Common.{◌≡◌, List, ◌++◌, length, map, inl, sym, ap, ◌∙◌, subst}
 use Rattle.std.proofs.lemmas.Result.{err_from_is_err_and}
 use Rattle.wit_tree.specs.declared.tree.Id.{Id}
 use Rattle.wit_types.specs.declared.types.TypeOwner.TheVariants.{Interface as OfInterface}
-use Rattle.wit_meaning.specs.Source.{ScopeName, scope_names}
+use Rattle.wit_meaning.specs.Notes.{IsBrokenStability}
+use Rattle.wit_meaning.specs.Source.{declared_attributes, item_notes, scope_names}
 use Rattle.wit_meaning.specs.Function.{SourceFunction, functions, written_types}
 use Rattle.std.specs.List.{flat_map}
 use Rattle.wit_meaning.specs.Address.{Address}
@@ -11,7 +12,8 @@ use Rattle.wit_entries.specs.Requiring.{Requires}
 use Rattle.wit_meaning.specs.Repeats.{AllDiffer}
 use Rattle.wit_meaning.specs.Package.{IsInterface}
 use Rattle.wit_meaning.specs.Resolving.{Names, Required, env_of, AddsFunctions}
-use Rattle.wit_meaning.specs.Resolved.{IsWrongInterface}
+use Rattle.wit_meaning.specs.Resolved.{OwnStability, IsWrongInterface, Unpaired, WrongStability}
+use Rattle.wit_meaning.specs.Signature.{IsUnpairedSetter}
 use Rattle.wit_meaning.proofs.Refusing.{refused_weaker}
 use Rattle.wit_scope.specs.Names.{Name}
 use Rattle.wit_entries.specs.Held.{function_behind}
@@ -21,14 +23,22 @@ use Rattle.wit_parser.specs.Held.{name_behind, cells_of}
 use Rattle.wit_parser.specs.Items.{item_behind}
 use Rattle.wit_parser.specs.Between.{IsWrongNames, AddsTurn}
 use Rattle.wit_parser.specs.Behind.{IsWrongFunctions}
+use Rattle.wit_parser.proofs.Telling.{interface_told}
 use Rattle.wit_parser.proofs.WrongNames.{wrong_names_interface}
 use Rattle.wit_parser.proofs.Owners.{owners, turn_has}
 use Rattle.wit_parser.proofs.ScopeFunctions.{turn_added, turn_listed, functions_behind, scope_sound, wrong_behind, made_differ}
 use Rattle.wit_parser.proofs.interface.resolve_interface.Goals as goal
 
+pub returns-in_err-notes-clause-refused : goal.returns-in_err-notes-clause-refused
+returns-in_err-notes-clause-refused c =
+    let p = err_from_is_err_and c.from_residual.result c.from_residual.ensures.1 in
+    let is = c.args.interfaces.now in
+    let item = item_behind c.args.item.now in
+    rw (p.1, p.2) (refused_weaker (IsBrokenStability (declared_attributes item.declared)) (IsWrongInterface c.args.types.now (cells_of is) is.by_name (OfInterface (length is.arena)) item) _ (λ f h. WrongStability (OwnStability h)) c.in_err-notes.ensures.refused)
+
 pub returns-in_err-names-clause-refused : goal.returns-in_err-names-clause-refused
 returns-in_err-names-clause-refused c =
-    let p = err_from_is_err_and c.from_residual.result c.from_residual.ensures.1 in
+    let p = err_from_is_err_and c.from_residual-in_err-names.result c.from_residual-in_err-names.ensures.1 in
     let cs = cells_of c.args.interfaces.now in
     let by_name = c.args.interfaces.now.by_name in
     let o = OfInterface (length c.args.interfaces.now.arena) in
@@ -68,6 +78,19 @@ returns-in_err-functions-clause-refused c =
     let new = c.resolve_signatures.new.types in
     let n : AddsTurn c.args.types.now mid cs o xs types ids own = rw (names, c.next_id.ensures) at c.in_ok-names.ensures.adds in
     rw (p.1, p.2) (refused_weaker (IsWrongFunctions (env_of types) new xs (functions item)) (IsWrongInterface c.args.types.now cs by_name o item) _ (λ f h. wrong_behind c.args.types.now mid new cs by_name o item types ids own f n c.in_err-functions.ensures.grown h) (rw (held, fns) at c.in_err-functions.ensures.refused))
+
+pub returns-in_err-check_setters-clause-refused : goal.returns-in_err-check_setters-clause-refused
+returns-in_err-check_setters-clause-refused c =
+    let p = err_from_is_err_and c.from_residual-in_err-check_setters.result c.from_residual-in_err-check_setters.ensures.1 in
+    let is = c.args.interfaces.now in
+    let item = item_behind c.args.item.now in
+    let fns : map function_behind c.deref-5.result.now ≡ functions item = ap (map function_behind) c.deref-5.ensures.value ∙ c.in_ok-written.ensures in
+    rw (p.1, p.2) (refused_weaker (IsUnpairedSetter (functions item)) (IsWrongInterface c.args.types.now (cells_of is) is.by_name (OfInterface (length is.arena)) item) _ (λ f h. Unpaired h) (rw fns at c.in_err-check_setters.ensures.refused))
+
+pub returns-in_err-functions-2-clause-refused : goal.returns-in_err-functions-2-clause-refused
+returns-in_err-functions-2-clause-refused c =
+    let p = err_from_is_err_and c.from_residual-in_err-functions-2.result c.from_residual-in_err-functions-2.ensures.1 in
+    rw p.1 (inl p.2)
 
 pub function_table-requires : goal.function_table-requires
 function_table-requires c =
@@ -125,7 +148,7 @@ returns-clause-added c =
       holds = record {
         added = a.added;
         last = a.last;
-        says = subst (λ (id : Id). IsInterface id a.added) c.requires.id a.says;
+        says = subst (λ (id : Id). IsInterface id (item_notes item) a.added) c.requires.id (interface_told c.args.id (item_notes item) c.in_ok-notes.notes a.added c.in_ok-notes.ensures.told a.says);
         middle = mid;
         adds = m.adds;
         functions = fs;

@@ -19,6 +19,7 @@ use Rattle.wit_meaning.proofs.Kept.{kept_next, kept_past}
 use Rattle.wit_meaning.proofs.Refusing.{refused_weaker}
 use Rattle.wit_meaning.proofs.Adding.{sounds_more}
 use Rattle.wit_parser.proofs.Emitting.{emits_more}
+use Rattle.wit_parser.proofs.Telling.{interface_stable, stability_more}
 use Rattle.wit_parser.specs.declared.items.Declared.{Declared as HeldDeclared}
 use Rattle.wit_parser.specs.Items.{declared_behind, item_behind, names_behind}
 use Rattle.wit_parser.proofs.Declaring.{alike}
@@ -102,6 +103,7 @@ loop-place-preserved c =
       | in-Interface+in_ok-resolve_interface b ↦ (
           let sort : not (is_world w) ≡ true = ap (λ (d : HeldDeclared). not (is_declared_world (declared_behind d))) b.in-Interface.is in
           let more : interfaces_of (in_order ws (take (i + 1) places)) ≡ front ++ w ∷ [] = kept_next (λ v. not (is_world v)) ws places i p w at there sort in
+          let own : is_world w ≡ false = ap (λ (d : HeldDeclared). is_declared_world (declared_behind d)) b.in-Interface.is in
           let e = b.in_ok-resolve_interface.ensures in
           let new = b.resolve_interface.new.interfaces.arena in
           let types = b.resolve_interface.new.types in
@@ -115,9 +117,10 @@ loop-place-preserved c =
             added = rw more (emits_more (AddsInterface foreign) c.args.types.now c.loop-place.types types c.args.interfaces.now.arena before new c.args.required.now.items c.loop-place.required.items required front w was.added one);
             index = rw same at e.index;
             sound = rw more (sounds_more front w was.sound e.sound);
+            stable = rw more (stability_more front w was.stable (interface_stable w own e.stable));
           }))
       | in_default b ↦ (
           let sort : not (is_world w) ≡ false = ap (λ (d : HeldDeclared). not (is_declared_world (declared_behind d))) b.in_default.is in
           let past : interfaces_of (in_order ws (take (i + 1) places)) ≡ front = kept_past (λ v. not (is_world v)) ws places i p w at there sort in
-          rw (b.interfaces-is, b.types-is, b.required-is) (record { foreign = was.foreign; front = was.front; added = rw past was.added; index = was.index; sound = rw past was.sound }))
+          rw (b.interfaces-is, b.types-is, b.required-is) (record { foreign = was.foreign; front = was.front; added = rw past was.added; index = was.index; sound = rw past was.sound; stable = rw past was.stable }))
     ]

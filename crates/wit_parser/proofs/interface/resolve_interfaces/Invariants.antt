@@ -1,7 +1,7 @@
 use Rattle.std.proofs.Common.{◌≡◌, ◌≤◌, length, map, take}
 use Rattle.wit_meaning.specs.Scope.{in_order, interfaces_of}
 use Rattle.wit_meaning.specs.Resolving.{cells, IsIndex}
-use Rattle.wit_meaning.specs.Resolved.{AddsInterfaces, AreSoundScopes}
+use Rattle.wit_meaning.specs.Resolved.{AddsInterfaces, AreSoundScopes, HaveLegalStability}
 use Rattle.wit_parser.specs.Held.{front_of}
 use Rattle.wit_parser.specs.Items.{item_behind}
 use Rattle.wit_parser.specs.Between.{Emits}
@@ -14,4 +14,5 @@ invariant-loop-place l = record {
   added : Emits l.fn.required.items l.required.items (λ rs. AddsInterfaces (front_of l.fn.interfaces.foreign.now) l.fn.types l.types l.fn.interfaces.arena l.interfaces.arena rs (interfaces_of (in_order (map item_behind l.items) (take l.place-index l.places))));
   index : IsIndex (cells (front_of l.fn.interfaces.foreign.now) l.interfaces.arena) l.interfaces.by_name;
   sound : AreSoundScopes (interfaces_of (in_order (map item_behind l.items) (take l.place-index l.places)));
+  stable : HaveLegalStability (interfaces_of (in_order (map item_behind l.items) (take l.place-index l.places)));
 }

@@ -1,6 +1,9 @@
 use Rattle.std.proofs.Common.{◌≡◌, Contains, map, take}
 use Rattle.wit_meaning.specs.Source.{Item, all_items, scope_names}
+use Rattle.wit_tree.specs.declared.tree.Use.{Use}
 use Rattle.wit_meaning.specs.Fault.{Fault}
+use Rattle.wit_meaning.specs.Notes.{IsBrokenNotes}
+use Rattle.wit_meaning.specs.Scope.{uses as item_uses}
 use Rattle.wit_meaning.specs.Broken.{IsBrokenUse}
 use Rattle.wit_meaning.specs.Foreign.{visited, foreign_interfaces}
 use Rattle.wit_parser.specs.Front.{AreItemsPlaced}
@@ -14,4 +17,5 @@ invariant-loop-place l = record {
   filed : AreFiled l.files l.names l.items.items;
   placed : AreItemsPlaced (map visited (foreign_interfaces l.files)) l.items.items;
   uses : (i : Item) → Contains (all_items (take l.place l.files)) i → (f : Fault) → IsBrokenUse l.files i f → ⊥;
+  noted : (i : Item) → Contains (all_items (take l.place l.files)) i → (u : Use) → Contains (item_uses i) u → (f : Fault) → IsBrokenNotes u.attributes.items f → ⊥;
 }

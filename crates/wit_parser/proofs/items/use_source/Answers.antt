@@ -36,6 +36,6 @@ returns-in-None-clause-refused c = λ fs file at. elim c.world_used.ensures [
       let u = c.args.used.now in
       let lead : leads (top_names file) u.from ≡ Foreign p id = sym (c.target.ensures fs file at.are at.at) ∙ ap target_behind c.in-Foreign.is in
       let none : interface_entry (entry_at fs (Foreign p id)) ≡ None = sym (ap interface_entry (c.entry_of.ensures fs file at ∙ ap (entry_at fs) lead)) ∙ sym c.interface_place.ensures ∙ c.in-None.is in
-      let v = part_visited c.args.files.now c.args.place (Using u) false u.from c.requires.part refl fs file at p id lead in
+      let v = part_visited c.args.files.now c.args.place (Using u) u.attributes.items false u.from c.requires.part refl fs file at p id lead in
       inr (AtWorld (record { other = ap (is_world_at fs) lead ∙ interface_missing fs p id v.0 v.1 none; is = says })))
 ]

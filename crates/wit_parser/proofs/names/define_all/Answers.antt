@@ -4,12 +4,13 @@ use Rattle.std.proofs.lemmas.List.{append-nil}
 use Rattle.std.proofs.lemmas.Result.{err_from_is_err_and}
 use Rattle.wit_types.specs.declared.types.TypeOwner.{TypeOwner}
 use Rattle.wit_meaning.specs.Source.{Defined}
+use Rattle.wit_meaning.specs.Notes.{IsBrokenNotes}
 use Rattle.wit_meaning.specs.Resolving.{env_of, Defines, IsWrongBody}
 use Rattle.wit_meaning.proofs.Lists.{read_map}
 use Rattle.wit_meaning.proofs.Orders.{take_next}
 use Rattle.wit_meaning.proofs.Refusing.{refused_weaker}
 use Rattle.wit_meaning.proofs.Defining.{defines_none, defines_more}
-use Rattle.wit_meaning.proofs.Scoping.{contains_at, names_none, names_kept, names_more, legal_none, legal_more}
+use Rattle.wit_meaning.proofs.Scoping.{contains_at, names_none, names_kept, names_more, legal_none, legal_more, noted_none, noted_more}
 use Rattle.wit_parser.specs.Held.{definition_behind}
 use Rattle.wit_parser.specs.Between.{names_in, IsBrokenAmong, IsWrongHandleIn}
 use Rattle.wit_parser.proofs.Turning.{none_unknown}
@@ -22,6 +23,7 @@ loop-definition-init c = record {
   owner = refl;
   listed = sym (append-nil (names_in c.args.scope.now.names));
   handled = requires_none (env_of c.args.scope.now.names) c.args.types.now c.args.scope.now.required.items;
+  noted = noted_none;
   legal = legal_none;
   kept = λ xs h. h;
   has = names_none (env_of c.args.scope.now.names);
@@ -41,11 +43,14 @@ returns-in_err-define-clause-refused c =
     let now = c.loop-definition.scope.names in
     let before = c.loop-definition.invariant in
     let at : slice_get ds i ≡ Some (Defined d) = read_map definition_behind c.args.definitions.now i c.definition-item.result c.loop-definition-test.true c.definition-item.is in
-    rw (q.1, q.2) (refused_weaker (IsWrongBody (env_of now) new d.body) (λ f. IsBrokenAmong ds f ⊎ IsWrongHandleIn old o names ds f) _ (λ f h. elim h [
-      | inl broken ↦ inl (record { d = d; among = contains_at ds i (Defined d) at; broken = broken })
-      | inr word ↦ elim word [
-        | inl unknown ↦ absurd (none_unknown (env_of names) (env_of now) ds i d f c.requires.turn at before.kept before.has unknown)
-        | inr wrong ↦ inr (wrong_handle_next old mid new o names now ds i d f at before.defines c.in_err-define.ensures.grown wrong)
+    rw (q.1, q.2) (refused_weaker (λ f. IsBrokenNotes d.attributes.items f ⊎ IsWrongBody (env_of now) new d.body f) (λ f. IsBrokenAmong ds f ⊎ IsWrongHandleIn old o names ds f) _ (λ f h. elim h [
+      | inl notes ↦ inl (record { d = d; among = contains_at ds i (Defined d) at; broken = inl notes })
+      | inr body ↦ elim body [
+        | inl broken ↦ inl (record { d = d; among = contains_at ds i (Defined d) at; broken = inr broken })
+        | inr word ↦ elim word [
+          | inl unknown ↦ absurd (none_unknown (env_of names) (env_of now) ds i d f c.requires.turn at before.kept before.has unknown)
+          | inr wrong ↦ inr (wrong_handle_next old mid new o names now ds i d f at before.defines c.in_err-define.ensures.grown wrong)
+        ]
       ]
     ]) c.in_err-define.ensures.refused)
 
@@ -68,6 +73,7 @@ loop-definition-preserved c =
       owner = e.owner ∙ before.owner;
       listed = rw more (listed_next old new front (take i ds) (Defined d) before.listed e.stored free);
       handled = rw more (requires_next old new c.loop-definition.types c.define.new.types (take i ds) d _ _ _ e.stored free e.grown before.handled e.handled);
+      noted = rw more (noted_more (take i ds) d before.noted e.noted);
       legal = rw more (legal_more (take i ds) d before.legal e.legal);
       kept = λ xs h. names_kept old new xs d.name.name.now (before.kept xs h) e.stored;
       has = rw more (names_more old new (take i ds) (Defined d) before.has e.stored);

@@ -4,7 +4,7 @@ use Rattle.wit_meaning.specs.Address.{Address}
 use Rattle.wit_meaning.specs.Source.{ScopeName}
 use Rattle.wit_meaning.specs.Shape.{all_handles}
 use Rattle.wit_meaning.specs.Function.{name_types}
-use Rattle.wit_meaning.specs.Resolving.{Cell, env_of, local_names, Defines, AreLegalBodies, HasNames}
+use Rattle.wit_meaning.specs.Resolving.{Cell, env_of, local_names, Defines, AreLegalBodies, AreLegalNotes, HasNames}
 use Rattle.wit_entries.specs.Requiring.{Requires}
 use Rattle.wit_parser.specs.Held.{definition_behind}
 use Rattle.wit_parser.specs.Between.{names_in}
@@ -16,6 +16,7 @@ invariant-loop-definition l = record {
   owner : l.scope.owner ≡ l.fn.scope.owner;
   listed : names_in l.scope.names ≡ names_in l.fn.scope.names ++ local_names (take l.definition-index (map definition_behind l.definitions));
   handled : Requires (env_of l.scope.names) l.types (all_handles (flat_map name_types (take l.definition-index (map definition_behind l.definitions)))) l.fn.scope.required.items l.scope.required.items;
+  noted : AreLegalNotes (take l.definition-index (map definition_behind l.definitions));
   legal : AreLegalBodies (take l.definition-index (map definition_behind l.definitions));
   kept : (xs : List ScopeName) → HasNames (env_of l.fn.scope.names) xs → HasNames (env_of l.scope.names) xs;
   has : HasNames (env_of l.scope.names) (take l.definition-index (map definition_behind l.definitions));

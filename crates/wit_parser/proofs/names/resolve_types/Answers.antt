@@ -5,12 +5,12 @@ use Rattle.wit_meaning.specs.Source.{local_id}
 use Rattle.wit_meaning.specs.Scope.{in_order, used, defined}
 use Rattle.wit_meaning.specs.Function.{SourceFunction}
 use Rattle.wit_meaning.specs.Broken.{IsBrokenScope}
-use Rattle.wit_meaning.specs.Resolving.{env_of, AreDistinct, AreLegalBodies}
+use Rattle.wit_meaning.specs.Resolving.{env_of, AreDistinct, AreLegalBodies, AreLegalNotes}
 use Rattle.wit_meaning.proofs.Refusing.{refused_weaker}
 use Rattle.wit_meaning.proofs.Turns.{distinct_names}
 use Rattle.wit_parser.specs.Held.{name_behind, use_behind, definition_behind}
 use Rattle.wit_parser.specs.Between.{names_in, AreOrdered, IsBrokenAmong, IsWrongHandleIn, IsWrongHandleTurn, IsRepeatedId}
-use Rattle.wit_parser.proofs.Turning.{in_their_turn, own_held, ids_are, broken_twice, broken_body, differ_names, turn_differs, legal_unfolded}
+use Rattle.wit_parser.proofs.Turning.{in_their_turn, own_held, ids_are, broken_twice, broken_definition, differ_names, turn_differs, legal_unfolded}
 use Rattle.wit_parser.proofs.names.resolve_types.Goals as goal
 
 pub returns-in_err-check_unique_names-clause-refused : goal.returns-in_err-check_unique_names-clause-refused
@@ -72,7 +72,7 @@ returns-in_err-define_all-clause-refused c =
     let are : ids ≡ map local_id (used xs ++ defined xs) = ids_are us ws (used xs) (defined xs) c.in_ok-ids.ids.items ids c.in_ok-ids.ensures (c.deref-2.ensures.value ∙ c.in_ok-add_definition_ids.ensures) c.requires.uses written in
     let distinct : AreDistinct xs = distinct_names xs (differ_names xs ids are c.in_ok-check_unique_names.ensures.legal) in
     rw (p.1, p.2) (refused_weaker (λ f. IsBrokenAmong ds f ⊎ IsWrongHandleIn old owner names ds f) (λ f. ((fns : List SourceFunction) → IsBrokenScope xs fns f) ⊎ IsWrongHandleTurn old owner names xs f) _ (λ f h. elim h [
-      | inl broken ↦ inl (broken_body xs ds f o broken)
+      | inl broken ↦ inl (broken_definition xs ds f o broken)
       | inr wrong ↦ inr (record { order = o.order; least = o.least; distinct = distinct; wrong = subst (λ l. IsWrongHandleIn old owner names l f) o.are wrong })
     ]) c.in_err-define_all.ensures.refused)
 
@@ -85,8 +85,9 @@ returns-clause-legal c =
     let ids : List Id = c.deref-2.result.now in
     let written : ws ≡ defined xs = ap (map definition_behind) c.deref.ensures.value ∙ c.in_ok-written.ensures in
     let are : ids ≡ map local_id (used xs ++ defined xs) = ids_are us ws (used xs) (defined xs) c.in_ok-ids.ids.items ids c.in_ok-ids.ensures (c.deref-2.ensures.value ∙ c.in_ok-add_definition_ids.ensures) c.requires.uses written in
+    let notes : AreLegalNotes ds = rw c.deref-3.ensures.value at c.in_ok-define_all.ensures.noted in
     let bodies : AreLegalBodies ds = rw c.deref-3.ensures.value at c.in_ok-define_all.ensures.legal in
-    legal_unfolded xs ds ids c.in_ok-ordered.ensures.ordered are c.in_ok-check_unique_names.ensures.legal bodies
+    legal_unfolded xs ds ids c.in_ok-ordered.ensures.ordered are c.in_ok-check_unique_names.ensures.legal notes bodies
 
 pub returns-clause-defines : goal.returns-clause-defines
 returns-clause-defines c =

@@ -1,4 +1,4 @@
-use Rattle.std.proofs.Common.{◌≡◌, List, [], ◌++◌, map, sym, ap, ◌∙◌, subst}
+use Rattle.std.proofs.Common.{◌≡◌, List, ◌++◌, map, sym, ap, ◌∙◌, subst}
 use Rattle.std.proofs.lemmas.Result.{err_from_is_err_and}
 use Rattle.wit_order.specs.Table.{IsOrder}
 use Rattle.wit_meaning.specs.Address.{Address}
@@ -7,7 +7,7 @@ use Rattle.wit_meaning.specs.Foreign.{visited, foreign_interfaces, foreign_world
 use Rattle.wit_meaning.specs.Scope.{in_order, item_rows, interfaces_of, worlds_of}
 use Rattle.wit_meaning.specs.Broken.{IsBroken}
 use Rattle.wit_meaning.specs.Resolving.{Required, cells, IsIndex}
-use Rattle.wit_meaning.specs.Resolved.{AddsInterfaces, AddsWorlds, AreSoundScopes}
+use Rattle.wit_meaning.specs.Resolved.{AddsInterfaces, AddsWorlds, AreSoundScopes, HaveLegalStability}
 use Rattle.wit_meaning.proofs.Refusing.{refused_weaker}
 use Rattle.wit_meaning.proofs.Resolved.{distinct_items}
 use Rattle.wit_meaning.proofs.Finished.{broken_among, broken_world_among}
@@ -15,6 +15,7 @@ use Rattle.wit_parser.specs.Items.{item_behind, AreFiled, others_of}
 use Rattle.wit_parser.specs.Held.{front_of}
 use Rattle.wit_parser.specs.Front.{IsFront}
 use Rattle.wit_parser.specs.Between.{Emits, IsWrongNow, IsWrongWorldNow}
+use Rattle.wit_parser.proofs.Telling.{stability_both}
 use Rattle.wit_parser.proofs.Files.{sound_both, held_within, wrong_interface, wrong_world}
 use Rattle.wit_parser.proofs.Fronting.{front_started, front_taken, lent_front, lent_placed, lent_enough, lent_index, worlds_enough, worlds_index, others_names}
 use Rattle.wit_parser.proofs.resolver.resolve_files.Goals as goal
@@ -143,12 +144,15 @@ returns-clause-added c =
     let new = c.resolve_worlds.new in
     let sound : AreSoundScopes (interfaces_of (in_order (all_items files) places)) = rw (all, c.item_order.ensures) at c.in_ok-resolve_interfaces.ensures.sound in
     let sound' : AreSoundScopes (worlds_of (in_order (all_items files) places)) = rw again at ws.sound in
+    let stable : HaveLegalStability (interfaces_of (in_order (all_items files) places)) = rw (all, c.item_order.ensures) at c.in_ok-resolve_interfaces.ensures.stable in
+    let stable' : HaveLegalStability (worlds_of (in_order (all_items files) places)) = rw again at ws.stable in
     let said : Emits irs new.required.items (λ rs. AddsWorlds (front_of now.foreign.now) (others_of c.args.names.now) now.arena middle new.types a.worlds new.worlds.arena rs (worlds_of (in_order (all_items files) places))) = rw again at ws.added in
     record {
       places = places;
       order = c.requires.order;
       names = c.requires.legal;
       uses = e.uses;
+      noted = e.noted;
       first = types;
       front = a.interfaces;
       worlds_front = a.worlds;
@@ -160,4 +164,5 @@ returns-clause-added c =
       interfaces = added;
       worlds = subst (λ (ss : List Address). AddsWorlds (map visited (foreign_interfaces files)) ss now.arena middle new.types a.worlds new.worlds.arena said.own (worlds_of (in_order (all_items files) places))) others (subst (λ (ss : List Address). AddsWorlds ss (others_of c.args.names.now) now.arena middle new.types a.worlds new.worlds.arena said.own (worlds_of (in_order (all_items files) places))) kept said.holds);
       sound = sound_both (in_order (all_items files) places) sound sound';
+      stable = stability_both (in_order (all_items files) places) stable stable';
     }

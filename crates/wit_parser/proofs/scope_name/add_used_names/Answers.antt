@@ -14,12 +14,12 @@ loop-name-preserved c =
     let xs = c.args.used.now in
     let n = c.name-item.result in
     let from = c.args.from.now in
-    let s = source_behind from in
+    let make = Used (source_behind from) c.args.attributes.now in
     let was = c.loop-name.invariant in
     let new = c.in_ok-push.ensures.items in
     let at = slice_get_read xs _ i n refl c.loop-name-test.true c.name-item.is in
-    let more = ap (map (Used s)) (take_next xs i n at) ∙ map-append (Used s) (take i xs) (n ∷ []) in
+    let more = ap (map make) (take_next xs i n at) ∙ map-append make (take i xs) (n ∷ []) in
     record {
-      names = one_more name_behind (map name_behind c.args.names.now.items) c.loop-name.names.items _ _ (map (Used s) (take i xs)) (map (Used s) (take (i + 1) xs)) (Used s n) new was.names refl more;
+      names = one_more name_behind (map name_behind c.args.names.now.items) c.loop-name.names.items _ _ (map make (take i xs)) (map make (take (i + 1) xs)) (make n) new was.names refl more;
       placed = λ front one before. names_more front c.loop-name.names.items _ _ new (was.placed front one before) one;
     }

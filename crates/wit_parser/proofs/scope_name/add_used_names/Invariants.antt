@@ -7,6 +7,6 @@ use Rattle.wit_parser.proofs.scope_name.add_used_names.Given as goal
 
 abbrev pub invariant-loop-name : goal.invariant-loop-name
 invariant-loop-name l = record {
-  names : map name_behind l.names.items ≡ map name_behind l.fn.names.items ++ map (Used (source_behind l.from)) (take l.name-index l.used);
+  names : map name_behind l.names.items ≡ map name_behind l.fn.names.items ++ map (Used (source_behind l.from) l.attributes) (take l.name-index l.used);
   placed : (front : List Address) → IsPlaced front l.from → AreNamesPlaced front l.fn.names.items → AreNamesPlaced front l.names.items;
 }

@@ -1,11 +1,10 @@
-use Rattle.std.proofs.Common.{◌≡◌, ◌⊎◌, ◌++◌, List, [], map, inl, inr, ap, ◌∙◌, subst}
+use Rattle.std.proofs.Common.{◌≡◌, ◌⊎◌, ◌++◌, List, map, inl, inr, ap, ◌∙◌, subst}
 use Rattle.std.proofs.lemmas.Result.{err_from_is_err_and}
-use Rattle.wit_meaning.specs.Fault.{Fault}
 use Rattle.wit_meaning.specs.Resolving.{env_of}
 use Rattle.wit_meaning.proofs.Refusing.{refused_weaker}
 use Rattle.wit_scope.specs.Names.{Name}
 use Rattle.wit_entries.specs.Held.{function_behind}
-use Rattle.wit_entries.specs.Signatures.{IsScopeOf, IsWrongFunctionAmong}
+use Rattle.wit_entries.specs.Signatures.{IsWrongFunctionAmong}
 use Rattle.wit_entries.specs.Taken.{name_of_id, name_of_function, IsTwiceAmong}
 use Rattle.wit_parser.specs.Behind.{IsWrongFunctions, BrokenNames}
 use Rattle.wit_parser.specs.Held.{name_behind}

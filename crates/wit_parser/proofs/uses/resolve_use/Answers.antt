@@ -17,7 +17,7 @@ returns-in-None-clause-refused c =
     let by_name = c.args.interfaces.now.by_name in
     let target = cell_at from c.in_ok-interface.interface.now in
     let free : env_of target.types used.name.now.name.name.now ≡ None = search rules in
-    refused_weaker (IsUnstated target.functions used.name.now.name) (IsWrongUse cs by_name c.args.scope.now.names from used.name.now) _ (λ f h. Wrong (unstated_name cs by_name from used.name.now target f c.in_ok-interface.ensures.found free h)) c.refuse_used.ensures
+    refused_weaker (IsUnstated target.functions used.name.now.name) (IsWrongUse cs by_name c.args.scope.now.names from used.attributes.now used.name.now) _ (λ f h. Wrong (unstated_name cs by_name from used.name.now target f c.in_ok-interface.ensures.found free h)) c.refuse_used.ensures
 
 pub returns-in_err-interface-clause-refused : goal.returns-in_err-interface-clause-refused
 returns-in_err-interface-clause-refused c =
@@ -26,4 +26,4 @@ returns-in_err-interface-clause-refused c =
     let by_name = c.args.interfaces.now.by_name in
     let used = c.args.used.now in
     let from = source_behind used.from in
-    rw (p.1, p.2) (refused_weaker (λ f. (path : Id) × (from ≡ InterfaceNamed path.name.now) × IsUnresolved by_name path f) (IsWrongUse cs by_name c.args.scope.now.names from used.name.now) _ (λ f h. Wrong (Unresolved h.0 h.1 h.2)) c.in_err-interface.ensures.refused)
+    rw (p.1, p.2) (refused_weaker (λ f. (path : Id) × (from ≡ InterfaceNamed path.name.now) × IsUnresolved by_name path f) (IsWrongUse cs by_name c.args.scope.now.names from used.attributes.now used.name.now) _ (λ f h. Wrong (Unresolved h.0 h.1 h.2)) c.in_err-interface.ensures.refused)

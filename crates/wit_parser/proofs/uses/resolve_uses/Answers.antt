@@ -29,31 +29,33 @@ returns-in_err-resolve_use-clause-refused c =
     let us = map use_behind c.args.uses.now in
     let i = c.loop-name.name-index in
     let from = source_behind c.name-item.result.from in
+    let attributes = c.name-item.result.attributes.now in
     let n = c.name-item.result.name.now in
     let cs = cells_of c.args.interfaces.now in
     let by_name = c.args.interfaces.now.by_name in
     let names = c.loop-name.scope.names in
-    let at : slice_get us i ≡ Some (Used from n) = read_map use_behind c.args.uses.now i c.name-item.result c.loop-name-test.true c.name-item.is in
-    rw (p.1, p.2) (λ xs are. refused_weaker (IsWrongUse cs by_name names from n) (λ f. (fns : List SourceFunction) → IsWrongScope cs by_name xs fns f) _ (wrong_used cs by_name names xs i from n (ap (λ l. slice_get l i) (sym are) ∙ at) (c.loop-name.invariant.listed ∙ ap (λ l. local_names (take i l)) are)) c.in_err-resolve_use.ensures.refused)
+    let at : slice_get us i ≡ Some (Used from attributes n) = read_map use_behind c.args.uses.now i c.name-item.result c.loop-name-test.true c.name-item.is in
+    rw (p.1, p.2) (λ xs are. refused_weaker (IsWrongUse cs by_name names from attributes n) (λ f. (fns : List SourceFunction) → IsWrongScope cs by_name xs fns f) _ (wrong_used cs by_name names xs i from attributes n (ap (λ l. slice_get l i) (sym are) ∙ at) (c.loop-name.invariant.listed ∙ ap (λ l. local_names (take i l)) are)) c.in_err-resolve_use.ensures.refused)
 
 pub loop-name-preserved : goal.loop-name-preserved
 loop-name-preserved c =
     let us = map use_behind c.args.uses.now in
     let i = c.loop-name.name-index in
     let from = source_behind c.name-item.result.from in
+    let attributes = c.name-item.result.attributes.now in
     let n = c.name-item.result.name.now in
     let cs = cells_of c.args.interfaces.now in
     let o = c.args.scope.now.owner in
-    let at : slice_get us i ≡ Some (Used from n) = read_map use_behind c.args.uses.now i c.name-item.result c.loop-name-test.true c.name-item.is in
-    let more : take (i + 1) us ≡ take i us ++ Used from n ∷ [] = take_next us i (Used from n) at in
+    let at : slice_get us i ≡ Some (Used from attributes n) = read_map use_behind c.args.uses.now i c.name-item.result c.loop-name-test.true c.name-item.is in
+    let more : take (i + 1) us ≡ take i us ++ Used from attributes n ∷ [] = take_next us i (Used from attributes n) at in
     let old = c.loop-name.scope.names in
     let new = c.resolve_use.new.scope.names in
     let e = c.in_ok-resolve_use.ensures in
     record {
-      defines = λ s. rw more (defines_more c.args.types.now c.loop-name.types c.resolve_use.new.types cs o s c.args.scope.now.names old new (take i us) (Used from n ∷ []) (c.loop-name.invariant.defines s) (subst (λ (m : TypeOwner). Defines c.loop-name.types c.resolve_use.new.types cs m s old new (Used from n ∷ [])) c.loop-name.invariant.owner (defines_used c.loop-name.types c.resolve_use.new.types cs c.loop-name.scope.owner s old new from n e.used)));
+      defines = λ s. rw more (defines_more c.args.types.now c.loop-name.types c.resolve_use.new.types cs o s c.args.scope.now.names old new (take i us) (Used from attributes n ∷ []) (c.loop-name.invariant.defines s) (subst (λ (m : TypeOwner). Defines c.loop-name.types c.resolve_use.new.types cs m s old new (Used from attributes n ∷ [])) c.loop-name.invariant.owner (defines_used c.loop-name.types c.resolve_use.new.types cs c.loop-name.scope.owner s old new from attributes n e.used)));
       owner = e.owner ∙ c.loop-name.invariant.owner;
       required = e.required ∙ c.loop-name.invariant.required;
-      listed = rw more (listed_more (take i us) from n c.loop-name.invariant.listed e.used);
+      listed = rw more (listed_more (take i us) from attributes n c.loop-name.invariant.listed e.used);
     }
 
 pub returns-clause-has : goal.returns-clause-has

@@ -1,18 +1,19 @@
-use Rattle.std.proofs.Common.{◌≡◌, List, ◌++◌, map, length, inl, sym, ap, ◌∙◌, subst}
+use Rattle.std.proofs.Common.{◌≡◌, ◌⊎◌, List, ◌++◌, map, length, inl, inr, sym, ap, ◌∙◌, subst}
 use Rattle.std.specs.List.{flat_map}
 use Rattle.std.proofs.lemmas.Result.{err_from_is_err_and}
 use Rattle.wit_tree.specs.declared.tree.Id.{Id}
 use Rattle.wit_types.specs.declared.types.TypeOwner.TheVariants.{World as OfWorld}
 use Rattle.wit_meaning.specs.Address.{Address}
 use Rattle.wit_meaning.specs.Shape.{all_handles}
-use Rattle.wit_meaning.specs.Source.{TheWorld, top_names, Item, item_id, ScopeName, local_id, scope_names}
-use Rattle.wit_meaning.specs.Scope.{in_turn}
+use Rattle.wit_meaning.specs.Notes.{IsBrokenStability}
+use Rattle.wit_meaning.specs.Source.{TheWorld, top_names, Item, declared_attributes, item_id, item_notes, local_id, scope_names}
+use Rattle.wit_meaning.specs.Scope.{in_turn, includes}
 use Rattle.wit_meaning.specs.Function.{SourceFunction, functions, written_types}
 use Rattle.wit_meaning.specs.Functions.{function_import}
 use Rattle.wit_meaning.specs.Package.{IsWorld}
 use Rattle.wit_meaning.specs.Repeats.{AllDiffer}
-use Rattle.wit_meaning.specs.Resolving.{Names, Required, env_of, AddsFunctions, IsLostInclude}
-use Rattle.wit_meaning.specs.Resolved.{worlds_at, IsWrongWorld, LostInclude}
+use Rattle.wit_meaning.specs.Resolving.{Required, env_of, AddsFunctions, IsLostInclude}
+use Rattle.wit_meaning.specs.Resolved.{worlds_at, IsBrokenItemStability, OwnStability, IsWrongWorld, WrongWorldStability, LostInclude}
 use Rattle.wit_meaning.specs.Whole.{AreIncludes, type_imports}
 use Rattle.wit_meaning.proofs.Refusing.{refused_weaker}
 use Rattle.wit_scope.specs.Names.{Name}
@@ -22,8 +23,9 @@ use Rattle.wit_entries.specs.Signatures.{HaveOwners}
 use Rattle.wit_entries.specs.Taken.{name_key, name_of_id, name_of_function}
 use Rattle.wit_parser.specs.Held.{name_behind, cells_of}
 use Rattle.wit_parser.specs.Items.{item_behind, others_of}
-use Rattle.wit_parser.specs.Between.{names_in, IsWrongNames, AddsTurn}
+use Rattle.wit_parser.specs.Between.{AreStable, IsWrongNames, AddsTurn}
 use Rattle.wit_parser.specs.Behind.{IsWrongFunctions}
+use Rattle.wit_parser.proofs.Telling.{world_told, world_stable}
 use Rattle.wit_parser.proofs.WrongNames.{wrong_names_world}
 use Rattle.wit_parser.proofs.Owners.{owners, turn_has}
 use Rattle.wit_parser.proofs.ScopeFunctions.{turn_added, turn_listed, functions_behind, scope_sound, wrong_behind_world}
@@ -32,9 +34,17 @@ use Rattle.wit_parser.proofs.Behind.{turn_texts}
 use Rattle.wit_parser.proofs.WorldImports.{imports_differ}
 use Rattle.wit_parser.proofs.world.resolve_world.Goals as goal
 
+pub returns-in_err-notes-clause-refused : goal.returns-in_err-notes-clause-refused
+returns-in_err-notes-clause-refused c =
+    let p = err_from_is_err_and c.from_residual.result c.from_residual.ensures.1 in
+    let is = c.args.interfaces.now in
+    let ws = c.args.worlds.now in
+    let item = item_behind c.args.item.now in
+    rw (p.1, p.2) (λ fs named. refused_weaker (IsBrokenStability (declared_attributes item.declared)) (IsWrongWorld fs c.args.types.now (cells_of is) is.by_name ws.by_name (OfWorld (length ws.arena)) item) _ (λ f h. WrongWorldStability (OwnStability h)) c.in_err-notes.ensures.refused)
+
 pub returns-in_err-names-clause-refused : goal.returns-in_err-names-clause-refused
 returns-in_err-names-clause-refused c =
-    let p = err_from_is_err_and c.from_residual.result c.from_residual.ensures.1 in
+    let p = err_from_is_err_and c.from_residual-in_err-names.result c.from_residual-in_err-names.ensures.1 in
     let cs = cells_of c.args.interfaces.now in
     let by_name = c.args.interfaces.now.by_name in
     let worlds_by_name = c.args.worlds.now.by_name in
@@ -51,7 +61,10 @@ returns-in_err-includes-clause-refused c =
     let worlds_by_name = c.args.worlds.now.by_name in
     let file = c.args.item.now.file.now in
     let written : Item = record { top = top_names file; declared = TheWorld c.args.world.now } in
-    rw (p.1, p.2) (λ fs named. refused_weaker (IsLostInclude fs worlds_by_name written) (IsWrongWorld fs c.args.types.now cs by_name worlds_by_name (OfWorld (length c.args.worlds.now.arena)) (item_behind c.args.item.now)) _ (λ f h. LostInclude (subst (λ (i : Item). IsLostInclude fs worlds_by_name i f) (sym c.requires.world) h)) (c.in_err-includes.ensures.refused fs file named))
+    rw (p.1, p.2) (λ fs named. refused_weaker (λ f. IsBrokenItemStability written f ⊎ IsLostInclude fs worlds_by_name written f) (IsWrongWorld fs c.args.types.now cs by_name worlds_by_name (OfWorld (length c.args.worlds.now.arena)) (item_behind c.args.item.now)) _ (λ f h. elim h [
+      | inl unstable ↦ WrongWorldStability (subst (λ (i : Item). IsBrokenItemStability i f) (sym c.requires.world) unstable)
+      | inr lost ↦ LostInclude (subst (λ (i : Item). IsLostInclude fs worlds_by_name i f) (sym c.requires.world) lost)
+    ]) (c.in_err-includes.ensures.refused fs file named))
 
 pub resolve_signatures-requires-clause-listed : goal.resolve_signatures-requires-clause-listed
 resolve_signatures-requires-clause-listed c = turn_listed _ _ _ _ _ _ _ _ c.in_ok-names.ensures.adds
@@ -122,6 +135,11 @@ add_function_imports-requires c =
     let is : c.in_ok-imports.imports ≡ type_imports (in_turn xs n.adds.order) types = c.in_ok-imports.ensures (in_turn xs n.adds.order) turned ∙ ap (type_imports (in_turn xs n.adds.order)) e.types in
     imports_differ (in_turn xs n.adds.order) types ids (functions item) c.in_ok-functions.functions.items c.in_ok-imports.imports n.turn n.listed is (e.named ∙ ap (map name_of_function) fns) differ
 
+pub returns-in_err-imports-clause-refused : goal.returns-in_err-imports-clause-refused
+returns-in_err-imports-clause-refused c =
+    let p = err_from_is_err_and c.from_residual-in_err-imports.result c.from_residual-in_err-imports.ensures.1 in
+    rw p.1 (λ fs named. inl p.2)
+
 pub returns-in_err-add_function_imports-clause-refused : goal.returns-in_err-add_function_imports-clause-refused
 returns-in_err-add_function_imports-clause-refused c =
     let p = err_from_is_err_and c.from_residual-in_err-add_function_imports.result c.from_residual-in_err-add_function_imports.ensures.1 in
@@ -175,7 +193,7 @@ returns-clause-added c =
       holds = record {
         added = a.added;
         last = a.last;
-        says = subst (λ (id : Id). IsWorld id a.added) (sym (ap item_id c.requires.world)) a.says;
+        says = subst (λ (id : Id). IsWorld id (item_notes item) a.added) (sym (ap item_id c.requires.world)) (world_told c.args.world.now.name (item_notes item) c.in_ok-notes.notes a.added c.in_ok-notes.ensures.told a.says);
         types = types;
         middle = mid;
         adds = n.adds;
@@ -188,3 +206,8 @@ returns-clause-added c =
 
 pub returns-clause-index : goal.returns-clause-index
 returns-clause-index c = c.in_ok-add_world.ensures.index (others_of c.args.files.now) c.requires.worlds_front c.requires.worlds_index
+
+pub returns-clause-stable : goal.returns-clause-stable
+returns-clause-stable c =
+    let item = item_behind c.args.item.now in
+    world_stable item c.in_ok-notes.ensures.legal (subst (λ (i : Item). AreStable (includes i)) (sym c.requires.world) c.in_ok-includes.ensures.stable)

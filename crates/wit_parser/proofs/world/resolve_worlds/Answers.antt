@@ -23,6 +23,7 @@ use Rattle.wit_meaning.proofs.Kept.{kept_next, kept_past}
 use Rattle.wit_meaning.proofs.Refusing.{refused_weaker}
 use Rattle.wit_meaning.proofs.Adding.{sounds_more}
 use Rattle.wit_parser.proofs.Emitting.{emits_more}
+use Rattle.wit_parser.proofs.Telling.{stability_more}
 use Rattle.wit_parser.specs.declared.items.Declared.{Declared as HeldDeclared}
 use Rattle.wit_parser.specs.Items.{declared_behind, item_behind, names_behind, HasItem, HasFiles, IsDeclaredIn, others_of}
 use Rattle.wit_parser.specs.Between.{IsWrongWorldNow}
@@ -135,9 +136,10 @@ loop-place-preserved c =
             added = rw more (emits_more Adds c.args.types.now c.loop-place.types types c.args.worlds.now.arena before new c.args.required.now.items c.loop-place.required.items required front w was.added e.added);
             index = e.index;
             sound = rw more (sounds_more front w was.sound e.sound);
+            stable = rw more (stability_more front w was.stable e.stable);
           }))
       | in_default b ↦ (
           let sort : is_world w ≡ false = ap (λ (d : HeldDeclared). is_declared_world (declared_behind d)) b.in_default.is in
           let past : worlds_of (in_order ws (take (i + 1) places)) ≡ front = kept_past is_world ws places i p w at there sort in
-          rw (b.worlds-is, b.types-is, b.required-is) (record { entries = was.entries; front = was.front; added = rw past was.added; index = was.index; sound = rw past was.sound }))
+          rw (b.worlds-is, b.types-is, b.required-is) (record { entries = was.entries; front = was.front; added = rw past was.added; index = was.index; sound = rw past was.sound; stable = rw past was.stable }))
     ]

@@ -1,7 +1,7 @@
 use Rattle.std.proofs.Common.{◌≡◌, ◌≤◌, length, map, take}
 use Rattle.wit_meaning.specs.Scope.{in_order, worlds_of}
 use Rattle.wit_meaning.specs.Resolving.{IsWorldIndex}
-use Rattle.wit_meaning.specs.Resolved.{worlds_at, AddsWorlds, AreSoundScopes}
+use Rattle.wit_meaning.specs.Resolved.{worlds_at, AddsWorlds, AreSoundScopes, HaveLegalStability}
 use Rattle.wit_parser.specs.Held.{front_of}
 use Rattle.wit_parser.specs.Items.{item_behind, others_of}
 use Rattle.wit_parser.specs.Between.{Emits}
@@ -14,4 +14,5 @@ invariant-loop-place l = record {
   front : length (others_of l.files) ≤ length l.worlds.arena;
   index : IsWorldIndex (worlds_at (others_of l.files) l.worlds.arena) l.worlds.by_name;
   sound : AreSoundScopes (worlds_of (in_order (map item_behind l.items) (take l.place-index l.files.order.items)));
+  stable : HaveLegalStability (worlds_of (in_order (map item_behind l.items) (take l.place-index l.files.order.items)));
 }

@@ -4,8 +4,9 @@ use Rattle.std.proofs.lemmas.List.{take_more}
 use Rattle.std.proofs.lemmas.Option.{slice_get-get_or}
 use Rattle.std.proofs.lemmas.Result.{err_from_is_err_and}
 use Rattle.wit_meaning.proofs.Refusing.{refused_weaker}
-use Rattle.wit_scope.specs.declared.attribute_kind.AttributeKind.TheVariants.{ExternalId}
-use Rattle.wit_scope.specs.Attributes.{is_of, IsBrokenStability}
+use Rattle.wit_tree.specs.declared.attribute_kind.AttributeKind.TheVariants.{ExternalId}
+use Rattle.wit_tree.specs.Attributes.{is_of}
+use Rattle.wit_meaning.specs.Notes.{IsBrokenStability}
 use Rattle.wit_scope.specs.Kinds.{IsRepeat}
 use Rattle.wit_scope.proofs.Telling.{broken-repeat, each_once-more}
 use Rattle.wit_scope.proofs.attributes.check_each_once.Goals.{then-not-is_of+in_ok-check_new, else-not-is_of}

@@ -4,8 +4,9 @@ use Rattle.std.proofs.lemmas.List.{take_more, take_all}
 use Rattle.std.proofs.lemmas.Option.{slice_get-get_or}
 use Rattle.std.proofs.lemmas.Result.{err_from_is_err_and}
 use Rattle.wit_meaning.proofs.Refusing.{refused_weaker}
-use Rattle.wit_scope.specs.declared.attribute_kind.AttributeKind.TheVariants.{ExternalId}
-use Rattle.wit_scope.specs.Attributes.{is_of, first_of, IsExternalIdTwice}
+use Rattle.wit_tree.specs.declared.attribute_kind.AttributeKind.TheVariants.{ExternalId}
+use Rattle.wit_tree.specs.Attributes.{is_of, first_of}
+use Rattle.wit_meaning.specs.Notes.{IsExternalIdTwice}
 use Rattle.wit_scope.specs.Kinds.{IsRepeat, IsOnce}
 use Rattle.wit_scope.proofs.Telling.{external-repeat, external_kind, once-more, no_twice}
 use Rattle.wit_scope.proofs.attributes.check_external_once.Goals.{then-is_of+in_ok-check_new, else-is_of}

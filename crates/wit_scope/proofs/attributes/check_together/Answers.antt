@@ -1,7 +1,8 @@
 use Rattle.std.proofs.Common.{◌≡◌, None, inl, inr, ap, sym, ◌∙◌}
 use Rattle.wit_meaning.specs.Fault.{fault}
-use Rattle.wit_scope.specs.declared.attribute_kind.AttributeKind.TheVariants.{Since, Unstable, Deprecated}
-use Rattle.wit_scope.specs.Attributes.{first_of, SinceAndUnstable, DeprecatedAlone}
+use Rattle.wit_tree.specs.declared.attribute_kind.AttributeKind.TheVariants.{Since, Unstable, Deprecated}
+use Rattle.wit_tree.specs.Attributes.{first_of}
+use Rattle.wit_meaning.specs.Notes.{SinceAndUnstable, DeprecatedAlone}
 use Rattle.wit_scope.proofs.Scoping.{not_some}
 use Rattle.wit_scope.proofs.Telling.{stands-first, none-stands, told-some, told-none, legal-together}
 use Rattle.wit_scope.proofs.attributes.check_together.Goals as goal

@@ -1,5 +1,5 @@
 use Rattle.std.proofs.Common.{◌≡◌, map, take}
-use Rattle.wit_scope.specs.Docs.{said}
+use Rattle.wit_meaning.specs.Docs.{said}
 use Rattle.wit_scope.proofs.comments.all_said.Given as goal
 
 abbrev pub invariant-loop-comment : goal.invariant-loop-comment

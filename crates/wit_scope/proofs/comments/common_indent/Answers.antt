@@ -6,7 +6,7 @@ use Rattle.std.proofs.lemmas.Iterator.Consumers.{YieldsList-at, YieldsList-from_
 use Rattle.std.proofs.lemmas.Iterator.Adapters.{option_map_id}
 use denote.Ref.{Bor}
 use borrow.Author.Tests.{tests}
-use Rattle.wit_scope.specs.Docs.{indent, is_written}
+use Rattle.wit_meaning.specs.Docs.{indent, is_written}
 use Rattle.wit_scope.proofs.Texts.{indents-lent}
 use Rattle.wit_scope.proofs.comments.common_indent.Goals as goal
 

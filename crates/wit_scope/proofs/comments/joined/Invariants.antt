@@ -1,6 +1,6 @@
 use Rattle.std.proofs.Common.{◌≡◌, map, take, string_bytes}
 use Rattle.std.specs.List.{flat_map}
-use Rattle.wit_scope.specs.Docs.{ended_lines, without_spaces}
+use Rattle.wit_meaning.specs.Docs.{ended_lines, without_spaces}
 use Rattle.wit_scope.proofs.comments.joined.Given as goal
 
 abbrev pub invariant-loop-added : goal.invariant-loop-added

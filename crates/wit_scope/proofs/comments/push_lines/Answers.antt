@@ -3,7 +3,7 @@ use Rattle.std.specs.List.{flat_map}
 use Rattle.std.specs.Str.Lines.{lines}
 use Rattle.std.proofs.lemmas.Iterator.Splits.{YieldsList-from_lines}
 use Rattle.std.proofs.lemmas.Iterator.Consumers.{YieldsList-end}
-use Rattle.wit_scope.specs.Docs.{ended}
+use Rattle.wit_meaning.specs.Docs.{ended}
 use Rattle.wit_scope.proofs.comments.push_lines.Goals as goal
 
 pub returns : goal.returns

@@ -1,6 +1,6 @@
 use Rattle.std.proofs.Common.{◌≡◌, ◌++◌, map, string_bytes}
 use Rattle.std.specs.List.{flat_map}
-use Rattle.wit_scope.specs.Docs.{ended}
+use Rattle.wit_meaning.specs.Docs.{ended}
 use Rattle.wit_scope.proofs.comments.push_lines.Given as goal
 
 abbrev pub invariant-loop-line : goal.invariant-loop-line

@@ -1,6 +1,6 @@
 use Rattle.std.proofs.Common.{◌≡◌, ◌∙◌, None, lit<, refl}
 use Rattle.std.proofs.lemmas.Str.Pattern.{strip_prefix_char}
-use Rattle.wit_scope.specs.Docs.{behind_spaces}
+use Rattle.wit_meaning.specs.Docs.{behind_spaces}
 use Rattle.wit_scope.proofs.Texts.{spaces-none}
 use Rattle.wit_scope.proofs.comments.without_spaces.Goals as goal
 

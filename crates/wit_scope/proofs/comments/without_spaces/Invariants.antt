@@ -1,7 +1,7 @@
 use Rattle.std.proofs.Common.{◌≡◌}
 use denote.Text.{Utf8}
 use denote.Shadow.{shadow}
-use Rattle.wit_scope.specs.Docs.{behind_spaces}
+use Rattle.wit_meaning.specs.Docs.{behind_spaces}
 use Rattle.wit_scope.proofs.comments.without_spaces.Given as goal
 
 abbrev pub invariant-loop-left : goal.invariant-loop-left

@@ -6,4 +6,4 @@ use Rattle.wit_meaning.specs.Scope.{item_row}
 use Rattle.wit_scope.proofs.item_table.add_items.Given as goal
 
 abbrev pub invariant-loop-item : goal.invariant-loop-item
-invariant-loop-item l = rows l.table ≡ rows l.fn.table ++ map item_row (flat_map (declared_items (top_names l.file)) (take l.item-index l.item-items))
+invariant-loop-item l = rows l.table ≡ rows l.fn.table ++ map item_row (flat_map (declared_items (top_names l.file)) (take l.item-index l.items))

@@ -21,6 +21,6 @@ invariant_of-self-2 c =
     let es = c.self.inside.arena in
     let same : c.args.self.now ≡ es = (let view = c.self.view_is in cc) in
     let missing : IsMissing c.args.kind es = subst (IsMissing c.args.kind) same c.requires.missing in
-    let last : c.add_entry.new.types ≡ es ++ unnamed c.args.kind c.args.span ∷ [] = search rules in
-    let known = known_unnamed _ es c.args.kind c.args.span c.args.key c.requires.keyed missing c.self.invariant.0 in
+    let last : c.add_entry.new.types ≡ es ++ unnamed c.args.kind c.in_ok-stability.stability c.args.span ∷ [] = search rules in
+    let known = known_unnamed _ es c.args.kind c.in_ok-stability.stability c.args.span c.args.key c.requires.keyed missing c.self.invariant.0 in
     (subst (λ (t : FiniteMap). AreKnown t c.add_entry.new.types) (sym c.in_ok-set.ensures.set) (rw (last, c.next_id.ensures) known), c.in_ok-id.ensures.told c.self.invariant.1)

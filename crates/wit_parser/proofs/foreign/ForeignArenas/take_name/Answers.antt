@@ -16,10 +16,10 @@ returns-clause-taken c = λ vs ts apart placed before. elim c.match-name.branch 
       let s = ForeignNamed (package_of w.in-Foreign.«package».now) w.in-Foreign.name.name.now in
       let from : IsPlaced (addresses_among vs) u.from = subst (IsNamePlaced (addresses_among vs)) w.in-Used.is placed in
       let place = subst (IsPlaced (addresses_among vs)) w.in-Foreign.is from in
-      let names : name_takings (name_behind c.args.name.now) ≡ taking s u.name.now ∷ [] = ap (λ (x : ScopeName). name_takings (name_behind x)) w.in-Used.is ∙ ap (λ (f : Source). name_takings (Used (source_behind f) u.name.now)) w.in-Foreign.is in
+      let names : name_takings (name_behind c.args.name.now) ≡ taking s u.attributes.now u.name.now ∷ [] = ap (λ (x : ScopeName). name_takings (name_behind x)) w.in-Used.is ∙ ap (λ (f : Source). name_takings (Used (source_behind f) u.attributes.now u.name.now)) w.in-Foreign.is in
       rw (w.self-is, w.types-is, names) (w.in_ok-take.ensures.taken vs ts s apart place before))
   | in-Used+in_default-from w ↦ (
-      let names : name_takings (name_behind c.args.name.now) ≡ [] = ap (λ (x : ScopeName). name_takings (name_behind x)) w.in-Used.is ∙ ap (λ (f : Source). name_takings (Used (source_behind f) w.in-Used.used.name.now)) w.in_default-from.is in
+      let names : name_takings (name_behind c.args.name.now) ≡ [] = ap (λ (x : ScopeName). name_takings (name_behind x)) w.in-Used.is ∙ ap (λ (f : Source). name_takings (Used (source_behind f) w.in-Used.used.attributes.now w.in-Used.used.name.now)) w.in_default-from.is in
       rw (w.self-is, w.types-is, names, append-nil ts) before)
   | in_default w ↦ (
       let names : name_takings (name_behind c.args.name.now) ≡ [] = ap (λ (x : ScopeName). name_takings (name_behind x)) w.in_default.is in

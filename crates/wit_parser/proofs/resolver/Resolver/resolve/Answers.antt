@@ -51,6 +51,7 @@ returns-clause-package c =
     (ap (λ (p : PackageName). p.name) e.name ∙ n.name)
     (ap (λ (p : PackageName). option_map release_parts p.version) e.name ∙ n.version)
     e.name_span
+    (e.docs ∙ (rw c.deref-3.ensures.value at c.in_ok-package_docs.ensures))
 
 pub returns-clause-faithful : goal.returns-clause-faithful
 returns-clause-faithful c =
@@ -93,4 +94,9 @@ returns-in_err-foreign-clause-refused c =
 pub returns-in_err-package_name-clause-refused : goal.returns-in_err-package_name-clause-refused
 returns-in_err-package_name-clause-refused c =
     let p = err_from_is_err_and c.from_residual-in_err-package_name.result c.from_residual-in_err-package_name.ensures.1 in
+    rw p.1 (inl p.2)
+
+pub returns-in_err-package_docs-clause-refused : goal.returns-in_err-package_docs-clause-refused
+returns-in_err-package_docs-clause-refused c =
+    let p = err_from_is_err_and c.from_residual-in_err-package_docs.result c.from_residual-in_err-package_docs.ensures.1 in
     rw p.1 (inl p.2)

@@ -4,22 +4,20 @@ use Rattle.std.proofs.lemmas.List.{take_more, take_all}
 use Rattle.std.proofs.lemmas.Option.{slice_get-get_or}
 use Rattle.std.proofs.lemmas.Result.{err_from_is_err_and}
 use Rattle.wit_meaning.specs.Source.{all_items}
-use Rattle.wit_meaning.specs.Broken.{IsMissingOriginal, IsBrokenItems, IsBrokenNames, Items, MissingOriginal}
+use Rattle.wit_meaning.specs.Broken.{IsBrokenNames}
 use Rattle.wit_meaning.proofs.Refusing.{refused_weaker}
-use Rattle.wit_meaning.proofs.Scoping.{contains_at}
-use Rattle.wit_scope.specs.Checks.{AreDeclaredTops}
-use Rattle.wit_scope.proofs.Lost.{tops_declared_none, tops_declared_more}
-use Rattle.wit_scope.proofs.Gathering.{legal_names}
+use Rattle.wit_scope.specs.Checks.{AreRightTops, IsWrongTop}
+use Rattle.wit_scope.proofs.Lost.{tops_right_none, tops_right_more}
+use Rattle.wit_scope.proofs.Gathering.{broken_top, legal_names}
 use Rattle.wit_scope.proofs.file_names.FileNames.gather.Goals as goal
 
 pub loop-file-init : goal.loop-file-init
-loop-file-init c = tops_declared_none (all_items c.args.files.now)
+loop-file-init c = tops_right_none (all_items c.args.files.now)
 
 pub returns-in_err-names-clause-refused : goal.returns-in_err-names-clause-refused
 returns-in_err-names-clause-refused c =
     let q = err_from_is_err_and c.from_residual.result c.from_residual.ensures.1 in
-    let files = c.args.files.now in
-    rw (q.1, q.2) (refused_weaker (IsBrokenItems files) (IsBrokenNames files) _ (λ f h. Items h) c.in_err-names.ensures.refused)
+    rw (q.1, q.2) c.in_err-names.ensures.refused
 
 pub returns-in_err-check_top-clause-refused : goal.returns-in_err-check_top-clause-refused
 returns-in_err-check_top-clause-refused c =
@@ -28,7 +26,7 @@ returns-in_err-check_top-clause-refused c =
     let i = c.loop-file.file-index in
     let file = c.file-item.result in
     let at : slice_get files i ≡ Some file = slice_get-get_or files i file c.loop-file-test.true ∙ ap Some (sym c.file-item.is) in
-    rw (q.1, q.2) (refused_weaker (IsMissingOriginal (all_items files) file.decl_list.items.items) (IsBrokenNames files) _ (λ f h. MissingOriginal file (contains_at files i file at) h) (c.in_err-check_top.ensures.refused files c.in_ok-names.ensures.names))
+    rw (q.1, q.2) (refused_weaker (IsWrongTop (all_items files) file.decl_list.items.items) (IsBrokenNames files) _ (λ f h. broken_top files i file f at h) (c.in_err-check_top.ensures.refused files c.in_ok-names.ensures.names))
 
 pub loop-file-preserved : goal.loop-file-preserved
 loop-file-preserved c =
@@ -36,9 +34,9 @@ loop-file-preserved c =
     let i = c.loop-file.file-index in
     let file = c.file-item.result in
     let more : take (i + 1) files ≡ take i files ++ file ∷ [] = take_more files i file c.loop-file-test.true ∙ ap (λ y. take i files ++ y ∷ []) (sym c.file-item.is) in
-    rw more (tops_declared_more (all_items files) (take i files) file c.loop-file.invariant (c.in_ok-check_top.ensures.legal files c.in_ok-names.ensures.names))
+    rw more (tops_right_more (all_items files) (take i files) file c.loop-file.invariant (c.in_ok-check_top.ensures.legal files c.in_ok-names.ensures.names))
 
 pub returns-clause-legal : goal.returns-clause-legal
 returns-clause-legal c =
     let files = c.args.files.now in
-    legal_names files c.in_ok-names.ensures.legal (subst (AreDeclaredTops (all_items files)) (take_all c.loop-file.file-index files c.loop-file-test.false) c.loop-file.invariant)
+    legal_names files c.in_ok-names.ensures.legal c.in_ok-names.ensures.visits (subst (AreRightTops (all_items files)) (take_all c.loop-file.file-index files c.loop-file-test.false) c.loop-file.invariant)

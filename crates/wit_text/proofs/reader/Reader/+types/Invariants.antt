@@ -47,4 +47,4 @@ abbrev pub invariant-read_types-types : goal.invariant-read_types-types
 invariant-read_types-types l = IsRead l.fn.self (flat_map type_marks l.types.items) l.self
 
 abbrev pub decreases-read_types-types : goal.decreases-read_types-types
-decreases-read_types-types l = length l.fn.self.source.now - l.self.token.start
+decreases-read_types-types l = length l.fn.self.source.now - l.self.before

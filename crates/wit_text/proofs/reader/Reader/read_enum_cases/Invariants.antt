@@ -8,4 +8,4 @@ abbrev pub invariant-cases : goal.invariant-cases
 invariant-cases l = IsRead l.fn.self (flat_map enum_case_marks l.cases.items) l.self
 
 abbrev pub decreases-cases : goal.decreases-cases
-decreases-cases l = length l.fn.self.source.now - l.self.token.start
+decreases-cases l = length l.fn.self.source.now - l.self.before

@@ -8,4 +8,4 @@ abbrev pub invariant-fields : goal.invariant-fields
 invariant-fields l = IsRead l.fn.self (flat_map field_marks l.fields.items) l.self
 
 abbrev pub decreases-fields : goal.decreases-fields
-decreases-fields l = length l.fn.self.source.now - l.self.token.start
+decreases-fields l = length l.fn.self.source.now - l.self.before

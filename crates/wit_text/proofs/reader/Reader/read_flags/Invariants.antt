@@ -8,4 +8,4 @@ abbrev pub invariant-flags : goal.invariant-flags
 invariant-flags l = IsRead l.fn.self (flat_map flag_marks l.flags.items) l.self
 
 abbrev pub decreases-flags : goal.decreases-flags
-decreases-flags l = length l.fn.self.source.now - l.self.token.start
+decreases-flags l = length l.fn.self.source.now - l.self.before

@@ -3,4 +3,4 @@ use Rattle.wit_text.proofs.Parts.{number_read}
 use Rattle.wit_text.proofs.reader.Reader.read_number.Goals as goal
 
 pub returns-in_ok-bump-in-Ok-clause-read : goal.returns-in_ok-bump-in-Ok-clause-read
-returns-in_ok-bump-in-Ok-clause-read c = number_read c.in-Ok.number c.in_ok-bump-in-Ok.ensures.read (search rules)
+returns-in_ok-bump-in-Ok-clause-read c = number_read c.in-Ok.number c.in_ok-bump-in-Ok.ensures.read c.in_ok-bump-in-Ok.ensures.past (search rules)

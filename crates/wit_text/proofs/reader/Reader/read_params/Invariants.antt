@@ -8,4 +8,4 @@ abbrev pub invariant-params : goal.invariant-params
 invariant-params l = IsRead l.fn.self (flat_map param_marks l.params.items) l.self
 
 abbrev pub decreases-params : goal.decreases-params
-decreases-params l = length l.fn.self.source.now - l.self.token.start
+decreases-params l = length l.fn.self.source.now - l.self.before

@@ -8,4 +8,4 @@ abbrev pub invariant-names : goal.invariant-names
 invariant-names l = IsRead l.fn.self (flat_map renamed_marks l.names.items) l.self
 
 abbrev pub decreases-names : goal.decreases-names
-decreases-names l = length l.fn.self.source.now - l.self.token.start
+decreases-names l = length l.fn.self.source.now - l.self.before

@@ -8,4 +8,4 @@ abbrev pub invariant-funcs : goal.invariant-funcs
 invariant-funcs l = IsRead l.fn.self (flat_map resource_func_marks l.funcs.items) l.self
 
 abbrev pub decreases-funcs : goal.decreases-funcs
-decreases-funcs l = length l.fn.self.source.now - l.self.token.start
+decreases-funcs l = length l.fn.self.source.now - l.self.before

@@ -8,4 +8,4 @@ abbrev pub invariant-items : goal.invariant-items
 invariant-items l = IsRead l.fn.self (flat_map world_item_marks l.items.items) l.self
 
 abbrev pub decreases-items : goal.decreases-items
-decreases-items l = length l.fn.self.source.now - l.self.token.start
+decreases-items l = length l.fn.self.source.now - l.self.before

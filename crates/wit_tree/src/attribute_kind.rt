@@ -1,14 +1,14 @@
 //! The kinds of attributes.
 ghost use Rattle.std.specs.Prelude.{◌≡◌};
 ghost use Rattle.std.specs.Option.{option_copied};
-ghost use Rattle.wit_scope.specs.Attributes.{attribute_span, first_of, is_of, kind_of};
+ghost use Rattle.wit_tree.specs.Attributes.{attribute_span, first_of, is_of, kind_of};
 
-use wit_tree::Span;
-use wit_tree::tree::Attribute;
+use crate::tree::Attribute;
+use wit_values::Span;
 
 /// The kind of an attribute.
 #[derive(Debug, Clone, Copy)]
-pub(crate) enum AttributeKind {
+pub enum AttributeKind {
     Since,
     Unstable,
     Deprecated,
@@ -16,7 +16,7 @@ pub(crate) enum AttributeKind {
 }
 
 /// The kind of an attribute.
-pub(crate) fn kind_of(attribute: &Attribute<'_>) -> AttributeKind
+pub fn kind_of(attribute: &Attribute<'_>) -> AttributeKind
     ensures { result ≡ kind_of attribute.now }
 {
     match attribute {
@@ -28,7 +28,7 @@ pub(crate) fn kind_of(attribute: &Attribute<'_>) -> AttributeKind
 }
 
 /// Whether an attribute is of a kind.
-pub(crate) fn is_of(attribute: &Attribute<'_>, kind: AttributeKind) -> bool
+pub fn is_of(attribute: &Attribute<'_>, kind: AttributeKind) -> bool
     ensures { result ≡ is_of kind attribute.now }
 {
     match (kind, attribute) {
@@ -41,7 +41,7 @@ pub(crate) fn is_of(attribute: &Attribute<'_>, kind: AttributeKind) -> bool
 }
 
 /// Where an attribute is.
-pub(crate) fn span_of(attribute: &Attribute<'_>) -> Span
+pub fn span_of(attribute: &Attribute<'_>) -> Span
     ensures { result ≡ attribute_span attribute.now }
 {
     match attribute {
@@ -53,7 +53,7 @@ pub(crate) fn span_of(attribute: &Attribute<'_>) -> Span
 }
 
 /// The first attribute of a kind.
-pub(crate) fn first_of<'f, 'a>(
+pub fn first_of<'f, 'a>(
     attributes: &'f [Attribute<'a>],
     kind: AttributeKind,
 ) -> Option<&'f Attribute<'a>>

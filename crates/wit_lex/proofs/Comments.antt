@@ -1,0 +1,18 @@
+-- Comments, byte by byte, and docs, comment by comment.
+use Rattle.std.proofs.Common.{◌≡◌, ℕ, ◌+◌, ◌-◌, ◌<◌, ◌≤◌, List, [], ◌∷◌, ◌++◌, arith, subst}
+use Rattle.std.specs.Prelude.{slice_index, slice_range}
+use denote.Ref.{Bor}
+use Rattle.wit_values.specs.declared.span.Span.{Span}
+use Rattle.wit_tree.specs.Comments.{IsComment, IsDocs, IsNested, IsPair, Closed, IsStretch, Found, stretched}
+
+-- one comment more among docs
+pub docs_more : (source : List ℕ) (offset from : ℕ) (docs more : List (Bor (List ℕ))) (span whole found : Span) (comment : Bor (List ℕ)) (at end : ℕ) →
+    IsStretch source offset from docs span at → IsComment source at end → IsDocs source at end → comment.now ≡ slice_range source at end →
+    found.start ≡ offset + at → found.end ≡ offset + end → more ≡ docs ++ comment ∷ [] → whole ≡ stretched docs span found → IsStretch source offset from more whole end
+docs_more source offset from docs more span whole found comment at end h k d text first last e f = rw (e, f) (Found docs span found comment at end h k d text first last)
+
+-- the last `*/` of a comment
+pub nested_end : (source : List ℕ) (from depth at : ℕ) → IsNested source from depth at → 0 < depth → depth ≤ 1 → IsPair source at 42 47 → IsNested source from 0 (at + 2)
+nested_end source from depth at h some most pair =
+    let none : depth - 1 ≡ 0 = omega arith in
+    subst (λ d. IsNested source from d (at + 2)) none (Closed depth at h some pair)

@@ -1,0 +1,19 @@
+-- What begins at a place between tokens.
+use Rattle.std.specs.Prelude.{◌≡◌, ℕ, ◌+◌, ◌-◌, ◌<◌, ◌≤◌, true, List, length, slice_index}
+use Rattle.wit_tree.specs.Comments.{IsComment, IsStop, is_blank}
+use Rattle.wit_lex.specs.declared.blank.Blank.{Blank}
+use Rattle.wit_lex.specs.declared.blank.Blank.TheVariants.{Space, Comment, Endless, Nothing}
+
+-- a comment whole, which can be cut out of its source
+pub record IsWhole (source : List ℕ) (at end : ℕ) : Type 0 where
+  pub comment : IsComment source at end
+  pub order : at + 2 ≤ end
+  pub within : end ≤ length source
+  pub first : slice_index source at ≡ 47
+  pub last : end < length source → 128 ≤ slice_index source end → slice_index source (end - 1) < 128
+
+abbrev pub Begins : List ℕ → ℕ → Blank → Type 0
+Begins source at Space = is_blank (slice_index source at) ≡ true
+Begins source at (Comment end) = IsWhole source at end
+Begins source at Endless = at + 2 ≤ length source
+Begins source at Nothing = IsStop source at

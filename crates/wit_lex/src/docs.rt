@@ -1,0 +1,84 @@
+//! Docs: comments that document what stands behind them.
+ghost use Rattle.std.specs.Prelude.{◌≡◌, ◌+◌, ◌<◌, ◌≤◌, ◌^◌, ◌++◌, ◌∷◌, [], length, IfOk, IfErr, OnOk, MatchBool};
+ghost use Rattle.wit_tree.specs.Comments.{IsDocs, IsStop, IsStretch, stretched as stretched_span};
+ghost use Rattle.wit_lex.specs.Faults.{IsRefusal};
+
+use crate::blank::{Blank, blank_at};
+use crate::fault::{ReadFault, refusal, span_at};
+use crate::scan::cut;
+use std::alloc::{AllocError, Global};
+use wit_tree::tree::Docs;
+use wit_tree::{ParseResult, Span};
+
+/// Whether the comment at a range begins with `///` or `/**`.
+fn is_docs(bytes: &[u8], start: usize, end: usize) -> bool
+    requires order { start + 2 ≤ end }
+    requires within { end ≤ length bytes.now }
+    ensures { MatchBool result (IsDocs bytes.now start end) (IsDocs bytes.now start end → ⊥) }
+{
+    if end - start < 3 {
+        return false;
+    }
+    bytes[start + 2] == bytes[start + 1]
+}
+
+/// The span from the first comment of docs to the end of one more.
+fn stretched(docs: &Docs<'_>, found: Span) -> Span
+    ensures { result ≡ stretched_span docs.now.docs.items docs.now.span found }
+{
+    if docs.docs.len() == 0 {
+        return found;
+    }
+    Span {
+        start: docs.span.start,
+        end: found.end,
+    }
+}
+
+/// Adds a comment to docs.
+fn add_comment<'a>(docs: &mut Docs<'a>, comment: &'a str, found: Span) -> Result<(), AllocError>
+    ensures comments { OnOk result (docs.new.docs.items ≡ docs.old.docs.items ++ comment.entry ∷ []) }
+    ensures span { OnOk result (docs.new.span ≡ stretched_span docs.old.docs.items docs.old.span found) }
+{
+    let span = stretched(docs, found);
+    docs.docs.push(comment)?;
+    docs.span = span;
+    Ok(())
+}
+
+/// The docs among the blanks and comments from a place on, and where these end.
+pub fn docs_behind<'a>(
+    alloc: Global,
+    source: &'a str,
+    offset: u32,
+    from: usize,
+) -> ParseResult<(Docs<'a>, usize)>
+    requires within { from ≤ length source.now }
+    requires fits { offset + length source.now < 2 ^ 32 }
+    ensures range { IfOk result (λ found. (from ≤ found.1) × (found.1 ≤ length source.now)) }
+    ensures stretch { IfOk result (λ found. IsStretch source.now offset from found.0.docs.items found.0.span found.1) }
+    ensures stop { IfOk result (λ found. IsStop source.now found.1) }
+    ensures refused { IfErr result (λ e. IsRefusal source.now offset e) }
+{
+    let bytes = source.as_bytes();
+    let len = bytes.len();
+    let mut docs = Docs::none(alloc);
+    let mut at = from;
+    while at < len {
+        match blank_at(bytes, at) {
+            Blank::Space => at += 1,
+            Blank::Comment(end) => {
+                if is_docs(bytes, at, end) {
+                    add_comment(&mut docs, cut(source, at, end), span_at(offset, at, end))?;
+                }
+                at = end;
+            }
+            Blank::Endless => {
+                let fault = ReadFault::Comment;
+                return Err(refusal(alloc, source, offset, fault, at, at + 2));
+            }
+            Blank::Nothing => return Ok((docs, at)),
+        }
+    }
+    Ok((docs, at))
+}
