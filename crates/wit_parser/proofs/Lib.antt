@@ -25,10 +25,13 @@ mod Fronting
 mod Emitting
 mod Results
 mod SettersPlaced
+mod NoSetters
 mod Inserting
 mod FunctionTables
 mod Behind
 mod ScopeFunctions
+mod OwnKeys
+mod NoFunctions
 mod Owners
 mod WorldImports
 mod GetterNames

@@ -5,9 +5,12 @@ ghost use Rattle.wit_meaning.specs.Source.{declared_attributes, item_id, scope_n
 ghost use Rattle.wit_meaning.specs.Notes.{IsBrokenStability};
 ghost use Rattle.wit_meaning.specs.Scope.{in_order, interfaces_of};
 ghost use Rattle.wit_meaning.specs.Function.{functions as the_functions};
+ghost use Rattle.wit_meaning.specs.Signature.{IsUnpairedSetter};
 ghost use Rattle.wit_meaning.specs.Fault.{Fault};
 ghost use Rattle.wit_meaning.specs.Broken.{IsBrokenScope, Refused};
 ghost use Rattle.wit_tree.specs.Refusal.{IsWantOfMemory};
+ghost use Rattle.wit_entries.specs.Held.{function_behind};
+ghost use Rattle.wit_entries.specs.Taken.{name_of_function, name_of_id};
 ghost use Rattle.wit_parser.specs.Items.{item_behind, names_behind};
 ghost use Rattle.wit_meaning.specs.Resolving.{IsIndex, IsAddedInterface};
 ghost use Rattle.wit_meaning.specs.Resolved.{AddsInterface, AddsInterfaces, AreSoundScopes, HaveLegalStability, IsNameless, IsWrongInterface};
@@ -24,6 +27,7 @@ use crate::signatures::resolve_signatures;
 use crate::uses::Interfaces;
 use std::alloc::{AllocError, Global};
 use wit_entries::entries::Entries;
+use wit_entries::held::HeldFunction;
 use wit_entries::scope::Required;
 use wit_entries::taken::check_setters;
 use wit_model::{Function, Interface, TypeId, TypeOwner};
@@ -62,6 +66,23 @@ fn add_interface(
         .by_name
         .insert(String::from_str(alloc, id.name)?, place)?;
     Ok(())
+}
+
+/// Refuses a setter that has no getter of its spelling, where these are the names and the functions,
+/// and they are taken if there is a function.
+fn check_pairs(
+    taken: &NameScope,
+    names: &[Id<'_>],
+    functions: &[HeldFunction<'_, '_>],
+) -> ParseResult<()>
+    requires { 0 < length functions.now → taken.now ≡ map name_of_id names.now ++ map name_of_function (map function_behind functions.now) }
+    ensures paired { OnOk result ((f : Fault) → IsUnpairedSetter (map function_behind functions.now) f → ⊥) }
+    ensures refused { IfErr result (Refused (IsUnpairedSetter (map function_behind functions.now))) }
+{
+    if functions.len() == 0 {
+        return Ok(());
+    }
+    check_setters(taken, names, functions)
 }
 
 /// Adds what handles of a scope require behind what others do.
@@ -108,7 +129,7 @@ fn resolve_interface<'a>(
         &written,
         &mut taken,
     )?;
-    check_setters(&taken, &names.turn, &written)?;
+    check_pairs(&taken, &names.turn, &written)?;
     let functions = function_table(alloc, functions)?;
     add_interface(alloc, interfaces, id, notes, names.types, functions)?;
     add_required(required, &names.required)?;

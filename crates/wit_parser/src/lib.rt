@@ -12,6 +12,7 @@ pub mod laws;
 mod names;
 mod notes;
 mod order;
+mod own_keys;
 pub mod resolver;
 mod scope;
 mod scope_name;

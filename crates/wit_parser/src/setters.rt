@@ -1,7 +1,7 @@
 //! Setters of an interface that are written before their getters, put directly behind them.
 ghost use Rattle.std.specs.Prelude.{◌≡◌, ◌++◌, ◌∷◌, [], List, IfOk, OnOk, map, reverse, string_bytes};
-ghost use Rattle.std.specs.List.{flat_map};
-ghost use Rattle.std.specs.Option.{option_map, option_to_list};
+ghost use Rattle.std.specs.List.{flat_map, list_any};
+ghost use Rattle.std.specs.Option.{is_some, option_map, option_to_list};
 ghost use Rattle.wit_model.specs.Setters.{fronts, is_getter, is_getter_of, setters_placed};
 ghost use Rattle.wit_meaning.specs.Repeats.{AllDiffer};
 ghost use Rattle.wit_parser.specs.Parted.{getter_name, getters_with, known, waiting_for, with_waiting, IsParted};
@@ -31,6 +31,20 @@ fn is_getter(kind: FunctionKind) -> bool
         kind,
         FunctionKind::Getter | FunctionKind::MethodGetter(_) | FunctionKind::StaticGetter(_)
     )
+}
+
+/// Whether it is a setter.
+fn is_setter(function: &Function) -> bool
+    ensures { result ≡ is_some (fronts function.now.kind) }
+{
+    fronts(function.kind).is_some()
+}
+
+/// Whether one of these is a setter.
+fn have_setter(functions: &[Function]) -> bool
+    ensures { result ≡ list_any (λ f. is_some (fronts f.kind)) functions.now }
+{
+    functions.iter().any(|function| is_setter(function))
 }
 
 /// The name of a setter's getter.
@@ -187,6 +201,9 @@ pub(crate) fn setters_behind_getters(
     requires { AllDiffer (map (λ f. f.name) functions.items) }
     ensures { IfOk result (λ placed. placed.items ≡ setters_placed is_getter_of functions.items) }
 {
+    if !have_setter(&functions) {
+        return Ok(functions);
+    }
     let parted = part(alloc, functions)?;
     let placed = place_all(alloc, parted.others, &parted.waiting)?;
     Ok(placed)

@@ -1,5 +1,5 @@
 //! The functions of an item over their types, behind its names.
-ghost use Rattle.std.specs.Prelude.{◌≡◌, ◌++◌, ℕ, List, [], Some, IfErr, IfOk, OnOk, map, slice_get};
+ghost use Rattle.std.specs.Prelude.{◌≡◌, ◌<◌, ◌++◌, ℕ, List, [], Some, IfErr, IfOk, OnOk, length, map, slice_get};
 ghost use Rattle.std.specs.List.{flat_map};
 ghost use Rattle.wit_meaning.specs.Address.{Address};
 ghost use Rattle.wit_meaning.specs.Repeats.{AllDiffer};
@@ -20,6 +20,7 @@ ghost use Rattle.wit_parser.specs.Held.{name_behind};
 
 use crate::functions::written_results;
 use crate::names::ResolvedNames;
+use crate::own_keys::have_upper_case;
 use crate::scope_name::ScopeName;
 use std::alloc::Global;
 use wit_entries::entries::Entries;
@@ -31,8 +32,8 @@ use wit_model::Function;
 use wit_scope::NameScope;
 use wit_tree::ParseResult;
 
-/// The functions of an item over their types, behind its names `held`, which are resolved. The names
-/// and then those of the functions are taken.
+/// The functions of an item over their types, behind its names `held`, which are resolved. Where there
+/// are functions, the names and then those of the functions are taken.
 pub(crate) fn resolve_signatures<'t, 'a>(
     alloc: Global,
     types: &mut Entries,
@@ -50,12 +51,17 @@ pub(crate) fn resolve_signatures<'t, 'a>(
     ensures adds { IfOk result (λ fs. (s : Address) → AddsFunctions types.old types.new s names.old.types (map function_behind written.now) fs.items) }
     ensures named { IfOk result (λ fs. map name_of_made fs.items ≡ map name_of_function (map function_behind written.now)) }
     ensures handled { OnOk result (Requires (env_of names.old.types) types.new (all_handles (flat_map written_types (map function_behind written.now))) names.old.required.items names.new.required.items) }
-    ensures taken { OnOk result (taken.new ≡ map name_of_id names.old.turn.items ++ map name_of_function (map function_behind written.now)) }
-    ensures differ { OnOk result (AllDiffer (map name_key taken.new)) }
+    ensures taken { OnOk result (0 < length written.now → taken.new ≡ map name_of_id names.old.turn.items ++ map name_of_function (map function_behind written.now)) }
+    ensures differ { OnOk result (AllDiffer (map name_key (map name_of_id names.old.turn.items ++ map name_of_function (map function_behind written.now)))) }
     ensures sound { OnOk result ((k : ℕ) (fn : SourceFunction) → slice_get (map function_behind written.now) k ≡ Some fn → (f : Fault) → IsBrokenFunction (map name_behind held.now) (map function_behind written.now) k fn f → IsNameless (map name_behind held.now) (map function_behind written.now)) }
     ensures grown { IsGrown types.old types.new }
     ensures refused { IfErr result (Refused (IsWrongFunctions (env_of names.old.types) types.new (map name_behind held.now) (map function_behind written.now))) }
 {
+    if written.len() == 0 {
+        if !have_upper_case(&names.turn) {
+            return Ok(Vec::new(alloc));
+        }
+    }
     let results = written_results(alloc, held)?;
     define_names(taken, &names.turn)?;
     let scope = FunctionScope {

@@ -13,3 +13,4 @@ pub mod Others
 pub mod Visited
 pub mod Unbroken
 pub mod Gathering
+pub mod NoAttributes

@@ -33,9 +33,17 @@ pub fn notes_of(
     ensures legal { OnOk result ((f : Fault) → IsBrokenNotes attributes.now f → ⊥) }
     ensures refused { IfErr result (Refused (IsBrokenNotes attributes.now)) }
 {
+    let docs = docs(alloc, comments)?;
+    if attributes.len() == 0 {
+        return Ok(Notes {
+            docs,
+            stability: Stability::Unknown,
+            external_id: None,
+        });
+    }
     let told = use_notes(alloc, attributes)?;
     Ok(Notes {
-        docs: docs(alloc, comments)?,
+        docs,
         stability: told.stability,
         external_id: told.external_id,
     })

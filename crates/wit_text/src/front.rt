@@ -19,12 +19,16 @@ pub struct Front<'a> {
 impl<'a> Reader<'a> {
     ghost use Rattle.wit_text.specs.Reading.{IsRead, IsReadOn, IsRefused};
 
-    /// Reads the docs in front of the token, which is taken anew from their end on.
+    /// Reads the docs in front of the token, which is taken anew where it does not begin at their end.
     pub fn read_docs(&mut self) -> ParseResult<Docs<'a>>
         ensures read { IfOk result (λ docs. IsReadOn self.old (documented docs ∷ []) self.new) }
         ensures refused { IfErr result (λ e. IsRefused self.old e) }
     {
         let (docs, end) = docs_behind(self.alloc, self.source, self.offset, self.before)?;
+        if end == self.token.start {
+            self.before = end;
+            return Ok(docs);
+        }
         self.token = next_token(self.alloc, self.source, self.offset, end)?;
         self.before = end;
         Ok(docs)

@@ -15,7 +15,6 @@ use Rattle.wit_meaning.specs.Resolving.{Names, Required, env_of, AddsFunctions}
 use Rattle.wit_meaning.specs.Resolved.{OwnStability, IsWrongInterface, Unpaired, WrongStability}
 use Rattle.wit_meaning.specs.Signature.{IsUnpairedSetter}
 use Rattle.wit_meaning.proofs.Refusing.{refused_weaker}
-use Rattle.wit_scope.specs.Names.{Name}
 use Rattle.wit_entries.specs.Held.{function_behind}
 use Rattle.wit_entries.specs.Signatures.{HaveOwners}
 use Rattle.wit_entries.specs.Taken.{name_key, name_of_id, name_of_function}
@@ -79,13 +78,13 @@ returns-in_err-functions-clause-refused c =
     let n : AddsTurn c.args.types.now mid cs o xs types ids own = rw (names, c.next_id.ensures) at c.in_ok-names.ensures.adds in
     rw (p.1, p.2) (refused_weaker (IsWrongFunctions (env_of types) new xs (functions item)) (IsWrongInterface c.args.types.now cs by_name o item) _ (λ f h. wrong_behind c.args.types.now mid new cs by_name o item types ids own f n c.in_err-functions.ensures.grown h) (rw (held, fns) at c.in_err-functions.ensures.refused))
 
-pub returns-in_err-check_setters-clause-refused : goal.returns-in_err-check_setters-clause-refused
-returns-in_err-check_setters-clause-refused c =
-    let p = err_from_is_err_and c.from_residual-in_err-check_setters.result c.from_residual-in_err-check_setters.ensures.1 in
+pub returns-in_err-check_pairs-clause-refused : goal.returns-in_err-check_pairs-clause-refused
+returns-in_err-check_pairs-clause-refused c =
+    let p = err_from_is_err_and c.from_residual-in_err-check_pairs.result c.from_residual-in_err-check_pairs.ensures.1 in
     let is = c.args.interfaces.now in
     let item = item_behind c.args.item.now in
     let fns : map function_behind c.deref-5.result.now ≡ functions item = ap (map function_behind) c.deref-5.ensures.value ∙ c.in_ok-written.ensures in
-    rw (p.1, p.2) (refused_weaker (IsUnpairedSetter (functions item)) (IsWrongInterface c.args.types.now (cells_of is) is.by_name (OfInterface (length is.arena)) item) _ (λ f h. Unpaired h) (rw fns at c.in_err-check_setters.ensures.refused))
+    rw (p.1, p.2) (refused_weaker (IsUnpairedSetter (functions item)) (IsWrongInterface c.args.types.now (cells_of is) is.by_name (OfInterface (length is.arena)) item) _ (λ f h. Unpaired h) (rw fns at c.in_err-check_pairs.ensures.refused))
 
 pub returns-in_err-functions-2-clause-refused : goal.returns-in_err-functions-2-clause-refused
 returns-in_err-functions-2-clause-refused c =
@@ -102,7 +101,7 @@ function_table-requires c =
     let ids = c.in_ok-names.names.turn.items in
     let n : AddsTurn c.args.types.now c.resolve_names.new.types (cells_of c.args.interfaces.now) (OfInterface (length c.args.interfaces.now.arena)) xs types ids c.in_ok-names.names.required.items = rw (names, c.next_id.ensures) at c.in_ok-names.ensures.adds in
     let e = c.in_ok-functions.ensures in
-    let differ : AllDiffer (map name_key (map name_of_id ids ++ map name_of_function (functions item))) = subst (λ (l : List SourceFunction). AllDiffer (map name_key (map name_of_id ids ++ map name_of_function l))) fns (subst (λ (l : List Name). AllDiffer (map name_key l)) e.taken e.differ) in
+    let differ : AllDiffer (map name_key (map name_of_id ids ++ map name_of_function (functions item))) = subst (λ (l : List SourceFunction). AllDiffer (map name_key (map name_of_id ids ++ map name_of_function l))) fns e.differ in
     made_differ xs (functions item) ids c.in_ok-functions.functions.items (turn_added _ _ _ _ xs types ids _ n) (e.named ∙ ap (map name_of_function) fns) differ
 
 pub returns-clause-sound : goal.returns-clause-sound
@@ -116,7 +115,7 @@ returns-clause-sound c =
     let ids = c.in_ok-names.names.turn.items in
     let n : AddsTurn c.args.types.now c.resolve_names.new.types (cells_of c.args.interfaces.now) (OfInterface (length c.args.interfaces.now.arena)) xs types ids c.in_ok-names.names.required.items = rw (names, c.next_id.ensures) at c.in_ok-names.ensures.adds in
     let e = c.in_ok-functions.ensures in
-    let differ : AllDiffer (map name_key (map name_of_id ids ++ map name_of_function (functions item))) = subst (λ (l : List SourceFunction). AllDiffer (map name_key (map name_of_id ids ++ map name_of_function l))) fns (subst (λ (l : List Name). AllDiffer (map name_key l)) e.taken e.differ) in
+    let differ : AllDiffer (map name_key (map name_of_id ids ++ map name_of_function (functions item))) = subst (λ (l : List SourceFunction). AllDiffer (map name_key (map name_of_id ids ++ map name_of_function l))) fns e.differ in
     scope_sound xs (functions item) ids (turn_added _ _ _ _ xs types ids _ n) (rw names at (c.in_ok-names.ensures.legal (functions item))) differ (rw (held, fns) at e.sound)
 
 pub returns-clause-added : goal.returns-clause-added
@@ -154,6 +153,6 @@ returns-clause-added c =
         functions = fs;
         behind = functions_behind c.args.types.now mid new cs o item a.added.types ids own all fs m (subst (λ (t : Names). (s : Address) → AddsFunctions mid new s t (functions item) fs) ts adds) e.grown (subst (λ (t : Names). Requires (env_of t) new (all_handles (flat_map written_types (functions item))) own all) ts handled);
         stand = a.has ∙ c.in_ok-functions-2.ensures;
-        paired = rw again at c.in_ok-check_setters.ensures.paired;
+        paired = rw again at c.in_ok-check_pairs.ensures.paired;
       };
     }

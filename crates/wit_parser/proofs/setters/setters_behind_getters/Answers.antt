@@ -1,6 +1,17 @@
-use Rattle.std.proofs.Common.{◌∙◌}
+use Rattle.std.proofs.Common.{◌≡◌, false, sym, ap, ◌∙◌}
+use Rattle.std.specs.List.{list_any}
+use Rattle.std.specs.Option.{is_some}
+use Rattle.wit_model.specs.Setters.{fronts}
+use Rattle.wit_model.specs.declared.function.Function.{Function}
+use Rattle.wit_parser.proofs.NoSetters.{no_setters}
 use Rattle.wit_parser.proofs.Parting.{parted_placed}
 use Rattle.wit_parser.proofs.setters.setters_behind_getters.Goals as goal
+
+pub returns-then-not-have_setter : goal.returns-then-not-have_setter
+returns-then-not-have_setter c =
+    let fs = c.args.functions.items in
+    let none : list_any (λ (f : Function). is_some (fronts f.kind)) fs ≡ false = ap (list_any (λ (f : Function). is_some (fronts f.kind))) (sym c.deref.ensures.value) ∙ sym c.have_setter.ensures ∙ c.if-not-have_setter.true in
+    sym (no_setters fs none)
 
 pub returns : goal.returns
 returns c =

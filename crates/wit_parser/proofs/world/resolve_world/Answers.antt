@@ -16,7 +16,6 @@ use Rattle.wit_meaning.specs.Resolving.{Required, env_of, AddsFunctions, IsLostI
 use Rattle.wit_meaning.specs.Resolved.{worlds_at, IsBrokenItemStability, OwnStability, IsWrongWorld, WrongWorldStability, LostInclude}
 use Rattle.wit_meaning.specs.Whole.{AreIncludes, type_imports}
 use Rattle.wit_meaning.proofs.Refusing.{refused_weaker}
-use Rattle.wit_scope.specs.Names.{Name}
 use Rattle.wit_entries.specs.Held.{function_behind}
 use Rattle.wit_entries.specs.Requiring.{Requires}
 use Rattle.wit_entries.specs.Signatures.{HaveOwners}
@@ -131,7 +130,7 @@ add_function_imports-requires c =
     let e = c.in_ok-functions.ensures in
     let fns : map function_behind c.deref-3.result.now ≡ functions item = ap (map function_behind) c.deref-3.ensures.value ∙ c.in_ok-written.ensures in
     let turned : c.deref-4.result.now ≡ map local_id (in_turn xs n.adds.order) = c.deref-4.ensures.value ∙ ap (λ t. t.items) e.turn ∙ n.turn in
-    let differ : AllDiffer (map name_key (map name_of_id ids ++ map name_of_function (functions item))) = subst (λ (l : List SourceFunction). AllDiffer (map name_key (map name_of_id ids ++ map name_of_function l))) fns (subst (λ (l : List Name). AllDiffer (map name_key l)) e.taken e.differ) in
+    let differ : AllDiffer (map name_key (map name_of_id ids ++ map name_of_function (functions item))) = subst (λ (l : List SourceFunction). AllDiffer (map name_key (map name_of_id ids ++ map name_of_function l))) fns e.differ in
     let is : c.in_ok-imports.imports ≡ type_imports (in_turn xs n.adds.order) types = c.in_ok-imports.ensures (in_turn xs n.adds.order) turned ∙ ap (type_imports (in_turn xs n.adds.order)) e.types in
     imports_differ (in_turn xs n.adds.order) types ids (functions item) c.in_ok-functions.functions.items c.in_ok-imports.imports n.turn n.listed is (e.named ∙ ap (map name_of_function) fns) differ
 
@@ -159,7 +158,7 @@ returns-clause-sound c =
     let n : AddsTurn c.args.types.now mid cs o xs types ids own = rw (names, c.next_id.ensures) at c.in_ok-names.ensures.adds in
     let e = c.in_ok-functions.ensures in
     let fns : map function_behind c.deref-3.result.now ≡ functions item = ap (map function_behind) c.deref-3.ensures.value ∙ c.in_ok-written.ensures in
-    let differ : AllDiffer (map name_key (map name_of_id ids ++ map name_of_function (functions item))) = subst (λ (l : List SourceFunction). AllDiffer (map name_key (map name_of_id ids ++ map name_of_function l))) fns (subst (λ (l : List Name). AllDiffer (map name_key l)) e.taken e.differ) in
+    let differ : AllDiffer (map name_key (map name_of_id ids ++ map name_of_function (functions item))) = subst (λ (l : List SourceFunction). AllDiffer (map name_key (map name_of_id ids ++ map name_of_function l))) fns e.differ in
     let held : map name_behind c.deref-2.result.now ≡ xs = ap (map name_behind) c.deref-2.ensures.value ∙ c.requires.named in
     scope_sound xs (functions item) ids (turn_added _ _ _ _ xs types ids _ n) (rw names at (c.in_ok-names.ensures.legal (functions item))) differ (rw (held, fns) at e.sound)
 

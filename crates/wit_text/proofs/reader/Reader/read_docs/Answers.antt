@@ -6,3 +6,8 @@ pub returns-clause-read : goal.returns-clause-read
 returns-clause-read c =
     let found = c.in_ok-docs.ensures in
     docs_read _ _ refl refl refl found.range.0 found.range.1 found.stretch found.stop
+
+pub returns-then-end-self-clause-read : goal.returns-then-end-self-clause-read
+returns-then-end-self-clause-read c =
+    let found = c.in_ok-docs.ensures in
+    docs_read _ _ refl refl refl found.range.0 found.range.1 found.stretch found.stop
