@@ -87,14 +87,6 @@ legal_primitive (written.Own span id) ty is = absurd (let wrong : ⊥ = cc in wr
 legal_primitive (written.Borrow span id) ty is = absurd (let wrong : ⊥ = cc in wrong)
 legal_primitive t ty is = legal_whole t (λ f own. own) legal_none
 
--- nor does a handle
-pub legal_handle : (t : Written) → part_types t ≡ [] → ((f : Fault) → IsBrokenForm t f → ⊥) → (f : Fault) → IsBrokenType t f → ⊥
-legal_handle t none own = legal_whole t own (subst AreLegal (sym none) legal_none)
-
--- what is wrong with the name of a handle
-pub refused_handle : (env : Env) (es : List TypeDef) (t : Written) (ids : List Id) (e : ParseError) → words (shape_of t) ≡ ids → handles t ≡ ids → Refused (IsWrongWord env es ids ids) e → Refused (IsWrongType env es t) e
-refused_handle env es t ids e word handle h = refused_weaker (IsWrongWord env es ids ids) (IsWrongType env es t) e (λ f wrong. inr (subst (λ (l : List Id). IsWrongWord env es l (handles t) f) (sym word) (subst (λ (l : List Id). IsWrongWord env es ids l f) (sym handle) wrong))) h
-
 -- a definition has the names of the type that it is
 words-written : (t : Written) → all_words (written_body t).parts ≡ words (shape_of t)
 words-written (written.Own span id) = refl

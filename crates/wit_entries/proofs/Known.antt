@@ -33,14 +33,6 @@ known_set t es kind None i is missing known = known
 known_set t es kind (Some k) i is missing known = λ j e q at name key.
     left_out _ (Some i) (t q) (Decides-key k q) (λ same. missing j e at (record { name = name; kind = keys_tell e.kind kind k (key ∙ ap Some (sym same)) (sym is) })) ∙ known j e q at name key
 
--- a named entry more
-pub known_named : (t : FiniteMap) (es : List TypeDef) (e : TypeDef) (name : List ℕ) → e.name ≡ Some name → AreKnown t es → AreKnown t (es ++ e ∷ [])
-known_named t es e name named known = λ j x k at none key.
-    elim (at_either es e j x at.is) [
-      | inl there ↦ known j x k (record { is = there }) none key
-      | inr last ↦ absurd (let same = last.1 in let f : ⊥ = cc in f)
-    ]
-
 -- an unnamed entry more, whose place was set before
 pub known_unnamed : (t : FiniteMap) (es : List TypeDef) (kind : TypeDefKind) (stability : Stability) (span : Span) (key : Option InternKey) → key ≡ key_of kind → IsMissing kind es → AreKnown t es → AreKnown (with_key key (length es) t) (es ++ unnamed kind stability span ∷ [])
 known_unnamed t es kind stability span key is missing known = λ j x k at none has.

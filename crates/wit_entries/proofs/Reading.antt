@@ -19,7 +19,7 @@ use Rattle.wit_meaning.specs.Meet.{shape_meetings, shapes_meetings}
 use Rattle.wit_meaning.specs.Whole.{IsAnonymousForm}
 use Rattle.wit_meaning.specs.Resolving.{Env, AreResolved, IsInterned}
 use Rattle.wit_meaning.proofs.UnnamedKinds.{only_anonymous}
-use Rattle.wit_meaning.proofs.Resolving.{resolved_none, resolved_more, resolved_whole}
+use Rattle.wit_meaning.proofs.Resolving.{resolved_more, resolved_whole}
 use Rattle.wit_meaning.proofs.Written.{all_exprs-append, all_meetings-append}
 use Rattle.wit_entries.specs.declared.types.Reading.{Reading}
 use Rattle.wit_entries.specs.declared.types.Reading.TheVariants as reading
@@ -44,10 +44,6 @@ read_stands old mid new env given x (reading.Form k span) ty read stands = rw st
 -- a type by itself as one part
 pub alone : {old new : List TypeDef} {env : Env} {ty : Ty} (given : Stability) (x : Shape) → IsResolved old new env given x ty → (s : Address) → AreResolved old new s env (shapes_meetings s given (one x)) (exprs_of s (one x)) (ty ∷ [])
 alone {old} {new} {env} {ty} given x is s = subst (λ ms. AreResolved old new s env ms (exprs.one (expr_of s x)) (ty ∷ [])) (sym (append-nil (shape_meetings s given x))) (is s)
-
--- types one after another
-pub types_none : (es : List TypeDef) (env : Env) (given : Stability) → AreTypes es es env given [] []
-types_none es env given s = resolved_none es s env
 
 pub types_one : {old new : List TypeDef} {env : Env} {ty : Ty} (given : Stability) (t : Written) → IsResolved old new env given (shape_of t) ty → AreTypes old new env given (t ∷ []) (ty ∷ [])
 types_one given t is s = alone given (shape_of t) is s

@@ -1,36 +1,21 @@
 -- Arenas that grow, and what handles require, one after another.
-use Rattle.std.proofs.Common.{◌≡◌, ℕ, List, [], ◌∷◌, ◌++◌, Some, inl, inr, refl, sym, ap, ◌∙◌, subst, append_assoc}
+use Rattle.std.proofs.Common.{◌≡◌, List, [], ◌∷◌, ◌++◌, Some, refl, sym, ap, ◌∙◌, subst, append_assoc}
 use Rattle.std.proofs.lemmas.List.{append-nil}
 use Rattle.wit_tree.specs.declared.tree.Id.{Id}
 use Rattle.wit_tree.specs.declared.tree.«Type».{«Type» as Written}
 use Rattle.wit_tree.specs.declared.tree.«Type».TheVariants as written
 use Rattle.wit_tree.specs.Parts.{part_types}
 use Rattle.wit_types.specs.declared.types.«Type».{«Type» as Ty}
-use Rattle.wit_types.specs.declared.stability.Stability.{Stability}
 use Rattle.wit_types.specs.declared.types.TypeDef.{TypeDef}
-use Rattle.wit_types.specs.declared.types.TypeDefKind.{TypeDefKind}
-use Rattle.wit_values.specs.declared.span.Span.{Span}
 use Rattle.wit_meaning.specs.Shape.{shape_of, handles, all_handles}
-use Rattle.wit_meaning.specs.Resolving.{Env, Required, AreEnded, IsInterned}
+use Rattle.wit_meaning.specs.Resolving.{Env, Required, AreEnded}
 use Rattle.wit_meaning.proofs.Written.{all_handles-append, IsNoHandle, handles-parts}
 use Rattle.wit_meaning.proofs.Required.{ended_append, ended_more}
 use Rattle.wit_entries.specs.Reading.{primitive_in}
 use Rattle.wit_entries.specs.Requiring.{IsGrown, Requires}
 
-pub grown_same : (es : List TypeDef) → IsGrown es es
-grown_same es = record { more = []; is = sym (append-nil es) }
-
-pub grown_by : (old new : List TypeDef) (e : TypeDef) → new ≡ old ++ e ∷ [] → IsGrown old new
-grown_by old new e is = record { more = e ∷ []; is = is }
-
 pub grown_then : (old mid new : List TypeDef) → IsGrown old mid → IsGrown mid new → IsGrown old new
 grown_then old mid new p q = record { more = p.more ++ q.more; is = q.is ∙ ap (λ (l : List TypeDef). l ++ q.more) p.is ∙ append_assoc old p.more q.more }
-
-pub grown_interned : (old new : List TypeDef) (k : TypeDefKind) (given : Stability) (span : Span) (i : ℕ) → IsInterned old new k given span i → IsGrown old new
-grown_interned old new k given span i h = elim h.either [
-  | inl was ↦ record { more = []; is = was.0 ∙ sym (append-nil old) }
-  | inr added ↦ grown_by old new _ added.0
-]
 
 -- nothing is required
 pub requires_none : (env : Env) (es : List TypeDef) (rs : List Required) → Requires env es [] rs rs

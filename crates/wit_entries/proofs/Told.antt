@@ -1,6 +1,6 @@
 -- Arenas beside which it is told where each entry ends, and one entry more.
 use Rattle.std.proofs.Common.{◌≡◌, ℕ, zero, suc, List, [], ◌∷◌, ◌++◌, length, Option, Some, None, inl, inr, refl, sym, ap, ◌∙◌, subst, length-append, arith}
-use Rattle.std.specs.Prelude.{slice_get, take}
+use Rattle.std.specs.Prelude.{slice_get}
 use Rattle.std.proofs.Math.Seq.{take-append_seam}
 use Rattle.std.proofs.lemmas.Option.{slice_get_within}
 use Rattle.wit_types.specs.declared.types.«Type».TheVariants as type
@@ -22,10 +22,6 @@ missing xs [] i same none = refl
 missing [] (y ∷ ys) i same none = absurd (let f : ⊥ = omega arith in f)
 missing (x ∷ xs) (y ∷ ys) zero same none = absurd (let f : ⊥ = cc in f)
 missing (x ∷ xs) (y ∷ ys) (suc i) same none = missing xs ys i (omega arith) none
-
--- nothing is told of a place behind the last entry
-pub ends_nowhere : (ends : List End) (es : List TypeDef) (i : ℕ) → AreTold ends es → slice_get ends i ≡ None → EndsAt es i end.Other
-ends_nowhere ends es i told none = record { steps = 1; is = ap (found_end (entry_end 0 (take i es)) i) (missing ends es i told.count none) }
 
 at_last : {X : Type 0} (xs : List X) (x : X) → slice_get (xs ++ x ∷ []) (length xs) ≡ Some x
 at_last [] x = refl
@@ -67,6 +63,3 @@ told_more ends es e x told last = record {
         subst (λ (j : ℕ). EndsAt (es ++ e ∷ []) j y) place (subst (EndsAt (es ++ e ∷ []) (length es)) (sym here.1) last))
   ];
 }
-
-pub told_none : AreTold [] []
-told_none = record { count = refl; each = λ i e at. absurd (let f : ⊥ = cc in f) }

@@ -251,10 +251,6 @@ table_in-more vs x =
 pub is_known-lookup : (vs : List ForeignVisit) (x : ForeignVisit) → is_some (lookup (pointwise nat_eq x.id.name.now) (unwrap_or (lookup (same_package (visited_package x)) (table_in vs)) [])) ≡ is_known vs x
 is_known-lookup vs x = ap (λ r. is_some (lookup (pointwise nat_eq (name_of x)) r)) (row_in-lookup vs x) ∙ (is_some-lookup-map (pointwise nat_eq (name_of x)) name_of (item_in vs) (group vs (visited_package x)) ∙ sym (is_known-group vs x))
 
--- whether a package finds items
-pub is_named-lookup : (vs : List ForeignVisit) (x : ForeignVisit) → is_some (lookup (same_package (visited_package x)) (table_in vs)) ≡ is_named vs x
-is_named-lookup vs x = is_some-lookup-map (same_package (visited_package x)) visited_package (λ u. row_in vs (visited_package u)) (packages_of vs) ∙ sym (is_named-packages vs x)
-
 -- the worlds, and the interfaces, with a visit more
 pub worlds_in-more : (vs : List ForeignVisit) (x : ForeignVisit) → worlds_in (vs ++ x ∷ []) ≡ worlds_in vs ++ filter is_foreign_world (cond (is_known vs x) [] (x ∷ []))
 worlds_in-more vs x = kind-more is_foreign_world vs x

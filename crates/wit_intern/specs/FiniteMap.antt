@@ -11,10 +11,6 @@ use Rattle.wit_intern.specs.contracts.key.InternKeyPartialEq.TheImpl.{eq-value a
 abbrev pub FiniteMap : Type 0
 FiniteMap = InternKey → Option ℕ
 
--- nothing at any key
-abbrev pub empty_map : FiniteMap
-empty_map k = None
-
 -- with a type at a key, also where one stood there
 abbrev pub set_at : InternKey → ℕ → FiniteMap → FiniteMap
 set_at key id m k = if key_test.it key k then Some id else m k

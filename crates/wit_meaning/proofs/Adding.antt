@@ -7,7 +7,7 @@ use Rattle.wit_meaning.specs.Source.{Item, scope_names}
 use Rattle.wit_meaning.specs.Broken.{IsBrokenScope}
 use Rattle.wit_meaning.specs.Function.{functions}
 use Rattle.wit_meaning.specs.Resolving.{Required}
-use Rattle.wit_meaning.specs.Resolved.{AddsEach, AreLegalScopes, IsNameless, AreSoundScopes}
+use Rattle.wit_meaning.specs.Resolved.{AddsEach, IsNameless, AreSoundScopes}
 use Rattle.wit_meaning.proofs.Lists.{at_either}
 
 module _ {X : Type 0} (Adds : List TypeDef → List TypeDef → List X → List X → List Required → Item → Type 0) where
@@ -34,21 +34,6 @@ module _ {X : Type 0} (Adds : List TypeDef → List TypeDef → List X → List 
       let between : p.1 ≡ front ++ more = x.1 ∙ append_assoc front xs (x.0 ∷ []) in
       let rest = adds_behind more ys p.0 new p.3 ws (subst (λ l. AddsEach Adds p.0 new l ys p.3 ws) between p.6) in
       (rest.0, rest.1, (p.0, more, p.2, p.3, p.4, subst (λ l. Adds old p.0 (front ++ xs) l p.2 w) between p.5, rest.2))
-
-pub scopes_none : AreLegalScopes []
-scopes_none = record { legal = λ i w f at. absurd (let f : ⊥ = cc in f) }
-
-pub scopes_more : (ws : List Item) (w : Item) → AreLegalScopes ws → ((f : Fault) → IsBrokenScope (scope_names w) (functions w) f → ⊥) → AreLegalScopes (ws ++ w ∷ [])
-scopes_more ws w legal one = record {
-  legal = λ i v f at broken. elim (at_either ws w i v at) [
-    | inl old ↦ legal.legal i v f old broken
-    | inr new ↦ one f (subst (λ (x : Item). IsBrokenScope (scope_names x) (functions x) f) new.1 broken)
-  ];
-}
-
--- the same of scopes that are sound
-pub sounds_none : AreSoundScopes []
-sounds_none = record { sound = λ i w f at. absurd (let f : ⊥ = cc in f) }
 
 pub sounds_more : (ws : List Item) (w : Item) → AreSoundScopes ws → ((f : Fault) → IsBrokenScope (scope_names w) (functions w) f → IsNameless (scope_names w) (functions w)) → AreSoundScopes (ws ++ w ∷ [])
 sounds_more ws w sound one = record {

@@ -16,7 +16,7 @@ use Rattle.wit_model.specs.declared.function.Param.{Param}
 use Rattle.wit_meaning.specs.Shape.{Shape}
 use Rattle.wit_meaning.specs.Address.{Address}
 use Rattle.wit_meaning.specs.Function.{Role, Freestanding, Method, Static, Constructor, SourceParam, SourceFunction, all_params, signature}
-use Rattle.wit_meaning.specs.Functions.{freestanding_kind, method_kind, static_kind, IsKind, IsResult, IsFunction, AreFunctions}
+use Rattle.wit_meaning.specs.Functions.{IsKind, IsResult, IsFunction, AreFunctions}
 use Rattle.wit_meaning.specs.Expr.{Exprs, one, joined, expr_of, exprs_of}
 use Rattle.wit_meaning.specs.Expr as exprs
 use Rattle.wit_meaning.specs.Meet.{Key, Meeting, keys, IsAt, AreAt, Meets, shape_meetings, all_function_meetings}
@@ -25,14 +25,8 @@ use Rattle.wit_meaning.specs.Resolving.{Env, Names, env_of, AreNames, AreResolve
 use Rattle.wit_meaning.proofs.Lists.{at_front, at_back, at_split}
 use Rattle.wit_meaning.proofs.Meeting.{meets_append, meets_grown, names_kept}
 use Rattle.wit_meaning.proofs.Resolving.{resolved_none, resolved_more}
-use Rattle.wit_meaning.specs.Adding.{gathered, AreShapes, IsKindIn, SaysParam, SaysFunction}
+use Rattle.wit_meaning.specs.Adding.{gathered, AreShapes, IsKindIn, SaysFunction}
 use Rattle.wit_meaning.proofs.Signatures.{AreTyped, functions_grown, names_beside}
-
--- no function adds nothing
-pub functions_none : (es : List TypeDef) (s : Address) (names : Names) → AddsFunctions es es s names [] []
-functions_none es s names = record {
-  from = λ decls ms m stand. record { now = ms; meets = refl; meeting = m; are = record { count = refl; each = λ k fn f at. absurd (let f : ⊥ = cc in f) } };
-}
 
 -- functions behind others
 are_append : (ks : List Key) (s : Address) (fns gns : List SourceFunction) (fs gs : List Function) → AreFunctions ks s fns fs → AreFunctions ks s gns gs → AreFunctions ks s (fns ++ gns) (fs ++ gs)

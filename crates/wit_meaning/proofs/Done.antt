@@ -1,5 +1,5 @@
 -- Scopes that are done, one after another.
-use Rattle.std.proofs.Common.{◌≡◌, ℕ, List, [], ◌∷◌, ◌++◌, length, Some, ◌⊎◌, inl, inr, refl, sym, ap, ◌∙◌, subst}
+use Rattle.std.proofs.Common.{◌≡◌, ℕ, List, [], ◌∷◌, ◌++◌, length, Some, ◌⊎◌, inl, inr, sym, ap, ◌∙◌, subst}
 use Rattle.std.specs.Prelude.{slice_get, map}
 use Rattle.std.specs.Option.{option_map}
 use Rattle.std.proofs.lemmas.List.{map-append}
@@ -18,7 +18,7 @@ use Rattle.wit_meaning.specs.Whole.{functions_at, turn_meetings, turn_handles, A
 use Rattle.wit_meaning.specs.Repeats.{AllDiffer}
 use Rattle.wit_meaning.specs.Resolving.{Cell, env_of, AreNames, AreKnown, AreNew, IsDefined, Defines, HasFunctions, AddsFunctions, AreEnded, decls_of}
 use Rattle.wit_meaning.proofs.Lists.{at_front, at_seam, at_either, map_at}
-use Rattle.wit_meaning.proofs.Repeated.{differ_none, differ_more}
+use Rattle.wit_meaning.proofs.Repeated.{differ_more}
 use Rattle.wit_meaning.proofs.Meeting.{Has, has_either, keys-append, meets_append, meets_from, meets_grown}
 use Rattle.wit_meaning.proofs.FreeNames.{AreStated}
 use Rattle.wit_meaning.proofs.Signatures.{no_name_in_functions, names_beside, known_beside, IsInFunctions, whole_in_functions, functions_grown}
@@ -27,21 +27,6 @@ use Rattle.wit_meaning.proofs.Required.{required_grown, ended_required}
 use Rattle.wit_meaning.proofs.Defining.{name_met_in, known_kept}
 use Rattle.wit_meaning.proofs.Wholes.{whole_in_names}
 use Rattle.wit_meaning.proofs.Standing.{DoneScope, done_address, turn_of, cell_of, IsTurn, IsDoneScope, IsNameOf, IsWholeOf, IsInSignatureOf, IsDone}
-
-pub done_none : (files : List PackageFile) (decls : Decls) → IsDone files decls [] [] []
-done_none files decls = record {
-  met = [];
-  meets = refl;
-  meeting = record { keyed = record { count = refl; once = record { differ = λ i j k at. absurd (let f : ⊥ = cc in f) }; each = λ i k e at. absurd (let f : ⊥ = cc in f) }; spans = refl; settled = λ i m e at. absurd (let f : ⊥ = cc in f) };
-  each = λ t c at. absurd (let f : ⊥ = cc in f);
-  own = λ t c at. absurd (let f : ⊥ = cc in f);
-  stand = λ t c at. absurd (let f : ⊥ = cc in f);
-  before = λ j s name at. absurd (let f : ⊥ = cc in f);
-  unique = differ_none;
-  wholes = λ form parts h. absurd h;
-  made = λ t c at. absurd (let f : ⊥ = cc in f);
-  required = λ t c at. absurd (let f : ⊥ = cc in f);
-}
 
 -- the names in turn are declared where those of the scope are
 turned_among : (o : TypeOwner) (s : Address) (xs ys : List ScopeName) → IsTurn xs ys → (d : Decl) → IsAmong (decls_of o s ys) d → IsAmong (decls_of o s xs) d

@@ -14,7 +14,7 @@ use Rattle.wit_types.specs.declared.types.«Type».TheVariants as type
 use Rattle.wit_types.specs.declared.types.TypeDef.{TypeDef}
 use Rattle.wit_types.specs.declared.types.TypeOwner.{TypeOwner}
 use Rattle.wit_meaning.specs.Form.{Form, ResourceForm, AliasForm, UnknownForm, kind_of}
-use Rattle.wit_meaning.specs.Node.{Primitive, Head, Node, Leaf, Named, Unnamed, Nothing, Tree, node_map, unfolded}
+use Rattle.wit_meaning.specs.Node.{Primitive, Head, Node, Leaf, Named, Unnamed, Nothing, node_map, unfolded}
 use Rattle.wit_meaning.specs.Node as node
 use Rattle.wit_meaning.specs.Shape.{Shapes, Prim, Word, one, written_body, body_of}
 use Rattle.wit_meaning.specs.Address.{Address}
@@ -53,44 +53,6 @@ unfolded_one step (suc n) (suc m) x a b h k = node_one (unfolded step n) (unfold
 -- a name has one end
 pub ends_one : (files : List PackageFile) (s : Address) (id : Id) (a b : End) → EndsAt files s id a → EndsAt files s id b → a ≡ b
 ends_one files s id a b p q = unfolded_one (source_node files) p.levels q.levels (s, Word id) a b p.is q.is
-
--- a tree of more levels ends where one of fewer does
-form_more : {X Y Z : Type 0} (p : X → Y) (q : X → Z) (f : Y → Option End) (g : Z → Option End) → ((x : X) (e : End) → f (p x) ≡ Some e → g (q x) ≡ Some e) → (top : Head) (form : Form) (parts : List X) (e : End) → named_end f top form (map p parts) ≡ Some e → named_end g top form (map q parts) ≡ Some e
-form_more p q f g keep top AliasForm [] e h = absurd (let f : ⊥ = cc in f)
-form_more p q f g keep top AliasForm (y ∷ ys) e h = keep y e h
-form_more p q f g keep top _ parts e h = h
-
-node_more : {X Y Z : Type 0} (p : X → Y) (q : X → Z) (f : Y → Option End) (g : Z → Option End) → ((x : X) (e : End) → f (p x) ≡ Some e → g (q x) ≡ Some e) → (x : Node X) (e : End) → node_end f (node_map p x) ≡ Some e → node_end g (node_map q x) ≡ Some e
-node_more p q f g keep (Leaf primitive) e h = h
-node_more p q f g keep (Unnamed form parts) e h = h
-node_more p q f g keep Nothing e h = absurd (let f : ⊥ = cc in f)
-node_more p q f g keep (Named top form parts) e h = form_more p q f g keep top form parts e h
-
-unfolded_more : {X : Type 0} (step : X → Node X) (n : ℕ) (x : X) (e : End) → tree_end n (unfolded step n x) ≡ Some e → tree_end (suc n) (unfolded step (suc n) x) ≡ Some e
-unfolded_more step zero x e h = absurd (let f : ⊥ = cc in f)
-unfolded_more step (suc n) x e h = node_more (unfolded step n) (unfolded step (suc n)) (tree_end n) (tree_end (suc n)) (unfolded_more step n) (step x) e h
-
-pub tree_end-suc : (files : List PackageFile) (n : ℕ) (x : Place) (e : End) → tree_end n (source_tree files n x) ≡ Some e → tree_end (suc n) (source_tree files (suc n) x) ≡ Some e
-tree_end-suc files n x e h = unfolded_more (source_node files) n x e h
-
--- an end that is found is found where more is
-part_kept : (f g : ℕ → Option EntryEnd) → ((j : ℕ) (e : EntryEnd) → f j ≡ Some e → g j ≡ Some e) → (parts : List Ty) (e : EntryEnd) → part_end f parts ≡ Some e → part_end g parts ≡ Some e
-part_kept f g keep [] e h = h
-part_kept f g keep (type.Id j ∷ parts) e h = keep j e h
-part_kept f g keep (_ ∷ parts) e h = h
-
-kind_kept : (f g : ℕ → Option EntryEnd) → ((j : ℕ) (e : EntryEnd) → f j ≡ Some e → g j ≡ Some e) → (i : ℕ) (form : Form) (parts : List Ty) (e : EntryEnd) → kind_end f i form parts ≡ Some e → kind_end g i form parts ≡ Some e
-kind_kept f g keep i AliasForm parts e h = part_kept f g keep parts e h
-kind_kept f g keep i _ parts e h = h
-
-found_kept : (f g : ℕ → Option EntryEnd) → ((j : ℕ) (e : EntryEnd) → f j ≡ Some e → g j ≡ Some e) → (i : ℕ) (o : Option TypeDef) (e : EntryEnd) → found_end f i o ≡ Some e → found_end g i o ≡ Some e
-found_kept f g keep i None e h = h
-found_kept f g keep i (Some x) e h = kind_kept f g keep i (kind_of x.kind).form (kind_of x.kind).parts e h
-
--- an entry ends in a step more where it did
-pub entry_end-suc : (n : ℕ) (es : List TypeDef) (i : ℕ) (e : EntryEnd) → entry_end n es i ≡ Some e → entry_end (suc n) es i ≡ Some e
-entry_end-suc zero es i e h = absurd (let f : ⊥ = cc in f)
-entry_end-suc (suc n) es i e h = found_kept (entry_end n (take i es)) (entry_end (suc n) (take i es)) (λ j x there. entry_end-suc n (take i es) j x there) i (slice_get es i) e h
 
 -- so it does in a grown arena
 pub entry_end-same : (n : ℕ) (es more : List TypeDef) (i : ℕ) → i < length es → entry_end n (es ++ more) i ≡ entry_end n es i

@@ -8,11 +8,9 @@ use Rattle.std.proofs.lemmas.Option.{slice_get-map}
 use Rattle.wit_names.specs.Folded.{folded_key}
 use Rattle.wit_model.specs.declared.function.Function.{Function}
 use Rattle.wit_model.specs.Setters.{name_in, HaveDistinctNames}
-use Rattle.wit_meaning.specs.Address.{Address}
 use Rattle.wit_meaning.specs.Source.{ScopeName}
 use Rattle.wit_meaning.specs.Function.{SourceFunction}
-use Rattle.wit_meaning.specs.Functions.{by_name, AreFunctions}
-use Rattle.wit_meaning.specs.Meet.{Key}
+use Rattle.wit_meaning.specs.Functions.{by_name}
 use Rattle.wit_meaning.specs.Repeats.{AllDiffer}
 use Rattle.wit_meaning.specs.Scope.{in_turn}
 use Rattle.wit_meaning.specs.Signature.{name_called, function_called, called_key}
@@ -33,15 +31,6 @@ names_differ xs fns order keys = differ_by function_name fns (λ i j x y at_x at
 -- functions of the package have the names of the written ones
 abbrev pub made_name : Function → List ℕ
 made_name f = f.name
-
-pub made_names : (ks : List Key) (s : Address) (fns : List SourceFunction) (fs : List Function) → AreFunctions ks s fns fs → map made_name fs ≡ map function_name fns
-made_names ks s [] [] are = refl
-made_names ks s (fn ∷ fns) (f ∷ fs) are =
-    let count = are.count in
-    let rest = made_names ks s fns fs (record { count = omega arith; each = λ k g e at there. are.each (suc k) g e at there }) in
-    ap (λ (n : List ℕ). n ∷ map made_name fs) (are.each 0 fn f refl refl).name ∙ ap (λ (l : List (List ℕ)). fn.name ∷ l) rest
-made_names ks s [] (f ∷ fs) are = absurd (let count = are.count in let g : ⊥ = omega arith in g)
-made_names ks s (fn ∷ fns) [] are = absurd (let count = are.count in let g : ⊥ = omega arith in g)
 
 -- each of these has another name
 all_apart : (f : Function) (fs : List Function) → ((i : ℕ) (g : Function) → slice_get fs i ≡ Some g → made_name g ≡ f.name → ⊥) → AllByRecursion (λ n. pointwise nat_eq f.name n ≡ false) (map made_name fs)

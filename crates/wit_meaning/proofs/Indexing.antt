@@ -46,12 +46,6 @@ index_more cs by_name c name index called = record {
   ];
 }
 
-pub index_none : IsIndex [] []
-index_none = record {
-  stands = λ n t found. absurd (let f : ⊥ = cc in f);
-  has = λ t c n at called. absurd (let f : ⊥ = cc in f);
-}
-
 -- an interface is addressed by its name
 pub cell_address : (i : Interface) (name : List ℕ) → i.name ≡ Some name → (cell i).address ≡ InterfaceNamed name
 cell_address i name called = ap (λ n. InterfaceNamed (unwrap_or n [])) called

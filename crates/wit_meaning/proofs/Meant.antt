@@ -13,7 +13,7 @@ use Rattle.wit_meaning.proofs.Names.{name_equal, name_itself, lookup-place}
 use Rattle.wit_meaning.proofs.Interfaces.{find_passes, find_some}
 use Rattle.wit_meaning.proofs.Itemizing.{find_at}
 use Rattle.wit_meaning.proofs.Leading.{option_cases}
-use Rattle.wit_meaning.proofs.Turns.{in_turn_among, in_turn_has}
+use Rattle.wit_meaning.proofs.Turns.{in_turn_has}
 use Rattle.wit_meaning.proofs.Using.{lookup-listed}
 
 -- a table that has the names of a scope, in whichever order
@@ -48,6 +48,3 @@ module _ (xs ys : List ScopeName) (types : Names) (listed : map (λ p. p.0) type
 -- so it is of the names of a scope as they were resolved
 pub free_unmeant : (xs : List ScopeName) (order : List ℕ) (types : Names) (name : List ℕ) → IsOrder (rows_of xs) order → map (λ p. p.0) types ≡ local_names (in_turn xs order) → env_of types name ≡ None → meaning xs name ≡ None
 free_unmeant xs order types name least listed free = lacks_nothing xs (in_turn xs order) types listed name (in_turn_has xs order least) free
-
-pub unmeant_free : (xs : List ScopeName) (order : List ℕ) (types : Names) (name : List ℕ) → IsOrder (rows_of xs) order → map (λ p. p.0) types ≡ local_names (in_turn xs order) → meaning xs name ≡ None → env_of types name ≡ None
-unmeant_free xs order types name least listed missing = nothing_lacks xs (in_turn xs order) types listed name (in_turn_among xs order least) missing

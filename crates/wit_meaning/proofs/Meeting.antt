@@ -42,14 +42,6 @@ pub has_either : (xs ys : List Key) (k : Key) → Has (xs ++ ys) k → Has xs k 
 has_either [] ys k h = inr h
 has_either (x ∷ xs) ys k h = elim h [ inl here ↦ inl (inl here) | inr rest ↦ elim (has_either xs ys k rest) [ inl a ↦ inl (inr a) | inr b ↦ inr b ] ]
 
-pub has_left : (xs ys : List Key) (k : Key) → Has xs k → Has (xs ++ ys) k
-has_left [] ys k h = absurd h
-has_left (x ∷ xs) ys k h = elim h [ inl here ↦ inl here | inr rest ↦ inr (has_left xs ys k rest) ]
-
-pub has_right : (xs ys : List Key) (k : Key) → Has ys k → Has (xs ++ ys) k
-has_right [] ys k h = h
-has_right (x ∷ xs) ys k h = inr (has_right xs ys k h)
-
 -- a key that stands where one meeting was added
 key_either : (a : List Meeting) (x : Meeting) (i : ℕ) (k : Key) → slice_get (keys (a ++ x ∷ [])) i ≡ Some k → (slice_get (keys a) i ≡ Some k) ⊎ ((i ≡ length (keys a)) × (k ≡ x.key))
 key_either a x i k h = at_either (keys a) x.key i k (sym (ap (λ l. slice_get l i) (keys-append a (x ∷ []))) ∙ h)
@@ -63,17 +55,6 @@ meets_from (x ∷ ks) a b h j k at = elim h [
     | inl p ↦ elim (key_either a x p.0 k p.1) [ inl before ↦ inl (p.0, before) | inr new ↦ inr (inl (sym new.1)) ]
     | inr q ↦ inr (inr q)
   ]
-]
-
--- what was met stands in the end
-pub meets_has : (ks : List Meeting) (a b : List Meeting) → Meets a ks b → (k : Key) → Has (keys ks) k → IsMet (keys b) k
-meets_has [] a b h k has = absurd has
-meets_has (x ∷ ks) a b h k has = elim has [
-  | inl here ↦ elim h [
-    | inl old ↦ (old.0.0, key_grown (meets_grown ks a b old.1) old.0.0 k (old.0.1 ∙ ap Some here))
-    | inr fresh ↦ (length (keys a), key_grown (meets_grown ks (a ++ x ∷ []) b fresh.1) (length (keys a)) k (ap (λ l. slice_get l (length (keys a))) (keys-append a (x ∷ [])) ∙ at_seam (keys a) x.key ∙ ap Some here))
-  ]
-  | inr rest ↦ elim h [ inl old ↦ meets_has ks a b old.1 k rest | inr fresh ↦ meets_has ks (a ++ x ∷ []) b fresh.1 k rest ]
 ]
 
 -- no definition is met in an expression

@@ -8,28 +8,21 @@ use Rattle.wit_tree.specs.declared.tree.«Type».{«Type» as Written}
 use Rattle.wit_tree.specs.declared.tree.PackageFile.{PackageFile}
 use Rattle.wit_types.specs.declared.types.TypeDef.{TypeDef}
 use Rattle.wit_meaning.specs.Address.{Address}
-use Rattle.wit_meaning.specs.Source.{address, ScopeName, scope_names}
+use Rattle.wit_meaning.specs.Source.{ScopeName}
 use Rattle.wit_meaning.specs.Shape.{handles, all_handles}
 use Rattle.wit_meaning.specs.Fault.{Fault}
-use Rattle.wit_meaning.specs.Function.{SourceFunction, functions as item_functions, name_types, written_types, all_types, item_types}
-use Rattle.wit_meaning.specs.Ends.{End, AtResource, AtForeign, Elsewhere, EndsAt, EntryEnd, IsResource, IsOther, entry_end}
+use Rattle.wit_meaning.specs.Function.{SourceFunction, name_types, written_types, all_types}
+use Rattle.wit_meaning.specs.Ends.{AtResource, AtForeign, Elsewhere, EndsAt, EntryEnd, IsResource, IsOther, entry_end}
 use Rattle.wit_meaning.specs.Ends as ends
-use Rattle.wit_meaning.specs.Meet.{Key, Def, Meeting, keys, Decls, IsKeyed, IsMeeting}
+use Rattle.wit_meaning.specs.Meet.{Key, Def, Meeting, keys, Decls, IsKeyed}
 use Rattle.wit_meaning.specs.Signature.{IsNoResource}
-use Rattle.wit_meaning.specs.Broken.{IsHandleBroken}
-use Rattle.wit_model.specs.declared.function.Function.{Function}
-use Rattle.wit_meaning.specs.Whole.{Ordered, ordered_names, turned, turn_handles, AreRequired}
+use Rattle.wit_meaning.specs.Whole.{AreRequired}
 use Rattle.wit_meaning.specs.Resolving.{Env, Names, env_of, AreNames, Required, AreEnded, IsWrongHandle, IsDefined}
-use Rattle.wit_meaning.specs.Resolved.{AddsBehind}
 use Rattle.wit_meaning.proofs.Places.{Grown, key_grown}
 use Rattle.wit_meaning.proofs.Lists.{at_front, at_back, at_split, flat_map_at, flat_map_has}
 use Rattle.wit_meaning.proofs.Scoping.{at_contains}
 use Rattle.wit_meaning.proofs.Written.{handles_at}
 use Rattle.wit_meaning.proofs.Ends.{EndIs, IsDeclared, ends_one, entry_end-more, end_source, end_source-more}
-
--- none were required
-pub ended_none : (env : Env) (es : List TypeDef) → AreEnded env es [] []
-ended_none env es = refl
 
 -- those of names, and of further ones
 pub ended_append : (env : Env) (es : List TypeDef) (ids more : List Id) (rs new : List Required) → AreEnded env es ids rs → AreEnded env es more new → AreEnded env es (ids ++ more) (rs ++ new)
@@ -123,18 +116,6 @@ handle_turned xs ys fns has id h =
     let it = handle_of (all_types xs fns) id h in
     let there = type_turned xs ys fns has it.0 it.1 it.2 in
     handles_at (all_types ys fns) there.0 it.1 id there.1 it.3
-
--- what is required behind an item that was resolved, and that no handle of it is wrong
-module _ (files : List PackageFile) (decls : Decls) (met : List Meeting) (old new : List TypeDef) (m : IsMeeting decls met new) (scopes : (j : ℕ) (t : Address) (name : List ℕ) → slice_get (keys met) j ≡ Some (Def t name) → IsDeclared files decls t) (o : Ordered) (types : Names) (fs : List Function) (rs : List Required) (behind : AddsBehind old new o.item o.order types fs rs) (names : AreNames (keys met) (address o.item) (env_of types)) where
-  pub behind_required : AreRequired files (keys met) (turn_handles (turned o)) rs
-  behind_required = ended_required files decls (keys met) new m.keyed scopes (address o.item) (env_of types) names (all_handles (all_types (ordered_names o) (item_functions o.item))) rs behind.ended
-
-  pub behind_legal : ((p : ℕ) (x : ScopeName) → slice_get (scope_names o.item) p ≡ Some x → (i : ℕ) × (slice_get (ordered_names o) i ≡ Some x)) → (f : Fault) → IsHandleBroken files o.item f → ⊥
-  behind_legal has f wrong = ended_legal files decls (keys met) new m.keyed scopes (address o.item) (env_of types) names (all_handles (all_types (ordered_names o) (item_functions o.item))) rs (item_types o.item) f behind.ended (handle_turned (scope_names o.item) (ordered_names o) (item_functions o.item) has) wrong
-
--- a name in a handle that is wrong once some names of a scope were added is so in the files
-pub defined_broken : (files : List PackageFile) (decls : Decls) (ms : List Meeting) (mid : List TypeDef) (s : Address) (before names : Names) (xs : List ScopeName) (d : IsDefined decls ms mid s before names xs) → ((j : ℕ) (t : Address) (name : List ℕ) → slice_get (keys d.now) j ≡ Some (Def t name) → IsDeclared files decls t) → (types : List Written) (f : Fault) → IsWrongHandle (env_of names) mid (all_handles types) f → IsNoResource files s types f
-defined_broken files decls ms mid s before names xs d scopes types f wrong = wrong_broken files decls (keys d.now) mid d.meeting.keyed scopes s (env_of names) d.stand types f wrong
 
 -- also where the arena has grown since
 pub wrong_broken-more : (files : List PackageFile) (decls : Decls) (ks : List Key) (es more : List TypeDef) → IsKeyed decls ks es → ((j : ℕ) (t : Address) (name : List ℕ) → slice_get ks j ≡ Some (Def t name) → IsDeclared files decls t) → (s : Address) (env : Env) → AreNames ks s env → (types : List Written) (f : Fault) → IsWrongHandle env (es ++ more) (all_handles types) f → IsNoResource files s types f

@@ -13,9 +13,6 @@ pub record IsSeen (texts : List (List ℕ)) (seen : List (List ℕ × ℕ)) : Ty
   pub stands : (text : List ℕ) (i : ℕ) → lookup (pointwise nat_eq text) seen ≡ Some i → slice_get texts i ≡ Some text
   pub has : (i : ℕ) (text : List ℕ) → slice_get texts i ≡ Some text → lookup (pointwise nat_eq text) seen ≡ Some i
 
-pub seen_none : IsSeen [] []
-seen_none = record { stands = λ text i h. absurd (let f : ⊥ = cc in f); has = λ i text h. absurd (let f : ⊥ = cc in f) }
-
 -- one text more
 pub seen_more : (texts : List (List ℕ)) (seen : List (List ℕ × ℕ)) (text : List ℕ) → IsSeen texts seen → lookup (pointwise nat_eq text) seen ≡ None → IsSeen (texts ++ text ∷ []) (insert_entry (pointwise nat_eq) seen text (length texts))
 seen_more texts seen text is none = record {

@@ -1,7 +1,6 @@
 -- The names of a scope as they are resolved: the used ones, and then the definitions in their order.
 use Rattle.std.proofs.Common.{◌≡◌, ℕ, zero, suc, ◌+◌, ◌<◌, Bool, true, false, not, List, [], ◌∷◌, ◌++◌, length, Some, ◌⊎◌, inl, inr, refl, sym, ap, ◌∙◌, subst, arith}
 use Rattle.std.specs.Prelude.{slice_get, map}
-use Rattle.std.proofs.lemmas.List.Elements.{filter-append}
 use Rattle.std.proofs.lemmas.List.{length-map}
 use Rattle.std.proofs.lemmas.Option.{slice_get_within}
 use Rattle.wit_tree.specs.declared.tree.Attribute.{Attribute}
@@ -18,12 +17,6 @@ use Rattle.wit_meaning.proofs.Lists.{at_front, at_back}
 use Rattle.wit_meaning.proofs.Repeated.{differ_none, differ_at, differ_by}
 use Rattle.wit_meaning.proofs.Kept.{kept_at, kept_has, differ_cons, differ_head, differ_tail, kept_differ}
 use Rattle.wit_meaning.proofs.Orders.{order_within, in_order_at, in_order_has, index_of, index_once}
-
-pub used-append : (xs ys : List ScopeName) → used (xs ++ ys) ≡ used xs ++ used ys
-used-append xs ys = filter-append (λ x. not (is_defined x)) xs ys
-
-pub defined-append : (xs ys : List ScopeName) → defined (xs ++ ys) ≡ defined xs ++ defined ys
-defined-append xs ys = filter-append is_defined xs ys
 
 -- what stands in two lists, one behind the other, stands in one of them
 pub at_part : {X : Type 0} (xs ys : List X) (i : ℕ) (x : X) → slice_get (xs ++ ys) i ≡ Some x → ((j : ℕ) × (slice_get xs j ≡ Some x)) ⊎ ((j : ℕ) × (slice_get ys j ≡ Some x))

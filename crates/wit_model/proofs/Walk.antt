@@ -3,7 +3,7 @@ use Rattle.std.proofs.Common.{◌≡◌, ◌≤◌, ◌+◌, ◌++◌, ◌||◌,
 use Rattle.std.proofs.lemmas.Bool.{cases_Bool}
 use Rattle.std.proofs.lemmas.List.{flat_map_more, take_all, take_more}
 use Rattle.std.proofs.lemmas.List.Folds.{list_any_more}
-use Rattle.std.proofs.lemmas.Option.{get_or_from_slice_get, slice_get_past, slice_get_within}
+use Rattle.std.proofs.lemmas.Option.{get_or_from_slice_get, slice_get_within}
 use Rattle.std.specs.List.{flat_map, list_any}
 use Rattle.wit_model.specs.Futures.{futures, has_unknown, is_awaited, is_unknown, itself}
 use Rattle.wit_types.specs.Types.{IsBackward, place_of_slot, places_to, rank, slots}
@@ -70,12 +70,3 @@ module _ (types : List TypeDef) (slot : Option Ty) (id : ℕ) (d : TypeDef) (is 
       let rest = none m low ∙ refl in
       let whole : list_any (has_unknown types m) (slots d.kind) ≡ false = ap (λ l. list_any (has_unknown types m) l) (sym (take_all k (slots d.kind) all)) ∙ rest in
       sym (one ∙ ap (λ b. b || list_any (has_unknown types m) (slots d.kind)) plain ∙ whole)
-
-module _ (types : List TypeDef) (slot : Option Ty) (id : ℕ) (is : place_of_slot slot ≡ Some id) (outside : length types ≤ id) where
-  pub futures_outside : (n : ℕ) → futures types n slot ≡ []
-  futures_outside zero = refl
-  futures_outside (suc m) = let none = slice_get_past types id outside in rw (is, none) refl
-
-  pub unknown_outside : (n : ℕ) → has_unknown types n slot ≡ false
-  unknown_outside zero = refl
-  unknown_outside (suc m) = let none = slice_get_past types id outside in rw (is, none) refl

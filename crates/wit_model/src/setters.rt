@@ -9,7 +9,8 @@ use indexmap::IndexMap;
 use std::hash::Hash;
 use wit_names::front::behind;
 
-fn fronts(kind: FunctionKind) -> Option<(&'static str, &'static str)>
+/// Of a setter's kind, the front of its name and that of its getter's name; none for another kind.
+pub fn fronts(kind: FunctionKind) -> Option<(&'static str, &'static str)>
     ensures { option_map (λ p. (p.0.now, p.1.now)) result ≡ fronts kind }
 {
     match kind {
@@ -20,7 +21,8 @@ fn fronts(kind: FunctionKind) -> Option<(&'static str, &'static str)>
     }
 }
 
-fn is_getter(kind: FunctionKind) -> bool
+/// Whether it is a getter's kind.
+pub fn is_getter(kind: FunctionKind) -> bool
     ensures { result ≡ is_getter kind }
 {
     matches!(

@@ -7,7 +7,7 @@ use Rattle.std.proofs.Math.Seq.{take-append_seam, drop-append-add}
 use Rattle.wit_names.proofs.LabelBytes.{no_dot-label}
 use Rattle.wit_names.specs.Label.{is_label}
 use Rattle.wit_names.specs.Mangled.{is_dotted, is_mangled, member_of, owner_of}
-use Rattle.wit_names.specs.Setter.{getter_of, is_setter}
+use Rattle.wit_names.specs.Setter.{is_setter}
 
 -- `r.f` of two labels
 prefix_len-dot : (r f : List ℕ) → list_all (λ b. not (b == 46)) r ≡ true → prefix_len (λ b. not (b == 46)) (r ++ (46 ∷ f)) ≡ length r
@@ -71,13 +71,3 @@ is_setter-method text h = rw h refl
 
 pub is_setter-static : (text : List ℕ) → is_dotted text ≡ true → is_setter (codes "[static][set]" ++ text) ≡ true
 is_setter-static text h = rw h refl
-
--- their getters
-pub getter_of-set : (f : List ℕ) → getter_of (codes "[set]" ++ f) ≡ codes "[get]" ++ f
-getter_of-set f = refl
-
-pub getter_of-method : (text : List ℕ) → getter_of (codes "[method][set]" ++ text) ≡ codes "[method][get]" ++ text
-getter_of-method text = refl
-
-pub getter_of-static : (text : List ℕ) → getter_of (codes "[static][set]" ++ text) ≡ codes "[static][get]" ++ text
-getter_of-static text = refl

@@ -8,10 +8,6 @@ use Rattle.wit_order.specs.Table.{Row, IsEdge}
 use Rattle.wit_order.specs.Faults.{IsFirstMissing, IsFirstCyclic}
 use Rattle.wit_order.specs.Refused.{IsNotFound, RefusesMissing, RefusesCycle}
 
--- the place of an edge is that of a row
-pub edge_place : (rs : List Row) (i k : ℕ) (id : Id) → IsEdge rs i k id → i < length rs
-edge_place rs i k id e = slice_get_within rs i e.0 e.1
-
 -- an edge's name stands at its index in the row
 pub edge_need : (rs : List Row) (i k : ℕ) (id : Id) (row : Row) → IsEdge rs i k id → slice_get rs i ≡ Some row → slice_get row.needs k ≡ Some id
 edge_need rs i k id row e at =

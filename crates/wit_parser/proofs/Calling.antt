@@ -1,9 +1,8 @@
 -- Written names of functions that are no resource's, among those of an interface.
-use Rattle.std.proofs.Common.{◌≡◌, ◌≤◌, ◌<◌, ◌+◌, ℕ, List, length, Some, inl, inr, sym, ap, ◌∙◌, subst, arith, Contains}
+use Rattle.std.proofs.Common.{◌≡◌, ◌≤◌, ◌<◌, ℕ, List, length, Some, arith, Contains}
 use Rattle.std.specs.Prelude.{slice_get}
 use Rattle.std.specs.List.{flat_map}
-use Rattle.std.proofs.lemmas.Bool.{cases_lt}
-use Rattle.std.proofs.lemmas.Option.{same_Some, slice_get_within}
+use Rattle.std.proofs.lemmas.Option.{slice_get_within}
 use Rattle.wit_model.specs.declared.function.Function.{Function}
 use Rattle.wit_meaning.specs.Functions.{freestanding_names}
 use Rattle.wit_meaning.proofs.Lists.{flat_map_at, flat_map_has}
@@ -30,13 +29,3 @@ called_none fs n name long none h =
     let j = at_contains (flat_map written_names fs) name h in
     let it = flat_map_at written_names fs j.0 name j.1 in
     none it.0 it.1 (omega (arith, slice_get_within fs it.0 it.1 it.2)) it.2 (contains_at (written_names it.1) it.3.0 name it.3.1)
-
--- one function more
-pub called_more : (fs : List (List ℕ × Function)) (n : ℕ) (f : List ℕ × Function) (name : List ℕ) → slice_get fs n ≡ Some f → (Contains (written_names f) name → ⊥) → AreOthers fs n name → AreOthers fs (n + 1) name
-called_more fs n f name at other none = λ k g lt there. elim (cases_lt k n) [
-  | inl less ↦ none k g less there
-  | inr end ↦ (
-      let is : k ≡ n = omega arith in
-      let same : f ≡ g = same_Some f g (sym at ∙ ap (slice_get fs) (sym is) ∙ there) in
-      λ h. other (subst (λ x. Contains (written_names x) name) (sym same) h))
-]

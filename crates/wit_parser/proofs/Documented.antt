@@ -114,17 +114,7 @@ chosen : {X : Type 0} (xs : List X) (a b : Docs) → (xs ≡ [] → ⊥) → (if
 chosen [] a b some = absurd (some refl)
 chosen (x ∷ xs) a b some = ap (λ (t : Bool). if t then a else b) (filled x xs)
 
--- where the file there has no header, or one without docs, they are those of the files behind it
-pub docs_past : (fs : List PackageFile) (i : ℕ) (f : PackageFile) → i < length fs → f ≡ get_or fs i f → f.package_id ≡ None → first_docs (headers (drop (i + 1) fs)) ≡ first_docs (headers (drop i fs))
-docs_past fs i f lt is none = sym (docs_from fs i f lt is ∙ ap (λ (o : Option Header). first_docs (cons_option o (headers (drop (i + 1) fs)))) none)
-
 pub docs_behind : (fs : List PackageFile) (i : ℕ) (f : PackageFile) (h : Header) → i < length fs → f ≡ get_or fs i f → f.package_id ≡ Some h → h.docs.docs.items ≡ [] → first_docs (headers (drop (i + 1) fs)) ≡ first_docs (headers (drop i fs))
 docs_behind fs i f h lt is own empty =
     let rest = headers (drop (i + 1) fs) in
     sym (docs_from fs i f lt is ∙ ap (λ (o : Option Header). first_docs (cons_option o rest)) own ∙ ap (λ (n : ℕ). if n == 0 then first_docs rest else docs_of h.docs) (ap length empty))
-
--- where it has one with docs, they are those
-pub docs_here : (fs : List PackageFile) (i : ℕ) (f : PackageFile) (h : Header) → i < length fs → f ≡ get_or fs i f → f.package_id ≡ Some h → IsDocumented h → first_docs (headers (drop i fs)) ≡ docs_of h.docs
-docs_here fs i f h lt is own documented =
-    let rest = headers (drop (i + 1) fs) in
-    docs_from fs i f lt is ∙ ap (λ (o : Option Header). first_docs (cons_option o rest)) own ∙ chosen h.docs.docs.items (first_docs rest) (docs_of h.docs) documented

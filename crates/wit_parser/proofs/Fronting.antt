@@ -10,7 +10,7 @@ use Rattle.wit_model.specs.declared.ast_item.AstItem.TheVariants as entry
 use Rattle.wit_model.specs.declared.interface.Interface.{Interface}
 use Rattle.wit_model.specs.declared.world.World.{World}
 use Rattle.wit_meaning.specs.Foreign.{ForeignVisit, visited, is_foreign_world, foreign_items, foreign_interfaces, foreign_worlds}
-use Rattle.wit_meaning.specs.Whole.{foreign_place, foreign_entry}
+use Rattle.wit_meaning.specs.Whole.{foreign_place}
 use Rattle.wit_meaning.specs.Address.{Address}
 use Rattle.wit_meaning.specs.Resolving.{Names, cells, IsIndex, IsWorldIndex}
 use Rattle.wit_meaning.specs.Resolved.{AddsForeign, worlds_at}
@@ -25,7 +25,7 @@ use Rattle.wit_scope.specs.declared.foreign.ForeignVisit.{ForeignVisit as Held}
 use Rattle.wit_parser.specs.declared.foreign.ForeignArenas.{ForeignArenas}
 use Rattle.wit_parser.specs.declared.items.Item.{Item as HeldItem}
 use Rattle.wit_parser.specs.Held.{front_of}
-use Rattle.wit_parser.specs.Items.{AreEntriesOf, others_of, names_behind}
+use Rattle.wit_parser.specs.Items.{others_of, names_behind}
 use Rattle.wit_parser.specs.Front.{addresses_among, AreItemsPlaced, IsTaken, HasTaken, IsFront}
 
 -- the addresses of the interfaces that are held
@@ -38,10 +38,6 @@ others_names files names are = ap (λ (l : List ForeignVisit). map visited (filt
 
 abbrev entry_by : List ForeignVisit → ForeignVisit → AstItem
 entry_by vs v = if v.wants_world then entry.World (foreign_place (filter is_foreign_world vs) v) else entry.Interface (foreign_place (filter (λ u. not (is_foreign_world u)) vs) v)
-
--- the entries of the items, whatever files the names are of
-pub entries_all : (files : List PackageFile) (names : FileNames) (entries : List AstItem) → AreNamesOf files names → entries ≡ map (foreign_entry files) (foreign_items files) → AreEntriesOf names entries
-entries_all files names entries are h = λ others were. h ∙ ap (λ (l : List ForeignVisit). map (entry_by l) l) (sym are.foreign.items ∙ were.foreign.items)
 
 module _ (files : List PackageFile) (es : List TypeDef) (is : List Interface) (ws : List World) (adds : AddsForeign files es is ws) where
   -- nothing in front goes by a name

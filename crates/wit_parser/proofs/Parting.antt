@@ -26,22 +26,6 @@ known_name names (Some n) name h = elim (cases_Bool (is_some (lookup (pointwise 
   | inr miss ↦ let none : None ≡ Some name = rw miss at h in cc
 ]
 
--- of no functions nothing is known
-pub parted_none : IsParted [] [] [] []
-parted_none = record {
-  stay = refl;
-  tells = λ s. unknown (getter_name s);
-  waits = λ g. waits_none (is_getter g.kind);
-}
-  where
-    unknown : (o : Option (List ℕ)) → is_some (known [] o) ≡ false
-    unknown None = refl
-    unknown (Some n) = refl
-
-    waits_none : (b : Bool) → option_to_list {X = Function} (cond b None None) ≡ []
-    waits_none true = refl
-    waits_none false = refl
-
 module _ {X : Type 0} (goes : X → X → Bool) (e : X) (es : List X) where
   others_early : list_any (goes e) es ≡ true → others goes (e ∷ es) ≡ others goes es
   others_early hit = rw hit refl

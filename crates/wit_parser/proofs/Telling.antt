@@ -49,10 +49,6 @@ pub world_stable : (w : Item) → ((f : Fault) → IsBrokenStability (declared_a
 world_stable w own stable f (OwnStability h) = own f h
 world_stable w own stable f (OfInclude i among h) = stable.each i among f h
 
--- no item, or one more
-pub stability_none : HaveLegalStability []
-stability_none = record { legal = λ i w f at. absurd (let g : ⊥ = cc in g) }
-
 pub stability_more : (ws : List Item) (w : Item) → HaveLegalStability ws → ((f : Fault) → IsBrokenItemStability w f → ⊥) → HaveLegalStability (ws ++ w ∷ [])
 stability_more ws w legal one = record {
   legal = λ i v f at broken. elim (at_either ws w i v at) [

@@ -55,10 +55,6 @@ unsound_part files top part xs i x p f at h =
     let it = at_flat part_uses (map part xs) i k.0 p h.u at k.1 in
     record { u = h.u; among = contains_at (flat_map part_uses (map part xs)) it.0 h.u it.1; broken = h.broken }
 
--- items that are none, or more, whose uses are sound
-pub sound_no_items : (files : List PackageFile) → HaveSoundUses files []
-sound_no_items files = record { each = λ i h. absurd (let lt = h.1 in let f : ⊥ = omega arith in f) }
-
 pub sound_items_more : (files : List PackageFile) (own all : List Item) (w : Item) → all ≡ own ++ w ∷ [] → HaveSoundUses files own → AreSound files w.top (uses w) → HaveSoundUses files all
 sound_items_more files own all w whole sound one = rw whole (record {
   each = λ i h. elim (Contains-append_cases own (w ∷ []) i h) [

@@ -3,14 +3,8 @@ ghost use Rattle.std.specs.Prelude.{◌≡◌};
 ghost use Rattle.std.specs.Char.{is_ascii_uppercase};
 ghost use Rattle.std.specs.List.{list_any};
 
+use wit_scope::repeats::has_upper_case;
 use wit_tree::tree::Id;
-
-/// Whether a letter of the name is upper case.
-fn has_upper_case(name: &str) -> bool
-    ensures { result ≡ list_any is_ascii_uppercase name.now }
-{
-    name.as_bytes().iter().any(|b| b.is_ascii_uppercase())
-}
 
 /// Whether a letter of some name is upper case.
 pub(crate) fn have_upper_case(names: &[Id<'_>]) -> bool

@@ -7,31 +7,10 @@ ghost use Rattle.wit_meaning.specs.Repeats.{AllDiffer};
 ghost use Rattle.wit_parser.specs.Parted.{getter_name, getters_with, known, waiting_for, with_waiting, IsParted};
 
 use std::alloc::{AllocError, Global};
-use wit_model::{Function, FunctionKind};
+use wit_model::Function;
+use wit_model::setters::{fronts, is_getter};
 use wit_names::front::behind;
 use wit_values::TextTable;
-
-/// Of a setter's kind, the front of its name and that of its getter's name.
-fn fronts(kind: FunctionKind) -> Option<(&'static str, &'static str)>
-    ensures { option_map (λ p. (p.0.now, p.1.now)) result ≡ fronts kind }
-{
-    match kind {
-        FunctionKind::Setter => Some(("[set]", "[get]")),
-        FunctionKind::MethodSetter(_) => Some(("[method][set]", "[method][get]")),
-        FunctionKind::StaticSetter(_) => Some(("[static][set]", "[static][get]")),
-        _ => None,
-    }
-}
-
-/// Whether it is a getter's kind.
-fn is_getter(kind: FunctionKind) -> bool
-    ensures { result ≡ is_getter kind }
-{
-    matches!(
-        kind,
-        FunctionKind::Getter | FunctionKind::MethodGetter(_) | FunctionKind::StaticGetter(_)
-    )
-}
 
 /// Whether it is a setter.
 fn is_setter(function: &Function) -> bool

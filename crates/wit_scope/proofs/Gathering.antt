@@ -1,10 +1,10 @@
 -- What is gathered from files, one file and one item at a time.
-use Rattle.std.proofs.Common.{◌≡◌, ℕ, zero, suc, ◌+◌, ◌<◌, List, [], ◌∷◌, ◌++◌, ◌⊎◌, length, map, take, Some, None, inl, inr, refl, sym, ap, ◌∙◌, subst, arith, append_assoc, length-append, Vec, Global, Bor}
+use Rattle.std.proofs.Common.{◌≡◌, ℕ, zero, suc, ◌+◌, List, [], ◌∷◌, ◌++◌, ◌⊎◌, length, map, take, Some, None, inl, inr, refl, sym, ap, ◌∙◌, subst, arith, append_assoc, length-append, Vec, Global, Bor}
 use Rattle.std.specs.Prelude.{slice_get, position}
 use Rattle.std.specs.List.{flat_map}
 use Rattle.std.specs.Option.{option_map}
 use Rattle.std.specs.Str.{bytes_eq}
-use Rattle.std.proofs.lemmas.List.{map-append, length-map}
+use Rattle.std.proofs.lemmas.List.{map-append}
 use Rattle.std.proofs.lemmas.Option.{slice_get-map, slice_get_within}
 use Rattle.indexmap.specs.IndexMap.{insert_entry, keys}
 use Rattle.wit_tree.specs.declared.tree.Id.{Id}
@@ -13,7 +13,7 @@ use Rattle.wit_tree.specs.declared.tree.PackageFile.{PackageFile}
 use Rattle.wit_order.specs.Table.{Row, Table, entry_row, rows, place_of, target, IsOrder}
 use Rattle.wit_order.proofs.Rows.{key_eq, rows-insert}
 use Rattle.wit_order.proofs.Tables.{place_by_key}
-use Rattle.wit_meaning.specs.Source.{TopName, top_names, top_text, declared_items, Item, file_items, all_items, item_name, is_world}
+use Rattle.wit_meaning.specs.Source.{TopName, top_names, top_text, declared_items, Item, file_items, all_items, item_name}
 use Rattle.wit_meaning.specs.Scope.{item_row, item_rows}
 use Rattle.wit_meaning.specs.Fault.{Fault, item_word}
 use Rattle.wit_meaning.specs.Broken.{IsMissingEdge, IsCyclicEdge, IsBrokenItems, DuplicateItem, DuplicateTopName, MissingItem, CyclicItem, IsBrokenNames, Items, ForeignStability, AttributedTopUse, MissingOriginal}
@@ -104,9 +104,6 @@ fresh_file rs files i file same differ at =
     let names : map item_name before ≡ row_names rs = sym (ap row_names same ∙ map_map (λ (row : Row). row.name) item_row before) in
     subst (λ l. AllDiffer (l ++ own)) names (differ_front (map item_name before ++ own) rest (subst AllDiffer all differ))
 
-pub tops_none : AreTopsOf [] []
-tops_none = record { long = refl; each = λ i file top at there. absurd (let g : ⊥ = cc in g) }
-
 -- the names at the top of a file more
 pub tops_added : (files : List PackageFile) (file : PackageFile) (old new : List Named) → AreTopsOf files old → AddsTop file old new → AreTopsOf (files ++ file ∷ []) new
 tops_added files file old new tops more = record {
@@ -158,19 +155,6 @@ legal_names files legal visits tops f (Items h) = legal f h
 legal_names files legal visits tops f (ForeignStability v among h) = (let p = at_contains (foreign_visits files) v among in visits.each p.0 v p.1 f h)
 legal_names files legal visits tops f (AttributedTopUse file among h) = (let p = at_contains files file among in tops.each p.0 file p.1 f (AttributedUse h))
 legal_names files legal visits tops f (MissingOriginal file among h) = (let p = at_contains files file among in tops.each p.0 file p.1 f (MissingUse h))
-
--- each item is told to be a world, or to be none
-pub length-kinds : (files : List PackageFile) (names : FileNames) → AreNamesOf files names → length names.kinds.items ≡ length (all_items files)
-length-kinds files names are = ap (λ l. length l) are.kinds ∙ length-map (all_items files) is_world
-
--- so it is with one that a path leads to
-pub kind_within : (files : List PackageFile) (names : FileNames) (id : Id) (p : ℕ) → AreNamesOf files names → target (item_rows files) id ≡ Some p → p < length names.kinds.items
-kind_within files names id p are found =
-    let r = place_of-Some (item_rows files) id.name.now p found in
-    let lt = slice_get_within (item_rows files) p r.0 r.1 in
-    let rows = length-map (all_items files) item_row in
-    let kinds = length-kinds files names are in
-    omega arith
 
 -- the place of a name among the keys is that of the item which an edge of this name leads to
 pub item_place : (files : List PackageFile) (table : Table) (name : List ℕ) (edge : Id) → rows table ≡ item_rows files → name ≡ edge.name.now → position (λ (k : Bor (List ℕ)). bytes_eq name k.now) (keys table) ≡ target (item_rows files) edge

@@ -10,7 +10,6 @@ pub mod Refusals
 pub mod FirstNames
 pub mod Lost
 pub mod Others
-pub mod Visited
 pub mod Unbroken
 pub mod Gathering
 pub mod NoAttributes

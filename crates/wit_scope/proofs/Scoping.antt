@@ -17,7 +17,7 @@ use Rattle.wit_names.specs.Setter.{getter_of, is_setter}
 use Rattle.wit_names.proofs.MadeNames.{is_mangled-get, is_mangled-method_get, is_mangled-static_get}
 use Rattle.wit_meaning.proofs.Lists.{at_either, map_at}
 use Rattle.wit_meaning.proofs.Names.{name_equal}
-use Rattle.wit_meaning.proofs.Repeated.{differ_more, differ_none}
+use Rattle.wit_meaning.proofs.Repeated.{differ_more}
 use Rattle.wit_scope.specs.declared.name_scope.DefinedName.{DefinedName}
 use Rattle.wit_tree.specs.declared.error.ParseError.{ParseError}
 use Rattle.wit_meaning.specs.Fault.{fault}
@@ -32,10 +32,6 @@ key e = e.0
 -- the entry behind a name
 entry_at : (es : List Entry) (i : ℕ) (n : Name) → slice_get (names_of es) i ≡ Some n → (e : Entry) × (slice_get es i ≡ Some e) × (name_of e ≡ n)
 entry_at es i n h = map_at name_of es i n h
-
--- no entry
-pub keyed-none : IsKeyed []
-keyed-none = record { keyed = λ i e h. absurd (let f : ⊥ = cc in f); differ = differ_none }
 
 -- a new key more
 pub keyed-more : (es : List Entry) (k : List ℕ) (d : DefinedName) → IsKeyed es → lookup (pointwise nat_eq k) es ≡ None → k ≡ folded_key d.name → IsKeyed (es ++ (k, d) ∷ [])

@@ -84,13 +84,6 @@ external-repeat xs place (attribute.Unstable s n) f at own r = absurd (let wrong
 external-repeat xs place (attribute.Deprecated s v) f at own r = absurd (let wrong : ⊥ = cc in wrong)
 external-repeat xs place (attribute.ExternalId s i) f at own r = twice-repeat xs place (attribute.ExternalId s i) f at r
 
--- none is there twice
-pub once-none : (kind : AttributeKind) → IsOnce kind []
-once-none kind i j a b at_i at_j = absurd (let h = at_i.at in let f : ⊥ = cc in f)
-
-pub each_once-none : IsEachOnce []
-each_once-none = record { since = once-none Since; deprecated = once-none Deprecated; unstable = once-none Unstable }
-
 -- one attribute more, the first of its kind where it is of this kind
 pub once-more : (kind : AttributeKind) (xs : List Attribute) (x : Attribute) → IsOnce kind xs → (is_of kind x ≡ true → first_of kind xs ≡ None) → IsOnce kind (xs ++ x ∷ [])
 once-more kind xs x once new i j a b at_i at_j = elim (at_either xs x i a at_i.at) [

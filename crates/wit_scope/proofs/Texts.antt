@@ -9,7 +9,6 @@ use Rattle.std.proofs.lemmas.Str.{encode_ascii}
 use Rattle.std.proofs.lemmas.Str.Pattern.{drop_at_char, ends_text}
 use Rattle.std.proofs.lemmas.List.{take-append-drop}
 use Rattle.std.proofs.Math.Seq.{drop-length}
-use native.Mathlib.Numerals.{unary_clauses}
 use denote.Ref.{Bor}
 use Rattle.wit_meaning.proofs.Lists.{map_map}
 use Rattle.wit_meaning.specs.Docs.{behind_slashes, behind_spaces, docs_text, indent, is_written, joined, said, without_end, without_last_lines}
@@ -49,11 +48,6 @@ slashes-done r (Some n) h z = absurd (let ends = h.ends in omega arith)
 
 pub slashes-trimmed : (s r : List ℕ) → IsTrimStartMatches (FindsCharPrefix 47) s r → r ≡ behind_slashes s
 slashes-trimmed s r h = sym (slashes-cut s r h.0.0 h.0.1 ∙ slashes-done r h.1.0 h.1.1 h.1.2)
-
--- spaces in front, one by one
-pub spaces-one : (n : ℕ) (text rest : List ℕ) → 0 < n → text ≡ 32 ∷ rest → behind_spaces n text ≡ behind_spaces (n - 1) rest
-spaces-one zero text rest lt e = absurd (omega arith)
-spaces-one (suc n) text rest lt e = simp unary_clauses (ap (behind_spaces (suc n)) e)
 
 pub spaces-none : (n : ℕ) (text : List ℕ) → 0 < n → ((rest : List ℕ) → text ≢ 32 ∷ rest) → behind_spaces n text ≡ None
 spaces-none zero text lt h = absurd (omega arith)

@@ -90,7 +90,7 @@ pub fn first_repeat(alloc: Global, texts: &[&str]) -> Result<Option<(usize, usiz
 }
 
 /// Whether a letter of the text is upper case.
-fn has_upper_case(text: &str) -> bool
+pub fn has_upper_case(text: &str) -> bool
     ensures { result ≡ list_any is_ascii_uppercase text.now }
 {
     text.as_bytes().iter().any(|b| b.is_ascii_uppercase())

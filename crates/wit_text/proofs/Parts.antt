@@ -5,7 +5,7 @@ use Rattle.std.specs.Str.Parse.{digits_value, without_leading_plus}
 use Rattle.std.proofs.lemmas.List.{append-nil}
 use Rattle.wit_tree.specs.declared.tree.Id.{Id}
 use Rattle.wit_values.specs.declared.span.Span.{Span}
-use Rattle.wit_tree.specs.Marks.{Mark, named, spelled, joined, counted}
+use Rattle.wit_tree.specs.Marks.{Mark, named, joined, counted}
 use Rattle.wit_tree.specs.Slices.{Rise, IsJoined, IsCounted, unescaped}
 use Rattle.wit_text.specs.declared.reader.Reader.{Reader}
 use Rattle.wit_text.specs.Fronts.{IsReadBehind}
@@ -27,9 +27,6 @@ then {a} {b} {c} {xs} {ys} p q =
 
 pub on : {a b : Reader} {xs : List Mark} → IsRead a xs b → IsReadOn a xs b
 on p = record { source = p.source; offset = p.offset; rise = p.rise }
-
-pub nothing_on : (a : Reader) → IsReadOn a [] a
-nothing_on a = record { source = refl; offset = refl; rise = omega arith }
 
 pub then_on : {a b c : Reader} {xs ys : List Mark} → IsReadOn a xs b → IsReadOn b ys c → IsReadOn a (xs ++ ys) c
 then_on {a} {b} {c} {xs} {ys} p q =
@@ -90,17 +87,6 @@ name_read {a} {b} id span text p past same first last name whole =
       offset = p.offset;
       onward = p.onward;
       rise = (omega arith, is_named a.source.now a.offset id a.token.start a.token.end a.token.text.now a.within.order a.within.within a.within.text start end (name ∙ whole), omega arith);
-    }
-
--- the word that the token is
-pub word_read : {a b : Reader} (span : Span) → IsRead a [] b → a.token.end ≤ b.before → span.start ≡ a.offset + a.token.start → span.end ≡ a.offset + a.token.end → IsRead a (spelled span a.token.text.now ∷ []) b
-word_read {a} {b} span p past first last =
-    let front = a.front in
-    record {
-      source = p.source;
-      offset = p.offset;
-      onward = p.onward;
-      rise = (omega arith, stands_at a.source.now a.offset span a.token.start a.token.end a.token.text.now a.within.order a.within.within a.within.text first last, omega arith);
     }
 
 -- the number that the token is
