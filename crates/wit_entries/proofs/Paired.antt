@@ -12,7 +12,7 @@ use Rattle.wit_meaning.specs.Fault.{Fault, fault}
 use Rattle.wit_meaning.specs.Function.{SourceFunction}
 use Rattle.wit_meaning.specs.Signature.{role_form, IsUnpairedSetter}
 use Rattle.wit_meaning.proofs.Lists.{at_back, at_split, map_at}
-use Rattle.wit_meaning.proofs.Scoping.{at_contains, contains_at}
+use Rattle.wit_meaning.proofs.Found.{at_contains, contains_at}
 use Rattle.wit_scope.specs.Names.{Name, IsLoneSetter, IsFirstLoneSetter}
 use Rattle.wit_entries.specs.declared.held.HeldFunction.{HeldFunction}
 use Rattle.wit_entries.specs.Held.{function_behind}

@@ -10,7 +10,8 @@ use Rattle.wit_tree.specs.declared.tree.«Type».TheVariants as written
 use Rattle.wit_types.specs.declared.types.TypeDefKind.{TypeDefKind}
 use Rattle.wit_types.specs.declared.stability.Stability.{Stability}
 use Rattle.wit_values.specs.declared.span.Span.{Span}
-use Rattle.wit_meaning.specs.Form.{AliasForm, kind_of}
+use Rattle.wit_meaning.specs.Form.{AliasForm}
+use Rattle.wit_meaning.specs.Kind.{kind_of}
 use Rattle.wit_meaning.specs.Shape.{Shape, Prim, Word, Of, one, shape_of, Body, head, written_body}
 use Rattle.wit_meaning.specs.Address.{Address}
 use Rattle.wit_meaning.specs.Expr.{exprs_of, expr_of}

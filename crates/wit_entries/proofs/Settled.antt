@@ -15,7 +15,7 @@ use Rattle.wit_types.specs.declared.types.TypeDef.{TypeDef}
 use Rattle.wit_types.specs.declared.types.TypeDefKind.{TypeDefKind}
 use Rattle.wit_types.specs.declared.types.TypeDefKind.TheVariants as kind
 use Rattle.wit_types.specs.Types.{slots}
-use Rattle.wit_meaning.specs.Form.{payloads, kind_of}
+use Rattle.wit_meaning.specs.Kind.{payloads, kind_of}
 use Rattle.wit_meaning.specs.Notes.{first_known}
 use Rattle.wit_meaning.specs.Meet.{stability_at}
 use Rattle.wit_meaning.proofs.Lists.{map_map}

@@ -14,7 +14,7 @@ use Rattle.wit_tree.specs.declared.tree.«Type».{«Type» as Written}
 use Rattle.wit_meaning.specs.Shape.{Shape, Word, shape_of, words, handles, all_handles}
 use Rattle.wit_meaning.specs.Function.{Role, SourceParam, SourceFunction, all_params, written_param, written_types, signature, function_with, free_function, resource_function}
 use Rattle.wit_meaning.proofs.Lists.{map_map, map_at, flat_map_has, at_front, at_back, at_split}
-use Rattle.wit_meaning.proofs.Scoping.{contains_at, at_contains}
+use Rattle.wit_meaning.proofs.Found.{contains_at, at_contains}
 use Rattle.wit_entries.specs.declared.held.HeldFunction.{HeldFunction}
 use Rattle.wit_entries.specs.declared.held.HeldFunction.TheVariants as held
 use Rattle.wit_entries.specs.Held.{function_behind}

@@ -8,8 +8,8 @@ use Rattle.wit_types.specs.declared.types.TypeDef.{TypeDef}
 use Rattle.wit_types.specs.declared.types.TypeDefKind.{TypeDefKind}
 use Rattle.wit_types.specs.declared.types.TypeDefKind.TheVariants as kind
 use Rattle.wit_types.specs.declared.types.Handle.TheVariants as handle
-use Rattle.wit_meaning.specs.Form.{kind_of}
-use Rattle.wit_meaning.specs.Ends.{EntryEnd, found_end, kind_end, entry_end}
+use Rattle.wit_meaning.specs.Kind.{kind_of}
+use Rattle.wit_meaning.specs.EntryEnds.{EntryEnd, found_end, kind_end, entry_end}
 use Rattle.wit_meaning.proofs.Lists.{at_either}
 use Rattle.wit_meaning.proofs.Ends.{entry_end-same}
 use Rattle.wit_entries.specs.declared.ends.End.{End}

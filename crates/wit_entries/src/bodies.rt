@@ -2,7 +2,8 @@
 ghost use Rattle.std.specs.Prelude.{◌≡◌, ◌⊎◌, [], map, IfOk, IfErr, OnOk};
 ghost use Rattle.std.specs.Option.{option_to_list};
 ghost use Rattle.wit_tree.specs.Parts.{field_types, case_types, body_types};
-ghost use Rattle.wit_meaning.specs.Form.{RecordForm, FlagsForm, VariantForm, EnumForm, kind_of, field_member, flag_member, case_member, enum_case_member, payloads};
+ghost use Rattle.wit_meaning.specs.Form.{RecordForm, FlagsForm, VariantForm, EnumForm};
+ghost use Rattle.wit_meaning.specs.Kind.{kind_of, field_member, flag_member, case_member, enum_case_member, payloads};
 ghost use Rattle.wit_meaning.specs.Shape.{member, written_field, written_flag, written_case, written_enum_case, written_body, body_of, handles, all_handles};
 ghost use Rattle.wit_meaning.specs.Address.{Address};
 ghost use Rattle.wit_meaning.specs.Expr.{exprs_of};

@@ -17,7 +17,7 @@ use Rattle.wit_meaning.specs.Fault.{Fault}
 use Rattle.wit_meaning.specs.Address.{Address, InterfaceNamed, WorldNamed, is_foreign}
 use Rattle.wit_meaning.specs.Source.{address, Item, all_items, item_id, item_notes, item_name, TopName, leads, ScopeName, local_name, takings, included_scope, scope, scope_names}
 use Rattle.wit_meaning.specs.Foreign.{visited, foreign_interfaces, foreign_worlds}
-use Rattle.wit_meaning.specs.Scope.{in_turn}
+use Rattle.wit_meaning.specs.Scope.{in_turn, local_names}
 use Rattle.wit_meaning.specs.Meet.{Meeting, Decls}
 use Rattle.wit_model.specs.declared.function.Function.{Function}
 use Rattle.wit_meaning.specs.Signature.{IsUnpairedSetter}
@@ -28,7 +28,7 @@ use Rattle.std.proofs.lemmas.Grind.{flat_map-append}
 use Rattle.wit_meaning.specs.Broken.{IsBrokenUse}
 use Rattle.wit_meaning.specs.Package.{IsInterface, IsWorld, import_types, world_types, import_functions, world_functions}
 use Rattle.wit_meaning.specs.Whole.{Ordered, Turned, owner_at, taking_meeting, all_meetings, declarations, type_imports, IsInclude, AreIncludes}
-use Rattle.wit_meaning.specs.Resolving.{Names, Cell, Required, cell, cells, Defines, decls_of, local_names}
+use Rattle.wit_meaning.specs.Resolving.{Names, Cell, Required, cell, cells, Defines, decls_of}
 use Rattle.wit_meaning.specs.Resolved.{AddsInterface, AddsInterfaces, worlds_at, AddsWorld, AddsWorlds, AddsForeign}
 use Rattle.wit_meaning.proofs.Lists.{at_front, at_back, at_split, append-cancel, map_at}
 use Rattle.wit_meaning.proofs.Turns.{at_part}

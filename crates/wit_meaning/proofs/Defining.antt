@@ -13,12 +13,13 @@ use Rattle.wit_types.specs.declared.types.TypeDefKind.{TypeDefKind}
 use Rattle.wit_types.specs.declared.types.TypeDefKind.TheVariants.{Type_}
 use Rattle.wit_types.specs.declared.types.TypeOwner.{TypeOwner}
 use Rattle.wit_types.specs.declared.types.«Type».TheVariants as type
-use Rattle.wit_meaning.specs.Form.{kind_of}
+use Rattle.wit_meaning.specs.Kind.{kind_of}
 use Rattle.wit_meaning.specs.Address.{Address}
 use Rattle.wit_meaning.specs.Source.{ScopeName, Used, Defined, local_name, name_span, name_form, name_body, name_scope, name_notes, name_stability}
 use Rattle.wit_meaning.specs.Expr.{Exprs, End, exprs_of, name_exprs}
 use Rattle.wit_meaning.specs.Meet.{Key, Def, Meeting, keys, IsMet, Meets, Decl, Decls, IsAmong, decl_of, IsMeeting, shapes_meetings, parts_meetings, name_meetings, all_name_meetings}
-use Rattle.wit_meaning.specs.Resolving.{all_met, Names, Cell, env_of, Env, AreNames, AreKnown, IsExtended, AreResolved, IsAdded, IsUsed, Defines, AreDistinct, AreNew, decls_of, local_names, named}
+use Rattle.wit_meaning.specs.Resolving.{all_met, Names, Cell, env_of, Env, AreNames, AreKnown, IsExtended, AreResolved, IsAdded, IsUsed, Defines, AreNew, decls_of, named}
+use Rattle.wit_meaning.specs.Scope.{AreDistinct, local_names}
 use Rattle.wit_meaning.proofs.Repeated.{differ_at, differ_by}
 use Rattle.wit_meaning.proofs.Lists.{at_front, at_back, at_seam, at_either}
 use Rattle.wit_meaning.proofs.Meeting.{keys-append, meets_append, meets_from, meets_grown, names_kept, no_defs, meeting_more, Has, has_either}

@@ -22,8 +22,8 @@ use Rattle.wit_meaning.proofs.Addresses.{same_package-from, same_package-equal, 
 use Rattle.wit_meaning.proofs.Repeated.{differ_at}
 use Rattle.wit_meaning.proofs.Kept.{kept_at, kept_has}
 use Rattle.wit_meaning.proofs.Firsts.{firsts_at, firsts_has}
-use Rattle.wit_meaning.proofs.Interfaces.{prefix_len-only, find_passes, find_some}
-use Rattle.wit_meaning.proofs.Itemizing.{find_at}
+use Rattle.wit_meaning.proofs.Interfaces.{prefix_len-only}
+use Rattle.wit_meaning.proofs.Found.{find_passes, find_some, find_at}
 use Rattle.wit_meaning.proofs.Visits.{interfaces_differ, worlds_differ, interface_visit, world_visit}
 
 pub same_entry-itself : (a : AstItem) → same_entry a a ≡ true

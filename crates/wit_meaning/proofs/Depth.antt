@@ -11,7 +11,8 @@ use Rattle.wit_types.specs.declared.docs.Docs.{Docs}
 use Rattle.wit_types.specs.declared.stability.Stability.{Stability}
 use Rattle.wit_types.specs.declared.types.TypeDef.{TypeDef}
 use Rattle.wit_types.specs.declared.types.TypeOwner.{TypeOwner}
-use Rattle.wit_meaning.specs.Form.{Form, kind_of}
+use Rattle.wit_meaning.specs.Form.{Form}
+use Rattle.wit_meaning.specs.Kind.{kind_of}
 use Rattle.wit_meaning.specs.Node.{Primitive, Tree, Head, Owner, OfScope, Leaf, Named, Unnamed, node_map}
 use Rattle.wit_meaning.specs.Shape.{Shape, Shapes}
 use Rattle.wit_meaning.specs.Shape as shape
@@ -21,7 +22,8 @@ use Rattle.wit_meaning.specs.Source.{ScopeName, local_name, scope, meaning, head
 use Rattle.wit_meaning.specs.Expr.{expr_of, exprs_of, name_exprs, Exprs}
 use Rattle.wit_meaning.specs.Meet.{Key, Def, Whole, IsAt, AreAt, Decl, Decls, decl_of, IsKeyed, primitive_type}
 use Rattle.wit_meaning.specs.Package.{package_tree, node_at, entry_head, entry_node, owner_of}
-use Rattle.wit_meaning.specs.Resolving.{AreDistinct, decls_of}
+use Rattle.wit_meaning.specs.Resolving.{decls_of}
+use Rattle.wit_meaning.specs.Scope.{AreDistinct}
 use Rattle.wit_meaning.proofs.Lists.{map_at}
 use Rattle.wit_meaning.proofs.Repeated.{differ_at, differ_by}
 use Rattle.wit_meaning.proofs.Names.{name_cases, name_itself}

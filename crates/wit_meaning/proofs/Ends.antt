@@ -13,7 +13,8 @@ use Rattle.wit_types.specs.declared.types.«Type».{«Type» as Ty}
 use Rattle.wit_types.specs.declared.types.«Type».TheVariants as type
 use Rattle.wit_types.specs.declared.types.TypeDef.{TypeDef}
 use Rattle.wit_types.specs.declared.types.TypeOwner.{TypeOwner}
-use Rattle.wit_meaning.specs.Form.{Form, ResourceForm, AliasForm, UnknownForm, kind_of}
+use Rattle.wit_meaning.specs.Form.{Form, ResourceForm, AliasForm, UnknownForm}
+use Rattle.wit_meaning.specs.Kind.{kind_of}
 use Rattle.wit_meaning.specs.Node.{Primitive, Head, Node, Leaf, Named, Unnamed, Nothing, node_map, unfolded}
 use Rattle.wit_meaning.specs.Node as node
 use Rattle.wit_meaning.specs.Shape.{Shapes, Prim, Word, one, written_body, body_of}
@@ -22,8 +23,10 @@ use Rattle.wit_meaning.specs.Source.{ScopeName, Used, Defined, Taken, Place, loc
 use Rattle.wit_meaning.specs.Expr.{Exprs, exprs_of, name_exprs}
 use Rattle.wit_meaning.specs.Meet.{Key, Def, AreAt, Decl, Decls, decl_of, IsKeyed, primitive_type}
 use Rattle.wit_meaning.specs.Package.{HasPart}
-use Rattle.wit_meaning.specs.Resolving.{AreDistinct, decls_of}
-use Rattle.wit_meaning.specs.Ends.{End, AtResource, AtForeign, Elsewhere, named_end, node_end, tree_end, EndsAt, EntryEnd, IsResource, IsUnknown, IsOther, part_end, kind_end, found_end, entry_end}
+use Rattle.wit_meaning.specs.Resolving.{decls_of}
+use Rattle.wit_meaning.specs.Scope.{AreDistinct}
+use Rattle.wit_meaning.specs.Ends.{End, AtResource, AtForeign, Elsewhere, named_end, node_end, tree_end, EndsAt}
+use Rattle.wit_meaning.specs.EntryEnds.{EntryEnd, IsResource, IsUnknown, IsOther, part_end, kind_end, found_end, entry_end}
 use Rattle.wit_meaning.proofs.Lists.{at_front, at_within, map_at}
 use Rattle.wit_meaning.proofs.Places.{all_at_untaken}
 use Rattle.wit_meaning.proofs.Shape.{entry_of_key, backward}

@@ -33,7 +33,8 @@ use Rattle.wit_model.specs.declared.interface.Interface.{Interface}
 use Rattle.wit_model.specs.declared.unresolved.UnresolvedPackage.{UnresolvedPackage}
 use Rattle.wit_order.specs.Table.{Row, Leads, IsMissing, IsCyclic, IsOrder}
 use Rattle.wit_order.specs.Order.{ReachesCycle}
-use Rattle.wit_meaning.specs.Form.{Member, RecordForm, ListForm, AliasForm, kind_of}
+use Rattle.wit_meaning.specs.Form.{Member, RecordForm, ListForm, AliasForm}
+use Rattle.wit_meaning.specs.Kind.{kind_of}
 use Rattle.wit_meaning.specs.Node.{OfScope, Head, Leaf, Named, Unnamed, Tree}
 use Rattle.wit_meaning.specs.Node as node
 use Rattle.wit_meaning.specs.Address.{InterfaceNamed}

@@ -30,7 +30,7 @@ use Rattle.wit_meaning.specs.Resolving.{Names as Table, Cell, cell, cells, env_o
 use Rattle.wit_meaning.specs.Resolved.{worlds_at, AddsWorlds, AddsForeign, IsBrokenItemStability, OwnStability, OfInclude, IsWrongHandleNow, WrongStability, WrongScope, WrongHandle, Unpaired, WrongWorldStability, WrongWorldScope, WrongWorldHandle, LostInclude, IsWrongAmong, IsWrongWorldAmong}
 use Rattle.wit_meaning.proofs.Lists.{at_back, at_seam, at_split, map_at}
 use Rattle.wit_meaning.proofs.Firsts.{firsts_has}
-use Rattle.wit_meaning.proofs.Scoping.{at_contains, contains_at}
+use Rattle.wit_meaning.proofs.Found.{at_contains, contains_at}
 use Rattle.wit_meaning.proofs.Indexing.{cells-append, front_cell, worlds_at-append}
 use Rattle.wit_meaning.proofs.Standing.{DoneScope, cell_of, IsDoneScope}
 use Rattle.wit_meaning.proofs.Meant.{lacks_nothing}

@@ -18,7 +18,7 @@ use Rattle.wit_meaning.specs.Function.{Role, Freestanding, Method, Static, Const
 use Rattle.wit_meaning.specs.Functions.{freestanding_kind, method_kind, static_kind, IsKind, IsFunction, AreFunctions, freestanding_names}
 use Rattle.wit_meaning.specs.Meet.{Key}
 use Rattle.wit_meaning.proofs.Lists.{at_within, map_at, flat_map_at, flat_map_has}
-use Rattle.wit_meaning.proofs.Scoping.{at_contains, contains_at}
+use Rattle.wit_meaning.proofs.Found.{at_contains, contains_at}
 
 -- of functions of the package, each under its name
 abbrev pub free_of : List (List ℕ × Function) → List (List ℕ)

@@ -32,7 +32,7 @@ use Rattle.wit_meaning.proofs.Lists.{at_front, at_within, map_at, map_map}
 use Rattle.wit_meaning.proofs.Names.{lookup-place}
 use Rattle.wit_meaning.proofs.Repeated.{differ_none, differ_join}
 use Rattle.wit_meaning.proofs.Firsts.{firsts_at}
-use Rattle.wit_meaning.proofs.Scoping.{some_of}
+use Rattle.wit_meaning.proofs.Found.{some_of}
 use Rattle.wit_meaning.proofs.Using.{lookup-listed}
 use Rattle.wit_meaning.proofs.Meeting.{Has}
 use Rattle.wit_meaning.proofs.FreeNames.{AreStated}

@@ -36,7 +36,8 @@ use Rattle.wit_meaning.specs.Expr.{Use, More, expr_of, one}
 use Rattle.wit_meaning.specs.Meet.{Key, Def, Whole, Meeting, IsMet, Meets, IsAt}
 use Rattle.wit_meaning.specs.Fault.{fault}
 use Rattle.wit_meaning.specs.Shape.{shape_of}
-use Rattle.wit_meaning.specs.Ends.{AtResource, AtForeign, Elsewhere, EndsAt, IsResource, IsUnknown, IsOther, entry_end}
+use Rattle.wit_meaning.specs.Ends.{AtResource, AtForeign, Elsewhere, EndsAt}
+use Rattle.wit_meaning.specs.EntryEnds.{IsResource, IsUnknown, IsOther, entry_end}
 use Rattle.wit_meaning.specs.Broken.{IsBroken, Handle}
 use Rattle.wit_meaning.specs.Whole.{Ordered, turned, turn_handles, all_meetings, AreRequired}
 use Rattle.wit_meaning.proofs.Examples.{at, id, vec, no_comments, untold, header}

@@ -21,26 +21,7 @@ use Rattle.wit_meaning.proofs.Addresses.{same_address-itself, same_address-equal
 use Rattle.wit_meaning.proofs.Repeated.{differ_at, differ_by}
 use Rattle.wit_meaning.proofs.Kept.{kept_at, kept_differ}
 use Rattle.wit_meaning.proofs.Tables.{none_if}
-
--- what is found passes
-pub find_passes : {X : Type 0} (p : X → Bool) (xs : List X) (x : X) → find p xs ≡ Some x → p x ≡ true
-find_passes p [] x h = absurd (let f : ⊥ = cc in f)
-find_passes p (y ∷ xs) x h = elim (cases_Bool (p y)) [
-  | inl hit ↦ (let here : Some y ≡ Some x = rw hit at h in let same : y ≡ x = cc in ap p (sym same) ∙ hit)
-  | inr miss ↦ find_passes p xs x (rw miss at h)
-]
-
--- where one passes, one is found
-pub find_some : {X : Type 0} (p : X → Bool) (xs : List X) (t : ℕ) (x : X) → slice_get xs t ≡ Some x → p x ≡ true → (y : X) × (find p xs ≡ Some y)
-find_some p [] t x at pass = absurd (let f : ⊥ = cc in f)
-find_some p (y ∷ xs) zero x at pass =
-    let here : y ≡ x = cc in
-    let hit : p y ≡ true = ap p here ∙ pass in
-    (y, rw hit refl)
-find_some p (y ∷ xs) (suc t) x at pass = elim (cases_Bool (p y)) [
-  | inl hit ↦ (y, rw hit refl)
-  | inr miss ↦ (let it = find_some p xs t x at pass in (it.0, rw miss it.1))
-]
+use Rattle.wit_meaning.proofs.Found.{find_passes}
 
 -- the only one that passes stands behind those that fail
 pub prefix_len-only : {X : Type 0} (p : X → Bool) (xs : List X) (t : ℕ) (x : X) → slice_get xs t ≡ Some x → p x ≡ true → ((i : ℕ) (y : X) → slice_get xs i ≡ Some y → p y ≡ true → i ≡ t) → prefix_len (λ y. not (p y)) xs ≡ t

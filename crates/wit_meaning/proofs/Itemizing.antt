@@ -1,10 +1,9 @@
 -- The items of files, in an order of their table.
-use Rattle.std.proofs.Common.{◌≡◌, ℕ, zero, suc, ◌<◌, Bool, true, List, [], ◌∷◌, length, Some, inl, inr, sym, ap, ◌∙◌, subst, arith}
-use Rattle.std.specs.Prelude.{slice_get, map, find}
+use Rattle.std.proofs.Common.{◌≡◌, ℕ, zero, suc, ◌<◌, true, List, [], ◌∷◌, length, Some, inl, inr, sym, ap, ◌∙◌, subst, arith}
+use Rattle.std.specs.Prelude.{slice_get, map}
 use Rattle.std.specs.Str.{bytes_eq}
-use Rattle.std.proofs.lemmas.Bool.{cases_Bool}
 use Rattle.std.proofs.lemmas.List.{length-map}
-use Rattle.std.proofs.lemmas.Option.{slice_get_within, slice_get-map}
+use Rattle.std.proofs.lemmas.Option.{slice_get_within}
 use Rattle.wit_tree.specs.declared.tree.Attribute.{Attribute}
 use Rattle.wit_tree.specs.declared.tree.UseName.{UseName}
 use Rattle.wit_tree.specs.declared.tree.Use.{Use}
@@ -14,7 +13,6 @@ use Rattle.wit_meaning.specs.Address.{Address}
 use Rattle.wit_meaning.specs.Source.{TopName, Item, Part, Defining, Using, Including, Doing, Used, Taken, path_scope, part_names, parts, item_name, item_named, all_items, scope_names}
 use Rattle.wit_meaning.specs.Scope.{in_order, item_row, item_rows}
 use Rattle.std.specs.List.{flat_map}
-use Rattle.std.specs.Option.{option_map}
 use Rattle.wit_meaning.specs.Repeats.{AllDiffer}
 use Rattle.wit_meaning.proofs.Lists.{map_at, flat_map_at}
 use Rattle.wit_meaning.proofs.Names.{name_cases, name_itself}
@@ -22,14 +20,6 @@ use Rattle.wit_meaning.proofs.Repeated.{key_at, differ_by}
 use Rattle.wit_meaning.proofs.Orders.{order_within, in_order_at, in_order_read, index_of, index_once}
 use Rattle.wit_meaning.proofs.Turns.{AreOwn}
 use Rattle.wit_meaning.proofs.Interfaces.{AreItems}
-
--- what is found stands in the list
-pub find_at : {X : Type 0} (p : X → Bool) (xs : List X) (x : X) → find p xs ≡ Some x → (i : ℕ) × (slice_get xs i ≡ Some x)
-find_at p [] x h = absurd (let f : ⊥ = cc in f)
-find_at p (y ∷ xs) x h = elim (cases_Bool (p y)) [
-  | inl hit ↦ (0, rw hit at h)
-  | inr miss ↦ (let it = find_at p xs x (rw miss at h) in (suc it.0, it.1))
-]
 
 -- where names differ, an item is the first of its name
 pub named_found : (is : List Item) (p : ℕ) (w : Item) → AllDiffer (map item_name is) → slice_get is p ≡ Some w → item_named is (item_name w) ≡ Some w
@@ -46,9 +36,6 @@ named_found (v ∷ is) (suc p) w differ at = elim (name_cases (item_name v) (ite
 -- each item has a row
 pub length-item_rows : (files : List PackageFile) → length (item_rows files) ≡ length (all_items files)
 length-item_rows files = length-map (all_items files) item_row
-
-pub item_row_at : (files : List PackageFile) (p : ℕ) (w : Item) → slice_get (all_items files) p ≡ Some w → slice_get (item_rows files) p ≡ Some (item_row w)
-item_row_at files p w at = slice_get-map item_row (all_items files) p ∙ ap (option_map item_row) at
 
 -- a used name is that of a `use` among the parts, and comes from where its path leads to
 pub used_part : (top : List TopName) (ps : List Part) (k : ℕ) (from : Address) (attributes : List Attribute) (n : UseName) → slice_get (flat_map (part_names top) ps) k ≡ Some (Used from attributes n) → (m : ℕ) × (u : Use) × (slice_get ps m ≡ Some (Using u)) × ((j : ℕ) × (slice_get u.names.items j ≡ Some n)) × (from ≡ path_scope top u.from)

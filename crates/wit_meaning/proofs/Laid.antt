@@ -10,13 +10,13 @@ use Rattle.wit_types.specs.declared.types.TypeDef.{TypeDef}
 use Rattle.wit_types.specs.declared.types.TypeOwner.{TypeOwner}
 use Rattle.wit_order.specs.Table.{IsOrder}
 use Rattle.wit_meaning.specs.Source.{address, Item, item_name, ScopeName, takings, scope, scope_names}
-use Rattle.wit_meaning.specs.Scope.{rows_of, in_turn}
+use Rattle.wit_meaning.specs.Scope.{rows_of, in_turn, local_names, AreDistinct}
 use Rattle.wit_meaning.specs.Meet.{Key, Meeting, Decls}
 use Rattle.wit_meaning.specs.Whole.{Ordered, Turned, item_of, ordered_names, turned, turn_meetings, meetings, taking_meeting, all_meetings, turn_handles, AreRequired}
 use Rattle.wit_model.specs.declared.function.Function.{Function}
 use Rattle.wit_meaning.specs.Function.{functions}
 use Rattle.std.specs.List.{flat_map}
-use Rattle.wit_meaning.specs.Resolving.{Names, Cell, Required, Defines, decls_of, local_names, AreDistinct}
+use Rattle.wit_meaning.specs.Resolving.{Names, Cell, Required, Defines, decls_of}
 use Rattle.wit_meaning.specs.Resolved.{AddsBehind, AddsEach}
 use Rattle.wit_meaning.proofs.Lists.{at_either, at_seam, at_within, map_at}
 use Rattle.wit_meaning.proofs.Repeated.{differ_at}

@@ -31,10 +31,10 @@ use Rattle.wit_meaning.proofs.Lists.{at_front, at_within, flat_map_has}
 use Rattle.wit_meaning.proofs.Names.{name_equal}
 use Rattle.wit_meaning.proofs.Tables.{place_of-Some}
 use Rattle.wit_meaning.proofs.Orders.{in_order-append, in_order_has}
-use Rattle.wit_meaning.proofs.Scoping.{at_contains, contains_at, some_of}
+use Rattle.wit_meaning.proofs.Found.{at_contains, contains_at, some_of, find_at, find_passes}
 use Rattle.wit_meaning.proofs.Kept.{kept_has}
-use Rattle.wit_meaning.proofs.Interfaces.{find_passes}
-use Rattle.wit_meaning.proofs.Itemizing.{find_at, named_found, item_row_at, used_part, length-item_rows}
+use Rattle.wit_meaning.proofs.Itemizing.{named_found, used_part, length-item_rows}
+use Rattle.wit_meaning.proofs.Rows.{item_row_at}
 use Rattle.wit_meaning.proofs.Visits.{use_path_at, used_interface_visit}
 use Rattle.wit_meaning.proofs.Takings.{taking_has}
 

@@ -23,6 +23,7 @@ pub mod Orders
 pub mod Rows
 pub mod Turns
 pub mod Scoping
+pub mod Found
 pub mod Using
 pub mod Legal
 pub mod Written

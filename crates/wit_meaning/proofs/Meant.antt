@@ -6,12 +6,11 @@ use Rattle.std.specs.Str.{bytes_eq}
 use Rattle.std.proofs.lemmas.Option.{slice_get-map}
 use Rattle.wit_order.specs.Table.{IsOrder}
 use Rattle.wit_meaning.specs.Source.{ScopeName, local_name, meaning}
-use Rattle.wit_meaning.specs.Scope.{rows_of, in_turn}
-use Rattle.wit_meaning.specs.Resolving.{Names, env_of, local_names}
+use Rattle.wit_meaning.specs.Scope.{rows_of, in_turn, local_names}
+use Rattle.wit_meaning.specs.Resolving.{Names, env_of}
 use Rattle.wit_meaning.proofs.Lists.{map_at}
 use Rattle.wit_meaning.proofs.Names.{name_equal, name_itself, lookup-place}
-use Rattle.wit_meaning.proofs.Interfaces.{find_passes, find_some}
-use Rattle.wit_meaning.proofs.Itemizing.{find_at}
+use Rattle.wit_meaning.proofs.Found.{find_passes, find_some, find_at}
 use Rattle.wit_meaning.proofs.Leading.{option_cases}
 use Rattle.wit_meaning.proofs.Turns.{in_turn_has}
 use Rattle.wit_meaning.proofs.Using.{lookup-listed}

@@ -12,15 +12,16 @@ use Rattle.wit_meaning.specs.Source.{ScopeName}
 use Rattle.wit_meaning.specs.Shape.{handles, all_handles}
 use Rattle.wit_meaning.specs.Fault.{Fault}
 use Rattle.wit_meaning.specs.Function.{SourceFunction, name_types, written_types, all_types}
-use Rattle.wit_meaning.specs.Ends.{AtResource, AtForeign, Elsewhere, EndsAt, EntryEnd, IsResource, IsOther, entry_end}
-use Rattle.wit_meaning.specs.Ends as ends
+use Rattle.wit_meaning.specs.Ends.{AtResource, AtForeign, Elsewhere, EndsAt}
+use Rattle.wit_meaning.specs.EntryEnds.{EntryEnd, IsResource, IsOther, entry_end}
+use Rattle.wit_meaning.specs.EntryEnds as ends
 use Rattle.wit_meaning.specs.Meet.{Key, Def, Meeting, keys, Decls, IsKeyed}
 use Rattle.wit_meaning.specs.Signature.{IsNoResource}
 use Rattle.wit_meaning.specs.Whole.{AreRequired}
 use Rattle.wit_meaning.specs.Resolving.{Env, Names, env_of, AreNames, Required, AreEnded, IsWrongHandle, IsDefined}
 use Rattle.wit_meaning.proofs.Places.{Grown, key_grown}
 use Rattle.wit_meaning.proofs.Lists.{at_front, at_back, at_split, flat_map_at, flat_map_has}
-use Rattle.wit_meaning.proofs.Scoping.{at_contains}
+use Rattle.wit_meaning.proofs.Found.{at_contains}
 use Rattle.wit_meaning.proofs.Written.{handles_at}
 use Rattle.wit_meaning.proofs.Ends.{EndIs, IsDeclared, ends_one, entry_end-more, end_source, end_source-more}
 

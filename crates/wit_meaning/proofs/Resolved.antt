@@ -38,7 +38,7 @@ use Rattle.wit_meaning.proofs.Kept.{kept_at}
 use Rattle.wit_meaning.proofs.Legal.{three_ways, function_name, functions_differ}
 use Rattle.wit_meaning.proofs.Standing.{DoneScope, turn_of}
 use Rattle.wit_meaning.proofs.Front.{front_scopes, front_at, FrontInterface, FrontWorld}
-use Rattle.wit_meaning.proofs.Scoping.{at_contains, contains_at}
+use Rattle.wit_meaning.proofs.Found.{at_contains, contains_at}
 use Rattle.wit_meaning.proofs.Interfaces.{AreItems, AreOfSort, world_address, interfaces_sort, worlds_sort}
 use Rattle.wit_meaning.proofs.Itemizing.{items_within, item_index}
 use Rattle.wit_meaning.proofs.Orders.{in_order_at}

@@ -11,6 +11,11 @@ use Rattle.wit_meaning.proofs.Lists.{at_take, map_at}
 use Rattle.wit_meaning.proofs.Repeated.{differ_at}
 use Rattle.wit_meaning.proofs.Tables.{place_of-Some, none_if}
 use Rattle.wit_meaning.proofs.Orders.{take_next}
+use Rattle.std.proofs.lemmas.Option.{slice_get-map}
+use Rattle.wit_tree.specs.declared.tree.PackageFile.{PackageFile}
+use Rattle.wit_meaning.specs.Source.{Item, all_items}
+use Rattle.wit_meaning.specs.Scope.{item_row, item_rows}
+use Rattle.std.specs.Option.{option_map}
 
 abbrev row : List ℕ → List Id → Row
 row name needs = record { name = name; needs = needs }
@@ -32,3 +37,6 @@ fresh_row {X} of xs n x differ at = none_if (place_of (map of (take n xs)) (of x
     let same = differ_at name xs differ i n y.0 x there.0 at (ap (λ (row : Row). row.name) y.2 ∙ sym r.2) in
     let before = there.1 in
     omega arith))
+
+pub item_row_at : (files : List PackageFile) (p : ℕ) (w : Item) → slice_get (all_items files) p ≡ Some w → slice_get (item_rows files) p ≡ Some (item_row w)
+item_row_at files p w at = slice_get-map item_row (all_items files) p ∙ ap (option_map item_row) at

@@ -1,5 +1,5 @@
 -- Names of a scope, one after another, and their rows.
-use Rattle.std.proofs.Common.{◌≡◌, ℕ, zero, suc, Bool, true, false, cond, List, [], ◌∷◌, ◌++◌, take, Option, Some, None, IsSome, nat_eq, inl, inr, refl, sym, ap, ◌∙◌, subst, arith}
+use Rattle.std.proofs.Common.{◌≡◌, ℕ, zero, suc, Bool, true, false, cond, List, [], ◌∷◌, ◌++◌, take, Option, Some, IsSome, nat_eq, inl, inr, refl, sym, ap, ◌∙◌, subst, arith}
 use Rattle.std.specs.Prelude.{slice_get, slice_index, Contains}
 use Rattle.std.specs.Option.{option_map}
 use Rattle.std.specs.Cmp.Lexicographic.{pointwise}
@@ -19,6 +19,7 @@ use Rattle.wit_meaning.proofs.Lists.{at_either}
 use Rattle.wit_meaning.proofs.Names.{name_itself, lookup-insert_entry}
 use Rattle.wit_meaning.proofs.Tables.{place_of-Some}
 use Rattle.wit_meaning.proofs.Orders.{in_order_has}
+use Rattle.wit_meaning.proofs.Found.{at_contains, some_of}
 
 pub row_at : (xs : List ScopeName) (i : ℕ) (x : ScopeName) → slice_get xs i ≡ Some x → slice_get (rows_of xs) i ≡ Some (row_of x)
 row_at xs i x at = slice_get-map row_of xs i ∙ ap (option_map row_of) at
@@ -28,16 +29,6 @@ pub name_at : (xs : List ScopeName) (i : ℕ) (r : Row) → slice_get (rows_of x
 name_at [] i r at = absurd (let f : ⊥ = cc in f)
 name_at (x ∷ xs) zero r at = (x, refl, cc)
 name_at (x ∷ xs) (suc i) r at = name_at xs i r at
-
-pub contains_at : {X : Type 0} (xs : List X) (i : ℕ) (x : X) → slice_get xs i ≡ Some x → Contains xs x
-contains_at xs i x at = (i, slice_get_within xs i x at, get_or_from_slice_get xs i x x at)
-
-pub at_contains : {X : Type 0} (xs : List X) (x : X) → Contains xs x → (j : ℕ) × (slice_get xs j ≡ Some x)
-at_contains xs x h = (h.0, slice_get-get_or xs h.0 x h.1 ∙ ap Some h.2)
-
-pub some_of : (o : Option ℕ) → IsSome o → (b : ℕ) × (o ≡ Some b)
-some_of None h = absurd (let f : ⊥ = cc in f)
-some_of (Some b) h = (b, refl)
 
 -- in the order of a scope, what a name needs is an earlier one
 pub needed_earlier : (xs : List ScopeName) (places : List ℕ) (k p : ℕ) (x : ScopeName) (id : Id) → IsOrder (rows_of xs) places → slice_get places k ≡ Some p → slice_get xs p ≡ Some x → Contains (needed_ids x) id → (i : ℕ) × (y : ScopeName) × (slice_get (in_order xs (take k places)) i ≡ Some y) × (local_name y ≡ id.name.now)

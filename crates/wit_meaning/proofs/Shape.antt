@@ -6,7 +6,8 @@ use Rattle.wit_types.specs.declared.types.«Type».{«Type» as Ty}
 use Rattle.wit_types.specs.declared.types.«Type».TheVariants.{Id}
 use Rattle.wit_types.specs.declared.types.TypeDef.{TypeDef}
 use Rattle.wit_types.specs.declared.types.TypeDefKind.{TypeDefKind}
-use Rattle.wit_meaning.specs.Form.{Form, kind_of}
+use Rattle.wit_meaning.specs.Form.{Form}
+use Rattle.wit_meaning.specs.Kind.{kind_of}
 use Rattle.wit_meaning.specs.Expr.{Expr, Prim, Use, Of, Exprs, End, More}
 use Rattle.wit_meaning.specs.Meet.{Key, Def, Whole, IsAt, AreAt, Decls, IsEntry, IsKeyed}
 use Rattle.wit_meaning.specs.Package.{At, HasPart, IsBelow, Reaches}

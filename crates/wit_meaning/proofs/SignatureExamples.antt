@@ -43,7 +43,7 @@ use Rattle.wit_meaning.specs.Functions.{placed_functions}
 use Rattle.wit_meaning.specs.Signature.{Called, called_key, FunctionAsType, DuplicateParam, SetterWithResult, ConstructorOfOther, IsWrittenAs, result_ok}
 use Rattle.wit_meaning.specs.Broken.{all_called, IsBrokenScope, MissingType, Function, FoldedTwice, IsBroken, Scope, FunctionUsed, Setter}
 use Rattle.wit_meaning.specs.Whole.{turned, meetings}
-use Rattle.wit_meaning.proofs.Scoping.{at_contains}
+use Rattle.wit_meaning.proofs.Found.{at_contains}
 use Rattle.wit_meaning.proofs.Examples.{at, id, vec, no_comments, untold, header}
 
 -- a scope of one name that needs none has one order

@@ -14,7 +14,7 @@ use Rattle.wit_meaning.specs.Source.{scope, meaning}
 use Rattle.wit_meaning.specs.Function.{SourceFunction, signature}
 use Rattle.wit_meaning.specs.Expr.{expr_of, exprs_of}
 use Rattle.wit_meaning.specs.Meet.{Key, Def, Whole, Meeting, keys, IsAt, AreAt, Decls, IsKeyed}
-use Rattle.wit_meaning.specs.Form.{kind_of}
+use Rattle.wit_meaning.specs.Kind.{kind_of}
 use Rattle.wit_meaning.proofs.Places.{all_at_untaken}
 use Rattle.wit_meaning.proofs.Shape.{entry_of_key}
 use Rattle.wit_meaning.proofs.Signatures.{function_typed, type_of}

@@ -14,7 +14,8 @@ use Rattle.wit_model.specs.declared.function.Function.{Function}
 use Rattle.wit_meaning.specs.Function.{SourceFunction}
 use Rattle.wit_meaning.specs.Functions.{AreFunctions}
 use Rattle.wit_meaning.specs.Whole.{Turned, functions_at, turn_handles, AreRequired}
-use Rattle.wit_meaning.specs.Resolving.{Names, Cell, Required, env_of, all_met, AreNames, AreDistinct, decls_of, local_names}
+use Rattle.wit_meaning.specs.Resolving.{Names, Cell, Required, env_of, all_met, AreNames, decls_of}
+use Rattle.wit_meaning.specs.Scope.{AreDistinct, local_names}
 use Rattle.wit_meaning.proofs.Meeting.{Has}
 use Rattle.wit_meaning.proofs.FreeNames.{free_of, AreStated}
 use Rattle.wit_meaning.proofs.Signatures.{IsInFunctions}

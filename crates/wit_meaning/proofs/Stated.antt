@@ -11,7 +11,7 @@ use Rattle.wit_tree.specs.declared.tree.UseName.{UseName}
 use Rattle.wit_tree.specs.declared.tree.PackageFile.{PackageFile}
 use Rattle.wit_types.specs.declared.types.«Type».{«Type» as Ty}
 use Rattle.wit_types.specs.declared.types.TypeDef.{TypeDef}
-use Rattle.wit_meaning.specs.Form.{kind_of}
+use Rattle.wit_meaning.specs.Kind.{kind_of}
 use Rattle.wit_meaning.specs.Address.{Address}
 use Rattle.wit_meaning.specs.Source.{Item, all_items, item_at, ScopeName, Used, Place, local_name, scope_names, scope, meaning, name_body, name_scope, name_parts}
 use Rattle.wit_meaning.specs.Expr.{Use, Exprs, one, expr_of, name_exprs}
@@ -23,7 +23,7 @@ use Rattle.wit_meaning.proofs.Lists.{at_within, map_at}
 use Rattle.wit_meaning.proofs.Names.{lookup-at}
 use Rattle.wit_meaning.proofs.Places.{all_at_untaken}
 use Rattle.wit_meaning.proofs.Repeated.{differ_at}
-use Rattle.wit_meaning.proofs.Scoping.{at_contains}
+use Rattle.wit_meaning.proofs.Found.{at_contains}
 use Rattle.wit_meaning.proofs.Interfaces.{scope_at}
 use Rattle.wit_meaning.proofs.Shape.{entry_of_key}
 use Rattle.wit_meaning.proofs.Depth.{meaning_found}

@@ -20,7 +20,7 @@ use Rattle.wit_meaning.specs.Broken.{IsBrokenUse}
 use Rattle.wit_meaning.specs.Meet.{Key, Def, Meeting, keys, Meets}
 use Rattle.wit_meaning.specs.Repeats.{AllDiffer, firsts}
 use Rattle.wit_meaning.specs.Whole.{taking_meeting}
-use Rattle.wit_meaning.specs.Resolving.{AreDistinct}
+use Rattle.wit_meaning.specs.Scope.{AreDistinct}
 use Rattle.wit_meaning.proofs.Lists.{map_at, map_map, flat_map_at, flat_map_has}
 use Rattle.wit_meaning.proofs.Names.{name_itself, name_equal}
 use Rattle.wit_meaning.proofs.Addresses.{same_address-from, same_address-equal}

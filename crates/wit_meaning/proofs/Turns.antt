@@ -10,9 +10,8 @@ use Rattle.wit_tree.specs.declared.tree.Id.{Id}
 use Rattle.wit_order.specs.Table.{IsOrder}
 use Rattle.wit_meaning.specs.Address.{Address}
 use Rattle.wit_meaning.specs.Source.{ScopeName, Used, Defined, Taken, local_name}
-use Rattle.wit_meaning.specs.Scope.{row_of, rows_of, in_order, is_defined, used, defined, in_turn}
+use Rattle.wit_meaning.specs.Scope.{row_of, rows_of, in_order, is_defined, used, defined, in_turn, AreDistinct}
 use Rattle.wit_meaning.specs.Repeats.{AllDiffer}
-use Rattle.wit_meaning.specs.Resolving.{AreDistinct}
 use Rattle.wit_meaning.proofs.Lists.{at_front, at_back}
 use Rattle.wit_meaning.proofs.Repeated.{differ_none, differ_at, differ_by}
 use Rattle.wit_meaning.proofs.Kept.{kept_at, kept_has, differ_cons, differ_head, differ_tail, kept_differ}

@@ -8,7 +8,8 @@ use Rattle.wit_tree.specs.declared.tree.Id.{Id}
 use Rattle.wit_tree.specs.declared.tree.Attribute.{Attribute}
 use Rattle.wit_tree.specs.declared.tree.PackageFile.{PackageFile}
 use Rattle.wit_types.specs.declared.types.TypeDef.{TypeDef}
-use Rattle.wit_meaning.specs.Form.{UnknownForm, kind_of}
+use Rattle.wit_meaning.specs.Form.{UnknownForm}
+use Rattle.wit_meaning.specs.Kind.{kind_of}
 use Rattle.wit_meaning.specs.Address.{Address, InterfaceNamed, WorldNamed, ForeignNamed, is_foreign}
 use Rattle.wit_meaning.specs.Source.{Item, all_items, item_at, ScopeName, Used, Defined, Taken, local_name, scope_names, Taking, takings, same_taking, first_takings, scope, name_form}
 use Rattle.wit_meaning.specs.Meet.{Key, Def, Whole, Meeting, keys, Meets, Decl, Decls}

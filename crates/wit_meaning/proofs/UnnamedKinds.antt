@@ -6,7 +6,8 @@ use Rattle.wit_types.specs.declared.types.«Type».TheVariants.{Id}
 use Rattle.wit_types.specs.declared.types.Handle.TheVariants.{Own, Borrow}
 use Rattle.wit_types.specs.declared.types.TypeDefKind.{TypeDefKind}
 use Rattle.wit_types.specs.declared.types.TypeDefKind.TheVariants as kind
-use Rattle.wit_meaning.specs.Form.{Form, BorrowForm, TupleForm, OptionForm, ResultForm, ListForm, MapForm, FixedLengthListForm, FutureForm, StreamForm, kind_of}
+use Rattle.wit_meaning.specs.Form.{Form, BorrowForm, TupleForm, OptionForm, ResultForm, ListForm, MapForm, FixedLengthListForm, FutureForm, StreamForm}
+use Rattle.wit_meaning.specs.Kind.{kind_of}
 use Rattle.wit_meaning.specs.Whole.{IsAnonymousForm}
 use Rattle.wit_meaning.proofs.Meeting.{IsOnly}
 

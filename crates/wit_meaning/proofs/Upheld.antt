@@ -22,7 +22,7 @@ use Rattle.wit_meaning.specs.Broken.{IsMissingName, IsFunctionUsed, IsHandleBrok
 use Rattle.wit_meaning.specs.Whole.{Ordered, Turned, item_of, turned, turn_handles, all_meetings, AreRequired}
 use Rattle.wit_meaning.specs.Resolving.{Required}
 use Rattle.wit_meaning.proofs.Lists.{at_front, at_back, map_at}
-use Rattle.wit_meaning.proofs.Scoping.{at_contains}
+use Rattle.wit_meaning.proofs.Found.{at_contains}
 use Rattle.wit_meaning.proofs.Turns.{at_part, in_turn_has}
 use Rattle.wit_meaning.proofs.Ends.{ends_one}
 use Rattle.wit_meaning.proofs.Required.{in_scope, handle_turned}

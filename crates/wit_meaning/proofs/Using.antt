@@ -12,7 +12,8 @@ use Rattle.wit_tree.specs.declared.tree.Attribute.{Attribute}
 use Rattle.wit_tree.specs.declared.tree.UseName.{UseName}
 use Rattle.wit_meaning.specs.Address.{Address}
 use Rattle.wit_meaning.specs.Source.{ScopeName, Used, local_name}
-use Rattle.wit_meaning.specs.Resolving.{Names, Cell, env_of, local_names, HasNames, IsUsed}
+use Rattle.wit_meaning.specs.Resolving.{Names, Cell, env_of, HasNames, IsUsed}
+use Rattle.wit_meaning.specs.Scope.{local_names}
 use Rattle.wit_meaning.proofs.Names.{name_cases, name_itself, names-insert_entry}
 
 -- a name that is listed finds a value

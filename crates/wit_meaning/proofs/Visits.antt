@@ -25,10 +25,9 @@ use Rattle.wit_meaning.proofs.Addresses.{same_address-from, same_address-equal}
 use Rattle.wit_meaning.proofs.Repeated.{differ_at, differ_join}
 use Rattle.wit_meaning.proofs.Kept.{kept_at, kept_has, kept_differ}
 use Rattle.wit_meaning.proofs.Firsts.{firsts_has, firsts_differ}
-use Rattle.wit_meaning.proofs.Scoping.{contains_at}
+use Rattle.wit_meaning.proofs.Found.{contains_at, find_at, find_passes, find_some}
 use Rattle.wit_meaning.proofs.Turns.{at_part}
-use Rattle.wit_meaning.proofs.Interfaces.{AreAddresses, find_passes, find_some, own_address}
-use Rattle.wit_meaning.proofs.Itemizing.{find_at}
+use Rattle.wit_meaning.proofs.Interfaces.{AreAddresses, own_address}
 
 -- what is found is the only one that passes
 pub find-only : {X : Type 0} (p : X → Bool) (xs : List X) (t : ℕ) (x : X) → slice_get xs t ≡ Some x → p x ≡ true → ((i : ℕ) (y : X) → slice_get xs i ≡ Some y → p y ≡ true → i ≡ t) → find p xs ≡ Some x

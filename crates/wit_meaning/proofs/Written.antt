@@ -20,7 +20,7 @@ use Rattle.wit_meaning.specs.Meet.{shape_meetings, shapes_meetings}
 use Rattle.wit_meaning.specs.Fault.{Fault}
 use Rattle.wit_meaning.specs.Bodies.{IsBrokenForm, StandsIn, IsBrokenType, IsBrokenPart}
 use Rattle.wit_meaning.specs.Resolving.{Env, IsWrongWord, IsWrongType, AreWrongTypes}
-use Rattle.wit_meaning.proofs.Scoping.{contains_at}
+use Rattle.wit_meaning.proofs.Found.{contains_at}
 
 pub row_shapes-all : {m : _} (ts : Row_of-Type m) → row_shapes ts ≡ all_shapes (row_types ts)
 row_shapes-all end_of-Type = refl

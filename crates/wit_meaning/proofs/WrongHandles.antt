@@ -14,12 +14,12 @@ use Rattle.wit_meaning.specs.Address.{Address}
 use Rattle.wit_meaning.specs.Source.{address, Item, all_items, ScopeName, local_name, scope, scope_names}
 use Rattle.wit_meaning.specs.Foreign.{visited, foreign_interfaces, foreign_worlds}
 use Rattle.wit_meaning.specs.Function.{item_types}
-use Rattle.wit_meaning.specs.Scope.{in_turn}
+use Rattle.wit_meaning.specs.Scope.{in_turn, AreDistinct}
 use Rattle.wit_meaning.specs.Fault.{Fault}
 use Rattle.wit_meaning.specs.Meet.{Def, Meeting, keys, Decl, Decls, IsAmong, decl_of, all_name_meetings}
 use Rattle.wit_meaning.specs.Broken.{IsBrokenUse, IsHandleBroken}
 use Rattle.wit_meaning.specs.Whole.{item_of, all_meetings}
-use Rattle.wit_meaning.specs.Resolving.{Cell, Required, cells, AreDistinct, IsDefined, decls_of}
+use Rattle.wit_meaning.specs.Resolving.{Cell, Required, cells, IsDefined, decls_of}
 use Rattle.wit_meaning.specs.Resolved.{AddsForeign, IsWrongHandleNow}
 use Rattle.wit_meaning.proofs.Lists.{at_take, at_back, map_at}
 use Rattle.wit_meaning.proofs.Repeated.{differ_at, differ_by}

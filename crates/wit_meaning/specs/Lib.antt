@@ -4,6 +4,7 @@ pub mod Docs
 pub mod Fault
 pub mod Notes
 pub mod Form
+pub mod Kind
 pub mod Node
 pub mod Shape
 pub mod Source
@@ -14,6 +15,7 @@ pub mod Scope
 pub mod Bodies
 pub mod Function
 pub mod Ends
+pub mod EntryEnds
 pub mod Signature
 pub mod Broken
 pub mod Functions

@@ -11,7 +11,8 @@ use Rattle.wit_types.specs.declared.types.TypeDef.{TypeDef}
 use Rattle.wit_types.specs.declared.types.TypeDefKind.{TypeDefKind}
 use Rattle.wit_types.specs.declared.types.TypeOwner.{TypeOwner}
 use Rattle.wit_types.specs.declared.types.TypeOwner.TheVariants as owner
-use Rattle.wit_meaning.specs.Form.{Form, kind_of}
+use Rattle.wit_meaning.specs.Form.{Form}
+use Rattle.wit_meaning.specs.Kind.{kind_of}
 use Rattle.wit_meaning.specs.Node.{Primitive}
 use Rattle.wit_meaning.specs.Node as node
 use Rattle.wit_meaning.specs.Repeats.{AllDiffer}

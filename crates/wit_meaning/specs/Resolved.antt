@@ -18,14 +18,14 @@ use Rattle.wit_meaning.specs.Foreign.{visited, foreign_interfaces, foreign_world
 use Rattle.wit_meaning.specs.Meet.{keys}
 use Rattle.wit_meaning.specs.Fault.{Fault}
 use Rattle.wit_meaning.specs.Package.{IsInterface, IsWorld}
-use Rattle.wit_meaning.specs.Scope.{includes, interfaces_of, worlds_of, rows_of, in_order, defined, in_turn}
+use Rattle.wit_meaning.specs.Scope.{includes, interfaces_of, worlds_of, rows_of, in_order, defined, in_turn, AreDistinct}
 use Rattle.wit_model.specs.declared.function.Function.{Function}
 use Rattle.wit_meaning.specs.Function.{SourceFunction, functions as item_functions, signature, all_types, item_types}
 use Rattle.wit_meaning.specs.Signature.{IsUnpairedSetter}
 use Rattle.wit_meaning.specs.Functions.{placed_functions, function_import}
 use Rattle.wit_meaning.specs.Broken.{IsBrokenScope}
 use Rattle.wit_meaning.specs.Whole.{owner_at, taking_meeting, AreForeignInterfaces, AreForeignWorlds, type_imports, AreIncludes}
-use Rattle.wit_meaning.specs.Resolving.{Names, env_of, Cell, cells, named, AreDistinct, Defines, AddsFunctions, Required, IsWrongHandle, AreEnded, IsIndex, IsWorldIndex, IsLostInclude, IsWrongScope}
+use Rattle.wit_meaning.specs.Resolving.{Names, env_of, Cell, cells, named, Defines, AddsFunctions, Required, IsWrongHandle, AreEnded, IsIndex, IsWorldIndex, IsLostInclude, IsWrongScope}
 use Rattle.wit_meaning.specs.Shape.{words, all_handles}
 
 -- the definitions of a scope were added in the least dependency-first order, behind its used names

@@ -27,19 +27,18 @@ use Rattle.wit_model.specs.declared.interface.Interface.{Interface}
 use Rattle.wit_meaning.specs.Address.{Address, InterfaceNamed, WorldNamed, ForeignNamed}
 use Rattle.wit_meaning.specs.Source.{path_id, Target, Local, Foreign, leads, Item, ScopeName, Used, Defined, local_id, local_name}
 use Rattle.wit_meaning.specs.Foreign.{is_foreign_world, foreign_at}
-use Rattle.wit_meaning.specs.Scope.{include_paths}
+use Rattle.wit_meaning.specs.Scope.{include_paths, AreDistinct, local_names}
 use Rattle.wit_meaning.specs.Shape.{shape_of, all_shapes, words, all_words, handles, all_handles, body_of}
 use Rattle.wit_meaning.specs.Notes.{Notes, notes, no_docs, IsBrokenNotes}
 use Rattle.wit_meaning.specs.Expr.{Expr, Prim, Use, Of, Exprs, End, More}
 use Rattle.wit_meaning.specs.Meet.{Key, Def, Whole, Meeting, keys, IsMet, Meets, AreAt, Decl, Decls, IsAmong, IsMeeting, all_name_meetings, all_function_meetings, decl_of, settled}
-use Rattle.wit_meaning.specs.Repeats.{AllDiffer}
 use Rattle.wit_meaning.specs.Fault.{Fault, fault, missing_at, item_word, type_word, name_word}
 use Rattle.wit_meaning.specs.Package.{At, IsInterface}
 use Rattle.wit_meaning.specs.Bodies.{IsBrokenType, IsBrokenPart, IsBrokenBody}
 use Rattle.wit_meaning.specs.Function.{SourceFunction}
 use Rattle.wit_model.specs.declared.function.Function.{Function}
 use Rattle.wit_meaning.specs.Functions.{AreFunctions, freestanding_names}
-use Rattle.wit_meaning.specs.Ends.{IsResource, IsUnknown as IsUnknownEntry, IsOther, entry_end}
+use Rattle.wit_meaning.specs.EntryEnds.{IsResource, IsUnknown as IsUnknownEntry, IsOther, entry_end}
 use Rattle.wit_meaning.specs.Broken.{IsBrokenScope}
 
 -- what the names of a scope stand for
@@ -105,13 +104,6 @@ pub record IsAdded (old new : List TypeDef) (o : TypeOwner) (names names' : Name
 
 abbrev pub decls_of : TypeOwner → Address → List ScopeName → List Decl
 decls_of o s xs = map (decl_of o s) xs
-
-abbrev pub local_names : List ScopeName → List (List ℕ)
-local_names xs = map local_name xs
-
--- no two of these have one name
-abbrev pub AreDistinct : List ScopeName → Type 0
-AreDistinct xs = AllDiffer (map local_name xs)
 
 -- none of these was met in the scope
 pub record AreNew (ks : List Key) (s : Address) (xs : List ScopeName) : Type 0 where

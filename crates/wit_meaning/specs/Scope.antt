@@ -9,6 +9,7 @@ use Rattle.wit_tree.specs.declared.tree.PackageFile.{PackageFile}
 use Rattle.wit_order.specs.Table.{Row}
 use Rattle.wit_meaning.specs.Shape.{all_words, body_of}
 use Rattle.wit_meaning.specs.Source.{Target, Local, Foreign, leads, ScopeName, Used, Defined, Taken, local_name, Declared, TheInterface, TheWorld, Part, Defining, Using, Including, Doing, Item, item_name, is_world, parts, all_items}
+use Rattle.wit_meaning.specs.Repeats.{AllDiffer}
 
 -- the names that a name of a scope needs: those in a definition's body; a used name needs none of its own scope
 abbrev pub needed_ids : ScopeName → List Id
@@ -114,3 +115,10 @@ part_includes (Doing f) = []
 -- the includes of an item, in source order
 abbrev pub includes : Item → List Include
 includes i = flat_map part_includes (parts i)
+
+abbrev pub local_names : List ScopeName → List (List ℕ)
+local_names xs = map local_name xs
+
+-- no two of these have one name
+abbrev pub AreDistinct : List ScopeName → Type 0
+AreDistinct xs = AllDiffer (map local_name xs)

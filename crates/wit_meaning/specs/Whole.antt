@@ -27,7 +27,8 @@ use Rattle.wit_types.specs.declared.types.TypeOwner.{TypeOwner}
 use Rattle.wit_types.specs.declared.types.TypeOwner.TheVariants as owner
 use Rattle.wit_order.specs.Table.{IsOrder}
 use Rattle.wit_model.specs.declared.unresolved.UnresolvedPackage.{UnresolvedPackage}
-use Rattle.wit_meaning.specs.Form.{Form, OwnForm, AliasForm, ResourceForm, UnknownForm, RecordForm, FlagsForm, VariantForm, EnumForm, kind_of}
+use Rattle.wit_meaning.specs.Form.{Form, OwnForm, AliasForm, ResourceForm, UnknownForm, RecordForm, FlagsForm, VariantForm, EnumForm}
+use Rattle.wit_meaning.specs.Kind.{kind_of}
 use Rattle.std.specs.List.{flat_map, prefix_len}
 use Rattle.wit_meaning.specs.Shape.{Shape, Word, Of, Shapes, all_handles}
 use Rattle.wit_meaning.specs.Address.{Address, same_address}

@@ -12,7 +12,7 @@ use Rattle.wit_types.specs.declared.types.Handle.TheVariants as handle
 use Rattle.wit_types.specs.declared.types.TypeDefKind.{TypeDefKind}
 use Rattle.wit_types.specs.declared.types.TypeDefKind.TheVariants as kind
 use Rattle.wit_types.specs.Types.{place_of, places_to, rank, IsBelow as IsKindBelow}
-use Rattle.wit_meaning.specs.Form.{kind_of}
+use Rattle.wit_meaning.specs.Kind.{kind_of}
 use Rattle.wit_meaning.specs.Package.{HasPart, IsBelow}
 
 -- each of these is below

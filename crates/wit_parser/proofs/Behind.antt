@@ -12,11 +12,11 @@ use Rattle.wit_meaning.specs.Bodies.{IsRepeated}
 use Rattle.wit_meaning.specs.Repeats.{AllDiffer}
 use Rattle.wit_meaning.specs.Shape.{all_handles}
 use Rattle.wit_meaning.specs.Source.{ScopeName, local_id}
-use Rattle.wit_meaning.specs.Scope.{in_turn}
+use Rattle.wit_meaning.specs.Scope.{in_turn, local_names}
 use Rattle.wit_meaning.specs.Function.{SourceFunction, written_types}
 use Rattle.wit_meaning.specs.Signature.{Called, called_key, name_called, function_called}
 use Rattle.wit_meaning.specs.Broken.{all_called, IsFoldedTwice}
-use Rattle.wit_meaning.specs.Resolving.{Env, Names, env_of, local_names}
+use Rattle.wit_meaning.specs.Resolving.{Env, Names, env_of}
 use Rattle.wit_meaning.proofs.Lists.{at_front, map_map, flat_map_has}
 use Rattle.wit_meaning.proofs.Meant.{free_unmeant}
 use Rattle.wit_meaning.proofs.Required.{handle_of}

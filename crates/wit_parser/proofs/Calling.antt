@@ -6,7 +6,7 @@ use Rattle.std.proofs.lemmas.Option.{slice_get_within}
 use Rattle.wit_model.specs.declared.function.Function.{Function}
 use Rattle.wit_meaning.specs.Functions.{freestanding_names}
 use Rattle.wit_meaning.proofs.Lists.{flat_map_at, flat_map_has}
-use Rattle.wit_meaning.proofs.Scoping.{contains_at, at_contains}
+use Rattle.wit_meaning.proofs.Found.{contains_at, at_contains}
 
 -- the written names of a function at its name: none, or one
 abbrev pub written_names : List ℕ × Function → List (List ℕ)

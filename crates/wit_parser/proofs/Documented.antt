@@ -11,7 +11,7 @@ use Rattle.wit_meaning.specs.Fault.{Fault, fault}
 use Rattle.wit_meaning.specs.Notes.{docs_of}
 use Rattle.wit_meaning.specs.Broken.{IsDocumented, IsSecondDocs, headers}
 use Rattle.wit_meaning.specs.Whole.{first_docs}
-use Rattle.wit_meaning.proofs.Scoping.{at_contains, contains_at}
+use Rattle.wit_meaning.proofs.Found.{at_contains, contains_at}
 use Rattle.wit_parser.specs.Headers.{is_documented, have_docs}
 
 cons_option-append : (o : Option Header) (xs ys : List Header) → cons_option o (xs ++ ys) ≡ cons_option o xs ++ ys

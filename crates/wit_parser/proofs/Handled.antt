@@ -14,12 +14,12 @@ use Rattle.wit_types.specs.declared.types.TypeDef.{TypeDef}
 use Rattle.wit_types.specs.declared.types.TypeOwner.{TypeOwner}
 use Rattle.wit_meaning.specs.Address.{Address}
 use Rattle.wit_meaning.specs.Source.{ScopeName, Used, Defined, Taken, local_name}
-use Rattle.wit_meaning.specs.Scope.{used, defined, in_order, in_turn}
+use Rattle.wit_meaning.specs.Scope.{used, defined, in_order, in_turn, local_names}
 use Rattle.wit_meaning.specs.Shape.{all_handles}
 use Rattle.wit_meaning.specs.Function.{name_types}
 use Rattle.wit_meaning.specs.Fault.{Fault}
 use Rattle.wit_meaning.specs.Repeats.{AllDiffer}
-use Rattle.wit_meaning.specs.Resolving.{Env, Names, Cell, env_of, local_names, Defines, IsStored, Required, AreEnded, IsWrongHandle}
+use Rattle.wit_meaning.specs.Resolving.{Env, Names, Cell, env_of, Defines, IsStored, Required, AreEnded, IsWrongHandle}
 use Rattle.wit_meaning.proofs.Lists.{at_front, at_back, at_split, at_take, map_at, flat_map_at, flat_map_has}
 use Rattle.wit_meaning.proofs.Names.{name_cases, lookup-insert_entry, names-insert_entry, lookup-place}
 use Rattle.wit_meaning.proofs.Written.{all_handles-append, handles_at}

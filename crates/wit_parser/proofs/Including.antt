@@ -22,7 +22,7 @@ use Rattle.wit_meaning.specs.Whole.{IsInclude, AreIncludes}
 use Rattle.wit_meaning.specs.Resolving.{Names, IsLostInclude}
 use Rattle.wit_meaning.proofs.Lists.{at_either}
 use Rattle.wit_meaning.proofs.Orders.{take_next}
-use Rattle.wit_meaning.proofs.Scoping.{contains_at}
+use Rattle.wit_meaning.proofs.Found.{contains_at}
 use Rattle.wit_scope.proofs.Lost.{at_flat}
 use Rattle.wit_parser.specs.Between.{IsLost, AreStable}
 use Rattle.wit_parser.proofs.Usable.{contains_one}

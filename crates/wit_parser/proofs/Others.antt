@@ -22,11 +22,9 @@ use Rattle.wit_meaning.specs.Broken.{is_world_at}
 use Rattle.wit_meaning.specs.Resolving.{Names, IsWorldIndex, IsNoWorld}
 use Rattle.wit_meaning.specs.Resolved.{worlds_at}
 use Rattle.wit_meaning.proofs.Addresses.{same_address-equal, same_address-from}
-use Rattle.wit_meaning.proofs.Interfaces.{find_passes, find_some}
-use Rattle.wit_meaning.proofs.Itemizing.{find_at}
+use Rattle.wit_meaning.proofs.Found.{find_passes, find_some, find_at, at_contains}
 use Rattle.wit_meaning.proofs.Kept.{kept_has}
 use Rattle.wit_meaning.proofs.Lists.{at_within}
-use Rattle.wit_meaning.proofs.Scoping.{at_contains}
 use Rattle.wit_meaning.proofs.Visits.{visit_listed, path_visited}
 use Rattle.wit_scope.specs.FileNames.{found_at}
 use Rattle.wit_scope.specs.declared.file_names.FileNames.{FileNames}

@@ -9,9 +9,9 @@ use Rattle.wit_tree.specs.declared.tree.TypeBody.TheVariants as body
 use Rattle.wit_tree.specs.declared.tree.ResourceFunc.{ResourceFunc}
 use Rattle.wit_tree.specs.declared.tree.ResourceFunc.TheVariants as resource
 use Rattle.wit_meaning.specs.Source.{Item, Part, Defining, Using, Including, Doing, parts, ScopeName, Defined, part_names, scope_names, local_name}
-use Rattle.wit_meaning.specs.Scope.{in_turn}
+use Rattle.wit_meaning.specs.Scope.{in_turn, local_names}
 use Rattle.wit_meaning.specs.Function.{SourceFunction, definition_functions, free_function, resource_function, part_functions, functions}
-use Rattle.wit_meaning.specs.Resolving.{Env, Names, env_of, local_names}
+use Rattle.wit_meaning.specs.Resolving.{Env, Names, env_of}
 use Rattle.wit_meaning.proofs.Lists.{map_at, flat_map_at, flat_map_has}
 use Rattle.wit_meaning.proofs.Turns.{in_turn_has}
 use Rattle.wit_meaning.proofs.Using.{lookup-listed}

@@ -13,7 +13,7 @@ use Rattle.wit_tree.specs.declared.tree.«Type».{«Type» as Written}
 use Rattle.wit_tree.specs.declared.tree.TypeDef.{TypeDef as Definition}
 use Rattle.wit_meaning.specs.Source.{ScopeName, Defined, local_name, meaning}
 use Rattle.wit_meaning.specs.Signature.{body_ok, meant_ok}
-use Rattle.wit_meaning.specs.Resolving.{AreDistinct}
+use Rattle.wit_meaning.specs.Scope.{AreDistinct}
 use Rattle.wit_meaning.proofs.Names.{name_cases, name_itself}
 use Rattle.wit_meaning.proofs.Repeated.{differ_at, differ_by}
 use Rattle.wit_entries.specs.Signatures.{told_ok, AreResults}

@@ -10,18 +10,19 @@ use Rattle.wit_meaning.specs.Source.{ScopeName, Used, Defined, Taken, local_id, 
 use Rattle.wit_tree.specs.declared.tree.Id.{Id}
 use Rattle.wit_tree.specs.declared.tree.TypeDef.{TypeDef as Definition}
 use Rattle.wit_meaning.specs.Shape.{all_words, body_of}
-use Rattle.wit_meaning.specs.Scope.{in_order, is_defined, rows_of, used, defined}
+use Rattle.wit_meaning.specs.Scope.{in_order, is_defined, rows_of, used, defined, AreDistinct, local_names}
 use Rattle.wit_meaning.specs.Fault.{Fault, fault, type_word}
 use Rattle.wit_meaning.specs.Bodies.{IsRepeated}
 use Rattle.wit_meaning.specs.Function.{SourceFunction}
 use Rattle.wit_meaning.specs.Broken.{IsBrokenScope, DefinedTwice, MissingType, CyclicType, Notes, Body, Function, FoldedTwice}
 use Rattle.wit_meaning.specs.Repeats.{AllDiffer}
-use Rattle.wit_meaning.specs.Resolving.{Env, AreDistinct, AreLegalNotes, AreLegalBodies, HasNames, IsUnknown, local_names}
+use Rattle.wit_meaning.specs.Resolving.{Env, AreLegalNotes, AreLegalBodies, HasNames, IsUnknown}
 use Rattle.wit_meaning.proofs.Lists.{at_within, at_take, map_at, map_map}
 use Rattle.wit_meaning.proofs.Repeated.{no_repeat}
 use Rattle.wit_meaning.proofs.Orders.{in_order_at}
 use Rattle.wit_meaning.proofs.Turns.{AreOwn, used_is, used_has, defined_at, defined_has, either_at, names_within, in_order_among, in_order_all, in_turn_distinct}
-use Rattle.wit_meaning.proofs.Scoping.{at_contains, contains_at, needed_earlier}
+use Rattle.wit_meaning.proofs.Scoping.{needed_earlier}
+use Rattle.wit_meaning.proofs.Found.{at_contains, contains_at}
 use Rattle.wit_meaning.proofs.Legal.{no_missing_edge, no_cyclic_edge}
 use Rattle.wit_parser.specs.declared.scope_name.ScopeName.{ScopeName as Held}
 use Rattle.wit_parser.specs.declared.scope_name.ScopeName.TheVariants as held

@@ -14,7 +14,7 @@ use Rattle.wit_meaning.specs.Scope.{use_path, use_paths, part_uses, uses}
 use Rattle.wit_meaning.specs.Fault.{Fault}
 use Rattle.wit_meaning.specs.Broken.{is_world_at, IsBrokenUse, MissingUse, WorldUsed, IsBroken, UseNotes, Use}
 use Rattle.wit_meaning.proofs.Lists.{at_either, map_at}
-use Rattle.wit_meaning.proofs.Scoping.{at_contains, contains_at}
+use Rattle.wit_meaning.proofs.Found.{at_contains, contains_at}
 use Rattle.wit_scope.proofs.Lost.{at_flat, flat_more}
 use Rattle.wit_scope.specs.declared.file_names.FileNames.{FileNames}
 use Rattle.wit_parser.specs.declared.items.Item.{Item as Held}

@@ -9,12 +9,12 @@ use Rattle.wit_tree.specs.declared.tree.Attribute.{Attribute}
 use Rattle.wit_tree.specs.declared.tree.UseName.{UseName}
 use Rattle.wit_meaning.specs.Address.{Address}
 use Rattle.wit_meaning.specs.Source.{ScopeName, Used, local_name}
-use Rattle.wit_meaning.specs.Scope.{is_defined, used, defined}
+use Rattle.wit_meaning.specs.Scope.{is_defined, used, defined, local_names}
 use Rattle.wit_meaning.specs.Fault.{Fault}
 use Rattle.wit_meaning.specs.Function.{SourceFunction}
 use Rattle.wit_meaning.specs.Bodies.{IsRepeated}
 use Rattle.wit_meaning.specs.Broken.{DefinedTwice}
-use Rattle.wit_meaning.specs.Resolving.{Names, Cell, env_of, local_names, IsFound, IsWrongName, Unstated, OfFunction, IsWrongUse, Wrong, Taken, IsWrongScope, WrongName, WrongItself}
+use Rattle.wit_meaning.specs.Resolving.{Names, Cell, env_of, IsFound, IsWrongName, Unstated, OfFunction, IsWrongUse, Wrong, Taken, IsWrongScope, WrongName, WrongItself}
 use Rattle.wit_parser.specs.declared.scope_name.ScopeName.{ScopeName as Held}
 use Rattle.wit_parser.specs.Held.{name_behind}
 use Rattle.wit_parser.specs.Between.{IsUnstated, AtFunction, AtNothing}
@@ -22,7 +22,7 @@ use Rattle.wit_meaning.proofs.Orders.{take_next}
 use Rattle.wit_meaning.proofs.Lists.{at_front, at_take, map_at}
 use Rattle.wit_meaning.proofs.Names.{lookup-place}
 use Rattle.wit_meaning.proofs.Turns.{used_at}
-use Rattle.wit_meaning.proofs.Scoping.{contains_at, some_of}
+use Rattle.wit_meaning.proofs.Found.{contains_at, some_of}
 
 -- one whose local name is taken repeats that of one before it
 repeated_used : (xs : List ScopeName) (names : Names) (i : ℕ) (from : Address) (attributes : List Attribute) (n : UseName) → slice_get (used xs) i ≡ Some (Used from attributes n) → map (λ p. p.0) names ≡ local_names (take i (used xs)) → IsSome (env_of names (local_name (Used from attributes n))) → IsRepeated local_name (used xs ++ defined xs) (Used from attributes n)

@@ -11,7 +11,8 @@ use Rattle.wit_meaning.specs.Repeats.{AllDiffer}
 use Rattle.wit_meaning.specs.Source.{ScopeName, local_id, local_name}
 use Rattle.wit_meaning.specs.Function.{SourceFunction}
 use Rattle.wit_meaning.specs.Functions.{function_import}
-use Rattle.wit_meaning.specs.Resolving.{Names, local_names}
+use Rattle.wit_meaning.specs.Resolving.{Names}
+use Rattle.wit_meaning.specs.Scope.{local_names}
 use Rattle.wit_meaning.specs.Whole.{type_imports}
 use Rattle.wit_meaning.proofs.Repeated.{differ_at, differ_by}
 use Rattle.wit_scope.specs.Names.{Name}

@@ -7,11 +7,11 @@ use Rattle.wit_order.specs.Table.{IsOrder}
 use Rattle.wit_meaning.specs.Fault.{Fault}
 use Rattle.wit_meaning.specs.Shape.{all_handles}
 use Rattle.wit_meaning.specs.Source.{ScopeName, local_id, declared_parts}
-use Rattle.wit_meaning.specs.Scope.{rows_of, in_turn}
+use Rattle.wit_meaning.specs.Scope.{rows_of, in_turn, AreDistinct}
 use Rattle.wit_meaning.specs.Function.{SourceFunction, part_functions, written_types}
 use Rattle.wit_meaning.specs.Signature.{IsBrokenFunction}
 use Rattle.wit_meaning.specs.Broken.{IsFoldedTwice}
-use Rattle.wit_meaning.specs.Resolving.{Env, AreDistinct, IsWrongHandle}
+use Rattle.wit_meaning.specs.Resolving.{Env, IsWrongHandle}
 use Rattle.wit_parser.specs.declared.items.Item.{Item as Held}
 use Rattle.wit_parser.specs.Items.{declared_behind}
 

@@ -17,7 +17,7 @@ use Rattle.wit_model.specs.declared.world.WorldKey.{WorldKey}
 use Rattle.wit_model.specs.declared.world.WorldItem.{WorldItem}
 use Rattle.wit_meaning.specs.Address.{Address}
 use Rattle.wit_meaning.specs.Source.{path_id, leads, TopName, Item, is_world, all_items, ScopeName, Defined, local_id, local_name}
-use Rattle.wit_meaning.specs.Scope.{needed_ids, rows_of, in_order, defined, in_turn, item_rows, interfaces_of, worlds_of, uses as uses_of}
+use Rattle.wit_meaning.specs.Scope.{needed_ids, rows_of, in_order, defined, in_turn, item_rows, interfaces_of, worlds_of, uses as uses_of, local_names, AreDistinct}
 use Rattle.wit_meaning.specs.Fault.{Fault, fault, missing_at, name_word}
 use Rattle.wit_meaning.specs.Notes.{Notes, IsBrokenStability, IsBrokenNotes}
 use Rattle.wit_meaning.specs.Bodies.{IsRepeated, IsBrokenBody}
@@ -27,7 +27,7 @@ use Rattle.wit_meaning.specs.Signature.{IsBrokenFunction}
 use Rattle.wit_meaning.specs.Broken.{IsBrokenUse, IsBrokenNames, IsFoldedTwice}
 use Rattle.wit_meaning.specs.Package.{IsWorld}
 use Rattle.wit_meaning.specs.Foreign.{visited, foreign_interfaces, foreign_worlds}
-use Rattle.wit_meaning.specs.Resolving.{Env, Names, env_of, Cell, cells, local_names, AreDistinct, Defines, HasNames, Required, IsWrongHandle, IsIndex, IsWorldIndex, IsNoWorld, IsWrongScope}
+use Rattle.wit_meaning.specs.Resolving.{Env, Names, env_of, Cell, cells, Defines, HasNames, Required, IsWrongHandle, IsIndex, IsWorldIndex, IsNoWorld, IsWrongScope}
 use Rattle.wit_meaning.specs.Resolved.{DefinesAll, AddsScope, worlds_at, AddsForeign, AddsInterfaces, AddsWorlds, AreSoundScopes, HaveLegalStability, IsNext, IsWrongInterface, IsWrongWorld}
 use Rattle.wit_entries.specs.Requiring.{Requires}
 

@@ -2,7 +2,7 @@
 ghost use Rattle.std.specs.Prelude.{◌≡◌, ◌≤◌, ◌⊎◌, ◌++◌, List, [], length, IfOk, IfErr, OnOk, map};
 ghost use Rattle.std.specs.List.{flat_map};
 ghost use Rattle.wit_meaning.specs.Address.{Address};
-ghost use Rattle.wit_meaning.specs.Scope.{used};
+ghost use Rattle.wit_meaning.specs.Scope.{used, local_names};
 ghost use Rattle.wit_meaning.specs.Fault.{Fault};
 ghost use Rattle.wit_meaning.specs.Broken.{IsBrokenScope, Refused};
 ghost use Rattle.wit_meaning.specs.Repeats.{AllDiffer};
@@ -12,7 +12,7 @@ ghost use Rattle.wit_entries.specs.Requiring.{Requires};
 ghost use Rattle.wit_parser.specs.Held.{name_behind, use_behind, definition_behind, front_of, cells_of};
 ghost use Rattle.wit_parser.specs.Front.{AreNamesPlaced};
 ghost use Rattle.wit_parser.specs.Between.{names_in, AreInTurn, IsBrokenAmong, IsWrongHandleIn, IsWrongHandleTurn, IsOfFunctions, IsWrongNames, DefinesTurn, AddsTurn};
-ghost use Rattle.wit_meaning.specs.Resolving.{Cell, env_of, local_names, Defines, AreLegalBodies, AreLegalNotes, HasNames, IsIndex};
+ghost use Rattle.wit_meaning.specs.Resolving.{Cell, env_of, Defines, AreLegalBodies, AreLegalNotes, HasNames, IsIndex};
 
 use crate::distinct::{add_definition_ids, check_unique_names, used_ids};
 use crate::scope::ordered_definitions;

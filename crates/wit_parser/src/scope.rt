@@ -2,10 +2,9 @@
 ghost use Rattle.std.specs.Prelude.{◌≡◌, List, map, IfOk, IfErr};
 ghost use Rattle.std.specs.Bool.{MatchBool};
 ghost use Rattle.wit_order.specs.Table.{rows, IsOrder};
-ghost use Rattle.wit_meaning.specs.Scope.{needed_ids as the_needed, rows_of};
+ghost use Rattle.wit_meaning.specs.Scope.{needed_ids as the_needed, rows_of, AreDistinct};
 ghost use Rattle.wit_meaning.specs.Function.{SourceFunction};
 ghost use Rattle.wit_meaning.specs.Broken.{IsBrokenScope, Refused};
-ghost use Rattle.wit_meaning.specs.Resolving.{AreDistinct};
 ghost use Rattle.wit_parser.specs.Held.{name_behind, definition_behind};
 ghost use Rattle.wit_parser.specs.Between.{AreOrdered, NeedNone};
 

@@ -6,13 +6,13 @@ ghost use Rattle.wit_tree.specs.Refusal.{IsWantOfMemory};
 ghost use Rattle.wit_tree.specs.declared.tree.Id.{Id as TheId};
 ghost use Rattle.wit_meaning.specs.Address.{Address, InterfaceNamed};
 ghost use Rattle.wit_meaning.specs.Source.{ScopeName};
-ghost use Rattle.wit_meaning.specs.Scope.{used};
+ghost use Rattle.wit_meaning.specs.Scope.{used, local_names};
 ghost use Rattle.wit_meaning.specs.Broken.{Refused};
 ghost use Rattle.wit_meaning.specs.Function.{SourceFunction};
 ghost use Rattle.wit_meaning.specs.Functions.{freestanding_names};
 ghost use Rattle.wit_parser.specs.Between.{names_in, IsUnstated};
 ghost use Rattle.wit_parser.specs.Held.{source_behind, use_behind, front_of, cells_of, IsPlaced, ArePlaced};
-ghost use Rattle.wit_meaning.specs.Resolving.{cell_at, env_of, free_functions, local_names, Defines, HasNames, IsIndex, IsFound, IsUnresolved, IsUsed, IsWrongUse, IsWrongScope};
+ghost use Rattle.wit_meaning.specs.Resolving.{cell_at, env_of, free_functions, Defines, HasNames, IsIndex, IsFound, IsUnresolved, IsUsed, IsWrongUse, IsWrongScope};
 
 use crate::distinct::defined_twice;
 use crate::scope_name::{Source, UsedName, local_of};

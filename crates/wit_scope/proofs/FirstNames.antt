@@ -18,8 +18,7 @@ use Rattle.wit_meaning.specs.Repeats.{AllDiffer}
 use Rattle.wit_meaning.proofs.Lists.{map_at, map_map}
 use Rattle.wit_meaning.proofs.Names.{name_equal, name_cases, name_itself}
 use Rattle.wit_meaning.proofs.Repeated.{differ_more}
-use Rattle.wit_meaning.proofs.Interfaces.{find_passes}
-use Rattle.wit_meaning.proofs.Itemizing.{find_at}
+use Rattle.wit_meaning.proofs.Found.{find_passes, find_at}
 use Rattle.wit_order.specs.Table.{Row, entry_row}
 use Rattle.wit_meaning.specs.Scope.{item_row}
 use Rattle.wit_scope.specs.declared.top_name.Target.{Target as Held}

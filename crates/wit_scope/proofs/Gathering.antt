@@ -23,7 +23,7 @@ use Rattle.wit_meaning.proofs.Lists.{at_front, at_back, at_either, map_map}
 use Rattle.wit_meaning.proofs.Orders.{take_next}
 use Rattle.wit_meaning.proofs.Repeated.{no_repeat}
 use Rattle.wit_meaning.proofs.Tables.{place_of-Some, none_if}
-use Rattle.wit_meaning.proofs.Scoping.{at_contains, contains_at}
+use Rattle.wit_meaning.proofs.Found.{at_contains, contains_at}
 use Rattle.wit_meaning.proofs.Legal.{no_missing_edge, no_cyclic_edge}
 use Rattle.wit_scope.specs.Tops.{Named, AreNamed, AreDeclared}
 use Rattle.wit_scope.specs.Checks.{AreDistinctTops, AreRightTops, IsWrongTop, AttributedUse, MissingUse, IsBrokenVisit, AreLegalVisits}

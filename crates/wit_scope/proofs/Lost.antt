@@ -22,8 +22,8 @@ use Rattle.wit_meaning.specs.Repeats.{AllDiffer}
 use Rattle.wit_meaning.proofs.Lists.{at_front, at_back, at_either, map_at}
 use Rattle.wit_meaning.proofs.Names.{name_itself}
 use Rattle.wit_meaning.proofs.Tables.{place_of-Some, none_if}
-use Rattle.wit_meaning.proofs.Scoping.{contains_at, at_contains}
-use Rattle.wit_meaning.proofs.Itemizing.{item_row_at}
+use Rattle.wit_meaning.proofs.Found.{contains_at, at_contains}
+use Rattle.wit_meaning.proofs.Rows.{item_row_at}
 use Rattle.wit_scope.specs.Tops.{item_top}
 use Rattle.wit_scope.specs.Checks.{AreDistinctTops, AreRightUses, AreRightTops, IsRightUse, IsRepeatedName, IsLostTarget, IsLostAmong, needed_paths, IsWrongFile, WrongTop, WrongPath, IsWrongUse, Attributed, Lost, IsWrongTop, AttributedUse, MissingUse}
 use Rattle.wit_scope.proofs.FirstNames.{find_none}

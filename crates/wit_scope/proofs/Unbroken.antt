@@ -7,7 +7,7 @@ use Rattle.wit_meaning.specs.Fault.{Fault}
 use Rattle.wit_meaning.specs.Notes.{IsBrokenStability}
 use Rattle.wit_meaning.specs.Foreign.{ForeignVisit}
 use Rattle.wit_meaning.proofs.Lists.{at_either}
-use Rattle.wit_meaning.proofs.Scoping.{contains_at}
+use Rattle.wit_meaning.proofs.Found.{contains_at}
 use Rattle.wit_scope.specs.Foreign.{foreign_behind}
 use Rattle.wit_scope.specs.Checks.{IsBrokenVisit, AreLegalVisits}
 use Rattle.wit_scope.specs.declared.foreign.ForeignVisit.{ForeignVisit as Held}

@@ -13,7 +13,7 @@ use crate::package::release_of;
 use crate::refusal::refuse;
 use semver::Version;
 use std::alloc::{AllocError, Global};
-use wit_model::Stability;
+use wit_types::Stability;
 use wit_tree::attribute_kind::{AttributeKind, first_of, is_of, kind_of, span_of};
 use wit_tree::tree::Attribute;
 use wit_tree::{ParseError, ParseResult, Span};

@@ -4,7 +4,7 @@ ghost use Rattle.wit_meaning.specs.Docs.{behind_slashes, common_indent, ended, e
 ghost use Rattle.wit_meaning.specs.Notes.{docs_of};
 
 use std::alloc::{AllocError, Global};
-use wit_model::Docs;
+use wit_types::Docs;
 use wit_names::front::behind;
 use wit_tree::tree;
 use wit_values::Text;

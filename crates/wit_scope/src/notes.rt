@@ -8,7 +8,7 @@ ghost use Rattle.wit_scope.specs.Notes.{notes_behind};
 use crate::attributes::{check_external_once, check_stability, told_external_id, told_stability};
 use crate::comments::docs;
 use std::alloc::{AllocError, Global};
-use wit_model::{Docs, Stability};
+use wit_types::{Docs, Stability};
 use wit_tree::ParseResult;
 use wit_tree::tree::{self, Attribute};
 use wit_values::Text;

@@ -8,8 +8,8 @@ use crate::package::listing;
 use crate::refusal::error_line;
 use std::alloc::Global;
 use std::io::Write;
-use wit_parser::UnresolvedPackage;
-use wit_text::SourceMap;
+use wit_model::UnresolvedPackage;
+use wit_lex::SourceMap;
 use wit_tree::ParseResult;
 
 /// Writes the listing of a package, or the line of its refusal, and answers whether it was a listing.

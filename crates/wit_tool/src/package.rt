@@ -13,10 +13,9 @@ use crate::worlds::push_worlds;
 use std::alloc::{AllocError, Global};
 use std::io::Write;
 use wit_model::{
-    Arena, AstItem, Interface, InterfacePlace, PackageName, Stability, TypeDef, TypePlace, World,
-    WorldPlace,
+    Arena, AstItem, Interface, InterfacePlace, PackageName, Stability, TypeDef, TypePlace,
+    UnresolvedPackage, World, WorldPlace,
 };
-use wit_parser::UnresolvedPackage;
 use wit_values::{Row, Table, TextTable};
 
 /// A word and a number in a line.

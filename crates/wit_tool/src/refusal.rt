@@ -8,7 +8,7 @@ use crate::fault::RunFault;
 use crate::output::put;
 use std::alloc::{AllocError, Global};
 use std::io::Write;
-use wit_text::SourceMap;
+use wit_lex::SourceMap;
 use wit_tree::ParseError;
 
 /// The front of a text up to its first LF or CR.

@@ -1,5 +1,5 @@
 use Rattle.std.proofs.Common.{◌≡◌, map, take}
-use Rattle.wit_meaning.specs.Form.{enum_case_member}
+use Rattle.wit_meaning.specs.Kind.{enum_case_member}
 use Rattle.wit_meaning.specs.Shape.{written_enum_case}
 use Rattle.wit_entries.proofs.bodies.enum_cases.Given as goal
 

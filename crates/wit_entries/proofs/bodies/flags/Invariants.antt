@@ -1,5 +1,5 @@
 use Rattle.std.proofs.Common.{◌≡◌, map, take}
-use Rattle.wit_meaning.specs.Form.{flag_member}
+use Rattle.wit_meaning.specs.Kind.{flag_member}
 use Rattle.wit_meaning.specs.Shape.{written_flag}
 use Rattle.wit_entries.proofs.bodies.flags.Given as goal
 

@@ -7,7 +7,7 @@ use Rattle.std.proofs.lemmas.Result.{err_from_is_err_and}
 use Rattle.wit_tree.specs.declared.tree.Case.{Case as WrittenCase}
 use Rattle.wit_tree.specs.Parts.{case_types}
 use Rattle.wit_types.specs.declared.types.Case.{Case}
-use Rattle.wit_meaning.specs.Form.{case_member, payloads}
+use Rattle.wit_meaning.specs.Kind.{case_member, payloads}
 use Rattle.wit_meaning.specs.Shape.{written_case}
 use Rattle.wit_meaning.specs.Resolving.{env_of, AreWrongTypes}
 use Rattle.wit_meaning.proofs.Lists.{filter_map_more}

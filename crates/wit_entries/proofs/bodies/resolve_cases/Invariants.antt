@@ -1,6 +1,6 @@
 use Rattle.std.proofs.Common.{◌≡◌, map, take}
 use Rattle.wit_tree.specs.Parts.{case_types}
-use Rattle.wit_meaning.specs.Form.{case_member, payloads}
+use Rattle.wit_meaning.specs.Kind.{case_member, payloads}
 use Rattle.wit_meaning.specs.Shape.{written_case, all_handles}
 use Rattle.wit_meaning.specs.Resolving.{env_of}
 use Rattle.wit_meaning.proofs.Written.{AreLegal}

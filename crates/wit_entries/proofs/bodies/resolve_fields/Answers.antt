@@ -7,7 +7,7 @@ use Rattle.std.proofs.lemmas.Result.{err_from_is_err_and}
 use Rattle.wit_tree.specs.declared.tree.Field.{Field as WrittenField}
 use Rattle.wit_tree.specs.Parts.{field_types}
 use Rattle.wit_types.specs.declared.types.Field.{Field}
-use Rattle.wit_meaning.specs.Form.{field_member}
+use Rattle.wit_meaning.specs.Kind.{field_member}
 use Rattle.wit_meaning.specs.Shape.{written_field}
 use Rattle.wit_meaning.specs.Resolving.{env_of, IsWrongType, AreWrongTypes}
 use Rattle.wit_meaning.proofs.Refusing.{refused_weaker}

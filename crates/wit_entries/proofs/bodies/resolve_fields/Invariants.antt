@@ -1,6 +1,6 @@
 use Rattle.std.proofs.Common.{◌≡◌, map, take}
 use Rattle.wit_tree.specs.Parts.{field_types}
-use Rattle.wit_meaning.specs.Form.{field_member}
+use Rattle.wit_meaning.specs.Kind.{field_member}
 use Rattle.wit_meaning.specs.Shape.{written_field, all_handles}
 use Rattle.wit_meaning.specs.Resolving.{env_of}
 use Rattle.wit_meaning.proofs.Written.{AreLegal}

@@ -11,7 +11,7 @@ use Rattle.wit_meaning.specs.Function.{written_param}
 use Rattle.wit_meaning.specs.Resolving.{env_of}
 use Rattle.wit_meaning.proofs.Lists.{read_map}
 use Rattle.wit_meaning.proofs.Refusing.{refused_weaker}
-use Rattle.wit_meaning.proofs.Scoping.{contains_at}
+use Rattle.wit_meaning.proofs.Found.{contains_at}
 use Rattle.wit_meaning.proofs.Written.{AreLegal, legal_one, legal_more}
 use Rattle.wit_entries.specs.Requiring.{Requires}
 use Rattle.wit_entries.specs.Signatures.{functions_behind, IsRefusedParam, IsWrongInSignature, IsWrongInSignatures, AreParamsOver}

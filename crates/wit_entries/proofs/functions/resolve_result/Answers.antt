@@ -6,7 +6,7 @@ use Rattle.wit_tree.specs.declared.tree.«Type».{«Type» as Written}
 use Rattle.wit_meaning.specs.Fault.{Fault}
 use Rattle.wit_meaning.specs.Resolving.{env_of}
 use Rattle.wit_meaning.proofs.Refusing.{refused_weaker}
-use Rattle.wit_meaning.proofs.Scoping.{contains_at}
+use Rattle.wit_meaning.proofs.Found.{contains_at}
 use Rattle.wit_meaning.proofs.Written.{AreLegal, legal_one}
 use Rattle.wit_entries.specs.Held.{function_behind}
 use Rattle.wit_entries.specs.Signatures.{functions_behind, IsWrongInSignature, IsWrongInSignatures, IsBrokenResult, IsBrokenReturn}

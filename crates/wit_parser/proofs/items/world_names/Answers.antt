@@ -10,7 +10,7 @@ use Rattle.wit_meaning.specs.Scope.{part_uses}
 use Rattle.wit_meaning.proofs.Refusing.{refused_weaker}
 use Rattle.wit_parser.specs.Items.{part_behind, AreSound, IsUnsoundAmong}
 use Rattle.wit_meaning.specs.Foreign.{visited, foreign_interfaces}
-use Rattle.wit_meaning.proofs.Scoping.{contains_at}
+use Rattle.wit_meaning.proofs.Found.{contains_at}
 use Rattle.wit_parser.proofs.Placed.{names_none}
 use Rattle.wit_parser.proofs.Usable.{sound_none, sound_append, parts_more, unsound_part}
 use Rattle.wit_parser.proofs.items.world_names.Goals as goal

@@ -10,7 +10,8 @@ use Rattle.wit_meaning.proofs.Lists.{read_map}
 use Rattle.wit_meaning.proofs.Orders.{take_next}
 use Rattle.wit_meaning.proofs.Refusing.{refused_weaker}
 use Rattle.wit_meaning.proofs.Defining.{defines_none, defines_more}
-use Rattle.wit_meaning.proofs.Scoping.{contains_at, names_none, names_kept, names_more, legal_none, legal_more, noted_none, noted_more}
+use Rattle.wit_meaning.proofs.Scoping.{names_none, names_kept, names_more, legal_none, legal_more, noted_none, noted_more}
+use Rattle.wit_meaning.proofs.Found.{contains_at}
 use Rattle.wit_parser.specs.Held.{definition_behind}
 use Rattle.wit_parser.specs.Between.{names_in, IsBrokenAmong, IsWrongHandleIn}
 use Rattle.wit_parser.proofs.Turning.{none_unknown}

@@ -4,7 +4,8 @@ use Rattle.wit_meaning.specs.Address.{Address}
 use Rattle.wit_meaning.specs.Source.{ScopeName}
 use Rattle.wit_meaning.specs.Shape.{all_handles}
 use Rattle.wit_meaning.specs.Function.{name_types}
-use Rattle.wit_meaning.specs.Resolving.{Cell, env_of, local_names, Defines, AreLegalBodies, AreLegalNotes, HasNames}
+use Rattle.wit_meaning.specs.Resolving.{Cell, env_of, Defines, AreLegalBodies, AreLegalNotes, HasNames}
+use Rattle.wit_meaning.specs.Scope.{local_names}
 use Rattle.wit_entries.specs.Requiring.{Requires}
 use Rattle.wit_parser.specs.Held.{definition_behind}
 use Rattle.wit_parser.specs.Between.{names_in}

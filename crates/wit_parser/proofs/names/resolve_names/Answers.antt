@@ -4,12 +4,12 @@ use Rattle.std.proofs.lemmas.List.{map-append}
 use Rattle.std.proofs.lemmas.Result.{err_from_is_err_and}
 use Rattle.wit_tree.specs.declared.tree.«Type».{«Type» as Written}
 use Rattle.wit_meaning.specs.Address.{Address}
-use Rattle.wit_meaning.specs.Scope.{in_order, used, defined}
+use Rattle.wit_meaning.specs.Scope.{in_order, used, defined, local_names}
 use Rattle.wit_meaning.specs.Shape.{all_handles}
 use Rattle.wit_meaning.specs.Source.{local_name}
 use Rattle.wit_meaning.specs.Function.{SourceFunction, name_types}
 use Rattle.wit_meaning.specs.Broken.{IsBrokenScope}
-use Rattle.wit_meaning.specs.Resolving.{Required, env_of, local_names, Defines, IsWrongScope, WrongItself}
+use Rattle.wit_meaning.specs.Resolving.{Required, env_of, Defines, IsWrongScope, WrongItself}
 use Rattle.wit_meaning.proofs.Refusing.{refused_weaker}
 use Rattle.wit_meaning.proofs.Defining.{defines_more}
 use Rattle.wit_entries.specs.Requiring.{Requires}

@@ -2,10 +2,10 @@ use Rattle.std.proofs.Common.{◌≡◌, ◌⊎◌, ◌++◌, List, map, inl, in
 use Rattle.std.proofs.lemmas.Result.{err_from_is_err_and}
 use Rattle.wit_tree.specs.declared.tree.Id.{Id}
 use Rattle.wit_meaning.specs.Source.{local_id}
-use Rattle.wit_meaning.specs.Scope.{in_order, used, defined}
+use Rattle.wit_meaning.specs.Scope.{in_order, used, defined, AreDistinct}
 use Rattle.wit_meaning.specs.Function.{SourceFunction}
 use Rattle.wit_meaning.specs.Broken.{IsBrokenScope}
-use Rattle.wit_meaning.specs.Resolving.{env_of, AreDistinct, AreLegalBodies, AreLegalNotes}
+use Rattle.wit_meaning.specs.Resolving.{env_of, AreLegalBodies, AreLegalNotes}
 use Rattle.wit_meaning.proofs.Refusing.{refused_weaker}
 use Rattle.wit_meaning.proofs.Turns.{distinct_names}
 use Rattle.wit_parser.specs.Held.{name_behind, use_behind, definition_behind}

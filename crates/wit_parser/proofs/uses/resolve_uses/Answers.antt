@@ -6,7 +6,8 @@ use Rattle.std.proofs.lemmas.Result.{err_from_is_err_and}
 use Rattle.wit_types.specs.declared.types.TypeOwner.{TypeOwner}
 use Rattle.wit_meaning.specs.Source.{Used}
 use Rattle.wit_meaning.specs.Function.{SourceFunction}
-use Rattle.wit_meaning.specs.Resolving.{Defines, local_names, IsWrongUse, IsWrongScope}
+use Rattle.wit_meaning.specs.Resolving.{Defines, IsWrongUse, IsWrongScope}
+use Rattle.wit_meaning.specs.Scope.{local_names}
 use Rattle.wit_meaning.proofs.Lists.{read_map}
 use Rattle.wit_meaning.proofs.Orders.{take_next}
 use Rattle.wit_meaning.proofs.Defining.{defines_used, defines_more}

@@ -1,6 +1,7 @@
 use Rattle.std.proofs.Common.{◌≡◌, map, take}
 use Rattle.wit_meaning.specs.Address.{Address}
-use Rattle.wit_meaning.specs.Resolving.{Defines, local_names}
+use Rattle.wit_meaning.specs.Resolving.{Defines}
+use Rattle.wit_meaning.specs.Scope.{local_names}
 use Rattle.wit_parser.specs.Held.{use_behind, cells_of}
 use Rattle.wit_parser.proofs.uses.resolve_uses.Given as goal
 

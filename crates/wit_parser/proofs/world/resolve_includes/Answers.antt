@@ -11,7 +11,7 @@ use Rattle.wit_meaning.specs.Source.{Item, top_names, TheWorld, Including, world
 use Rattle.wit_meaning.specs.Resolving.{IsLostInclude}
 use Rattle.wit_meaning.specs.Resolved.{worlds_at, IsBrokenItemStability, OfInclude}
 use Rattle.wit_meaning.proofs.Refusing.{refused_weaker}
-use Rattle.wit_meaning.proofs.Scoping.{contains_at}
+use Rattle.wit_meaning.proofs.Found.{contains_at}
 use Rattle.wit_parser.specs.Items.{others_of}
 use Rattle.wit_parser.specs.Between.{IsLost, AreStable}
 use Rattle.wit_parser.proofs.Including.{included, AreIncluded, included_none, included_next, no_include, included_past, included_more, includes_are, included_among, lost_among, stable_none, stable_more}

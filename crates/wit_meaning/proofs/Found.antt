@@ -1,0 +1,43 @@
+-- Elements of a list with their places, and the first one that passes a test.
+use Rattle.std.proofs.Common.{◌≡◌, ℕ, List, Option, Some, None, IsSome, refl, ap, ◌∙◌, suc, Bool, [], ◌∷◌, inl, inr, zero, true, sym}
+use Rattle.std.specs.Prelude.{slice_get, Contains, find}
+use Rattle.std.proofs.lemmas.Option.{slice_get-get_or, slice_get_within, get_or_from_slice_get}
+use Rattle.std.proofs.lemmas.Bool.{cases_Bool}
+
+pub contains_at : {X : Type 0} (xs : List X) (i : ℕ) (x : X) → slice_get xs i ≡ Some x → Contains xs x
+contains_at xs i x at = (i, slice_get_within xs i x at, get_or_from_slice_get xs i x x at)
+
+pub at_contains : {X : Type 0} (xs : List X) (x : X) → Contains xs x → (j : ℕ) × (slice_get xs j ≡ Some x)
+at_contains xs x h = (h.0, slice_get-get_or xs h.0 x h.1 ∙ ap Some h.2)
+
+pub some_of : (o : Option ℕ) → IsSome o → (b : ℕ) × (o ≡ Some b)
+some_of None h = absurd (let f : ⊥ = cc in f)
+some_of (Some b) h = (b, refl)
+
+-- what is found stands in the list
+pub find_at : {X : Type 0} (p : X → Bool) (xs : List X) (x : X) → find p xs ≡ Some x → (i : ℕ) × (slice_get xs i ≡ Some x)
+find_at p [] x h = absurd (let f : ⊥ = cc in f)
+find_at p (y ∷ xs) x h = elim (cases_Bool (p y)) [
+  | inl hit ↦ (0, rw hit at h)
+  | inr miss ↦ (let it = find_at p xs x (rw miss at h) in (suc it.0, it.1))
+]
+
+-- what is found passes
+pub find_passes : {X : Type 0} (p : X → Bool) (xs : List X) (x : X) → find p xs ≡ Some x → p x ≡ true
+find_passes p [] x h = absurd (let f : ⊥ = cc in f)
+find_passes p (y ∷ xs) x h = elim (cases_Bool (p y)) [
+  | inl hit ↦ (let here : Some y ≡ Some x = rw hit at h in let same : y ≡ x = cc in ap p (sym same) ∙ hit)
+  | inr miss ↦ find_passes p xs x (rw miss at h)
+]
+
+-- where one passes, one is found
+pub find_some : {X : Type 0} (p : X → Bool) (xs : List X) (t : ℕ) (x : X) → slice_get xs t ≡ Some x → p x ≡ true → (y : X) × (find p xs ≡ Some y)
+find_some p [] t x at pass = absurd (let f : ⊥ = cc in f)
+find_some p (y ∷ xs) zero x at pass =
+    let here : y ≡ x = cc in
+    let hit : p y ≡ true = ap p here ∙ pass in
+    (y, rw hit refl)
+find_some p (y ∷ xs) (suc t) x at pass = elim (cases_Bool (p y)) [
+  | inl hit ↦ (y, rw hit refl)
+  | inr miss ↦ (let it = find_some p xs t x at pass in (it.0, rw miss it.1))
+]
