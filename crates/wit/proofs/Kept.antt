@@ -2,9 +2,9 @@
 use Rattle.std.proofs.Common.{◌≡◌, ℕ, List, ◌∙◌, refl, take}
 use Rattle.std.specs.Prelude.{Bool, true, false, Option, Some, None, IfSome, Result, Ok, Err}
 use Rattle.std.specs.Io.KnownBytes.{Appends, Keeps}
-use Rattle.wit_tool.specs.declared.fault.RunFault.{RunFault}
-use Rattle.wit_tool.specs.declared.fault.RunFault.TheVariants.{Output, Memory}
-use Rattle.wit_tool.specs.Output.{IsWrittenAs}
+use Rattle.wit_listing.specs.declared.fault.RunFault.{RunFault}
+use Rattle.wit_listing.specs.declared.fault.RunFault.TheVariants.{Output, Memory}
+use Rattle.wit_listing.specs.Output.{IsWrittenAs}
 use Rattle.wit.specs.Input.{IsAnswered}
 use Rattle.wit.specs.Input.IsAnswered.{Ran, TooMuch, GivenUp}
 use Rattle.wit.specs.Status.{IsEnded, status_of}

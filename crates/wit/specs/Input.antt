@@ -4,10 +4,10 @@ use Rattle.std.specs.Io.KnownBytes.{Keeps}
 use Rattle.wit_tree.specs.declared.error.ParseError.{ParseError}
 use Rattle.wit_lex.specs.declared.source.Source.{Source}
 use Rattle.wit_lex.specs.Sources.{IsSource, IsTooLarge}
-use Rattle.wit_tool.specs.declared.fault.RunFault.{RunFault}
-use Rattle.wit_tool.specs.declared.fault.RunFault.TheVariants.{Memory}
-use Rattle.wit_tool.specs.Output.{IsWrittenAs}
-use Rattle.wit_tool.specs.ErrorLine.{IsErrorLine}
+use Rattle.wit_listing.specs.declared.fault.RunFault.{RunFault}
+use Rattle.wit_listing.specs.declared.fault.RunFault.TheVariants.{Memory}
+use Rattle.wit_listing.specs.Output.{IsWrittenAs}
+use Rattle.wit_listing.specs.ErrorLine.{IsErrorLine}
 use Rattle.wit_tool.specs.Run.{IsRun}
 
 -- the text is the one source, and was run

@@ -1,7 +1,7 @@
 -- The status that the program ends with, and what was written then.
 use Rattle.std.specs.Prelude.{ℕ, Bool, true, false, List, Option, Result, Ok, Err}
 use Rattle.std.specs.Io.KnownBytes.{Keeps}
-use Rattle.wit_tool.specs.declared.fault.RunFault.{RunFault}
+use Rattle.wit_listing.specs.declared.fault.RunFault.{RunFault}
 use Rattle.wit.specs.Input.{IsAnswered}
 
 -- 0 after a listing, 1 after the line of a refusal, 2 where neither was written whole

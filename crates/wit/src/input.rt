@@ -3,8 +3,9 @@ ghost use Rattle.wit.specs.Input.{IsAnswered};
 
 use std::alloc::Global;
 use std::io::Write;
+use wit_listing::{RunFault, error_line};
 use wit_text::SourceMap;
-use wit_tool::{RunFault, error_line, run};
+use wit_tool::run;
 
 /// The path of standard input in refusals.
 const PATH: &str = "stdin.wit";

@@ -15,17 +15,17 @@ use Rattle.wit_types.specs.declared.types.«Type».{«Type» as Ty}
 use Rattle.wit_types.specs.declared.stability.Stability.{Stability}
 use Rattle.wit_types.specs.declared.types.TypeDef.{TypeDef}
 use Rattle.wit_types.specs.declared.types.TypeDefKind.TheVariants as kind
-use Rattle.wit_meaning.specs.Form.{ResultForm, FutureForm, StreamForm}
-use Rattle.wit_meaning.specs.Shape.{shape_of, written_body, words, all_words, handles, all_handles}
-use Rattle.wit_meaning.specs.Address.{Address}
-use Rattle.wit_meaning.specs.Expr.{exprs_of}
-use Rattle.wit_meaning.specs.Meet.{shapes_meetings}
-use Rattle.wit_meaning.specs.Fault.{Fault}
-use Rattle.wit_meaning.specs.Bodies.{IsBrokenForm, IsBrokenType}
-use Rattle.wit_meaning.specs.Broken.{Refused}
-use Rattle.wit_meaning.specs.Resolving.{Env, AreResolved, IsWrongWord, IsWrongType, AreWrongTypes, IsWrongBody}
-use Rattle.wit_meaning.proofs.Refusing.{refused_weaker}
-use Rattle.wit_meaning.proofs.Written.{tuple_inner, words-head, wrong_at, wrong_inside, broken_here, AreLegal, legal_none, legal_one, legal_whole}
+use Rattle.wit_syntax.specs.Form.{ResultForm, FutureForm, StreamForm}
+use Rattle.wit_syntax.specs.Shape.{shape_of, written_body, words, all_words, handles, all_handles}
+use Rattle.wit_syntax.specs.Address.{Address}
+use Rattle.wit_arena.specs.Expr.{exprs_of}
+use Rattle.wit_arena.specs.Meet.{shapes_meetings}
+use Rattle.wit_syntax.specs.Fault.{Fault}
+use Rattle.wit_syntax.specs.Bodies.{IsBrokenForm, IsBrokenType}
+use Rattle.wit_syntax.specs.Broken.{Refused}
+use Rattle.wit_arena.specs.Resolving.{Env, AreResolved, IsWrongWord, IsWrongType, AreWrongTypes, IsWrongBody}
+use Rattle.wit_syntax.proofs.Refusing.{refused_weaker}
+use Rattle.wit_arena.proofs.Written.{tuple_inner, words-head, wrong_at, wrong_inside, broken_here, AreLegal, legal_none, legal_one, legal_whole}
 use Rattle.wit_entries.specs.Reading.{primitive_in, IsResolved, AreTypes, IsForm}
 use Rattle.wit_entries.proofs.Reading.{types_one, types_then}
 

@@ -1,18 +1,7 @@
-mod Reading
+pub mod Reading
 mod Known
-mod SignatureTypes
-mod Lost
-mod FunctionParts
-mod FunctionFaults
-mod WholeFunctions
-mod FormKinds
-mod Duplicates
-mod Payloads
+pub mod FormKinds
 mod Told
-mod Requiring
+pub mod Requiring
 mod Settled
-mod Noted
-pub mod Mangling
-mod Paired
-mod Defining
-mod FunctionRules
+pub mod Noted

@@ -8,19 +8,19 @@ use Rattle.wit_types.specs.declared.types.TypeDef.{TypeDef}
 use Rattle.wit_types.specs.declared.types.TypeDefKind.{TypeDefKind}
 use Rattle.wit_types.specs.declared.types.TypeOwner.{TypeOwner}
 use Rattle.wit_model.specs.declared.function.Function.{Function}
-use Rattle.wit_meaning.specs.Address.{Address}
-use Rattle.wit_meaning.specs.Expr.{exprs_of}
-use Rattle.wit_meaning.specs.Kind.{kind_of}
-use Rattle.wit_meaning.specs.Function.{SourceFunction}
-use Rattle.wit_meaning.specs.Functions.{IsNoted}
-use Rattle.wit_meaning.specs.Meet.{shapes_meetings}
-use Rattle.wit_meaning.specs.Notes.{Notes, notes, docs_of}
-use Rattle.wit_meaning.specs.Resolving.{Cell, Names, env_of, AreResolved, IsAdded, Defines}
-use Rattle.wit_meaning.specs.Shape.{body_of}
-use Rattle.wit_meaning.specs.Source.{Defined, name_notes}
-use Rattle.wit_meaning.proofs.Defining.{defines_one}
-use Rattle.wit_scope.specs.Notes.{notes_behind}
-use Rattle.wit_scope.specs.declared.notes.Notes.{Notes as Made}
+use Rattle.wit_syntax.specs.Address.{Address}
+use Rattle.wit_arena.specs.Expr.{exprs_of}
+use Rattle.wit_arena.specs.Kind.{kind_of}
+use Rattle.wit_syntax.specs.Function.{SourceFunction}
+use Rattle.wit_arena.specs.Functions.{IsNoted}
+use Rattle.wit_arena.specs.Meet.{shapes_meetings}
+use Rattle.wit_syntax.specs.Notes.{Notes, notes, docs_of}
+use Rattle.wit_arena.specs.Resolving.{Cell, Names, env_of, AreResolved, IsAdded, Defines}
+use Rattle.wit_syntax.specs.Shape.{body_of}
+use Rattle.wit_syntax.specs.Source.{Defined, name_notes}
+use Rattle.wit_arena.proofs.Defining.{defines_one}
+use Rattle.wit_notes.specs.Notes.{notes_behind}
+use Rattle.wit_notes.specs.declared.notes.Notes.{Notes as Made}
 
 -- what docs and attributes tell is told of what has them
 told_of : (n : Made) (docs own : Docs) (attributes of : List Attribute) → notes_behind n ≡ notes (docs_of docs) attributes → docs ≡ own → attributes ≡ of → notes_behind n ≡ notes (docs_of own) of

@@ -10,18 +10,18 @@ use Rattle.wit_tree.specs.declared.tree.«Type».TheVariants as written
 use Rattle.wit_types.specs.declared.types.TypeDefKind.{TypeDefKind}
 use Rattle.wit_types.specs.declared.stability.Stability.{Stability}
 use Rattle.wit_values.specs.declared.span.Span.{Span}
-use Rattle.wit_meaning.specs.Form.{AliasForm}
-use Rattle.wit_meaning.specs.Kind.{kind_of}
-use Rattle.wit_meaning.specs.Shape.{Shape, Prim, Word, Of, one, shape_of, Body, head, written_body}
-use Rattle.wit_meaning.specs.Address.{Address}
-use Rattle.wit_meaning.specs.Expr.{exprs_of, expr_of}
-use Rattle.wit_meaning.specs.Expr as exprs
-use Rattle.wit_meaning.specs.Meet.{shape_meetings, shapes_meetings}
-use Rattle.wit_meaning.specs.Whole.{IsAnonymousForm}
-use Rattle.wit_meaning.specs.Resolving.{Env, AreResolved, IsInterned}
-use Rattle.wit_meaning.proofs.UnnamedKinds.{only_anonymous}
-use Rattle.wit_meaning.proofs.Resolving.{resolved_more, resolved_whole}
-use Rattle.wit_meaning.proofs.Written.{all_exprs-append, all_meetings-append}
+use Rattle.wit_syntax.specs.Form.{AliasForm}
+use Rattle.wit_arena.specs.Kind.{kind_of}
+use Rattle.wit_syntax.specs.Shape.{Shape, Prim, Word, Of, one, shape_of, Body, head, written_body}
+use Rattle.wit_syntax.specs.Address.{Address}
+use Rattle.wit_arena.specs.Expr.{exprs_of, expr_of}
+use Rattle.wit_arena.specs.Expr as exprs
+use Rattle.wit_arena.specs.Meet.{shape_meetings, shapes_meetings}
+use Rattle.wit_arena.specs.Whole.{IsAnonymousForm}
+use Rattle.wit_arena.specs.Resolving.{Env, AreResolved, IsInterned}
+use Rattle.wit_arena.proofs.UnnamedKinds.{only_anonymous}
+use Rattle.wit_arena.proofs.Resolving.{resolved_more, resolved_whole}
+use Rattle.wit_arena.proofs.Written.{all_exprs-append, all_meetings-append}
 use Rattle.wit_entries.specs.declared.types.Reading.{Reading}
 use Rattle.wit_entries.specs.declared.types.Reading.TheVariants as reading
 use Rattle.wit_entries.specs.Reading.{IsResolved, AreTypes, IsLeaf, IsOwn, IsForm, IsRead, StandsFor, named_kind}

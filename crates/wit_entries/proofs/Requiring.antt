@@ -7,10 +7,10 @@ use Rattle.wit_tree.specs.declared.tree.«Type».TheVariants as written
 use Rattle.wit_tree.specs.Parts.{part_types}
 use Rattle.wit_types.specs.declared.types.«Type».{«Type» as Ty}
 use Rattle.wit_types.specs.declared.types.TypeDef.{TypeDef}
-use Rattle.wit_meaning.specs.Shape.{shape_of, handles, all_handles}
-use Rattle.wit_meaning.specs.Resolving.{Env, Required, AreEnded}
-use Rattle.wit_meaning.proofs.Written.{all_handles-append, IsNoHandle, handles-parts}
-use Rattle.wit_meaning.proofs.Required.{ended_append, ended_more}
+use Rattle.wit_syntax.specs.Shape.{shape_of, handles, all_handles}
+use Rattle.wit_arena.specs.Resolving.{Env, Required, AreEnded}
+use Rattle.wit_arena.proofs.Written.{all_handles-append, IsNoHandle, handles-parts}
+use Rattle.wit_arena.proofs.Required.{ended_append, ended_more}
 use Rattle.wit_entries.specs.Reading.{primitive_in}
 use Rattle.wit_entries.specs.Requiring.{IsGrown, Requires}
 

@@ -15,10 +15,10 @@ use Rattle.wit_types.specs.declared.types.TypeDef.{TypeDef}
 use Rattle.wit_types.specs.declared.types.TypeDefKind.{TypeDefKind}
 use Rattle.wit_types.specs.declared.types.TypeDefKind.TheVariants as kind
 use Rattle.wit_types.specs.Types.{slots}
-use Rattle.wit_meaning.specs.Kind.{payloads, kind_of}
-use Rattle.wit_meaning.specs.Notes.{first_known}
-use Rattle.wit_meaning.specs.Meet.{stability_at}
-use Rattle.wit_meaning.proofs.Lists.{map_map}
+use Rattle.wit_arena.specs.Kind.{payloads, kind_of}
+use Rattle.wit_syntax.specs.Notes.{first_known}
+use Rattle.wit_arena.specs.Meet.{stability_at}
+use Rattle.wit_syntax.proofs.Lists.{map_map}
 use Rattle.wit_entries.specs.Settled.{known, slot_stability, known_in_slots, known_in_parts}
 
 -- a known one is the first of all behind it

@@ -8,10 +8,10 @@ use Rattle.wit_types.specs.declared.types.TypeDef.{TypeDef}
 use Rattle.wit_types.specs.declared.types.TypeDefKind.{TypeDefKind}
 use Rattle.wit_types.specs.declared.types.TypeDefKind.TheVariants as kind
 use Rattle.wit_types.specs.declared.types.Handle.TheVariants as handle
-use Rattle.wit_meaning.specs.Kind.{kind_of}
-use Rattle.wit_meaning.specs.EntryEnds.{EntryEnd, found_end, kind_end, entry_end}
-use Rattle.wit_meaning.proofs.Lists.{at_either}
-use Rattle.wit_meaning.proofs.Ends.{entry_end-same}
+use Rattle.wit_arena.specs.Kind.{kind_of}
+use Rattle.wit_arena.specs.EntryEnds.{EntryEnd, found_end, kind_end, entry_end}
+use Rattle.wit_syntax.proofs.Lists.{at_either}
+use Rattle.wit_arena.proofs.Ends.{entry_end-same}
 use Rattle.wit_entries.specs.declared.ends.End.{End}
 use Rattle.wit_entries.specs.declared.ends.End.TheVariants as end
 use Rattle.wit_entries.specs.Told.{end_means, EndsAt, EndsNext, AreTold}

@@ -1,7 +1,7 @@
 -- Tables that know the unnamed entries of an arena.
 use Rattle.std.specs.Prelude.{◌≡◌, ℕ, List, Option, Some, None}
 use Rattle.wit_types.specs.declared.types.TypeDef.{TypeDef}
-use Rattle.wit_meaning.specs.Package.{At}
+use Rattle.wit_arena.specs.Package.{At}
 use Rattle.wit_intern.specs.declared.key.InternKey.{InternKey}
 use Rattle.wit_intern.specs.Keys.{key_of}
 use Rattle.wit_intern.specs.FiniteMap.{FiniteMap, set_at}

@@ -3,6 +3,3 @@ pub mod Reading
 pub mod Settled
 pub mod Told
 pub mod Requiring
-pub mod Held
-pub mod Signatures
-pub mod Taken

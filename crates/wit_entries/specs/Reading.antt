@@ -9,13 +9,13 @@ use Rattle.wit_types.specs.declared.types.«Type».TheVariants.{Id}
 use Rattle.wit_types.specs.declared.types.TypeDef.{TypeDef}
 use Rattle.wit_types.specs.declared.types.TypeDefKind.{TypeDefKind}
 use Rattle.wit_types.specs.declared.types.TypeDefKind.TheVariants.{Type_}
-use Rattle.wit_meaning.specs.Kind.{kind_of}
-use Rattle.wit_meaning.specs.Shape.{Shape, Prim, Word, Of, all_shapes}
-use Rattle.wit_meaning.specs.Address.{Address}
-use Rattle.wit_meaning.specs.Expr.{one, expr_of, exprs_of}
-use Rattle.wit_meaning.specs.Meet.{shape_meetings, shapes_meetings, primitive_type}
-use Rattle.wit_meaning.specs.Resolving.{Env, AreResolved, IsInterned}
-use Rattle.wit_meaning.specs.Whole.{IsAnonymousForm}
+use Rattle.wit_arena.specs.Kind.{kind_of}
+use Rattle.wit_syntax.specs.Shape.{Shape, Prim, Word, Of, all_shapes}
+use Rattle.wit_syntax.specs.Address.{Address}
+use Rattle.wit_arena.specs.Expr.{one, expr_of, exprs_of}
+use Rattle.wit_arena.specs.Meet.{shape_meetings, shapes_meetings, primitive_type}
+use Rattle.wit_arena.specs.Resolving.{Env, AreResolved, IsInterned}
+use Rattle.wit_arena.specs.Whole.{IsAnonymousForm}
 use Rattle.wit_entries.specs.declared.types.Reading.{Reading}
 use Rattle.wit_entries.specs.declared.types.Reading.TheVariants as reading
 

@@ -2,7 +2,7 @@
 use Rattle.std.specs.Prelude.{◌≡◌, List, ◌++◌}
 use Rattle.wit_tree.specs.declared.tree.Id.{Id}
 use Rattle.wit_types.specs.declared.types.TypeDef.{TypeDef}
-use Rattle.wit_meaning.specs.Resolving.{Env, Required, AreEnded}
+use Rattle.wit_arena.specs.Resolving.{Env, Required, AreEnded}
 
 -- the new arena is the old one and more
 pub record IsGrown (old new : List TypeDef) : Type 0 where

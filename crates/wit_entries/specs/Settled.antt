@@ -6,9 +6,9 @@ use Rattle.wit_types.specs.declared.types.«Type».{«Type» as Ty}
 use Rattle.wit_types.specs.declared.types.TypeDef.{TypeDef}
 use Rattle.wit_types.specs.declared.types.TypeDefKind.{TypeDefKind}
 use Rattle.wit_types.specs.Types.{slots}
-use Rattle.wit_meaning.specs.Kind.{kind_of}
-use Rattle.wit_meaning.specs.Notes.{first_known}
-use Rattle.wit_meaning.specs.Meet.{stability_at}
+use Rattle.wit_arena.specs.Kind.{kind_of}
+use Rattle.wit_syntax.specs.Notes.{first_known}
+use Rattle.wit_arena.specs.Meet.{stability_at}
 
 -- a stability, where it is known
 abbrev pub known : Stability → Option Stability

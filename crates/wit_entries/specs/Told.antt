@@ -4,7 +4,7 @@ use Rattle.wit_types.specs.declared.types.«Type».TheVariants as type
 use Rattle.wit_types.specs.declared.types.TypeDef.{TypeDef}
 use Rattle.wit_types.specs.declared.types.TypeDefKind.{TypeDefKind}
 use Rattle.wit_types.specs.declared.types.TypeDefKind.TheVariants as kind
-use Rattle.wit_meaning.specs.EntryEnds.{EntryEnd, IsResource, IsUnknown, IsOther, entry_end}
+use Rattle.wit_arena.specs.EntryEnds.{EntryEnd, IsResource, IsUnknown, IsOther, entry_end}
 use Rattle.wit_entries.specs.declared.ends.End.{End}
 use Rattle.wit_entries.specs.declared.ends.End.TheVariants as end
 

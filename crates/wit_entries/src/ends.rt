@@ -4,8 +4,8 @@ ghost use Rattle.wit_tree.specs.Refusal.{IsWantOfMemory};
 ghost use Rattle.wit_types.specs.declared.types.TypeDef.{TypeDef};
 ghost use Rattle.wit_entries.specs.Told.{EndsAt, EndsNext, AreTold};
 
-use wit_model::{Arena, Type, TypeDef, TypeDefKind, TypeId, TypePlace};
 use wit_tree::ParseResult;
+use wit_types::{Arena, Type, TypeDef, TypeDefKind, TypeId, TypePlace};
 
 /// Where a type ends.
 #[derive(Clone, Copy, Debug, PartialEq, Eq)]

@@ -2,11 +2,11 @@
 ghost use Rattle.std.specs.Prelude.{◌≡◌, ℕ, [], ◌∷◌, ◌++◌, ◌↔◌, length, IsTrue, IfOk, OnOk, OnErr, IfErr, IfSome, IfNone};
 ghost use Rattle.wit_tree.specs.Refusal.{IsWantOfMemory};
 ghost use Rattle.wit_types.specs.declared.types.TypeDef.{TypeDef};
-ghost use Rattle.wit_meaning.specs.Meet.{settled as the_settled};
-ghost use Rattle.wit_meaning.specs.Package.{At};
-ghost use Rattle.wit_meaning.specs.Resolving.{IsUnnamedOf, IsInterned, named, unnamed};
+ghost use Rattle.wit_arena.specs.Meet.{settled as the_settled};
+ghost use Rattle.wit_arena.specs.Package.{At};
+ghost use Rattle.wit_arena.specs.Resolving.{IsUnnamedOf, IsInterned, named, unnamed};
 ghost use Rattle.wit_intern.specs.Keys.{key_of};
-ghost use Rattle.wit_scope.specs.Notes.{notes_behind};
+ghost use Rattle.wit_notes.specs.Notes.{notes_behind};
 ghost use Rattle.wit_entries.specs.Known.{AreKnown, with_key};
 ghost use Rattle.wit_entries.specs.Told.{EndsAt};
 ghost use Rattle.wit_entries.specs.Requiring.{IsGrown};
@@ -17,11 +17,11 @@ use std::alloc::{AllocFailed, Global};
 use std::collections::HashMap;
 use std::marker::Model;
 use wit_intern::{InternKey, InternTable};
-use wit_model::{
+use wit_notes::Notes;
+use wit_tree::{ParseResult, Span};
+use wit_types::{
     Arena, Docs, Stability, TypeDef, TypeDefKind, TypeId, TypeOwner, TypePlace, is_same_kind,
 };
-use wit_scope::Notes;
-use wit_tree::{ParseResult, Span};
 use wit_values::Text;
 
 type Table = HashMap<InternKey, TypeId>;

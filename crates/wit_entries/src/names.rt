@@ -1,23 +1,23 @@
 //! Names that are written in types: what they stand for, and whether a handle may name them.
 ghost use Rattle.std.specs.Prelude.{◌≡◌, ◌⊎◌, List, [], ◌∷◌, IfOk, IfErr, OnOk, Some};
 ghost use Rattle.wit_tree.specs.Refusal.{IsWantOfMemory};
-ghost use Rattle.wit_meaning.specs.Fault.{fault, fault_of};
-ghost use Rattle.wit_meaning.specs.Broken.{Refused};
-ghost use Rattle.wit_meaning.specs.Resolving.{env_of, IsUnknown, IsWrongWord};
+ghost use Rattle.wit_syntax.specs.Fault.{fault, fault_of};
+ghost use Rattle.wit_syntax.specs.Broken.{Refused};
+ghost use Rattle.wit_arena.specs.Resolving.{env_of, IsUnknown, IsWrongWord};
 ghost use Rattle.wit_entries.specs.Requiring.{Requires};
 
 use crate::ends::End;
 use crate::entries::Entries;
 use crate::scope::Required;
 use std::alloc::Global;
-use wit_model::TypeId;
-use wit_scope::refusal::{refuse_in, refuse_missing_type};
+use wit_notes::refusal::{refuse_in, refuse_missing_type};
 use wit_tree::tree::Id;
 use wit_tree::{ParseError, ParseResult};
+use wit_types::TypeId;
 use wit_values::TextTable;
 
 /// What a name of the scope stands for.
-pub(crate) fn find_name(alloc: Global, names: &TextTable<TypeId>, id: Id<'_>) -> ParseResult<TypeId>
+pub fn find_name(alloc: Global, names: &TextTable<TypeId>, id: Id<'_>) -> ParseResult<TypeId>
     ensures found { IfOk result (λ place. env_of names.now id.entry.name.now ≡ Some place) }
     ensures refused { IfErr result (Refused (IsUnknown (env_of names.now) (id.entry ∷ []))) }
 {
@@ -41,7 +41,7 @@ fn refuse_handle(alloc: Global, id: Id<'_>) -> ParseError
 /// What a name in a handle stands for: a resource, or a type of another package, which has to be one.
 ///
 /// A refusal is E15, E27, or want of memory.
-pub(crate) fn find_resource(
+pub fn find_resource(
     alloc: Global,
     types: &Entries,
     names: &TextTable<TypeId>,

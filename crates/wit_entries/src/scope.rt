@@ -1,15 +1,15 @@
 //! The names of a scope, while it is resolved.
 ghost use Rattle.std.specs.Prelude.{◌≡◌, OnOk, IfErr};
 ghost use Rattle.wit_tree.specs.Refusal.{IsWantOfMemory};
-ghost use Rattle.wit_meaning.specs.Resolving.{IsAdded};
-ghost use Rattle.wit_scope.specs.Notes.{notes_behind};
+ghost use Rattle.wit_arena.specs.Resolving.{IsAdded};
+ghost use Rattle.wit_notes.specs.Notes.{notes_behind};
 ghost use Rattle.wit_entries.specs.Requiring.{IsGrown};
 
 use crate::entries::Entries;
 use std::alloc::Global;
-use wit_model::{TypeDefKind, TypeId, TypeOwner};
-use wit_scope::Notes;
+use wit_notes::Notes;
 use wit_tree::{ParseResult, Span};
+use wit_types::{TypeDefKind, TypeId, TypeOwner};
 use wit_values::{Text, TextTable};
 
 /// A type of another package that has to be a resource, and where a handle names it.

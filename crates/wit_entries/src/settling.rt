@@ -2,12 +2,12 @@
 ghost use Rattle.std.specs.Prelude.{◌≡◌, IfOk};
 ghost use Rattle.std.specs.Option.{option_copied};
 ghost use Rattle.wit_types.specs.Types.{handled};
-ghost use Rattle.wit_meaning.specs.Meet.{stability_at, settled as the_settled};
+ghost use Rattle.wit_arena.specs.Meet.{stability_at, settled as the_settled};
 ghost use Rattle.wit_entries.specs.Settled.{known as the_known, slot_stability, known_in_slots, known_in_parts};
 
 use std::alloc::AllocError;
-use wit_model::{Arena, Handle, Stability, Type, TypeDef, TypeDefKind, TypeId, TypePlace};
 use wit_types::slots::{slot, slot_count};
+use wit_types::{Arena, Handle, Stability, Type, TypeDef, TypeDefKind, TypeId, TypePlace};
 
 /// A stability, where it is known.
 fn known(stability: &Stability) -> Option<&Stability>

@@ -3,26 +3,26 @@ ghost use Rattle.std.specs.Prelude.{◌≡◌, IfOk, IfErr, OnOk, is_some};
 ghost use Rattle.std.specs.Option.{option_to_list};
 ghost use Rattle.wit_tree.specs.Refusal.{IsWantOfMemory};
 ghost use Rattle.wit_tree.specs.Parts.{boxed_types};
-ghost use Rattle.wit_meaning.specs.Shape.{shape_of, handles, all_handles};
-ghost use Rattle.wit_meaning.specs.Fault.{Fault};
-ghost use Rattle.wit_meaning.specs.Bodies.{IsBrokenType, IsBrokenPart};
-ghost use Rattle.wit_meaning.specs.Broken.{Refused};
-ghost use Rattle.wit_meaning.specs.Resolving.{env_of, IsWrongType, AreWrongTypes};
+ghost use Rattle.wit_syntax.specs.Shape.{shape_of, handles, all_handles};
+ghost use Rattle.wit_syntax.specs.Fault.{Fault};
+ghost use Rattle.wit_syntax.specs.Bodies.{IsBrokenType, IsBrokenPart};
+ghost use Rattle.wit_syntax.specs.Broken.{Refused};
+ghost use Rattle.wit_arena.specs.Resolving.{env_of, IsWrongType, AreWrongTypes};
 ghost use Rattle.wit_entries.specs.Reading.{primitive_in, IsResolved, AreTypes, IsLeaf, IsRead, StandsFor, named_kind as the_named_kind};
 ghost use Rattle.wit_entries.specs.Requiring.{IsGrown, Requires};
 
 use crate::entries::Entries;
 use crate::names::{find_name, find_resource};
-use crate::rules::{check_key, check_tuple};
 use crate::scope::Required;
 use std::alloc::Global;
-use wit_model::{Handle, Result_, Stability, Tuple, Type, TypeDefKind, TypeId};
+use wit_rules::rules::{check_key, check_tuple};
 use wit_tree::{ParseResult, Span, tree};
+use wit_types::{Handle, Result_, Stability, Tuple, Type, TypeDefKind, TypeId};
 use wit_values::{Row, TextTable};
 
 /// A written type over its resolved parts.
 #[derive(Drop)]
-pub(crate) enum Reading {
+pub enum Reading {
     /// A primitive, or what a name stands for.
     Leaf(Type),
     /// The kind of a form, which is written at the span.
@@ -80,7 +80,7 @@ fn type_of(types: &mut Entries, given: &Stability, reading: Reading) -> ParseRes
 
 /// A written type over its parts, which are resolved first.
 #[cycle(types)]
-pub(crate) fn read(
+pub fn read(
     alloc: Global,
     types: &mut Entries,
     names: &TextTable<TypeId>,
@@ -244,7 +244,7 @@ pub fn resolve_type(
 }
 
 /// The kind that this is under a name by itself.
-pub(crate) fn named_kind(reading: Reading) -> TypeDefKind
+pub fn named_kind(reading: Reading) -> TypeDefKind
     ensures { result ≡ the_named_kind reading }
 {
     match reading {

@@ -3,7 +3,7 @@ use Rattle.std.proofs.Common.{◌≡◌, ◌+◌, Bool, true, false, cond, not, 
 use Rattle.std.specs.List.{filter, list_any, prefix_len}
 use Rattle.std.proofs.lemmas.List.Elements.{filter-append}
 use Rattle.std.proofs.lemmas.Map.Views.{any-filter_same}
-use Rattle.wit_meaning.specs.Repeats.{firsts}
+use Rattle.wit_syntax.specs.Repeats.{firsts}
 
 -- one item stays by a test that tells it
 filter-one : {X : Type 0} (t : X → Bool) (x : X) (known here : Bool) → t x ≡ not here → filter t (cond known [] (x ∷ [])) ≡ cond (here || known) [] (x ∷ [])

@@ -11,13 +11,13 @@ use Rattle.std.proofs.lemmas.List.Elements.{filter-append}
 use Rattle.wit_types.specs.declared.stability.Stability.{Stability}
 use Rattle.wit_model.specs.declared.ast_item.AstItem.{AstItem}
 use Rattle.wit_model.specs.declared.ast_item.AstItem.TheVariants as entry
-use Rattle.wit_model.specs.declared.package_name.PackageName.{PackageName}
-use Rattle.wit_meaning.specs.Address.{same_package, same_address}
-use Rattle.wit_meaning.specs.Foreign.{ForeignVisit, visited_package, visited, same_item, is_foreign_world}
-use Rattle.wit_meaning.specs.Whole.{foreign_place}
-use Rattle.wit_meaning.proofs.Names.{name_itself, name_equal}
+use Rattle.wit_package_names.specs.declared.package_name.PackageName.{PackageName}
+use Rattle.wit_syntax.specs.Address.{same_package, same_address}
+use Rattle.wit_syntax.specs.Foreign.{ForeignVisit, visited_package, visited, same_item, is_foreign_world}
+use Rattle.wit_arena.specs.Whole.{foreign_place}
+use Rattle.wit_syntax.proofs.Names.{name_itself, name_equal}
 use Rattle.wit_foreign.specs.Kept.{Visited, Items, item_more, row_more, table_more, items_of, interfaces_in, worlds_in, packages_of, entry_in, visit_stability, item_in, row_in, table_in, entry_next}
-use Rattle.wit_meaning.proofs.Addresses.{same_package-itself, same_package-equal}
+use Rattle.wit_syntax.proofs.Addresses.{same_package-itself, same_package-equal}
 use Rattle.wit_foreign.proofs.Same.{same_package-flip, name-flip}
 use Rattle.wit_foreign.proofs.Firsts.{firsts-more, Each, each_map, each_both, each_filter, each_firsts, each_passed, each_lost, filter_lost, map_each, Apart, apart_filter, apart_firsts, each_found, prefix_len-found, prefix_len-next, any-firsts, any-filter}
 use Rattle.wit_foreign.proofs.Upserts.{upsert-map, is_some-lookup-map, lookup-told}

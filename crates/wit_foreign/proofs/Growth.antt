@@ -8,8 +8,8 @@ use Rattle.std.proofs.lemmas.List.{map-append, length-map}
 use Rattle.wit_values.specs.declared.span.Span.{Span}
 use Rattle.wit_model.specs.declared.ast_item.AstItem.{AstItem}
 use Rattle.wit_model.specs.declared.ast_item.AstItem.TheVariants as entry
-use Rattle.wit_meaning.specs.Address.{same_package}
-use Rattle.wit_meaning.specs.Foreign.{ForeignVisit, visited_package, is_foreign_world}
+use Rattle.wit_syntax.specs.Address.{same_package}
+use Rattle.wit_syntax.specs.Foreign.{ForeignVisit, visited_package, is_foreign_world}
 use Rattle.wit_foreign.specs.declared.deps.Deps.{Deps}
 use Rattle.wit_foreign.specs.Kept.{table_more, interfaces_in, worlds_in, packages_of, table_in, visit_stability, entry_next, row_in}
 use Rattle.wit_foreign.specs.Growing.{AreDeps}

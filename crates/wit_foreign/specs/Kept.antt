@@ -8,12 +8,12 @@ use Rattle.indexmap.specs.IndexMap.{insert_entry}
 use Rattle.wit_types.specs.declared.stability.Stability.{Stability}
 use Rattle.wit_model.specs.declared.ast_item.AstItem.{AstItem}
 use Rattle.wit_model.specs.declared.ast_item.AstItem.TheVariants as entry
-use Rattle.wit_model.specs.declared.package_name.PackageName.{PackageName}
-use Rattle.wit_meaning.specs.Address.{same_package, same_address}
-use Rattle.wit_meaning.specs.Notes.{stability_of}
-use Rattle.wit_meaning.specs.Repeats.{firsts}
-use Rattle.wit_meaning.specs.Foreign.{ForeignVisit, visited_package, visited, same_item, is_foreign_world}
-use Rattle.wit_meaning.specs.Whole.{foreign_place}
+use Rattle.wit_package_names.specs.declared.package_name.PackageName.{PackageName}
+use Rattle.wit_syntax.specs.Address.{same_package, same_address}
+use Rattle.wit_syntax.specs.Notes.{stability_of}
+use Rattle.wit_syntax.specs.Repeats.{firsts}
+use Rattle.wit_syntax.specs.Foreign.{ForeignVisit, visited_package, visited, same_item, is_foreign_world}
+use Rattle.wit_arena.specs.Whole.{foreign_place}
 
 abbrev pub Visited : Type 0
 Visited = AstItem × List Stability

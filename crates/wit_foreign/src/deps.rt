@@ -2,15 +2,16 @@
 ghost use Rattle.std.specs.Prelude.{◌≡◌, ◌++◌, ◌∷◌, [], IfOk, OnOk, List, length, map, cond, nat_lt, if◌then◌else◌};
 ghost use Rattle.wit_tree.specs.declared.tree.PackageFile.{PackageFile};
 ghost use Rattle.wit_model.specs.declared.ast_item.AstItem.TheVariants as entry;
-ghost use Rattle.wit_meaning.specs.Foreign.{ForeignVisit as Visit, foreign_visits, foreign_packages};
-ghost use Rattle.wit_meaning.specs.Whole.{dep};
-ghost use Rattle.wit_scope.specs.Foreign.{foreign_behind};
+ghost use Rattle.wit_syntax.specs.Foreign.{ForeignVisit as Visit, foreign_visits, foreign_packages};
+ghost use Rattle.wit_arena.specs.Whole.{dep};
+ghost use Rattle.wit_files.specs.Foreign.{foreign_behind};
 ghost use Rattle.wit_foreign.specs.Growing.{AreDeps};
 
 use crate::packages::{Packages, add_visit_in};
 use std::alloc::{AllocError, Global};
+use wit_files::ForeignVisit;
 use wit_model::AstItem;
-use wit_scope::{ForeignVisit, package_name, told_stability};
+use wit_notes::{package_name, told_stability};
 use wit_types::{Arena, InterfacePlace, WorldPlace};
 use wit_values::{Row, Span, Table};
 

@@ -4,12 +4,13 @@ ghost use Rattle.std.specs.Cmp.Lexicographic.{pointwise};
 ghost use Rattle.std.specs.Map.{lookup};
 ghost use Rattle.std.specs.Option.{is_some, unwrap_or};
 ghost use Rattle.indexmap.specs.IndexMap.{insert_entry};
-ghost use Rattle.wit_meaning.specs.Address.{same_package};
+ghost use Rattle.wit_syntax.specs.Address.{same_package};
 ghost use Rattle.wit_foreign.specs.Kept.{row_more, table_more};
 
 use crate::items::{Items, add_visit_of};
 use std::alloc::{AllocError, Global};
-use wit_model::{AstItem, PackageName};
+use wit_model::AstItem;
+use wit_package_names::PackageName;
 use wit_types::Stability;
 use wit_values::{Table, TextTable};
 

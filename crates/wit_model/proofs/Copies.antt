@@ -4,9 +4,9 @@ use Rattle.std.specs.Prelude.{Result, Ok, Err, IfOk, MatchResult}
 use Rattle.std.specs.List.{AllZip}
 use Rattle.wit_types.specs.contracts.stability.StabilityClone.TheImpl as stability
 use Rattle.wit_types.specs.declared.stability.Stability.{Stability}
-use Rattle.wit_model.specs.contracts.package_name.PackageNameClone.TheImpl as name
+use Rattle.wit_package_names.specs.contracts.package_name.PackageNameClone.TheImpl as name
 use Rattle.wit_model.specs.declared.ast_item.AstItem.{AstItem}
-use Rattle.wit_model.specs.declared.package_name.PackageName.{PackageName}
+use Rattle.wit_package_names.specs.declared.package_name.PackageName.{PackageName}
 
 pub if_ok : {T E : Type 0} {P Q : T → Type 0} (N : E → Type 0) → ((x : T) → P x → Q x) → (r : Result T E) → MatchResult r P N → IfOk r Q
 if_ok N weaker (Ok x) h = weaker x h

@@ -23,9 +23,9 @@ use Rattle.wit_model.specs.contracts.world.WorldItemPartialEq.TheImpl.{eq-value 
 use Rattle.wit_model.specs.contracts.world.WorldKeyPartialEq.TheImpl.{eq-value as key_test}
 use Rattle.wit_model.specs.contracts.world.WorldPartialEq.TheImpl.{eq-value as world_test}
 use Rattle.wit_model.specs.contracts.unresolved.UnresolvedPackagePartialEq.TheImpl.{eq-value as package_test}
-use Rattle.wit_model.specs.contracts.package_name.PackageNamePartialEq.TheImpl.{eq-value as name_test}
+use Rattle.wit_package_names.specs.contracts.package_name.PackageNamePartialEq.TheImpl.{eq-value as name_test}
 use Rattle.wit_model.specs.declared.unresolved.UnresolvedPackage.{UnresolvedPackage}
-use Rattle.wit_model.specs.declared.package_name.PackageName.{PackageName}
+use Rattle.wit_package_names.specs.declared.package_name.PackageName.{PackageName}
 use Rattle.wit_model.specs.declared.interface.Interface.{Interface}
 use Rattle.wit_model.specs.declared.world.World.{World}
 use Rattle.wit_model.specs.declared.world.WorldItem.{WorldItem}

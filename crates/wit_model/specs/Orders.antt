@@ -4,7 +4,7 @@ use Rattle.std.specs.Ordering.{ordering_then}
 use Rattle.std.specs.declared.cmp.Ordering.{Ordering}
 use Rattle.wit_values.specs.ReleaseOrder.{release_cmp}
 use Rattle.wit_types.specs.Orders.{text_cmp}
-use Rattle.wit_model.specs.declared.package_name.PackageName.{PackageName}
+use Rattle.wit_package_names.specs.declared.package_name.PackageName.{PackageName}
 
 -- names of packages by namespace, then by name, then by version; no version before all versions
 abbrev pub package_name_cmp : PackageName → PackageName → Ordering

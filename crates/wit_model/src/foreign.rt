@@ -2,8 +2,8 @@
 ghost use Rattle.std.specs.Prelude.{◌≡◌, []};
 
 use crate::ast_item::AstItem;
-use crate::package_name::PackageName;
 use std::alloc::Global;
+use wit_package_names::package_name::PackageName;
 use wit_types::{Stability, TypeId};
 use wit_values::{Row, Span, Table, TextTable};
 

@@ -1,7 +1,8 @@
 //! The data of a resolved package: types, functions, interfaces and worlds.
 //!
 //! Types, interfaces and worlds stand in arenas and refer to one another by ids. Spans are
-//! half-open ranges of bytes in the sources. What is here of types is that of `wit_types`.
+//! half-open ranges of bytes in the sources. What is here of types is that of `wit_types`, and names of
+//! packages are those of `wit_package_names`.
 #![tactic(auto)]
 
 pub mod abi;
@@ -14,9 +15,6 @@ pub mod function_name;
 pub mod futures;
 pub mod interface;
 pub mod laws;
-pub mod package_name;
-mod package_name_text;
-mod package_name_track;
 pub mod setters;
 pub mod signature;
 pub mod spans;
@@ -29,10 +27,10 @@ pub use foreign::ForeignItems;
 pub use function::{Function, FunctionKind, Param};
 pub use futures::reaches_unknown;
 pub use interface::Interface;
-pub use package_name::PackageName;
 pub use setters::place_setters_after_getters;
 pub use signature::ParamResultTypes;
 pub use unresolved::UnresolvedPackage;
+pub use wit_package_names::PackageName;
 pub use wit_types::{
     Arena, Case, Docs, Enum, EnumCase, Field, Flag, Flags, FlagsRepr, Handle, HasSpans, Id, Int,
     InterfaceId, InterfacePlace, PackageId, PackagePlace, Record, Result_, Stability, Tuple, Type,

@@ -1,7 +1,7 @@
 //! Arenas are lists, and ids places in them.
 use std::alloc::Global;
 use std::test::Fail;
-use wit_model::Arena;
+use wit_types::Arena;
 
 fn pair(alloc: Global, first: u32, second: u32) -> Result<Arena<u32>, Fail> {
     let mut arena: Arena<u32> = Arena::new(alloc);

@@ -4,11 +4,14 @@ use semver::Version;
 use std::alloc::{AllocError, Global};
 use std::test::Fail;
 use wit_model::{
-    Arena, Docs, Function, FunctionKind, IncludeName, Interface, InterfaceId, InterfacePlace,
-    PackageName, Param, Stability, Type, TypeDef, TypeDefKind, TypeId, TypeOwner, TypePlace, World,
-    WorldId, WorldInclude, WorldItem, WorldKey, WorldPlace,
+    Function, FunctionKind, IncludeName, Interface, Param, World, WorldInclude, WorldItem, WorldKey,
 };
+use wit_package_names::PackageName;
 use wit_tree::Span;
+use wit_types::{
+    Arena, Docs, InterfaceId, InterfacePlace, Stability, Type, TypeDef, TypeDefKind, TypeId,
+    TypeOwner, TypePlace, WorldId, WorldPlace,
+};
 use wit_values::{Release, Row, Table, Text, TextTable};
 
 pub const SPAN: Span = Span { start: 3, end: 5 };

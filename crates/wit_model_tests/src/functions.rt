@@ -4,8 +4,9 @@ ghost use Rattle.std.specs.Prelude.{◌≡◌};
 use crate::fixtures::{SPAN, functions, type_at};
 use std::alloc::Global;
 use std::test::Fail;
-use wit_model::{Docs, Function, FunctionKind, Mangling, Stability};
+use wit_model::{Function, FunctionKind, Mangling};
 use wit_tree::AccessorKind;
+use wit_types::{Docs, Stability};
 use wit_values::{Row, Text};
 
 // A function without parameters and docs.

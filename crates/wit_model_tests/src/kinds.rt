@@ -8,7 +8,7 @@ use wit_model::laws::equality::{
     is_same_case, is_same_enum, is_same_enum_case, is_same_field, is_same_flag, is_same_flags,
     is_same_handle, is_same_outcome, is_same_record, is_same_tuple, is_same_variant,
 };
-use wit_model::{
+use wit_types::{
     Case, Enum, EnumCase, Field, Flag, Flags, Handle, Record, Result_, Tuple, Type, TypeDefKind,
     TypeId, Variant, is_same_kind,
 };

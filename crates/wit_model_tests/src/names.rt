@@ -2,7 +2,7 @@
 use crate::fixtures::{package, versioned};
 use std::alloc::Global;
 use std::test::Fail;
-use wit_model::PackageName;
+use wit_package_names::PackageName;
 
 fn has_texts(alloc: Global, value: &PackageName, name: &str, id: &str) -> Result<bool, Fail> {
     let text = value.to_text(alloc)?;

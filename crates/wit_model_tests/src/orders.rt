@@ -4,7 +4,8 @@ use crate::fixtures::{package, stable, type_at, unstable, versioned};
 use std::alloc::Global;
 use std::test::Fail;
 use wit_model::laws::order::{compare_package_names, compare_stabilities, compare_types};
-use wit_model::{PackageName, Stability, Type};
+use wit_package_names::PackageName;
+use wit_types::{Stability, Type};
 
 #[test]
 fn primitives(rt: HostRuntime) {

@@ -6,11 +6,10 @@ use crate::fixtures::{
 use std::alloc::{AllocError, Global};
 use std::test::Fail;
 use wit_model::laws::equality::is_same_package;
-use wit_model::{
-    Arena, AstItem, Docs, ForeignItems, Interface, InterfacePlace, PackageName, Stability, TypeDef,
-    TypeDefKind, TypeId, TypePlace, UnresolvedPackage,
-};
+use wit_model::{AstItem, ForeignItems, Interface, UnresolvedPackage};
+use wit_package_names::PackageName;
 use wit_tree::Span;
+use wit_types::{Arena, Docs, InterfacePlace, Stability, TypeDef, TypeDefKind, TypeId, TypePlace};
 use wit_values::{Row, Table, TextTable};
 
 // The arena of the interfaces.

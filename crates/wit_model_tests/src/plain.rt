@@ -5,10 +5,8 @@ use wit_model::laws::equality::{
     is_same_abi, is_same_abi_variant, is_same_ast_item, is_same_flags_repr, is_same_function_kind,
     is_same_int, is_same_mangling, is_same_mangling_and_abi, is_same_owner, is_same_type,
 };
-use wit_model::{
-    AbiVariant, AstItem, FlagsRepr, FunctionKind, Int, LiftLowerAbi, Mangling, ManglingAndAbi,
-    Type, TypeOwner,
-};
+use wit_model::{AbiVariant, AstItem, FunctionKind, LiftLowerAbi, Mangling, ManglingAndAbi};
+use wit_types::{FlagsRepr, Int, Type, TypeOwner};
 
 #[test]
 fn unnumbered(rt: HostRuntime) {

@@ -3,9 +3,10 @@ use crate::alike::add;
 use crate::fixtures::{SPAN, param, type_at};
 use std::alloc::{AllocError, Global};
 use std::test::Fail;
-use wit_model::{
-    Arena, Docs, Function, FunctionKind, Handle, Param, Stability, Type, TypeDef, TypeDefKind,
-    TypeId, TypeOwner, Types, is_backward, reaches_unknown,
+use wit_model::{Function, FunctionKind, Param, reaches_unknown};
+use wit_types::{
+    Arena, Docs, Handle, Stability, Type, TypeDef, TypeDefKind, TypeId, TypeOwner, Types,
+    is_backward,
 };
 use wit_values::{Row, Text};
 

@@ -2,7 +2,7 @@
 use crate::fixtures::SPAN;
 use std::alloc::{AllocError, Global};
 use std::test::Fail;
-use wit_model::{
+use wit_types::{
     Case, Docs, Enum, EnumCase, Flag, Flags, FlagsRepr, Int, Variant, discriminant_type,
 };
 use wit_values::{Row, Text};

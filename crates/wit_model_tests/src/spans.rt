@@ -4,10 +4,9 @@ use crate::fixtures::{add_interface, add_item, add_type, add_world, functions};
 use crate::kinds::every_kind;
 use std::alloc::Global;
 use std::test::Fail;
-use wit_model::{
-    Function, FunctionKind, HasSpans, Interface, TypeDef, TypeDefKind, World, WorldItem,
-};
+use wit_model::{Function, FunctionKind, Interface, World, WorldItem};
 use wit_tree::Span;
+use wit_types::{HasSpans, TypeDef, TypeDefKind};
 
 // The fixtures' spans end at 5.
 const MOVED: Span = Span { start: 13, end: 15 };

@@ -2,7 +2,8 @@
 use semver::Version;
 use std::alloc::Global;
 use std::test::Fail;
-use wit_model::{PackageName, laws};
+use wit_model::laws;
+use wit_package_names::PackageName;
 
 // Whether a text is this suffix, where an empty one stands for none.
 fn is_suffix(told: &Option<String>, suffix: &str) -> bool {

@@ -14,11 +14,9 @@ use wit_model::laws::equality::{
     is_same_param, is_same_stability, is_same_type_def, is_same_world, is_same_world_include,
     is_same_world_item, is_same_world_key,
 };
-use wit_model::{
-    Docs, Function, FunctionKind, Interface, Stability, TypeDef, TypeDefKind, World, WorldInclude,
-    WorldItem, WorldKey,
-};
+use wit_model::{Function, FunctionKind, Interface, World, WorldInclude, WorldItem, WorldKey};
 use wit_tree::Span;
+use wit_types::{Docs, Stability, TypeDef, TypeDefKind};
 use wit_values::{Row, Text};
 
 fn stabilities(alloc: Global) -> Result<Vec<Stability>, Fail> {

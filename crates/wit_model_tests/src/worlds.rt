@@ -3,9 +3,8 @@ use crate::alike::add;
 use crate::fixtures::{SPAN, add_item, docs, functions, interface_at, stable};
 use std::alloc::{AllocError, Global};
 use std::test::Fail;
-use wit_model::{
-    Arena, Docs, Function, FunctionKind, Stability, Types, WorldItem, WorldKey, world_item_func,
-};
+use wit_model::{Function, FunctionKind, WorldItem, WorldKey, world_item_func};
+use wit_types::{Arena, Docs, Stability, Types};
 use wit_values::Text;
 
 #[test]

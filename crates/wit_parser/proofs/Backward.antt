@@ -12,8 +12,8 @@ use Rattle.wit_types.specs.declared.types.Handle.TheVariants as handle
 use Rattle.wit_types.specs.declared.types.TypeDefKind.{TypeDefKind}
 use Rattle.wit_types.specs.declared.types.TypeDefKind.TheVariants as kind
 use Rattle.wit_types.specs.Types.{place_of, places_to, rank, IsBelow as IsKindBelow}
-use Rattle.wit_meaning.specs.Kind.{kind_of}
-use Rattle.wit_meaning.specs.Package.{HasPart, IsBelow}
+use Rattle.wit_arena.specs.Kind.{kind_of}
+use Rattle.wit_arena.specs.Package.{HasPart, IsBelow}
 
 -- each of these is below
 abbrev AreBelow : ℕ → List Ty → Type 0

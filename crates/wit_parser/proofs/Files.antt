@@ -4,10 +4,10 @@ use Rattle.std.specs.Prelude.{not}
 use Rattle.std.proofs.lemmas.List.{length-map}
 use Rattle.std.proofs.lemmas.Option.{slice_get-get_or}
 use Rattle.wit_order.specs.Table.{IsOrder}
-use Rattle.wit_meaning.specs.Fault.{Fault}
-use Rattle.wit_meaning.proofs.Itemizing.{items_within}
-use Rattle.wit_parser.specs.declared.items.Item.{Item as Held}
-use Rattle.wit_parser.specs.Items.{item_behind}
+use Rattle.wit_syntax.specs.Fault.{Fault}
+use Rattle.wit_arena.proofs.Itemizing.{items_within}
+use Rattle.wit_items.specs.declared.items.Item.{Item as Held}
+use Rattle.wit_items.specs.Items.{item_behind}
 use Rattle.std.specs.Option.{option_map}
 use Rattle.std.proofs.lemmas.Bool.{cases_Bool}
 use Rattle.semver.specs.Identifiers.{parts_of}
@@ -18,16 +18,18 @@ use Rattle.wit_model.specs.declared.interface.Interface.{Interface}
 use Rattle.wit_model.specs.declared.world.World.{World}
 use Rattle.wit_types.specs.declared.types.TypeDef.{TypeDef}
 use Rattle.wit_model.specs.declared.unresolved.UnresolvedPackage.{UnresolvedPackage}
-use Rattle.wit_meaning.specs.Source.{Item, all_items, is_world}
-use Rattle.wit_meaning.specs.Scope.{in_order, item_rows, interfaces_of, worlds_of}
-use Rattle.wit_meaning.specs.Broken.{IsLegal, headers, last_header}
-use Rattle.wit_meaning.specs.Foreign.{visited, foreign_interfaces, foreign_worlds}
-use Rattle.wit_meaning.specs.Resolved.{AddsForeign, AddsInterfaces, AreLegalScopes, AreSoundScopes, IsWrongAmong, IsWrongWorldAmong}
-use Rattle.wit_meaning.specs.Resolving.{Names, Required, cells, IsIndex}
-use Rattle.wit_meaning.specs.Whole.{NamesOthers, first_docs, IsPackage, IsFaithful}
-use Rattle.wit_meaning.proofs.Kept.{kept_has}
-use Rattle.wit_meaning.proofs.Resolved.{scopes_legal as legal_scopes, files_legal as legal_by, files_package as package_by, files_faithful as faithful_by}
-use Rattle.wit_parser.specs.Between.{IsWrongNow, IsWrongWorldNow, AddsFiles}
+use Rattle.wit_syntax.specs.Source.{Item, all_items, is_world}
+use Rattle.wit_syntax.specs.Scope.{in_order, item_rows, interfaces_of, worlds_of}
+use Rattle.wit_syntax.specs.Broken.{IsLegal, headers, last_header}
+use Rattle.wit_syntax.specs.Foreign.{visited, foreign_interfaces, foreign_worlds}
+use Rattle.wit_arena.specs.Resolved.{AddsForeign, AddsInterfaces, AreLegalScopes, AreSoundScopes, IsWrongAmong, IsWrongWorldAmong}
+use Rattle.wit_arena.specs.Resolving.{Names, Required, cells, IsIndex}
+use Rattle.wit_arena.specs.Whole.{NamesOthers, first_docs, IsPackage, IsFaithful}
+use Rattle.wit_syntax.proofs.Kept.{kept_has}
+use Rattle.wit_arena.proofs.Resolved.{scopes_legal as legal_scopes, files_legal as legal_by, files_package as package_by, files_faithful as faithful_by}
+use Rattle.wit_interfaces.specs.Between.{IsWrongNow}
+use Rattle.wit_worlds.specs.Between.{IsWrongWorldNow}
+use Rattle.wit_parser.specs.Between.{AddsFiles}
 
 -- where the scopes of interfaces are sound and those of worlds, all are
 pub sound_both : (items : List Item) → AreSoundScopes (interfaces_of items) → AreSoundScopes (worlds_of items) → AreSoundScopes items

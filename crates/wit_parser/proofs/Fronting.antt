@@ -9,24 +9,25 @@ use Rattle.wit_model.specs.declared.ast_item.AstItem.{AstItem}
 use Rattle.wit_model.specs.declared.ast_item.AstItem.TheVariants as entry
 use Rattle.wit_model.specs.declared.interface.Interface.{Interface}
 use Rattle.wit_model.specs.declared.world.World.{World}
-use Rattle.wit_meaning.specs.Foreign.{ForeignVisit, visited, is_foreign_world, foreign_items, foreign_interfaces, foreign_worlds}
-use Rattle.wit_meaning.specs.Whole.{foreign_place}
-use Rattle.wit_meaning.specs.Address.{Address}
-use Rattle.wit_meaning.specs.Resolving.{Names, cells, IsIndex, IsWorldIndex}
-use Rattle.wit_meaning.specs.Resolved.{AddsForeign, worlds_at}
-use Rattle.wit_meaning.proofs.Lists.{map_map}
-use Rattle.wit_meaning.proofs.Indexing.{index_front, world_index_front, worlds_at-append}
-use Rattle.wit_meaning.specs.Source.{all_items, scope_names}
-use Rattle.wit_meaning.proofs.Visits.{visited_foreign, interfaces_differ}
-use Rattle.wit_scope.specs.Foreign.{foreign_behind}
-use Rattle.wit_scope.specs.FileNames.{AreNamesOf}
-use Rattle.wit_scope.specs.declared.file_names.FileNames.{FileNames}
-use Rattle.wit_scope.specs.declared.foreign.ForeignVisit.{ForeignVisit as Held}
-use Rattle.wit_parser.specs.declared.foreign.ForeignArenas.{ForeignArenas}
-use Rattle.wit_parser.specs.declared.items.Item.{Item as HeldItem}
-use Rattle.wit_parser.specs.Held.{front_of}
-use Rattle.wit_parser.specs.Items.{others_of, names_behind}
-use Rattle.wit_parser.specs.Front.{addresses_among, AreItemsPlaced, IsTaken, HasTaken, IsFront}
+use Rattle.wit_syntax.specs.Foreign.{ForeignVisit, visited, is_foreign_world, foreign_items, foreign_interfaces, foreign_worlds}
+use Rattle.wit_arena.specs.Whole.{foreign_place}
+use Rattle.wit_syntax.specs.Address.{Address}
+use Rattle.wit_arena.specs.Resolving.{Names, cells, IsIndex, IsWorldIndex}
+use Rattle.wit_arena.specs.Resolved.{AddsForeign, worlds_at}
+use Rattle.wit_syntax.proofs.Lists.{map_map}
+use Rattle.wit_arena.proofs.Indexing.{index_front, world_index_front, worlds_at-append}
+use Rattle.wit_syntax.specs.Source.{all_items, scope_names}
+use Rattle.wit_arena.proofs.Visits.{visited_foreign, interfaces_differ}
+use Rattle.wit_files.specs.Foreign.{foreign_behind}
+use Rattle.wit_files.specs.FileNames.{AreNamesOf}
+use Rattle.wit_files.specs.declared.file_names.FileNames.{FileNames}
+use Rattle.wit_files.specs.declared.foreign.ForeignVisit.{ForeignVisit as Held}
+use Rattle.wit_front.specs.declared.foreign.ForeignArenas.{ForeignArenas}
+use Rattle.wit_items.specs.declared.items.Item.{Item as HeldItem}
+use Rattle.wit_item_entries.specs.Held.{front_of}
+use Rattle.wit_items.specs.Items.{others_of, names_behind}
+use Rattle.wit_items.specs.Front.{AreItemsPlaced}
+use Rattle.wit_front.specs.Front.{addresses_among, IsTaken, HasTaken, IsFront}
 
 -- the addresses of the interfaces that are held
 pub front_visits : (files : List PackageFile) (vs : List Held) → map foreign_behind vs ≡ foreign_interfaces files → front_of vs ≡ map visited (foreign_interfaces files)

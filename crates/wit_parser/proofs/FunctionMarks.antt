@@ -13,16 +13,16 @@ use Rattle.wit_model.specs.declared.function.Function.{Function}
 use Rattle.wit_model.specs.declared.interface.Interface.{Interface}
 use Rattle.wit_model.specs.declared.world.World.{World}
 use Rattle.wit_model.specs.declared.unresolved.UnresolvedPackage.{UnresolvedPackage}
-use Rattle.wit_meaning.specs.Address.{Address}
-use Rattle.wit_meaning.specs.Foreign.{ForeignVisit, foreign_interfaces, foreign_worlds}
-use Rattle.wit_meaning.specs.Source.{Item, ScopeName, address}
-use Rattle.wit_meaning.specs.Function.{functions}
-use Rattle.wit_meaning.specs.Functions.{by_name, placed_functions, function_import, AreFunctions}
-use Rattle.wit_meaning.specs.Meet.{Key, keys}
-use Rattle.wit_meaning.specs.Package.{import_functions, interface_functions, world_functions, world_types, functions_of}
-use Rattle.wit_meaning.specs.Whole.{Ordered, ordered_names, type_imports, AreInterfaces, AreWorlds, AreForeignInterfaces, AreForeignWorlds, IsPackage, world_addresses}
-use Rattle.wit_meaning.proofs.Lists.{at_split, at_within, map_at}
-use Rattle.wit_meaning.proofs.Placed.{function_from}
+use Rattle.wit_syntax.specs.Address.{Address}
+use Rattle.wit_syntax.specs.Foreign.{ForeignVisit, foreign_interfaces, foreign_worlds}
+use Rattle.wit_syntax.specs.Source.{Item, ScopeName, address}
+use Rattle.wit_syntax.specs.Function.{functions}
+use Rattle.wit_arena.specs.Functions.{by_name, placed_functions, function_import, AreFunctions}
+use Rattle.wit_arena.specs.Meet.{Key, keys}
+use Rattle.wit_arena.specs.Package.{import_functions, interface_functions, world_functions, world_types, functions_of}
+use Rattle.wit_arena.specs.Whole.{Ordered, ordered_names, type_imports, AreInterfaces, AreWorlds, AreForeignInterfaces, AreForeignWorlds, IsPackage, world_addresses}
+use Rattle.wit_syntax.proofs.Lists.{at_split, at_within, map_at}
+use Rattle.wit_arena.proofs.Placed.{function_from}
 use Rattle.wit_parser.proofs.WrittenMarks.{written_marked}
 use Rattle.wit_parser.specs.Marks.{HaveMarks}
 

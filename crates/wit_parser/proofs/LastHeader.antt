@@ -4,10 +4,10 @@ use Rattle.std.specs.Prelude.{slice_get}
 use Rattle.std.specs.Option.{option_and_then, option_or, is_some}
 use Rattle.wit_tree.specs.declared.tree.PackageName.{PackageName as Header}
 use Rattle.wit_tree.specs.declared.tree.PackageFile.{PackageFile}
-use Rattle.wit_meaning.specs.Broken.{last_header}
-use Rattle.wit_meaning.proofs.Lists.{at_front, at_seam, at_either}
-use Rattle.wit_meaning.proofs.Headers.{last_header-append}
-use Rattle.wit_parser.specs.Headers.{header_at}
+use Rattle.wit_syntax.specs.Broken.{last_header}
+use Rattle.wit_syntax.proofs.Lists.{at_front, at_seam, at_either}
+use Rattle.wit_syntax.proofs.Headers.{last_header-append}
+use Rattle.wit_items.specs.Headers.{header_at}
 
 abbrev of_file : Option PackageFile → Option Header
 of_file o = option_and_then (λ (f : PackageFile). f.package_id) o

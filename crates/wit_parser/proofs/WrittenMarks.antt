@@ -14,12 +14,12 @@ use Rattle.wit_tree.specs.declared.tree.ResourceFunc.{ResourceFunc}
 use Rattle.wit_tree.specs.declared.tree.ResourceFunc.TheVariants as resource
 use Rattle.wit_model.specs.Names.{mark_of, HasMark, HasMarkOf}
 use Rattle.wit_model.specs.declared.function.FunctionKind.{FunctionKind}
-use Rattle.wit_meaning.specs.Address.{Address}
-use Rattle.wit_meaning.specs.Source.{Item, Part, Defining, Using, Including, Doing, parts}
-use Rattle.wit_meaning.specs.Function.{SourceFunction, accessor, dotted, free_function, resource_function, definition_functions, part_functions, functions}
-use Rattle.wit_meaning.specs.Functions.{freestanding_kind, method_kind, static_kind, IsKind}
-use Rattle.wit_meaning.specs.Meet.{Key}
-use Rattle.wit_meaning.proofs.Lists.{map_at, flat_map_at}
+use Rattle.wit_syntax.specs.Address.{Address}
+use Rattle.wit_syntax.specs.Source.{Item, Part, Defining, Using, Including, Doing, parts}
+use Rattle.wit_syntax.specs.Function.{SourceFunction, accessor, dotted, free_function, resource_function, definition_functions, part_functions, functions}
+use Rattle.wit_arena.specs.Functions.{freestanding_kind, method_kind, static_kind, IsKind}
+use Rattle.wit_arena.specs.Meet.{Key}
+use Rattle.wit_syntax.proofs.Lists.{map_at, flat_map_at}
 
 -- a mark in one of two texts is in both together
 mark_before : (mark : ℕ) (text more : List ℕ) → HasMark mark text → HasMark mark (text ++ more)

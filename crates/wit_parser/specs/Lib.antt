@@ -1,9 +1,2 @@
-pub mod Headers
-pub mod Held
-pub mod Items
-pub mod Front
 pub mod Between
-pub mod Behind
-pub mod Told
-pub mod Parted
 pub mod Marks

@@ -4,7 +4,7 @@ use Rattle.wit_types.specs.declared.types.TypeOwner.{TypeOwner}
 use Rattle.wit_model.specs.Names.{mark_of, HasMarkOf}
 use Rattle.wit_model.specs.declared.function.Function.{Function}
 use Rattle.wit_model.specs.declared.unresolved.UnresolvedPackage.{UnresolvedPackage}
-use Rattle.wit_meaning.specs.Package.{functions_of}
+use Rattle.wit_arena.specs.Package.{functions_of}
 
 -- each function of each owner, of an interface or among the imports of a world, has the mark of its kind in its name
 pub record HaveMarks (p : UnresolvedPackage) : Type 0 where

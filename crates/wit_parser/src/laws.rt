@@ -1,7 +1,7 @@
 //! What holds of all resolved packages.
 ghost use Rattle.std.specs.Prelude.{List};
 ghost use Rattle.wit_tree.specs.declared.tree.PackageFile.{PackageFile as TheFile};
-ghost use Rattle.wit_meaning.specs.Whole.{IsPackage};
+ghost use Rattle.wit_arena.specs.Whole.{IsPackage};
 ghost use Rattle.wit_parser.specs.Marks.{HaveMarks};
 
 use wit_model::UnresolvedPackage;

@@ -1,25 +1,24 @@
 //! The resolver: from parsed files to one package, or to the rule that is broken.
+//!
+//! What a caller meets on the way, trees, names, orders and the data of a package, is given again here.
 #![tactic(auto)]
 
-mod deps;
-mod distinct;
-mod foreign;
-mod functions;
-mod header;
-mod interface;
-mod items;
 pub mod laws;
-mod names;
-mod notes;
-mod order;
-mod own_keys;
 pub mod resolver;
-mod scope;
-mod scope_name;
-mod setters;
-mod signatures;
-mod uses;
-mod world;
 
 pub use resolver::Resolver;
-pub use wit_model::UnresolvedPackage;
+pub use wit_files::{FileNames, Found, Visit, Wanted, visits};
+pub use wit_model::{
+    AbiVariant, Arena, AstItem, Case, Docs, Enum, EnumCase, Field, Flag, Flags, FlagsRepr,
+    ForeignItems, Function, FunctionKind, Handle, HasSpans, Id, IncludeName, Int, Interface,
+    InterfaceId, LiftLowerAbi, Mangling, ManglingAndAbi, ManglingFault, PackageId, PackageName,
+    Param, ParamResultTypes, Record, Result_, Stability, Tuple, Type, TypeDef, TypeDefKind, TypeId,
+    TypeOwner, UnresolvedPackage, Variant, World, WorldId, WorldInclude, WorldItem, WorldKey,
+    discriminant_type, is_backward, place_setters_after_getters, reaches_unknown, world_item_func,
+};
+pub use wit_names::{
+    Folded, LabelFault, getter_for_setter, is_mangled, split_canonical, validate_id,
+};
+pub use wit_notes::{NameScope, check_unique_names, docs, external_id, package_name, stability};
+pub use wit_order::{Steps, order_steps, toposort, toposort_heap};
+pub use wit_tree::{AccessorKind, ParseError, ParseErrorKind, ParseResult, Span, tree};

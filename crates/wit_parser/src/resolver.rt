@@ -1,37 +1,37 @@
 //! From parsed files to a package.
 ghost use Rattle.std.specs.Prelude.{◌≡◌, ◌⊎◌, ◌++◌, ◌∷◌, List, [], map, IfOk, IfErr, OnOk, OnErr};
 ghost use Rattle.std.specs.Option.{option_copied};
-ghost use Rattle.wit_meaning.specs.Fault.{Fault};
+ghost use Rattle.wit_syntax.specs.Fault.{Fault};
 ghost use Rattle.wit_order.specs.Table.{IsOrder};
-ghost use Rattle.wit_meaning.specs.Source.{first_takings};
-ghost use Rattle.wit_meaning.specs.Scope.{item_rows};
-ghost use Rattle.wit_scope.specs.FileNames.{AreNamesOf};
-ghost use Rattle.wit_meaning.specs.Broken.{IsMismatch, IsOtherPackage, IsDocumentedTwice, IsBrokenNames, IsBroken, IsLegal, Refused, headers, last_header};
-ghost use Rattle.wit_parser.specs.Headers.{header_at, have_docs as the_docs};
+ghost use Rattle.wit_syntax.specs.Source.{first_takings};
+ghost use Rattle.wit_syntax.specs.Scope.{item_rows};
+ghost use Rattle.wit_files.specs.FileNames.{AreNamesOf};
+ghost use Rattle.wit_syntax.specs.Broken.{IsMismatch, IsOtherPackage, IsDocumentedTwice, IsBrokenNames, IsBroken, IsLegal, Refused, headers, last_header};
+ghost use Rattle.wit_items.specs.Headers.{header_at, have_docs as the_docs};
 ghost use Rattle.wit_parser.specs.Between.{AddsFiles};
 ghost use Rattle.wit_types.specs.Types.{IsBackward};
 ghost use Rattle.wit_tree.specs.declared.tree.PackageFile.{PackageFile as TheFile};
-ghost use Rattle.wit_meaning.specs.Foreign.{foreign_packages};
-ghost use Rattle.wit_meaning.specs.Whole.{dep, IsPackage, IsFaithful};
+ghost use Rattle.wit_syntax.specs.Foreign.{foreign_packages};
+ghost use Rattle.wit_arena.specs.Whole.{dep, IsPackage, IsFaithful};
 
-use crate::foreign::ForeignArenas;
-use crate::header::{check_docs, have_docs, is_same, mismatch, package_docs};
-use crate::interface::resolve_interfaces;
-use crate::items::{Item, declared_items};
-use crate::uses::Interfaces;
-use crate::world::{Worlds, resolve_worlds};
 use std::alloc::{AllocError, Global};
 use wit_entries::entries::Entries;
 use wit_entries::scope::Required;
+use wit_files::FileNames;
 use wit_foreign::foreign_deps;
-use wit_model::{
-    Arena, ForeignItems, Interface, InterfacePlace, UnresolvedPackage, World, WorldPlace,
-};
-use wit_scope::refusal::refuse;
-use wit_scope::{FileNames, package_name};
+use wit_front::foreign::ForeignArenas;
+use wit_interfaces::interface::resolve_interfaces;
+use wit_item_entries::uses::Interfaces;
+use wit_items::header::{check_docs, have_docs, is_same, mismatch, package_docs};
+use wit_items::items::{Item, declared_items};
+use wit_model::{ForeignItems, Interface, UnresolvedPackage, World};
+use wit_notes::package_name;
+use wit_notes::refusal::refuse;
 use wit_tree::tree::{self, PackageFile};
 use wit_tree::{ParseResult, Span};
+use wit_types::{Arena, InterfacePlace, WorldPlace};
 use wit_values::{Row, TextTable};
+use wit_worlds::world::{Worlds, resolve_worlds};
 
 /// The words for files without a header.
 const NO_HEADER: &str = "no `package` header was found in any WIT file for this package";

@@ -4,17 +4,17 @@ use crate::helpers::{attributes, no_docs, parts_of, stability_text};
 use std::alloc::Global;
 use std::process::Abort;
 use std::test::Fail;
-use wit_entries::definitions::define;
+use wit_definitions::definitions::define;
 use wit_entries::entries::Entries;
 use wit_entries::scope::Scope;
-use wit_model::{
+use wit_notes::Notes;
+use wit_notes::refusal::{refuse, refuse_cycle, refuse_missing, refuse_missing_type};
+use wit_tree::tree::{self, Field, Id, TypeBody};
+use wit_tree::{ParseError, ParseResult, Span};
+use wit_types::{
     Arena, Docs, Handle, InterfacePlace, Stability, Type, TypeDef, TypeDefKind, TypeOwner,
     TypePlace,
 };
-use wit_scope::Notes;
-use wit_scope::refusal::{refuse, refuse_cycle, refuse_missing, refuse_missing_type};
-use wit_tree::tree::{self, Field, Id, TypeBody};
-use wit_tree::{ParseError, ParseResult, Span};
 use wit_values::TextTable;
 
 const HERE: Span = Span { start: 3, end: 4 };

@@ -1,12 +1,12 @@
 //! The names of files.
 
-ghost use Rattle.wit_scope.specs.FileNames.{AreNamesOf};
+ghost use Rattle.wit_files.specs.FileNames.{AreNamesOf};
 
 use crate::helpers::{parts_of, refusal};
 use crate::words::{files, path};
 use std::alloc::Global;
 use std::test::Fail;
-use wit_scope::{FileNames, Found};
+use wit_files::{FileNames, Found};
 use wit_tree::tree::PackageFile;
 
 /// The order of the items of files, or the refusal.

@@ -4,9 +4,9 @@ use crate::helpers::{parts_of, refusal, stability_text};
 use crate::words::files;
 use std::alloc::Global;
 use std::test::Fail;
+use wit_files::{FileNames, ForeignVisit};
 use wit_foreign::{Items, foreign_deps};
 use wit_model::AstItem;
-use wit_scope::{FileNames, ForeignVisit};
 
 /// Files, and the visits of items of other packages, each with whether it wants a world; behind `/`
 /// those items.

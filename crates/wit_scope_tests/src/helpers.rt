@@ -4,9 +4,9 @@ use semver::Version;
 use std::alloc::{AllocError, Global};
 use std::process::Abort;
 use std::test::Fail;
-use wit_model::Stability;
 use wit_tree::tree::{Attribute, Docs, Id};
 use wit_tree::{ParseError, Span};
+use wit_types::Stability;
 
 /// What stands before ` => ` in a row of a table, and what stands behind it.
 pub fn parts_of<'a>(rt: &impl Abort, row: &'a str) -> (&'a str, &'a str) {

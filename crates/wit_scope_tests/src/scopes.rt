@@ -5,8 +5,8 @@ use semver::Version;
 use std::alloc::Global;
 use std::test::Fail;
 use wit_names::is_mangled;
-use wit_scope::repeats::{first_folded_repeat, first_repeat};
-use wit_scope::{
+use wit_notes::repeats::{first_folded_repeat, first_repeat};
+use wit_notes::{
     NameScope, Notes, check_unique_names, docs, external_id, notes_of, package_name, stability,
     use_notes,
 };

@@ -3,7 +3,7 @@
 use crate::helpers::{attributes, no_docs};
 use std::alloc::{AllocError, Global};
 use std::test::Fail;
-use wit_scope::{Visit, Wanted, visits};
+use wit_files::{Visit, Wanted, visits};
 use wit_tree::Span;
 use wit_tree::tree::{
     AstItem, Attribute, DeclList, Id, Include, Interface, InterfaceItem, ToplevelUse, Use, UseName,

@@ -5,8 +5,8 @@ use Rattle.wit_tree.specs.declared.tree.PackageFile.{PackageFile}
 use Rattle.wit_tree.specs.declared.error.ParseError.{ParseError}
 use Rattle.wit_lex.specs.declared.source.Source.{Source}
 use Rattle.wit_model.specs.declared.unresolved.UnresolvedPackage.{UnresolvedPackage}
-use Rattle.wit_meaning.specs.Broken.{IsBroken, IsLegal, Refused}
-use Rattle.wit_meaning.specs.Whole.{IsPackage, IsFaithful}
+use Rattle.wit_syntax.specs.Broken.{IsBroken, IsLegal, Refused}
+use Rattle.wit_arena.specs.Whole.{IsPackage, IsFaithful}
 use Rattle.wit_tool.specs.Run.{IsTree, IsResolved}
 use Rattle.wit_tool.specs.Run.IsRefused.{Illegal}
 

@@ -7,11 +7,11 @@ use Rattle.wit_tree.specs.Slices.{Rise}
 use Rattle.wit_lex.specs.declared.source.Source.{Source}
 use Rattle.wit_lex.specs.Faults.{IsRefusal}
 use Rattle.wit_model.specs.declared.unresolved.UnresolvedPackage.{UnresolvedPackage}
-use Rattle.wit_meaning.specs.Broken.{IsBroken, IsLegal, Refused}
-use Rattle.wit_meaning.specs.Whole.{IsPackage, IsFaithful}
-use Rattle.wit_tool.specs.declared.fault.RunFault.{RunFault}
-use Rattle.wit_tool.specs.Output.{IsWrittenAs}
-use Rattle.wit_tool.specs.Answers.{IsAnswer, is_listed}
+use Rattle.wit_syntax.specs.Broken.{IsBroken, IsLegal, Refused}
+use Rattle.wit_arena.specs.Whole.{IsPackage, IsFaithful}
+use Rattle.wit_listing.specs.declared.fault.RunFault.{RunFault}
+use Rattle.wit_listing.specs.Output.{IsWrittenAs}
+use Rattle.wit_listing.specs.Answers.{IsAnswer, is_listed}
 
 -- the names and words of a tree stand in the source, one behind the other
 pub record IsTree (s : Source) (file : PackageFile) : Type 0 where

@@ -2,11 +2,12 @@
 ghost use Rattle.std.specs.Prelude.{◌≡◌, length};
 ghost use Rattle.wit_tool.specs.Run.{IsResolved, IsRun};
 
-use crate::answers::answer;
-use crate::fault::RunFault;
 use std::alloc::Global;
 use std::io::Write;
-use wit_parser::{Resolver, UnresolvedPackage};
+use wit_listing::answers::answer;
+use wit_listing::fault::RunFault;
+use wit_model::UnresolvedPackage;
+use wit_parser::Resolver;
 use wit_text::{Source, SourceMap, read_file};
 use wit_tree::ParseResult;
 

@@ -4,9 +4,11 @@ use std::alloc::Global;
 use std::process::Abort;
 use std::str;
 use std::test::Fail;
-use wit_parser::{Resolver, UnresolvedPackage};
+use wit_listing::{RunFault, answer};
+use wit_model::UnresolvedPackage;
+use wit_parser::Resolver;
 use wit_text::{SourceMap, read_file};
-use wit_tool::{RunFault, answer, run};
+use wit_tool::run;
 use wit_tree::ParseResult;
 
 /// Checks each case of a table.

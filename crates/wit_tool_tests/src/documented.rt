@@ -4,10 +4,11 @@ use crate::cases::{check_cases, map_of, resolved};
 use std::alloc::{AllocError, Global};
 use std::process::Abort;
 use std::test::Fail;
-use wit_model::{Docs, Interface, TypeDefKind, UnresolvedPackage};
+use wit_model::{Interface, UnresolvedPackage};
 use wit_parser::Resolver;
 use wit_text::{SourceMap, read_file};
 use wit_tree::ParseResult;
+use wit_types::{Docs, TypeDefKind};
 
 /// Puts a name and its docs behind a text, as a line; an LF is written `|`.
 fn push_docs(text: &mut String, name: &str, docs: &Docs) -> Result<(), AllocError> {

@@ -6,10 +6,10 @@ use std::alloc::{AllocError, Global};
 use std::process::Abort;
 use std::str;
 use std::test::Fail;
+use wit_listing::answer;
 use wit_model::{UnresolvedPackage, World, WorldItem, WorldKey};
 use wit_parser::Resolver;
 use wit_text::{SourceMap, read_file};
-use wit_tool::answer;
 use wit_tree::ParseResult;
 use wit_tree::tree::{
     self, AstItem, Attribute, InterfaceItem, PackageFile, ResourceFunc, TypeBody, TypeDef,

@@ -3,13 +3,14 @@
 use std::alloc::{AllocError, Global};
 use std::str;
 use std::test::Fail;
-use wit_model::{
-    Arena, Docs, ForeignItems, Function, FunctionKind, Handle, Interface, InterfaceId,
-    InterfacePlace, PackageName, Param, Stability, Type, TypeDef, TypeDefKind, TypeId, TypeOwner,
-    TypePlace, UnresolvedPackage,
-};
-use wit_tool::listing;
+use wit_listing::listing;
+use wit_model::{ForeignItems, Function, FunctionKind, Interface, Param, UnresolvedPackage};
+use wit_package_names::PackageName;
 use wit_tree::Span;
+use wit_types::{
+    Arena, Docs, Handle, InterfaceId, InterfacePlace, Stability, Type, TypeDef, TypeDefKind,
+    TypeId, TypeOwner, TypePlace,
+};
 use wit_values::{Row, Text, TextTable};
 
 const SPAN: Span = Span { start: 3, end: 5 };

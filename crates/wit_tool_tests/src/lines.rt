@@ -5,8 +5,9 @@ use std::io::Write;
 use std::process::Abort;
 use std::test::Fail;
 use std::{io, str};
+use wit_listing::{RunFault, error_line};
 use wit_text::SourceMap;
-use wit_tool::{RunFault, error_line, run};
+use wit_tool::run;
 use wit_tree::{ParseError, ParseErrorKind, Span};
 
 /// Two sources.

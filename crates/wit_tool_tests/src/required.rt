@@ -5,7 +5,7 @@ use crate::spans::push_slice;
 use std::alloc::{AllocError, Global};
 use std::process::Abort;
 use std::test::Fail;
-use wit_parser::UnresolvedPackage;
+use wit_model::UnresolvedPackage;
 use wit_text::SourceMap;
 use wit_tree::ParseResult;
 

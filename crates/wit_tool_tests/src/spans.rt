@@ -4,7 +4,7 @@ use crate::cases::{map_of, resolved};
 use std::alloc::{AllocError, Global};
 use std::process::Abort;
 use std::test::Fail;
-use wit_parser::UnresolvedPackage;
+use wit_model::UnresolvedPackage;
 use wit_text::SourceMap;
 use wit_tree::{ParseResult, Span};
 

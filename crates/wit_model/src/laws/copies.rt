@@ -1,9 +1,9 @@
 //! Copies: each is equal to its source.
 ghost use Rattle.std.specs.Prelude.{◌≡◌, IfOk};
 
-use crate::package_name::PackageName;
 use crate::world::{WorldInclude, WorldKey};
 use std::alloc::AllocError;
+use wit_package_names::package_name::PackageName;
 pub use wit_types::laws::copies::{copy_docs, copy_kind, copy_stability};
 
 /// A copy of a package's name.

@@ -6,9 +6,9 @@ use crate::abi::{AbiVariant, LiftLowerAbi, Mangling, ManglingAndAbi};
 use crate::ast_item::AstItem;
 use crate::function::{Function, FunctionKind, Param};
 use crate::interface::Interface;
-use crate::package_name::PackageName;
 use crate::unresolved::UnresolvedPackage;
 use crate::world::{IncludeName, World, WorldInclude, WorldItem, WorldKey};
+use wit_package_names::package_name::PackageName;
 pub use wit_types::laws::equality::{
     is_same_case, is_same_docs, is_same_enum, is_same_enum_case, is_same_field, is_same_flag,
     is_same_flags, is_same_flags_repr, is_same_handle, is_same_int, is_same_outcome, is_same_owner,

@@ -2,8 +2,8 @@
 ghost use Rattle.std.specs.Prelude.{◌≡◌};
 ghost use Rattle.wit_model.specs.Orders.{package_name_cmp};
 
-use crate::package_name::PackageName;
 use std::cmp::Ordering;
+use wit_package_names::package_name::PackageName;
 pub use wit_types::laws::order::{compare_stabilities, compare_types};
 
 /// The order of two names of packages: field by field, no version before all versions.

@@ -1,6 +1,6 @@
 use Rattle.std.proofs.Common.{rules, ◌≡◌, None, inl, inr}
-use Rattle.wit_meaning.specs.Resolving.{env_of}
-use Rattle.wit_meaning.proofs.Unknown.{unknown_name}
+use Rattle.wit_arena.specs.Resolving.{env_of}
+use Rattle.wit_arena.proofs.Unknown.{unknown_name}
 use Rattle.wit_entries.proofs.names.find_name.Goals as goal
 
 pub returns-in-None-clause-refused : goal.returns-in-None-clause-refused

@@ -6,12 +6,12 @@ use Rattle.wit_tree.specs.declared.tree.Id.{Id}
 use Rattle.wit_tree.specs.declared.tree.«Type».TheVariants as written
 use Rattle.wit_tree.specs.Parts.{boxed_types}
 use Rattle.wit_tree.proofs.Rows.{tuple_types, types_of_held, result_types}
-use Rattle.wit_meaning.specs.Fault.{Fault}
-use Rattle.wit_meaning.specs.Bodies.{IsInvalidKey, IsEmptyTuple, IsBrokenType}
-use Rattle.wit_meaning.specs.Resolving.{env_of, IsWrongType, AreWrongTypes}
-use Rattle.wit_meaning.specs.Shape.{shape_of, handles}
-use Rattle.wit_meaning.proofs.Refusing.{refused_weaker}
-use Rattle.wit_meaning.proofs.Written.{AreLegal, legal_one, legal_more, wrong_at, wrong_left, wrong_right}
+use Rattle.wit_syntax.specs.Fault.{Fault}
+use Rattle.wit_syntax.specs.Bodies.{IsInvalidKey, IsEmptyTuple, IsBrokenType}
+use Rattle.wit_arena.specs.Resolving.{env_of, IsWrongType, AreWrongTypes}
+use Rattle.wit_syntax.specs.Shape.{shape_of, handles}
+use Rattle.wit_syntax.proofs.Refusing.{refused_weaker}
+use Rattle.wit_arena.proofs.Written.{AreLegal, legal_one, legal_more, wrong_at, wrong_left, wrong_right}
 use Rattle.wit_entries.specs.Requiring.{Requires}
 use Rattle.wit_entries.proofs.Reading.{resolved_word, read_stands, types_one, types_then}
 use Rattle.wit_entries.proofs.Requiring.{grown_then, requires_none, requires_grown, requires_types, requires_one, requires_boxed, requires_parts, requires_only, no_handles}

@@ -1,7 +1,7 @@
 use Rattle.std.proofs.Common.{take}
-use Rattle.wit_meaning.specs.Resolving.{env_of}
-use Rattle.wit_meaning.specs.Shape.{all_handles}
-use Rattle.wit_meaning.proofs.Written.{AreLegal}
+use Rattle.wit_arena.specs.Resolving.{env_of}
+use Rattle.wit_syntax.specs.Shape.{all_handles}
+use Rattle.wit_arena.proofs.Written.{AreLegal}
 use Rattle.wit_entries.specs.Reading.{AreTypes}
 use Rattle.wit_entries.specs.Requiring.{IsGrown, Requires}
 use Rattle.wit_entries.proofs.types.+types.Given as goal

@@ -1,7 +1,7 @@
 use Rattle.std.proofs.Common.{◌≡◌, ◌∙◌, ap, map, take, arith}
 use Rattle.std.proofs.lemmas.List.{take_all}
 use Rattle.wit_foreign.specs.Kept.{table_in}
-use Rattle.wit_scope.specs.Foreign.{foreign_behind}
+use Rattle.wit_files.specs.Foreign.{foreign_behind}
 use Rattle.wit_foreign.proofs.deps.foreign_deps.Goals as goal
 
 pub returns-clause-deps : goal.returns-clause-deps

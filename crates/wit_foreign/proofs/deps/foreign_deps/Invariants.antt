@@ -1,5 +1,5 @@
 use Rattle.std.proofs.Common.{map, take}
-use Rattle.wit_scope.specs.Foreign.{foreign_behind}
+use Rattle.wit_files.specs.Foreign.{foreign_behind}
 use Rattle.wit_foreign.specs.Growing.{AreDeps}
 use Rattle.wit_foreign.proofs.deps.foreign_deps.Given as goal
 

@@ -4,7 +4,7 @@ use Rattle.std.specs.Map.{lookup}
 use Rattle.std.specs.Option.{is_some, unwrap_or}
 use Rattle.indexmap.specs.IndexMap.{insert_entry}
 use Rattle.indexmap.specs.Layout.{set_value_at}
-use Rattle.wit_meaning.specs.Address.{same_package}
+use Rattle.wit_syntax.specs.Address.{same_package}
 use Rattle.wit_foreign.specs.Kept.{row_more}
 use Rattle.wit_foreign.proofs.Places.{lookup-position, set_value_at-position, lookup-nowhere}
 use Rattle.wit_foreign.proofs.packages.add_visit_in.Goals as goal

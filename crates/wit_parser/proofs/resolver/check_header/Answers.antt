@@ -1,6 +1,6 @@
 use Rattle.std.proofs.Common.{inl, inr, ap}
 use Rattle.std.specs.Option.{option_copied}
-use Rattle.wit_meaning.proofs.Headers.{not_both}
+use Rattle.wit_syntax.proofs.Headers.{not_both}
 use Rattle.wit_parser.proofs.resolver.check_header.Goals as goal
 
 pub returns-then-not-is_same-clause-refused : goal.returns-then-not-is_same-clause-refused

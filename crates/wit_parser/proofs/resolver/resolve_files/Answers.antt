@@ -1,21 +1,23 @@
 use Rattle.std.proofs.Common.{◌≡◌, List, ◌++◌, map, sym, ap, ◌∙◌, subst}
 use Rattle.std.proofs.lemmas.Result.{err_from_is_err_and}
 use Rattle.wit_order.specs.Table.{IsOrder}
-use Rattle.wit_meaning.specs.Address.{Address}
-use Rattle.wit_meaning.specs.Source.{Item, all_items}
-use Rattle.wit_meaning.specs.Foreign.{visited, foreign_interfaces, foreign_worlds}
-use Rattle.wit_meaning.specs.Scope.{in_order, item_rows, interfaces_of, worlds_of}
-use Rattle.wit_meaning.specs.Broken.{IsBroken}
-use Rattle.wit_meaning.specs.Resolving.{Required, cells, IsIndex}
-use Rattle.wit_meaning.specs.Resolved.{AddsInterfaces, AddsWorlds, AreSoundScopes, HaveLegalStability}
-use Rattle.wit_meaning.proofs.Refusing.{refused_weaker}
-use Rattle.wit_meaning.proofs.Resolved.{distinct_items}
-use Rattle.wit_meaning.proofs.Finished.{broken_among, broken_world_among}
-use Rattle.wit_parser.specs.Items.{item_behind, AreFiled, others_of}
-use Rattle.wit_parser.specs.Held.{front_of}
-use Rattle.wit_parser.specs.Front.{IsFront}
-use Rattle.wit_parser.specs.Between.{Emits, IsWrongNow, IsWrongWorldNow}
-use Rattle.wit_parser.proofs.Telling.{stability_both}
+use Rattle.wit_syntax.specs.Address.{Address}
+use Rattle.wit_syntax.specs.Source.{Item, all_items}
+use Rattle.wit_syntax.specs.Foreign.{visited, foreign_interfaces, foreign_worlds}
+use Rattle.wit_syntax.specs.Scope.{in_order, item_rows, interfaces_of, worlds_of}
+use Rattle.wit_syntax.specs.Broken.{IsBroken}
+use Rattle.wit_arena.specs.Resolving.{Required, cells, IsIndex}
+use Rattle.wit_arena.specs.Resolved.{AddsInterfaces, AddsWorlds, AreSoundScopes, HaveLegalStability}
+use Rattle.wit_syntax.proofs.Refusing.{refused_weaker}
+use Rattle.wit_arena.proofs.Resolved.{distinct_items}
+use Rattle.wit_arena.proofs.Finished.{broken_among, broken_world_among}
+use Rattle.wit_items.specs.Items.{item_behind, AreFiled, others_of}
+use Rattle.wit_item_entries.specs.Held.{front_of}
+use Rattle.wit_front.specs.Front.{IsFront}
+use Rattle.wit_item_entries.specs.Between.{Emits}
+use Rattle.wit_interfaces.specs.Between.{IsWrongNow}
+use Rattle.wit_worlds.specs.Between.{IsWrongWorldNow}
+use Rattle.wit_item_entries.proofs.Telling.{stability_both}
 use Rattle.wit_parser.proofs.Files.{sound_both, held_within, wrong_interface, wrong_world}
 use Rattle.wit_parser.proofs.Fronting.{front_started, front_taken, lent_front, lent_placed, lent_enough, lent_index, worlds_enough, worlds_index, others_names}
 use Rattle.wit_parser.proofs.resolver.resolve_files.Goals as goal

@@ -1,6 +1,6 @@
 use Rattle.std.proofs.Common.{rules, ◌≡◌, ◌++◌, ◌∷◌, [], sym, subst}
 use Rattle.wit_intern.specs.FiniteMap.{FiniteMap}
-use Rattle.wit_meaning.specs.Resolving.{unnamed}
+use Rattle.wit_arena.specs.Resolving.{unnamed}
 use Rattle.wit_entries.specs.Known.{AreKnown}
 use Rattle.wit_entries.proofs.Known.{IsMissing, known_set, known_unnamed}
 use Rattle.wit_entries.proofs.entries.Entries.add_unnamed.Goals as goal

@@ -3,10 +3,10 @@ use Rattle.std.specs.Cmp.Lexicographic.{pointwise}
 use Rattle.std.specs.Map.{lookup}
 use Rattle.std.specs.Option.{is_some, unwrap_or}
 use Rattle.std.proofs.lemmas.List.{append-nil}
-use Rattle.wit_model.specs.declared.package_name.PackageName.{PackageName}
-use Rattle.wit_meaning.specs.Address.{same_package}
+use Rattle.wit_package_names.specs.declared.package_name.PackageName.{PackageName}
+use Rattle.wit_syntax.specs.Address.{same_package}
 use Rattle.wit_foreign.specs.Kept.{Items, table_more}
-use Rattle.wit_scope.specs.Foreign.{foreign_behind}
+use Rattle.wit_files.specs.Foreign.{foreign_behind}
 use Rattle.wit_foreign.proofs.Growth.{deps_more}
 use Rattle.wit_foreign.proofs.deps.Deps.add_visit.Goals as goal
 

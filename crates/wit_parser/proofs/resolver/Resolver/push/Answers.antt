@@ -1,10 +1,10 @@
 use Rattle.std.proofs.Common.{◌≡◌, ◌⊎◌, inl, inr, sym, subst, ◌∙◌}
 use Rattle.std.proofs.lemmas.Result.{err_from_is_err_and}
-use Rattle.wit_meaning.specs.Broken.{IsMismatch, IsOtherPackage, IsDocumentedTwice, headers, last_header}
-use Rattle.wit_meaning.proofs.Refusing.{refused_weaker}
-use Rattle.wit_parser.specs.Headers.{header_at}
+use Rattle.wit_syntax.specs.Broken.{IsMismatch, IsOtherPackage, IsDocumentedTwice, headers, last_header}
+use Rattle.wit_syntax.proofs.Refusing.{refused_weaker}
+use Rattle.wit_items.specs.Headers.{header_at}
 use Rattle.wit_parser.proofs.LastHeader.{some_is, none_is, header_more, header_kept}
-use Rattle.wit_parser.proofs.Documented.{headers-append}
+use Rattle.wit_items.proofs.Documented.{headers-append}
 use Rattle.wit_parser.proofs.resolver.Resolver.push.Goals as goal
 
 pub returns-clause-accepted : goal.returns-clause-accepted

@@ -1,17 +1,17 @@
 use Rattle.std.proofs.Common.{◌≡◌, List, map, Some, None, inl, inr, sym, ap, ◌∙◌, subst}
 use Rattle.std.specs.Option.{option_copied, option_map}
 use Rattle.wit_values.specs.ReleaseText.{release_parts}
-use Rattle.wit_model.specs.declared.package_name.PackageName.{PackageName}
+use Rattle.wit_package_names.specs.declared.package_name.PackageName.{PackageName}
 use Rattle.wit_parser.proofs.Backward.{kind_below}
 use Rattle.wit_tree.specs.declared.tree.PackageFile.{PackageFile}
-use Rattle.wit_meaning.specs.Source.{Taking, first_takings}
-use Rattle.wit_scope.specs.FileNames.{AreNamesOf}
+use Rattle.wit_syntax.specs.Source.{Taking, first_takings}
+use Rattle.wit_files.specs.FileNames.{AreNamesOf}
 use Rattle.wit_parser.specs.Between.{AddsFiles}
 use Rattle.std.proofs.lemmas.Result.{err_from_is_err_and}
-use Rattle.wit_meaning.specs.Fault.{Fault, fault}
-use Rattle.wit_meaning.specs.Broken.{IsBrokenNames, IsBroken, Headerless, Names, last_header}
-use Rattle.wit_meaning.proofs.Refusing.{refused_weaker}
-use Rattle.wit_meaning.proofs.Headers.{no_header, span_of_ends}
+use Rattle.wit_syntax.specs.Fault.{Fault, fault}
+use Rattle.wit_syntax.specs.Broken.{IsBrokenNames, IsBroken, Headerless, Names, last_header}
+use Rattle.wit_syntax.proofs.Refusing.{refused_weaker}
+use Rattle.wit_syntax.proofs.Headers.{no_header, span_of_ends}
 use Rattle.wit_parser.proofs.Files.{files_legal, files_package, files_faithful}
 use Rattle.wit_parser.proofs.resolver.Resolver.resolve.Goals as goal
 

@@ -1,0 +1,44 @@
+-- Items added one after another.
+use Rattle.std.proofs.Common.{◌≡◌, List, [], ◌∷◌, ◌++◌, inl, inr, refl, sym, ap, ◌∙◌, subst, append_assoc}
+use Rattle.std.proofs.lemmas.List.{append-nil}
+use Rattle.wit_types.specs.declared.types.TypeDef.{TypeDef}
+use Rattle.wit_syntax.specs.Fault.{Fault}
+use Rattle.wit_syntax.specs.Source.{Item, scope_names}
+use Rattle.wit_syntax.specs.Broken.{IsBrokenScope}
+use Rattle.wit_syntax.specs.Function.{functions}
+use Rattle.wit_arena.specs.Resolving.{Required}
+use Rattle.wit_arena.specs.Resolved.{AddsEach, IsNameless, AreSoundScopes}
+use Rattle.wit_syntax.proofs.Lists.{at_either}
+
+module _ {X : Type 0} (Adds : List TypeDef → List TypeDef → List X → List X → List Required → Item → Type 0) where
+  pub adds_append : (a b c : List TypeDef) (i j k : List X) (rs ss : List Required) (ws vs : List Item) → AddsEach Adds a b i j rs ws → AddsEach Adds b c j k ss vs → AddsEach Adds a c i k (rs ++ ss) (ws ++ vs)
+  adds_append a b c i j k rs ss [] vs p q = subst (λ x. AddsEach Adds x c i k (rs ++ ss) vs) p.0 (subst (λ x. AddsEach Adds b c x k (rs ++ ss) vs) p.1 (subst (λ r. AddsEach Adds b c j k (r ++ ss) vs) (sym p.2) q))
+  adds_append a b c i j k rs ss (w ∷ ws) vs p q = (p.0, p.1, p.2, p.3 ++ ss, ap (λ r. r ++ ss) p.4 ∙ append_assoc p.2 p.3 ss, p.5, adds_append p.0 b c p.1 j k p.3 ss ws vs p.6 q)
+
+  pub adds_one : (a b : List TypeDef) (i j : List X) (rs : List Required) (w : Item) → Adds a b i j rs w → AddsEach Adds a b i j rs (w ∷ [])
+  adds_one a b i j rs w p = (b, j, rs, [], sym (append-nil rs), p, (refl, refl, refl))
+
+  pub adds_none : (a : List TypeDef) (i : List X) → AddsEach Adds a a i i [] []
+  adds_none a i = (refl, refl, refl)
+
+-- behind entries that stand before, where each item adds one
+module _ {X : Type 0} (Adds : List TypeDef → List TypeDef → List X → List X → List Required → Item → Type 0) (grows : (old new : List TypeDef) (xs xs' : List X) (rs : List Required) (w : Item) → Adds old new xs xs' rs w → (x : X) × (xs' ≡ xs ++ x ∷ [])) (front : List X) where
+  abbrev pub Behind : List TypeDef → List TypeDef → List X → List X → List Required → Item → Type 0
+  Behind old new xs xs' rs w = Adds old new (front ++ xs) (front ++ xs') rs w
+
+  pub adds_behind : (xs ys : List X) (old new : List TypeDef) (rs : List Required) (ws : List Item) → AddsEach Adds old new (front ++ xs) ys rs ws → (own : List X) × (ys ≡ front ++ own) × AddsEach Behind old new xs own rs ws
+  adds_behind xs ys old new rs [] p = (xs, p.1, (p.0, refl, p.2))
+  adds_behind xs ys old new rs (w ∷ ws) p =
+      let x = grows old p.0 (front ++ xs) p.1 p.2 w p.5 in
+      let more = xs ++ x.0 ∷ [] in
+      let between : p.1 ≡ front ++ more = x.1 ∙ append_assoc front xs (x.0 ∷ []) in
+      let rest = adds_behind more ys p.0 new p.3 ws (subst (λ l. AddsEach Adds p.0 new l ys p.3 ws) between p.6) in
+      (rest.0, rest.1, (p.0, more, p.2, p.3, p.4, subst (λ l. Adds old p.0 (front ++ xs) l p.2 w) between p.5, rest.2))
+
+pub sounds_more : (ws : List Item) (w : Item) → AreSoundScopes ws → ((f : Fault) → IsBrokenScope (scope_names w) (functions w) f → IsNameless (scope_names w) (functions w)) → AreSoundScopes (ws ++ w ∷ [])
+sounds_more ws w sound one = record {
+  sound = λ i v f at broken. elim (at_either ws w i v at) [
+    | inl old ↦ sound.sound i v f old broken
+    | inr new ↦ subst (λ (x : Item). IsNameless (scope_names x) (functions x)) (sym new.1) (one f (subst (λ (x : Item). IsBrokenScope (scope_names x) (functions x) f) new.1 broken))
+  ];
+}

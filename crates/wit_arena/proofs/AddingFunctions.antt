@@ -1,0 +1,166 @@
+-- Functions added to the arena one after another, each from the types in its signature.
+use Rattle.std.proofs.Common.{◌≡◌, ℕ, zero, suc, ◌+◌, List, [], ◌∷◌, ◌++◌, length, map, Option, Some, None, inl, inr, refl, sym, ap, ◌∙◌, subst, arith, length-append}
+use Rattle.std.specs.Prelude.{slice_get}
+use Rattle.std.specs.List.{flat_map}
+use Rattle.std.specs.Option.{option_map, option_to_list}
+use Rattle.std.proofs.lemmas.Grind.{flat_map-append}
+use Rattle.std.proofs.lemmas.List.{append-nil, length-map}
+use Rattle.std.proofs.lemmas.Option.{slice_get_within, slice_get-map}
+use Rattle.wit_types.specs.declared.stability.Stability.TheVariants.{Unknown}
+use Rattle.wit_types.specs.declared.types.«Type».{«Type» as Ty}
+use Rattle.wit_types.specs.declared.types.TypeDef.{TypeDef}
+use Rattle.wit_model.specs.declared.function.Function.{Function}
+use Rattle.wit_model.specs.declared.function.FunctionKind.{FunctionKind}
+use Rattle.wit_model.specs.declared.function.FunctionKind.TheVariants as kind
+use Rattle.wit_model.specs.declared.function.Param.{Param}
+use Rattle.wit_syntax.specs.Shape.{Shape}
+use Rattle.wit_syntax.specs.Address.{Address}
+use Rattle.wit_syntax.specs.Function.{Role, Freestanding, Method, Static, Constructor, SourceParam, SourceFunction, all_params, signature}
+use Rattle.wit_arena.specs.Functions.{IsKind, IsResult, IsFunction, AreFunctions}
+use Rattle.wit_arena.specs.Expr.{Exprs, one, joined, expr_of, exprs_of}
+use Rattle.wit_arena.specs.Expr as exprs
+use Rattle.wit_arena.specs.Meet.{Key, Meeting, keys, IsAt, AreAt, Meets, shape_meetings, all_function_meetings}
+use Rattle.wit_arena.specs.Package.{function_types}
+use Rattle.wit_arena.specs.Resolving.{Env, Names, env_of, AreNames, AreResolved, AddsFunctions}
+use Rattle.wit_syntax.proofs.Lists.{at_front, at_back, at_split}
+use Rattle.wit_arena.proofs.Meeting.{meets_append, meets_grown, names_kept}
+use Rattle.wit_arena.proofs.Resolving.{resolved_none, resolved_more}
+use Rattle.wit_arena.specs.Adding.{gathered, AreShapes, IsKindIn, SaysFunction}
+use Rattle.wit_arena.proofs.Signatures.{AreTyped, functions_grown, names_beside}
+
+-- functions behind others
+are_append : (ks : List Key) (s : Address) (fns gns : List SourceFunction) (fs gs : List Function) → AreFunctions ks s fns fs → AreFunctions ks s gns gs → AreFunctions ks s (fns ++ gns) (fs ++ gs)
+are_append ks s fns gns fs gs p q = record {
+  count = (let a = length-append fs gs in let b = length-append fns gns in let c = p.count in let d = q.count in omega arith);
+  each = λ k fn f at there. elim (at_split fns gns k fn at) [
+    | inl h ↦ elim (at_split fs gs k f there) [
+      | inl g ↦ p.each k fn f h g
+      | inr g ↦ absurd (let lt = slice_get_within fns k fn h in let same = g.1 in let count = p.count in let f : ⊥ = omega arith in f)
+    ]
+    | inr h ↦ elim (at_split fs gs k f there) [
+      | inl g ↦ absurd (let lt = slice_get_within fs k f g in let same = h.1 in let count = p.count in let f : ⊥ = omega arith in f)
+      | inr g ↦ (
+          let a = h.1 in
+          let b = g.1 in
+          let count = p.count in
+          let same : g.0 ≡ h.0 = omega arith in
+          q.each h.0 fn f h.2 (subst (λ (j : ℕ). slice_get gs j ≡ Some f) same g.2))
+    ]
+  ];
+}
+
+pub functions_append : (old mid new : List TypeDef) (s : Address) (names : Names) (fns gns : List SourceFunction) (fs gs : List Function) → AddsFunctions old mid s names fns fs → AddsFunctions mid new s names gns gs → AddsFunctions old new s names (fns ++ gns) (fs ++ gs)
+functions_append old mid new s names fns gns fs gs p q = record {
+  from = λ decls ms m stand. (
+      let x = p.from decls ms m stand in
+      let y = q.from decls x.now x.meeting (names_beside s fns ms x.now s (env_of names) x.meets stand) in
+      let front = all_function_meetings s fns in
+      let back = all_function_meetings s gns in
+      let whole : all_function_meetings s (fns ++ gns) ≡ front ++ back = flat_map-append (λ (fn : SourceFunction). flat_map (shape_meetings s Unknown) (signature fn)) fns gns in
+      record {
+        now = y.now;
+        meets = subst (λ (l : List Meeting). Meets ms l y.now) (sym whole) (meets_append front back ms x.now y.now x.meets y.meets);
+        meeting = y.meeting;
+        are = are_append (keys y.now) s fns gns fs gs (functions_grown (meets_grown back x.now y.now y.meets) s fns fs x.are) y.are;
+      });
+}
+
+pub shapes_none : (es : List TypeDef) (s : Address) (env : Env) → AreShapes es es s env [] []
+shapes_none es s env = resolved_none es s env
+
+pub shapes_one : (old new : List TypeDef) (s : Address) (env : Env) (x : Shape) (t : Ty) → AreResolved old new s env (shape_meetings s Unknown x) (one (expr_of s x)) (t ∷ []) → AreShapes old new s env (x ∷ []) (t ∷ [])
+shapes_one old new s env x t h = subst (λ (ms : List Meeting). AreResolved old new s env ms (one (expr_of s x)) (t ∷ [])) (sym (append-nil (shape_meetings s Unknown x))) h
+
+gathered_exprs : (s : Address) (xs ys : List Shape) → exprs_of s (gathered (xs ++ ys)) ≡ joined (exprs_of s (gathered xs)) (exprs_of s (gathered ys))
+gathered_exprs s [] ys = refl
+gathered_exprs s (x ∷ xs) ys = ap (λ (es : Exprs). exprs.More (expr_of s x) es) (gathered_exprs s xs ys)
+
+pub shapes_append : (old mid new : List TypeDef) (s : Address) (env : Env) (xs ys : List Shape) (ts us : List Ty) → AreShapes old mid s env xs ts → AreShapes mid new s env ys us → AreShapes old new s env (xs ++ ys) (ts ++ us)
+shapes_append old mid new s env xs ys ts us p q = subst (λ (ms : List Meeting). AreResolved old new s env ms (exprs_of s (gathered (xs ++ ys))) (ts ++ us)) (sym (flat_map-append (shape_meetings s Unknown) xs ys)) (subst (λ (es : Exprs). AreResolved old new s env (flat_map (shape_meetings s Unknown) xs ++ flat_map (shape_meetings s Unknown) ys) es (ts ++ us)) (sym (gathered_exprs s xs ys)) (resolved_more p q))
+
+kind_stands : (ks : List Key) (s : Address) (env : Env) (role : Role) (k : FunctionKind) → AreNames ks s env → IsKindIn env role k → IsKind ks s role k
+kind_stands ks s env (Freestanding id form) k names h = h
+kind_stands ks s env (Method of form) k names h = (h.0, h.1, names.stands of.name.now h.0 h.2)
+kind_stands ks s env (Static of form) k names h = (h.0, h.1, names.stands of.name.now h.0 h.2)
+kind_stands ks s env (Constructor of) k names h = (h.0, h.1, names.stands of.name.now h.0 h.2)
+
+-- types at the places of shapes, one by one
+typed_of : (ks : List Key) (s : Address) (xs : List Shape) (ts : List Ty) → AreAt ks (exprs_of s (gathered xs)) ts → AreTyped ks s xs ts
+typed_of ks s [] [] h = record { count = refl; each = λ k x t at. absurd (let f : ⊥ = cc in f) }
+typed_of ks s (x ∷ xs) (t ∷ ts) h =
+    let rest = typed_of ks s xs ts h.1 in
+    record { count = ap suc rest.count; each = both rest }
+  where
+    both : AreTyped ks s xs ts → (k : ℕ) (y : Shape) (u : Ty) → slice_get (x ∷ xs) k ≡ Some y → slice_get (t ∷ ts) k ≡ Some u → IsAt ks (expr_of s y) u
+    both rest zero y u at there =
+        let one : x ≡ y = cc in
+        let two : t ≡ u = cc in
+        subst (λ (z : Shape). IsAt ks (expr_of s z) u) one (subst (IsAt ks (expr_of s x)) two h.0)
+    both rest (suc k) y u at there = rest.each k y u at there
+typed_of ks s [] (t ∷ ts) h = absurd h
+typed_of ks s (x ∷ xs) [] h = absurd h
+
+-- of as many types in front, those behind are those of the shapes behind
+typed_front : (ks : List Key) (s : Address) (xs ys : List Shape) (ts us : List Ty) → length ts ≡ length xs → AreTyped ks s (xs ++ ys) (ts ++ us) → AreTyped ks s xs ts
+typed_front ks s xs ys ts us long h = record { count = long; each = λ k x t at there. h.each k x t (at_front xs ys k x at) (at_front ts us k t there) }
+
+typed_back : (ks : List Key) (s : Address) (xs ys : List Shape) (ts us : List Ty) → length ts ≡ length xs → AreTyped ks s (xs ++ ys) (ts ++ us) → AreTyped ks s ys us
+typed_back ks s xs ys ts us long h = record {
+  count = (let a = length-append ts us in let b = length-append xs ys in let c = h.count in omega arith);
+  each = λ k x t at there. h.each (length xs + k) x t (at_back xs ys k x at) (subst (λ (n : ℕ). slice_get (ts ++ us) (n + k) ≡ Some t) long (at_back ts us k t there));
+}
+
+result_of : (ks : List Key) (s : Address) (x : Option Shape) (t : Option Ty) → AreTyped ks s (option_to_list x) (option_to_list t) → IsResult ks s x t
+result_of ks s None None h = refl
+result_of ks s None (Some t) h = absurd (let wrong = h.count in let f : ⊥ = omega arith in f)
+result_of ks s (Some x) None h = absurd (let wrong = h.count in let f : ⊥ = omega arith in f)
+result_of ks s (Some x) (Some t) h = h.each 0 x t refl refl
+
+-- a function whose types stand at their places is the written one
+function_is : (ks : List Key) (s : Address) (env : Env) (fn : SourceFunction) (f : Function) → AreNames ks s env → SaysFunction env fn f → AreAt ks (exprs_of s (gathered (signature fn))) (function_types f) → IsFunction ks s fn f
+function_is ks s env fn f names says at =
+    let typed = typed_of ks s (signature fn) (function_types f) at in
+    let shapes = map (λ (p : SourceParam). p.shape) (all_params fn) in
+    let types = map (λ (x : Param). x.ty) f.params in
+    let long : length types ≡ length shapes = length-map f.params (λ (x : Param). x.ty) ∙ says.count ∙ sym (length-map (all_params fn) (λ (p : SourceParam). p.shape)) in
+    let front = typed_front ks s shapes (option_to_list fn.result) types (option_to_list f.result) long typed in
+    let back = typed_back ks s shapes (option_to_list fn.result) types (option_to_list f.result) long typed in
+    record {
+      name = says.name;
+      kind = kind_stands ks s env fn.role f.kind names says.kind;
+      params = record {
+        count = says.count;
+        each = λ k w p w_at p_at. (
+            let it = says.params k w p w_at p_at in
+            record {
+              name = it.0;
+              span = it.1;
+              type = front.each k w.shape p.ty (slice_get-map (λ (q : SourceParam). q.shape) (all_params fn) k ∙ ap (option_map (λ (q : SourceParam). q.shape)) w_at) (slice_get-map (λ (q : Param). q.ty) f.params k ∙ ap (option_map (λ (q : Param). q.ty)) p_at);
+            });
+      };
+      result = result_of ks s fn.result f.result back;
+      span = says.span;
+      notes = says.notes;
+    }
+
+-- one function
+pub function_one : (old new : List TypeDef) (s : Address) (names : Names) (fn : SourceFunction) (f : Function) → SaysFunction (env_of names) fn f → AreShapes old new s (env_of names) (signature fn) (function_types f) → AddsFunctions old new s names (fn ∷ []) (f ∷ [])
+function_one old new s names fn f says h = record {
+  from = λ decls ms m stand. (
+      let x = h.from decls ms m stand in
+      let more = flat_map (shape_meetings s Unknown) (signature fn) in
+      let kept = names_kept ms x.now more s (env_of names) (exprs_of s (gathered (signature fn))) h.same x.meets stand in
+      record {
+        now = x.now;
+        meets = subst (λ (l : List Meeting). Meets ms l x.now) (sym (append-nil more)) x.meets;
+        meeting = x.meeting;
+        are = record { count = refl; each = only (function_is (keys x.now) s (env_of names) fn f kept says x.at) };
+      });
+}
+  where
+    only : {ks : List Key} → IsFunction ks s fn f → (k : ℕ) (g : SourceFunction) (e : Function) → slice_get (fn ∷ []) k ≡ Some g → slice_get (f ∷ []) k ≡ Some e → IsFunction ks s g e
+    only {ks} it zero g e at there =
+        let one : fn ≡ g = cc in
+        let two : f ≡ e = cc in
+        subst (λ (z : SourceFunction). IsFunction ks s z e) one (subst (IsFunction ks s fn) two it)
+    only it (suc k) g e at there = absurd (let f : ⊥ = cc in f)

@@ -1,0 +1,174 @@
+-- What is met in the names of a scope, one after another.
+use Rattle.std.proofs.Common.{◌≡◌, ℕ, suc, ◌+◌, true, cond, List, [], ◌∷◌, ◌++◌, length, Option, Some, None, nat_eq, inl, inr, refl, sym, ap, ◌∙◌, subst, append_assoc, arith}
+use Rattle.std.specs.Prelude.{slice_get, map}
+use Rattle.std.specs.Cmp.Lexicographic.{pointwise}
+use Rattle.std.proofs.lemmas.List.{append-nil, map-append}
+use Rattle.std.proofs.lemmas.Option.{slice_get_within}
+use Rattle.indexmap.specs.IndexMap.{insert_entry}
+use Rattle.wit_tree.specs.declared.tree.Attribute.{Attribute}
+use Rattle.wit_tree.specs.declared.tree.UseName.{UseName}
+use Rattle.wit_tree.specs.declared.tree.TypeDef.{TypeDef as Definition}
+use Rattle.wit_types.specs.declared.types.TypeDef.{TypeDef}
+use Rattle.wit_types.specs.declared.types.TypeDefKind.{TypeDefKind}
+use Rattle.wit_types.specs.declared.types.TypeDefKind.TheVariants.{Type_}
+use Rattle.wit_types.specs.declared.types.TypeOwner.{TypeOwner}
+use Rattle.wit_types.specs.declared.types.«Type».TheVariants as type
+use Rattle.wit_arena.specs.Kind.{kind_of}
+use Rattle.wit_syntax.specs.Address.{Address}
+use Rattle.wit_syntax.specs.Source.{ScopeName, Used, Defined, local_name, name_span, name_form, name_body, name_scope, name_notes, name_stability}
+use Rattle.wit_arena.specs.Expr.{Exprs, End, exprs_of, name_exprs}
+use Rattle.wit_arena.specs.Meet.{Key, Def, Meeting, keys, IsMet, Meets, Decl, Decls, IsAmong, decl_of, IsMeeting, shapes_meetings, parts_meetings, name_meetings, all_name_meetings}
+use Rattle.wit_arena.specs.Resolving.{all_met, Names, Cell, env_of, Env, AreNames, AreKnown, IsExtended, AreResolved, IsAdded, IsUsed, Defines, AreNew, decls_of, named}
+use Rattle.wit_syntax.specs.Scope.{AreDistinct, local_names}
+use Rattle.wit_syntax.proofs.Repeated.{differ_at, differ_by}
+use Rattle.wit_syntax.proofs.Lists.{at_front, at_back, at_seam, at_either}
+use Rattle.wit_arena.proofs.Meeting.{keys-append, meets_append, meets_from, meets_grown, names_kept, no_defs, meeting_more, Has, has_either}
+use Rattle.wit_syntax.proofs.Names.{name_cases, name_itself, lookup-insert_entry, names-insert_entry}
+use Rattle.std.proofs.lemmas.Grind.{flat_map-append}
+use Rattle.wit_syntax.specs.Shape.{body_of}
+use Rattle.wit_arena.proofs.Keys.{keys-shapes}
+use Rattle.wit_arena.proofs.Places.{key_grown}
+
+-- a name that was not met is free
+pub name_free : (ks : List Key) (s : Address) (env : Env) (name : List ℕ) → AreNames ks s env → (IsMet ks (Def s name) → ⊥) → env name ≡ None
+name_free ks s env name names new = go (env name) refl
+  where
+    go : (o : Option ℕ) → env name ≡ o → env name ≡ None
+    go None e = e
+    go (Some i) e = absurd (new (i, names.stands name i e))
+
+-- the names with one more
+names_added : (ks : List Key) (s : Address) (names : Names) (name : List ℕ) (place : ℕ) → AreNames ks s (env_of names) → (IsMet ks (Def s name) → ⊥) → place ≡ length ks → AreNames (ks ++ Def s name ∷ []) s (env_of (insert_entry (pointwise nat_eq) names name place))
+names_added ks s names name place is fresh at_end = record {
+  stands = λ n i h. elim (name_cases n name) [
+    | inl same ↦ (
+        let some : Some i ≡ Some place = sym h ∙ lookup-insert_entry names name n place ∙ ap (λ b. cond b (Some place) (env_of names n)) (ap (λ m. pointwise nat_eq m name) same ∙ name_itself name) in
+        let at : i ≡ length ks = (let e : i ≡ place = cc in e ∙ at_end) in
+        rw (at, same) (at_seam ks (Def s name)))
+    | inr other ↦ at_front ks (Def s name ∷ []) i (Def s n) (is.stands n i (sym (lookup-insert_entry names name n place ∙ ap (λ b. cond b (Some place) (env_of names n)) other) ∙ h))
+  ];
+  has = λ j n at. elim (name_cases n name) [
+    | inl same ↦ (place, lookup-insert_entry names name n place ∙ ap (λ b. cond b (Some place) (env_of names n)) (ap (λ m. pointwise nat_eq m name) same ∙ name_itself name))
+    | inr other ↦ elim (at_either ks (Def s name) j (Def s n) at) [
+      | inl old ↦ (let was = is.has j n old in (was.0, lookup-insert_entry names name n place ∙ ap (λ b. cond b (Some place) (env_of names n)) other ∙ was.1))
+      | inr new ↦ absurd (let same : n ≡ name = (let k = new.1 in cc) in let wrong : pointwise nat_eq n name ≡ true = ap (λ m. pointwise nat_eq m name) same ∙ name_itself name in let f : ⊥ = cc in f)
+    ]
+  ];
+}
+
+-- a name over parts that were resolved
+defines_from : (old mid new : List TypeDef) (cs : List Cell) (o : TypeOwner) (s : Address) (names names' : Names) (x : ScopeName) (kind : TypeDefKind) (es : Exprs) → keys (parts_meetings s x) ≡ all_met es → ((decls : Decls) (ms : List Meeting) → IsMeeting decls ms old → AreNames (keys ms) s (env_of names) → AreKnown (keys ms) s cs → IsExtended decls ms mid (parts_meetings s x) (name_exprs s x) (kind_of kind).parts) → (kind_of kind).form ≡ name_form x → IsAdded mid new o names names' (local_name x) (name_notes x) (name_span x) kind → Defines old new cs o s names names' (x ∷ [])
+defines_from old mid new cs o s names names' x kind es keys_of p form a = record {
+  from = λ decls ms among distinct anew known m stand. (
+      let name = local_name x in
+      let more = parts_meetings s x in
+      let it : Meeting = record { key = Def s name; span = name_span x; given = name_stability x } in
+      let y = p decls ms m stand known in
+      let kept = names_kept ms y.now more s (env_of names) es keys_of y.meets stand in
+      let fresh : IsMet (keys y.now) (Def s name) → ⊥ = λ was. elim (meets_from more ms y.now y.meets was.0 (Def s name) was.1) [
+        | inl before ↦ anew.new 0 x refl before
+        | inr inner ↦ no_defs es s name (subst (λ ks. Has ks (Def s name)) keys_of inner)
+      ] in
+      let keyed = y.meeting.keyed in
+      let count : length mid ≡ length (keys y.now) = keyed.count in
+      let free = name_free (keys y.now) s (env_of names) name kept fresh in
+      record {
+        now = y.now ++ it ∷ [];
+        meets = subst (λ l. Meets ms l (y.now ++ it ∷ [])) (sym (append-nil (more ++ it ∷ []))) (meets_append more (it ∷ []) ms y.now (y.now ++ it ∷ []) y.meets (inr (fresh, refl)));
+        meeting = subst (IsMeeting decls (y.now ++ it ∷ [])) (sym a.last) (meeting_more it (named o name kind (name_notes x) (name_span x)) y.meeting fresh (record { decl = decl_of o s x; among = among (decl_of o s x) (0, refl); same = refl; name = refl; span = refl; owner = refl; form = form; parts = y.at; notes = record { docs = refl; stability = refl; external_id = refl } }) refl tt);
+        stand = rw (a.inserted, keys-append y.now (it ∷ [])) (names_added (keys y.now) s names name (length mid) kept fresh count);
+        listed = ap (map (λ p. p.0)) a.inserted ∙ names-insert_entry names name (length mid) free;
+      });
+}
+
+-- a definition over parts that were resolved
+pub defines_one : (old mid new : List TypeDef) (cs : List Cell) (o : TypeOwner) (s : Address) (names names' : Names) (d : Definition) (kind : TypeDefKind) → AreResolved old mid s (env_of names) (shapes_meetings s (name_stability (Defined d)) (body_of d.body).parts) (exprs_of s (body_of d.body).parts) (kind_of kind).parts → (kind_of kind).form ≡ (body_of d.body).form → IsAdded mid new o names names' d.name.name.now (name_notes (Defined d)) d.name.span kind → Defines old new cs o s names names' (Defined d ∷ [])
+defines_one old mid new cs o s names names' d kind p form a = defines_from old mid new cs o s names names' (Defined d) kind (exprs_of s (body_of d.body).parts) p.same (λ decls ms m stand known. p.from decls ms m stand) form a
+
+-- the names of a scope stand for their places, however it is called
+key_at_scope : {ks : List Key} {s t : Address} {env : Env} → AreNames ks s env → s ≡ t → (name : List ℕ) (i : ℕ) → env name ≡ Some i → slice_get ks i ≡ Some (Def t name)
+key_at_scope {ks} {s} {t} {env} names same name i h = names.stands name i h ∙ ap (λ (x : Address). Some (Def x name)) same
+
+-- a name that is used from a scope that was resolved
+pub defines_used : (old new : List TypeDef) (cs : List Cell) (o : TypeOwner) (s : Address) (names names' : Names) (from : Address) (attributes : List Attribute) (n : UseName) → IsUsed old new cs o names names' from attributes n → Defines old new cs o s names names' (Used from attributes n ∷ [])
+defines_used old new cs o s names names' from attributes n u =
+    let original = n.name.name.now in
+    defines_from old old new cs o s names names' (Used from attributes n) (Type_ (type.Id u.id)) End refl (λ decls ms m stand known. record {
+      now = ms;
+      meets = refl;
+      meeting = m;
+      at = ((u.id, refl, key_at_scope (known.names u.found.place u.target u.found.at) u.found.called original u.id u.stands), tt);
+    }) refl u.added
+
+-- what is met in the parts of a name of a scope are the unnamed expressions in them
+pub parts_keys : (s : Address) (x : ScopeName) → keys (parts_meetings s x) ≡ all_met (name_exprs s x)
+parts_keys s x = keys-shapes (name_scope s x) (name_stability x) (name_body x).parts
+
+pub name_keys : (s : Address) (x : ScopeName) → keys (name_meetings s x) ≡ keys (parts_meetings s x) ++ Def s (local_name x) ∷ []
+name_keys s x = keys-append (parts_meetings s x) (record { key = Def s (local_name x); span = name_span x; given = name_stability x } ∷ [])
+
+-- a name that is met in names of a scope is one of them
+pub name_met_in : (s : Address) (xs : List ScopeName) (t : Address) (name : List ℕ) → Has (keys (all_name_meetings s xs)) (Def t name) → (t ≡ s) × ((i : ℕ) × (x : ScopeName) × (slice_get xs i ≡ Some x) × (local_name x ≡ name))
+name_met_in s [] t name h = absurd h
+name_met_in s (x ∷ xs) t name h =
+    let h' = subst (λ ks. Has ks (Def t name)) (keys-append (name_meetings s x) (all_name_meetings s xs) ∙ ap (λ ks. ks ++ keys (all_name_meetings s xs)) (name_keys s x)) h in
+    elim (has_either (keys (parts_meetings s x) ++ Def s (local_name x) ∷ []) (keys (all_name_meetings s xs)) (Def t name) h') [
+      | inl first ↦ elim (has_either (keys (parts_meetings s x)) (Def s (local_name x) ∷ []) (Def t name) first) [
+        | inl inner ↦ absurd (no_defs (name_exprs s x) t name (subst (λ ks. Has ks (Def t name)) (parts_keys s x) inner))
+        | inr last ↦ elim last [
+          | inl here ↦ (let a : t ≡ s = cc in let b : local_name x ≡ name = cc in (a, (0, x, refl, b)))
+          | inr none ↦ absurd none
+        ]
+      ]
+      | inr rest ↦ (let it = name_met_in s xs t name rest in (it.0, (suc it.1.0, it.1.1, it.1.2, it.1.3)))
+    ]
+
+pub all_name_meetings-append : (s : Address) (xs ys : List ScopeName) → all_name_meetings s (xs ++ ys) ≡ all_name_meetings s xs ++ all_name_meetings s ys
+all_name_meetings-append s xs ys = flat_map-append (name_meetings s) xs ys
+
+-- names of scopes still stand once names of another scope were met
+pub known_kept : (a b : List Meeting) (s : Address) (cs : List Cell) (xs : List ScopeName) → Meets a (all_name_meetings s xs) b → AreKnown (keys a) s cs → AreKnown (keys b) s cs
+known_kept a b s cs xs h known = record {
+  names = λ t c at. record {
+    stands = λ n id found. key_grown (meets_grown (all_name_meetings s xs) a b h) id (Def c.address n) ((known.names t c at).stands n id found);
+    has = λ j n jat. elim (meets_from (all_name_meetings s xs) a b h j (Def c.address n) jat) [
+      | inl before ↦ (known.names t c at).has before.0 n before.1
+      | inr new ↦ absurd (known.others t c at (name_met_in s xs c.address n new).0)
+    ];
+  };
+  others = known.others;
+}
+
+pub defines_none : (es : List TypeDef) (cs : List Cell) (o : TypeOwner) (s : Address) (names : Names) → Defines es es cs o s names names []
+defines_none es cs o s names = record { from = λ decls ms among distinct anew known m stand. record { now = ms; meets = refl; meeting = m; stand = stand; listed = sym (append-nil (map (λ p. p.0) names)) } }
+
+-- some names, and then others
+pub defines_more : (old mid new : List TypeDef) (cs : List Cell) (o : TypeOwner) (s : Address) (a b c : Names) (xs ys : List ScopeName) → Defines old mid cs o s a b xs → Defines mid new cs o s b c ys → Defines old new cs o s a c (xs ++ ys)
+defines_more old mid new cs o s a b c xs ys p q = record {
+  from = λ decls ms among distinct anew known m stand. (
+      let all : decls_of o s (xs ++ ys) ≡ decls_of o s xs ++ decls_of o s ys = map-append (decl_of o s) xs ys in
+      let left = λ (d : Decl) (h : IsAmong (decls_of o s xs) d). among d (subst (λ l. IsAmong l d) (sym all) (h.0, at_front (decls_of o s xs) (decls_of o s ys) h.0 d h.1)) in
+      let right = λ (d : Decl) (h : IsAmong (decls_of o s ys) d). among d (subst (λ l. IsAmong l d) (sym all) (length (decls_of o s xs) + h.0, at_back (decls_of o s xs) (decls_of o s ys) h.0 d h.1)) in
+      let distinct_left : AreDistinct xs = differ_by local_name xs (λ i j d e ati atj same. differ_at local_name (xs ++ ys) distinct i j d e (at_front xs ys i d ati) (at_front xs ys j e atj) same) in
+      let distinct_right : AreDistinct ys = differ_by local_name ys (λ i j d e ati atj same. (let both = differ_at local_name (xs ++ ys) distinct (length xs + i) (length xs + j) d e (at_back xs ys i d ati) (at_back xs ys j e atj) same in omega arith)) in
+      let new_left : AreNew (keys ms) s xs = record { new = λ i d at. anew.new i d (at_front xs ys i d at) } in
+      let x = p.from decls ms left distinct_left new_left known m stand in
+      let new_right : AreNew (keys x.now) s ys = record {
+        new = λ i e at was. elim (meets_from (all_name_meetings s xs) ms x.now x.meets was.0 (Def s (local_name e)) was.1) [
+          | inl before ↦ anew.new (length xs + i) e (at_back xs ys i e at) before
+          | inr inner ↦ (
+              let d = (name_met_in s xs s (local_name e) inner).1 in
+              let both = differ_at local_name (xs ++ ys) distinct d.0 (length xs + i) d.1 e (at_front xs ys d.0 d.1 d.2) (at_back xs ys i e at) d.3 in
+              let within = slice_get_within xs d.0 d.1 d.2 in
+              omega arith)
+        ];
+      } in
+      let y = q.from decls x.now right distinct_right new_right (known_kept ms x.now s cs xs x.meets known) x.meeting x.stand in
+      record {
+        now = y.now;
+        meets = subst (λ l. Meets ms l y.now) (sym (all_name_meetings-append s xs ys)) (meets_append (all_name_meetings s xs) (all_name_meetings s ys) ms x.now y.now x.meets y.meets);
+        meeting = y.meeting;
+        stand = y.stand;
+        listed = y.listed ∙ ap (λ ns. ns ++ local_names ys) x.listed ∙ append_assoc (map (λ p. p.0) a) (local_names xs) (local_names ys) ∙ ap (λ ns. map (λ p. p.0) a ++ ns) (sym (map-append local_name xs ys));
+      });
+}

@@ -1,0 +1,122 @@
+-- Where each type stands at its place, its tree is the same at every depth.
+use Rattle.std.proofs.Common.{◌≡◌, ℕ, zero, suc, true, List, [], ◌∷◌, map, Option, Some, refl, sym, ap, ◌∙◌, subst, inl, inr, arith}
+use Rattle.std.specs.Prelude.{slice_get}
+use Rattle.std.specs.Str.{bytes_eq}
+use Rattle.wit_values.specs.declared.span.Span.{Span}
+use Rattle.wit_tree.specs.declared.tree.PackageFile.{PackageFile}
+use Rattle.wit_model.specs.declared.unresolved.UnresolvedPackage.{UnresolvedPackage}
+use Rattle.wit_types.specs.declared.types.«Type».{«Type» as Ty}
+use Rattle.wit_types.specs.declared.types.«Type».TheVariants as type
+use Rattle.wit_types.specs.declared.docs.Docs.{Docs}
+use Rattle.wit_types.specs.declared.stability.Stability.{Stability}
+use Rattle.wit_types.specs.declared.types.TypeDef.{TypeDef}
+use Rattle.wit_types.specs.declared.types.TypeOwner.{TypeOwner}
+use Rattle.wit_syntax.specs.Form.{Form}
+use Rattle.wit_arena.specs.Kind.{kind_of}
+use Rattle.wit_syntax.specs.Node.{Primitive, Tree, Head, Owner, OfScope, Leaf, Named, Unnamed, node_map}
+use Rattle.wit_syntax.specs.Shape.{Shape, Shapes}
+use Rattle.wit_syntax.specs.Shape as shape
+use Rattle.wit_syntax.specs.Notes.{Notes, HasNotes}
+use Rattle.wit_syntax.specs.Address.{Address}
+use Rattle.wit_syntax.specs.Source.{ScopeName, local_name, scope, meaning, head, named_node, name_form, name_body, name_scope, name_span, name_notes, placed, source_tree}
+use Rattle.wit_arena.specs.Expr.{expr_of, exprs_of, name_exprs, Exprs}
+use Rattle.wit_arena.specs.Meet.{Key, Def, Whole, IsAt, AreAt, Decl, Decls, decl_of, IsKeyed, primitive_type}
+use Rattle.wit_arena.specs.Package.{package_tree, node_at, entry_head, entry_node, owner_of}
+use Rattle.wit_arena.specs.Resolving.{decls_of}
+use Rattle.wit_syntax.specs.Scope.{AreDistinct}
+use Rattle.wit_syntax.proofs.Lists.{map_at}
+use Rattle.wit_syntax.proofs.Repeated.{differ_at, differ_by}
+use Rattle.wit_syntax.proofs.Names.{name_cases, name_itself}
+use Rattle.wit_arena.proofs.Primitives.{primitive_node}
+use Rattle.wit_arena.proofs.Places.{all_at_untaken}
+use Rattle.wit_arena.proofs.Shape.{entry_of_key}
+
+-- the one name of a scope that goes by a name is found
+pub meaning_found : (xs : List ScopeName) (k : ℕ) (x : ScopeName) (name : List ℕ) → AreDistinct xs → slice_get xs k ≡ Some x → local_name x ≡ name → meaning xs name ≡ Some x
+meaning_found [] k x name distinct at same = absurd (let f : ⊥ = cc in f)
+meaning_found (y ∷ xs) zero x name distinct at same =
+    let here : y ≡ x = cc in
+    let hit : bytes_eq (local_name y) name ≡ true = ap (λ (z : ScopeName). bytes_eq (local_name z) name) here ∙ ap (λ n. bytes_eq n name) same ∙ name_itself name in
+    rw hit at
+meaning_found (y ∷ xs) (suc k) x name distinct at same = elim (name_cases (local_name y) name) [
+  | inl first ↦ absurd (let both = differ_at local_name (y ∷ xs) distinct 0 (suc k) y x refl at (first ∙ sym same) in let f : ⊥ = omega arith in f)
+  | inr other ↦ rw other (meaning_found xs k x name (differ_by local_name xs (λ i j e f ati atj names. (let both = differ_at local_name (y ∷ xs) distinct (suc i) (suc j) e f ati atj names in omega arith))) at same)
+]
+
+abbrev made : Owner → List ℕ → Span → Docs → Stability → Option (List ℕ) → Head
+made o name span docs stability external_id = record { owner = o; name = name; span = span; docs = docs; stability = stability; external_id = external_id }
+
+abbrev named_of : (n : ℕ) → Head → Form → List (Tree n) → Tree (suc n)
+named_of n x form parts = Named x form parts
+
+abbrev unnamed_of : (n : ℕ) → Form → List (Tree n) → Tree (suc n)
+unnamed_of n form parts = Unnamed form parts
+
+-- a scope, and whose it is in a package
+pub record IsScope (files : List PackageFile) (decls : Decls) (p : UnresolvedPackage) (s : Address) : Type 0 where
+  pub distinct : AreDistinct (scope files s)
+  pub whose : TypeOwner
+  pub own : decls s ≡ decls_of whose s (scope files s)
+  pub called : owner_of p whose ≡ OfScope s
+
+module _ (files : List PackageFile) (decls : Decls) (ks : List Key) (p : UnresolvedPackage) (m : IsKeyed decls ks p.types) (scopes : (j : ℕ) (s : Address) (name : List ℕ) → slice_get ks j ≡ Some (Def s name) → IsScope files decls p s) where
+  abbrev Agree : ℕ → Type 0
+  Agree n = (s : Address) (x : Shape) (ty : Ty) → IsAt ks (expr_of s x) ty → package_tree p n ty ≡ source_tree files n (s, x)
+
+  parts_agree : (n : ℕ) → Agree n → (s : Address) (xs : Shapes) (ts : List Ty) → AreAt ks (exprs_of s xs) ts → map (package_tree p n) ts ≡ map (source_tree files n) (placed s xs)
+  parts_agree n agree s shape.End [] h = refl
+  parts_agree n agree s (shape.More x xs) (t ∷ ts) h = let first = agree s x t h.0 in let rest = parts_agree n agree s xs ts h.1 in cc
+  parts_agree n agree s shape.End (t ∷ ts) h = absurd h
+  parts_agree n agree s (shape.More x xs) [] h = absurd h
+
+  -- the heads agree
+  head_agrees : (s : Address) (called : List ℕ) (x : ScopeName) (e : TypeDef) → local_name x ≡ called → e.span ≡ name_span x → owner_of p e.owner ≡ OfScope s → HasNotes (name_notes x) e → entry_head p called e ≡ head s x
+  head_agrees s called x e name span own told =
+      ap (λ (o : Owner). made o called e.span e.docs e.stability e.external_id) own
+      ∙ ap (λ (n : List ℕ). made (OfScope s) n e.span e.docs e.stability e.external_id) (sym name)
+      ∙ ap (λ (z : Span). made (OfScope s) (local_name x) z e.docs e.stability e.external_id) span
+      ∙ ap (λ (z : Docs). made (OfScope s) (local_name x) (name_span x) z e.stability e.external_id) told.docs
+      ∙ ap (λ (z : Stability). made (OfScope s) (local_name x) (name_span x) (name_notes x).docs z e.external_id) told.stability
+      ∙ ap (λ (z : Option (List ℕ)). made (OfScope s) (local_name x) (name_span x) (name_notes x).docs (name_notes x).stability z) told.external_id
+
+  name_agrees : (n : ℕ) → Agree n → (s : Address) (name : List ℕ) (i : ℕ) → slice_get ks i ≡ Some (Def s name) → package_tree p (suc n) (type.Id i) ≡ node_map (source_tree files n) (named_node s (meaning (scope files s) name))
+  name_agrees n agree s name i there =
+      let e = entry_of_key decls ks p.types m i (Def s name) there in
+      let it = m.each i (Def s name) e.0 there e.1 in
+      let here = scopes i s name there in
+      let k = it.among.0 in
+      let x = map_at (decl_of here.whose s) (scope files s) k it.decl (ap (λ (l : List Decl). slice_get l k) (sym here.own) ∙ it.among.1) in
+      let called : local_name x.0 ≡ name = ap (λ (y : Decl). y.name) x.2 ∙ it.same in
+      let span : e.0.span ≡ name_span x.0 = it.span ∙ sym (ap (λ (y : Decl). y.span) x.2) in
+      let own : owner_of p e.0.owner ≡ OfScope s = ap (owner_of p) (it.owner ∙ sym (ap (λ (y : Decl). y.owner) x.2)) ∙ here.called in
+      let form : (kind_of e.0.kind).form ≡ name_form x.0 = it.form ∙ sym (ap (λ (y : Decl). y.form) x.2) in
+      let parts : AreAt ks (name_exprs s x.0) (kind_of e.0.kind).parts = subst (λ (y : Exprs). AreAt ks y (kind_of e.0.kind).parts) (sym (ap (λ (y : Decl). y.parts) x.2)) (all_at_untaken i ks it.decl.parts (kind_of e.0.kind).parts it.parts) in
+      let inner = parts_agree n agree (name_scope s x.0) (name_body x.0).parts (kind_of e.0.kind).parts parts in
+      let found = meaning_found (scope files s) k x.0 name here.distinct x.1 called in
+      let told : HasNotes (name_notes x.0) e.0 = subst (λ (y : Notes). HasNotes y e.0) (sym (ap (λ (y : Decl). y.notes) x.2)) it.notes in
+      let heads = head_agrees s name x.0 e.0 called span own told in
+      ap (λ (o : Option TypeDef). node_map (package_tree p n) (node_at p o)) e.1
+      ∙ ap (λ (o : Option (List ℕ)). node_map (package_tree p n) (entry_node p o e.0)) it.name
+      ∙ ap (λ (y : Head). named_of n y (kind_of e.0.kind).form (map (package_tree p n) (kind_of e.0.kind).parts)) heads
+      ∙ ap (λ (y : Form). named_of n (head s x.0) y (map (package_tree p n) (kind_of e.0.kind).parts)) form
+      ∙ ap (λ (y : List (Tree n)). named_of n (head s x.0) (name_form x.0) y) inner
+      ∙ sym (ap (λ (o : Option ScopeName). node_map (source_tree files n) (named_node s o)) found)
+
+  whole_agrees : (n : ℕ) → Agree n → (s : Address) (form : Form) (parts : Shapes) (i : ℕ) → slice_get ks i ≡ Some (Whole form (exprs_of s parts)) → package_tree p (suc n) (type.Id i) ≡ node_map (source_tree files n) (Unnamed form (placed s parts))
+  whole_agrees n agree s form parts i there =
+      let e = entry_of_key decls ks p.types m i (Whole form (exprs_of s parts)) there in
+      let it = m.each i (Whole form (exprs_of s parts)) e.0 there e.1 in
+      let inner = parts_agree n agree s parts (kind_of e.0.kind).parts (all_at_untaken i ks (exprs_of s parts) (kind_of e.0.kind).parts it.parts) in
+      ap (λ (o : Option TypeDef). node_map (package_tree p n) (node_at p o)) e.1
+      ∙ ap (λ (o : Option (List ℕ)). node_map (package_tree p n) (entry_node p o e.0)) it.name
+      ∙ ap (λ (x : Form). unnamed_of n x (map (package_tree p n) (kind_of e.0.kind).parts)) it.form
+      ∙ ap (λ (x : List (Tree n)). unnamed_of n form x) inner
+
+  primitive_agrees : (n : ℕ) (x : Primitive) → package_tree p (suc n) (primitive_type x) ≡ Leaf x
+  primitive_agrees n x = ap (node_map (package_tree p n)) (primitive_node p x)
+
+  pub same_tree : (n : ℕ) → Agree n
+  same_tree zero s x ty h = refl
+  same_tree (suc n) s (shape.Prim x) ty h = ap (package_tree p (suc n)) h ∙ primitive_agrees n x
+  same_tree (suc n) s (shape.Word id) ty h = ap (package_tree p (suc n)) h.1 ∙ name_agrees n (same_tree n) s id.name.now h.0 h.2
+  same_tree (suc n) s (shape.Of span form parts) ty h = ap (package_tree p (suc n)) h.1 ∙ whole_agrees n (same_tree n) s form parts h.0 h.2

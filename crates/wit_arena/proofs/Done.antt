@@ -1,0 +1,191 @@
+-- Scopes that are done, one after another.
+use Rattle.std.proofs.Common.{◌≡◌, ℕ, List, [], ◌∷◌, ◌++◌, length, Some, ◌⊎◌, inl, inr, sym, ap, ◌∙◌, subst}
+use Rattle.std.specs.Prelude.{slice_get, map}
+use Rattle.std.specs.Option.{option_map}
+use Rattle.std.proofs.lemmas.List.{map-append}
+use Rattle.std.proofs.lemmas.Option.{slice_get-map}
+use Rattle.wit_tree.specs.declared.tree.PackageFile.{PackageFile}
+use Rattle.wit_types.specs.declared.types.TypeDef.{TypeDef}
+use Rattle.wit_types.specs.declared.types.TypeOwner.{TypeOwner}
+use Rattle.wit_syntax.specs.Address.{Address}
+use Rattle.wit_syntax.specs.Source.{ScopeName, scope, local_name}
+use Rattle.wit_arena.specs.Meet.{Key, Def, Whole, Meeting, keys, Decl, Decls, IsAmong, decl_of, Meets, all_name_meetings, all_function_meetings}
+use Rattle.wit_syntax.specs.Form.{Form}
+use Rattle.wit_arena.specs.Expr.{Exprs}
+use Rattle.wit_syntax.specs.Shape.{all_handles}
+use Rattle.wit_syntax.specs.Function.{SourceFunction, all_types}
+use Rattle.wit_arena.specs.Whole.{functions_at, turn_meetings, turn_handles, AreRequired}
+use Rattle.wit_syntax.specs.Repeats.{AllDiffer}
+use Rattle.wit_arena.specs.Resolving.{Cell, env_of, AreNames, AreKnown, AreNew, IsDefined, Defines, HasFunctions, AddsFunctions, AreEnded, decls_of}
+use Rattle.wit_syntax.proofs.Lists.{at_front, at_seam, at_either, map_at}
+use Rattle.wit_syntax.proofs.Repeated.{differ_more}
+use Rattle.wit_arena.proofs.Meeting.{Has, has_either, keys-append, meets_append, meets_from, meets_grown}
+use Rattle.wit_arena.proofs.FreeNames.{AreStated}
+use Rattle.wit_arena.proofs.Signatures.{no_name_in_functions, names_beside, known_beside, IsInFunctions, whole_in_functions, functions_grown}
+use Rattle.wit_arena.proofs.Ends.{IsDeclared}
+use Rattle.wit_arena.proofs.Required.{required_grown, ended_required}
+use Rattle.wit_arena.proofs.Defining.{name_met_in, known_kept}
+use Rattle.wit_arena.proofs.Wholes.{whole_in_names}
+use Rattle.wit_arena.proofs.Standing.{DoneScope, done_address, turn_of, cell_of, IsTurn, IsDoneScope, IsNameOf, IsWholeOf, IsInSignatureOf, IsDone}
+
+-- the names in turn are declared where those of the scope are
+turned_among : (o : TypeOwner) (s : Address) (xs ys : List ScopeName) → IsTurn xs ys → (d : Decl) → IsAmong (decls_of o s ys) d → IsAmong (decls_of o s xs) d
+turned_among o s xs ys turn d h =
+    let x = map_at (decl_of o s) ys h.0 d h.1 in
+    let p = turn.among h.0 x.0 x.1 in
+    (p.0, slice_get-map (decl_of o s) xs p.0 ∙ ap (option_map (decl_of o s)) p.1 ∙ ap Some x.2)
+
+module _ (files : List PackageFile) (decls : Decls) (written : List Meeting) (cs : List DoneScope) (es : List TypeDef) (d : IsDone files decls written cs es) (s : Address) (fresh : (t : ℕ) (c : DoneScope) → slice_get cs t ≡ Some c → c.address ≡ s → ⊥) where
+  -- the names of what is done stand for their places, and those of another scope are not met
+  pub known : AreKnown (keys d.met) s (map cell_of cs)
+  known = record {
+    names = λ t k at. (let c = map_at cell_of cs t k at in subst (λ (x : Cell). AreNames (keys d.met) x.address (env_of x.types)) c.2 (d.stand t c.0 c.1));
+    others = λ t k at same. (let c = map_at cell_of cs t k at in fresh t c.0 c.1 (ap (λ (x : Cell). x.address) c.2 ∙ same));
+  }
+
+  unmet : (j : ℕ) (name : List ℕ) → slice_get (keys d.met) j ≡ Some (Def s name) → ⊥
+  unmet j name at = let it = d.before j s name at in fresh it.place it.cell it.at it.scope
+
+  pub anew : (xs : List ScopeName) → AreNew (keys d.met) s xs
+  anew xs = record { new = λ i x at was. unmet was.0 (local_name x) was.1 }
+
+  pub nothing : AreNames (keys d.met) s (env_of [])
+  nothing = record {
+    stands = λ name i h. absurd (let f : ⊥ = cc in f);
+    has = λ j name at. absurd (unmet j name at);
+  }
+
+-- the scope of a name that was met is declared by files
+pub declared_scope : (files : List PackageFile) (decls : Decls) (cs : List DoneScope) (s : Address) (name : List ℕ) → ((t : ℕ) (c : DoneScope) → slice_get cs t ≡ Some c → IsDoneScope files c) → ((t : ℕ) (c : DoneScope) → slice_get cs t ≡ Some c → decls c.address ≡ decls_of c.owner c.address (scope files c.address)) → IsNameOf cs s name → IsDeclared files decls s
+declared_scope files decls cs s name each own it = subst (λ (z : Address). IsDeclared files decls z) it.scope (record {
+  distinct = (each it.place it.cell it.at).turn.distinct;
+  whose = it.cell.owner;
+  own = own it.place it.cell it.at;
+})
+
+-- what the names of one scope more add, and then its functions, and what its handles require
+pub record AddsDone (files : List PackageFile) (decls : Decls) (cs : List DoneScope) (es es' : List TypeDef) (c : DoneScope) : Type 0 where
+  pub own : decls c.address ≡ decls_of c.owner c.address (scope files c.address)
+  pub turn : IsTurn (scope files c.address) c.names
+  pub functions : c.functions ≡ functions_at files c.address
+  pub stated : AreStated c.made c.stated
+  pub middle : List TypeDef
+  pub defines : Defines es middle (map cell_of cs) c.owner c.address [] c.types c.names
+  pub adds : AddsFunctions middle es' c.address c.types c.functions c.made
+  pub ended : AreEnded (env_of c.types) es' (all_handles (all_types c.names c.functions)) c.required
+
+-- a name that is met in a scope is one of its names
+met_in_turn : (s : Address) (xs : List ScopeName) (fns : List SourceFunction) (t : Address) (name : List ℕ) → Has (keys (all_name_meetings s xs ++ all_function_meetings s fns)) (Def t name) → Has (keys (all_name_meetings s xs)) (Def t name)
+met_in_turn s xs fns t name h = elim (has_either (keys (all_name_meetings s xs)) (keys (all_function_meetings s fns)) (Def t name) (subst (λ (l : List Key). Has l (Def t name)) (keys-append (all_name_meetings s xs) (all_function_meetings s fns)) h)) [
+  | inl named ↦ named
+  | inr other ↦ absurd (no_name_in_functions s fns t name other)
+]
+
+-- an unnamed type that is met there is in one of its names, or in one of its functions
+whole_in_turn : (s : Address) (xs : List ScopeName) (fns : List SourceFunction) (form : Form) (parts : Exprs) → Has (keys (all_name_meetings s xs ++ all_function_meetings s fns)) (Whole form parts) → Has (keys (all_name_meetings s xs)) (Whole form parts) ⊎ IsInFunctions s fns form parts
+whole_in_turn s xs fns form parts h = elim (has_either (keys (all_name_meetings s xs)) (keys (all_function_meetings s fns)) (Whole form parts) (subst (λ (l : List Key). Has l (Whole form parts)) (keys-append (all_name_meetings s xs) (all_function_meetings s fns)) h)) [
+  | inl named ↦ inl named
+  | inr other ↦ inr (whole_in_functions s fns form parts other)
+]
+
+module _ (files : List PackageFile) (decls : Decls) (written : List Meeting) (cs : List DoneScope) (es es' : List TypeDef) (c : DoneScope) (d : IsDone files decls written cs es) (fresh : (t : ℕ) (b : DoneScope) → slice_get cs t ≡ Some b → b.address ≡ c.address → ⊥) (a : AddsDone files decls cs es es' c) where
+  abbrev s : Address
+  s = c.address
+
+  abbrev named_meetings : List Meeting
+  named_meetings = all_name_meetings s c.names
+
+  abbrev behind : List Meeting
+  behind = all_function_meetings s c.functions
+
+  others : AreKnown (keys d.met) s (map cell_of cs)
+  others = known files decls written cs es d s fresh
+
+  names_defined : IsDefined decls d.met a.middle s [] c.types c.names
+  names_defined = a.defines.from decls d.met (λ x h. subst (λ (l : List Decl). IsAmong l x) (sym a.own) (turned_among c.owner s (scope files s) c.names a.turn x h)) a.turn.differ (anew files decls written cs es d s fresh c.names) others d.meeting (nothing files decls written cs es d s fresh)
+
+  functions_added : HasFunctions decls names_defined.now es' s c.functions c.made
+  functions_added = a.adds.from decls names_defined.now names_defined.meeting names_defined.stand
+
+  abbrev now : List Meeting
+  now = functions_added.now
+
+  abbrev ks : List Meeting
+  ks = named_meetings ++ behind
+
+  met_behind : Meets d.met ks now
+  met_behind = meets_append named_meetings behind d.met names_defined.now now names_defined.meets functions_added.meets
+
+  kept : AreKnown (keys now) s (map cell_of cs)
+  kept = known_beside s c.functions names_defined.now now s (map cell_of cs) functions_added.meets (known_kept d.met names_defined.now s (map cell_of cs) c.names names_defined.meets others)
+
+  own_stand : AreNames (keys now) s (env_of c.types)
+  own_stand = names_beside s c.functions names_defined.now now s (env_of c.types) functions_added.meets names_defined.stand
+
+  abbrev all : List DoneScope
+  all = cs ++ c ∷ []
+
+  each_done : (t : ℕ) (b : DoneScope) → slice_get all t ≡ Some b → IsDoneScope files b
+  each_done t b at = elim (at_either cs c t b at) [
+    | inl old ↦ d.each t b old
+    | inr new ↦ rw new.1 (record { turn = a.turn; listed = names_defined.listed; functions = a.functions; stated = a.stated })
+  ]
+
+  own_done : (t : ℕ) (b : DoneScope) → slice_get all t ≡ Some b → decls b.address ≡ decls_of b.owner b.address (scope files b.address)
+  own_done t b at = elim (at_either cs c t b at) [
+    | inl old ↦ d.own t b old
+    | inr new ↦ rw new.1 a.own
+  ]
+
+  before_done : (j : ℕ) (t : Address) (name : List ℕ) → slice_get (keys now) j ≡ Some (Def t name) → IsNameOf all t name
+  before_done j t name at = elim (meets_from ks d.met now met_behind j (Def t name) at) [
+    | inl was ↦ (
+        let it = d.before was.0 t name was.1 in
+        record { place = it.place; cell = it.cell; at = at_front cs (c ∷ []) it.place it.cell it.at; scope = it.scope; index = it.index; x = it.x; among = it.among; called = it.called })
+    | inr new ↦ (
+        let it = name_met_in s c.names t name (met_in_turn s c.names c.functions t name new) in
+        record { place = length cs; cell = c; at = at_seam cs c; scope = sym it.0; index = it.1.0; x = it.1.1; among = it.1.2; called = it.1.3 })
+  ]
+
+  -- what its handles require
+  own_required : AreRequired files (keys now) (turn_handles (turn_of c)) c.required
+  own_required = ended_required files decls (keys now) es' functions_added.meeting.keyed (λ j t name at. declared_scope files decls all t name each_done own_done (before_done j t name at)) s (env_of c.types) own_stand (all_handles (all_types c.names c.functions)) c.required a.ended
+
+  wholes_done : (form : Form) (parts : Exprs) → Has (keys (written ++ ks)) (Whole form parts) → IsWholeOf all form parts ⊎ IsInSignatureOf all form parts
+  wholes_done form parts h = elim (has_either (keys written) (keys ks) (Whole form parts) (subst (λ (l : List Key). Has l (Whole form parts)) (keys-append written ks) h)) [
+    | inl old ↦ elim (d.wholes form parts old) [
+      | inl it ↦ inl (record { place = it.place; cell = it.cell; at = at_front cs (c ∷ []) it.place it.cell it.at; index = it.index; x = it.x; among = it.among; has = it.has })
+      | inr it ↦ inr (record { place = it.place; cell = it.cell; at = at_front cs (c ∷ []) it.place it.cell it.at; inside = it.inside })
+    ]
+    | inr new ↦ elim (whole_in_turn s c.names c.functions form parts new) [
+      | inl named ↦ (
+          let it = whole_in_names s c.names form parts named in
+          inl (record { place = length cs; cell = c; at = at_seam cs c; index = it.0; x = it.1; among = it.2; has = it.3 }))
+      | inr inside ↦ inr (record { place = length cs; cell = c; at = at_seam cs c; inside = inside })
+    ]
+  ]
+
+  -- one scope more
+  pub done_more : IsDone files decls (written ++ turn_meetings (turn_of c)) all es'
+  done_more = record {
+    met = now;
+    meets = meets_append written ks [] d.met now d.meets met_behind;
+    meeting = functions_added.meeting;
+    each = each_done;
+    own = own_done;
+    stand = λ t b at. elim (at_either cs c t b at) [
+      | inl old ↦ kept.names t (cell_of b) (slice_get-map cell_of cs t ∙ ap (option_map cell_of) old)
+      | inr new ↦ rw new.1 own_stand
+    ];
+    before = before_done;
+    unique = subst AllDiffer (sym (map-append done_address cs (c ∷ []))) (differ_more (map done_address cs) s d.unique (λ i at. (let b = map_at done_address cs i s at in fresh i b.0 b.1 b.2)));
+    wholes = wholes_done;
+    made = λ t b at. elim (at_either cs c t b at) [
+      | inl old ↦ functions_grown (meets_grown ks d.met now met_behind) b.address b.functions b.made (d.made t b old)
+      | inr new ↦ rw new.1 functions_added.are
+    ];
+    required = λ t b at. elim (at_either cs c t b at) [
+      | inl old ↦ required_grown files (meets_grown ks d.met now met_behind) (turn_handles (turn_of b)) b.required (d.required t b old)
+      | inr new ↦ rw new.1 own_required
+    ];
+  }

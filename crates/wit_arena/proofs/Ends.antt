@@ -1,0 +1,262 @@
+-- Where names end: entries of the arena end where the trees of their names do.
+use Rattle.std.proofs.Common.{◌≡◌, ℕ, zero, suc, ◌<◌, List, [], ◌∷◌, ◌++◌, length, map, Option, Some, None, ◌⊎◌, inl, inr, refl, sym, ap, ◌∙◌, subst, arith}
+use Rattle.std.specs.Prelude.{slice_get, take, drop}
+use Rattle.std.proofs.lemmas.List.{take-append-le, take-append-drop, length-take-le}
+use Rattle.std.proofs.lemmas.Option.{slice_get_within}
+use Rattle.wit_tree.specs.declared.tree.Id.{Id}
+use Rattle.wit_tree.specs.declared.tree.«Type».{«Type» as Written}
+use Rattle.wit_tree.specs.declared.tree.«Type».TheVariants as written
+use Rattle.wit_tree.specs.declared.tree.TypeBody.{TypeBody}
+use Rattle.wit_tree.specs.declared.tree.TypeBody.TheVariants.{Plain}
+use Rattle.wit_tree.specs.declared.tree.PackageFile.{PackageFile}
+use Rattle.wit_types.specs.declared.types.«Type».{«Type» as Ty}
+use Rattle.wit_types.specs.declared.types.«Type».TheVariants as type
+use Rattle.wit_types.specs.declared.types.TypeDef.{TypeDef}
+use Rattle.wit_types.specs.declared.types.TypeOwner.{TypeOwner}
+use Rattle.wit_syntax.specs.Form.{Form, ResourceForm, AliasForm, UnknownForm}
+use Rattle.wit_arena.specs.Kind.{kind_of}
+use Rattle.wit_syntax.specs.Node.{Primitive, Head, Node, Leaf, Named, Unnamed, Nothing, node_map, unfolded}
+use Rattle.wit_syntax.specs.Node as node
+use Rattle.wit_syntax.specs.Shape.{Shapes, Prim, Word, one, written_body, body_of}
+use Rattle.wit_syntax.specs.Address.{Address}
+use Rattle.wit_syntax.specs.Source.{ScopeName, Used, Defined, Taken, Place, local_name, scope, meaning, head, placed, name_form, name_body, name_scope, name_parts, named_node, source_node, source_tree}
+use Rattle.wit_arena.specs.Expr.{Exprs, exprs_of, name_exprs}
+use Rattle.wit_arena.specs.Meet.{Key, Def, AreAt, Decl, Decls, decl_of, IsKeyed, primitive_type}
+use Rattle.wit_arena.specs.Package.{HasPart}
+use Rattle.wit_arena.specs.Resolving.{decls_of}
+use Rattle.wit_syntax.specs.Scope.{AreDistinct}
+use Rattle.wit_syntax.specs.Ends.{End, AtResource, AtForeign, Elsewhere, named_end, node_end, tree_end, EndsAt}
+use Rattle.wit_arena.specs.EntryEnds.{EntryEnd, IsResource, IsUnknown, IsOther, part_end, kind_end, found_end, entry_end}
+use Rattle.wit_syntax.proofs.Lists.{at_front, at_within, map_at}
+use Rattle.wit_arena.proofs.Places.{all_at_untaken}
+use Rattle.wit_arena.proofs.Shape.{entry_of_key, backward}
+use Rattle.wit_arena.proofs.Depth.{meaning_found}
+
+-- two ways to tell where something ends never differ
+abbrev Agreeing : {X : Type 0} → (X → Option End) → (X → Option End) → Type 0
+Agreeing {X} f g = (x : X) (a b : End) → f x ≡ Some a → g x ≡ Some b → a ≡ b
+
+form_one : {X Y Z : Type 0} (p : X → Y) (q : X → Z) (f : Y → Option End) (g : Z → Option End) → Agreeing (λ x. f (p x)) (λ x. g (q x)) → (top : Head) (form : Form) (parts : List X) (a b : End) → named_end f top form (map p parts) ≡ Some a → named_end g top form (map q parts) ≡ Some b → a ≡ b
+form_one p q f g agree top AliasForm [] a b h k = absurd (let f : ⊥ = cc in f)
+form_one p q f g agree top AliasForm (y ∷ ys) a b h k = agree y a b h k
+form_one p q f g agree top _ parts a b h k = cc
+
+node_one : {X Y Z : Type 0} (p : X → Y) (q : X → Z) (f : Y → Option End) (g : Z → Option End) → Agreeing (λ x. f (p x)) (λ x. g (q x)) → (x : Node X) (a b : End) → node_end f (node_map p x) ≡ Some a → node_end g (node_map q x) ≡ Some b → a ≡ b
+node_one p q f g agree (Leaf primitive) a b h k = cc
+node_one p q f g agree (Unnamed form parts) a b h k = cc
+node_one p q f g agree Nothing a b h k = absurd (let f : ⊥ = cc in f)
+node_one p q f g agree (Named top form parts) a b h k = form_one p q f g agree top form parts a b h k
+
+-- where a thing's tree ends does not depend on its levels
+unfolded_one : {X : Type 0} (step : X → Node X) (n m : ℕ) (x : X) (a b : End) → tree_end n (unfolded step n x) ≡ Some a → tree_end m (unfolded step m x) ≡ Some b → a ≡ b
+unfolded_one step zero m x a b h k = absurd (let f : ⊥ = cc in f)
+unfolded_one step (suc n) zero x a b h k = absurd (let f : ⊥ = cc in f)
+unfolded_one step (suc n) (suc m) x a b h k = node_one (unfolded step n) (unfolded step m) (tree_end n) (tree_end m) (unfolded_one step n m) (step x) a b h k
+
+-- a name has one end
+pub ends_one : (files : List PackageFile) (s : Address) (id : Id) (a b : End) → EndsAt files s id a → EndsAt files s id b → a ≡ b
+ends_one files s id a b p q = unfolded_one (source_node files) p.levels q.levels (s, Word id) a b p.is q.is
+
+-- so it does in a grown arena
+pub entry_end-same : (n : ℕ) (es more : List TypeDef) (i : ℕ) → i < length es → entry_end n (es ++ more) i ≡ entry_end n es i
+entry_end-same zero es more i lt = refl
+entry_end-same (suc n) es more i lt =
+    let before : take i (es ++ more) ≡ take i es = take-append-le i es more (omega arith) in
+    let x = at_within es i lt in
+    let here : slice_get (es ++ more) i ≡ slice_get es i = at_front es more i x.0 x.1 ∙ sym x.1 in
+    ap (λ (l : List TypeDef). found_end (entry_end n l) i (slice_get (es ++ more) i)) before ∙ ap (found_end (entry_end n (take i es)) i) here
+
+-- what ends at a resource or at an unknown type stands in the arena
+found_within : (f : ℕ → Option EntryEnd) (i : ℕ) (o : Option TypeDef) (e : EntryEnd) → (e ≡ IsOther → ⊥) → found_end f i o ≡ Some e → (x : TypeDef) × (o ≡ Some x)
+found_within f i None e known h = absurd (known (let same : e ≡ IsOther = cc in same))
+found_within f i (Some x) e known h = (x, refl)
+
+pub entry_end-within : (n : ℕ) (es : List TypeDef) (i : ℕ) (e : EntryEnd) → (e ≡ IsOther → ⊥) → entry_end n es i ≡ Some e → i < length es
+entry_end-within zero es i e known h = absurd (let f : ⊥ = cc in f)
+entry_end-within (suc n) es i e known h =
+    let x = found_within (entry_end n (take i es)) i (slice_get es i) e known h in
+    slice_get_within es i x.0 x.1
+
+pub entry_end-more : (n : ℕ) (es more : List TypeDef) (i : ℕ) (e : EntryEnd) → (e ≡ IsOther → ⊥) → entry_end n es i ≡ Some e → entry_end n (es ++ more) i ≡ Some e
+entry_end-more n es more i e known h = entry_end-same n es more i (entry_end-within n es i e known h) ∙ h
+
+-- another word for a type has one part, a primitive or a name
+abbrev IsWord : Shapes → Type 0
+IsWord xs = ((p : Primitive) × (xs ≡ one (Prim p))) ⊎ ((id : Id) × (xs ≡ one (Word id)))
+
+alias_written : (t : Written) → (written_body t).form ≡ AliasForm → IsWord (written_body t).parts
+alias_written (written.Bool span) h = inl (node.Bool, refl)
+alias_written (written.U8 span) h = inl (node.U8, refl)
+alias_written (written.U16 span) h = inl (node.U16, refl)
+alias_written (written.U32 span) h = inl (node.U32, refl)
+alias_written (written.U64 span) h = inl (node.U64, refl)
+alias_written (written.S8 span) h = inl (node.S8, refl)
+alias_written (written.S16 span) h = inl (node.S16, refl)
+alias_written (written.S32 span) h = inl (node.S32, refl)
+alias_written (written.S64 span) h = inl (node.S64, refl)
+alias_written (written.F32 span) h = inl (node.F32, refl)
+alias_written (written.F64 span) h = inl (node.F64, refl)
+alias_written (written.Char span) h = inl (node.Char, refl)
+alias_written (written.String span) h = inl (node.String, refl)
+alias_written (written.ErrorContext span) h = inl (node.ErrorContext, refl)
+alias_written (written.Name id) h = inr (id, refl)
+alias_written _ h = absurd (let f : ⊥ = cc in f)
+
+alias_defined : (b : TypeBody) → (body_of b).form ≡ AliasForm → IsWord (body_of b).parts
+alias_defined (Plain t) h = alias_written t h
+alias_defined _ h = absurd (let f : ⊥ = cc in f)
+
+alias_named : (x : ScopeName) → name_form x ≡ AliasForm → IsWord (name_body x).parts
+alias_named (Used from attributes n) h = inr (n.name, refl)
+alias_named (Defined d) h = alias_defined d.body h
+alias_named (Taken attributes id) h = absurd (let f : ⊥ = cc in f)
+
+-- a primitive is no entry
+part_primitive : (f : ℕ → Option EntryEnd) (p : Primitive) (ts : List Ty) → part_end f (primitive_type p ∷ ts) ≡ Some IsOther
+part_primitive f node.Bool ts = refl
+part_primitive f node.U8 ts = refl
+part_primitive f node.U16 ts = refl
+part_primitive f node.U32 ts = refl
+part_primitive f node.U64 ts = refl
+part_primitive f node.S8 ts = refl
+part_primitive f node.S16 ts = refl
+part_primitive f node.S32 ts = refl
+part_primitive f node.S64 ts = refl
+part_primitive f node.F32 ts = refl
+part_primitive f node.F64 ts = refl
+part_primitive f node.Char ts = refl
+part_primitive f node.String ts = refl
+part_primitive f node.ErrorContext ts = refl
+
+-- what the end of an entry tells of the name that the entry is of
+abbrev pub EndIs : List PackageFile → List Key → Address → Id → EntryEnd → Type 0
+EndIs files ks s id IsResource = EndsAt files s id AtResource
+EndIs files ks s id (IsUnknown place) = (t : Address) × (name : List ℕ) × (slice_get ks place ≡ Some (Def t name)) × EndsAt files s id (AtForeign t name)
+EndIs files ks s id IsOther = EndsAt files s id Elsewhere
+
+-- a name, and what it means in its scope
+record Means (files : List PackageFile) (s : Address) (id : Id) (x : ScopeName) : Type 0 where
+  found : meaning (scope files s) id.name.now ≡ Some x
+
+-- where a name of a scope ends, in so many levels of its parts
+abbrev ends_in : List PackageFile → ℕ → Address → ScopeName → Form → List Place → Option End
+ends_in files n s x form parts = named_end (tree_end n) (head s x) form (map (source_tree files n) parts)
+
+ends_named : (files : List PackageFile) (s : Address) (id : Id) (x : ScopeName) (n : ℕ) (end : End) → Means files s id x → ends_in files n s x (name_form x) (name_parts s x) ≡ Some end → EndsAt files s id end
+ends_named files s id x n end means is = record {
+  levels = suc n;
+  is = ap (λ (o : Option ScopeName). node_end (tree_end n) (node_map (source_tree files n) (named_node s o))) means.found ∙ is;
+}
+
+-- it ends by its form
+ends_formed : (files : List PackageFile) (s : Address) (id : Id) (x : ScopeName) (form : Form) (end : End) → Means files s id x → form ≡ name_form x → ends_in files zero s x form (name_parts s x) ≡ Some end → EndsAt files s id end
+ends_formed files s id x form end means same is = ends_named files s id x zero end means (ap (λ (f : Form). ends_in files zero s x f (name_parts s x)) (sym same) ∙ is)
+
+-- another word for what its one part is
+ends_part : (files : List PackageFile) (s : Address) (id : Id) (x : ScopeName) (y : Shapes) (n : ℕ) (end : End) → Means files s id x → AliasForm ≡ name_form x → (name_body x).parts ≡ y → ends_in files n s x AliasForm (placed (name_scope s x) y) ≡ Some end → EndsAt files s id end
+ends_part files s id x y n end means same parts is = ends_named files s id x n end means (
+    ap (λ (f : Form). ends_in files n s x f (name_parts s x)) (sym same)
+    ∙ ap (λ (xs : Shapes). ends_in files n s x AliasForm (placed (name_scope s x) xs)) parts
+    ∙ is)
+
+ends_through : (files : List PackageFile) (s : Address) (id : Id) (x : ScopeName) (word : Id) (end : End) → Means files s id x → AliasForm ≡ name_form x → (name_body x).parts ≡ one (Word word) → EndsAt files (name_scope s x) word end → EndsAt files s id end
+ends_through files s id x word end means same parts h = ends_part files s id x (one (Word word)) h.levels end means same parts h.is
+
+end_through : (files : List PackageFile) (ks : List Key) (s : Address) (id : Id) (x : ScopeName) (word : Id) (e : EntryEnd) → Means files s id x → AliasForm ≡ name_form x → (name_body x).parts ≡ one (Word word) → EndIs files ks (name_scope s x) word e → EndIs files ks s id e
+end_through files ks s id x word IsResource means same parts h = ends_through files s id x word AtResource means same parts h
+end_through files ks s id x word (IsUnknown place) means same parts h = (h.0, h.1, h.2, ends_through files s id x word (AtForeign h.0 h.1) means same parts h.3)
+end_through files ks s id x word IsOther means same parts h = ends_through files s id x word Elsewhere means same parts h
+
+-- an end that is found by the parts of an entry is found where each of them is
+part_by : (f g : ℕ → Option EntryEnd) (parts : List Ty) (e : EntryEnd) → ((j : ℕ) → HasPart parts (type.Id j) → f j ≡ Some e → g j ≡ Some e) → part_end f parts ≡ Some e → part_end g parts ≡ Some e
+part_by f g [] e by h = h
+part_by f g (type.Id j ∷ parts) e by h = by j (inl refl) h
+part_by f g (_ ∷ parts) e by h = h
+
+kind_by : (f g : ℕ → Option EntryEnd) (i : ℕ) (form : Form) (parts : List Ty) (e : EntryEnd) → ((j : ℕ) → HasPart parts (type.Id j) → f j ≡ Some e → g j ≡ Some e) → kind_end f i form parts ≡ Some e → kind_end g i form parts ≡ Some e
+kind_by f g i AliasForm parts e by h = part_by f g parts e by h
+kind_by f g i _ parts e by h = h
+
+-- the declarations of a scope are those of its names, and no two of these are one
+pub record IsDeclared (files : List PackageFile) (decls : Decls) (s : Address) : Type 0 where
+  pub distinct : AreDistinct (scope files s)
+  pub whose : TypeOwner
+  pub own : decls s ≡ decls_of whose s (scope files s)
+
+module _ (files : List PackageFile) (decls : Decls) (ks : List Key) (es : List TypeDef) (m : IsKeyed decls ks es) (scopes : (j : ℕ) (s : Address) (name : List ℕ) → slice_get ks j ≡ Some (Def s name) → IsDeclared files decls s) where
+  -- in so many steps, an entry tells where its name ends
+  abbrev Told : ℕ → Type 0
+  Told n = (i : ℕ) (s : Address) (id : Id) (e : EntryEnd) → slice_get ks i ≡ Some (Def s id.name.now) → entry_end n es i ≡ Some e → EndIs files ks s id e
+
+  -- the one part of another word for a type is a primitive
+  end_primitive : (n : ℕ) (s : Address) (id : Id) (x : ScopeName) (p : Primitive) (parts : List Ty) (e : EntryEnd) → Means files s id x → AliasForm ≡ name_form x → (name_body x).parts ≡ one (Prim p) → AreAt ks (exprs_of (name_scope s x) (one (Prim p))) parts → part_end (entry_end n es) parts ≡ Some e → EndIs files ks s id e
+  end_primitive n s id x p [] e means same word at is = absurd at
+  end_primitive n s id x p (t ∷ ts) e means same word at is =
+      let other : Some IsOther ≡ Some e = sym (part_primitive (entry_end n es) p ts) ∙ ap (λ (u : Ty). part_end (entry_end n es) (u ∷ ts)) (sym at.0) ∙ is in
+      let here : IsOther ≡ e = cc in
+      subst (EndIs files ks s id) here (ends_part files s id x (one (Prim p)) (suc zero) Elsewhere means same word refl)
+
+  -- or a name
+  end_word : (n : ℕ) → Told n → (s : Address) (id : Id) (x : ScopeName) (word : Id) (parts : List Ty) (e : EntryEnd) → Means files s id x → AliasForm ≡ name_form x → (name_body x).parts ≡ one (Word word) → AreAt ks (exprs_of (name_scope s x) (one (Word word))) parts → part_end (entry_end n es) parts ≡ Some e → EndIs files ks s id e
+  end_word n told s id x word [] e means same is_word at is = absurd at
+  end_word n told s id x word (t ∷ ts) e means same is_word at is =
+      let there : entry_end n es at.0.0 ≡ Some e = ap (λ (u : Ty). part_end (entry_end n es) (u ∷ ts)) (sym at.0.1) ∙ is in
+      end_through files ks s id x word e means same is_word (told at.0.0 (name_scope s x) word e at.0.2 there)
+
+  end_alias : (n : ℕ) → Told n → (s : Address) (id : Id) (x : ScopeName) (parts : List Ty) (e : EntryEnd) → Means files s id x → AliasForm ≡ name_form x → AreAt ks (name_exprs s x) parts → part_end (entry_end n es) parts ≡ Some e → EndIs files ks s id e
+  end_alias n told s id x parts e means same at is = elim (alias_named x (sym same)) [
+    | inl p ↦ end_primitive n s id x p.0 parts e means same p.1 (subst (λ (xs : Shapes). AreAt ks (exprs_of (name_scope s x) xs) parts) p.1 at) is
+    | inr w ↦ end_word n told s id x w.0 parts e means same w.1 (subst (λ (xs : Shapes). AreAt ks (exprs_of (name_scope s x) xs) parts) w.1 at) is
+  ]
+
+  -- a name of another package
+  end_unknown : (i : ℕ) (s : Address) (id : Id) (x : ScopeName) (e : EntryEnd) → Means files s id x → UnknownForm ≡ name_form x → local_name x ≡ id.name.now → slice_get ks i ≡ Some (Def s id.name.now) → Some (IsUnknown i) ≡ Some e → EndIs files ks s id e
+  end_unknown i s id x e means same called at is =
+      let here : IsUnknown i ≡ e = cc in
+      let foreign : Some (AtForeign s (local_name x)) ≡ Some (AtForeign s id.name.now) = ap (λ (n : List ℕ). Some (AtForeign s n)) called in
+      subst (EndIs files ks s id) here (s, id.name.now, at, ends_formed files s id x UnknownForm (AtForeign s id.name.now) means same foreign)
+
+  end_resource : (s : Address) (id : Id) (x : ScopeName) (e : EntryEnd) → Means files s id x → ResourceForm ≡ name_form x → Some IsResource ≡ Some e → EndIs files ks s id e
+  end_resource s id x e means same is =
+      let here : IsResource ≡ e = cc in
+      subst (EndIs files ks s id) here (ends_formed files s id x ResourceForm AtResource means same refl)
+
+  end_other : (s : Address) (id : Id) (x : ScopeName) (form : Form) (e : EntryEnd) → Means files s id x → form ≡ name_form x → ends_in files zero s x form (name_parts s x) ≡ Some Elsewhere → Some IsOther ≡ Some e → EndIs files ks s id e
+  end_other s id x form e means same ends is =
+      let here : IsOther ≡ e = cc in
+      subst (EndIs files ks s id) here (ends_formed files s id x form Elsewhere means same ends)
+
+  end_formed : (n : ℕ) → Told n → (i : ℕ) (s : Address) (id : Id) (x : ScopeName) (form : Form) (parts : List Ty) (e : EntryEnd) → Means files s id x → form ≡ name_form x → local_name x ≡ id.name.now → AreAt ks (name_exprs s x) parts → slice_get ks i ≡ Some (Def s id.name.now) → kind_end (entry_end n es) i form parts ≡ Some e → EndIs files ks s id e
+  end_formed n told i s id x AliasForm parts e means same called at key is = end_alias n told s id x parts e means same at is
+  end_formed n told i s id x ResourceForm parts e means same called at key is = end_resource s id x e means same is
+  end_formed n told i s id x UnknownForm parts e means same called at key is = end_unknown i s id x e means same called key is
+  end_formed n told i s id x form parts e means same called at key is = end_other s id x form e means same refl is
+
+  -- an entry ends where it does by those that stand before another one behind it
+  end_before : (n i j : ℕ) (e : EntryEnd) → i < length es → j < i → entry_end n (take i es) j ≡ Some e → entry_end n es j ≡ Some e
+  end_before n i j e within below there =
+      let long : length (take i es) ≡ i = length-take-le i es (omega arith) in
+      subst (λ (l : List TypeDef). entry_end n l j ≡ Some e) (take-append-drop i es) (entry_end-same n (take i es) (drop i es) j (omega arith) ∙ there)
+
+  -- an entry of a name ends where the name does
+  pub end_source : (n : ℕ) (i : ℕ) (s : Address) (id : Id) (e : EntryEnd) → slice_get ks i ≡ Some (Def s id.name.now) → entry_end n es i ≡ Some e → EndIs files ks s id e
+  end_source zero i s id e at is = absurd (let f : ⊥ = cc in f)
+  end_source (suc n) i s id e at is =
+      let entry = entry_of_key decls ks es m i (Def s id.name.now) at in
+      let it = m.each i (Def s id.name.now) entry.0 at entry.1 in
+      let here = scopes i s id.name.now at in
+      let k = it.among.0 in
+      let x = map_at (decl_of here.whose s) (scope files s) k it.decl (ap (λ (l : List Decl). slice_get l k) (sym here.own) ∙ it.among.1) in
+      let called : local_name x.0 ≡ id.name.now = ap (λ (d : Decl). d.name) x.2 ∙ it.same in
+      let form : (kind_of entry.0.kind).form ≡ name_form x.0 = it.form ∙ sym (ap (λ (d : Decl). d.form) x.2) in
+      let parts : AreAt ks (name_exprs s x.0) (kind_of entry.0.kind).parts = subst (λ (y : Exprs). AreAt ks y (kind_of entry.0.kind).parts) (sym (ap (λ (d : Decl). d.parts) x.2)) (all_at_untaken i ks it.decl.parts (kind_of entry.0.kind).parts it.parts) in
+      let means : Means files s id x.0 = record { found = meaning_found (scope files s) k x.0 id.name.now here.distinct x.1 called } in
+      let before : kind_end (entry_end n (take i es)) i (kind_of entry.0.kind).form (kind_of entry.0.kind).parts ≡ Some e = ap (found_end (entry_end n (take i es)) i) (sym entry.1) ∙ is in
+      let one : kind_end (entry_end n es) i (kind_of entry.0.kind).form (kind_of entry.0.kind).parts ≡ Some e = kind_by (entry_end n (take i es)) (entry_end n es) i (kind_of entry.0.kind).form (kind_of entry.0.kind).parts e (λ j has there. end_before n i j e (slice_get_within es i entry.0 entry.1) (backward decls ks es m i entry.0 (type.Id j) (record { is = entry.1 }) has) there) before in
+      end_formed n (end_source n) i s id x.0 (kind_of entry.0.kind).form (kind_of entry.0.kind).parts e means form called parts at one
+
+-- an entry of a name ends where the name does, also once the arena has grown
+pub end_source-more : (files : List PackageFile) (decls : Decls) (ks : List Key) (es more : List TypeDef) (m : IsKeyed decls ks es) → ((j : ℕ) (s : Address) (name : List ℕ) → slice_get ks j ≡ Some (Def s name) → IsDeclared files decls s) → (n i : ℕ) (s : Address) (id : Id) (e : EntryEnd) → slice_get ks i ≡ Some (Def s id.name.now) → entry_end n (es ++ more) i ≡ Some e → EndIs files ks s id e
+end_source-more files decls ks es more m scopes n i s id e at is =
+    let lt : i < length es = (let within = slice_get_within ks i (Def s id.name.now) at in let count = m.count in omega arith) in
+    end_source files decls ks es m scopes n i s id e at (sym (entry_end-same n es more i lt) ∙ is)

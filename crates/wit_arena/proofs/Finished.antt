@@ -1,0 +1,310 @@
+-- Where all interfaces and worlds were resolved no rule is broken, and where one was not, one is.
+use Rattle.std.proofs.Common.{◌≡◌, ℕ, ◌+◌, ◌<◌, Bool, true, false, not, List, ◌++◌, length, take, Option, Some, None, ◌⊎◌, IsSome, inl, inr, refl, sym, ap, ◌∙◌, subst, Contains}
+use Rattle.std.specs.Prelude.{slice_get, map}
+use Rattle.std.specs.Option.{option_map}
+use Rattle.std.proofs.lemmas.Bool.{cases_Bool}
+use Rattle.std.proofs.lemmas.List.{length-map}
+use Rattle.std.proofs.lemmas.Option.{slice_get-map}
+use Rattle.wit_tree.specs.declared.tree.UsePath.{UsePath}
+use Rattle.wit_tree.specs.declared.tree.Attribute.{Attribute}
+use Rattle.wit_tree.specs.declared.tree.UseName.{UseName}
+use Rattle.wit_tree.specs.declared.tree.PackageFile.{PackageFile}
+use Rattle.wit_types.specs.declared.types.TypeDef.{TypeDef}
+use Rattle.wit_model.specs.declared.interface.Interface.{Interface}
+use Rattle.wit_model.specs.declared.world.World.{World}
+use Rattle.wit_order.specs.Table.{IsOrder}
+use Rattle.wit_syntax.specs.Fault.{Fault, fault, missing_at, name_word}
+use Rattle.wit_syntax.specs.Address.{Address, InterfaceNamed, WorldNamed, is_foreign}
+use Rattle.wit_syntax.specs.Source.{address, Target, Local, Foreign, leads, Item, ScopeName, Used, all_items, item_name, is_world, item_at, scope_names, scope, meaning, taking, takings, same_taking}
+use Rattle.wit_syntax.specs.Foreign.{visited, foreign_interfaces, foreign_worlds}
+use Rattle.wit_syntax.specs.Scope.{in_order, item_rows, interfaces_of, worlds_of, include_paths}
+use Rattle.wit_arena.specs.Meet.{Def, keys}
+use Rattle.wit_syntax.specs.Function.{SourceFunction, functions, free_names}
+use Rattle.wit_arena.specs.Functions.{AreFunctions}
+use Rattle.std.specs.List.{filter}
+use Rattle.wit_types.specs.declared.types.TypeOwner.TheVariants as owner
+use Rattle.wit_syntax.specs.Broken.{is_world_at, IsBrokenUse, IsBroken, ItemStability, IncludeStability, InterfaceIncluded, MissingName, FunctionUsed, Scope, Handle, Setter}
+use Rattle.wit_syntax.specs.Repeats.{AllDiffer}
+use Rattle.wit_arena.specs.Whole.{Ordered, Turned, item_of}
+use Rattle.wit_arena.specs.Resolving.{Names as Table, Cell, cell, cells, env_of, Required, IsIndex, IsFound, Unresolved, Unstated, OfFunction, WrongName, WrongItself, IsWrongScope, IsWorldIndex, IsNoWorld, IsLostInclude}
+use Rattle.wit_arena.specs.Resolved.{worlds_at, AddsWorlds, AddsForeign, IsBrokenItemStability, OwnStability, OfInclude, IsWrongHandleNow, WrongStability, WrongScope, WrongHandle, Unpaired, WrongWorldStability, WrongWorldScope, WrongWorldHandle, LostInclude, IsWrongAmong, IsWrongWorldAmong}
+use Rattle.wit_syntax.proofs.Lists.{at_back, at_seam, at_split, map_at}
+use Rattle.wit_syntax.proofs.Firsts.{firsts_has}
+use Rattle.wit_syntax.proofs.Found.{at_contains, contains_at}
+use Rattle.wit_arena.proofs.Indexing.{cells-append, front_cell, worlds_at-append}
+use Rattle.wit_arena.proofs.Standing.{DoneScope, cell_of, IsDoneScope}
+use Rattle.wit_arena.proofs.Meant.{lacks_nothing}
+use Rattle.wit_syntax.proofs.Kept.{kept_has, kept_next}
+use Rattle.wit_arena.proofs.FreeNames.{free_of, free_stated, stated_free}
+use Rattle.wit_arena.proofs.WrongHandles.{interface_handle, world_handle}
+use Rattle.wit_arena.proofs.Interfaces.{AreItems, item_of_scope, scope_of, interface_address, items_kept, interfaces_sort, worlds_sort}
+use Rattle.wit_arena.proofs.Itemizing.{item_index, are_items}
+use Rattle.wit_arena.proofs.Visits.{visited_foreign}
+use Rattle.wit_arena.proofs.Takings.{taking_key, taking-from, taking-equal}
+use Rattle.wit_arena.proofs.Leading.{kept_front, kept_early, paths_of_world, needed_before, named_at, IsForeignUse, used_interface, used_before}
+use Rattle.wit_arena.proofs.Front.{front_scopes, taken_listed}
+use Rattle.wit_arena.proofs.Laid.{scope_at, ordered_at, entry_of_item}
+use Rattle.wit_arena.proofs.Added.{InterfacesDone, WorldsDone, interfaces_done, worlds_done}
+
+-- what is wrong with the stability of an item is wrong with the files
+stability_broken : (files : List PackageFile) (w : Item) → Contains (all_items files) w → (f : Fault) → IsBrokenItemStability w f → IsBroken files f
+stability_broken files w here f (OwnStability h) = ItemStability w here h
+stability_broken files w here f (OfInclude n among h) = IncludeStability w here n among h
+
+-- a name that the table of a scope lacks means nothing in it
+pub unstated : (files : List PackageFile) (c : DoneScope) (name : List ℕ) → IsDoneScope files c → env_of c.types name ≡ None → meaning (scope files c.address) name ≡ None
+unstated files c name d free = lacks_nothing (scope files c.address) c.names c.types d.listed name d.turn.has free
+
+module _ (files : List PackageFile) (places : List ℕ) (order : IsOrder (item_rows files) places) (differ : AllDiffer (map item_name (all_items files))) where
+  abbrev all : List Item
+  all = all_items files
+
+  -- the interfaces of files in their order, and the worlds
+  abbrev pub interfaces : List Item
+  interfaces = interfaces_of (in_order all places)
+
+  abbrev pub worlds : List Item
+  worlds = worlds_of (in_order all places)
+
+  pub are_interfaces : AreItems files interfaces
+  are_interfaces = items_kept files (λ (i : Item). not (is_world i)) (in_order all places) (are_items files places order differ)
+
+  pub are_worlds : AreItems files worlds
+  are_worlds = items_kept files is_world (in_order all places) (are_items files places order differ)
+
+  -- an item is an interface or a world of these
+  pub interface_at : (w : Item) → is_world w ≡ false → Contains all w → (t : ℕ) × (slice_get interfaces t ≡ Some w)
+  interface_at w sort among =
+      let p = at_contains all w among in
+      let t = item_index files places order p.0 w p.1 in
+      kept_has (λ (i : Item). not (is_world i)) (in_order all places) t.0 w (ap not sort) t.2
+
+  pub world_at : (w : Item) → is_world w ≡ true → Contains all w → (t : ℕ) × (slice_get worlds t ≡ Some w)
+  world_at w sort among =
+      let p = at_contains all w among in
+      let t = item_index files places order p.0 w p.1 in
+      kept_has is_world (in_order all places) t.0 w sort t.2
+
+  -- what comes next in the order stands behind those of its sort that came before
+  next_kept : (test : Item → Bool) (k p : ℕ) (w : Item) → slice_get places k ≡ Some p → slice_get all p ≡ Some w → test w ≡ true → slice_get (filter test (in_order all places)) (length (filter test (in_order all (take k places)))) ≡ Some w
+  next_kept test k p w next at passes =
+      let before = filter test (in_order all (take k places)) in
+      kept_front test all places (k + 1) (length before) w (ap (λ (l : List Item). slice_get l (length before)) (kept_next test all places k p w next at passes) ∙ at_seam before w)
+
+  -- an interface of the package that was resolved among these, from which a name is used
+  pub record IsResolvedUse (vs : List Item) (from : Address) : Type 0 where
+    pub place : ℕ
+    pub item : Item
+    pub at : slice_get vs place ≡ Some item
+    pub sort : is_world item ≡ false
+    pub is : from ≡ InterfaceNamed (item_name item)
+
+  module _ (uses : (i : Item) → Contains all i → (f : Fault) → IsBrokenUse files i f → ⊥) (es : List TypeDef) (front : List Interface) (wfront : List World) (foreign : AddsForeign files es front wfront) where
+    abbrev ss : List Address
+    ss = map visited (foreign_interfaces files)
+
+    abbrev others : List Address
+    others = map visited (foreign_worlds files)
+
+    cells_of : (own : List Interface) → cells ss (front ++ own) ≡ cells ss front ++ map cell own
+    cells_of own = cells-append ss front own (foreign.interfaces.count ∙ sym (length-map (foreign_interfaces files) visited))
+
+    worlds_of_front : (own : List World) → worlds_at others (wfront ++ own) ≡ others ++ map (λ (w : World). WorldNamed w.name) own
+    worlds_of_front own = worlds_at-append others wfront own (foreign.worlds.count ∙ sym (length-map (foreign_worlds files) visited))
+
+    -- a scope of another package is no interface of this one
+    not_own : (i : ℕ) (s : Address) (name : List ℕ) → slice_get ss i ≡ Some s → s ≡ InterfaceNamed name → ⊥
+    not_own i s name at same =
+        let wrong : true ≡ false = sym (visited_foreign (foreign_interfaces files) i s at) ∙ ap is_foreign same in
+        let f : ⊥ = cc in
+        f
+
+    foreign_not_own : (from : Address) (n : UseName) (name : List ℕ) → IsForeignUse files from n → from ≡ InterfaceNamed name → ⊥
+    foreign_not_own from n name u same = not_own u.place (visited u.v) name (slice_get-map visited (foreign_interfaces files) u.place ∙ ap (option_map visited) u.at) (u.is ∙ same)
+
+    -- a name that is taken has an entry in front
+    taken_found : (from : Address) (n : UseName) (t : ℕ) (s : Address) (i : Interface) → IsForeignUse files from n → slice_get ss t ≡ Some s → slice_get front t ≡ Some i → from ≡ s → IsSome (env_of i.types n.name.name.now)
+    taken_found from n t s i u at there same =
+        let v = map_at visited (foreign_interfaces files) t s at in
+        let x = firsts_has same_taking taking_key taking-from taking-equal (takings files) u.index (taking from u.attributes n) u.taken in
+        let key : taking_key x.1 ≡ Def from n.name.name.now = x.3 in
+        let scope : x.1.from ≡ from = cc in
+        let called : x.1.id.name.now ≡ n.name.name.now = cc in
+        subst (λ m. IsSome (env_of i.types m)) called (taken_listed files uses es front wfront foreign t v.0 i v.1 there x.0 x.1 x.2 (scope ∙ same ∙ sym v.2))
+
+    module _ (vs : List Item) (mid : List TypeDef) (own : List Interface) (rs : List Required) (d : InterfacesDone files interfaces worlds front vs mid own rs) (by_name : Table) (index : IsIndex (cells ss (front ++ own)) by_name) where
+      -- an interface that was resolved has a place by its name
+      resolved_found : (from : Address) (name : List ℕ) → IsResolvedUse vs from → from ≡ InterfaceNamed name → IsSome (env_of by_name name)
+      resolved_found from name u same =
+          let v = u.item in
+          let o = map_at item_of d.ordered u.place v (ap (λ (x : List Item). slice_get x u.place) d.all ∙ u.at) in
+          let c = scope_at d.laid u.place o.0 o.1 in
+          let there : slice_get (map cell own) u.place ≡ Some (cell_of c.0) = ap (λ (x : List Cell). slice_get x u.place) (sym d.laid.types) ∙ slice_get-map cell_of d.scopes u.place ∙ ap (option_map cell_of) c.1 in
+          let place = length (cells ss front) + u.place in
+          let called : c.0.address ≡ InterfaceNamed name = ap (λ (x : Turned). x.address) c.2 ∙ ap address o.2 ∙ interface_address v u.sort ∙ sym u.is ∙ same in
+          index.has place (cell_of c.0) name (ap (λ (x : List Cell). slice_get x place) (cells_of own) ∙ at_back (cells ss front) (map cell own) u.place (cell_of c.0) there) called
+
+      -- an interface of the package that lacks a name, as an item
+      record IsTarget (from : Address) (name : List ℕ) (functions : List (List ℕ)) : Type 0 where
+        item : Item
+        declared : item_at all from ≡ Some item
+        missing : meaning (scope_names item) name ≡ None
+        free : Contains (free_names item) name → Contains functions name
+        stated : Contains functions name → Contains (free_names item) name
+
+      target_of : (from : Address) (name : List ℕ) (j : ℕ) (target : Cell) → slice_get (map cell own) j ≡ Some target → target.address ≡ from → env_of target.types name ≡ None → IsTarget from name target.functions
+      target_of from name j target at called none =
+          let c = map_at cell_of d.scopes j target (ap (λ (x : List Cell). slice_get x j) d.laid.types ∙ at) in
+          let o = ordered_at d.laid j c.0 c.1 in
+          let v = o.0.item in
+          let there = d.laid.front j o.0 o.1 in
+          let same : address v ≡ c.0.address = ap (λ (x : Turned). x.address) o.2 in
+          let here : address v ≡ from = same ∙ ap (λ (x : Cell). x.address) c.2 ∙ called in
+          let lacks : env_of c.0.types name ≡ None = ap (λ (x : Cell). env_of x.types name) c.2 ∙ none in
+          let names : scope_names v ≡ scope files c.0.address = sym (scope_of files interfaces are_interfaces j v there) ∙ ap (scope files) same in
+          let place = length (front_scopes files front) + j in
+          let c_at = at_back (front_scopes files front) d.scopes j c.0 c.1 in
+          let done = d.done.each place c.0 c_at in
+          let ks = keys d.done.met in
+          let are : AreFunctions ks c.0.address (functions v) c.0.made = subst (λ (l : List SourceFunction). AreFunctions ks c.0.address l c.0.made) (sym (ap (λ (x : Turned). x.functions) o.2)) (d.done.made place c.0 c_at) in
+          let stands : free_of c.0.stated ≡ target.functions = ap (λ (x : Cell). x.functions) c.2 in
+          record {
+            item = v;
+            declared = ap (item_at all) (sym here) ∙ item_of_scope files interfaces are_interfaces j v there;
+            missing = ap (λ (xs : List ScopeName). meaning xs name) names ∙ unstated files c.0 name done lacks;
+            free = λ h. subst (λ (l : List (List ℕ)). Contains l name) stands (free_stated ks c.0.address v c.0.made c.0.stated are done.stated name h);
+            stated = λ h. stated_free ks c.0.address v c.0.made c.0.stated are done.stated name (subst (λ (l : List (List ℕ)). Contains l name) (sym stands) h);
+          }
+
+      -- a name that an interface of the package lacks is a missing one, or that of a function
+      missing_own : (w : Item) → Contains all w → (from : Address) (attributes : List Attribute) (n : UseName) → Contains (scope_names w) (Used from attributes n) → (j : ℕ) (target : Cell) → slice_get (map cell own) j ≡ Some target → target.address ≡ from → env_of target.types n.name.name.now ≡ None → (Contains target.functions n.name.name.now → ⊥) → (f : Fault) → f ≡ missing_at 12 name_word n.name → IsBroken files f
+      missing_own w here_w from attributes n among j target at called none other f says =
+          let t = target_of from n.name.name.now j target at called none in
+          MissingName w here_w (record { from = from; attributes = attributes; n = n; among = among; target = t.item; declared = t.declared; missing = t.missing; other = λ h. other (t.free h); is = says })
+
+      function_own : (w : Item) → Contains all w → (from : Address) (attributes : List Attribute) (n : UseName) → Contains (scope_names w) (Used from attributes n) → (j : ℕ) (target : Cell) → slice_get (map cell own) j ≡ Some target → target.address ≡ from → env_of target.types n.name.name.now ≡ None → Contains target.functions n.name.name.now → (f : Fault) → f ≡ fault 13 n.name.span → IsBroken files f
+      function_own w here_w from attributes n among j target at called none function f says =
+          let t = target_of from n.name.name.now j target at called none in
+          FunctionUsed w here_w (record { from = from; attributes = attributes; n = n; among = among; target = t.item; declared = t.declared; missing = t.missing; function = t.stated function; is = says })
+
+      -- a name that is used was resolved in an interface of the package, or is taken from another one
+      none_lacks : (from : Address) (n : UseName) (target : Cell) (found : IsFound (cells ss (front ++ own)) from target) → env_of target.types n.name.name.now ≡ None → IsResolvedUse vs from ⊎ IsForeignUse files from n → (j : ℕ) × (slice_get (map cell own) j ≡ Some target)
+      none_lacks from n target found none earlier = elim (at_split (cells ss front) (map cell own) found.place target (ap (λ (l : List Cell). slice_get l found.place) (sym (cells_of own)) ∙ found.at)) [
+        | inl h ↦ (
+            let c = front_cell ss front found.place target (foreign.interfaces.count ∙ sym (length-map (foreign_interfaces files) visited)) h in
+            let here : from ≡ c.0 = sym found.called ∙ ap (λ (x : Cell). x.address) c.4 in
+            elim earlier [
+              | inl u ↦ absurd (not_own found.place c.0 (item_name u.item) c.2 (sym here ∙ u.is))
+              | inr u ↦ absurd (
+                  let is : env_of c.1.types n.name.name.now ≡ None = ap (λ (x : Cell). env_of x.types n.name.name.now) (sym c.4) ∙ none in
+                  let wrong : IsSome {T = ℕ} None = subst (λ (x : Option ℕ). IsSome x) is (taken_found from n found.place c.0 c.1 u c.2 c.3 here) in
+                  let g : ⊥ = cc in
+                  g)
+            ])
+        | inr h ↦ (h.0, h.2)
+      ]
+
+      -- What is wrong with the scope of an item, by interfaces that were resolved, is wrong with the files where those of the package that
+      -- it uses from are among them.
+      wrong_scope : (w : Item) → Contains all w → ((from : Address) (attributes : List Attribute) (n : UseName) → Contains (scope_names w) (Used from attributes n) → IsResolvedUse vs from ⊎ IsForeignUse files from n) → (f : Fault) → IsWrongScope (cells ss (front ++ own)) by_name (scope_names w) (functions w) f → IsBroken files f
+      wrong_scope w here_w earlier f (WrongItself b) = Scope w here_w b
+      wrong_scope w here_w earlier f (WrongName from attributes n among (Unresolved path same free)) = elim (earlier from attributes n among) [
+        | inl u ↦ absurd (
+            let wrong : IsSome {T = ℕ} None = subst (λ (x : Option ℕ). IsSome x) free.0 (resolved_found from path.name.now u same) in
+            let g : ⊥ = cc in
+            g)
+        | inr u ↦ absurd (foreign_not_own from n path.name.now u same)
+      ]
+      wrong_scope w here_w earlier f (WrongName from attributes n among (Unstated target found none other says)) =
+          let j = none_lacks from n target found none (earlier from attributes n among) in
+          missing_own w here_w from attributes n among j.0 target j.1 found.called none other f says
+      wrong_scope w here_w earlier f (WrongName from attributes n among (OfFunction target found none function says)) =
+          let j = none_lacks from n target found none (earlier from attributes n among) in
+          function_own w here_w from attributes n among j.0 target j.1 found.called none function f says
+
+    -- no world stands where the include of a world leads, where the worlds before it were resolved
+    module _ (k p : ℕ) (w : Item) (next : slice_get places k ≡ Some p) (at : slice_get all p ≡ Some w) (sort : is_world w ≡ true) (base : List Ordered) (first : List DoneScope) (mid : List TypeDef) (own : List World) (rs : List Required) (e : WorldsDone files interfaces worlds front base first (worlds_of (in_order all (take k places))) mid own rs) (by_name : Table) (index : IsWorldIndex (worlds_at others (wfront ++ own)) by_name) where
+      world_found : (t q : ℕ) (v : Item) (name : List ℕ) → t < k → slice_get places t ≡ Some q → slice_get all q ≡ Some v → is_world v ≡ true → name ≡ item_name v → IsSome (env_of by_name name)
+      world_found t q v name before at_t at_q world same =
+          let j = kept_early is_world all places k t q v before at_t at_q world in
+          let o = map_at item_of e.ordered j.0 v (ap (λ (l : List Item). slice_get l j.0) e.all ∙ j.1) in
+          let x = entry_of_item e.laid j.0 o.0 o.1 in
+          let called : x.0.name ≡ name = (e.laid.says j.0 o.0 x.0 o.1 x.1).says.name ∙ ap item_name o.2 ∙ sym same in
+          let named = map (λ (y : World). WorldNamed y.name) own in
+          let place = length others + j.0 in
+          index.has place name (ap (λ (l : List Address). slice_get l place) (worlds_of_front own) ∙ at_back others named j.0 (WorldNamed name) (slice_get-map (λ (y : World). WorldNamed y.name) own j.0 ∙ ap (option_map (λ (y : World). WorldNamed y.name)) x.1 ∙ ap (λ (m : List ℕ). Some (WorldNamed m)) called))
+
+      lost_leads : (path : UsePath) → Contains (include_paths w) path → (t : Target) → leads w.top path ≡ t → IsNoWorld files by_name t → is_world_at files t ≡ Some false
+      lost_leads path among (Local id) lead lost =
+          let b = needed_before files places order k p w path id next at (subst (λ (l : List UsePath). Contains l path) (sym (paths_of_world w sort)) among) lead in
+          let v = b.2 in
+          let found = named_at files differ id.name.now b.1 v b.5 b.6 in
+          elim (cases_Bool (is_world v)) [
+            | inl world ↦ absurd (
+                let wrong : IsSome {T = ℕ} None = subst (λ (y : Option ℕ). IsSome y) lost (world_found b.0 b.1 v id.name.now b.3 b.4 b.5 world b.6) in
+                let g : ⊥ = cc in
+                g)
+            | inr right ↦ ap (option_map is_world) found ∙ ap Some right
+          ]
+      lost_leads path among (Foreign q id) lead lost = lost
+
+      lost_include : (f : Fault) → IsLostInclude files by_name w f → IsBroken files f
+      lost_include f lost = InterfaceIncluded w (contains_at all p w at) (record {
+        path = lost.path;
+        among = lost.among;
+        other = lost_leads lost.path lost.among (leads w.top lost.path) refl lost.lost;
+        is = lost.is;
+      })
+
+  module _ (uses : (i : Item) → Contains all i → (f : Fault) → IsBrokenUse files i f → ⊥) where
+    -- what is wrong with an interface, once those before it in the order were resolved, is wrong with the files
+    pub broken_among : (f : Fault) → IsWrongAmong files all places f → IsBroken files f
+    broken_among f h =
+        let k = h.count in
+        let w = h.item in
+        let p = h.next.place in
+        let fore = map visited (foreign_interfaces files) in
+        let vs = interfaces_of (in_order all (take k places)) in
+        let d = interfaces_done files interfaces worlds (interfaces_sort (in_order all places)) (worlds_sort (in_order all places)) are_interfaces are_worlds uses h.es h.front h.ws h.foreign h.mid h.before h.rs vs (λ j v at. kept_front (λ (i : Item). not (is_world i)) all places k j v at) h.added in
+        let earlier : (from : Address) (attributes : List Attribute) (n : UseName) → Contains (scope_names w) (Used from attributes n) → IsResolvedUse vs from ⊎ IsForeignUse files from n = λ from attributes n among. elim (used_before files uses differ places order k p w from attributes n h.sort h.next.next h.next.at among) [
+          | inl b ↦ (
+              let it = kept_early (λ (i : Item). not (is_world i)) all places k b.index b.own.place b.own.item b.before b.at b.own.at (ap not b.own.sort) in
+              inl (record { place = it.0; item = b.own.item; at = it.1; sort = b.own.sort; is = b.own.is }))
+          | inr b ↦ inr b
+        ] in
+        let here = contains_at all p w h.next.at in
+        let next = next_kept (λ (i : Item). not (is_world i)) k p w h.next.next h.next.at (ap not h.sort) in
+        elim h.wrong [
+          | WrongStability wrong ↦ stability_broken files w here f wrong
+          | WrongScope wrong ↦ wrong_scope uses h.es h.front h.ws h.foreign vs h.mid d.0 h.rs d.2 h.by_name (subst (λ (l : List Interface). IsIndex (cells fore l) h.by_name) d.1 h.index) w here earlier f (subst (λ (l : List Interface). IsWrongScope (cells fore l) h.by_name (scope_names w) (functions w) f) d.1 wrong)
+          | WrongHandle wrong ↦ Handle w here (interface_handle files interfaces worlds (interfaces_sort (in_order all places)) (worlds_sort (in_order all places)) are_interfaces are_worlds uses h.es h.front h.ws h.foreign vs h.mid d.0 h.rs w next d.2 f (subst (λ (l : List Interface). IsWrongHandleNow h.mid (cells fore l) (owner.Interface (length l)) w f) d.1 wrong))
+          | Unpaired alone ↦ Setter w here (record { interface = h.sort; alone = alone })
+        ]
+
+    -- what is wrong with a world, once all interfaces and the worlds before it in the order were resolved, is wrong with the files
+    pub broken_world_among : (f : Fault) → IsWrongWorldAmong files all places f → IsBroken files f
+    broken_world_among f h =
+        let k = h.count in
+        let w = h.item in
+        let p = h.next.place in
+        let fore = map visited (foreign_interfaces files) in
+        let aft = map visited (foreign_worlds files) in
+        let vs = worlds_of (in_order all (take k places)) in
+        let is_sort = interfaces_sort (in_order all places) in
+        let ws_sort = worlds_sort (in_order all places) in
+        let d = interfaces_done files interfaces worlds is_sort ws_sort are_interfaces are_worlds uses h.es h.front h.worlds_front h.foreign h.middle h.is h.rs interfaces (λ j v at. at) h.interfaces in
+        let more = subst (λ (l : List Interface). AddsWorlds fore aft l h.middle h.mid h.worlds_front h.before h.worlds_rs vs) d.1 h.added in
+        let e = worlds_done files interfaces worlds is_sort ws_sort are_interfaces are_worlds uses h.es h.front h.worlds_front h.foreign h.middle d.0 h.rs d.2 h.mid h.before h.worlds_rs vs (λ j v at. kept_front is_world all places k j v at) more in
+        let here = contains_at all p w h.next.at in
+        let earlier : (from : Address) (attributes : List Attribute) (n : UseName) → Contains (scope_names w) (Used from attributes n) → IsResolvedUse interfaces from ⊎ IsForeignUse files from n = λ from attributes n among. elim (used_interface files uses w from attributes n here among) [
+          | inl b ↦ (
+              let it = interface_at b.item b.sort (contains_at all b.place b.item b.at) in
+              inl (record { place = it.0; item = b.item; at = it.1; sort = b.sort; is = b.is }))
+          | inr b ↦ inr b
+        ] in
+        elim h.wrong [
+          | WrongWorldStability wrong ↦ stability_broken files w here f wrong
+          | WrongWorldScope wrong ↦ wrong_scope uses h.es h.front h.worlds_front h.foreign interfaces h.middle d.0 h.rs d.2 h.by_name (subst (λ (l : List Interface). IsIndex (cells fore l) h.by_name) d.1 h.index) w here earlier f (subst (λ (l : List Interface). IsWrongScope (cells fore l) h.by_name (scope_names w) (functions w) f) d.1 wrong)
+          | WrongWorldHandle wrong ↦ Handle w here (world_handle files interfaces worlds is_sort ws_sort are_interfaces are_worlds uses h.es h.front h.worlds_front h.foreign h.middle d.0 h.rs d.2 vs h.mid e.0 h.worlds_rs w (next_kept is_world k p w h.next.next h.next.at h.sort) e.2 f (subst (λ (l : List World). IsWrongHandleNow h.mid (cells fore (h.front ++ d.0)) (owner.World (length l)) w f) e.1 (subst (λ (l : List Interface). IsWrongHandleNow h.mid (cells fore l) (owner.World (length h.before)) w f) d.1 wrong)))
+          | LostInclude lost ↦ lost_include uses h.es h.front h.worlds_front h.foreign k p w h.next.next h.next.at h.sort d.2.ordered d.2.scopes h.mid e.0 h.worlds_rs e.2 h.worlds_by_name (subst (λ (l : List World). IsWorldIndex (worlds_at aft l) h.worlds_by_name) e.1 h.worlds_index) f lost
+        ]

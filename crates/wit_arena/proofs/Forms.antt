@@ -1,0 +1,130 @@
+-- What is met in a type without a name: forms that an unnamed type can have.
+use Rattle.std.proofs.Common.{◌≡◌, List, [], ◌∷◌, inl, inr, subst}
+use Rattle.wit_tree.specs.declared.tree.«Type».{«Type» as Written, Held-Type-Result-1 as Held, None', Some', Row_of-Type, end_of-Type, more_of-Type}
+use Rattle.wit_tree.specs.declared.tree.«Type».TheVariants as written
+use Rattle.wit_tree.specs.declared.tree.TypeBody.{TypeBody}
+use Rattle.wit_tree.specs.declared.tree.TypeBody.TheVariants.{Record, Flags, Variant, Enum, Resource, Plain}
+use Rattle.wit_tree.specs.Parts.{field_types, case_types}
+use Rattle.wit_syntax.specs.Form.{Form, UnknownForm}
+use Rattle.wit_syntax.specs.Shape.{Shape, Shapes, shape_of, held_shape, row_shapes, all_shapes, head, written_body, body_of}
+use Rattle.wit_syntax.specs.Shape as shape
+use Rattle.wit_syntax.specs.Address.{Address}
+use Rattle.wit_syntax.specs.Source.{ScopeName, Used, Defined, Taken}
+use Rattle.wit_arena.specs.Expr.{Exprs, expr_of, exprs_of, name_exprs}
+use Rattle.wit_arena.specs.Meet.{Whole}
+use Rattle.wit_arena.specs.Whole.{IsAnonymousForm}
+use Rattle.wit_arena.specs.Resolving.{met, all_met}
+use Rattle.wit_arena.proofs.Meeting.{Has, has_either}
+
+-- each form in a type is one that an unnamed type can have
+abbrev mutual
+  pub AreAnonymous : Shape → Type 0
+  AreAnonymous (shape.Prim p) = Unit {0}
+  AreAnonymous (shape.Word id) = Unit {0}
+  AreAnonymous (shape.Of span form parts) = IsAnonymousForm form × AllAnonymous parts
+
+  pub AllAnonymous : Shapes → Type 0
+  AllAnonymous shape.End = Unit {0}
+  AllAnonymous (shape.More x xs) = AreAnonymous x × AllAnonymous xs
+
+-- so it is for a written type
+mutual
+  pub written_anonymous : (t : Written) → AreAnonymous (shape_of t)
+  written_anonymous (written.Bool span) = tt
+  written_anonymous (written.U8 span) = tt
+  written_anonymous (written.U16 span) = tt
+  written_anonymous (written.U32 span) = tt
+  written_anonymous (written.U64 span) = tt
+  written_anonymous (written.S8 span) = tt
+  written_anonymous (written.S16 span) = tt
+  written_anonymous (written.S32 span) = tt
+  written_anonymous (written.S64 span) = tt
+  written_anonymous (written.F32 span) = tt
+  written_anonymous (written.F64 span) = tt
+  written_anonymous (written.Char span) = tt
+  written_anonymous (written.String span) = tt
+  written_anonymous (written.ErrorContext span) = tt
+  written_anonymous (written.Name id) = tt
+  written_anonymous (written.Own span id) = tt
+  written_anonymous (written.Borrow span id) = (tt, (tt, tt))
+  written_anonymous (written.List' span p t) = (tt, (written_anonymous t, tt))
+  written_anonymous (written.FixedLengthList' span p t size) = (tt, (written_anonymous t, tt))
+  written_anonymous (written.Map' span p key q value) = (tt, (written_anonymous key, (written_anonymous value, tt)))
+  written_anonymous (written.Option' span p t) = (tt, (written_anonymous t, tt))
+  written_anonymous (written.Result' span ok err) = (tt, held_anonymous ok (held_shape err shape.End) (held_anonymous err shape.End tt))
+  written_anonymous (written.Tuple' span shape ts) = (tt, row_anonymous ts)
+  written_anonymous (written.Future' span t) = (tt, held_anonymous t shape.End tt)
+  written_anonymous (written.Stream' span t) = (tt, held_anonymous t shape.End tt)
+
+  held_anonymous : (t : Held) (xs : Shapes) → AllAnonymous xs → AllAnonymous (held_shape t xs)
+  held_anonymous None' xs h = h
+  held_anonymous (Some' p t) xs h = (written_anonymous t, h)
+
+  row_anonymous : {m : _} (ts : Row_of-Type m) → AllAnonymous (row_shapes ts)
+  row_anonymous end_of-Type = tt
+  row_anonymous (more_of-Type t rest) = (written_anonymous t, row_anonymous rest)
+
+all_anonymous_shapes : (ts : List Written) → AllAnonymous (all_shapes ts)
+all_anonymous_shapes [] = tt
+all_anonymous_shapes (t ∷ ts) = (written_anonymous t, all_anonymous_shapes ts)
+
+head_anonymous : (x : Shape) → AreAnonymous x → AllAnonymous (head x).parts
+head_anonymous (shape.Prim p) h = (tt, tt)
+head_anonymous (shape.Word id) h = (tt, tt)
+head_anonymous (shape.Of span form parts) h = h.1
+
+written_body_anonymous : (t : Written) → AllAnonymous (written_body t).parts
+written_body_anonymous (written.Own span id) = (tt, tt)
+written_body_anonymous t = head_anonymous (shape_of t) (written_anonymous t)
+
+body_anonymous : (b : TypeBody) → AllAnonymous (body_of b).parts
+body_anonymous (Record span fields) = all_anonymous_shapes (field_types fields.items)
+body_anonymous (Flags span flags) = tt
+body_anonymous (Variant span cases) = all_anonymous_shapes (case_types cases.items)
+body_anonymous (Enum span cases) = tt
+body_anonymous (Resource funcs) = tt
+body_anonymous (Plain t) = written_body_anonymous t
+
+-- what a definition says is known
+head_known : (x : Shape) → AreAnonymous x → (head x).form ≡ UnknownForm → ⊥
+head_known (shape.Prim p) a h = let f : ⊥ = cc in f
+head_known (shape.Word id) a h = let f : ⊥ = cc in f
+head_known (shape.Of span form parts) a h = subst IsAnonymousForm h a.0
+
+written_known : (t : Written) → (written_body t).form ≡ UnknownForm → ⊥
+written_known (written.Own span id) h = let f : ⊥ = cc in f
+written_known t h = head_known (shape_of t) (written_anonymous t) h
+
+pub body_known : (b : TypeBody) → (body_of b).form ≡ UnknownForm → ⊥
+body_known (Record span fields) h = let f : ⊥ = cc in f
+body_known (Flags span flags) h = let f : ⊥ = cc in f
+body_known (Variant span cases) h = let f : ⊥ = cc in f
+body_known (Enum span cases) h = let f : ⊥ = cc in f
+body_known (Resource funcs) h = let f : ⊥ = cc in f
+body_known (Plain t) h = written_known t h
+
+-- what is met in such types has such a form
+mutual
+  pub met_anonymous : (s : Address) (x : Shape) (form : Form) (parts : Exprs) → AreAnonymous x → Has (met (expr_of s x)) (Whole form parts) → IsAnonymousForm form
+  met_anonymous s (shape.Prim p) form parts a h = absurd h
+  met_anonymous s (shape.Word id) form parts a h = absurd h
+  met_anonymous s (shape.Of span own inner) form parts a h = elim (has_either (all_met (exprs_of s inner)) (Whole own (exprs_of s inner) ∷ []) (Whole form parts) h) [
+    | inl within ↦ all_anonymous s inner form parts a.1 within
+    | inr last ↦ elim last [
+      | inl here ↦ (let same : own ≡ form = cc in subst (λ (f : Form). IsAnonymousForm f) same a.0)
+      | inr none ↦ absurd none
+    ]
+  ]
+
+  all_anonymous : (s : Address) (xs : Shapes) (form : Form) (parts : Exprs) → AllAnonymous xs → Has (all_met (exprs_of s xs)) (Whole form parts) → IsAnonymousForm form
+  all_anonymous s shape.End form parts a h = absurd h
+  all_anonymous s (shape.More x xs) form parts a h = elim (has_either (met (expr_of s x)) (all_met (exprs_of s xs)) (Whole form parts) h) [
+    | inl first ↦ met_anonymous s x form parts a.0 first
+    | inr rest ↦ all_anonymous s xs form parts a.1 rest
+  ]
+
+-- a used name has no unnamed type, and a taken one neither
+pub name_anonymous : (s : Address) (x : ScopeName) (form : Form) (parts : Exprs) → Has (all_met (name_exprs s x)) (Whole form parts) → IsAnonymousForm form
+name_anonymous s (Used from attributes n) form parts h = absurd h
+name_anonymous s (Taken attributes id) form parts h = absurd h
+name_anonymous s (Defined d) form parts h = all_anonymous s (body_of d.body).parts form parts (body_anonymous d.body) h

@@ -1,0 +1,131 @@
+-- The written names of functions that are no resource's, in the source and in the package.
+use Rattle.std.proofs.Common.{◌≡◌, ℕ, zero, suc, List, [], ◌∷◌, ◌++◌, Some, refl, sym, ap, ◌∙◌, subst, arith, Contains}
+use Rattle.std.specs.Prelude.{slice_get}
+use Rattle.std.specs.List.{flat_map}
+use Rattle.std.proofs.lemmas.Option.{slice_get_within}
+use Rattle.wit_tree.specs.declared.tree.FuncForm.{FuncForm}
+use Rattle.wit_tree.specs.declared.tree.FuncForm.TheVariants as form
+use Rattle.wit_tree.specs.declared.tree.Id.{Id}
+use Rattle.wit_tree.specs.declared.tree.TypeBody.{TypeBody}
+use Rattle.wit_tree.specs.declared.tree.TypeBody.TheVariants as body
+use Rattle.wit_tree.specs.declared.tree.ResourceFunc.{ResourceFunc}
+use Rattle.wit_tree.specs.declared.tree.ResourceFunc.TheVariants as resource
+use Rattle.wit_model.specs.declared.function.Function.{Function}
+use Rattle.wit_model.specs.declared.function.FunctionKind.{FunctionKind}
+use Rattle.wit_syntax.specs.Address.{Address}
+use Rattle.wit_syntax.specs.Source.{Item, Part, Defining, Using, Including, Doing, parts}
+use Rattle.wit_syntax.specs.Function.{Role, Freestanding, Method, Static, Constructor, SourceFunction, accessor, free_function, resource_function, definition_functions, part_functions, functions, role_names, free_names}
+use Rattle.wit_arena.specs.Functions.{freestanding_kind, method_kind, static_kind, IsKind, IsFunction, AreFunctions, freestanding_names}
+use Rattle.wit_arena.specs.Meet.{Key}
+use Rattle.wit_syntax.proofs.Lists.{at_within, map_at, flat_map_at, flat_map_has}
+use Rattle.wit_syntax.proofs.Found.{at_contains, contains_at}
+
+-- of functions of the package, each under its name
+abbrev pub free_of : List (List ℕ × Function) → List (List ℕ)
+free_of fs = flat_map (λ f. freestanding_names f.1.kind f.1.name) fs
+
+-- what an owner states are these functions, each under its name
+pub record AreStated (made : List Function) (stated : List (List ℕ × Function)) : Type 0 where
+  pub has : (k : ℕ) (f : Function) → slice_get made k ≡ Some f → (place : ℕ) × (slice_get stated place ≡ Some (f.name, f))
+  pub from : (place : ℕ) (name : List ℕ) (f : Function) → slice_get stated place ≡ Some (name, f) → (k : ℕ) × (slice_get made k ≡ Some f) × (f.name ≡ name)
+
+-- a function of no resource has its written name behind the mark of an accessor
+abbrev IsCalled : Role → List ℕ → Type 0
+IsCalled (Freestanding id form) name = name ≡ accessor form ++ id.name.now
+IsCalled (Method of form) name = Unit {0}
+IsCalled (Static of form) name = Unit {0}
+IsCalled (Constructor of) name = Unit {0}
+
+free_kind : (form : FuncForm) (name : List ℕ) → freestanding_names (freestanding_kind form) (accessor form ++ name) ≡ name ∷ []
+free_kind form.Plain name = refl
+free_kind form.Async name = refl
+free_kind form.Getter name = refl
+free_kind form.Setter name = refl
+
+no_method : (form : FuncForm) (r : ℕ) (name : List ℕ) → freestanding_names (method_kind form r) name ≡ []
+no_method form.Plain r name = refl
+no_method form.Async r name = refl
+no_method form.Getter r name = refl
+no_method form.Setter r name = refl
+
+no_static : (form : FuncForm) (r : ℕ) (name : List ℕ) → freestanding_names (static_kind form r) name ≡ []
+no_static form.Plain r name = refl
+no_static form.Async r name = refl
+no_static form.Getter r name = refl
+no_static form.Setter r name = refl
+
+free_role : (ks : List Key) (s : Address) (role : Role) (k : FunctionKind) (name : List ℕ) → IsCalled role name → IsKind ks s role k → freestanding_names k name ≡ role_names role
+free_role ks s (Freestanding id form) k name called is = ap (λ x. freestanding_names x name) is ∙ ap (freestanding_names (freestanding_kind form)) called ∙ free_kind form id.name.now
+free_role ks s (Method of form) k name called is = ap (λ x. freestanding_names x name) is.1 ∙ no_method form is.0 name
+free_role ks s (Static of form) k name called is = ap (λ x. freestanding_names x name) is.1 ∙ no_static form is.0 name
+free_role ks s (Constructor of) k name called is = ap (λ x. freestanding_names x name) is.1
+
+-- so it is of the functions of an item
+resource_called : (r : Id) (g : ResourceFunc) → IsCalled (resource_function r g).role (resource_function r g).name
+resource_called r (resource.Method f) = tt
+resource_called r (resource.Static f) = tt
+resource_called r (resource.Constructor docs attributes span params result) = tt
+
+definition_called : (r : Id) (b : TypeBody) (k : ℕ) (fn : SourceFunction) → slice_get (definition_functions r b) k ≡ Some fn → IsCalled fn.role fn.name
+definition_called r (body.Resource funcs) k fn at =
+    let g = map_at (resource_function r) funcs.items k fn at in
+    subst (λ (x : SourceFunction). IsCalled x.role x.name) g.2 (resource_called r g.0)
+definition_called r (body.Record span fields) k fn at = absurd (let f : ⊥ = cc in f)
+definition_called r (body.Flags span flags) k fn at = absurd (let f : ⊥ = cc in f)
+definition_called r (body.Variant span cases) k fn at = absurd (let f : ⊥ = cc in f)
+definition_called r (body.Enum span cases) k fn at = absurd (let f : ⊥ = cc in f)
+definition_called r (body.Plain t) k fn at = absurd (let f : ⊥ = cc in f)
+
+part_called : (p : Part) (k : ℕ) (fn : SourceFunction) → slice_get (part_functions p) k ≡ Some fn → IsCalled fn.role fn.name
+part_called (Defining d) k fn at = definition_called d.name d.body k fn at
+part_called (Using u) k fn at = absurd (let f : ⊥ = cc in f)
+part_called (Including i) k fn at = absurd (let f : ⊥ = cc in f)
+part_called (Doing g) zero fn at = let same : free_function g ≡ fn = cc in subst (λ (x : SourceFunction). IsCalled x.role x.name) same refl
+part_called (Doing g) (suc k) fn at = absurd (let f : ⊥ = cc in f)
+
+function_called : (i : Item) (k : ℕ) (fn : SourceFunction) → slice_get (functions i) k ≡ Some fn → IsCalled fn.role fn.name
+function_called i k fn at =
+    let it = flat_map_at part_functions (parts i) k fn at in
+    part_called it.1 it.3.0 fn it.3.1
+
+-- a function of the package goes by the written name of the function that it is
+names_same : (ks : List Key) (s : Address) (i : Item) (k : ℕ) (fn : SourceFunction) (f : Function) → slice_get (functions i) k ≡ Some fn → IsFunction ks s fn f → freestanding_names f.kind f.name ≡ role_names fn.role
+names_same ks s i k fn f at is = ap (freestanding_names f.kind) is.name ∙ free_role ks s fn.role f.kind fn.name (function_called i k fn at) is.kind
+
+names_again : (ks : List Key) (s : Address) (i : Item) (k : ℕ) (fn : SourceFunction) (f : Function) → slice_get (functions i) k ≡ Some fn → IsFunction ks s fn f → role_names fn.role ≡ freestanding_names f.kind f.name
+names_again ks s i k fn f at is = sym (names_same ks s i k fn f at is)
+
+module _ (ks : List Key) (s : Address) (i : Item) (made : List Function) (stated : List (List ℕ × Function)) (are : AreFunctions ks s (functions i) made) (says : AreStated made stated) where
+  -- a written name of one of its functions, and one that is stated
+  stated_at : (k j : ℕ) (fn : SourceFunction) (name : List ℕ) → slice_get (functions i) k ≡ Some fn → slice_get (role_names fn.role) j ≡ Some name → Contains (free_of stated) name
+  stated_at k j fn name at written =
+      let lt = slice_get_within (functions i) k fn at in
+      let count = are.count in
+      let f = at_within made k (omega arith) in
+      let same : role_names fn.role ≡ freestanding_names f.0.kind f.0.name = names_again ks s i k fn f.0 at (are.each k fn f.0 at f.1) in
+      let place = says.has k f.0 f.1 in
+      let it = flat_map_has (λ (x : List ℕ × Function). freestanding_names x.1.kind x.1.name) stated place.0 j (f.0.name, f.0) name place.1 (ap (λ (l : List (List ℕ)). slice_get l j) (sym same) ∙ written) in
+      contains_at (free_of stated) it.0 name it.1
+
+  written_at : (k j : ℕ) (f : Function) (name : List ℕ) → slice_get made k ≡ Some f → slice_get (freestanding_names f.kind f.name) j ≡ Some name → Contains (free_names i) name
+  written_at k j f name at told =
+      let lt = slice_get_within made k f at in
+      let count = are.count in
+      let fn = at_within (functions i) k (omega arith) in
+      let same : role_names fn.0.role ≡ freestanding_names f.kind f.name = names_again ks s i k fn.0 f fn.1 (are.each k fn.0 f fn.1 at) in
+      let it = flat_map_has (λ (fn : SourceFunction). role_names fn.role) (functions i) k j fn.0 name fn.1 (ap (λ (l : List (List ℕ)). slice_get l j) same ∙ told) in
+      contains_at (free_names i) it.0 name it.1
+
+  -- the written names of an item's functions are those that its owner states
+  pub free_stated : (name : List ℕ) → Contains (free_names i) name → Contains (free_of stated) name
+  free_stated name among =
+      let n = at_contains (free_names i) name among in
+      let it = flat_map_at (λ (fn : SourceFunction). role_names fn.role) (functions i) n.0 name n.1 in
+      stated_at it.0 it.3.0 it.1 name it.2 it.3.1
+
+  pub stated_free : (name : List ℕ) → Contains (free_of stated) name → Contains (free_names i) name
+  stated_free name among =
+      let n = at_contains (free_of stated) name among in
+      let it = flat_map_at (λ (x : List ℕ × Function). freestanding_names x.1.kind x.1.name) stated n.0 name n.1 in
+      let f = says.from it.0 it.1.0 it.1.1 it.2 in
+      written_at f.0 it.3.0 it.1.1 name f.1 it.3.1

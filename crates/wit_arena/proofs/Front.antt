@@ -1,0 +1,344 @@
+-- What other packages put in front of the arenas, as scopes that are done.
+use Rattle.std.proofs.Common.{◌≡◌, ℕ, zero, suc, ◌+◌, false, List, [], ◌∷◌, ◌++◌, length, take, Option, Some, None, inl, inr, refl, sym, ap, ◌∙◌, subst, arith, Contains}
+use Rattle.std.specs.Prelude.{slice_get, map, IsSome}
+use Rattle.std.specs.Option.{option_map, option_map_or}
+use Rattle.std.specs.List.{flat_map, filter}
+use Rattle.std.proofs.lemmas.List.{map-append, length-map}
+use Rattle.std.proofs.lemmas.Option.{slice_get-map, slice_get_within}
+use Rattle.wit_tree.specs.declared.tree.PackageFile.{PackageFile}
+use Rattle.wit_types.specs.declared.types.TypeDef.{TypeDef}
+use Rattle.wit_types.specs.declared.types.TypeOwner.{TypeOwner}
+use Rattle.wit_types.specs.declared.types.TypeOwner.TheVariants as owner
+use Rattle.wit_model.specs.declared.interface.Interface.{Interface}
+use Rattle.wit_model.specs.declared.world.World.{World}
+use Rattle.wit_syntax.specs.Fault.{Fault}
+use Rattle.wit_syntax.specs.Form.{Form}
+use Rattle.wit_tree.specs.declared.tree.«Type».{«Type» as Written}
+use Rattle.wit_package_names.specs.declared.package_name.PackageName.{PackageName}
+use Rattle.wit_syntax.specs.Shape.{all_handles}
+use Rattle.wit_syntax.specs.Function.{functions, name_types}
+use Rattle.wit_arena.specs.Functions.{AreFunctions}
+use Rattle.wit_syntax.specs.Address.{Address, ForeignNamed, same_address}
+use Rattle.wit_syntax.specs.Source.{Declared, TheInterface, TheWorld, declared_address, Item, all_items, item_at, Taken, taken, local_name, Taking, takings, same_taking, first_takings, scope, taken_names}
+use Rattle.wit_syntax.specs.Foreign.{ForeignVisit, visited_package, visited, foreign_interfaces, foreign_worlds}
+use Rattle.wit_arena.specs.Expr.{Exprs}
+use Rattle.wit_arena.specs.Meet.{Key, Def, Whole, Meeting, keys, Decls, decl_of, IsEntry, IsNamedEntry, IsSettled, IsMeeting}
+use Rattle.wit_syntax.specs.Repeats.{AllDiffer}
+use Rattle.wit_syntax.specs.Broken.{IsBrokenUse}
+use Rattle.wit_arena.specs.Whole.{owner_at, taking_meeting, functions_at, turn_handles, AreRequired}
+use Rattle.wit_arena.specs.Resolving.{cell_at, cells, env_of, AreNames, decls_of}
+use Rattle.wit_arena.specs.Resolved.{foreign_type, AddsForeign}
+use Rattle.wit_syntax.proofs.Lists.{at_front, at_within, map_at, map_map}
+use Rattle.wit_syntax.proofs.Names.{lookup-place}
+use Rattle.wit_syntax.proofs.Repeated.{differ_none, differ_join}
+use Rattle.wit_syntax.proofs.Firsts.{firsts_at}
+use Rattle.wit_syntax.proofs.Found.{some_of}
+use Rattle.wit_arena.proofs.Using.{lookup-listed}
+use Rattle.wit_arena.proofs.Meeting.{Has}
+use Rattle.wit_arena.proofs.FreeNames.{AreStated}
+use Rattle.wit_syntax.proofs.Turns.{at_part}
+use Rattle.wit_arena.proofs.Standing.{DoneScope, done_address, turn_of, cell_of, IsDoneScope, IsNameOf, IsDone}
+use Rattle.wit_arena.proofs.Interfaces.{interface_owner_at}
+use Rattle.wit_arena.proofs.Visits.{visited_addresses, interface_apart}
+use Rattle.wit_arena.proofs.Takings.{taking_key, keys-takings, takings_met, takings_differ, taken_from, taken_has, taken_name_at, taken_distinct}
+
+-- the scope of an interface of another package at a place, with the types that it has in the arena
+abbrev pub interface_scope : List PackageFile → ℕ → ForeignVisit → Interface → DoneScope
+interface_scope files t v i = record { address = visited v; owner = owner.Interface t; names = scope files (visited v); types = i.types; functions = []; made = []; stated = i.functions; required = [] }
+
+-- the scope of a world of another package, from which nothing is taken
+abbrev pub world_scope : ℕ → ForeignVisit → DoneScope
+world_scope t v = record { address = visited v; owner = owner.World t; names = []; types = []; functions = []; made = []; stated = []; required = [] }
+
+-- the scopes of interfaces from a place on
+abbrev pub interface_scopes : List PackageFile → ℕ → List ForeignVisit → List Interface → List DoneScope
+interface_scopes files t [] is = []
+interface_scopes files t (v ∷ vs) [] = []
+interface_scopes files t (v ∷ vs) (i ∷ is) = interface_scope files t v i ∷ interface_scopes files (suc t) vs is
+
+-- and those of worlds
+abbrev pub world_scopes : ℕ → List ForeignVisit → List DoneScope
+world_scopes t [] = []
+world_scopes t (v ∷ vs) = world_scope t v ∷ world_scopes (suc t) vs
+
+-- all scopes in front, where these are the interfaces there
+abbrev pub front_scopes : List PackageFile → List Interface → List DoneScope
+front_scopes files front = interface_scopes files 0 (foreign_interfaces files) front ++ world_scopes 0 (foreign_worlds files)
+
+module _ (files : List PackageFile) where
+  -- the scope of an interface at a place, and the interface of a scope
+  interface_scope_from : (n : ℕ) (vs : List ForeignVisit) (is : List Interface) (t : ℕ) (v : ForeignVisit) (i : Interface) → slice_get vs t ≡ Some v → slice_get is t ≡ Some i → slice_get (interface_scopes files n vs is) t ≡ Some (interface_scope files (n + t) v i)
+  interface_scope_from n [] is t v i at there = absurd (let f : ⊥ = cc in f)
+  interface_scope_from n (u ∷ vs) [] t v i at there = absurd (let f : ⊥ = cc in f)
+  interface_scope_from n (u ∷ vs) (j ∷ is) zero v i at there =
+      let one : u ≡ v = cc in
+      let two : j ≡ i = cc in
+      ap (λ x. Some (interface_scope files n x j)) one ∙ ap (λ x. Some (interface_scope files n v x)) two ∙ ap (λ m. Some (interface_scope files m v i)) (let same : n ≡ n + 0 = omega arith in same)
+  interface_scope_from n (u ∷ vs) (j ∷ is) (suc t) v i at there = interface_scope_from (suc n) vs is t v i at there ∙ ap (λ m. Some (interface_scope files m v i)) (let same : suc n + t ≡ n + suc t = omega arith in same)
+
+  pub interface_scope_at : (vs : List ForeignVisit) (is : List Interface) (t : ℕ) (v : ForeignVisit) (i : Interface) → slice_get vs t ≡ Some v → slice_get is t ≡ Some i → slice_get (interface_scopes files 0 vs is) t ≡ Some (interface_scope files t v i)
+  interface_scope_at vs is t v i at there = interface_scope_from 0 vs is t v i at there ∙ ap (λ m. Some (interface_scope files m v i)) (let same : 0 + t ≡ t = omega arith in same)
+
+  -- of as many interfaces, the addresses and the scopes as they are used
+  pub map-interface_scopes : (n : ℕ) (vs : List ForeignVisit) (is : List Interface) → length is ≡ length vs → map done_address (interface_scopes files n vs is) ≡ map visited vs
+  map-interface_scopes n [] is count = refl
+  map-interface_scopes n (v ∷ vs) [] count = absurd (let f : ⊥ = omega arith in f)
+  map-interface_scopes n (v ∷ vs) (i ∷ is) count = ap (λ l. visited v ∷ l) (map-interface_scopes (suc n) vs is (omega arith))
+
+  pub cells-interface_scopes : (n : ℕ) (vs : List ForeignVisit) (is : List Interface) → length is ≡ length vs → map cell_of (interface_scopes files n vs is) ≡ cells (map visited vs) is
+  cells-interface_scopes n [] [] count = refl
+  cells-interface_scopes n [] (i ∷ is) count = absurd (let f : ⊥ = omega arith in f)
+  cells-interface_scopes n (v ∷ vs) [] count = absurd (let f : ⊥ = omega arith in f)
+  cells-interface_scopes n (v ∷ vs) (i ∷ is) count = ap (λ l. cell_at (visited v) i ∷ l) (cells-interface_scopes (suc n) vs is (omega arith))
+
+  length-interface_scopes : (n : ℕ) (vs : List ForeignVisit) (is : List Interface) → length is ≡ length vs → length (interface_scopes files n vs is) ≡ length vs
+  length-interface_scopes n [] is count = refl
+  length-interface_scopes n (v ∷ vs) [] count = absurd (let f : ⊥ = omega arith in f)
+  length-interface_scopes n (v ∷ vs) (i ∷ is) count = ap suc (length-interface_scopes (suc n) vs is (omega arith))
+
+world_scope_from : (n : ℕ) (vs : List ForeignVisit) (t : ℕ) (v : ForeignVisit) → slice_get vs t ≡ Some v → slice_get (world_scopes n vs) t ≡ Some (world_scope (n + t) v)
+world_scope_from n [] t v at = absurd (let f : ⊥ = cc in f)
+world_scope_from n (u ∷ vs) zero v at =
+    let one : u ≡ v = cc in
+    ap (λ x. Some (world_scope n x)) one ∙ ap (λ m. Some (world_scope m v)) (let same : n ≡ n + 0 = omega arith in same)
+world_scope_from n (u ∷ vs) (suc t) v at = world_scope_from (suc n) vs t v at ∙ ap (λ m. Some (world_scope m v)) (let same : suc n + t ≡ n + suc t = omega arith in same)
+
+pub world_scope_at : (vs : List ForeignVisit) (t : ℕ) (v : ForeignVisit) → slice_get vs t ≡ Some v → slice_get (world_scopes 0 vs) t ≡ Some (world_scope t v)
+world_scope_at vs t v at = world_scope_from 0 vs t v at ∙ ap (λ m. Some (world_scope m v)) (let same : 0 + t ≡ t = omega arith in same)
+
+pub map-world_scopes : (n : ℕ) (vs : List ForeignVisit) → map done_address (world_scopes n vs) ≡ map visited vs
+map-world_scopes n [] = refl
+map-world_scopes n (v ∷ vs) = ap (λ l. visited v ∷ l) (map-world_scopes (suc n) vs)
+
+length-world_scopes : (n : ℕ) (vs : List ForeignVisit) → length (world_scopes n vs) ≡ length vs
+length-world_scopes n [] = refl
+length-world_scopes n (v ∷ vs) = ap suc (length-world_scopes (suc n) vs)
+
+-- a scope in front is that of an interface or of a world
+pub data IsFront (files : List PackageFile) (front : List Interface) (t : ℕ) (c : DoneScope) : Type 0 where
+  FrontInterface : (place : ℕ) (v : ForeignVisit) (i : Interface) → slice_get (foreign_interfaces files) place ≡ Some v → slice_get front place ≡ Some i → c ≡ interface_scope files place v i → IsFront files front t c
+  FrontWorld : (place : ℕ) (v : ForeignVisit) → slice_get (foreign_worlds files) place ≡ Some v → c ≡ world_scope place v → IsFront files front t c
+
+pub front_at : (files : List PackageFile) (front : List Interface) → length front ≡ length (foreign_interfaces files) → (t : ℕ) (c : DoneScope) → slice_get (front_scopes files front) t ≡ Some c → IsFront files front t c
+front_at files front count t c at = elim (at_part (interface_scopes files 0 (foreign_interfaces files) front) (world_scopes 0 (foreign_worlds files)) t c at) [
+  | inl h ↦ (
+      let lt = slice_get_within (interface_scopes files 0 (foreign_interfaces files) front) h.0 c h.1 in
+      let long = length-interface_scopes files 0 (foreign_interfaces files) front count in
+      let v = at_within (foreign_interfaces files) h.0 (omega arith) in
+      let i = at_within front h.0 (omega arith) in
+      let both : Some c ≡ Some (interface_scope files h.0 v.0 i.0) = sym h.1 ∙ interface_scope_at files (foreign_interfaces files) front h.0 v.0 i.0 v.1 i.1 in
+      FrontInterface h.0 v.0 i.0 v.1 i.1 (let same : c ≡ interface_scope files h.0 v.0 i.0 = cc in same))
+  | inr h ↦ (
+      let lt = slice_get_within (world_scopes 0 (foreign_worlds files)) h.0 c h.1 in
+      let long = length-world_scopes 0 (foreign_worlds files) in
+      let v = at_within (foreign_worlds files) h.0 (omega arith) in
+      let both : Some c ≡ Some (world_scope h.0 v.0) = sym h.1 ∙ world_scope_at (foreign_worlds files) h.0 v.0 v.1 in
+      FrontWorld h.0 v.0 v.1 (let same : c ≡ world_scope h.0 v.0 = cc in same))
+]
+
+-- no declared item is of another package
+not_declared : (d : Declared) (p : PackageName) (name : List ℕ) → same_address (declared_address d) (ForeignNamed p name) ≡ false
+not_declared (TheInterface i) p name = refl
+not_declared (TheWorld w) p name = refl
+
+no_item : (is : List Item) (p : PackageName) (name : List ℕ) → item_at is (ForeignNamed p name) ≡ None
+no_item [] p name = refl
+no_item (i ∷ is) p name = rw (not_declared i.declared p name) (no_item is p name)
+
+-- so nothing is known of functions of another package's items
+no_functions_at : (files : List PackageFile) (p : PackageName) (name : List ℕ) → functions_at files (ForeignNamed p name) ≡ []
+no_functions_at files p name = ap (λ (o : Option Item). option_map_or functions o []) (no_item (all_items files) p name)
+
+nothing_stated : AreStated [] []
+nothing_stated = record { has = λ k f at. absurd (let f : ⊥ = cc in f); from = λ place name f at. absurd (let f : ⊥ = cc in f) }
+
+no_functions : (ks : List Key) (s : Address) → AreFunctions ks s [] []
+no_functions ks s = record { count = refl; each = λ k fn f at. absurd (let f : ⊥ = cc in f) }
+
+-- what is taken holds no type
+no_types_taken : (ts : List Taking) → flat_map name_types (map taken ts) ≡ []
+no_types_taken [] = refl
+no_types_taken (t ∷ ts) = no_types_taken ts
+
+nothing_required : (files : List PackageFile) (ks : List Key) (s : Address) (ts : List Taking) → AreRequired files ks (turn_handles (record { address = s; names = map taken ts; functions = [] })) []
+nothing_required files ks s ts = subst (λ (types : List Written). AreRequired files ks (map (λ id. (s, id)) (all_handles (types ++ []))) []) (sym (no_types_taken ts)) refl
+
+-- nothing unnamed is taken
+no_whole_taken : (ts : List Taking) (form : Form) (parts : Exprs) → Has (keys (map taking_meeting ts)) (Whole form parts) → ⊥
+no_whole_taken [] form parts h = h
+no_whole_taken (t ∷ ts) form parts h = elim h [ inl here ↦ (let f : ⊥ = cc in f) | inr rest ↦ no_whole_taken ts form parts rest ]
+
+-- what is taken is named, so nothing has to be settled of it
+taken_settled : (ts : List Taking) (es : List TypeDef) (i : ℕ) (m : Meeting) (e : TypeDef) → slice_get (map taking_meeting ts) i ≡ Some m → slice_get es i ≡ Some e → IsSettled (take i es) m.given m.key e
+taken_settled ts es i m e at there = let t = map_at taking_meeting ts i m at in subst (λ (x : Meeting). IsSettled (take i es) x.given x.key e) t.2 tt
+
+-- What is taken is met once, and its entries are those of the scopes that it is taken from; `decls` declares each of these scopes by the
+-- owner that the front alone gives it.
+module _ (files : List PackageFile) (uses : (i : Item) → Contains (all_items files) i → (f : Fault) → IsBrokenUse files i f → ⊥) (es : List TypeDef) (front : List Interface) (ws : List World) (adds : AddsForeign files es front ws) where
+  abbrev visits : List ForeignVisit
+  visits = foreign_interfaces files
+
+  abbrev ts : List Taking
+  ts = first_takings files
+
+  abbrev met : List Meeting
+  met = map taking_meeting ts
+
+  abbrev pub front_owner : Address → TypeOwner
+  front_owner s = owner_at (map visited visits) (map visited (foreign_worlds files)) s
+
+  key_at : (j : ℕ) (t : Taking) → slice_get ts j ≡ Some t → slice_get (keys met) j ≡ Some (taking_key t)
+  key_at j t at = ap (λ l. slice_get l j) (keys-takings ts) ∙ slice_get-map taking_key ts j ∙ ap (option_map taking_key) at
+
+  taking_of : (j : ℕ) (k : Key) → slice_get (keys met) j ≡ Some k → (t : Taking) × (slice_get ts j ≡ Some t) × (taking_key t ≡ k)
+  taking_of j k at = map_at taking_key ts j k (ap (λ l. slice_get l j) (sym (keys-takings ts)) ∙ at)
+
+  -- what is first taken is taken from an interface
+  first_from : (j : ℕ) (t : Taking) → slice_get ts j ≡ Some t → (i : ℕ) × (v : ForeignVisit) × (slice_get visits i ≡ Some v) × (visited v ≡ t.from)
+  first_from j t at = let k = firsts_at same_taking (takings files) j t at in taken_from files uses k.0 t k.1
+
+  -- nothing is taken from a world
+  none_from_world : (i : ℕ) (w : ForeignVisit) → slice_get (foreign_worlds files) i ≡ Some w → (j : ℕ) (t : Taking) → slice_get ts j ≡ Some t → t.from ≡ visited w → ⊥
+  none_from_world i w at j t there same = let v = first_from j t there in interface_apart files v.0 i v.1 w v.2 at (v.3 ∙ same)
+
+  -- a scope in front has its names in turn
+  interface_done : (i : ℕ) (v : ForeignVisit) (x : Interface) → slice_get visits i ≡ Some v → slice_get front i ≡ Some x → IsDoneScope files (interface_scope files i v x)
+  interface_done i v x at there = record {
+    turn = record { distinct = taken_distinct files (visited v); differ = taken_distinct files (visited v); among = λ k y yat. (k, yat); has = λ k y yat. (k, yat) };
+    listed = (adds.interfaces.types i v x at there).names;
+    functions = sym (no_functions_at files (visited_package v) v.id.name.now);
+    stated = rw (adds.interfaces.says i v x at there).functions nothing_stated;
+  }
+
+  world_done : (i : ℕ) (w : ForeignVisit) → slice_get (foreign_worlds files) i ≡ Some w → IsDoneScope files (world_scope i w)
+  world_done i w at = record {
+    turn = record {
+      distinct = taken_distinct files (visited w);
+      differ = differ_none;
+      among = λ k y yat. absurd (let f : ⊥ = cc in f);
+      has = λ k y yat. (let t = taken_name_at files (visited w) k y yat in absurd (none_from_world i w at t.0 t.1 t.2 t.3));
+    };
+    listed = refl;
+    functions = sym (no_functions_at files (visited_package w) w.id.name.now);
+    stated = nothing_stated;
+  }
+
+  -- a name that is taken from an interface stands among its types
+  pub taken_listed : (i : ℕ) (v : ForeignVisit) (x : Interface) → slice_get visits i ≡ Some v → slice_get front i ≡ Some x → (j : ℕ) (t : Taking) → slice_get ts j ≡ Some t → t.from ≡ visited v → IsSome (env_of x.types t.id.name.now)
+  taken_listed i v x at there j t taken from =
+      let k = taken_has files (visited v) j t taken from in
+      lookup-listed x.types k.0 t.id.name.now (ap (λ l. slice_get l k.0) (adds.interfaces.types i v x at there).names ∙ slice_get-map local_name (taken_names files (visited v)) k.0 ∙ ap (option_map local_name) k.1)
+
+  -- the names of an interface in front stand for their places
+  interface_stands : (i : ℕ) (v : ForeignVisit) (x : Interface) → slice_get visits i ≡ Some v → slice_get front i ≡ Some x → AreNames (keys met) (visited v) (env_of x.types)
+  interface_stands i v x at there = record {
+    stands = λ name id found. (let k = lookup-place x.types name id found in (adds.interfaces.types i v x at there).places k.0 name id k.1);
+    has = λ j name key. (
+        let t = taking_of j (Def (visited v) name) key in
+        let from : t.0.from ≡ visited v = (let same = t.2 in cc) in
+        let called : t.0.id.name.now ≡ name = (let same = t.2 in cc) in
+        some_of (env_of x.types name) (subst (λ n. IsSome (env_of x.types n)) called (taken_listed i v x at there j t.0 t.1 from)));
+  }
+
+  world_stands : (i : ℕ) (w : ForeignVisit) → slice_get (foreign_worlds files) i ≡ Some w → AreNames (keys met) (visited w) (env_of [])
+  world_stands i w at = record {
+    stands = λ name id found. absurd (let f : ⊥ = cc in f);
+    has = λ j name key. (
+        let t = taking_of j (Def (visited w) name) key in
+        let from : t.0.from ≡ visited w = (let same = t.2 in cc) in
+        absurd (none_from_world i w at j t.0 t.1 from));
+  }
+
+  front_differ : AllDiffer (map done_address (front_scopes files front))
+  front_differ = subst AllDiffer (sym (map-append done_address (interface_scopes files 0 visits front) (world_scopes 0 (foreign_worlds files)) ∙ ap (λ l. l ++ map done_address (world_scopes 0 (foreign_worlds files))) (map-interface_scopes files 0 visits front adds.interfaces.count) ∙ ap (λ l. map visited visits ++ l) (map-world_scopes 0 (foreign_worlds files)))) (differ_join (map visited visits) (map visited (foreign_worlds files)) (visited_addresses files).interfaces (visited_addresses files).worlds (visited_addresses files).apart)
+
+  module _ (decls : Decls) (interfaces_own : (i : ℕ) (v : ForeignVisit) → slice_get visits i ≡ Some v → decls (visited v) ≡ decls_of (owner.Interface i) (visited v) (scope files (visited v))) (worlds_own : (i : ℕ) (w : ForeignVisit) → slice_get (foreign_worlds files) i ≡ Some w → decls (visited w) ≡ decls_of (owner.World i) (visited w) (scope files (visited w))) where
+    -- the entry of a name that is taken
+    taken_entry : (ks : List Key) (j : ℕ) (t : Taking) → slice_get ts j ≡ Some t → IsNamedEntry decls ks t.from t.id.name.now (foreign_type files t)
+    taken_entry ks j t at =
+        let s = t.from in
+        let v = first_from j t at in
+        let o = owner.Interface v.0 in
+        let k = taken_has files s j t at refl in
+        let names : scope files s ≡ taken_names files s = ap (scope files) (sym v.3) ∙ ap (taken_names files) v.3 in
+        let declared : decls s ≡ decls_of o s (scope files s) = subst (λ z. decls z ≡ decls_of o z (scope files z)) v.3 (interfaces_own v.0 v.1 v.2) in
+        let whose : front_owner s ≡ o = ap front_owner (sym v.3) ∙ interface_owner_at (map visited visits) (map visited (foreign_worlds files)) (visited_addresses files) v.0 (visited v.1) (slice_get-map visited visits v.0 ∙ ap (option_map visited) v.2) in
+        record {
+          decl = decl_of o s (Taken t.attributes t.id);
+          among = (k.0, ap (λ l. slice_get l k.0) declared ∙ slice_get-map (decl_of o s) (scope files s) k.0 ∙ ap (option_map (decl_of o s)) (ap (λ l. slice_get l k.0) names ∙ k.1));
+          same = refl;
+          name = refl;
+          span = refl;
+          owner = whose;
+          form = refl;
+          parts = tt;
+          notes = record { docs = refl; stability = refl; external_id = refl };
+        }
+
+    taken_meeting : IsMeeting decls met es
+    taken_meeting = record {
+      keyed = record {
+        count = ap length adds.types ∙ length-map ts (foreign_type files) ∙ sym (length-map ts taking_key) ∙ ap length (sym (keys-takings ts));
+        once = subst AllDiffer (sym (keys-takings ts)) (takings_differ files);
+        each = λ j k e key entry. (
+            let t = taking_of j k key in
+            let u = map_at (foreign_type files) ts j e (ap (λ l. slice_get l j) (sym adds.types) ∙ entry) in
+            let both : Some t.0 ≡ Some u.0 = sym t.1 ∙ u.1 in
+            let one : t.0 ≡ u.0 = cc in
+            subst (λ x. IsEntry decls (take j (keys met)) x e) t.2 (subst (λ x. IsNamedEntry decls (take j (keys met)) t.0.from t.0.id.name.now x) (ap (foreign_type files) one ∙ u.2) (taken_entry (take j (keys met)) j t.0 t.1)));
+      };
+      spans = ap (map (λ (e : TypeDef). e.span)) adds.types ∙ map_map (λ (e : TypeDef). e.span) (foreign_type files) ts ∙ sym (map_map (λ (m : Meeting). m.span) taking_meeting ts);
+      settled = taken_settled ts es;
+    }
+
+    -- a name that was met is one of its scope
+    taken_before : (j : ℕ) (s : Address) (name : List ℕ) → slice_get (keys met) j ≡ Some (Def s name) → IsNameOf (front_scopes files front) s name
+    taken_before j s name key =
+        let t = taking_of j (Def s name) key in
+        let from : t.0.from ≡ s = (let same = t.2 in cc) in
+        let called : t.0.id.name.now ≡ name = (let same = t.2 in cc) in
+        let v = first_from j t.0 t.1 in
+        let lt = slice_get_within visits v.0 v.1 v.2 in
+        let count = adds.interfaces.count in
+        let x = at_within front v.0 (omega arith) in
+        let k = taken_has files (visited v.1) j t.0 t.1 (sym v.3) in
+        record {
+          place = v.0;
+          cell = interface_scope files v.0 v.1 x.0;
+          at = at_front (interface_scopes files 0 visits front) (world_scopes 0 (foreign_worlds files)) v.0 (interface_scope files v.0 v.1 x.0) (interface_scope_at files visits front v.0 v.1 x.0 v.2 x.1);
+          scope = v.3 ∙ from;
+          index = k.0;
+          x = Taken t.0.attributes t.0.id;
+          among = k.1;
+          called = called;
+        }
+
+    pub front_done : IsDone files decls (map taking_meeting (takings files)) (front_scopes files front) es
+    front_done = record {
+      met = met;
+      meets = takings_met files;
+      meeting = taken_meeting;
+      each = λ t c at. elim (front_at files front adds.interfaces.count t c at) [
+        | FrontInterface i v x v_at x_at is ↦ subst (IsDoneScope files) (sym is) (interface_done i v x v_at x_at)
+        | FrontWorld i w w_at is ↦ subst (IsDoneScope files) (sym is) (world_done i w w_at)
+      ];
+      own = λ t c at. elim (front_at files front adds.interfaces.count t c at) [
+        | FrontInterface i v x v_at x_at is ↦ subst (λ (b : DoneScope). decls b.address ≡ decls_of b.owner b.address (scope files b.address)) (sym is) (interfaces_own i v v_at)
+        | FrontWorld i w w_at is ↦ subst (λ (b : DoneScope). decls b.address ≡ decls_of b.owner b.address (scope files b.address)) (sym is) (worlds_own i w w_at)
+      ];
+      stand = λ t c at. elim (front_at files front adds.interfaces.count t c at) [
+        | FrontInterface i v x v_at x_at is ↦ subst (λ (b : DoneScope). AreNames (keys met) b.address (env_of b.types)) (sym is) (interface_stands i v x v_at x_at)
+        | FrontWorld i w w_at is ↦ subst (λ (b : DoneScope). AreNames (keys met) b.address (env_of b.types)) (sym is) (world_stands i w w_at)
+      ];
+      before = taken_before;
+      unique = front_differ;
+      wholes = λ form parts h. absurd (no_whole_taken (takings files) form parts h);
+      made = λ t c at. elim (front_at files front adds.interfaces.count t c at) [
+        | FrontInterface i v x v_at x_at is ↦ subst (λ (b : DoneScope). AreFunctions (keys met) b.address b.functions b.made) (sym is) (no_functions (keys met) (visited v))
+        | FrontWorld i w w_at is ↦ subst (λ (b : DoneScope). AreFunctions (keys met) b.address b.functions b.made) (sym is) (no_functions (keys met) (visited w))
+      ];
+      required = λ t c at. elim (front_at files front adds.interfaces.count t c at) [
+        | FrontInterface i v x v_at x_at is ↦ subst (λ (b : DoneScope). AreRequired files (keys met) (turn_handles (turn_of b)) b.required) (sym is) (nothing_required files (keys met) (visited v) (filter (λ t. same_address t.from (visited v)) (first_takings files)))
+        | FrontWorld i w w_at is ↦ subst (λ (b : DoneScope). AreRequired files (keys met) (turn_handles (turn_of b)) b.required) (sym is) refl
+      ];
+    }

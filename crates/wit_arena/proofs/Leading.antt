@@ -1,0 +1,225 @@
+-- Where the paths of items lead.
+use Rattle.std.proofs.Common.{◌≡◌, ℕ, zero, suc, ◌<◌, Bool, true, false, List, [], ◌∷◌, ◌++◌, take, drop, Option, Some, None, ◌⊎◌, inl, inr, refl, sym, ap, ◌∙◌, subst, arith, Contains}
+use Rattle.std.specs.Prelude.{slice_get, slice_index, map}
+use Rattle.std.specs.List.{filter, flat_map}
+use Rattle.std.specs.Option.{option_map}
+use Rattle.std.specs.Str.{bytes_eq}
+use Rattle.std.proofs.lemmas.Bool.{cases_Bool}
+use Rattle.std.proofs.lemmas.List.{take-append-drop}
+use Rattle.std.proofs.lemmas.List.Elements.{filter-append}
+use Rattle.std.proofs.lemmas.Option.{slice_get-get_or, slice_get_within, get_or_from_slice_get}
+use Rattle.wit_tree.specs.declared.tree.Id.{Id}
+use Rattle.wit_tree.specs.declared.tree.Include.{Include}
+use Rattle.wit_tree.specs.declared.tree.UsePath.{UsePath}
+use Rattle.wit_tree.specs.declared.tree.Use.{Use}
+use Rattle.wit_tree.specs.declared.tree.Attribute.{Attribute}
+use Rattle.wit_tree.specs.declared.tree.UseName.{UseName}
+use Rattle.wit_tree.specs.declared.tree.InterfaceItem.{InterfaceItem}
+use Rattle.wit_tree.specs.declared.tree.InterfaceItem.TheVariants as interface_item
+use Rattle.wit_tree.specs.declared.tree.PackageFile.{PackageFile}
+use Rattle.wit_package_names.specs.declared.package_name.PackageName.{PackageName}
+use Rattle.wit_order.specs.Table.{Row, target, IsEdge, Leads, IsOrder}
+use Rattle.wit_order.proofs.Tables.{slice_get-take}
+use Rattle.wit_syntax.specs.Fault.{Fault, fault, missing_at, item_word}
+use Rattle.wit_syntax.specs.Address.{Address, InterfaceNamed, ForeignNamed, is_foreign}
+use Rattle.wit_syntax.specs.Source.{Declared, TheInterface, TheWorld, is_declared_world, Part, Defining, Using, Including, Doing, interface_part, declared_parts, path_id, Target, Local, Foreign, leads, used_scope, path_scope, Item, Used, all_items, item_name, is_world, parts, item_named, scope_names, taking, takings}
+use Rattle.wit_syntax.specs.Foreign.{ForeignVisit, visited, foreign_interfaces}
+use Rattle.wit_syntax.specs.Scope.{in_order, use_path, include_path, use_paths, include_paths, needed_path, local_target, item_row, item_rows, part_includes, includes}
+use Rattle.wit_syntax.specs.Broken.{is_world_at, IsBrokenUse, MissingUse, WorldUsed}
+use Rattle.wit_syntax.specs.Repeats.{AllDiffer}
+use Rattle.wit_syntax.proofs.Lists.{at_front, at_within, flat_map_has}
+use Rattle.wit_syntax.proofs.Names.{name_equal}
+use Rattle.wit_syntax.proofs.Tables.{place_of-Some}
+use Rattle.wit_syntax.proofs.Orders.{in_order-append, in_order_has}
+use Rattle.wit_syntax.proofs.Found.{at_contains, contains_at, some_of, find_at, find_passes}
+use Rattle.wit_syntax.proofs.Kept.{kept_has}
+use Rattle.wit_arena.proofs.Itemizing.{named_found, used_part, length-item_rows}
+use Rattle.wit_syntax.proofs.Rows.{item_row_at}
+use Rattle.wit_arena.proofs.Visits.{use_path_at, used_interface_visit}
+use Rattle.wit_arena.proofs.Takings.{taking_has}
+
+pub same_some : {X : Type 0} (o : Option X) (x y : X) → o ≡ Some x → o ≡ Some y → x ≡ y
+same_some o x y a b = let both : Some x ≡ Some y = sym a ∙ b in cc
+
+pub option_cases : {X : Type 0} (o : Option X) (R : Type 0) → ((x : X) → o ≡ Some x → R) → (o ≡ None → R) → R
+option_cases None R some none = none refl
+option_cases (Some x) R some none = some x refl
+
+-- what a test keeps of those at the first places stands in the front of what it keeps of all
+pub kept_front : {X : Type 0} (test : X → Bool) (xs : List X) (places : List ℕ) (n i : ℕ) (x : X) → slice_get (filter test (in_order xs (take n places))) i ≡ Some x → slice_get (filter test (in_order xs places)) i ≡ Some x
+kept_front test xs places n i x at =
+    let front = in_order xs (take n places) in
+    let back = in_order xs (drop n places) in
+    let whole : filter test (in_order xs places) ≡ filter test front ++ filter test back = ap (λ ps. filter test (in_order xs ps)) (sym (take-append-drop n places)) ∙ ap (filter test) (in_order-append xs (take n places) (drop n places)) ∙ filter-append test front back in
+    ap (λ l. slice_get l i) whole ∙ at_front (filter test front) (filter test back) i x at
+
+-- and one of those at the first places that passes it is kept
+pub kept_early : {X : Type 0} (test : X → Bool) (xs : List X) (places : List ℕ) (n t q : ℕ) (x : X) → t < n → slice_get places t ≡ Some q → slice_get xs q ≡ Some x → test x ≡ true → (i : ℕ) × (slice_get (filter test (in_order xs (take n places))) i ≡ Some x)
+kept_early test xs places n t q x lt at there passes =
+    let it = in_order_has xs (take n places) t q x (slice_get-take places n t lt ∙ at) there in
+    kept_has test (in_order xs (take n places)) it.0 x passes it.1
+
+-- an interface needs its uses, and a world its includes
+needed_of_interface : (a : Declared) → is_declared_world a ≡ false → needed_path a ≡ use_path
+needed_of_interface (TheInterface i) h = refl
+needed_of_interface (TheWorld w) h = absurd (let f : ⊥ = cc in f)
+
+needed_of_world : (a : Declared) → is_declared_world a ≡ true → needed_path a ≡ include_path
+needed_of_world (TheInterface i) h = absurd (let f : ⊥ = cc in f)
+needed_of_world (TheWorld w) h = refl
+
+-- the paths to items that have to come before an item
+abbrev pub paths : Item → List UsePath
+paths w = flat_map (needed_path w.declared) (parts w)
+
+pub paths_of_interface : (w : Item) → is_world w ≡ false → paths w ≡ use_paths w
+paths_of_interface w h = ap (λ (of : Part → List UsePath). flat_map of (parts w)) (needed_of_interface w.declared h)
+
+pub paths_of_world : (w : Item) → is_world w ≡ true → paths w ≡ include_paths w
+paths_of_world w h = ap (λ (of : Part → List UsePath). flat_map of (parts w)) (needed_of_world w.declared h)
+
+-- the path of an include is that of one of the includes
+include_of : (ps : List Part) (k : ℕ) (path : UsePath) → slice_get (flat_map include_path ps) k ≡ Some path → (i : Include) × (slice_get (flat_map part_includes ps) k ≡ Some i) × (path ≡ i.from)
+include_of [] k path at = absurd (let f : ⊥ = cc in f)
+include_of (Defining d ∷ ps) k path at = include_of ps k path at
+include_of (Using u ∷ ps) k path at = include_of ps k path at
+include_of (Doing f ∷ ps) k path at = include_of ps k path at
+include_of (Including i ∷ ps) zero path at = (i, refl, cc)
+include_of (Including i ∷ ps) (suc k) path at = include_of ps k path at
+
+pub include_at : (w : Item) (path : UsePath) → Contains (include_paths w) path → (k : ℕ) × (i : Include) × (slice_get (includes w) k ≡ Some i) × (path ≡ i.from)
+include_at w path among =
+    let k = at_contains (include_paths w) path among in
+    let it = include_of (parts w) k.0 path k.1 in
+    (k.0, it.0, it.1, it.2)
+
+-- an interface includes nothing
+none_included : (items : List InterfaceItem) (path : UsePath) → Contains (flat_map include_path (map interface_part items)) path → ⊥
+none_included [] path h = let lt = h.1 in omega arith
+none_included (interface_item.TypeDef d ∷ items) path h = none_included items path h
+none_included (interface_item.Use u ∷ items) path h = none_included items path h
+none_included (interface_item.Func f ∷ items) path h = none_included items path h
+
+pub interface_includes_none : (w : Item) → is_world w ≡ false → (path : UsePath) → Contains (include_paths w) path → ⊥
+interface_includes_none w h path among = of_declared w.declared h among
+  where
+    of_declared : (a : Declared) → is_declared_world a ≡ false → Contains (flat_map include_path (declared_parts a)) path → ⊥
+    of_declared (TheInterface i) h among = none_included i.items.items path among
+    of_declared (TheWorld w) h among = let f : ⊥ = cc in f
+
+row_name : (r : Row) (w : Item) → r ≡ item_row w → r.name ≡ item_name w
+row_name r w same = ap (λ (x : Row). x.name) same
+
+module _ (files : List PackageFile) where
+  abbrev pub all : List Item
+  all = all_items files
+
+  -- the row at the place of a name is that of an item of the name
+  row_item : (id : Id) (b : ℕ) → target (item_rows files) id ≡ Some b → (v : Item) × (slice_get all b ≡ Some v) × (id.name.now ≡ item_name v)
+  row_item id b found =
+      let rs = item_rows files in
+      let r = place_of-Some rs id.name.now b found in
+      let lt = slice_get_within rs b r.0 r.1 in
+      let v = at_within all b (omega (arith, length-item_rows files)) in
+      let is = same_some (slice_get rs b) r.0 (item_row v.0) r.1 (item_row_at files b v.0 v.1) in
+      (v.0, v.1, r.2 ∙ row_name r.0 v.0 is)
+
+  -- what an edge of an item leads to stands before it in the order
+  edge_before : (places : List ℕ) → IsOrder (item_rows files) places → (k p j : ℕ) (id : Id) → slice_get places k ≡ Some p → IsEdge (item_rows files) p j id → (t : ℕ) × (q : ℕ) × (v : Item) × (t < k) × (slice_get places t ≡ Some q) × (slice_get all q ≡ Some v) × (id.name.now ≡ item_name v)
+  edge_before places order k p j id next edge =
+      let rs = item_rows files in
+      let b = some_of (target rs id) (order.complete p j id edge) in
+      let long = order.sorted.long in
+      let lt = slice_get_within places k p next in
+      let here : slice_index places k ≡ p = get_or_from_slice_get places k p 0 next in
+      let to : Leads rs (slice_index places k) b.0 = subst (λ a. Leads rs a b.0) (sym here) (j, id, edge, b.1) in
+      let before = order.sorted.after k b.0 (omega arith) to in
+      let below = before.below in
+      let m : slice_get places before.index ≡ Some b.0 = slice_get-get_or places before.index 0 (omega arith) ∙ ap Some before.is in
+      let v = row_item id b.0 b.1 in
+      (before.index, b.0, v.0, below, m, v.1, v.2)
+
+  -- what a path of an item that has to come before it leads to stands before it in the order
+  pub needed_before : (places : List ℕ) → IsOrder (item_rows files) places → (k p : ℕ) (w : Item) (path : UsePath) (id : Id) → slice_get places k ≡ Some p → slice_get all p ≡ Some w → Contains (paths w) path → leads w.top path ≡ Local id → (t : ℕ) × (q : ℕ) × (v : Item) × (t < k) × (slice_get places t ≡ Some q) × (slice_get all q ≡ Some v) × (id.name.now ≡ item_name v)
+  needed_before places order k p w path id next at among lead =
+      let i = at_contains (paths w) path among in
+      let j = flat_map_has (λ (x : UsePath). local_target (leads w.top x)) (paths w) i.0 0 path id i.1 (ap (λ (t : Target). slice_get (local_target t) 0) lead) in
+      edge_before places order k p j.0 id next (item_row w, item_row_at files p w at, j.1)
+
+  -- the item of a name is the one at a place that has it
+  pub named_at : AllDiffer (map item_name all) → (name : List ℕ) (q : ℕ) (v : Item) → slice_get all q ≡ Some v → name ≡ item_name v → item_named all name ≡ Some v
+  named_at differ name q v at same = ap (item_named all) same ∙ named_found all q v differ at
+
+  -- a name is used from an interface of the package
+  pub record IsOwnUse (from : Address) : Type 0 where
+    pub place : ℕ
+    pub item : Item
+    pub at : slice_get all place ≡ Some item
+    pub sort : is_world item ≡ false
+    pub is : from ≡ InterfaceNamed (item_name item)
+
+  -- and that interface stands before this place in an order
+  pub record IsUseBefore (places : List ℕ) (k : ℕ) (from : Address) : Type 0 where
+    pub own : IsOwnUse from
+    pub index : ℕ
+    pub before : index < k
+    pub at : slice_get places index ≡ Some own.place
+
+  -- a name is taken from an interface of another package
+  pub record IsForeignUse (from : Address) (n : UseName) : Type 0 where
+    pub place : ℕ
+    pub v : ForeignVisit
+    pub at : slice_get (foreign_interfaces files) place ≡ Some v
+    pub is : visited v ≡ from
+    pub attributes : List Attribute
+    pub index : ℕ
+    pub taken : slice_get (takings files) index ≡ Some (taking from attributes n)
+
+  module _ (uses : (i : Item) → Contains all i → (f : Fault) → IsBrokenUse files i f → ⊥) where
+    -- where no use is broken, none leads to a world
+    pub used_is_interface : (w v : Item) (path : UsePath) (id : Id) → Contains all w → Contains (use_paths w) path → leads w.top path ≡ Local id → item_named all id.name.now ≡ Some v → is_world v ≡ false
+    used_is_interface w v path id here among lead found = elim (cases_Bool (is_world v)) [
+      | inl wrong ↦ absurd (uses w here (fault 10 (path_id path).span) (WorldUsed (record { path = path; among = among; other = ap (is_world_at files) lead ∙ ap (option_map is_world) found ∙ ap Some wrong; is = refl })))
+      | inr right ↦ right
+    ]
+
+    -- what leads to another package is taken from it
+    foreign_use : (q : ℕ) (w : Item) (m : ℕ) (u : Use) (j : ℕ) (n : UseName) (p : PackageName) (id : Id) → slice_get all q ≡ Some w → slice_get (parts w) m ≡ Some (Using u) → slice_get u.names.items j ≡ Some n → leads w.top u.from ≡ Foreign p id → IsForeignUse (path_scope w.top u.from) n
+    foreign_use q w m u j n p id at part name lead =
+        let v = used_interface_visit files uses q w m u p id at part lead in
+        let from : path_scope w.top u.from ≡ ForeignNamed p id.name.now = ap used_scope lead in
+        let t = taking_has files q w m u j n at part name (ap is_foreign from) in
+        record { place = v.0; v = v.1; at = v.2; is = v.3 ∙ sym from; attributes = u.attributes.items; index = t.0; taken = t.1 }
+
+    -- a used name comes from an interface of the package, or is taken from one of another
+    pub used_interface : (w : Item) (from : Address) (attributes : List Attribute) (n : UseName) → Contains all w → Contains (scope_names w) (Used from attributes n) → IsOwnUse from ⊎ IsForeignUse from n
+    used_interface w from attributes n here among =
+        let q = at_contains all w here in
+        let k = at_contains (scope_names w) (Used from attributes n) among in
+        let it = used_part w.top (parts w) k.0 from attributes n k.1 in
+        by_target q.0 it.0 it.1 it.3.0 q.1 it.2 it.3.1 it.4 (leads w.top it.1.from) refl
+      where
+        by_target : (q m : ℕ) (u : Use) (j : ℕ) → slice_get all q ≡ Some w → slice_get (parts w) m ≡ Some (Using u) → slice_get u.names.items j ≡ Some n → from ≡ path_scope w.top u.from → (t : Target) → leads w.top u.from ≡ t → IsOwnUse from ⊎ IsForeignUse from n
+        by_target q m u j at part name is (Local id) lead =
+            option_cases (item_named all id.name.now) (IsOwnUse from ⊎ IsForeignUse from n) (λ v found. (
+            let p = find_at (λ (i : Item). bytes_eq (item_name i) id.name.now) all v found in
+            let called = name_equal (item_name v) id.name.now (find_passes (λ (i : Item). bytes_eq (item_name i) id.name.now) all v found) in
+            inl (record { place = p.0; item = v; at = p.1; sort = used_is_interface w v u.from id here (use_path_at w m u part) lead found; is = is ∙ ap used_scope lead ∙ ap InterfaceNamed (sym called) })))
+            (λ none. absurd (uses w here (missing_at 7 item_word id) (MissingUse (record { path = u.from; id = id; among = use_path_at w m u part; local = lead; missing = none; is = refl }))))
+        by_target q m u j at part name is (Foreign p id) lead = inr (subst (λ (s : Address). IsForeignUse s n) (sym is) (foreign_use q w m u j n p id at part name lead))
+
+    -- what an interface of the package uses from stands before it in the order, or is of another package
+    pub used_before : AllDiffer (map item_name all) → (places : List ℕ) → IsOrder (item_rows files) places → (k p : ℕ) (w : Item) (from : Address) (attributes : List Attribute) (n : UseName) → is_world w ≡ false → slice_get places k ≡ Some p → slice_get all p ≡ Some w → Contains (scope_names w) (Used from attributes n) → IsUseBefore places k from ⊎ IsForeignUse from n
+    used_before differ places order k p w from attributes n sort next at among =
+        let i = at_contains (scope_names w) (Used from attributes n) among in
+        let it = used_part w.top (parts w) i.0 from attributes n i.1 in
+        by_target it.0 it.1 it.3.0 it.2 it.3.1 it.4 (leads w.top it.1.from) refl
+      where
+        by_target : (m : ℕ) (u : Use) (j : ℕ) → slice_get (parts w) m ≡ Some (Using u) → slice_get u.names.items j ≡ Some n → from ≡ path_scope w.top u.from → (t : Target) → leads w.top u.from ≡ t → IsUseBefore places k from ⊎ IsForeignUse from n
+        by_target m u j part name is (Local id) lead =
+            let among = use_path_at w m u part in
+            let b = needed_before places order k p w u.from id next at (subst (λ (l : List UsePath). Contains l u.from) (sym (paths_of_interface w sort)) among) lead in
+            let found = named_at differ id.name.now b.1 b.2 b.5 b.6 in
+            let right = used_is_interface w b.2 u.from id (contains_at all p w at) among lead found in
+            inl (record { own = record { place = b.1; item = b.2; at = b.5; sort = right; is = is ∙ ap used_scope lead ∙ ap InterfaceNamed b.6 }; index = b.0; before = b.3; at = b.4 })
+        by_target m u j part name is (Foreign q id) lead = inr (subst (λ (s : Address). IsForeignUse s n) (sym is) (foreign_use p w m u j n q id at part name lead))

@@ -1,0 +1,186 @@
+-- The list of meetings, as it grows.
+use Rattle.std.proofs.Common.{◌≡◌, ℕ, ◌+◌, List, [], ◌∷◌, ◌++◌, length, take, Some, None, ◌⊎◌, inl, inr, refl, sym, ap, ◌∙◌, subst, arith, length-append}
+use Rattle.std.specs.Prelude.{slice_get}
+use Rattle.std.proofs.lemmas.List.{map-append, length-map}
+use Rattle.std.proofs.lemmas.Option.{slice_get_within}
+use Rattle.wit_types.specs.declared.types.TypeDef.{TypeDef}
+use Rattle.wit_types.specs.declared.types.TypeDefKind.{TypeDefKind}
+use Rattle.wit_types.specs.declared.stability.Stability.{Stability}
+use Rattle.wit_values.specs.declared.span.Span.{Span}
+use Rattle.wit_arena.specs.Kind.{kind_of}
+use Rattle.wit_syntax.specs.Address.{Address}
+use Rattle.wit_arena.specs.Expr.{Expr, Prim, Use, Of, Exprs, End, More}
+use Rattle.wit_arena.specs.Meet.{Key, Def, Whole, Meeting, keys, spans, IsMet, Meets, AreAt, Decls, IsEntry, IsKeyed, IsSettled, IsMeeting, settled}
+use Rattle.wit_syntax.specs.Repeats.{AllDiffer}
+use Rattle.wit_arena.specs.Resolving.{met, all_met, Env, AreNames, IsInterned, unnamed}
+use Rattle.wit_syntax.proofs.Lists.{at_seam, at_either, take_front, take_seam, at_within}
+use Rattle.wit_arena.proofs.Places.{Grown, grown_refl, grown_trans, key_grown, all_at_untaken, all_at_injective, all_at_functional}
+
+pub keys-append : (ms ls : List Meeting) → keys (ms ++ ls) ≡ keys ms ++ keys ls
+keys-append ms ls = map-append (λ (m : Meeting). m.key) ms ls
+
+-- one meeting after another
+pub meets_append : (ks ls : List Meeting) (a b c : List Meeting) → Meets a ks b → Meets b ls c → Meets a (ks ++ ls) c
+meets_append [] ls a b c h k = subst (λ x. Meets x ls c) h k
+meets_append (x ∷ ks) ls a b c h k = elim h [
+  | inl old ↦ inl (old.0, meets_append ks ls a b c old.1 k)
+  | inr fresh ↦ inr (fresh.0, meets_append ks ls (a ++ x ∷ []) b c fresh.1 k)
+]
+
+pub meets_grown : (ks : List Meeting) (a b : List Meeting) → Meets a ks b → Grown (keys a) (keys b)
+meets_grown [] a b h = subst (λ x. Grown (keys a) (keys x)) (sym h) (grown_refl (keys a))
+meets_grown (x ∷ ks) a b h = elim h [
+  | inl old ↦ meets_grown ks a b old.1
+  | inr fresh ↦ (let step : Grown (keys a) (keys (a ++ x ∷ [])) = record { more = x.key ∷ []; is = keys-append a (x ∷ []) } in grown_trans step (meets_grown ks (a ++ x ∷ []) b fresh.1))
+]
+
+abbrev pub Has : List Key → Key → Type 0
+Has [] k = ⊥
+Has (x ∷ xs) k = (x ≡ k) ⊎ Has xs k
+
+pub has_either : (xs ys : List Key) (k : Key) → Has (xs ++ ys) k → Has xs k ⊎ Has ys k
+has_either [] ys k h = inr h
+has_either (x ∷ xs) ys k h = elim h [ inl here ↦ inl (inl here) | inr rest ↦ elim (has_either xs ys k rest) [ inl a ↦ inl (inr a) | inr b ↦ inr b ] ]
+
+-- a key that stands where one meeting was added
+key_either : (a : List Meeting) (x : Meeting) (i : ℕ) (k : Key) → slice_get (keys (a ++ x ∷ [])) i ≡ Some k → (slice_get (keys a) i ≡ Some k) ⊎ ((i ≡ length (keys a)) × (k ≡ x.key))
+key_either a x i k h = at_either (keys a) x.key i k (sym (ap (λ l. slice_get l i) (keys-append a (x ∷ []))) ∙ h)
+
+-- what stands in the end stood there before or was met
+pub meets_from : (ks : List Meeting) (a b : List Meeting) → Meets a ks b → (j : ℕ) (k : Key) → slice_get (keys b) j ≡ Some k → IsMet (keys a) k ⊎ Has (keys ks) k
+meets_from [] a b h j k at = inl (j, subst (λ l. slice_get (keys l) j ≡ Some k) h at)
+meets_from (x ∷ ks) a b h j k at = elim h [
+  | inl old ↦ elim (meets_from ks a b old.1 j k at) [ inl p ↦ inl p | inr q ↦ inr (inr q) ]
+  | inr fresh ↦ elim (meets_from ks (a ++ x ∷ []) b fresh.1 j k at) [
+    | inl p ↦ elim (key_either a x p.0 k p.1) [ inl before ↦ inl (p.0, before) | inr new ↦ inr (inl (sym new.1)) ]
+    | inr q ↦ inr (inr q)
+  ]
+]
+
+-- no definition is met in an expression
+mutual
+  pub no_def : (e : Expr) (s : Address) (name : List ℕ) → Has (met e) (Def s name) → ⊥
+  no_def (Prim p) s name h = h
+  no_def (Use t other) s name h = h
+  no_def (Of form parts) s name h = elim (has_either (all_met parts) (Whole form parts ∷ []) (Def s name) h) [
+    | inl inner ↦ no_defs parts s name inner
+    | inr last ↦ elim last [ inl here ↦ (let f : ⊥ = cc in f) | inr none ↦ none ]
+  ]
+
+  pub no_defs : (es : Exprs) (s : Address) (name : List ℕ) → Has (all_met es) (Def s name) → ⊥
+  no_defs End s name h = h
+  no_defs (More e es) s name h = elim (has_either (met e) (all_met es) (Def s name) h) [ inl a ↦ no_def e s name a | inr b ↦ no_defs es s name b ]
+
+pub names_kept : (a b more : List Meeting) (s : Address) (env : Env) (es : Exprs) → keys more ≡ all_met es → Meets a more b → AreNames (keys a) s env → AreNames (keys b) s env
+names_kept a b more s env es same h names = record {
+  stands = λ name i is. key_grown (meets_grown more a b h) i (Def s name) (names.stands name i is);
+  has = λ j name at. elim (meets_from more a b h j (Def s name) at) [
+    | inl before ↦ names.has before.0 name before.1
+    | inr new ↦ absurd (no_defs es s name (subst (λ ks. Has ks (Def s name)) same new))
+  ];
+}
+
+-- one key more, with its entry
+pub keyed_more : {decls : Decls} {ks : List Key} {es : List TypeDef} (k : Key) (e : TypeDef) → IsKeyed decls ks es → (IsMet ks k → ⊥) → IsEntry decls ks k e → IsKeyed decls (ks ++ k ∷ []) (es ++ e ∷ [])
+keyed_more {decls} {ks} {es} k e m new it = record {
+  count = length-append es (e ∷ []) ∙ ap (λ n. n + 1) m.count ∙ sym (length-append ks (k ∷ []));
+  once = record {
+    differ = λ i j x ati atj. elim (at_either ks k i x ati) [
+      | inl oldi ↦ elim (at_either ks k j x atj) [
+        | inl oldj ↦ m.once.differ i j x oldi oldj
+        | inr newj ↦ absurd (new (i, oldi ∙ ap Some newj.1))
+      ]
+      | inr newi ↦ elim (at_either ks k j x atj) [
+        | inl oldj ↦ absurd (new (j, oldj ∙ ap Some newi.1))
+        | inr newj ↦ newi.0 ∙ sym newj.0
+      ]
+    ];
+  };
+  each = λ i x f key entry. elim (at_either ks k i x key) [
+    | inl oldm ↦ (
+        let lt = slice_get_within ks i x oldm in
+        elim (at_either es e i f entry) [
+          | inl oldk ↦ subst (λ front. IsEntry decls front x f) (sym (take_front ks (k ∷ []) i (omega arith))) (m.each i x f oldm oldk)
+          | inr newk ↦ absurd (let count = m.count in let f : ⊥ = omega arith in f)
+        ])
+    | inr newm ↦ elim (at_either es e i f entry) [
+      | inl oldk ↦ absurd (let lt = slice_get_within es i f oldk in let count = m.count in let f : ⊥ = omega arith in f)
+      | inr newk ↦ rw (newm.0, newm.1, newk.1) (subst (λ front. IsEntry decls front k e) (sym (take_seam ks (k ∷ []))) it)
+    ]
+  ];
+}
+
+-- where each entry is settled, one more is among those before it
+settled_more : (ms : List Meeting) (es : List TypeDef) (m : Meeting) (e : TypeDef) → length es ≡ length ms → ((i : ℕ) (x : Meeting) (f : TypeDef) → slice_get ms i ≡ Some x → slice_get es i ≡ Some f → IsSettled (take i es) x.given x.key f) → IsSettled es m.given m.key e → (i : ℕ) (x : Meeting) (f : TypeDef) → slice_get (ms ++ m ∷ []) i ≡ Some x → slice_get (es ++ e ∷ []) i ≡ Some f → IsSettled (take i (es ++ e ∷ [])) x.given x.key f
+settled_more ms es m e count each it i x f met entry = elim (at_either ms m i x met) [
+  | inl oldm ↦ (
+      let lt = slice_get_within ms i x oldm in
+      elim (at_either es e i f entry) [
+        | inl olde ↦ subst (λ front. IsSettled front x.given x.key f) (sym (take_front es (e ∷ []) i (omega arith))) (each i x f oldm olde)
+        | inr newe ↦ absurd (let at = newe.0 in let f : ⊥ = omega arith in f)
+      ])
+  | inr newm ↦ elim (at_either es e i f entry) [
+    | inl olde ↦ absurd (let lt = slice_get_within es i f olde in let at = newm.0 in let f : ⊥ = omega arith in f)
+    | inr newe ↦ rw (newe.0, newm.1, newe.1) (subst (λ front. IsSettled front m.given m.key e) (sym (take_seam es (e ∷ []))) it)
+  ]
+]
+
+-- one meeting more, with its entry
+pub meeting_more : {decls : Decls} {ms : List Meeting} {es : List TypeDef} (m : Meeting) (e : TypeDef) → IsMeeting decls ms es → (IsMet (keys ms) m.key → ⊥) → IsEntry decls (keys ms) m.key e → e.span ≡ m.span → IsSettled es m.given m.key e → IsMeeting decls (ms ++ m ∷ []) (es ++ e ∷ [])
+meeting_more {decls} {ms} {es} m e meeting new it here settled = record {
+  keyed = subst (λ ks. IsKeyed decls ks (es ++ e ∷ [])) (sym (keys-append ms (m ∷ []))) (keyed_more m.key e meeting.keyed new it);
+  spans = map-append (λ (e : TypeDef). e.span) es (e ∷ []) ∙ ap (λ ss. ss ++ e.span ∷ []) meeting.spans ∙ ap (λ s. spans ms ++ s ∷ []) here ∙ sym (map-append (λ (m : Meeting). m.span) ms (m ∷ []));
+  settled = settled_more ms es m e (meeting.keyed.count ∙ length-map ms (λ (m : Meeting). m.key)) meeting.settled settled;
+}
+
+-- the unnamed type of a form over parts
+pub record IsWhole (decls : Decls) (ms : List Meeting) (new : List TypeDef) (m : Meeting) (i : ℕ) : Type 0 where
+  pub now : List Meeting
+  pub meets : Meets ms (m ∷ []) now
+  pub meeting : IsMeeting decls now new
+  pub at : slice_get (keys now) i ≡ Some m.key
+
+pub once_of : {decls : Decls} {ks : List Key} {es : List TypeDef} → IsKeyed decls ks es → AllDiffer ks
+once_of m = m.once
+
+found_key : (decls : Decls) (n : ℕ) (ks : List Key) (k : Key) (parts : Exprs) (e : TypeDef) → IsEntry decls (take n ks) k e → e.name ≡ None → AreAt ks parts (kind_of e.kind).parts → k ≡ Whole (kind_of e.kind).form parts
+found_key decls n ks (Def s name) parts e h none at = absurd (let wrong = h.name in let f : ⊥ = cc in f)
+found_key decls n ks (Whole form parts') parts e h none at =
+    let same = all_at_injective ks parts' parts (kind_of e.kind).parts (all_at_untaken n ks parts' (kind_of e.kind).parts h.parts) at in
+    ap (λ f. Whole f parts') (sym h.form) ∙ ap (Whole (kind_of e.kind).form) same
+
+-- this kind alone has its form and parts
+pub record IsOnly (what : TypeDefKind) : Type 0 where
+  pub same : (k : TypeDefKind) → (kind_of k).form ≡ (kind_of what).form → (kind_of k).parts ≡ (kind_of what).parts → k ≡ what
+
+-- an unnamed type is met, whether it was there or was added
+pub meet_whole : (decls : Decls) (ms : List Meeting) (old new : List TypeDef) (kind : TypeDefKind) (given : Stability) (span : Span) (parts : Exprs) (i : ℕ) → IsOnly kind → IsMeeting decls ms old → AreAt (keys ms) parts (kind_of kind).parts → IsInterned old new kind given span i → IsWhole decls ms new (record { key = Whole (kind_of kind).form parts; span = span; given = given }) i
+meet_whole decls ms old new kind given span parts i only m at interned = elim interned.either [
+  | inl found ↦ (
+      let e = found.1.0 in
+      let is = found.1.2 in
+      let keyed = m.keyed in
+      let count = keyed.count in
+      let lt = slice_get_within old i e found.1.1.is in
+      let key = at_within (keys ms) i (omega arith) in
+      let at' = subst (λ (k : TypeDefKind). AreAt (keys ms) parts (kind_of k).parts) (sym is.kind) at in
+      let same = found_key decls i (keys ms) key.0 parts e (keyed.each i key.0 e key.1 found.1.1.is) is.name at' in
+      let there : slice_get (keys ms) i ≡ Some (Whole (kind_of kind).form parts) = key.1 ∙ ap Some same ∙ ap (λ (k : TypeDefKind). Some (Whole (kind_of k).form parts)) is.kind in
+      record { now = ms; meets = inl ((i, there), refl); meeting = subst (IsMeeting decls ms) (sym found.0) m; at = there })
+  | inr added ↦ (
+      let key = Whole (kind_of kind).form parts in
+      let keyed = m.keyed in
+      let fresh : IsMet (keys ms) key → ⊥ = λ was. (
+      let count = keyed.count in
+      let lt = slice_get_within (keys ms) was.0 key was.1 in
+      let e = at_within old was.0 (omega arith) in
+      let it = keyed.each was.0 key e.0 was.1 e.1 in
+      let tys = all_at_functional (keys ms) (once_of keyed) parts (kind_of e.0.kind).parts (kind_of kind).parts (all_at_untaken was.0 (keys ms) parts (kind_of e.0.kind).parts it.parts) at in
+      added.2 was.0 e.0 (record { is = e.1 }) (record { name = it.name; kind = only.same e.0.kind it.form tys })) in
+      record {
+        now = ms ++ record { key = key; span = span; given = given } ∷ [];
+        meets = inr (fresh, refl);
+        meeting = subst (IsMeeting decls (ms ++ record { key = key; span = span; given = given } ∷ [])) (sym added.0) (meeting_more (record { key = key; span = span; given = given }) (unnamed kind (settled old given kind) span) m fresh (record { name = refl; owner = refl; form = refl; parts = at; docs = refl; external_id = refl }) refl refl);
+        at = rw (added.1, keyed.count) (ap (λ l. slice_get l (length (keys ms))) (keys-append ms (record { key = key; span = span; given = given } ∷ [])) ∙ at_seam (keys ms) key);
+      })
+]

@@ -1,0 +1,135 @@
+-- Functions whose setters were put directly behind their getters are the same functions.
+use Rattle.std.proofs.Common.{◌≡◌, ℕ, zero, suc, Bool, true, false, ◌&&◌, ◌||◌, List, [], ◌∷◌, map, Some, None, ◌⊎◌, inl, inr, refl, sym, ap, ◌∙◌}
+use Rattle.std.specs.Prelude.{slice_get}
+use Rattle.std.specs.List.{filter, list_any}
+use Rattle.std.specs.Option.{option_map}
+use Rattle.std.proofs.lemmas.Bool.{cases_Bool, cond-true, cond-false}
+use Rattle.std.proofs.lemmas.Option.{slice_get-map}
+use Rattle.wit_model.specs.Setters.{fronts, is_getter, goes_on_alike, early, others, with_setters, setters_placed, pairs}
+use Rattle.wit_model.specs.declared.function.Function.{Function}
+use Rattle.wit_model.specs.declared.function.FunctionKind.{FunctionKind}
+use Rattle.wit_model.specs.declared.function.FunctionKind.TheVariants as kind
+use Rattle.wit_arena.specs.Functions.{by_name, placed_functions}
+use Rattle.wit_syntax.proofs.Lists.{map_at, flat_map_at, flat_map_has}
+use Rattle.wit_syntax.proofs.Kept.{behind_one, kept_at, kept_has}
+
+-- what passes a test that one of a list passes
+any_at : {X : Type 0} (test : X → Bool) (xs : List X) → list_any test xs ≡ true → (i : ℕ) × (x : X) × (slice_get xs i ≡ Some x) × (test x ≡ true)
+any_at test [] h = absurd (let f : ⊥ = cc in f)
+any_at test (x ∷ xs) h = elim (cases_Bool (test x)) [
+  | inl hit ↦ (0, x, refl, hit)
+  | inr miss ↦ (let it = any_at test xs (sym (ap (λ b. b || list_any test xs) miss) ∙ h) in (suc it.0, it.1, it.2, it.3))
+]
+
+module _ {X : Type 0} (goes : X → X → Bool) where
+  -- what comes early stands in the list, and what is left too
+  early_at : (es : List X) (i : ℕ) (x : X) → slice_get (early goes es) i ≡ Some x → (k : ℕ) × (slice_get es k ≡ Some x)
+  early_at [] i x at = absurd (let f : ⊥ = cc in f)
+  early_at (e ∷ es) i x at = elim (cases_Bool (list_any (goes e) es)) [
+    | inl hit ↦ elim (behind_one e (early goes es) i x (sym (ap (λ zs. slice_get zs i) (cond-true (list_any (goes e) es) (e ∷ early goes es) (early goes es) hit)) ∙ at)) [
+      | inl here ↦ (0, ap Some here)
+      | inr rest ↦ (let it = early_at es rest.0 x rest.1 in (suc it.0, it.1))
+    ]
+    | inr miss ↦ (let it = early_at es i x (sym (ap (λ zs. slice_get zs i) (cond-false (list_any (goes e) es) (e ∷ early goes es) (early goes es) miss)) ∙ at) in (suc it.0, it.1))
+  ]
+
+  others_at : (es : List X) (i : ℕ) (x : X) → slice_get (others goes es) i ≡ Some x → (k : ℕ) × (slice_get es k ≡ Some x)
+  others_at [] i x at = absurd (let f : ⊥ = cc in f)
+  others_at (e ∷ es) i x at = elim (cases_Bool (list_any (goes e) es)) [
+    | inl hit ↦ (let it = others_at es i x (sym (ap (λ zs. slice_get zs i) (cond-true (list_any (goes e) es) (others goes es) (e ∷ others goes es) hit)) ∙ at) in (suc it.0, it.1))
+    | inr miss ↦ elim (behind_one e (others goes es) i x (sym (ap (λ zs. slice_get zs i) (cond-false (list_any (goes e) es) (others goes es) (e ∷ others goes es) miss)) ∙ at)) [
+      | inl here ↦ (0, ap Some here)
+      | inr rest ↦ (let it = others_at es rest.0 x rest.1 in (suc it.0, it.1))
+    ]
+  ]
+
+  -- something comes early, where its getter is one of these
+  record IsEarly (es front : List X) (x : X) : Type 0 where
+    place : ℕ
+    at : slice_get front place ≡ Some x
+    index : ℕ
+    getter : X
+    there : slice_get es index ≡ Some getter
+    is : goes x getter ≡ true
+
+  early_or : (es : List X) (i : ℕ) (x : X) → slice_get es i ≡ Some x → ((k : ℕ) × (slice_get (others goes es) k ≡ Some x)) ⊎ IsEarly es (early goes es) x
+  early_or [] i x at = absurd (let f : ⊥ = cc in f)
+  early_or (e ∷ es) zero x at = elim (cases_Bool (list_any (goes e) es)) [
+    | inl hit ↦ (
+        let same : e ≡ x = cc in
+        let it = any_at (goes e) es hit in
+        inr (record { place = 0; at = ap (λ zs. slice_get zs 0) (cond-true (list_any (goes e) es) (e ∷ early goes es) (early goes es) hit) ∙ at; index = suc it.0; getter = it.1; there = it.2; is = ap (λ z. goes z it.1) (sym same) ∙ it.3 }))
+    | inr miss ↦ inl (0, ap (λ zs. slice_get zs 0) (cond-false (list_any (goes e) es) (others goes es) (e ∷ others goes es) miss) ∙ at)
+  ]
+  early_or (e ∷ es) (suc i) x at = elim (cases_Bool (list_any (goes e) es)) [
+    | inl hit ↦ elim (early_or es i x at) [
+      | inl left ↦ inl (left.0, ap (λ zs. slice_get zs left.0) (cond-true (list_any (goes e) es) (others goes es) (e ∷ others goes es) hit) ∙ left.1)
+      | inr h ↦ inr (record { place = suc h.place; at = ap (λ zs. slice_get zs (suc h.place)) (cond-true (list_any (goes e) es) (e ∷ early goes es) (early goes es) hit) ∙ h.at; index = suc h.index; getter = h.getter; there = h.there; is = h.is })
+    ]
+    | inr miss ↦ elim (early_or es i x at) [
+      | inl left ↦ inl (suc left.0, ap (λ zs. slice_get zs (suc left.0)) (cond-false (list_any (goes e) es) (others goes es) (e ∷ others goes es) miss) ∙ left.1)
+      | inr h ↦ inr (record { place = h.place; at = ap (λ zs. slice_get zs h.place) (cond-false (list_any (goes e) es) (e ∷ early goes es) (early goes es) miss) ∙ h.at; index = suc h.index; getter = h.getter; there = h.there; is = h.is })
+    ]
+  ]
+
+  -- what is placed stands in the list
+  pub placed_at : (es : List X) (i : ℕ) (x : X) → slice_get (setters_placed goes es) i ≡ Some x → (k : ℕ) × (slice_get es k ≡ Some x)
+  placed_at es i x at =
+      let it = flat_map_at (with_setters goes (early goes es)) (others goes es) i x at in
+      elim (behind_one it.1 (filter (λ s. goes s it.1) (early goes es)) it.3.0 x it.3.1) [
+        | inl here ↦ (let o = others_at es it.0 it.1 it.2 in (o.0, o.1 ∙ ap Some here))
+        | inr rest ↦ (let k = kept_at (λ s. goes s it.1) (early goes es) rest.0 x rest.1 in early_at es k.0 x k.1)
+      ]
+
+  -- what stands in the list is placed, where no getter has a getter
+  pub placed_has : ((s g x : X) → goes s g ≡ true → goes g x ≡ true → ⊥) → (es : List X) (i : ℕ) (x : X) → slice_get es i ≡ Some x → (k : ℕ) × (slice_get (setters_placed goes es) k ≡ Some x)
+  placed_has apart es i x at = elim (early_or es i x at) [
+    | inl left ↦ flat_map_has (with_setters goes (early goes es)) (others goes es) left.0 0 x x left.1 refl
+    | inr h ↦ elim (early_or es h.index h.getter h.there) [
+      | inl getter ↦ (
+          let k = kept_has (λ s. goes s h.getter) (early goes es) h.place x h.is h.at in
+          flat_map_has (with_setters goes (early goes es)) (others goes es) getter.0 (suc k.0) h.getter x getter.1 k.1)
+      | inr other ↦ absurd (apart x h.getter other.getter h.is other.is)
+    ]
+  ]
+
+-- a getter is no setter
+getter_front : (k : FunctionKind) → is_getter k ≡ true → fronts k ≡ None
+getter_front kind.Getter h = refl
+getter_front (kind.MethodGetter r) h = refl
+getter_front (kind.StaticGetter r) h = refl
+getter_front kind.Freestanding h = refl
+getter_front kind.AsyncFreestanding h = refl
+getter_front kind.Setter h = absurd (let f : ⊥ = cc in f)
+getter_front (kind.Method r) h = refl
+getter_front (kind.AsyncMethod r) h = refl
+getter_front (kind.MethodSetter r) h = absurd (let f : ⊥ = cc in f)
+getter_front (kind.Static r) h = refl
+getter_front (kind.AsyncStatic r) h = refl
+getter_front (kind.StaticSetter r) h = absurd (let f : ⊥ = cc in f)
+getter_front (kind.Constructor r) h = refl
+
+both_pass : (a b : Bool) → (a && b) ≡ true → (a ≡ true) × (b ≡ true)
+both_pass true true h = (refl, refl)
+both_pass true false h = absurd (let f : ⊥ = cc in f)
+both_pass false b h = absurd (let f : ⊥ = cc in f)
+
+getters_alone : (s g x : List ℕ × Function) → pairs Some s g ≡ true → pairs Some g x ≡ true → ⊥
+getters_alone s g x one two =
+    let getter = (both_pass (is_getter g.1.kind) (goes_on_alike (fronts s.1.kind) s.1.name g.1.name) one).0 in
+    let goes = (both_pass (is_getter x.1.kind) (goes_on_alike (fronts g.1.kind) g.1.name x.1.name) two).1 in
+    let wrong : false ≡ true = sym (ap (λ f. goes_on_alike f g.1.name x.1.name) (getter_front g.1.kind getter)) ∙ goes in
+    let f : ⊥ = cc in
+    f
+
+-- functions, each at its name, and then placed
+pub function_placed : (fs : List Function) (k : ℕ) (f : Function) → slice_get fs k ≡ Some f → (place : ℕ) × (slice_get (placed_functions fs) place ≡ Some (f.name, f))
+function_placed fs k f at = placed_has (pairs Some) getters_alone (map by_name fs) k (f.name, f) (slice_get-map by_name fs k ∙ ap (option_map by_name) at)
+
+pub function_from : (fs : List Function) (place : ℕ) (name : List ℕ) (f : Function) → slice_get (placed_functions fs) place ≡ Some (name, f) → (k : ℕ) × (slice_get fs k ≡ Some f) × (f.name ≡ name)
+function_from fs place name f at =
+    let it = placed_at (pairs Some) (map by_name fs) place (name, f) at in
+    let g = map_at by_name fs it.0 (name, f) it.1 in
+    let same : g.0 ≡ f = ap (λ (p : List ℕ × Function). p.1) g.2 in
+    let called : g.0.name ≡ name = ap (λ (p : List ℕ × Function). p.0) g.2 in
+    (it.0, g.1 ∙ ap Some same, ap (λ (x : Function). x.name) (sym same) ∙ called)

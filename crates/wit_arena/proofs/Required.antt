@@ -1,0 +1,131 @@
+-- What handles require of other packages: what is told by the arena is what the files say.
+use Rattle.std.proofs.Common.{◌≡◌, ℕ, zero, suc, ◌+◌, List, [], ◌∷◌, ◌++◌, length, map, Some, inl, inr, refl, sym, ap, subst, Contains, arith}
+use Rattle.std.specs.Prelude.{slice_get}
+use Rattle.std.specs.List.{flat_map}
+use Rattle.std.proofs.lemmas.List.Elements.{Contains-append_cases}
+use Rattle.wit_tree.specs.declared.tree.Id.{Id}
+use Rattle.wit_tree.specs.declared.tree.«Type».{«Type» as Written}
+use Rattle.wit_tree.specs.declared.tree.PackageFile.{PackageFile}
+use Rattle.wit_types.specs.declared.types.TypeDef.{TypeDef}
+use Rattle.wit_syntax.specs.Address.{Address}
+use Rattle.wit_syntax.specs.Source.{ScopeName}
+use Rattle.wit_syntax.specs.Shape.{handles, all_handles}
+use Rattle.wit_syntax.specs.Fault.{Fault}
+use Rattle.wit_syntax.specs.Function.{SourceFunction, name_types, written_types, all_types}
+use Rattle.wit_syntax.specs.Ends.{AtResource, AtForeign, Elsewhere, EndsAt}
+use Rattle.wit_arena.specs.EntryEnds.{EntryEnd, IsResource, IsOther, entry_end}
+use Rattle.wit_arena.specs.EntryEnds as ends
+use Rattle.wit_arena.specs.Meet.{Key, Def, Meeting, keys, Decls, IsKeyed}
+use Rattle.wit_syntax.specs.Signature.{IsNoResource}
+use Rattle.wit_arena.specs.Whole.{AreRequired}
+use Rattle.wit_arena.specs.Resolving.{Env, Names, env_of, AreNames, Required, AreEnded, IsWrongHandle, IsDefined}
+use Rattle.wit_arena.proofs.Places.{Grown, key_grown}
+use Rattle.wit_syntax.proofs.Lists.{at_front, at_back, at_split, flat_map_at, flat_map_has}
+use Rattle.wit_syntax.proofs.Found.{at_contains}
+use Rattle.wit_arena.proofs.Written.{handles_at}
+use Rattle.wit_arena.proofs.Ends.{EndIs, IsDeclared, ends_one, entry_end-more, end_source, end_source-more}
+
+-- those of names, and of further ones
+pub ended_append : (env : Env) (es : List TypeDef) (ids more : List Id) (rs new : List Required) → AreEnded env es ids rs → AreEnded env es more new → AreEnded env es (ids ++ more) (rs ++ new)
+ended_append env es [] more rs new h k = subst (λ (x : List Required). AreEnded env es more (x ++ new)) (sym h) k
+ended_append env es (id ∷ ids) more rs new (place, steps, stands, inl own) k = (place, steps, stands, inl (own.0, ended_append env es ids more rs new own.1 k))
+ended_append env es (id ∷ ids) more rs new (place, steps, stands, inr far) k = (place, steps, stands, inr (far.0, far.1 ++ new, far.2, ap (λ (x : List Required). x ++ new) far.3, ended_append env es ids more far.1 new far.4 k))
+
+pub required_append : (files : List PackageFile) (ks : List Key) (hs more : List (Address × Id)) (rs new : List Required) → AreRequired files ks hs rs → AreRequired files ks more new → AreRequired files ks (hs ++ more) (rs ++ new)
+required_append files ks [] more rs new h k = subst (λ (x : List Required). AreRequired files ks more (x ++ new)) (sym h) k
+required_append files ks (x ∷ hs) more rs new (inl own) k = inl (own.0, required_append files ks hs more rs new own.1 k)
+required_append files ks (x ∷ hs) more rs new (inr far) k = inr (far.0, far.1, far.2, far.3 ++ new, far.4, far.5, ap (λ (y : List Required). y ++ new) far.6, required_append files ks hs more far.3 new far.7 k)
+
+-- in a grown arena, and with more names, they are what they were
+pub ended_more : (env env' : Env) (es more : List TypeDef) (ids : List Id) (rs : List Required) → ((name : List ℕ) (i : ℕ) → env name ≡ Some i → env' name ≡ Some i) → AreEnded env es ids rs → AreEnded env' (es ++ more) ids rs
+ended_more env env' es more [] rs keep h = h
+ended_more env env' es more (id ∷ ids) rs keep (place, steps, stands, inl own) = (place, steps, keep id.name.now place stands, inl (entry_end-more steps es more place IsResource (λ wrong. let f : ⊥ = cc in f) own.0, ended_more env env' es more ids rs keep own.1))
+ended_more env env' es more (id ∷ ids) rs keep (place, steps, stands, inr far) = (place, steps, keep id.name.now place stands, inr (far.0, far.1, entry_end-more steps es more place (ends.IsUnknown far.0) (λ wrong. let f : ⊥ = cc in f) far.2, far.3, ended_more env env' es more ids far.1 keep far.4))
+
+-- where more was met, too
+pub required_grown : (files : List PackageFile) {a b : List Key} → Grown a b → (hs : List (Address × Id)) (rs : List Required) → AreRequired files a hs rs → AreRequired files b hs rs
+required_grown files g [] rs h = h
+required_grown files g (x ∷ hs) rs (inl own) = inl (own.0, required_grown files g hs rs own.1)
+required_grown files g (x ∷ hs) rs (inr far) = inr (far.0, far.1, far.2, far.3, far.4, key_grown g far.2 (Def far.0 far.1) far.5, far.6, required_grown files g hs far.3 far.7)
+
+-- a name in a handle, with its scope
+abbrev pub in_scope : Address → Id → Address × Id
+in_scope s id = (s, id)
+
+module _ (files : List PackageFile) (decls : Decls) (ks : List Key) (es : List TypeDef) (m : IsKeyed decls ks es) (scopes : (j : ℕ) (t : Address) (name : List ℕ) → slice_get ks j ≡ Some (Def t name) → IsDeclared files decls t) (s : Address) (env : Env) (names : AreNames ks s env) where
+  -- the entry that a name stands for ends where the name does
+  told : (place steps : ℕ) (id : Id) (e : EntryEnd) → env id.name.now ≡ Some place → entry_end steps es place ≡ Some e → EndIs files ks s id e
+  told place steps id e stands is = end_source files decls ks es m scopes steps place s id e (names.stands id.name.now place stands) is
+
+  -- what is required is what the files say
+  pub ended_required : (ids : List Id) (rs : List Required) → AreEnded env es ids rs → AreRequired files ks (map (in_scope s) ids) rs
+  ended_required [] rs h = h
+  ended_required (id ∷ ids) rs (place, steps, stands, inl own) = inl (told place steps id IsResource stands own.0, ended_required ids rs own.1)
+  ended_required (id ∷ ids) rs (place, steps, stands, inr far) =
+      let it = told place steps id (ends.IsUnknown far.0) stands far.2 in
+      inr (it.0, it.1, far.0, far.1, it.3, it.2, far.3, ended_required ids far.1 far.4)
+
+  -- none of these ends elsewhere
+  none_elsewhere : (ids : List Id) (rs : List Required) (j : ℕ) (id : Id) → AreEnded env es ids rs → slice_get ids j ≡ Some id → EndsAt files s id Elsewhere → ⊥
+  none_elsewhere [] rs j id h at wrong = let f : ⊥ = cc in f
+  none_elsewhere (x ∷ ids) rs zero id (place, steps, stands, inl own) at wrong =
+      let here : x ≡ id = cc in
+      let two = ends_one files s id AtResource Elsewhere (subst (λ (y : Id). EndsAt files s y AtResource) here (told place steps x IsResource stands own.0)) wrong in
+      let f : ⊥ = cc in
+      f
+  none_elsewhere (x ∷ ids) rs zero id (place, steps, stands, inr far) at wrong =
+      let here : x ≡ id = cc in
+      let it = told place steps x (ends.IsUnknown far.0) stands far.2 in
+      let two = ends_one files s id (AtForeign it.0 it.1) Elsewhere (subst (λ (y : Id). EndsAt files s y (AtForeign it.0 it.1)) here it.3) wrong in
+      let f : ⊥ = cc in
+      f
+  none_elsewhere (x ∷ ids) rs (suc j) id (place, steps, stands, inl own) at wrong = none_elsewhere ids rs j id own.1 at wrong
+  none_elsewhere (x ∷ ids) rs (suc j) id (place, steps, stands, inr far) at wrong = none_elsewhere ids far.1 j id far.4 at wrong
+
+  -- where names in handles are ended, none of them is wrong
+  pub ended_legal : (ids : List Id) (rs : List Required) (types : List Written) (f : Fault) → AreEnded env es ids rs → ((id : Id) → Contains (all_handles types) id → Contains ids id) → IsNoResource files s types f → ⊥
+  ended_legal ids rs types f h among wrong =
+      let at = at_contains ids wrong.id (among wrong.id wrong.among) in
+      none_elsewhere ids rs at.0 wrong.id h at.1 wrong.ends
+
+  -- a wrong one is so in the files
+  pub wrong_broken : (types : List Written) (f : Fault) → IsWrongHandle env es (all_handles types) f → IsNoResource files s types f
+  wrong_broken types f h = record { id = h.id; among = h.among; ends = told h.place h.steps h.id IsOther h.stands h.other; is = h.is }
+
+-- one of theirs is in one of them
+pub handle_of : (ts : List Written) (id : Id) → Contains (all_handles ts) id → (i : ℕ) × (t : Written) × (slice_get ts i ≡ Some t) × Contains (handles t) id
+handle_of [] id (k, lt, is) = absurd (let f : ⊥ = omega arith in f)
+handle_of (u ∷ ts) id h = elim (Contains-append_cases (handles u) (all_handles ts) id h) [
+  | inl first ↦ (0, u, refl, first)
+  | inr rest ↦ (let it = handle_of ts id rest in (suc it.0, it.1, it.2, it.3))
+]
+
+-- a type that is written in names of a scope is written in them in another order
+pub type_turned : (xs ys : List ScopeName) (fns : List SourceFunction) → ((p : ℕ) (x : ScopeName) → slice_get xs p ≡ Some x → (i : ℕ) × (slice_get ys i ≡ Some x)) → (k : ℕ) (t : Written) → slice_get (all_types xs fns) k ≡ Some t → (j : ℕ) × (slice_get (all_types ys fns) j ≡ Some t)
+type_turned xs ys fns has k t at = elim (at_split (flat_map name_types xs) (flat_map written_types fns) k t at) [
+  | inl front ↦ (
+      let it = flat_map_at name_types xs k t front in
+      let there = has it.0 it.1 it.2 in
+      let place = flat_map_has name_types ys there.0 it.3.0 it.1 t there.1 it.3.1 in
+      (place.0, at_front (flat_map name_types ys) (flat_map written_types fns) place.0 t place.1))
+  | inr back ↦ (length (flat_map name_types ys) + back.0, at_back (flat_map name_types ys) (flat_map written_types fns) back.0 t back.2)
+]
+
+-- so are their handles
+pub handle_turned : (xs ys : List ScopeName) (fns : List SourceFunction) → ((p : ℕ) (x : ScopeName) → slice_get xs p ≡ Some x → (i : ℕ) × (slice_get ys i ≡ Some x)) → (id : Id) → Contains (all_handles (all_types xs fns)) id → Contains (all_handles (all_types ys fns)) id
+handle_turned xs ys fns has id h =
+    let it = handle_of (all_types xs fns) id h in
+    let there = type_turned xs ys fns has it.0 it.1 it.2 in
+    handles_at (all_types ys fns) there.0 it.1 id there.1 it.3
+
+-- also where the arena has grown since
+pub wrong_broken-more : (files : List PackageFile) (decls : Decls) (ks : List Key) (es more : List TypeDef) → IsKeyed decls ks es → ((j : ℕ) (t : Address) (name : List ℕ) → slice_get ks j ≡ Some (Def t name) → IsDeclared files decls t) → (s : Address) (env : Env) → AreNames ks s env → (types : List Written) (f : Fault) → IsWrongHandle env (es ++ more) (all_handles types) f → IsNoResource files s types f
+wrong_broken-more files decls ks es more m scopes s env names types f h = record {
+  id = h.id;
+  among = h.among;
+  ends = end_source-more files decls ks es more m scopes h.steps h.place s h.id IsOther (names.stands h.id.name.now h.place h.stands) h.other;
+  is = h.is;
+}
+
+pub defined_broken-more : (files : List PackageFile) (decls : Decls) (ms : List Meeting) (mid more : List TypeDef) (s : Address) (before names : Names) (xs : List ScopeName) (d : IsDefined decls ms mid s before names xs) → ((j : ℕ) (t : Address) (name : List ℕ) → slice_get (keys d.now) j ≡ Some (Def t name) → IsDeclared files decls t) → (types : List Written) (f : Fault) → IsWrongHandle (env_of names) (mid ++ more) (all_handles types) f → IsNoResource files s types f
+defined_broken-more files decls ms mid more s before names xs d scopes types f wrong = wrong_broken-more files decls (keys d.now) mid more d.meeting.keyed scopes s (env_of names) d.stand types f wrong

@@ -1,0 +1,104 @@
+-- Names of a scope, one after another, and their rows.
+use Rattle.std.proofs.Common.{◌≡◌, ℕ, zero, suc, Bool, true, false, cond, List, [], ◌∷◌, ◌++◌, take, Option, Some, IsSome, nat_eq, inl, inr, refl, sym, ap, ◌∙◌, subst, arith}
+use Rattle.std.specs.Prelude.{slice_get, slice_index, Contains}
+use Rattle.std.specs.Option.{option_map}
+use Rattle.std.specs.Cmp.Lexicographic.{pointwise}
+use Rattle.std.proofs.lemmas.List.{length-map}
+use Rattle.std.proofs.lemmas.Option.{slice_get-map, slice_get-get_or, slice_get_within, get_or_from_slice_get}
+use Rattle.wit_tree.specs.declared.tree.Id.{Id}
+use Rattle.wit_tree.specs.declared.tree.TypeDef.{TypeDef as Definition}
+use Rattle.wit_order.specs.Table.{Row, target, IsEdge, Leads, IsOrder}
+use Rattle.wit_order.proofs.Tables.{slice_get-take}
+use Rattle.wit_syntax.specs.Source.{ScopeName, Defined, local_name}
+use Rattle.wit_syntax.specs.Fault.{Fault}
+use Rattle.wit_syntax.specs.Scope.{needed_ids, row_of, rows_of, in_order}
+use Rattle.wit_syntax.specs.Bodies.{IsBrokenBody}
+use Rattle.wit_syntax.specs.Notes.{IsBrokenNotes}
+use Rattle.wit_arena.specs.Resolving.{AreLegalBodies, AreLegalNotes, Env, Names, env_of, HasNames, IsStored}
+use Rattle.wit_syntax.proofs.Lists.{at_either}
+use Rattle.wit_syntax.proofs.Names.{name_itself, lookup-insert_entry}
+use Rattle.wit_syntax.proofs.Tables.{place_of-Some}
+use Rattle.wit_syntax.proofs.Orders.{in_order_has}
+use Rattle.wit_syntax.proofs.Found.{at_contains, some_of}
+
+pub row_at : (xs : List ScopeName) (i : ℕ) (x : ScopeName) → slice_get xs i ≡ Some x → slice_get (rows_of xs) i ≡ Some (row_of x)
+row_at xs i x at = slice_get-map row_of xs i ∙ ap (option_map row_of) at
+
+-- the name behind a row
+pub name_at : (xs : List ScopeName) (i : ℕ) (r : Row) → slice_get (rows_of xs) i ≡ Some r → (x : ScopeName) × (slice_get xs i ≡ Some x) × (row_of x ≡ r)
+name_at [] i r at = absurd (let f : ⊥ = cc in f)
+name_at (x ∷ xs) zero r at = (x, refl, cc)
+name_at (x ∷ xs) (suc i) r at = name_at xs i r at
+
+-- in the order of a scope, what a name needs is an earlier one
+pub needed_earlier : (xs : List ScopeName) (places : List ℕ) (k p : ℕ) (x : ScopeName) (id : Id) → IsOrder (rows_of xs) places → slice_get places k ≡ Some p → slice_get xs p ≡ Some x → Contains (needed_ids x) id → (i : ℕ) × (y : ScopeName) × (slice_get (in_order xs (take k places)) i ≡ Some y) × (local_name y ≡ id.name.now)
+needed_earlier xs places k p x id order at there among =
+    let rs = rows_of xs in
+    let j = at_contains (needed_ids x) id among in
+    let edge : IsEdge rs p j.0 id = (row_of x, row_at xs p x there, j.1) in
+    let b = some_of (target rs id) (order.complete p j.0 id edge) in
+    let long = order.sorted.long in
+    let lt = slice_get_within places k p at in
+    let here : slice_index places k ≡ p = get_or_from_slice_get places k p 0 at in
+    let leads : Leads rs (slice_index places k) b.0 = subst (λ a. Leads rs a b.0) (sym here) (j.0, id, edge, b.1) in
+    let before = order.sorted.after k b.0 (omega (arith, length-map xs row_of)) leads in
+    let below = before.below in
+    let m : slice_get places before.index ≡ Some b.0 = slice_get-get_or places before.index 0 (omega arith) ∙ ap Some before.is in
+    let r = place_of-Some rs id.name.now b.0 b.1 in
+    let y = name_at xs b.0 r.0 r.1 in
+    let found = in_order_has xs (take k places) before.index b.0 y.0 (slice_get-take places k before.index before.below ∙ m) y.1 in
+    (found.0, y.0, found.1, ap (λ (row : Row). row.name) y.2 ∙ sym r.2)
+
+pub names_none : (env : Env) → HasNames env []
+names_none env = record { has = λ i x at. absurd (let f : ⊥ = cc in f) }
+
+some_cond : (b : Bool) (place : ℕ) (o : Option ℕ) → IsSome o → IsSome (cond b (Some place) o)
+some_cond true place o h = refl
+some_cond false place o h = h
+
+-- those that stand in a table stand in one with a name more
+pub names_kept : (names names' : Names) (xs : List ScopeName) (name : List ℕ) → HasNames (env_of names) xs → IsStored names names' name → HasNames (env_of names') xs
+names_kept names names' xs name has stored = record {
+  has = λ i y at. subst IsSome (sym (ap (λ ns. env_of ns (local_name y)) stored.is ∙ lookup-insert_entry names name (local_name y) stored.place)) (some_cond (pointwise nat_eq (local_name y) name) stored.place (env_of names (local_name y)) (has.has i y at));
+}
+
+-- one more that stands in a table
+pub names_one : (env : Env) (xs : List ScopeName) (x : ScopeName) → HasNames env xs → IsSome (env (local_name x)) → HasNames env (xs ++ x ∷ [])
+names_one env xs x has one = record {
+  has = λ i y at. elim (at_either xs x i y at) [
+    | inl old ↦ has.has i y old
+    | inr new ↦ subst (λ (z : ScopeName). IsSome (env (local_name z))) (sym new.1) one
+  ];
+}
+
+-- a name that was put into a table stands in it
+pub stored_some : (names names' : Names) (name : List ℕ) → IsStored names names' name → IsSome (env_of names' name)
+stored_some names names' name stored =
+    let found = ap (λ ns. env_of ns name) stored.is ∙ lookup-insert_entry names name name stored.place in
+    subst IsSome (sym found) (rw (name_itself name) refl)
+
+-- a name more
+pub names_more : (names names' : Names) (xs : List ScopeName) (x : ScopeName) → HasNames (env_of names) xs → IsStored names names' (local_name x) → HasNames (env_of names') (xs ++ x ∷ [])
+names_more names names' xs x has stored = names_one (env_of names') xs x (names_kept names names' xs (local_name x) has stored) (stored_some names names' (local_name x) stored)
+
+pub legal_none : AreLegalBodies []
+legal_none = record { legal = λ i d f at. absurd (let f : ⊥ = cc in f) }
+
+pub legal_more : (xs : List ScopeName) (d : Definition) → AreLegalBodies xs → ((f : Fault) → IsBrokenBody d.body f → ⊥) → AreLegalBodies (xs ++ Defined d ∷ [])
+legal_more xs d legal one = record {
+  legal = λ i e f at broken. elim (at_either xs (Defined d) i (Defined e) at) [
+    | inl old ↦ legal.legal i e f old broken
+    | inr new ↦ (let same : e ≡ d = (let q = new.1 in cc) in one f (subst (λ (x : Definition). IsBrokenBody x.body f) same broken))
+  ];
+}
+
+pub noted_none : AreLegalNotes []
+noted_none = record { legal = λ i d f at. absurd (let f : ⊥ = cc in f) }
+
+pub noted_more : (xs : List ScopeName) (d : Definition) → AreLegalNotes xs → ((f : Fault) → IsBrokenNotes d.attributes.items f → ⊥) → AreLegalNotes (xs ++ Defined d ∷ [])
+noted_more xs d legal one = record {
+  legal = λ i e f at broken. elim (at_either xs (Defined d) i (Defined e) at) [
+    | inl old ↦ legal.legal i e f old broken
+    | inr new ↦ (let same : e ≡ d = (let q = new.1 in cc) in one f (subst (λ (x : Definition). IsBrokenNotes x.attributes.items f) same broken))
+  ];
+}

@@ -1,0 +1,86 @@
+-- Types refer backwards, unnamed ones are one where they are equal, and each is reached.
+use Rattle.std.proofs.Common.{◌≡◌, ℕ, zero, suc, List, [], ◌∷◌, take, Some, None, inl, inr, refl, sym, ap, ◌∙◌, subst, arith}
+use Rattle.std.specs.Prelude.{slice_get}
+use Rattle.std.proofs.lemmas.Option.{slice_get_within}
+use Rattle.wit_types.specs.declared.types.«Type».{«Type» as Ty}
+use Rattle.wit_types.specs.declared.types.«Type».TheVariants.{Id}
+use Rattle.wit_types.specs.declared.types.TypeDef.{TypeDef}
+use Rattle.wit_types.specs.declared.types.TypeDefKind.{TypeDefKind}
+use Rattle.wit_syntax.specs.Form.{Form}
+use Rattle.wit_arena.specs.Kind.{kind_of}
+use Rattle.wit_arena.specs.Expr.{Expr, Prim, Use, Of, Exprs, End, More}
+use Rattle.wit_arena.specs.Meet.{Key, Def, Whole, IsAt, AreAt, Decls, IsEntry, IsKeyed}
+use Rattle.wit_arena.specs.Package.{At, HasPart, IsBelow, Reaches}
+use Rattle.wit_arena.specs.Resolving.{met, all_met}
+use Rattle.wit_syntax.proofs.Lists.{at_take, at_within}
+use Rattle.wit_arena.proofs.Primitives.{primitive_below}
+use Rattle.wit_arena.proofs.Places.{all_at_untaken, all_at_injective}
+use Rattle.wit_arena.proofs.Meeting.{Has, has_either}
+
+module _ (decls : Decls) (ks : List Key) (es : List TypeDef) (m : IsKeyed decls ks es) where
+  -- the key of an entry, and the entry of a key
+  pub key_of : (i : ℕ) (e : TypeDef) → slice_get es i ≡ Some e → (k : Key) × (slice_get ks i ≡ Some k)
+  key_of i e at = let lt = slice_get_within es i e at in let count = m.count in at_within ks i (omega arith)
+
+  pub entry_of_key : (i : ℕ) (k : Key) → slice_get ks i ≡ Some k → (e : TypeDef) × (slice_get es i ≡ Some e)
+  entry_of_key i k at = let lt = slice_get_within ks i k at in let count = m.count in at_within es i (omega arith)
+
+  below_one : (n : ℕ) (x : Expr) (t : Ty) → IsAt (take n ks) x t → IsBelow n t
+  below_one n (Prim p) t h = subst (IsBelow n) (sym h) (primitive_below n p)
+  below_one n (Use s name) t h = rw h.1 ((at_take ks n h.0 (Def s name) h.2).1)
+  below_one n (Of form parts) t h = rw h.1 ((at_take ks n h.0 (Whole form parts) h.2).1)
+
+  below_all : (n : ℕ) (xs : Exprs) (ts : List Ty) (part : Ty) → AreAt (take n ks) xs ts → HasPart ts part → IsBelow n part
+  below_all n End [] part h has = absurd has
+  below_all n (More x xs) (t ∷ ts) part h has = elim has [ inl here ↦ subst (IsBelow n) here (below_one n x t h.0) | inr rest ↦ below_all n xs ts part h.1 rest ]
+  below_all n End (t ∷ ts) part h has = absurd h
+  below_all n (More x xs) [] part h has = absurd h
+
+  below_entry : (i : ℕ) (k : Key) (e : TypeDef) (part : Ty) → IsEntry decls (take i ks) k e → HasPart (kind_of e.kind).parts part → IsBelow i part
+  below_entry i (Def s name) e part it has = below_all i it.decl.parts (kind_of e.kind).parts part it.parts has
+  below_entry i (Whole form parts) e part it has = below_all i parts (kind_of e.kind).parts part it.parts has
+
+  pub backward : (i : ℕ) (e : TypeDef) (part : Ty) → At es i e → HasPart (kind_of e.kind).parts part → IsBelow i part
+  backward i e part at has = let k = key_of i e at.is in below_entry i k.0 e part (m.each i k.0 e k.1 at.is) has
+
+  same_whole : (i j : ℕ) (k l : Key) (e f : TypeDef) → IsEntry decls (take i ks) k e → IsEntry decls (take j ks) l f → e.name ≡ None → f.name ≡ None → e.kind ≡ f.kind → k ≡ l
+  same_whole i j (Def s name) l e f p q noe nof same = absurd (let named = p.name in let f : ⊥ = cc in f)
+  same_whole i j (Whole form parts) (Def s name) e f p q noe nof same = absurd (let named = q.name in let f : ⊥ = cc in f)
+  same_whole i j (Whole form parts) (Whole form' parts') e f p q noe nof same =
+      let forms : form ≡ form' = sym p.form ∙ ap (λ (k : TypeDefKind). (kind_of k).form) same ∙ q.form in
+      let there = subst (λ (k : TypeDefKind). AreAt ks parts (kind_of k).parts) same (all_at_untaken i ks parts (kind_of e.kind).parts p.parts) in
+      let inner = all_at_injective ks parts parts' (kind_of f.kind).parts there (all_at_untaken j ks parts' (kind_of f.kind).parts q.parts) in
+      ap (λ f. Whole f parts) forms ∙ ap (Whole form') inner
+
+  pub interned : (i j : ℕ) (e f : TypeDef) → At es i e → At es j f → e.name ≡ None → f.name ≡ None → e.kind ≡ f.kind → i ≡ j
+  interned i j e f ati atj noe nof same =
+      let k = key_of i e ati.is in
+      let l = key_of j f atj.is in
+      let keys = same_whole i j k.0 l.0 e f (m.each i k.0 e k.1 ati.is) (m.each j l.0 f l.1 atj.is) noe nof same in
+      m.once.differ i j k.0 k.1 (l.1 ∙ ap Some (sym keys))
+
+  -- a type leads to each unnamed one in it
+  mutual
+    pub leads : (x : Expr) (t : Ty) (j : ℕ) (form : Form) (parts : Exprs) → IsAt ks x t → slice_get ks j ≡ Some (Whole form parts) → Has (met x) (Whole form parts) → Reaches es t j
+    leads (Prim p) t j form parts at there has = absurd has
+    leads (Use s name) t j form parts at there has = absurd has
+    leads (Of form' parts') t j form parts at there has = elim (has_either (all_met parts') (Whole form' parts' ∷ []) (Whole form parts) has) [
+      | inl inner ↦ (
+          let e = entry_of_key at.0 (Whole form' parts') at.2 in
+          let it = m.each at.0 (Whole form' parts') e.0 at.2 e.1 in
+          let through = all_lead parts' (kind_of e.0.kind).parts j form parts (all_at_untaken at.0 ks parts' (kind_of e.0.kind).parts it.parts) there inner in
+          (suc through.2.0, (at.0, e.0, through.0, at.1, record { is = e.1 }, through.1, through.2.1)))
+      | inr last ↦ elim last [
+        | inl here ↦ (zero, at.1 ∙ ap Id (m.once.differ at.0 j (Whole form parts) (at.2 ∙ ap Some here) there))
+        | inr none ↦ absurd none
+      ]
+    ]
+
+    pub all_lead : (xs : Exprs) (ts : List Ty) (j : ℕ) (form : Form) (parts : Exprs) → AreAt ks xs ts → slice_get ks j ≡ Some (Whole form parts) → Has (all_met xs) (Whole form parts) → (part : Ty) × HasPart ts part × Reaches es part j
+    all_lead End [] j form parts at there has = absurd has
+    all_lead (More x xs) (t ∷ ts) j form parts at there has = elim (has_either (met x) (all_met xs) (Whole form parts) has) [
+      | inl first ↦ (t, inl refl, leads x t j form parts at.0 there first)
+      | inr rest ↦ (let it = all_lead xs ts j form parts at.1 there rest in (it.0, inr it.1, it.2))
+    ]
+    all_lead End (t ∷ ts) j form parts at there has = absurd at
+    all_lead (More x xs) [] j form parts at there has = absurd at

@@ -1,0 +1,99 @@
+-- The types in functions of files: each form in them is one that an unnamed type can have.
+use Rattle.std.proofs.Common.{◌≡◌, ℕ, zero, suc, List, [], ◌∷◌, map, Option, Some, None, inl, inr, subst}
+use Rattle.std.specs.Prelude.{slice_get}
+use Rattle.std.specs.Option.{option_map, option_map_or, option_to_list}
+use Rattle.wit_tree.specs.declared.tree.Id.{Id}
+use Rattle.wit_tree.specs.declared.tree.«Type».{«Type» as Written}
+use Rattle.wit_tree.specs.declared.tree.NamedFunc.{NamedFunc}
+use Rattle.wit_tree.specs.declared.tree.Param.{Param}
+use Rattle.wit_tree.specs.declared.tree.TypeBody.{TypeBody}
+use Rattle.wit_tree.specs.declared.tree.TypeBody.TheVariants as body
+use Rattle.wit_tree.specs.declared.tree.ResourceFunc.{ResourceFunc}
+use Rattle.wit_tree.specs.declared.tree.ResourceFunc.TheVariants as resource
+use Rattle.wit_tree.specs.declared.tree.PackageFile.{PackageFile}
+use Rattle.wit_syntax.specs.Shape.{Shape, Word, shape_of}
+use Rattle.wit_syntax.specs.Address.{Address}
+use Rattle.wit_syntax.specs.Source.{Item, all_items, item_at, Part, Defining, Using, Including, Doing, parts}
+use Rattle.wit_syntax.specs.Function.{Role, SourceParam, SourceFunction, all_params, written_param, self_param, function_with, free_function, resource_function, definition_functions, part_functions, functions, signature}
+use Rattle.wit_arena.specs.Whole.{functions_at}
+use Rattle.wit_syntax.proofs.Lists.{at_split, map_at, flat_map_at}
+use Rattle.wit_arena.proofs.Forms.{AreAnonymous, written_anonymous}
+
+-- of a function
+record IsPlain (fn : SourceFunction) : Type 0 where
+  given : (k : ℕ) (p : SourceParam) → slice_get fn.given k ≡ Some p → AreAnonymous p.shape
+  params : (k : ℕ) (p : SourceParam) → slice_get fn.params k ≡ Some p → AreAnonymous p.shape
+  result : (x : Shape) → fn.result ≡ Some x → AreAnonymous x
+
+plain_result : (o : Option Shape) → ((x : Shape) → o ≡ Some x → AreAnonymous x) → (k : ℕ) (x : Shape) → slice_get (option_to_list o) k ≡ Some x → AreAnonymous x
+plain_result None h k x at = absurd (let f : ⊥ = cc in f)
+plain_result (Some y) h zero x at = h x at
+plain_result (Some y) h (suc k) x at = absurd (let f : ⊥ = cc in f)
+
+plain_signature : (fn : SourceFunction) → IsPlain fn → (k : ℕ) (x : Shape) → slice_get (signature fn) k ≡ Some x → AreAnonymous x
+plain_signature fn h k x at = elim (at_split (map (λ (p : SourceParam). p.shape) (all_params fn)) (option_to_list fn.result) k x at) [
+  | inl front ↦ (
+      let p = map_at (λ (p : SourceParam). p.shape) (all_params fn) k x front in
+      subst AreAnonymous p.2 (elim (at_split fn.given fn.params k p.0 p.1) [
+        | inl g ↦ h.given k p.0 g
+        | inr g ↦ h.params g.0 p.0 g.2
+      ]))
+  | inr back ↦ plain_result fn.result h.result back.0 x back.2
+]
+
+plain_params : (ps : List Param) (k : ℕ) (p : SourceParam) → slice_get (map written_param ps) k ≡ Some p → AreAnonymous p.shape
+plain_params ps k p at =
+    let q = map_at written_param ps k p at in
+    subst (λ (x : SourceParam). AreAnonymous x.shape) q.2 (written_anonymous q.0.ty)
+
+plain_written : (t : Option Written) (x : Shape) → option_map shape_of t ≡ Some x → AreAnonymous x
+plain_written None x h = absurd (let f : ⊥ = cc in f)
+plain_written (Some t) x h = let same : shape_of t ≡ x = cc in subst AreAnonymous same (written_anonymous t)
+
+plain_made : (r : Id) (t : Option Written) (x : Shape) → Some (option_map_or shape_of t (Word r)) ≡ Some x → AreAnonymous x
+plain_made r None x h = let same : Word r ≡ x = cc in subst AreAnonymous same tt
+plain_made r (Some t) x h = let same : shape_of t ≡ x = cc in subst AreAnonymous same (written_anonymous t)
+
+plain_with : (name : List ℕ) (role : Role) (given : List SourceParam) (f : NamedFunc) → ((k : ℕ) (p : SourceParam) → slice_get given k ≡ Some p → AreAnonymous p.shape) → IsPlain (function_with name role given f)
+plain_with name role given f h = record { given = h; params = plain_params f.func.params.items; result = plain_written f.func.result }
+
+none_given : (k : ℕ) (p : SourceParam) → slice_get [] k ≡ Some p → AreAnonymous p.shape
+none_given k p at = absurd (let f : ⊥ = cc in f)
+
+one_given : (q : SourceParam) → AreAnonymous q.shape → (k : ℕ) (p : SourceParam) → slice_get (q ∷ []) k ≡ Some p → AreAnonymous p.shape
+one_given q h zero p at = let same : q ≡ p = cc in subst (λ (x : SourceParam). AreAnonymous x.shape) same h
+one_given q h (suc k) p at = absurd (let f : ⊥ = cc in f)
+
+plain_resource : (r : Id) (g : ResourceFunc) → IsPlain (resource_function r g)
+plain_resource r (resource.Method f) = plain_with (resource_function r (resource.Method f)).name (resource_function r (resource.Method f)).role (resource_function r (resource.Method f)).given f (one_given (self_param r f.func.span) (tt, (tt, tt)))
+plain_resource r (resource.Static f) = plain_with (resource_function r (resource.Static f)).name (resource_function r (resource.Static f)).role [] f none_given
+plain_resource r (resource.Constructor docs attributes span params result) = record { given = none_given; params = plain_params params.items; result = plain_made r result }
+
+plain_definition : (r : Id) (b : TypeBody) (k : ℕ) (fn : SourceFunction) → slice_get (definition_functions r b) k ≡ Some fn → IsPlain fn
+plain_definition r (body.Resource funcs) k fn at =
+    let g = map_at (resource_function r) funcs.items k fn at in
+    subst IsPlain g.2 (plain_resource r g.0)
+plain_definition r (body.Record span fields) k fn at = absurd (let f : ⊥ = cc in f)
+plain_definition r (body.Flags span flags) k fn at = absurd (let f : ⊥ = cc in f)
+plain_definition r (body.Variant span cases) k fn at = absurd (let f : ⊥ = cc in f)
+plain_definition r (body.Enum span cases) k fn at = absurd (let f : ⊥ = cc in f)
+plain_definition r (body.Plain t) k fn at = absurd (let f : ⊥ = cc in f)
+
+plain_part : (p : Part) (k : ℕ) (fn : SourceFunction) → slice_get (part_functions p) k ≡ Some fn → IsPlain fn
+plain_part (Defining d) k fn at = plain_definition d.name d.body k fn at
+plain_part (Using u) k fn at = absurd (let f : ⊥ = cc in f)
+plain_part (Including i) k fn at = absurd (let f : ⊥ = cc in f)
+plain_part (Doing g) zero fn at =
+    let same : free_function g ≡ fn = cc in
+    subst IsPlain same (plain_with (free_function g).name (free_function g).role [] g none_given)
+plain_part (Doing g) (suc k) fn at = absurd (let f : ⊥ = cc in f)
+
+-- so it is in the functions of a scope
+pub signature_anonymous : (files : List PackageFile) (s : Address) (k : ℕ) (fn : SourceFunction) → slice_get (functions_at files s) k ≡ Some fn → (j : ℕ) (x : Shape) → slice_get (signature fn) j ≡ Some x → AreAnonymous x
+signature_anonymous files s k fn at j x written = of_item (item_at (all_items files) s) at
+  where
+    of_item : (o : Option Item) → slice_get (option_map_or functions o []) k ≡ Some fn → AreAnonymous x
+    of_item None there = absurd (let f : ⊥ = cc in f)
+    of_item (Some i) there =
+        let it = flat_map_at part_functions (parts i) k fn there in
+        plain_signature fn (plain_part it.1 it.3.0 fn it.3.1) j x written

@@ -1,0 +1,220 @@
+-- The items of other packages, at the places of their first visits.
+use Rattle.std.proofs.Common.{◌≡◌, ℕ, zero, suc, Bool, true, false, not, List, ◌++◌, Option, Some, None, inl, inr, refl, sym, ap, ◌∙◌, Contains}
+use Rattle.std.specs.Prelude.{slice_get, map, find}
+use Rattle.std.specs.Option.{option_map, option_map_or}
+use Rattle.std.specs.Str.{bytes_eq}
+use Rattle.std.proofs.lemmas.Bool.{cases_Bool, not-true}
+use Rattle.wit_tree.specs.declared.tree.Id.{Id}
+use Rattle.wit_tree.specs.declared.tree.Attribute.{Attribute}
+use Rattle.wit_tree.specs.declared.tree.Use.{Use}
+use Rattle.wit_tree.specs.declared.tree.UsePath.{UsePath}
+use Rattle.wit_tree.specs.declared.tree.UsePath.TheVariants as path
+use Rattle.wit_tree.specs.declared.tree.AstItem.{AstItem}
+use Rattle.wit_tree.specs.declared.tree.AstItem.TheVariants as ast
+use Rattle.wit_tree.specs.declared.tree.PackageFile.{PackageFile}
+use Rattle.wit_package_names.specs.declared.package_name.PackageName.{PackageName}
+use Rattle.wit_syntax.specs.Fault.{Fault, fault}
+use Rattle.wit_syntax.specs.Address.{Address, ForeignNamed, package_of, same_address, is_foreign}
+use Rattle.wit_syntax.specs.Source.{path_id, Local, Foreign, path_target, Using, TopName, top_name, top_names, top_text, top_named, top_target, leads, Part, Item, declared_items, file_items, all_items, address, parts, TheInterface, TheWorld}
+use Rattle.wit_syntax.specs.Foreign.{ForeignVisit, visited, path_visits, part_visits, declared_visits, declaration_visits, file_visits, foreign_visits, same_item, foreign_items, is_foreign_world, foreign_interfaces, foreign_worlds, foreign_at}
+use Rattle.wit_syntax.specs.Scope.{use_path, use_paths}
+use Rattle.wit_syntax.specs.Broken.{is_world_at, IsBrokenUse, WorldUsed}
+use Rattle.wit_syntax.specs.Repeats.{AllDiffer}
+use Rattle.wit_syntax.proofs.Lists.{map_at, flat_map_at, flat_map_has}
+use Rattle.wit_syntax.proofs.Addresses.{same_address-from, same_address-equal}
+use Rattle.wit_syntax.proofs.Repeated.{differ_at, differ_join}
+use Rattle.wit_syntax.proofs.Kept.{kept_at, kept_has, kept_differ}
+use Rattle.wit_syntax.proofs.Firsts.{firsts_has, firsts_differ}
+use Rattle.wit_syntax.proofs.Found.{contains_at, find_at, find_passes, find_some}
+use Rattle.wit_syntax.proofs.Turns.{at_part}
+use Rattle.wit_arena.proofs.Interfaces.{AreAddresses, own_address}
+
+-- what is found is the only one that passes
+pub find-only : {X : Type 0} (p : X → Bool) (xs : List X) (t : ℕ) (x : X) → slice_get xs t ≡ Some x → p x ≡ true → ((i : ℕ) (y : X) → slice_get xs i ≡ Some y → p y ≡ true → i ≡ t) → find p xs ≡ Some x
+find-only p xs t x at pass only =
+    let it = find_some p xs t x at pass in
+    let q = find_at p xs it.0 it.1 in
+    let place = only q.0 it.0 q.1 (find_passes p xs it.0 it.1) in
+    it.1 ∙ sym q.1 ∙ ap (slice_get xs) place ∙ at
+
+-- two visits of one item
+visit-from : (u v : ForeignVisit) → visited u ≡ visited v → same_item u v ≡ true
+visit-from u v h = same_address-from (visited u) (visited v) h
+
+visit-equal : (u v : ForeignVisit) → same_item u v ≡ true → visited u ≡ visited v
+visit-equal u v h = same_address-equal (visited u) (visited v) h
+
+module _ (files : List PackageFile) where
+  -- no item stands twice
+  pub visits_differ : AllDiffer (map visited (foreign_items files))
+  visits_differ = firsts_differ same_item visited visit-from visit-equal (foreign_visits files)
+
+  pub interfaces_differ : AllDiffer (map visited (foreign_interfaces files))
+  interfaces_differ = kept_differ visited (λ v. not (is_foreign_world v)) (foreign_items files) visits_differ
+
+  pub worlds_differ : AllDiffer (map visited (foreign_worlds files))
+  worlds_differ = kept_differ visited is_foreign_world (foreign_items files) visits_differ
+
+  -- an interface among them, and a world
+  pub interface_visit : (t : ℕ) (v : ForeignVisit) → slice_get (foreign_interfaces files) t ≡ Some v → (p : ℕ) × (slice_get (foreign_items files) p ≡ Some v) × (is_foreign_world v ≡ false)
+  interface_visit t v at = let it = kept_at (λ u. not (is_foreign_world u)) (foreign_items files) t v at in (it.0, it.1, not-true (is_foreign_world v) it.2)
+
+  pub world_visit : (t : ℕ) (v : ForeignVisit) → slice_get (foreign_worlds files) t ≡ Some v → (p : ℕ) × (slice_get (foreign_items files) p ≡ Some v) × (is_foreign_world v ≡ true)
+  world_visit t v at = kept_at is_foreign_world (foreign_items files) t v at
+
+  -- visits of one item that are listed are one
+  pub visit_once : (p q : ℕ) (u v : ForeignVisit) → slice_get (foreign_items files) p ≡ Some u → slice_get (foreign_items files) q ≡ Some v → visited u ≡ visited v → u ≡ v
+  visit_once p q u v at_u at_v same =
+      let place = differ_at visited (foreign_items files) visits_differ p q u v at_u at_v same in
+      let both : Some u ≡ Some v = sym at_u ∙ ap (slice_get (foreign_items files)) place ∙ at_v in
+      cc
+
+  -- an interface is no world
+  pub interface_apart : (i j : ℕ) (u v : ForeignVisit) → slice_get (foreign_interfaces files) i ≡ Some u → slice_get (foreign_worlds files) j ≡ Some v → visited u ≡ visited v → ⊥
+  interface_apart i j u v at_u at_v same =
+      let p = interface_visit i u at_u in
+      let q = world_visit j v at_v in
+      let one = visit_once p.0 q.0 u v p.1 q.1 same in
+      let wrong : false ≡ true = sym p.2 ∙ ap is_foreign_world one ∙ q.2 in
+      let f : ⊥ = cc in
+      f
+
+  pub visited_addresses : AreAddresses (map visited (foreign_interfaces files)) (map visited (foreign_worlds files))
+  visited_addresses = record {
+    interfaces = interfaces_differ;
+    worlds = worlds_differ;
+    apart = λ i j s at_i at_j. (
+        let u = map_at visited (foreign_interfaces files) i s at_i in
+        let v = map_at visited (foreign_worlds files) j s at_j in
+        interface_apart i j u.0 v.0 u.1 v.1 (u.2 ∙ sym v.2));
+  }
+
+  -- the item at the address of one is the one
+  pub foreign_at-visited : (p : ℕ) (v : ForeignVisit) → slice_get (foreign_items files) p ≡ Some v → foreign_at files (visited v) ≡ Some v
+  foreign_at-visited p v at = find-only (λ u. same_address (visited u) (visited v)) (foreign_items files) p v at (same_address-from (visited v) (visited v) refl) (λ i u at_u same. differ_at visited (foreign_items files) visits_differ i p u v at_u at (same_address-equal (visited u) (visited v) same))
+
+  -- what is visited is listed
+  pub visit_listed : (k : ℕ) (v : ForeignVisit) → slice_get (foreign_visits files) k ≡ Some v → (p : ℕ) × (u : ForeignVisit) × (slice_get (foreign_items files) p ≡ Some u) × (visited u ≡ visited v)
+  visit_listed k v at = firsts_has same_item visited visit-from visit-equal (foreign_visits files) k v at
+
+-- two lists of addresses behind others that are foreign
+pub addresses_join : (cs ds is ws : List Address) → AreAddresses cs ds → AreAddresses is ws → ((i : ℕ) (s : Address) → slice_get cs i ≡ Some s → is_foreign s ≡ true) → ((i : ℕ) (s : Address) → slice_get ds i ≡ Some s → is_foreign s ≡ true) → ((i : ℕ) (s : Address) → slice_get is i ≡ Some s → is_foreign s ≡ false) → ((i : ℕ) (s : Address) → slice_get ws i ≡ Some s → is_foreign s ≡ false) → AreAddresses (cs ++ is) (ds ++ ws)
+addresses_join cs ds is ws front back cs_foreign ds_foreign is_own ws_own = record {
+  interfaces = differ_join cs is front.interfaces back.interfaces (λ i j s at_i at_j. never_both s (cs_foreign i s at_i) (is_own j s at_j));
+  worlds = differ_join ds ws front.worlds back.worlds (λ i j s at_i at_j. never_both s (ds_foreign i s at_i) (ws_own j s at_j));
+  apart = λ i j s at_i at_j. elim (at_part cs is i s at_i) [
+    | inl a ↦ elim (at_part ds ws j s at_j) [
+      | inl b ↦ front.apart a.0 b.0 s a.1 b.1
+      | inr w ↦ never_both s (cs_foreign a.0 s a.1) (ws_own w.0 s w.1)
+    ]
+    | inr b ↦ elim (at_part ds ws j s at_j) [
+      | inl a ↦ never_both s (ds_foreign a.0 s a.1) (is_own b.0 s b.1)
+      | inr w ↦ back.apart b.0 w.0 s b.1 w.1
+    ]
+  ];
+}
+  where
+    never_both : (s : Address) → is_foreign s ≡ true → is_foreign s ≡ false → ⊥
+    never_both s h k = let wrong : true ≡ false = sym h ∙ k in let f : ⊥ = cc in f
+
+-- what is visited is foreign
+pub visited_foreign : (vs : List ForeignVisit) (i : ℕ) (s : Address) → slice_get (map visited vs) i ≡ Some s → is_foreign s ≡ true
+visited_foreign vs i s at = let v = map_at visited vs i s at in ap is_foreign (sym v.2)
+
+-- an item is of the package
+pub address_own : (ws : List Item) (i : ℕ) (s : Address) → slice_get (map address ws) i ≡ Some s → is_foreign s ≡ false
+address_own ws i s at = let w = map_at address ws i s at in ap is_foreign (sym w.2) ∙ own_address w.0
+
+-- where an item is declared, and among which names
+pub record IsOrigin (files : List PackageFile) (w : Item) : Type 0 where
+  pub file : PackageFile
+  pub place : ℕ
+  pub at : slice_get files place ≡ Some file
+  pub declaration : AstItem
+  pub index : ℕ
+  pub among : slice_get file.decl_list.items.items index ≡ Some declaration
+  pub top : w.top ≡ top_names file
+  pub visits : declaration_visits declaration ≡ declared_visits w.declared
+
+declared_item : (top : List TopName) (a : AstItem) (j : ℕ) (w : Item) → slice_get (declared_items top a) j ≡ Some w → (w.top ≡ top) × (declaration_visits a ≡ declared_visits w.declared)
+declared_item top (ast.Interface i) zero w at = (let same : record { top = top; declared = TheInterface i } ≡ w = cc in (ap (λ (x : Item). x.top) (sym same), ap (λ (x : Item). declared_visits x.declared) same))
+declared_item top (ast.Interface i) (suc j) w at = absurd (let f : ⊥ = cc in f)
+declared_item top (ast.World i) zero w at = (let same : record { top = top; declared = TheWorld i } ≡ w = cc in (ap (λ (x : Item). x.top) (sym same), ap (λ (x : Item). declared_visits x.declared) same))
+declared_item top (ast.World i) (suc j) w at = absurd (let f : ⊥ = cc in f)
+declared_item top (ast.Use u) j w at = absurd (let f : ⊥ = cc in f)
+
+pub item_origin : (files : List PackageFile) (p : ℕ) (w : Item) → slice_get (all_items files) p ≡ Some w → IsOrigin files w
+item_origin files p w at =
+    let f = flat_map_at file_items files p w at in
+    let a = flat_map_at (declared_items (top_names f.1)) f.1.decl_list.items.items f.3.0 w f.3.1 in
+    let is = declared_item (top_names f.1) a.1 a.3.0 w a.3.1 in
+    record { file = f.1; place = f.0; at = f.2; declaration = a.1; index = a.0; among = a.2; top = is.0; visits = is.1 }
+
+-- a visit of a declaration is one of the files
+pub declaration_visited : (files : List PackageFile) (i k j : ℕ) (f : PackageFile) (a : AstItem) (v : ForeignVisit) → slice_get files i ≡ Some f → slice_get f.decl_list.items.items k ≡ Some a → slice_get (declaration_visits a) j ≡ Some v → (n : ℕ) × (slice_get (foreign_visits files) n ≡ Some v)
+declaration_visited files i k j f a v at_file at_item at_visit =
+    let inner = flat_map_has declaration_visits f.decl_list.items.items k j a v at_item at_visit in
+    flat_map_has file_visits files i inner.0 f v at_file inner.1
+
+-- a visit by which the item of this name in this package is visited
+pub record IsVisited (files : List PackageFile) (p : PackageName) (id : Id) : Type 0 where
+  pub place : ℕ
+  pub v : ForeignVisit
+  pub at : slice_get (foreign_visits files) place ≡ Some v
+  pub is : visited v ≡ ForeignNamed p id.name.now
+
+foreign_path : (attributes : List Attribute) (world : Bool) (from : UsePath) (p : PackageName) (id : Id) → path_target from ≡ Foreign p id → (v : ForeignVisit) × (slice_get (path_visits attributes world from) 0 ≡ Some v) × (visited v ≡ ForeignNamed p id.name.now)
+foreign_path attributes world (path.Id other) p id h = absurd (let f : ⊥ = cc in f)
+foreign_path attributes world (path.Package of other) p id h =
+    let whose : package_of of ≡ p = cc in
+    let name : other ≡ id = cc in
+    (record { attributes = attributes; of = of; id = other; wants_world = world }, refl, ap (λ x. ForeignNamed x other.name.now) whose ∙ ap (λ (x : Id). ForeignNamed p x.name.now) name)
+
+-- a name at the top of a file that leads to another package is that of a `use`
+foreign_top : (a : AstItem) (p : PackageName) (id : Id) → (top_name a).target ≡ Foreign p id → (v : ForeignVisit) × (slice_get (declaration_visits a) 0 ≡ Some v) × (visited v ≡ ForeignNamed p id.name.now)
+foreign_top (ast.Interface i) p id h = absurd (let wrong : Local i.name ≡ Foreign p id = h in let f : ⊥ = cc in f)
+foreign_top (ast.World w) p id h = absurd (let wrong : Local w.name ≡ Foreign p id = h in let f : ⊥ = cc in f)
+foreign_top (ast.Use u) p id h = foreign_path u.attributes.items false u.item p id h
+
+top_leads : (o : Option TopName) (other : Id) (p : PackageName) (id : Id) → option_map_or top_target o (Local other) ≡ Foreign p id → (t : TopName) × (o ≡ Some t) × (t.target ≡ Foreign p id)
+top_leads None other p id h = absurd (let f : ⊥ = cc in f)
+top_leads (Some t) other p id h = (t, refl, h)
+
+-- where a path of a part of an item leads to another package, that item is visited
+pub path_visited : (files : List PackageFile) (q : ℕ) (w : Item) (m : ℕ) (x : Part) (attributes : List Attribute) (world : Bool) (from : UsePath) (p : PackageName) (id : Id) → slice_get (all_items files) q ≡ Some w → slice_get (parts w) m ≡ Some x → part_visits x ≡ path_visits attributes world from → leads w.top from ≡ Foreign p id → IsVisited files p id
+path_visited files q w m x attributes world from p id at part visits lead = by_path (item_origin files q w at) from refl lead
+  where
+    by_path : IsOrigin files w → (to : UsePath) → from ≡ to → leads w.top to ≡ Foreign p id → IsVisited files p id
+    by_path origin (path.Id other) same h =
+        let t = top_leads (top_named w.top other.name.now) other p id h in
+        let j = find_at (λ (y : TopName). bytes_eq (top_text y) other.name.now) w.top t.0 t.1 in
+        let a = map_at top_name origin.file.decl_list.items.items j.0 t.0 (ap (λ (l : List TopName). slice_get l j.0) (sym origin.top) ∙ j.1) in
+        let v = foreign_top a.0 p id (ap (λ (y : TopName). y.target) a.2 ∙ t.2) in
+        let n = declaration_visited files origin.place j.0 0 origin.file a.0 v.0 origin.at a.1 v.1 in
+        record { place = n.0; v = v.0; at = n.1; is = v.2 }
+    by_path origin (path.Package of other) same h =
+        let v = foreign_path attributes world from p id (ap path_target same ∙ h) in
+        let inner = flat_map_has part_visits (parts w) m 0 x v.0 part (ap (λ (l : List ForeignVisit). slice_get l 0) visits ∙ v.1) in
+        let n = declaration_visited files origin.place origin.index inner.0 origin.file origin.declaration v.0 origin.at origin.among (ap (λ (l : List ForeignVisit). slice_get l inner.0) origin.visits ∙ inner.1) in
+        record { place = n.0; v = v.0; at = n.1; is = v.2 }
+
+-- so where the path of a `use` does
+pub leads_visited : (files : List PackageFile) (q : ℕ) (w : Item) (m : ℕ) (u : Use) (p : PackageName) (id : Id) → slice_get (all_items files) q ≡ Some w → slice_get (parts w) m ≡ Some (Using u) → leads w.top u.from ≡ Foreign p id → IsVisited files p id
+leads_visited files q w m u p id at part lead = path_visited files q w m (Using u) u.attributes.items false u.from p id at part refl lead
+
+-- the path of a `use` is one of an item's
+pub use_path_at : (w : Item) (m : ℕ) (u : Use) → slice_get (parts w) m ≡ Some (Using u) → Contains (use_paths w) u.from
+use_path_at w m u part = let it = flat_map_has use_path (parts w) m 0 (Using u) u.from part refl in contains_at (use_paths w) it.0 u.from it.1
+
+-- where no use is broken, one that leads to another package leads to an interface
+pub used_interface_visit : (files : List PackageFile) → ((i : Item) → Contains (all_items files) i → (f : Fault) → IsBrokenUse files i f → ⊥) → (q : ℕ) (w : Item) (m : ℕ) (u : Use) (p : PackageName) (id : Id) → slice_get (all_items files) q ≡ Some w → slice_get (parts w) m ≡ Some (Using u) → leads w.top u.from ≡ Foreign p id → (t : ℕ) × (v : ForeignVisit) × (slice_get (foreign_interfaces files) t ≡ Some v) × (visited v ≡ ForeignNamed p id.name.now)
+used_interface_visit files uses q w m u p id at part lead =
+    let here = leads_visited files q w m u p id at part lead in
+    let it = visit_listed files here.place here.v here.at in
+    let v = it.1 in
+    let is : visited v ≡ ForeignNamed p id.name.now = it.3 ∙ here.is in
+    let found : is_world_at files (leads w.top u.from) ≡ Some (is_foreign_world v) = ap (is_world_at files) lead ∙ ap (λ s. option_map is_foreign_world (foreign_at files s)) (sym is) ∙ ap (option_map is_foreign_world) (foreign_at-visited files it.0 v it.2) in
+    elim (cases_Bool (is_foreign_world v)) [
+      | inl wrong ↦ absurd (uses w (contains_at (all_items files) q w at) (fault 10 (path_id u.from).span) (WorldUsed (record { path = u.from; among = use_path_at w m u part; other = found ∙ ap Some wrong; is = refl })))
+      | inr right ↦ (let k = kept_has (λ x. not (is_foreign_world x)) (foreign_items files) it.0 v (ap not right) it.2 in (k.0, v, k.1, is))
+    ]

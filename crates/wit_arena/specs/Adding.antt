@@ -1,0 +1,46 @@
+-- What resolving a function does to the arena, and what the function then says, from what the names of a scope stand for.
+use Rattle.std.specs.Prelude.{◌≡◌, ℕ, List, [], ◌∷◌, length, Some, slice_get}
+use Rattle.std.specs.List.{flat_map}
+use Rattle.wit_types.specs.declared.stability.Stability.TheVariants.{Unknown}
+use Rattle.wit_types.specs.declared.types.«Type».{«Type» as Ty}
+use Rattle.wit_types.specs.declared.types.TypeDef.{TypeDef}
+use Rattle.wit_model.specs.declared.function.Function.{Function}
+use Rattle.wit_model.specs.declared.function.FunctionKind.{FunctionKind}
+use Rattle.wit_model.specs.declared.function.FunctionKind.TheVariants as kind
+use Rattle.wit_model.specs.declared.function.Param.{Param}
+use Rattle.wit_syntax.specs.Shape.{Shape, Shapes, End, More}
+use Rattle.wit_syntax.specs.Address.{Address}
+use Rattle.wit_syntax.specs.Function.{Role, Freestanding, Method, Static, Constructor, SourceParam, SourceFunction, all_params}
+use Rattle.wit_arena.specs.Functions.{freestanding_kind, method_kind, static_kind, IsNoted}
+use Rattle.wit_arena.specs.Expr.{exprs_of}
+use Rattle.wit_arena.specs.Meet.{shape_meetings}
+use Rattle.wit_arena.specs.Resolving.{Env, AreResolved}
+
+-- shapes, one after another
+abbrev pub gathered : List Shape → Shapes
+gathered [] = End
+gathered (x ∷ xs) = More x (gathered xs)
+
+-- From whatever was met, the new arena is that with what is met in these types, and they stand for those.
+abbrev pub AreShapes : List TypeDef → List TypeDef → Address → Env → List Shape → List Ty → Type 0
+AreShapes old new s env xs ts = AreResolved old new s env (flat_map (shape_meetings s Unknown) xs) (exprs_of s (gathered xs)) ts
+
+-- the kind of a function of a role, where the names of a scope stand for these places
+abbrev pub IsKindIn : Env → Role → FunctionKind → Type 0
+IsKindIn env (Freestanding id form) k = k ≡ freestanding_kind form
+IsKindIn env (Method of form) k = (r : ℕ) × (k ≡ method_kind form r) × (env of.name.now ≡ Some r)
+IsKindIn env (Static of form) k = (r : ℕ) × (k ≡ static_kind form r) × (env of.name.now ≡ Some r)
+IsKindIn env (Constructor of) k = (r : ℕ) × (k ≡ kind.Constructor r) × (env of.name.now ≡ Some r)
+
+-- a parameter of the package is the written one apart from its type
+abbrev pub SaysParam : SourceParam → Param → Type 0
+SaysParam w p = (p.name ≡ w.name) × (p.span ≡ w.span)
+
+-- a function of the package is the written one apart from its types
+pub record SaysFunction (env : Env) (fn : SourceFunction) (f : Function) : Type 0 where
+  pub name : f.name ≡ fn.name
+  pub kind : IsKindIn env fn.role f.kind
+  pub count : length f.params ≡ length (all_params fn)
+  pub params : (k : ℕ) (w : SourceParam) (p : Param) → slice_get (all_params fn) k ≡ Some w → slice_get f.params k ≡ Some p → SaysParam w p
+  pub span : f.span ≡ fn.span
+  pub notes : IsNoted fn f

@@ -1,0 +1,41 @@
+-- Types as expressions: without spans, each name with the scope that it stands in.
+use Rattle.std.specs.Prelude.{ℕ, List}
+use Rattle.wit_syntax.specs.Form.{Form}
+use Rattle.wit_syntax.specs.Node.{Primitive}
+use Rattle.wit_syntax.specs.Shape.{Shape, Shapes}
+use Rattle.wit_syntax.specs.Shape as shape
+use Rattle.wit_syntax.specs.Address.{Address}
+use Rattle.wit_syntax.specs.Source.{ScopeName, name_body, name_scope}
+
+-- a primitive, a name of a scope, or a form over parts
+mutual
+  pub data Expr : Type 0 where
+    Prim : (primitive : Primitive) → Expr
+    Use : (scope : Address) (name : List ℕ) → Expr
+    Of : (form : Form) (parts : Exprs) → Expr
+
+  pub data Exprs : Type 0 where
+    End : Exprs
+    More : (first : Expr) (rest : Exprs) → Exprs
+
+abbrev pub one : Expr → Exprs
+one e = More e End
+
+abbrev pub joined : Exprs → Exprs → Exprs
+joined End es = es
+joined (More e rest) es = More e (joined rest es)
+
+-- the expression of a type that is written in a scope
+abbrev mutual
+  pub expr_of : Address → Shape → Expr
+  expr_of s (shape.Prim p) = Prim p
+  expr_of s (shape.Word id) = Use s id.name.now
+  expr_of s (shape.Of span form parts) = Of form (exprs_of s parts)
+
+  pub exprs_of : Address → Shapes → Exprs
+  exprs_of s shape.End = End
+  exprs_of s (shape.More x xs) = More (expr_of s x) (exprs_of s xs)
+
+-- the parts of a name of a scope: a used name has one, its original
+abbrev pub name_exprs : Address → ScopeName → Exprs
+name_exprs s x = exprs_of (name_scope s x) (name_body x).parts

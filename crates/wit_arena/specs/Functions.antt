@@ -1,0 +1,107 @@
+-- What the functions of a package say: each is a written function, whose types stand at the places of their expressions.
+use Rattle.std.specs.Prelude.{◌≡◌, ℕ, List, [], ◌∷◌, length, map, Option, Some, None, slice_get, codes}
+use Rattle.std.specs.Option.{option_to_list}
+use Rattle.wit_names.specs.Front.{behind}
+use Rattle.wit_tree.specs.declared.tree.Id.{Id}
+use Rattle.wit_tree.specs.declared.tree.FuncForm.{FuncForm}
+use Rattle.wit_tree.specs.declared.tree.FuncForm.TheVariants as form
+use Rattle.wit_types.specs.declared.types.«Type».{«Type» as Ty}
+use Rattle.wit_model.specs.declared.function.Function.{Function}
+use Rattle.wit_model.specs.declared.function.FunctionKind.{FunctionKind}
+use Rattle.wit_model.specs.declared.function.FunctionKind.TheVariants as kind
+use Rattle.wit_model.specs.declared.function.Param.{Param}
+use Rattle.wit_model.specs.declared.world.WorldKey.{WorldKey}
+use Rattle.wit_model.specs.declared.world.WorldKey.TheVariants as key
+use Rattle.wit_model.specs.declared.world.WorldItem.{WorldItem}
+use Rattle.wit_model.specs.declared.world.WorldItem.TheVariants as item
+use Rattle.wit_model.specs.Setters.{placed}
+use Rattle.wit_syntax.specs.Address.{Address}
+use Rattle.wit_syntax.specs.Shape.{Shape}
+use Rattle.wit_syntax.specs.Function.{Role, Freestanding, Method, Static, Constructor, SourceParam, SourceFunction, all_params, function_notes}
+use Rattle.wit_arena.specs.Expr.{expr_of}
+use Rattle.wit_arena.specs.Meet.{Key, Def, IsAt}
+
+abbrev pub freestanding_kind : FuncForm → FunctionKind
+freestanding_kind form.Plain = kind.Freestanding
+freestanding_kind form.Async = kind.AsyncFreestanding
+freestanding_kind form.Getter = kind.Getter
+freestanding_kind form.Setter = kind.Setter
+
+abbrev pub method_kind : FuncForm → ℕ → FunctionKind
+method_kind form.Plain r = kind.Method r
+method_kind form.Async r = kind.AsyncMethod r
+method_kind form.Getter r = kind.MethodGetter r
+method_kind form.Setter r = kind.MethodSetter r
+
+abbrev pub static_kind : FuncForm → ℕ → FunctionKind
+static_kind form.Plain r = kind.Static r
+static_kind form.Async r = kind.AsyncStatic r
+static_kind form.Getter r = kind.StaticGetter r
+static_kind form.Setter r = kind.StaticSetter r
+
+-- a resource stands at a place
+abbrev pub IsResourceAt : List Key → Address → Id → ℕ → Type 0
+IsResourceAt ks s of place = slice_get ks place ≡ Some (Def s of.name.now)
+
+-- the kind of a function of a role, over the place of its resource
+abbrev pub IsKind : List Key → Address → Role → FunctionKind → Type 0
+IsKind ks s (Freestanding id form) k = k ≡ freestanding_kind form
+IsKind ks s (Method of form) k = (r : ℕ) × (k ≡ method_kind form r) × IsResourceAt ks s of r
+IsKind ks s (Static of form) k = (r : ℕ) × (k ≡ static_kind form r) × IsResourceAt ks s of r
+IsKind ks s (Constructor of) k = (r : ℕ) × (k ≡ kind.Constructor r) × IsResourceAt ks s of r
+
+-- a parameter of the package is the written one
+pub record IsParam (ks : List Key) (s : Address) (written : SourceParam) (p : Param) : Type 0 where
+  pub name : p.name ≡ written.name
+  pub span : p.span ≡ written.span
+  pub type : IsAt ks (expr_of s written.shape) p.ty
+
+pub record AreParams (ks : List Key) (s : Address) (written : List SourceParam) (ps : List Param) : Type 0 where
+  pub count : length ps ≡ length written
+  pub each : (k : ℕ) (w : SourceParam) (p : Param) → slice_get written k ≡ Some w → slice_get ps k ≡ Some p → IsParam ks s w p
+
+-- so is a result, or both are absent
+abbrev pub IsResult : List Key → Address → Option Shape → Option Ty → Type 0
+IsResult ks s None t = t ≡ None
+IsResult ks s (Some x) None = ⊥
+IsResult ks s (Some x) (Some t) = IsAt ks (expr_of s x) t
+
+-- a function of the package has what is told of the written one
+pub record IsNoted (written : SourceFunction) (f : Function) : Type 0 where
+  pub docs : f.docs ≡ (function_notes written).docs
+  pub stability : f.stability ≡ (function_notes written).stability
+  pub external_id : f.external_id ≡ (function_notes written).external_id
+
+-- a function of the package is the written one
+pub record IsFunction (ks : List Key) (s : Address) (written : SourceFunction) (f : Function) : Type 0 where
+  pub name : f.name ≡ written.name
+  pub kind : IsKind ks s written.role f.kind
+  pub params : AreParams ks s (all_params written) f.params
+  pub result : IsResult ks s written.result f.result
+  pub span : f.span ≡ written.span
+  pub notes : IsNoted written f
+
+-- these are the functions of a scope, in source order
+pub record AreFunctions (ks : List Key) (s : Address) (written : List SourceFunction) (fs : List Function) : Type 0 where
+  pub count : length fs ≡ length written
+  pub each : (k : ℕ) (w : SourceFunction) (f : Function) → slice_get written k ≡ Some w → slice_get fs k ≡ Some f → IsFunction ks s w f
+
+-- the written name of a function that is no resource's
+abbrev pub freestanding_names : FunctionKind → List ℕ → List (List ℕ)
+freestanding_names kind.Freestanding name = name ∷ []
+freestanding_names kind.AsyncFreestanding name = name ∷ []
+freestanding_names kind.Getter name = option_to_list (behind (codes "[get]") name)
+freestanding_names kind.Setter name = option_to_list (behind (codes "[set]") name)
+freestanding_names k name = []
+
+-- a function stands at its name
+abbrev pub by_name : Function → List ℕ × Function
+by_name f = (f.name, f)
+
+-- in an interface, each setter that is written before its getter stands directly behind it
+abbrev pub placed_functions : List Function → List (List ℕ × Function)
+placed_functions fs = placed Some (map by_name fs)
+
+-- of a world, functions are imports
+abbrev pub function_import : Function → WorldKey × WorldItem
+function_import f = (key.Name f.name, item.Function f)

@@ -1,0 +1,10 @@
+pub mod Kind
+pub mod Expr
+pub mod Meet
+pub mod EntryEnds
+pub mod Functions
+pub mod Package
+pub mod Whole
+pub mod Resolving
+pub mod Resolved
+pub mod Adding

@@ -1,0 +1,180 @@
+-- The arena of types as the list of first meetings.
+use Rattle.std.specs.Prelude.{◌≡◌, ℕ, List, [], ◌∷◌, ◌++◌, length, map, take, Some, None, ◌⊎◌, slice_get}
+use Rattle.wit_values.specs.declared.span.Span.{Span}
+use Rattle.std.specs.List.{flat_map}
+use Rattle.wit_types.specs.declared.stability.Stability.{Stability}
+use Rattle.wit_types.specs.declared.stability.Stability.TheVariants.{Unknown}
+use Rattle.std.specs.Option.{option_map_or}
+use Rattle.wit_types.specs.declared.types.«Type».{«Type» as Ty}
+use Rattle.wit_types.specs.declared.types.«Type».TheVariants as type
+use Rattle.wit_types.specs.declared.types.TypeDef.{TypeDef}
+use Rattle.wit_types.specs.declared.types.TypeDefKind.{TypeDefKind}
+use Rattle.wit_types.specs.declared.types.TypeOwner.{TypeOwner}
+use Rattle.wit_types.specs.declared.types.TypeOwner.TheVariants as owner
+use Rattle.wit_syntax.specs.Form.{Form}
+use Rattle.wit_arena.specs.Kind.{kind_of}
+use Rattle.wit_syntax.specs.Node.{Primitive}
+use Rattle.wit_syntax.specs.Node as node
+use Rattle.wit_syntax.specs.Repeats.{AllDiffer}
+use Rattle.wit_syntax.specs.Shape.{Shape, Shapes}
+use Rattle.wit_syntax.specs.Shape as shape
+use Rattle.wit_syntax.specs.Notes.{Notes, HasNotes, no_docs, first_known}
+use Rattle.wit_syntax.specs.Address.{Address}
+use Rattle.wit_syntax.specs.Source.{ScopeName, local_name, name_form, name_span, name_body, name_scope, name_notes, name_stability}
+use Rattle.wit_syntax.specs.Function.{SourceFunction, signature}
+use Rattle.wit_arena.specs.Expr.{Expr, Prim, Use, Of, Exprs, End, More, exprs_of, name_exprs}
+
+-- what is met: a name of a scope, or an unnamed type
+pub data Key : Type 0 where
+  Def : (scope : Address) (name : List ℕ) → Key
+  Whole : (form : Form) (parts : Exprs) → Key
+
+-- something that is met, where it is written, and the stability of the definition that it stands in, as far as that is known
+pub record Meeting : Type 0 where
+  pub key : Key
+  pub span : Span
+  pub given : Stability
+
+abbrev pub keys : List Meeting → List Key
+keys ms = map (λ m. m.key) ms
+
+abbrev pub spans : List Meeting → List Span
+spans ms = map (λ m. m.span) ms
+
+-- what is met in a type: the parts of a form, and then the whole
+abbrev mutual
+  pub shape_meetings : Address → Stability → Shape → List Meeting
+  shape_meetings s given (shape.Prim p) = []
+  shape_meetings s given (shape.Word id) = []
+  shape_meetings s given (shape.Of span form parts) = shapes_meetings s given parts ++ record { key = Whole form (exprs_of s parts); span = span; given = given } ∷ []
+
+  pub shapes_meetings : Address → Stability → Shapes → List Meeting
+  shapes_meetings s given shape.End = []
+  shapes_meetings s given (shape.More x xs) = shape_meetings s given x ++ shapes_meetings s given xs
+
+-- what is met in the parts of a name of a scope; the original of a used name was met before
+abbrev pub parts_meetings : Address → ScopeName → List Meeting
+parts_meetings s x = shapes_meetings (name_scope s x) (name_stability x) (name_body x).parts
+
+-- what is met in a name of a scope: its parts, and then itself
+abbrev pub name_meetings : Address → ScopeName → List Meeting
+name_meetings s x = parts_meetings s x ++ record { key = Def s (local_name x); span = name_span x; given = name_stability x } ∷ []
+
+abbrev pub all_name_meetings : Address → List ScopeName → List Meeting
+all_name_meetings s xs = flat_map (name_meetings s) xs
+
+-- what is met in a function: in its parameters, and then in its result; they stand in no definition
+abbrev pub function_meetings : Address → SourceFunction → List Meeting
+function_meetings s fn = flat_map (shape_meetings s Unknown) (signature fn)
+
+abbrev pub all_function_meetings : Address → List SourceFunction → List Meeting
+all_function_meetings s fns = flat_map (function_meetings s) fns
+
+abbrev pub IsMet : List Key → Key → Type 0
+IsMet ks k = (i : ℕ) × (slice_get ks i ≡ Some k)
+
+-- the last list is the first with what is met anew, in order
+abbrev pub Meets : List Meeting → List Meeting → List Meeting → Type 0
+Meets ms [] all = all ≡ ms
+Meets ms (k ∷ ks) all = (IsMet (keys ms) k.key × Meets ms ks all) ⊎ ((IsMet (keys ms) k.key → ⊥) × Meets (ms ++ k ∷ []) ks all)
+
+abbrev pub primitive_type : Primitive → Ty
+primitive_type node.Bool = type.Bool
+primitive_type node.U8 = type.U8
+primitive_type node.U16 = type.U16
+primitive_type node.U32 = type.U32
+primitive_type node.U64 = type.U64
+primitive_type node.S8 = type.S8
+primitive_type node.S16 = type.S16
+primitive_type node.S32 = type.S32
+primitive_type node.S64 = type.S64
+primitive_type node.F32 = type.F32
+primitive_type node.F64 = type.F64
+primitive_type node.Char = type.Char
+primitive_type node.String = type.String
+primitive_type node.ErrorContext = type.ErrorContext
+
+-- a type is a primitive, or the place of its first meeting
+abbrev pub IsAt : List Key → Expr → Ty → Type 0
+IsAt ks (Prim p) ty = ty ≡ primitive_type p
+IsAt ks (Use scope name) ty = (i : ℕ) × (ty ≡ type.Id i) × (slice_get ks i ≡ Some (Def scope name))
+IsAt ks (Of form parts) ty = (i : ℕ) × (ty ≡ type.Id i) × (slice_get ks i ≡ Some (Whole form parts))
+
+abbrev pub AreAt : List Key → Exprs → List Ty → Type 0
+AreAt ks End [] = Unit {0}
+AreAt ks (More e es) (t ∷ ts) = IsAt ks e t × AreAt ks es ts
+AreAt ks End (t ∷ ts) = ⊥
+AreAt ks (More e es) [] = ⊥
+
+-- a declaration of a scope: its name and where it stands, whose it is, what is told of it, its form and its parts
+pub record Decl : Type 0 where
+  pub name : List ℕ
+  pub span : Span
+  pub owner : TypeOwner
+  pub notes : Notes
+  pub form : Form
+  pub parts : Exprs
+
+abbrev pub decl_of : TypeOwner → Address → ScopeName → Decl
+decl_of o s x = record { name = local_name x; span = name_span x; owner = o; notes = name_notes x; form = name_form x; parts = name_exprs s x }
+
+abbrev pub IsAmong : List Decl → Decl → Type 0
+IsAmong ds d = (k : ℕ) × (slice_get ds k ≡ Some d)
+
+-- the declarations of each scope
+abbrev pub Decls : Type 0
+Decls = Address → List Decl
+
+-- the entry of a name of a scope, over the places of parts that were met before
+pub record IsNamedEntry (decls : Decls) (ks : List Key) (s : Address) (called : List ℕ) (e : TypeDef) : Type 0 where
+  pub decl : Decl
+  pub among : IsAmong (decls s) decl
+  pub same : decl.name ≡ called
+  pub name : e.name ≡ Some called
+  pub span : e.span ≡ decl.span
+  pub owner : e.owner ≡ decl.owner
+  pub form : (kind_of e.kind).form ≡ decl.form
+  pub parts : AreAt ks decl.parts (kind_of e.kind).parts
+  pub notes : HasNotes decl.notes e
+
+-- the entry of an unnamed type, over the places of parts that were met before
+pub record IsUnnamedEntry (ks : List Key) (shape : Form) (exprs : Exprs) (e : TypeDef) : Type 0 where
+  pub name : e.name ≡ None
+  pub owner : e.owner ≡ owner.None
+  pub form : (kind_of e.kind).form ≡ shape
+  pub parts : AreAt ks exprs (kind_of e.kind).parts
+  pub docs : e.docs ≡ no_docs
+  pub external_id : e.external_id ≡ None
+
+abbrev pub IsEntry : Decls → List Key → Key → TypeDef → Type 0
+IsEntry decls ks (Def scope name) e = IsNamedEntry decls ks scope name e
+IsEntry decls ks (Whole form parts) e = IsUnnamedEntry ks form parts e
+
+-- the arena is what was met, each once, and each entry that of its key over what was met before
+pub record IsKeyed (decls : Decls) (ks : List Key) (es : List TypeDef) : Type 0 where
+  pub count : length es ≡ length ks
+  pub once : AllDiffer ks
+  pub each : (i : ℕ) (k : Key) (e : TypeDef) → slice_get ks i ≡ Some k → slice_get es i ≡ Some e → IsEntry decls (take i ks) k e
+
+abbrev pub entry_stability : TypeDef → Stability
+entry_stability e = e.stability
+
+-- the stability of what a type stands for; of a primitive none is known
+abbrev pub stability_at : List TypeDef → Ty → Stability
+stability_at es (type.Id i) = option_map_or entry_stability (slice_get es i) Unknown
+stability_at es ty = Unknown
+
+-- the stability of an unnamed type of this kind among entries: that of the definition that it stands in, where that is known, else the first known one of its parts
+abbrev pub settled : List TypeDef → Stability → TypeDefKind → Stability
+settled es given kind = first_known (given ∷ map (stability_at es) (kind_of kind).parts)
+
+-- an unnamed type has that stability, among the entries before it
+abbrev pub IsSettled : List TypeDef → Stability → Key → TypeDef → Type 0
+IsSettled es given (Def scope name) e = Unit {0}
+IsSettled es given (Whole form parts) e = e.stability ≡ settled es given e.kind
+
+-- the arena is the list of first meetings
+pub record IsMeeting (decls : Decls) (ms : List Meeting) (es : List TypeDef) : Type 0 where
+  pub keyed : IsKeyed decls (keys ms) es
+  pub spans : map (λ e. e.span) es ≡ spans ms
+  pub settled : (i : ℕ) (m : Meeting) (e : TypeDef) → slice_get ms i ≡ Some m → slice_get es i ≡ Some e → IsSettled (take i es) m.given m.key e

@@ -1,0 +1,212 @@
+-- What types of a package mean: the arenas unfolded, whose names are by what the package calls them, and what an interface says.
+use Rattle.std.specs.Prelude.{◌≡◌, ℕ, zero, suc, ◌<◌, Bool, false, nat_eq, List, [], ◌∷◌, ◌++◌, Option, Some, None, ◌⊎◌, map, find, slice_get}
+use Rattle.std.specs.List.{flat_map}
+use Rattle.std.specs.Option.{option_map_or, option_to_list}
+use Rattle.wit_model.specs.declared.function.Function.{Function}
+use Rattle.wit_model.specs.declared.function.Param.{Param}
+use Rattle.wit_tree.specs.declared.tree.Id.{Id}
+use Rattle.wit_model.specs.declared.ast_item.AstItem.{AstItem}
+use Rattle.wit_model.specs.declared.ast_item.AstItem.TheVariants as entry
+use Rattle.wit_package_names.specs.declared.package_name.PackageName.{PackageName}
+use Rattle.wit_model.specs.declared.interface.Interface.{Interface}
+use Rattle.wit_model.specs.declared.world.World.{World}
+use Rattle.wit_model.specs.declared.world.WorldKey.{WorldKey}
+use Rattle.wit_model.specs.declared.world.WorldKey.TheVariants as key
+use Rattle.wit_model.specs.declared.world.WorldItem.{WorldItem}
+use Rattle.wit_model.specs.declared.world.WorldItem.TheVariants as item
+use Rattle.wit_model.specs.declared.unresolved.UnresolvedPackage.{UnresolvedPackage}
+use Rattle.wit_types.specs.declared.stability.Stability.{Stability}
+use Rattle.wit_types.specs.declared.stability.Stability.TheVariants.{Unknown}
+use Rattle.wit_types.specs.declared.types.«Type».{«Type» as Ty}
+use Rattle.wit_types.specs.declared.types.«Type».TheVariants as type
+use Rattle.wit_types.specs.declared.types.TypeDef.{TypeDef}
+use Rattle.wit_types.specs.declared.types.TypeOwner.{TypeOwner}
+use Rattle.wit_types.specs.declared.types.TypeOwner.TheVariants as owner
+use Rattle.wit_arena.specs.Kind.{kind_of}
+use Rattle.wit_syntax.specs.Address.{Address, InterfaceNamed, WorldNamed, ForeignNamed}
+use Rattle.wit_syntax.specs.Node.{Owner, OfScope, Nobody, Head, Node, Leaf, Named, Unnamed, Nothing, Tree, unfolded}
+use Rattle.wit_syntax.specs.Node as node
+use Rattle.wit_syntax.specs.Notes.{Notes, no_docs}
+
+-- what other packages' items a package names, each with its address
+abbrev pub dep_items : PackageName × List (List ℕ × (AstItem × List Stability)) → List (AstItem × Address)
+dep_items d = map (λ e. (e.1.0, ForeignNamed d.0 e.0)) d.1
+
+-- whether two entries of the arenas are one
+abbrev pub same_entry : AstItem → AstItem → Bool
+same_entry (entry.Interface i) (entry.Interface j) = nat_eq i j
+same_entry (entry.World i) (entry.World j) = nat_eq i j
+same_entry (entry.Interface i) (entry.World j) = false
+same_entry (entry.World i) (entry.Interface j) = false
+
+abbrev pub address_of : Option (AstItem × Address) → Owner
+address_of None = Nobody
+address_of (Some e) = OfScope e.1
+
+-- an item of another package, by what the package calls it
+abbrev pub foreign_owner : UnresolvedPackage → AstItem → Owner
+foreign_owner p i = address_of (find (λ e. same_entry e.0 i) (flat_map dep_items p.foreign_deps))
+
+-- an interface goes by its name; one without a name is another package's
+abbrev pub named_interface : UnresolvedPackage → ℕ → Option (List ℕ) → Owner
+named_interface p place None = foreign_owner p (entry.Interface place)
+named_interface p place (Some name) = OfScope (InterfaceNamed name)
+
+abbrev pub interface_owner : UnresolvedPackage → ℕ → Option Interface → Owner
+interface_owner p place None = Nobody
+interface_owner p place (Some i) = named_interface p place i.name
+
+-- a world goes by its name; one whose name is empty is another package's
+abbrev pub named_world : UnresolvedPackage → ℕ → List ℕ → Owner
+named_world p place [] = foreign_owner p (entry.World place)
+named_world p place (c ∷ cs) = OfScope (WorldNamed (c ∷ cs))
+
+abbrev pub world_owner : UnresolvedPackage → ℕ → Option World → Owner
+world_owner p place None = Nobody
+world_owner p place (Some w) = named_world p place w.name
+
+-- an owner by what the package calls it
+abbrev pub owner_of : UnresolvedPackage → TypeOwner → Owner
+owner_of p (owner.Interface i) = interface_owner p i (slice_get p.interfaces i)
+owner_of p (owner.World w) = world_owner p w (slice_get p.worlds w)
+owner_of p owner.None = Nobody
+
+abbrev pub interface_types : Interface → List (List ℕ × ℕ)
+interface_types i = i.types
+
+-- the type that an import is, under its name
+abbrev pub import_types : WorldKey × WorldItem → List (List ℕ × ℕ)
+import_types (key.Name name, item.Type_ id span) = (name, id) ∷ []
+import_types (key.Name name, item.Interface id stability external_id docs span) = []
+import_types (key.Name name, item.Function f) = []
+import_types (key.Interface i, it) = []
+
+-- the types among the imports of a world, under their names
+abbrev pub world_types : World → List (List ℕ × ℕ)
+world_types w = flat_map import_types w.imports
+
+-- the function that an import is, under its name
+abbrev pub import_functions : WorldKey × WorldItem → List (List ℕ × Function)
+import_functions (key.Name name, item.Function f) = (name, f) ∷ []
+import_functions (key.Name name, item.Type_ id span) = []
+import_functions (key.Name name, item.Interface id stability external_id docs span) = []
+import_functions (key.Interface i, it) = []
+
+-- the functions among the imports of a world, under their names
+abbrev pub world_functions : World → List (List ℕ × Function)
+world_functions w = flat_map import_functions w.imports
+
+abbrev pub interface_functions : Interface → List (List ℕ × Function)
+interface_functions i = i.functions
+
+-- the functions of an owner, under their names
+abbrev pub functions_of : UnresolvedPackage → TypeOwner → List (List ℕ × Function)
+functions_of p (owner.Interface i) = option_map_or interface_functions (slice_get p.interfaces i) []
+functions_of p (owner.World w) = option_map_or world_functions (slice_get p.worlds w) []
+functions_of p owner.None = []
+
+-- the types of a function, in order
+abbrev pub function_types : Function → List Ty
+function_types f = map (λ (x : Param). x.ty) f.params ++ option_to_list f.result
+
+-- the names of an owner's types, with their places
+abbrev pub names_of : UnresolvedPackage → TypeOwner → List (List ℕ × ℕ)
+names_of p (owner.Interface i) = option_map_or interface_types (slice_get p.interfaces i) []
+names_of p (owner.World w) = option_map_or world_types (slice_get p.worlds w) []
+names_of p owner.None = []
+
+-- a named entry without its body
+abbrev pub entry_head : UnresolvedPackage → List ℕ → TypeDef → Head
+entry_head p name e = record { owner = owner_of p e.owner; name = name; span = e.span; docs = e.docs; stability = e.stability; external_id = e.external_id }
+
+abbrev pub entry_node : UnresolvedPackage → Option (List ℕ) → TypeDef → Node Ty
+entry_node p None e = Unnamed (kind_of e.kind).form (kind_of e.kind).parts
+entry_node p (Some name) e = Named (entry_head p name e) (kind_of e.kind).form (kind_of e.kind).parts
+
+abbrev pub node_at : UnresolvedPackage → Option TypeDef → Node Ty
+node_at p None = Nothing
+node_at p (Some e) = entry_node p e.name e
+
+-- one level of a type of the package
+abbrev pub package_node : UnresolvedPackage → Ty → Node Ty
+package_node p type.Bool = Leaf node.Bool
+package_node p type.U8 = Leaf node.U8
+package_node p type.U16 = Leaf node.U16
+package_node p type.U32 = Leaf node.U32
+package_node p type.U64 = Leaf node.U64
+package_node p type.S8 = Leaf node.S8
+package_node p type.S16 = Leaf node.S16
+package_node p type.S32 = Leaf node.S32
+package_node p type.S64 = Leaf node.S64
+package_node p type.F32 = Leaf node.F32
+package_node p type.F64 = Leaf node.F64
+package_node p type.Char = Leaf node.Char
+package_node p type.String = Leaf node.String
+package_node p type.ErrorContext = Leaf node.ErrorContext
+package_node p (type.Id i) = node_at p (slice_get p.types i)
+
+-- the tree of a type, to n levels
+abbrev pub package_tree : UnresolvedPackage → (n : ℕ) → Ty → Tree n
+package_tree p n ty = unfolded (package_node p) n ty
+
+-- an entry stands at a place
+pub record At (es : List TypeDef) (i : ℕ) (e : TypeDef) : Type 0 where
+  pub is : slice_get es i ≡ Some e
+
+-- a type is one of these
+abbrev pub HasPart : List Ty → Ty → Type 0
+HasPart [] part = ⊥
+HasPart (t ∷ ts) part = (t ≡ part) ⊎ HasPart ts part
+
+-- a type names no place from n on
+abbrev pub IsBelow : ℕ → Ty → Type 0
+IsBelow n (type.Id i) = i < n
+IsBelow n _ = Unit {0}
+
+-- a type leads to the entry at a place, in n steps from whole to part
+abbrev pub LeadsTo : List TypeDef → ℕ → Ty → ℕ → Type 0
+LeadsTo es zero ty j = ty ≡ type.Id j
+LeadsTo es (suc n) ty j = (i : ℕ) × (e : TypeDef) × (part : Ty) × (ty ≡ type.Id i) × At es i e × HasPart (kind_of e.kind).parts part × LeadsTo es n part j
+
+-- a type leads to the entry at a place
+abbrev pub Reaches : List TypeDef → Ty → ℕ → Type 0
+Reaches es ty j = (n : ℕ) × LeadsTo es n ty j
+
+-- an interface of the arena is the declared one of a name and these notes, apart from its types and functions
+pub record IsInterface (id : Id) (n : Notes) (i : Interface) : Type 0 where
+  pub name : i.name ≡ Some id.name.now
+  pub span : i.span ≡ id.span
+  pub docs : i.docs ≡ n.docs
+  pub stability : i.stability ≡ n.stability
+  pub no_package : i.package ≡ None
+  pub no_source : i.clone_of ≡ None
+
+-- a world of the arena is the declared one of a name and these notes, apart from its imports and includes
+pub record IsWorld (id : Id) (n : Notes) (w : World) : Type 0 where
+  pub name : w.name ≡ id.name.now
+  pub span : w.span ≡ id.span
+  pub exports : w.exports ≡ []
+  pub docs : w.docs ≡ n.docs
+  pub stability : w.stability ≡ n.stability
+  pub no_package : w.package ≡ None
+
+-- an interface of another package, where a path first leads to it, apart from its types
+pub record IsForeignInterface (id : Id) (i : Interface) : Type 0 where
+  pub name : i.name ≡ None
+  pub span : i.span ≡ id.span
+  pub functions : i.functions ≡ []
+  pub docs : i.docs ≡ no_docs
+  pub stability : i.stability ≡ Unknown
+  pub no_package : i.package ≡ None
+  pub no_source : i.clone_of ≡ None
+
+-- a world of another package, where a path first leads to it
+pub record IsForeignWorld (id : Id) (w : World) : Type 0 where
+  pub name : w.name ≡ []
+  pub span : w.span ≡ id.span
+  pub imports : w.imports ≡ []
+  pub exports : w.exports ≡ []
+  pub docs : w.docs ≡ no_docs
+  pub stability : w.stability ≡ Unknown
+  pub includes : w.includes ≡ []
+  pub no_package : w.package ≡ None

@@ -1,0 +1,204 @@
+-- What resolving interfaces and worlds does to the arenas, one after another.
+use Rattle.std.specs.Prelude.{◌≡◌, ℕ, true, false, List, [], ◌∷◌, ◌++◌, length, map, take, Some, None, slice_get, Contains}
+use Rattle.std.specs.List.{flat_map}
+use Rattle.wit_tree.specs.declared.tree.Id.{Id}
+use Rattle.wit_tree.specs.declared.tree.Include.{Include}
+use Rattle.wit_tree.specs.declared.tree.PackageFile.{PackageFile}
+use Rattle.wit_types.specs.declared.types.TypeDef.{TypeDef}
+use Rattle.wit_types.specs.declared.types.TypeDefKind.TheVariants.{Unknown}
+use Rattle.wit_types.specs.declared.types.TypeOwner.{TypeOwner}
+use Rattle.wit_types.specs.declared.types.TypeOwner.TheVariants as owner
+use Rattle.wit_model.specs.declared.interface.Interface.{Interface}
+use Rattle.wit_model.specs.declared.world.World.{World}
+use Rattle.wit_order.specs.Table.{IsOrder}
+use Rattle.wit_syntax.specs.Address.{Address, WorldNamed}
+use Rattle.wit_syntax.specs.Notes.{notes, no_docs, IsBrokenStability}
+use Rattle.wit_syntax.specs.Source.{Item, item_id, item_notes, declared_attributes, address, is_world, ScopeName, scope_names, meaning, Taking, first_takings}
+use Rattle.wit_syntax.specs.Foreign.{visited, foreign_interfaces, foreign_worlds}
+use Rattle.wit_arena.specs.Meet.{keys}
+use Rattle.wit_syntax.specs.Fault.{Fault}
+use Rattle.wit_arena.specs.Package.{IsInterface, IsWorld}
+use Rattle.wit_syntax.specs.Scope.{includes, interfaces_of, worlds_of, rows_of, in_order, defined, in_turn, AreDistinct}
+use Rattle.wit_model.specs.declared.function.Function.{Function}
+use Rattle.wit_syntax.specs.Function.{SourceFunction, functions as item_functions, signature, all_types, item_types}
+use Rattle.wit_syntax.specs.Signature.{IsUnpairedSetter}
+use Rattle.wit_arena.specs.Functions.{placed_functions, function_import}
+use Rattle.wit_syntax.specs.Broken.{IsBrokenScope}
+use Rattle.wit_arena.specs.Whole.{owner_at, taking_meeting, AreForeignInterfaces, AreForeignWorlds, type_imports, AreIncludes}
+use Rattle.wit_arena.specs.Resolving.{Names, env_of, Cell, cells, named, Defines, AddsFunctions, Required, IsWrongHandle, AreEnded, IsIndex, IsWorldIndex, IsLostInclude, IsWrongScope}
+use Rattle.wit_syntax.specs.Shape.{words, all_handles}
+
+-- the definitions of a scope were added in the least dependency-first order, behind its used names
+pub record DefinesAll (old new : List TypeDef) (o : TypeOwner) (names names' : Names) (xs : List ScopeName) : Type 0 where
+  pub order : List ℕ
+  pub least : IsOrder (rows_of xs) order
+  pub distinct : AreDistinct xs
+  pub defines : (cs : List Cell) (s : Address) → Defines old new cs o s names names' (defined (in_order xs order))
+
+-- what the names of a scope add to the arena of types, in the order of its table; `cs` are the scopes that they may use
+pub record AddsScope (old new : List TypeDef) (cs : List Cell) (o : TypeOwner) (xs : List ScopeName) (types : Names) : Type 0 where
+  pub order : List ℕ
+  pub least : IsOrder (rows_of xs) order
+  pub distinct : AreDistinct xs
+  pub defines : (s : Address) → Defines old new cs o s [] types (in_turn xs order)
+
+-- what the functions of an item add to the arena of types, behind its names in turn, and what its handles require
+pub record AddsBehind (old new : List TypeDef) (item : Item) (order : List ℕ) (names : Names) (fs : List Function) (rs : List Required) : Type 0 where
+  pub adds : AddsFunctions old new (address item) names (item_functions item) fs
+  pub ended : AreEnded (env_of names) new (all_handles (all_types (in_turn (scope_names item) order) (item_functions item))) rs
+
+-- what an interface adds to the arenas, where those at these addresses are of other packages
+pub record AddsInterface (foreign : List Address) (old new : List TypeDef) (is is' : List Interface) (rs : List Required) (item : Item) : Type 0 where
+  pub added : Interface
+  pub last : is' ≡ is ++ added ∷ []
+  pub says : IsInterface (item_id item) (item_notes item) added
+  pub middle : List TypeDef
+  pub adds : AddsScope old middle (cells foreign is) (owner.Interface (length is)) (scope_names item) added.types
+  pub functions : List Function
+  pub behind : AddsBehind middle new item adds.order added.types functions rs
+  pub stand : added.functions ≡ placed_functions functions
+  pub paired : (f : Fault) → IsUnpairedSetter (item_functions item) f → ⊥
+
+-- the addresses of worlds: at first of those of other packages
+abbrev pub worlds_at : List Address → List World → List Address
+worlds_at [] ws = map (λ w. WorldNamed w.name) ws
+worlds_at (s ∷ ss) [] = []
+worlds_at (s ∷ ss) (w ∷ ws) = s ∷ worlds_at ss ws
+
+-- what a world adds to the arenas, where these are the interfaces, and at first those at these addresses
+pub record AddsWorld (foreign others : List Address) (is : List Interface) (old new : List TypeDef) (ws ws' : List World) (rs : List Required) (item : Item) : Type 0 where
+  pub added : World
+  pub last : ws' ≡ ws ++ added ∷ []
+  pub says : IsWorld (item_id item) (item_notes item) added
+  pub types : Names
+  pub middle : List TypeDef
+  pub adds : AddsScope old middle (cells foreign is) (owner.World (length ws)) (scope_names item) types
+  pub functions : List Function
+  pub behind : AddsBehind middle new item adds.order types functions rs
+  pub imports : added.imports ≡ type_imports (in_turn (scope_names item) adds.order) types ++ map function_import functions
+  pub includes : AreIncludes (worlds_at others ws) item added.includes
+
+-- what items add to the arenas, one after another, and what they require, where `Adds` says what one of them does
+abbrev pub AddsEach : {X : Type 0} → (List TypeDef → List TypeDef → List X → List X → List Required → Item → Type 0) → List TypeDef → List TypeDef → List X → List X → List Required → List Item → Type 0
+AddsEach Adds old new xs xs' rs [] = (new ≡ old) × (xs' ≡ xs) × (rs ≡ [])
+AddsEach {X} Adds old new xs xs' rs (w ∷ ws) = (mid : List TypeDef) × (between : List X) × (own : List Required) × (rest : List Required) × (rs ≡ own ++ rest) × Adds old mid xs between own w × AddsEach Adds mid new between xs' rest ws
+
+-- what interfaces add, behind those of other packages
+abbrev pub AddsInterfaces : List Address → List TypeDef → List TypeDef → List Interface → List Interface → List Required → List Item → Type 0
+AddsInterfaces foreign old new is is' rs items = AddsEach (AddsInterface foreign) old new is is' rs items
+
+-- what worlds add, where these are the interfaces
+abbrev pub AddsWorlds : List Address → List Address → List Interface → List TypeDef → List TypeDef → List World → List World → List Required → List Item → Type 0
+AddsWorlds foreign others is old new ws ws' rs items = AddsEach (AddsWorld foreign others is) old new ws ws' rs items
+
+-- no scope of these items is broken by itself
+pub record AreLegalScopes (items : List Item) : Type 0 where
+  pub legal : (i : ℕ) (item : Item) (f : Fault) → slice_get items i ≡ Some item → IsBrokenScope (scope_names item) (item_functions item) f → ⊥
+
+-- a name in a signature of a scope with these names and functions means nothing
+pub record IsNameless (xs : List ScopeName) (fns : List SourceFunction) : Type 0 where
+  pub k : ℕ
+  pub fn : SourceFunction
+  pub at : slice_get fns k ≡ Some fn
+  pub id : Id
+  pub among : Contains (flat_map words (signature fn)) id
+  pub missing : meaning xs id.name.now ≡ None
+
+-- no scope of these items is broken by itself, but where a name in a signature means nothing
+pub record AreSoundScopes (items : List Item) : Type 0 where
+  pub sound : (i : ℕ) (item : Item) (f : Fault) → slice_get items i ≡ Some item → IsBrokenScope (scope_names item) (item_functions item) f → IsNameless (scope_names item) (item_functions item)
+
+-- what is wrong with the stability that the attributes of an item tell, or those of its includes
+pub data IsBrokenItemStability (item : Item) (f : Fault) : Type 0 where
+  OwnStability : IsBrokenStability (declared_attributes item.declared) f → IsBrokenItemStability item f
+  OfInclude : (n : Include) → Contains (includes item) n → IsBrokenStability n.attributes.items f → IsBrokenItemStability item f
+
+-- nothing is wrong with the stability of these items
+pub record HaveLegalStability (items : List Item) : Type 0 where
+  pub legal : (i : ℕ) (item : Item) (f : Fault) → slice_get items i ≡ Some item → IsBrokenItemStability item f → ⊥
+
+-- an item at a place, once some of those at places were gone over
+pub record IsNext (items : List Item) (places : List ℕ) (count : ℕ) (item : Item) : Type 0 where
+  pub place : ℕ
+  pub next : slice_get places count ≡ Some place
+  pub at : slice_get items place ≡ Some item
+
+-- the entry of a name of another package: nothing is known of it but whose it is
+abbrev pub foreign_type : List PackageFile → Taking → TypeDef
+foreign_type files t = named (owner_at (map visited (foreign_interfaces files)) (map visited (foreign_worlds files)) t.from) t.id.name.now Unknown (notes no_docs t.attributes) t.id.span
+
+-- what other packages' items put in front of the arenas: the names that are taken from them, and their interfaces and worlds
+pub record AddsForeign (files : List PackageFile) (es : List TypeDef) (is : List Interface) (ws : List World) : Type 0 where
+  pub types : es ≡ map (foreign_type files) (first_takings files)
+  pub interfaces : AreForeignInterfaces files (keys (map taking_meeting (first_takings files))) (foreign_interfaces files) is
+  pub worlds : AreForeignWorlds (foreign_worlds files) ws
+
+-- once some names of a scope were added in turn, and some types behind them, a name in a handle of the item ends at something else than
+-- a resource
+pub record IsWrongHandleNow (old : List TypeDef) (cs : List Cell) (o : TypeOwner) (item : Item) (f : Fault) : Type 0 where
+  pub order : List ℕ
+  pub least : IsOrder (rows_of (scope_names item)) order
+  pub distinct : AreDistinct (scope_names item)
+  pub count : ℕ
+  pub mid : List TypeDef
+  pub names : Names
+  pub defines : (s : Address) → Defines old mid cs o s [] names (take count (in_turn (scope_names item) order))
+  pub more : List TypeDef
+  pub wrong : IsWrongHandle (env_of names) (mid ++ more) (all_handles (item_types item)) f
+
+-- what is wrong with an interface, by what was resolved before
+pub data IsWrongInterface (old : List TypeDef) (cs : List Cell) (by_name : Names) (o : TypeOwner) (item : Item) (f : Fault) : Type 0 where
+  WrongStability : IsBrokenItemStability item f → IsWrongInterface old cs by_name o item f
+  WrongScope : IsWrongScope cs by_name (scope_names item) (item_functions item) f → IsWrongInterface old cs by_name o item f
+  WrongHandle : IsWrongHandleNow old cs o item f → IsWrongInterface old cs by_name o item f
+  Unpaired : IsUnpairedSetter (item_functions item) f → IsWrongInterface old cs by_name o item f
+
+-- what is wrong with a world, by what was resolved before
+pub data IsWrongWorld (files : List PackageFile) (old : List TypeDef) (cs : List Cell) (by_name worlds_by_name : Names) (o : TypeOwner) (item : Item) (f : Fault) : Type 0 where
+  WrongWorldStability : IsBrokenItemStability item f → IsWrongWorld files old cs by_name worlds_by_name o item f
+  WrongWorldScope : IsWrongScope cs by_name (scope_names item) (item_functions item) f → IsWrongWorld files old cs by_name worlds_by_name o item f
+  WrongWorldHandle : IsWrongHandleNow old cs o item f → IsWrongWorld files old cs by_name worlds_by_name o item f
+  LostInclude : IsLostInclude files worlds_by_name item f → IsWrongWorld files old cs by_name worlds_by_name o item f
+
+-- once the interfaces among some of the items were added in the order of their places, the next item is an interface that is wrong
+pub record IsWrongAmong (files : List PackageFile) (items : List Item) (places : List ℕ) (f : Fault) : Type 0 where
+  pub count : ℕ
+  pub item : Item
+  pub next : IsNext items places count item
+  pub sort : is_world item ≡ false
+  pub es : List TypeDef
+  pub front : List Interface
+  pub ws : List World
+  pub foreign : AddsForeign files es front ws
+  pub mid : List TypeDef
+  pub before : List Interface
+  pub rs : List Required
+  pub added : AddsInterfaces (map visited (foreign_interfaces files)) es mid front before rs (interfaces_of (in_order items (take count places)))
+  pub by_name : Names
+  pub index : IsIndex (cells (map visited (foreign_interfaces files)) before) by_name
+  pub wrong : IsWrongInterface mid (cells (map visited (foreign_interfaces files)) before) by_name (owner.Interface (length before)) item f
+
+-- once all interfaces, and the worlds among some of the items, were added in the order of their places, the next item is a world that
+-- is wrong
+pub record IsWrongWorldAmong (files : List PackageFile) (items : List Item) (places : List ℕ) (f : Fault) : Type 0 where
+  pub es : List TypeDef
+  pub front : List Interface
+  pub worlds_front : List World
+  pub foreign : AddsForeign files es front worlds_front
+  pub middle : List TypeDef
+  pub is : List Interface
+  pub rs : List Required
+  pub interfaces : AddsInterfaces (map visited (foreign_interfaces files)) es middle front is rs (interfaces_of (in_order items places))
+  pub count : ℕ
+  pub item : Item
+  pub next : IsNext items places count item
+  pub sort : is_world item ≡ true
+  pub mid : List TypeDef
+  pub before : List World
+  pub worlds_rs : List Required
+  pub added : AddsWorlds (map visited (foreign_interfaces files)) (map visited (foreign_worlds files)) is middle mid worlds_front before worlds_rs (worlds_of (in_order items (take count places)))
+  pub by_name : Names
+  pub index : IsIndex (cells (map visited (foreign_interfaces files)) is) by_name
+  pub worlds_by_name : Names
+  pub worlds_index : IsWorldIndex (worlds_at (map visited (foreign_worlds files)) before) worlds_by_name
+  pub wrong : IsWrongWorld files mid (cells (map visited (foreign_interfaces files)) is) by_name worlds_by_name (owner.World (length before)) item f

@@ -1,0 +1,370 @@
+-- The theorem: what a resolved package is.
+use Rattle.std.specs.Prelude.{◌≡◌, ◌↔◌, ◌<◌, ◌==◌, ℕ, zero, suc, not, List, [], ◌∷◌, ◌++◌, length, map, Option, Some, None, slice_get, ◌⊎◌, position, if◌then◌else◌}
+use Rattle.wit_values.specs.declared.span.Span.{Span}
+use Rattle.std.specs.Option.{option_map, option_map_or, option_or, unwrap_or}
+use Rattle.semver.specs.Identifiers.{parts_of}
+use Rattle.wit_values.specs.ReleaseText.{release_parts}
+use Rattle.wit_tree.specs.declared.tree.PackageName.{PackageName as Header}
+use Rattle.wit_tree.specs.declared.tree.PackageFile.{PackageFile}
+use Rattle.wit_tree.specs.declared.tree.Include.{Include}
+use Rattle.wit_tree.specs.declared.tree.IncludeName.{IncludeName as Renaming}
+use Rattle.wit_model.specs.declared.ast_item.AstItem.{AstItem}
+use Rattle.wit_model.specs.declared.ast_item.AstItem.TheVariants as entry
+use Rattle.wit_package_names.specs.declared.package_name.PackageName.{PackageName}
+use Rattle.wit_model.specs.declared.interface.Interface.{Interface}
+use Rattle.wit_model.specs.declared.world.World.{World}
+use Rattle.wit_model.specs.declared.world.WorldInclude.{WorldInclude}
+use Rattle.wit_model.specs.declared.world.IncludeName.{IncludeName}
+use Rattle.wit_model.specs.declared.world.WorldKey.{WorldKey}
+use Rattle.wit_model.specs.declared.world.WorldKey.TheVariants as key
+use Rattle.wit_model.specs.declared.world.WorldItem.{WorldItem}
+use Rattle.wit_model.specs.declared.world.WorldItem.TheVariants.{Type_}
+use Rattle.wit_types.specs.declared.stability.Stability.{Stability}
+use Rattle.wit_types.specs.declared.types.«Type».{«Type» as Ty}
+use Rattle.wit_types.specs.declared.types.«Type».TheVariants.{Id as IdType}
+use Rattle.wit_types.specs.declared.types.TypeDef.{TypeDef}
+use Rattle.wit_types.specs.declared.types.TypeOwner.{TypeOwner}
+use Rattle.wit_types.specs.declared.types.TypeOwner.TheVariants as owner
+use Rattle.wit_order.specs.Table.{IsOrder}
+use Rattle.wit_model.specs.declared.unresolved.UnresolvedPackage.{UnresolvedPackage}
+use Rattle.wit_syntax.specs.Form.{Form, OwnForm, AliasForm, ResourceForm, UnknownForm, RecordForm, FlagsForm, VariantForm, EnumForm}
+use Rattle.wit_arena.specs.Kind.{kind_of}
+use Rattle.std.specs.List.{flat_map, prefix_len}
+use Rattle.wit_syntax.specs.Shape.{Shape, Word, Of, Shapes, all_handles}
+use Rattle.wit_syntax.specs.Address.{Address, same_address}
+use Rattle.wit_syntax.specs.Node.{OfScope}
+use Rattle.wit_syntax.specs.Source.{path_id, leads, TopName, Item, item_id, item_notes, address, included_scope, ScopeName, all_items, item_at, scope_names, local_name, local_id, Place, placed, Taking, takings, first_takings, scope, name_parts, source_tree}
+use Rattle.wit_syntax.specs.Foreign.{ForeignVisit, visited_package, visited, same_item, foreign_interfaces, foreign_worlds, foreign_packages, items_of_package, visits_of}
+use Rattle.wit_arena.specs.Expr.{Expr, expr_of}
+use Rattle.wit_model.specs.declared.function.Function.{Function}
+use Rattle.wit_syntax.specs.Function.{SourceFunction, signature, functions as item_functions, all_types}
+use Rattle.wit_syntax.specs.Ends.{AtResource, AtForeign, EndsAt}
+use Rattle.wit_tree.specs.declared.tree.Id.{Id}
+use Rattle.wit_arena.specs.Functions.{AreFunctions, placed_functions, function_import}
+use Rattle.wit_syntax.specs.Scope.{item_rows, interfaces_of, worlds_of, includes, rows_of, in_order, in_turn}
+use Rattle.wit_types.specs.declared.docs.Docs.{Docs}
+use Rattle.wit_syntax.specs.Notes.{docs_of, no_docs, stability_of}
+use Rattle.wit_syntax.specs.Broken.{last_header, headers}
+use Rattle.wit_arena.specs.Meet.{Key, Def, Meeting, keys, all_name_meetings, all_function_meetings, Meets, IsAt, Decls, decl_of, IsMeeting}
+use Rattle.wit_syntax.specs.Source as source
+use Rattle.wit_arena.specs.Package.{At, HasPart, IsBelow, Reaches, IsInterface, IsWorld, IsForeignInterface, IsForeignWorld, world_types, owner_of, names_of, functions_of, function_types, package_tree}
+
+-- an item, with an order of its names
+pub record Ordered : Type 0 where
+  pub item : Item
+  pub order : List ℕ
+
+abbrev pub item_of : Ordered → Item
+item_of o = o.item
+
+-- the names of an item: the used ones, and then the definitions in its order
+abbrev pub ordered_names : Ordered → List ScopeName
+ordered_names o = in_turn (scope_names o.item) o.order
+
+-- a scope, with its names as they are resolved, and its functions
+pub record Turned : Type 0 where
+  pub address : Address
+  pub names : List ScopeName
+  pub functions : List SourceFunction
+
+abbrev pub turned : Ordered → Turned
+turned o = record { address = address o.item; names = ordered_names o; functions = item_functions o.item }
+
+-- what is met in a scope: in its names, and then in its functions
+abbrev pub turn_meetings : Turned → List Meeting
+turn_meetings t = all_name_meetings t.address t.names ++ all_function_meetings t.address t.functions
+
+-- what is met in scopes, in order
+abbrev pub meetings : List Turned → List Meeting
+meetings ts = flat_map turn_meetings ts
+
+-- the place of an address among these
+abbrev pub place_at : List Address → Address → Option ℕ
+place_at ss s = position (λ a. same_address a s) ss
+
+-- the owner that the package knows a scope by: its place, where the interfaces have these addresses and the worlds those
+abbrev pub owner_at : List Address → List Address → Address → TypeOwner
+owner_at is ws s = unwrap_or (option_or (option_map owner.Interface (place_at is s)) (option_map owner.World (place_at ws s))) owner.None
+
+-- the declarations of each scope, where the interfaces have these addresses and the worlds those
+abbrev pub declarations : List PackageFile → List Address → List Address → Decls
+declarations files is ws s = map (decl_of (owner_at is ws s) s) (scope files s)
+
+-- the addresses of items
+abbrev pub addresses : List Ordered → List Address
+addresses os = map (λ o. address o.item) os
+
+-- these are the names of a scope in turn, and they stand for their places
+pub record HasTypes (ks : List Key) (t : Turned) (types : List (List ℕ × ℕ)) : Type 0 where
+  pub names : map (λ n. n.0) types ≡ map local_name t.names
+  pub places : (k : ℕ) (name : List ℕ) (id : ℕ) → slice_get types k ≡ Some (name, id) → slice_get ks id ≡ Some (Def t.address name)
+
+-- these are the interfaces of files, each with its names in turn, and its functions
+pub record AreInterfaces (ks : List Key) (os : List Ordered) (is : List Interface) : Type 0 where
+  pub count : length is ≡ length os
+  pub says : (t : ℕ) (o : Ordered) (i : Interface) → slice_get os t ≡ Some o → slice_get is t ≡ Some i → IsInterface (item_id o.item) (item_notes o.item) i
+  pub types : (t : ℕ) (o : Ordered) (i : Interface) → slice_get os t ≡ Some o → slice_get is t ≡ Some i → HasTypes ks (turned o) i.types
+  pub functions : (t : ℕ) (o : Ordered) (i : Interface) → slice_get os t ≡ Some o → slice_get is t ≡ Some i → (fs : List Function) × AreFunctions ks (address o.item) (item_functions o.item) fs × (i.functions ≡ placed_functions fs)
+
+-- names of a scope as imports: each is the type that it stands for, at its local name
+abbrev pub type_imports : List ScopeName → List (List ℕ × ℕ) → List (WorldKey × WorldItem)
+type_imports [] types = []
+type_imports (x ∷ xs) [] = []
+type_imports (x ∷ xs) (t ∷ types) = (key.Name (local_name x), Type_ t.1 (local_id x).span) ∷ type_imports xs types
+
+-- what an include renames
+abbrev pub renamed : Renaming → IncludeName
+renamed n = record { name = n.name.name.now; as_ = n.as_.name.now }
+
+-- an include, where the worlds have these addresses
+pub record IsInclude (worlds : List Address) (top : List TopName) (written : Include) (i : WorldInclude) : Type 0 where
+  pub stability : i.stability ≡ stability_of written.attributes.items
+  pub place : slice_get worlds i.id ≡ Some (included_scope (leads top written.from))
+  pub names : i.names ≡ map renamed written.names.items
+  pub span : i.span ≡ (path_id written.from).span
+
+-- these are the includes of an item, where the worlds have these addresses
+pub record AreIncludes (worlds : List Address) (item : Item) (is : List WorldInclude) : Type 0 where
+  pub count : length is ≡ length (includes item)
+  pub each : (k : ℕ) (written : Include) (i : WorldInclude) → slice_get (includes item) k ≡ Some written → slice_get is k ≡ Some i → IsInclude worlds item.top written i
+
+-- these are the worlds of files, each with its names in turn as its imports, and then its functions, and with its includes, where the worlds have these addresses
+pub record AreWorlds (ks : List Key) (worlds : List Address) (os : List Ordered) (ws : List World) : Type 0 where
+  pub count : length ws ≡ length os
+  pub says : (t : ℕ) (o : Ordered) (w : World) → slice_get os t ≡ Some o → slice_get ws t ≡ Some w → IsWorld (item_id o.item) (item_notes o.item) w
+  pub types : (t : ℕ) (o : Ordered) (w : World) → slice_get os t ≡ Some o → slice_get ws t ≡ Some w → HasTypes ks (turned o) (world_types w)
+  pub imports : (t : ℕ) (o : Ordered) (w : World) → slice_get os t ≡ Some o → slice_get ws t ≡ Some w → (fs : List Function) × AreFunctions ks (address o.item) (item_functions o.item) fs × (w.imports ≡ type_imports (ordered_names o) (world_types w) ++ map function_import fs)
+  pub includes : (t : ℕ) (o : Ordered) (w : World) → slice_get os t ≡ Some o → slice_get ws t ≡ Some w → AreIncludes worlds o.item w.includes
+
+-- the names in the handles of a scope, each with the scope, in the order in which they are resolved
+abbrev pub turn_handles : Turned → List (Address × Id)
+turn_handles t = map (λ id. (t.address, id)) (all_handles (all_types t.names t.functions))
+
+-- These names end at resources or at names of other packages, and these are the latter, at the places of their meetings, each where its
+-- name is written.
+abbrev pub AreRequired : List PackageFile → List Key → List (Address × Id) → List (ℕ × Span) → Type 0
+AreRequired files ks [] rs = rs ≡ []
+AreRequired files ks (h ∷ hs) rs = (EndsAt files h.0 h.1 AtResource × AreRequired files ks hs rs) ⊎ ((s : Address) × (name : List ℕ) × (place : ℕ) × (rest : List (ℕ × Span)) × EndsAt files h.0 h.1 (AtForeign s name) × (slice_get ks place ≡ Some (Def s name)) × (rs ≡ (place, h.1.span) ∷ rest) × AreRequired files ks hs rest)
+
+-- a name that is taken from another package, where it is used
+abbrev pub taking_meeting : Taking → Meeting
+taking_meeting t = record { key = Def t.from t.id.name.now; span = t.id.span; given = stability_of t.attributes }
+
+-- what is met in files: first what they take from other packages, then what stands in their items, in these orders
+abbrev pub all_meetings : List PackageFile → List Ordered → List Meeting
+all_meetings files os = map taking_meeting (takings files) ++ meetings (map turned os)
+
+-- the addresses of other packages' interfaces, and of these
+abbrev pub interface_addresses : List PackageFile → List Ordered → List Address
+interface_addresses files os = map visited (foreign_interfaces files) ++ addresses os
+
+-- the addresses of other packages' worlds, and of these
+abbrev pub world_addresses : List PackageFile → List Ordered → List Address
+world_addresses files os = map visited (foreign_worlds files) ++ addresses os
+
+-- an item of another package, with the names that are taken from it
+abbrev pub foreign_turned : List PackageFile → ForeignVisit → Turned
+foreign_turned files v = record { address = visited v; names = scope files (visited v); functions = [] }
+
+-- these are interfaces of other packages, each with the names that are taken from it
+pub record AreForeignInterfaces (files : List PackageFile) (ks : List Key) (vs : List ForeignVisit) (is : List Interface) : Type 0 where
+  pub count : length is ≡ length vs
+  pub says : (t : ℕ) (v : ForeignVisit) (i : Interface) → slice_get vs t ≡ Some v → slice_get is t ≡ Some i → IsForeignInterface v.id i
+  pub types : (t : ℕ) (v : ForeignVisit) (i : Interface) → slice_get vs t ≡ Some v → slice_get is t ≡ Some i → HasTypes ks (foreign_turned files v) i.types
+
+-- these are worlds of other packages
+pub record AreForeignWorlds (vs : List ForeignVisit) (ws : List World) : Type 0 where
+  pub count : length ws ≡ length vs
+  pub says : (t : ℕ) (v : ForeignVisit) (w : World) → slice_get vs t ≡ Some v → slice_get ws t ≡ Some w → IsForeignWorld v.id w
+
+-- how many of these stand before the first that is the item
+abbrev pub foreign_place : List ForeignVisit → ForeignVisit → ℕ
+foreign_place vs v = prefix_len (λ u. not (same_item u v)) vs
+
+-- the entry of an item of another package: the arenas begin with these
+abbrev pub foreign_entry : List PackageFile → ForeignVisit → AstItem
+foreign_entry files v = if v.wants_world then entry.World (foreign_place (foreign_worlds files) v) else entry.Interface (foreign_place (foreign_interfaces files) v)
+
+-- the item by its name, with its entry and the stability of each of its visits
+abbrev pub dep_item : List PackageFile → ForeignVisit → List ℕ × (AstItem × List Stability)
+dep_item files v = (v.id.name.now, (foreign_entry files v, map (λ u. stability_of u.attributes) (visits_of files (visited v))))
+
+-- a package with its items
+abbrev pub dep : List PackageFile → ForeignVisit → PackageName × List (List ℕ × (AstItem × List Stability))
+dep files v = (visited_package v, map (dep_item files) (items_of_package files (visited_package v)))
+
+-- what the package names of others: each of them in the order of its first visit, with its items in the order of theirs, and the types
+-- that are taken from them in the order of their first uses
+pub record NamesOthers (files : List PackageFile) (p : UnresolvedPackage) : Type 0 where
+  pub deps : p.foreign_deps ≡ map (dep files) (foreign_packages files)
+  pub spans : p.foreign_dep_spans ≡ map (λ v. v.of.span) (foreign_packages files)
+  pub unknown : p.unknown_type_spans ≡ map (λ t. t.id.span) (first_takings files)
+
+-- the docs of the first of these headers that has some
+abbrev pub first_docs : List Header → Docs
+first_docs [] = no_docs
+first_docs (h ∷ hs) = if length h.docs.docs.items == 0 then first_docs hs else docs_of h.docs
+
+-- The package has the name and the version of the last header, and the docs of the one that has some. Its arenas begin with the items of other packages, in the order of
+-- their first visits; then they have the interfaces and the worlds in the least order in which each item comes after those that it
+-- needs, each with its used names and then its definitions in the least dependency-first order. Its arena of types is the list of first
+-- meetings: of what is taken from other packages, then of all interfaces, then of all worlds.
+pub record IsPackage (files : List PackageFile) (p : UnresolvedPackage) : Type 0 where
+  pub header : Header
+  pub last : last_header files ≡ Some header
+  pub namespace : p.name.namespace ≡ header.namespace.name.now
+  pub name : p.name.name ≡ header.name.name.now
+  pub version : option_map release_parts p.name.version ≡ option_map parts_of header.version
+  pub name_span : p.name_span ≡ header.span
+  pub docs : p.docs ≡ first_docs (headers files)
+  pub others : NamesOthers files p
+  pub places : List ℕ
+  pub item_order : IsOrder (item_rows files) places
+  pub interfaces : List Ordered
+  pub worlds : List Ordered
+  pub all_interfaces : map item_of interfaces ≡ interfaces_of (in_order (all_items files) places)
+  pub all_worlds : map item_of worlds ≡ worlds_of (in_order (all_items files) places)
+  pub least : (t : ℕ) (o : Ordered) → slice_get (interfaces ++ worlds) t ≡ Some o → IsOrder (rows_of (scope_names o.item)) o.order
+  pub met : List Meeting
+  pub meets : Meets [] (all_meetings files (interfaces ++ worlds)) met
+  pub meeting : IsMeeting (declarations files (interface_addresses files interfaces) (world_addresses files worlds)) met p.types
+  pub foreign_front : List Interface
+  pub own_interfaces : List Interface
+  pub interface_arena : p.interfaces ≡ foreign_front ++ own_interfaces
+  pub are_foreign_interfaces : AreForeignInterfaces files (keys met) (foreign_interfaces files) foreign_front
+  pub are_interfaces : AreInterfaces (keys met) interfaces own_interfaces
+  pub worlds_front : List World
+  pub own_worlds : List World
+  pub world_arena : p.worlds ≡ worlds_front ++ own_worlds
+  pub are_foreign_worlds : AreForeignWorlds (foreign_worlds files) worlds_front
+  pub are_worlds : AreWorlds (keys met) (world_addresses files worlds) worlds own_worlds
+  -- the types of other packages that must be resources: those at which names in handles end, of all interfaces and then of all worlds
+  pub required : AreRequired files (keys met) (flat_map turn_handles (map turned (interfaces ++ worlds))) p.required_resource_types
+  -- two written types are one type exactly where they are one expression
+  pub one : (x y : Expr) (t u : Ty) → IsAt (keys met) x t → IsAt (keys met) y u → (t ≡ u) ↔ (x ≡ y)
+
+-- the entry of a name of a scope stands among the names of its owner, and is its tree at every depth
+pub record HasTree (files : List PackageFile) (p : UnresolvedPackage) (o : TypeOwner) (s : Address) (x : ScopeName) : Type 0 where
+  pub place : ℕ
+  pub id : ℕ
+  pub stands : slice_get (names_of p o) place ≡ Some (local_name x, id)
+  pub tree : (n : ℕ) → package_tree p n (IdType id) ≡ source_tree files n (s, Word (local_id x))
+
+-- the functions of a scope
+abbrev pub functions_at : List PackageFile → Address → List SourceFunction
+functions_at files s = option_map_or item_functions (item_at (all_items files) s) []
+
+-- a function of a scope stands under its name among the functions of its owner, with a type for each of its own, whose tree is that at
+-- every depth
+pub record HasFunctionTree (files : List PackageFile) (p : UnresolvedPackage) (o : TypeOwner) (s : Address) (fn : SourceFunction) : Type 0 where
+  pub place : ℕ
+  pub f : Function
+  pub stands : slice_get (functions_of p o) place ≡ Some (fn.name, f)
+  pub count : length (function_types f) ≡ length (signature fn)
+  pub trees : (k : ℕ) (x : Shape) (ty : Ty) → slice_get (signature fn) k ≡ Some x → slice_get (function_types f) k ≡ Some ty → (n : ℕ) → package_tree p n ty ≡ source_tree files n (s, x)
+
+-- an entry stands under its name among the names of its owner
+pub record IsOwned (p : UnresolvedPackage) (j : ℕ) (e : TypeDef) (name : List ℕ) : Type 0 where
+  pub place : ℕ
+  pub stands : slice_get (names_of p e.owner) place ≡ Some (name, j)
+
+-- a type that a name of an owner stands for leads to the entry at a place
+pub record IsReached (p : UnresolvedPackage) (j : ℕ) : Type 0 where
+  pub owner : TypeOwner
+  pub place : ℕ
+  pub name : List ℕ
+  pub id : ℕ
+  pub stands : slice_get (names_of p owner) place ≡ Some (name, id)
+  pub leads : Reaches p.types (IdType id) j
+
+-- a type of a function of an owner leads to the entry at a place
+pub record IsReachedByFunction (p : UnresolvedPackage) (j : ℕ) : Type 0 where
+  pub owner : TypeOwner
+  pub place : ℕ
+  pub name : List ℕ
+  pub f : Function
+  pub ty : Ty
+  pub stands : slice_get (functions_of p owner) place ≡ Some (name, f)
+  pub among : HasPart (function_types f) ty
+  pub leads : Reaches p.types ty j
+
+-- the written type at an index of a function's signature has the type at that index of the package's function
+pub record IsInSignature (files : List PackageFile) (p : UnresolvedPackage) (written : Place) (ty : Ty) : Type 0 where
+  pub owner : TypeOwner
+  pub k : ℕ
+  pub fn : SourceFunction
+  pub place : ℕ
+  pub f : Function
+  pub index : ℕ
+  pub called : owner_of p owner ≡ OfScope written.0
+  pub among : slice_get (functions_at files written.0) k ≡ Some fn
+  pub stands : slice_get (functions_of p owner) place ≡ Some (fn.name, f)
+  pub shape : slice_get (signature fn) index ≡ Some written.1
+  pub is : slice_get (function_types f) index ≡ Some ty
+
+-- the written type at an index of what a name of a scope stands for has the type at that index of the name's entry
+pub record IsPartOfName (files : List PackageFile) (p : UnresolvedPackage) (written : Place) (ty : Ty) : Type 0 where
+  pub owner : TypeOwner
+  pub scope : Address
+  pub k : ℕ
+  pub x : ScopeName
+  pub index : ℕ
+  pub id : ℕ
+  pub e : TypeDef
+  pub part : ℕ
+  pub called : owner_of p owner ≡ OfScope scope
+  pub among : slice_get (source.scope files scope) k ≡ Some x
+  pub stands : slice_get (names_of p owner) index ≡ Some (local_name x, id)
+  pub entry : slice_get p.types id ≡ Some e
+  pub place : slice_get (name_parts scope x) part ≡ Some written
+  pub is : slice_get (kind_of e.kind).parts part ≡ Some ty
+
+-- a part of an unnamed type that has a type has that part of the type's entry
+pub record IsPartOfWhole (p : UnresolvedPackage) (has : Place → Ty → Type 0) (written : Place) (ty : Ty) : Type 0 where
+  pub scope : Address
+  pub span : Span
+  pub form : Form
+  pub parts : Shapes
+  pub id : ℕ
+  pub e : TypeDef
+  pub part : ℕ
+  pub whole : has (scope, Of span form parts) (IdType id)
+  pub entry : slice_get p.types id ≡ Some e
+  pub place : slice_get (placed scope parts) part ≡ Some written
+  pub is : slice_get (kind_of e.kind).parts part ≡ Some ty
+
+-- A written type has this type at its position in the package: at first as a part of what a name stands for, or in a signature, then by
+-- steps from an unnamed type to its parts.
+abbrev pub HasType : List PackageFile → UnresolvedPackage → (n : ℕ) → Place → Ty → Type 0
+HasType files p zero place ty = IsPartOfName files p place ty ⊎ IsInSignature files p place ty
+HasType files p (suc n) place ty = IsPartOfWhole p (HasType files p n) place ty
+
+-- a form that an unnamed type can have
+abbrev pub IsAnonymousForm : Form → Type 0
+IsAnonymousForm OwnForm = ⊥
+IsAnonymousForm AliasForm = ⊥
+IsAnonymousForm ResourceForm = ⊥
+IsAnonymousForm UnknownForm = ⊥
+IsAnonymousForm (RecordForm fields) = ⊥
+IsAnonymousForm (FlagsForm flags) = ⊥
+IsAnonymousForm (VariantForm cases) = ⊥
+IsAnonymousForm (EnumForm cases) = ⊥
+IsAnonymousForm _ = Unit {0}
+
+-- Types refer only backwards, equal unnamed types are one, nothing is unreached, and every name is the tree that
+-- lexical scope gives it.
+pub record IsFaithful (files : List PackageFile) (p : UnresolvedPackage) : Type 0 where
+  pub backward : (i : ℕ) (e : TypeDef) (part : Ty) → At p.types i e → HasPart (kind_of e.kind).parts part → IsBelow i part
+  pub interned : (i j : ℕ) (e f : TypeDef) → At p.types i e → At p.types j f → e.name ≡ None → f.name ≡ None → e.kind ≡ f.kind → i ≡ j
+  -- an unnamed entry has a form that a type can have without a name: it is no own handle, no other word for a type, no resource
+  pub formed : (i : ℕ) (e : TypeDef) → At p.types i e → e.name ≡ None → IsAnonymousForm (kind_of e.kind).form
+  -- the types of unknown form are exactly the front of the arena: as many as there are spans of unknown types
+  pub front : (i : ℕ) (e : TypeDef) → At p.types i e → ((kind_of e.kind).form ≡ UnknownForm) ↔ (i < length p.unknown_type_spans)
+  -- a named entry stands among the names of its owner
+  pub named : (j : ℕ) (e : TypeDef) (name : List ℕ) → At p.types j e → e.name ≡ Some name → IsOwned p j e name
+  -- an unnamed one is reached from a name of an owner, or from a function
+  pub reached : (j : ℕ) (e : TypeDef) → At p.types j e → e.name ≡ None → IsReached p j ⊎ IsReachedByFunction p j
+  -- two written types have one type exactly where they are one expression
+  pub same : (m n : ℕ) (x y : Place) (t u : Ty) → HasType files p m x t → HasType files p n y u → (t ≡ u) ↔ (expr_of x.0 x.1 ≡ expr_of y.0 y.1)
+  pub trees : (o : TypeOwner) (s : Address) (k : ℕ) (x : ScopeName) → owner_of p o ≡ OfScope s → slice_get (scope files s) k ≡ Some x → HasTree files p o s x
+  pub functions : (o : TypeOwner) (s : Address) (k : ℕ) (fn : SourceFunction) → owner_of p o ≡ OfScope s → slice_get (functions_at files s) k ≡ Some fn → HasFunctionTree files p o s fn

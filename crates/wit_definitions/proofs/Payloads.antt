@@ -1,0 +1,23 @@
+-- The types of cases that hold something, case by case.
+use Rattle.std.proofs.Common.{◌≡◌, ℕ, zero, suc, List, [], ◌∷◌, ◌++◌, Option, Some, None, refl}
+use Rattle.std.specs.Prelude.{slice_get}
+use Rattle.std.specs.List.{cons_option}
+use Rattle.std.specs.Option.{option_to_list}
+use Rattle.wit_tree.specs.declared.tree.Case.{Case}
+use Rattle.wit_tree.specs.Parts.{case_types}
+use Rattle.wit_types.specs.declared.types.TypeDef.{TypeDef}
+use Rattle.wit_syntax.specs.Fault.{Fault}
+use Rattle.wit_arena.specs.Resolving.{Env, AreWrongTypes}
+use Rattle.wit_arena.proofs.Written.{wrong_left, wrong_right}
+
+in_front : {X : Type 0} (o : Option X) (xs : List X) → cons_option o xs ≡ option_to_list o ++ xs
+in_front None xs = refl
+in_front (Some x) xs = refl
+
+-- what is wrong with what a case holds
+pub wrong_case : (env : Env) (es : List TypeDef) (cs : List Case) (i : ℕ) (c : Case) (f : Fault) → slice_get cs i ≡ Some c → AreWrongTypes env es (option_to_list c.ty) f → AreWrongTypes env es (case_types cs) f
+wrong_case env es [] i c f at h = absurd (let wrong : ⊥ = cc in wrong)
+wrong_case env es (d ∷ cs) zero c f at h =
+    let same : d ≡ c = cc in
+    rw (in_front d.ty (case_types cs)) (wrong_left env es (option_to_list d.ty) (case_types cs) f (rw same h))
+wrong_case env es (d ∷ cs) (suc i) c f at h = rw (in_front d.ty (case_types cs)) (wrong_right env es (option_to_list d.ty) (case_types cs) f (wrong_case env es cs i c f at h))

@@ -1,0 +1,65 @@
+use Rattle.std.proofs.Common.{◌≡◌, [], ◌∷◌, ◌++◌, ◌+◌, Some, take, sym, ap, ◌∙◌, subst}
+use Rattle.std.specs.Prelude.{map}
+use Rattle.std.specs.Option.{option_to_list}
+use Rattle.std.proofs.lemmas.List.{map-append, take_more, take_all}
+use Rattle.std.proofs.lemmas.Option.{slice_get-get_or}
+use Rattle.std.proofs.lemmas.Result.{err_from_is_err_and}
+use Rattle.wit_tree.specs.declared.tree.Case.{Case as WrittenCase}
+use Rattle.wit_tree.specs.Parts.{case_types}
+use Rattle.wit_types.specs.declared.types.Case.{Case}
+use Rattle.wit_arena.specs.Kind.{case_member, payloads}
+use Rattle.wit_syntax.specs.Shape.{written_case}
+use Rattle.wit_arena.specs.Resolving.{env_of, AreWrongTypes}
+use Rattle.wit_syntax.proofs.Lists.{filter_map_more}
+use Rattle.wit_syntax.proofs.Refusing.{refused_weaker}
+use Rattle.wit_arena.proofs.Written.{AreLegal, legal_more}
+use Rattle.wit_entries.proofs.Reading.{types_then}
+use Rattle.wit_definitions.proofs.Payloads.{wrong_case}
+use Rattle.wit_entries.proofs.Requiring.{grown_then, requires_types}
+use Rattle.wit_definitions.proofs.bodies.resolve_cases.Goals as goal
+
+pub loop-written-preserved : goal.loop-written-preserved
+loop-written-preserved c =
+    let cs = c.args.cases.now in
+    let i = c.loop-written.written-index in
+    let case = c.written-item.result in
+    let made = c.in_ok-case.case in
+    let out = c.loop-written.resolved.items in
+    let taken : take (i + 1) cs ≡ take i cs ++ case ∷ [] = take_more cs i case c.loop-written-test.true ∙ ap (λ x. take i cs ++ x ∷ []) (sym c.written-item.is) in
+    let written : case_types (take (i + 1) cs) ≡ case_types (take i cs) ++ option_to_list case.ty = ap case_types taken ∙ filter_map_more (λ (x : WrittenCase). x.ty) (take i cs) case in
+    let types : payloads c.push.new.self.items ≡ payloads out ++ option_to_list made.ty = ap payloads c.in_ok-push.ensures.items ∙ filter_map_more (λ (x : Case). x.ty) out made in
+    record {
+      types = rw (written, types) (types_then c.args.given.now (case_types (take i cs)) (option_to_list case.ty) c.loop-written.invariant.types c.in_ok-case.ensures.types);
+      members = ap (map case_member) c.in_ok-push.ensures.items ∙ map-append case_member out (made ∷ []) ∙ ap (λ ms. ms ++ case_member made ∷ []) c.loop-written.invariant.members ∙ ap (λ m. map written_case (take i cs) ++ m ∷ []) c.in_ok-case.ensures.member ∙ sym (map-append written_case (take i cs) (case ∷ [])) ∙ ap (map written_case) (sym taken);
+      legal = subst AreLegal (sym written) (legal_more (case_types (take i cs)) (option_to_list case.ty) c.loop-written.invariant.legal c.in_ok-case.ensures.legal);
+      handled = rw written (requires_types (env_of c.args.names.now) _ _ (case_types (take i cs)) (option_to_list case.ty) _ _ _ c.in_ok-case.ensures.grown c.loop-written.invariant.handled c.in_ok-case.ensures.handled);
+      grown = grown_then _ _ _ c.loop-written.invariant.grown c.in_ok-case.ensures.grown;
+    }
+
+pub returns-clause-types : goal.returns-clause-types
+returns-clause-types c =
+    let all = take_all c.loop-written.written-index c.args.cases.now c.loop-written-test.false in
+    rw (← all, c.from.ensures) c.loop-written.invariant.types
+
+pub returns-clause-handled : goal.returns-clause-handled
+returns-clause-handled c =
+    let all = take_all c.loop-written.written-index c.args.cases.now c.loop-written-test.false in
+    rw (← all) c.loop-written.invariant.handled
+
+pub returns-clause-members : goal.returns-clause-members
+returns-clause-members c =
+    let all = take_all c.loop-written.written-index c.args.cases.now c.loop-written-test.false in
+    rw (← all, c.from.ensures) c.loop-written.invariant.members
+
+pub returns-clause-legal : goal.returns-clause-legal
+returns-clause-legal c = subst (λ cs. AreLegal (case_types cs)) (take_all c.loop-written.written-index c.args.cases.now c.loop-written-test.false) c.loop-written.invariant.legal
+
+pub returns-in_err-case-clause-refused : goal.returns-in_err-case-clause-refused
+returns-in_err-case-clause-refused c =
+    let p = err_from_is_err_and c.from_residual-in_err-case.result c.from_residual-in_err-case.ensures.1 in
+    let env = env_of c.args.names.now in
+    let cs = c.args.cases.now in
+    let i = c.loop-written.written-index in
+    let case = c.written-item.result in
+    let at = slice_get-get_or cs i case c.loop-written-test.true ∙ ap Some (sym c.written-item.is) in
+    rw (p.1, p.2) (refused_weaker (AreWrongTypes env _ (option_to_list case.ty)) (AreWrongTypes env _ (case_types cs)) _ (λ f wrong. wrong_case env _ cs i case f at wrong) c.in_err-case.ensures.refused)

@@ -1,0 +1,63 @@
+use Rattle.std.proofs.Common.{◌≡◌, [], ◌∷◌, ◌++◌, ◌+◌, Some, take, sym, ap, ◌∙◌, subst}
+use Rattle.std.specs.Prelude.{map, slice_get}
+use Rattle.std.specs.Option.{option_map}
+use Rattle.std.proofs.lemmas.List.{map-append, take_more, take_all}
+use Rattle.std.proofs.lemmas.Option.{slice_get-map, slice_get-get_or}
+use Rattle.std.proofs.lemmas.Result.{err_from_is_err_and}
+use Rattle.wit_tree.specs.declared.tree.Field.{Field as WrittenField}
+use Rattle.wit_tree.specs.Parts.{field_types}
+use Rattle.wit_types.specs.declared.types.Field.{Field}
+use Rattle.wit_arena.specs.Kind.{field_member}
+use Rattle.wit_syntax.specs.Shape.{written_field}
+use Rattle.wit_arena.specs.Resolving.{env_of, IsWrongType, AreWrongTypes}
+use Rattle.wit_syntax.proofs.Refusing.{refused_weaker}
+use Rattle.wit_arena.proofs.Written.{AreLegal, legal_one, legal_more, wrong_at}
+use Rattle.wit_entries.proofs.Reading.{types_one, types_then}
+use Rattle.wit_entries.proofs.Requiring.{grown_then, requires_types, requires_one}
+use Rattle.wit_definitions.proofs.bodies.resolve_fields.Goals as goal
+
+pub loop-written-preserved : goal.loop-written-preserved
+loop-written-preserved c =
+    let fs = c.args.fields.now in
+    let i = c.loop-written.written-index in
+    let f = c.written-item.result in
+    let made = c.in_ok-field.field-0 in
+    let out = c.loop-written.resolved.items in
+    let taken : take (i + 1) fs ≡ take i fs ++ f ∷ [] = take_more fs i f c.loop-written-test.true ∙ ap (λ x. take i fs ++ x ∷ []) (sym c.written-item.is) in
+    let written : field_types (take (i + 1) fs) ≡ field_types (take i fs) ++ f.ty ∷ [] = ap field_types taken ∙ map-append (λ (x : WrittenField). x.ty) (take i fs) (f ∷ []) in
+    let types : map (λ (x : Field). x.ty) c.push.new.self.items ≡ map (λ (x : Field). x.ty) out ++ c.in_ok-ty.ty ∷ [] = ap (map (λ (x : Field). x.ty)) c.in_ok-push.ensures.items ∙ map-append (λ (x : Field). x.ty) out (made ∷ []) ∙ ap (λ t. map (λ (x : Field). x.ty) out ++ t ∷ []) c.in_ok-field.ensures.ty in
+    record {
+      types = rw (written, types) (types_then c.args.given.now (field_types (take i fs)) (f.ty ∷ []) c.loop-written.invariant.types (types_one c.args.given.now f.ty c.in_ok-ty.ensures.resolved));
+      members = ap (map field_member) c.in_ok-push.ensures.items ∙ map-append field_member out (made ∷ []) ∙ ap (λ ms. ms ++ field_member made ∷ []) c.loop-written.invariant.members ∙ ap (λ m. map written_field (take i fs) ++ m ∷ []) c.in_ok-field.ensures.member ∙ sym (map-append written_field (take i fs) (f ∷ [])) ∙ ap (map written_field) (sym taken);
+      legal = subst AreLegal (sym written) (legal_more (field_types (take i fs)) (f.ty ∷ []) c.loop-written.invariant.legal (legal_one f.ty c.in_ok-ty.ensures.legal));
+      handled = rw written (requires_types (env_of c.args.names.now) _ _ (field_types (take i fs)) (f.ty ∷ []) _ _ _ c.in_ok-ty.ensures.grown c.loop-written.invariant.handled (requires_one (env_of c.args.names.now) _ f.ty _ _ c.in_ok-ty.ensures.handled));
+      grown = grown_then _ _ _ c.loop-written.invariant.grown c.in_ok-ty.ensures.grown;
+    }
+
+pub returns-clause-types : goal.returns-clause-types
+returns-clause-types c =
+    let all = take_all c.loop-written.written-index c.args.fields.now c.loop-written-test.false in
+    rw (← all, c.from.ensures) c.loop-written.invariant.types
+
+pub returns-clause-handled : goal.returns-clause-handled
+returns-clause-handled c =
+    let all = take_all c.loop-written.written-index c.args.fields.now c.loop-written-test.false in
+    rw (← all) c.loop-written.invariant.handled
+
+pub returns-clause-members : goal.returns-clause-members
+returns-clause-members c =
+    let all = take_all c.loop-written.written-index c.args.fields.now c.loop-written-test.false in
+    rw (← all, c.from.ensures) c.loop-written.invariant.members
+
+pub returns-clause-legal : goal.returns-clause-legal
+returns-clause-legal c = subst (λ fs. AreLegal (field_types fs)) (take_all c.loop-written.written-index c.args.fields.now c.loop-written-test.false) c.loop-written.invariant.legal
+
+pub returns-in_err-ty-clause-refused : goal.returns-in_err-ty-clause-refused
+returns-in_err-ty-clause-refused c =
+    let p = err_from_is_err_and c.from_residual-in_err-ty.result c.from_residual-in_err-ty.ensures.1 in
+    let env = env_of c.args.names.now in
+    let fs = c.args.fields.now in
+    let i = c.loop-written.written-index in
+    let f = c.written-item.result in
+    let at : slice_get (field_types fs) i ≡ Some f.ty = slice_get-map (λ (x : WrittenField). x.ty) fs i ∙ ap (option_map (λ (x : WrittenField). x.ty)) (slice_get-get_or fs i f c.loop-written-test.true ∙ ap Some (sym c.written-item.is)) in
+    rw (p.1, p.2) (refused_weaker (IsWrongType env _ f.ty) (AreWrongTypes env _ (field_types fs)) _ (λ x wrong. wrong_at env _ (field_types fs) i f.ty x at wrong) c.in_err-ty.ensures.refused)

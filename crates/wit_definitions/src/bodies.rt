@@ -1,0 +1,337 @@
+//! Bodies of definitions, as kinds of entries.
+ghost use Rattle.std.specs.Prelude.{◌≡◌, ◌⊎◌, [], map, IfOk, IfErr, OnOk};
+ghost use Rattle.std.specs.Option.{option_to_list};
+ghost use Rattle.wit_tree.specs.Parts.{field_types, case_types, body_types};
+ghost use Rattle.wit_syntax.specs.Form.{RecordForm, FlagsForm, VariantForm, EnumForm};
+ghost use Rattle.wit_arena.specs.Kind.{kind_of, field_member, flag_member, case_member, enum_case_member, payloads};
+ghost use Rattle.wit_syntax.specs.Shape.{member, written_field, written_flag, written_case, written_enum_case, written_body, body_of, handles, all_handles};
+ghost use Rattle.wit_syntax.specs.Address.{Address};
+ghost use Rattle.wit_arena.specs.Expr.{exprs_of};
+ghost use Rattle.wit_arena.specs.Meet.{shapes_meetings};
+ghost use Rattle.wit_syntax.specs.Fault.{Fault};
+ghost use Rattle.wit_syntax.specs.Bodies.{IsBrokenType, IsBrokenPart, IsBrokenRecord, IsBrokenFlags, IsBrokenVariant, IsBrokenEnum, IsBrokenBody};
+ghost use Rattle.wit_syntax.specs.Broken.{Refused};
+ghost use Rattle.wit_arena.specs.Resolving.{env_of, AreResolved, IsWrongType, AreWrongTypes, IsWrongBody};
+ghost use Rattle.wit_entries.specs.Reading.{AreTypes, IsOwn};
+ghost use Rattle.wit_entries.specs.Requiring.{IsGrown, Requires};
+
+use std::alloc::{AllocError, Global};
+use wit_entries::entries::Entries;
+use wit_entries::names::find_resource;
+use wit_entries::scope::Required;
+use wit_entries::types::{named_kind, read, resolve_type};
+use wit_notes::docs;
+use wit_rules::rules::{check_enum, check_flags, check_record, check_variant};
+use wit_tree::{ParseResult, Span, tree};
+use wit_types::{
+    Case, Enum, EnumCase, Field, Flag, Flags, Handle, Record, Stability, Type, TypeDefKind, TypeId,
+    Variant,
+};
+use wit_values::{Row, Text, TextTable};
+
+/// A field of this type.
+fn field(alloc: Global, field: &tree::Field<'_>, ty: Type) -> Result<Field, AllocError>
+    ensures member { IfOk result (λ r. field_member r ≡ written_field field.now) }
+    ensures ty { IfOk result (λ r. r.ty ≡ ty) }
+{
+    Ok(Field {
+        name: Text::from_str(alloc, field.name.name)?,
+        ty,
+        docs: docs(alloc, &field.docs)?,
+        span: field.name.span,
+    })
+}
+
+/// The fields of a record.
+fn resolve_fields(
+    alloc: Global,
+    types: &mut Entries,
+    names: &TextTable<TypeId>,
+    required: &mut Vec<Required>,
+    given: &Stability,
+    fields: &[tree::Field<'_>],
+) -> ParseResult<Row<Field>>
+    ensures types { IfOk result (λ r. AreTypes types.old types.new (env_of names.now) given.now (field_types fields.now) (map (λ f. f.ty) r)) }
+    ensures members { IfOk result (λ r. map field_member r ≡ map written_field fields.now) }
+    ensures legal { OnOk result ((f : Fault) → IsBrokenPart (field_types fields.now) f → ⊥) }
+    ensures handled { OnOk result (Requires (env_of names.now) types.new (all_handles (field_types fields.now)) required.old.items required.new.items) }
+    ensures grown { IsGrown types.old types.new }
+    ensures refused { IfErr result (Refused (AreWrongTypes (env_of names.now) types.new (field_types fields.now))) }
+{
+    let mut resolved = Vec::with_capacity(alloc, fields.len())?;
+    for written in fields {
+        let ty = resolve_type(alloc, types, names, required, given, &written.ty)?;
+        resolved.push(field(alloc, written, ty)?)?;
+    }
+    Ok(Row::from(resolved))
+}
+
+/// The kind of a record.
+fn resolve_record(
+    alloc: Global,
+    types: &mut Entries,
+    names: &TextTable<TypeId>,
+    required: &mut Vec<Required>,
+    given: &Stability,
+    span: Span,
+    fields: &[tree::Field<'_>],
+) -> ParseResult<TypeDefKind>
+    ensures types { IfOk result (λ r. AreTypes types.old types.new (env_of names.now) given.now (field_types fields.now) (kind_of r).parts) }
+    ensures form { IfOk result (λ r. (kind_of r).form ≡ RecordForm (map written_field fields.now)) }
+    ensures list { OnOk result ((f : Fault) → IsBrokenRecord fields.now span f → ⊥) }
+    ensures legal { OnOk result ((f : Fault) → IsBrokenPart (field_types fields.now) f → ⊥) }
+    ensures handled { OnOk result (Requires (env_of names.now) types.new (all_handles (field_types fields.now)) required.old.items required.new.items) }
+    ensures grown { IsGrown types.old types.new }
+    ensures refused { IfErr result (Refused (λ f. IsBrokenRecord fields.now span f ⊎ AreWrongTypes (env_of names.now) types.new (field_types fields.now) f)) }
+{
+    check_record(alloc, span, fields)?;
+    let fields = resolve_fields(alloc, types, names, required, given, fields)?;
+    Ok(TypeDefKind::Record(Record { fields }))
+}
+
+/// A flag.
+fn flag(alloc: Global, flag: &tree::Flag<'_>) -> Result<Flag, AllocError>
+    ensures { IfOk result (λ r. flag_member r ≡ written_flag flag.now) }
+{
+    Ok(Flag {
+        name: Text::from_str(alloc, flag.name.name)?,
+        docs: docs(alloc, &flag.docs)?,
+        span: flag.name.span,
+    })
+}
+
+/// Flags, in their order.
+fn flags(alloc: Global, flags: &[tree::Flag<'_>]) -> Result<Row<Flag>, AllocError>
+    ensures { IfOk result (λ r. map flag_member r ≡ map written_flag flags.now) }
+{
+    let mut made = Vec::with_capacity(alloc, flags.len())?;
+    for written in flags {
+        made.push(flag(alloc, written)?)?;
+    }
+    Ok(Row::from(made))
+}
+
+/// The kind of flags.
+fn resolve_flags(alloc: Global, span: Span, written: &[tree::Flag<'_>]) -> ParseResult<TypeDefKind>
+    ensures form { IfOk result (λ r. (kind_of r).form ≡ FlagsForm (map written_flag written.now)) }
+    ensures parts { IfOk result (λ r. (kind_of r).parts ≡ []) }
+    ensures list { OnOk result ((f : Fault) → IsBrokenFlags written.now span f → ⊥) }
+    ensures refused { IfErr result (Refused (IsBrokenFlags written.now span)) }
+{
+    check_flags(alloc, span, written)?;
+    let flags = flags(alloc, written)?;
+    Ok(TypeDefKind::Flags(Flags { flags }))
+}
+
+/// A case of a variant, with the type of what it holds.
+fn case(alloc: Global, case: &tree::Case<'_>, ty: Option<Type>) -> Result<Case, AllocError>
+    ensures name { IfOk result (λ r. (case_member r).0 ≡ member case.now.docs case.now.name) }
+    ensures ty { IfOk result (λ r. r.ty ≡ ty) }
+{
+    Ok(Case {
+        name: Text::from_str(alloc, case.name.name)?,
+        ty,
+        docs: docs(alloc, &case.docs)?,
+        span: case.name.span,
+    })
+}
+
+/// A case of a variant.
+fn resolve_case(
+    alloc: Global,
+    types: &mut Entries,
+    names: &TextTable<TypeId>,
+    required: &mut Vec<Required>,
+    given: &Stability,
+    written: &tree::Case<'_>,
+) -> ParseResult<Case>
+    ensures types { IfOk result (λ r. AreTypes types.old types.new (env_of names.now) given.now (option_to_list written.now.ty) (option_to_list r.ty)) }
+    ensures member { IfOk result (λ r. case_member r ≡ written_case written.now) }
+    ensures legal { OnOk result ((f : Fault) → IsBrokenPart (option_to_list written.now.ty) f → ⊥) }
+    ensures handled { OnOk result (Requires (env_of names.now) types.new (all_handles (option_to_list written.now.ty)) required.old.items required.new.items) }
+    ensures grown { IsGrown types.old types.new }
+    ensures refused { IfErr result (Refused (AreWrongTypes (env_of names.now) types.new (option_to_list written.now.ty))) }
+{
+    match &written.ty {
+        Some(ty) => {
+            let ty = resolve_type(alloc, types, names, required, given, ty)?;
+            Ok(case(alloc, written, Some(ty))?)
+        }
+        None => Ok(case(alloc, written, None)?),
+    }
+}
+
+/// The cases of a variant.
+fn resolve_cases(
+    alloc: Global,
+    types: &mut Entries,
+    names: &TextTable<TypeId>,
+    required: &mut Vec<Required>,
+    given: &Stability,
+    cases: &[tree::Case<'_>],
+) -> ParseResult<Row<Case>>
+    ensures types { IfOk result (λ r. AreTypes types.old types.new (env_of names.now) given.now (case_types cases.now) (payloads r)) }
+    ensures members { IfOk result (λ r. map case_member r ≡ map written_case cases.now) }
+    ensures legal { OnOk result ((f : Fault) → IsBrokenPart (case_types cases.now) f → ⊥) }
+    ensures handled { OnOk result (Requires (env_of names.now) types.new (all_handles (case_types cases.now)) required.old.items required.new.items) }
+    ensures grown { IsGrown types.old types.new }
+    ensures refused { IfErr result (Refused (AreWrongTypes (env_of names.now) types.new (case_types cases.now))) }
+{
+    let mut resolved = Vec::with_capacity(alloc, cases.len())?;
+    for written in cases {
+        let case = resolve_case(alloc, types, names, required, given, written)?;
+        resolved.push(case)?;
+    }
+    Ok(Row::from(resolved))
+}
+
+/// The kind of a variant.
+fn resolve_variant(
+    alloc: Global,
+    types: &mut Entries,
+    names: &TextTable<TypeId>,
+    required: &mut Vec<Required>,
+    given: &Stability,
+    span: Span,
+    cases: &[tree::Case<'_>],
+) -> ParseResult<TypeDefKind>
+    ensures types { IfOk result (λ r. AreTypes types.old types.new (env_of names.now) given.now (case_types cases.now) (kind_of r).parts) }
+    ensures form { IfOk result (λ r. (kind_of r).form ≡ VariantForm (map written_case cases.now)) }
+    ensures list { OnOk result ((f : Fault) → IsBrokenVariant cases.now span f → ⊥) }
+    ensures legal { OnOk result ((f : Fault) → IsBrokenPart (case_types cases.now) f → ⊥) }
+    ensures handled { OnOk result (Requires (env_of names.now) types.new (all_handles (case_types cases.now)) required.old.items required.new.items) }
+    ensures grown { IsGrown types.old types.new }
+    ensures refused { IfErr result (Refused (λ f. IsBrokenVariant cases.now span f ⊎ AreWrongTypes (env_of names.now) types.new (case_types cases.now) f)) }
+{
+    check_variant(alloc, span, cases)?;
+    let cases = resolve_cases(alloc, types, names, required, given, cases)?;
+    Ok(TypeDefKind::Variant(Variant { cases }))
+}
+
+/// A case of an enum.
+fn enum_case(alloc: Global, case: &tree::EnumCase<'_>) -> Result<EnumCase, AllocError>
+    ensures { IfOk result (λ r. enum_case_member r ≡ written_enum_case case.now) }
+{
+    Ok(EnumCase {
+        name: Text::from_str(alloc, case.name.name)?,
+        docs: docs(alloc, &case.docs)?,
+        span: case.name.span,
+    })
+}
+
+/// The cases of an enum, in their order.
+fn enum_cases(alloc: Global, cases: &[tree::EnumCase<'_>]) -> Result<Row<EnumCase>, AllocError>
+    ensures { IfOk result (λ r. map enum_case_member r ≡ map written_enum_case cases.now) }
+{
+    let mut made = Vec::with_capacity(alloc, cases.len())?;
+    for written in cases {
+        made.push(enum_case(alloc, written)?)?;
+    }
+    Ok(Row::from(made))
+}
+
+/// The kind of an enum.
+fn resolve_enum(
+    alloc: Global,
+    span: Span,
+    written: &[tree::EnumCase<'_>],
+) -> ParseResult<TypeDefKind>
+    ensures form { IfOk result (λ r. (kind_of r).form ≡ EnumForm (map written_enum_case written.now)) }
+    ensures parts { IfOk result (λ r. (kind_of r).parts ≡ []) }
+    ensures list { OnOk result ((f : Fault) → IsBrokenEnum written.now span f → ⊥) }
+    ensures refused { IfErr result (Refused (IsBrokenEnum written.now span)) }
+{
+    check_enum(alloc, span, written)?;
+    let cases = enum_cases(alloc, written)?;
+    Ok(TypeDefKind::Enum(Enum { cases }))
+}
+
+/// The kind of a definition that is another word for a type, or its form.
+fn resolve_word(
+    alloc: Global,
+    types: &mut Entries,
+    names: &TextTable<TypeId>,
+    required: &mut Vec<Required>,
+    given: &Stability,
+    ty: &tree::Type<'_>,
+) -> ParseResult<TypeDefKind>
+    requires { IsOwn ty.now → ⊥ }
+    ensures parts { IfOk result (λ r. (s : Address) → AreResolved types.old types.new s (env_of names.now)
+        (shapes_meetings s given.now (written_body ty.now).parts) (exprs_of s (written_body ty.now).parts) (kind_of r).parts) }
+    ensures form { IfOk result (λ r. (kind_of r).form ≡ (written_body ty.now).form) }
+    ensures legal { OnOk result ((f : Fault) → IsBrokenType ty.now f → ⊥) }
+    ensures handled { OnOk result (Requires (env_of names.now) types.new (handles ty.now) required.old.items required.new.items) }
+    ensures grown { IsGrown types.old types.new }
+    ensures refused { IfErr result (Refused (IsWrongType (env_of names.now) types.new ty.now)) }
+{
+    let reading = read(alloc, types, names, required, given, ty)?;
+    Ok(named_kind(reading))
+}
+
+/// The kind of a definition that is a type: a resource that is handed over is a handle there.
+fn resolve_plain(
+    alloc: Global,
+    types: &mut Entries,
+    names: &TextTable<TypeId>,
+    required: &mut Vec<Required>,
+    given: &Stability,
+    ty: &tree::Type<'_>,
+) -> ParseResult<TypeDefKind>
+    ensures parts { IfOk result (λ r. (s : Address) → AreResolved types.old types.new s (env_of names.now)
+        (shapes_meetings s given.now (written_body ty.now).parts) (exprs_of s (written_body ty.now).parts) (kind_of r).parts) }
+    ensures form { IfOk result (λ r. (kind_of r).form ≡ (written_body ty.now).form) }
+    ensures legal { OnOk result ((f : Fault) → IsBrokenType ty.now f → ⊥) }
+    ensures handled { OnOk result (Requires (env_of names.now) types.new (handles ty.now) required.old.items required.new.items) }
+    ensures grown { IsGrown types.old types.new }
+    ensures refused { IfErr result (Refused (IsWrongType (env_of names.now) types.new ty.now)) }
+{
+    if let tree::Type::Own(_, id) = ty {
+        let resource = find_resource(alloc, types, names, required, *id)?;
+        return Ok(TypeDefKind::Handle(Handle::Own(resource)));
+    }
+    resolve_word(alloc, types, names, required, given, ty)
+}
+
+/// The kind of a definition.
+///
+/// A refusal is E15, E27, a broken rule of types, fields, flags or cases, or want of memory.
+pub fn resolve_body(
+    alloc: Global,
+    types: &mut Entries,
+    names: &TextTable<TypeId>,
+    required: &mut Vec<Required>,
+    given: &Stability,
+    body: &tree::TypeBody<'_>,
+) -> ParseResult<TypeDefKind>
+    ensures parts { IfOk result (λ r. (s : Address) → AreResolved types.old types.new s (env_of names.now)
+        (shapes_meetings s given.now (body_of body.now).parts) (exprs_of s (body_of body.now).parts) (kind_of r).parts) }
+    ensures form { IfOk result (λ r. (kind_of r).form ≡ (body_of body.now).form) }
+    ensures legal { OnOk result ((f : Fault) → IsBrokenBody body.now f → ⊥) }
+    ensures handled { OnOk result (Requires (env_of names.now) types.new (all_handles (body_types body.now)) required.old.items required.new.items) }
+    ensures grown { IsGrown types.old types.new }
+    ensures refused { IfErr result (Refused (IsWrongBody (env_of names.now) types.new body.now)) }
+{
+    match body {
+        tree::TypeBody::Record { span, fields } => {
+            let kind = resolve_record(alloc, types, names, required, given, *span, fields)?;
+            Ok(kind)
+        }
+        tree::TypeBody::Flags { span, flags } => {
+            let kind = resolve_flags(alloc, *span, flags)?;
+            Ok(kind)
+        }
+        tree::TypeBody::Variant { span, cases } => {
+            let kind = resolve_variant(alloc, types, names, required, given, *span, cases)?;
+            Ok(kind)
+        }
+        tree::TypeBody::Enum { span, cases } => {
+            let kind = resolve_enum(alloc, *span, cases)?;
+            Ok(kind)
+        }
+        tree::TypeBody::Resource { .. } => Ok(TypeDefKind::Resource),
+        tree::TypeBody::Plain(ty) => {
+            let kind = resolve_plain(alloc, types, names, required, given, ty)?;
+            Ok(kind)
+        }
+    }
+}

@@ -1,0 +1,51 @@
+//! Definitions, as named entries of the arena.
+ghost use Rattle.std.specs.Prelude.{◌≡◌, ◌⊎◌, List, [], ◌∷◌, OnOk, IfErr};
+ghost use Rattle.wit_tree.specs.Parts.{body_types};
+ghost use Rattle.wit_syntax.specs.Address.{Address};
+ghost use Rattle.wit_syntax.specs.Shape.{all_handles};
+ghost use Rattle.wit_syntax.specs.Source.{Defined};
+ghost use Rattle.wit_syntax.specs.Fault.{Fault};
+ghost use Rattle.wit_syntax.specs.Bodies.{IsBrokenBody};
+ghost use Rattle.wit_syntax.specs.Broken.{Refused};
+ghost use Rattle.wit_syntax.specs.Notes.{IsBrokenNotes};
+ghost use Rattle.wit_arena.specs.Resolving.{Cell, env_of, IsStored, Defines, IsWrongBody};
+ghost use Rattle.wit_entries.specs.Requiring.{IsGrown, Requires};
+
+use crate::bodies::resolve_body;
+use std::alloc::Global;
+use wit_entries::entries::Entries;
+use wit_entries::scope::Scope;
+use wit_notes::notes_of;
+use wit_tree::{ParseResult, tree};
+
+/// Adds a definition behind what is in its body.
+///
+/// A refusal is E15, E27, a broken rule of attributes, types, fields, flags or cases, or want of memory.
+pub fn define(
+    alloc: Global,
+    types: &mut Entries,
+    scope: &mut Scope,
+    definition: &tree::TypeDef<'_>,
+) -> ParseResult<()>
+    ensures defines { OnOk result ((cs : List Cell) (s : Address) → Defines types.old types.new cs scope.old.owner s scope.old.names scope.new.names (Defined definition.now ∷ [])) }
+    ensures owner { OnOk result (scope.new.owner ≡ scope.old.owner) }
+    ensures noted { OnOk result ((f : Fault) → IsBrokenNotes definition.now.attributes.items f → ⊥) }
+    ensures legal { OnOk result ((f : Fault) → IsBrokenBody definition.now.body f → ⊥) }
+    ensures stored { OnOk result (IsStored scope.old.names scope.new.names definition.now.name.name.now) }
+    ensures handled { OnOk result (Requires (env_of scope.old.names) types.new (all_handles (body_types definition.now.body)) scope.old.required.items scope.new.required.items) }
+    ensures grown { IsGrown types.old types.new }
+    ensures refused { IfErr result (Refused (λ f. IsBrokenNotes definition.now.attributes.items f ⊎ IsWrongBody (env_of scope.old.names) types.new definition.now.body f)) }
+{
+    let notes = notes_of(alloc, &definition.docs, &definition.attributes)?;
+    let kind = resolve_body(
+        alloc,
+        types,
+        &scope.names,
+        &mut scope.required,
+        &notes.stability,
+        &definition.body,
+    )?;
+    let id = definition.name;
+    scope.declare(alloc, types, id.name, notes, id.span, kind)?;
+    Ok(())
+}

@@ -1,7 +1,0 @@
-use Rattle.std.proofs.Common.{◌≡◌, map, take}
-use Rattle.wit_meaning.specs.Kind.{enum_case_member}
-use Rattle.wit_meaning.specs.Shape.{written_enum_case}
-use Rattle.wit_entries.proofs.bodies.enum_cases.Given as goal
-
-abbrev pub invariant-loop-written : goal.invariant-loop-written
-invariant-loop-written l = map enum_case_member l.made.items ≡ map written_enum_case (take l.written-index l.cases)

@@ -1,6 +1,0 @@
-use Rattle.wit_meaning.specs.Resolving.{env_of}
-use Rattle.wit_entries.proofs.FunctionParts.{self_stands}
-use Rattle.wit_entries.proofs.functions.self_param.Goals as goal
-
-pub returns-clause-resolved : goal.returns-clause-resolved
-returns-clause-resolved c = self_stands c.args.types.now c.intern.new.self (env_of c.args.names.now) c.args.resource c.args.word c.place_of.result c.in_ok-id.id c.place_of.ensures c.in_ok-id.ensures.interned

@@ -1,7 +1,0 @@
-use Rattle.std.proofs.Common.{map}
-use Rattle.wit_entries.specs.Held.{function_behind}
-use Rattle.wit_entries.proofs.Lost.{NoneFree}
-use Rattle.wit_entries.proofs.signatures.is_entered.Given as goal
-
-abbrev pub invariant-loop-index : goal.invariant-loop-index
-invariant-loop-index l = NoneFree (map function_behind l.functions) l.index l.name

@@ -1,0 +1,161 @@
+-- What is gathered from files, one file and one item at a time.
+use Rattle.std.proofs.Common.{◌≡◌, ℕ, zero, suc, ◌+◌, List, [], ◌∷◌, ◌++◌, ◌⊎◌, length, map, take, Some, None, inl, inr, refl, sym, ap, ◌∙◌, subst, arith, append_assoc, length-append, Vec, Global, Bor}
+use Rattle.std.specs.Prelude.{slice_get, position}
+use Rattle.std.specs.List.{flat_map}
+use Rattle.std.specs.Option.{option_map}
+use Rattle.std.specs.Str.{bytes_eq}
+use Rattle.std.proofs.lemmas.List.{map-append}
+use Rattle.std.proofs.lemmas.Option.{slice_get-map, slice_get_within}
+use Rattle.indexmap.specs.IndexMap.{insert_entry, keys}
+use Rattle.wit_tree.specs.declared.tree.Id.{Id}
+use Rattle.wit_tree.specs.declared.tree.AstItem.{AstItem}
+use Rattle.wit_tree.specs.declared.tree.PackageFile.{PackageFile}
+use Rattle.wit_order.specs.Table.{Row, Table, entry_row, rows, place_of, target, IsOrder}
+use Rattle.wit_order.proofs.Rows.{key_eq, rows-insert}
+use Rattle.wit_order.proofs.Tables.{place_by_key}
+use Rattle.wit_syntax.specs.Source.{TopName, top_names, top_text, declared_items, Item, file_items, all_items, item_name}
+use Rattle.wit_syntax.specs.Scope.{item_row, item_rows}
+use Rattle.wit_syntax.specs.Fault.{Fault, item_word}
+use Rattle.wit_syntax.specs.Broken.{IsMissingEdge, IsCyclicEdge, IsBrokenItems, DuplicateItem, DuplicateTopName, MissingItem, CyclicItem, IsBrokenNames, Items, ForeignStability, AttributedTopUse, MissingOriginal}
+use Rattle.wit_syntax.specs.Foreign.{foreign_visits}
+use Rattle.wit_syntax.specs.Repeats.{AllDiffer}
+use Rattle.wit_syntax.proofs.Lists.{at_front, at_back, at_either, map_map}
+use Rattle.wit_syntax.proofs.Orders.{take_next}
+use Rattle.wit_syntax.proofs.Repeated.{no_repeat}
+use Rattle.wit_syntax.proofs.Tables.{place_of-Some, none_if}
+use Rattle.wit_syntax.proofs.Found.{at_contains, contains_at}
+use Rattle.wit_syntax.proofs.Legal.{no_missing_edge, no_cyclic_edge}
+use Rattle.wit_files.specs.Tops.{Named, AreNamed, AreDeclared}
+use Rattle.wit_files.specs.Checks.{AreDistinctTops, AreRightTops, IsWrongTop, AttributedUse, MissingUse, IsBrokenVisit, AreLegalVisits}
+use Rattle.wit_files.specs.FileNames.{AreTopsOf, AreNamesOf, AddsTop}
+use Rattle.wit_files.specs.declared.file_names.FileNames.{FileNames}
+use Rattle.wit_files.proofs.FirstNames.{rows_items}
+use Rattle.wit_files.proofs.Lost.{flat_more}
+
+-- what one of these gives stands behind what those before it give
+pub flat_split : {X A : Type 0} (f : X → List A) (xs : List X) (i : ℕ) (x : X) → slice_get xs i ≡ Some x → (rest : List A) × (flat_map f xs ≡ flat_map f (take i xs) ++ (f x ++ rest))
+flat_split f [] i x at = absurd (let g : ⊥ = cc in g)
+flat_split f (y ∷ ys) zero x at =
+    let same : y ≡ x = cc in
+    (flat_map f ys, ap (λ z. f z ++ flat_map f ys) same)
+flat_split f (y ∷ ys) (suc i) x at =
+    let it = flat_split f ys i x at in
+    (it.0, ap (λ l. f y ++ l) it.1 ∙ sym (append_assoc (f y) (flat_map f (take i ys)) (f x ++ it.0)))
+
+differ_front : {X : Type 0} (xs ys : List X) → AllDiffer (xs ++ ys) → AllDiffer xs
+differ_front xs ys d = record { differ = λ i j x at_i at_j. d.differ i j x (at_front xs ys i x at_i) (at_front xs ys j x at_j) }
+
+abbrev row_names : List Row → List (List ℕ)
+row_names rs = map (λ row. row.name) rs
+
+-- a name behind names that differ from it is that of no row
+fresh_name : (rs : List Row) (name : List ℕ) (rest : List (List ℕ)) → AllDiffer (row_names rs ++ name ∷ rest) → place_of rs name ≡ None
+fresh_name rs name rest differ = none_if (place_of rs name) (λ b some. (
+    let r = place_of-Some rs name b some in
+    let there : slice_get (row_names rs) b ≡ Some name = slice_get-map (λ (row : Row). row.name) rs b ∙ ap (option_map (λ (row : Row). row.name)) r.1 ∙ ap Some (sym r.2) in
+    let behind : slice_get (row_names rs ++ name ∷ rest) (length (row_names rs) + 0) ≡ Some name = at_back (row_names rs) (name ∷ rest) 0 name refl in
+    let same = differ.differ b (length (row_names rs) + 0) name (at_front (row_names rs) (name ∷ rest) b name there) behind in
+    let lt = slice_get_within (row_names rs) b name there in
+    let g : ⊥ = omega arith in
+    g))
+
+names_before : (rs : List Row) (before : List Item) → row_names rs ++ map item_name before ≡ row_names (rs ++ map item_row before)
+names_before rs before = sym (map-append (λ (row : Row). row.name) rs (map item_row before) ∙ ap (λ l. row_names rs ++ l) (map_map (λ (row : Row). row.name) item_row before))
+
+-- where the names of rows and of further items differ, none of the rows and of the items before it has that of an item
+pub fresh_item : (rs : List Row) (before rest all : List Item) (w : Item) → all ≡ before ++ (w ∷ rest) → AllDiffer (row_names rs ++ map item_name all) → place_of (rs ++ map item_row before) (item_name w) ≡ None
+fresh_item rs before rest all w split differ =
+    let names = row_names rs in
+    let own = item_name w ∷ map item_name rest in
+    let is : names ++ map item_name all ≡ row_names (rs ++ map item_row before) ++ own =
+    ap (λ l. names ++ map item_name l) split ∙ ap (λ l. names ++ l) (map-append item_name before (w ∷ rest)) ∙ sym (append_assoc names (map item_name before) own) ∙ ap (λ l. l ++ own) (names_before rs before) in
+    fresh_name (rs ++ map item_row before) (item_name w) (map item_name rest) (subst AllDiffer is differ)
+
+abbrev row : List ℕ → List Id → Row
+row name needs = record { name = name; needs = needs }
+
+-- the row of an item more, of a name that the table has not
+pub row_added : (old : List Row) (before all : List Item) (w : Item) (es new : List (Bor (List ℕ) × Vec Id Global)) (k : Bor (List ℕ)) (v : Vec Id Global) → map entry_row es ≡ old ++ map item_row before → all ≡ before ++ w ∷ [] → place_of (old ++ map item_row before) (item_name w) ≡ None → new ≡ insert_entry key_eq es k v → k.now ≡ item_name w → v.items ≡ (item_row w).needs → map entry_row new ≡ old ++ map item_row all
+row_added old before all w es new k v same more none inserted name needs =
+    let were = old ++ map item_row before in
+    let free : place_of (map entry_row es) k.now ≡ None = ap (place_of (map entry_row es)) name ∙ ap (λ rs. place_of rs (item_name w)) same ∙ none in
+    let is : row k.now v.items ≡ item_row w = ap (λ m. row m v.items) name ∙ ap (λ ids. row (item_name w) ids) needs in
+    rows-insert es new k v inserted free ∙ ap (λ rs. rs ++ row k.now v.items ∷ []) same ∙ ap (λ r. were ++ r ∷ []) is ∙ append_assoc old (map item_row before) (item_row w ∷ []) ∙ ap (λ l. old ++ l) (sym (map-append item_row before (w ∷ [])) ∙ ap (map item_row) (sym more))
+
+-- so, one declaration further on, the table has the items that were declared up to there
+pub item_added : (top : List TopName) (old : List Row) (ds : List AstItem) (i : ℕ) (d : AstItem) (w : Item) (es new : List (Bor (List ℕ) × Vec Id Global)) (k : Bor (List ℕ)) (v : Vec Id Global) → slice_get ds i ≡ Some d → declared_items top d ≡ w ∷ [] → AllDiffer (row_names old ++ map item_name (flat_map (declared_items top) ds)) → map entry_row es ≡ old ++ map item_row (flat_map (declared_items top) (take i ds)) → new ≡ insert_entry key_eq es k v → k.now ≡ item_name w → v.items ≡ (item_row w).needs → map entry_row new ≡ old ++ map item_row (flat_map (declared_items top) (take (i + 1) ds))
+item_added top old ds i d w es new k v at one differ same inserted name needs =
+    let items = flat_map (declared_items top) in
+    let before = items (take i ds) in
+    let more : items (take (i + 1) ds) ≡ before ++ w ∷ [] = flat_more (declared_items top) (take i ds) (take (i + 1) ds) d (take_next ds i d at) ∙ ap (λ l. before ++ l) one in
+    let rest = flat_split (declared_items top) ds i d at in
+    let split : items ds ≡ before ++ (w ∷ rest.0) = rest.1 ∙ ap (λ l. before ++ (l ++ rest.0)) one in
+    row_added old before (items (take (i + 1) ds)) w es new k v same more (fresh_item old before rest.0 (items ds) w split differ) inserted name needs
+
+-- so the names of the items of a file differ from those of the files before it
+pub fresh_file : (rs : List Row) (files : List PackageFile) (i : ℕ) (file : PackageFile) → rs ≡ item_rows (take i files) → AllDiffer (map item_name (all_items files)) → slice_get files i ≡ Some file → AllDiffer (row_names rs ++ map item_name (file_items file))
+fresh_file rs files i file same differ at =
+    let it = flat_split file_items files i file at in
+    let before = all_items (take i files) in
+    let own = map item_name (file_items file) in
+    let rest = map item_name it.0 in
+    let all : map item_name (all_items files) ≡ (map item_name before ++ own) ++ rest =
+    ap (map item_name) it.1 ∙ map-append item_name before (file_items file ++ it.0) ∙ ap (λ l. map item_name before ++ l) (map-append item_name (file_items file) it.0) ∙ sym (append_assoc (map item_name before) own rest) in
+    let names : map item_name before ≡ row_names rs = sym (ap row_names same ∙ map_map (λ (row : Row). row.name) item_row before) in
+    subst (λ l. AllDiffer (l ++ own)) names (differ_front (map item_name before ++ own) rest (subst AllDiffer all differ))
+
+-- the names at the top of a file more
+pub tops_added : (files : List PackageFile) (file : PackageFile) (old new : List Named) → AreTopsOf files old → AddsTop file old new → AreTopsOf (files ++ file ∷ []) new
+tops_added files file old new tops more = record {
+  long = ap (λ l. length l) more.last ∙ length-append old (more.top ∷ []) ∙ ap (λ n. n + 1) tops.long ∙ sym (length-append files (file ∷ []));
+  each = λ i g top at there. (
+      let long = tops.long in
+      let in_old = at_either old more.top i top (ap (λ l. slice_get l i) (sym more.last) ∙ there) in
+      elim (at_either files file i g at) [
+        | inl first ↦ elim in_old [
+          | inl second ↦ tops.each i g top first second
+          | inr last ↦ (let lt = slice_get_within files i g first in let is = last.0 in absurd (let h : ⊥ = omega arith in h))
+        ]
+        | inr one ↦ elim in_old [
+          | inl second ↦ (let lt = slice_get_within old i top second in let is = one.0 in absurd (let h : ⊥ = omega arith in h))
+          | inr last ↦ subst (λ (x : PackageFile). AreNamed (top_names x) top) (sym one.1) (subst (λ (m : Named). AreNamed (top_names file) m) (sym last.1) more.named)
+        ]
+      ]);
+}
+
+-- what is wrong with the order of a table is wrong with the items that it has
+pub broken_order : (files : List PackageFile) (rs : List Row) → rs ≡ item_rows files → (f : Fault) → IsMissingEdge 7 item_word rs f ⊎ IsCyclicEdge 8 item_word rs f → IsBrokenItems files f
+broken_order files rs same f (inl h) = MissingItem (subst (λ (l : List Row). IsMissingEdge 7 item_word l f) same h)
+broken_order files rs same f (inr h) = CyclicItem (subst (λ (l : List Row). IsCyclicEdge 8 item_word l f) same h)
+
+-- where names differ and the items have an order, no rule about items is broken
+pub legal_items : (files : List PackageFile) (places : List ℕ) → AllDiffer (map item_name (all_items files)) → AreDistinctTops files → IsOrder (item_rows files) places → (f : Fault) → IsBrokenItems files f → ⊥
+legal_items files places differ tops order f (DuplicateItem h) = no_repeat item_name (all_items files) h.later differ h.repeated
+legal_items files places differ tops order f (DuplicateTopName file among h) =
+    let p = at_contains files file among in
+    no_repeat top_text (top_names file) h.later (tops.differ p.0 file p.1) h.repeated
+legal_items files places differ tops order f (MissingItem h) = no_missing_edge 7 item_word (item_rows files) places f order h
+legal_items files places differ tops order f (CyclicItem h) = no_cyclic_edge 8 item_word (item_rows files) places f order h
+
+-- the table of the items of files finds them
+pub names_declared : (files : List PackageFile) (names : FileNames) → AreNamesOf files names → AreDeclared (all_items files) names.items
+names_declared files names are = record { finds = λ name. rows_items (all_items files) names.items.entries name are.items }
+
+-- what is wrong with attributes in front of a path to another package, and at the top of a file, is wrong with names
+pub broken_visit : (files : List PackageFile) (f : Fault) → IsBrokenVisit (foreign_visits files) f → IsBrokenNames files f
+broken_visit files f h = ForeignStability h.visit h.among h.broken
+
+pub broken_top : (files : List PackageFile) (i : ℕ) (file : PackageFile) (f : Fault) → slice_get files i ≡ Some file → IsWrongTop (all_items files) file.decl_list.items.items f → IsBrokenNames files f
+broken_top files i file f at (AttributedUse h) = AttributedTopUse file (contains_at files i file at) h
+broken_top files i file f at (MissingUse h) = MissingOriginal file (contains_at files i file at) h
+
+-- no rule about names is broken where none about items is, and where nothing is wrong with those attributes and at the top of a file
+pub legal_names : (files : List PackageFile) → ((f : Fault) → IsBrokenItems files f → ⊥) → AreLegalVisits (foreign_visits files) → AreRightTops (all_items files) files → (f : Fault) → IsBrokenNames files f → ⊥
+legal_names files legal visits tops f (Items h) = legal f h
+legal_names files legal visits tops f (ForeignStability v among h) = (let p = at_contains (foreign_visits files) v among in visits.each p.0 v p.1 f h)
+legal_names files legal visits tops f (AttributedTopUse file among h) = (let p = at_contains files file among in tops.each p.0 file p.1 f (AttributedUse h))
+legal_names files legal visits tops f (MissingOriginal file among h) = (let p = at_contains files file among in tops.each p.0 file p.1 f (MissingUse h))
+
+-- the place of a name among the keys is that of the item which an edge of this name leads to
+pub item_place : (files : List PackageFile) (table : Table) (name : List ℕ) (edge : Id) → rows table ≡ item_rows files → name ≡ edge.name.now → position (λ (k : Bor (List ℕ)). bytes_eq name k.now) (keys table) ≡ target (item_rows files) edge
+item_place files table name edge same named = sym (place_by_key table name) ∙ ap (place_of (rows table)) named ∙ ap (λ rs. place_of rs edge.name.now) same

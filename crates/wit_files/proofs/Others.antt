@@ -1,0 +1,191 @@
+-- Paths with a package among those of files, and the items of other packages by their keys.
+use Rattle.std.proofs.Common.{◌≡◌, ℕ, zero, suc, ◌||◌, ◌&&◌, Bool, true, false, not, cond, length, List, [], ◌∷◌, ◌++◌, ◌+◌, map, Option, Some, None, inl, inr, refl, sym, ap, ◌∙◌}
+use Rattle.std.specs.Prelude.{slice_get, position, nat_lt}
+use Rattle.std.specs.List.{flat_map, list_any, prefix_len}
+use Rattle.std.specs.Option.{option_map, option_eq}
+use Rattle.std.specs.Str.{bytes_eq}
+use Rattle.std.proofs.lemmas.Bool.{cases_Bool, cond-true, cond-false, both_ways}
+use Rattle.std.proofs.lemmas.Grind.{flat_map-append}
+use Rattle.std.proofs.lemmas.List.{append-nil, map-append, length-map}
+use Rattle.std.proofs.lemmas.Option.{slice_get-map}
+use Rattle.indexmap.specs.IndexSet.{insert_key}
+use Rattle.wit_tree.specs.declared.tree.Id.{Id}
+use Rattle.wit_tree.specs.declared.tree.InterfaceItem.{InterfaceItem}
+use Rattle.wit_tree.specs.declared.tree.InterfaceItem.TheVariants as interface_item
+use Rattle.wit_tree.specs.declared.tree.WorldItem.{WorldItem}
+use Rattle.wit_tree.specs.declared.tree.WorldItem.TheVariants as world_item
+use Rattle.wit_tree.specs.declared.tree.AstItem.{AstItem}
+use Rattle.wit_tree.specs.declared.tree.AstItem.TheVariants as ast
+use Rattle.wit_tree.specs.declared.tree.PackageFile.{PackageFile}
+use Rattle.wit_syntax.specs.Address.{Address, same_version, same_address}
+use Rattle.wit_syntax.specs.Source.{interface_part, world_part}
+use Rattle.wit_syntax.specs.Foreign.{ForeignVisit, visited, path_visits, part_visits as the_part_visits, declaration_visits, file_visits, same_item}
+use Rattle.wit_syntax.specs.Repeats.{firsts}
+use Rattle.wit_syntax.proofs.Lists.{map_at}
+use Rattle.wit_syntax.proofs.Addresses.{same_address-from, same_address-equal}
+use Rattle.wit_syntax.proofs.Firsts.{firsts_at, firsts_has, firsts-more}
+use Rattle.wit_files.specs.Visits.{Visit, part_visits, world_part_visits, item_visits, visits}
+use Rattle.wit_files.specs.Foreign.{wants_world, foreign_behind, key_release, key_address, AreItemsOf}
+use Rattle.wit_files.specs.declared.foreign.ForeignVisit.{ForeignVisit as HeldVisit}
+use Rattle.wit_files.specs.declared.foreign.ForeignItems.{ForeignItems}
+use Rattle.wit_files.specs.declared.foreign.VersionKey.{VersionKey}
+use Rattle.wit_files.specs.declared.foreign.ForeignKey.{ForeignKey}
+use Rattle.wit_files.specs.contracts.foreign.VersionKeyPartialEq.TheImpl.{eq-value as version_test}
+use Rattle.wit_files.specs.contracts.foreign.ForeignKeyPartialEq.TheImpl.{eq-value as key_test}
+
+-- the visit of an item of another package that a path makes
+abbrev pub foreign_of : Visit → List ForeignVisit
+foreign_of v = path_visits v.attributes (wants_world v.wanted) v.path
+
+flat_inside : {X Y Z : Type 0} (g : Y → List Z) (f : X → List Y) (h : X → List Z) → ((x : X) → flat_map g (f x) ≡ h x) → (xs : List X) → flat_map g (flat_map f xs) ≡ flat_map h xs
+flat_inside g f h each [] = refl
+flat_inside g f h each (x ∷ xs) = flat_map-append g (f x) (flat_map f xs) ∙ ap (λ l. l ++ flat_map g (flat_map f xs)) (each x) ∙ ap (λ l. h x ++ l) (flat_inside g f h each xs)
+
+flat_mapped : {X Y Z : Type 0} (g : Y → List Z) (f : X → Y) (xs : List X) → flat_map (λ x. g (f x)) xs ≡ flat_map g (map f xs)
+flat_mapped g f [] = refl
+flat_mapped g f (x ∷ xs) = ap (λ l. g (f x) ++ l) (flat_mapped g f xs)
+
+of_part : (owner : Id) (p : InterfaceItem) → flat_map foreign_of (part_visits owner p) ≡ the_part_visits (interface_part p)
+of_part owner (interface_item.TypeDef d) = refl
+of_part owner (interface_item.Use u) = append-nil (path_visits u.attributes.items false u.from)
+of_part owner (interface_item.Func f) = refl
+
+of_world_part : (owner : Id) (p : WorldItem) → flat_map foreign_of (world_part_visits owner p) ≡ the_part_visits (world_part p)
+of_world_part owner (world_item.TypeDef d) = refl
+of_world_part owner (world_item.Use u) = append-nil (path_visits u.attributes.items false u.from)
+of_world_part owner (world_item.Include i) = append-nil (path_visits i.attributes.items true i.from)
+
+of_item : (d : AstItem) → flat_map foreign_of (item_visits d) ≡ declaration_visits d
+of_item (ast.Interface i) = flat_inside foreign_of (part_visits i.name) (λ p. the_part_visits (interface_part p)) (of_part i.name) i.items.items ∙ flat_mapped the_part_visits interface_part i.items.items
+of_item (ast.World w) = flat_inside foreign_of (world_part_visits w.name) (λ p. the_part_visits (world_part p)) (of_world_part w.name) w.items.items ∙ flat_mapped the_part_visits world_part w.items.items
+of_item (ast.Use u) = append-nil (path_visits u.attributes.items false u.item)
+
+-- those of the paths of a file are its paths with a package
+pub of_file : (f : PackageFile) → flat_map foreign_of (visits f.decl_list) ≡ file_visits f
+of_file f = flat_inside foreign_of item_visits declaration_visits of_item f.decl_list.items.items
+
+-- a test that passes somewhere, and one that passes nowhere
+any_at : {X : Type 0} (p : X → Bool) (xs : List X) → list_any p xs ≡ true → (i : ℕ) × (x : X) × (slice_get xs i ≡ Some x) × (p x ≡ true)
+any_at p [] h = absurd (let f : ⊥ = cc in f)
+any_at p (x ∷ xs) h = elim (cases_Bool (p x)) [
+  | inl hit ↦ (0, x, refl, hit)
+  | inr miss ↦ (let it = any_at p xs (rw miss at h) in (suc it.0, it.1, it.2, it.3))
+]
+
+any_from : {X : Type 0} (p : X → Bool) (xs : List X) (i : ℕ) (x : X) → slice_get xs i ≡ Some x → p x ≡ true → list_any p xs ≡ true
+any_from p [] i x at hit = absurd (let f : ⊥ = cc in f)
+any_from p (y ∷ xs) zero x at hit = (let here : y ≡ x = cc in rw (ap p here ∙ hit) refl)
+any_from p (y ∷ xs) (suc i) x at hit = elim (cases_Bool (p y)) [
+  | inl first ↦ rw first refl
+  | inr miss ↦ rw miss (any_from p xs i x at hit)
+]
+
+any-mapped : {X Y : Type 0} (p : Y → Bool) (f : X → Y) (xs : List X) → list_any (λ x. p (f x)) xs ≡ list_any p (map f xs)
+any-mapped p f [] = refl
+any-mapped p f (x ∷ xs) = ap (λ b. p (f x) || b) (any-mapped p f xs)
+
+any-alike : {X : Type 0} (p q : X → Bool) (xs : List X) → ((x : X) → p x ≡ q x) → list_any p xs ≡ list_any q xs
+any-alike p q [] each = refl
+any-alike p q (x ∷ xs) each = rw (each x, any-alike p q xs each) refl
+
+prefix-mapped : {X Y : Type 0} (p : Y → Bool) (f : X → Y) (xs : List X) → prefix_len (λ x. not (p (f x))) xs ≡ prefix_len (λ y. not (p y)) (map f xs)
+prefix-mapped p f [] = refl
+prefix-mapped p f (x ∷ xs) = ap (λ n. cond (not (p (f x))) (1 + n) 0) (prefix-mapped p f xs)
+
+-- the place of what a list is mapped to
+pub position-mapped : {X Y : Type 0} (p : Y → Bool) (f : X → Y) (xs : List X) → position (λ x. p (f x)) xs ≡ position p (map f xs)
+position-mapped p f xs =
+    let place = prefix_len (λ y. not (p y)) (map f xs) in
+    ap (λ n. cond (nat_lt n (length xs)) (Some n) None) (prefix-mapped p f xs) ∙ ap (λ n. cond (nat_lt place n) (Some place) None) (sym (length-map xs f))
+
+prefix-alike : {X : Type 0} (p q : X → Bool) (xs : List X) → ((x : X) → p x ≡ q x) → prefix_len (λ x. not (p x)) xs ≡ prefix_len (λ x. not (q x)) xs
+prefix-alike p q [] each = refl
+prefix-alike p q (x ∷ xs) each = ap (λ b. cond (not b) (1 + prefix_len (λ y. not (p y)) xs) 0) (each x) ∙ ap (λ n. cond (not (q x)) (1 + n) 0) (prefix-alike p q xs each)
+
+position-alike : {X : Type 0} (p q : X → Bool) (xs : List X) → ((x : X) → p x ≡ q x) → position p xs ≡ position q xs
+position-alike p q xs each = ap (λ n. cond (nat_lt n (length xs)) (Some n) None) (prefix-alike p q xs each)
+
+same_turned : (a b : Address) → same_address a b ≡ same_address b a
+same_turned a b = elim (cases_Bool (same_address a b)) [
+  | inl same ↦ same ∙ sym (same_address-from b a (sym (same_address-equal a b same)))
+  | inr other ↦ elim (cases_Bool (same_address b a)) [
+    | inl back ↦ absurd (both_ways (same_address a b) other (same_address-from a b (sym (same_address-equal b a back))))
+    | inr both ↦ other ∙ sym both
+  ]
+]
+
+-- one more visit is of a known item
+pub firsts-known : (vs : List ForeignVisit) (v : ForeignVisit) → list_any (same_address (visited v)) (map visited (firsts same_item vs)) ≡ true → firsts same_item (vs ++ v ∷ []) ≡ firsts same_item vs
+firsts-known vs v known = elim (firsts-more same_item vs v) [
+  | inl both ↦ both.1
+  | inr new ↦ absurd (
+      let it = any_at (same_address (visited v)) (map visited (firsts same_item vs)) known in
+      let w = map_at visited (firsts same_item vs) it.0 it.1 it.2 in
+      let there = firsts_at same_item vs it.0 w.0 w.1 in
+      let same : visited w.0 ≡ visited v = w.2 ∙ sym (same_address-equal (visited v) it.1 it.3) in
+      both_ways (same_item w.0 v) (new.0 there.0 w.0 there.1) (same_address-from (visited w.0) (visited v) same))
+]
+
+-- or of a new one, which is listed last
+pub firsts-new : (vs : List ForeignVisit) (v : ForeignVisit) → list_any (same_address (visited v)) (map visited (firsts same_item vs)) ≡ false → firsts same_item (vs ++ v ∷ []) ≡ firsts same_item vs ++ v ∷ []
+firsts-new vs v new = elim (firsts-more same_item vs v) [
+  | inl both ↦ absurd (
+      let listed = both.0 in
+      let it = firsts_has same_item visited (λ a b h. same_address-from (visited a) (visited b) h) (λ a b h. same_address-equal (visited a) (visited b) h) vs listed.place listed.y listed.at in
+      let same : visited v ≡ visited it.1 = sym (it.3 ∙ same_address-equal (visited listed.y) (visited v) listed.is) in
+      let at = slice_get-map visited (firsts same_item vs) it.0 ∙ ap (option_map visited) it.2 in
+      both_ways (list_any (same_address (visited v)) (map visited (firsts same_item vs))) new (any_from (same_address (visited v)) (map visited (firsts same_item vs)) it.0 (visited it.1) at (same_address-from (visited v) (visited it.1) same)))
+  | inr fresh ↦ fresh.1
+]
+
+version_same : (a b : Option VersionKey) → option_eq version_test.it a b ≡ same_version (option_map key_release a) (option_map key_release b)
+version_same None None = refl
+version_same None (Some b) = refl
+version_same (Some a) None = refl
+version_same (Some a) (Some b) = refl
+
+and_last : (a b c d : Bool) → (a && (b && (c && d))) ≡ ((a && (b && c)) && d)
+and_last false b c d = refl
+and_last true false c d = refl
+and_last true true c d = refl
+
+-- keys are equal where the items are one
+pub key_same : (a b : ForeignKey) → key_test.it a b ≡ same_address (key_address a) (key_address b)
+key_same a b =
+    let namespace = bytes_eq a.namespace.now b.namespace.now in
+    let of = bytes_eq a.«package».now b.«package».now in
+    let name = bytes_eq a.name.now b.name.now in
+    ap (λ version. namespace && (of && (version && name))) (version_same a.version b.version) ∙ and_last namespace of (same_version (option_map key_release a.version) (option_map key_release b.version)) name
+
+key_known : (vs : List ForeignVisit) (held : ForeignItems) (v : ForeignVisit) (k : ForeignKey) → AreItemsOf vs held → key_address k ≡ visited v → list_any (key_test.it k) held.keys.keys ≡ list_any (same_address (visited v)) (map visited (firsts same_item vs))
+key_known vs held v k are is =
+    any-alike (key_test.it k) (λ x. same_address (key_address k) (key_address x)) held.keys.keys (key_same k)
+    ∙ any-mapped (same_address (key_address k)) key_address held.keys.keys
+    ∙ ap (λ (s : Address). list_any (same_address s) (map key_address held.keys.keys)) is
+    ∙ ap (list_any (same_address (visited v))) are.keys
+
+-- a key that is there adds nothing
+pub items_kept : (vs : List ForeignVisit) (held : ForeignItems) (v : ForeignVisit) (k : ForeignKey) (keys : List ForeignKey) → AreItemsOf vs held → key_address k ≡ visited v → list_any (key_test.it k) held.keys.keys ≡ true → keys ≡ insert_key key_test.it held.keys.keys k → (map key_address keys ≡ map visited (firsts same_item (vs ++ v ∷ []))) × (map foreign_behind held.items.items ≡ firsts same_item (vs ++ v ∷ []))
+items_kept vs held v k keys are is known inserted =
+    let same = firsts-known vs v (sym (key_known vs held v k are is) ∙ known) in
+    let stay : keys ≡ held.keys.keys = inserted ∙ cond-true (list_any (key_test.it k) held.keys.keys) held.keys.keys (held.keys.keys ++ k ∷ []) known in
+    (ap (map key_address) stay ∙ are.keys ∙ ap (map visited) (sym same), are.items ∙ sym same)
+
+-- a new one adds the item
+pub items_more : (vs : List ForeignVisit) (held : ForeignItems) (v : HeldVisit) (k : ForeignKey) (keys : List ForeignKey) (items : List HeldVisit) → AreItemsOf vs held → key_address k ≡ visited (foreign_behind v) → list_any (key_test.it k) held.keys.keys ≡ false → keys ≡ insert_key key_test.it held.keys.keys k → items ≡ held.items.items ++ v ∷ [] → (map key_address keys ≡ map visited (firsts same_item (vs ++ foreign_behind v ∷ []))) × (map foreign_behind items ≡ firsts same_item (vs ++ foreign_behind v ∷ []))
+items_more vs held v k keys items are is new inserted pushed =
+    let w = foreign_behind v in
+    let old = held.keys.keys in
+    let more = firsts-new vs w (sym (key_known vs held w k are is) ∙ new) in
+    let grown : keys ≡ old ++ k ∷ [] = inserted ∙ cond-false (list_any (key_test.it k) old) old (old ++ k ∷ []) new in
+    (ap (map key_address) grown ∙ map-append key_address old (k ∷ []) ∙ ap (λ l. l ++ key_address k ∷ []) are.keys ∙ ap (λ (s : Address). map visited (firsts same_item vs) ++ s ∷ []) is ∙ sym (map-append visited (firsts same_item vs) (w ∷ [])) ∙ ap (map visited) (sym more), ap (map foreign_behind) pushed ∙ map-append foreign_behind held.items.items (v ∷ []) ∙ ap (λ l. l ++ w ∷ []) are.items ∙ sym more)
+
+-- the place of a key is that of the item which it stands for
+pub key_place : (vs : List ForeignVisit) (held : ForeignItems) (k : ForeignKey) (s : Address) → AreItemsOf vs held → key_address k ≡ s → position (key_test.it k) held.keys.keys ≡ position (λ v. same_address (visited v) s) (firsts same_item vs)
+key_place vs held k s are is =
+    position-alike (key_test.it k) (λ x. same_address (key_address k) (key_address x)) held.keys.keys (key_same k)
+    ∙ position-mapped (same_address (key_address k)) key_address held.keys.keys
+    ∙ ap (λ (t : Address). position (same_address t) (map key_address held.keys.keys)) is
+    ∙ ap (position (same_address s)) are.keys
+    ∙ sym (position-mapped (same_address s) visited (firsts same_item vs))
+    ∙ position-alike (λ v. same_address s (visited v)) (λ v. same_address (visited v) s) (firsts same_item vs) (λ v. same_turned s (visited v))

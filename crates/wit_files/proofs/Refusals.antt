@@ -1,0 +1,30 @@
+-- The refusal of an edge that forbids an order.
+use Rattle.std.proofs.Common.{◌≡◌, ◌⊎◌, ℕ, List, Some, inl, inr, sym, ap, ◌∙◌}
+use Rattle.std.specs.Prelude.{slice_get}
+use Rattle.wit_tree.specs.declared.tree.Id.{Id}
+use Rattle.wit_tree.specs.declared.error.ParseError.{ParseError}
+use Rattle.wit_tree.specs.Refusal.{IsWantOfMemory}
+use Rattle.wit_order.specs.Table.{Row, IsEdge}
+use Rattle.wit_order.specs.Faults.{IsFirstMissing, IsFirstCyclic}
+use Rattle.wit_syntax.specs.Fault.{fault_of, missing_at, cyclic_at}
+use Rattle.wit_syntax.specs.Broken.{IsMissingEdge, IsCyclicEdge, Refused}
+
+-- one place and index have one edge
+same_edge : (rs : List Row) (i k : ℕ) (a b : Id) → IsEdge rs i k a → IsEdge rs i k b → a ≡ b
+same_edge rs i k a b x y =
+    let rows : Some x.0 ≡ Some y.0 = sym x.1 ∙ y.1 in
+    let row : x.0 ≡ y.0 = cc in
+    let ids : Some a ≡ Some b = sym x.2 ∙ ap (λ (r : Row). slice_get r.needs k) row ∙ y.2 in
+    cc
+
+pub missing_edge : (number : ℕ) (sort : List ℕ) (other : ℕ) (rs : List Row) (i k : ℕ) (id : Id) (e : ParseError) → IsFirstMissing rs i k → IsEdge rs i k id → IsWantOfMemory e ⊎ (fault_of e ≡ missing_at number sort id) → Refused (λ f. IsMissingEdge number sort rs f ⊎ IsCyclicEdge other sort rs f) e
+missing_edge number sort other rs i k id e f edge says = elim says [
+  | inl memory ↦ inl memory
+  | inr is ↦ inr (inl (record { place = i; index = k; id = f.id; edge = f.first.is; missing = f.first.holds; is = is ∙ ap (missing_at number sort) (same_edge rs i k id f.id edge f.first.is) }))
+]
+
+pub cyclic_edge : (number : ℕ) (sort : List ℕ) (other : ℕ) (rs : List Row) (i k : ℕ) (id : Id) (e : ParseError) → IsFirstCyclic rs i k → IsEdge rs i k id → IsWantOfMemory e ⊎ (fault_of e ≡ cyclic_at number sort id) → Refused (λ f. IsMissingEdge other sort rs f ⊎ IsCyclicEdge number sort rs f) e
+cyclic_edge number sort other rs i k id e f edge says = elim says [
+  | inl memory ↦ inl memory
+  | inr is ↦ inr (inr (record { place = i; index = k; id = f.id; edge = f.first.is; cyclic = f.first.holds; is = is ∙ ap (cyclic_at number sort) (same_edge rs i k id f.id edge f.first.is) }))
+]

@@ -1,0 +1,24 @@
+use Rattle.std.proofs.Common.{refl, sym, ap, ◌∙◌}
+use Rattle.std.specs.Option.{option_map}
+use Rattle.wit_syntax.specs.Foreign.{foreign_visits}
+use Rattle.wit_files.specs.Tops.{target_behind}
+use Rattle.wit_files.specs.FileNames.{found_at}
+use Rattle.wit_files.specs.declared.file_names.Found.TheVariants.{Item as ItemAt, Foreign as ForeignAt}
+use Rattle.wit_files.proofs.Gathering.{item_place}
+use Rattle.wit_files.proofs.file_names.FileNames.found.Goals as goal
+
+pub returns-in_err-place-in-Local : goal.returns-in_err-place-in-Local
+returns-in_err-place-in-Local c = λ files names. (
+    let place = item_place files c.args.self.now.items c.in-Local.id.name.now c.in-Local.id names.items refl in
+    c.from_residual.ensures ∙ ap (option_map ItemAt) (c.in_err-place-in-Local.ensures.index ∙ place) ∙ ap (λ t. found_at files (target_behind t)) (sym c.in-Local.is))
+
+pub returns-in_ok-place-in-Local : goal.returns-in_ok-place-in-Local
+returns-in_ok-place-in-Local c = λ files names. (
+    let place = item_place files c.args.self.now.items c.in-Local.id.name.now c.in-Local.id names.items refl in
+    ap (option_map ItemAt) (c.in_ok-place-in-Local.ensures.index ∙ place) ∙ ap (λ t. found_at files (target_behind t)) (sym c.in-Local.is))
+
+pub returns-in_err-place-in-Foreign : goal.returns-in_err-place-in-Foreign
+returns-in_err-place-in-Foreign c = λ files names. c.from_residual-in_err-place-in-Foreign.ensures ∙ ap (option_map ForeignAt) (c.in_err-place-in-Foreign.ensures (foreign_visits files) names.foreign) ∙ ap (λ t. found_at files (target_behind t)) (sym c.in-Foreign.is)
+
+pub returns-in_ok-place-in-Foreign : goal.returns-in_ok-place-in-Foreign
+returns-in_ok-place-in-Foreign c = λ files names. ap (option_map ForeignAt) (c.in_ok-place-in-Foreign.ensures (foreign_visits files) names.foreign) ∙ ap (λ t. found_at files (target_behind t)) (sym c.in-Foreign.is)

@@ -1,0 +1,94 @@
+-- What is right and what is wrong with the names of files, one file, one declaration or one path at a time.
+use Rattle.std.specs.List.{flat_map}
+use Rattle.std.specs.Prelude.{◌≡◌, ◌≢◌, ℕ, List, [], map, Some, None, IsSome, Contains, slice_get}
+use Rattle.wit_tree.specs.declared.tree.Id.{Id}
+use Rattle.wit_tree.specs.declared.tree.UsePath.{UsePath}
+use Rattle.wit_tree.specs.declared.tree.ToplevelUse.{ToplevelUse}
+use Rattle.wit_tree.specs.declared.tree.AstItem.{AstItem}
+use Rattle.wit_tree.specs.declared.tree.AstItem.TheVariants.{Use as ToplevelItem}
+use Rattle.wit_tree.specs.declared.tree.PackageFile.{PackageFile}
+use Rattle.wit_syntax.specs.Source.{TopName, Target, Local, path_target, leads, top_names, top_text, Item, parts, file_items, item_named}
+use Rattle.wit_syntax.specs.Scope.{needed_path, local_target}
+use Rattle.wit_syntax.specs.Fault.{Fault, fault, missing_at, item_word}
+use Rattle.wit_syntax.specs.Bodies.{IsRepeated}
+use Rattle.wit_syntax.specs.Broken.{IsDuplicateTopName, IsMissingOriginal, IsAttributedTopUse}
+use Rattle.wit_syntax.specs.Foreign.{ForeignVisit}
+use Rattle.wit_syntax.specs.Notes.{IsBrokenStability}
+use Rattle.wit_syntax.specs.Repeats.{AllDiffer}
+
+-- an earlier one of these names at the top of a file is the same
+pub record IsRepeatedName (number : ℕ) (top : List TopName) (f : Fault) : Type 0 where
+  pub later : TopName
+  pub repeated : IsRepeated top_text top later
+  pub is : f ≡ fault number later.id.span
+
+-- a name is that of no item, where it is written
+pub record IsUndeclared (items : List Item) (id : Id) (f : Fault) : Type 0 where
+  pub missing : item_named items id.name.now ≡ None
+  pub is : f ≡ missing_at 7 item_word id
+
+-- a path leads to a name that is no item's
+pub record IsLostTarget (items : List Item) (target : Target) (f : Fault) : Type 0 where
+  pub id : Id
+  pub local : target ≡ Local id
+  pub undeclared : IsUndeclared items id f
+
+-- one of these paths does
+pub record IsLostAmong (items : List Item) (top : List TopName) (paths : List UsePath) (f : Fault) : Type 0 where
+  pub path : UsePath
+  pub among : Contains paths path
+  pub lost : IsLostTarget items (leads top path) f
+
+-- the names of the items of the package that paths lead to
+abbrev pub edges_of : List TopName → List UsePath → List Id
+edges_of top paths = flat_map (λ path. local_target (leads top path)) paths
+
+-- the paths of an item to items that have to come before it
+abbrev pub needed_paths : Item → List UsePath
+needed_paths w = flat_map (needed_path w.declared) (parts w)
+
+-- what is wrong with a file by itself: a name at its top stands twice, or a path of one of its items is lost
+pub data IsWrongFile (is : List Item) (file : PackageFile) (f : Fault) : Type 0 where
+  WrongTop : IsDuplicateTopName (top_names file) f → IsWrongFile is file f
+  WrongPath : (w : Item) → Contains (file_items file) w → IsLostAmong is w.top (needed_paths w) f → IsWrongFile is file f
+
+-- the names at the top of each file differ
+pub record AreDistinctTops (files : List PackageFile) : Type 0 where
+  pub differ : (i : ℕ) (file : PackageFile) → slice_get files i ≡ Some file → AllDiffer (map top_text (top_names file))
+
+-- where a path leads to a name, that is the name of one of these items
+abbrev pub IsDeclaredTarget : List Item → Target → Type 0
+IsDeclaredTarget is target = (id : Id) → target ≡ Local id → IsSome (item_named is id.name.now)
+
+-- a `use` at the top of a file has no attributes, and its path, by itself, is declared where it leads to a name
+pub record IsRightUse (is : List Item) (u : ToplevelUse) : Type 0 where
+  pub plain : u.attributes.items ≡ []
+  pub declared : IsDeclaredTarget is (path_target u.item)
+
+-- it has attributes, or its path is lost
+pub data IsWrongUse (is : List Item) (u : ToplevelUse) (f : Fault) : Type 0 where
+  Attributed : u.attributes.items ≢ [] → f ≡ fault 9 u.span → IsWrongUse is u f
+  Lost : IsLostTarget is (path_target u.item) f → IsWrongUse is u f
+
+-- each `use` among these declarations is right
+pub record AreRightUses (is : List Item) (declarations : List AstItem) : Type 0 where
+  pub each : (k : ℕ) (u : ToplevelUse) → slice_get declarations k ≡ Some (ToplevelItem u) → IsRightUse is u
+
+-- what is wrong with one of them
+pub data IsWrongTop (is : List Item) (declarations : List AstItem) (f : Fault) : Type 0 where
+  AttributedUse : IsAttributedTopUse declarations f → IsWrongTop is declarations f
+  MissingUse : IsMissingOriginal is declarations f → IsWrongTop is declarations f
+
+-- nothing is wrong with those of each file
+pub record AreRightTops (is : List Item) (files : List PackageFile) : Type 0 where
+  pub each : (i : ℕ) (file : PackageFile) → slice_get files i ≡ Some file → (f : Fault) → IsWrongTop is file.decl_list.items.items f → ⊥
+
+-- the attributes in front of one of these paths break a rule
+pub record IsBrokenVisit (visits : List ForeignVisit) (f : Fault) : Type 0 where
+  pub visit : ForeignVisit
+  pub among : Contains visits visit
+  pub broken : IsBrokenStability visit.attributes f
+
+-- those in front of none do
+pub record AreLegalVisits (visits : List ForeignVisit) : Type 0 where
+  pub each : (i : ℕ) (visit : ForeignVisit) → slice_get visits i ≡ Some visit → (f : Fault) → IsBrokenStability visit.attributes f → ⊥

@@ -1,0 +1,5 @@
+pub mod Checks
+pub mod Foreign
+pub mod FileNames
+pub mod Tops
+pub mod Visits

@@ -1,0 +1,61 @@
+-- The paths of a file in source order, each with the item that it stands in, the attributes in front of it, the names that are used from what it leads to, and what that has to be.
+use Rattle.std.specs.Prelude.{List, [], ◌∷◌, Option, Some, None}
+use Rattle.std.specs.List.{flat_map}
+use Rattle.std.specs.Option.{option_map}
+use denote.Ref.{Bor}
+use Rattle.wit_tree.specs.declared.tree.Id.{Id}
+use Rattle.wit_tree.specs.declared.tree.Attribute.{Attribute}
+use Rattle.wit_tree.specs.declared.tree.UsePath.{UsePath}
+use Rattle.wit_tree.specs.declared.tree.UseName.{UseName}
+use Rattle.wit_tree.specs.declared.tree.Interface.{Interface}
+use Rattle.wit_tree.specs.declared.tree.InterfaceItem.{InterfaceItem}
+use Rattle.wit_tree.specs.declared.tree.InterfaceItem.TheVariants.{TypeDef as TypeItem, Use as UseItem, Func as FuncItem}
+use Rattle.wit_tree.specs.declared.tree.World.{World}
+use Rattle.wit_tree.specs.declared.tree.WorldItem.{WorldItem}
+use Rattle.wit_tree.specs.declared.tree.WorldItem.TheVariants as world_item
+use Rattle.wit_tree.specs.declared.tree.AstItem.{AstItem}
+use Rattle.wit_tree.specs.declared.tree.AstItem.TheVariants.{Interface as InterfaceItem', World as WorldItem', Use as ToplevelItem}
+use Rattle.wit_tree.specs.declared.tree.DeclList.{DeclList}
+use Rattle.wit_files.specs.declared.visit.Wanted.{Wanted}
+use Rattle.wit_files.specs.declared.visit.Wanted.TheVariants as wanted
+use Rattle.wit_files.specs.declared.visit.Visit.{Visit as Held}
+
+pub record Visit : Type 0 where
+  -- the name of the item that needs what the path leads to; none, where no item does
+  pub owner : Option Id
+  pub attributes : List Attribute
+  pub path : UsePath
+  -- none, where no names are used from what the path leads to
+  pub names : Option (List UseName)
+  pub wanted : Wanted
+
+-- of a part of an interface of this name: a `use` wants an interface
+abbrev pub part_visits : Id → InterfaceItem → List Visit
+part_visits owner (TypeItem d) = []
+part_visits owner (UseItem u) = record { owner = Some owner; attributes = u.attributes.items; path = u.from; names = Some u.names.items; wanted = wanted.Interface } ∷ []
+part_visits owner (FuncItem f) = []
+
+abbrev pub interface_visits : Interface → List Visit
+interface_visits i = flat_map (part_visits i.name) i.items.items
+
+-- of a part of a world of this name: a `use` wants an interface, which the world does not need to come before it, and an include a world
+abbrev pub world_part_visits : Id → WorldItem → List Visit
+world_part_visits owner (world_item.TypeDef d) = []
+world_part_visits owner (world_item.Use u) = record { owner = None; attributes = u.attributes.items; path = u.from; names = Some u.names.items; wanted = wanted.Interface } ∷ []
+world_part_visits owner (world_item.Include i) = record { owner = Some owner; attributes = i.attributes.items; path = i.from; names = None; wanted = wanted.World } ∷ []
+
+abbrev pub world_visits : World → List Visit
+world_visits w = flat_map (world_part_visits w.name) w.items.items
+
+-- of a declaration: a `use` at the top of a file may lead to any item
+abbrev pub item_visits : AstItem → List Visit
+item_visits (InterfaceItem' i) = interface_visits i
+item_visits (WorldItem' w) = world_visits w
+item_visits (ToplevelItem u) = record { owner = None; attributes = u.attributes.items; path = u.item; names = None; wanted = wanted.Unknown } ∷ []
+
+abbrev pub visits : DeclList → List Visit
+visits list = flat_map item_visits list.items.items
+
+-- the visit that is held
+abbrev pub visit_behind : Held → Visit
+visit_behind v = record { owner = v.owner; attributes = v.attributes.now; path = v.path.now; names = option_map (λ (names : Bor (List UseName)). names.now) v.names; wanted = v.wanted }

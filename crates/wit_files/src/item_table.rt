@@ -1,0 +1,147 @@
+//! The table of the items that files declare, and its order.
+ghost use Rattle.std.specs.Prelude.{◌≡◌, ◌++◌, ◌⊎◌, List, map, IfOk, IfErr, OnOk};
+ghost use Rattle.std.specs.List.{flat_map};
+ghost use Rattle.wit_order.specs.Table.{rows, IsOrder};
+ghost use Rattle.wit_syntax.specs.Source.{TopName as Top, Item, interface_part, world_part, top_names, file_items, item_name, is_world};
+ghost use Rattle.wit_syntax.specs.Scope.{use_path, include_path, item_row};
+ghost use Rattle.wit_syntax.specs.Fault.{item_word};
+ghost use Rattle.wit_syntax.specs.Broken.{IsMissingEdge, IsCyclicEdge, Refused};
+ghost use Rattle.wit_syntax.specs.Repeats.{AllDiffer};
+ghost use Rattle.wit_files.specs.Tops.{AreNamed, AreDeclared};
+ghost use Rattle.wit_files.specs.Checks.{edges_of, IsLostAmong, IsWrongFile};
+
+use crate::declaration::declarations;
+use crate::order_refusal::refuse_item_order;
+use crate::top_name::{Paths, add_edge};
+use indexmap::IndexMap;
+use std::alloc::{AllocError, Global};
+use wit_order::order_places;
+use wit_tree::ParseResult;
+use wit_tree::tree::{AstItem, Id, Interface, InterfaceItem, PackageFile, World, WorldItem};
+
+/// Adds the edge of the path of a part of an interface, where that is a `use`.
+fn add_use<'a>(
+    alloc: Global,
+    paths: Paths<'_, '_, 'a>,
+    edges: &mut Vec<Id<'a>>,
+    part: &InterfaceItem<'a>,
+) -> ParseResult<()>
+    ensures edges { OnOk result ((top : List Top) → AreNamed top paths.entry.top.now → edges.new.items ≡ edges.old.items ++ edges_of top (use_path (interface_part part.now))) }
+    ensures refused { IfErr result (λ e. (top : List Top) (is : List Item) → AreNamed top paths.entry.top.now → AreDeclared is paths.entry.declared.now → Refused (IsLostAmong is top (use_path (interface_part part.now))) e) }
+{
+    match part {
+        InterfaceItem::TypeDef(_) | InterfaceItem::Func(_) => {}
+        InterfaceItem::Use(used) => {
+            add_edge(alloc, paths, edges, &used.from)?;
+        }
+    }
+    Ok(())
+}
+
+/// The items that an interface uses, as edges.
+fn interface_edges<'a>(
+    alloc: Global,
+    paths: Paths<'_, '_, 'a>,
+    interface: &Interface<'a>,
+) -> ParseResult<Vec<Id<'a>>>
+    ensures edges { IfOk result (λ edges. (top : List Top) → AreNamed top paths.entry.top.now → edges.items ≡ edges_of top (flat_map use_path (map interface_part interface.now.items.items))) }
+    ensures refused { IfErr result (λ e. (top : List Top) (is : List Item) → AreNamed top paths.entry.top.now → AreDeclared is paths.entry.declared.now → Refused (IsLostAmong is top (flat_map use_path (map interface_part interface.now.items.items))) e) }
+{
+    let mut edges = Vec::new(alloc);
+    for part in &interface.items {
+        add_use(alloc, paths, &mut edges, part)?;
+    }
+    Ok(edges)
+}
+
+/// Adds the edge of the path of a part of a world, where that is an include.
+fn add_include<'a>(
+    alloc: Global,
+    paths: Paths<'_, '_, 'a>,
+    edges: &mut Vec<Id<'a>>,
+    part: &WorldItem<'a>,
+) -> ParseResult<()>
+    ensures edges { OnOk result ((top : List Top) → AreNamed top paths.entry.top.now → edges.new.items ≡ edges.old.items ++ edges_of top (include_path (world_part part.now))) }
+    ensures refused { IfErr result (λ e. (top : List Top) (is : List Item) → AreNamed top paths.entry.top.now → AreDeclared is paths.entry.declared.now → Refused (IsLostAmong is top (include_path (world_part part.now))) e) }
+{
+    match part {
+        WorldItem::TypeDef(_) | WorldItem::Use(_) => {}
+        WorldItem::Include(include) => {
+            add_edge(alloc, paths, edges, &include.from)?;
+        }
+    }
+    Ok(())
+}
+
+/// The items that a world includes, as edges.
+fn world_edges<'a>(
+    alloc: Global,
+    paths: Paths<'_, '_, 'a>,
+    world: &World<'a>,
+) -> ParseResult<Vec<Id<'a>>>
+    ensures edges { IfOk result (λ edges. (top : List Top) → AreNamed top paths.entry.top.now → edges.items ≡ edges_of top (flat_map include_path (map world_part world.now.items.items))) }
+    ensures refused { IfErr result (λ e. (top : List Top) (is : List Item) → AreNamed top paths.entry.top.now → AreDeclared is paths.entry.declared.now → Refused (IsLostAmong is top (flat_map include_path (map world_part world.now.items.items))) e) }
+{
+    let mut edges = Vec::new(alloc);
+    for part in &world.items {
+        add_include(alloc, paths, &mut edges, part)?;
+    }
+    Ok(edges)
+}
+
+/// Adds the items that a file declares, each with the items that have to come before it; refuses a
+/// path that leads nowhere.
+pub(crate) fn add_items<'a>(
+    alloc: Global,
+    paths: Paths<'_, '_, 'a>,
+    table: &mut IndexMap<&'a str, Vec<Id<'a>>>,
+    file: &PackageFile<'a>,
+) -> ParseResult<()>
+    requires named { AreNamed (top_names file.now) paths.top.now }
+    requires distinct { AllDiffer (map (λ row. row.name) (rows table.old) ++ map item_name (file_items file.now)) }
+    ensures rows { OnOk result (rows table.new ≡ rows table.old ++ map item_row (file_items file.now)) }
+    ensures refused { IfErr result (λ e. (is : List Item) → AreDeclared is paths.entry.declared.now → Refused (IsWrongFile is file.now) e) }
+{
+    let items = declarations(file);
+    for item in items {
+        let (id, edges) = match item {
+            AstItem::Interface(interface) => {
+                (interface.name, interface_edges(alloc, paths, interface)?)
+            }
+            AstItem::World(world) => (world.name, world_edges(alloc, paths, world)?),
+            AstItem::Use(_) => continue,
+        };
+        table.insert(id.name, edges)?;
+    }
+    Ok(())
+}
+
+/// Adds of each item that a file declares whether it is a world.
+pub(crate) fn add_kinds(kinds: &mut Vec<bool>, file: &PackageFile<'_>) -> Result<(), AllocError>
+    ensures { OnOk result (kinds.new.items ≡ kinds.old.items ++ map is_world (file_items file.now)) }
+{
+    let items = declarations(file);
+    for item in items {
+        match item {
+            AstItem::Interface(_) => kinds.push(false)?,
+            AstItem::World(_) => kinds.push(true)?,
+            AstItem::Use(_) => {}
+        }
+    }
+    Ok(())
+}
+
+/// The places of the items of a table, each behind those that have to come before it, in the least
+/// such order.
+pub(crate) fn table_order<'a>(
+    alloc: Global,
+    table: &IndexMap<&'a str, Vec<Id<'a>>>,
+) -> ParseResult<Vec<usize>>
+    ensures order { IfOk result (λ places. IsOrder (rows table.now) places.items) }
+    ensures refused { IfErr result (Refused (λ f. IsMissingEdge 7 item_word (rows table.now) f ⊎ IsCyclicEdge 8 item_word (rows table.now) f)) }
+{
+    match order_places(alloc, table) {
+        Ok(places) => Ok(places),
+        Err(fault) => Err(refuse_item_order(alloc, table, fault)),
+    }
+}

@@ -1,0 +1,63 @@
+//! Refusals of tables that have no order.
+ghost use Rattle.std.specs.Prelude.{◌⊎◌};
+ghost use Rattle.wit_tree.specs.declared.tree.Id.{Id as TheId};
+ghost use Rattle.wit_order.specs.Table.{rows, IsEdge};
+ghost use Rattle.wit_order.specs.Faults.{IsFaultOf};
+ghost use Rattle.wit_syntax.specs.Fault.{item_word, type_word};
+ghost use Rattle.wit_syntax.specs.Broken.{IsMissingEdge, IsCyclicEdge, Refused};
+
+use indexmap::IndexMap;
+use std::alloc::Global;
+use wit_notes::refusal::{refuse_cycle, refuse_missing, refuse_missing_type};
+use wit_order::OrderFault;
+use wit_tree::tree::Id;
+use wit_tree::{OUT_OF_MEMORY, ParseError, ParseErrorKind};
+
+/// The name at an index of what the item at a place needs.
+fn needed<'a>(table: &IndexMap<&'a str, Vec<Id<'a>>>, place: usize, index: usize) -> Id<'a>
+    requires { (id : TheId) × IsEdge (rows table.now) place index id }
+    ensures { IsEdge (rows table.now) place index result }
+{
+    let (_, ids) = table.get_index(place).unwrap();
+    ids[index]
+}
+
+/// The refusal of items that have no order.
+pub fn refuse_item_order(
+    alloc: Global,
+    table: &IndexMap<&str, Vec<Id<'_>>>,
+    fault: OrderFault,
+) -> ParseError
+    requires { IsFaultOf (rows table.now) fault }
+    ensures { Refused (λ f. IsMissingEdge 7 item_word (rows table.now) f ⊎ IsCyclicEdge 8 item_word (rows table.now) f) result }
+{
+    match fault {
+        OrderFault::Missing { place, index } => {
+            refuse_missing(alloc, 7, "interface or world", needed(table, place, index))
+        }
+        OrderFault::Cyclic { place, index } => {
+            refuse_cycle(alloc, 8, "interface or world", needed(table, place, index))
+        }
+        OrderFault::OutOfMemory => ParseError::of(ParseErrorKind::OutOfMemory, OUT_OF_MEMORY),
+    }
+}
+
+/// The refusal of definitions that have no order.
+pub fn refuse_type_order(
+    alloc: Global,
+    table: &IndexMap<&str, Vec<Id<'_>>>,
+    fault: OrderFault,
+) -> ParseError
+    requires { IsFaultOf (rows table.now) fault }
+    ensures { Refused (λ f. IsMissingEdge 15 type_word (rows table.now) f ⊎ IsCyclicEdge 16 type_word (rows table.now) f) result }
+{
+    match fault {
+        OrderFault::Missing { place, index } => {
+            refuse_missing_type(alloc, needed(table, place, index))
+        }
+        OrderFault::Cyclic { place, index } => {
+            refuse_cycle(alloc, 16, "type", needed(table, place, index))
+        }
+        OrderFault::OutOfMemory => ParseError::of(ParseErrorKind::OutOfMemory, OUT_OF_MEMORY),
+    }
+}

@@ -1,0 +1,241 @@
+//! What other packages' items put in front of the arenas.
+ghost use Rattle.std.specs.Prelude.{◌≡◌, ◌++◌, ◌∷◌, ◌<◌, List, [], Some, true, false, length, map, nat_eq, slice_get, IfOk, IfErr, OnOk};
+ghost use Rattle.std.specs.Cmp.Lexicographic.{pointwise};
+ghost use Rattle.indexmap.specs.IndexMap.{insert_entry};
+ghost use Rattle.wit_tree.specs.declared.tree.PackageFile.{PackageFile as TheFile};
+ghost use Rattle.wit_tree.specs.Refusal.{IsWantOfMemory};
+ghost use Rattle.wit_syntax.specs.Address.{Address};
+ghost use Rattle.wit_syntax.specs.Source.{all_items, scope_names, Taking, taking};
+ghost use Rattle.wit_syntax.specs.Foreign.{ForeignVisit as TheVisit, foreign_items};
+ghost use Rattle.wit_arena.specs.Whole.{foreign_entry};
+ghost use Rattle.wit_files.specs.Foreign.{foreign_behind};
+ghost use Rattle.wit_scopes.specs.Held.{name_behind};
+ghost use Rattle.wit_items.specs.Items.{names_behind};
+ghost use Rattle.wit_scopes.specs.Front.{IsNamePlaced, AreNamesPlaced};
+ghost use Rattle.wit_items.specs.Front.{AreItemsPlaced};
+ghost use Rattle.wit_front.specs.Front.{interface_with, with_types, bare_world, addresses_among, IsTaken, AreApart, HasTaken, name_takings, names_takings, IsFront};
+
+use std::alloc::{AllocError, Global};
+use wit_entries::entries::Entries;
+use wit_files::ForeignVisit;
+use wit_items::items::Item;
+use wit_model::{AstItem, Interface, World};
+use wit_notes::told_notes;
+use wit_scopes::scope_name::{ScopeName, Source};
+use wit_tree::tree::{Attribute, UseName};
+use wit_tree::{ParseResult, Span};
+use wit_types::{
+    Arena, Docs, InterfaceId, InterfacePlace, Stability, TypeDefKind, TypeId, TypeOwner, WorldPlace,
+};
+use wit_values::{Row, Table, Text, TextTable};
+
+/// The interfaces and worlds of other packages.
+#[derive(Drop)]
+pub struct ForeignArenas<'f, 'a> {
+    /// The first visits of the interfaces.
+    pub visits: Vec<ForeignVisit<'f, 'a>>,
+    pub interfaces: Arena<Interface, InterfacePlace>,
+    pub worlds: Arena<World, WorldPlace>,
+    /// Of each item its entry, in the order of their first visits.
+    pub entries: Vec<AstItem>,
+    /// Where each type of theirs is first used.
+    pub spans: Vec<Span>,
+}
+
+/// An interface of another package, of which no type is known yet.
+fn foreign_interface(alloc: Global, span: Span) -> Interface
+    ensures { result ≡ interface_with span [] }
+{
+    Interface {
+        name: None,
+        types: TextTable::new(alloc),
+        functions: TextTable::new(alloc),
+        docs: Docs::default(),
+        stability: Stability::default(),
+        package: None,
+        span,
+        clone_of: None,
+    }
+}
+
+/// A world of another package.
+fn foreign_world(alloc: Global, span: Span) -> Result<World, AllocError>
+    ensures { IfOk result (λ w. w ≡ bare_world span) }
+{
+    Ok(World {
+        name: Text::from_str(alloc, "")?,
+        imports: Table::new(alloc),
+        exports: Table::new(alloc),
+        package: None,
+        docs: Docs::default(),
+        stability: Stability::default(),
+        includes: Row::new(alloc),
+        span,
+    })
+}
+
+/// Adds a type to an interface, under its name.
+fn add_type(
+    alloc: Global,
+    interface: &mut Interface,
+    name: &str,
+    ty: TypeId,
+) -> Result<(), AllocError>
+    ensures { OnOk result (interface.new ≡ with_types interface.old (insert_entry (pointwise nat_eq) interface.old.types name.now ty)) }
+{
+    interface.types.insert(String::from_str(alloc, name)?, ty)?;
+    Ok(())
+}
+
+impl<'f, 'a> ForeignArenas<'f, 'a> {
+    /// Nothing of other packages.
+    fn new(alloc: Global) -> Self
+        ensures { IsTaken [] [] [] result }
+    {
+        ForeignArenas {
+            visits: Vec::new(alloc),
+            interfaces: Arena::new(alloc),
+            worlds: Arena::new(alloc),
+            entries: Vec::new(alloc),
+            spans: Vec::new(alloc),
+        }
+    }
+
+    /// Adds a world at its first visit.
+    fn add_world(&mut self, alloc: Global, visit: ForeignVisit<'f, 'a>) -> Result<(), AllocError>
+        requires { visit.wants_world ≡ true }
+        ensures { OnOk result ((vs : List TheVisit) → IsTaken vs [] [] self.old → IsTaken (vs ++ foreign_behind visit.entry ∷ []) [] [] self.new) }
+    {
+        let world = foreign_world(alloc, visit.name.span)?;
+        let id = self.worlds.alloc(world)?;
+        self.entries.push(AstItem::World(id))?;
+        Ok(())
+    }
+
+    /// Adds an interface at its first visit.
+    fn add_interface(
+        &mut self,
+        alloc: Global,
+        visit: ForeignVisit<'f, 'a>,
+    ) -> Result<(), AllocError>
+        requires { visit.wants_world ≡ false }
+        ensures { OnOk result ((vs : List TheVisit) → IsTaken vs [] [] self.old → IsTaken (vs ++ foreign_behind visit.entry ∷ []) [] [] self.new) }
+    {
+        let interface = foreign_interface(alloc, visit.name.span);
+        let id = self.interfaces.alloc(interface)?;
+        self.visits.push(visit)?;
+        self.entries.push(AstItem::Interface(id))?;
+        Ok(())
+    }
+
+    /// Adds an item at its first visit.
+    fn add(&mut self, alloc: Global, visit: ForeignVisit<'f, 'a>) -> Result<(), AllocError>
+        ensures { OnOk result ((vs : List TheVisit) → IsTaken vs [] [] self.old → IsTaken (vs ++ foreign_behind visit.entry ∷ []) [] [] self.new) }
+    {
+        if visit.wants_world {
+            return self.add_world(alloc, visit);
+        }
+        self.add_interface(alloc, visit)
+    }
+
+    /// Items of other packages, of which no type is known yet.
+    pub fn of_items(alloc: Global, items: &[ForeignVisit<'f, 'a>]) -> Result<Self, AllocError>
+        ensures bare { IfOk result (IsTaken (map foreign_behind items.now) [] []) }
+        ensures entries { IfOk result (λ arenas. (files : List TheFile) → map foreign_behind items.now ≡ foreign_items files → arenas.entries.items ≡ map (foreign_entry files) (foreign_items files)) }
+    {
+        let mut arenas = ForeignArenas::new(alloc);
+        for visit in items {
+            arenas.add(alloc, *visit)?;
+        }
+        Ok(arenas)
+    }
+
+    /// Adds a type that is used from an interface of another package, by a `use` with these attributes,
+    /// unless it was used before.
+    ///
+    /// The error is want of memory.
+    fn take(
+        &mut self,
+        alloc: Global,
+        types: &mut Entries,
+        place: usize,
+        attributes: &[Attribute<'_>],
+        name: &UseName<'_>,
+    ) -> ParseResult<()>
+        requires within { place < length self.old.interfaces }
+        ensures taken { OnOk result ((vs : List TheVisit) (ts : List Taking) (s : Address) → AreApart vs → slice_get (addresses_among vs) place ≡ Some s → IsTaken vs ts types.old self.old → IsTaken vs (ts ++ taking s attributes.now name.now ∷ []) types.new self.new) }
+        ensures refused { IfErr result IsWantOfMemory }
+    {
+        let used = name.name;
+        let id = self.interfaces.id_at(place);
+        if self.interfaces.get(id).types.get(used.name).is_some() {
+            return Ok(());
+        }
+        let text = Text::from_str(alloc, used.name)?;
+        let notes = told_notes(alloc, attributes)?;
+        let owner = TypeOwner::Interface(id);
+        let ty = types.add_named(owner, text, TypeDefKind::Unknown, notes, used.span)?;
+        add_type(alloc, self.interfaces.get_mut(id), used.name, ty)?;
+        self.spans.push(used.span)?;
+        Ok(())
+    }
+
+    /// Adds the type that a name of a scope is used from, if that is of another package.
+    ///
+    /// The error is want of memory.
+    fn take_name(
+        &mut self,
+        alloc: Global,
+        types: &mut Entries,
+        name: &ScopeName<'_, '_>,
+    ) -> ParseResult<()>
+        requires { HasTaken types.old self.old (λ front. IsNamePlaced front name.now) }
+        ensures taken { OnOk result ((vs : List TheVisit) (ts : List Taking) → AreApart vs → IsNamePlaced (addresses_among vs) name.now → IsTaken vs ts types.old self.old → IsTaken vs (ts ++ name_takings (name_behind name.now)) types.new self.new) }
+        ensures refused { IfErr result IsWantOfMemory }
+    {
+        if let ScopeName::Used(used) = name {
+            if let Source::Foreign { place, .. } = used.from {
+                self.take(alloc, types, place, used.attributes, used.name)?;
+            }
+        }
+        Ok(())
+    }
+
+    /// Adds the types that a scope uses from interfaces of other packages.
+    ///
+    /// The error is want of memory.
+    fn take_names(
+        &mut self,
+        alloc: Global,
+        types: &mut Entries,
+        names: &[ScopeName<'_, '_>],
+    ) -> ParseResult<()>
+        requires { HasTaken types.old self.old (λ front. AreNamesPlaced front names.now) }
+        ensures taken { OnOk result ((vs : List TheVisit) (ts : List Taking) → AreApart vs → AreNamesPlaced (addresses_among vs) names.now → IsTaken vs ts types.old self.old → IsTaken vs (ts ++ names_takings (map name_behind names.now)) types.new self.new) }
+        ensures refused { IfErr result IsWantOfMemory }
+    {
+        for name in names {
+            self.take_name(alloc, types, name)?;
+        }
+        Ok(())
+    }
+
+    /// Adds the types that items use from interfaces of other packages, in source order.
+    ///
+    /// The error is want of memory.
+    pub fn take_all(
+        &mut self,
+        alloc: Global,
+        types: &mut Entries,
+        items: &[Item<'_, '_>],
+    ) -> ParseResult<()>
+        requires { HasTaken types.old self.old (λ front. AreItemsPlaced front items.now) }
+        ensures taken { OnOk result ((files : List TheFile) → IsTaken (foreign_items files) [] types.old self.old → AreItemsPlaced (addresses_among (foreign_items files)) items.now → map names_behind items.now ≡ map scope_names (all_items files) → IsFront files types.new self.new) }
+        ensures refused { IfErr result IsWantOfMemory }
+    {
+        for item in items {
+            self.take_names(alloc, types, &item.names)?;
+        }
+        Ok(())
+    }
+}

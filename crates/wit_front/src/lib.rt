@@ -1,0 +1,4 @@
+//! What stands in front of the arenas: other packages' interfaces and worlds, and the types used from them.
+#![tactic(auto)]
+
+pub mod foreign;

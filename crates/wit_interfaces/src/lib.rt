@@ -1,0 +1,4 @@
+//! Declared interfaces, one after another.
+#![tactic(auto)]
+
+pub mod interface;

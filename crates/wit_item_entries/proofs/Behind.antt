@@ -1,0 +1,116 @@
+-- What is wrong with the functions of an item, and what holds of the names of both.
+use Rattle.std.proofs.Common.{◌≡◌, ℕ, List, [], ◌∷◌, ◌++◌, map, Some, inl, inr, refl, sym, ap, ◌∙◌, subst, Contains}
+use Rattle.std.specs.Prelude.{slice_get}
+use Rattle.std.specs.List.{flat_map}
+use Rattle.std.specs.Option.{option_map}
+use Rattle.std.proofs.lemmas.List.{map-append}
+use Rattle.std.proofs.lemmas.Option.{slice_get-map}
+use Rattle.wit_tree.specs.declared.tree.Id.{Id}
+use Rattle.wit_types.specs.declared.types.TypeDef.{TypeDef}
+use Rattle.wit_syntax.specs.Fault.{Fault}
+use Rattle.wit_syntax.specs.Bodies.{IsRepeated}
+use Rattle.wit_syntax.specs.Repeats.{AllDiffer}
+use Rattle.wit_syntax.specs.Shape.{all_handles}
+use Rattle.wit_syntax.specs.Source.{ScopeName, local_id}
+use Rattle.wit_syntax.specs.Scope.{in_turn, local_names}
+use Rattle.wit_syntax.specs.Function.{SourceFunction, written_types}
+use Rattle.wit_syntax.specs.Signature.{Called, called_key, name_called, function_called}
+use Rattle.wit_syntax.specs.Broken.{all_called, IsFoldedTwice}
+use Rattle.wit_arena.specs.Resolving.{Env, Names, env_of}
+use Rattle.wit_syntax.proofs.Lists.{at_front, map_map, flat_map_has}
+use Rattle.wit_arena.proofs.Meant.{free_unmeant}
+use Rattle.wit_arena.proofs.Required.{handle_of}
+use Rattle.wit_arena.proofs.Written.{handles_at}
+use Rattle.wit_notes.specs.Names.{Name}
+use Rattle.wit_rules.specs.Signatures.{AreAllNames, IsWrongFunctionAmong}
+use Rattle.wit_signatures.specs.Taken.{name_of_id, name_of_function, name_key, IsTwiceAmong}
+use Rattle.wit_item_entries.specs.Between.{names_in}
+use Rattle.wit_item_entries.specs.Behind.{IsTurn, IsWrongFunctions, BrokenFunction, HandleOfOther}
+use Rattle.wit_item_entries.proofs.Handled.{handle_wider}
+
+-- a name as it is called
+abbrev called : Name → Called
+called n = record { name = n.0; span = n.1 }
+
+called_functions : (fns : List SourceFunction) → map called (map name_of_function fns) ≡ map function_called fns
+called_functions [] = refl
+called_functions (fn ∷ fns) = ap (λ l. function_called fn ∷ l) (called_functions fns)
+
+called_names : (xs : List ScopeName) → map called (map name_of_id (map local_id xs)) ≡ map name_called xs
+called_names [] = refl
+called_names (x ∷ xs) = ap (λ l. name_called x ∷ l) (called_names xs)
+
+-- the names of a scope in turn, and then those of its functions
+pub all_taken : (xs : List ScopeName) (fns : List SourceFunction) (order : List ℕ) (ids : List Id) → ids ≡ map local_id (in_turn xs order) → map called (map name_of_id ids ++ map name_of_function fns) ≡ all_called xs fns order
+all_taken xs fns order ids are =
+    map-append called (map name_of_id ids) (map name_of_function fns)
+    ∙ ap (λ (l : List Called). l ++ map called (map name_of_function fns)) (ap (λ (l : List Id). map called (map name_of_id l)) are ∙ called_names (in_turn xs order))
+    ∙ ap (λ (l : List Called). map name_called (in_turn xs order) ++ l) (called_functions fns)
+
+repeated_called : (names : List Name) (later : Name) → IsRepeated name_key names later → IsRepeated called_key (map called names) (called later)
+repeated_called names later h = record {
+  first = h.first;
+  second = h.second;
+  earlier = called h.earlier;
+  before = h.before;
+  at_first = slice_get-map called names h.first ∙ ap (option_map called) h.at_first;
+  at_second = slice_get-map called names h.second ∙ ap (option_map called) h.at_second;
+  same = h.same;
+}
+
+-- a name of a scope or of its functions that is taken is one once folded
+pub twice_folded : (xs : List ScopeName) (fns : List SourceFunction) (ids : List Id) (f : Fault) → IsTurn xs ids → IsTwiceAmong (map name_of_id ids ++ map name_of_function fns) f → IsFoldedTwice xs fns f
+twice_folded xs fns ids f t h = record {
+  order = t.order;
+  least = t.least;
+  later = called h.later;
+  repeated = subst (λ (cs : List Called). IsRepeated called_key cs (called h.later)) (all_taken xs fns t.order ids t.are) (repeated_called (map name_of_id ids ++ map name_of_function fns) h.later h.repeated);
+  is = h.is;
+}
+
+-- so is one of the names alone
+pub twice_front : (names more : List Name) (f : Fault) → IsTwiceAmong names f → IsTwiceAmong (names ++ more) f
+twice_front names more f h = record {
+  later = h.later;
+  repeated = record {
+    first = h.repeated.first;
+    second = h.repeated.second;
+    earlier = h.repeated.earlier;
+    before = h.repeated.before;
+    at_first = at_front names more h.repeated.first h.repeated.earlier h.repeated.at_first;
+    at_second = at_front names more h.repeated.second h.later h.repeated.at_second;
+    same = h.repeated.same;
+  };
+  is = h.is;
+}
+
+-- the keys of names are those of what they are called
+keys_called : (names : List Name) → map called_key (map called names) ≡ map name_key names
+keys_called [] = refl
+keys_called (n ∷ ns) = ap (λ l. name_key n ∷ l) (keys_called ns)
+
+-- where the keys of what is taken differ, so do those of all that is called
+pub differ_called : (xs : List ScopeName) (fns : List SourceFunction) (order : List ℕ) (ids : List Id) → ids ≡ map local_id (in_turn xs order) → AllDiffer (map name_key (map name_of_id ids ++ map name_of_function fns)) → AllDiffer (map called_key (all_called xs fns order))
+differ_called xs fns order ids are h = subst AllDiffer (sym (keys_called (map name_of_id ids ++ map name_of_function fns)) ∙ ap (map called_key) (all_taken xs fns order ids are)) h
+
+-- the texts of the names of a scope in turn
+pub turn_texts : (xs : List ScopeName) (order : List ℕ) (ids : List Id) → ids ≡ map local_id (in_turn xs order) → map (λ (id : Id). id.name.now) ids ≡ local_names (in_turn xs order)
+turn_texts xs order ids are = ap (map (λ (id : Id). id.name.now)) are ∙ map_map (λ (id : Id). id.name.now) local_id (in_turn xs order)
+
+-- where a table has just the names of a scope, what it lacks is none of them
+pub all_names : (xs : List ScopeName) (ids : List Id) (types : Names) → IsTurn xs ids → names_in types ≡ map (λ (id : Id). id.name.now) ids → AreAllNames (env_of types) xs
+all_names xs ids types t listed = record { unmeant = λ name free. free_unmeant xs t.order types name t.least (listed ∙ turn_texts xs t.order ids t.are) free }
+
+-- a handle in one function is in them all
+handles_in : (fns : List SourceFunction) (k : ℕ) (fn : SourceFunction) (id : Id) → slice_get fns k ≡ Some fn → Contains (all_handles (written_types fn)) id → Contains (all_handles (flat_map written_types fns)) id
+handles_in fns k fn id at h =
+    let it = handle_of (written_types fn) id h in
+    let there = flat_map_has written_types fns k it.0 fn it.1 at it.2 in
+    handles_at (flat_map written_types fns) there.0 it.1 id there.1 it.3
+
+-- what is wrong with one function is wrong with them
+pub wrong_functions : (env : Env) (es : List TypeDef) (xs : List ScopeName) (fns : List SourceFunction) (f : Fault) → IsWrongFunctionAmong env es xs fns f → IsWrongFunctions env es xs fns f
+wrong_functions env es xs fns f h = elim h.wrong [
+  | inl broken ↦ BrokenFunction h.place h.fn h.at broken
+  | inr handle ↦ HandleOfOther (handle_wider env es (all_handles (written_types h.fn)) (all_handles (flat_map written_types fns)) f (λ id among. handles_in fns h.place h.fn id h.at among) handle)
+]

@@ -1,0 +1,32 @@
+-- Functions under their names, one more, and as imports of a world, one more.
+use Rattle.std.proofs.Common.{◌≡◌, ◌⊎◌, ℕ, false, List, [], ◌∷◌, ◌++◌, inl, inr, nat_eq, refl, ap}
+use Rattle.std.specs.Prelude.{map}
+use Rattle.std.specs.Cmp.Lexicographic.{pointwise}
+use Rattle.indexmap.specs.IndexMap.{insert_entry}
+use Rattle.wit_model.specs.declared.function.Function.{Function}
+use Rattle.wit_model.specs.declared.world.WorldKey.{WorldKey}
+use Rattle.wit_model.specs.declared.world.WorldKey.TheVariants as key
+use Rattle.wit_model.specs.declared.world.WorldItem.{WorldItem}
+use Rattle.wit_model.specs.declared.world.WorldItem.TheVariants as item
+use Rattle.wit_model.specs.contracts.world.WorldKeyPartialEq.TheImpl.{eq-value as key_test}
+use Rattle.wit_arena.specs.Functions.{by_name, function_import}
+use Rattle.wit_syntax.specs.Repeats.{AllDiffer}
+use Rattle.wit_arena.proofs.FunctionNames.{made_name}
+use Rattle.wit_syntax.proofs.Names.{name_cases}
+use Rattle.wit_item_entries.proofs.Inserting.{inserted_next}
+
+-- a function more stands at its name, where names differ
+pub function_next : (fs rest : List Function) (f : Function) → AllDiffer (map made_name (fs ++ f ∷ rest)) → insert_entry (pointwise nat_eq) (map by_name fs) f.name f ≡ map by_name (fs ++ f ∷ [])
+function_next fs rest f differ = inserted_next (pointwise nat_eq) made_name (λ g. g) [] fs rest f (λ d. name_cases f.name d.0) differ
+
+-- a key is a name, or is told from it
+key_cases : (name : List ℕ) (k : WorldKey) → (key.Name name ≡ k) ⊎ (key_test.it (key.Name name) k ≡ false)
+key_cases name (key.Name other) = elim (name_cases name other) [
+  | inl same ↦ inl (ap key.Name same)
+  | inr apart ↦ inr apart
+]
+key_cases name (key.Interface id) = inr refl
+
+-- a function more is an import more, where keys differ
+pub function_import_next : (imports : List (WorldKey × WorldItem)) (fs rest : List Function) (f : Function) → AllDiffer (map (λ i. i.0) imports ++ map (λ g. (function_import g).0) (fs ++ f ∷ rest)) → insert_entry key_test.it (imports ++ map function_import fs) (key.Name f.name) (item.Function f) ≡ imports ++ map function_import (fs ++ f ∷ [])
+function_import_next imports fs rest f differ = inserted_next key_test.it (λ g. (function_import g).0) (λ g. (function_import g).1) imports fs rest f (λ d. key_cases f.name d.0) differ

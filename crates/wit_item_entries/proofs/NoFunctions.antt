@@ -1,0 +1,27 @@
+-- Scopes that have no functions.
+use Rattle.std.proofs.Common.{◌≡◌, List, [], ◌++◌, length, map, false, sym, subst, arith, Contains}
+use Rattle.std.specs.Char.{is_ascii_uppercase}
+use Rattle.std.specs.List.{list_any}
+use Rattle.std.proofs.lemmas.List.{nil_from_length}
+use Rattle.wit_tree.specs.declared.tree.Id.{Id}
+use Rattle.wit_syntax.specs.Fault.{Fault}
+use Rattle.wit_syntax.specs.Repeats.{AllDiffer}
+use Rattle.wit_syntax.specs.Source.{ScopeName}
+use Rattle.wit_syntax.specs.Function.{SourceFunction}
+use Rattle.wit_syntax.specs.Signature.{IsUnpairedSetter}
+use Rattle.wit_rules.specs.declared.held.HeldFunction.{HeldFunction}
+use Rattle.wit_rules.specs.Held.{function_behind}
+use Rattle.wit_signatures.specs.Taken.{name_of_id, name_of_function, name_key}
+use Rattle.wit_item_entries.specs.Behind.{IsTurn}
+use Rattle.wit_item_entries.proofs.OwnKeys.{turn_keys}
+
+none_in : (fn : SourceFunction) → Contains [] fn → ⊥
+none_in fn (k, lt, is) = omega arith
+
+-- none of them is a setter without its getter
+pub none_unpaired : (hs : List HeldFunction) → length hs ≡ 0 → (f : Fault) → IsUnpairedSetter (map function_behind hs) f → ⊥
+none_unpaired hs none f h = none_in h.fn (subst (λ (l : List HeldFunction). Contains (map function_behind l) h.fn) (nil_from_length hs none) h.among)
+
+-- the keys of their names differ where none has a letter in upper case
+pub names_alone : (xs : List ScopeName) (ids : List Id) (hs : List HeldFunction) → length hs ≡ 0 → IsTurn xs ids → list_any (λ (id : Id). list_any is_ascii_uppercase id.name.now) ids ≡ false → AllDiffer (map name_key (map name_of_id ids ++ map name_of_function (map function_behind hs)))
+names_alone xs ids hs none t lower = subst (λ (l : List HeldFunction). AllDiffer (map name_key (map name_of_id ids ++ map name_of_function (map function_behind l)))) (sym (nil_from_length hs none)) (turn_keys xs ids t lower)

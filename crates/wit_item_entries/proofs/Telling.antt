@@ -1,0 +1,67 @@
+-- What is told of items, and that nothing is wrong with it.
+use Rattle.std.proofs.Common.{◌≡◌, ◌∷◌, ◌++◌, List, [], false, not, inl, inr, ap, ◌∙◌, subst, arith, Contains}
+use Rattle.std.specs.Prelude.{map}
+use Rattle.std.specs.List.{flat_map}
+use Rattle.std.proofs.lemmas.Bool.{cases_Bool}
+use Rattle.wit_tree.specs.declared.tree.Id.{Id}
+use Rattle.wit_tree.specs.declared.tree.Include.{Include}
+use Rattle.wit_tree.specs.declared.tree.InterfaceItem.{InterfaceItem}
+use Rattle.wit_tree.specs.declared.tree.InterfaceItem.TheVariants as interface_item
+use Rattle.wit_model.specs.declared.interface.Interface.{Interface}
+use Rattle.wit_model.specs.declared.world.World.{World}
+use Rattle.wit_syntax.specs.Fault.{Fault}
+use Rattle.wit_syntax.specs.Notes.{Notes, IsBrokenStability}
+use Rattle.wit_syntax.specs.Source.{Declared, TheInterface, TheWorld, declared_parts, declared_attributes, is_declared_world, interface_part, Item, is_world}
+use Rattle.wit_syntax.specs.Scope.{part_includes, includes, interfaces_of, worlds_of}
+use Rattle.wit_arena.specs.Package.{IsInterface, IsWorld}
+use Rattle.wit_arena.specs.Resolved.{IsBrokenItemStability, OwnStability, OfInclude, HaveLegalStability}
+use Rattle.wit_syntax.proofs.Kept.{kept_has}
+use Rattle.wit_syntax.proofs.Lists.{at_either}
+use Rattle.wit_items.specs.declared.notes.ItemNotes.{ItemNotes}
+use Rattle.wit_items.specs.Told.{notes_behind, AreOf}
+use Rattle.wit_item_entries.specs.Between.{AreStable}
+
+-- an item is what is told of it
+pub interface_told : (id : Id) (n : Notes) (held : ItemNotes) (i : Interface) → AreOf n held → IsInterface id (notes_behind held) i → IsInterface id n i
+interface_told id n held i are says = record { name = says.name; span = says.span; docs = says.docs ∙ are.docs; stability = says.stability ∙ are.stability; no_package = says.no_package; no_source = says.no_source }
+
+pub world_told : (id : Id) (n : Notes) (held : ItemNotes) (w : World) → AreOf n held → IsWorld id (notes_behind held) w → IsWorld id n w
+world_told id n held w are says = record { name = says.name; span = says.span; exports = says.exports; docs = says.docs ∙ are.docs; stability = says.stability ∙ are.stability; no_package = says.no_package }
+
+-- an interface includes nothing
+no_include : (xs : List InterfaceItem) (i : Include) → Contains (flat_map part_includes (map interface_part xs)) i → ⊥
+no_include [] i among = let lt = among.1 in let f : ⊥ = omega arith in f
+no_include (interface_item.TypeDef d ∷ xs) i among = no_include xs i among
+no_include (interface_item.Use u ∷ xs) i among = no_include xs i among
+no_include (interface_item.Func g ∷ xs) i among = no_include xs i among
+
+interface_includes : (d : Declared) (i : Include) → is_declared_world d ≡ false → Contains (flat_map part_includes (declared_parts d)) i → ⊥
+interface_includes (TheInterface x) i sort among = no_include x.items.items i among
+interface_includes (TheWorld w) i sort among = let f : ⊥ = cc in f
+
+-- so where nothing is wrong with its own attributes, nothing is
+pub interface_stable : (w : Item) → is_world w ≡ false → ((f : Fault) → IsBrokenStability (declared_attributes w.declared) f → ⊥) → (f : Fault) → IsBrokenItemStability w f → ⊥
+interface_stable w sort own f (OwnStability h) = own f h
+interface_stable w sort own f (OfInclude i among h) = interface_includes w.declared i sort among
+
+-- nor with a world, where nothing is wrong with its includes either
+pub world_stable : (w : Item) → ((f : Fault) → IsBrokenStability (declared_attributes w.declared) f → ⊥) → AreStable (includes w) → (f : Fault) → IsBrokenItemStability w f → ⊥
+world_stable w own stable f (OwnStability h) = own f h
+world_stable w own stable f (OfInclude i among h) = stable.each i among f h
+
+pub stability_more : (ws : List Item) (w : Item) → HaveLegalStability ws → ((f : Fault) → IsBrokenItemStability w f → ⊥) → HaveLegalStability (ws ++ w ∷ [])
+stability_more ws w legal one = record {
+  legal = λ i v f at broken. elim (at_either ws w i v at) [
+    | inl old ↦ legal.legal i v f old broken
+    | inr new ↦ one f (subst (λ (x : Item). IsBrokenItemStability x f) new.1 broken)
+  ];
+}
+
+-- where nothing is wrong with interfaces, nor with worlds, nothing is with all
+pub stability_both : (items : List Item) → HaveLegalStability (interfaces_of items) → HaveLegalStability (worlds_of items) → HaveLegalStability items
+stability_both items interfaces worlds = record {
+  legal = λ i w f at. elim (cases_Bool (is_world w)) [
+    | inl world ↦ (let k = kept_has is_world items i w world at in worlds.legal k.0 w f k.1)
+    | inr other ↦ (let k = kept_has (λ (v : Item). not (is_world v)) items i w (ap not other) at in interfaces.legal k.0 w f k.1)
+  ];
+}

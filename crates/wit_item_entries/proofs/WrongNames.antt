@@ -1,0 +1,42 @@
+-- What is wrong with the names of a scope is wrong with the item whose scope it is.
+use Rattle.std.proofs.Common.{◌++◌, List, sym, subst, Contains}
+use Rattle.std.specs.List.{flat_map}
+use Rattle.std.proofs.lemmas.List.Elements.{Contains-append_left}
+use Rattle.wit_tree.specs.declared.tree.Id.{Id}
+use Rattle.wit_tree.specs.declared.tree.PackageFile.{PackageFile}
+use Rattle.wit_types.specs.declared.types.TypeDef.{TypeDef}
+use Rattle.wit_types.specs.declared.types.TypeOwner.{TypeOwner}
+use Rattle.wit_syntax.specs.Source.{Item, scope_names}
+use Rattle.wit_syntax.specs.Shape.{all_handles}
+use Rattle.wit_syntax.specs.Function.{functions as item_functions, name_types, written_types, item_types}
+use Rattle.wit_syntax.specs.Fault.{Fault}
+use Rattle.wit_arena.specs.Resolving.{Names, Cell, env_of}
+use Rattle.wit_arena.specs.Resolved.{IsWrongHandleNow, IsWrongInterface, WrongScope, WrongHandle, IsWrongWorld, WrongWorldScope, WrongWorldHandle}
+use Rattle.wit_arena.proofs.Written.{all_handles-append}
+use Rattle.wit_item_entries.specs.Between.{IsWrongHandleOf, IsWrongNames, WrongScopeNames, WrongHandleNames}
+use Rattle.wit_item_entries.proofs.Handled.{handle_wider}
+
+-- a handle in a definition that is wrong is so in the item
+pub wrong_handle_item : (old : List TypeDef) (cs : List Cell) (o : TypeOwner) (i : Item) (f : Fault) → IsWrongHandleOf old cs o (scope_names i) f → IsWrongHandleNow old cs o i f
+wrong_handle_item old cs o i f h =
+    let own = flat_map name_types (scope_names i) in
+    let others = flat_map written_types (item_functions i) in
+    record {
+      order = h.order;
+      least = h.least;
+      distinct = h.distinct;
+      count = h.count;
+      mid = h.mid;
+      names = h.names;
+      defines = h.defines;
+      more = h.more;
+      wrong = handle_wider (env_of h.names) (h.mid ++ h.more) (all_handles own) (all_handles (item_types i)) f (λ id among. subst (λ (l : List Id). Contains l id) (sym (all_handles-append own others)) (Contains-append_left (all_handles own) (all_handles others) id among)) h.wrong;
+    }
+
+pub wrong_names_interface : (old : List TypeDef) (cs : List Cell) (by_name : Names) (o : TypeOwner) (i : Item) (f : Fault) → IsWrongNames old cs by_name o (scope_names i) f → IsWrongInterface old cs by_name o i f
+wrong_names_interface old cs by_name o i f (WrongScopeNames h) = WrongScope (h (item_functions i))
+wrong_names_interface old cs by_name o i f (WrongHandleNames h) = WrongHandle (wrong_handle_item old cs o i f h)
+
+pub wrong_names_world : (files : List PackageFile) (old : List TypeDef) (cs : List Cell) (by_name worlds_by_name : Names) (o : TypeOwner) (i : Item) (f : Fault) → IsWrongNames old cs by_name o (scope_names i) f → IsWrongWorld files old cs by_name worlds_by_name o i f
+wrong_names_world files old cs by_name worlds_by_name o i f (WrongScopeNames h) = WrongWorldScope (h (item_functions i))
+wrong_names_world files old cs by_name worlds_by_name o i f (WrongHandleNames h) = WrongWorldHandle (wrong_handle_item old cs o i f h)

@@ -1,0 +1,34 @@
+use Rattle.std.proofs.Common.{rules, ◌≡◌, ◌++◌, ◌∷◌, [], ap, ◌∙◌, sym, append_assoc}
+use Rattle.std.specs.Prelude.{map}
+use Rattle.std.specs.Vec.Iter.{into_iter_items}
+use Rattle.std.proofs.lemmas.List.{append-nil, nil_from_length}
+use Rattle.wit_model.specs.Setters.{is_getter_of, setters_placed}
+use Rattle.wit_arena.specs.Functions.{by_name}
+use Rattle.wit_syntax.specs.Repeats.{AllDiffer}
+use Rattle.wit_arena.proofs.FunctionNames.{made_name}
+use Rattle.wit_item_entries.proofs.FunctionTables.{function_next}
+use Rattle.wit_item_entries.proofs.PlacedNames.{placed_differ, table_placed}
+use Rattle.wit_item_entries.proofs.functions.function_table.Goals as goal
+
+pub loop-function-preserved : goal.loop-function-preserved
+loop-function-preserved c =
+    let f = c.in-Some.function in
+    let front = c.loop-function.yielded in
+    let rest = into_iter_items c.next.new.self in
+    let was = c.loop-function.invariant in
+    let all : front ++ f ∷ rest ≡ setters_placed is_getter_of c.args.functions.items = ap (λ l. front ++ l) (sym c.in-Some.ensures.steps.0) ∙ was.all in
+    let differ : AllDiffer (map made_name (front ++ f ∷ rest)) = rw all (placed_differ c.args.functions.items c.requires) in
+    record {
+      all = append_assoc front (f ∷ []) rest ∙ all;
+      entries = rw (c.in_ok-add_function.ensures, was.entries) (function_next front rest f differ);
+    }
+
+pub returns : goal.returns
+returns c =
+    let front = c.loop-function.yielded in
+    let left = into_iter_items c.loop-function.function-iterator in
+    let was = c.loop-function.invariant in
+    let over = c.in-None.ensures.steps in
+    let none : left ≡ [] = nil_from_length left (search rules) in
+    let all : front ≡ setters_placed is_getter_of c.args.functions.items = sym (append-nil front) ∙ ap (λ l. front ++ l) (sym none) ∙ was.all in
+    was.entries ∙ ap (map by_name) all ∙ table_placed c.args.functions.items

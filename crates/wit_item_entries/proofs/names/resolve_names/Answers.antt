@@ -1,0 +1,74 @@
+use Rattle.std.proofs.Common.{◌≡◌, ◌⊎◌, ◌++◌, List, [], map, inl, inr, sym, ap, ◌∙◌, subst}
+use Rattle.std.specs.List.{flat_map}
+use Rattle.std.proofs.lemmas.List.{map-append}
+use Rattle.std.proofs.lemmas.Result.{err_from_is_err_and}
+use Rattle.wit_tree.specs.declared.tree.«Type».{«Type» as Written}
+use Rattle.wit_syntax.specs.Address.{Address}
+use Rattle.wit_syntax.specs.Scope.{in_order, used, defined, local_names}
+use Rattle.wit_syntax.specs.Shape.{all_handles}
+use Rattle.wit_syntax.specs.Source.{local_name}
+use Rattle.wit_syntax.specs.Function.{SourceFunction, name_types}
+use Rattle.wit_syntax.specs.Broken.{IsBrokenScope}
+use Rattle.wit_arena.specs.Resolving.{Required, env_of, Defines, IsWrongScope, WrongItself}
+use Rattle.wit_syntax.proofs.Refusing.{refused_weaker}
+use Rattle.wit_arena.proofs.Defining.{defines_more}
+use Rattle.wit_entries.specs.Requiring.{Requires}
+use Rattle.wit_scopes.specs.Held.{name_behind, use_behind}
+use Rattle.wit_item_entries.specs.Held.{cells_of}
+use Rattle.wit_item_entries.specs.Between.{names_in, DefinesTurn, IsWrongHandleTurn, IsWrongNames, WrongScopeNames, WrongHandleNames}
+use Rattle.wit_item_entries.proofs.Handled.{types-in_turn, wrong_handle_turn}
+use Rattle.wit_item_entries.proofs.names.resolve_names.Goals as goal
+
+pub returns-in_err-resolve_uses-clause-refused : goal.returns-in_err-resolve_uses-clause-refused
+returns-in_err-resolve_uses-clause-refused c =
+    let p = err_from_is_err_and c.from_residual-in_err-resolve_uses.result c.from_residual-in_err-resolve_uses.ensures.1 in
+    let cs = cells_of c.args.interfaces.now in
+    let by_name = c.args.interfaces.now.by_name in
+    let xs = map name_behind c.args.names.now in
+    let uses : map use_behind c.deref.result.now ≡ used xs = ap (map use_behind) c.deref.ensures.value ∙ c.in_ok-uses.ensures.uses in
+    rw (p.1, p.2) (refused_weaker (λ f. (fns : List SourceFunction) → IsWrongScope cs by_name xs fns f) (IsWrongNames c.args.types.now cs by_name c.args.owner xs) _ (λ f h. WrongScopeNames h) (c.in_err-resolve_uses.ensures.refused xs uses))
+
+pub returns-in_err-turn-clause-refused : goal.returns-in_err-turn-clause-refused
+returns-in_err-turn-clause-refused c =
+    let p = err_from_is_err_and c.from_residual-in_err-turn.result c.from_residual-in_err-turn.ensures.1 in
+    let cs = cells_of c.args.interfaces.now in
+    let by_name = c.args.interfaces.now.by_name in
+    let o = c.args.owner in
+    let old = c.args.types.now in
+    let xs = map name_behind c.args.names.now in
+    let names : map use_behind c.deref.result.now ≡ used xs = ap (map use_behind) c.deref.ensures.value ∙ c.in_ok-uses.ensures.uses in
+    let first = c.resolve_uses.new.types in
+    let scope = c.resolve_uses.new.scope in
+    let uses : (s : Address) → Defines old first cs o s [] scope.names (used xs) = rw (names, c.new.ensures) at c.in_ok-resolve_uses.ensures.defines in
+    rw (p.1, p.2) (refused_weaker (λ f. ((fns : List SourceFunction) → IsBrokenScope xs fns f) ⊎ IsWrongHandleTurn first scope.owner scope.names xs f) (IsWrongNames old cs by_name o xs) _ (λ f h. elim h [
+      | inl broken ↦ WrongScopeNames (λ fns. WrongItself (broken fns))
+      | inr wrong ↦ WrongHandleNames (wrong_handle_turn old first cs o scope.names xs f uses (rw c.in_ok-resolve_uses.ensures.owner at wrong))
+    ]) c.in_err-turn.ensures.refused)
+
+pub returns-clause-adds : goal.returns-clause-adds
+returns-clause-adds c =
+    let cs = cells_of c.args.interfaces.now in
+    let o = c.args.owner in
+    let xs = map name_behind c.args.names.now in
+    let names : map use_behind c.deref.result.now ≡ used xs = ap (map use_behind) c.deref.ensures.value ∙ c.in_ok-uses.ensures.uses in
+    let scope = c.resolve_uses.new.scope in
+    let after = c.resolve_types.new.scope in
+    let now = after.names in
+    let new = c.resolve_types.new.types in
+    let uses : (s : Address) → Defines c.args.types.now c.resolve_uses.new.types cs o s [] scope.names (used xs) = rw (names, c.new.ensures) at c.in_ok-resolve_uses.ensures.defines in
+    let turn : DefinesTurn c.resolve_uses.new.types new o scope.names now xs c.in_ok-turn.turn.items scope.required.items after.required.items = rw c.in_ok-resolve_uses.ensures.owner at c.in_ok-turn.ensures.defines in
+    let all = turn.all in
+    let ds = defined (in_order xs all.order) in
+    let listed : names_in scope.names ≡ local_names (used xs) = rw names at c.in_ok-resolve_uses.ensures.listed in
+    let none : scope.required.items ≡ [] = ap (λ rs. rs.items) c.in_ok-resolve_uses.ensures.required ∙ c.new-2.ensures.items in
+    record {
+      adds = record {
+        order = all.order;
+        least = all.least;
+        distinct = all.distinct;
+        defines = λ s. defines_more c.args.types.now c.resolve_uses.new.types new cs o s [] scope.names now (used xs) ds (uses s) (all.defines cs s);
+      };
+      turn = turn.turn;
+      listed = turn.listed ∙ ap (λ l. l ++ local_names ds) listed ∙ sym (map-append local_name (used xs) ds);
+      handled = subst (λ (before : List Required). Requires (env_of now) new (all_handles (flat_map name_types (used xs ++ ds))) before after.required.items) none (subst (λ (ts : List Written). Requires (env_of now) new (all_handles ts) scope.required.items after.required.items) (sym (types-in_turn xs all.order)) turn.handled);
+    }

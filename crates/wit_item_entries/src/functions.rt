@@ -1,0 +1,178 @@
+//! The functions of an item as they are written, and as they stand in the package.
+ghost use Rattle.std.specs.Prelude.{◌≡◌, ◌++◌, IfOk, OnOk, map, nat_eq};
+ghost use Rattle.std.specs.Cmp.Lexicographic.{pointwise};
+ghost use Rattle.std.specs.List.{flat_map};
+ghost use Rattle.indexmap.specs.IndexMap.{insert_entry};
+ghost use Rattle.wit_model.specs.declared.world.WorldKey.TheVariants.{Name};
+ghost use Rattle.wit_model.specs.declared.world.WorldItem.TheVariants.{Function as FunctionItem};
+ghost use Rattle.wit_model.specs.contracts.world.WorldKeyPartialEq.TheImpl.{eq-value as key_test};
+ghost use Rattle.wit_syntax.specs.Repeats.{AllDiffer};
+ghost use Rattle.wit_syntax.specs.Source.{interface_part, world_part, declared_parts, local_name};
+ghost use Rattle.wit_syntax.specs.Function.{definition_functions, part_functions};
+ghost use Rattle.wit_arena.specs.Functions.{placed_functions, function_import};
+ghost use Rattle.wit_rules.specs.Held.{function_behind};
+ghost use Rattle.wit_syntax.specs.Signature.{body_ok};
+ghost use Rattle.wit_rules.specs.Signatures.{told_ok, AreResults};
+ghost use Rattle.wit_items.specs.Items.{declared_behind};
+ghost use Rattle.wit_scopes.specs.Held.{name_behind};
+
+use std::alloc::{AllocError, Global};
+use wit_items::items::Declared;
+use wit_model::{Function, WorldItem, WorldKey};
+use wit_rules::held::HeldFunction;
+use wit_scopes::scope_name::ScopeName;
+use wit_setters::setters::setters_behind_getters;
+use wit_tree::tree::{self, Interface, InterfaceItem, Type, TypeBody, TypeDef, World};
+use wit_values::{Table, TextTable};
+
+/// Adds the functions of a definition: those of a resource.
+fn add_definition<'t, 'a>(
+    functions: &mut Vec<HeldFunction<'t, 'a>>,
+    definition: &'t TypeDef<'a>,
+) -> Result<(), AllocError>
+    ensures { OnOk result (map function_behind functions.new.items ≡ map function_behind functions.old.items ++ definition_functions definition.now.name definition.now.body) }
+{
+    if let TypeBody::Resource { funcs } = &definition.body {
+        for function in funcs {
+            functions.push(HeldFunction::Of(definition.name, function))?;
+        }
+    }
+    Ok(())
+}
+
+/// The functions of an interface.
+fn interface_functions<'t, 'a>(
+    alloc: Global,
+    interface: &'t Interface<'a>,
+) -> Result<Vec<HeldFunction<'t, 'a>>, AllocError>
+    ensures { IfOk result (λ functions. map function_behind functions.items ≡ flat_map part_functions (map interface_part interface.now.items.items)) }
+{
+    let mut functions = Vec::new(alloc);
+    for part in &interface.items {
+        match part {
+            InterfaceItem::TypeDef(definition) => add_definition(&mut functions, definition)?,
+            InterfaceItem::Func(function) => functions.push(HeldFunction::Free(function))?,
+            InterfaceItem::Use(_) => {}
+        }
+    }
+    Ok(functions)
+}
+
+/// The functions of a world: those of its resources.
+fn world_functions<'t, 'a>(
+    alloc: Global,
+    world: &'t World<'a>,
+) -> Result<Vec<HeldFunction<'t, 'a>>, AllocError>
+    ensures { IfOk result (λ functions. map function_behind functions.items ≡ flat_map part_functions (map world_part world.now.items.items)) }
+{
+    let mut functions = Vec::new(alloc);
+    for part in &world.items {
+        match part {
+            tree::WorldItem::TypeDef(definition) => add_definition(&mut functions, definition)?,
+            tree::WorldItem::Use(_) => {}
+            tree::WorldItem::Include(_) => {}
+        }
+    }
+    Ok(functions)
+}
+
+/// The functions of an item, in source order.
+pub fn held_functions<'t, 'a>(
+    alloc: Global,
+    declared: Declared<'t, 'a>,
+) -> Result<Vec<HeldFunction<'t, 'a>>, AllocError>
+    ensures { IfOk result (λ functions. map function_behind functions.items ≡ flat_map part_functions (declared_parts (declared_behind declared.entry))) }
+{
+    match declared {
+        Declared::Interface(interface) => interface_functions(alloc, interface),
+        Declared::World(world) => world_functions(alloc, world),
+    }
+}
+
+/// The type of a definition that is written as a result.
+fn written_result<'t, 'a>(definition: &'t TypeDef<'a>) -> Option<&'t Type<'a>>
+    ensures { told_ok result ≡ body_ok definition.now.body }
+{
+    match &definition.body {
+        TypeBody::Plain(ty) => match ty {
+            Type::Result(_, _, _) => Some(ty),
+            _ => None,
+        },
+        _ => None,
+    }
+}
+
+/// The definitions of a scope that are written as results, under their names.
+pub fn written_results<'t, 'a>(
+    alloc: Global,
+    names: &[ScopeName<'t, 'a>],
+) -> Result<TextTable<&'t Type<'a>>, AllocError>
+    requires { AllDiffer (map local_name (map name_behind names.now)) }
+    ensures { IfOk result (λ results. AreResults results (map name_behind names.now)) }
+{
+    let mut results = TextTable::new(alloc);
+    for name in names {
+        if let ScopeName::Defined(defined) = name {
+            let definition = defined.definition;
+            if let Some(ty) = written_result(definition) {
+                results.insert(String::from_str(alloc, definition.name.name)?, ty)?;
+            }
+        }
+    }
+    Ok(results)
+}
+
+/// Puts a function at its name.
+fn add_function(
+    alloc: Global,
+    table: &mut TextTable<Function>,
+    function: Function,
+) -> Result<(), AllocError>
+    ensures { OnOk result (table.new ≡ insert_entry (pointwise nat_eq) table.old function.name function) }
+{
+    let name = String::from_str(alloc, function.name.as_str())?;
+    table.insert(name, function)?;
+    Ok(())
+}
+
+/// The functions of an interface under their names, where each setter that is written before its
+/// getter stands directly behind it.
+pub fn function_table(
+    alloc: Global,
+    functions: Vec<Function>,
+) -> Result<TextTable<Function>, AllocError>
+    requires { AllDiffer (map (λ f. f.name) functions.items) }
+    ensures { IfOk result (λ table. table ≡ placed_functions functions.items) }
+{
+    let mut table = TextTable::new(alloc);
+    for function in setters_behind_getters(alloc, functions)? {
+        add_function(alloc, &mut table, function)?;
+    }
+    Ok(table)
+}
+
+/// Adds a function to the imports of a world.
+fn add_function_import(
+    imports: &mut Table<WorldKey, WorldItem>,
+    function: Function,
+) -> Result<(), AllocError>
+    ensures { OnOk result (imports.new ≡ insert_entry key_test.it imports.old (Name function.name) (FunctionItem function)) }
+{
+    let key = WorldKey::Name(function.name.clone()?);
+    imports.insert(key, WorldItem::Function(function))?;
+    Ok(())
+}
+
+/// Adds functions to the imports of a world, none of which is an import yet.
+pub fn add_function_imports(
+    imports: &mut Table<WorldKey, WorldItem>,
+    functions: Vec<Function>,
+) -> Result<(), AllocError>
+    requires { AllDiffer (map (λ i. i.0) imports.old ++ map (λ f. (function_import f).0) functions.items) }
+    ensures { OnOk result (imports.new ≡ imports.old ++ map function_import functions.items) }
+{
+    for function in functions {
+        add_function_import(imports, function)?;
+    }
+    Ok(())
+}

@@ -1,0 +1,9 @@
+//! The names and the functions of a scope as entries of the arena of types.
+#![tactic(auto)]
+
+pub mod functions;
+pub mod names;
+mod own_keys;
+pub mod required;
+pub mod signatures;
+pub mod uses;

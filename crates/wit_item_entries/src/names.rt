@@ -1,0 +1,123 @@
+//! The names of a scope as entries: those that it uses, and then its definitions.
+ghost use Rattle.std.specs.Prelude.{◌≡◌, ◌≤◌, ◌⊎◌, ◌++◌, List, [], length, IfOk, IfErr, OnOk, map};
+ghost use Rattle.std.specs.List.{flat_map};
+ghost use Rattle.wit_syntax.specs.Address.{Address};
+ghost use Rattle.wit_syntax.specs.Scope.{used, local_names};
+ghost use Rattle.wit_syntax.specs.Fault.{Fault};
+ghost use Rattle.wit_syntax.specs.Broken.{IsBrokenScope, Refused};
+ghost use Rattle.wit_syntax.specs.Repeats.{AllDiffer};
+ghost use Rattle.wit_syntax.specs.Shape.{all_handles};
+ghost use Rattle.wit_syntax.specs.Function.{SourceFunction, name_types};
+ghost use Rattle.wit_entries.specs.Requiring.{Requires};
+ghost use Rattle.wit_scopes.specs.Held.{name_behind, use_behind, definition_behind};
+ghost use Rattle.wit_item_entries.specs.Held.{front_of, cells_of};
+ghost use Rattle.wit_scopes.specs.Front.{AreNamesPlaced};
+ghost use Rattle.wit_scopes.specs.Between.{AreInTurn, IsBrokenAmong, IsOfFunctions};
+ghost use Rattle.wit_item_entries.specs.Between.{names_in, IsWrongHandleIn, IsWrongHandleTurn, IsWrongNames, DefinesTurn, AddsTurn};
+ghost use Rattle.wit_arena.specs.Resolving.{Cell, env_of, Defines, AreLegalBodies, AreLegalNotes, HasNames, IsIndex};
+
+use crate::uses::{Interfaces, resolve_uses};
+use std::alloc::Global;
+use wit_definitions::definitions::define;
+use wit_entries::entries::Entries;
+use wit_entries::scope::{Required, Scope};
+use wit_scopes::distinct::{add_definition_ids, check_unique_names, used_ids};
+use wit_scopes::scope::ordered_definitions;
+use wit_scopes::scope_name::{DefinedName, ScopeName, UsedName, definitions, used_names};
+use wit_tree::ParseResult;
+use wit_tree::tree::Id;
+use wit_types::{TypeId, TypeOwner};
+use wit_values::TextTable;
+
+/// The names of a scope that is resolved.
+#[derive(Drop)]
+pub struct ResolvedNames<'a> {
+    /// What each stands for.
+    pub types: TextTable<TypeId>,
+    /// The names in the order in which they were resolved.
+    pub turn: Vec<Id<'a>>,
+    /// What handles in definitions require of types of other packages.
+    pub required: Vec<Required>,
+}
+
+/// Adds definitions that stand in their order.
+fn define_all(
+    alloc: Global,
+    types: &mut Entries,
+    scope: &mut Scope,
+    definitions: &[DefinedName<'_, '_>],
+) -> ParseResult<()>
+    requires turn { AreInTurn (env_of scope.old.names) (map definition_behind definitions.now) }
+    requires differ { AllDiffer (names_in scope.old.names ++ local_names (map definition_behind definitions.now)) }
+    ensures defines { OnOk result ((cs : List Cell) (s : Address) → Defines types.old types.new cs scope.old.owner s scope.old.names scope.new.names (map definition_behind definitions.now)) }
+    ensures owner { OnOk result (scope.new.owner ≡ scope.old.owner) }
+    ensures listed { OnOk result (names_in scope.new.names ≡ names_in scope.old.names ++ local_names (map definition_behind definitions.now)) }
+    ensures noted { OnOk result (AreLegalNotes (map definition_behind definitions.now)) }
+    ensures legal { OnOk result (AreLegalBodies (map definition_behind definitions.now)) }
+    ensures handled { OnOk result (Requires (env_of scope.new.names) types.new (all_handles (flat_map name_types (map definition_behind definitions.now))) scope.old.required.items scope.new.required.items) }
+    ensures refused { IfErr result (Refused (λ f. IsBrokenAmong (map definition_behind definitions.now) f ⊎ IsWrongHandleIn types.old scope.old.owner scope.old.names (map definition_behind definitions.now) f)) }
+{
+    for definition in definitions {
+        define(alloc, types, scope, definition.definition)?;
+    }
+    Ok(())
+}
+
+/// Adds the definitions of a scope, and what is in them, behind the names that it uses; gives all its
+/// names in turn.
+fn resolve_types<'t, 'a>(
+    alloc: Global,
+    types: &mut Entries,
+    scope: &mut Scope,
+    names: &[ScopeName<'t, 'a>],
+    uses: &[UsedName<'t, 'a>],
+) -> ParseResult<Vec<Id<'a>>>
+    requires uses { map use_behind uses.now ≡ used (map name_behind names.now) }
+    requires has { HasNames (env_of scope.old.names) (used (map name_behind names.now)) }
+    requires listed { names_in scope.old.names ≡ local_names (used (map name_behind names.now)) }
+    ensures defines { IfOk result (λ turn. DefinesTurn types.old types.new scope.old.owner scope.old.names scope.new.names (map name_behind names.now) turn.items scope.old.required.items scope.new.required.items) }
+    ensures legal { OnOk result ((fns : List SourceFunction) (f : Fault) → IsBrokenScope (map name_behind names.now) fns f → IsOfFunctions (map name_behind names.now) fns f) }
+    ensures refused { IfErr result (Refused (λ f. ((fns : List SourceFunction) → IsBrokenScope (map name_behind names.now) fns f) ⊎ IsWrongHandleTurn types.old scope.old.owner scope.old.names (map name_behind names.now) f)) }
+{
+    let written = definitions(alloc, names)?;
+    let mut ids = used_ids(alloc, uses)?;
+    add_definition_ids(&mut ids, &written)?;
+    check_unique_names(alloc, &ids)?;
+    let ordered = ordered_definitions(alloc, names)?;
+    define_all(alloc, types, scope, &ordered)?;
+    let mut turn = used_ids(alloc, uses)?;
+    add_definition_ids(&mut turn, &ordered)?;
+    Ok(turn)
+}
+
+/// Adds the names of a scope of this owner, and what is in them.
+///
+/// Its functions, and whether two names are one once case is folded, are left to the caller.
+pub fn resolve_names<'a>(
+    alloc: Global,
+    types: &mut Entries,
+    interfaces: &Interfaces<'_, '_, '_>,
+    owner: TypeOwner,
+    names: &[ScopeName<'_, 'a>],
+) -> ParseResult<ResolvedNames<'a>>
+    requires index { IsIndex (cells_of interfaces.now) interfaces.now.by_name }
+    requires placed { AreNamesPlaced (front_of interfaces.now.foreign.now) names.now }
+    requires front { length interfaces.now.foreign.now ≤ length interfaces.now.arena }
+    ensures adds { IfOk result (λ r. AddsTurn types.old types.new (cells_of interfaces.now) owner (map name_behind names.now) r.types r.turn.items r.required.items) }
+    ensures legal { OnOk result ((fns : List SourceFunction) (f : Fault) → IsBrokenScope (map name_behind names.now) fns f → IsOfFunctions (map name_behind names.now) fns f) }
+    ensures refused { IfErr result (Refused (IsWrongNames types.old (cells_of interfaces.now) interfaces.now.by_name owner (map name_behind names.now))) }
+{
+    let uses = used_names(alloc, names)?;
+    let mut scope = Scope {
+        owner,
+        names: TextTable::new(alloc),
+        required: Vec::new(alloc),
+    };
+    resolve_uses(alloc, types, interfaces, &mut scope, &uses)?;
+    let turn = resolve_types(alloc, types, &mut scope, names, &uses)?;
+    Ok(ResolvedNames {
+        types: scope.names,
+        turn,
+        required: scope.required,
+    })
+}

@@ -1,0 +1,120 @@
+-- Headers that have docs, one header more, and the first of them.
+use Rattle.std.proofs.Common.{◌≡◌, ◌<◌, Bool, true, false, not, ℕ, zero, suc, ◌+◌, List, [], ◌∷◌, ◌++◌, length, get_or, drop, drop-cons, Option, Some, None, Bor, inl, inr, refl, sym, ap, ◌∙◌, arith}
+use Rattle.std.specs.Prelude.{◌==◌, ◌||◌, slice_get, if◌then◌else◌}
+use Rattle.std.specs.List.{cons_option}
+use Rattle.std.specs.Option.{option_to_list}
+use Rattle.std.proofs.lemmas.Bool.{cases_Bool, ne_eqb}
+use Rattle.wit_tree.specs.declared.tree.PackageName.{PackageName as Header}
+use Rattle.wit_tree.specs.declared.tree.PackageFile.{PackageFile}
+use Rattle.wit_types.specs.declared.docs.Docs.{Docs}
+use Rattle.wit_syntax.specs.Fault.{Fault, fault}
+use Rattle.wit_syntax.specs.Notes.{docs_of}
+use Rattle.wit_syntax.specs.Broken.{IsDocumented, IsSecondDocs, headers}
+use Rattle.wit_arena.specs.Whole.{first_docs}
+use Rattle.wit_syntax.proofs.Found.{at_contains, contains_at}
+use Rattle.wit_items.specs.Headers.{is_documented, have_docs}
+
+cons_option-append : (o : Option Header) (xs ys : List Header) → cons_option o (xs ++ ys) ≡ cons_option o xs ++ ys
+cons_option-append None xs ys = refl
+cons_option-append (Some h) xs ys = refl
+
+cons_option-one : (o : Option Header) → cons_option o [] ≡ option_to_list o
+cons_option-one None = refl
+cons_option-one (Some h) = refl
+
+-- the headers of files, one file more
+pub headers-append : (fs : List PackageFile) (f : PackageFile) → headers (fs ++ f ∷ []) ≡ headers fs ++ option_to_list f.package_id
+headers-append [] f = cons_option-one f.package_id
+headers-append (g ∷ fs) f = ap (cons_option g.package_id) (headers-append fs f) ∙ cons_option-append g.package_id (headers fs) (option_to_list f.package_id)
+
+or_assoc : (a b c : Bool) → (a || b) || c ≡ a || (b || c)
+or_assoc true b c = refl
+or_assoc false b c = refl
+
+or_true : (b : Bool) → b || true ≡ true
+or_true true = refl
+or_true false = refl
+
+or_false : (b : Bool) → b || false ≡ b
+or_false true = refl
+or_false false = refl
+
+-- headers have docs where those in front have, or those behind
+have_docs-append : (xs ys : List Header) → have_docs (xs ++ ys) ≡ have_docs xs || have_docs ys
+have_docs-append [] ys = refl
+have_docs-append (x ∷ xs) ys = ap (λ (b : Bool). is_documented x || b) (have_docs-append xs ys) ∙ sym (or_assoc (is_documented x) (have_docs xs) (have_docs ys))
+
+-- once some have docs, more have
+pub docs_kept : (hs ys : List Header) (b : Bool) → b ≡ have_docs hs → b ≡ true → true ≡ have_docs (hs ++ ys)
+docs_kept hs ys b same holds = sym (have_docs-append hs ys ∙ ap (λ (a : Bool). a || have_docs ys) (sym same ∙ holds))
+
+-- where none has, one more does if it has
+pub docs_own : (hs : List Header) (h : Header) (b : Bool) → b ≡ have_docs hs → b ≡ false → is_documented h ≡ have_docs (hs ++ h ∷ [])
+docs_own hs h b same fails = sym (have_docs-append hs (h ∷ []) ∙ ap (λ (a : Bool). a || have_docs (h ∷ [])) (sym same ∙ fails) ∙ or_false (is_documented h))
+
+pub docs_none : (hs : List Header) (b : Bool) → b ≡ have_docs hs → b ≡ false → false ≡ have_docs (hs ++ [])
+docs_none hs b same fails = sym (have_docs-append hs [] ∙ ap (λ (a : Bool). a || have_docs []) (sym same ∙ fails))
+
+filled : {X : Type 0} (x : X) (xs : List X) → (length (x ∷ xs) == 0) ≡ false
+filled x xs = ne_eqb (length (x ∷ xs)) 0 (λ none. absurd (omega (arith, none)))
+
+-- what a test for docs says
+pub documented_is : (h : Header) → is_documented h ≡ true → IsDocumented h
+documented_is h holds = λ empty. (
+    let wrong : true ≡ false = sym holds ∙ ap (λ (l : List (Bor (List ℕ))). not (length l == 0)) empty in
+    let f : ⊥ = cc in
+    f)
+
+pub documented_not : (h : Header) → is_documented h ≡ false → h.docs.docs.items ≡ []
+documented_not h fails = empty h.docs.docs.items fails
+  where
+    empty : {X : Type 0} (xs : List X) → not (length xs == 0) ≡ false → xs ≡ []
+    empty [] fails = refl
+    empty (x ∷ xs) fails = absurd (let wrong : true ≡ false = sym (ap not (filled x xs)) ∙ fails in let f : ⊥ = cc in f)
+
+documented_from : (h : Header) → IsDocumented h → is_documented h ≡ true
+documented_from h d = some h.docs.docs.items d
+  where
+    some : {X : Type 0} (xs : List X) → (xs ≡ [] → ⊥) → not (length xs == 0) ≡ true
+    some [] d = absurd (d refl)
+    some (x ∷ xs) d = ap not (filled x xs)
+
+-- where headers have docs, one of them has
+documented_one : (hs : List Header) → have_docs hs ≡ true → (i : ℕ) × (h : Header) × (slice_get hs i ≡ Some h) × IsDocumented h
+documented_one [] holds = absurd (let f : ⊥ = cc in f)
+documented_one (h ∷ hs) holds = elim (cases_Bool (is_documented h)) [
+  | inl own ↦ (0, h, refl, documented_is h own)
+  | inr other ↦ (let it = documented_one hs (sym (ap (λ (b : Bool). b || have_docs hs) other) ∙ holds) in (suc it.0, it.1, it.2, it.3))
+]
+
+documented_at : (hs : List Header) (i : ℕ) (h : Header) → slice_get hs i ≡ Some h → IsDocumented h → have_docs hs ≡ true
+documented_at [] i h at d = absurd (let f : ⊥ = cc in f)
+documented_at (x ∷ hs) zero h at d = (let same : x ≡ h = cc in ap (λ (y : Header). is_documented y || have_docs hs) same ∙ ap (λ (b : Bool). b || have_docs hs) (documented_from h d))
+documented_at (x ∷ hs) (suc i) h at d = ap (λ (b : Bool). is_documented x || b) (documented_at hs i h at d) ∙ or_true (is_documented x)
+
+-- a header is no second one with docs
+pub no_second : (hs : List Header) (b : Bool) (current : Option Header) → b ≡ have_docs hs → (b ≡ true → (own : Header) → current ≡ Some own → IsDocumented own → ⊥) → (f : Fault) → IsSecondDocs hs current f → ⊥
+no_second hs b current same other f h =
+    let k = at_contains hs h.before h.among in
+    other (same ∙ documented_at hs k.0 h.before k.1 h.documented_before) h.own h.now h.documented
+
+-- one with docs behind others that have some is one
+pub second : (hs : List Header) (b : Bool) (current : Option Header) (own : Header) (f : Fault) → b ≡ have_docs hs → b ≡ true → current ≡ Some own → IsDocumented own → f ≡ fault 2 own.docs.span → IsSecondDocs hs current f
+second hs b current own f same holds now documented is =
+    let it = documented_one hs (sym same ∙ holds) in
+    record { own = own; now = now; documented = documented; before = it.1; among = contains_at hs it.0 it.1 it.2; documented_before = it.3; is = is }
+
+-- the docs of the files from a place on
+docs_from : (fs : List PackageFile) (i : ℕ) (f : PackageFile) → i < length fs → f ≡ get_or fs i f → first_docs (headers (drop i fs)) ≡ first_docs (cons_option f.package_id (headers (drop (i + 1) fs)))
+docs_from fs i f lt is =
+    let next : suc i ≡ i + 1 = omega arith in
+    ap (λ (l : List PackageFile). first_docs (headers l)) (drop-cons fs i f lt ∙ ap (λ (g : PackageFile). g ∷ drop (suc i) fs) (sym is)) ∙ ap (λ (n : ℕ). first_docs (cons_option f.package_id (headers (drop n fs)))) next
+
+chosen : {X : Type 0} (xs : List X) (a b : Docs) → (xs ≡ [] → ⊥) → (if length xs == 0 then a else b) ≡ b
+chosen [] a b some = absurd (some refl)
+chosen (x ∷ xs) a b some = ap (λ (t : Bool). if t then a else b) (filled x xs)
+
+pub docs_behind : (fs : List PackageFile) (i : ℕ) (f : PackageFile) (h : Header) → i < length fs → f ≡ get_or fs i f → f.package_id ≡ Some h → h.docs.docs.items ≡ [] → first_docs (headers (drop (i + 1) fs)) ≡ first_docs (headers (drop i fs))
+docs_behind fs i f h lt is own empty =
+    let rest = headers (drop (i + 1) fs) in
+    sym (docs_from fs i f lt is ∙ ap (λ (o : Option Header). first_docs (cons_option o rest)) own ∙ ap (λ (n : ℕ). if n == 0 then first_docs rest else docs_of h.docs) (ap length empty))

@@ -1,0 +1,7 @@
+use Rattle.std.proofs.Common.{◌≡◌, drop}
+use Rattle.wit_syntax.specs.Broken.{headers}
+use Rattle.wit_arena.specs.Whole.{first_docs}
+use Rattle.wit_items.proofs.header.package_docs.Given as goal
+
+abbrev pub invariant-loop-file : goal.invariant-loop-file
+invariant-loop-file l = first_docs (headers (drop l.file-index l.files)) ≡ first_docs (headers l.files)

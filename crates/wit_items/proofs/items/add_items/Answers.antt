@@ -1,0 +1,110 @@
+use Rattle.std.proofs.Common.{◌≡◌, ◌+◌, ◌++◌, ◌∷◌, [], Some, Contains, map, take, refl, sym, ap, ◌∙◌}
+use Rattle.std.specs.List.{flat_map}
+use Rattle.std.specs.Prelude.{slice_get}
+use Rattle.std.proofs.lemmas.List.{map-append, take_more, append-nil}
+use Rattle.std.proofs.lemmas.Option.{slice_get_read}
+use Rattle.std.proofs.lemmas.Result.{err_from_is_err_and}
+use Rattle.wit_tree.specs.declared.tree.AstItem.{AstItem}
+use Rattle.wit_tree.specs.declared.tree.AstItem.TheVariants as ast
+use Rattle.wit_syntax.specs.Source.{TheInterface, TheWorld, Item, top_names, declared_items, file_items, scope_names}
+use Rattle.wit_syntax.specs.Scope.{uses}
+use Rattle.wit_syntax.proofs.Refusing.{refused_weaker}
+use Rattle.wit_items.specs.Items.{item_behind, names_behind, IsUnsoundAmong, HasUnsoundUse}
+use Rattle.wit_scopes.proofs.Declaring.{one_more}
+use Rattle.wit_syntax.specs.Foreign.{visited, foreign_interfaces}
+use Rattle.wit_items.proofs.Placed.{items_more}
+use Rattle.wit_items.proofs.Usable.{declared_among, item_among, sound_items_more, filed_more}
+use Rattle.wit_files.proofs.Lost.{flat_more}
+use Rattle.wit_items.proofs.items.add_items.Goals.{in-Interface+in_ok-interface_names-in-Interface+in_ok-push-in-Interface, in-World+in_ok-world_names-in-World+in_ok-push-in-World, in-Use}
+use Rattle.wit_items.proofs.items.add_items.Goals as goal
+
+pub returns-in_err-interface_names-in-Interface-clause-refused :
+    goal.returns-in_err-interface_names-in-Interface-clause-refused
+returns-in_err-interface_names-in-Interface-clause-refused c =
+    let p = err_from_is_err_and c.from_residual.result c.from_residual.ensures.1 in
+    let file = c.args.file.now in
+    let xs = c.declarations-declared.result.now in
+    let w : Item = record { top = top_names file; declared = TheInterface c.in-Interface.interface } in
+    let at : slice_get xs c.loop-item.item-index ≡ Some (ast.Interface c.in-Interface.interface) = slice_get_read xs _ c.loop-item.item-index c.item-item.result refl c.loop-item-test.true c.item-item.is ∙ ap Some c.in-Interface.is in
+    let among : Contains (file_items file) w = rw c.declarations-declared.ensures at (declared_among (declared_items (top_names file)) xs c.loop-item.item-index _ w at refl) in
+    rw (p.1, p.2) (λ fs named. refused_weaker (IsUnsoundAmong fs w.top (uses w)) (HasUnsoundUse fs (file_items file)) _ (λ f h. record { i = w; among = among; broken = h }) (c.in_err-interface_names-in-Interface.ensures.refused fs file named))
+
+pub returns-in_err-world_names-in-World-clause-refused :
+    goal.returns-in_err-world_names-in-World-clause-refused
+returns-in_err-world_names-in-World-clause-refused c =
+    let p = err_from_is_err_and c.from_residual-in_err-world_names-in-World.result c.from_residual-in_err-world_names-in-World.ensures.1 in
+    let file = c.args.file.now in
+    let xs = c.declarations-declared.result.now in
+    let w : Item = record { top = top_names file; declared = TheWorld c.in-World.world } in
+    let at : slice_get xs c.loop-item.item-index ≡ Some (ast.World c.in-World.world) = slice_get_read xs _ c.loop-item.item-index c.item-item.result refl c.loop-item-test.true c.item-item.is ∙ ap Some c.in-World.is in
+    let among : Contains (file_items file) w = rw c.declarations-declared.ensures at (declared_among (declared_items (top_names file)) xs c.loop-item.item-index _ w at refl) in
+    rw (p.1, p.2) (λ fs named. refused_weaker (IsUnsoundAmong fs w.top (uses w)) (HasUnsoundUse fs (file_items file)) _ (λ f h. record { i = w; among = among; broken = h }) (c.in_err-world_names-in-World.ensures.refused fs file named))
+
+pub interface_names-requires-clause-item : goal.interface_names-requires-clause-item
+interface_names-requires-clause-item c =
+    let file = c.args.file.now in
+    let xs = c.declarations-declared.result.now in
+    let own = c.requires.named in
+    let w : Item = record { top = top_names file; declared = TheInterface c.in-Interface.interface } in
+    let at : slice_get xs c.loop-item.item-index ≡ Some (ast.Interface c.in-Interface.interface) = slice_get_read xs _ c.loop-item.item-index c.item-item.result refl c.loop-item-test.true c.item-item.is ∙ ap Some c.in-Interface.is in
+    let among : Contains (file_items file) w = rw c.declarations-declared.ensures at (declared_among (declared_items (top_names file)) xs c.loop-item.item-index _ w at refl) in
+    record { files = own.files; file = file; declared = record { are = own.are; among = item_among own.files c.args.place file w own.are.at among } }
+
+pub world_names-requires-clause-item : goal.world_names-requires-clause-item
+world_names-requires-clause-item c =
+    let file = c.args.file.now in
+    let xs = c.declarations-declared.result.now in
+    let own = c.requires.named in
+    let w : Item = record { top = top_names file; declared = TheWorld c.in-World.world } in
+    let at : slice_get xs c.loop-item.item-index ≡ Some (ast.World c.in-World.world) = slice_get_read xs _ c.loop-item.item-index c.item-item.result refl c.loop-item-test.true c.item-item.is ∙ ap Some c.in-World.is in
+    let among : Contains (file_items file) w = rw c.declarations-declared.ensures at (declared_among (declared_items (top_names file)) xs c.loop-item.item-index _ w at refl) in
+    record { files = own.files; file = file; declared = record { are = own.are; among = item_among own.files c.args.place file w own.are.at among } }
+
+pub loop-item-preserved : goal.loop-item-preserved
+loop-item-preserved c =
+    let file = c.args.file.now in
+    let top = top_names file in
+    let xs = c.declarations-declared.result.now in
+    let i = c.loop-item.item-index in
+    let x = c.item-item.result in
+    let before = flat_map (declared_items top) (take i xs) in
+    let all = flat_map (declared_items top) (take (i + 1) xs) in
+    let old = c.args.items.now.items in
+    let out = c.loop-item.items.items in
+    let was = c.loop-item.invariant in
+    let own = c.requires.named in
+    let more : take (i + 1) xs ≡ take i xs ++ x ∷ [] = take_more xs i x c.loop-item-test.true ∙ ap (λ y. take i xs ++ y ∷ []) (sym c.item-item.is) in
+    let grown : all ≡ before ++ declared_items top x = flat_more (declared_items top) (take i xs) (take (i + 1) xs) x more in
+    elim c.match-item.branch [
+      | in-Interface+in_ok-interface_names-in-Interface+in_ok-push-in-Interface b ↦ (
+          let w : Item = record { top = top; declared = TheInterface b.in-Interface.interface } in
+          let one : all ≡ before ++ w ∷ [] = grown ∙ ap (λ (d : AstItem). before ++ declared_items top d) b.in-Interface.is in
+          let at : slice_get xs i ≡ Some (ast.Interface b.in-Interface.interface) = slice_get_read xs _ i x refl c.loop-item-test.true c.item-item.is ∙ ap Some b.in-Interface.is in
+          let among : Contains (file_items file) w = rw c.declarations-declared.ensures at (declared_among (declared_items top) xs i _ w at refl) in
+          let new = b.in_ok-push-in-Interface.ensures.items in
+          let e = b.in_ok-interface_names-in-Interface.ensures in
+          rw b.items-is (record {
+            items = one_more item_behind (map item_behind old) out _ _ before all w new was.items refl one;
+            names = one_more names_behind (map names_behind old) out _ _ (map scope_names before) (map scope_names all) (scope_names w) new was.names (e.names own.files file own.are) (ap (map scope_names) one ∙ map-append scope_names before (w ∷ []));
+            filed = λ fs named before. filed_more fs c.args.files.now out _ _ new (was.filed fs named before) (record { are = named; among = item_among fs c.args.place file w named.at among });
+            placed = λ fs named before. items_more (map visited (foreign_interfaces fs)) out _ _ new (was.placed fs named before) (e.placed fs file named);
+            sound = λ fs named. sound_items_more fs before all w one (was.sound fs named) (e.sound fs file named);
+          }))
+      | in-World+in_ok-world_names-in-World+in_ok-push-in-World b ↦ (
+          let w : Item = record { top = top; declared = TheWorld b.in-World.world } in
+          let one : all ≡ before ++ w ∷ [] = grown ∙ ap (λ (d : AstItem). before ++ declared_items top d) b.in-World.is in
+          let at : slice_get xs i ≡ Some (ast.World b.in-World.world) = slice_get_read xs _ i x refl c.loop-item-test.true c.item-item.is ∙ ap Some b.in-World.is in
+          let among : Contains (file_items file) w = rw c.declarations-declared.ensures at (declared_among (declared_items top) xs i _ w at refl) in
+          let new = b.in_ok-push-in-World.ensures.items in
+          let e = b.in_ok-world_names-in-World.ensures in
+          rw b.items-is (record {
+            items = one_more item_behind (map item_behind old) out _ _ before all w new was.items refl one;
+            names = one_more names_behind (map names_behind old) out _ _ (map scope_names before) (map scope_names all) (scope_names w) new was.names (e.names own.files file own.are) (ap (map scope_names) one ∙ map-append scope_names before (w ∷ []));
+            filed = λ fs named before. filed_more fs c.args.files.now out _ _ new (was.filed fs named before) (record { are = named; among = item_among fs c.args.place file w named.at among });
+            placed = λ fs named before. items_more (map visited (foreign_interfaces fs)) out _ _ new (was.placed fs named before) (e.placed fs file named);
+            sound = λ fs named. sound_items_more fs before all w one (was.sound fs named) (e.sound fs file named);
+          }))
+      | in-Use b ↦ (
+          let none : all ≡ before = grown ∙ ap (λ (d : AstItem). before ++ declared_items top d) b.in-Use.is ∙ append-nil before in
+          rw (b.items-is, none) was)
+    ]

@@ -1,0 +1,50 @@
+use Rattle.std.proofs.Common.{◌++◌, ◌∷◌, [], map, sym, ap, ◌∙◌}
+use Rattle.std.proofs.lemmas.List.{map-append, append-nil}
+use Rattle.std.proofs.lemmas.Result.{err_from_is_err_and}
+use Rattle.wit_tree.specs.declared.tree.Use.{Use}
+use Rattle.wit_syntax.specs.Address.{Address}
+use Rattle.wit_syntax.specs.Source.{top_names, Used}
+use Rattle.wit_syntax.proofs.Refusing.{refused_weaker}
+use Rattle.wit_scopes.specs.Held.{name_behind}
+use Rattle.wit_items.specs.Items.{IsUnsound, IsUnsoundAmong}
+use Rattle.wit_syntax.specs.Foreign.{visited, foreign_interfaces}
+use Rattle.wit_scopes.proofs.Placed.{names_more}
+use Rattle.wit_items.proofs.Usable.{sound_none, sound_one, unsound_one}
+use Rattle.wit_items.proofs.items.add_part.Goals.{in-Defining+in_ok-push-in-Defining, in-Using+in_ok-from-in-Using+in_ok-add_used_names-in-Using, in-Including, in-Doing}
+use Rattle.wit_items.proofs.items.add_part.Goals as goal
+
+pub sound_source-requires-clause-part : goal.sound_source-requires-clause-part
+sound_source-requires-clause-part c = rw c.in-Using.is at c.requires.part
+
+pub returns-in_err-from-in-Using-clause-refused :
+    goal.returns-in_err-from-in-Using-clause-refused
+returns-in_err-from-in-Using-clause-refused c =
+    let p = err_from_is_err_and c.from_residual-in_err-from-in-Using.result c.from_residual-in_err-from-in-Using.ensures.1 in
+    let u : Use = c.in-Using.used.now in
+    rw (c.in-Using.is, p.1, p.2) (λ fs file at. refused_weaker (IsUnsound fs (top_names file) u) (IsUnsoundAmong fs (top_names file) (u ∷ [])) _ (λ f h. unsound_one fs (top_names file) u f h) (c.in_err-from-in-Using.ensures.refused fs file at))
+
+pub returns-clause-names : goal.returns-clause-names
+returns-clause-names c = elim c.match-part.branch [
+  | in-Defining+in_ok-push-in-Defining b ↦ λ fs file at. rw (b.names-is, b.in-Defining.is) (ap (map name_behind) b.in_ok-push-in-Defining.ensures.items ∙ map-append name_behind c.args.names.now.items (_ ∷ []))
+  | in-Using+in_ok-from-in-Using+in_ok-add_used_names-in-Using b ↦ λ fs file at. (
+      let from = ap (λ (s : Address). map name_behind c.args.names.now.items ++ map (Used s b.in-Using.used.now.attributes.items) b.in-Using.used.now.names.items) (b.in_ok-from-in-Using.ensures.source fs file at) in
+      rw (b.names-is, b.in-Using.is) ((rw (b.deref.ensures.value, b.deref-in-Using.ensures.value) at b.in_ok-add_used_names-in-Using.ensures.names) ∙ from))
+  | in-Including b ↦ λ fs file at. rw (b.names-is, b.in-Including.is) (sym (append-nil (map name_behind c.args.names.now.items)))
+  | in-Doing b ↦ λ fs file at. rw (b.names-is, b.in-Doing.is) (sym (append-nil (map name_behind c.args.names.now.items)))
+]
+
+pub returns-clause-sound : goal.returns-clause-sound
+returns-clause-sound c = elim c.match-part.branch [
+  | in-Defining+in_ok-push-in-Defining b ↦ λ fs file at. rw b.in-Defining.is (sound_none fs (top_names file))
+  | in-Using+in_ok-from-in-Using+in_ok-add_used_names-in-Using b ↦ λ fs file at. rw b.in-Using.is (sound_one fs (top_names file) b.in-Using.used.now (b.in_ok-from-in-Using.ensures.sound fs file at))
+  | in-Including b ↦ λ fs file at. rw b.in-Including.is (sound_none fs (top_names file))
+  | in-Doing b ↦ λ fs file at. rw b.in-Doing.is (sound_none fs (top_names file))
+]
+
+pub returns-clause-placed : goal.returns-clause-placed
+returns-clause-placed c = elim c.match-part.branch [
+  | in-Defining+in_ok-push-in-Defining b ↦ λ fs file at before. rw b.names-is (names_more (map visited (foreign_interfaces fs)) c.args.names.now.items _ _ b.in_ok-push-in-Defining.ensures.items before tt)
+  | in-Using+in_ok-from-in-Using+in_ok-add_used_names-in-Using b ↦ λ fs file at before. rw b.names-is (b.in_ok-add_used_names-in-Using.ensures.placed (map visited (foreign_interfaces fs)) (b.in_ok-from-in-Using.ensures.placed fs file at) before)
+  | in-Including b ↦ λ fs file at before. rw b.names-is before
+  | in-Doing b ↦ λ fs file at before. rw b.names-is before
+]

@@ -1,0 +1,62 @@
+use Rattle.std.proofs.Common.{◌≡◌, ◌+◌, ◌++◌, ◌∷◌, [], Some, map, take, refl, sym, ap, ◌∙◌, subst}
+use Rattle.std.specs.List.{flat_map}
+use Rattle.std.specs.Prelude.{slice_get}
+use Rattle.std.proofs.lemmas.List.{take_more, take_all}
+use Rattle.std.proofs.lemmas.Option.{slice_get_read, slice_get-map}
+use Rattle.std.proofs.lemmas.Result.{err_from_is_err_and}
+use Rattle.std.specs.Option.{option_map}
+use Rattle.wit_syntax.specs.Source.{TheWorld, world_part, part_names, top_names}
+use Rattle.wit_syntax.specs.Scope.{part_uses}
+use Rattle.wit_syntax.proofs.Refusing.{refused_weaker}
+use Rattle.wit_items.specs.Items.{part_behind, AreSound, IsUnsoundAmong}
+use Rattle.wit_syntax.specs.Foreign.{visited, foreign_interfaces}
+use Rattle.wit_syntax.proofs.Found.{contains_at}
+use Rattle.wit_items.proofs.Placed.{names_none}
+use Rattle.wit_items.proofs.Usable.{sound_none, sound_append, parts_more, unsound_part}
+use Rattle.wit_items.proofs.items.world_names.Goals as goal
+
+pub loop-part-init : goal.loop-part-init
+loop-part-init c = rw c.new-names.ensures.items (record {
+  names = λ fs file named. refl;
+  placed = λ fs file named. names_none (map visited (foreign_interfaces fs));
+  sound = λ fs file named. sound_none fs (top_names file);
+})
+
+pub add_part-requires-clause-part : goal.add_part-requires-clause-part
+add_part-requires-clause-part c =
+    let xs = c.deref-part-items.result.now in
+    let i = c.loop-part.part-index in
+    let q = part_behind c.world_part.result in
+    let at : slice_get (map world_part xs) i ≡ Some q = slice_get-map world_part xs i ∙ ap (option_map world_part) (slice_get_read xs _ i c.part-item.result refl c.loop-part-test.true c.part-item.is) ∙ ap Some (sym c.world_part.ensures) in
+    record { declared = TheWorld c.args.world.now; item = c.requires.item; among = rw c.deref-part-items.ensures.value at (contains_at (map world_part xs) i q at) }
+
+pub returns-in_err-add_part-clause-refused : goal.returns-in_err-add_part-clause-refused
+returns-in_err-add_part-clause-refused c =
+    let p = err_from_is_err_and c.from_residual.result c.from_residual.ensures.1 in
+    let xs = c.deref-part-items.result.now in
+    let i = c.loop-part.part-index in
+    let x = c.part-item.result in
+    let q = part_behind c.world_part.result in
+    let at : slice_get (map world_part xs) i ≡ Some q = slice_get-map world_part xs i ∙ ap (option_map world_part) (slice_get_read xs _ i x refl c.loop-part-test.true c.part-item.is) ∙ ap Some (sym c.world_part.ensures) in
+    rw (p.1, p.2, sym c.deref-part-items.ensures.value) (λ fs file named. refused_weaker (IsUnsoundAmong fs (top_names file) (part_uses q)) (IsUnsoundAmong fs (top_names file) (flat_map part_uses (map world_part xs))) _ (λ f h. unsound_part fs (top_names file) world_part xs i x q f at h) (c.in_err-add_part.ensures.refused fs file named))
+
+pub loop-part-preserved : goal.loop-part-preserved
+loop-part-preserved c =
+    let xs = c.deref-part-items.result.now in
+    let i = c.loop-part.part-index in
+    let x = c.part-item.result in
+    let q = part_behind c.world_part.result in
+    let was = c.loop-part.invariant in
+    let e = c.in_ok-add_part.ensures in
+    let more : take (i + 1) xs ≡ take i xs ++ x ∷ [] = take_more xs i x c.loop-part-test.true ∙ ap (λ y. take i xs ++ y ∷ []) (sym c.part-item.is) in
+    record {
+      names = λ fs file named. e.names fs file named ∙ ap (λ l. l ++ part_names (top_names file) q) (was.names fs file named) ∙ sym (parts_more (part_names (top_names file)) world_part (take i xs) (take (i + 1) xs) x q more c.world_part.ensures);
+      placed = λ fs file named. e.placed fs file named (was.placed fs file named);
+      sound = λ fs file named. sound_append fs (top_names file) (flat_map part_uses (map world_part (take i xs))) (part_uses q) (flat_map part_uses (map world_part (take (i + 1) xs))) (parts_more part_uses world_part (take i xs) (take (i + 1) xs) x q more c.world_part.ensures) (was.sound fs file named) (e.sound fs file named);
+    }
+
+pub returns-clause-names : goal.returns-clause-names
+returns-clause-names c = λ fs file named. rw (sym c.deref-part-items.ensures.value) (c.loop-part.invariant.names fs file named ∙ ap (λ l. flat_map (part_names (top_names file)) (map world_part l)) (take_all c.loop-part.part-index c.deref-part-items.result.now c.loop-part-test.false))
+
+pub returns-clause-sound : goal.returns-clause-sound
+returns-clause-sound c = λ fs file named. rw (sym c.deref-part-items.ensures.value) (subst (λ l. AreSound fs (top_names file) (flat_map part_uses (map world_part l))) (take_all c.loop-part.part-index c.deref-part-items.result.now c.loop-part-test.false) (c.loop-part.invariant.sound fs file named))

@@ -1,0 +1,183 @@
+-- Declared items that are held, and where the paths of their uses lead.
+use Rattle.std.specs.Prelude.{◌≡◌, ℕ, true, false, List, Option, Some, None, Contains, map, slice_get}
+use Rattle.std.specs.List.{filter}
+use Rattle.std.specs.Option.{option_map}
+use Rattle.wit_tree.specs.declared.tree.Id.{Id}
+use Rattle.wit_tree.specs.declared.tree.Use.{Use}
+use Rattle.wit_tree.specs.declared.tree.UsePath.{UsePath}
+use Rattle.wit_tree.specs.declared.tree.PackageFile.{PackageFile}
+use Rattle.wit_model.specs.declared.ast_item.AstItem.{AstItem}
+use Rattle.wit_model.specs.declared.ast_item.AstItem.TheVariants as entry
+use Rattle.wit_syntax.specs.Address.{Address, ForeignNamed}
+use Rattle.wit_syntax.specs.Source.{Target, Local, Foreign, leads, path_id, TopName, top_names, Declared, TheInterface, TheWorld, declared_parts, Part, Defining, Using, Including, Doing, Item, item_named, all_items, ScopeName}
+use Rattle.wit_syntax.specs.Scope.{uses}
+use Rattle.wit_syntax.specs.Foreign.{visited, is_foreign_world, foreign_at, foreign_items}
+use Rattle.wit_arena.specs.Whole.{foreign_entry}
+use Rattle.wit_syntax.specs.Fault.{Fault, fault, missing_at, item_word}
+use Rattle.wit_syntax.specs.Notes.{IsBrokenNotes}
+use Rattle.wit_arena.specs.Resolving.{Names, env_of}
+use Rattle.wit_syntax.specs.Broken.{is_world_at}
+use Rattle.wit_files.specs.Foreign.{foreign_behind}
+use Rattle.wit_files.specs.declared.file_names.FileNames.{FileNames}
+use Rattle.wit_files.specs.declared.file_names.Found.{Found}
+use Rattle.wit_files.specs.declared.file_names.Found.TheVariants.{Item as ItemAt, Foreign as ForeignAt}
+use Rattle.wit_files.specs.FileNames.{AreNamesOf}
+use Rattle.wit_items.specs.declared.items.Declared.{Declared as HeldDeclared}
+use Rattle.wit_items.specs.declared.items.Declared.TheVariants as held
+use Rattle.wit_items.specs.declared.items.Part.{Part as HeldPart}
+use Rattle.wit_items.specs.declared.items.Part.TheVariants as held_part
+use Rattle.wit_items.specs.declared.items.Item.{Item as Held}
+use Rattle.wit_scopes.specs.Held.{name_behind}
+
+-- the declared interface or world that is held
+abbrev pub declared_behind : HeldDeclared → Declared
+declared_behind (held.Interface i) = TheInterface i.now
+declared_behind (held.World w) = TheWorld w.now
+
+-- the part that is held
+abbrev pub part_behind : HeldPart → Part
+part_behind (held_part.Defining d) = Defining d.now
+part_behind (held_part.Using u) = Using u.now
+part_behind (held_part.Including i) = Including i.now
+part_behind (held_part.Doing f) = Doing f.now
+
+-- the item that is held
+abbrev pub item_behind : Held → Item
+item_behind i = record { top = top_names i.file.now; declared = declared_behind i.declared }
+
+-- the names of its scope
+abbrev pub names_behind : Held → List ScopeName
+names_behind i = map name_behind i.names.items
+
+-- these are the names of these files, and this is the one at a place among them
+pub record AreNamesAt (files : List PackageFile) (names : FileNames) (place : ℕ) (file : PackageFile) : Type 0 where
+  pub are : AreNamesOf files names
+  pub at : slice_get files place ≡ Some file
+
+-- these are the names of files, and one of those is at a place
+pub record HasFile (names : FileNames) (place : ℕ) : Type 0 where
+  pub files : List PackageFile
+  pub file : PackageFile
+  pub are : AreNamesAt files names place file
+
+-- these are the names of these files, and this is an item that the one at a place declares
+pub record IsDeclaredIn (files : List PackageFile) (names : FileNames) (place : ℕ) (file : PackageFile) (d : Declared) : Type 0 where
+  pub are : AreNamesAt files names place file
+  pub among : Contains (all_items files) (record { top = top_names file; declared = d })
+
+-- these are the names of files, and this is an item that one of those declares
+pub record HasItem (names : FileNames) (place : ℕ) (d : Declared) : Type 0 where
+  pub files : List PackageFile
+  pub file : PackageFile
+  pub declared : IsDeclaredIn files names place file d
+
+-- this is a part of such an item
+pub record HasPart (names : FileNames) (place : ℕ) (part : Part) : Type 0 where
+  pub declared : Declared
+  pub item : HasItem names place declared
+  pub among : Contains (declared_parts declared) part
+
+-- these are the names of files, and this is the file at a place among those
+pub record IsNamedAt (names : FileNames) (place : ℕ) (file : PackageFile) : Type 0 where
+  pub files : List PackageFile
+  pub are : AreNamesAt files names place file
+
+-- each of these is an item that the file at its place declares
+pub record AreFiled (files : List PackageFile) (names : FileNames) (items : List Held) : Type 0 where
+  pub each : (k : ℕ) (i : Held) → slice_get items k ≡ Some i → IsDeclaredIn files names i.place i.file.now (declared_behind i.declared)
+
+pub record HasFiles (names : FileNames) (items : List Held) : Type 0 where
+  pub files : List PackageFile
+  pub filed : AreFiled files names items
+
+-- the place of a declared item that is found, and that of one of another package
+abbrev pub item_place : Option Found → Option ℕ
+item_place None = None
+item_place (Some (ItemAt p)) = Some p
+item_place (Some (ForeignAt p)) = None
+
+abbrev pub other_place : Option Found → Option ℕ
+other_place None = None
+other_place (Some (ItemAt p)) = None
+other_place (Some (ForeignAt p)) = Some p
+
+-- these are the entries of other packages' items
+abbrev pub AreEntriesOf : FileNames → List AstItem → Type 0
+AreEntriesOf names entries = (files : List PackageFile) → AreNamesOf files names → entries ≡ map (foreign_entry files) (foreign_items files)
+
+-- the addresses of other packages' worlds
+abbrev pub others_of : FileNames → List Address
+others_of names = map visited (filter is_foreign_world (map foreign_behind names.foreign.items.items))
+
+-- the entry of the item of another package that stands where a path leads
+abbrev pub entry_at : List PackageFile → Target → Option AstItem
+entry_at files (Local id) = None
+entry_at files (Foreign p id) = option_map (foreign_entry files) (foreign_at files (ForeignNamed p id.name.now))
+
+-- where that is an interface, its place
+abbrev pub interface_entry : Option AstItem → Option ℕ
+interface_entry None = None
+interface_entry (Some (entry.Interface i)) = Some i
+interface_entry (Some (entry.World w)) = None
+
+-- where that is a world, its place
+abbrev pub world_entry : Option AstItem → Option ℕ
+world_entry None = None
+world_entry (Some (entry.Interface i)) = None
+world_entry (Some (entry.World w)) = Some w
+
+-- the world to which a path leads, where the declared ones have these places
+abbrev pub world_at : List PackageFile → Names → Target → Option ℕ
+world_at files by_name (Local id) = env_of by_name id.name.now
+world_at files by_name (Foreign p id) = world_entry (entry_at files (Foreign p id))
+
+-- a path of a `use` leads to an interface
+abbrev pub IsUsable : List PackageFile → List TopName → UsePath → Type 0
+IsUsable files top path = is_world_at files (leads top path) ≡ Some false
+
+-- a path of a `use` leads to no item
+pub record IsNowhere (files : List PackageFile) (top : List TopName) (path : UsePath) (f : Fault) : Type 0 where
+  pub id : Id
+  pub local : leads top path ≡ Local id
+  pub missing : item_named (all_items files) id.name.now ≡ None
+  pub is : f ≡ missing_at 7 item_word id
+
+-- a path of a `use` leads to a world
+pub record IsAtWorld (files : List PackageFile) (top : List TopName) (path : UsePath) (f : Fault) : Type 0 where
+  pub other : is_world_at files (leads top path) ≡ Some true
+  pub is : f ≡ fault 10 (path_id path).span
+
+-- what is wrong with where a path of a `use` leads
+pub data IsUnusable (files : List PackageFile) (top : List TopName) (path : UsePath) (f : Fault) : Type 0 where
+  Nowhere : IsNowhere files top path f → IsUnusable files top path f
+  AtWorld : IsAtWorld files top path f → IsUnusable files top path f
+
+-- the attributes of a `use` break no rule, and its path leads to an interface
+pub record IsSound (files : List PackageFile) (top : List TopName) (u : Use) : Type 0 where
+  pub noted : (f : Fault) → IsBrokenNotes u.attributes.items f → ⊥
+  pub usable : IsUsable files top u.from
+
+-- what is wrong with a `use`: with its attributes, or with where it leads
+pub data IsUnsound (files : List PackageFile) (top : List TopName) (u : Use) (f : Fault) : Type 0 where
+  BrokenNotes : IsBrokenNotes u.attributes.items f → IsUnsound files top u f
+  Unusable : IsUnusable files top u.from f → IsUnsound files top u f
+
+-- nothing is wrong with these
+pub record AreSound (files : List PackageFile) (top : List TopName) (us : List Use) : Type 0 where
+  pub each : (u : Use) → Contains us u → IsSound files top u
+
+-- something is wrong with one of these
+pub record IsUnsoundAmong (files : List PackageFile) (top : List TopName) (us : List Use) (f : Fault) : Type 0 where
+  pub u : Use
+  pub among : Contains us u
+  pub broken : IsUnsound files top u f
+
+-- nothing is wrong with the uses of these items
+pub record HaveSoundUses (files : List PackageFile) (own : List Item) : Type 0 where
+  pub each : (i : Item) → Contains own i → AreSound files i.top (uses i)
+
+-- something is wrong with a `use` of one of these items
+pub record HasUnsoundUse (files : List PackageFile) (own : List Item) (f : Fault) : Type 0 where
+  pub i : Item
+  pub among : Contains own i
+  pub broken : IsUnsoundAmong files i.top (uses i) f

@@ -1,0 +1,4 @@
+pub mod Headers
+pub mod Items
+pub mod Front
+pub mod Told

@@ -1,0 +1,50 @@
+//! What is told of a declared item: its docs, and how stable it is.
+ghost use Rattle.std.specs.Prelude.{◌≡◌, IfErr, IfOk, OnOk};
+ghost use Rattle.wit_syntax.specs.Broken.{Refused};
+ghost use Rattle.wit_syntax.specs.Fault.{Fault};
+ghost use Rattle.wit_syntax.specs.Notes.{IsBrokenStability, docs_of, stability_of};
+ghost use Rattle.wit_syntax.specs.Source.{declared_attributes, declared_notes};
+ghost use Rattle.wit_items.specs.Items.{declared_behind};
+ghost use Rattle.wit_items.specs.Told.{AreOf};
+
+use crate::items::Declared;
+use std::alloc::Global;
+use wit_notes::{docs, stability};
+use wit_tree::ParseResult;
+use wit_tree::tree::{self, Attribute};
+use wit_types::{Docs, Stability};
+
+/// What is told of an item. It has no name elsewhere.
+#[derive(Drop)]
+pub struct ItemNotes {
+    pub docs: Docs,
+    pub stability: Stability,
+}
+
+/// What docs and attributes tell of an item.
+fn told(
+    alloc: Global,
+    comments: &tree::Docs<'_>,
+    attributes: &[Attribute<'_>],
+) -> ParseResult<ItemNotes>
+    ensures docs { IfOk result (λ n. n.docs ≡ docs_of comments.now) }
+    ensures stability { IfOk result (λ n. n.stability ≡ stability_of attributes.now) }
+    ensures legal { OnOk result ((f : Fault) → IsBrokenStability attributes.now f → ⊥) }
+    ensures refused { IfErr result (Refused (IsBrokenStability attributes.now)) }
+{
+    let stability = stability(alloc, attributes)?;
+    let docs = docs(alloc, comments)?;
+    Ok(ItemNotes { docs, stability })
+}
+
+/// What is told of an item; refuses attributes that break a rule of stability.
+pub fn item_notes(alloc: Global, declared: Declared<'_, '_>) -> ParseResult<ItemNotes>
+    ensures told { IfOk result (AreOf (declared_notes (declared_behind declared.entry))) }
+    ensures legal { OnOk result ((f : Fault) → IsBrokenStability (declared_attributes (declared_behind declared.entry)) f → ⊥) }
+    ensures refused { IfErr result (Refused (IsBrokenStability (declared_attributes (declared_behind declared.entry)))) }
+{
+    match declared {
+        Declared::Interface(interface) => told(alloc, &interface.docs, &interface.attributes),
+        Declared::World(world) => told(alloc, &world.docs, &world.attributes),
+    }
+}

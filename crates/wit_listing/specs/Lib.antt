@@ -1,0 +1,12 @@
+pub mod Answers
+pub mod ErrorLine
+pub mod Foreign
+pub mod Functions
+pub mod Interfaces
+pub mod Kinds
+pub mod Listing
+pub mod Lists
+pub mod Output
+pub mod Types
+pub mod Words
+pub mod Worlds

@@ -1,0 +1,33 @@
+//! Why a text was not written whole.
+
+use std::alloc::AllocError;
+use std::io;
+
+/// Why a text was not written whole.
+#[derive(Clone, Copy, Debug, PartialEq, Eq)]
+pub enum RunFault {
+    /// A write failed or took no byte.
+    Output,
+    /// A growth was refused.
+    Memory,
+}
+
+impl From<AllocError> for RunFault {
+    ghost use Rattle.std.specs.Prelude.{◌≡◌};
+    ghost use Rattle.wit_listing.specs.declared.fault.RunFault.TheVariants.{Memory};
+
+    ghost from_gives = { λ _ fault. fault ≡ Memory };
+
+    fn from(_e: AllocError) -> RunFault {
+        RunFault::Memory
+    }
+}
+
+impl From<RunFault> for io::Error {
+    fn from(fault: RunFault) -> io::Error {
+        match fault {
+            RunFault::Output => io::Error::from(io::ErrorKind::Other),
+            RunFault::Memory => io::Error::from(io::ErrorKind::OutOfMemory),
+        }
+    }
+}

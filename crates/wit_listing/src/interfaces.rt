@@ -1,0 +1,93 @@
+//! The interfaces of a package in its listing.
+ghost use Rattle.std.specs.Prelude.{◌≡◌, ◌++◌, OnOk, string_bytes, List, ℕ};
+ghost use Rattle.std.specs.List.{flat_map};
+ghost use Rattle.wit_listing.specs.Lists.{numbered};
+ghost use Rattle.wit_listing.specs.Words.{Adds};
+ghost use Rattle.wit_listing.specs.Interfaces.{function_line, interface_lines, named_type_line, name_text};
+
+use crate::functions::push_signature;
+use crate::words::push_stability;
+use std::alloc::AllocError;
+use wit_model::{Function, Interface};
+use wit_types::{Arena, InterfacePlace, TypeId};
+use wit_values::{Text, TextTable};
+
+/// A name, or `-` where there is none.
+fn push_name(text: &mut String, name: &Option<Text>) -> Result<(), AllocError>
+    ensures { OnOk result (Adds text.old text.new (name_text name.now)) }
+{
+    match name {
+        Some(name) => text.push_str(name.as_str()),
+        None => text.push_str("-"),
+    }
+}
+
+/// The line of a type's name.
+fn push_named_type(text: &mut String, name: &str, id: TypeId) -> Result<(), AllocError>
+    ensures { OnOk result (Adds text.old text.new (named_type_line (name.now, id))) }
+{
+    text.push_str("  ")?;
+    text.push_str(name)?;
+    write!(text, " = type #{}\n", id.index())
+}
+
+fn push_named_types(text: &mut String, types: &TextTable<TypeId>) -> Result<(), AllocError>
+    ensures { OnOk result (Adds text.old text.new (flat_map named_type_line types.now)) }
+{
+    for place in 0..types.len() {
+        let Some((name, id)) = types.get_index(place) else {
+            unreachable!()
+        };
+        push_named_type(text, name, *id)?;
+    }
+    Ok(())
+}
+
+/// The line of a function.
+pub fn push_function(text: &mut String, name: &str, function: &Function) -> Result<(), AllocError>
+    ensures { OnOk result (Adds text.old text.new (function_line (name.now, function.now))) }
+{
+    text.push_str("  ")?;
+    text.push_str(name)?;
+    text.push_str(" = ")?;
+    push_signature(text, function)?;
+    push_stability(text, &function.stability)?;
+    text.push_str("\n")
+}
+
+fn push_functions(text: &mut String, functions: &TextTable<Function>) -> Result<(), AllocError>
+    ensures { OnOk result (Adds text.old text.new (flat_map function_line functions.now)) }
+{
+    for place in 0..functions.len() {
+        let Some((name, function)) = functions.get_index(place) else {
+            unreachable!()
+        };
+        push_function(text, name, function)?;
+    }
+    Ok(())
+}
+
+/// The line of an interface, and those of what it holds.
+fn push_interface(text: &mut String, place: usize, interface: &Interface) -> Result<(), AllocError>
+    ensures { OnOk result (Adds text.old text.new (interface_lines place interface.now)) }
+{
+    write!(text, "i{place} ")?;
+    push_name(text, &interface.name)?;
+    push_stability(text, &interface.stability)?;
+    text.push_str("\n")?;
+    push_named_types(text, &interface.types)?;
+    push_functions(text, &interface.functions)
+}
+
+/// The lines of all interfaces, in order.
+pub fn push_interfaces(
+    text: &mut String,
+    interfaces: &Arena<Interface, InterfacePlace>,
+) -> Result<(), AllocError>
+    ensures { OnOk result (Adds text.old text.new (numbered interface_lines 0 interfaces.now)) }
+{
+    for place in 0..interfaces.len() {
+        push_interface(text, place, interfaces.get(interfaces.id_at(place)))?;
+    }
+    Ok(())
+}

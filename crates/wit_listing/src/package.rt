@@ -1,0 +1,102 @@
+//! The listing of a package.
+ghost use Rattle.std.specs.Prelude.{◌≡◌, ◌++◌, IfOk, OnOk, string_bytes};
+ghost use Rattle.wit_listing.specs.Words.{Adds};
+ghost use Rattle.wit_listing.specs.Output.{IsWritten};
+ghost use Rattle.wit_listing.specs.Listing.{count_line, foreign_text, header_text, interfaces_text, listing_text, types_text, worlds_text};
+
+use crate::fault::RunFault;
+use crate::foreign::push_deps;
+use crate::interfaces::push_interfaces;
+use crate::output::put;
+use crate::types::push_type_lines;
+use crate::worlds::push_worlds;
+use std::alloc::{AllocError, Global};
+use std::io::Write;
+use wit_model::{AstItem, Interface, UnresolvedPackage, World};
+use wit_package_names::PackageName;
+use wit_types::{Arena, InterfacePlace, Stability, TypeDef, TypePlace, WorldPlace};
+use wit_values::{Row, Table, TextTable};
+
+/// A word and a number in a line.
+fn push_count(text: &mut String, word: &str, count: usize) -> Result<(), AllocError>
+    ensures { OnOk result (Adds text.old text.new (count_line word.now count)) }
+{
+    write!(text, "{word} {count}\n")
+}
+
+/// The types behind their number.
+fn push_types(text: &mut String, types: &Arena<TypeDef, TypePlace>) -> Result<(), AllocError>
+    ensures { OnOk result (Adds text.old text.new (types_text types.now)) }
+{
+    push_count(text, "types", types.len())?;
+    push_type_lines(text, types)
+}
+
+/// The interfaces behind their number.
+fn push_all_interfaces(
+    text: &mut String,
+    interfaces: &Arena<Interface, InterfacePlace>,
+) -> Result<(), AllocError>
+    ensures { OnOk result (Adds text.old text.new (interfaces_text interfaces.now)) }
+{
+    push_count(text, "interfaces", interfaces.len())?;
+    push_interfaces(text, interfaces)
+}
+
+/// The worlds behind their number.
+fn push_all_worlds(
+    text: &mut String,
+    interfaces: &Arena<Interface, InterfacePlace>,
+    worlds: &Arena<World, WorldPlace>,
+) -> Result<(), AllocError>
+    ensures { OnOk result (Adds text.old text.new (worlds_text interfaces.now worlds.now)) }
+{
+    push_count(text, "worlds", worlds.len())?;
+    push_worlds(text, interfaces, worlds)
+}
+
+fn push_header(text: &mut String, name: &PackageName) -> Result<(), AllocError>
+    ensures { OnOk result (Adds text.old text.new (header_text name.now)) }
+{
+    write!(text, "package {name}\n")
+}
+
+/// The items of other packages behind the number of these packages.
+fn push_foreign(
+    text: &mut String,
+    deps: &Table<PackageName, TextTable<(AstItem, Row<Stability>)>>,
+) -> Result<(), AllocError>
+    ensures { OnOk result (Adds text.old text.new (foreign_text deps.now)) }
+{
+    push_count(text, "foreign", deps.len())?;
+    push_deps(text, deps)
+}
+
+/// The listing of a package, as a text.
+fn listing_of(alloc: Global, resolved: &UnresolvedPackage) -> Result<String, AllocError>
+    ensures { IfOk result (λ text. string_bytes text ≡ listing_text resolved.now) }
+{
+    let mut text = String::new(alloc);
+    push_header(&mut text, &resolved.name)?;
+    push_types(&mut text, &resolved.types)?;
+    push_all_interfaces(&mut text, &resolved.interfaces)?;
+    push_all_worlds(&mut text, &resolved.interfaces, &resolved.worlds)?;
+    push_foreign(&mut text, &resolved.foreign_deps)?;
+    Ok(text)
+}
+
+/// Writes the listing of a package: its name, its types, its interfaces, its worlds, and what it
+/// names of other packages, a line for each and for what it holds.
+///
+/// Where a write fails or takes no byte, a beginning of the listing went out; for want of memory,
+/// nothing.
+pub fn listing<W: Write>(
+    alloc: Global,
+    resolved: &UnresolvedPackage,
+    out: &mut W,
+) -> Result<(), RunFault>
+    ensures { IsWritten (λ text. text ≡ listing_text resolved.now) (W.contents out.old) (W.contents out.new) result }
+{
+    let text = listing_of(alloc, resolved)?;
+    put(out, text.as_bytes())
+}

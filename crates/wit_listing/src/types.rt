@@ -1,0 +1,53 @@
+//! The types of a package in its listing.
+ghost use Rattle.std.specs.Prelude.{◌≡◌, ◌++◌, OnOk, string_bytes};
+ghost use Rattle.wit_listing.specs.Lists.{numbered};
+ghost use Rattle.wit_listing.specs.Words.{Adds};
+ghost use Rattle.wit_listing.specs.Types.{owner_text, type_line};
+
+use crate::kinds::push_kind;
+use crate::words::push_stability;
+use std::alloc::AllocError;
+use wit_types::{Arena, TypeDef, TypeOwner, TypePlace};
+use wit_values::Text;
+
+/// The name of a type behind that of its owner, or `-`.
+fn push_owner(text: &mut String, owner: TypeOwner, name: &Option<Text>) -> Result<(), AllocError>
+    ensures { OnOk result (Adds text.old text.new (owner_text owner name.now)) }
+{
+    match name {
+        Some(name) => {
+            match owner {
+                TypeOwner::World(world) => write!(text, "w{}.", world.index())?,
+                TypeOwner::Interface(interface) => write!(text, "i{}.", interface.index())?,
+                TypeOwner::None => text.push_str("-.")?,
+            }
+            text.push_str(name.as_str())
+        }
+        None => text.push_str("-"),
+    }
+}
+
+/// The line of a type: its place, its owner and name, and what it is.
+fn push_type_line(text: &mut String, place: usize, def: &TypeDef) -> Result<(), AllocError>
+    ensures { OnOk result (Adds text.old text.new (type_line place def.now)) }
+{
+    write!(text, "#{place} ")?;
+    push_owner(text, def.owner, &def.name)?;
+    text.push_str(" = ")?;
+    push_kind(text, &def.kind)?;
+    push_stability(text, &def.stability)?;
+    text.push_str("\n")
+}
+
+/// The lines of all types, in order.
+pub fn push_type_lines(
+    text: &mut String,
+    types: &Arena<TypeDef, TypePlace>,
+) -> Result<(), AllocError>
+    ensures { OnOk result (Adds text.old text.new (numbered type_line 0 types.now)) }
+{
+    for place in 0..types.len() {
+        push_type_line(text, place, types.get(types.id_at(place)))?;
+    }
+    Ok(())
+}

@@ -1,0 +1,71 @@
+//! Small texts of a listing, each put behind a text.
+ghost use Rattle.std.specs.Prelude.{◌≡◌, ◌++◌, OnOk, string_bytes};
+ghost use Rattle.wit_listing.specs.Words.{Adds, deprecated_text, optional_text, stability_text, type_text};
+
+use std::alloc::AllocError;
+use wit_types::{Stability, Type};
+use wit_values::Release;
+
+/// The word of a primitive type, or `#` and the place of an entry.
+pub fn push_type(text: &mut String, ty: Type) -> Result<(), AllocError>
+    ensures { OnOk result (Adds text.old text.new (type_text ty)) }
+{
+    match ty {
+        Type::Bool => text.push_str("bool"),
+        Type::U8 => text.push_str("u8"),
+        Type::U16 => text.push_str("u16"),
+        Type::U32 => text.push_str("u32"),
+        Type::U64 => text.push_str("u64"),
+        Type::S8 => text.push_str("s8"),
+        Type::S16 => text.push_str("s16"),
+        Type::S32 => text.push_str("s32"),
+        Type::S64 => text.push_str("s64"),
+        Type::F32 => text.push_str("f32"),
+        Type::F64 => text.push_str("f64"),
+        Type::Char => text.push_str("char"),
+        Type::String => text.push_str("string"),
+        Type::ErrorContext => text.push_str("error-context"),
+        Type::Id(id) => write!(text, "#{}", id.index()),
+    }
+}
+
+/// A type, or `_` where there is none.
+pub fn push_optional(text: &mut String, ty: Option<Type>) -> Result<(), AllocError>
+    ensures { OnOk result (Adds text.old text.new (optional_text ty)) }
+{
+    match ty {
+        Some(ty) => push_type(text, ty),
+        None => text.push_str("_"),
+    }
+}
+
+/// From which version on an item is deprecated.
+fn push_deprecated(text: &mut String, deprecated: &Option<Release>) -> Result<(), AllocError>
+    ensures { OnOk result (Adds text.old text.new (deprecated_text deprecated.now)) }
+{
+    match deprecated {
+        Some(version) => write!(text, " deprecated {version}"),
+        None => Ok(()),
+    }
+}
+
+/// How stable an item is, where that is known.
+pub fn push_stability(text: &mut String, stability: &Stability) -> Result<(), AllocError>
+    ensures { OnOk result (Adds text.old text.new (stability_text stability.now)) }
+{
+    match stability {
+        Stability::Unknown => Ok(()),
+        Stability::Unstable {
+            feature,
+            deprecated,
+        } => {
+            text.push_str(" unstable ")?;
+            text.push_str(feature.as_str())?;
+            push_deprecated(text, deprecated)
+        }
+        Stability::Stable { since, deprecated } => {
+            write!(text, " since {since}")?;
+            push_deprecated(text, deprecated)
+        }
+    }
+}

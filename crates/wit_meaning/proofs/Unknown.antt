@@ -1,8 +1,0 @@
--- Names that stand for nothing yet.
-use Rattle.std.proofs.Common.{◌≡◌, [], ◌∷◌, None, refl, arith}
-use Rattle.wit_tree.specs.declared.tree.Id.{Id}
-use Rattle.wit_meaning.specs.Fault.{Fault, missing_at, type_word}
-use Rattle.wit_meaning.specs.Resolving.{Env, IsUnknown}
-
-pub unknown_name : (env : Env) (id : Id) (f : Fault) → env id.name.now ≡ None → f ≡ missing_at 15 type_word id → IsUnknown env (id ∷ []) f
-unknown_name env id f free is = record { id = id; among = (0, omega arith, refl); free = free; is = is }

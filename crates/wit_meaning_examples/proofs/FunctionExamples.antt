@@ -1,0 +1,244 @@
+-- A worked row with the functions of a resource and of an interface, computed by the definitions.
+use Rattle.std.proofs.Common.{◌≡◌, ℕ, zero, suc, false, true, List, [], ◌∷◌, length, map, Option, Some, None, refl, subst, lit<}
+use Rattle.std.specs.Prelude.{codes, Box, slice_get}
+use Rattle.std.specs.List.{flat_map}
+use Rattle.std.specs.declared.alloc.Global.{Global}
+use denote.RawPtr.{Ptr}
+use Rattle.wit_names.specs.Folded.{folded_key}
+use Rattle.wit_values.specs.declared.span.Span.{Span}
+use Rattle.wit_tree.specs.declared.tree.Id.{Id}
+use Rattle.wit_tree.specs.declared.tree.«Type».{«Type» as Written, None', Some'}
+use Rattle.wit_tree.specs.declared.tree.«Type».TheVariants as written
+use Rattle.wit_tree.specs.declared.tree.TypeBody.TheVariants.{Resource}
+use Rattle.wit_tree.specs.declared.tree.TypeDef.{TypeDef as Definition}
+use Rattle.wit_tree.specs.declared.tree.ResourceFunc.TheVariants as resource
+use Rattle.wit_tree.specs.declared.tree.NamedFunc.{NamedFunc}
+use Rattle.wit_tree.specs.declared.tree.FuncForm.TheVariants as form
+use Rattle.wit_tree.specs.declared.tree.Param.{Param as WrittenParam}
+use Rattle.wit_tree.specs.declared.tree.InterfaceItem.TheVariants.{TypeDef as TypeItem, Func as FuncItem}
+use Rattle.wit_tree.specs.declared.tree.Interface.{Interface as WrittenInterface}
+use Rattle.wit_tree.specs.declared.tree.AstItem.TheVariants.{Interface as InterfaceItem}
+use Rattle.wit_tree.specs.declared.tree.PackageFile.{PackageFile}
+use Rattle.wit_types.specs.declared.stability.Stability.TheVariants.{Unknown}
+use Rattle.wit_types.specs.declared.types.«Type».{«Type» as Ty}
+use Rattle.wit_types.specs.declared.types.«Type».TheVariants as type
+use Rattle.wit_types.specs.declared.types.Handle.TheVariants.{Borrow}
+use Rattle.wit_types.specs.declared.types.TypeDef.{TypeDef}
+use Rattle.wit_types.specs.declared.types.TypeDefKind.{TypeDefKind}
+use Rattle.wit_types.specs.declared.types.TypeDefKind.TheVariants as kind
+use Rattle.wit_types.specs.declared.types.TypeOwner.TheVariants as owner
+use Rattle.wit_model.specs.declared.function.Function.{Function}
+use Rattle.wit_model.specs.declared.function.FunctionKind.{FunctionKind}
+use Rattle.wit_model.specs.declared.function.FunctionKind.TheVariants as function_kind
+use Rattle.wit_model.specs.declared.function.Param.{Param}
+use Rattle.wit_model.specs.declared.interface.Interface.{Interface}
+use Rattle.wit_model.specs.declared.unresolved.UnresolvedPackage.{UnresolvedPackage}
+use Rattle.wit_syntax.specs.Form.{BorrowForm, FutureForm, FixedLengthListForm, MapForm, StreamForm, OptionForm}
+use Rattle.wit_syntax.specs.Node as node
+use Rattle.wit_syntax.specs.Address.{Address, InterfaceNamed}
+use Rattle.wit_syntax.specs.Notes.{no_docs}
+use Rattle.wit_syntax.specs.Source.{top_names, TheInterface, Item, scope_names, source_tree}
+use Rattle.wit_syntax.specs.Scope.{rows_of}
+use Rattle.wit_arena.specs.Expr.{Expr, Prim, Use, Of, End, More, one}
+use Rattle.wit_arena.specs.Meet.{Key, Def, Whole, Meeting}
+use Rattle.wit_syntax.specs.Shape.{Word, all_handles}
+use Rattle.wit_syntax.specs.Shape as shape
+use Rattle.wit_syntax.specs.Function.{Freestanding, Method, Static, Constructor, SourceParam, SourceFunction, constructor_of, resource_function, free_function, functions, free_names, item_types, signature}
+use Rattle.wit_arena.specs.Functions.{IsParam, AreParams, IsFunction, AreFunctions, placed_functions}
+use Rattle.wit_arena.specs.Package.{package_tree, functions_of, function_types}
+use Rattle.wit_arena.specs.Whole.{turned, meetings}
+use Rattle.wit_meaning_examples.proofs.Examples.{at, id, vec, no_comments, untold, header}
+
+-- what holds of two lists, place by place
+abbrev pub Pairs : {X Y : Type 0} → (X → Y → Type 0) → List X → List Y → Type 0
+Pairs P [] ys = Unit {0}
+Pairs P (x ∷ xs) [] = Unit {0}
+Pairs P (x ∷ xs) (y ∷ ys) = P x y × Pairs P xs ys
+
+pub pairs : {X Y : Type 0} (P : X → Y → Type 0) (xs : List X) (ys : List Y) → Pairs P xs ys → (k : ℕ) (x : X) (y : Y) → slice_get xs k ≡ Some x → slice_get ys k ≡ Some y → P x y
+pairs P [] ys all k x y at there = absurd (let f : ⊥ = cc in f)
+pairs P (z ∷ xs) [] all k x y at there = absurd (let f : ⊥ = cc in f)
+pairs P (z ∷ xs) (w ∷ ys) all zero x y at there =
+    let first : z ≡ x = cc in
+    let second : w ≡ y = cc in
+    subst (P x) second (subst (λ v. P v w) first all.0)
+pairs P (z ∷ xs) (w ∷ ys) all (suc k) x y at there = pairs P xs ys all.1 k x y at there
+
+pub params_are : (ks : List Key) (s : Address) (written : List SourceParam) (ps : List Param) → length ps ≡ length written → Pairs (IsParam ks s) written ps → AreParams ks s written ps
+params_are ks s written ps count all = record { count = count; each = pairs (IsParam ks s) written ps all }
+
+-- package foo:foo; interface i { resource r { constructor(n: u32); m: async func(x: borrow<r>) -> future<u8>; s: static func() -> r; } f: func(a: map<string, list<u8, 4>>) -> option<stream>; }
+module _ (ptr : Ptr) (alloc : Global) where
+  abbrev box : Box (Unit {0}) Global
+  box = record { ptr = ptr; alloc = alloc; value = tt }
+
+  abbrev named_r : Span → Id
+  named_r span = id ptr alloc (codes "r") span refl
+
+  abbrev n_u32 : WrittenParam
+  n_u32 = record { name = id ptr alloc (codes "n") (at 56 57) refl; ty = written.U32 (at 59 62) }
+
+  abbrev x_borrow : WrittenParam
+  x_borrow = record { name = id ptr alloc (codes "x") (at 79 80) refl; ty = written.Borrow (at 82 88) (named_r (at 89 90)) }
+
+  abbrev method_m : NamedFunc
+  method_m = record { docs = no_comments ptr alloc; attributes = untold ptr alloc; name = id ptr alloc (codes "m") (at 65 66) refl; func = record { span = at 74 78; form = form.Async; params = vec ptr alloc (x_borrow ∷ []) (lit< tt); result = Some (written.Future' (at 96 102) (Some' box (written.U8 (at 103 105)))) } }
+
+  abbrev static_s : NamedFunc
+  static_s = record { docs = no_comments ptr alloc; attributes = untold ptr alloc; name = id ptr alloc (codes "s") (at 108 109) refl; func = record { span = at 118 122; form = form.Plain; params = vec ptr alloc [] (lit< tt); result = Some (written.Name (named_r (at 128 129))) } }
+
+  abbrev r : Definition
+  r = record { docs = no_comments ptr alloc; attributes = untold ptr alloc; name = named_r (at 40 41); body = Resource (vec ptr alloc (resource.Constructor (no_comments ptr alloc) (untold ptr alloc) (at 44 55) (vec ptr alloc (n_u32 ∷ []) (lit< tt)) None ∷ resource.Method method_m ∷ resource.Static static_s ∷ []) (lit< tt)) }
+
+  abbrev map_type : Written
+  map_type = written.Map' (at 144 147) box (written.String (at 148 154)) box (written.FixedLengthList' (at 156 160) box (written.U8 (at 161 163)) 4)
+
+  abbrev a_map : WrittenParam
+  a_map = record { name = id ptr alloc (codes "a") (at 141 142) refl; ty = map_type }
+
+  abbrev f : NamedFunc
+  f = record { docs = no_comments ptr alloc; attributes = untold ptr alloc; name = id ptr alloc (codes "f") (at 133 134) refl; func = record { span = at 136 140; form = form.Plain; params = vec ptr alloc (a_map ∷ []) (lit< tt); result = Some (written.Option' (at 173 179) box (written.Stream' (at 180 186) None')) } }
+
+  abbrev i : WrittenInterface
+  i = record { docs = no_comments ptr alloc; attributes = untold ptr alloc; name = id ptr alloc (codes "i") (at 27 28) refl; items = vec ptr alloc (TypeItem r ∷ FuncItem f ∷ []) (lit< tt) }
+
+  abbrev file : PackageFile
+  file = record { package_id = Some (header ptr alloc); decl_list = record { items = vec ptr alloc (InterfaceItem i ∷ []) (lit< tt) } }
+
+  abbrev files : List PackageFile
+  files = file ∷ []
+
+  abbrev item : Item
+  item = record { top = top_names file; declared = TheInterface i }
+
+  abbrev in_i : Address
+  in_i = InterfaceNamed (codes "i")
+
+  -- the functions of the resource stand at its definition
+  names : map (λ (g : SourceFunction). g.name) (functions item) ≡ (codes "[constructor]r" ∷ codes "[method]r.m" ∷ codes "[static]r.s" ∷ codes "f" ∷ [])
+  names = refl
+
+  roles : map (λ (g : SourceFunction). g.role) (functions item) ≡ (Constructor r.name ∷ Method r.name form.Async ∷ Static r.name form.Plain ∷ Freestanding f.name form.Plain ∷ [])
+  roles = refl
+
+  keys_of_names : map (λ (g : SourceFunction). folded_key g.name) (functions item) ≡ (codes "[constructor]r" ∷ codes "r.m" ∷ codes "r.s" ∷ codes "f" ∷ [])
+  keys_of_names = refl
+
+  free : free_names item ≡ (codes "f" ∷ [])
+  free = refl
+
+  -- a function is no body, so the resource needs no name
+  needs : rows_of (scope_names item) ≡ (record { name = codes "r"; needs = [] } ∷ [])
+  needs = refl
+
+  -- a constructor gives its resource, and a method is first given it, lent
+  abbrev borrow_r : Span → Id → shape.Shape
+  borrow_r span name = shape.Of span BorrowForm (shape.one (Word name))
+
+  abbrev map_shape : shape.Shape
+  map_shape = shape.Of (at 144 147) MapForm (shape.More (shape.Prim node.String) (shape.one (shape.Of (at 156 160) (FixedLengthListForm 4) (shape.one (shape.Prim node.U8)))))
+
+  signatures : map signature (functions item)
+      ≡ ((shape.Prim node.U32 ∷ Word r.name ∷ [])
+      ∷ (borrow_r (at 74 78) r.name ∷ borrow_r (at 82 88) (named_r (at 89 90)) ∷ shape.Of (at 96 102) (FutureForm true) (shape.one (shape.Prim node.U8)) ∷ [])
+      ∷ (Word (named_r (at 128 129)) ∷ [])
+      ∷ (map_shape ∷ shape.Of (at 173 179) OptionForm (shape.one (shape.Of (at 180 186) (StreamForm false) shape.End)) ∷ [])
+      ∷ [])
+  signatures = refl
+
+  -- the one name in a handle
+  in_handles : all_handles (item_types item) ≡ (named_r (at 89 90) ∷ [])
+  in_handles = refl
+
+  -- what is met: the resource, and then each signature with its parts in front
+  abbrev whole_met : Span → node.Primitive → Meeting
+  whole_met span p = record { key = Whole (FutureForm true) (one (Prim p)); span = span; given = Unknown }
+
+  abbrev borrow_met : Span → Meeting
+  borrow_met span = record { key = Whole BorrowForm (one (Use in_i (codes "r"))); span = span; given = Unknown }
+
+  abbrev fixed : Expr
+  fixed = Of (FixedLengthListForm 4) (one (Prim node.U8))
+
+  abbrev stream : Expr
+  stream = Of (StreamForm false) End
+
+  abbrev behind_names : List Meeting
+  behind_names = borrow_met (at 74 78) ∷ borrow_met (at 82 88) ∷ whole_met (at 96 102) node.U8
+      ∷ record { key = Whole (FixedLengthListForm 4) (one (Prim node.U8)); span = at 156 160; given = Unknown }
+      ∷ record { key = Whole MapForm (More (Prim node.String) (one fixed)); span = at 144 147; given = Unknown }
+      ∷ record { key = Whole (StreamForm false) End; span = at 180 186; given = Unknown }
+      ∷ record { key = Whole OptionForm (one stream); span = at 173 179; given = Unknown } ∷ []
+
+  met : meetings (map turned (record { item = item; order = 0 ∷ [] } ∷ [])) ≡ (record { key = Def in_i (codes "r"); span = at 40 41; given = Unknown } ∷ behind_names)
+  met = refl
+
+  -- the arena: each once
+  abbrev ks : List Key
+  ks = Def in_i (codes "r") ∷ Whole BorrowForm (one (Use in_i (codes "r"))) ∷ Whole (FutureForm true) (one (Prim node.U8)) ∷ Whole (FixedLengthListForm 4) (one (Prim node.U8)) ∷ Whole MapForm (More (Prim node.String) (one fixed)) ∷ Whole (StreamForm false) End ∷ Whole OptionForm (one stream) ∷ []
+
+  abbrev unnamed : TypeDefKind → Span → TypeDef
+  unnamed kind span = record { name = None; kind = kind; owner = owner.None; docs = no_docs; stability = Unknown; span = span; external_id = None }
+
+  abbrev r_entry : TypeDef
+  r_entry = record { name = Some (codes "r"); kind = kind.Resource; owner = owner.Interface 0; docs = no_docs; stability = Unknown; span = at 40 41; external_id = None }
+
+  abbrev types : List TypeDef
+  types = r_entry
+      ∷ unnamed (kind.Handle (Borrow 0)) (at 74 78)
+      ∷ unnamed (kind.Future (Some type.U8)) (at 96 102)
+      ∷ unnamed (kind.FixedLengthList type.U8 4) (at 156 160)
+      ∷ unnamed (kind.Map type.String (type.Id 3)) (at 144 147)
+      ∷ unnamed (kind.Stream None) (at 180 186)
+      ∷ unnamed (kind.Option (type.Id 5)) (at 173 179) ∷ []
+
+  abbrev given : List ℕ → Ty → Span → Param
+  given name ty span = record { name = name; ty = ty; span = span }
+
+  abbrev function : List ℕ → FunctionKind → List Param → Option Ty → Span → Function
+  function name kind params result span = record { name = name; kind = kind; params = params; result = result; docs = no_docs; stability = Unknown; span = span; external_id = None }
+
+  abbrev made_constructor : Function
+  made_constructor = function (codes "[constructor]r") (function_kind.Constructor 0) (given (codes "n") type.U32 (at 56 57) ∷ []) (Some (type.Id 0)) (at 44 55)
+
+  abbrev made_method : Function
+  made_method = function (codes "[method]r.m") (function_kind.AsyncMethod 0) (given (codes "self") (type.Id 1) (at 74 78) ∷ given (codes "x") (type.Id 1) (at 79 80) ∷ []) (Some (type.Id 2)) (at 65 66)
+
+  abbrev made_static : Function
+  made_static = function (codes "[static]r.s") (function_kind.Static 0) [] (Some (type.Id 0)) (at 108 109)
+
+  abbrev made_f : Function
+  made_f = function (codes "f") function_kind.Freestanding (given (codes "a") (type.Id 4) (at 141 142) ∷ []) (Some (type.Id 6)) (at 133 134)
+
+  abbrev made : List Function
+  made = made_constructor ∷ made_method ∷ made_static ∷ made_f ∷ []
+
+  abbrev interface : Interface
+  interface = record { name = Some (codes "i"); types = (codes "r", 0) ∷ []; functions = placed_functions made; docs = no_docs; stability = Unknown; «package» = None; span = at 27 28; clone_of = None }
+
+  abbrev whole : UnresolvedPackage
+  whole = record { docs = no_docs; name = record { namespace = codes "foo"; name = codes "foo"; version = None }; worlds = []; interfaces = interface ∷ []; types = types; foreign_deps = []; name_span = at 8 15; unknown_type_spans = []; foreign_dep_spans = []; required_resource_types = [] }
+
+  -- no setter is among them, so each keeps its place
+  placed : map (λ (g : List ℕ × Function). g.0) (functions_of whole (owner.Interface 0)) ≡ (codes "[constructor]r" ∷ codes "[method]r.m" ∷ codes "[static]r.s" ∷ codes "f" ∷ [])
+  placed = refl
+
+  -- each is the written one
+  is_constructor : IsFunction ks in_i (constructor_of r.name (no_comments ptr alloc) [] (at 44 55) (n_u32 ∷ []) None) made_constructor
+  is_constructor = record { name = refl; kind = (0, refl, refl); params = params_are ks in_i _ _ refl (record { name = refl; span = refl; type = refl }, tt); result = (0, refl, refl); span = refl; notes = record { docs = refl; stability = refl; external_id = refl } }
+
+  is_method : IsFunction ks in_i (resource_function r.name (resource.Method method_m)) made_method
+  is_method = record { name = refl; kind = (0, refl, refl); params = params_are ks in_i _ _ refl (record { name = refl; span = refl; type = (1, refl, refl) }, (record { name = refl; span = refl; type = (1, refl, refl) }, tt)); result = (2, refl, refl); span = refl; notes = record { docs = refl; stability = refl; external_id = refl } }
+
+  is_static : IsFunction ks in_i (resource_function r.name (resource.Static static_s)) made_static
+  is_static = record { name = refl; kind = (0, refl, refl); params = params_are ks in_i _ _ refl tt; result = (0, refl, refl); span = refl; notes = record { docs = refl; stability = refl; external_id = refl } }
+
+  is_f : IsFunction ks in_i (free_function f) made_f
+  is_f = record { name = refl; kind = refl; params = params_are ks in_i _ _ refl (record { name = refl; span = refl; type = (4, refl, refl) }, tt); result = (6, refl, refl); span = refl; notes = record { docs = refl; stability = refl; external_id = refl } }
+
+  are_functions : AreFunctions ks in_i (functions item) made
+  are_functions = record { count = refl; each = pairs (IsFunction ks in_i) (functions item) made (is_constructor, (is_method, (is_static, (is_f, tt)))) }
+
+  -- the trees of their types are those of the files
+  trees_in_files : map (λ (x : shape.Shape). source_tree files 4 (in_i, x)) (flat_map signature (functions item)) ≡ map (package_tree whole 4) (flat_map function_types made)
+  trees_in_files = refl

@@ -1,0 +1,9 @@
+pub mod SmallOrders
+pub mod Examples
+pub mod WorldExamples
+pub mod ForeignExamples
+pub mod FunctionExamples
+pub mod HandleExamples
+pub mod SignatureExamples
+pub mod RuleExamples
+pub mod NotesExamples

@@ -1,0 +1,168 @@
+-- Worked rows with docs and attributes: what they tell, what is met in a definition with a stability, and what breaks the rules of docs and attributes.
+use Rattle.std.proofs.Common.{◌≡◌, ℕ, ◌<◌, zero, suc, List, [], ◌∷◌, Some, None, inr, refl, lit<}
+use Rattle.std.specs.Prelude.{codes, Box}
+use Rattle.std.specs.declared.alloc.Global.{Global}
+use denote.RawPtr.{Ptr}
+use Rattle.semver.specs.declared.Version.{Version}
+use Rattle.wit_values.specs.declared.span.Span.{Span}
+use Rattle.wit_values.specs.declared.release.Release.{Release}
+use Rattle.wit_tree.specs.declared.tree.Attribute.{Attribute}
+use Rattle.wit_tree.specs.declared.tree.Attribute.TheVariants as attribute
+use Rattle.wit_tree.specs.declared.attribute_kind.AttributeKind.TheVariants.{Since, Unstable as UnstableKind}
+use Rattle.wit_tree.specs.Attributes.{StandsAt}
+use Rattle.wit_tree.specs.declared.tree.AstItem.TheVariants.{Use as ToplevelItem}
+use Rattle.wit_tree.specs.declared.tree.Docs.{Docs as Comments}
+use Rattle.wit_tree.specs.declared.tree.«Type».TheVariants as written
+use Rattle.wit_tree.specs.declared.tree.TypeBody.TheVariants.{Plain}
+use Rattle.wit_tree.specs.declared.tree.TypeDef.{TypeDef as Definition}
+use Rattle.wit_tree.specs.declared.tree.UsePath.TheVariants as path
+use Rattle.wit_tree.specs.declared.tree.ToplevelUse.{ToplevelUse}
+use Rattle.wit_tree.specs.declared.tree.PackageName.{PackageName as Header}
+use Rattle.wit_types.specs.declared.stability.Stability.{Stability}
+use Rattle.wit_types.specs.declared.stability.Stability.TheVariants.{Unknown, Unstable, Stable}
+use Rattle.wit_types.specs.declared.types.«Type».TheVariants as type
+use Rattle.wit_types.specs.declared.types.TypeDef.{TypeDef}
+use Rattle.wit_types.specs.declared.types.TypeDefKind.TheVariants as kind
+use Rattle.wit_types.specs.declared.types.TypeOwner.TheVariants as owner
+use Rattle.wit_syntax.specs.Address.{Address, InterfaceNamed}
+use Rattle.wit_syntax.specs.Broken.{IsSecondDocs, IsAttributedTopUse}
+use Rattle.wit_arena.specs.Expr.{Prim, one}
+use Rattle.wit_syntax.specs.Fault.{fault}
+use Rattle.wit_syntax.specs.Form.{ListForm}
+use Rattle.wit_arena.specs.Meet.{Def, Whole, Meeting, name_meetings, settled, IsSettled}
+use Rattle.wit_syntax.specs.Node as node
+use Rattle.wit_syntax.specs.Notes.{docs_of, no_docs, stability_of, external_id_of, HasNotes, first_known, IsBrokenStability, SinceTwice, SinceAndUnstable, DeprecatedAlone, IsBrokenNotes}
+use Rattle.wit_arena.specs.Resolving.{named, unnamed}
+use Rattle.wit_syntax.specs.Source.{Defined, name_notes}
+use Rattle.wit_meaning_examples.proofs.Examples.{at, id, vec, no_comments}
+
+abbrev version : ℕ → Version
+version major = record { major = major; minor = 0; patch = 0; pre = record { identifier = None }; build = record { identifier = None } }
+
+abbrev release : ℕ → Release
+release major = record { major = major; minor = 0; patch = 0; pre = []; build = [] }
+
+abbrev stable : Stability
+stable = Stable (release 1) None
+
+-- of those that are known, the first
+known_behind_unknown : first_known (Unknown ∷ stable ∷ []) ≡ stable
+known_behind_unknown = refl
+
+known_before_known : first_known (stable ∷ Stable (release 2) None ∷ []) ≡ stable
+known_before_known = refl
+
+none_known : first_known (Unknown ∷ Unknown ∷ []) ≡ Unknown
+none_known = refl
+
+abbrev in_i : Address
+in_i = InterfaceNamed (codes "i")
+
+abbrev list_met : Span → Meeting
+list_met span = record { key = Whole ListForm (one (Prim node.U8)); span = span; given = stable }
+
+module _ (ptr : Ptr) (alloc : Global) where
+  abbrev since : ℕ → Span → Attribute
+  since major span = attribute.Since span (version major)
+
+  abbrev unstable : Span → Attribute
+  unstable span = attribute.Unstable span (id ptr alloc (codes "f") (at 0 1) refl)
+
+  abbrev deprecated : Span → Attribute
+  deprecated span = attribute.Deprecated span (version 2)
+
+  -- behind a feature, and later deprecated
+  unstable_told : stability_of (unstable (at 31 53) ∷ deprecated (at 54 82) ∷ []) ≡ Unstable (codes "f") (Some (release 2))
+  unstable_told = refl
+
+  nothing_told : stability_of [] ≡ Unknown
+  nothing_told = refl
+
+  id_told : external_id_of (since 1 (at 31 54) ∷ attribute.ExternalId (at 55 72) (record { ref_ptr = (0, 0); now = codes "x" }) ∷ []) ≡ Some (codes "x")
+  id_told = refl
+
+  -- package foo:foo; interface i { @since(version = 1.0.0) type x = list<list<u8>>; }
+  module _ where
+    abbrev box : Box (Unit {0}) Global
+    box = record { ptr = ptr; alloc = alloc; value = tt }
+
+    abbrev x : Definition
+    x = record { docs = no_comments ptr alloc; attributes = vec ptr alloc (since 1 (at 31 54) ∷ []) (lit< tt); name = id ptr alloc (codes "x") (at 60 61) refl; body = Plain (written.List' (at 64 68) box (written.List' (at 69 73) box (written.U8 (at 74 76)))) }
+
+    told : stability_of x.attributes.items ≡ stable
+    told = refl
+
+    -- the inner list stands in a stable definition
+    met : name_meetings in_i (Defined x) ≡ (list_met (at 69 73) ∷ record { key = Def in_i (codes "x"); span = at 60 61; given = stable } ∷ [])
+    met = refl
+
+    -- so it is stable itself
+    abbrev inner : TypeDef
+    inner = unnamed (kind.List type.U8) (settled [] stable (kind.List type.U8)) (at 69 73)
+
+    inner_stable : inner.stability ≡ stable
+    inner_stable = refl
+
+    inner_settled : IsSettled [] stable (Whole ListForm (one (Prim node.U8))) inner
+    inner_settled = refl
+
+    abbrev outer : TypeDef
+    outer = named (owner.Interface 0) (codes "x") (kind.List (type.Id 0)) (name_notes (Defined x)) (at 60 61)
+
+    outer_noted : HasNotes (name_notes (Defined x)) outer
+    outer_noted = record { docs = refl; stability = refl; external_id = refl }
+
+    -- in a signature a list has the stability of its items, where that is known
+    list_of_lists : settled (inner ∷ outer ∷ []) Unknown (kind.List (type.Id 0)) ≡ stable
+    list_of_lists = refl
+
+    list_of_bytes : settled (inner ∷ outer ∷ []) Unknown (kind.List type.U8) ≡ Unknown
+    list_of_bytes = refl
+
+  -- @since(version = 1.0.0) @since(version = 2.0.0)
+  since_twice : IsBrokenStability (since 1 (at 0 23) ∷ since 2 (at 24 47) ∷ []) (fault 30 (at 24 47))
+  since_twice = SinceTwice (record { first = 0; second = 1; before = lit< tt; earlier = _; later = _; at_first = record { at = refl; of = refl }; at_second = record { at = refl; of = refl }; is = refl })
+
+  -- @unstable(feature = f) @since(version = 1.0.0)
+  both_told : IsBrokenStability (unstable (at 0 22) ∷ since 1 (at 23 46) ∷ []) (fault 33 (at 23 46))
+  both_told = SinceAndUnstable (record { since_place = 1; since = _; at_since = record { at = refl; of = refl }; unstable_place = 0; unstable = _; at_unstable = record { at = refl; of = refl }; is = refl })
+
+  -- @external-id("x") @external-id("y")
+  abbrev x_and_y : List Attribute
+  x_and_y = attribute.ExternalId (at 0 17) (record { ref_ptr = (0, 0); now = codes "x" }) ∷ attribute.ExternalId (at 18 35) (record { ref_ptr = (0, 0); now = codes "y" }) ∷ []
+
+  id_twice : IsBrokenNotes x_and_y (fault 35 (at 18 35))
+  id_twice = inr (record { first = 0; second = 1; before = lit< tt; earlier = _; later = _; at_first = record { at = refl; of = refl }; at_second = record { at = refl; of = refl }; is = refl })
+
+  -- @deprecated(version = 2.0.0)
+  deprecated_alone : IsBrokenStability (deprecated (at 0 28) ∷ []) (fault 34 (at 0 28))
+  deprecated_alone = DeprecatedAlone (record { place = 0; deprecated = _; at = record { at = refl; of = refl }; no_since = no_since; no_unstable = no_unstable; is = refl })
+    where
+      no_since : (i : ℕ) (a : Attribute) → StandsAt Since (deprecated (at 0 28) ∷ []) i a → ⊥
+      no_since zero a h = let here = h.at in let of = h.of in let f : ⊥ = cc in f
+      no_since (suc i) a h = let here = h.at in let f : ⊥ = cc in f
+
+      no_unstable : (i : ℕ) (a : Attribute) → StandsAt UnstableKind (deprecated (at 0 28) ∷ []) i a → ⊥
+      no_unstable zero a h = let here = h.at in let of = h.of in let f : ⊥ = cc in f
+      no_unstable (suc i) a h = let here = h.at in let f : ⊥ = cc in f
+
+  -- one comment
+  abbrev comment : List ℕ → Span → Comments
+  comment text span = record { docs = vec ptr alloc (record { ref_ptr = (0, 0); now = text } ∷ []) (lit< tt); span = span }
+
+  no_docs_told : docs_of (no_comments ptr alloc) ≡ no_docs
+  no_docs_told = refl
+
+  -- ///a package foo:foo; in two files
+  abbrev documented : Header
+  documented = record { docs = comment (codes "///a") (at 0 4); span = at 13 20; namespace = id ptr alloc (codes "foo") (at 13 16) refl; name = id ptr alloc (codes "foo") (at 17 20) refl; version = None }
+
+  docs_twice : IsSecondDocs (documented ∷ []) (Some documented) (fault 2 (at 0 4))
+  docs_twice = record { own = _; now = refl; documented = λ none. (let f : ⊥ = cc in f); before = _; among = (0, lit< tt, refl); documented_before = λ none. (let f : ⊥ = cc in f); is = refl }
+
+  -- @since(version = 1.0.0) use x as y;
+  abbrev attributed : ToplevelUse
+  attributed = record { span = at 24 27; attributes = vec ptr alloc (since 1 (at 0 23) ∷ []) (lit< tt); item = path.Id (id ptr alloc (codes "x") (at 28 29) refl); as_ = Some (id ptr alloc (codes "y") (at 33 34) refl) }
+
+  use_attributed : IsAttributedTopUse (ToplevelItem attributed ∷ []) (fault 9 (at 24 27))
+  use_attributed = record { u = _; among = (0, lit< tt, refl); attributed = λ none. (let f : ⊥ = cc in f); is = refl }

@@ -1,0 +1,201 @@
+-- Rules of functions that no worked row shows, and a world whose resource has functions, computed by the definitions.
+use Rattle.std.proofs.Common.{◌≡◌, Bool, true, false, List, [], ◌∷◌, ◌++◌, map, Option, Some, None, refl, sym, ap, ◌∙◌, arith, lit<}
+use Rattle.std.specs.Prelude.{codes, slice_get}
+use Rattle.std.specs.List.{flat_map}
+use Rattle.std.specs.Str.{bytes_eq}
+use Rattle.std.specs.declared.alloc.Global.{Global}
+use denote.RawPtr.{Ptr}
+use Rattle.wit_values.specs.declared.span.Span.{Span}
+use Rattle.wit_tree.specs.declared.tree.Id.{Id}
+use Rattle.wit_tree.specs.declared.tree.«Type».{«Type» as Written, None', Some'}
+use Rattle.wit_tree.specs.declared.tree.«Type».TheVariants as written
+use Rattle.wit_tree.specs.declared.tree.TypeBody.TheVariants.{Plain}
+use Rattle.wit_tree.specs.declared.tree.TypeDef.{TypeDef as Definition}
+use Rattle.wit_tree.specs.declared.tree.NamedFunc.{NamedFunc}
+use Rattle.wit_tree.specs.declared.tree.FuncForm.TheVariants as form
+use Rattle.wit_tree.specs.declared.tree.ResourceFunc.TheVariants as resource
+use Rattle.wit_tree.specs.declared.tree.InterfaceItem.TheVariants.{TypeDef as TypeItem, Func as FuncItem}
+use Rattle.wit_tree.specs.declared.tree.Interface.{Interface}
+use Rattle.wit_tree.specs.declared.tree.World.{World as WrittenWorld}
+use Rattle.wit_tree.specs.declared.tree.WorldItem.TheVariants as world_item
+use Rattle.wit_tree.specs.declared.tree.AstItem.TheVariants as ast
+use Rattle.wit_tree.specs.declared.tree.PackageFile.{PackageFile}
+use Rattle.wit_tree.specs.Refusal.{Missing}
+use Rattle.wit_types.specs.declared.stability.Stability.TheVariants.{Unknown}
+use Rattle.wit_types.specs.declared.types.«Type».TheVariants as type
+use Rattle.wit_types.specs.declared.types.Handle.TheVariants.{Borrow}
+use Rattle.wit_types.specs.declared.types.TypeDef.{TypeDef}
+use Rattle.wit_types.specs.declared.types.TypeDefKind.TheVariants as kind
+use Rattle.wit_types.specs.declared.types.TypeOwner.TheVariants as owner
+use Rattle.wit_model.specs.declared.function.Function.{Function as Made}
+use Rattle.wit_model.specs.declared.function.FunctionKind.TheVariants as function_kind
+use Rattle.wit_model.specs.declared.unresolved.UnresolvedPackage.{UnresolvedPackage}
+use Rattle.wit_syntax.specs.Fault.{Fault, fault}
+use Rattle.wit_syntax.specs.Address.{WorldNamed}
+use Rattle.wit_syntax.specs.Notes.{no_docs}
+use Rattle.wit_syntax.specs.Source.{top_names, TheWorld, Item, ScopeName, Defined, source_tree}
+use Rattle.wit_syntax.specs.Shape.{Shape}
+use Rattle.wit_syntax.specs.Function.{Role, Freestanding, SourceFunction, functions, signature}
+use Rattle.wit_arena.specs.Functions.{function_import}
+use Rattle.wit_syntax.specs.Signature.{MissingInSignature, GetterGiven, SetterGiven, GetterWithoutResult, SetterWithResult, ConstructorWithoutResult, ConstructorOfOther, IsEntered, result_ok}
+use Rattle.wit_syntax.specs.Broken.{IsBroken, Function, IsSetterAlone}
+use Rattle.wit_arena.specs.Package.{names_of, functions_of, function_types, package_tree}
+use Rattle.wit_arena.specs.Whole.{Ordered, ordered_names, type_imports}
+use Rattle.wit_meaning_examples.proofs.Examples.{at, id, vec, no_comments, untold, header}
+use Rattle.wit_meaning_examples.proofs.SignatureExamples.{i_of, file_of, item_of, in_scope, f_id, r_id, t_id, x_id, param, func, func_of, v_u8, resource_of}
+
+module _ (ptr : Ptr) (alloc : Global) where
+  abbrev getter : Span → Span → Span → NamedFunc
+  getter name word ty = func ptr alloc (x_id ptr alloc name) word form.Getter (Some (written.U8 ty))
+
+  -- f: func(x: g); g: func();
+  module _ where
+    abbrev g_id : Span → Id
+    g_id span = id ptr alloc (codes "g") span refl
+
+    abbrev later : Interface
+    later = i_of ptr alloc (FuncItem (func_of ptr alloc (f_id ptr alloc (at 31 32)) (at 34 38) form.Plain (param ptr alloc (x_id ptr alloc (at 39 40)) (written.Name (g_id (at 42 43)))) None) ∷ FuncItem (func ptr alloc (g_id (at 46 47)) (at 49 53) form.Plain None) ∷ []) (lit< tt)
+
+    -- whether a function is written as g
+    abbrev is_role_g : Role → Bool
+    is_role_g (Freestanding name form) = bytes_eq name.name.now (codes "g")
+    is_role_g _ = false
+
+    abbrev is_named_g : Option SourceFunction → Bool
+    is_named_g (Some fn) = is_role_g fn.role
+    is_named_g None = false
+
+    -- g is no name yet where it is written
+    not_entered : IsEntered (functions (item_of ptr alloc later)) 0 (codes "g") → ⊥
+    not_entered e =
+        let first : e.place ≡ 0 = (let before = e.before in omega arith) in
+        let there : slice_get (functions (item_of ptr alloc later)) 0 ≡ Some e.entered = ap (slice_get (functions (item_of ptr alloc later))) (sym first) ∙ e.at in
+        let wrong : false ≡ true = ap is_named_g there ∙ ap is_role_g e.role ∙ ap (λ n. bytes_eq n (codes "g")) e.same in
+        let f : ⊥ = cc in
+        f
+
+    later_refused : IsBroken (file_of ptr alloc later ∷ []) (record { rule = 29; span = at 42 43; name = Some (codes "g"); sort = Missing (codes "name") })
+    later_refused = in_scope ptr alloc later _ (Function 0 _ refl (MissingInSignature (record { id = g_id (at 42 43); among = (0, lit< tt, refl); missing = refl; other = not_entered; is = refl })))
+
+  -- x: get(v: u8) -> u8;
+  abbrev given : Interface
+  given = i_of ptr alloc (FuncItem (func_of ptr alloc (x_id ptr alloc (at 31 32)) (at 34 37) form.Getter (v_u8 ptr alloc (at 38 39) (at 41 43)) (Some (written.U8 (at 48 50)))) ∷ []) (lit< tt)
+
+  given_refused : IsBroken (file_of ptr alloc given ∷ []) (fault 36 (at 38 39))
+  given_refused = in_scope ptr alloc given (fault 36 (at 38 39)) (Function 0 _ refl (GetterGiven (record { getter = refl; first = _; at = refl; is = refl })))
+
+  -- x: set(); x: get() -> u8;
+  abbrev bare : Interface
+  bare = i_of ptr alloc (FuncItem (func ptr alloc (x_id ptr alloc (at 31 32)) (at 34 37) form.Setter None) ∷ FuncItem (getter (at 41 42) (at 44 47) (at 53 55)) ∷ []) (lit< tt)
+
+  -- at the function's word
+  bare_refused : IsBroken (file_of ptr alloc bare ∷ []) (fault 37 (at 34 37))
+  bare_refused = in_scope ptr alloc bare (fault 37 (at 34 37)) (Function 0 _ refl (SetterGiven (record { setter = refl; other = λ (none : 0 ≡ 1). (let f : ⊥ = cc in f); is = refl })))
+
+  -- x: set(v: u8, t: u8); x: get() -> u8;
+  abbrev double : Interface
+  double = i_of ptr alloc (FuncItem (record {
+    docs = no_comments ptr alloc;
+    attributes = untold ptr alloc;
+    name = x_id ptr alloc (at 31 32);
+    func = record { span = at 34 37; form = form.Setter; params = vec ptr alloc (v_u8 ptr alloc (at 38 39) (at 41 43) ∷ param ptr alloc (t_id ptr alloc (at 45 46)) (written.U8 (at 48 50)) ∷ []) (lit< tt); result = None };
+  }) ∷ FuncItem (getter (at 53 54) (at 56 59) (at 65 67)) ∷ []) (lit< tt)
+
+  double_refused : IsBroken (file_of ptr alloc double ∷ []) (fault 37 (at 45 46))
+  double_refused = in_scope ptr alloc double (fault 37 (at 45 46)) (Function 0 _ refl (SetterGiven (record { setter = refl; other = λ (two : 2 ≡ 1). (let f : ⊥ = cc in f); is = refl })))
+
+  -- x: get();
+  abbrev silent : Interface
+  silent = i_of ptr alloc (FuncItem (func ptr alloc (x_id ptr alloc (at 31 32)) (at 34 37) form.Getter None) ∷ []) (lit< tt)
+
+  silent_refused : IsBroken (file_of ptr alloc silent ∷ []) (fault 39 (at 34 37))
+  silent_refused = in_scope ptr alloc silent (fault 39 (at 34 37)) (Function 0 _ refl (GetterWithoutResult (record { getter = refl; none = refl; is = refl })))
+
+  -- resource r { constructor() -> u8; }
+  abbrev making : Written → Interface
+  making t = i_of ptr alloc (TypeItem (resource_of ptr alloc (r_id ptr alloc (at 40 41)) (resource.Constructor (no_comments ptr alloc) (untold ptr alloc) (at 44 55) (vec ptr alloc [] (lit< tt)) (Some t) ∷ []) (lit< tt)) ∷ []) (lit< tt)
+
+  plain_refused : IsBroken (file_of ptr alloc (making (written.U8 (at 61 63))) ∷ []) (fault 41 (at 61 63))
+  plain_refused = in_scope ptr alloc (making (written.U8 (at 61 63))) (fault 41 (at 61 63)) (Function 0 _ refl (ConstructorWithoutResult (record { of = r_id ptr alloc (at 40 41); constructs = refl; t = _; result = refl; none = refl; is = refl })))
+
+  -- resource r { constructor() -> result; }
+  abbrev empty : Written
+  empty = written.Result' (at 61 67) None' None'
+
+  empty_refused : IsBroken (file_of ptr alloc (making empty) ∷ []) (fault 42 (at 61 67))
+  empty_refused = in_scope ptr alloc (making empty) (fault 42 (at 61 67)) (Function 0 _ refl (ConstructorOfOther (record { of = r_id ptr alloc (at 40 41); constructs = refl; t = _; result = refl; ok = None; gives = refl; other = λ u (some : None ≡ Some u) is. (let f : ⊥ = cc in f); is = refl })))
+
+  -- type t = result<u8>; x: set(v: u8) -> t; x: get() -> u8;
+  module _ where
+    abbrev some_ok : Definition
+    some_ok = record { docs = no_comments ptr alloc; attributes = untold ptr alloc; name = t_id ptr alloc (at 36 37); body = Plain (written.Result' (at 40 46) (Some' (record { ptr = ptr; alloc = alloc; value = tt }) (written.U8 (at 47 49))) None') }
+
+    abbrev called : Interface
+    called = i_of ptr alloc (TypeItem some_ok ∷ FuncItem (func_of ptr alloc (x_id ptr alloc (at 52 53)) (at 55 58) form.Setter (v_u8 ptr alloc (at 59 60) (at 62 64)) (Some (written.Name (t_id ptr alloc (at 69 70))))) ∷ FuncItem (getter (at 72 73) (at 75 78) (at 84 86)) ∷ []) (lit< tt)
+
+    called_refused : IsBroken (file_of ptr alloc called ∷ []) (fault 40 (at 69 70))
+    called_refused = in_scope ptr alloc called (fault 40 (at 69 70)) (Function 0 _ refl (SetterWithResult (record { setter = refl; t = _; result = refl; other = λ (same : Some (Some (written.U8 (at 47 49))) ≡ Some None). (let f : ⊥ = cc in f); is = refl })))
+
+  -- type t = result; type f = t;
+  abbrev words : List ScopeName
+  words = Defined (record { docs = no_comments ptr alloc; attributes = untold ptr alloc; name = t_id ptr alloc (at 36 37); body = Plain (written.Result' (at 40 46) None' None') }) ∷ Defined (record { docs = no_comments ptr alloc; attributes = untold ptr alloc; name = f_id ptr alloc (at 53 54); body = Plain (written.Name (t_id ptr alloc (at 57 58))) }) ∷ []
+
+  -- t is a result, f is only another word for one
+  t_is_result : result_ok words (written.Name (t_id ptr alloc (at 69 70))) ≡ Some None
+  t_is_result = refl
+
+  f_is_none : result_ok words (written.Name (f_id ptr alloc (at 77 78))) ≡ None
+  f_is_none = refl
+
+  -- package foo:foo; world w { resource r { constructor(); x: set(v: u8); } }
+  module _ where
+    abbrev w : WrittenWorld
+    w = record { docs = no_comments ptr alloc; attributes = untold ptr alloc; name = id ptr alloc (codes "w") (at 23 24) refl; items = vec ptr alloc (world_item.TypeDef (resource_of ptr alloc (r_id ptr alloc (at 36 37)) (resource.Constructor (no_comments ptr alloc) (untold ptr alloc) (at 40 51) (vec ptr alloc [] (lit< tt)) None ∷ resource.Method (func_of ptr alloc (x_id ptr alloc (at 55 56)) (at 58 61) form.Setter (v_u8 ptr alloc (at 62 63) (at 65 67)) None) ∷ []) (lit< tt)) ∷ []) (lit< tt) }
+
+    abbrev file : PackageFile
+    file = record { package_id = Some (header ptr alloc); decl_list = record { items = vec ptr alloc (ast.World w ∷ []) (lit< tt) } }
+
+    abbrev item : Item
+    item = record { top = top_names file; declared = TheWorld w }
+
+    abbrev ordered : Ordered
+    ordered = record { item = item; order = 0 ∷ [] }
+
+    -- a world's setter needs no getter
+    not_alone : (f : Fault) → IsSetterAlone item f → ⊥
+    not_alone f h = let wrong = h.interface in let g : ⊥ = cc in g
+
+    abbrev types : List TypeDef
+    types = record { name = Some (codes "r"); kind = kind.Resource; owner = owner.World 0; docs = no_docs; stability = Unknown; span = at 36 37; external_id = None }
+        ∷ record { name = None; kind = kind.Handle (Borrow 0); owner = owner.None; docs = no_docs; stability = Unknown; span = at 58 61; external_id = None } ∷ []
+
+    abbrev made : List Made
+    made = record { name = codes "[constructor]r"; kind = function_kind.Constructor 0; params = []; result = Some (type.Id 0); docs = no_docs; stability = Unknown; span = at 40 51; external_id = None }
+        ∷ record { name = codes "[method][set]r.x"; kind = function_kind.MethodSetter 0; params = record { name = codes "self"; ty = type.Id 1; span = at 58 61 } ∷ record { name = codes "v"; ty = type.U8; span = at 62 63 } ∷ []; result = None; docs = no_docs; stability = Unknown; span = at 55 56; external_id = None } ∷ []
+
+    names_of_functions : map (λ (g : SourceFunction). g.name) (functions item) ≡ map (λ (g : Made). g.name) made
+    names_of_functions = refl
+
+    -- its imports are its names as types, and then the functions
+    abbrev whole : UnresolvedPackage
+    whole = record {
+      docs = no_docs;
+      name = record { namespace = codes "foo"; name = codes "foo"; version = None };
+      worlds = record { name = codes "w"; imports = type_imports (ordered_names ordered) ((codes "r", 0) ∷ []) ++ map function_import made; exports = []; «package» = None; docs = no_docs; stability = Unknown; includes = []; span = at 23 24 } ∷ [];
+      interfaces = [];
+      types = types;
+      foreign_deps = [];
+      name_span = at 8 15;
+      unknown_type_spans = [];
+      foreign_dep_spans = [];
+      required_resource_types = [];
+    }
+
+    types_of_world : names_of whole (owner.World 0) ≡ ((codes "r", 0) ∷ [])
+    types_of_world = refl
+
+    functions_of_world : functions_of whole (owner.World 0) ≡ map (λ (g : Made). (g.name, g)) made
+    functions_of_world = refl
+
+    trees : map (λ (x : Shape). source_tree (file ∷ []) 3 (WorldNamed (codes "w"), x)) (flat_map signature (functions item)) ≡ map (package_tree whole 3) (flat_map function_types made)
+    trees = refl

@@ -1,0 +1,2 @@
+//! Examples of what a package means, each proved. It has no code.
+#![tactic(auto)]

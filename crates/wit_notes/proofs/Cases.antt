@@ -1,0 +1,34 @@
+-- Texts without a letter in upper case, and the keys of names.
+use Rattle.std.proofs.Common.{◌≡◌, ℕ, ◌||◌, Bool, true, false, List, [], ◌∷◌, refl, sym, ap, ◌∙◌, arith}
+use Rattle.std.specs.Prelude.{map}
+use Rattle.std.specs.Char.{is_ascii_uppercase, to_ascii_lowercase}
+use Rattle.std.specs.List.{list_any}
+use Rattle.std.proofs.lemmas.Bool.Decides.{nat_tests}
+use denote.Ref.{Bor}
+use Rattle.wit_tree.specs.declared.tree.Id.{Id}
+use Rattle.wit_syntax.specs.Bodies.{folded}
+use Rattle.wit_syntax.proofs.Lists.{map_map}
+
+none_of : (a b : Bool) → (a || b) ≡ false → (a ≡ false) × (b ≡ false)
+none_of false b h = (refl, h)
+none_of true b h = absurd (let f : ⊥ = cc in f)
+
+lower-byte : (b : ℕ) → is_ascii_uppercase b ≡ false → to_ascii_lowercase b ≡ b
+lower-byte b h = grind (arith, nat_tests)
+
+lower-text : (text : List ℕ) → list_any is_ascii_uppercase text ≡ false → folded text ≡ text
+lower-text [] h = refl
+lower-text (b ∷ text) h =
+    let told = none_of (is_ascii_uppercase b) (list_any is_ascii_uppercase text) h in
+    rw (lower-byte b told.0) (ap (λ t. b ∷ t) (lower-text text told.1))
+
+-- their keys are the texts
+pub texts-lower : (ts : List (Bor (List ℕ))) → list_any (λ (t : Bor (List ℕ)). list_any is_ascii_uppercase t.now) ts ≡ false → map (λ (t : Bor (List ℕ)). t.now) ts ≡ map (λ (t : Bor (List ℕ)). folded t.now) ts
+texts-lower [] h = refl
+texts-lower (t ∷ ts) h =
+    let told = none_of (list_any is_ascii_uppercase t.now) (list_any (λ (u : Bor (List ℕ)). list_any is_ascii_uppercase u.now) ts) h in
+    rw (lower-text t.now told.0) (ap (λ ns. t.now ∷ ns) (texts-lower ts told.1))
+
+-- the keys of texts that are those of names
+pub names-folded : (ts : List (Bor (List ℕ))) (names : List Id) → map (λ (t : Bor (List ℕ)). t.now) ts ≡ map (λ (id : Id). id.name.now) names → map (λ (t : Bor (List ℕ)). folded t.now) ts ≡ map (λ (id : Id). folded id.name.now) names
+names-folded ts names h = sym (map_map folded (λ (t : Bor (List ℕ)). t.now) ts) ∙ ap (map folded) h ∙ map_map folded (λ (id : Id). id.name.now) names

@@ -1,0 +1,26 @@
+-- Where no attribute stands, none breaks a rule.
+use Rattle.std.proofs.Common.{◌≡◌, ℕ, List, [], Some, length, inl, inr, subst}
+use Rattle.std.specs.Prelude.{slice_get}
+use Rattle.std.proofs.lemmas.List.{nil_from_length}
+use Rattle.wit_tree.specs.declared.tree.Attribute.{Attribute}
+use Rattle.wit_syntax.specs.Fault.{Fault}
+use Rattle.wit_syntax.specs.Notes.{IsBrokenStability, IsBrokenNotes, SinceTwice, DeprecatedTwice, UnstableTwice, SinceAndUnstable, DeprecatedAlone}
+
+none_at : (place : ℕ) (a : Attribute) → slice_get [] place ≡ Some a → ⊥
+none_at place a at = let f : ⊥ = cc in f
+
+unbroken : (f : Fault) → IsBrokenStability [] f → ⊥
+unbroken f (SinceTwice h) = none_at h.first h.earlier h.at_first.at
+unbroken f (DeprecatedTwice h) = none_at h.first h.earlier h.at_first.at
+unbroken f (UnstableTwice h) = none_at h.first h.earlier h.at_first.at
+unbroken f (SinceAndUnstable h) = none_at h.since_place h.since h.at_since.at
+unbroken f (DeprecatedAlone h) = none_at h.place h.deprecated h.at.at
+
+unbroken_notes : (f : Fault) → IsBrokenNotes [] f → ⊥
+unbroken_notes f h = elim h [
+  | inl stability ↦ unbroken f stability
+  | inr twice ↦ none_at twice.first twice.earlier twice.at_first.at
+]
+
+pub none_broken : (xs : List Attribute) → length xs ≡ 0 → (f : Fault) → IsBrokenNotes xs f → ⊥
+none_broken xs none f h = unbroken_notes f (subst (λ (l : List Attribute). IsBrokenNotes l f) (nil_from_length xs none) h)

@@ -1,0 +1,74 @@
+-- Maps from texts, as contracts see their entries.
+use Rattle.std.proofs.Common.{◌≡◌, ◌≢◌, ℕ, zero, suc, ◌<◌, List, [], ◌∷◌, ◌++◌, true, take, Some, None, nat_eq, inl, inr, refl, sym, ap, ◌∙◌, arith}
+use Rattle.std.specs.Prelude.{slice_get}
+use Rattle.std.specs.Cmp.Lexicographic.{pointwise}
+use Rattle.std.specs.Map.{lookup}
+use Rattle.std.proofs.lemmas.Bool.{cases_Bool}
+use denote.Ref.{Bor}
+use Rattle.indexmap.specs.IndexMap.{insert_entry}
+use Rattle.wit_syntax.proofs.Names.{name_cases, name_itself}
+use Rattle.wit_notes.specs.Lent.{lent_entries}
+
+-- lent texts
+pub lookup-lent_entries : {V : Type 0} (bs : List ℕ) (es : List (Bor (List ℕ) × V)) → lookup (λ k. pointwise nat_eq bs k.now) es ≡ lookup (pointwise nat_eq bs) (lent_entries es)
+lookup-lent_entries bs [] = refl
+lookup-lent_entries bs (e ∷ es) = elim (cases_Bool (pointwise nat_eq bs e.0.now)) [
+  | inl hit ↦ rw hit refl
+  | inr miss ↦ rw miss (lookup-lent_entries bs es)
+]
+
+pub lent_entries-insert_entry : {V : Type 0} (es : List (Bor (List ℕ) × V)) (k : Bor (List ℕ)) (v : V) → lent_entries (insert_entry (λ a b. pointwise nat_eq a.now b.now) es k v) ≡ insert_entry (pointwise nat_eq) (lent_entries es) k.now v
+lent_entries-insert_entry [] k v = refl
+lent_entries-insert_entry (e ∷ es) k v = elim (cases_Bool (pointwise nat_eq k.now e.0.now)) [
+  | inl hit ↦ rw hit refl
+  | inr miss ↦ rw miss (ap (λ l. (e.0.now, e.1) ∷ l) (lent_entries-insert_entry es k v))
+]
+
+-- where a value that is found stands
+pub lookup-at : {V : Type 0} (es : List (List ℕ × V)) (key : List ℕ) (v : V) → lookup (pointwise nat_eq key) es ≡ Some v → (i : ℕ) × (slice_get es i ≡ Some (key, v))
+lookup-at [] key v h = absurd (let f : ⊥ = cc in f)
+lookup-at {V} (e ∷ es) key v h = elim (name_cases key e.0) [
+  | inl same ↦ (
+      let hit : pointwise nat_eq key e.0 ≡ true = ap (λ n. pointwise nat_eq n e.0) same ∙ name_itself e.0 in
+      let value : Some e.1 ≡ Some v = rw hit at h in
+      let is : e.1 ≡ v = cc in
+      (0, ap (λ (n : List ℕ). Some (n, e.1)) (sym same) ∙ ap (λ (x : V). Some (key, x)) is))
+  | inr other ↦ (let rest = lookup-at es key v (rw other at h) in (suc rest.0, rest.1))
+]
+
+-- no entry has a key that is not found
+pub lookup-none : {V : Type 0} (es : List (List ℕ × V)) (key : List ℕ) (i : ℕ) (e : List ℕ × V) → lookup (pointwise nat_eq key) es ≡ None → slice_get es i ≡ Some e → e.0 ≢ key
+lookup-none [] key i e none at is = absurd (let f : ⊥ = cc in f)
+lookup-none {V} (x ∷ es) key i e none at is = elim (name_cases key x.0) [
+  | inl same ↦ absurd (hit same)
+  | inr other ↦ further i at (λ j there. lookup-none es key j e (rw other at none) there is)
+]
+  where
+    hit : key ≡ x.0 → ⊥
+    hit same =
+        let found : pointwise nat_eq key x.0 ≡ true = ap (λ n. pointwise nat_eq n x.0) same ∙ name_itself x.0 in
+        let wrong : Some x.1 ≡ None = rw found at none in
+        cc
+
+    further : (i : ℕ) → slice_get (x ∷ es) i ≡ Some e → ((j : ℕ) → slice_get es j ≡ Some e → ⊥) → ⊥
+    further zero at rest = let here : x ≡ e = cc in hit (sym is ∙ sym (ap (λ (y : List ℕ × V). y.0) here))
+    further (suc i) at rest = rest i at
+
+-- a new key stands last
+pub insert_entry-last : {V : Type 0} (es : List (List ℕ × V)) (key : List ℕ) (v : V) → lookup (pointwise nat_eq key) es ≡ None → insert_entry (pointwise nat_eq) es key v ≡ es ++ (key, v) ∷ []
+insert_entry-last [] key v none = refl
+insert_entry-last (e ∷ es) key v none = elim (name_cases key e.0) [
+  | inl same ↦ absurd (
+      let hit : pointwise nat_eq key e.0 ≡ true = ap (λ n. pointwise nat_eq n e.0) same ∙ name_itself e.0 in
+      let wrong : Some e.1 ≡ None = rw hit at none in
+      let f : ⊥ = cc in
+      f)
+  | inr other ↦ (let rest = rw other at none in rw other (ap (λ l. e ∷ l) (insert_entry-last es key v rest)))
+]
+
+-- what stands below n stands in the first n
+pub in_take : {X : Type 0} (xs : List X) (n i : ℕ) (x : X) → i < n → slice_get xs i ≡ Some x → slice_get (take n xs) i ≡ Some x
+in_take xs zero i x lt h = absurd (omega arith)
+in_take [] (suc n) i x lt h = absurd (let f : ⊥ = cc in f)
+in_take (y ∷ ys) (suc n) zero x lt h = h
+in_take (y ∷ ys) (suc n) (suc i) x lt h = in_take ys n i x (omega arith) h

@@ -1,0 +1,107 @@
+-- Marks at both ends of texts, spaces in front, and lines.
+use Rattle.std.proofs.Common.{◌≡◌, ◌≢◌, ℕ, zero, suc, ◌-◌, ◌<◌, ◌==◌, ◌&&◌, true, false, List, [], ◌∷◌, ◌++◌, length, take, drop, Option, Some, None, IfSome, inl, inr, refl, sym, ap, ◌∙◌, arith, lit<, if◌then◌else◌}
+use Rattle.std.specs.Prelude.{map, filter, nat_eq}
+use Rattle.std.specs.List.{ends_with}
+use Rattle.std.specs.Str.{IsCharBoundary}
+use Rattle.std.specs.Str.Pattern.{CutsPrefixes, CutsSuffixes, IsTrimStartMatches, IsTrimEndMatches, FindsCharPrefix, FindsCharSuffix, FindsTextSuffix, HasCharAt, StripsSuffix}
+use Rattle.std.proofs.lemmas.Bool.{cases_Bool, eqb-true, ne_eqb}
+use Rattle.std.proofs.lemmas.Str.{encode_ascii}
+use Rattle.std.proofs.lemmas.Str.Pattern.{drop_at_char, ends_text}
+use Rattle.std.proofs.lemmas.List.{take-append-drop}
+use Rattle.std.proofs.Math.Seq.{drop-length}
+use denote.Ref.{Bor}
+use Rattle.wit_syntax.proofs.Lists.{map_map}
+use Rattle.wit_syntax.specs.Docs.{behind_slashes, behind_spaces, docs_text, indent, is_written, joined, said, without_end, without_last_lines}
+
+-- a text whose end was taken off
+pub without_end-stripped : (n s : List ℕ) (x : Bor (List ℕ)) → StripsSuffix (FindsTextSuffix n) s x.now → x.now ≡ without_end n s
+without_end-stripped n s x h =
+    let cut : length s - h.0 ≡ length s - length n = ap (λ k. length s - k) h.1.0 in
+    let at : x.now ≡ take (length s - length n) s = h.2 ∙ ap (λ k. take k s) cut in
+    let front : IsCharBoundary s (length s - h.0) = rw cut h.1.2 in
+    let e : true ≡ ends_with nat_eq s n = ends_text true n s (h.0, h.1, omega (arith, h.3), front) in
+    rw (← e) at
+
+pub without_end-kept : (n s : List ℕ) → FindsTextSuffix n s None → s ≡ without_end n s
+without_end-kept n s h =
+    let e : false ≡ ends_with nat_eq s n = ends_text false n s h in
+    rw (← e) refl
+
+-- one slash, and then all, taken off the front
+slashes-one : (m : List ℕ) (n : ℕ) → HasCharAt 47 m 0 n → behind_slashes m ≡ behind_slashes (drop n m)
+slashes-one m n h = let e : m ≡ 47 ∷ drop n m = drop_at_char 47 m 0 n h (lit< tt) in ap behind_slashes e
+
+slashes-cut : (s r : List ℕ) (ns : List ℕ) → CutsPrefixes (FindsCharPrefix 47) s ns r → behind_slashes s ≡ behind_slashes r
+slashes-cut s r [] h = ap behind_slashes (sym h)
+slashes-cut s r (n ∷ ns) h = slashes-cut s h.0 ns h.1 ∙ slashes-one h.0 n h.2 ∙ ap behind_slashes (sym h.3)
+
+slashes-none : (r : List ℕ) → ((rest : List ℕ) → r ≢ 47 ∷ rest) → behind_slashes r ≡ r
+slashes-none [] h = refl
+slashes-none (b ∷ r) h = elim (cases_Bool (b == 47)) [
+  | inl slash ↦ absurd (h r (ap (λ c. c ∷ r) (eqb-true b 47 slash)))
+  | inr other ↦ rw other refl
+]
+
+slashes-done : (r : List ℕ) (o : Option ℕ) → FindsCharPrefix 47 r o → IfSome o (λ n. n ≡ 0) → behind_slashes r ≡ r
+slashes-done r None h z = slashes-none r (λ rest e. h rest (e ∙ sym (ap (λ x. x ++ rest) (encode_ascii 47 (lit< tt)))))
+slashes-done r (Some n) h z = absurd (let ends = h.ends in omega arith)
+
+pub slashes-trimmed : (s r : List ℕ) → IsTrimStartMatches (FindsCharPrefix 47) s r → r ≡ behind_slashes s
+slashes-trimmed s r h = sym (slashes-cut s r h.0.0 h.0.1 ∙ slashes-done r h.1.0 h.1.1 h.1.2)
+
+pub spaces-none : (n : ℕ) (text : List ℕ) → 0 < n → ((rest : List ℕ) → text ≢ 32 ∷ rest) → behind_spaces n text ≡ None
+spaces-none zero text lt h = absurd (omega arith)
+spaces-none (suc n) [] lt h = refl
+spaces-none (suc n) (b ∷ text) lt h = elim (cases_Bool (b == 32)) [
+  | inl space ↦ absurd (h text (ap (λ c. c ∷ text) (eqb-true b 32 space)))
+  | inr other ↦ rw other refl
+]
+
+-- LFs at the end
+pub last_lines-one : (front : List ℕ) → without_last_lines (front ++ 10 ∷ []) ≡ without_last_lines front
+last_lines-one [] = refl
+last_lines-one (b ∷ front) = rw (last_lines-one front) refl
+
+pub last_lines-none : (text : List ℕ) → ((front : List ℕ) → text ≢ front ++ 10 ∷ []) → without_last_lines text ≡ text
+last_lines-none [] h = refl
+last_lines-none (b ∷ []) h = elim (cases_Bool (b == 10)) [
+  | inl end ↦ absurd (h [] (ap (λ c. c ∷ []) (eqb-true b 10 end)))
+  | inr other ↦ rw other refl
+]
+last_lines-none (b ∷ c ∷ text) h = kept b c text (without_last_lines (c ∷ text)) (last_lines-none (c ∷ text) (λ front e. h (b ∷ front) (ap (λ t. b ∷ t) e)))
+  where
+    kept : (b c : ℕ) (text found : List ℕ) → found ≡ c ∷ text → (if b == 10 && length found == 0 then [] else b ∷ found) ≡ b ∷ c ∷ text
+    kept b c text found e = elim (cases_Bool (b == 10)) [
+      | inl end ↦ (let long : (length (c ∷ text) == 0) ≡ false = ne_eqb (length (c ∷ text)) 0 (λ z. (let f : ⊥ = omega arith in f)) in rw (e, end, long) refl)
+      | inr other ↦ rw (other, e) refl
+    ]
+
+last_lines-cut-one : (m : List ℕ) (n : ℕ) → HasCharAt 10 m (length m - n) (length m) → without_last_lines m ≡ without_last_lines (take (length m - n) m)
+last_lines-cut-one m n h =
+    let last : drop (length m - n) m ≡ 10 ∷ [] = drop_at_char 10 m (length m - n) (length m) h (lit< tt) ∙ ap (λ t. 10 ∷ t) (drop-length m) in
+    let whole : m ≡ take (length m - n) m ++ 10 ∷ [] = sym (take-append-drop (length m - n) m) ∙ ap (λ t. take (length m - n) m ++ t) last in
+    ap without_last_lines whole ∙ last_lines-one (take (length m - n) m)
+
+last_lines-cut : (s r : List ℕ) (ns : List ℕ) → CutsSuffixes (FindsCharSuffix 10) s ns r → without_last_lines s ≡ without_last_lines r
+last_lines-cut s r [] h = ap without_last_lines (sym h)
+last_lines-cut s r (n ∷ ns) h = last_lines-cut s h.0 ns h.1 ∙ last_lines-cut-one h.0 n h.2.1 ∙ ap without_last_lines (sym h.3)
+
+last_lines-done : (r : List ℕ) (o : Option ℕ) → FindsCharSuffix 10 r o → IfSome o (λ n. n ≡ 0) → without_last_lines r ≡ r
+last_lines-done r None h z = last_lines-none r (λ front e. h front (e ∙ sym (ap (λ x. front ++ x) (encode_ascii 10 (lit< tt)))))
+last_lines-done r (Some n) h z = absurd (let ends = h.1.ends in let f : ⊥ = omega arith in f)
+
+pub last_lines-trimmed : (s r : List ℕ) → IsTrimEndMatches (FindsCharSuffix 10) s r → r ≡ without_last_lines s
+last_lines-trimmed s r h = sym (last_lines-cut s r h.0.0 h.0.1 ∙ last_lines-done r h.1.0 h.1.1 h.1.2)
+
+-- the indents of lent texts
+pub indents-lent : (ts : List (Bor (List ℕ))) → map (λ (t : Bor (List ℕ)). indent t.now) (filter (λ (t : Bor (List ℕ)). is_written t.now) ts) ≡ map indent (filter is_written (map (λ (t : Bor (List ℕ)). t.now) ts))
+indents-lent [] = refl
+indents-lent (t ∷ ts) = elim (cases_Bool (is_written t.now)) [
+  | inl written ↦ rw written (ap (λ ns. indent t.now ∷ ns) (indents-lent ts))
+  | inr empty ↦ rw empty (indents-lent ts)
+]
+
+-- the text of lent comments
+pub docs-joined : (comments texts : List (Bor (List ℕ))) → (length comments == 0) ≡ false → map (λ (t : Bor (List ℕ)). t.now) texts ≡ map (λ (m : Bor (List ℕ)). said m.now) comments → Some (joined (map (λ (t : Bor (List ℕ)). t.now) texts)) ≡ docs_text (map (λ (m : Bor (List ℕ)). m.now) comments)
+docs-joined [] texts some is = absurd (let f : ⊥ = cc in f)
+docs-joined (m ∷ ms) texts some is = ap (λ ts. Some (joined ts)) (is ∙ sym (map_map said (λ (n : Bor (List ℕ)). n.now) (m ∷ ms)))

@@ -1,0 +1,6 @@
+pub mod Hint
+pub mod Kinds
+pub mod Lent
+pub mod Names
+pub mod Notes
+pub mod Scope

@@ -1,0 +1,57 @@
+-- Names that must not stand side by side, and setters without a getter.
+use Rattle.std.specs.Prelude.{◌≡◌, ℕ, ◌<◌, List, Some, slice_get, IsTrue}
+use Rattle.wit_names.specs.Folded.{folded_key}
+use Rattle.wit_names.specs.Setter.{getter_of, is_setter}
+use Rattle.wit_values.specs.declared.span.Span.{Span}
+use Rattle.wit_tree.specs.declared.tree.Id.{Id}
+use Rattle.wit_syntax.specs.Bodies.{folded}
+use Rattle.wit_syntax.specs.Fault.{Fault, fault}
+
+-- an earlier name is the one at this place once case is folded
+pub record IsSecond (names : List Id) (second : ℕ) : Type 0 where
+  pub first : ℕ
+  pub before : first < second
+  pub earlier : Id
+  pub later : Id
+  pub at_first : slice_get names first ≡ Some earlier
+  pub at_second : slice_get names second ≡ Some later
+  pub same : folded earlier.name.now ≡ folded later.name.now
+
+-- the first name that is, once case is folded, an earlier one
+pub record IsFirstSecond (names : List Id) (f : Fault) : Type 0 where
+  pub place : ℕ
+  pub later : Id
+  pub at : slice_get names place ≡ Some later
+  pub second : IsSecond names place
+  pub first : (i : ℕ) → i < place → IsSecond names i → ⊥
+  pub is : f ≡ fault 25 later.span
+
+-- a name of a scope, with the place where it is written
+abbrev pub Name : Type 0
+Name = List ℕ × Span
+
+-- an earlier name of the scope has the key of a new one
+pub record IsTaken (names : List Name) (name : List ℕ) : Type 0 where
+  pub place : ℕ
+  pub earlier : Name
+  pub at : slice_get names place ≡ Some earlier
+  pub same : folded_key earlier.0 ≡ folded_key name
+
+-- a name is defined whose key an earlier one has
+pub record IsDefinedAgain (names : List Name) (name : List ℕ) (span : Span) (f : Fault) : Type 0 where
+  pub taken : IsTaken names name
+  pub is : f ≡ fault 17 span
+
+-- the name at this place is a setter, and the scope has no getter of its exact spelling
+pub record IsLoneSetter (names : List Name) (place : ℕ) : Type 0 where
+  pub setter : Name
+  pub at : slice_get names place ≡ Some setter
+  pub sets : IsTrue (is_setter setter.0)
+  pub none : (i : ℕ) (span : Span) → slice_get names i ≡ Some (getter_of setter.0, span) → ⊥
+
+-- the first setter of a scope without its getter
+pub record IsFirstLoneSetter (names : List Name) (f : Fault) : Type 0 where
+  pub place : ℕ
+  pub lone : IsLoneSetter names place
+  pub first : (i : ℕ) → i < place → IsLoneSetter names i → ⊥
+  pub is : f ≡ fault 18 lone.setter.1

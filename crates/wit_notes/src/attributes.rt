@@ -1,0 +1,194 @@
+//! What the attributes of an item tell: how stable it is, and its name elsewhere.
+ghost use Rattle.std.specs.Prelude.{◌≡◌, ◌≢◌, ◌⊎◌, IfErr, IfOk, None, OnOk};
+ghost use Rattle.std.specs.Option.{option_copied, option_map};
+ghost use Rattle.wit_tree.specs.Refusal.{IsWantOfMemory};
+ghost use Rattle.wit_syntax.specs.Broken.{Refused};
+ghost use Rattle.wit_syntax.specs.Fault.{Fault, fault, fault_of};
+ghost use Rattle.wit_tree.specs.Attributes.{attribute_span, first_of, kind_of, told_text, told_version};
+ghost use Rattle.wit_syntax.specs.Notes.{IsBrokenStability, IsExternalIdTwice, external_id_of, stability_of};
+ghost use Rattle.wit_tree.specs.declared.attribute_kind.AttributeKind.TheVariants.{ExternalId};
+ghost use Rattle.wit_notes.specs.Kinds.{IsEachOnce, IsRepeat, number_of};
+
+use crate::package::release_of;
+use crate::refusal::refuse;
+use semver::Version;
+use std::alloc::{AllocError, Global};
+use wit_tree::attribute_kind::{AttributeKind, first_of, is_of, kind_of, span_of};
+use wit_tree::tree::Attribute;
+use wit_tree::{ParseError, ParseResult, Span};
+use wit_types::Stability;
+use wit_values::{Release, Text};
+
+/// The version that the first attribute of a kind tells.
+fn told_version<'f>(attributes: &'f [Attribute<'_>], kind: AttributeKind) -> Option<&'f Version>
+    ensures { option_copied result ≡ told_version kind attributes.now }
+{
+    match first_of(attributes, kind) {
+        Some(Attribute::Since { version, .. }) => Some(version),
+        Some(Attribute::Deprecated { version, .. }) => Some(version),
+        _ => None,
+    }
+}
+
+/// The text that the first attribute of a kind tells.
+fn told_text<'a>(attributes: &[Attribute<'a>], kind: AttributeKind) -> Option<&'a str>
+    ensures { option_copied result ≡ told_text kind attributes.now }
+{
+    match first_of(attributes, kind) {
+        Some(Attribute::Unstable { feature, .. }) => Some(feature.name),
+        Some(Attribute::ExternalId { id, .. }) => Some(*id),
+        _ => None,
+    }
+}
+
+/// A second attribute of a kind.
+fn refuse_second(alloc: Global, kind: AttributeKind, span: Span) -> ParseError
+    ensures { IsWantOfMemory result ⊎ (fault_of result ≡ fault (number_of kind) span) }
+{
+    match kind {
+        AttributeKind::Since => refuse(alloc, 30, span, "cannot specify @since twice"),
+        AttributeKind::Deprecated => refuse(alloc, 31, span, "cannot specify @deprecated twice"),
+        AttributeKind::Unstable => refuse(alloc, 32, span, "cannot specify @unstable twice"),
+        AttributeKind::ExternalId => refuse(alloc, 35, span, "cannot specify @external-id twice"),
+    }
+}
+
+/// Refuses an attribute where an earlier one is of its kind.
+fn check_new(alloc: Global, earlier: &[Attribute<'_>], attribute: &Attribute<'_>) -> ParseResult<()>
+    ensures new { OnOk result (first_of (kind_of attribute.now) earlier.now ≡ None) }
+    ensures refused { IfErr result (Refused (IsRepeat earlier.now attribute.now)) }
+{
+    let kind = kind_of(attribute);
+    if first_of(earlier, kind).is_some() {
+        return Err(refuse_second(alloc, kind, span_of(attribute)));
+    }
+    Ok(())
+}
+
+/// Refuses a second attribute of a kind that tells of stability.
+fn check_each_once(alloc: Global, attributes: &[Attribute<'_>]) -> ParseResult<()>
+    ensures once { OnOk result (IsEachOnce attributes.now) }
+    ensures refused { IfErr result (Refused (IsBrokenStability attributes.now)) }
+{
+    for place in 0..attributes.len() {
+        let attribute = &attributes[place];
+        if !is_of(attribute, AttributeKind::ExternalId) {
+            check_new(alloc, &attributes[..place], attribute)?;
+        }
+    }
+    Ok(())
+}
+
+/// Refuses a second external id; other attributes are ignored.
+pub fn check_external_once(alloc: Global, attributes: &[Attribute<'_>]) -> ParseResult<()>
+    ensures once { OnOk result ((f : Fault) → IsExternalIdTwice attributes.now f → ⊥) }
+    ensures refused { IfErr result (Refused (IsExternalIdTwice attributes.now)) }
+{
+    for place in 0..attributes.len() {
+        let attribute = &attributes[place];
+        if is_of(attribute, AttributeKind::ExternalId) {
+            check_new(alloc, &attributes[..place], attribute)?;
+        }
+    }
+    Ok(())
+}
+
+/// Refuses `@since` beside `@unstable`, and `@deprecated` without either.
+fn check_together(alloc: Global, attributes: &[Attribute<'_>]) -> ParseResult<()>
+    requires { IsEachOnce attributes.now }
+    ensures legal { OnOk result ((f : Fault) → IsBrokenStability attributes.now f → ⊥) }
+    ensures refused { IfErr result (Refused (IsBrokenStability attributes.now)) }
+{
+    let unstable = first_of(attributes, AttributeKind::Unstable);
+    if let Some(since) = first_of(attributes, AttributeKind::Since) {
+        if unstable.is_some() {
+            let words = "cannot specify both @since and @unstable";
+            return Err(refuse(alloc, 33, span_of(since), words));
+        }
+        return Ok(());
+    }
+    if unstable.is_some() {
+        return Ok(());
+    }
+    match first_of(attributes, AttributeKind::Deprecated) {
+        Some(deprecated) => {
+            let words = "cannot specify both @deprecated without @since or @unstable";
+            Err(refuse(alloc, 34, span_of(deprecated), words))
+        }
+        None => Ok(()),
+    }
+}
+
+/// The stability that attributes tell, the first of each kind, whatever rule they break; other
+/// attributes are ignored.
+///
+/// The error is want of memory.
+pub fn told_stability(alloc: Global, attributes: &[Attribute<'_>]) -> Result<Stability, AllocError>
+    ensures { IfOk result (λ stability. stability ≡ stability_of attributes.now) }
+{
+    let deprecated = release_of(told_version(attributes, AttributeKind::Deprecated))?;
+    if let Some(version) = told_version(attributes, AttributeKind::Since) {
+        let since = Release::from(version.clone()?);
+        return Ok(Stability::Stable { since, deprecated });
+    }
+    match told_text(attributes, AttributeKind::Unstable) {
+        Some(feature) => Ok(Stability::Unstable {
+            feature: Text::from_str(alloc, feature)?,
+            deprecated,
+        }),
+        None => Ok(Stability::Unknown),
+    }
+}
+
+/// Refuses attributes that break a rule of stability; other attributes are ignored.
+///
+/// The error is that of [`stability`].
+pub fn check_stability(alloc: Global, attributes: &[Attribute<'_>]) -> ParseResult<()>
+    ensures legal { OnOk result ((f : Fault) → IsBrokenStability attributes.now f → ⊥) }
+    ensures refused { IfErr result (Refused (IsBrokenStability attributes.now)) }
+{
+    check_each_once(alloc, attributes)?;
+    check_together(alloc, attributes)?;
+    Ok(())
+}
+
+/// The stability that attributes tell; other attributes are ignored.
+///
+/// The error is E30, E31 or E32 at a second `@since`, `@deprecated` or `@unstable`, E33 at a
+/// `@since` beside `@unstable`, E34 at a `@deprecated` without either, or want of memory.
+pub fn stability(alloc: Global, attributes: &[Attribute<'_>]) -> ParseResult<Stability>
+    ensures told { IfOk result (λ stability. stability ≡ stability_of attributes.now) }
+    ensures legal { OnOk result ((f : Fault) → IsBrokenStability attributes.now f → ⊥) }
+    ensures refused { IfErr result (Refused (IsBrokenStability attributes.now)) }
+{
+    check_stability(alloc, attributes)?;
+    Ok(told_stability(alloc, attributes)?)
+}
+
+/// The external id that attributes tell, the first, whatever rule they break; other attributes are
+/// ignored.
+///
+/// The error is want of memory.
+pub fn told_external_id(
+    alloc: Global,
+    attributes: &[Attribute<'_>],
+) -> Result<Option<Text>, AllocError>
+    ensures { IfOk result (λ id. id ≡ external_id_of attributes.now) }
+{
+    match told_text(attributes, AttributeKind::ExternalId) {
+        Some(id) => Ok(Some(Text::from_str(alloc, id)?)),
+        None => Ok(None),
+    }
+}
+
+/// The external id that attributes tell, if one does; other attributes are ignored.
+///
+/// The error is E35 at a second external id, or want of memory.
+pub fn external_id(alloc: Global, attributes: &[Attribute<'_>]) -> ParseResult<Option<Text>>
+    ensures told { IfOk result (λ id. id ≡ external_id_of attributes.now) }
+    ensures legal { OnOk result ((f : Fault) → IsExternalIdTwice attributes.now f → ⊥) }
+    ensures refused { IfErr result (Refused (IsExternalIdTwice attributes.now)) }
+{
+    check_external_once(alloc, attributes)?;
+    Ok(told_external_id(alloc, attributes)?)
+}

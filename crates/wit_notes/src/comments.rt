@@ -1,0 +1,163 @@
+//! The text of docs.
+ghost use Rattle.std.specs.Prelude.{◌≡◌, ◌++◌, IfOk, OnOk, map, string_bytes};
+ghost use Rattle.wit_syntax.specs.Docs.{behind_slashes, common_indent, ended, ended_lines, indent, joined, said, unmarked, without_end, without_last_lines, without_spaces};
+ghost use Rattle.wit_syntax.specs.Notes.{docs_of};
+
+use std::alloc::{AllocError, Global};
+use wit_names::front::behind;
+use wit_tree::tree;
+use wit_types::Docs;
+use wit_values::Text;
+
+/// The text without the end, where it has that end.
+fn without_end<'t>(text: &'t str, end: &str) -> &'t str
+    ensures { result.now ≡ without_end end.now text.now }
+{
+    match text.strip_suffix(end) {
+        Some(front) => front,
+        None => text,
+    }
+}
+
+/// The text behind the slashes that it begins with.
+fn behind_slashes(text: &str) -> &str
+    ensures { result.now ≡ behind_slashes text.now }
+{
+    text.trim_start_matches('/')
+}
+
+/// A comment without its marks.
+fn unmarked(comment: &str) -> &str
+    ensures { result.now ≡ unmarked comment.now }
+{
+    if comment == "/**/" {
+        return "";
+    }
+    match behind(comment, "/**") {
+        Some(rest) => without_end(rest, "*/"),
+        None => behind_slashes(comment),
+    }
+}
+
+/// What a comment says: neither its marks nor the white space at its end.
+fn said(comment: &str) -> &str
+    ensures { result.now ≡ said comment.now }
+{
+    unmarked(comment).trim_end()
+}
+
+/// What each comment says.
+fn all_said<'a>(alloc: Global, comments: &[&'a str]) -> Result<Vec<&'a str>, AllocError>
+    ensures { IfOk result (λ texts. map (λ t. t.now) texts.items ≡ map (λ c. said c.now) comments.now) }
+{
+    let mut texts = Vec::with_capacity(alloc, comments.len())?;
+    for comment in comments {
+        texts.push(said(comment))?;
+    }
+    Ok(texts)
+}
+
+/// How many bytes of ASCII white space a text begins with.
+fn indent(text: &str) -> usize
+    ensures { result ≡ indent text.now }
+{
+    text.as_bytes()
+        .iter()
+        .take_while(|b| b.is_ascii_whitespace())
+        .count()
+}
+
+/// The least indent of those texts that are not empty; 0 where all are.
+fn common_indent(texts: &[&str]) -> usize
+    ensures { result ≡ common_indent (map (λ t. t.now) texts.now) }
+{
+    texts
+        .iter()
+        .filter(|text| !text.is_empty())
+        .map(|text| indent(text))
+        .min()
+        .unwrap_or(0)
+}
+
+/// The text without this many spaces in front, where it begins with them.
+fn without_spaces(text: &str, count: usize) -> &str
+    ensures { result.now ≡ without_spaces count text.now }
+{
+    let mut rest = text;
+    let mut left = count;
+    while left > 0 {
+        match rest.strip_prefix(' ') {
+            Some(less) => rest = less,
+            None => return text,
+        }
+        left -= 1;
+    }
+    rest
+}
+
+/// Adds a line and its LF.
+fn push_line(text: &mut String, line: &str) -> Result<(), AllocError>
+    ensures { OnOk result (string_bytes text.new ≡ string_bytes text.old ++ ended line.now) }
+{
+    text.push_str(line)?;
+    text.push('\n')?;
+    Ok(())
+}
+
+/// Adds the lines of what a comment says, each with an LF.
+fn push_lines(text: &mut String, added: &str) -> Result<(), AllocError>
+    ensures { OnOk result (string_bytes text.new ≡ string_bytes text.old ++ ended_lines added.now) }
+{
+    if added.is_empty() {
+        return push_line(text, added);
+    }
+    for line in added.lines() {
+        push_line(text, line)?;
+    }
+    Ok(())
+}
+
+/// Takes the LFs at the end off.
+fn drop_last_lines(text: &mut String)
+    ensures { string_bytes text.new ≡ without_last_lines (string_bytes text.old) }
+{
+    let end = text.as_str().trim_end_matches('\n').len();
+    text.truncate(end);
+}
+
+/// What comments say, joined.
+fn joined(alloc: Global, texts: &[&str]) -> Result<String, AllocError>
+    ensures { IfOk result (λ text. string_bytes text ≡ joined (map (λ t. t.now) texts.now)) }
+{
+    let count = common_indent(texts);
+    let mut text = String::new(alloc);
+    for added in texts {
+        push_lines(&mut text, without_spaces(added, count))?;
+    }
+    drop_last_lines(&mut text);
+    Ok(text)
+}
+
+/// The docs that comments give.
+///
+/// From a comment that begins with `/**` this front is taken, and the `*/` at its end; `/**/` says
+/// nothing. From any other comment all slashes at its front are taken. Then white space at the end
+/// is taken from each. Where all that is not empty begins with at least n bytes of ASCII white
+/// space, and n is the most, n spaces are taken from each text that begins with them. The texts
+/// stand line by line, with LF at the end of a line and an empty line for an empty text; LFs at
+/// the end of all are taken. No comment gives no contents.
+///
+/// The error is want of memory.
+pub fn docs(alloc: Global, docs: &tree::Docs<'_>) -> Result<Docs, AllocError>
+    ensures { IfOk result (λ d. d ≡ docs_of docs.now) }
+{
+    let comments = docs.docs.as_slice();
+    if comments.is_empty() {
+        return Ok(Docs { contents: None });
+    }
+    let texts = all_said(alloc, comments)?;
+    let text = joined(alloc, &texts)?;
+    Ok(Docs {
+        contents: Some(Text::from(text)),
+    })
+}

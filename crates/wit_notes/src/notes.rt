@@ -1,0 +1,91 @@
+//! What the docs and the attributes in front of a thing tell of it.
+ghost use Rattle.std.specs.Prelude.{◌≡◌, IfErr, IfOk, OnOk};
+ghost use Rattle.wit_syntax.specs.Broken.{Refused};
+ghost use Rattle.wit_syntax.specs.Fault.{Fault};
+ghost use Rattle.wit_syntax.specs.Notes.{IsBrokenNotes, docs_of, no_docs, notes as the_notes};
+ghost use Rattle.wit_notes.specs.Notes.{notes_behind};
+
+use crate::attributes::{check_external_once, check_stability, told_external_id, told_stability};
+use crate::comments::docs;
+use std::alloc::{AllocError, Global};
+use wit_tree::ParseResult;
+use wit_tree::tree::{self, Attribute};
+use wit_types::{Docs, Stability};
+use wit_values::Text;
+
+/// What is told of a thing: its docs, how stable it is, and its name elsewhere.
+#[derive(Debug, Clone, Drop)]
+pub struct Notes {
+    pub docs: Docs,
+    pub stability: Stability,
+    pub external_id: Option<Text>,
+}
+
+/// What docs and attributes tell.
+///
+/// The error is that of [`check_notes`], or want of memory.
+pub fn notes_of(
+    alloc: Global,
+    comments: &tree::Docs<'_>,
+    attributes: &[Attribute<'_>],
+) -> ParseResult<Notes>
+    ensures told { IfOk result (λ n. notes_behind n ≡ the_notes (docs_of comments.now) attributes.now) }
+    ensures legal { OnOk result ((f : Fault) → IsBrokenNotes attributes.now f → ⊥) }
+    ensures refused { IfErr result (Refused (IsBrokenNotes attributes.now)) }
+{
+    let docs = docs(alloc, comments)?;
+    if attributes.len() == 0 {
+        return Ok(Notes {
+            docs,
+            stability: Stability::Unknown,
+            external_id: None,
+        });
+    }
+    let told = use_notes(alloc, attributes)?;
+    Ok(Notes {
+        docs,
+        stability: told.stability,
+        external_id: told.external_id,
+    })
+}
+
+/// Refuses attributes that break a rule: of stability, or that no external id stands behind another.
+///
+/// The error is that of [`stability`](crate::stability), then that of
+/// [`external_id`](crate::external_id), or want of memory.
+pub fn check_notes(alloc: Global, attributes: &[Attribute<'_>]) -> ParseResult<()>
+    ensures legal { OnOk result ((f : Fault) → IsBrokenNotes attributes.now f → ⊥) }
+    ensures refused { IfErr result (Refused (IsBrokenNotes attributes.now)) }
+{
+    check_stability(alloc, attributes)?;
+    check_external_once(alloc, attributes)?;
+    Ok(())
+}
+
+/// What attributes tell of a thing that has no docs, as a used name has none: the first of each kind,
+/// whatever rule they break.
+///
+/// The error is want of memory.
+pub fn told_notes(alloc: Global, attributes: &[Attribute<'_>]) -> Result<Notes, AllocError>
+    ensures { IfOk result (λ n. notes_behind n ≡ the_notes no_docs attributes.now) }
+{
+    let stability = told_stability(alloc, attributes)?;
+    let external_id = told_external_id(alloc, attributes)?;
+    Ok(Notes {
+        docs: Docs { contents: None },
+        stability,
+        external_id,
+    })
+}
+
+/// What attributes tell of a thing that has no docs, as a used name has none.
+///
+/// The error is that of [`check_notes`], or want of memory.
+pub fn use_notes(alloc: Global, attributes: &[Attribute<'_>]) -> ParseResult<Notes>
+    ensures told { IfOk result (λ n. notes_behind n ≡ the_notes no_docs attributes.now) }
+    ensures legal { OnOk result ((f : Fault) → IsBrokenNotes attributes.now f → ⊥) }
+    ensures refused { IfErr result (Refused (IsBrokenNotes attributes.now)) }
+{
+    check_notes(alloc, attributes)?;
+    Ok(told_notes(alloc, attributes)?)
+}

@@ -1,7 +1,0 @@
-use Rattle.std.proofs.Common.{map, take}
-use Rattle.wit_entries.specs.Signatures.{AreResults}
-use Rattle.wit_parser.specs.Held.{name_behind}
-use Rattle.wit_parser.proofs.functions.written_results.Given as goal
-
-abbrev pub invariant-loop-name : goal.invariant-loop-name
-invariant-loop-name l = AreResults l.results (map name_behind (take l.name-index l.names))

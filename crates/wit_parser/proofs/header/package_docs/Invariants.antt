@@ -1,7 +1,0 @@
-use Rattle.std.proofs.Common.{◌≡◌, drop}
-use Rattle.wit_meaning.specs.Broken.{headers}
-use Rattle.wit_meaning.specs.Whole.{first_docs}
-use Rattle.wit_parser.proofs.header.package_docs.Given as goal
-
-abbrev pub invariant-loop-file : goal.invariant-loop-file
-invariant-loop-file l = first_docs (headers (drop l.file-index l.files)) ≡ first_docs (headers l.files)

@@ -1,7 +1,0 @@
-use Rattle.std.proofs.Common.{map, take}
-use Rattle.wit_parser.specs.Between.{NeedNone}
-use Rattle.wit_parser.specs.Held.{name_behind}
-use Rattle.wit_parser.proofs.scope.need_none.Given as goal
-
-abbrev pub invariant-loop-name : goal.invariant-loop-name
-invariant-loop-name l = NeedNone (take l.name-index (map name_behind l.names))

@@ -1,8 +1,0 @@
-use Rattle.std.proofs.Common.{◌≡◌, map, take}
-use Rattle.wit_order.specs.Table.{rows}
-use Rattle.wit_meaning.specs.Scope.{rows_of}
-use Rattle.wit_parser.specs.Held.{name_behind}
-use Rattle.wit_parser.proofs.scope.scope_table.Given as goal
-
-abbrev pub invariant-loop-name : goal.invariant-loop-name
-invariant-loop-name l = rows l.table ≡ rows_of (map name_behind (take l.name-index l.names))

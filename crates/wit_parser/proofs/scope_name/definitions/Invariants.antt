@@ -1,7 +1,0 @@
-use Rattle.std.proofs.Common.{◌≡◌, map, take}
-use Rattle.wit_meaning.specs.Scope.{defined}
-use Rattle.wit_parser.specs.Held.{name_behind, definition_behind}
-use Rattle.wit_parser.proofs.scope_name.definitions.Given as goal
-
-abbrev pub invariant-loop-name : goal.invariant-loop-name
-invariant-loop-name l = map definition_behind l.definitions.items ≡ defined (map name_behind (take l.name-index l.names))

@@ -1,0 +1,46 @@
+-- Rules of functions: their parameters by name, and what setters and constructors give.
+use Rattle.std.proofs.Common.{◌≡◌, ℕ, List, ◌++◌, inl, inr, sym, ap, ◌∙◌}
+use Rattle.std.specs.Prelude.{map, Result, Ok, Err, OnOk}
+use Rattle.std.proofs.lemmas.List.{map-append}
+use denote.Ref.{Bor}
+use Rattle.wit_tree.specs.declared.tree.Id.{Id}
+use Rattle.wit_tree.specs.declared.tree.FuncForm.TheVariants as form
+use Rattle.wit_tree.specs.declared.tree.Param.{Param}
+use Rattle.wit_tree.specs.declared.tree.«Type».{«Type» as Written}
+use Rattle.wit_syntax.specs.Bodies.{folded}
+use Rattle.wit_syntax.specs.Fault.{Fault}
+use Rattle.wit_syntax.specs.Function.{Role, Constructor, SourceFunction, SourceParam, written_param}
+use Rattle.wit_syntax.specs.Repeats.{IsRepeatAt}
+use Rattle.wit_syntax.specs.Signature.{role_form, param_key, IsConstructorWithoutResult, IsConstructorOfOther}
+use Rattle.wit_syntax.specs.Source.{ScopeName}
+use Rattle.wit_syntax.proofs.Lists.{map_at, map_map}
+use Rattle.wit_rules.specs.Signatures.{AreResults, IsRepeatedAt, IsBrokenResult}
+
+-- the names of parameters, of which some are written
+pub names-append : (given params : List SourceParam) (written : List Param) → map written_param written ≡ params → map (λ p. p.name) (given ++ params) ≡ map (λ p. p.name) given ++ map (λ p. p.name.name.now) written
+names-append given params written is =
+    map-append (λ p. p.name) given params
+    ∙ ap (λ (names : List (List ℕ)). map (λ p. p.name) given ++ names) (ap (map (λ p. p.name)) (sym is) ∙ map_map (λ p. p.name) written_param written)
+
+-- the keys of names are those of the parameters
+pub keys-named : (names : List (Bor (List ℕ))) (params : List SourceParam) → map (λ t. t.now) names ≡ map (λ p. p.name) params → map (λ t. folded t.now) names ≡ map param_key params
+keys-named names params is = sym (map_map folded (λ t. t.now) names) ∙ ap (map folded) is ∙ map_map folded (λ p. p.name) params
+
+-- a key that stands at two places is that of an item at the later one
+pub repeated_at : {X : Type 0} (key : X → List ℕ) (xs : List X) (first second : ℕ) → IsRepeatAt (map key xs) first second → IsRepeatedAt key xs second
+repeated_at key xs first second r =
+    let earlier = map_at key xs first r.x r.at_first in
+    let later = map_at key xs second r.x r.at_second in
+    record { first = first; earlier = earlier.0; later = later.0; before = r.before; at_first = earlier.1; at = later.1; same = earlier.2 ∙ sym later.2 }
+
+-- no constructor is a setter
+pub no_setter : {A : Type 0} (role : Role) (constructs : (of : Id) × (role ≡ Constructor of)) → role_form role ≡ form.Setter → A
+no_setter role constructs setter = (let plain = ap role_form constructs.1 in let wrong : form.Plain ≡ form.Setter = sym plain ∙ setter in cc)
+
+-- what is no setter's, and is legal as what a constructor gives
+pub legal_made : {T E : Type 0} (results : List (List ℕ × Bor Written)) (fn : SourceFunction) (r : Result T E) → (role_form fn.role ≡ form.Setter → ⊥) → OnOk r ((xs : List ScopeName) → AreResults results xs → (f : Fault) → IsConstructorWithoutResult xs fn f → ⊥) → OnOk r ((xs : List ScopeName) → AreResults results xs → (f : Fault) → IsConstructorOfOther xs fn f → ⊥) → OnOk r ((xs : List ScopeName) → AreResults results xs → (f : Fault) → IsBrokenResult xs fn f → ⊥)
+legal_made results fn (Ok x) other without of = λ xs are f broken. elim broken [
+  | inl setter ↦ other setter.setter
+  | inr made ↦ elim made [ inl h ↦ without xs are f h | inr h ↦ of xs are f h ]
+]
+legal_made results fn (Err e) other without of = tt

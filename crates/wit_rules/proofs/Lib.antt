@@ -1,0 +1,2 @@
+mod Duplicates
+mod FunctionRules

@@ -1,0 +1,49 @@
+use Rattle.std.proofs.Common.{◌≡◌, false, true, None, Some, inl, inr, ap, sym, ◌∙◌, subst}
+use Rattle.std.specs.Option.{option_map}
+use Rattle.wit_tree.specs.declared.tree.«Type».{«Type» as Written}
+use Rattle.wit_syntax.specs.Fault.{fault}
+use Rattle.wit_syntax.specs.Signature.{IsWrittenAs}
+use Rattle.wit_rules.proofs.function_rules.check_made.Goals as goal
+use Rattle.wit_rules.proofs.function_rules.check_made.Goals.{in_default-ok-via-in-Some-ok+else-is_written_as, in_default-ok-via-in_default-ok}
+
+pub returns-in_default-clause-refused : goal.returns-in_default-clause-refused
+returns-in_default-clause-refused c = λ xs are. elim c.refuse.ensures [
+  | inl memory ↦ inl memory
+  | inr says ↦ inr (inl (record {
+    of = c.args.resource;
+    constructs = c.requires.role;
+    t = c.args.ty.now;
+    result = c.requires.result;
+    none = sym (c.in_default.ensures xs are);
+    is = says ∙ ap (fault 41) c.span_of.ensures;
+  }))
+]
+
+pub returns-in_default-ok-clause-refused : goal.returns-in_default-ok-clause-refused
+returns-in_default-ok-clause-refused c =
+    let resource = c.args.resource in
+    let ok = option_map (λ t. t.now) c.in-Some.ok in
+    let other : (u : Written) → ok ≡ Some u → IsWrittenAs resource u → ⊥ = λ u is written. elim c.in_default-ok.branch [
+      | in_default-ok-via-in-Some-ok+else-is_written_as w ↦ (
+          let there : Some w.in-Some-ok.ok.now ≡ Some u = sym (ap (option_map (λ t. t.now)) w.in-Some-ok.is) ∙ is in
+          let same : u ≡ w.in-Some-ok.ok.now = cc in
+          let told = w.is_written_as.ensures.1 (subst (IsWrittenAs resource) same written) in
+          let wrong : false ≡ true = sym w.if-is_written_as.false ∙ told in
+          cc)
+      | in_default-ok-via-in_default-ok w ↦ (
+          let none : None ≡ Some u = sym (ap (option_map (λ t. t.now)) w.in_default-ok.is) ∙ is in
+          cc)
+    ] in
+    λ xs are. elim c.refuse-in_default-ok.ensures [
+      | inl memory ↦ inl memory
+      | inr says ↦ inr (inr (record {
+        of = resource;
+        constructs = c.requires.role;
+        t = c.args.ty.now;
+        result = c.requires.result;
+        ok = ok;
+        gives = sym (c.in-Some.ensures xs are);
+        other = other;
+        is = says ∙ ap (fault 42) c.ok_span.ensures;
+      }))
+    ]

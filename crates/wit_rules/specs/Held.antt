@@ -1,0 +1,32 @@
+-- Written functions that are held until their types are resolved.
+use Rattle.std.specs.Prelude.{Option, Some, None}
+use Rattle.wit_tree.specs.declared.tree.Id.{Id}
+use Rattle.wit_syntax.specs.Function.{Role, Freestanding, Method, Static, Constructor, SourceFunction, free_function, resource_function}
+use Rattle.wit_rules.specs.declared.held.HeldFunction.{HeldFunction}
+use Rattle.wit_rules.specs.declared.held.HeldFunction.TheVariants.{Free, Of}
+
+-- the function that is held
+abbrev pub function_behind : HeldFunction → SourceFunction
+function_behind (Free f) = free_function f.now
+function_behind (Of r f) = resource_function r f.now
+
+-- the resource that a function belongs to
+abbrev pub owner_of : Role → Option Id
+owner_of (Freestanding id form) = None
+owner_of (Method of form) = Some of
+owner_of (Static of form) = Some of
+owner_of (Constructor of) = Some of
+
+-- the resource that a method is first given
+abbrev pub given_of : Role → Option Id
+given_of (Freestanding id form) = None
+given_of (Method of form) = Some of
+given_of (Static of form) = None
+given_of (Constructor of) = None
+
+-- the resource that a constructor makes
+abbrev pub made_of : Role → Option Id
+made_of (Freestanding id form) = None
+made_of (Method of form) = None
+made_of (Static of form) = None
+made_of (Constructor of) = Some of

@@ -1,0 +1,130 @@
+-- What the functions of a scope are resolved in, and what may be wrong with one of them.
+use Rattle.std.specs.Prelude.{◌≡◌, ◌⊎◌, ◌+◌, ◌<◌, ℕ, nat_eq, List, length, map, Option, Some, None, IsSome, Contains, slice_get, ⊤}
+use Rattle.std.specs.Cmp.Lexicographic.{pointwise}
+use Rattle.std.specs.Map.{lookup}
+use Rattle.std.specs.Option.{option_to_list}
+use denote.Ref.{Bor}
+use Rattle.wit_values.specs.declared.span.Span.{Span}
+use Rattle.wit_tree.specs.Refusal.{Missing}
+use Rattle.wit_tree.specs.declared.tree.Id.{Id}
+use Rattle.wit_tree.specs.declared.tree.«Type».{«Type» as Written}
+use Rattle.wit_types.specs.declared.types.«Type».{«Type» as Ty}
+use Rattle.wit_types.specs.declared.types.TypeDef.{TypeDef}
+use Rattle.wit_model.specs.declared.function.Param.{Param}
+use Rattle.wit_syntax.specs.Address.{Address}
+use Rattle.wit_arena.specs.Adding.{AreShapes, SaysParam}
+use Rattle.wit_syntax.specs.Fault.{Fault, fault, name_word}
+use Rattle.wit_syntax.specs.Shape.{Shape, shape_of, words, handles, all_handles}
+use Rattle.wit_syntax.specs.Source.{ScopeName, meaning}
+use Rattle.wit_syntax.specs.Function.{Role, Freestanding, Method, Static, Constructor, SourceParam, SourceFunction, written_types}
+use Rattle.wit_syntax.specs.Bodies.{IsBrokenType}
+use Rattle.wit_syntax.specs.Signature.{ok_of, meant_ok, IsEntered, IsGetterWithoutResult, IsSetterWithResult, IsConstructorWithoutResult, IsConstructorOfOther, IsBrokenFunction}
+use Rattle.wit_arena.specs.Resolving.{Env, env_of, IsWrongHandle}
+use Rattle.wit_rules.specs.declared.function_scope.FunctionScope.{FunctionScope}
+use Rattle.wit_rules.specs.Held.{function_behind, owner_of}
+
+-- what the definition of a name gives where all is well, by a table of definitions that are written as results
+abbrev pub told_ok : Option (Bor Written) → Option (Option Written)
+told_ok None = None
+told_ok (Some t) = ok_of t.now
+
+-- a table has the definitions of a scope that are written as results
+pub record AreResults (results : List (List ℕ × Bor Written)) (xs : List ScopeName) : Type 0 where
+  pub told : (name : List ℕ) → told_ok (lookup (pointwise nat_eq name) results) ≡ meant_ok (meaning xs name)
+
+-- the names of a scope have no further one than those that stand for places
+pub record AreAllNames (env : Env) (xs : List ScopeName) : Type 0 where
+  pub unmeant : (name : List ℕ) → env name ≡ None → meaning xs name ≡ None
+
+-- functions are resolved in a scope of these names
+pub record IsScopeOf (scope : FunctionScope) (xs : List ScopeName) : Type 0 where
+  pub names : AreAllNames (env_of scope.names.now) xs
+  pub results : AreResults scope.results.now xs
+
+-- the functions of a scope
+abbrev pub functions_behind : FunctionScope → List SourceFunction
+functions_behind scope = map function_behind scope.functions.now
+
+-- an item at a place has the key of an earlier one
+pub record IsRepeatedAt {X : Type 0} (key : X → List ℕ) (xs : List X) (place : ℕ) : Type 0 where
+  pub first : ℕ
+  pub earlier : X
+  pub later : X
+  pub before : first < place
+  pub at_first : slice_get xs first ≡ Some earlier
+  pub at : slice_get xs place ≡ Some later
+  pub same : key earlier ≡ key later
+
+-- what is wrong with what a setter or a constructor gives
+abbrev pub IsBrokenResult : List ScopeName → SourceFunction → Fault → Type 0
+IsBrokenResult xs fn f = IsSetterWithResult xs fn f ⊎ (IsConstructorWithoutResult xs fn f ⊎ IsConstructorOfOther xs fn f)
+
+-- each function of a resource stands in a scope in which that has a place
+abbrev pub HasOwner : Env → Option Id → Type 0
+HasOwner env None = ⊤
+HasOwner env (Some id) = IsSome (env id.name.now)
+
+pub record HaveOwners (env : Env) (fns : List SourceFunction) : Type 0 where
+  pub each : (k : ℕ) (fn : SourceFunction) → slice_get fns k ≡ Some fn → HasOwner env (owner_of fn.role)
+
+-- a function is one by itself, of this written name
+abbrev pub IsFree : Role → List ℕ → Type 0
+IsFree (Freestanding id form) name = id.name.now ≡ name
+IsFree (Method of form) name = ⊥
+IsFree (Static of form) name = ⊥
+IsFree (Constructor of) name = ⊥
+
+-- a name that is written at a span is that of a function up to a place, or of none
+pub data IsLostAt (fns : List SourceFunction) (k : ℕ) (span : Span) (name : List ℕ) (f : Fault) : Type 0 where
+  AtFunction : IsEntered fns k name → f ≡ fault 28 span → IsLostAt fns k span name f
+  AtNothing : (IsEntered fns k name → ⊥) → f ≡ record { rule = 29; span = span; name = Some name; sort = Missing name_word } → IsLostAt fns k span name f
+
+-- a name among these stands for nothing, and it is that of a function up to a place, or of none
+pub record IsLostName (env : Env) (fns : List SourceFunction) (k : ℕ) (ids : List Id) (f : Fault) : Type 0 where
+  pub id : Id
+  pub among : Contains ids id
+  pub free : env id.name.now ≡ None
+  pub lost : IsLostAt fns k id.span id.name.now f
+
+-- what is wrong with a type in the signature of a function at a place
+pub data IsWrongInSignature (env : Env) (es : List TypeDef) (fns : List SourceFunction) (k : ℕ) (t : Written) (f : Fault) : Type 0 where
+  WrongForm : IsBrokenType t f → IsWrongInSignature env es fns k t f
+  LostName : IsLostName env fns k (words (shape_of t)) f → IsWrongInSignature env es fns k t f
+  WrongHandle : IsWrongHandle env es (handles t) f → IsWrongInSignature env es fns k t f
+
+-- with one of these types
+abbrev pub IsWrongInSignatures : Env → List TypeDef → List SourceFunction → ℕ → List Written → Fault → Type 0
+IsWrongInSignatures env es fns k ts f = (t : Written) × Contains ts t × IsWrongInSignature env es fns k t f
+
+-- an item of a list is the one at a place where another list stands in front of it, and it is refused
+pub record IsRefusedParam (repeated : Option ℕ) (front : ℕ) (ws : List SourceParam) (f : Fault) : Type 0 where
+  pub place : ℕ
+  pub later : SourceParam
+  pub at : slice_get ws place ≡ Some later
+  pub same : repeated ≡ Some (front + place)
+  pub is : f ≡ fault 38 later.span
+
+-- these are the parameters, over their types, which were added to the arena
+pub record AreParamsOver (old new : List TypeDef) (env : Env) (ws : List SourceParam) (ps : List Param) : Type 0 where
+  pub count : length ps ≡ length ws
+  pub each : (k : ℕ) (w : SourceParam) (p : Param) → slice_get ws k ≡ Some w → slice_get ps k ≡ Some p → SaysParam w p
+  pub types : (s : Address) → AreShapes old new s env (map (λ w. w.shape) ws) (map (λ p. p.ty) ps)
+
+-- this is the type of a result, which was added to the arena, where there is one
+pub record IsResultOver (old new : List TypeDef) (env : Env) (x : Option Shape) (t : Option Ty) : Type 0 where
+  pub types : (s : Address) → AreShapes old new s env (option_to_list x) (option_to_list t)
+
+-- what is wrong with what a function gives
+abbrev pub IsBrokenReturn : List ScopeName → SourceFunction → Fault → Type 0
+IsBrokenReturn xs fn f = IsGetterWithoutResult fn f ⊎ IsBrokenResult xs fn f
+
+-- what is wrong with a function at a place among those of a scope: a rule is broken, or a handle in it names no resource
+abbrev pub IsWrongFunction : Env → List TypeDef → List ScopeName → List SourceFunction → ℕ → SourceFunction → Fault → Type 0
+IsWrongFunction env es xs fns k fn f = IsBrokenFunction xs fns k fn f ⊎ IsWrongHandle env es (all_handles (written_types fn)) f
+
+-- what is wrong with one of them
+pub record IsWrongFunctionAmong (env : Env) (es : List TypeDef) (xs : List ScopeName) (fns : List SourceFunction) (f : Fault) : Type 0 where
+  pub place : ℕ
+  pub fn : SourceFunction
+  pub at : slice_get fns place ≡ Some fn
+  pub wrong : IsWrongFunction env es xs fns place fn f

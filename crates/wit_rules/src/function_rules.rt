@@ -1,0 +1,218 @@
+//! The rules of functions: of their parameters and of their results.
+ghost use Rattle.std.specs.Prelude.{◌≡◌, ◌⊎◌, ◌↔◌, List, Some, None, IfErr, IfNone, IfOk, IfSome, IsTrue, OnOk, map};
+ghost use Rattle.wit_tree.specs.Refusal.{IsWantOfMemory};
+ghost use Rattle.wit_tree.specs.declared.tree.FuncForm.TheVariants.{Getter, Setter};
+ghost use Rattle.wit_syntax.specs.Fault.{Fault, fault, fault_of};
+ghost use Rattle.wit_syntax.specs.Source.{ScopeName};
+ghost use Rattle.wit_syntax.specs.Broken.{Refused};
+ghost use Rattle.wit_syntax.specs.Function.{all_params, Constructor};
+ghost use Rattle.wit_syntax.specs.Signature.{role_form, param_key, ok_span as the_ok_span, IsWrittenAs, IsGetterGiven, IsSetterGiven, IsDuplicateParam, IsGetterWithoutResult, IsSetterWithResult, IsConstructorWithoutResult, IsConstructorOfOther};
+ghost use Rattle.wit_rules.specs.Held.{function_behind};
+ghost use Rattle.wit_rules.specs.Signatures.{AreResults, IsRepeatedAt, IsBrokenResult};
+
+use crate::function_scope::{result_ok, span_of};
+use crate::held::HeldFunction;
+use std::alloc::{AllocError, Global};
+use wit_notes::refusal::{refuse, refuse_in};
+use wit_notes::repeats::first_folded_repeat;
+use wit_tree::tree::{FuncForm, Id, Type};
+use wit_tree::{ParseError, ParseResult, Span};
+use wit_values::TextTable;
+
+/// What is said of a setter whose result is no `result`, or gives something where all is well.
+const SETTER_RESULT: &str =
+    "if a setter return type is declared it must be a `result` with no `ok` type";
+
+/// What is said of a constructor whose result is no `result`.
+const CONSTRUCTOR_RESULT: &str = "if a constructor return type is declared it must be a `result`";
+
+/// What is said of a constructor of something else than its resource.
+const CONSTRUCTOR_OK: &str = "the `ok` type must be the resource being constructed";
+
+/// Refuses a getter with a parameter (E36).
+fn check_getter(alloc: Global, function: HeldFunction<'_, '_>) -> ParseResult<()>
+    requires { role_form (function_behind function).role ≡ Getter }
+    ensures legal { OnOk result ((f : Fault) → IsGetterGiven (function_behind function.entry) f → ⊥) }
+    ensures refused { IfErr result (Refused (IsGetterGiven (function_behind function.entry))) }
+{
+    match function.params().first() {
+        Some(first) => {
+            let span = first.name.span;
+            Err(refuse(alloc, 36, span, "getters cannot have parameters"))
+        }
+        None => Ok(()),
+    }
+}
+
+/// Refuses a setter that has not just one parameter (E37).
+fn check_setter(alloc: Global, function: HeldFunction<'_, '_>) -> ParseResult<()>
+    requires { role_form (function_behind function).role ≡ Setter }
+    ensures legal { OnOk result ((f : Fault) → IsSetterGiven (function_behind function.entry) f → ⊥) }
+    ensures refused { IfErr result (Refused (IsSetterGiven (function_behind function.entry))) }
+{
+    let params = function.params();
+    if params.len() == 1 {
+        return Ok(());
+    }
+    let span = match params.get(1) {
+        Some(second) => second.name.span,
+        None => function.word(),
+    };
+    Err(refuse(alloc, 37, span, "setters must have exactly one parameter"))
+}
+
+/// Refuses a getter with a parameter (E36), and a setter that has not just one (E37).
+pub fn check_given(alloc: Global, function: HeldFunction<'_, '_>) -> ParseResult<()>
+    ensures getter { OnOk result ((f : Fault) → IsGetterGiven (function_behind function.entry) f → ⊥) }
+    ensures setter { OnOk result ((f : Fault) → IsSetterGiven (function_behind function.entry) f → ⊥) }
+    ensures refused { IfErr result (Refused (λ f. IsGetterGiven (function_behind function.entry) f ⊎ IsSetterGiven (function_behind function.entry) f)) }
+{
+    match function.form() {
+        FuncForm::Getter => check_getter(alloc, function),
+        FuncForm::Setter => check_setter(alloc, function),
+        FuncForm::Plain | FuncForm::Async => Ok(()),
+    }
+}
+
+/// The names of all parameters; `self` is the first of a method.
+fn param_names<'t, 'a>(
+    alloc: Global,
+    function: HeldFunction<'t, 'a>,
+) -> Result<Vec<&'a str>, AllocError>
+    ensures { IfOk result (λ names. map (λ t. t.now) names.items ≡ map (λ p. p.name) (all_params (function_behind function.entry))) }
+{
+    let params = function.params();
+    let mut names = Vec::with_capacity(alloc, params.len() + 1)?;
+    if function.given().is_some() {
+        names.push("self")?;
+    }
+    for param in params {
+        names.push(param.name.name)?;
+    }
+    Ok(names)
+}
+
+/// The place among all parameters of the first that an earlier one is, once case is folded.
+pub fn repeated_param(
+    alloc: Global,
+    function: HeldFunction<'_, '_>,
+) -> Result<Option<usize>, AllocError>
+    ensures some { IfOk result (λ found. IfSome found (λ place. IsRepeatedAt param_key (all_params (function_behind function.entry)) place)) }
+    ensures none { IfOk result (λ found. IfNone found ((f : Fault) → IsDuplicateParam (function_behind function.entry) f → ⊥)) }
+{
+    let names = param_names(alloc, function)?;
+    match first_folded_repeat(alloc, &names)? {
+        Some((_, second)) => Ok(Some(second)),
+        None => Ok(None),
+    }
+}
+
+/// The words for a parameter whose name an earlier one has.
+fn defined_twice(alloc: Global, name: &str) -> Result<String, AllocError> {
+    format!(in alloc; "param `{name}` is defined more than once")
+}
+
+/// The refusal of a parameter whose name an earlier one has (E38).
+pub fn refuse_param(alloc: Global, name: Id<'_>) -> ParseError
+    ensures { IsWantOfMemory result ⊎ (fault_of result ≡ fault 38 name.entry.span) }
+{
+    refuse_in(38, name.span, defined_twice(alloc, name.name))
+}
+
+/// Refuses a getter without a result (E39).
+pub fn check_returns(alloc: Global, function: HeldFunction<'_, '_>) -> ParseResult<()>
+    requires { (function_behind function).result_type ≡ None }
+    ensures legal { OnOk result ((f : Fault) → IsGetterWithoutResult (function_behind function.entry) f → ⊥) }
+    ensures refused { IfErr result (Refused (IsGetterWithoutResult (function_behind function.entry))) }
+{
+    match function.form() {
+        FuncForm::Getter => {
+            let message = "getters must return a value";
+            Err(refuse(alloc, 39, function.word(), message))
+        }
+        FuncForm::Plain | FuncForm::Async | FuncForm::Setter => Ok(()),
+    }
+}
+
+/// Refuses a setter's result unless it is a `result` that gives nothing where all is well (E40).
+fn check_setter_result<'t, 'a>(
+    alloc: Global,
+    results: &TextTable<&'t Type<'a>>,
+    function: HeldFunction<'t, 'a>,
+    ty: &'t Type<'a>,
+) -> ParseResult<()>
+    requires form { role_form (function_behind function).role ≡ Setter }
+    requires result { (function_behind function).result_type ≡ Some ty.now }
+    ensures legal { OnOk result ((xs : List ScopeName) → AreResults results.now xs → (f : Fault) → IsSetterWithResult xs (function_behind function.entry) f → ⊥) }
+    ensures refused { IfErr result (λ e. (xs : List ScopeName) → AreResults results.now xs → Refused (IsSetterWithResult xs (function_behind function.entry)) e) }
+{
+    match result_ok(results, ty) {
+        Some(None) => Ok(()),
+        Some(Some(_)) | None => Err(refuse(alloc, 40, span_of(ty), SETTER_RESULT)),
+    }
+}
+
+/// Whether a type is written as a name, or as a handle that owns it.
+fn is_written_as(name: Id<'_>, ty: &Type<'_>) -> bool
+    ensures { IsTrue result ↔ IsWrittenAs name.entry ty.now }
+{
+    match ty {
+        Type::Name(id) | Type::Own(_, id) => id.name == name.name,
+        _ => false,
+    }
+}
+
+/// Where a result gives what it gives where all is well, if that is written there; else all of it.
+fn ok_span(ty: &Type<'_>) -> Span
+    ensures { result ≡ the_ok_span ty.now }
+{
+    match ty {
+        Type::Result(_, Some(ok), _) => span_of(ok),
+        _ => span_of(ty),
+    }
+}
+
+/// Refuses a constructor's result unless it is a `result` (E41) that gives its resource where all is
+/// well (E42).
+fn check_made<'t, 'a>(
+    alloc: Global,
+    results: &TextTable<&'t Type<'a>>,
+    function: HeldFunction<'t, 'a>,
+    resource: Id<'a>,
+    ty: &'t Type<'a>,
+) -> ParseResult<()>
+    requires role { (function_behind function).role ≡ Constructor resource }
+    requires result { (function_behind function).result_type ≡ Some ty.now }
+    ensures result { OnOk result ((xs : List ScopeName) → AreResults results.now xs → (f : Fault) → IsConstructorWithoutResult xs (function_behind function.entry) f → ⊥) }
+    ensures ok { OnOk result ((xs : List ScopeName) → AreResults results.now xs → (f : Fault) → IsConstructorOfOther xs (function_behind function.entry) f → ⊥) }
+    ensures refused { IfErr result (λ e. (xs : List ScopeName) → AreResults results.now xs → Refused (λ f. IsConstructorWithoutResult xs (function_behind function.entry) f ⊎ IsConstructorOfOther xs (function_behind function.entry) f) e) }
+{
+    let Some(ok) = result_ok(results, ty) else {
+        return Err(refuse(alloc, 41, span_of(ty), CONSTRUCTOR_RESULT));
+    };
+    match ok {
+        Some(ok) if is_written_as(resource, ok) => Ok(()),
+        _ => Err(refuse(alloc, 42, ok_span(ty), CONSTRUCTOR_OK)),
+    }
+}
+
+/// Refuses what a setter (E40) or a constructor (E41, E42) gives, where it is another type than it
+/// has to be.
+pub fn check_result<'t, 'a>(
+    alloc: Global,
+    results: &TextTable<&'t Type<'a>>,
+    function: HeldFunction<'t, 'a>,
+    ty: &'t Type<'a>,
+) -> ParseResult<()>
+    requires { (function_behind function).result_type ≡ Some ty.now }
+    ensures legal { OnOk result ((xs : List ScopeName) → AreResults results.now xs → (f : Fault) → IsBrokenResult xs (function_behind function.entry) f → ⊥) }
+    ensures refused { IfErr result (λ e. (xs : List ScopeName) → AreResults results.now xs → Refused (IsBrokenResult xs (function_behind function.entry)) e) }
+{
+    if let FuncForm::Setter = function.form() {
+        return check_setter_result(alloc, results, function, ty);
+    }
+    match function.made() {
+        Some(resource) => check_made(alloc, results, function, resource, ty),
+        None => Ok(()),
+    }
+}

@@ -1,0 +1,192 @@
+//! Functions as they are written, before their types are resolved.
+ghost use Rattle.std.specs.Prelude.{◌≡◌, map, IfOk, string_bytes};
+ghost use Rattle.std.specs.Option.{option_map};
+ghost use Rattle.wit_syntax.specs.Function.{accessor, free_function, resource_function, written_param};
+ghost use Rattle.wit_syntax.specs.Signature.{role_form};
+ghost use Rattle.wit_rules.specs.Held.{function_behind, owner_of, given_of, made_of};
+
+use std::alloc::{AllocError, Global};
+use wit_tree::Span;
+use wit_tree::tree::{Attribute, Docs, FuncForm, Id, NamedFunc, Param, ResourceFunc, Type};
+use wit_values::Text;
+
+/// A written function: one by itself, or one of a resource.
+#[derive(Clone, Copy, Debug)]
+pub enum HeldFunction<'t, 'a> {
+    /// A function of an interface or a world.
+    Free(&'t NamedFunc<'a>),
+    /// A function of the resource of this name.
+    Of(Id<'a>, &'t ResourceFunc<'a>),
+}
+
+/// The mark of an accessor in a function's name.
+fn mark(form: FuncForm) -> &'static str
+    ensures { result.now ≡ accessor form }
+{
+    match form {
+        FuncForm::Plain | FuncForm::Async => "",
+        FuncForm::Getter => "[get]",
+        FuncForm::Setter => "[set]",
+    }
+}
+
+/// The name of a function by itself, with its mark.
+fn free_name(alloc: Global, function: &NamedFunc<'_>) -> Result<String, AllocError>
+    ensures { IfOk result (λ name. string_bytes name ≡ (free_function function.now).name) }
+{
+    let mark = mark(function.func.form);
+    let name = function.name.name;
+    format!(in alloc; "{mark}{name}")
+}
+
+/// The name of a function of a resource, with the marks of what it is.
+fn resource_name(
+    alloc: Global,
+    resource: Id<'_>,
+    function: &ResourceFunc<'_>,
+) -> Result<String, AllocError>
+    ensures { IfOk result (λ name. string_bytes name ≡ (resource_function resource.entry function.now).name) }
+{
+    let of = resource.name;
+    match function {
+        ResourceFunc::Method(f) => {
+            let mark = mark(f.func.form);
+            let name = f.name.name;
+            format!(in alloc; "[method]{mark}{of}.{name}")
+        }
+        ResourceFunc::Static(f) => {
+            let mark = mark(f.func.form);
+            let name = f.name.name;
+            format!(in alloc; "[static]{mark}{of}.{name}")
+        }
+        ResourceFunc::Constructor { .. } => format!(in alloc; "[constructor]{of}"),
+    }
+}
+
+impl<'t, 'a> HeldFunction<'t, 'a> {
+    /// The name with the marks of what it is, as `[method]r.f`.
+    pub fn name(self, alloc: Global) -> Result<Text, AllocError>
+        ensures { IfOk result (λ name. name ≡ (function_behind self.entry).name) }
+    {
+        let name = match self {
+            HeldFunction::Free(f) => free_name(alloc, f)?,
+            HeldFunction::Of(resource, f) => resource_name(alloc, resource, f)?,
+        };
+        Ok(Text::from(name))
+    }
+
+    /// The resource that it belongs to, if it does.
+    pub fn owner(self) -> Option<Id<'a>>
+        ensures { result ≡ owner_of (function_behind self.entry).role }
+    {
+        match self {
+            HeldFunction::Free(_) => None,
+            HeldFunction::Of(resource, _) => Some(resource),
+        }
+    }
+
+    /// The resource that it is first given, lent: that of a method.
+    pub fn given(self) -> Option<Id<'a>>
+        ensures { result ≡ given_of (function_behind self.entry).role }
+    {
+        match self {
+            HeldFunction::Of(resource, ResourceFunc::Method(_)) => Some(resource),
+            HeldFunction::Of(_, ResourceFunc::Static(_) | ResourceFunc::Constructor { .. })
+            | HeldFunction::Free(_) => None,
+        }
+    }
+
+    /// The resource that it makes: that of a constructor.
+    pub fn made(self) -> Option<Id<'a>>
+        ensures { result ≡ made_of (function_behind self.entry).role }
+    {
+        match self {
+            HeldFunction::Of(resource, ResourceFunc::Constructor { .. }) => Some(resource),
+            HeldFunction::Of(_, ResourceFunc::Method(_) | ResourceFunc::Static(_))
+            | HeldFunction::Free(_) => None,
+        }
+    }
+
+    /// The form of the word that begins its signature; that of a constructor is plain.
+    pub fn form(self) -> FuncForm
+        ensures { result ≡ role_form (function_behind self.entry).role }
+    {
+        match self {
+            HeldFunction::Free(f) => f.func.form,
+            HeldFunction::Of(_, ResourceFunc::Method(f) | ResourceFunc::Static(f)) => f.func.form,
+            HeldFunction::Of(_, ResourceFunc::Constructor { .. }) => FuncForm::Plain,
+        }
+    }
+
+    /// The place of its written name; that of a constructor is the word.
+    pub fn span(self) -> Span
+        ensures { result ≡ (function_behind self.entry).span }
+    {
+        match self {
+            HeldFunction::Free(f) => f.name.span,
+            HeldFunction::Of(_, ResourceFunc::Method(f) | ResourceFunc::Static(f)) => f.name.span,
+            HeldFunction::Of(_, ResourceFunc::Constructor { span, .. }) => *span,
+        }
+    }
+
+    /// The place of the word that begins its signature.
+    pub fn word(self) -> Span
+        ensures { result ≡ (function_behind self.entry).word }
+    {
+        match self {
+            HeldFunction::Free(f) => f.func.span,
+            HeldFunction::Of(_, ResourceFunc::Method(f) | ResourceFunc::Static(f)) => f.func.span,
+            HeldFunction::Of(_, ResourceFunc::Constructor { span, .. }) => *span,
+        }
+    }
+
+    /// Its written parameters.
+    pub fn params(self) -> &'t [Param<'a>]
+        ensures params { map written_param result.now ≡ (function_behind self.entry).params }
+        ensures types { map (λ p. p.ty) result.now ≡ (function_behind self.entry).param_types }
+    {
+        match self {
+            HeldFunction::Free(f) => &f.func.params,
+            HeldFunction::Of(_, ResourceFunc::Method(f) | ResourceFunc::Static(f)) => &f
+                .func
+                .params,
+            HeldFunction::Of(_, ResourceFunc::Constructor { params, .. }) => params,
+        }
+    }
+
+    /// The type that is written as its result, if one is.
+    pub fn result(self) -> Option<&'t Type<'a>>
+        ensures { option_map (λ t. t.now) result ≡ (function_behind self.entry).result_type }
+    {
+        match self {
+            HeldFunction::Free(f) => f.func.result.as_ref(),
+            HeldFunction::Of(_, ResourceFunc::Method(f) | ResourceFunc::Static(f)) => f
+                .func
+                .result
+                .as_ref(),
+            HeldFunction::Of(_, ResourceFunc::Constructor { result, .. }) => result.as_ref(),
+        }
+    }
+
+    /// The docs in front of it.
+    pub fn docs(self) -> &'t Docs<'a>
+        ensures { result.now ≡ (function_behind self.entry).docs }
+    {
+        match self {
+            HeldFunction::Free(f) => &f.docs,
+            HeldFunction::Of(_, ResourceFunc::Method(f) | ResourceFunc::Static(f)) => &f.docs,
+            HeldFunction::Of(_, ResourceFunc::Constructor { docs, .. }) => docs,
+        }
+    }
+
+    /// The attributes in front of it.
+    pub fn attributes(self) -> &'t [Attribute<'a>]
+        ensures { result.now ≡ (function_behind self.entry).attributes }
+    {
+        match self {
+            HeldFunction::Free(f) => &f.attributes,
+            HeldFunction::Of(_, ResourceFunc::Method(f) | ResourceFunc::Static(f)) => &f.attributes,
+            HeldFunction::Of(_, ResourceFunc::Constructor { attributes, .. }) => attributes,
+        }
+    }
+}

@@ -1,0 +1,161 @@
+//! The rules of types, fields, flags and cases.
+ghost use Rattle.std.specs.Prelude.{◌≡◌, ◌↔◌, OnOk, IfOk, IfErr, IsTrue, map};
+ghost use Rattle.wit_syntax.specs.Fault.{Fault};
+ghost use Rattle.wit_syntax.specs.Bodies.{IsKey, IsInvalidKey, IsEmptyTuple, IsFlagTooMany, IsDuplicateName, IsBrokenRecord, IsBrokenFlags, IsBrokenVariant, IsBrokenEnum};
+ghost use Rattle.wit_syntax.specs.Broken.{Refused};
+
+use std::alloc::{AllocError, Global};
+use wit_notes::check_unique_names;
+use wit_notes::refusal::refuse;
+use wit_tree::tree::{Case, EnumCase, Field, Flag, Id, Type};
+use wit_tree::{ParseResult, Span};
+
+/// How many flags there are at most.
+const MOST_FLAGS: usize = 32;
+
+/// What is said of a map whose key is no type for keys.
+const INVALID_KEY: &str =
+    "invalid map key type: map keys must be bool, u8, u16, u32, u64, s8, s16, s32, s64, char, or string";
+
+/// Whether the keys of a map can be of a type, as it is written.
+fn is_key(ty: &Type<'_>) -> bool
+    ensures { IsTrue result ↔ IsKey ty.now }
+{
+    match ty {
+        Type::Bool(_)
+        | Type::U8(_)
+        | Type::U16(_)
+        | Type::U32(_)
+        | Type::U64(_)
+        | Type::S8(_)
+        | Type::S16(_)
+        | Type::S32(_)
+        | Type::S64(_)
+        | Type::Char(_)
+        | Type::String(_) => true,
+        _ => false,
+    }
+}
+
+/// Refuses a map whose keys are of a type that is written as none for keys (E26).
+pub fn check_key(alloc: Global, span: Span, key: &Type<'_>) -> ParseResult<()>
+    ensures legal { OnOk result ((f : Fault) → IsInvalidKey key.now span f → ⊥) }
+    ensures refused { IfErr result (Refused (IsInvalidKey key.now span)) }
+{
+    if is_key(key) {
+        return Ok(());
+    }
+    Err(refuse(alloc, 26, span, INVALID_KEY))
+}
+
+/// Refuses a tuple without types (E22).
+pub fn check_tuple(alloc: Global, span: Span, types: &[Type<'_>]) -> ParseResult<()>
+    ensures legal { OnOk result ((f : Fault) → IsEmptyTuple types.now span f → ⊥) }
+    ensures refused { IfErr result (Refused (IsEmptyTuple types.now span)) }
+{
+    if types.is_empty() {
+        return Err(refuse(alloc, 22, span, "empty tuple"));
+    }
+    Ok(())
+}
+
+/// Refuses the first of these names that is an earlier one once case is folded (E25).
+fn check_names(alloc: Global, desc: &str, names: &[Id<'_>]) -> ParseResult<()>
+    ensures distinct { OnOk result ((f : Fault) → IsDuplicateName names.now f → ⊥) }
+    ensures refused { IfErr result (Refused (IsDuplicateName names.now)) }
+{
+    check_unique_names(alloc, desc, names)?;
+    Ok(())
+}
+
+/// The names of fields.
+fn field_names<'a>(alloc: Global, fields: &[Field<'a>]) -> Result<Vec<Id<'a>>, AllocError>
+    ensures { IfOk result (λ names. names.items ≡ map (λ f. f.name) fields.now) }
+{
+    fields.iter().map(|field| field.name).collect(alloc)
+}
+
+/// The names of flags.
+fn flag_names<'a>(alloc: Global, flags: &[Flag<'a>]) -> Result<Vec<Id<'a>>, AllocError>
+    ensures { IfOk result (λ names. names.items ≡ map (λ f. f.name) flags.now) }
+{
+    flags.iter().map(|flag| flag.name).collect(alloc)
+}
+
+/// The names of the cases of a variant.
+fn case_names<'a>(alloc: Global, cases: &[Case<'a>]) -> Result<Vec<Id<'a>>, AllocError>
+    ensures { IfOk result (λ names. names.items ≡ map (λ c. c.name) cases.now) }
+{
+    cases.iter().map(|case| case.name).collect(alloc)
+}
+
+/// The names of the cases of an enum.
+fn enum_case_names<'a>(alloc: Global, cases: &[EnumCase<'a>]) -> Result<Vec<Id<'a>>, AllocError>
+    ensures { IfOk result (λ names. names.items ≡ map (λ c. c.name) cases.now) }
+{
+    cases.iter().map(|case| case.name).collect(alloc)
+}
+
+/// Refuses a record without fields (E19), and one with two fields of one name once case is folded (E25).
+pub fn check_record(alloc: Global, span: Span, fields: &[Field<'_>]) -> ParseResult<()>
+    ensures legal { OnOk result ((f : Fault) → IsBrokenRecord fields.now span f → ⊥) }
+    ensures refused { IfErr result (Refused (IsBrokenRecord fields.now span)) }
+{
+    if fields.is_empty() {
+        return Err(refuse(alloc, 19, span, "empty record"));
+    }
+    let names = field_names(alloc, fields)?;
+    check_names(alloc, "field", &names)?;
+    Ok(())
+}
+
+/// Refuses the thirty-third flag (E21).
+fn check_count(alloc: Global, flags: &[Flag<'_>]) -> ParseResult<()>
+    ensures few { OnOk result ((f : Fault) → IsFlagTooMany flags.now f → ⊥) }
+    ensures refused { IfErr result (Refused (IsFlagTooMany flags.now)) }
+{
+    match flags.get(MOST_FLAGS) {
+        Some(flag) => Err(refuse(alloc, 21, flag.name.span, "cannot have more than 32 flags")),
+        None => Ok(()),
+    }
+}
+
+/// Refuses flags without a flag (E20), the thirty-third (E21), and two of one name once case is folded (E25).
+pub fn check_flags(alloc: Global, span: Span, flags: &[Flag<'_>]) -> ParseResult<()>
+    ensures legal { OnOk result ((f : Fault) → IsBrokenFlags flags.now span f → ⊥) }
+    ensures refused { IfErr result (Refused (IsBrokenFlags flags.now span)) }
+{
+    if flags.is_empty() {
+        return Err(refuse(alloc, 20, span, "empty flags"));
+    }
+    check_count(alloc, flags)?;
+    let names = flag_names(alloc, flags)?;
+    check_names(alloc, "flag", &names)?;
+    Ok(())
+}
+
+/// Refuses a variant without cases (E23), and one with two cases of one name once case is folded (E25).
+pub fn check_variant(alloc: Global, span: Span, cases: &[Case<'_>]) -> ParseResult<()>
+    ensures legal { OnOk result ((f : Fault) → IsBrokenVariant cases.now span f → ⊥) }
+    ensures refused { IfErr result (Refused (IsBrokenVariant cases.now span)) }
+{
+    if cases.is_empty() {
+        return Err(refuse(alloc, 23, span, "empty variant"));
+    }
+    let names = case_names(alloc, cases)?;
+    check_names(alloc, "case", &names)?;
+    Ok(())
+}
+
+/// Refuses an enum without cases (E24), and one with two cases of one name once case is folded (E25).
+pub fn check_enum(alloc: Global, span: Span, cases: &[EnumCase<'_>]) -> ParseResult<()>
+    ensures legal { OnOk result ((f : Fault) → IsBrokenEnum cases.now span f → ⊥) }
+    ensures refused { IfErr result (Refused (IsBrokenEnum cases.now span)) }
+{
+    if cases.is_empty() {
+        return Err(refuse(alloc, 24, span, "empty enum"));
+    }
+    let names = enum_case_names(alloc, cases)?;
+    check_names(alloc, "case", &names)?;
+    Ok(())
+}

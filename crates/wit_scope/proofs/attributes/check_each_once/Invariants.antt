@@ -1,6 +1,0 @@
-use Rattle.std.proofs.Common.{take}
-use Rattle.wit_scope.specs.Kinds.{IsEachOnce}
-use Rattle.wit_scope.proofs.attributes.check_each_once.Given as goal
-
-abbrev pub invariant-loop-place : goal.invariant-loop-place
-invariant-loop-place l = IsEachOnce (take l.place l.attributes)

@@ -1,6 +1,0 @@
-use Rattle.std.proofs.Common.{map, take}
-use Rattle.wit_scope.specs.Foreign.{foreign_behind, AreItemsOf}
-use Rattle.wit_scope.proofs.foreign.ForeignItems.of.Given as goal
-
-abbrev pub invariant-loop-visit : goal.invariant-loop-visit
-invariant-loop-visit l = AreItemsOf (map foreign_behind (take l.visit-index l.visits)) l.items

@@ -1,7 +1,0 @@
-use Rattle.std.proofs.Common.{◌∙◌}
-use Rattle.wit_meaning.specs.Address.{ForeignNamed, package_of}
-use Rattle.wit_scope.proofs.Others.{key_place}
-use Rattle.wit_scope.proofs.foreign.ForeignItems.place.Goals as goal
-
-pub returns : goal.returns
-returns c = λ visits are. c.get_index_of.ensures.index ∙ key_place visits c.args.self.now c.foreign_key.result (ForeignNamed (package_of c.args.id.now) c.args.name.name.now) are c.foreign_key.ensures

@@ -1,9 +1,0 @@
-use Rattle.std.proofs.Common.{◌≡◌, ◌++◌, map, take}
-use Rattle.std.specs.List.{flat_map}
-use Rattle.wit_scope.specs.Visits.{visit_behind}
-use Rattle.wit_scope.specs.Foreign.{foreign_behind}
-use Rattle.wit_scope.proofs.Others.{foreign_of}
-use Rattle.wit_scope.proofs.foreign.add_visits.Given as goal
-
-abbrev pub invariant-loop-visit : goal.invariant-loop-visit
-invariant-loop-visit l = map foreign_behind l.foreign.items ≡ map foreign_behind l.fn.foreign.items ++ flat_map foreign_of (map visit_behind (take l.visit-index l.visit-items))

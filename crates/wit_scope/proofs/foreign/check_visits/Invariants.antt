@@ -1,7 +1,0 @@
-use Rattle.std.proofs.Common.{map, take}
-use Rattle.wit_scope.specs.Foreign.{foreign_behind}
-use Rattle.wit_scope.specs.Checks.{AreLegalVisits}
-use Rattle.wit_scope.proofs.foreign.check_visits.Given as goal
-
-abbrev pub invariant-loop-visit : goal.invariant-loop-visit
-invariant-loop-visit l = AreLegalVisits (map foreign_behind (take l.visit-index l.visits))

@@ -1,7 +1,0 @@
-use Rattle.std.proofs.Common.{◌≡◌, map, take}
-use Rattle.wit_meaning.specs.Foreign.{foreign_visits}
-use Rattle.wit_scope.specs.Foreign.{foreign_behind}
-use Rattle.wit_scope.proofs.foreign.foreign_visits.Given as goal
-
-abbrev pub invariant-loop-file : goal.invariant-loop-file
-invariant-loop-file l = map foreign_behind l.foreign.items ≡ foreign_visits (take l.file-index l.files)

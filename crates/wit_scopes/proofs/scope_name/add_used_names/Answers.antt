@@ -1,0 +1,25 @@
+use Rattle.std.proofs.Common.{◌+◌, ◌∷◌, [], map, take, refl, ap, ◌∙◌}
+use Rattle.std.proofs.lemmas.List.{map-append}
+use Rattle.std.proofs.lemmas.Option.{slice_get_read}
+use Rattle.wit_syntax.specs.Source.{Used}
+use Rattle.wit_syntax.proofs.Orders.{take_next}
+use Rattle.wit_scopes.specs.Held.{source_behind, name_behind}
+use Rattle.wit_scopes.proofs.Declaring.{one_more}
+use Rattle.wit_scopes.proofs.Placed.{names_more}
+use Rattle.wit_scopes.proofs.scope_name.add_used_names.Goals as goal
+
+pub loop-name-preserved : goal.loop-name-preserved
+loop-name-preserved c =
+    let i = c.loop-name.name-index in
+    let xs = c.args.used.now in
+    let n = c.name-item.result in
+    let from = c.args.from.now in
+    let make = Used (source_behind from) c.args.attributes.now in
+    let was = c.loop-name.invariant in
+    let new = c.in_ok-push.ensures.items in
+    let at = slice_get_read xs _ i n refl c.loop-name-test.true c.name-item.is in
+    let more = ap (map make) (take_next xs i n at) ∙ map-append make (take i xs) (n ∷ []) in
+    record {
+      names = one_more name_behind (map name_behind c.args.names.now.items) c.loop-name.names.items _ _ (map make (take i xs)) (map make (take (i + 1) xs)) (make n) new was.names refl more;
+      placed = λ front one before. names_more front c.loop-name.names.items _ _ new (was.placed front one before) one;
+    }

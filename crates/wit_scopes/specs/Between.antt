@@ -1,0 +1,54 @@
+-- What the resolver's functions tell one another: orders that were found, names that stand twice, and what was resolved so far.
+use Rattle.std.specs.Prelude.{◌≡◌, ◌⊎◌, ℕ, List, [], take, Some, Contains, slice_get}
+use Rattle.wit_tree.specs.declared.tree.Id.{Id}
+use Rattle.wit_tree.specs.declared.tree.TypeDef.{TypeDef as Definition}
+use Rattle.wit_order.specs.Table.{IsOrder}
+use Rattle.wit_syntax.specs.Source.{ScopeName, Defined, local_name}
+use Rattle.wit_syntax.specs.Scope.{needed_ids, rows_of, in_order, defined}
+use Rattle.wit_syntax.specs.Fault.{Fault, fault, missing_at, name_word}
+use Rattle.wit_syntax.specs.Notes.{IsBrokenNotes}
+use Rattle.wit_syntax.specs.Bodies.{IsRepeated, IsBrokenBody}
+use Rattle.wit_syntax.specs.Function.{SourceFunction}
+use Rattle.wit_syntax.specs.Signature.{IsBrokenFunction}
+use Rattle.wit_syntax.specs.Broken.{IsFoldedTwice}
+use Rattle.wit_arena.specs.Resolving.{Env, HasNames}
+
+-- no name of a scope needs one
+abbrev pub NeedNone : List ScopeName → Type 0
+NeedNone xs = (i : ℕ) (x : ScopeName) → slice_get xs i ≡ Some x → needed_ids x ≡ []
+
+-- these are the definitions of a scope, in its least dependency-first order
+pub record AreOrdered (xs ds : List ScopeName) : Type 0 where
+  pub order : List ℕ
+  pub least : IsOrder (rows_of xs) order
+  pub are : ds ≡ defined (in_order xs order)
+
+-- each name that one of these needs stands in a table already, or one before it has it
+pub record AreInTurn (env : Env) (ds : List ScopeName) : Type 0 where
+  pub known : List ScopeName
+  pub has : HasNames env known
+  pub earlier : (k : ℕ) (d : Definition) (id : Id) → slice_get ds k ≡ Some (Defined d) → Contains (needed_ids (Defined d)) id
+      → ((i : ℕ) → (y : ScopeName) → slice_get known i ≡ Some y → local_name y ≡ id.name.now → ⊥)
+      → (j : ℕ) × (y : ScopeName) × (slice_get (take k ds) j ≡ Some y) × (local_name y ≡ id.name.now)
+
+-- a used name is none of an interface that has these functions: it is that of one of them, or of nothing
+pub data IsUnstated (functions : List (List ℕ)) (id : Id) (f : Fault) : Type 0 where
+  AtFunction : Contains functions id.name.now → f ≡ fault 13 id.span → IsUnstated functions id f
+  AtNothing : (Contains functions id.name.now → ⊥) → f ≡ missing_at 12 name_word id → IsUnstated functions id f
+
+-- the attributes of one of these, or its body, break a rule
+pub record IsBrokenAmong (ds : List ScopeName) (f : Fault) : Type 0 where
+  pub d : Definition
+  pub among : Contains ds (Defined d)
+  pub broken : IsBrokenNotes d.attributes.items f ⊎ IsBrokenBody d.body f
+
+-- a rule of a scope is broken by one of its functions, or by the folded names
+pub data IsOfFunctions (xs : List ScopeName) (fns : List SourceFunction) (f : Fault) : Type 0 where
+  OfFunction : (k : ℕ) (fn : SourceFunction) → slice_get fns k ≡ Some fn → IsBrokenFunction xs fns k fn f → IsOfFunctions xs fns f
+  OfFolded : IsFoldedTwice xs fns f → IsOfFunctions xs fns f
+
+-- an earlier one of these names has the key of a later one
+pub record IsRepeatedId (number : ℕ) (key : Id → List ℕ) (ids : List Id) (f : Fault) : Type 0 where
+  pub later : Id
+  pub repeated : IsRepeated key ids later
+  pub is : f ≡ fault number later.span

@@ -1,0 +1,16 @@
+-- What stands in front of the arenas, while it is made.
+use Rattle.std.specs.Prelude.{◌≡◌, ℕ, ⊤, List, Some, slice_get}
+use Rattle.wit_syntax.specs.Address.{Address}
+use Rattle.wit_syntax.specs.Source.{Used, Defined}
+use Rattle.wit_scopes.specs.declared.scope_name.ScopeName.{ScopeName as Held}
+use Rattle.wit_scopes.specs.declared.scope_name.ScopeName.TheVariants as held
+use Rattle.wit_scopes.specs.Held.{IsPlaced}
+
+-- a used name is from a declared interface, or from that of another package at its place
+abbrev pub IsNamePlaced : List Address → Held → Type 0
+IsNamePlaced front (held.Used u) = IsPlaced front u.from
+IsNamePlaced front (held.Defined d) = ⊤
+
+-- so is each of these names
+pub record AreNamesPlaced (front : List Address) (names : List Held) : Type 0 where
+  pub each : (k : ℕ) (x : Held) → slice_get names k ≡ Some x → IsNamePlaced front x

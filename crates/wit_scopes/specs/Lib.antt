@@ -1,0 +1,3 @@
+pub mod Held
+pub mod Front
+pub mod Between

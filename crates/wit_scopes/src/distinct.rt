@@ -1,0 +1,73 @@
+//! Names of a scope that stand twice.
+ghost use Rattle.std.specs.Prelude.{◌≡◌, ◌++◌, map, IfOk, IfErr, OnOk};
+ghost use Rattle.wit_syntax.specs.Source.{local_id as the_local_id};
+ghost use Rattle.wit_syntax.specs.Broken.{Refused};
+ghost use Rattle.wit_scopes.specs.Held.{use_behind, definition_behind};
+ghost use Rattle.wit_scopes.specs.Between.{IsRepeatedId};
+ghost use Rattle.wit_syntax.specs.Repeats.{AllDiffer};
+
+use crate::scope_name::{DefinedName, UsedName, local_of};
+use std::alloc::{AllocError, Global};
+use wit_notes::refusal::refuse;
+use wit_notes::repeats::first_repeat;
+use wit_tree::ParseResult;
+use wit_tree::tree::Id;
+
+/// The names that used ones go by.
+pub fn used_ids<'a>(alloc: Global, uses: &[UsedName<'_, 'a>]) -> Result<Vec<Id<'a>>, AllocError>
+    ensures { IfOk result (λ ids. ids.items ≡ map the_local_id (map use_behind uses.now)) }
+{
+    let mut ids = Vec::new(alloc);
+    for used in uses {
+        ids.push(local_of(used.name))?;
+    }
+    Ok(ids)
+}
+
+/// Adds the names of definitions.
+pub fn add_definition_ids<'a>(
+    ids: &mut Vec<Id<'a>>,
+    definitions: &[DefinedName<'_, 'a>],
+) -> Result<(), AllocError>
+    ensures { OnOk result (ids.new.items ≡ ids.old.items ++ map the_local_id (map definition_behind definitions.now)) }
+{
+    for defined in definitions {
+        ids.push(defined.definition.name)?;
+    }
+    Ok(())
+}
+
+/// The texts of names.
+fn texts<'a>(alloc: Global, ids: &[Id<'a>]) -> Result<Vec<&'a str>, AllocError>
+    ensures { IfOk result (λ texts. map (λ text. text.now) texts.items ≡ map (λ id. id.name.now) ids.now) }
+{
+    let mut texts = Vec::with_capacity(alloc, ids.len())?;
+    for id in ids {
+        texts.push(id.name)?;
+    }
+    Ok(texts)
+}
+
+/// The words for a name that an earlier one has.
+pub fn defined_twice(alloc: Global, name: &str) -> Result<String, AllocError> {
+    format!(in alloc; "name `{name}` is defined more than once")
+}
+
+/// Refuses a name that an earlier one has.
+pub fn check_unique_names(alloc: Global, ids: &[Id<'_>]) -> ParseResult<()>
+    ensures legal { OnOk result (AllDiffer (map (λ id. id.name.now) ids.now)) }
+    ensures refused { IfErr result (Refused (IsRepeatedId 14 (λ id. id.name.now) ids.now)) }
+{
+    if ids.len() < 2 {
+        return Ok(());
+    }
+    let texts = texts(alloc, ids)?;
+    match first_repeat(alloc, &texts)? {
+        Some((_, second)) => {
+            let later = &ids[second];
+            let message = defined_twice(alloc, later.name)?;
+            Err(refuse(alloc, 14, later.span, message.as_str()))
+        }
+        None => Ok(()),
+    }
+}

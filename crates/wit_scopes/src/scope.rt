@@ -1,0 +1,101 @@
+//! The order in which the definitions of a scope are resolved.
+ghost use Rattle.std.specs.Prelude.{◌≡◌, List, map, IfOk, IfErr};
+ghost use Rattle.std.specs.Bool.{MatchBool};
+ghost use Rattle.wit_order.specs.Table.{rows, IsOrder};
+ghost use Rattle.wit_syntax.specs.Scope.{needed_ids as the_needed, rows_of, AreDistinct};
+ghost use Rattle.wit_syntax.specs.Function.{SourceFunction};
+ghost use Rattle.wit_syntax.specs.Broken.{IsBrokenScope, Refused};
+ghost use Rattle.wit_scopes.specs.Held.{name_behind, definition_behind};
+ghost use Rattle.wit_scopes.specs.Between.{AreOrdered, NeedNone};
+
+use crate::deps::body_deps;
+use crate::order::in_order;
+use crate::scope_name::{DefinedName, ScopeName, definitions, local_id};
+use indexmap::IndexMap;
+use std::alloc::{AllocError, Global};
+use wit_files::order_refusal::refuse_type_order;
+use wit_order::order_places;
+use wit_tree::ParseResult;
+use wit_tree::tree::Id;
+
+/// The names that a name of a scope needs: those in its body, where it is a definition.
+fn needed_ids<'a>(alloc: Global, name: &ScopeName<'_, 'a>) -> Result<Vec<Id<'a>>, AllocError>
+    ensures { IfOk result (λ ids. ids.items ≡ the_needed (name_behind name.now)) }
+{
+    match name {
+        ScopeName::Used(_) => Ok(Vec::new(alloc)),
+        ScopeName::Defined(defined) => body_deps(alloc, &defined.definition.body),
+    }
+}
+
+/// Each name of a scope with those that it needs, in source order.
+fn scope_table<'a>(
+    alloc: Global,
+    names: &[ScopeName<'_, 'a>],
+) -> Result<IndexMap<&'a str, Vec<Id<'a>>>, AllocError>
+    requires distinct { AreDistinct (map name_behind names.now) }
+    ensures rows { IfOk result (λ table. rows table ≡ rows_of (map name_behind names.now)) }
+{
+    let mut table = IndexMap::with_capacity(alloc, names.len())?;
+    for name in names {
+        let needed = needed_ids(alloc, name)?;
+        table.insert(local_id(name).name, needed)?;
+    }
+    Ok(table)
+}
+
+/// The places of the names of a scope, in the order in which the definitions are resolved.
+fn scope_order(alloc: Global, names: &[ScopeName<'_, '_>]) -> ParseResult<Vec<usize>>
+    requires distinct { AreDistinct (map name_behind names.now) }
+    ensures order { IfOk result (λ places. IsOrder (rows_of (map name_behind names.now)) places.items) }
+    ensures refused { IfErr result (Refused (λ f. (fns : List SourceFunction) → IsBrokenScope (map name_behind names.now) fns f)) }
+{
+    let table = scope_table(alloc, names)?;
+    match order_places(alloc, &table) {
+        Ok(places) => Ok(places),
+        Err(fault) => Err(refuse_type_order(alloc, &table, fault)),
+    }
+}
+
+/// The definitions of a scope in the order of its table.
+fn sorted_definitions<'t, 'a>(
+    alloc: Global,
+    names: &[ScopeName<'t, 'a>],
+) -> ParseResult<Vec<DefinedName<'t, 'a>>>
+    requires distinct { AreDistinct (map name_behind names.now) }
+    ensures ordered { IfOk result (λ ordered. AreOrdered (map name_behind names.now) (map definition_behind ordered.items)) }
+    ensures refused { IfErr result (Refused (λ f. (fns : List SourceFunction) → IsBrokenScope (map name_behind names.now) fns f)) }
+{
+    let places = scope_order(alloc, names)?;
+    let ordered = in_order(alloc, names, &places)?;
+    Ok(definitions(alloc, &ordered)?)
+}
+
+/// Whether each name of a scope needs none.
+fn need_none(alloc: Global, names: &[ScopeName<'_, '_>]) -> Result<bool, AllocError>
+    ensures { IfOk result (λ none. MatchBool none (NeedNone (map name_behind names.now)) (NeedNone (map name_behind names.now) → ⊥)) }
+{
+    for name in names {
+        let needed = needed_ids(alloc, name)?;
+        if needed.as_slice().len() != 0 {
+            return Ok(false);
+        }
+    }
+    Ok(true)
+}
+
+/// The definitions of a scope, in the order in which they are resolved: that in which they are
+/// written where none needs a name.
+pub fn ordered_definitions<'t, 'a>(
+    alloc: Global,
+    names: &[ScopeName<'t, 'a>],
+) -> ParseResult<Vec<DefinedName<'t, 'a>>>
+    requires distinct { AreDistinct (map name_behind names.now) }
+    ensures ordered { IfOk result (λ ordered. AreOrdered (map name_behind names.now) (map definition_behind ordered.items)) }
+    ensures refused { IfErr result (Refused (λ f. (fns : List SourceFunction) → IsBrokenScope (map name_behind names.now) fns f)) }
+{
+    if need_none(alloc, names)? {
+        return Ok(definitions(alloc, names)?);
+    }
+    sorted_definitions(alloc, names)
+}

@@ -1,0 +1,118 @@
+//! The names of a scope: those that it uses, and its definitions.
+ghost use Rattle.std.specs.Prelude.{◌≡◌, ◌++◌, List, map, IfOk, OnOk};
+ghost use Rattle.std.specs.Option.{unwrap_or};
+ghost use Rattle.wit_syntax.specs.Address.{Address};
+ghost use Rattle.wit_syntax.specs.Source.{Used, local_id as the_local_id};
+ghost use Rattle.wit_syntax.specs.Scope.{used, defined};
+ghost use Rattle.wit_scopes.specs.Held.{source_behind, name_behind, use_behind, definition_behind, IsPlaced, ArePlaced};
+ghost use Rattle.wit_scopes.specs.Front.{AreNamesPlaced};
+
+use std::alloc::{AllocError, Global};
+use wit_tree::tree::{Attribute, Id, PackageName, TypeDef, UseName};
+
+/// The interface that names are used from.
+#[derive(Clone, Copy)]
+pub enum Source<'t, 'a> {
+    /// The declared one of this name.
+    Declared(Id<'a>),
+    /// The one of this name in another package, and its place.
+    Foreign {
+        place: usize,
+        package: &'t PackageName<'a>,
+        name: Id<'a>,
+    },
+}
+
+/// A used name, the interface that it comes from, and the attributes of its `use`.
+#[derive(Clone, Copy)]
+pub struct UsedName<'t, 'a> {
+    pub from: Source<'t, 'a>,
+    pub attributes: &'t [Attribute<'a>],
+    pub name: &'t UseName<'a>,
+}
+
+/// A definition.
+#[derive(Clone, Copy)]
+pub struct DefinedName<'t, 'a> {
+    pub definition: &'t TypeDef<'a>,
+}
+
+/// A name of a scope.
+#[derive(Clone, Copy)]
+pub enum ScopeName<'t, 'a> {
+    /// One that is used from an interface.
+    Used(UsedName<'t, 'a>),
+    /// A definition.
+    Defined(DefinedName<'t, 'a>),
+}
+
+/// Adds the names that are used from an interface, by a `use` with these attributes.
+pub fn add_used_names<'t, 'a>(
+    names: &mut Vec<ScopeName<'t, 'a>>,
+    from: &Source<'t, 'a>,
+    attributes: &'t [Attribute<'a>],
+    used: &'t [UseName<'a>],
+) -> Result<(), AllocError>
+    ensures names { OnOk result (map name_behind names.new.items ≡ map name_behind names.old.items ++ map (Used (source_behind from.now) attributes.now) used.now) }
+    ensures placed { OnOk result ((front : List Address) → IsPlaced front from.now → AreNamesPlaced front names.old.items → AreNamesPlaced front names.new.items) }
+{
+    for name in used {
+        let from = *from;
+        names.push(ScopeName::Used(UsedName {
+            from,
+            attributes,
+            name,
+        }))?;
+    }
+    Ok(())
+}
+
+/// The used ones of some names.
+pub fn used_names<'t, 'a>(
+    alloc: Global,
+    names: &[ScopeName<'t, 'a>],
+) -> Result<Vec<UsedName<'t, 'a>>, AllocError>
+    ensures uses { IfOk result (λ uses. map use_behind uses.items ≡ used (map name_behind names.now)) }
+    ensures placed { IfOk result (λ uses. (front : List Address) → AreNamesPlaced front names.now → ArePlaced front uses.items) }
+{
+    let mut uses = Vec::new(alloc);
+    for name in names {
+        if let ScopeName::Used(name) = name {
+            uses.push(*name)?;
+        }
+    }
+    Ok(uses)
+}
+
+/// The definitions of some names.
+pub fn definitions<'t, 'a>(
+    alloc: Global,
+    names: &[ScopeName<'t, 'a>],
+) -> Result<Vec<DefinedName<'t, 'a>>, AllocError>
+    ensures { IfOk result (λ definitions. map definition_behind definitions.items ≡ defined (map name_behind names.now)) }
+{
+    let mut definitions = Vec::new(alloc);
+    for name in names {
+        if let ScopeName::Defined(name) = name {
+            definitions.push(*name)?;
+        }
+    }
+    Ok(definitions)
+}
+
+/// The name that a used one goes by: that behind `as`, or its own.
+pub fn local_of<'a>(name: &UseName<'a>) -> Id<'a>
+    ensures { result ≡ unwrap_or name.now.as_ name.now.name }
+{
+    name.as_.unwrap_or(name.name)
+}
+
+/// The name that a name of a scope goes by.
+pub fn local_id<'a>(name: &ScopeName<'_, 'a>) -> Id<'a>
+    ensures { result ≡ the_local_id (name_behind name.now) }
+{
+    match name {
+        ScopeName::Used(used) => local_of(used.name),
+        ScopeName::Defined(defined) => defined.definition.name,
+    }
+}

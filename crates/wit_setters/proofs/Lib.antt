@@ -1,0 +1,4 @@
+pub mod Results
+mod NoSetters
+mod GetterNames
+mod Parting

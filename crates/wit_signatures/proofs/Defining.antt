@@ -1,0 +1,75 @@
+-- Names that are defined one behind the other, of which no two may have one key.
+use Rattle.std.proofs.Common.{◌≡◌, ℕ, ◌+◌, ◌<◌, List, [], ◌∷◌, ◌++◌, length, take, drop, get_or, sym, ap, ◌∙◌, subst, append_assoc}
+use Rattle.std.specs.Prelude.{map, Result, Ok, Err, OnOk}
+use Rattle.std.proofs.lemmas.List.{map-append, take_more, take-append-drop}
+use Rattle.std.proofs.lemmas.Option.{slice_get_within}
+use Rattle.wit_names.specs.Folded.{folded_key}
+use Rattle.wit_values.specs.declared.span.Span.{Span}
+use Rattle.wit_syntax.specs.Fault.{Fault}
+use Rattle.wit_syntax.specs.Repeats.{AllDiffer}
+use Rattle.wit_syntax.proofs.Lists.{at_front, at_seam, map_at}
+use Rattle.wit_syntax.proofs.Repeated.{differ_more}
+use Rattle.wit_notes.specs.Names.{Name, IsTaken, IsDefinedAgain}
+use Rattle.wit_signatures.specs.Taken.{name_key, IsTwiceAmong}
+
+-- a name whose key is taken stands twice among all
+pub again_twice : (names : List Name) (name : List ℕ) (span : Span) (f : Fault) → IsDefinedAgain names name span f → IsTwiceAmong (names ++ (name, span) ∷ []) f
+again_twice names name span f h = record {
+  later = (name, span);
+  repeated = record {
+    first = h.taken.place;
+    second = length names;
+    earlier = h.taken.earlier;
+    before = slice_get_within names h.taken.place h.taken.earlier h.taken.at;
+    at_first = at_front names ((name, span) ∷ []) h.taken.place h.taken.earlier h.taken.at;
+    at_second = at_seam names (name, span);
+    same = h.taken.same;
+  };
+  is = h.is;
+}
+
+twice_front : (names more : List Name) (f : Fault) → IsTwiceAmong names f → IsTwiceAmong (names ++ more) f
+twice_front names more f h = record {
+  later = h.later;
+  repeated = record {
+    first = h.repeated.first;
+    second = h.repeated.second;
+    earlier = h.repeated.earlier;
+    before = h.repeated.before;
+    at_first = at_front names more h.repeated.first h.repeated.earlier h.repeated.at_first;
+    at_second = at_front names more h.repeated.second h.later h.repeated.at_second;
+    same = h.repeated.same;
+  };
+  is = h.is;
+}
+
+-- the next of the items that are defined
+pub names_more : {X : Type 0} (name : X → Name) (old : List Name) (xs : List X) (i : ℕ) (x : X) → i < length xs → x ≡ get_or xs i x → old ++ map name (take (i + 1) xs) ≡ (old ++ map name (take i xs)) ++ name x ∷ []
+names_more name old xs i x within is =
+    ap (λ ys. old ++ map name ys) (take_more xs i x within ∙ ap (λ y. take i xs ++ y ∷ []) (sym is))
+    ∙ ap (λ ns. old ++ ns) (map-append name (take i xs) (x ∷ []))
+    ∙ sym (append_assoc old (map name (take i xs)) (name x ∷ []))
+
+names_whole : {X : Type 0} (name : X → Name) (old : List Name) (xs : List X) (n : ℕ) → (old ++ map name (take n xs)) ++ map name (drop n xs) ≡ old ++ map name xs
+names_whole name old xs n =
+    append_assoc old (map name (take n xs)) (map name (drop n xs))
+    ∙ ap (λ ns. old ++ ns) (sym (map-append name (take n xs) (drop n xs)) ∙ ap (map name) (take-append-drop n xs))
+
+-- what stands twice up to one of the items stands twice among all
+pub twice_whole : {X : Type 0} (name : X → Name) (old : List Name) (xs : List X) (i : ℕ) (x : X) (f : Fault) → i < length xs → x ≡ get_or xs i x → IsTwiceAmong ((old ++ map name (take i xs)) ++ name x ∷ []) f → IsTwiceAmong (old ++ map name xs) f
+twice_whole name old xs i x f within is h =
+    subst (λ ns. IsTwiceAmong ns f) (names_whole name old xs (i + 1))
+    (twice_front (old ++ map name (take (i + 1) xs)) (map name (drop (i + 1) xs)) f
+    (subst (λ ns. IsTwiceAmong ns f) (sym (names_more name old xs i x within is)) h))
+
+-- the keys differ once a name is defined whose key is not taken
+pub keys_more : (names : List Name) (name : List ℕ) (span : Span) → (IsTaken names name → ⊥) → AllDiffer (map name_key names) → AllDiffer (map name_key (names ++ (name, span) ∷ []))
+keys_more names name span free d =
+    subst AllDiffer (sym (map-append name_key names ((name, span) ∷ []))) (differ_more (map name_key names) (folded_key name) d (λ i at.
+    let there = map_at name_key names i (folded_key name) at in
+    free (record { place = i; earlier = there.0; at = there.1; same = there.2 })))
+
+-- the same of what a definition says of its result
+pub keys_defined : {T E : Type 0} (r : Result T E) (old new : List Name) (name : List ℕ) (span : Span) → OnOk r (new ≡ old ++ (name, span) ∷ []) → OnOk r (IsTaken old name → ⊥) → OnOk r (AllDiffer (map name_key old) → AllDiffer (map name_key new))
+keys_defined (Ok x) old new name span defined free = λ d. subst (λ ns. AllDiffer (map name_key ns)) (sym defined) (keys_more old name span free d)
+keys_defined (Err e) old new name span defined free = tt

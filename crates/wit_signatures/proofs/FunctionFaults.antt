@@ -1,0 +1,143 @@
+-- What is wrong with a function, from what is wrong with its parts.
+use Rattle.std.proofs.Common.{◌≡◌, ◌⊎◌, ◌≤◌, ◌+◌, ℕ, List, length, Option, Some, None, IfSome, IfNone, inl, inr, refl, sym, ap, ◌∙◌, subst, Contains, arith, length-append}
+use Rattle.std.specs.Prelude.{slice_get}
+use Rattle.std.specs.List.{flat_map}
+use Rattle.std.specs.Option.{option_to_list}
+use Rattle.std.proofs.lemmas.List.Elements.{Contains-append_left, Contains-append_right}
+use Rattle.std.proofs.lemmas.Option.{same_Some, slice_get_within}
+use Rattle.wit_tree.specs.declared.error.ParseError.{ParseError}
+use Rattle.wit_tree.specs.declared.tree.Attribute.{Attribute}
+use Rattle.wit_tree.specs.declared.tree.«Type».{«Type» as Written}
+use Rattle.wit_types.specs.declared.types.TypeDef.{TypeDef}
+use Rattle.wit_syntax.specs.Shape.{words}
+use Rattle.wit_syntax.specs.Source.{ScopeName, meaning}
+use Rattle.wit_syntax.specs.Broken.{Refused}
+use Rattle.wit_syntax.specs.Fault.{Fault}
+use Rattle.wit_syntax.specs.Function.{SourceParam, SourceFunction, all_params, written_types, signature}
+use Rattle.wit_syntax.specs.Notes.{IsBrokenNotes}
+use Rattle.wit_syntax.specs.Signature.{param_key, IsBrokenFunction, BrokenNotes, BrokenTypes, FunctionAsType, MissingInSignature, GetterGiven, SetterGiven, DuplicateParam, GetterWithoutResult, SetterWithResult, ConstructorWithoutResult, ConstructorOfOther, IsGetterGiven, IsSetterGiven, IsDuplicateParam}
+use Rattle.wit_arena.specs.Resolving.{Env}
+use Rattle.wit_arena.specs.Resolved.{IsNameless}
+use Rattle.wit_syntax.proofs.Lists.{at_back}
+use Rattle.wit_syntax.proofs.Refusing.{refused_weaker}
+use Rattle.wit_arena.proofs.Written.{AreLegal, legal_more}
+use Rattle.wit_rules.specs.declared.held.HeldFunction.{HeldFunction}
+use Rattle.wit_rules.specs.Held.{function_behind}
+use Rattle.wit_rules.specs.Signatures.{AreAllNames, AtFunction, AtNothing, IsWrongInSignature, WrongForm, LostName, WrongHandle, IsLostAt, IsWrongInSignatures, IsRepeatedAt, IsRefusedParam, IsBrokenReturn, IsWrongFunction}
+use Rattle.wit_signatures.proofs.FunctionParts.{given_few}
+use Rattle.wit_signatures.proofs.SignatureTypes.{word_in_signature, handle_among}
+
+-- what is wrong with one of its types
+wrong_type : (env : Env) (es : List TypeDef) (xs : List ScopeName) (fns : List SourceFunction) (k : ℕ) (h : HeldFunction) (t : Written) (f : Fault) → AreAllNames env xs → Contains (written_types (function_behind h)) t → IsWrongInSignature env es fns k t f → IsWrongFunction env es xs fns k (function_behind h) f
+wrong_type env es xs fns k h t f names among (WrongForm broken) = inl (BrokenTypes (record { t = t; among = among; broken = broken }))
+wrong_type env es xs fns k h t f names among (WrongHandle handle) = inr (record { id = handle.id; among = handle_among (written_types (function_behind h)) t handle.id among handle.among; place = handle.place; stands = handle.stands; steps = handle.steps; other = handle.other; is = handle.is })
+wrong_type env es xs fns k h t f names among (LostName name) = by_case name.lost
+  where
+    word : Contains (flat_map words (signature (function_behind h))) name.id
+    word = word_in_signature h t name.id among name.among
+
+    missing : meaning xs name.id.name.now ≡ None
+    missing = names.unmeant name.id.name.now name.free
+
+    by_case : IsLostAt fns k name.id.span name.id.name.now f → IsWrongFunction env es xs fns k (function_behind h) f
+    by_case (AtFunction entered is) = inl (FunctionAsType (record { id = name.id; among = word; missing = missing; entered = entered; is = is }))
+    by_case (AtNothing other is) = inl (MissingInSignature (record { id = name.id; among = word; missing = missing; other = other; is = is }))
+
+-- with one of those of its parameters
+wrong_param_type : (env : Env) (es : List TypeDef) (xs : List ScopeName) (fns : List SourceFunction) (k : ℕ) (h : HeldFunction) (ts : List Written) (f : Fault) → AreAllNames env xs → ts ≡ (function_behind h).param_types → IsWrongInSignatures env es fns k ts f → IsWrongFunction env es xs fns k (function_behind h) f
+wrong_param_type env es xs fns k h ts f names same wrong =
+    let fn = function_behind h in
+    wrong_type env es xs fns k h wrong.0 f names (Contains-append_left fn.param_types (option_to_list fn.result_type) wrong.0 (subst (λ (l : List Written). Contains l wrong.0) same wrong.1)) wrong.2
+
+-- with that of its result
+wrong_result_type : (env : Env) (es : List TypeDef) (xs : List ScopeName) (fns : List SourceFunction) (k : ℕ) (h : HeldFunction) (f : Fault) → AreAllNames env xs → IsWrongInSignatures env es fns k (option_to_list (function_behind h).result_type) f → IsWrongFunction env es xs fns k (function_behind h) f
+wrong_result_type env es xs fns k h f names wrong =
+    let fn = function_behind h in
+    wrong_type env es xs fns k h wrong.0 f names (Contains-append_right fn.param_types (option_to_list fn.result_type) wrong.0 wrong.1) wrong.2
+
+-- what is wrong with what it is given, or gives
+wrong_given : (env : Env) (es : List TypeDef) (xs : List ScopeName) (fns : List SourceFunction) (k : ℕ) (fn : SourceFunction) (f : Fault) → IsGetterGiven fn f ⊎ IsSetterGiven fn f → IsWrongFunction env es xs fns k fn f
+wrong_given env es xs fns k fn f (inl getter) = inl (GetterGiven getter)
+wrong_given env es xs fns k fn f (inr setter) = inl (SetterGiven setter)
+
+wrong_return : (env : Env) (es : List TypeDef) (xs : List ScopeName) (fns : List SourceFunction) (k : ℕ) (fn : SourceFunction) (f : Fault) → IsBrokenReturn xs fn f → IsWrongFunction env es xs fns k fn f
+wrong_return env es xs fns k fn f (inl getter) = inl (GetterWithoutResult getter)
+wrong_return env es xs fns k fn f (inr (inl setter)) = inl (SetterWithResult setter)
+wrong_return env es xs fns k fn f (inr (inr (inl none))) = inl (ConstructorWithoutResult none)
+wrong_return env es xs fns k fn f (inr (inr (inr other))) = inl (ConstructorOfOther other)
+
+-- the place of a repeated parameter, where one is told
+abbrev pub IsRepeatTold : SourceFunction → Option ℕ → Type 0
+IsRepeatTold fn found = IfSome found (λ place. IsRepeatedAt param_key (all_params fn) place)
+
+-- a parameter that is refused is a repeated one
+refused_duplicate : (fn : SourceFunction) (found : Option ℕ) (front : ℕ) (ws : List SourceParam) (f : Fault) → front ≡ length fn.given → ws ≡ fn.params → IsRepeatTold fn found → IsRefusedParam found front ws f → IsDuplicateParam fn f
+refused_duplicate fn None front ws f long same told h = absurd (let wrong = h.same in let x : ⊥ = cc in x)
+refused_duplicate fn (Some place) front ws f long same told h =
+    let here : place ≡ front + h.place = same_Some place (front + h.place) h.same in
+    let own : slice_get fn.params h.place ≡ Some h.later = subst (λ (l : List SourceParam). slice_get l h.place ≡ Some h.later) same h.at in
+    let at : slice_get (all_params fn) place ≡ Some h.later = ap (slice_get (all_params fn)) (here ∙ ap (λ (n : ℕ). n + h.place) long) ∙ at_back fn.given fn.params h.place h.later own in
+    let one : told.later ≡ h.later = same_Some told.later h.later (sym told.at ∙ at) in
+    record {
+      later = h.later;
+      repeated = record { first = told.first; second = place; earlier = told.earlier; before = told.before; at_first = told.at_first; at_second = at; same = told.same ∙ ap param_key one };
+      is = h.is;
+    }
+
+-- what is wrong with one of the written parameters
+wrong_params : (env : Env) (es : List TypeDef) (xs : List ScopeName) (fns : List SourceFunction) (k : ℕ) (h : HeldFunction) (found : Option ℕ) (front : ℕ) (ws : List SourceParam) (ts : List Written) (f : Fault) → AreAllNames env xs → front ≡ length (function_behind h).given → ws ≡ (function_behind h).params → ts ≡ (function_behind h).param_types → IsRepeatTold (function_behind h) found → IsRefusedParam found front ws f ⊎ IsWrongInSignatures env es fns k ts f → IsWrongFunction env es xs fns k (function_behind h) f
+wrong_params env es xs fns k h found front ws ts f names long same types told (inl refused) = inl (DuplicateParam (refused_duplicate (function_behind h) found front ws f long same told refused))
+wrong_params env es xs fns k h found front ws ts f names long same types told (inr wrong) = wrong_param_type env es xs fns k h ts f names types wrong
+
+-- what is wrong with the result
+wrong_result : (env : Env) (es : List TypeDef) (xs : List ScopeName) (fns : List SourceFunction) (k : ℕ) (h : HeldFunction) (f : Fault) → AreAllNames env xs → IsBrokenReturn xs (function_behind h) f ⊎ IsWrongInSignatures env es fns k (option_to_list (function_behind h).result_type) f → IsWrongFunction env es xs fns k (function_behind h) f
+wrong_result env es xs fns k h f names (inl broken) = wrong_return env es xs fns k (function_behind h) f broken
+wrong_result env es xs fns k h f names (inr wrong) = wrong_result_type env es xs fns k h f names wrong
+
+-- refusals of these, of the function that is held
+held_refused : (env : Env) (es : List TypeDef) (xs : List ScopeName) (fns : List SourceFunction) (k : ℕ) (h : HeldFunction) (fn : SourceFunction) (P : Fault → Type 0) (e : ParseError) → function_behind h ≡ fn → ((f : Fault) → P f → IsWrongFunction env es xs fns k (function_behind h) f) → Refused P e → Refused (IsWrongFunction env es xs fns k fn) e
+held_refused env es xs fns k h fn P e same wrong refused = refused_weaker P (IsWrongFunction env es xs fns k fn) e (λ f p. subst (λ (g : SourceFunction). IsWrongFunction env es xs fns k g f) same (wrong f p)) refused
+
+pub refused_notes : (env : Env) (es : List TypeDef) (xs : List ScopeName) (fns : List SourceFunction) (k : ℕ) (h : HeldFunction) (fn : SourceFunction) (attributes : List Attribute) (e : ParseError) → function_behind h ≡ fn → attributes ≡ (function_behind h).attributes → Refused (IsBrokenNotes attributes) e → Refused (IsWrongFunction env es xs fns k fn) e
+refused_notes env es xs fns k h fn attributes e same written refused = held_refused env es xs fns k h fn (IsBrokenNotes attributes) e same (λ f broken. inl (BrokenNotes (subst (λ (l : List Attribute). IsBrokenNotes l f) written broken))) refused
+
+pub refused_given : (env : Env) (es : List TypeDef) (xs : List ScopeName) (fns : List SourceFunction) (k : ℕ) (h : HeldFunction) (fn : SourceFunction) (e : ParseError) → function_behind h ≡ fn → Refused (λ f. IsGetterGiven (function_behind h) f ⊎ IsSetterGiven (function_behind h) f) e → Refused (IsWrongFunction env es xs fns k fn) e
+refused_given env es xs fns k h fn e same refused = held_refused env es xs fns k h fn (λ (f : Fault). IsGetterGiven (function_behind h) f ⊎ IsSetterGiven (function_behind h) f) e same (wrong_given env es xs fns k (function_behind h)) refused
+
+pub refused_params : (env : Env) (es : List TypeDef) (xs : List ScopeName) (fns : List SourceFunction) (k : ℕ) (h : HeldFunction) (fn : SourceFunction) (found : Option ℕ) (front : ℕ) (ws : List SourceParam) (ts : List Written) (e : ParseError) → function_behind h ≡ fn → AreAllNames env xs → front ≡ length (function_behind h).given → ws ≡ (function_behind h).params → ts ≡ (function_behind h).param_types → IsRepeatTold (function_behind h) found → Refused (λ f. IsRefusedParam found front ws f ⊎ IsWrongInSignatures env es fns k ts f) e → Refused (IsWrongFunction env es xs fns k fn) e
+refused_params env es xs fns k h fn found front ws ts e same names long written types told refused = held_refused env es xs fns k h fn (λ (f : Fault). IsRefusedParam found front ws f ⊎ IsWrongInSignatures env es fns k ts f) e same (λ f wrong. wrong_params env es xs fns k h found front ws ts f names long written types told wrong) refused
+
+pub refused_result : (env : Env) (es : List TypeDef) (xs : List ScopeName) (fns : List SourceFunction) (k : ℕ) (h : HeldFunction) (fn : SourceFunction) (e : ParseError) → function_behind h ≡ fn → AreAllNames env xs → Refused (λ f. IsBrokenReturn xs (function_behind h) f ⊎ IsWrongInSignatures env es fns k (option_to_list (function_behind h).result_type) f) e → Refused (IsWrongFunction env es xs fns k fn) e
+refused_result env es xs fns k h fn e same names refused = held_refused env es xs fns k h fn (λ (f : Fault). IsBrokenReturn xs (function_behind h) f ⊎ IsWrongInSignatures env es fns k (option_to_list (function_behind h).result_type) f) e same (λ f wrong. wrong_result env es xs fns k h f names wrong) refused
+
+-- where none of the written ones is refused, none is repeated
+no_duplicate : (fn : SourceFunction) (found : Option ℕ) (front count : ℕ) → length fn.given ≤ 1 → front ≡ length fn.given → count ≡ length fn.params → IsRepeatTold fn found → IfNone found ((f : Fault) → IsDuplicateParam fn f → ⊥) → ((k : ℕ) → found ≡ Some k → front ≤ k → front + count ≤ k) → (f : Fault) → IsDuplicateParam fn f → ⊥
+no_duplicate fn None front count few long written told none distinct f h = none f h
+no_duplicate fn (Some k) front count few long written told none distinct f h =
+    let within = slice_get_within (all_params fn) k told.later told.at in
+    let both = length-append fn.given fn.params in
+    let before = told.before in
+    let behind : front + count ≤ k = distinct k refl (omega arith) in
+    omega arith
+
+-- a function is legal, but where a name in its signature means nothing
+legal_function : (xs : List ScopeName) (fns : List SourceFunction) (k : ℕ) (fn : SourceFunction) → slice_get fns k ≡ Some fn → ((f : Fault) → IsBrokenNotes fn.attributes f → ⊥) → AreLegal (written_types fn) → ((f : Fault) → IsGetterGiven fn f → ⊥) → ((f : Fault) → IsSetterGiven fn f → ⊥) → ((f : Fault) → IsDuplicateParam fn f → ⊥) → ((f : Fault) → IsBrokenReturn xs fn f → ⊥) → (f : Fault) → IsBrokenFunction xs fns k fn f → IsNameless xs fns
+legal_function xs fns k fn at notes types getter setter duplicate return f (BrokenNotes h) = absurd (notes f h)
+legal_function xs fns k fn at notes types getter setter duplicate return f (BrokenTypes h) = absurd (types f h)
+legal_function xs fns k fn at notes types getter setter duplicate return f (FunctionAsType h) = record { k = k; fn = fn; at = at; id = h.id; among = h.among; missing = h.missing }
+legal_function xs fns k fn at notes types getter setter duplicate return f (MissingInSignature h) = record { k = k; fn = fn; at = at; id = h.id; among = h.among; missing = h.missing }
+legal_function xs fns k fn at notes types getter setter duplicate return f (GetterGiven h) = absurd (getter f h)
+legal_function xs fns k fn at notes types getter setter duplicate return f (SetterGiven h) = absurd (setter f h)
+legal_function xs fns k fn at notes types getter setter duplicate return f (DuplicateParam h) = absurd (duplicate f h)
+legal_function xs fns k fn at notes types getter setter duplicate return f (GetterWithoutResult h) = absurd (return f (inl h))
+legal_function xs fns k fn at notes types getter setter duplicate return f (SetterWithResult h) = absurd (return f (inr (inl h)))
+legal_function xs fns k fn at notes types getter setter duplicate return f (ConstructorWithoutResult h) = absurd (return f (inr (inr (inl h))))
+legal_function xs fns k fn at notes types getter setter duplicate return f (ConstructorOfOther h) = absurd (return f (inr (inr (inr h))))
+
+-- the same of one that is held
+pub held_legal : (xs : List ScopeName) (fns : List SourceFunction) (k : ℕ) (h : HeldFunction) (fn : SourceFunction) (found : Option ℕ) (front count : ℕ) (ts : List Written) (attributes : List Attribute) → function_behind h ≡ fn → slice_get fns k ≡ Some fn → attributes ≡ (function_behind h).attributes → ((f : Fault) → IsBrokenNotes attributes f → ⊥) → front ≡ length (function_behind h).given → count ≡ length (function_behind h).params → ts ≡ (function_behind h).param_types → IsRepeatTold (function_behind h) found → IfNone found ((f : Fault) → IsDuplicateParam (function_behind h) f → ⊥) → ((n : ℕ) → found ≡ Some n → front ≤ n → front + count ≤ n) → ((f : Fault) → IsGetterGiven (function_behind h) f → ⊥) → ((f : Fault) → IsSetterGiven (function_behind h) f → ⊥) → AreLegal ts → AreLegal (option_to_list (function_behind h).result_type) → ((f : Fault) → IsBrokenReturn xs (function_behind h) f → ⊥) → (f : Fault) → IsBrokenFunction xs fns k fn f → IsNameless xs fns
+held_legal xs fns k h fn found front count ts attributes same at stood notes long written types told none distinct getter setter params result return f broken =
+    let g = function_behind h in
+    let legal = legal_more g.param_types (option_to_list g.result_type) (subst AreLegal types params) result in
+    let duplicate = no_duplicate g found front count (given_few h) long written told none distinct in
+    legal_function xs fns k g (at ∙ ap (λ (x : SourceFunction). Some x) (sym same)) (subst (λ (l : List Attribute). (f : Fault) → IsBrokenNotes l f → ⊥) stood notes) legal getter setter duplicate return f (subst (λ (x : SourceFunction). IsBrokenFunction xs fns k x f) (sym same) broken)

@@ -1,0 +1,8 @@
+mod SignatureTypes
+mod Lost
+mod FunctionParts
+mod FunctionFaults
+mod WholeFunctions
+pub mod Mangling
+mod Paired
+mod Defining

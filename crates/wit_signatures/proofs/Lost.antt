@@ -1,0 +1,81 @@
+-- Names in signatures that stand for nothing: those of functions, and others.
+use Rattle.std.proofs.Common.{◌≡◌, ◌<◌, ◌≤◌, ◌+◌, ℕ, List, Some, inl, inr, refl, sym, ap, ◌∙◌, subst, arith}
+use Rattle.std.specs.Prelude.{slice_get}
+use Rattle.std.proofs.lemmas.Bool.{cases_lt}
+use Rattle.wit_values.specs.declared.span.Span.{Span}
+use Rattle.wit_tree.specs.Refusal.{span_of, name_of}
+use Rattle.wit_tree.specs.declared.error.ParseError.{ParseError}
+use Rattle.wit_tree.specs.declared.tree.«Type».{«Type» as Written}
+use Rattle.wit_tree.specs.declared.tree.«Type».TheVariants as written
+use Rattle.wit_types.specs.declared.types.TypeDef.{TypeDef}
+use Rattle.wit_syntax.specs.Fault.{Fault, fault_of}
+use Rattle.wit_syntax.specs.Function.{Role, Freestanding, Method, Static, Constructor, SourceFunction}
+use Rattle.wit_syntax.specs.Bodies.{IsBrokenForm, IsBrokenType}
+use Rattle.wit_syntax.specs.Broken.{Refused}
+use Rattle.wit_syntax.specs.Signature.{IsEntered}
+use Rattle.wit_syntax.specs.Shape.{shape_of, words}
+use Rattle.wit_arena.specs.Resolving.{Env, IsUnknown, IsWrongType}
+use Rattle.wit_rules.specs.Signatures.{IsFree, IsLostAt, IsWrongInSignature, LostName}
+
+-- none of the functions before a place is one by itself of this name
+pub record NoneFree (fns : List SourceFunction) (i : ℕ) (name : List ℕ) : Type 0 where
+  pub none : (k : ℕ) (fn : SourceFunction) → k < i → slice_get fns k ≡ Some fn → IsFree fn.role name → ⊥
+
+pub none_free-more : (fns : List SourceFunction) (i j : ℕ) (name : List ℕ) (fn : SourceFunction) → j ≡ i + 1 → slice_get fns i ≡ Some fn → (IsFree fn.role name → ⊥) → NoneFree fns i name → NoneFree fns j name
+none_free-more fns i j name fn next at own h = record {
+  none = λ k g lt there free. elim (cases_lt k i) [
+    | inl before ↦ h.none k g before there free
+    | inr behind ↦ (
+        let here : k ≡ i = omega arith in
+        let both : Some fn ≡ Some g = sym at ∙ ap (slice_get fns) (sym here) ∙ there in
+        let one : fn ≡ g = cc in
+        own (subst (λ (x : SourceFunction). IsFree x.role name) (sym one) free))
+  ];
+}
+
+-- a function by itself at a place, or before it, is entered there
+entered_as : (fns : List SourceFunction) (i k : ℕ) (fn : SourceFunction) (role : Role) (name : List ℕ) → i ≤ k → slice_get fns i ≡ Some fn → fn.role ≡ role → IsFree role name → IsEntered fns k name
+entered_as fns i k fn (Freestanding id form) name le at is free = record { place = i; entered = fn; id = id; form = form; before = le; at = at; role = is; same = free }
+entered_as fns i k fn (Method of form) name le at is free = absurd free
+entered_as fns i k fn (Static of form) name le at is free = absurd free
+entered_as fns i k fn (Constructor of) name le at is free = absurd free
+
+pub entered_at : (fns : List SourceFunction) (i k : ℕ) (fn : SourceFunction) (name : List ℕ) → i ≤ k → slice_get fns i ≡ Some fn → IsFree fn.role name → IsEntered fns k name
+entered_at fns i k fn name le at free = entered_as fns i k fn fn.role name le at refl free
+
+-- where none is, none is entered
+pub none_entered : (fns : List SourceFunction) (i k : ℕ) (name : List ℕ) → k < i → NoneFree fns i name → IsEntered fns k name → ⊥
+none_entered fns i k name lt h e =
+    let before = e.before in
+    h.none e.place e.entered (omega arith) e.at (subst (λ (r : Role). IsFree r name) (sym e.role) e.same)
+
+-- no rule of forms has the number of a missing type
+broken_form-rule : (t : Written) (f : Fault) → IsBrokenForm t f → f.rule ≡ 15 → ⊥
+broken_form-rule (written.Tuple' span shape ts) f h is = let it = ap (λ (x : Fault). x.rule) h.is in omega arith
+broken_form-rule (written.Map' span p key q value) f h is = let it = ap (λ (x : Fault). x.rule) h.is in omega arith
+broken_form-rule t f h is = h
+
+broken_type-rule : (t : Written) (f : Fault) → IsBrokenType t f → f.rule ≡ 15 → ⊥
+broken_type-rule t f h is = broken_form-rule h.t f h.broken is
+
+-- under the number of a missing type a refusal is one of a name
+unknown_in : (env : Env) (es : List TypeDef) (t : Written) (e : ParseError) → e.rule ≡ 15 → Refused (IsWrongType env es t) e → IsUnknown env (words (shape_of t)) (fault_of e)
+unknown_in env es t e is (inl want) = absurd (let it = want.rule in let f : ⊥ = omega arith in f)
+unknown_in env es t e is (inr (inl broken)) = absurd (broken_type-rule t (fault_of e) broken is)
+unknown_in env es t e is (inr (inr (inl unknown))) = unknown
+unknown_in env es t e is (inr (inr (inr handle))) = absurd (let it = ap (λ (x : Fault). x.rule) handle.is in let f : ⊥ = omega arith in f)
+
+-- and that name is lost in the signature
+pub refused_lost : (env : Env) (es : List TypeDef) (fns : List SourceFunction) (k : ℕ) (t : Written) (e r : ParseError) (span : Span) (name : List ℕ) → e.rule ≡ 15 → span_of e.kind ≡ span → name_of e.kind ≡ Some name → Refused (IsWrongType env es t) e → Refused (IsLostAt fns k span name) r → Refused (IsWrongInSignature env es fns k t) r
+refused_lost env es fns k t e r span name is there called wrong (inl want) = inl want
+refused_lost env es fns k t e r span name is there called wrong (inr lost) =
+    let u = unknown_in env es t e is wrong in
+    let place : span ≡ u.id.span = sym there ∙ ap (λ (x : Fault). x.span) u.is in
+    let both : Some name ≡ Some u.id.name.now = sym called ∙ ap (λ (x : Fault). x.name) u.is in
+    let word : name ≡ u.id.name.now = cc in
+    inr (LostName (record {
+      id = u.id;
+      among = u.among;
+      free = u.free;
+      lost = subst (λ (n : List ℕ). IsLostAt fns k u.id.span n (fault_of r)) word (subst (λ (x : Span). IsLostAt fns k x name (fault_of r)) place lost);
+    }))

@@ -1,0 +1,88 @@
+use Rattle.std.proofs.Common.{◌≡◌, ◌⊎◌, ◌+◌, ℕ, List, [], ◌∷◌, ◌++◌, Some, length, map, take, inl, inr, sym, ap, ◌∙◌, subst, Contains, arith, rules, length-append}
+use Rattle.std.proofs.lemmas.Bool.{cases_lt}
+use Rattle.std.proofs.lemmas.List.{map-append, take_more, take_all}
+use Rattle.std.proofs.lemmas.Result.{err_from_is_err_and}
+use Rattle.wit_tree.specs.declared.tree.Param.{Param as WrittenParam}
+use Rattle.wit_tree.specs.declared.tree.«Type».{«Type» as Written}
+use Rattle.wit_model.specs.declared.function.Param.{Param}
+use Rattle.wit_syntax.specs.Fault.{Fault}
+use Rattle.wit_syntax.specs.Shape.{all_handles}
+use Rattle.wit_syntax.specs.Function.{written_param}
+use Rattle.wit_arena.specs.Resolving.{env_of}
+use Rattle.wit_syntax.proofs.Lists.{read_map}
+use Rattle.wit_syntax.proofs.Refusing.{refused_weaker}
+use Rattle.wit_syntax.proofs.Found.{contains_at}
+use Rattle.wit_arena.proofs.Written.{AreLegal, legal_one, legal_more}
+use Rattle.wit_entries.specs.Requiring.{Requires}
+use Rattle.wit_rules.specs.Signatures.{functions_behind, IsRefusedParam, IsWrongInSignature, IsWrongInSignatures, AreParamsOver}
+use Rattle.wit_entries.proofs.Requiring.{grown_then, requires_types, requires_one}
+use Rattle.wit_signatures.proofs.FunctionParts.{params_more}
+use Rattle.wit_signatures.proofs.functions.resolve_params.Goals as goal
+
+pub returns-then-eq-clause-refused : goal.returns-then-eq-clause-refused
+returns-then-eq-clause-refused c =
+    let ws = c.args.written.now in
+    let i = c.loop-written.written-index in
+    let item = c.written-item.result in
+    let same : c.args.repeated ≡ Some c.len.result = search rules in
+    let long : c.len.result ≡ length c.args.params.now.items + i = omega (arith, c.len.ensures, c.loop-written.params.ok.0, c.loop-written.invariant.count) in
+    elim c.refuse_param.ensures [
+      | inl want ↦ inl want
+      | inr fault ↦ inr (inl (record {
+        place = i;
+        later = written_param item;
+        at = read_map written_param ws i item c.loop-written-test.true c.written-item.is;
+        same = same ∙ ap (λ (n : ℕ). Some n) long;
+        is = fault;
+      }))
+    ]
+
+pub returns-in_err-ty-clause-refused : goal.returns-in_err-ty-clause-refused
+returns-in_err-ty-clause-refused c =
+    let p = err_from_is_err_and c.from_residual.result c.from_residual.ensures.1 in
+    let ws = c.args.written.now in
+    let i = c.loop-written.written-index in
+    let item = c.written-item.result in
+    let types = map (λ (w : WrittenParam). w.ty) ws in
+    let among : Contains types item.ty = contains_at types i item.ty (read_map (λ (w : WrittenParam). w.ty) ws i item c.loop-written-test.true c.written-item.is) in
+    let env = env_of c.args.scope.names.now in
+    let fns = functions_behind c.args.scope in
+    let new = c.resolve_in_signature.new.types in
+    rw (p.1, p.2) (refused_weaker (IsWrongInSignature env new fns c.args.place item.ty) (λ (f : Fault). IsRefusedParam c.args.repeated (length c.args.params.now.items) (map written_param ws) f ⊎ IsWrongInSignatures env new fns c.args.place types f) _ (λ f wrong. inr (item.ty, among, wrong)) c.in_err-ty.ensures.refused)
+
+pub loop-written-preserved : goal.loop-written-preserved
+loop-written-preserved c =
+    let ws = c.args.written.now in
+    let i = c.loop-written.written-index in
+    let item = c.written-item.result in
+    let made = c.in_ok-param.field-0 in
+    let out = c.loop-written.params.items in
+    let env = env_of c.args.scope.names.now in
+    let mid = c.loop-written.types in
+    let new = c.resolve_in_signature.new.types in
+    let type_of = λ (w : WrittenParam). w.ty in
+    let taken : take (i + 1) ws ≡ take i ws ++ item ∷ [] = take_more ws i item c.loop-written-test.true ∙ ap (λ (x : WrittenParam). take i ws ++ x ∷ []) (sym c.written-item.is) in
+    let types : map type_of (take (i + 1) ws) ≡ map type_of (take i ws) ++ item.ty ∷ [] = ap (map type_of) taken ∙ map-append type_of (take i ws) (item ∷ []) in
+    let differ : (c.args.repeated ≡ Some c.len.result → ⊥) = search rules in
+    let long : c.len.result ≡ length c.args.params.now.items + i = omega (arith, c.len.ensures, c.loop-written.params.ok.0, c.loop-written.invariant.count) in
+    record {
+      params = λ vs first given. params_more first mid new env vs (take i ws) (take (i + 1) ws) item out c.push.new.self.items made c.in_ok-ty.ty taken c.in_ok-push.ensures.items c.in_ok-param.ensures.name c.in_ok-param.ensures.span c.in_ok-param.ensures.ty c.in_ok-ty.ensures.resolved (c.loop-written.invariant.params vs first given);
+      count = (let a = ap (λ (l : List Param). length l) c.in_ok-push.ensures.items in let b = length-append out (made ∷ []) in let d = c.loop-written.invariant.count in omega arith);
+      distinct = λ k is le. elim (cases_lt (length c.args.params.now.items + i) k) [
+        | inl lt ↦ omega arith
+        | inr here ↦ (let at = c.loop-written.invariant.distinct k is le in let same : k ≡ c.len.result = omega arith in absurd (differ (is ∙ ap (λ (n : ℕ). Some n) same)))
+      ];
+      legal = subst AreLegal (sym types) (legal_more (map type_of (take i ws)) (item.ty ∷ []) c.loop-written.invariant.legal (legal_one item.ty c.in_ok-ty.ensures.legal));
+      handled = subst (λ (ts : List Written). Requires env new (all_handles ts) c.args.required.now.items c.resolve_in_signature.new.required.items) (sym types) (requires_types env mid new (map type_of (take i ws)) (item.ty ∷ []) _ _ _ c.in_ok-ty.ensures.grown c.loop-written.invariant.handled (requires_one env new item.ty _ _ c.in_ok-ty.ensures.handled));
+      grown = grown_then _ _ _ c.loop-written.invariant.grown c.in_ok-ty.ensures.grown;
+    }
+
+pub returns-clause-params : goal.returns-clause-params
+returns-clause-params c = λ vs first given. (
+    let all = take_all c.loop-written.written-index c.args.written.now c.loop-written-test.false in
+    subst (λ (l : List WrittenParam). AreParamsOver first c.loop-written.types (env_of c.args.scope.names.now) (vs ++ map written_param l) c.loop-written.params.items) all (c.loop-written.invariant.params vs first given))
+
+pub returns-clause-legal : goal.returns-clause-legal
+returns-clause-legal c =
+    let all = take_all c.loop-written.written-index c.args.written.now c.loop-written-test.false in
+    subst (λ (l : List WrittenParam). AreLegal (map (λ (w : WrittenParam). w.ty) l)) all c.loop-written.invariant.legal

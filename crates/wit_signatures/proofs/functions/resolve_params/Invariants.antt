@@ -1,0 +1,20 @@
+use Rattle.std.proofs.Common.{◌≡◌, ◌≤◌, ◌+◌, ℕ, List, ◌++◌, Some, length, map, take}
+use Rattle.wit_tree.specs.declared.tree.Param.{Param as Written}
+use Rattle.wit_types.specs.declared.types.TypeDef.{TypeDef}
+use Rattle.wit_syntax.specs.Shape.{all_handles}
+use Rattle.wit_syntax.specs.Function.{SourceParam, written_param}
+use Rattle.wit_arena.specs.Resolving.{env_of}
+use Rattle.wit_arena.proofs.Written.{AreLegal}
+use Rattle.wit_entries.specs.Requiring.{IsGrown, Requires}
+use Rattle.wit_rules.specs.Signatures.{AreParamsOver}
+use Rattle.wit_signatures.proofs.functions.resolve_params.Given as goal
+
+abbrev pub invariant-loop-written : goal.invariant-loop-written
+invariant-loop-written l = record {
+  params : (ws : List SourceParam) (first : List TypeDef) → AreParamsOver first l.fn.types (env_of l.scope.names.now) ws l.fn.params.items → AreParamsOver first l.types (env_of l.scope.names.now) (ws ++ map written_param (take l.written-index l.written)) l.params.items;
+  count : length l.params.items ≡ length l.fn.params.items + l.written-index;
+  distinct : (k : ℕ) → l.repeated ≡ Some k → length l.fn.params.items ≤ k → length l.fn.params.items + l.written-index ≤ k;
+  legal : AreLegal (map (λ (p : Written). p.ty) (take l.written-index l.written));
+  handled : Requires (env_of l.scope.names.now) l.types (all_handles (map (λ (p : Written). p.ty) (take l.written-index l.written))) l.fn.required.items l.required.items;
+  grown : IsGrown l.fn.types l.types;
+}

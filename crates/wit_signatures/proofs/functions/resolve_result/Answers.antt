@@ -1,0 +1,44 @@
+use Rattle.std.proofs.Common.{◌⊎◌, Option, inl, inr, sym, ◌∙◌, subst, Contains}
+use Rattle.std.specs.Option.{option_to_list}
+use Rattle.std.proofs.lemmas.Option.{none-some}
+use Rattle.std.proofs.lemmas.Result.{err_from_is_err_and}
+use Rattle.wit_tree.specs.declared.tree.«Type».{«Type» as Written}
+use Rattle.wit_syntax.specs.Fault.{Fault}
+use Rattle.wit_arena.specs.Resolving.{env_of}
+use Rattle.wit_syntax.proofs.Refusing.{refused_weaker}
+use Rattle.wit_syntax.proofs.Found.{contains_at}
+use Rattle.wit_arena.proofs.Written.{AreLegal, legal_one}
+use Rattle.wit_rules.specs.Held.{function_behind}
+use Rattle.wit_rules.specs.Signatures.{functions_behind, IsWrongInSignature, IsWrongInSignatures, IsBrokenResult, IsBrokenReturn}
+use Rattle.wit_signatures.proofs.FunctionParts.{result_behind}
+use Rattle.wit_signatures.proofs.SignatureTypes.{option_has}
+use Rattle.wit_signatures.proofs.functions.resolve_result.Goals as goal
+
+pub returns-in_err-ty-in-Some-clause-refused : goal.returns-in_err-ty-in-Some-clause-refused
+returns-in_err-ty-in-Some-clause-refused c =
+    let p = err_from_is_err_and c.from_residual.result c.from_residual.ensures.1 in
+    let t = c.in-Some.written.now in
+    let fn = function_behind c.args.function in
+    let among : Contains (option_to_list fn.result_type) t = contains_at (option_to_list fn.result_type) 0 t (option_has fn.result_type t (sym c.in-Some.ensures)) in
+    let env = env_of c.args.scope.names.now in
+    let fns = functions_behind c.args.scope in
+    let types = c.resolve_in_signature.new.types in
+    rw (p.1, p.2) (λ xs scope. refused_weaker (IsWrongInSignature env types fns c.args.place t) (λ (f : Fault). IsBrokenReturn xs fn f ⊎ IsWrongInSignatures env types fns c.args.place (option_to_list fn.result_type) f) _ (λ f wrong. inr (t, among, wrong)) c.in_err-ty-in-Some.ensures.refused)
+
+pub returns-in_err-check_result-in-Some-clause-refused : goal.returns-in_err-check_result-in-Some-clause-refused
+returns-in_err-check_result-in-Some-clause-refused c =
+    let p = err_from_is_err_and c.from_residual-in_err-check_result-in-Some.result c.from_residual-in_err-check_result-in-Some.ensures.1 in
+    let fn = function_behind c.args.function in
+    rw (p.1, p.2) (λ xs scope. refused_weaker (IsBrokenResult xs fn) (λ (f : Fault). IsBrokenReturn xs fn f ⊎ IsWrongInSignatures (env_of c.args.scope.names.now) c.resolve_in_signature.new.types (functions_behind c.args.scope) c.args.place (option_to_list fn.result_type) f) _ (λ f wrong. inl (inr wrong)) (c.in_err-check_result-in-Some.ensures.refused xs scope.results))
+
+pub returns-in_ok-check_result-in-Some-clause-result : goal.returns-in_ok-check_result-in-Some-clause-result
+returns-in_ok-check_result-in-Some-clause-result c = result_behind c.args.types.now c.resolve_in_signature.new.types (env_of c.args.scope.names.now) c.args.function c.in-Some.written.now c.in_ok-ty-in-Some.ty (sym c.in-Some.ensures) c.in_ok-ty-in-Some.ensures.resolved
+
+pub returns-in_ok-check_result-in-Some-clause-returns : goal.returns-in_ok-check_result-in-Some-clause-returns
+returns-in_ok-check_result-in-Some-clause-returns c = λ xs scope f wrong. elim wrong [
+  | inl getter ↦ none-some c.in-Some.written.now (sym getter.none ∙ sym c.in-Some.ensures)
+  | inr result ↦ c.in_ok-check_result-in-Some.ensures.legal xs scope.results f result
+]
+
+pub returns-in_ok-check_result-in-Some-clause-legal : goal.returns-in_ok-check_result-in-Some-clause-legal
+returns-in_ok-check_result-in-Some-clause-legal c = subst (λ (o : Option Written). AreLegal (option_to_list o)) c.in-Some.ensures (legal_one c.in-Some.written.now c.in_ok-ty-in-Some.ensures.legal)

@@ -1,0 +1,28 @@
+-- The names of a scope, with those of its functions, of which no two may have one key.
+use Rattle.std.specs.Prelude.{◌≡◌, ℕ, List}
+use Rattle.wit_names.specs.Folded.{folded_key}
+use Rattle.wit_tree.specs.declared.tree.Id.{Id}
+use Rattle.wit_model.specs.declared.function.Function.{Function}
+use Rattle.wit_syntax.specs.Bodies.{IsRepeated}
+use Rattle.wit_syntax.specs.Fault.{Fault, fault}
+use Rattle.wit_syntax.specs.Function.{SourceFunction}
+use Rattle.wit_notes.specs.Names.{Name}
+
+abbrev pub name_of_id : Id → Name
+name_of_id id = (id.name.now, id.span)
+
+abbrev pub name_of_made : Function → Name
+name_of_made f = (f.name, f.span)
+
+abbrev pub name_of_function : SourceFunction → Name
+name_of_function fn = (fn.name, fn.span)
+
+-- the key by which a name is told apart
+abbrev pub name_key : Name → List ℕ
+name_key n = folded_key n.0
+
+-- an earlier one of these names has the key of a later one
+pub record IsTwiceAmong (names : List Name) (f : Fault) : Type 0 where
+  pub later : Name
+  pub repeated : IsRepeated name_key names later
+  pub is : f ≡ fault 17 later.1

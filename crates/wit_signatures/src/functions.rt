@@ -1,0 +1,290 @@
+//! Functions over their resolved types.
+ghost use Rattle.std.specs.Prelude.{◌≡◌, ◌<◌, ◌≤◌, ◌⊎◌, ◌++◌, ◌+◌, ℕ, List, [], ◌∷◌, IfOk, IfErr, IsTrue, OnOk, None, Some, length, map, slice_get};
+ghost use Rattle.std.specs.Option.{option_to_list};
+ghost use Rattle.wit_tree.specs.Refusal.{IsWantOfMemory};
+ghost use Rattle.wit_types.specs.declared.types.TypeDef.{TypeDef as Entry};
+ghost use Rattle.wit_types.specs.declared.stability.Stability.TheVariants.{Unknown};
+ghost use Rattle.wit_names.specs.Mangled.{is_mangled};
+ghost use Rattle.wit_syntax.specs.Address.{Address};
+ghost use Rattle.wit_syntax.specs.Shape.{all_handles};
+ghost use Rattle.wit_syntax.specs.Source.{ScopeName};
+ghost use Rattle.wit_syntax.specs.Fault.{Fault};
+ghost use Rattle.wit_syntax.specs.Bodies.{IsBrokenPart};
+ghost use Rattle.wit_syntax.specs.Broken.{Refused};
+ghost use Rattle.wit_syntax.specs.Function.{SourceParam, SourceFunction, self_param as the_self, written_param, written_types};
+ghost use Rattle.wit_arena.specs.Functions.{freestanding_kind, method_kind, static_kind};
+ghost use Rattle.wit_syntax.specs.Signature.{IsBrokenFunction, IsGetterWithoutResult};
+ghost use Rattle.wit_arena.specs.Resolving.{env_of, AddsFunctions};
+ghost use Rattle.wit_arena.specs.Resolved.{IsNameless};
+ghost use Rattle.wit_arena.specs.Adding.{IsKindIn, SaysParam};
+ghost use Rattle.wit_entries.specs.Reading.{IsResolved};
+ghost use Rattle.wit_entries.specs.Requiring.{IsGrown, Requires};
+ghost use Rattle.wit_rules.specs.Held.{function_behind, owner_of};
+ghost use Rattle.wit_rules.specs.Signatures.{functions_behind, HasOwner, HaveOwners, IsScopeOf, IsRefusedParam, AreParamsOver, IsResultOver, IsBrokenReturn, IsWrongInSignatures, IsWrongFunction};
+
+use crate::signatures::resolve_in_signature;
+use std::alloc::{AllocError, Global};
+use wit_entries::entries::Entries;
+use wit_entries::scope::Required;
+use wit_model::{Function, FunctionKind, Param};
+use wit_notes::notes_of;
+use wit_rules::function_rules::{
+    check_given, check_result, check_returns, refuse_param, repeated_param,
+};
+use wit_rules::function_scope::FunctionScope;
+use wit_rules::held::HeldFunction;
+use wit_tree::tree::{self, FuncForm, Id, ResourceFunc};
+use wit_tree::{ParseResult, Span};
+use wit_types::{Handle, Stability, Type, TypeDefKind, TypeId};
+use wit_values::{Row, Text, TextTable};
+
+/// The kind of a function by itself.
+fn freestanding(form: FuncForm) -> FunctionKind
+    ensures { result ≡ freestanding_kind form }
+{
+    match form {
+        FuncForm::Plain => FunctionKind::Freestanding,
+        FuncForm::Async => FunctionKind::AsyncFreestanding,
+        FuncForm::Getter => FunctionKind::Getter,
+        FuncForm::Setter => FunctionKind::Setter,
+    }
+}
+
+/// The kind of a method of the resource at a place.
+fn method(form: FuncForm, resource: TypeId) -> FunctionKind
+    ensures { result ≡ method_kind form resource }
+{
+    match form {
+        FuncForm::Plain => FunctionKind::Method(resource),
+        FuncForm::Async => FunctionKind::AsyncMethod(resource),
+        FuncForm::Getter => FunctionKind::MethodGetter(resource),
+        FuncForm::Setter => FunctionKind::MethodSetter(resource),
+    }
+}
+
+/// The kind of a static function of the resource at a place.
+fn static_function(form: FuncForm, resource: TypeId) -> FunctionKind
+    ensures { result ≡ static_kind form resource }
+{
+    match form {
+        FuncForm::Plain => FunctionKind::Static(resource),
+        FuncForm::Async => FunctionKind::AsyncStatic(resource),
+        FuncForm::Getter => FunctionKind::StaticGetter(resource),
+        FuncForm::Setter => FunctionKind::StaticSetter(resource),
+    }
+}
+
+/// The place of a resource.
+fn place_of(names: &TextTable<TypeId>, resource: Id<'_>) -> TypeId
+    requires { HasOwner (env_of names.now) (Some resource) }
+    ensures { env_of names.now resource.entry.name.now ≡ Some result }
+{
+    match names.get(resource.name) {
+        Some(place) => *place,
+        None => unreachable!(),
+    }
+}
+
+/// The kind of a function.
+fn kind_of(names: &TextTable<TypeId>, function: HeldFunction<'_, '_>) -> FunctionKind
+    requires { HasOwner (env_of names.now) (owner_of (function_behind function).role) }
+    ensures { IsKindIn (env_of names.now) (function_behind function.entry).role result }
+{
+    match function {
+        HeldFunction::Free(f) => freestanding(f.func.form),
+        HeldFunction::Of(resource, ResourceFunc::Method(f)) => {
+            method(f.func.form, place_of(names, resource))
+        }
+        HeldFunction::Of(resource, ResourceFunc::Static(f)) => {
+            static_function(f.func.form, place_of(names, resource))
+        }
+        HeldFunction::Of(resource, ResourceFunc::Constructor { .. }) => {
+            FunctionKind::Constructor(place_of(names, resource))
+        }
+    }
+}
+
+/// A parameter of this type.
+fn param(alloc: Global, name: Id<'_>, ty: Type) -> Result<Param, AllocError>
+    ensures name { IfOk result (λ p. p.name ≡ name.entry.name.now) }
+    ensures span { IfOk result (λ p. p.span ≡ name.entry.span) }
+    ensures ty { IfOk result (λ p. p.ty ≡ ty) }
+{
+    Ok(Param {
+        name: Text::from_str(alloc, name.name)?,
+        ty,
+        span: name.span,
+    })
+}
+
+/// The first parameter of a method: its resource, lent, where the function stands.
+fn self_param(
+    alloc: Global,
+    types: &mut Entries,
+    names: &TextTable<TypeId>,
+    resource: Id<'_>,
+    word: Span,
+) -> ParseResult<Param>
+    requires { HasOwner (env_of names.now) (Some resource) }
+    ensures says { IfOk result (λ p. SaysParam (the_self resource.entry word) p) }
+    ensures resolved { IfOk result (λ p. IsResolved types.old types.new (env_of names.now) Unknown (the_self resource.entry word).shape p.ty) }
+    ensures grown { IsGrown types.old types.new }
+    ensures refused { IfErr result IsWantOfMemory }
+{
+    let borrow = TypeDefKind::Handle(Handle::Borrow(place_of(names, resource)));
+    let id = types.intern(borrow, &Stability::Unknown, word)?;
+    Ok(Param {
+        name: Text::from_str(alloc, "self")?,
+        ty: Type::Id(id),
+        span: word,
+    })
+}
+
+/// The parameters that a function is given before its written ones.
+fn given_params(
+    alloc: Global,
+    types: &mut Entries,
+    names: &TextTable<TypeId>,
+    function: HeldFunction<'_, '_>,
+) -> ParseResult<Vec<Param>>
+    requires { HasOwner (env_of names.now) (owner_of (function_behind function).role) }
+    ensures params { IfOk result (λ ps. AreParamsOver types.old types.new (env_of names.now) (function_behind function.entry).given ps.items) }
+    ensures grown { IsGrown types.old types.new }
+    ensures refused { IfErr result IsWantOfMemory }
+{
+    let mut params = Vec::new(alloc);
+    if let Some(resource) = function.given() {
+        params.push(self_param(alloc, types, names, resource, function.word())?)?;
+    }
+    Ok(params)
+}
+
+/// Adds the written parameters of the function at a place behind those that it is given. The one at
+/// the place `repeated` among all is refused (E38).
+fn resolve_params(
+    alloc: Global,
+    types: &mut Entries,
+    required: &mut Vec<Required>,
+    scope: FunctionScope<'_, '_, '_>,
+    place: usize,
+    params: &mut Vec<Param>,
+    written: &[tree::Param<'_>],
+    repeated: Option<usize>,
+) -> ParseResult<()>
+    requires place { place < length scope.functions.now }
+    ensures params { OnOk result ((ws : List SourceParam) (first : List Entry) → AreParamsOver first types.old (env_of scope.entry.names.now) ws params.old.items → AreParamsOver first types.new (env_of scope.entry.names.now) (ws ++ map written_param written.now) params.new.items) }
+    ensures distinct { OnOk result ((k : ℕ) → repeated ≡ Some k → length params.old.items ≤ k → length params.old.items + length written.now ≤ k) }
+    ensures legal { OnOk result ((f : Fault) → IsBrokenPart (map (λ p. p.ty) written.now) f → ⊥) }
+    ensures handled { OnOk result (Requires (env_of scope.entry.names.now) types.new (all_handles (map (λ p. p.ty) written.now)) required.old.items required.new.items) }
+    ensures grown { IsGrown types.old types.new }
+    ensures refused { IfErr result (Refused (λ f. IsRefusedParam repeated (length params.old.items) (map written_param written.now) f ⊎ IsWrongInSignatures (env_of scope.entry.names.now) types.new (functions_behind scope.entry) place (map (λ p. p.ty) written.now) f)) }
+{
+    for written in written {
+        if repeated == Some(params.len()) {
+            return Err(refuse_param(alloc, written.name));
+        }
+        let ty = resolve_in_signature(alloc, types, required, scope, place, &written.ty)?;
+        params.push(param(alloc, written.name, ty)?)?;
+    }
+    Ok(())
+}
+
+/// The type of the result of a function without a written one: the resource that a constructor makes.
+/// A getter is refused (E39).
+fn made_result(
+    alloc: Global,
+    names: &TextTable<TypeId>,
+    function: HeldFunction<'_, '_>,
+) -> ParseResult<Option<Type>>
+    requires owner { HasOwner (env_of names.now) (owner_of (function_behind function).role) }
+    requires none { (function_behind function).result_type ≡ None }
+    ensures result { IfOk result (λ r. (es : List Entry) → IsResultOver es es (env_of names.now) (function_behind function.entry).result r) }
+    ensures legal { OnOk result ((f : Fault) → IsGetterWithoutResult (function_behind function.entry) f → ⊥) }
+    ensures refused { IfErr result (Refused (IsGetterWithoutResult (function_behind function.entry))) }
+{
+    check_returns(alloc, function)?;
+    match function.made() {
+        Some(resource) => Ok(Some(Type::Id(place_of(names, resource)))),
+        None => Ok(None),
+    }
+}
+
+/// The type of the result of the function at a place.
+fn resolve_result<'t, 'a>(
+    alloc: Global,
+    types: &mut Entries,
+    required: &mut Vec<Required>,
+    scope: FunctionScope<'_, 't, 'a>,
+    place: usize,
+    function: HeldFunction<'t, 'a>,
+) -> ParseResult<Option<Type>>
+    requires place { place < length scope.functions.now }
+    requires owner { HasOwner (env_of scope.names.now) (owner_of (function_behind function).role) }
+    ensures result { IfOk result (IsResultOver types.old types.new (env_of scope.entry.names.now) (function_behind function.entry).result) }
+    ensures returns { OnOk result ((xs : List ScopeName) → IsScopeOf scope.entry xs → (f : Fault) → IsBrokenReturn xs (function_behind function.entry) f → ⊥) }
+    ensures legal { OnOk result ((f : Fault) → IsBrokenPart (option_to_list (function_behind function.entry).result_type) f → ⊥) }
+    ensures handled { OnOk result (Requires (env_of scope.entry.names.now) types.new (all_handles (option_to_list (function_behind function.entry).result_type)) required.old.items required.new.items) }
+    ensures grown { IsGrown types.old types.new }
+    ensures refused { IfErr result (λ e. (xs : List ScopeName) → IsScopeOf scope.entry xs → Refused (λ f. IsBrokenReturn xs (function_behind function.entry) f ⊎ IsWrongInSignatures (env_of scope.entry.names.now) types.new (functions_behind scope.entry) place (option_to_list (function_behind function.entry).result_type) f) e) }
+{
+    match function.result() {
+        Some(written) => {
+            let ty = resolve_in_signature(alloc, types, required, scope, place, written)?;
+            check_result(alloc, scope.results, function, written)?;
+            Ok(Some(ty))
+        }
+        None => made_result(alloc, scope.names, function),
+    }
+}
+
+/// The function at a place of a scope, with its notes, over its types, which are added to the arena:
+/// those of its parameters and then that of its result.
+///
+/// A refusal is E30 to E35 at its attributes, E28 or E29 at a name in its signature, E27 at one in a
+/// handle, E22 or E26 at a type, E36 or E37 at its parameters, E38 at one of them, E39 to E42 at its
+/// result, or want of memory.
+pub fn resolve_function(
+    alloc: Global,
+    types: &mut Entries,
+    required: &mut Vec<Required>,
+    scope: FunctionScope<'_, '_, '_>,
+    place: usize,
+) -> ParseResult<Function>
+    requires place { place < length scope.functions.now }
+    requires owners { HaveOwners (env_of scope.names.now) (functions_behind scope) }
+    ensures adds { IfOk result (λ f. (fn : SourceFunction) → slice_get (functions_behind scope.entry) place ≡ Some fn → (s : Address) → AddsFunctions types.old types.new s scope.entry.names.now (fn ∷ []) (f ∷ [])) }
+    ensures named { IfOk result (λ f. (fn : SourceFunction) → slice_get (functions_behind scope.entry) place ≡ Some fn → (f.name ≡ fn.name) × (f.span ≡ fn.span)) }
+    ensures mangled { IfOk result (λ f. IsTrue (is_mangled f.name)) }
+    ensures legal { OnOk result ((xs : List ScopeName) → IsScopeOf scope.entry xs → (fn : SourceFunction) → slice_get (functions_behind scope.entry) place ≡ Some fn → (f : Fault) → IsBrokenFunction xs (functions_behind scope.entry) place fn f → IsNameless xs (functions_behind scope.entry)) }
+    ensures handled { OnOk result ((fn : SourceFunction) → slice_get (functions_behind scope.entry) place ≡ Some fn → Requires (env_of scope.entry.names.now) types.new (all_handles (written_types fn)) required.old.items required.new.items) }
+    ensures grown { IsGrown types.old types.new }
+    ensures refused { IfErr result (λ e. (xs : List ScopeName) → IsScopeOf scope.entry xs → (fn : SourceFunction) → slice_get (functions_behind scope.entry) place ≡ Some fn → Refused (IsWrongFunction (env_of scope.entry.names.now) types.new xs (functions_behind scope.entry) place fn) e) }
+{
+    let function = scope.functions[place];
+    let notes = notes_of(alloc, function.docs(), function.attributes())?;
+    check_given(alloc, function)?;
+    let repeated = repeated_param(alloc, function)?;
+    let mut params = given_params(alloc, types, scope.names, function)?;
+    let written = function.params();
+    resolve_params(
+        alloc,
+        types,
+        required,
+        scope,
+        place,
+        &mut params,
+        written,
+        repeated,
+    )?;
+    let result = resolve_result(alloc, types, required, scope, place, function)?;
+    Ok(Function {
+        name: function.name(alloc)?,
+        kind: kind_of(scope.names, function),
+        params: Row::from(params),
+        result,
+        docs: notes.docs,
+        stability: notes.stability,
+        span: function.span(),
+        external_id: notes.external_id,
+    })
+}

@@ -1,0 +1,141 @@
+//! Types in signatures.
+ghost use Rattle.std.specs.Prelude.{◌<◌, ◌↔◌, List, IfOk, IfErr, IsTrue, OnOk, length, map};
+ghost use Rattle.wit_tree.specs.Refusal.{IsItemNotFound};
+ghost use Rattle.wit_tree.specs.declared.tree.«Type».{«Type» as Written};
+ghost use Rattle.wit_types.specs.declared.types.TypeDef.{TypeDef};
+ghost use Rattle.wit_types.specs.declared.stability.Stability.TheVariants.{Unknown};
+ghost use Rattle.wit_syntax.specs.Shape.{shape_of, handles};
+ghost use Rattle.wit_syntax.specs.Fault.{Fault, name_word};
+ghost use Rattle.wit_syntax.specs.Bodies.{IsBrokenType};
+ghost use Rattle.wit_syntax.specs.Broken.{Refused};
+ghost use Rattle.wit_syntax.specs.Signature.{IsEntered};
+ghost use Rattle.wit_arena.specs.Resolving.{Env, env_of, IsWrongType};
+ghost use Rattle.wit_entries.specs.Reading.{IsResolved};
+ghost use Rattle.wit_entries.specs.Requiring.{IsGrown, Requires};
+ghost use Rattle.wit_rules.specs.Held.{function_behind};
+ghost use Rattle.wit_rules.specs.Signatures.{functions_behind, IsFree, IsLostAt, IsWrongInSignature};
+
+use std::alloc::{AllocError, Global};
+use wit_entries::entries::Entries;
+use wit_entries::scope::Required;
+use wit_entries::types::resolve_type;
+use wit_notes::refusal::refuse_in;
+use wit_rules::function_scope::FunctionScope;
+use wit_rules::held::HeldFunction;
+use wit_tree::{ParseError, ParseErrorKind, ParseResult, Span, tree};
+use wit_types::{Stability, Type};
+
+/// The number of a name in a type that stands for nothing.
+const MISSING_TYPE: u8 = 15;
+
+/// Whether a function is one by itself, of this name.
+fn is_named(function: HeldFunction<'_, '_>, name: &str) -> bool
+    ensures { IsTrue result ↔ IsFree (function_behind function.entry).role name.now }
+{
+    match function {
+        HeldFunction::Free(function) => function.name.name == name,
+        HeldFunction::Of(_, _) => false,
+    }
+}
+
+/// Whether the function at a place, or one before it, is one by itself of this name.
+fn is_entered(functions: &[HeldFunction<'_, '_>], place: usize, name: &str) -> bool
+    requires { place < length functions.now }
+    ensures { IsTrue result ↔ IsEntered (map function_behind functions.now) place name.now }
+{
+    for index in 0..=place {
+        if is_named(functions[index], name) {
+            return true;
+        }
+    }
+    false
+}
+
+/// The words for a function that is used as a type.
+fn function_as_type(alloc: Global, name: &str) -> Result<String, AllocError> {
+    format!(in alloc; "cannot use function `{name}` as a type")
+}
+
+/// What is said of a name that stands for nothing.
+fn name_not_found(alloc: Global, span: Span, name: &str) -> Result<ParseErrorKind, AllocError>
+    ensures { IfOk result (IsItemNotFound span name.now name_word) }
+{
+    Ok(ParseErrorKind::ItemNotFound {
+        span,
+        name: String::from_str(alloc, name)?,
+        kind: String::from_str(alloc, "name")?,
+        hint: None,
+    })
+}
+
+/// The refusal of a name in the signature of the function at a place: that of a function (E28), or of
+/// nothing (E29).
+#[cold]
+#[inline(never)]
+fn refuse_name(
+    alloc: Global,
+    functions: &[HeldFunction<'_, '_>],
+    place: usize,
+    span: Span,
+    name: &str,
+) -> ParseError
+    requires { place < length functions.now }
+    ensures { Refused (IsLostAt (map function_behind functions.now) place span name.now) result }
+{
+    if is_entered(functions, place, name) {
+        return refuse_in(28, span, function_as_type(alloc, name));
+    }
+    match name_not_found(alloc, span, name) {
+        Ok(kind) => ParseError::of(kind, 29),
+        Err(e) => e.into(),
+    }
+}
+
+/// What a refusal of a type is in the signature of the function at a place: of a missing name it is
+/// another one there.
+#[cold]
+#[inline(never)]
+fn in_signature(
+    alloc: Global,
+    functions: &[HeldFunction<'_, '_>],
+    place: usize,
+    error: ParseError,
+) -> ParseError
+    requires { place < length functions.now }
+    ensures { (env : Env) (es : List TypeDef) (t : Written) → Refused (IsWrongType env es t) error → Refused (IsWrongInSignature env es (map function_behind functions.now) place t) result }
+{
+    if error.rule() != MISSING_TYPE {
+        return error;
+    }
+    match error.kind() {
+        ParseErrorKind::ItemNotFound { span, name, .. } => {
+            refuse_name(alloc, functions, place, *span, name.as_str())
+        }
+        _ => error,
+    }
+}
+
+/// The type that a written one in the signature of the function at a place stands for. It stands in
+/// no definition, so that no stability is given it.
+///
+/// A refusal is E22, E26, E27, E28 or E29 at a type in it, or want of memory.
+pub(crate) fn resolve_in_signature(
+    alloc: Global,
+    types: &mut Entries,
+    required: &mut Vec<Required>,
+    scope: FunctionScope<'_, '_, '_>,
+    place: usize,
+    ty: &tree::Type<'_>,
+) -> ParseResult<Type>
+    requires { place < length scope.functions.now }
+    ensures resolved { IfOk result (IsResolved types.old types.new (env_of scope.entry.names.now) Unknown (shape_of ty.now)) }
+    ensures legal { OnOk result ((f : Fault) → IsBrokenType ty.now f → ⊥) }
+    ensures handled { OnOk result (Requires (env_of scope.entry.names.now) types.new (handles ty.now) required.old.items required.new.items) }
+    ensures grown { IsGrown types.old types.new }
+    ensures refused { IfErr result (Refused (IsWrongInSignature (env_of scope.entry.names.now) types.new (functions_behind scope.entry) place ty.now)) }
+{
+    match resolve_type(alloc, types, scope.names, required, &Stability::Unknown, ty) {
+        Ok(ty) => Ok(ty),
+        Err(error) => Err(in_signature(alloc, scope.functions, place, error)),
+    }
+}

@@ -1,0 +1,15 @@
+pub mod Lists
+pub mod Names
+pub mod Addresses
+pub mod Seen
+pub mod Refusing
+pub mod Repeated
+pub mod Kept
+pub mod Firsts
+pub mod Tables
+pub mod Orders
+pub mod Rows
+pub mod Turns
+pub mod Found
+pub mod Legal
+pub mod Headers

@@ -1,0 +1,51 @@
+-- Scopes by address.
+use Rattle.std.specs.Prelude.{ℕ, Bool, true, false, List, Option, Some, None, ◌&&◌, nat_eq}
+use Rattle.std.specs.Option.{option_map}
+use Rattle.std.specs.Str.{bytes_eq}
+use Rattle.semver.specs.Identifiers.{pre_text, build_text}
+use Rattle.semver.specs.declared.Version.{Version}
+use Rattle.wit_values.specs.declared.release.Release.{Release}
+use Rattle.wit_tree.specs.declared.tree.PackageName.{PackageName as Written}
+use Rattle.wit_package_names.specs.declared.package_name.PackageName.{PackageName}
+
+-- a scope: the declared interface, or the declared world, of a name, or the item of that name in another package
+pub data Address : Type 0 where
+  InterfaceNamed : (name : List ℕ) → Address
+  WorldNamed : (name : List ℕ) → Address
+  ForeignNamed : (of : PackageName) (name : List ℕ) → Address
+
+-- a version that is written
+abbrev pub release_of : Version → Release
+release_of v = record { major = v.major; minor = v.minor; patch = v.patch; pre = pre_text v.pre; build = build_text v.build }
+
+-- a package that is written
+abbrev pub package_of : Written → PackageName
+package_of p = record { namespace = p.namespace.name.now; name = p.name.name.now; version = option_map release_of p.version }
+
+-- whether two versions are one, to their builds
+abbrev pub same_release : Release → Release → Bool
+same_release a b = nat_eq a.major b.major && (nat_eq a.minor b.minor && (nat_eq a.patch b.patch && (bytes_eq a.pre b.pre && bytes_eq a.build b.build)))
+
+-- whether both versions are one, or both are absent
+abbrev pub same_version : Option Release → Option Release → Bool
+same_version None None = true
+same_version (Some a) (Some b) = same_release a b
+same_version None (Some b) = false
+same_version (Some a) None = false
+
+-- whether two packages are one
+abbrev pub same_package : PackageName → PackageName → Bool
+same_package a b = bytes_eq a.namespace b.namespace && (bytes_eq a.name b.name && same_version a.version b.version)
+
+-- whether two addresses are one
+abbrev pub same_address : Address → Address → Bool
+same_address (InterfaceNamed a) (InterfaceNamed b) = bytes_eq a b
+same_address (WorldNamed a) (WorldNamed b) = bytes_eq a b
+same_address (ForeignNamed p a) (ForeignNamed q b) = same_package p q && bytes_eq a b
+same_address _ _ = false
+
+-- whether a scope is of another package
+abbrev pub is_foreign : Address → Bool
+is_foreign (InterfaceNamed name) = false
+is_foreign (WorldNamed name) = false
+is_foreign (ForeignNamed p name) = true

@@ -1,0 +1,144 @@
+-- The rules of what is written in definitions, and what it is that breaks each.
+use Rattle.std.specs.Prelude.{◌≡◌, ℕ, zero, suc, ◌<◌, ◌⊎◌, List, [], map, Some, Contains, slice_get}
+use Rattle.std.specs.Char.{to_ascii_lowercase}
+use Rattle.wit_values.specs.declared.span.Span.{Span}
+use Rattle.wit_tree.specs.declared.tree.Id.{Id}
+use Rattle.wit_tree.specs.declared.tree.Field.{Field}
+use Rattle.wit_tree.specs.declared.tree.Flag.{Flag}
+use Rattle.wit_tree.specs.declared.tree.Case.{Case}
+use Rattle.wit_tree.specs.declared.tree.EnumCase.{EnumCase}
+use Rattle.wit_tree.specs.declared.tree.«Type».{«Type» as Written}
+use Rattle.wit_tree.specs.declared.tree.«Type».TheVariants as written
+use Rattle.wit_tree.specs.declared.tree.TypeBody.{TypeBody}
+use Rattle.wit_tree.specs.declared.tree.TypeBody.TheVariants.{Record, Flags, Variant, Enum, Resource, Plain}
+use Rattle.wit_tree.specs.Parts.{part_types, row_types, body_types}
+use Rattle.wit_syntax.specs.Fault.{Fault, fault}
+
+-- the key by which labels are told apart: the label in lower case
+abbrev pub folded : List ℕ → List ℕ
+folded name = map to_ascii_lowercase name
+
+-- an earlier item of a list has the key of a later one
+pub record IsRepeated {X : Type 0} (key : X → List ℕ) (xs : List X) (later : X) : Type 0 where
+  pub first : ℕ
+  pub second : ℕ
+  pub earlier : X
+  pub before : first < second
+  pub at_first : slice_get xs first ≡ Some earlier
+  pub at_second : slice_get xs second ≡ Some later
+  pub same : key earlier ≡ key later
+
+-- a record has no field
+pub record IsEmptyRecord (fields : List Field) (span : Span) (f : Fault) : Type 0 where
+  pub none : fields ≡ []
+  pub is : f ≡ fault 19 span
+
+-- flags have no flag
+pub record IsEmptyFlags (flags : List Flag) (span : Span) (f : Fault) : Type 0 where
+  pub none : flags ≡ []
+  pub is : f ≡ fault 20 span
+
+-- a flag is the thirty-third
+pub record IsFlagTooMany (flags : List Flag) (f : Fault) : Type 0 where
+  pub flag : Flag
+  pub at : slice_get flags 32 ≡ Some flag
+  pub is : f ≡ fault 21 flag.name.span
+
+-- a tuple has no type
+pub record IsEmptyTuple (types : List Written) (span : Span) (f : Fault) : Type 0 where
+  pub none : types ≡ []
+  pub is : f ≡ fault 22 span
+
+-- a variant has no case
+pub record IsEmptyVariant (cases : List Case) (span : Span) (f : Fault) : Type 0 where
+  pub none : cases ≡ []
+  pub is : f ≡ fault 23 span
+
+-- an enum has no case
+pub record IsEmptyEnum (cases : List EnumCase) (span : Span) (f : Fault) : Type 0 where
+  pub none : cases ≡ []
+  pub is : f ≡ fault 24 span
+
+-- an earlier one of the names of fields, flags or cases is the same once case is folded
+pub record IsDuplicateName (names : List Id) (f : Fault) : Type 0 where
+  pub later : Id
+  pub repeated : IsRepeated (λ id. folded id.name.now) names later
+  pub is : f ≡ fault 25 later.span
+
+-- the keys of a map can be of the type, as it is written
+abbrev pub IsKey : Written → Type 0
+IsKey (written.Bool span) = Unit {0}
+IsKey (written.U8 span) = Unit {0}
+IsKey (written.U16 span) = Unit {0}
+IsKey (written.U32 span) = Unit {0}
+IsKey (written.U64 span) = Unit {0}
+IsKey (written.S8 span) = Unit {0}
+IsKey (written.S16 span) = Unit {0}
+IsKey (written.S32 span) = Unit {0}
+IsKey (written.S64 span) = Unit {0}
+IsKey (written.Char span) = Unit {0}
+IsKey (written.String span) = Unit {0}
+IsKey _ = ⊥
+
+-- a map's key is written as another type
+pub record IsInvalidKey (key : Written) (span : Span) (f : Fault) : Type 0 where
+  pub other : IsKey key → ⊥
+  pub is : f ≡ fault 26 span
+
+-- what is wrong with a written type apart from its parts
+abbrev pub IsBrokenForm : Written → Fault → Type 0
+IsBrokenForm (written.Tuple' span shape ts) f = IsEmptyTuple (row_types ts) span f
+IsBrokenForm (written.Map' span p key q value) f = IsInvalidKey key span f
+IsBrokenForm t f = ⊥
+
+-- a type stands in another one, so many levels down
+abbrev pub StandsIn : ℕ → Written → Written → Type 0
+StandsIn zero whole t = t ≡ whole
+StandsIn (suc n) whole t = (part : Written) × Contains (part_types whole) part × StandsIn n part t
+
+-- something is wrong with a written type, or with one that stands in it
+pub record IsBrokenType (whole : Written) (f : Fault) : Type 0 where
+  pub level : ℕ
+  pub t : Written
+  pub stands : StandsIn level whole t
+  pub broken : IsBrokenForm t f
+
+-- with one of these types
+pub record IsBrokenPart (types : List Written) (f : Fault) : Type 0 where
+  pub t : Written
+  pub among : Contains types t
+  pub broken : IsBrokenType t f
+
+-- what is wrong with the fields of a record
+pub data IsBrokenRecord (fields : List Field) (span : Span) (f : Fault) : Type 0 where
+  EmptyRecord : IsEmptyRecord fields span f → IsBrokenRecord fields span f
+  DuplicateField : IsDuplicateName (map (λ x. x.name) fields) f → IsBrokenRecord fields span f
+
+-- what is wrong with flags
+pub data IsBrokenFlags (flags : List Flag) (span : Span) (f : Fault) : Type 0 where
+  EmptyFlags : IsEmptyFlags flags span f → IsBrokenFlags flags span f
+  FlagTooMany : IsFlagTooMany flags f → IsBrokenFlags flags span f
+  DuplicateFlag : IsDuplicateName (map (λ x. x.name) flags) f → IsBrokenFlags flags span f
+
+-- what is wrong with the cases of a variant
+pub data IsBrokenVariant (cases : List Case) (span : Span) (f : Fault) : Type 0 where
+  EmptyVariant : IsEmptyVariant cases span f → IsBrokenVariant cases span f
+  DuplicateCase : IsDuplicateName (map (λ x. x.name) cases) f → IsBrokenVariant cases span f
+
+-- what is wrong with the cases of an enum
+pub data IsBrokenEnum (cases : List EnumCase) (span : Span) (f : Fault) : Type 0 where
+  EmptyEnum : IsEmptyEnum cases span f → IsBrokenEnum cases span f
+  DuplicateEnumCase : IsDuplicateName (map (λ x. x.name) cases) f → IsBrokenEnum cases span f
+
+-- what is wrong with the fields, flags or cases of a body
+abbrev pub IsBrokenList : TypeBody → Fault → Type 0
+IsBrokenList (Record span fields) f = IsBrokenRecord fields.items span f
+IsBrokenList (Flags span flags) f = IsBrokenFlags flags.items span f
+IsBrokenList (Variant span cases) f = IsBrokenVariant cases.items span f
+IsBrokenList (Enum span cases) f = IsBrokenEnum cases.items span f
+IsBrokenList (Resource funcs) f = ⊥
+IsBrokenList (Plain t) f = ⊥
+
+-- what is wrong with the body of a definition: its list, or a type that is written in it
+abbrev pub IsBrokenBody : TypeBody → Fault → Type 0
+IsBrokenBody body f = IsBrokenList body f ⊎ IsBrokenPart (body_types body) f

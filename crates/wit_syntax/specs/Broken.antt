@@ -1,0 +1,277 @@
+-- The rules, and what it is that breaks each.
+use Rattle.std.specs.Prelude.{◌≡◌, ◌≢◌, ℕ, ◌⊎◌, Bool, true, false, List, [], ◌∷◌, ◌++◌, map, Option, Some, None, Contains, slice_get}
+use Rattle.std.specs.List.{filter_map}
+use Rattle.std.specs.Option.{option_map, option_or}
+use Rattle.semver.specs.Identifiers.{parts_of}
+use Rattle.wit_tree.specs.declared.error.ParseError.{ParseError}
+use Rattle.wit_tree.specs.Refusal.{IsWantOfMemory}
+use Rattle.wit_tree.specs.declared.tree.Id.{Id}
+use Rattle.wit_tree.specs.declared.tree.Attribute.{Attribute}
+use Rattle.wit_tree.specs.declared.tree.Use.{Use as WrittenUse}
+use Rattle.wit_tree.specs.declared.tree.Include.{Include}
+use Rattle.wit_tree.specs.declared.tree.TypeDef.{TypeDef}
+use Rattle.wit_tree.specs.declared.tree.UsePath.{UsePath}
+use Rattle.wit_tree.specs.declared.tree.UseName.{UseName}
+use Rattle.wit_tree.specs.declared.tree.ToplevelUse.{ToplevelUse}
+use Rattle.wit_tree.specs.declared.tree.AstItem.{AstItem}
+use Rattle.wit_tree.specs.declared.tree.AstItem.TheVariants.{Use as ToplevelItem}
+use Rattle.wit_tree.specs.declared.tree.PackageName.{PackageName as Header}
+use Rattle.wit_tree.specs.declared.tree.PackageFile.{PackageFile}
+use Rattle.wit_order.specs.Table.{Row, IsEdge, IsMissing, IsCyclic, IsOrder}
+use Rattle.wit_syntax.specs.Notes.{IsBrokenStability, IsBrokenNotes}
+use Rattle.wit_syntax.specs.Bodies.{IsRepeated, IsBrokenBody}
+use Rattle.wit_syntax.specs.Fault.{Fault, fault_of, fault, missing_at, cyclic_at, item_word, type_word, name_word}
+use Rattle.wit_syntax.specs.Address.{Address, ForeignNamed}
+use Rattle.wit_syntax.specs.Source.{path_id, Target, Local, Foreign, path_target, leads, TopName, top_names, top_text, Item, item_id, item_name, declared_attributes, is_world, all_items, item_named, item_at, ScopeName, Used, Defined, local_id, local_name, scope_names, meaning, address}
+use Rattle.wit_syntax.specs.Foreign.{ForeignVisit, foreign_visits, is_foreign_world, foreign_at}
+use Rattle.wit_syntax.specs.Function.{SourceFunction, functions, free_names, item_types}
+use Rattle.wit_syntax.specs.Signature.{Called, called_key, name_called, function_called, IsBrokenFunction, IsNoResource, IsUnpairedSetter}
+use Rattle.wit_syntax.specs.Scope.{use_paths, include_paths, uses, includes, item_rows, rows_of, used, defined, in_turn}
+
+-- no file has a header
+pub record IsHeaderless (files : List PackageFile) (f : Fault) : Type 0 where
+  pub none : (i : ℕ) (file : PackageFile) → slice_get files i ≡ Some file → file.package_id ≡ None
+  pub is : f ≡ fault 4 (record { start = 0; end = 0 })
+
+-- an earlier one of these items has the name
+pub record IsRepeatedItem (is : List Item) (f : Fault) : Type 0 where
+  pub later : Item
+  pub repeated : IsRepeated item_name is later
+  pub says : f ≡ fault 5 (item_id later).span
+
+-- an earlier item of the package has the name
+abbrev pub IsDuplicateItem : List PackageFile → Fault → Type 0
+IsDuplicateItem files f = IsRepeatedItem (all_items files) f
+
+-- an earlier name at the top of a file is the same
+pub record IsDuplicateTopName (top : List TopName) (f : Fault) : Type 0 where
+  pub later : TopName
+  pub repeated : IsRepeated top_text top later
+  pub is : f ≡ fault 6 later.id.span
+
+-- the path of a `use` at the top of a file is the name of none of these items
+pub record IsMissingOriginal (items : List Item) (declarations : List AstItem) (f : Fault) : Type 0 where
+  pub u : ToplevelUse
+  pub id : Id
+  pub among : Contains declarations (ToplevelItem u)
+  pub local : path_target u.item ≡ Local id
+  pub missing : item_named items id.name.now ≡ None
+  pub is : f ≡ missing_at 7 item_word id
+
+-- the header of the last file that has one
+abbrev pub last_header : List PackageFile → Option Header
+last_header [] = None
+last_header (f ∷ fs) = option_or (last_header fs) f.package_id
+
+-- the headers of files, in push order
+abbrev pub headers : List PackageFile → List Header
+headers files = filter_map (λ f. f.package_id) files
+
+-- a header has docs
+abbrev pub IsDocumented : Header → Type 0
+IsDocumented h = h.docs.docs.items ≢ []
+
+-- two headers name one package, in one version or both in none
+pub record IsSamePackage (a b : Header) : Type 0 where
+  pub namespace : a.namespace.name.now ≡ b.namespace.name.now
+  pub name : a.name.name.now ≡ b.name.name.now
+  pub version : option_map parts_of a.version ≡ option_map parts_of b.version
+
+-- a header names another package than the one before it
+pub record IsMismatch (previous current : Option Header) (f : Fault) : Type 0 where
+  pub before : Header
+  pub own : Header
+  pub was : previous ≡ Some before
+  pub now : current ≡ Some own
+  pub other : IsSamePackage before own → ⊥
+  pub is : f ≡ fault 1 own.span
+
+-- a header that has docs comes behind one that has docs
+pub record IsSecondDocs (earlier : List Header) (current : Option Header) (f : Fault) : Type 0 where
+  pub own : Header
+  pub now : current ≡ Some own
+  pub documented : IsDocumented own
+  pub before : Header
+  pub among : Contains earlier before
+  pub documented_before : IsDocumented before
+  pub is : f ≡ fault 2 own.docs.span
+
+-- both a file's header and one of the files before it have docs
+abbrev pub IsDocumentedTwice : List PackageFile → PackageFile → Fault → Type 0
+IsDocumentedTwice files file f = IsSecondDocs (headers files) file.package_id f
+
+-- a file's header names another package than the last header of the files before it
+abbrev pub IsOtherPackage : List PackageFile → PackageFile → Fault → Type 0
+IsOtherPackage files file f = IsMismatch (last_header files) file.package_id f
+
+-- an edge of a table leads to no row
+pub record IsMissingEdge (number : ℕ) (sort : List ℕ) (rs : List Row) (f : Fault) : Type 0 where
+  pub place : ℕ
+  pub index : ℕ
+  pub id : Id
+  pub edge : IsEdge rs place index id
+  pub missing : IsMissing rs place id
+  pub is : f ≡ missing_at number sort id
+
+-- both ends of an edge of a table reach a cycle
+pub record IsCyclicEdge (number : ℕ) (sort : List ℕ) (rs : List Row) (f : Fault) : Type 0 where
+  pub place : ℕ
+  pub index : ℕ
+  pub id : Id
+  pub edge : IsEdge rs place index id
+  pub cyclic : IsCyclic rs place id
+  pub is : f ≡ cyclic_at number sort id
+
+-- a path of an item leads to no item that could come before it
+abbrev pub IsMissingItem : List PackageFile → Fault → Type 0
+IsMissingItem files f = IsMissingEdge 7 item_word (item_rows files) f
+
+-- items need one another in a cycle
+abbrev pub IsCyclicItem : List PackageFile → Fault → Type 0
+IsCyclicItem files f = IsCyclicEdge 8 item_word (item_rows files) f
+
+-- whether what stands where a path leads is a world, if something stands there
+abbrev pub is_world_at : List PackageFile → Target → Option Bool
+is_world_at files (Local id) = option_map is_world (item_named (all_items files) id.name.now)
+is_world_at files (Foreign p id) = option_map is_foreign_world (foreign_at files (ForeignNamed p id.name.now))
+
+-- the path of a `use` leads to no item
+pub record IsMissingUse (files : List PackageFile) (i : Item) (f : Fault) : Type 0 where
+  pub path : UsePath
+  pub id : Id
+  pub among : Contains (use_paths i) path
+  pub local : leads i.top path ≡ Local id
+  pub missing : item_named (all_items files) id.name.now ≡ None
+  pub is : f ≡ missing_at 7 item_word id
+
+-- the path of a `use` leads to a world
+pub record IsWorldUsed (files : List PackageFile) (i : Item) (f : Fault) : Type 0 where
+  pub path : UsePath
+  pub among : Contains (use_paths i) path
+  pub other : is_world_at files (leads i.top path) ≡ Some true
+  pub is : f ≡ fault 10 (path_id path).span
+
+-- the path of an include leads to an interface
+pub record IsInterfaceIncluded (files : List PackageFile) (i : Item) (f : Fault) : Type 0 where
+  pub path : UsePath
+  pub among : Contains (include_paths i) path
+  pub other : is_world_at files (leads i.top path) ≡ Some false
+  pub is : f ≡ fault 11 (path_id path).span
+
+-- a used name is none of the interface that it comes from, nor of a function there
+pub record IsMissingName (files : List PackageFile) (xs : List ScopeName) (f : Fault) : Type 0 where
+  pub from : Address
+  pub attributes : List Attribute
+  pub n : UseName
+  pub among : Contains xs (Used from attributes n)
+  pub target : Item
+  pub declared : item_at (all_items files) from ≡ Some target
+  pub missing : meaning (scope_names target) n.name.name.now ≡ None
+  pub other : Contains (free_names target) n.name.name.now → ⊥
+  pub is : f ≡ missing_at 12 name_word n.name
+
+-- it is that of a function
+pub record IsFunctionUsed (files : List PackageFile) (xs : List ScopeName) (f : Fault) : Type 0 where
+  pub from : Address
+  pub attributes : List Attribute
+  pub n : UseName
+  pub among : Contains xs (Used from attributes n)
+  pub target : Item
+  pub declared : item_at (all_items files) from ≡ Some target
+  pub missing : meaning (scope_names target) n.name.name.now ≡ None
+  pub function : Contains (free_names target) n.name.name.now
+  pub is : f ≡ fault 13 n.name.span
+
+-- an earlier name of the scope is the same, where the used ones come before the definitions
+pub record IsDefinedTwice (xs : List ScopeName) (f : Fault) : Type 0 where
+  pub later : ScopeName
+  pub repeated : IsRepeated local_name (used xs ++ defined xs) later
+  pub is : f ≡ fault 14 (local_id later).span
+
+-- a name written in a definition's body is none of the scope
+abbrev pub IsMissingType : List ScopeName → Fault → Type 0
+IsMissingType xs f = IsMissingEdge 15 type_word (rows_of xs) f
+
+-- definitions name one another in a cycle
+abbrev pub IsCyclicType : List ScopeName → Fault → Type 0
+IsCyclicType xs f = IsCyclicEdge 16 type_word (rows_of xs) f
+
+-- the names of a scope as they are resolved, in an order of its table, and then those of its functions
+abbrev pub all_called : List ScopeName → List SourceFunction → List ℕ → List Called
+all_called xs fns order = map name_called (in_turn xs order) ++ map function_called fns
+
+-- an earlier name has the key of a later one
+pub record IsFoldedTwice (xs : List ScopeName) (fns : List SourceFunction) (f : Fault) : Type 0 where
+  pub order : List ℕ
+  pub least : IsOrder (rows_of xs) order
+  pub later : Called
+  pub repeated : IsRepeated called_key (all_called xs fns order) later
+  pub is : f ≡ fault 17 later.span
+
+-- what is wrong with a scope by itself, where it has these functions
+pub data IsBrokenScope (xs : List ScopeName) (fns : List SourceFunction) (f : Fault) : Type 0 where
+  DefinedTwice : IsDefinedTwice xs f → IsBrokenScope xs fns f
+  MissingType : IsMissingType xs f → IsBrokenScope xs fns f
+  CyclicType : IsCyclicType xs f → IsBrokenScope xs fns f
+  Notes : (d : TypeDef) → Contains xs (Defined d) → IsBrokenNotes d.attributes.items f → IsBrokenScope xs fns f
+  Body : (d : TypeDef) → Contains xs (Defined d) → IsBrokenBody d.body f → IsBrokenScope xs fns f
+  Function : (k : ℕ) (fn : SourceFunction) → slice_get fns k ≡ Some fn → IsBrokenFunction xs fns k fn f → IsBrokenScope xs fns f
+  FoldedTwice : IsFoldedTwice xs fns f → IsBrokenScope xs fns f
+
+-- what is wrong with the names of the items that files declare, with those at the top of each, and with what paths of items lead to
+pub data IsBrokenItems (files : List PackageFile) (f : Fault) : Type 0 where
+  DuplicateItem : IsDuplicateItem files f → IsBrokenItems files f
+  DuplicateTopName : (file : PackageFile) → Contains files file → IsDuplicateTopName (top_names file) f → IsBrokenItems files f
+  MissingItem : IsMissingItem files f → IsBrokenItems files f
+  CyclicItem : IsCyclicItem files f → IsBrokenItems files f
+
+-- a `use` at the top of a file has attributes
+pub record IsAttributedTopUse (declarations : List AstItem) (f : Fault) : Type 0 where
+  pub u : ToplevelUse
+  pub among : Contains declarations (ToplevelItem u)
+  pub attributed : u.attributes.items ≢ []
+  pub is : f ≡ fault 9 u.span
+
+-- what is wrong with those, with attributes in front of paths to other packages, with a `use` at the top of a file, or with what such a path leads to
+pub data IsBrokenNames (files : List PackageFile) (f : Fault) : Type 0 where
+  Items : IsBrokenItems files f → IsBrokenNames files f
+  ForeignStability : (v : ForeignVisit) → Contains (foreign_visits files) v → IsBrokenStability v.attributes f → IsBrokenNames files f
+  AttributedTopUse : (file : PackageFile) → Contains files file → IsAttributedTopUse file.decl_list.items.items f → IsBrokenNames files f
+  MissingOriginal : (file : PackageFile) → Contains files file → IsMissingOriginal (all_items files) file.decl_list.items.items f → IsBrokenNames files f
+
+-- what is wrong with where a `use` of an item leads
+pub data IsBrokenUse (files : List PackageFile) (i : Item) (f : Fault) : Type 0 where
+  MissingUse : IsMissingUse files i f → IsBrokenUse files i f
+  WorldUsed : IsWorldUsed files i f → IsBrokenUse files i f
+
+-- a handle in a definition of an item, or in a function of it, names no resource
+abbrev pub IsHandleBroken : List PackageFile → Item → Fault → Type 0
+IsHandleBroken files i f = IsNoResource files (address i) (item_types i) f
+
+-- a setter of an interface has no getter
+pub record IsSetterAlone (i : Item) (f : Fault) : Type 0 where
+  pub interface : is_world i ≡ false
+  pub alone : IsUnpairedSetter (functions i) f
+
+-- what is wrong with files
+pub data IsBroken (files : List PackageFile) (f : Fault) : Type 0 where
+  Headerless : IsHeaderless files f → IsBroken files f
+  Names : IsBrokenNames files f → IsBroken files f
+  ItemStability : (i : Item) → Contains (all_items files) i → IsBrokenStability (declared_attributes i.declared) f → IsBroken files f
+  UseNotes : (i : Item) → Contains (all_items files) i → (u : WrittenUse) → Contains (uses i) u → IsBrokenNotes u.attributes.items f → IsBroken files f
+  IncludeStability : (i : Item) → Contains (all_items files) i → (n : Include) → Contains (includes i) n → IsBrokenStability n.attributes.items f → IsBroken files f
+  Use : (i : Item) → Contains (all_items files) i → IsBrokenUse files i f → IsBroken files f
+  InterfaceIncluded : (i : Item) → Contains (all_items files) i → IsInterfaceIncluded files i f → IsBroken files f
+  MissingName : (i : Item) → Contains (all_items files) i → IsMissingName files (scope_names i) f → IsBroken files f
+  FunctionUsed : (i : Item) → Contains (all_items files) i → IsFunctionUsed files (scope_names i) f → IsBroken files f
+  Scope : (i : Item) → Contains (all_items files) i → IsBrokenScope (scope_names i) (functions i) f → IsBroken files f
+  Handle : (i : Item) → Contains (all_items files) i → IsHandleBroken files i f → IsBroken files f
+  Setter : (i : Item) → Contains (all_items files) i → IsSetterAlone i f → IsBroken files f
+
+-- no rule is broken
+abbrev pub IsLegal : List PackageFile → Type 0
+IsLegal files = (f : Fault) → IsBroken files f → ⊥
+
+-- a refusal is for want of memory, or tells a fault of this kind
+abbrev pub Refused : (Fault → Type 0) → ParseError → Type 0
+Refused P e = IsWantOfMemory e ⊎ P (fault_of e)

@@ -1,0 +1,166 @@
+-- Functions as they are written: each by its mangled name, with the shapes of its parameters and of its result.
+use Rattle.std.specs.Prelude.{ℕ, List, [], ◌∷◌, ◌++◌, Option, Some, map, codes}
+use Rattle.std.specs.List.{flat_map}
+use Rattle.std.specs.Option.{option_map, option_map_or, option_to_list}
+use Rattle.wit_values.specs.declared.span.Span.{Span}
+use Rattle.wit_tree.specs.declared.tree.Id.{Id}
+use Rattle.wit_tree.specs.declared.tree.Attribute.{Attribute}
+use Rattle.wit_tree.specs.declared.tree.Docs.{Docs}
+use Rattle.wit_tree.specs.declared.tree.«Type».{«Type» as Written}
+use Rattle.wit_tree.specs.declared.tree.TypeBody.{TypeBody}
+use Rattle.wit_tree.specs.declared.tree.TypeBody.TheVariants as body
+use Rattle.wit_tree.specs.declared.tree.NamedFunc.{NamedFunc}
+use Rattle.wit_tree.specs.declared.tree.FuncForm.{FuncForm}
+use Rattle.wit_tree.specs.declared.tree.FuncForm.TheVariants as form
+use Rattle.wit_tree.specs.declared.tree.Param.{Param}
+use Rattle.wit_tree.specs.declared.tree.ResourceFunc.{ResourceFunc}
+use Rattle.wit_tree.specs.declared.tree.ResourceFunc.TheVariants as resource
+use Rattle.wit_tree.specs.Parts.{body_types}
+use Rattle.wit_syntax.specs.Form.{BorrowForm}
+use Rattle.wit_syntax.specs.Shape.{Shape, Word, Of, one, shape_of}
+use Rattle.wit_syntax.specs.Notes.{Notes, notes, docs_of}
+use Rattle.wit_syntax.specs.Source.{Item, Part, Defining, Using, Including, Doing, parts, ScopeName, Used, Defined, Taken, scope_names}
+
+-- what a function is: by itself, or of a resource
+pub data Role : Type 0 where
+  Freestanding : (id : Id) (form : FuncForm) → Role
+  Method : (of : Id) (form : FuncForm) → Role
+  Static : (of : Id) (form : FuncForm) → Role
+  Constructor : (of : Id) → Role
+
+-- a parameter: its name, the place of that, and its type
+pub record SourceParam : Type 0 where
+  pub name : List ℕ
+  pub span : Span
+  pub shape : Shape
+
+-- A function: its mangled name, the places of its written name and of the word that begins its signature, what it is first given, its
+-- written parameters, and its result; and the types, the docs and the attributes as they are written.
+pub record SourceFunction : Type 0 where
+  pub name : List ℕ
+  pub role : Role
+  pub span : Span
+  pub word : Span
+  pub given : List SourceParam
+  pub params : List SourceParam
+  pub result : Option Shape
+  pub param_types : List Written
+  pub result_type : Option Written
+  pub docs : Docs
+  pub attributes : List Attribute
+
+-- what is told of it
+abbrev pub function_notes : SourceFunction → Notes
+function_notes f = notes (docs_of f.docs) f.attributes
+
+-- all its parameters
+abbrev pub all_params : SourceFunction → List SourceParam
+all_params f = f.given ++ f.params
+
+-- the types that are written in it, in order
+abbrev pub written_types : SourceFunction → List Written
+written_types f = f.param_types ++ option_to_list f.result_type
+
+-- the mark of an accessor
+abbrev pub accessor : FuncForm → List ℕ
+accessor form.Plain = []
+accessor form.Async = []
+accessor form.Getter = codes "[get]"
+accessor form.Setter = codes "[set]"
+
+-- a function of a resource, without what marks its role
+abbrev pub dotted : Id → Id → List ℕ
+dotted r f = r.name.now ++ codes "." ++ f.name.now
+
+abbrev pub written_param : Param → SourceParam
+written_param p = record { name = p.name.name.now; span = p.name.span; shape = shape_of p.ty }
+
+-- a method is first given its resource, lent, where the function stands
+abbrev pub self_param : Id → Span → SourceParam
+self_param r span = record { name = codes "self"; span = span; shape = Of span BorrowForm (one (Word r)) }
+
+-- a function whose mangled name, role and first parameters are these
+abbrev pub function_with : List ℕ → Role → List SourceParam → NamedFunc → SourceFunction
+function_with name role given f = record {
+  name = name;
+  role = role;
+  span = f.name.span;
+  word = f.func.span;
+  given = given;
+  params = map written_param f.func.params.items;
+  result = option_map shape_of f.func.result;
+  param_types = map (λ p. p.ty) f.func.params.items;
+  result_type = f.func.result;
+  docs = f.docs;
+  attributes = f.attributes.items;
+}
+
+-- a function of an interface
+abbrev pub free_function : NamedFunc → SourceFunction
+free_function f = function_with (accessor f.func.form ++ f.name.name.now) (Freestanding f.name f.func.form) [] f
+
+-- a constructor without a result makes its resource
+abbrev pub constructor_of : Id → Docs → List Attribute → Span → List Param → Option Written → SourceFunction
+constructor_of r docs attributes span params result = record {
+  name = codes "[constructor]" ++ r.name.now;
+  role = Constructor r;
+  span = span;
+  word = span;
+  given = [];
+  params = map written_param params;
+  result = Some (option_map_or shape_of result (Word r));
+  param_types = map (λ p. p.ty) params;
+  result_type = result;
+  docs = docs;
+  attributes = attributes;
+}
+
+-- a function of a resource
+abbrev pub resource_function : Id → ResourceFunc → SourceFunction
+resource_function r (resource.Method f) = function_with (codes "[method]" ++ accessor f.func.form ++ dotted r f.name) (Method r f.func.form) (self_param r f.func.span ∷ []) f
+resource_function r (resource.Static f) = function_with (codes "[static]" ++ accessor f.func.form ++ dotted r f.name) (Static r f.func.form) [] f
+resource_function r (resource.Constructor docs attributes span params result) = constructor_of r docs attributes.items span params.items result
+
+-- the functions of a definition: those of a resource
+abbrev pub definition_functions : Id → TypeBody → List SourceFunction
+definition_functions r (body.Resource funcs) = map (resource_function r) funcs.items
+definition_functions r _ = []
+
+-- the functions of a part of an item
+abbrev pub part_functions : Part → List SourceFunction
+part_functions (Defining d) = definition_functions d.name d.body
+part_functions (Using u) = []
+part_functions (Including i) = []
+part_functions (Doing f) = free_function f ∷ []
+
+-- the functions of an item, in source order
+abbrev pub functions : Item → List SourceFunction
+functions i = flat_map part_functions (parts i)
+
+-- the names of the functions that are no resource's
+abbrev pub role_names : Role → List (List ℕ)
+role_names (Freestanding id form) = id.name.now ∷ []
+role_names (Method of form) = []
+role_names (Static of form) = []
+role_names (Constructor of) = []
+
+abbrev pub free_names : Item → List (List ℕ)
+free_names i = flat_map (λ f. role_names f.role) (functions i)
+
+-- the types that are written in a name of a scope: those of a definition's body
+abbrev pub name_types : ScopeName → List Written
+name_types (Used from attributes n) = []
+name_types (Defined d) = body_types d.body
+name_types (Taken attributes id) = []
+
+-- the types that are written in names of a scope, and then in its functions
+abbrev pub all_types : List ScopeName → List SourceFunction → List Written
+all_types xs fns = flat_map name_types xs ++ flat_map written_types fns
+
+-- those that are written in an item
+abbrev pub item_types : Item → List Written
+item_types i = all_types (scope_names i) (functions i)
+
+-- the types of a function, in the order in which they are resolved
+abbrev pub signature : SourceFunction → List Shape
+signature f = map (λ p. p.shape) (all_params f) ++ option_to_list f.result

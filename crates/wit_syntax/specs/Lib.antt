@@ -1,0 +1,16 @@
+pub mod Repeats
+pub mod Address
+pub mod Docs
+pub mod Fault
+pub mod Notes
+pub mod Form
+pub mod Node
+pub mod Shape
+pub mod Source
+pub mod Foreign
+pub mod Scope
+pub mod Bodies
+pub mod Function
+pub mod Ends
+pub mod Signature
+pub mod Broken

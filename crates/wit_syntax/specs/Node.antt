@@ -1,0 +1,62 @@
+-- One level of a type over what stands for its parts, and types unfolded to any depth.
+use Rattle.std.specs.Prelude.{ℕ, zero, suc, List, Option, map}
+use Rattle.wit_values.specs.declared.span.Span.{Span}
+use Rattle.wit_types.specs.declared.docs.Docs.{Docs}
+use Rattle.wit_types.specs.declared.stability.Stability.{Stability}
+use Rattle.wit_syntax.specs.Form.{Form}
+use Rattle.wit_syntax.specs.Address.{Address}
+
+-- the primitive types
+pub data Primitive : Type 0 where
+  Bool : Primitive
+  U8 : Primitive
+  U16 : Primitive
+  U32 : Primitive
+  U64 : Primitive
+  S8 : Primitive
+  S16 : Primitive
+  S32 : Primitive
+  S64 : Primitive
+  F32 : Primitive
+  F64 : Primitive
+  Char : Primitive
+  String : Primitive
+  ErrorContext : Primitive
+
+-- whose a name is, by names alone: a scope's, or nobody's
+pub data Owner : Type 0 where
+  OfScope : (scope : Address) → Owner
+  Nobody : Owner
+
+-- a named type without its body
+pub record Head : Type 0 where
+  pub owner : Owner
+  pub name : List ℕ
+  pub span : Span
+  pub docs : Docs
+  pub stability : Stability
+  pub external_id : Option (List ℕ)
+
+-- one level of a type
+pub data Node (X : Type 0) : Type 0 where
+  Leaf : (primitive : Primitive) → Node X
+  Named : (head : Head) (form : Form) (parts : List X) → Node X
+  Unnamed : (form : Form) (parts : List X) → Node X
+  -- a name or a place with nothing behind it
+  Nothing : Node X
+
+abbrev pub node_map : {X Y : Type 0} → (X → Y) → Node X → Node Y
+node_map f (Leaf p) = Leaf p
+node_map f (Named head form parts) = Named head form (map f parts)
+node_map f (Unnamed form parts) = Unnamed form (map f parts)
+node_map f Nothing = Nothing
+
+-- a tree of n levels, cut below
+abbrev pub Tree : ℕ → Type 0
+Tree zero = Unit {0}
+Tree (suc n) = Node (Tree n)
+
+-- the tree that grows from x, where step gives one level
+abbrev pub unfolded : {X : Type 0} → (X → Node X) → (n : ℕ) → X → Tree n
+unfolded step zero x = tt
+unfolded step (suc n) x = node_map (unfolded step n) (step x)

@@ -1,0 +1,128 @@
+-- Notes: what the docs and the attributes in front of a thing tell of it, and what breaks the rules of attributes.
+use Rattle.std.specs.Prelude.{◌≡◌, ℕ, ◌<◌, ◌⊎◌, List, [], ◌∷◌, Option, Some, None, map}
+use Rattle.std.specs.Option.{option_map}
+use Rattle.semver.specs.declared.Version.{Version}
+use Rattle.wit_values.specs.declared.release.Release.{Release}
+use Rattle.wit_tree.specs.declared.tree.Docs.{Docs as Comments}
+use Rattle.wit_tree.specs.declared.tree.Attribute.{Attribute}
+use Rattle.wit_tree.specs.declared.attribute_kind.AttributeKind.{AttributeKind}
+use Rattle.wit_tree.specs.declared.attribute_kind.AttributeKind.TheVariants.{Since, Unstable, Deprecated, ExternalId}
+use Rattle.wit_tree.specs.Attributes.{attribute_span, told_text, told_version, StandsAt}
+use Rattle.wit_types.specs.declared.docs.Docs.{Docs}
+use Rattle.wit_types.specs.declared.stability.Stability.{Stability}
+use Rattle.wit_types.specs.declared.stability.Stability.TheVariants as stability
+use Rattle.wit_types.specs.declared.types.TypeDef.{TypeDef}
+use Rattle.wit_syntax.specs.Address.{release_of}
+use Rattle.wit_syntax.specs.Docs.{docs_text}
+use Rattle.wit_syntax.specs.Fault.{Fault, fault}
+
+-- what comments document
+abbrev pub docs_of : Comments → Docs
+docs_of d = record { contents = docs_text (map (λ c. c.now) d.docs.items) }
+
+-- no docs were written
+abbrev pub no_docs : Docs
+no_docs = record { contents = None }
+
+-- the version from which `@deprecated` tells that a thing is deprecated, if it stands there
+abbrev pub deprecation : List Attribute → Option Release
+deprecation xs = option_map release_of (told_version Deprecated xs)
+
+-- behind a feature, where one is told; else nothing is known
+abbrev pub unstable_of : Option (List ℕ) → Option Release → Stability
+unstable_of None deprecated = stability.Unknown
+unstable_of (Some feature) deprecated = stability.Unstable feature deprecated
+
+-- stable since a version, where one is told
+abbrev pub stable_of : Option Version → Option (List ℕ) → Option Release → Stability
+stable_of None feature deprecated = unstable_of feature deprecated
+stable_of (Some since) feature deprecated = stability.Stable (release_of since) deprecated
+
+-- the stability that attributes tell: `@since` that a thing is stable, `@unstable` that it is not, each with `@deprecated` or without; where neither is there, nothing
+abbrev pub stability_of : List Attribute → Stability
+stability_of xs = stable_of (told_version Since xs) (told_text Unstable xs) (deprecation xs)
+
+-- the name elsewhere that attributes tell, if they do
+abbrev pub external_id_of : List Attribute → Option (List ℕ)
+external_id_of xs = told_text ExternalId xs
+
+-- what is told of a thing
+pub record Notes : Type 0 where
+  pub docs : Docs
+  pub stability : Stability
+  pub external_id : Option (List ℕ)
+
+-- by docs and attributes
+abbrev pub notes : Docs → List Attribute → Notes
+notes docs xs = record { docs = docs; stability = stability_of xs; external_id = external_id_of xs }
+
+-- an entry has these notes
+pub record HasNotes (n : Notes) (e : TypeDef) : Type 0 where
+  pub docs : e.docs ≡ n.docs
+  pub stability : e.stability ≡ n.stability
+  pub external_id : e.external_id ≡ n.external_id
+
+-- the first of these that is known
+abbrev pub first_known : List Stability → Stability
+first_known [] = stability.Unknown
+first_known (stability.Unknown ∷ xs) = first_known xs
+first_known (stability.Unstable feature deprecated ∷ xs) = stability.Unstable feature deprecated
+first_known (stability.Stable since deprecated ∷ xs) = stability.Stable since deprecated
+
+-- an attribute stands behind another one of its kind
+pub record IsTwice (number : ℕ) (kind : AttributeKind) (xs : List Attribute) (f : Fault) : Type 0 where
+  pub first : ℕ
+  pub second : ℕ
+  pub before : first < second
+  pub earlier : Attribute
+  pub later : Attribute
+  pub at_first : StandsAt kind xs first earlier
+  pub at_second : StandsAt kind xs second later
+  pub is : f ≡ fault number (attribute_span later)
+
+-- `@since` stands behind `@since`
+abbrev pub IsSinceTwice : List Attribute → Fault → Type 0
+IsSinceTwice xs f = IsTwice 30 Since xs f
+
+-- `@deprecated` stands behind `@deprecated`
+abbrev pub IsDeprecatedTwice : List Attribute → Fault → Type 0
+IsDeprecatedTwice xs f = IsTwice 31 Deprecated xs f
+
+-- `@unstable` stands behind `@unstable`
+abbrev pub IsUnstableTwice : List Attribute → Fault → Type 0
+IsUnstableTwice xs f = IsTwice 32 Unstable xs f
+
+-- an external id stands behind another one
+abbrev pub IsExternalIdTwice : List Attribute → Fault → Type 0
+IsExternalIdTwice xs f = IsTwice 35 ExternalId xs f
+
+-- `@since` and `@unstable` stand together
+pub record IsSinceAndUnstable (xs : List Attribute) (f : Fault) : Type 0 where
+  pub since_place : ℕ
+  pub since : Attribute
+  pub at_since : StandsAt Since xs since_place since
+  pub unstable_place : ℕ
+  pub unstable : Attribute
+  pub at_unstable : StandsAt Unstable xs unstable_place unstable
+  pub is : f ≡ fault 33 (attribute_span since)
+
+-- `@deprecated` stands without `@since` and without `@unstable`
+pub record IsDeprecatedAlone (xs : List Attribute) (f : Fault) : Type 0 where
+  pub place : ℕ
+  pub deprecated : Attribute
+  pub at : StandsAt Deprecated xs place deprecated
+  pub no_since : (i : ℕ) (a : Attribute) → StandsAt Since xs i a → ⊥
+  pub no_unstable : (i : ℕ) (a : Attribute) → StandsAt Unstable xs i a → ⊥
+  pub is : f ≡ fault 34 (attribute_span deprecated)
+
+-- what is wrong with attributes that tell a stability
+pub data IsBrokenStability (xs : List Attribute) (f : Fault) : Type 0 where
+  SinceTwice : IsSinceTwice xs f → IsBrokenStability xs f
+  DeprecatedTwice : IsDeprecatedTwice xs f → IsBrokenStability xs f
+  UnstableTwice : IsUnstableTwice xs f → IsBrokenStability xs f
+  SinceAndUnstable : IsSinceAndUnstable xs f → IsBrokenStability xs f
+  DeprecatedAlone : IsDeprecatedAlone xs f → IsBrokenStability xs f
+
+-- what is wrong with attributes that tell a stability and an external id
+abbrev pub IsBrokenNotes : List Attribute → Fault → Type 0
+IsBrokenNotes xs f = IsBrokenStability xs f ⊎ IsExternalIdTwice xs f

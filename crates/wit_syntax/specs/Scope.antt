@@ -1,0 +1,124 @@
+-- What each name of a scope needs, and each item, as tables whose orders are those in which they are resolved.
+use Rattle.std.specs.Prelude.{ℕ, Bool, true, false, not, List, [], ◌∷◌, ◌++◌, map, slice_get}
+use Rattle.wit_tree.specs.declared.tree.Id.{Id}
+use Rattle.std.specs.List.{flat_map, filter, filter_map}
+use Rattle.wit_tree.specs.declared.tree.Include.{Include}
+use Rattle.wit_tree.specs.declared.tree.Use.{Use}
+use Rattle.wit_tree.specs.declared.tree.UsePath.{UsePath}
+use Rattle.wit_tree.specs.declared.tree.PackageFile.{PackageFile}
+use Rattle.wit_order.specs.Table.{Row}
+use Rattle.wit_syntax.specs.Shape.{all_words, body_of}
+use Rattle.wit_syntax.specs.Source.{Target, Local, Foreign, leads, ScopeName, Used, Defined, Taken, local_name, Declared, TheInterface, TheWorld, Part, Defining, Using, Including, Doing, Item, item_name, is_world, parts, all_items}
+use Rattle.wit_syntax.specs.Repeats.{AllDiffer}
+
+-- the names that a name of a scope needs: those in a definition's body; a used name needs none of its own scope
+abbrev pub needed_ids : ScopeName → List Id
+needed_ids (Used from attributes n) = []
+needed_ids (Defined d) = all_words (body_of d.body).parts
+needed_ids (Taken attributes id) = []
+
+abbrev pub row_of : ScopeName → Row
+row_of x = record { name = local_name x; needs = needed_ids x }
+
+-- the table of a scope: each of its names with the names in its body
+abbrev pub rows_of : List ScopeName → List Row
+rows_of xs = map row_of xs
+
+-- a list in an order of its places
+abbrev pub in_order : {X : Type 0} → List X → List ℕ → List X
+in_order xs places = filter_map (slice_get xs) places
+
+abbrev pub is_defined : ScopeName → Bool
+is_defined (Used from attributes n) = false
+is_defined (Defined d) = true
+is_defined (Taken attributes id) = false
+
+-- those that are used
+abbrev pub used : List ScopeName → List ScopeName
+used xs = filter (λ x. not (is_defined x)) xs
+
+-- those that are defined
+abbrev pub defined : List ScopeName → List ScopeName
+defined xs = filter is_defined xs
+
+-- the names of a scope as they are resolved: the used ones, and then the definitions in an order of the table
+abbrev pub in_turn : List ScopeName → List ℕ → List ScopeName
+in_turn xs order = used xs ++ defined (in_order xs order)
+
+-- the path of a part that is a `use`
+abbrev pub use_path : Part → List UsePath
+use_path (Defining d) = []
+use_path (Using u) = u.from ∷ []
+use_path (Including i) = []
+use_path (Doing f) = []
+
+-- the path of a part that is an include
+abbrev pub include_path : Part → List UsePath
+include_path (Defining d) = []
+include_path (Using u) = []
+include_path (Including i) = i.from ∷ []
+include_path (Doing f) = []
+
+-- the paths of an item's uses
+abbrev pub use_paths : Item → List UsePath
+use_paths i = flat_map use_path (parts i)
+
+-- the paths of its includes
+abbrev pub include_paths : Item → List UsePath
+include_paths i = flat_map include_path (parts i)
+
+-- the path of a part to an item that has to come before: of an interface that of a `use`, of a world that of an include
+abbrev pub needed_path : Declared → Part → List UsePath
+needed_path (TheInterface i) = use_path
+needed_path (TheWorld w) = include_path
+
+-- the name of an item of the package that a path leads to
+abbrev pub local_target : Target → List Id
+local_target (Local id) = id ∷ []
+local_target (Foreign p id) = []
+
+-- the names of the items that an item needs
+abbrev pub needed_items : Item → List Id
+needed_items i = flat_map (λ path. local_target (leads i.top path)) (flat_map (needed_path i.declared) (parts i))
+
+abbrev pub item_row : Item → Row
+item_row i = record { name = item_name i; needs = needed_items i }
+
+-- the table of the items of all files: each with the items that have to come before it
+abbrev pub item_rows : List PackageFile → List Row
+item_rows files = map item_row (all_items files)
+
+-- the interfaces among items
+abbrev pub interfaces_of : List Item → List Item
+interfaces_of is = filter (λ i. not (is_world i)) is
+
+-- the worlds among items
+abbrev pub worlds_of : List Item → List Item
+worlds_of is = filter is_world is
+
+abbrev pub part_uses : Part → List Use
+part_uses (Defining d) = []
+part_uses (Using u) = u ∷ []
+part_uses (Including i) = []
+part_uses (Doing f) = []
+
+-- the uses of an item, in source order
+abbrev pub uses : Item → List Use
+uses i = flat_map part_uses (parts i)
+
+abbrev pub part_includes : Part → List Include
+part_includes (Defining d) = []
+part_includes (Using u) = []
+part_includes (Including i) = i ∷ []
+part_includes (Doing f) = []
+
+-- the includes of an item, in source order
+abbrev pub includes : Item → List Include
+includes i = flat_map part_includes (parts i)
+
+abbrev pub local_names : List ScopeName → List (List ℕ)
+local_names xs = map local_name xs
+
+-- no two of these have one name
+abbrev pub AreDistinct : List ScopeName → Type 0
+AreDistinct xs = AllDiffer (map local_name xs)

@@ -1,0 +1,161 @@
+-- A written type as a shape: a primitive, a name, or a form over parts.
+use Rattle.std.specs.Prelude.{Bool, true, false, List, [], ◌∷◌, ◌++◌, map, is_some}
+use Rattle.wit_values.specs.declared.span.Span.{Span}
+use Rattle.wit_tree.specs.declared.tree.Id.{Id}
+use Rattle.wit_tree.specs.declared.tree.«Type».{«Type» as Written, Held-Type-Result-1 as Held, None', Some', Row_of-Type, end_of-Type, more_of-Type}
+use Rattle.wit_tree.specs.declared.tree.«Type».TheVariants as written
+use Rattle.wit_tree.specs.declared.tree.Field.{Field}
+use Rattle.wit_tree.specs.declared.tree.Flag.{Flag}
+use Rattle.wit_tree.specs.declared.tree.Case.{Case}
+use Rattle.wit_tree.specs.declared.tree.EnumCase.{EnumCase}
+use Rattle.wit_tree.specs.declared.tree.TypeBody.{TypeBody}
+use Rattle.wit_tree.specs.declared.tree.TypeBody.TheVariants.{Record, Flags, Variant, Enum, Resource, Plain}
+use Rattle.wit_tree.specs.Parts.{field_types, case_types}
+use Rattle.wit_tree.specs.declared.tree.Docs.{Docs as Comments}
+use Rattle.wit_syntax.specs.Notes.{docs_of}
+use Rattle.wit_syntax.specs.Form.{Member, Form, RecordForm, FlagsForm, VariantForm, EnumForm, OptionForm, ResultForm, TupleForm, ListForm, MapForm, FixedLengthListForm, FutureForm, StreamForm, AliasForm, OwnForm, BorrowForm, ResourceForm}
+use Rattle.wit_syntax.specs.Node.{Primitive}
+use Rattle.wit_syntax.specs.Node as node
+
+-- a type is a primitive, a name, or an unnamed type: a form over parts, with its span
+mutual
+  pub data Shape : Type 0 where
+    Prim : (primitive : Primitive) → Shape
+    Word : (id : Id) → Shape
+    Of : (span : Span) (form : Form) (parts : Shapes) → Shape
+
+  pub data Shapes : Type 0 where
+    End : Shapes
+    More : (first : Shape) (rest : Shapes) → Shapes
+
+abbrev pub one : Shape → Shapes
+one x = More x End
+
+-- whether there is a type
+abbrev pub is_held : Held → Bool
+is_held None' = false
+is_held (Some' p t) = true
+
+-- the shape of a written type; a part that is left out is told by the form
+abbrev mutual
+  pub shape_of : Written → Shape
+  shape_of (written.Bool span) = Prim node.Bool
+  shape_of (written.U8 span) = Prim node.U8
+  shape_of (written.U16 span) = Prim node.U16
+  shape_of (written.U32 span) = Prim node.U32
+  shape_of (written.U64 span) = Prim node.U64
+  shape_of (written.S8 span) = Prim node.S8
+  shape_of (written.S16 span) = Prim node.S16
+  shape_of (written.S32 span) = Prim node.S32
+  shape_of (written.S64 span) = Prim node.S64
+  shape_of (written.F32 span) = Prim node.F32
+  shape_of (written.F64 span) = Prim node.F64
+  shape_of (written.Char span) = Prim node.Char
+  shape_of (written.String span) = Prim node.String
+  shape_of (written.ErrorContext span) = Prim node.ErrorContext
+  shape_of (written.Name id) = Word id
+  shape_of (written.List' span p t) = Of span ListForm (one (shape_of t))
+  shape_of (written.FixedLengthList' span p t size) = Of span (FixedLengthListForm size) (one (shape_of t))
+  shape_of (written.Map' span p key q value) = Of span MapForm (More (shape_of key) (one (shape_of value)))
+  shape_of (written.Option' span p t) = Of span OptionForm (one (shape_of t))
+  shape_of (written.Result' span ok err) = Of span (ResultForm (is_held ok) (is_held err)) (held_shape ok (held_shape err End))
+  shape_of (written.Tuple' span shape ts) = Of span TupleForm (row_shapes ts)
+  shape_of (written.Future' span t) = Of span (FutureForm (is_held t)) (held_shape t End)
+  shape_of (written.Stream' span t) = Of span (StreamForm (is_held t)) (held_shape t End)
+  -- a resource that is owned is written as the resource
+  shape_of (written.Own span id) = Word id
+  shape_of (written.Borrow span id) = Of span BorrowForm (one (Word id))
+
+  -- that of a type, where there is one, in front of others
+  pub held_shape : Held → Shapes → Shapes
+  held_shape None' xs = xs
+  held_shape (Some' p t) xs = More (shape_of t) xs
+
+  -- those of types in a row
+  pub row_shapes : {m : _} → Row_of-Type m → Shapes
+  row_shapes end_of-Type = End
+  row_shapes (more_of-Type t rest) = More (shape_of t) (row_shapes rest)
+
+-- the shapes of written types
+abbrev pub all_shapes : List Written → Shapes
+all_shapes [] = End
+all_shapes (t ∷ ts) = More (shape_of t) (all_shapes ts)
+
+-- what stands under a name: a form over parts
+pub record Body : Type 0 where
+  pub form : Form
+  pub parts : Shapes
+
+-- an unnamed type stands under a name with its own form and parts; a name or a primitive gets another word
+abbrev pub head : Shape → Body
+head (Of span form parts) = record { form = form; parts = parts }
+head (Prim p) = record { form = AliasForm; parts = one (Prim p) }
+head (Word id) = record { form = AliasForm; parts = one (Word id) }
+
+-- what a type that is written under a name says: a handle that owns is one there
+abbrev pub written_body : Written → Body
+written_body (written.Own span id) = record { form = OwnForm; parts = one (Word id) }
+written_body t = head (shape_of t)
+
+-- a field, flag or case of this name, with what documents it
+abbrev pub member : Comments → Id → Member
+member docs id = record { name = id.name.now; docs = docs_of docs; span = id.span }
+
+abbrev pub written_field : Field → Member
+written_field f = member f.docs f.name
+
+abbrev pub written_flag : Flag → Member
+written_flag f = member f.docs f.name
+
+abbrev pub written_case : Case → Member × Bool
+written_case c = (member c.docs c.name, is_some c.ty)
+
+abbrev pub written_enum_case : EnumCase → Member
+written_enum_case c = member c.docs c.name
+
+-- what a definition says
+abbrev pub body_of : TypeBody → Body
+body_of (Record span fields) = record { form = RecordForm (map written_field fields.items); parts = all_shapes (field_types fields.items) }
+body_of (Flags span flags) = record { form = FlagsForm (map written_flag flags.items); parts = End }
+body_of (Variant span cases) = record { form = VariantForm (map written_case cases.items); parts = all_shapes (case_types cases.items) }
+body_of (Enum span cases) = record { form = EnumForm (map written_enum_case cases.items); parts = End }
+body_of (Resource funcs) = record { form = ResourceForm; parts = End }
+body_of (Plain t) = written_body t
+
+-- the names written in a type, in written order
+abbrev mutual
+  pub words : Shape → List Id
+  words (Prim p) = []
+  words (Word id) = id ∷ []
+  words (Of span form parts) = all_words parts
+
+  pub all_words : Shapes → List Id
+  all_words End = []
+  all_words (More x xs) = words x ++ all_words xs
+
+-- the names written in handles, in written order
+abbrev mutual
+  pub handles : Written → List Id
+  handles (written.Own span id) = id ∷ []
+  handles (written.Borrow span id) = id ∷ []
+  handles (written.List' span p t) = handles t
+  handles (written.FixedLengthList' span p t size) = handles t
+  handles (written.Map' span p key q value) = handles key ++ handles value
+  handles (written.Option' span p t) = handles t
+  handles (written.Result' span ok err) = held_handles ok ++ held_handles err
+  handles (written.Tuple' span shape ts) = row_handles ts
+  handles (written.Future' span t) = held_handles t
+  handles (written.Stream' span t) = held_handles t
+  handles _ = []
+
+  pub held_handles : Held → List Id
+  held_handles None' = []
+  held_handles (Some' p t) = handles t
+
+  pub row_handles : {m : _} → Row_of-Type m → List Id
+  row_handles end_of-Type = []
+  row_handles (more_of-Type t rest) = handles t ++ row_handles rest
+
+abbrev pub all_handles : List Written → List Id
+all_handles [] = []
+all_handles (t ∷ ts) = handles t ++ all_handles ts

@@ -1,0 +1,220 @@
+-- The rules of functions, and what it is that breaks each.
+use Rattle.std.specs.Prelude.{◌≡◌, ℕ, ◌≤◌, List, length, Option, Some, None, Contains, slice_get}
+use Rattle.std.specs.List.{flat_map}
+use Rattle.std.specs.Option.{option_map_or}
+use Rattle.wit_values.specs.declared.span.Span.{Span}
+use Rattle.wit_names.specs.Folded.{folded_key}
+use Rattle.wit_names.specs.Setter.{getter_of}
+use Rattle.wit_tree.specs.declared.tree.Id.{Id}
+use Rattle.wit_tree.specs.declared.tree.FuncForm.{FuncForm}
+use Rattle.wit_tree.specs.declared.tree.FuncForm.TheVariants as form
+use Rattle.wit_tree.specs.declared.tree.TypeBody.{TypeBody}
+use Rattle.wit_tree.specs.declared.tree.TypeBody.TheVariants as body
+use Rattle.wit_tree.specs.declared.tree.«Type».{«Type» as Written, Held-Type-Result-1 as Held, None', Some'}
+use Rattle.wit_tree.specs.declared.tree.«Type».TheVariants as written
+use Rattle.wit_tree.specs.declared.tree.PackageFile.{PackageFile}
+use Rattle.wit_syntax.specs.Fault.{Fault, fault, missing_at, name_word}
+use Rattle.wit_syntax.specs.Address.{Address}
+use Rattle.wit_syntax.specs.Shape.{Word, shape_of, words, all_handles}
+use Rattle.wit_syntax.specs.Source.{ScopeName, Defined, local_id, local_name, meaning}
+use Rattle.wit_syntax.specs.Function.{Role, Freestanding, Method, Static, Constructor, SourceParam, SourceFunction, all_params, written_types, signature}
+use Rattle.wit_syntax.specs.Ends.{Elsewhere, EndsAt}
+use Rattle.wit_syntax.specs.Notes.{IsBrokenNotes}
+use Rattle.wit_syntax.specs.Bodies.{folded, IsRepeated, IsBrokenPart}
+
+-- a name of a scope, and where it stands: no two of them may clash
+pub record Called : Type 0 where
+  pub name : List ℕ
+  pub span : Span
+
+abbrev pub name_called : ScopeName → Called
+name_called x = record { name = local_name x; span = (local_id x).span }
+
+abbrev pub function_called : SourceFunction → Called
+function_called fn = record { name = fn.name; span = fn.span }
+
+-- the key by which names of a scope are told apart
+abbrev pub called_key : Called → List ℕ
+called_key c = folded_key c.name
+
+abbrev pub role_form : Role → FuncForm
+role_form (Freestanding id form) = form
+role_form (Method of form) = form
+role_form (Static of form) = form
+role_form (Constructor of) = form.Plain
+
+-- where a written type stands
+abbrev pub type_span : Written → Span
+type_span (written.Bool span) = span
+type_span (written.U8 span) = span
+type_span (written.U16 span) = span
+type_span (written.U32 span) = span
+type_span (written.U64 span) = span
+type_span (written.S8 span) = span
+type_span (written.S16 span) = span
+type_span (written.S32 span) = span
+type_span (written.S64 span) = span
+type_span (written.F32 span) = span
+type_span (written.F64 span) = span
+type_span (written.Char span) = span
+type_span (written.String span) = span
+type_span (written.ErrorContext span) = span
+type_span (written.Name id) = id.span
+type_span (written.List' span p t) = span
+type_span (written.FixedLengthList' span p t size) = span
+type_span (written.Map' span p key q value) = span
+type_span (written.Option' span p t) = span
+type_span (written.Result' span ok err) = span
+type_span (written.Tuple' span shape ts) = span
+type_span (written.Future' span t) = span
+type_span (written.Stream' span t) = span
+type_span (written.Own span id) = span
+type_span (written.Borrow span id) = span
+
+abbrev pub held_type : Held → Option Written
+held_type None' = None
+held_type (Some' p t) = Some t
+
+-- what a type that is written as a result gives where all is well, if it gives anything; nothing, where it is no result
+abbrev pub ok_of : Written → Option (Option Written)
+ok_of (written.Result' span ok err) = Some (held_type ok)
+ok_of t = None
+
+abbrev pub body_ok : TypeBody → Option (Option Written)
+body_ok (body.Plain t) = ok_of t
+body_ok b = None
+
+abbrev pub meant_ok : Option ScopeName → Option (Option Written)
+meant_ok (Some (Defined d)) = body_ok d.body
+meant_ok x = None
+
+-- the name of a definition that is written as a result is one, another word for it is none
+abbrev pub result_ok : List ScopeName → Written → Option (Option Written)
+result_ok xs (written.Name id) = meant_ok (meaning xs id.name.now)
+result_ok xs t = ok_of t
+
+-- a type is written as a name, or as a handle that owns it
+pub record IsWrittenAs (id : Id) (t : Written) : Type 0 where
+  pub word : Id
+  pub shape : shape_of t ≡ Word word
+  pub same : word.name.now ≡ id.name.now
+
+-- the freestanding function of a name is this one of an interface's functions or one before it
+pub record IsEntered (fs : List SourceFunction) (k : ℕ) (name : List ℕ) : Type 0 where
+  pub place : ℕ
+  pub entered : SourceFunction
+  pub id : Id
+  pub form : FuncForm
+  pub before : place ≤ k
+  pub at : slice_get fs place ≡ Some entered
+  pub role : entered.role ≡ Freestanding id form
+  pub same : id.name.now ≡ name
+
+-- a name in a handle ends at no resource
+pub record IsNoResource (files : List PackageFile) (s : Address) (types : List Written) (f : Fault) : Type 0 where
+  pub id : Id
+  pub among : Contains (all_handles types) id
+  pub ends : EndsAt files s id Elsewhere
+  pub is : f ≡ fault 27 id.span
+
+-- a name in a signature is that of a function
+pub record IsFunctionAsType (xs : List ScopeName) (fs : List SourceFunction) (k : ℕ) (fn : SourceFunction) (f : Fault) : Type 0 where
+  pub id : Id
+  pub among : Contains (flat_map words (signature fn)) id
+  pub missing : meaning xs id.name.now ≡ None
+  pub entered : IsEntered fs k id.name.now
+  pub is : f ≡ fault 28 id.span
+
+-- it is no name of the scope
+pub record IsMissingInSignature (xs : List ScopeName) (fs : List SourceFunction) (k : ℕ) (fn : SourceFunction) (f : Fault) : Type 0 where
+  pub id : Id
+  pub among : Contains (flat_map words (signature fn)) id
+  pub missing : meaning xs id.name.now ≡ None
+  pub other : IsEntered fs k id.name.now → ⊥
+  pub is : f ≡ missing_at 29 name_word id
+
+-- a getter has a parameter
+pub record IsGetterGiven (fn : SourceFunction) (f : Fault) : Type 0 where
+  pub getter : role_form fn.role ≡ form.Getter
+  pub first : SourceParam
+  pub at : slice_get fn.params 0 ≡ Some first
+  pub is : f ≡ fault 36 first.span
+
+abbrev pub param_span : SourceParam → Span
+param_span p = p.span
+
+-- a setter has not just one parameter
+pub record IsSetterGiven (fn : SourceFunction) (f : Fault) : Type 0 where
+  pub setter : role_form fn.role ≡ form.Setter
+  pub other : length fn.params ≡ 1 → ⊥
+  pub is : f ≡ fault 37 (option_map_or param_span (slice_get fn.params 1) fn.word)
+
+abbrev pub param_key : SourceParam → List ℕ
+param_key p = folded p.name
+
+-- an earlier parameter has the name once case is folded
+pub record IsDuplicateParam (fn : SourceFunction) (f : Fault) : Type 0 where
+  pub later : SourceParam
+  pub repeated : IsRepeated param_key (all_params fn) later
+  pub is : f ≡ fault 38 later.span
+
+-- a getter gives nothing
+pub record IsGetterWithoutResult (fn : SourceFunction) (f : Fault) : Type 0 where
+  pub getter : role_form fn.role ≡ form.Getter
+  pub none : fn.result_type ≡ None
+  pub is : f ≡ fault 39 fn.word
+
+-- a setter gives something where all is well
+pub record IsSetterWithResult (xs : List ScopeName) (fn : SourceFunction) (f : Fault) : Type 0 where
+  pub setter : role_form fn.role ≡ form.Setter
+  pub t : Written
+  pub result : fn.result_type ≡ Some t
+  pub other : result_ok xs t ≡ Some None → ⊥
+  pub is : f ≡ fault 40 (type_span t)
+
+-- what a constructor gives is no result
+pub record IsConstructorWithoutResult (xs : List ScopeName) (fn : SourceFunction) (f : Fault) : Type 0 where
+  pub of : Id
+  pub constructs : fn.role ≡ Constructor of
+  pub t : Written
+  pub result : fn.result_type ≡ Some t
+  pub none : result_ok xs t ≡ None
+  pub is : f ≡ fault 41 (type_span t)
+
+-- what a result gives where all is well, where it is written there, else the whole
+abbrev pub ok_span : Written → Span
+ok_span (written.Result' span (Some' p t) err) = type_span t
+ok_span t = type_span t
+
+-- a constructor's result gives something else than its resource
+pub record IsConstructorOfOther (xs : List ScopeName) (fn : SourceFunction) (f : Fault) : Type 0 where
+  pub of : Id
+  pub constructs : fn.role ≡ Constructor of
+  pub t : Written
+  pub result : fn.result_type ≡ Some t
+  pub ok : Option Written
+  pub gives : result_ok xs t ≡ Some ok
+  pub other : (u : Written) → ok ≡ Some u → IsWrittenAs of u → ⊥
+  pub is : f ≡ fault 42 (ok_span t)
+
+-- what is wrong with a function at a place among those of a scope
+pub data IsBrokenFunction (xs : List ScopeName) (fs : List SourceFunction) (k : ℕ) (fn : SourceFunction) (f : Fault) : Type 0 where
+  BrokenNotes : IsBrokenNotes fn.attributes f → IsBrokenFunction xs fs k fn f
+  BrokenTypes : IsBrokenPart (written_types fn) f → IsBrokenFunction xs fs k fn f
+  FunctionAsType : IsFunctionAsType xs fs k fn f → IsBrokenFunction xs fs k fn f
+  MissingInSignature : IsMissingInSignature xs fs k fn f → IsBrokenFunction xs fs k fn f
+  GetterGiven : IsGetterGiven fn f → IsBrokenFunction xs fs k fn f
+  SetterGiven : IsSetterGiven fn f → IsBrokenFunction xs fs k fn f
+  DuplicateParam : IsDuplicateParam fn f → IsBrokenFunction xs fs k fn f
+  GetterWithoutResult : IsGetterWithoutResult fn f → IsBrokenFunction xs fs k fn f
+  SetterWithResult : IsSetterWithResult xs fn f → IsBrokenFunction xs fs k fn f
+  ConstructorWithoutResult : IsConstructorWithoutResult xs fn f → IsBrokenFunction xs fs k fn f
+  ConstructorOfOther : IsConstructorOfOther xs fn f → IsBrokenFunction xs fs k fn f
+
+-- a setter has no getter of its spelling
+pub record IsUnpairedSetter (fs : List SourceFunction) (f : Fault) : Type 0 where
+  pub fn : SourceFunction
+  pub among : Contains fs fn
+  pub setter : role_form fn.role ≡ form.Setter
+  pub none : (g : SourceFunction) → Contains fs g → g.name ≡ getter_of fn.name → ⊥
+  pub is : f ≡ fault 18 fn.span

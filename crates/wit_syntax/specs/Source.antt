@@ -1,0 +1,319 @@
+-- What written types mean, by lexical scope.
+use Rattle.std.specs.Prelude.{ℕ, Bool, true, false, ◌&&◌, List, [], ◌∷◌, Option, Some, None, map, find}
+use Rattle.std.specs.List.{flat_map, filter}
+use Rattle.std.specs.Option.{option_map_or, unwrap_or}
+use Rattle.std.specs.Str.{bytes_eq}
+use Rattle.wit_values.specs.declared.span.Span.{Span}
+use Rattle.wit_tree.specs.declared.tree.Id.{Id}
+use Rattle.wit_tree.specs.declared.tree.Attribute.{Attribute}
+use Rattle.wit_tree.specs.declared.tree.TypeDef.{TypeDef}
+use Rattle.wit_tree.specs.declared.tree.InterfaceItem.{InterfaceItem}
+use Rattle.wit_tree.specs.declared.tree.InterfaceItem.TheVariants as interface_item
+use Rattle.wit_tree.specs.declared.tree.WorldItem.{WorldItem}
+use Rattle.wit_tree.specs.declared.tree.WorldItem.TheVariants as world_item
+use Rattle.wit_tree.specs.declared.tree.Use.{Use}
+use Rattle.wit_tree.specs.declared.tree.UsePath.{UsePath}
+use Rattle.wit_tree.specs.declared.tree.UsePath.TheVariants as path
+use Rattle.wit_tree.specs.declared.tree.UseName.{UseName}
+use Rattle.wit_tree.specs.declared.tree.Include.{Include}
+use Rattle.wit_tree.specs.declared.tree.NamedFunc.{NamedFunc}
+use Rattle.wit_tree.specs.declared.tree.Interface.{Interface}
+use Rattle.wit_tree.specs.declared.tree.World.{World}
+use Rattle.wit_tree.specs.declared.tree.AstItem.{AstItem}
+use Rattle.wit_tree.specs.declared.tree.AstItem.TheVariants as ast
+use Rattle.wit_tree.specs.declared.tree.PackageFile.{PackageFile}
+use Rattle.wit_package_names.specs.declared.package_name.PackageName.{PackageName}
+use Rattle.wit_types.specs.declared.stability.Stability.{Stability}
+use Rattle.wit_syntax.specs.Form.{Form, AliasForm, UnknownForm}
+use Rattle.wit_syntax.specs.Address.{Address, InterfaceNamed, WorldNamed, ForeignNamed, package_of, same_address, is_foreign}
+use Rattle.wit_syntax.specs.Repeats.{firsts}
+use Rattle.wit_syntax.specs.Node.{OfScope, Head, Node, Leaf, Named, Unnamed, Nothing, Tree, unfolded}
+use Rattle.wit_syntax.specs.Shape.{Shape, Prim, Word, Of, Shapes, End, More, one, Body, body_of}
+use Rattle.wit_syntax.specs.Notes.{Notes, notes, docs_of, no_docs}
+
+-- the name that a path ends in
+abbrev pub path_id : UsePath → Id
+path_id (path.Id id) = id
+path_id (path.Package p id) = id
+
+-- where a path leads: to the item of a name, or to an item of another package
+pub data Target : Type 0 where
+  Local : (id : Id) → Target
+  Foreign : (of : PackageName) (id : Id) → Target
+
+-- what a path says by itself
+abbrev pub path_target : UsePath → Target
+path_target (path.Id id) = Local id
+path_target (path.Package p id) = Foreign (package_of p) id
+
+-- a declared item: an interface or a world
+pub data Declared : Type 0 where
+  TheInterface : (i : Interface) → Declared
+  TheWorld : (w : World) → Declared
+
+abbrev pub declared_id : Declared → Id
+declared_id (TheInterface i) = i.name
+declared_id (TheWorld w) = w.name
+
+-- what is told of a declared item
+abbrev pub declared_notes : Declared → Notes
+declared_notes (TheInterface i) = notes (docs_of i.docs) i.attributes.items
+declared_notes (TheWorld w) = notes (docs_of w.docs) w.attributes.items
+
+abbrev pub declared_attributes : Declared → List Attribute
+declared_attributes (TheInterface i) = i.attributes.items
+declared_attributes (TheWorld w) = w.attributes.items
+
+-- the scope of an item
+abbrev pub declared_address : Declared → Address
+declared_address (TheInterface i) = InterfaceNamed i.name.name.now
+declared_address (TheWorld w) = WorldNamed w.name.name.now
+
+abbrev pub is_declared_world : Declared → Bool
+is_declared_world (TheInterface i) = false
+is_declared_world (TheWorld w) = true
+
+-- a part of an item
+pub data Part : Type 0 where
+  Defining : (d : TypeDef) → Part
+  Using : (u : Use) → Part
+  Including : (i : Include) → Part
+  Doing : (f : NamedFunc) → Part
+
+abbrev pub interface_part : InterfaceItem → Part
+interface_part (interface_item.TypeDef d) = Defining d
+interface_part (interface_item.Use u) = Using u
+interface_part (interface_item.Func f) = Doing f
+
+abbrev pub world_part : WorldItem → Part
+world_part (world_item.TypeDef d) = Defining d
+world_part (world_item.Use u) = Using u
+world_part (world_item.Include i) = Including i
+
+-- the parts of an item, in source order
+abbrev pub declared_parts : Declared → List Part
+declared_parts (TheInterface i) = map interface_part i.items.items
+declared_parts (TheWorld w) = map world_part w.items.items
+
+-- a name at the top of a file, and what it stands for: a declared item for itself, a `use` for what its path says
+pub record TopName : Type 0 where
+  pub id : Id
+  pub target : Target
+
+abbrev pub itself : Id → TopName
+itself id = record { id = id; target = Local id }
+
+abbrev pub top_name : AstItem → TopName
+top_name (ast.Interface i) = itself i.name
+top_name (ast.World w) = itself w.name
+top_name (ast.Use u) = record { id = unwrap_or u.as_ (path_id u.item); target = path_target u.item }
+
+-- the names at the top of a file, in source order
+abbrev pub top_names : PackageFile → List TopName
+top_names f = map top_name f.decl_list.items.items
+
+abbrev pub top_text : TopName → List ℕ
+top_text t = t.id.name.now
+
+-- the first of these that goes by a name
+abbrev pub top_named : List TopName → List ℕ → Option TopName
+top_named top name = find (λ t. bytes_eq (top_text t) name) top
+
+abbrev pub top_target : TopName → Target
+top_target t = t.target
+
+-- where a path leads in a file: a name at its top leads where that stands for, every other path where it says
+abbrev pub leads : List TopName → UsePath → Target
+leads top (path.Id id) = option_map_or top_target (top_named top id.name.now) (Local id)
+leads top (path.Package p id) = Foreign (package_of p) id
+
+-- a declared item, with the names at the top of its file
+pub record Item : Type 0 where
+  pub top : List TopName
+  pub declared : Declared
+
+abbrev pub declared_items : List TopName → AstItem → List Item
+declared_items top (ast.Interface i) = record { top = top; declared = TheInterface i } ∷ []
+declared_items top (ast.World w) = record { top = top; declared = TheWorld w } ∷ []
+declared_items top (ast.Use u) = []
+
+-- the items of a file, in source order
+abbrev pub file_items : PackageFile → List Item
+file_items f = flat_map (declared_items (top_names f)) f.decl_list.items.items
+
+-- the items of all files, in push order and then in source order
+abbrev pub all_items : List PackageFile → List Item
+all_items files = flat_map file_items files
+
+abbrev pub item_id : Item → Id
+item_id i = declared_id i.declared
+
+abbrev pub item_notes : Item → Notes
+item_notes i = declared_notes i.declared
+
+abbrev pub item_name : Item → List ℕ
+item_name i = (item_id i).name.now
+
+-- the scope of an item
+abbrev pub address : Item → Address
+address i = declared_address i.declared
+
+abbrev pub is_world : Item → Bool
+is_world i = is_declared_world i.declared
+
+abbrev pub parts : Item → List Part
+parts i = declared_parts i.declared
+
+-- the first item of a name
+abbrev pub item_named : List Item → List ℕ → Option Item
+item_named is name = find (λ i. bytes_eq (item_name i) name) is
+
+-- the first item whose scope is at an address
+abbrev pub item_at : List Item → Address → Option Item
+item_at is s = find (λ i. same_address (address i) s) is
+
+-- the scope that is used where a path leads there, and the one that is included
+abbrev pub used_scope : Target → Address
+used_scope (Local id) = InterfaceNamed id.name.now
+used_scope (Foreign p id) = ForeignNamed p id.name.now
+
+abbrev pub included_scope : Target → Address
+included_scope (Local id) = WorldNamed id.name.now
+included_scope (Foreign p id) = ForeignNamed p id.name.now
+
+-- the scope that the path of a `use` leads to
+abbrev pub path_scope : List TopName → UsePath → Address
+path_scope top from = used_scope (leads top from)
+
+-- a name of a scope: one that is used from an interface, with the attributes of its `use`, or a definition; or, of an item of another package, one that is taken from it
+pub data ScopeName : Type 0 where
+  Used : (from : Address) (attributes : List Attribute) (name : UseName) → ScopeName
+  Defined : (d : TypeDef) → ScopeName
+  Taken : (attributes : List Attribute) (id : Id) → ScopeName
+
+-- a used name goes by the name that `as` gives it, or by its own
+abbrev pub local_id : ScopeName → Id
+local_id (Used from attributes n) = unwrap_or n.as_ n.name
+local_id (Defined d) = d.name
+local_id (Taken attributes id) = id
+
+abbrev pub local_name : ScopeName → List ℕ
+local_name x = (local_id x).name.now
+
+-- the names that a part of an item brings
+abbrev pub part_names : List TopName → Part → List ScopeName
+part_names top (Defining d) = Defined d ∷ []
+part_names top (Using u) = map (Used (path_scope top u.from) u.attributes.items) u.names.items
+part_names top (Including i) = []
+part_names top (Doing f) = []
+
+-- the names of an item, in source order
+abbrev pub scope_names : Item → List ScopeName
+scope_names i = flat_map (part_names i.top) (parts i)
+
+-- a name that is used from a scope, with the attributes of the `use`
+pub record Taking : Type 0 where
+  pub from : Address
+  pub attributes : List Attribute
+  pub id : Id
+
+abbrev pub taking : Address → List Attribute → UseName → Taking
+taking s attributes n = record { from = s; attributes = attributes; id = n.name }
+
+abbrev pub part_takings : List TopName → Part → List Taking
+part_takings top (Defining d) = []
+part_takings top (Using u) = map (taking (path_scope top u.from) u.attributes.items) u.names.items
+part_takings top (Including i) = []
+part_takings top (Doing f) = []
+
+-- the names that an item uses from items of other packages
+abbrev pub item_takings : Item → List Taking
+item_takings i = filter (λ t. is_foreign t.from) (flat_map (part_takings i.top) (parts i))
+
+-- those that all items use, in source order
+abbrev pub takings : List PackageFile → List Taking
+takings files = flat_map item_takings (all_items files)
+
+-- whether two of them are one name of one scope
+abbrev pub same_taking : Taking → Taking → Bool
+same_taking a b = same_address a.from b.from && bytes_eq a.id.name.now b.id.name.now
+
+-- each name of another package where it is first used
+abbrev pub first_takings : List PackageFile → List Taking
+first_takings files = firsts same_taking (takings files)
+
+abbrev pub taken : Taking → ScopeName
+taken t = Taken t.attributes t.id
+
+-- the names that are taken from an item of another package
+abbrev pub taken_names : List PackageFile → Address → List ScopeName
+taken_names files s = map taken (filter (λ t. same_address t.from s) (first_takings files))
+
+-- the names of a scope
+abbrev pub scope : List PackageFile → Address → List ScopeName
+scope files (InterfaceNamed name) = option_map_or scope_names (item_at (all_items files) (InterfaceNamed name)) []
+scope files (WorldNamed name) = option_map_or scope_names (item_at (all_items files) (WorldNamed name)) []
+scope files (ForeignNamed p name) = taken_names files (ForeignNamed p name)
+
+-- what a name stands for: the first that goes by it
+abbrev pub meaning : List ScopeName → List ℕ → Option ScopeName
+meaning xs name = find (λ x. bytes_eq (local_name x) name) xs
+
+-- the shape of a type, and the scope that it is written in
+abbrev pub Place : Type 0
+Place = Address × Shape
+
+abbrev pub placed : Address → Shapes → List Place
+placed s End = []
+placed s (More x xs) = (s, x) ∷ placed s xs
+
+-- what a name of a scope stands for: a used name is another word for its original, and what another package's stands for is not known
+abbrev pub name_body : ScopeName → Body
+name_body (Used from attributes n) = record { form = AliasForm; parts = one (Word n.name) }
+name_body (Defined d) = body_of d.body
+name_body (Taken attributes id) = record { form = UnknownForm; parts = End }
+
+-- the scope in which that is read: of a used name, the one that it comes from
+abbrev pub name_scope : Address → ScopeName → Address
+name_scope s (Used from attributes n) = from
+name_scope s (Defined d) = s
+name_scope s (Taken attributes id) = s
+
+abbrev pub name_form : ScopeName → Form
+name_form x = (name_body x).form
+
+abbrev pub name_parts : Address → ScopeName → List Place
+name_parts s x = placed (name_scope s x) (name_body x).parts
+
+-- a used name stands where its original is written
+abbrev pub name_span : ScopeName → Span
+name_span (Used from attributes n) = n.name.span
+name_span (Defined d) = d.name.span
+name_span (Taken attributes id) = id.span
+
+-- what is told of a name: of a used name, and of one that is taken, by the attributes of its `use`
+abbrev pub name_notes : ScopeName → Notes
+name_notes (Used from attributes n) = notes no_docs attributes
+name_notes (Defined d) = notes (docs_of d.docs) d.attributes.items
+name_notes (Taken attributes id) = notes no_docs attributes
+
+abbrev pub name_stability : ScopeName → Stability
+name_stability x = (name_notes x).stability
+
+-- a name of a scope, without what it stands for
+abbrev pub head : Address → ScopeName → Head
+head s x = record { owner = OfScope s; name = local_name x; span = name_span x; docs = (name_notes x).docs; stability = (name_notes x).stability; external_id = (name_notes x).external_id }
+
+abbrev pub named_node : Address → Option ScopeName → Node Place
+named_node s None = Nothing
+named_node s (Some x) = Named (head s x) (name_form x) (name_parts s x)
+
+-- one level of a written type: a name means what its scope says, every other form stands for itself
+abbrev pub source_node : List PackageFile → Place → Node Place
+source_node files (s, Prim p) = Leaf p
+source_node files (s, Word id) = named_node s (meaning (scope files s) id.name.now)
+source_node files (s, Of span form parts) = Unnamed form (placed s parts)
+
+-- the tree of a written type, to n levels
+abbrev pub source_tree : List PackageFile → (n : ℕ) → Place → Tree n
+source_tree files n place = unfolded (source_node files) n place

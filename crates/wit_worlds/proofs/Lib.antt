@@ -1,0 +1,3 @@
+mod Including
+mod Importing
+mod WorldImports

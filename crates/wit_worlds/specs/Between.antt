@@ -1,0 +1,48 @@
+-- What the resolver's functions tell one another: orders that were found, names that stand twice, and what was resolved so far.
+use Rattle.std.specs.Prelude.{◌≡◌, ℕ, true, List, [], ◌∷◌, ◌++◌, length, take}
+use Rattle.wit_tree.specs.declared.tree.Id.{Id}
+use Rattle.wit_tree.specs.declared.tree.Include.{Include}
+use Rattle.wit_tree.specs.declared.tree.PackageFile.{PackageFile}
+use Rattle.wit_types.specs.declared.types.TypeDef.{TypeDef}
+use Rattle.wit_types.specs.declared.types.TypeOwner.TheVariants as owner
+use Rattle.wit_model.specs.declared.interface.Interface.{Interface}
+use Rattle.wit_model.specs.declared.world.World.{World}
+use Rattle.wit_model.specs.declared.world.WorldInclude.{WorldInclude}
+use Rattle.wit_model.specs.declared.world.WorldKey.{WorldKey}
+use Rattle.wit_model.specs.declared.world.WorldItem.{WorldItem}
+use Rattle.wit_syntax.specs.Address.{Address}
+use Rattle.wit_syntax.specs.Source.{path_id, leads, TopName, Item, is_world}
+use Rattle.wit_syntax.specs.Scope.{in_order, worlds_of}
+use Rattle.wit_syntax.specs.Fault.{Fault, fault}
+use Rattle.wit_syntax.specs.Notes.{Notes}
+use Rattle.wit_arena.specs.Package.{IsWorld}
+use Rattle.wit_arena.specs.Resolving.{Names, cells, Required, IsWorldIndex, IsNoWorld}
+use Rattle.wit_arena.specs.Resolved.{worlds_at, AddsWorlds, IsNext, IsWrongWorld}
+
+-- an include leads to no world
+pub record IsLost (files : List PackageFile) (by_name : Names) (top : List TopName) (i : Include) (f : Fault) : Type 0 where
+  pub lost : IsNoWorld files by_name (leads top i.from)
+  pub is : f ≡ fault 11 (path_id i.from).span
+
+-- a world was added, with these notes, imports and includes
+pub record IsAddedWorld (ws ws' : List World) (id : Id) (n : Notes) (externs : List (WorldKey × WorldItem)) (included : List WorldInclude) : Type 0 where
+  pub added : World
+  pub last : ws' ≡ ws ++ added ∷ []
+  pub says : IsWorld id n added
+  pub imports : added.imports ≡ externs
+  pub includes : added.includes ≡ included
+
+-- where these are the interfaces, their types were resolved, and these worlds stand in front: once the worlds among some of the items
+-- were added in the order of their places, the next item is a world that is wrong
+pub record IsWrongWorldNow (files : List PackageFile) (foreign others : List Address) (middle : List TypeDef) (is : List Interface) (by_name : Names) (front : List World) (items : List Item) (places : List ℕ) (f : Fault) : Type 0 where
+  pub count : ℕ
+  pub item : Item
+  pub next : IsNext items places count item
+  pub sort : is_world item ≡ true
+  pub mid : List TypeDef
+  pub before : List World
+  pub rs : List Required
+  pub added : AddsWorlds foreign others is middle mid front before rs (worlds_of (in_order items (take count places)))
+  pub worlds_by_name : Names
+  pub worlds_index : IsWorldIndex (worlds_at others before) worlds_by_name
+  pub wrong : IsWrongWorld files mid (cells foreign is) by_name worlds_by_name (owner.World (length before)) item f

@@ -1,0 +1,4 @@
+//! Declared worlds, one after another.
+#![tactic(auto)]
+
+pub mod world;
