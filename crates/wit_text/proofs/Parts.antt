@@ -8,7 +8,7 @@ use Rattle.wit_values.specs.declared.span.Span.{Span}
 use Rattle.wit_tree.specs.Marks.{Mark, named, joined, counted}
 use Rattle.wit_tree.specs.Slices.{Rise, IsJoined, IsCounted, unescaped}
 use Rattle.wit_text.specs.declared.reader.Reader.{Reader}
-use Rattle.wit_text.specs.Fronts.{IsReadBehind}
+use Rattle.wit_text.specs.Fronts.{IsReadBehind, Completes}
 use Rattle.wit_text.specs.Reading.{IsRead, IsReadOn}
 use Rattle.wit_text.proofs.Rises.{rise_on, rise_sooner, rise_later, rise_order, one_more, is_named, stands_at}
 
@@ -156,4 +156,28 @@ remark f p = record {
   offset = p.offset;
   onward = p.onward;
   rise = f p.rise;
+}
+
+-- what stands behind a beginning completes it
+pub completed : {a b : Reader} {begun xs : List Mark} → IsRead a xs b → Completes a begun (begun ++ xs) b
+completed p = record {
+  source = p.source;
+  offset = p.offset;
+  read = λ reader begun. then begun p;
+}
+
+-- a part more of the beginning, and then the rest
+pub complete_behind : {a b c : Reader} {begun xs whole : List Mark} → IsRead a xs b → Completes b (begun ++ xs) whole c → Completes a begun whole c
+complete_behind p q = record {
+  source = q.source ∙ p.source;
+  offset = q.offset ∙ p.offset;
+  read = λ reader begun. q.read reader (then begun p);
+}
+
+-- with a part behind the whole that has no marks
+pub complete_closed : {a b c : Reader} {begun whole : List Mark} → Completes a begun whole b → IsRead b [] c → Completes a begun whole c
+complete_closed p q = record {
+  source = q.source ∙ p.source;
+  offset = q.offset ∙ p.offset;
+  read = λ reader begun. close (p.read reader begun) q;
 }

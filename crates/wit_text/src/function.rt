@@ -8,6 +8,7 @@ use crate::front::Front;
 use crate::reader::Reader;
 use crate::types::MOST_NESTED;
 use wit_lex::kind::Kind;
+use wit_lex::token::next_token;
 use wit_lex::word::Word;
 use wit_tree::tree::{Func, FuncForm, NamedFunc, Param, Type};
 use wit_tree::{ParseResult, Span};
@@ -91,6 +92,21 @@ impl<'a> Reader<'a> {
                 Ok((span, FuncForm::Plain))
             }
         }
+    }
+
+    /// Whether a function begins with the token: at `func`, `async`, or `get` or `set` with `(`
+    /// behind it.
+    pub fn begins_func(&self) -> ParseResult<bool>
+        ensures refused { IfErr result (λ e. IsRefused self.now e) }
+    {
+        if self.at_word(Word::Func) || self.at_word(Word::Async) {
+            return Ok(true);
+        }
+        if accessor_form(self.token.text).is_none() {
+            return Ok(false);
+        }
+        let next = next_token(self.alloc, self.source, self.offset, self.token.end)?;
+        Ok(next.kind == Kind::OpenParen)
     }
 
     /// Reads a function without its name.

@@ -3,6 +3,7 @@
 
 mod attribute;
 mod definition;
+mod extern_kind;
 mod file;
 mod front;
 mod function;

@@ -3,7 +3,7 @@ ghost use Rattle.std.specs.Prelude.{◌≡◌, ◌+◌, [], ◌∷◌, IfOk, IfE
 ghost use Rattle.std.specs.List.{flat_map};
 ghost use Rattle.wit_tree.specs.Marks.{named, attributes_marks, path_marks, local_marks, used_marks, use_marks, toplevel_marks};
 ghost use Rattle.wit_tree.specs.Slices.{IsJoined};
-ghost use Rattle.wit_text.specs.Fronts.{IsReadBehind};
+ghost use Rattle.wit_text.specs.Fronts.{Completes, IsReadBehind};
 ghost use Rattle.wit_text.specs.Headers.{found_version};
 
 use crate::reader::Reader;
@@ -53,23 +53,43 @@ fn used_name<'a>(name: Id<'a>, local: Option<Id<'a>>) -> UseName<'a>
 impl<'a> Reader<'a> {
     ghost use Rattle.wit_text.specs.Reading.{IsRead, IsReadOn, IsRefused};
 
-    /// Reads a path: a name of the package, or `name:name/name` with perhaps a version behind it.
-    pub fn read_path(&mut self) -> ParseResult<UsePath<'a>>
-        ensures read { IfOk result (λ path. IsRead self.old (path_marks path) self.new) }
+    /// Reads the rest of a path with a package behind the two names of that: `/name`, and perhaps a
+    /// version.
+    pub fn read_item_path(&mut self, first: Id<'a>, second: Id<'a>) -> ParseResult<UsePath<'a>>
+        ensures read { IfOk result (λ path. Completes self.old (named first.entry ∷ named second.entry ∷ []) (path_marks path) self.new) }
         ensures refused { IfErr result (λ e. IsRefused self.old e) }
     {
-        let first = self.read_id()?;
-        if !self.at(Kind::Colon) {
-            return Ok(UsePath::Id(first));
-        }
-        self.bump()?;
-        let second = self.read_id()?;
         self.expect(Kind::Slash)?;
         let name = self.read_id()?;
         let found = self.read_at_version()?;
         let docs = Docs::none(self.alloc);
         let id = path_package(docs, first, second, found);
         Ok(UsePath::Package { id, name })
+    }
+
+    /// Reads the rest of a path behind its first name: nothing, or `:name/name` with perhaps a
+    /// version.
+    pub fn read_rest_of_path(&mut self, first: Id<'a>) -> ParseResult<UsePath<'a>>
+        ensures read { IfOk result (λ path. Completes self.old (named first.entry ∷ []) (path_marks path) self.new) }
+        ensures refused { IfErr result (λ e. IsRefused self.old e) }
+    {
+        if !self.at(Kind::Colon) {
+            return Ok(UsePath::Id(first));
+        }
+        self.bump()?;
+        let second = self.read_id()?;
+        let path = self.read_item_path(first, second)?;
+        Ok(path)
+    }
+
+    /// Reads a path: a name of the package, or `name:name/name` with perhaps a version behind it.
+    pub fn read_path(&mut self) -> ParseResult<UsePath<'a>>
+        ensures read { IfOk result (λ path. IsRead self.old (path_marks path) self.new) }
+        ensures refused { IfErr result (λ e. IsRefused self.old e) }
+    {
+        let first = self.read_id()?;
+        let path = self.read_rest_of_path(first)?;
+        Ok(path)
     }
 
     /// Reads `as` and the local name, where there is one.

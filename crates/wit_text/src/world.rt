@@ -100,6 +100,14 @@ impl<'a> Reader<'a> {
             let include = self.read_include(front.attributes)?;
             return Ok(WorldItem::Include(include));
         }
+        if self.at_word(Word::Import) {
+            let imported = self.read_import(front)?;
+            return Ok(WorldItem::Extern(imported));
+        }
+        if self.at_word(Word::Export) {
+            let exported = self.read_export(front)?;
+            return Ok(WorldItem::Extern(exported));
+        }
         let definition = self.read_definition(front)?;
         Ok(WorldItem::TypeDef(definition))
     }

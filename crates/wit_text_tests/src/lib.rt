@@ -4,6 +4,8 @@
 #[cfg(test)]
 mod documented;
 #[cfg(test)]
+mod externs;
+#[cfg(test)]
 mod files;
 #[cfg(test)]
 mod helpers;

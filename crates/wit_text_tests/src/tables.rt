@@ -27,6 +27,12 @@ interface i { type a = future; type b = future<t>; type c = stream; type d = str
 interface i { flags f {} flags g { a } flags h { a, b, } variant v {} variant w { a, b(u8), c(result), } enum e {} enum d { a, b, } }
 interface i { type a = option<%option>; type b = result<%result, %map>; }
 world w {} interface i {} world %world{include/**/w;} use x;
+world w { import i; export i; import a:b/c; export a:b/c@1.0.0; import n: i; export n: a:b/c@1.0.0-rc.1; }
+world w { import f: func(); export f: async func(a: u8,) -> list<u8>; import x: get() -> u8; export %x: set(v: u8); }
+world w { import get: get; export x: set; import get:get/set; export n: get:set/get@1.0.0; import %get: %set; import set; }
+world w { import i: interface {} export %interface: interface { use x.{t}; type s = t; f: func(); x: get(); } import %interface; import n: %interface; }
+world w { import/**/a/**/:/**/b/**/;export a : b / c @ 1.0.0 ; import x: get /* ( */ ( ); export x: set /* ( */; }
+world %import { import %export: func(); export %import: %import:%export/%use; import %func: %async; }
 world w { include x; include y with {} include z with { a as b }; use x.{t as s, u}; use %use.{}; include v with {a as b, %with as %as,} }
 world w { type a = u8; record r { a: u8 } flags f { a } variant v { a(u8) } enum e { a } include x with {}; type %include = a; }
 use a:b/c; use a:b/c as d; use a:b/c@1.2.3; use %use : %world / %c @ 1.2.3-rc.1+b as %as;
@@ -135,8 +141,49 @@ pub const REFUSED: &str = "\
 47|world |world| {}
 47||%world| w {}
 47|world w|;|
-47|world w { |import| i; }
-47|world w { |export| i; }
+47|world w { import |;| }
+47|world w { import i |}|
+47|world w { import i|.|{t}; }
+47|world w { import i |as| j; }
+47|world w { import |interface|; }
+47|world w { import |func|(); }
+47|world w { export |export|; }
+47|world w { |%import| i; }
+47|world w { import i: |;| }
+47|world w { import i: |use|; }
+47|world w { import i: func|;| }
+47|world w { import i: func() |}|
+47|world w { import i: async |get|(); }
+47|world w { import i: |static| func(); }
+47|world w { export x: get() -> u8 |}|
+47|world w { import x: %get|(|); }
+47|world w { import x: from|(|); }
+47|world w { import x: get |{| }; }
+47|world w { import i: interface |;| }
+47|world w { import i: interface {}|;| }
+47|world w { import i: interface { |import| j; } }
+47|world w { import i: interface { |include| j; } }
+47|world w { import i: interface {||
+47|world w { import i: %interface |{|} }
+47|world w { import a:b|.|c; }
+47|world w { import a:b/|;| }
+47|world w { import a:b/c |:| d; }
+47|world w { import a:b/c|,| d; }
+47|world w { import a:b/c@1.0|;| }
+50|world w { import a:b/c@|01.0.0|; }
+50|world w { export n: a:b/c@|1.0.0-01|; }
+47|world w { import n: a:b|;| }
+47|world w { import n: a:b|:|c/d; }
+47|world w { import n: a/b |/| c; }
+47|world w { import |aB|; }
+47|world w { export n: |aB|; }
+46|world w { import n: get |$|; }
+48|world w { import n: get |/*|; }
+47|world w { import||
+47|world w { export n:||
+47|world w { import n: get||
+47|interface i { |import| j; }
+47|interface i { |export| j; }
 47|world w { resource |resource|; }
 47|world w { resource r { |import| f: func(); } }
 47|world w { resource r; |constructor|(); }

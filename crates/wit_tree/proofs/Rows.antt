@@ -1,5 +1,5 @@
 -- What is said of types in a row, and of a type that is there or not, is said of them as a list.
-use Rattle.std.proofs.Common.{◌≡◌, ◌∷◌, ◌++◌, List, Some, None, Option, refl, ap, Vec, Box, rules}
+use Rattle.std.proofs.Common.{◌≡◌, ◌∷◌, ◌++◌, Some, None, Option, refl, ap, Vec, Box, rules}
 use Rattle.std.specs.Prelude.{codes}
 use Rattle.std.specs.List.{flat_map}
 use Rattle.std.specs.declared.alloc.Global.{Global}

@@ -1,5 +1,6 @@
 pub mod Attributes
 pub mod Comments
+pub mod Externs
 pub mod Marks
 pub mod Parts
 pub mod Refusal

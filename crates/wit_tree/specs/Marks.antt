@@ -31,7 +31,12 @@ use Rattle.wit_tree.specs.declared.tree.UseName.{UseName}
 use Rattle.wit_tree.specs.declared.tree.Interface.{Interface}
 use Rattle.wit_tree.specs.declared.tree.World.{World}
 use Rattle.wit_tree.specs.declared.tree.WorldItem.{WorldItem}
-use Rattle.wit_tree.specs.declared.tree.WorldItem.TheVariants.{TypeDef as WorldTypeDef, Use as WorldUse, Include as WorldInclude}
+use Rattle.wit_tree.specs.declared.tree.WorldItem.TheVariants.{Extern as WorldExtern, Use as WorldUse, TypeDef as WorldTypeDef, Include as WorldInclude}
+use Rattle.wit_tree.specs.declared.tree.Extern.{Extern}
+use Rattle.wit_tree.specs.declared.tree.WorldSide.{WorldSide}
+use Rattle.wit_tree.specs.declared.tree.WorldSide.TheVariants.{Imported, Exported}
+use Rattle.wit_tree.specs.declared.tree.ExternKind.{ExternKind}
+use Rattle.wit_tree.specs.declared.tree.ExternKind.TheVariants.{Interface as InlineInterface, Path as ExternPath, Func as ExternFunc, NamedPath as ExternNamedPath}
 use Rattle.wit_tree.specs.declared.tree.Include.{Include}
 use Rattle.wit_tree.specs.declared.tree.IncludeName.{IncludeName}
 use Rattle.wit_tree.specs.declared.tree.AstItem.{AstItem}
@@ -219,9 +224,26 @@ renamed_marks n = named n.name ∷ named n.as_ ∷ []
 abbrev pub include_marks : Include → List Mark
 include_marks i = attributes_marks i.attributes.items ++ (path_marks i.from ++ flat_map renamed_marks i.names.items)
 
+-- what is imported or exported, with its name in the world, where it has one
+abbrev pub extern_marks : ExternKind → List Mark
+extern_marks (InlineInterface name items) = named name ∷ told (codes "interface") ∷ flat_map item_marks items.items
+extern_marks (ExternPath path) = path_marks path
+extern_marks (ExternFunc name func) = named name ∷ func_marks func
+extern_marks (ExternNamedPath name path) = named name ∷ path_marks path
+
+-- the word for a side of a world
+abbrev pub side_word : WorldSide → List ℕ
+side_word Imported = codes "import"
+side_word Exported = codes "export"
+
+-- what is imported or exported, with the word for its side
+abbrev pub side_marks : Extern → List Mark
+side_marks x = front_marks x.docs x.attributes.items ++ told (side_word x.side) ∷ extern_marks x.kind
+
 abbrev pub world_item_marks : WorldItem → List Mark
-world_item_marks (WorldTypeDef d) = definition_marks d
+world_item_marks (WorldExtern x) = side_marks x
 world_item_marks (WorldUse u) = use_marks u
+world_item_marks (WorldTypeDef d) = definition_marks d
 world_item_marks (WorldInclude i) = include_marks i
 
 abbrev pub world_marks : World → List Mark

@@ -143,9 +143,56 @@ pub struct World<'a> {
 /// What a world holds.
 #[derive(Debug, Drop)]
 pub enum WorldItem<'a> {
-    TypeDef(TypeDef<'a>),
+    /// What it imports or exports.
+    Extern(Extern<'a>),
     Use(Use<'a>),
+    TypeDef(TypeDef<'a>),
     Include(Include<'a>),
+}
+
+/// A side of a world: what it imports, or what it exports.
+#[derive(Clone, Copy, Debug)]
+pub enum WorldSide {
+    Imported,
+    Exported,
+}
+
+/// What a world imports or exports.
+#[derive(Debug, Drop)]
+pub struct Extern<'a> {
+    pub side: WorldSide,
+    pub docs: Docs<'a>,
+    pub attributes: Vec<Attribute<'a>>,
+    pub kind: ExternKind<'a>,
+}
+
+/// What is imported or exported.
+#[derive(Debug, Drop)]
+pub enum ExternKind<'a> {
+    /// An interface that is written in the world, under a name.
+    Interface(Id<'a>, Vec<InterfaceItem<'a>>),
+    /// An interface elsewhere.
+    Path(UsePath<'a>),
+    /// A function, under a name.
+    Func(Id<'a>, Func<'a>),
+    /// An interface elsewhere, under a name of this world.
+    NamedPath(Id<'a>, UsePath<'a>),
+}
+
+impl<'a> ExternKind<'a> {
+    ghost use Rattle.wit_tree.specs.Externs.{extern_span};
+
+    /// Where its name is written; where it has none, its path.
+    pub fn span(&self) -> Span
+        ensures { result ≡ extern_span self.now }
+    {
+        match self {
+            ExternKind::Interface(name, _) => name.span,
+            ExternKind::Path(path) => path.span(),
+            ExternKind::Func(name, _) => name.span,
+            ExternKind::NamedPath(name, _) => name.span,
+        }
+    }
 }
 
 /// Another world, whose items belong to the one that includes it, some under other names.
@@ -178,6 +225,20 @@ pub enum UsePath<'a> {
     Id(Id<'a>),
     /// An item of a package, also where that is this one's own name.
     Package { id: PackageName<'a>, name: Id<'a> },
+}
+
+impl<'a> UsePath<'a> {
+    ghost use Rattle.wit_tree.specs.Externs.{path_span};
+
+    /// Where its last name is written.
+    pub fn span(&self) -> Span
+        ensures { result ≡ path_span self.now }
+    {
+        match self {
+            UsePath::Id(id) => id.span,
+            UsePath::Package { name, .. } => name.span,
+        }
+    }
 }
 
 /// A used name, and the local name that `as` gives it.
