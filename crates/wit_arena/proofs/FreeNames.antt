@@ -13,7 +13,7 @@ use Rattle.wit_tree.specs.declared.tree.ResourceFunc.TheVariants as resource
 use Rattle.wit_model.specs.declared.function.Function.{Function}
 use Rattle.wit_model.specs.declared.function.FunctionKind.{FunctionKind}
 use Rattle.wit_syntax.specs.Address.{Address}
-use Rattle.wit_syntax.specs.Source.{Item, Part, Defining, Using, Including, Doing, parts}
+use Rattle.wit_syntax.specs.Source.{Item, Part, Defining, Using, Including, Doing, Crossing, parts}
 use Rattle.wit_syntax.specs.Function.{Role, Freestanding, Method, Static, Constructor, SourceFunction, accessor, free_function, resource_function, definition_functions, part_functions, functions, role_names, free_names}
 use Rattle.wit_arena.specs.Functions.{freestanding_kind, method_kind, static_kind, IsKind, IsFunction, AreFunctions, freestanding_names}
 use Rattle.wit_arena.specs.Meet.{Key}
@@ -80,6 +80,7 @@ part_called : (p : Part) (k : ℕ) (fn : SourceFunction) → slice_get (part_fun
 part_called (Defining d) k fn at = definition_called d.name d.body k fn at
 part_called (Using u) k fn at = absurd (let f : ⊥ = cc in f)
 part_called (Including i) k fn at = absurd (let f : ⊥ = cc in f)
+part_called (Crossing x) k fn at = absurd (let f : ⊥ = cc in f)
 part_called (Doing g) zero fn at = let same : free_function g ≡ fn = cc in subst (λ (x : SourceFunction). IsCalled x.role x.name) same refl
 part_called (Doing g) (suc k) fn at = absurd (let f : ⊥ = cc in f)
 

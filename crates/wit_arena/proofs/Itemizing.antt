@@ -10,7 +10,7 @@ use Rattle.wit_tree.specs.declared.tree.Use.{Use}
 use Rattle.wit_tree.specs.declared.tree.PackageFile.{PackageFile}
 use Rattle.wit_order.specs.Table.{IsOrder}
 use Rattle.wit_syntax.specs.Address.{Address}
-use Rattle.wit_syntax.specs.Source.{TopName, Item, Part, Defining, Using, Including, Doing, Used, Taken, path_scope, part_names, parts, item_name, item_named, all_items, scope_names}
+use Rattle.wit_syntax.specs.Source.{TopName, Item, Part, Defining, Using, Including, Doing, Crossing, Used, Taken, path_scope, part_names, parts, item_name, item_named, all_items, scope_names}
 use Rattle.wit_syntax.specs.Scope.{in_order, item_row, item_rows}
 use Rattle.std.specs.List.{flat_map}
 use Rattle.wit_syntax.specs.Repeats.{AllDiffer}
@@ -54,6 +54,7 @@ used_part top ps k from attributes n at =
         (m, u, there, (j, x.1 ∙ ap Some name), scope)
     of_part m (Including i) there j is = absurd (let f : ⊥ = cc in f)
     of_part m (Doing g) there j is = absurd (let f : ⊥ = cc in f)
+    of_part m (Crossing x) there j is = absurd (let f : ⊥ = cc in f)
 
 -- no name of an item is taken from another package
 pub own_names : (w : Item) → AreOwn (scope_names w)
@@ -71,6 +72,7 @@ own_names w k attributes id at =
         f
     of_part (Including i) j is = let f : ⊥ = cc in f
     of_part (Doing g) j is = let f : ⊥ = cc in f
+    of_part (Crossing x) j is = let f : ⊥ = cc in f
 
 module _ (files : List PackageFile) (places : List ℕ) (order : IsOrder (item_rows files) places) where
   pub items_within : (j p : ℕ) → slice_get places j ≡ Some p → p < length (all_items files)

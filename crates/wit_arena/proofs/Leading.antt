@@ -22,7 +22,7 @@ use Rattle.wit_order.specs.Table.{Row, target, IsEdge, Leads, IsOrder}
 use Rattle.wit_order.proofs.Tables.{slice_get-take}
 use Rattle.wit_syntax.specs.Fault.{Fault, fault, missing_at, item_word}
 use Rattle.wit_syntax.specs.Address.{Address, InterfaceNamed, ForeignNamed, is_foreign}
-use Rattle.wit_syntax.specs.Source.{Declared, TheInterface, TheWorld, is_declared_world, Part, Defining, Using, Including, Doing, interface_part, declared_parts, path_id, Target, Local, Foreign, leads, used_scope, path_scope, Item, Used, all_items, item_name, is_world, parts, item_named, scope_names, taking, takings}
+use Rattle.wit_syntax.specs.Source.{Declared, TheInterface, TheWorld, is_declared_world, Part, Defining, Using, Including, Doing, Crossing, interface_part, declared_parts, path_id, Target, Local, Foreign, leads, used_scope, path_scope, Item, Used, all_items, item_name, is_world, parts, item_named, scope_names, taking, takings}
 use Rattle.wit_syntax.specs.Foreign.{ForeignVisit, visited, foreign_interfaces}
 use Rattle.wit_syntax.specs.Scope.{in_order, use_path, include_path, use_paths, include_paths, needed_path, local_target, item_row, item_rows, part_includes, includes}
 use Rattle.wit_syntax.specs.Broken.{is_world_at, IsBrokenUse, MissingUse, WorldUsed}
@@ -84,6 +84,7 @@ include_of [] k path at = absurd (let f : ⊥ = cc in f)
 include_of (Defining d ∷ ps) k path at = include_of ps k path at
 include_of (Using u ∷ ps) k path at = include_of ps k path at
 include_of (Doing f ∷ ps) k path at = include_of ps k path at
+include_of (Crossing x ∷ ps) k path at = include_of ps k path at
 include_of (Including i ∷ ps) zero path at = (i, refl, cc)
 include_of (Including i ∷ ps) (suc k) path at = include_of ps k path at
 

@@ -26,7 +26,7 @@ use Rattle.wit_syntax.specs.Function.{functions}
 use Rattle.wit_arena.specs.Resolving.{Required}
 use Rattle.wit_syntax.specs.Fault.{Fault, fault}
 use Rattle.wit_syntax.specs.Notes.{IsBrokenNotes}
-use Rattle.wit_syntax.specs.Broken.{IsDuplicateItem, is_world_at, IsInterfaceIncluded, IsBrokenNames, DuplicateItem, Items, IsBrokenUse, Headerless, Names, ItemStability, UseNotes, IncludeStability, Use, InterfaceIncluded, MissingName, FunctionUsed, Scope, Handle, Setter, IsLegal, headers, last_header}
+use Rattle.wit_syntax.specs.Broken.{IsDuplicateItem, is_world_at, IsInterfaceIncluded, IsBrokenNames, DuplicateItem, Items, IsBrokenUse, IsUnread, Headerless, Names, Unread, ItemStability, UseNotes, IncludeStability, Use, InterfaceIncluded, MissingName, FunctionUsed, Scope, Handle, Setter, IsLegal, headers, last_header}
 use Rattle.wit_syntax.specs.Repeats.{AllDiffer}
 use Rattle.wit_arena.specs.Whole.{Ordered, Turned, item_of, turned, turn_handles, AreRequired, AreIncludes, NamesOthers, first_docs, IsPackage, IsFaithful}
 use Rattle.wit_arena.specs.Resolved.{AddsInterfaces, AddsWorlds, AddsForeign, AreLegalScopes, AreSoundScopes, IsBrokenItemStability, OwnStability, OfInclude, HaveLegalStability}
@@ -173,25 +173,26 @@ module _ (files : List PackageFile) (places : List ℕ) (order : IsOrder (item_r
       stability.legal t.0 w f t.2 h
 
   -- no rule is broken, where the scopes are legal by themselves, and the stability of items and the notes of their uses
-  pub files_legal : AreLegalScopes (in_order (all_items files) places) → HaveLegalStability (in_order (all_items files) places) → ((i : Item) → Contains (all_items files) i → (u : WrittenUse) → Contains (uses_of i) u → (f : Fault) → IsBrokenNotes u.attributes.items f → ⊥) → (header : Header) → last_header files ≡ Some header → IsLegal files
-  files_legal scopes stability notes header last f (Headerless h) =
+  pub files_legal : AreLegalScopes (in_order (all_items files) places) → HaveLegalStability (in_order (all_items files) places) → ((i : Item) → Contains (all_items files) i → (u : WrittenUse) → Contains (uses_of i) u → (f : Fault) → IsBrokenNotes u.attributes.items f → ⊥) → ((i : Item) → Contains (all_items files) i → (f : Fault) → IsUnread i f → ⊥) → (header : Header) → last_header files ≡ Some header → IsLegal files
+  files_legal scopes stability notes read header last f (Headerless h) =
       let it = some_header files header last in
       let wrong : None ≡ Some header = sym (h.none it.0 it.1 it.2) ∙ it.3 in
       let g : ⊥ = cc in
       g
-  files_legal scopes stability notes header last f (Names h) = names f h
-  files_legal scopes stability notes header last f (ItemStability i among h) = stability_told stability i among f (OwnStability h)
-  files_legal scopes stability notes header last f (UseNotes i among u used h) = notes i among u used f h
-  files_legal scopes stability notes header last f (IncludeStability i among n included h) = stability_told stability i among f (OfInclude n included h)
-  files_legal scopes stability notes header last f (Use i among h) = uses i among f h
-  files_legal scopes stability notes header last f (InterfaceIncluded i among h) = includes_stated i among f h
-  files_legal scopes stability notes header last f (MissingName i among h) = names_stated files is_items ws_items middle new front is_done.0 ws_done.0 irs wrs is_done.2 ws_done.2 i (item_done i among) f h
-  files_legal scopes stability notes header last f (FunctionUsed i among h) = types_stated files is_items ws_items middle new front is_done.0 ws_done.0 irs wrs is_done.2 ws_done.2 i (item_done i among) f h
-  files_legal scopes stability notes header last f (Handle i among h) = handles_stated files is_items ws_items middle new front is_done.0 ws_done.0 irs wrs is_done.2 ws_done.2 i (item_done i among) f h
-  files_legal scopes stability notes header last f (Setter i among h) =
+  files_legal scopes stability notes read header last f (Unread i among h) = read i among f h
+  files_legal scopes stability notes read header last f (Names h) = names f h
+  files_legal scopes stability notes read header last f (ItemStability i among h) = stability_told stability i among f (OwnStability h)
+  files_legal scopes stability notes read header last f (UseNotes i among u used h) = notes i among u used f h
+  files_legal scopes stability notes read header last f (IncludeStability i among n included h) = stability_told stability i among f (OfInclude n included h)
+  files_legal scopes stability notes read header last f (Use i among h) = uses i among f h
+  files_legal scopes stability notes read header last f (InterfaceIncluded i among h) = includes_stated i among f h
+  files_legal scopes stability notes read header last f (MissingName i among h) = names_stated files is_items ws_items middle new front is_done.0 ws_done.0 irs wrs is_done.2 ws_done.2 i (item_done i among) f h
+  files_legal scopes stability notes read header last f (FunctionUsed i among h) = types_stated files is_items ws_items middle new front is_done.0 ws_done.0 irs wrs is_done.2 ws_done.2 i (item_done i among) f h
+  files_legal scopes stability notes read header last f (Handle i among h) = handles_stated files is_items ws_items middle new front is_done.0 ws_done.0 irs wrs is_done.2 ws_done.2 i (item_done i among) f h
+  files_legal scopes stability notes read header last f (Setter i among h) =
       let t = interface_at files places order differ i h.interface among in
       setters_paired files is_items ws_items middle new front is_done.0 ws_done.0 irs wrs is_done.2 ws_done.2 t.0 i t.1 f h.alone
-  files_legal scopes stability notes header last f (Scope i among h) =
+  files_legal scopes stability notes read header last f (Scope i among h) =
       let p = at_contains (all_items files) i among in
       let t = item_index files places order p.0 i p.1 in
       scopes.legal t.0 i f t.2 h

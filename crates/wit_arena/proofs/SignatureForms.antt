@@ -13,7 +13,7 @@ use Rattle.wit_tree.specs.declared.tree.ResourceFunc.TheVariants as resource
 use Rattle.wit_tree.specs.declared.tree.PackageFile.{PackageFile}
 use Rattle.wit_syntax.specs.Shape.{Shape, Word, shape_of}
 use Rattle.wit_syntax.specs.Address.{Address}
-use Rattle.wit_syntax.specs.Source.{Item, all_items, item_at, Part, Defining, Using, Including, Doing, parts}
+use Rattle.wit_syntax.specs.Source.{Item, all_items, item_at, Part, Defining, Using, Including, Doing, Crossing, parts}
 use Rattle.wit_syntax.specs.Function.{Role, SourceParam, SourceFunction, all_params, written_param, self_param, function_with, free_function, resource_function, definition_functions, part_functions, functions, signature}
 use Rattle.wit_arena.specs.Whole.{functions_at}
 use Rattle.wit_syntax.proofs.Lists.{at_split, map_at, flat_map_at}
@@ -83,6 +83,7 @@ plain_part : (p : Part) (k : ℕ) (fn : SourceFunction) → slice_get (part_func
 plain_part (Defining d) k fn at = plain_definition d.name d.body k fn at
 plain_part (Using u) k fn at = absurd (let f : ⊥ = cc in f)
 plain_part (Including i) k fn at = absurd (let f : ⊥ = cc in f)
+plain_part (Crossing x) k fn at = absurd (let f : ⊥ = cc in f)
 plain_part (Doing g) zero fn at =
     let same : free_function g ≡ fn = cc in
     subst IsPlain same (plain_with (free_function g).name (free_function g).role [] g none_given)

@@ -14,7 +14,7 @@ use Rattle.wit_tree.specs.declared.tree.PackageFile.{PackageFile}
 use Rattle.wit_package_names.specs.declared.package_name.PackageName.{PackageName}
 use Rattle.wit_syntax.specs.Fault.{Fault}
 use Rattle.wit_syntax.specs.Address.{Address, same_address, is_foreign}
-use Rattle.wit_syntax.specs.Source.{Target, Local, Foreign, leads, used_scope, path_scope, Part, Defining, Using, Including, Doing, Item, all_items, parts, ScopeName, Taken, local_name, Taking, taking, part_takings, item_takings, takings, same_taking, first_takings, taken, taken_names}
+use Rattle.wit_syntax.specs.Source.{Target, Local, Foreign, leads, used_scope, path_scope, Part, Defining, Using, Including, Doing, Crossing, Item, all_items, parts, ScopeName, Taken, local_name, Taking, taking, part_takings, item_takings, takings, same_taking, first_takings, taken, taken_names}
 use Rattle.wit_syntax.specs.Foreign.{ForeignVisit, visited, foreign_interfaces}
 use Rattle.wit_syntax.specs.Broken.{IsBrokenUse}
 use Rattle.wit_arena.specs.Meet.{Key, Def, Meeting, keys, Meets}
@@ -97,6 +97,7 @@ taken_at files k t at =
         record { place = p; item = w; at = here; index = m; part = u; among = there; name = n.0; is = sym n.2; foreign = foreign }
     of_part p w here m (Including i) there j is foreign = absurd (let f : ⊥ = cc in f)
     of_part p w here m (Doing g) there j is foreign = absurd (let f : ⊥ = cc in f)
+    of_part p w here m (Crossing x) there j is foreign = absurd (let f : ⊥ = cc in f)
 
 -- what is used from another package is taken
 pub taking_has : (files : List PackageFile) (q : ℕ) (w : Item) (m : ℕ) (u : Use) (j : ℕ) (n : UseName) → slice_get (all_items files) q ≡ Some w → slice_get (parts w) m ≡ Some (Using u) → slice_get u.names.items j ≡ Some n → is_foreign (path_scope w.top u.from) ≡ true → (k : ℕ) × (slice_get (takings files) k ≡ Some (taking (path_scope w.top u.from) u.attributes.items n))

@@ -16,7 +16,7 @@ use Rattle.wit_tree.specs.declared.tree.PackageFile.{PackageFile}
 use Rattle.wit_model.specs.declared.ast_item.AstItem.{AstItem}
 use Rattle.wit_model.specs.declared.ast_item.AstItem.TheVariants as entry
 use Rattle.wit_syntax.specs.Address.{Address, same_address, is_foreign}
-use Rattle.wit_syntax.specs.Source.{Item, TopName, path_scope, Part, Defining, Using, Including, Doing, parts, part_names, scope_names, Used, Taking, taking, part_takings, item_takings, all_items, takings}
+use Rattle.wit_syntax.specs.Source.{Item, TopName, path_scope, Part, Defining, Using, Including, Doing, Crossing, parts, part_names, scope_names, Used, Taking, taking, part_takings, item_takings, all_items, takings}
 use Rattle.wit_syntax.specs.Repeats.{AllDiffer}
 use Rattle.wit_syntax.specs.Foreign.{ForeignVisit, visited, same_item, is_foreign_world}
 use Rattle.wit_arena.specs.Whole.{foreign_place}
@@ -162,6 +162,7 @@ part-takings top (Defining d) = refl
 part-takings top (Using u) = used-takings (path_scope top u.from) u.attributes.items u.names.items
 part-takings top (Including i) = refl
 part-takings top (Doing f) = refl
+part-takings top (Crossing x) = refl
 
 -- those of parts
 parts-takings : (top : List TopName) (ps : List Part) → names_takings (flat_map (part_names top) ps) ≡ filter (λ t. is_foreign t.from) (flat_map (part_takings top) ps)

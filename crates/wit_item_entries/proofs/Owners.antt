@@ -8,7 +8,7 @@ use Rattle.wit_tree.specs.declared.tree.TypeBody.{TypeBody}
 use Rattle.wit_tree.specs.declared.tree.TypeBody.TheVariants as body
 use Rattle.wit_tree.specs.declared.tree.ResourceFunc.{ResourceFunc}
 use Rattle.wit_tree.specs.declared.tree.ResourceFunc.TheVariants as resource
-use Rattle.wit_syntax.specs.Source.{Item, Part, Defining, Using, Including, Doing, parts, ScopeName, Defined, part_names, scope_names, local_name}
+use Rattle.wit_syntax.specs.Source.{Item, Part, Defining, Using, Including, Doing, Crossing, parts, ScopeName, Defined, part_names, scope_names, local_name}
 use Rattle.wit_syntax.specs.Scope.{in_turn, local_names}
 use Rattle.wit_syntax.specs.Function.{SourceFunction, definition_functions, free_function, resource_function, part_functions, functions}
 use Rattle.wit_arena.specs.Resolving.{Env, Names, env_of}
@@ -44,6 +44,7 @@ module _ (item : Item) (env : Env) (has : (i : ℕ) (x : ScopeName) → slice_ge
       definition_owner env d.name d.body j fn there (has place.0 (Defined d) place.1)
   part_owner i (Using u) j fn at there = absurd (let f : ⊥ = cc in f)
   part_owner i (Including x) j fn at there = absurd (let f : ⊥ = cc in f)
+  part_owner i (Crossing x) j fn at there = absurd (let f : ⊥ = cc in f)
   part_owner i (Doing g) zero fn at there =
       let same : free_function g ≡ fn = cc in
       subst (λ (h : SourceFunction). HasOwner env (owner_of h.role)) same tt

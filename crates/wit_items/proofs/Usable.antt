@@ -9,7 +9,7 @@ use Rattle.std.proofs.lemmas.Option.{slice_get-map}
 use Rattle.wit_tree.specs.declared.tree.Use.{Use as WrittenUse}
 use Rattle.wit_tree.specs.declared.tree.UsePath.{UsePath}
 use Rattle.wit_tree.specs.declared.tree.PackageFile.{PackageFile}
-use Rattle.wit_syntax.specs.Source.{TopName, Part, Defining, Using, Including, Doing, Item, parts, is_world, file_items, all_items}
+use Rattle.wit_syntax.specs.Source.{TopName, Part, Defining, Using, Including, Doing, Crossing, Item, parts, is_world, file_items, all_items}
 use Rattle.wit_syntax.specs.Scope.{use_path, use_paths, part_uses, uses}
 use Rattle.wit_syntax.specs.Fault.{Fault}
 use Rattle.wit_syntax.specs.Broken.{is_world_at, IsBrokenUse, MissingUse, WorldUsed, IsBroken, UseNotes, Use}
@@ -85,6 +85,7 @@ use_paths-uses (Defining d ∷ ps) = use_paths-uses ps
 use_paths-uses (Using u ∷ ps) = ap (λ (l : List UsePath). u.from ∷ l) (use_paths-uses ps)
 use_paths-uses (Including i ∷ ps) = use_paths-uses ps
 use_paths-uses (Doing g ∷ ps) = use_paths-uses ps
+use_paths-uses (Crossing x ∷ ps) = use_paths-uses ps
 
 -- a path of an item is that of a use, and that of a use is one
 use_of : (i : Item) (path : UsePath) → Contains (use_paths i) path → (u : WrittenUse) × Contains (uses i) u × (u.from ≡ path)

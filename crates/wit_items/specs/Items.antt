@@ -9,7 +9,7 @@ use Rattle.wit_tree.specs.declared.tree.PackageFile.{PackageFile}
 use Rattle.wit_model.specs.declared.ast_item.AstItem.{AstItem}
 use Rattle.wit_model.specs.declared.ast_item.AstItem.TheVariants as entry
 use Rattle.wit_syntax.specs.Address.{Address, ForeignNamed}
-use Rattle.wit_syntax.specs.Source.{Target, Local, Foreign, leads, path_id, TopName, top_names, Declared, TheInterface, TheWorld, declared_parts, Part, Defining, Using, Including, Doing, Item, item_named, all_items, ScopeName}
+use Rattle.wit_syntax.specs.Source.{Target, Local, Foreign, leads, path_id, TopName, top_names, Declared, TheInterface, TheWorld, declared_parts, Part, Defining, Using, Including, Doing, Crossing, Item, item_named, all_items, ScopeName}
 use Rattle.wit_syntax.specs.Scope.{uses}
 use Rattle.wit_syntax.specs.Foreign.{visited, is_foreign_world, foreign_at, foreign_items}
 use Rattle.wit_arena.specs.Whole.{foreign_entry}
@@ -40,6 +40,7 @@ part_behind (held_part.Defining d) = Defining d.now
 part_behind (held_part.Using u) = Using u.now
 part_behind (held_part.Including i) = Including i.now
 part_behind (held_part.Doing f) = Doing f.now
+part_behind (held_part.Crossing x) = Crossing x.now
 
 -- the item that is held
 abbrev pub item_behind : Held → Item

@@ -23,7 +23,7 @@ use wit_notes::check_notes;
 use wit_notes::refusal::{refuse, refuse_missing};
 use wit_scopes::scope_name::{DefinedName, ScopeName, Source, add_used_names};
 use wit_tree::tree::{
-    AstItem, Id, Include, Interface, InterfaceItem, NamedFunc, PackageFile, TypeDef, Use, UsePath,
+    AstItem, Extern, Id, Include, Interface, InterfaceItem, NamedFunc, PackageFile, TypeDef, Use, UsePath,
     World, WorldItem,
 };
 use wit_tree::{ParseError, ParseResult};
@@ -52,6 +52,7 @@ enum Part<'f, 'a> {
     Using(&'f Use<'a>),
     Including(&'f Include<'a>),
     Doing(&'f NamedFunc<'a>),
+    Crossing(&'f Extern<'a>),
 }
 
 /// A part of an interface.
@@ -73,6 +74,7 @@ fn world_part<'f, 'a>(part: &'f WorldItem<'a>) -> Part<'f, 'a>
         WorldItem::TypeDef(definition) => Part::Defining(definition),
         WorldItem::Use(used) => Part::Using(used),
         WorldItem::Include(include) => Part::Including(include),
+        WorldItem::Extern(external) => Part::Crossing(external),
     }
 }
 
@@ -247,6 +249,7 @@ fn add_part<'f, 'a>(
         }
         Part::Including(_) => {}
         Part::Doing(_) => {}
+        Part::Crossing(_) => {}
     }
     Ok(())
 }

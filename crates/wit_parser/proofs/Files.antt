@@ -1,6 +1,6 @@
 -- What holds of files whose interfaces and worlds were added.
 use Rattle.std.proofs.Common.{◌≡◌, ◌<◌, ℕ, All, List, length, map, get_or, Some, inl, inr, sym, ap, ◌∙◌, subst}
-use Rattle.std.specs.Prelude.{not}
+use Rattle.std.specs.Prelude.{not, Contains}
 use Rattle.std.proofs.lemmas.List.{length-map}
 use Rattle.std.proofs.lemmas.Option.{slice_get-get_or}
 use Rattle.wit_order.specs.Table.{IsOrder}
@@ -20,7 +20,7 @@ use Rattle.wit_types.specs.declared.types.TypeDef.{TypeDef}
 use Rattle.wit_model.specs.declared.unresolved.UnresolvedPackage.{UnresolvedPackage}
 use Rattle.wit_syntax.specs.Source.{Item, all_items, is_world}
 use Rattle.wit_syntax.specs.Scope.{in_order, item_rows, interfaces_of, worlds_of}
-use Rattle.wit_syntax.specs.Broken.{IsLegal, headers, last_header}
+use Rattle.wit_syntax.specs.Broken.{IsLegal, IsUnread, headers, last_header}
 use Rattle.wit_syntax.specs.Foreign.{visited, foreign_interfaces, foreign_worlds}
 use Rattle.wit_arena.specs.Resolved.{AddsForeign, AddsInterfaces, AreLegalScopes, AreSoundScopes, IsWrongAmong, IsWrongWorldAmong}
 use Rattle.wit_arena.specs.Resolving.{Names, Required, cells, IsIndex}
@@ -60,8 +60,8 @@ module _ (files : List PackageFile) (es : List TypeDef) (is : List Interface) (w
   scopes_legal : AreLegalScopes (in_order (all_items files) a.places)
   scopes_legal = legal_scopes files a.places a.order a.names a.uses a.first a.middle es a.front is a.worlds_front ws a.irs a.wrs a.foreign a.interfaces a.worlds a.sound
 
-  pub files_legal : (header : Header) → last_header files ≡ Some header → IsLegal files
-  files_legal header last = legal_by files a.places a.order a.names a.uses a.first a.middle es a.front is a.worlds_front ws a.irs a.wrs a.foreign a.interfaces a.worlds scopes_legal a.stable a.noted header last
+  pub files_legal : ((i : Item) → Contains (all_items files) i → (f : Fault) → IsUnread i f → ⊥) → (header : Header) → last_header files ≡ Some header → IsLegal files
+  files_legal read header last = legal_by files a.places a.order a.names a.uses a.first a.middle es a.front is a.worlds_front ws a.irs a.wrs a.foreign a.interfaces a.worlds scopes_legal a.stable a.noted read header last
 
   module _ (p : UnresolvedPackage) (types : p.types ≡ es) (interfaces : p.interfaces ≡ is) (worlds : p.worlds ≡ ws) (others : NamesOthers files p) where
     pub files_package : p.required_resource_types ≡ rs → (header : Header) → last_header files ≡ Some header → p.name.namespace ≡ header.namespace.name.now → p.name.name ≡ header.name.name.now → option_map release_parts p.name.version ≡ option_map parts_of header.version → p.name_span ≡ header.span → p.docs ≡ first_docs (headers files) → IsPackage files p

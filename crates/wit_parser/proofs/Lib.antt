@@ -4,3 +4,4 @@ mod Backward
 mod Fronting
 mod WrittenMarks
 mod FunctionMarks
+mod Crossings

@@ -15,7 +15,7 @@ use Rattle.wit_tree.specs.declared.tree.ResourceFunc.TheVariants as resource
 use Rattle.wit_model.specs.Names.{mark_of, HasMark, HasMarkOf}
 use Rattle.wit_model.specs.declared.function.FunctionKind.{FunctionKind}
 use Rattle.wit_syntax.specs.Address.{Address}
-use Rattle.wit_syntax.specs.Source.{Item, Part, Defining, Using, Including, Doing, parts}
+use Rattle.wit_syntax.specs.Source.{Item, Part, Defining, Using, Including, Doing, Crossing, parts}
 use Rattle.wit_syntax.specs.Function.{SourceFunction, accessor, dotted, free_function, resource_function, definition_functions, part_functions, functions}
 use Rattle.wit_arena.specs.Functions.{freestanding_kind, method_kind, static_kind, IsKind}
 use Rattle.wit_arena.specs.Meet.{Key}
@@ -74,6 +74,7 @@ part_marked : (p : Part) (k : ℕ) (fn : SourceFunction) → slice_get (part_fun
 part_marked (Defining d) k fn at = definition_marked d.name d.body k fn at
 part_marked (Using u) k fn at = absurd (let f : ⊥ = cc in f)
 part_marked (Including i) k fn at = absurd (let f : ⊥ = cc in f)
+part_marked (Crossing x) k fn at = absurd (let f : ⊥ = cc in f)
 part_marked (Doing g) zero fn at = (let same : free_function g ≡ fn = cc in subst IsMarked same (free_marked g))
 part_marked (Doing g) (suc k) fn at = absurd (let f : ⊥ = cc in f)
 

@@ -14,6 +14,7 @@ ghost use Rattle.wit_tree.specs.declared.tree.PackageFile.{PackageFile as TheFil
 ghost use Rattle.wit_syntax.specs.Foreign.{foreign_packages};
 ghost use Rattle.wit_arena.specs.Whole.{dep, IsPackage, IsFaithful};
 
+use crate::unread::read_names;
 use std::alloc::{AllocError, Global};
 use wit_entries::entries::Entries;
 use wit_entries::scope::Required;
@@ -250,6 +251,7 @@ impl<'a> Resolver<'a> {
     /// - 39 to 42: a getter has no result; that of a setter, or of a constructor, is another than it
     ///   has to be.
     /// - 45: a growth was refused.
+    /// - 54: a world imports or exports something, which is read, but not treated yet.
     pub fn resolve(self, alloc: Global) -> ParseResult<UnresolvedPackage>
         ensures legal { OnOk result (IsLegal self.entry.files.items) }
         ensures package { IfOk result (IsPackage self.entry.files.items) }
@@ -262,7 +264,7 @@ impl<'a> Resolver<'a> {
             None => return Err(refuse(alloc, 4, Span::default(), NO_HEADER)),
         };
         let mut types = Entries::new(alloc);
-        let names = FileNames::gather(alloc, &self.files)?;
+        let names = read_names(alloc, &self.files)?;
         let resolved = resolve_files(alloc, &mut types, &names, &self.files)?;
         let foreign = foreign_items(
             alloc,

@@ -6,6 +6,8 @@ use Rattle.semver.specs.Identifiers.{parts_of}
 use Rattle.wit_tree.specs.declared.error.ParseError.{ParseError}
 use Rattle.wit_tree.specs.Refusal.{IsWantOfMemory}
 use Rattle.wit_tree.specs.declared.tree.Id.{Id}
+use Rattle.wit_tree.specs.declared.tree.Extern.{Extern}
+use Rattle.wit_tree.specs.Externs.{extern_span}
 use Rattle.wit_tree.specs.declared.tree.Attribute.{Attribute}
 use Rattle.wit_tree.specs.declared.tree.Use.{Use as WrittenUse}
 use Rattle.wit_tree.specs.declared.tree.Include.{Include}
@@ -22,7 +24,7 @@ use Rattle.wit_syntax.specs.Notes.{IsBrokenStability, IsBrokenNotes}
 use Rattle.wit_syntax.specs.Bodies.{IsRepeated, IsBrokenBody}
 use Rattle.wit_syntax.specs.Fault.{Fault, fault_of, fault, missing_at, cyclic_at, item_word, type_word, name_word}
 use Rattle.wit_syntax.specs.Address.{Address, ForeignNamed}
-use Rattle.wit_syntax.specs.Source.{path_id, Target, Local, Foreign, path_target, leads, TopName, top_names, top_text, Item, item_id, item_name, declared_attributes, is_world, all_items, item_named, item_at, ScopeName, Used, Defined, local_id, local_name, scope_names, meaning, address}
+use Rattle.wit_syntax.specs.Source.{path_id, Target, Local, Foreign, path_target, leads, TopName, top_names, top_text, Item, item_id, item_name, declared_attributes, is_world, all_items, item_named, item_at, ScopeName, Used, Defined, local_id, local_name, scope_names, meaning, address, Crossing, parts}
 use Rattle.wit_syntax.specs.Foreign.{ForeignVisit, foreign_visits, is_foreign_world, foreign_at}
 use Rattle.wit_syntax.specs.Function.{SourceFunction, functions, free_names, item_types}
 use Rattle.wit_syntax.specs.Signature.{Called, called_key, name_called, function_called, IsBrokenFunction, IsNoResource, IsUnpairedSetter}
@@ -253,9 +255,16 @@ pub record IsSetterAlone (i : Item) (f : Fault) : Type 0 where
   pub interface : is_world i ≡ false
   pub alone : IsUnpairedSetter (functions i) f
 
+-- what a world imports or exports is read, but not treated yet
+pub record IsUnread (i : Item) (f : Fault) : Type 0 where
+  pub x : Extern
+  pub among : Contains (parts i) (Crossing x)
+  pub is : f ≡ fault 54 (extern_span x.kind)
+
 -- what is wrong with files
 pub data IsBroken (files : List PackageFile) (f : Fault) : Type 0 where
   Headerless : IsHeaderless files f → IsBroken files f
+  Unread : (i : Item) → Contains (all_items files) i → IsUnread i f → IsBroken files f
   Names : IsBrokenNames files f → IsBroken files f
   ItemStability : (i : Item) → Contains (all_items files) i → IsBrokenStability (declared_attributes i.declared) f → IsBroken files f
   UseNotes : (i : Item) → Contains (all_items files) i → (u : WrittenUse) → Contains (uses i) u → IsBrokenNotes u.attributes.items f → IsBroken files f

@@ -12,7 +12,7 @@ use Rattle.wit_tree.specs.declared.tree.PackageFile.{PackageFile}
 use Rattle.wit_package_names.specs.declared.package_name.PackageName.{PackageName}
 use Rattle.wit_syntax.specs.Address.{Address, ForeignNamed, package_of, same_package, same_address}
 use Rattle.wit_syntax.specs.Repeats.{firsts}
-use Rattle.wit_syntax.specs.Source.{Declared, TheInterface, TheWorld, declared_parts, Part, Defining, Using, Including, Doing}
+use Rattle.wit_syntax.specs.Source.{Declared, TheInterface, TheWorld, declared_parts, Part, Defining, Using, Including, Doing, Crossing}
 
 -- a path with a package, the attributes in front of it, and whether it wants a world
 pub record ForeignVisit : Type 0 where
@@ -38,6 +38,7 @@ part_visits (Defining d) = []
 part_visits (Using u) = path_visits u.attributes.items false u.from
 part_visits (Including i) = path_visits i.attributes.items true i.from
 part_visits (Doing f) = []
+part_visits (Crossing x) = []
 
 abbrev pub declared_visits : Declared → List ForeignVisit
 declared_visits d = flat_map part_visits (declared_parts d)

@@ -19,7 +19,7 @@ use Rattle.wit_tree.specs.Parts.{body_types}
 use Rattle.wit_syntax.specs.Form.{BorrowForm}
 use Rattle.wit_syntax.specs.Shape.{Shape, Word, Of, one, shape_of}
 use Rattle.wit_syntax.specs.Notes.{Notes, notes, docs_of}
-use Rattle.wit_syntax.specs.Source.{Item, Part, Defining, Using, Including, Doing, parts, ScopeName, Used, Defined, Taken, scope_names}
+use Rattle.wit_syntax.specs.Source.{Item, Part, Defining, Using, Including, Doing, Crossing, parts, ScopeName, Used, Defined, Taken, scope_names}
 
 -- what a function is: by itself, or of a resource
 pub data Role : Type 0 where
@@ -132,6 +132,7 @@ part_functions (Defining d) = definition_functions d.name d.body
 part_functions (Using u) = []
 part_functions (Including i) = []
 part_functions (Doing f) = free_function f ∷ []
+part_functions (Crossing x) = []
 
 -- the functions of an item, in source order
 abbrev pub functions : Item → List SourceFunction

@@ -8,7 +8,7 @@ use Rattle.wit_tree.specs.declared.tree.UsePath.{UsePath}
 use Rattle.wit_tree.specs.declared.tree.PackageFile.{PackageFile}
 use Rattle.wit_order.specs.Table.{Row}
 use Rattle.wit_syntax.specs.Shape.{all_words, body_of}
-use Rattle.wit_syntax.specs.Source.{Target, Local, Foreign, leads, ScopeName, Used, Defined, Taken, local_name, Declared, TheInterface, TheWorld, Part, Defining, Using, Including, Doing, Item, item_name, is_world, parts, all_items}
+use Rattle.wit_syntax.specs.Source.{Target, Local, Foreign, leads, ScopeName, Used, Defined, Taken, local_name, Declared, TheInterface, TheWorld, Part, Defining, Using, Including, Doing, Crossing, Item, item_name, is_world, parts, all_items}
 use Rattle.wit_syntax.specs.Repeats.{AllDiffer}
 
 -- the names that a name of a scope needs: those in a definition's body; a used name needs none of its own scope
@@ -51,6 +51,7 @@ use_path (Defining d) = []
 use_path (Using u) = u.from ∷ []
 use_path (Including i) = []
 use_path (Doing f) = []
+use_path (Crossing x) = []
 
 -- the path of a part that is an include
 abbrev pub include_path : Part → List UsePath
@@ -58,6 +59,7 @@ include_path (Defining d) = []
 include_path (Using u) = []
 include_path (Including i) = i.from ∷ []
 include_path (Doing f) = []
+include_path (Crossing x) = []
 
 -- the paths of an item's uses
 abbrev pub use_paths : Item → List UsePath
@@ -101,6 +103,7 @@ part_uses (Defining d) = []
 part_uses (Using u) = u ∷ []
 part_uses (Including i) = []
 part_uses (Doing f) = []
+part_uses (Crossing x) = []
 
 -- the uses of an item, in source order
 abbrev pub uses : Item → List Use
@@ -111,6 +114,7 @@ part_includes (Defining d) = []
 part_includes (Using u) = []
 part_includes (Including i) = i ∷ []
 part_includes (Doing f) = []
+part_includes (Crossing x) = []
 
 -- the includes of an item, in source order
 abbrev pub includes : Item → List Include

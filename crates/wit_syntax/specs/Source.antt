@@ -11,6 +11,7 @@ use Rattle.wit_tree.specs.declared.tree.InterfaceItem.{InterfaceItem}
 use Rattle.wit_tree.specs.declared.tree.InterfaceItem.TheVariants as interface_item
 use Rattle.wit_tree.specs.declared.tree.WorldItem.{WorldItem}
 use Rattle.wit_tree.specs.declared.tree.WorldItem.TheVariants as world_item
+use Rattle.wit_tree.specs.declared.tree.Extern.{Extern}
 use Rattle.wit_tree.specs.declared.tree.Use.{Use}
 use Rattle.wit_tree.specs.declared.tree.UsePath.{UsePath}
 use Rattle.wit_tree.specs.declared.tree.UsePath.TheVariants as path
@@ -79,6 +80,7 @@ pub data Part : Type 0 where
   Using : (u : Use) → Part
   Including : (i : Include) → Part
   Doing : (f : NamedFunc) → Part
+  Crossing : (x : Extern) → Part
 
 abbrev pub interface_part : InterfaceItem → Part
 interface_part (interface_item.TypeDef d) = Defining d
@@ -89,6 +91,7 @@ abbrev pub world_part : WorldItem → Part
 world_part (world_item.TypeDef d) = Defining d
 world_part (world_item.Use u) = Using u
 world_part (world_item.Include i) = Including i
+world_part (world_item.Extern x) = Crossing x
 
 -- the parts of an item, in source order
 abbrev pub declared_parts : Declared → List Part
@@ -206,6 +209,7 @@ part_names top (Defining d) = Defined d ∷ []
 part_names top (Using u) = map (Used (path_scope top u.from) u.attributes.items) u.names.items
 part_names top (Including i) = []
 part_names top (Doing f) = []
+part_names top (Crossing x) = []
 
 -- the names of an item, in source order
 abbrev pub scope_names : Item → List ScopeName
@@ -225,6 +229,7 @@ part_takings top (Defining d) = []
 part_takings top (Using u) = map (taking (path_scope top u.from) u.attributes.items) u.names.items
 part_takings top (Including i) = []
 part_takings top (Doing f) = []
+part_takings top (Crossing x) = []
 
 -- the names that an item uses from items of other packages
 abbrev pub item_takings : Item → List Taking

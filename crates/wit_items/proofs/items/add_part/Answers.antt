@@ -31,6 +31,7 @@ returns-clause-names c = elim c.match-part.branch [
       rw (b.names-is, b.in-Using.is) ((rw (b.deref.ensures.value, b.deref-in-Using.ensures.value) at b.in_ok-add_used_names-in-Using.ensures.names) ∙ from))
   | in-Including b ↦ λ fs file at. rw (b.names-is, b.in-Including.is) (sym (append-nil (map name_behind c.args.names.now.items)))
   | in-Doing b ↦ λ fs file at. rw (b.names-is, b.in-Doing.is) (sym (append-nil (map name_behind c.args.names.now.items)))
+  | in-Crossing b ↦ λ fs file at. rw (b.names-is, b.in-Crossing.is) (sym (append-nil (map name_behind c.args.names.now.items)))
 ]
 
 pub returns-clause-sound : goal.returns-clause-sound
@@ -39,6 +40,7 @@ returns-clause-sound c = elim c.match-part.branch [
   | in-Using+in_ok-from-in-Using+in_ok-add_used_names-in-Using b ↦ λ fs file at. rw b.in-Using.is (sound_one fs (top_names file) b.in-Using.used.now (b.in_ok-from-in-Using.ensures.sound fs file at))
   | in-Including b ↦ λ fs file at. rw b.in-Including.is (sound_none fs (top_names file))
   | in-Doing b ↦ λ fs file at. rw b.in-Doing.is (sound_none fs (top_names file))
+  | in-Crossing b ↦ λ fs file at. rw b.in-Crossing.is (sound_none fs (top_names file))
 ]
 
 pub returns-clause-placed : goal.returns-clause-placed
@@ -47,4 +49,5 @@ returns-clause-placed c = elim c.match-part.branch [
   | in-Using+in_ok-from-in-Using+in_ok-add_used_names-in-Using b ↦ λ fs file at before. rw b.names-is (b.in_ok-add_used_names-in-Using.ensures.placed (map visited (foreign_interfaces fs)) (b.in_ok-from-in-Using.ensures.placed fs file at) before)
   | in-Including b ↦ λ fs file at before. rw b.names-is before
   | in-Doing b ↦ λ fs file at before. rw b.names-is before
+  | in-Crossing b ↦ λ fs file at before. rw b.names-is before
 ]

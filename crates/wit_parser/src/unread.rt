@@ -1,0 +1,88 @@
+//! What worlds import and export: it is read, and not treated yet.
+ghost use Rattle.std.specs.Prelude.{◌≡◌, ◌⊎◌, IfOk, IfErr, OnOk, List};
+ghost use Rattle.wit_syntax.specs.Fault.{Fault};
+ghost use Rattle.wit_syntax.specs.Source.{TheWorld, TopName, all_items, declared_items, file_items, world_part};
+ghost use Rattle.wit_syntax.specs.Scope.{item_rows};
+ghost use Rattle.wit_syntax.specs.Broken.{IsBrokenNames, Refused};
+ghost use Rattle.wit_order.specs.Table.{IsOrder};
+ghost use Rattle.wit_files.specs.FileNames.{AreNamesOf};
+ghost use Rattle.wit_parser.specs.Crossings.{AreRead, IsAcross, IsInside, IsUnreadAmong};
+
+use std::alloc::Global;
+use wit_files::{FileNames, declarations};
+use wit_notes::refusal::refuse;
+use wit_tree::ParseResult;
+use wit_tree::tree::{AstItem, PackageFile, World, WorldItem};
+
+/// The words for what a world imports or exports.
+const UNREAD: &str = "imports and exports of worlds are not read yet";
+
+/// Refuses a part of a world that is imported or exported.
+fn check_part(alloc: Global, part: &WorldItem<'_>) -> ParseResult<()>
+    ensures inside { OnOk result (IsInside (world_part part.now)) }
+    ensures refused { IfErr result (Refused (IsAcross (world_part part.now))) }
+{
+    match part {
+        WorldItem::Extern(external) => Err(refuse(alloc, 54, external.kind.span(), UNREAD)),
+        WorldItem::TypeDef(_) | WorldItem::Use(_) | WorldItem::Include(_) => Ok(()),
+    }
+}
+
+/// Refuses what a world imports or exports.
+fn check_world(alloc: Global, world: &World<'_>) -> ParseResult<()>
+    ensures read { OnOk result ((top : List TopName) → AreRead (record { top = top; declared = TheWorld world.now } ∷ [])) }
+    ensures refused { IfErr result (λ e. (top : List TopName) → Refused (IsUnreadAmong (record { top = top; declared = TheWorld world.now } ∷ [])) e) }
+{
+    for part in &world.items {
+        check_part(alloc, part)?;
+    }
+    Ok(())
+}
+
+/// Refuses what a declared world imports or exports.
+fn check_declaration(alloc: Global, item: &AstItem<'_>) -> ParseResult<()>
+    ensures read { OnOk result ((top : List TopName) → AreRead (declared_items top item.now)) }
+    ensures refused { IfErr result (λ e. (top : List TopName) → Refused (IsUnreadAmong (declared_items top item.now)) e) }
+{
+    match item {
+        AstItem::World(world) => check_world(alloc, world),
+        AstItem::Interface(_) | AstItem::Use(_) => Ok(()),
+    }
+}
+
+/// Refuses what the worlds of a file import or export.
+fn check_file(alloc: Global, file: &PackageFile<'_>) -> ParseResult<()>
+    ensures read { OnOk result (AreRead (file_items file.now)) }
+    ensures refused { IfErr result (Refused (IsUnreadAmong (file_items file.now))) }
+{
+    for item in declarations(file) {
+        check_declaration(alloc, item)?;
+    }
+    Ok(())
+}
+
+/// Refuses what worlds import or export.
+fn check_read(alloc: Global, files: &[PackageFile<'_>]) -> ParseResult<()>
+    ensures read { OnOk result (AreRead (all_items files.now)) }
+    ensures refused { IfErr result (Refused (IsUnreadAmong (all_items files.now))) }
+{
+    for file in files {
+        check_file(alloc, file)?;
+    }
+    Ok(())
+}
+
+/// The names of files whose worlds import and export nothing.
+pub(crate) fn read_names<'f, 'a>(
+    alloc: Global,
+    files: &'f [PackageFile<'a>],
+) -> ParseResult<FileNames<'f, 'a>>
+    ensures read { OnOk result (AreRead (all_items files.now)) }
+    ensures legal { OnOk result ((f : Fault) → IsBrokenNames files.now f → ⊥) }
+    ensures names { IfOk result (AreNamesOf files.now) }
+    ensures order { IfOk result (λ names. IsOrder (item_rows files.now) names.order.items) }
+    ensures refused { IfErr result (Refused (λ f. IsUnreadAmong (all_items files.now) f ⊎ IsBrokenNames files.now f)) }
+{
+    check_read(alloc, files)?;
+    FileNames::gather(alloc, files)
+}
