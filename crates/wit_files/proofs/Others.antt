@@ -52,6 +52,7 @@ of_part owner (interface_item.Func f) = refl
 
 of_world_part : (owner : Id) (p : WorldItem) → flat_map foreign_of (world_part_visits owner p) ≡ the_part_visits (world_part p)
 of_world_part owner (world_item.TypeDef d) = refl
+of_world_part owner (world_item.Extern x) = refl
 of_world_part owner (world_item.Use u) = append-nil (path_visits u.attributes.items false u.from)
 of_world_part owner (world_item.Include i) = append-nil (path_visits i.attributes.items true i.from)
 

@@ -41,6 +41,7 @@ interface_visits i = flat_map (part_visits i.name) i.items.items
 -- of a part of a world of this name: a `use` wants an interface, which the world does not need to come before it, and an include a world
 abbrev pub world_part_visits : Id → WorldItem → List Visit
 world_part_visits owner (world_item.TypeDef d) = []
+world_part_visits owner (world_item.Extern x) = []
 world_part_visits owner (world_item.Use u) = record { owner = None; attributes = u.attributes.items; path = u.from; names = Some u.names.items; wanted = wanted.Interface } ∷ []
 world_part_visits owner (world_item.Include i) = record { owner = Some owner; attributes = i.attributes.items; path = i.from; names = None; wanted = wanted.World } ∷ []
 

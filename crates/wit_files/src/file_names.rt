@@ -77,18 +77,18 @@ impl<'f, 'a> FileNames<'f, 'a> {
 
     /// Adds a file; refuses a name that stands twice at its top, and then a path that leads nowhere.
     fn add_file(
-        &mut self,
         alloc: Global,
-        declared: &IndexMap<&'a str, Target<'f, 'a>>,
         file: &'f PackageFile<'a>,
+        declared: &IndexMap<&'a str, Target<'f, 'a>>,
+        names: &mut FileNames<'f, 'a>,
     ) -> ParseResult<()>
-        requires distinct { AllDiffer (map (λ row. row.name) (rows self.old.items) ++ map item_name (file_items file.now)) }
-        ensures items { OnOk result (rows self.new.items ≡ rows self.old.items ++ map item_row (file_items file.now)) }
-        ensures kinds { OnOk result (self.new.kinds.items ≡ self.old.kinds.items ++ map is_the_world (file_items file.now)) }
-        ensures tops { OnOk result (AddsTop file.now self.old.tops.items self.new.tops.items) }
+        requires distinct { AllDiffer (map (λ row. row.name) (rows names.old.items) ++ map item_name (file_items file.now)) }
+        ensures items { OnOk result (rows names.new.items ≡ rows names.old.items ++ map item_row (file_items file.now)) }
+        ensures kinds { OnOk result (names.new.kinds.items ≡ names.old.kinds.items ++ map is_the_world (file_items file.now)) }
+        ensures tops { OnOk result (AddsTop file.now names.old.tops.items names.new.tops.items) }
         ensures distinct { OnOk result (AllDiffer (map top_text (top_names file.now))) }
-        ensures visits { OnOk result (self.new.visits ≡ self.old.visits) }
-        ensures foreign { OnOk result (self.new.foreign ≡ self.old.foreign) }
+        ensures visits { OnOk result (names.new.visits ≡ names.old.visits) }
+        ensures foreign { OnOk result (names.new.foreign ≡ names.old.foreign) }
         ensures refused { IfErr result (λ e. (is : List TheItem) → AreDeclared is declared.now → Refused (IsWrongFile is file.now) e) }
     {
         let top = file_names(alloc, file)?;
@@ -96,32 +96,32 @@ impl<'f, 'a> FileNames<'f, 'a> {
             top: &top,
             declared,
         };
-        add_items(alloc, paths, &mut self.items, file)?;
-        add_kinds(&mut self.kinds, file)?;
-        self.tops.push(top)?;
+        add_items(alloc, file, paths, &mut names.items)?;
+        add_kinds(file, &mut names.kinds)?;
+        names.tops.push(top)?;
         Ok(())
     }
 
     /// Adds files.
     fn add_files(
-        &mut self,
         alloc: Global,
-        declared: &IndexMap<&'a str, Target<'f, 'a>>,
         files: &'f [PackageFile<'a>],
+        declared: &IndexMap<&'a str, Target<'f, 'a>>,
+        names: &mut FileNames<'f, 'a>,
     ) -> ParseResult<()>
-        requires empty { rows self.old.items ≡ [] }
-        requires kindless { self.old.kinds.items ≡ [] }
-        requires none { self.old.tops.items ≡ [] }
+        requires empty { rows names.old.items ≡ [] }
+        requires kindless { names.old.kinds.items ≡ [] }
+        requires none { names.old.tops.items ≡ [] }
         requires declared { AreDeclared (all_items files.now) declared.now }
         requires distinct { AllDiffer (map item_name (all_items files.now)) }
-        ensures names { OnOk result (AreDeclarationsOf files.now self.new) }
+        ensures names { OnOk result (AreDeclarationsOf files.now names.new) }
         ensures distinct { OnOk result (AreDistinctTops files.now) }
-        ensures visits { OnOk result (self.new.visits ≡ self.old.visits) }
-        ensures foreign { OnOk result (self.new.foreign ≡ self.old.foreign) }
+        ensures visits { OnOk result (names.new.visits ≡ names.old.visits) }
+        ensures foreign { OnOk result (names.new.foreign ≡ names.old.foreign) }
         ensures refused { IfErr result (Refused (IsBrokenItems files.now)) }
     {
         for file in files {
-            self.add_file(alloc, declared, file)?;
+            FileNames::add_file(alloc, file, declared, names)?;
         }
         Ok(())
     }
@@ -136,7 +136,7 @@ impl<'f, 'a> FileNames<'f, 'a> {
     {
         let mut names = FileNames::of_others(alloc, files)?;
         let declared = item_names(alloc, files)?;
-        names.add_files(alloc, &declared, files)?;
+        FileNames::add_files(alloc, files, &declared, &mut names)?;
         names.order = table_order(alloc, &names.items)?;
         Ok(names)
     }

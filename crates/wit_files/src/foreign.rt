@@ -109,8 +109,8 @@ fn add_visit<'f, 'a>(
 /// Adds the paths with a package of a file.
 fn add_visits<'f, 'a>(
     alloc: Global,
-    foreign: &mut Vec<ForeignVisit<'f, 'a>>,
     file: &'f PackageFile<'a>,
+    foreign: &mut Vec<ForeignVisit<'f, 'a>>,
 ) -> Result<(), AllocError>
     ensures { OnOk result (map foreign_behind foreign.new.items ≡ map foreign_behind foreign.old.items ++ file_visits file.now) }
 {
@@ -130,7 +130,7 @@ pub fn foreign_visits<'f, 'a>(
 {
     let mut foreign = Vec::new(alloc);
     for file in files {
-        add_visits(alloc, &mut foreign, file)?;
+        add_visits(alloc, file, &mut foreign)?;
     }
     Ok(foreign)
 }

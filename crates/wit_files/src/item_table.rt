@@ -10,7 +10,7 @@ ghost use Rattle.wit_syntax.specs.Repeats.{AllDiffer};
 ghost use Rattle.wit_files.specs.Tops.{AreNamed, AreDeclared};
 ghost use Rattle.wit_files.specs.Checks.{edges_of, IsLostAmong, IsWrongFile};
 
-use crate::declaration::declarations;
+use crate::declaration::{declarations, world_items};
 use crate::order_refusal::refuse_item_order;
 use crate::top_name::{Paths, add_edge};
 use indexmap::IndexMap;
@@ -65,7 +65,7 @@ fn add_include<'a>(
     ensures refused { IfErr result (λ e. (top : List Top) (is : List Item) → AreNamed top paths.entry.top.now → AreDeclared is paths.entry.declared.now → Refused (IsLostAmong is top (include_path (world_part part.now))) e) }
 {
     match part {
-        WorldItem::TypeDef(_) | WorldItem::Use(_) => {}
+        WorldItem::TypeDef(_) | WorldItem::Use(_) | WorldItem::Extern(_) => {}
         WorldItem::Include(include) => {
             add_edge(alloc, paths, edges, &include.from)?;
         }
@@ -76,14 +76,14 @@ fn add_include<'a>(
 /// The items that a world includes, as edges.
 fn world_edges<'a>(
     alloc: Global,
-    paths: Paths<'_, '_, 'a>,
     world: &World<'a>,
+    paths: Paths<'_, '_, 'a>,
 ) -> ParseResult<Vec<Id<'a>>>
     ensures edges { IfOk result (λ edges. (top : List Top) → AreNamed top paths.entry.top.now → edges.items ≡ edges_of top (flat_map include_path (map world_part world.now.items.items))) }
     ensures refused { IfErr result (λ e. (top : List Top) (is : List Item) → AreNamed top paths.entry.top.now → AreDeclared is paths.entry.declared.now → Refused (IsLostAmong is top (flat_map include_path (map world_part world.now.items.items))) e) }
 {
     let mut edges = Vec::new(alloc);
-    for part in &world.items {
+    for part in world_items(world) {
         add_include(alloc, paths, &mut edges, part)?;
     }
     Ok(edges)
@@ -93,9 +93,9 @@ fn world_edges<'a>(
 /// path that leads nowhere.
 pub(crate) fn add_items<'a>(
     alloc: Global,
+    file: &PackageFile<'a>,
     paths: Paths<'_, '_, 'a>,
     table: &mut IndexMap<&'a str, Vec<Id<'a>>>,
-    file: &PackageFile<'a>,
 ) -> ParseResult<()>
     requires named { AreNamed (top_names file.now) paths.top.now }
     requires distinct { AllDiffer (map (λ row. row.name) (rows table.old) ++ map item_name (file_items file.now)) }
@@ -108,7 +108,7 @@ pub(crate) fn add_items<'a>(
             AstItem::Interface(interface) => {
                 (interface.name, interface_edges(alloc, paths, interface)?)
             }
-            AstItem::World(world) => (world.name, world_edges(alloc, paths, world)?),
+            AstItem::World(world) => (world.name, world_edges(alloc, world, paths)?),
             AstItem::Use(_) => continue,
         };
         table.insert(id.name, edges)?;
@@ -117,7 +117,7 @@ pub(crate) fn add_items<'a>(
 }
 
 /// Adds of each item that a file declares whether it is a world.
-pub(crate) fn add_kinds(kinds: &mut Vec<bool>, file: &PackageFile<'_>) -> Result<(), AllocError>
+pub(crate) fn add_kinds(file: &PackageFile<'_>, kinds: &mut Vec<bool>) -> Result<(), AllocError>
     ensures { OnOk result (kinds.new.items ≡ kinds.old.items ++ map is_world (file_items file.now)) }
 {
     let items = declarations(file);

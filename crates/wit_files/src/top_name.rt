@@ -103,12 +103,12 @@ fn top_names<'f, 'a>(
 
 /// Adds the names of the items that a file declares.
 fn add_declared<'f, 'a>(
-    names: &mut Vec<TopName<'f, 'a>>,
     file: &'f PackageFile<'a>,
+    names: &mut Vec<TopName<'f, 'a>>,
 ) -> Result<(), AllocError>
     ensures { OnOk result (map top_behind names.new.items ≡ map top_behind names.old.items ++ map item_top (file_items file.now)) }
 {
-    for item in &file.decl_list.items {
+    for item in declarations(file) {
         match item {
             AstItem::Interface(_) | AstItem::World(_) => names.push(top_name(item))?,
             AstItem::Use(_) => {}
@@ -126,7 +126,7 @@ fn declared_names<'f, 'a>(
 {
     let mut names = Vec::new(alloc);
     for file in files {
-        add_declared(&mut names, file)?;
+        add_declared(file, &mut names)?;
     }
     Ok(names)
 }

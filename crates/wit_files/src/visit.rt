@@ -2,6 +2,7 @@
 ghost use Rattle.std.specs.Prelude.{◌≡◌, ◌++◌, map, IfOk, OnOk};
 ghost use Rattle.wit_files.specs.Visits.{visit_behind, interface_visits, world_visits, item_visits, visits as the_visits};
 
+use crate::declaration::world_items;
 use std::alloc::{AllocError, Global};
 use wit_tree::tree::{
     AstItem, Attribute, DeclList, Id, Interface, InterfaceItem, UseName, UsePath, World, WorldItem,
@@ -34,8 +35,8 @@ pub struct Visit<'f, 'a> {
 
 /// Adds the visits of an interface: one for each `use`.
 fn add_interface_visits<'f, 'a>(
-    visits: &mut Vec<Visit<'f, 'a>>,
     interface: &'f Interface<'a>,
+    visits: &mut Vec<Visit<'f, 'a>>,
 ) -> Result<(), AllocError>
     ensures { OnOk result (map visit_behind visits.new.items ≡ map visit_behind visits.old.items ++ interface_visits interface.now) }
 {
@@ -55,14 +56,14 @@ fn add_interface_visits<'f, 'a>(
 
 /// Adds the visits of a world: one for each `use` and each include.
 fn add_world_visits<'f, 'a>(
-    visits: &mut Vec<Visit<'f, 'a>>,
     world: &'f World<'a>,
+    visits: &mut Vec<Visit<'f, 'a>>,
 ) -> Result<(), AllocError>
     ensures { OnOk result (map visit_behind visits.new.items ≡ map visit_behind visits.old.items ++ world_visits world.now) }
 {
-    for item in &world.items {
+    for item in world_items(world) {
         match item {
-            WorldItem::TypeDef(_) => {}
+            WorldItem::TypeDef(_) | WorldItem::Extern(_) => {}
             WorldItem::Use(used) => visits.push(Visit {
                 owner: None,
                 attributes: &used.attributes,
@@ -84,14 +85,14 @@ fn add_world_visits<'f, 'a>(
 
 /// Adds the visits of a declaration.
 fn add_visits<'f, 'a>(
-    visits: &mut Vec<Visit<'f, 'a>>,
     item: &'f AstItem<'a>,
+    visits: &mut Vec<Visit<'f, 'a>>,
 ) -> Result<(), AllocError>
     ensures { OnOk result (map visit_behind visits.new.items ≡ map visit_behind visits.old.items ++ item_visits item.now) }
 {
     match item {
-        AstItem::Interface(interface) => add_interface_visits(visits, interface)?,
-        AstItem::World(world) => add_world_visits(visits, world)?,
+        AstItem::Interface(interface) => add_interface_visits(interface, visits)?,
+        AstItem::World(world) => add_world_visits(world, visits)?,
         AstItem::Use(used) => visits.push(Visit {
             owner: None,
             attributes: &used.attributes,
@@ -115,7 +116,7 @@ pub fn visits<'f, 'a>(
 {
     let mut visits = Vec::new(alloc);
     for item in &list.items {
-        add_visits(&mut visits, item)?;
+        add_visits(item, &mut visits)?;
     }
     Ok(visits)
 }

@@ -71,6 +71,7 @@ fn world_functions<'t, 'a>(
             tree::WorldItem::TypeDef(definition) => add_definition(&mut functions, definition)?,
             tree::WorldItem::Use(_) => {}
             tree::WorldItem::Include(_) => {}
+            tree::WorldItem::Extern(_) => {}
         }
     }
     Ok(functions)

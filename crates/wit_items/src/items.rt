@@ -23,8 +23,8 @@ use wit_notes::check_notes;
 use wit_notes::refusal::{refuse, refuse_missing};
 use wit_scopes::scope_name::{DefinedName, ScopeName, Source, add_used_names};
 use wit_tree::tree::{
-    AstItem, Extern, Id, Include, Interface, InterfaceItem, NamedFunc, PackageFile, TypeDef, Use, UsePath,
-    World, WorldItem,
+    AstItem, Extern, Id, Include, Interface, InterfaceItem, NamedFunc, PackageFile, TypeDef, Use,
+    UsePath, World, WorldItem,
 };
 use wit_tree::{ParseError, ParseResult};
 

@@ -51,6 +51,7 @@ included_past items k x at none = ap included (take_next items k x at) ∙ inclu
 -- a part that is no include has none
 pub no_include : (x : WorldItem) → ((i : Include) → x ≡ world_item.Include i → ⊥) → part_includes (world_part x) ≡ []
 no_include (world_item.TypeDef d) other = refl
+no_include (world_item.Extern x) other = refl
 no_include (world_item.Use u) other = refl
 no_include (world_item.Include i) other = absurd (other i refl)
 

@@ -28,7 +28,7 @@ add_file-requires c =
     let i = c.loop-file.file-index in
     let file = c.file-item.result in
     let at : slice_get files i ≡ Some file = slice_get-get_or files i file c.loop-file-test.true ∙ ap Some (sym c.file-item.is) in
-    record { distinct = fresh_file (rows c.loop-file.self.items) files i file c.loop-file.invariant.items c.requires.distinct at }
+    record { distinct = fresh_file (rows c.loop-file.names.items) files i file c.loop-file.invariant.items c.requires.distinct at }
 
 pub loop-file-preserved : goal.loop-file-preserved
 loop-file-preserved c =
@@ -44,7 +44,7 @@ loop-file-preserved c =
     record {
       items = e.items ∙ ap (λ l. l ++ map item_row own) was.items ∙ sym (map-append item_row before own) ∙ ap (map item_row) (sym grown);
       kinds = e.kinds ∙ ap (λ l. l ++ map is_world own) was.kinds ∙ sym (map-append is_world before own) ∙ ap (map is_world) (sym grown);
-      tops = rw more (tops_added (take i files) file c.loop-file.self.tops.items c.add_file.new.self.tops.items was.tops e.tops);
+      tops = rw more (tops_added (take i files) file c.loop-file.names.tops.items c.add_file.new.names.tops.items was.tops e.tops);
       distinct = rw more (tops_more (take i files) file was.distinct e.distinct);
       visits = e.visits ∙ was.visits;
       foreign = e.foreign ∙ was.foreign;

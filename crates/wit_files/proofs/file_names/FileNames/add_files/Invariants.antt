@@ -8,10 +8,10 @@ use Rattle.wit_files.proofs.file_names.FileNames.add_files.Given as goal
 
 abbrev pub invariant-loop-file : goal.invariant-loop-file
 invariant-loop-file l = record {
-  items : rows l.self.items ≡ item_rows (take l.file-index l.files);
-  kinds : l.self.kinds.items ≡ map is_world (all_items (take l.file-index l.files));
-  tops : AreTopsOf (take l.file-index l.files) l.self.tops.items;
+  items : rows l.names.items ≡ item_rows (take l.file-index l.files);
+  kinds : l.names.kinds.items ≡ map is_world (all_items (take l.file-index l.files));
+  tops : AreTopsOf (take l.file-index l.files) l.names.tops.items;
   distinct : AreDistinctTops (take l.file-index l.files);
-  visits : l.self.visits ≡ l.fn.self.visits;
-  foreign : l.self.foreign ≡ l.fn.self.foreign;
+  visits : l.names.visits ≡ l.fn.names.visits;
+  foreign : l.names.foreign ≡ l.fn.names.foreign;
 }

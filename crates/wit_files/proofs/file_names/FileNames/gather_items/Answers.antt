@@ -14,7 +14,7 @@ pub returns-in_err-names-2-clause-refused : goal.returns-in_err-names-2-clause-r
 returns-in_err-names-2-clause-refused c =
     let p = err_from_is_err_and c.from_residual-in_err-names-2.result c.from_residual-in_err-names-2.ensures.1 in
     let files = c.args.files.now in
-    let rs = rows c.add_files.new.self.items in
+    let rs = rows c.add_files.new.names.items in
     rw (p.1, p.2) (refused_weaker (λ f. IsMissingEdge 7 item_word rs f ⊎ IsCyclicEdge 8 item_word rs f) (IsBrokenNames files) _ (λ f h. Items (broken_order files rs c.in_ok-add_files.ensures.names.items f h)) c.in_err-names-2.ensures.refused)
 
 pub returns-clause-legal : goal.returns-clause-legal
