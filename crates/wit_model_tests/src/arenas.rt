@@ -1,5 +1,6 @@
 //! Arenas are lists, and ids places in them.
 use std::alloc::Global;
+use std::process::Abort;
 use std::test::Fail;
 use wit_types::Arena;
 
@@ -10,9 +11,8 @@ fn pair(alloc: Global, first: u32, second: u32) -> Result<Arena<u32>, Fail> {
     Ok(arena)
 }
 
-#[test]
-fn arenas(rt: HostRuntime) -> Result<(), Fail> {
-    let mut arena: Arena<u32> = Arena::new(rt.alloc());
+fn arenas(rt: &impl Abort, alloc: Global) -> Result<(), Fail> {
+    let mut arena: Arena<u32> = Arena::new(alloc);
     assert!(rt; arena.next_id().index() == 0);
     let first = arena.alloc(4)?;
     let second = arena.alloc(5)?;
@@ -22,18 +22,24 @@ fn arenas(rt: HostRuntime) -> Result<(), Fail> {
     Ok(())
 }
 
-#[test]
-fn listed(rt: HostRuntime) -> Result<(), Fail> {
-    let arena = pair(rt.alloc(), 6, 5)?;
-    let values: Vec<u32> = arena.iter().copied().collect(rt.alloc())?;
+fn listed(rt: &impl Abort, alloc: Global) -> Result<(), Fail> {
+    let arena = pair(alloc, 6, 5)?;
+    let values: Vec<u32> = arena.iter().copied().collect(alloc)?;
     assert!(rt; values.as_slice() == [6, 5].as_slice());
     Ok(())
 }
 
-#[test]
-fn copied(rt: HostRuntime) -> Result<(), Fail> {
-    let arena = pair(rt.alloc(), 6, 5)?;
-    let turned = pair(rt.alloc(), 5, 6)?;
+fn copied(rt: &impl Abort, alloc: Global) -> Result<(), Fail> {
+    let arena = pair(alloc, 6, 5)?;
+    let turned = pair(alloc, 5, 6)?;
     assert!(rt; arena.clone()? == arena && arena != turned);
     Ok(())
+}
+
+#[test]
+fn arenas_are_lists(rt: HostRuntime) -> Result<(), Fail> {
+    let alloc = rt.alloc();
+    arenas(&rt, alloc)?;
+    listed(&rt, alloc)?;
+    copied(&rt, alloc)
 }

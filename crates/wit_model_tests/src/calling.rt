@@ -1,28 +1,27 @@
 //! How functions are called across a component's border.
 use crate::fixtures::functions;
+use std::alloc::Global;
+use std::process::Abort;
 use std::test::Fail;
 use wit_model::{AbiVariant, Function, FunctionKind, LiftLowerAbi, Mangling, ManglingAndAbi};
 
-#[test]
-fn manglings(rt: HostRuntime) {
+fn manglings(rt: &impl Abort) {
     assert!(rt; Mangling::from_str("legacy") == Ok(Mangling::Legacy));
     assert!(rt; Mangling::from_str("standard32") == Ok(Mangling::Standard32));
 }
 
-#[test]
-fn no_mangling(rt: HostRuntime) -> Result<(), Fail> {
+fn no_mangling(rt: &impl Abort, alloc: Global) -> Result<(), Fail> {
     let Err(fault) = Mangling::from_str("x") else {
         return Err(Fail::from("a name that no spelling has"));
     };
-    let text = format!(in rt.alloc(); "{fault}")?;
+    let text = format!(in alloc; "{fault}")?;
     assert!(rt;
         text.as_str() == "unknown name mangling `x`, supported values are `legacy` or `standard32`"
     );
     Ok(())
 }
 
-#[test]
-fn variants(rt: HostRuntime) {
+fn variants(rt: &impl Abort) {
     for (abi, import, export) in [
         (
             LiftLowerAbi::Sync,
@@ -46,8 +45,7 @@ fn variants(rt: HostRuntime) {
     }
 }
 
-#[test]
-fn choices(rt: HostRuntime) {
+fn choices(rt: &impl Abort) {
     let choice = ManglingAndAbi::Legacy(LiftLowerAbi::AsyncStackful);
     let standard = ManglingAndAbi::Standard32;
     assert!(rt; choice.is_async() && choice.sync() == ManglingAndAbi::Legacy(LiftLowerAbi::Sync));
@@ -67,13 +65,22 @@ fn are_chosen(functions: &[Function], choice: ManglingAndAbi, wanted: ManglingAn
     !functions.is_empty()
 }
 
-#[test]
-fn choices_for_functions(rt: HostRuntime) -> Result<(), Fail> {
+fn choices_for_functions(rt: &impl Abort, alloc: Global) -> Result<(), Fail> {
     let choice = ManglingAndAbi::Legacy(LiftLowerAbi::AsyncCallback);
     let sync = ManglingAndAbi::Legacy(LiftLowerAbi::Sync);
-    let plain = functions(rt.alloc(), "f", FunctionKind::Freestanding)?;
+    let plain = functions(alloc, "f", FunctionKind::Freestanding)?;
     assert!(rt; are_chosen(plain.as_slice(), choice, sync));
-    let waiting = functions(rt.alloc(), "g", FunctionKind::AsyncFreestanding)?;
+    let waiting = functions(alloc, "g", FunctionKind::AsyncFreestanding)?;
     assert!(rt; are_chosen(waiting.as_slice(), choice, choice));
     Ok(())
+}
+
+#[test]
+fn calls_across_the_border(rt: HostRuntime) -> Result<(), Fail> {
+    let alloc = rt.alloc();
+    manglings(&rt);
+    no_mangling(&rt, alloc)?;
+    variants(&rt);
+    choices(&rt);
+    choices_for_functions(&rt, alloc)
 }

@@ -1,4 +1,4 @@
-//! Tests of `wit_model`: worked rows, and each public call with ample memory.
+//! Tests of `wit_order`, `wit_types`, `wit_intern` and `wit_model`: each public call with ample memory.
 #![tactic(auto)]
 
 #[cfg(test)]
@@ -12,9 +12,9 @@ mod fixtures;
 #[cfg(test)]
 mod functions;
 #[cfg(test)]
-mod kinds;
+mod interning;
 #[cfg(test)]
-mod names;
+mod kinds;
 #[cfg(test)]
 mod orders;
 #[cfg(test)]
@@ -29,6 +29,8 @@ mod signatures;
 mod sizes;
 #[cfg(test)]
 mod spans;
+#[cfg(test)]
+mod toposort;
 #[cfg(test)]
 mod tracks;
 #[cfg(test)]

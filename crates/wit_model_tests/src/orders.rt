@@ -2,13 +2,13 @@
 use crate::alike::{add, are_rising};
 use crate::fixtures::{package, stable, type_at, unstable, versioned};
 use std::alloc::Global;
+use std::process::Abort;
 use std::test::Fail;
 use wit_model::laws::order::{compare_package_names, compare_stabilities, compare_types};
 use wit_package_names::PackageName;
 use wit_types::{Stability, Type};
 
-#[test]
-fn primitives(rt: HostRuntime) {
+fn primitives(rt: &impl Abort) {
     let listed = [
         Type::Bool,
         Type::U8,
@@ -29,9 +29,8 @@ fn primitives(rt: HostRuntime) {
     assert!(rt; are_rising(listed.as_slice(), compare));
 }
 
-#[test]
-fn places(rt: HostRuntime) -> Result<(), Fail> {
-    let (first, second) = (type_at(rt.alloc(), 0)?, type_at(rt.alloc(), 1)?);
+fn places(rt: &impl Abort, alloc: Global) -> Result<(), Fail> {
+    let (first, second) = (type_at(alloc, 0)?, type_at(alloc, 1)?);
     let listed = [Type::ErrorContext, Type::Id(first), Type::Id(second)];
     let compare = |a: &Type, b: &Type| compare_types(*a, *b);
     assert!(rt; are_rising(listed.as_slice(), compare));
@@ -46,9 +45,8 @@ fn listed_stabilities(alloc: Global) -> Result<Vec<Stability>, Fail> {
     Ok(values)
 }
 
-#[test]
-fn stabilities(rt: HostRuntime) -> Result<(), Fail> {
-    let listed = listed_stabilities(rt.alloc())?;
+fn stabilities(rt: &impl Abort, alloc: Global) -> Result<(), Fail> {
+    let listed = listed_stabilities(alloc)?;
     assert!(rt; are_rising(listed.as_slice(), compare_stabilities));
     Ok(())
 }
@@ -61,9 +59,17 @@ fn listed_packages(alloc: Global) -> Result<Vec<PackageName>, Fail> {
     Ok(values)
 }
 
-#[test]
-fn packages(rt: HostRuntime) -> Result<(), Fail> {
-    let listed = listed_packages(rt.alloc())?;
+fn packages(rt: &impl Abort, alloc: Global) -> Result<(), Fail> {
+    let listed = listed_packages(alloc)?;
     assert!(rt; are_rising(listed.as_slice(), compare_package_names));
     Ok(())
+}
+
+#[test]
+fn values_rise(rt: HostRuntime) -> Result<(), Fail> {
+    let alloc = rt.alloc();
+    primitives(&rt);
+    places(&rt, alloc)?;
+    stabilities(&rt, alloc)?;
+    packages(&rt, alloc)
 }

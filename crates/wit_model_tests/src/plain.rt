@@ -1,5 +1,7 @@
 //! Equality of values that own no memory.
 use crate::fixtures::{interface_at, type_at, world_at};
+use std::alloc::Global;
+use std::process::Abort;
 use std::test::Fail;
 use wit_model::laws::equality::{
     is_same_abi, is_same_abi_variant, is_same_ast_item, is_same_flags_repr, is_same_function_kind,
@@ -8,8 +10,7 @@ use wit_model::laws::equality::{
 use wit_model::{AbiVariant, AstItem, FunctionKind, LiftLowerAbi, Mangling, ManglingAndAbi};
 use wit_types::{FlagsRepr, Int, Type, TypeOwner};
 
-#[test]
-fn unnumbered(rt: HostRuntime) {
+fn unnumbered(rt: &impl Abort) {
     let choice = ManglingAndAbi::Legacy(LiftLowerAbi::Sync);
     assert!(rt; is_same_mangling(Mangling::Legacy, Mangling::Legacy));
     assert!(rt; is_same_abi(LiftLowerAbi::Sync, LiftLowerAbi::Sync));
@@ -19,14 +20,20 @@ fn unnumbered(rt: HostRuntime) {
     assert!(rt; is_same_flags_repr(&FlagsRepr::U32(1), &FlagsRepr::U32(1)));
 }
 
-#[test]
-fn numbered(rt: HostRuntime) -> Result<(), Fail> {
-    let (ty, world) = (type_at(rt.alloc(), 1)?, world_at(rt.alloc(), 1)?);
-    let interface = interface_at(rt.alloc(), 1)?;
+fn numbered(rt: &impl Abort, alloc: Global) -> Result<(), Fail> {
+    let (ty, world) = (type_at(alloc, 1)?, world_at(alloc, 1)?);
+    let interface = interface_at(alloc, 1)?;
     assert!(rt; is_same_type(Type::Id(ty), Type::Id(ty)));
     assert!(rt; is_same_owner(TypeOwner::World(world), TypeOwner::World(world)));
     assert!(rt; is_same_ast_item(AstItem::World(world), AstItem::World(world)));
     assert!(rt; !is_same_ast_item(AstItem::World(world), AstItem::Interface(interface)));
     assert!(rt; is_same_function_kind(FunctionKind::Method(ty), FunctionKind::Method(ty)));
     Ok(())
+}
+
+#[test]
+fn plain_values_are_themselves(rt: HostRuntime) -> Result<(), Fail> {
+    let alloc = rt.alloc();
+    unnumbered(&rt);
+    numbered(&rt, alloc)
 }

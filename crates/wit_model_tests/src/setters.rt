@@ -2,6 +2,7 @@
 use crate::fixtures::functions;
 use indexmap::IndexMap;
 use std::alloc::Global;
+use std::process::Abort;
 use std::test::Fail;
 use wit_model::{Function, FunctionKind, place_setters_after_getters};
 
@@ -51,9 +52,7 @@ fn is_placed(alloc: Global, names: &[&str], wanted: &[&str]) -> Result<bool, Fai
     Ok(are_keys(&map, wanted))
 }
 
-#[test]
-fn placed(rt: HostRuntime) -> Result<(), Fail> {
-    let alloc = rt.alloc();
+fn placed(rt: &impl Abort, alloc: Global) -> Result<(), Fail> {
     assert!(rt;
         is_placed(
             alloc,
@@ -71,10 +70,16 @@ fn placed(rt: HostRuntime) -> Result<(), Fail> {
     Ok(())
 }
 
-#[test]
-fn placed_in_turn(rt: HostRuntime) -> Result<(), Fail> {
+fn placed_in_turn(rt: &impl Abort, alloc: Global) -> Result<(), Fail> {
     let names = ["[set]x", "[set]y", "[get]y", "[get]x"];
     let wanted = ["[get]y", "[set]y", "[get]x", "[set]x"];
-    assert!(rt; is_placed(rt.alloc(), names.as_slice(), wanted.as_slice())?);
+    assert!(rt; is_placed(alloc, names.as_slice(), wanted.as_slice())?);
     Ok(())
+}
+
+#[test]
+fn setters_behind_getters(rt: HostRuntime) -> Result<(), Fail> {
+    let alloc = rt.alloc();
+    placed(&rt, alloc)?;
+    placed_in_turn(&rt, alloc)
 }

@@ -3,6 +3,7 @@ use crate::alike::add;
 use crate::fixtures::{add_interface, add_item, add_type, add_world, functions};
 use crate::kinds::every_kind;
 use std::alloc::Global;
+use std::process::Abort;
 use std::test::Fail;
 use wit_model::{Function, FunctionKind, Interface, World, WorldItem};
 use wit_tree::Span;
@@ -43,9 +44,8 @@ fn are_functions_moved(values: &[Function]) -> bool {
     !values.is_empty()
 }
 
-#[test]
-fn of_functions(rt: HostRuntime) -> Result<(), Fail> {
-    let mut values = functions(rt.alloc(), "f", FunctionKind::Freestanding)?;
+fn of_functions(rt: &impl Abort, alloc: Global) -> Result<(), Fail> {
+    let mut values = functions(alloc, "f", FunctionKind::Freestanding)?;
     assert!(rt; are_moved(values.as_mut_slice()));
     assert!(rt; are_functions_moved(values.as_slice()));
     Ok(())
@@ -78,9 +78,8 @@ fn types(alloc: Global) -> Result<Vec<TypeDef>, Fail> {
     Ok(types)
 }
 
-#[test]
-fn of_types(rt: HostRuntime) -> Result<(), Fail> {
-    let mut values = types(rt.alloc())?;
+fn of_types(rt: &impl Abort, alloc: Global) -> Result<(), Fail> {
+    let mut values = types(alloc)?;
     assert!(rt; are_moved(values.as_mut_slice()));
     assert!(rt; are_types_moved(values.as_slice()));
     Ok(())
@@ -99,10 +98,9 @@ fn are_interfaces_moved(values: &[Interface]) -> bool {
     !values.is_empty()
 }
 
-#[test]
-fn of_interfaces(rt: HostRuntime) -> Result<(), Fail> {
-    let mut values = Vec::new(rt.alloc());
-    add_interface(rt.alloc(), &mut values, "f")?;
+fn of_interfaces(rt: &impl Abort, alloc: Global) -> Result<(), Fail> {
+    let mut values = Vec::new(alloc);
+    add_interface(alloc, &mut values, "f")?;
     assert!(rt; are_moved(values.as_mut_slice()));
     assert!(rt; are_interfaces_moved(values.as_slice()));
     Ok(())
@@ -127,9 +125,8 @@ fn are_items_moved(values: &[WorldItem]) -> bool {
     !values.is_empty()
 }
 
-#[test]
-fn of_items(rt: HostRuntime) -> Result<(), Fail> {
-    let mut values = items(rt.alloc())?;
+fn of_items(rt: &impl Abort, alloc: Global) -> Result<(), Fail> {
+    let mut values = items(alloc)?;
     assert!(rt; are_moved(values.as_mut_slice()));
     assert!(rt; are_items_moved(values.as_slice()));
     Ok(())
@@ -149,11 +146,20 @@ fn are_worlds_moved(values: &[World]) -> bool {
     !values.is_empty()
 }
 
-#[test]
-fn of_worlds(rt: HostRuntime) -> Result<(), Fail> {
-    let mut values = Vec::new(rt.alloc());
-    add_world(rt.alloc(), &mut values, &["a"], &["b"])?;
+fn of_worlds(rt: &impl Abort, alloc: Global) -> Result<(), Fail> {
+    let mut values = Vec::new(alloc);
+    add_world(alloc, &mut values, &["a"], &["b"])?;
     assert!(rt; are_moved(values.as_mut_slice()));
     assert!(rt; are_worlds_moved(values.as_slice()));
     Ok(())
+}
+
+#[test]
+fn spans_move(rt: HostRuntime) -> Result<(), Fail> {
+    let alloc = rt.alloc();
+    of_functions(&rt, alloc)?;
+    of_types(&rt, alloc)?;
+    of_interfaces(&rt, alloc)?;
+    of_items(&rt, alloc)?;
+    of_worlds(&rt, alloc)
 }

@@ -1,6 +1,7 @@
 //! The tracks of versions.
 use semver::Version;
 use std::alloc::Global;
+use std::process::Abort;
 use std::test::Fail;
 use wit_model::laws;
 use wit_package_names::PackageName;
@@ -25,8 +26,7 @@ fn has_track_version(alloc: Global, text: &str, track: &str, suffix: &str) -> Re
     Ok(told == Version::parse(alloc, track)? && is_suffix(&behind, suffix))
 }
 
-#[test]
-fn tracks(rt: HostRuntime) -> Result<(), Fail> {
+fn tracks(rt: &impl Abort, alloc: Global) -> Result<(), Fail> {
     for (text, version, track, suffix) in [
         ("1.2.3", "1.0.0", "1", ".2.3"),
         ("101.201.301", "101.0.0", "101", ".201.301"),
@@ -42,20 +42,23 @@ fn tracks(rt: HostRuntime) -> Result<(), Fail> {
         ("0.0.0", "0.0.0", "0.0.0", ""),
         ("0.0.100+build.1", "0.0.100", "0.0.100", "+build.1"),
     ] {
-        assert!(rt; has_track(rt.alloc(), text, track, suffix)?, "{text}");
-        assert!(rt;
-            has_track_version(rt.alloc(), text, version, suffix)?,
-            "{text}"
-        );
+        assert!(rt; has_track(alloc, text, track, suffix)?, "{text}");
+        assert!(rt; has_track_version(alloc, text, version, suffix)?, "{text}");
     }
     Ok(())
 }
 
-#[test]
-fn laws_of_tracks(rt: HostRuntime) -> Result<(), Fail> {
-    let version = Version::parse(rt.alloc(), "0.10.0+build.1")?;
+fn laws_of_tracks(rt: &impl Abort, alloc: Global) -> Result<(), Fail> {
+    let version = Version::parse(alloc, "0.10.0+build.1")?;
     laws::track_then_suffix(&version);
     laws::track_of_track(&version);
     laws::tracks_tell(&version, &version);
     Ok(())
+}
+
+#[test]
+fn tracks_of_versions(rt: HostRuntime) -> Result<(), Fail> {
+    let alloc = rt.alloc();
+    tracks(&rt, alloc)?;
+    laws_of_tracks(&rt, alloc)
 }

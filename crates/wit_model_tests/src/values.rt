@@ -5,6 +5,7 @@ use crate::fixtures::{
     interface_at, stable, type_at, unstable, versioned,
 };
 use std::alloc::Global;
+use std::process::Abort;
 use std::test::Fail;
 use wit_model::laws::copies::{
     copy_docs, copy_package_name, copy_stability, copy_world_include, copy_world_key,
@@ -36,24 +37,21 @@ fn are_stabilities_copied(values: &[Stability]) -> Result<bool, Fail> {
     are_told_apart(values, is_same_stability)
 }
 
-#[test]
-fn of_stability(rt: HostRuntime) -> Result<(), Fail> {
-    let values = stabilities(rt.alloc())?;
+fn of_stability(rt: &impl Abort, alloc: Global) -> Result<(), Fail> {
+    let values = stabilities(alloc)?;
     assert!(rt; are_stabilities_copied(values.as_slice())?);
     Ok(())
 }
 
-#[test]
-fn of_docs(rt: HostRuntime) -> Result<(), Fail> {
-    let value = docs(rt.alloc())?;
+fn of_docs(rt: &impl Abort, alloc: Global) -> Result<(), Fail> {
+    let value = docs(alloc)?;
     let copy = copy_docs(&value)?;
     assert!(rt; is_same_docs(&value, &copy) && value != Docs::default());
     Ok(())
 }
 
-#[test]
-fn of_packages(rt: HostRuntime) -> Result<(), Fail> {
-    let value = versioned(rt.alloc(), "a", "b", "1.2.3-rc.1+x")?;
+fn of_packages(rt: &impl Abort, alloc: Global) -> Result<(), Fail> {
+    let value = versioned(alloc, "a", "b", "1.2.3-rc.1+x")?;
     let copy = copy_package_name(&value)?;
     assert!(rt; is_same_package_name(&value, &copy));
     Ok(())
@@ -78,9 +76,8 @@ fn are_functions(values: &[Function]) -> Result<bool, Fail> {
     are_told_apart(values, is_same_function)
 }
 
-#[test]
-fn of_functions(rt: HostRuntime) -> Result<(), Fail> {
-    let values = two_functions(rt.alloc())?;
+fn of_functions(rt: &impl Abort, alloc: Global) -> Result<(), Fail> {
+    let values = two_functions(alloc)?;
     assert!(rt; are_functions(values.as_slice())?);
     Ok(())
 }
@@ -92,9 +89,8 @@ fn types(alloc: Global) -> Result<Vec<TypeDef>, Fail> {
     Ok(values)
 }
 
-#[test]
-fn of_types(rt: HostRuntime) -> Result<(), Fail> {
-    let values = types(rt.alloc())?;
+fn of_types(rt: &impl Abort, alloc: Global) -> Result<(), Fail> {
+    let values = types(alloc)?;
     assert!(rt; are_told_apart(values.as_slice(), is_same_type_def)?);
     Ok(())
 }
@@ -111,9 +107,8 @@ fn interfaces(alloc: Global) -> Result<Vec<Interface>, Fail> {
     Ok(values)
 }
 
-#[test]
-fn of_interfaces(rt: HostRuntime) -> Result<(), Fail> {
-    let values = interfaces(rt.alloc())?;
+fn of_interfaces(rt: &impl Abort, alloc: Global) -> Result<(), Fail> {
+    let values = interfaces(alloc)?;
     assert!(rt; are_told_apart(values.as_slice(), is_same_interface)?);
     Ok(())
 }
@@ -130,18 +125,16 @@ fn worlds(alloc: Global) -> Result<Vec<World>, Fail> {
     Ok(values)
 }
 
-#[test]
-fn of_worlds(rt: HostRuntime) -> Result<(), Fail> {
-    let values = worlds(rt.alloc())?;
+fn of_worlds(rt: &impl Abort, alloc: Global) -> Result<(), Fail> {
+    let values = worlds(alloc)?;
     assert!(rt; are_told_apart(values.as_slice(), is_same_world)?);
     Ok(())
 }
 
-#[test]
-fn of_worlds_in_any_order(rt: HostRuntime) -> Result<(), Fail> {
-    let mut values = Vec::new(rt.alloc());
-    add_world(rt.alloc(), &mut values, &["a", "b"], &[])?;
-    add_world(rt.alloc(), &mut values, &["b", "a"], &[])?;
+fn of_worlds_in_any_order(rt: &impl Abort, alloc: Global) -> Result<(), Fail> {
+    let mut values = Vec::new(alloc);
+    add_world(alloc, &mut values, &["a", "b"], &[])?;
+    add_world(alloc, &mut values, &["b", "a"], &[])?;
     assert!(rt; values.len() == 2);
     assert!(rt; values[0] == values[1]);
     Ok(())
@@ -164,9 +157,8 @@ fn are_includes_copied(values: &[WorldInclude]) -> Result<bool, Fail> {
     are_told_apart(values, is_same_world_include)
 }
 
-#[test]
-fn of_includes(rt: HostRuntime) -> Result<(), Fail> {
-    let values = includes(rt.alloc())?;
+fn of_includes(rt: &impl Abort, alloc: Global) -> Result<(), Fail> {
+    let values = includes(alloc)?;
     assert!(rt; are_includes_copied(values.as_slice())?);
     Ok(())
 }
@@ -187,11 +179,10 @@ fn are_keys_copied(values: &[WorldKey]) -> Result<bool, Fail> {
     are_told_apart(values, is_same_world_key)
 }
 
-#[test]
-fn of_keys(rt: HostRuntime) -> Result<(), Fail> {
-    let values = keys(rt.alloc())?;
+fn of_keys(rt: &impl Abort, alloc: Global) -> Result<(), Fail> {
+    let values = keys(alloc)?;
     assert!(rt; are_keys_copied(values.as_slice())?);
-    assert!(rt; are_found(rt.alloc(), values.as_slice())?);
+    assert!(rt; are_found(alloc, values.as_slice())?);
     Ok(())
 }
 
@@ -207,9 +198,24 @@ fn items(alloc: Global) -> Result<Vec<WorldItem>, Fail> {
     Ok(values)
 }
 
-#[test]
-fn of_items(rt: HostRuntime) -> Result<(), Fail> {
-    let values = items(rt.alloc())?;
+fn of_items(rt: &impl Abort, alloc: Global) -> Result<(), Fail> {
+    let values = items(alloc)?;
     assert!(rt; are_told_apart(values.as_slice(), is_same_world_item)?);
     Ok(())
+}
+
+#[test]
+fn values_are_copied(rt: HostRuntime) -> Result<(), Fail> {
+    let alloc = rt.alloc();
+    of_stability(&rt, alloc)?;
+    of_docs(&rt, alloc)?;
+    of_packages(&rt, alloc)?;
+    of_functions(&rt, alloc)?;
+    of_types(&rt, alloc)?;
+    of_interfaces(&rt, alloc)?;
+    of_worlds(&rt, alloc)?;
+    of_worlds_in_any_order(&rt, alloc)?;
+    of_includes(&rt, alloc)?;
+    of_keys(&rt, alloc)?;
+    of_items(&rt, alloc)
 }

@@ -2,16 +2,16 @@
 use crate::alike::add;
 use crate::fixtures::{SPAN, add_item, docs, functions, interface_at, stable};
 use std::alloc::{AllocError, Global};
+use std::process::Abort;
 use std::test::Fail;
 use wit_model::{Function, FunctionKind, WorldItem, WorldKey, world_item_func};
 use wit_types::{Arena, Docs, Stability, Types};
 use wit_values::Text;
 
-#[test]
-fn interface_items(rt: HostRuntime) -> Result<(), Fail> {
-    let types: Types = Arena::new(rt.alloc());
+fn interface_items(rt: &impl Abort, alloc: Global) -> Result<(), Fail> {
+    let types: Types = Arena::new(alloc);
     let found = WorldItem::Interface {
-        id: interface_at(rt.alloc(), 1)?,
+        id: interface_at(alloc, 1)?,
         stability: Stability::Unknown,
         external_id: None,
         docs: Docs::default(),
@@ -31,10 +31,9 @@ fn are_at(items: &[WorldItem]) -> bool {
     !items.is_empty()
 }
 
-#[test]
-fn items(rt: HostRuntime) -> Result<(), Fail> {
-    let mut items = Vec::new(rt.alloc());
-    add_item(rt.alloc(), &mut items)?;
+fn items(rt: &impl Abort, alloc: Global) -> Result<(), Fail> {
+    let mut items = Vec::new(alloc);
+    add_item(alloc, &mut items)?;
     assert!(rt; are_at(items.as_slice()));
     Ok(())
 }
@@ -62,28 +61,22 @@ fn as_items(alloc: Global, mut functions: Vec<Function>) -> Result<Vec<WorldItem
     Ok(items)
 }
 
-#[test]
-fn function_items(rt: HostRuntime) -> Result<(), Fail> {
-    let wanted = functions(rt.alloc(), "f", FunctionKind::Getter)?;
-    let items = as_items(
-        rt.alloc(),
-        functions(rt.alloc(), "f", FunctionKind::Getter)?,
-    )?;
+fn function_items(rt: &impl Abort, alloc: Global) -> Result<(), Fail> {
+    let wanted = functions(alloc, "f", FunctionKind::Getter)?;
+    let items = as_items(alloc, functions(alloc, "f", FunctionKind::Getter)?)?;
     assert!(rt; are_functions(items.as_slice(), wanted.as_slice()));
     Ok(())
 }
 
-#[test]
-fn key_texts(rt: HostRuntime) -> Result<(), Fail> {
-    let interface = WorldKey::Interface(interface_at(rt.alloc(), 1)?);
-    assert!(rt; interface.to_text(rt.alloc())?.as_str() == "interface-1");
+fn key_texts(rt: &impl Abort, alloc: Global) -> Result<(), Fail> {
+    let interface = WorldKey::Interface(interface_at(alloc, 1)?);
+    assert!(rt; interface.to_text(alloc)?.as_str() == "interface-1");
     Ok(())
 }
 
-#[test]
-fn key_names(rt: HostRuntime) -> Result<(), Fail> {
-    let name = WorldKey::Name(Text::from_str(rt.alloc(), "[set]x")?);
-    assert!(rt; name.to_text(rt.alloc())?.as_str() == "[set]x");
+fn key_names(rt: &impl Abort, alloc: Global) -> Result<(), Fail> {
+    let name = WorldKey::Name(Text::from_str(alloc, "[set]x")?);
+    assert!(rt; name.to_text(alloc)?.as_str() == "[set]x");
     assert!(rt; name.unwrap_name().as_str() == "[set]x");
     Ok(())
 }
@@ -96,10 +89,20 @@ fn are_defaults_told() -> bool {
     tells(&Stability::default(), true, false) && Docs::default().is_empty()
 }
 
-#[test]
-fn defaults(rt: HostRuntime) -> Result<(), Fail> {
+fn defaults(rt: &impl Abort, alloc: Global) -> Result<(), Fail> {
     assert!(rt; are_defaults_told());
-    assert!(rt; tells(&stable(rt.alloc())?, false, true));
-    assert!(rt; !docs(rt.alloc())?.is_empty());
+    assert!(rt; tells(&stable(alloc)?, false, true));
+    assert!(rt; !docs(alloc)?.is_empty());
     Ok(())
+}
+
+#[test]
+fn items_of_worlds(rt: HostRuntime) -> Result<(), Fail> {
+    let alloc = rt.alloc();
+    interface_items(&rt, alloc)?;
+    items(&rt, alloc)?;
+    function_items(&rt, alloc)?;
+    key_texts(&rt, alloc)?;
+    key_names(&rt, alloc)?;
+    defaults(&rt, alloc)
 }

@@ -1,11 +1,15 @@
 //! Large packages.
 
-use crate::cases::check_cases;
 use std::alloc::{AllocError, Global};
+use std::process::Abort;
+use std::str;
 use std::test::Fail;
+use wit_text::SourceMap;
+use wit_tool::run;
 
-/// A table in which `|N*PIECE|` stands for N times the piece. `$` in a piece is the number of the
-/// time, from 0 on, `^` the next number, and `~` how many times come after it.
+/// Sources and what is written of them, a line `=>` in each case, and an empty line between two.
+/// `|N*PIECE|` stands for N times the piece. `$` in a piece is the number of the time, from 0 on, `^`
+/// the next number, and `~` how many times come after it.
 const LARGE: &str = r#"package foo:foo; interface i { type t = |99*list<|u8|99*>|; }
 =>
 package foo:foo
@@ -85,9 +89,27 @@ fn unfold(alloc: Global, table: &str) -> Result<String, Fail> {
     Ok(text)
 }
 
+/// Checks what is written of a source.
+fn check(rt: &impl Abort, alloc: Global, case: &str) -> Result<(), Fail> {
+    let Some((source, written)) = case.split_once("\n=>\n") else {
+        rt.panic("a case has no line `=>`")
+    };
+    let mut map = SourceMap::new(alloc);
+    map.push(alloc, "stdin.wit", source)?;
+    let mut out: Vec<u8> = Vec::new(alloc);
+    let listed = run(alloc, &map, &mut out)?;
+    let found = str::from_utf8(out.as_slice())?;
+    assert_eq!(rt; found.strip_suffix('\n'), Some(written));
+    assert_eq!(rt; listed, !written.starts_with("error "));
+    Ok(())
+}
+
 #[test]
 fn goes_through_large_packages(rt: HostRuntime) -> Result<(), Fail> {
     let alloc = rt.alloc();
     let cases = unfold(alloc, LARGE)?;
-    check_cases(&rt, alloc, cases.as_str())
+    for case in cases.as_str().split("\n\n") {
+        check(&rt, alloc, case)?;
+    }
+    Ok(())
 }

@@ -1,45 +1,11 @@
-//! Tests of `wit_tool`: texts and packages, and what is written of them.
+//! Tests of `wit_lex`, `wit_parser` and `wit_tool`: what no row of `wit_rows` asks.
 #![tactic(auto)]
 
-#[cfg(test)]
-mod cases;
-#[cfg(test)]
-mod documented;
-#[cfg(test)]
-mod external_ids;
-#[cfg(test)]
-mod files;
-#[cfg(test)]
-mod foreign;
-#[cfg(test)]
-mod foreign_rules;
-#[cfg(test)]
-mod forms;
-#[cfg(test)]
-mod functions;
 #[cfg(test)]
 mod large;
 #[cfg(test)]
 mod lines;
 #[cfg(test)]
-mod listings;
+mod refused;
 #[cfg(test)]
-mod names_of_functions;
-#[cfg(test)]
-mod nested;
-#[cfg(test)]
-mod notes;
-#[cfg(test)]
-mod notes_first;
-#[cfg(test)]
-mod refusals;
-#[cfg(test)]
-mod required;
-#[cfg(test)]
-mod resources;
-#[cfg(test)]
-mod signatures;
-#[cfg(test)]
-mod spans;
-#[cfg(test)]
-mod worlds;
+mod sources;

@@ -1,0 +1,65 @@
+//! A file of rows, case by case.
+//!
+//! Lines before the first case are comments. A case begins with a line `--- NAME VIEW`. Behind it stand
+//! sources, a line `=>`, and what the view writes of them, to the last LF. A line `=== PATH` stands
+//! before each source; where there is none, the text is the source `stdin.wit`. The LF at the end of a
+//! source's last line is none of its bytes. Where `\` ends the name, what `crate::escapes` tells is
+//! written for other letters.
+
+use crate::escapes::unescape;
+use std::alloc::{AllocError, Global};
+
+/// What begins a case.
+pub const CASE: &str = "\n--- ";
+
+/// A case of a file of rows.
+#[derive(Drop)]
+pub struct Case {
+    /// Its name.
+    pub name: String,
+    /// Which view of its sources it asks for.
+    pub view: String,
+    /// Its sources, each behind its path.
+    pub sources: String,
+    /// What the view writes of them.
+    pub wanted: String,
+}
+
+/// A text as it is meant.
+fn meant(alloc: Global, text: &str, escaped: bool) -> Result<String, AllocError> {
+    if escaped {
+        unescape(alloc, text)
+    } else {
+        String::from_str(alloc, text)
+    }
+}
+
+/// The case with this first line, these sources and this answer.
+fn case_of(
+    alloc: Global,
+    head: &str,
+    sources: &str,
+    wanted: &str,
+) -> Result<Option<Case>, AllocError> {
+    let Some((name, view)) = head.split_once(' ') else {
+        return Ok(None);
+    };
+    let escaped = name.ends_with('\\');
+    Ok(Some(Case {
+        name: String::from_str(alloc, name)?,
+        view: String::from_str(alloc, view)?,
+        sources: meant(alloc, sources, escaped)?,
+        wanted: meant(alloc, wanted, escaped)?,
+    }))
+}
+
+/// The case that a text is, behind what begins it, and without the LF at its end.
+pub fn read_case(alloc: Global, text: &str) -> Result<Option<Case>, AllocError> {
+    let mut whole = String::from_str(alloc, text)?;
+    whole.push_str("\n")?;
+    let Some((front, wanted)) = whole.as_str().split_once("\n=>\n") else {
+        return Ok(None);
+    };
+    let (head, sources) = front.split_once('\n').unwrap_or((front, ""));
+    case_of(alloc, head, sources, wanted)
+}

@@ -1,0 +1,89 @@
+//! The view `docs`: the docs of a package and of what it holds.
+
+use std::alloc::AllocError;
+use wit_model::{Interface, UnresolvedPackage, World, WorldItem};
+use wit_types::{Docs, TypeDefKind};
+
+/// Puts a name and its docs behind a text, as a line; an LF is written `|`.
+fn push_docs(text: &mut String, name: &str, docs: &Docs) -> Result<(), AllocError> {
+    let Some(contents) = &docs.contents else {
+        return Ok(());
+    };
+    text.push_str("\n")?;
+    text.push_str(name)?;
+    text.push_str(":")?;
+    for line in contents.as_str().split('\n') {
+        text.push_str(line)?;
+        text.push_str("|")?;
+    }
+    Ok(())
+}
+
+/// Puts the docs of fields, flags or cases behind a text.
+fn push_members(text: &mut String, kind: &TypeDefKind) -> Result<(), AllocError> {
+    match kind {
+        TypeDefKind::Record(record) => {
+            for field in record.fields.as_slice() {
+                push_docs(text, field.name.as_str(), &field.docs)?;
+            }
+        }
+        TypeDefKind::Flags(flags) => {
+            for flag in flags.flags.as_slice() {
+                push_docs(text, flag.name.as_str(), &flag.docs)?;
+            }
+        }
+        TypeDefKind::Variant(variant) => {
+            for case in variant.cases.as_slice() {
+                push_docs(text, case.name.as_str(), &case.docs)?;
+            }
+        }
+        TypeDefKind::Enum(of) => {
+            for case in of.cases.as_slice() {
+                push_docs(text, case.name.as_str(), &case.docs)?;
+            }
+        }
+        _ => {}
+    }
+    Ok(())
+}
+
+/// Puts the docs of an interface and of its functions behind a text.
+fn push_interface(text: &mut String, interface: &Interface) -> Result<(), AllocError> {
+    if let Some(name) = &interface.name {
+        push_docs(text, name.as_str(), &interface.docs)?;
+    }
+    for (name, function) in interface.functions.as_map() {
+        push_docs(text, name.as_str(), &function.docs)?;
+    }
+    Ok(())
+}
+
+/// Puts the docs of a world and of its functions behind a text.
+fn push_world(text: &mut String, world: &World) -> Result<(), AllocError> {
+    push_docs(text, world.name.as_str(), &world.docs)?;
+    for place in 0..world.imports.len() {
+        if let Some((_, WorldItem::Function(function))) = world.imports.get_index(place) {
+            push_docs(text, function.name.as_str(), &function.docs)?;
+        }
+    }
+    Ok(())
+}
+
+/// Puts the docs of a package and of what it holds behind a text, each on its line.
+pub fn push_docs_of(text: &mut String, package: &UnresolvedPackage) -> Result<(), AllocError> {
+    text.push_str("docs")?;
+    push_docs(text, "package", &package.docs)?;
+    for ty in package.types.iter() {
+        if let Some(name) = &ty.name {
+            push_docs(text, name.as_str(), &ty.docs)?;
+        }
+        push_members(text, &ty.kind)?;
+    }
+    for interface in package.interfaces.iter() {
+        push_interface(text, interface)?;
+    }
+    for world in package.worlds.iter() {
+        push_world(text, world)?;
+    }
+    text.push_str("\n")
+}

@@ -1,0 +1,144 @@
+//! The view `external-ids`: names that items have elsewhere. No text tells them: each
+//! `@unstable(feature = id-..)` of a read tree is made such a name here, before any view of a package
+//! but `listing`.
+
+use std::alloc::AllocError;
+use wit_model::{UnresolvedPackage, World, WorldItem, WorldKey};
+use wit_tree::tree::{
+    self, AstItem, Attribute, Extern, ExternKind, InterfaceItem, PackageFile, ResourceFunc,
+    TypeBody, TypeDef,
+};
+use wit_values::Text;
+
+/// The external id that a feature is made, where it begins with `id-`.
+fn id_of<'a>(attribute: &Attribute<'a>) -> Option<Attribute<'a>> {
+    let Attribute::Unstable { span, feature } = attribute else {
+        return None;
+    };
+    let id = feature.name;
+    if !id.starts_with("id-") {
+        return None;
+    }
+    Some(Attribute::ExternalId { span: *span, id })
+}
+
+/// Makes external ids of the features that begin with `id-`.
+fn mark(attributes: &mut Vec<Attribute<'_>>) {
+    for attribute in attributes.iter_mut() {
+        if let Some(id) = id_of(attribute) {
+            *attribute = id;
+        }
+    }
+}
+
+fn mark_resource_function(function: &mut ResourceFunc<'_>) {
+    match function {
+        ResourceFunc::Method(function) => mark(&mut function.attributes),
+        ResourceFunc::Static(function) => mark(&mut function.attributes),
+        ResourceFunc::Constructor { attributes, .. } => mark(attributes),
+    }
+}
+
+fn mark_definition(def: &mut TypeDef<'_>) {
+    mark(&mut def.attributes);
+    if let TypeBody::Resource { funcs } = &mut def.body {
+        for function in funcs.iter_mut() {
+            mark_resource_function(function);
+        }
+    }
+}
+
+fn mark_interface_item(item: &mut InterfaceItem<'_>) {
+    match item {
+        InterfaceItem::TypeDef(def) => mark_definition(def),
+        InterfaceItem::Use(used) => mark(&mut used.attributes),
+        InterfaceItem::Func(function) => mark(&mut function.attributes),
+    }
+}
+
+fn mark_extern(x: &mut Extern<'_>) {
+    mark(&mut x.attributes);
+    if let ExternKind::Interface(_, items) = &mut x.kind {
+        for item in items.iter_mut() {
+            mark_interface_item(item);
+        }
+    }
+}
+
+fn mark_world_item(item: &mut tree::WorldItem<'_>) {
+    match item {
+        tree::WorldItem::Extern(x) => mark_extern(x),
+        tree::WorldItem::TypeDef(def) => mark_definition(def),
+        tree::WorldItem::Use(used) => mark(&mut used.attributes),
+        tree::WorldItem::Include(include) => mark(&mut include.attributes),
+    }
+}
+
+fn mark_item(item: &mut AstItem<'_>) {
+    match item {
+        AstItem::Interface(interface) => {
+            mark(&mut interface.attributes);
+            for item in interface.items.iter_mut() {
+                mark_interface_item(item);
+            }
+        }
+        AstItem::World(world) => {
+            mark(&mut world.attributes);
+            for item in world.items.iter_mut() {
+                mark_world_item(item);
+            }
+        }
+        AstItem::Use(used) => mark(&mut used.attributes),
+    }
+}
+
+/// Makes external ids of the features of a file that begin with `id-`.
+pub fn mark_file(file: &mut PackageFile<'_>) {
+    for item in file.decl_list.items.iter_mut() {
+        mark_item(item);
+    }
+}
+
+/// Puts a name and its external id behind a text, as a line.
+fn push_id(text: &mut String, name: &str, id: &Option<Text>) -> Result<(), AllocError> {
+    if let Some(id) = id {
+        text.push_str("\n")?;
+        text.push_str(name)?;
+        text.push_str(" ")?;
+        text.push_str(id.as_str())?;
+    }
+    Ok(())
+}
+
+/// Puts the external ids of a world's functions behind a text.
+fn push_world_ids(text: &mut String, world: &World) -> Result<(), AllocError> {
+    for place in 0..world.imports.len() {
+        if let Some((WorldKey::Name(name), WorldItem::Function(function))) = world
+            .imports
+            .get_index(place)
+        {
+            push_id(text, name.as_str(), &function.external_id)?;
+        }
+    }
+    Ok(())
+}
+
+/// Puts the external ids of a package behind a text, those of types and then those of functions.
+pub fn push_ids(text: &mut String, package: &UnresolvedPackage) -> Result<(), AllocError> {
+    text.push_str("ids")?;
+    for ty in package.types.iter() {
+        match &ty.name {
+            Some(name) => push_id(text, name.as_str(), &ty.external_id)?,
+            None => push_id(text, "-", &ty.external_id)?,
+        }
+    }
+    for interface in package.interfaces.iter() {
+        for (name, function) in interface.functions.as_map() {
+            push_id(text, name.as_str(), &function.external_id)?;
+        }
+    }
+    for world in package.worlds.iter() {
+        push_world_ids(text, world)?;
+    }
+    text.push_str("\n")
+}

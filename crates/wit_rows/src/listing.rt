@@ -1,0 +1,50 @@
+//! The views `listing` and `marked`: the listing of a package, or the line of its refusal; of one source
+//! as it is run, or once its tree has external ids.
+
+use crate::sources::resolved;
+use anyhow::Result;
+use std::alloc::Global;
+use std::{io, str};
+use wit_listing::{answer, error_line};
+use wit_text::SourceMap;
+use wit_tool::run;
+use wit_tree::ParseError;
+
+/// What was written, once it is told whether that is a listing.
+fn told(alloc: Global, listed: bool, out: &[u8]) -> Result<String> {
+    let mut text = String::from_str(alloc, str::from_utf8(out)?)?;
+    if listed == text.as_str().starts_with("error ") {
+        text.push_str("told to be what it is not\n")?;
+    }
+    Ok(text)
+}
+
+/// The listing of the package of several sources, or the line of its refusal.
+pub fn answered(alloc: Global, map: &SourceMap) -> Result<String> {
+    let mut out: Vec<u8> = Vec::new(alloc);
+    let listed = answer(alloc, map, &resolved(alloc, map), &mut out).map_err(io::Error::from)?;
+    told(alloc, listed, out.as_slice())
+}
+
+/// The listing of the package of a map, whose one source is run, or the line of its refusal.
+pub fn listing(alloc: Global, map: &SourceMap) -> Result<String> {
+    if map.sources().len() != 1 {
+        return answered(alloc, map);
+    }
+    let mut out: Vec<u8> = Vec::new(alloc);
+    let listed = run(alloc, map, &mut out).map_err(io::Error::from)?;
+    told(alloc, listed, out.as_slice())
+}
+
+/// Puts the line of a refusal behind a text.
+pub fn push_line(
+    alloc: Global,
+    text: &mut String,
+    map: &SourceMap,
+    fault: &ParseError,
+) -> Result<()> {
+    let mut out: Vec<u8> = Vec::new(alloc);
+    error_line(alloc, map, fault, &mut out).map_err(io::Error::from)?;
+    text.push_str(str::from_utf8(out.as_slice())?)?;
+    Ok(())
+}

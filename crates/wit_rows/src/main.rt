@@ -1,0 +1,59 @@
+//! Replays the cases of the files of rows: sources, and what is written of them.
+#![tactic(auto)]
+
+mod cases;
+mod cuts;
+mod docs;
+mod escapes;
+mod external_ids;
+mod foreign;
+mod functions;
+mod layouts;
+mod listing;
+mod parts;
+mod reading;
+mod replay;
+mod slices;
+mod sources;
+mod spans;
+mod trees;
+mod views;
+
+use crate::replay::replay;
+use std::fs;
+use std::process::ExitCode;
+
+/// The files of rows.
+const FILES: [&str; 19] = [
+    "listings.rows",
+    "refusals.rows",
+    "files.rows",
+    "attributes.rows",
+    "docs.rows",
+    "external_ids.rows",
+    "spans.rows",
+    "required.rows",
+    "reader.rows",
+    "trees.rows",
+    "names.rows",
+    "notes.rows",
+    "scopes.rows",
+    "model.rows",
+    "worked.rows",
+    "cuts.rows",
+    "made.rows",
+    "made_parts.rows",
+    "edges.rows",
+];
+
+/// Replays each file, and tells how many cases it has; ends with 0 if each is answered as it says.
+fn main(rt: HostRuntime) -> anyhow::Result<ExitCode> {
+    let mut status = ExitCode::SUCCESS;
+    for file in FILES.iter() {
+        let text = fs::read_to_string(&rt, *file)?;
+        if !replay(&rt, rt.alloc(), file, text.as_str())? {
+            status = ExitCode::FAILURE;
+        }
+    }
+    Ok(status)
+}
