@@ -56,9 +56,9 @@ fn mark_interface_item(item: &mut InterfaceItem<'_>) {
     }
 }
 
-fn mark_extern(x: &mut Extern<'_>) {
-    mark(&mut x.attributes);
-    if let ExternKind::Interface(_, items) = &mut x.kind {
+fn mark_extern(external: &mut Extern<'_>) {
+    mark(&mut external.attributes);
+    if let ExternKind::Interface(_, items) = &mut external.kind {
         for item in items.iter_mut() {
             mark_interface_item(item);
         }
@@ -67,7 +67,7 @@ fn mark_extern(x: &mut Extern<'_>) {
 
 fn mark_world_item(item: &mut tree::WorldItem<'_>) {
     match item {
-        tree::WorldItem::Extern(x) => mark_extern(x),
+        tree::WorldItem::Extern(external) => mark_extern(external),
         tree::WorldItem::TypeDef(def) => mark_definition(def),
         tree::WorldItem::Use(used) => mark(&mut used.attributes),
         tree::WorldItem::Include(include) => mark(&mut include.attributes),
