@@ -5,10 +5,10 @@ use Rattle.std.specs.Io.KnownBytes.{Appends, Keeps}
 use Rattle.wit_listing.specs.declared.fault.RunFault.{RunFault}
 use Rattle.wit_listing.specs.declared.fault.RunFault.TheVariants.{Output, Memory}
 use Rattle.wit_listing.specs.Output.{IsWrittenAs}
-use Rattle.wit.specs.Input.{IsAnswered}
-use Rattle.wit.specs.Input.IsAnswered.{Ran, TooMuch, GivenUp}
-use Rattle.wit.specs.Status.{IsEnded, status_of}
-use Rattle.wit.specs.Status.IsEnded.{Listed, Refused, Failed, Unread}
+use Rattle.wit_program.specs.Input.{IsAnswered}
+use Rattle.wit_program.specs.Input.IsAnswered.{Ran, TooMuch, GivenUp}
+use Rattle.wit_program.specs.Status.{IsEnded, status_of}
+use Rattle.wit_program.specs.Status.IsEnded.{Listed, Refused, Failed, Unread}
 
 pub keeps_itself : (a : Option (List ℕ)) → Keeps a a
 keeps_itself None = tt

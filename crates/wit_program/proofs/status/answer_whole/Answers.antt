@@ -1,7 +1,7 @@
 use Rattle.std.specs.declared.io.Error.{Error}
 use Rattle.std.proofs.lemmas.Result.{err_from_is_err_and}
-use Rattle.wit.proofs.Kept.{answered_kept, ended, failed}
-use Rattle.wit.proofs.status.answer_whole.Goals as goal
+use Rattle.wit_program.proofs.Kept.{answered_kept, ended, failed}
+use Rattle.wit_program.proofs.status.answer_whole.Goals as goal
 
 pub returns-in_err-listed : goal.returns-in_err-listed
 returns-in_err-listed g c =

@@ -1,7 +1,7 @@
 //! The program over any reader and writer, and the status that it ends with.
 ghost use Rattle.std.specs.Prelude.{◌≡◌, ◌≤◌, IfSome};
 ghost use Rattle.std.specs.Process.{exit_status};
-ghost use Rattle.wit.specs.Status.{IsEnded, status_of};
+ghost use Rattle.wit_program.specs.Status.{IsEnded, status_of};
 
 use crate::input::answer_text;
 use std::alloc::Global;

@@ -1,6 +1,6 @@
 use Rattle.std.proofs.lemmas.Result.{err_from_is_err_and}
-use Rattle.wit.proofs.Kept.{unread}
-use Rattle.wit.proofs.status.answer_input.Goals as goal
+use Rattle.wit_program.proofs.Kept.{unread}
+use Rattle.wit_program.proofs.status.answer_input.Goals as goal
 
 pub returns-in_err-text : goal.returns-in_err-text
 returns-in_err-text g c =

@@ -1,7 +1,7 @@
 use Rattle.std.proofs.Common.{◌≡◌, List, [], ◌∷◌, ◌++◌, ap, ◌∙◌}
 use Rattle.wit_lex.specs.declared.source.Source.{Source}
-use Rattle.wit.specs.Input.IsAnswered.{Ran}
-use Rattle.wit.proofs.input.answer_text.Goals as goal
+use Rattle.wit_program.specs.Input.IsAnswered.{Ran}
+use Rattle.wit_program.proofs.input.answer_text.Goals as goal
 
 pub returns-in-Ok : goal.returns-in-Ok
 returns-in-Ok g c =

@@ -1,5 +1,5 @@
 //! Answering a text.
-ghost use Rattle.wit.specs.Input.{IsAnswered};
+ghost use Rattle.wit_program.specs.Input.{IsAnswered};
 
 use std::alloc::Global;
 use std::io::Write;

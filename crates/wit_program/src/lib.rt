@@ -1,0 +1,10 @@
+//! The program: from standard input to standard output.
+#![tactic(auto)]
+
+pub mod input;
+pub mod program;
+pub mod status;
+#[cfg(test)]
+mod tests;
+
+pub use program::run;
