@@ -10,7 +10,7 @@ use Rattle.wit_items.specs.Items.{IsUnsound, IsUnsoundAmong}
 use Rattle.wit_syntax.specs.Foreign.{visited, foreign_interfaces}
 use Rattle.wit_scopes.proofs.Placed.{names_more}
 use Rattle.wit_items.proofs.Usable.{sound_none, sound_one, unsound_one}
-use Rattle.wit_items.proofs.items.add_part.Goals.{in-Defining+in_ok-push-in-Defining, in-Using+in_ok-from-in-Using+in_ok-add_used_names-in-Using, in-Including, in-Doing}
+use Rattle.wit_items.proofs.items.add_part.Goals.{in-Defining+in_ok-push-in-Defining, in-Using+in_ok-from-in-Using+in_ok-add_used_names-in-Using, in-Including, in-Doing, in-Crossing}
 use Rattle.wit_items.proofs.items.add_part.Goals as goal
 
 pub sound_source-requires-clause-part : goal.sound_source-requires-clause-part
