@@ -17,6 +17,7 @@ ghost use Rattle.wit_scopes.specs.Front.{AreNamesPlaced};
 ghost use Rattle.wit_items.specs.Front.{AreItemsPlaced};
 
 use std::alloc::{AllocError, Global};
+use wit_files::declaration::world_items;
 use wit_files::{FileNames, Found, Target, declarations, path_id};
 use wit_model::AstItem as Entry;
 use wit_notes::check_notes;
@@ -257,10 +258,10 @@ fn add_part<'f, 'a>(
 /// The names of an interface of the file at a place.
 fn interface_names<'f, 'a>(
     alloc: Global,
+    interface: &'f Interface<'a>,
     files: &FileNames<'f, 'a>,
     entries: &[Entry],
     place: usize,
-    interface: &'f Interface<'a>,
 ) -> ParseResult<Vec<ScopeName<'f, 'a>>>
     requires item { HasItem files.now place (TheInterface interface.now) }
     requires entries { AreEntriesOf files.now entries.now }
@@ -286,10 +287,10 @@ fn interface_names<'f, 'a>(
 /// The names of a world of the file at a place.
 fn world_names<'f, 'a>(
     alloc: Global,
+    world: &'f World<'a>,
     files: &FileNames<'f, 'a>,
     entries: &[Entry],
     place: usize,
-    world: &'f World<'a>,
 ) -> ParseResult<Vec<ScopeName<'f, 'a>>>
     requires item { HasItem files.now place (TheWorld world.now) }
     requires entries { AreEntriesOf files.now entries.now }
@@ -299,7 +300,7 @@ fn world_names<'f, 'a>(
     ensures refused { IfErr result (λ e. (fs : List TheFile) (file : TheFile) → AreNamesAt fs files.now place file → Refused (IsUnsoundAmong fs (top_names file) (flat_map part_uses (map the_world_part world.now.items.items))) e) }
 {
     let mut names = Vec::new(alloc);
-    for part in &world.items {
+    for part in world_items(world) {
         add_part(alloc, files, entries, place, &mut names, world_part(part))?;
     }
     Ok(names)
@@ -308,11 +309,11 @@ fn world_names<'f, 'a>(
 /// Adds the items of the file at a place.
 fn add_items<'f, 'a>(
     alloc: Global,
+    file: &'f PackageFile<'a>,
     files: &FileNames<'f, 'a>,
     entries: &[Entry],
     items: &mut Vec<Item<'f, 'a>>,
     place: usize,
-    file: &'f PackageFile<'a>,
 ) -> ParseResult<()>
     requires named { IsNamedAt files.now place file.now }
     requires entries { AreEntriesOf files.now entries.now }
@@ -330,13 +331,13 @@ fn add_items<'f, 'a>(
                 place,
                 file,
                 declared: Declared::Interface(interface),
-                names: interface_names(alloc, files, entries, place, interface)?,
+                names: interface_names(alloc, interface, files, entries, place)?,
             })?,
             AstItem::World(world) => items.push(Item {
                 place,
                 file,
                 declared: Declared::World(world),
-                names: world_names(alloc, files, entries, place, world)?,
+                names: world_names(alloc, world, files, entries, place)?,
             })?,
             AstItem::Use(_) => {}
         }
@@ -351,9 +352,9 @@ fn add_items<'f, 'a>(
 /// `entries` are those of other packages' items.
 pub fn declared_items<'f, 'a>(
     alloc: Global,
+    files: &'f [PackageFile<'a>],
     names: &FileNames<'f, 'a>,
     entries: &[Entry],
-    files: &'f [PackageFile<'a>],
 ) -> ParseResult<Vec<Item<'f, 'a>>>
     requires named { AreNamesOf files.now names.now }
     requires entries { AreEntriesOf names.now entries.now }
@@ -367,7 +368,7 @@ pub fn declared_items<'f, 'a>(
 {
     let mut items = Vec::with_capacity(alloc, names.item_order().len())?;
     for (place, file) in files.iter().enumerate() {
-        add_items(alloc, names, entries, &mut items, place, file)?;
+        add_items(alloc, file, names, entries, &mut items, place)?;
     }
     Ok(items)
 }

@@ -95,7 +95,7 @@ fn resolve_files<'f, 'a>(
     ensures refused { IfErr result (Refused (IsBroken files.now)) }
 {
     let mut front = ForeignArenas::of_items(alloc, names.foreign())?;
-    let mut items = declared_items(alloc, names, &front.entries, files)?;
+    let mut items = declared_items(alloc, files, names, &front.entries)?;
     let lent: &mut [Item<'_, '_>] = &mut items;
     front.take_all(alloc, types, lent)?;
     let ForeignArenas {

@@ -31,6 +31,7 @@ ghost use Rattle.wit_items.specs.Told.{notes_behind};
 use std::alloc::{AllocError, Global};
 use wit_entries::entries::Entries;
 use wit_entries::scope::Required;
+use wit_files::declaration::world_items;
 use wit_files::{FileNames, Target, path_id};
 use wit_item_entries::functions::{add_function_imports, held_functions};
 use wit_item_entries::names::resolve_names;
@@ -143,10 +144,10 @@ fn resolve_include<'f, 'a>(
 /// The includes of a world.
 fn resolve_includes<'f, 'a>(
     alloc: Global,
+    world: &'f tree::World<'a>,
     files: &FileNames<'f, 'a>,
     worlds: &Worlds<'_>,
     place: usize,
-    world: &'f tree::World<'a>,
 ) -> ParseResult<Row<WorldInclude>>
     requires item { HasItem files.now place (TheWorld world.now) }
     requires entries { AreEntriesOf files.now worlds.now.entries.now }
@@ -157,7 +158,7 @@ fn resolve_includes<'f, 'a>(
     ensures refused { IfErr result (λ e. (fs : List TheFile) (file : TheFile) → AreNamesAt fs files.now place file → Refused (λ f. IsBrokenItemStability (record { top = top_names file; declared = TheWorld world.now }) f ⊎ IsLostInclude fs worlds.now.by_name (record { top = top_names file; declared = TheWorld world.now }) f) e) }
 {
     let mut includes = Vec::new(alloc);
-    for part in &world.items {
+    for part in world_items(world) {
         if let tree::WorldItem::Include(include) = part {
             let include = resolve_include(alloc, files, place, worlds, include)?;
             includes.push(include)?;
@@ -236,13 +237,13 @@ fn add_world(
 /// functions of its resources.
 fn resolve_world<'f, 'a>(
     alloc: Global,
+    world: &'f tree::World<'a>,
     types: &mut Entries,
     required: &mut Vec<Required>,
     files: &FileNames<'f, 'a>,
     interfaces: &Interfaces<'_, '_, '_>,
     worlds: &mut Worlds<'_>,
     item: &Item<'f, 'a>,
-    world: &'f tree::World<'a>,
 ) -> ParseResult<()>
     requires item { HasItem files.now item.now.place (TheWorld world.now) }
     requires file { IsNamedAt files.now item.now.place item.now.file.now }
@@ -264,7 +265,7 @@ fn resolve_world<'f, 'a>(
     let notes = item_notes(alloc, item.declared)?;
     let owner = TypeOwner::World(worlds.arena.next_id());
     let mut names = resolve_names(alloc, types, interfaces, owner, &item.names)?;
-    let includes = resolve_includes(alloc, files, worlds, item.place, world)?;
+    let includes = resolve_includes(alloc, world, files, worlds, item.place)?;
     let written = held_functions(alloc, item.declared)?;
     let mut taken = NameScope::new(alloc);
     let functions = resolve_signatures(
@@ -310,7 +311,7 @@ pub fn resolve_worlds<'f, 'a>(
         let item = &items[*place];
         if let Declared::World(world) = item.declared {
             resolve_world(
-                alloc, types, required, files, interfaces, worlds, item, world,
+                alloc, world, types, required, files, interfaces, worlds, item,
             )?;
         }
     }

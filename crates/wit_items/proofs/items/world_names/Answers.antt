@@ -24,25 +24,25 @@ loop-part-init c = rw c.new-names.ensures.items (record {
 
 pub add_part-requires-clause-part : goal.add_part-requires-clause-part
 add_part-requires-clause-part c =
-    let xs = c.deref-part-items.result.now in
+    let xs = c.world_items-part-items.result.now in
     let i = c.loop-part.part-index in
     let q = part_behind c.world_part.result in
     let at : slice_get (map world_part xs) i ≡ Some q = slice_get-map world_part xs i ∙ ap (option_map world_part) (slice_get_read xs _ i c.part-item.result refl c.loop-part-test.true c.part-item.is) ∙ ap Some (sym c.world_part.ensures) in
-    record { declared = TheWorld c.args.world.now; item = c.requires.item; among = rw c.deref-part-items.ensures.value at (contains_at (map world_part xs) i q at) }
+    record { declared = TheWorld c.args.world.now; item = c.requires.item; among = rw c.world_items-part-items.ensures at (contains_at (map world_part xs) i q at) }
 
 pub returns-in_err-add_part-clause-refused : goal.returns-in_err-add_part-clause-refused
 returns-in_err-add_part-clause-refused c =
     let p = err_from_is_err_and c.from_residual.result c.from_residual.ensures.1 in
-    let xs = c.deref-part-items.result.now in
+    let xs = c.world_items-part-items.result.now in
     let i = c.loop-part.part-index in
     let x = c.part-item.result in
     let q = part_behind c.world_part.result in
     let at : slice_get (map world_part xs) i ≡ Some q = slice_get-map world_part xs i ∙ ap (option_map world_part) (slice_get_read xs _ i x refl c.loop-part-test.true c.part-item.is) ∙ ap Some (sym c.world_part.ensures) in
-    rw (p.1, p.2, sym c.deref-part-items.ensures.value) (λ fs file named. refused_weaker (IsUnsoundAmong fs (top_names file) (part_uses q)) (IsUnsoundAmong fs (top_names file) (flat_map part_uses (map world_part xs))) _ (λ f h. unsound_part fs (top_names file) world_part xs i x q f at h) (c.in_err-add_part.ensures.refused fs file named))
+    rw (p.1, p.2, sym c.world_items-part-items.ensures) (λ fs file named. refused_weaker (IsUnsoundAmong fs (top_names file) (part_uses q)) (IsUnsoundAmong fs (top_names file) (flat_map part_uses (map world_part xs))) _ (λ f h. unsound_part fs (top_names file) world_part xs i x q f at h) (c.in_err-add_part.ensures.refused fs file named))
 
 pub loop-part-preserved : goal.loop-part-preserved
 loop-part-preserved c =
-    let xs = c.deref-part-items.result.now in
+    let xs = c.world_items-part-items.result.now in
     let i = c.loop-part.part-index in
     let x = c.part-item.result in
     let q = part_behind c.world_part.result in
@@ -56,7 +56,7 @@ loop-part-preserved c =
     }
 
 pub returns-clause-names : goal.returns-clause-names
-returns-clause-names c = λ fs file named. rw (sym c.deref-part-items.ensures.value) (c.loop-part.invariant.names fs file named ∙ ap (λ l. flat_map (part_names (top_names file)) (map world_part l)) (take_all c.loop-part.part-index c.deref-part-items.result.now c.loop-part-test.false))
+returns-clause-names c = λ fs file named. rw (sym c.world_items-part-items.ensures) (c.loop-part.invariant.names fs file named ∙ ap (λ l. flat_map (part_names (top_names file)) (map world_part l)) (take_all c.loop-part.part-index c.world_items-part-items.result.now c.loop-part-test.false))
 
 pub returns-clause-sound : goal.returns-clause-sound
-returns-clause-sound c = λ fs file named. rw (sym c.deref-part-items.ensures.value) (subst (λ l. AreSound fs (top_names file) (flat_map part_uses (map world_part l))) (take_all c.loop-part.part-index c.deref-part-items.result.now c.loop-part-test.false) (c.loop-part.invariant.sound fs file named))
+returns-clause-sound c = λ fs file named. rw (sym c.world_items-part-items.ensures) (subst (λ l. AreSound fs (top_names file) (flat_map part_uses (map world_part l))) (take_all c.loop-part.part-index c.world_items-part-items.result.now c.loop-part-test.false) (c.loop-part.invariant.sound fs file named))

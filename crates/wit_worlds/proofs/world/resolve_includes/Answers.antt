@@ -34,7 +34,7 @@ resolve_include-requires-clause-part c =
     let w = c.args.world.now in
     let k = c.loop-part.part-index in
     let i = c.in-Include.include in
-    let at = part_at w.items.items c.deref-part-items.result.now k c.part-item.result (world_item.Include i) c.deref-part-items.ensures.value c.loop-part-test.true c.part-item.is c.in-Include.is in
+    let at = part_at w.items.items c.world_items-part-items.result.now k c.part-item.result (world_item.Include i) c.world_items-part-items.ensures c.loop-part-test.true c.part-item.is c.in-Include.is in
     let there = slice_get-map world_part w.items.items k ∙ ap (option_map world_part) at in
     record { declared = TheWorld w; item = c.requires.item; among = contains_at (map world_part w.items.items) k (Including i) there }
 
@@ -45,7 +45,7 @@ returns-in_err-include-clause-refused c =
     let w = c.args.world.now in
     let k = c.loop-part.part-index in
     let i = c.in-Include.include in
-    let at = part_at w.items.items c.deref-part-items.result.now k c.part-item.result (world_item.Include i) c.deref-part-items.ensures.value c.loop-part-test.true c.part-item.is c.in-Include.is in
+    let at = part_at w.items.items c.world_items-part-items.result.now k c.part-item.result (world_item.Include i) c.world_items-part-items.ensures c.loop-part-test.true c.part-item.is c.in-Include.is in
     rw (p.1, p.2) (λ fs file named. (
     let item : Item = record { top = top_names file; declared = TheWorld w } in
     refused_weaker (λ f. IsBrokenStability i.attributes.items f ⊎ IsLost fs by_name (top_names file) i f) (λ f. IsBrokenItemStability item f ⊎ IsLostInclude fs by_name item f) _ (λ f h. elim h [
@@ -59,7 +59,7 @@ loop-part-preserved c =
     let items = c.args.world.now.items.items in
     let k = c.loop-part.part-index in
     let x = c.part-item.result in
-    let at : slice_get items k ≡ Some x = part_at items c.deref-part-items.result.now k x x c.deref-part-items.ensures.value c.loop-part-test.true c.part-item.is refl in
+    let at : slice_get items k ≡ Some x = part_at items c.world_items-part-items.result.now k x x c.world_items-part-items.ensures c.loop-part-test.true c.part-item.is refl in
     let was = c.loop-part.invariant in
     elim c.match-part.branch [
       | in-Include+in_ok-include+in_ok-push b ↦ (
@@ -78,15 +78,15 @@ pub returns-clause-are : goal.returns-clause-are
 returns-clause-are c = λ fs file named.
     let worlds = worlds_at (others_of c.args.files.now) c.args.worlds.now.arena in
     let w = c.args.world.now in
-    let xs = c.deref-part-items.result.now in
+    let xs = c.world_items-part-items.result.now in
     let k = c.loop-part.part-index in
-    let all : take k w.items.items ≡ w.items.items = ap (take k) (sym c.deref-part-items.ensures.value) ∙ take_all k xs (omega arith) ∙ c.deref-part-items.ensures.value in
+    let all : take k w.items.items ≡ w.items.items = ap (take k) (sym c.world_items-part-items.ensures) ∙ take_all k xs (omega arith) ∙ c.world_items-part-items.ensures in
     rw c.from.ensures (includes_are worlds (top_names file) w c.loop-part.includes.items (subst (λ (l : List WorldItem). AreIncluded worlds (top_names file) (included l) c.loop-part.includes.items) all (c.loop-part.invariant.are fs file named)))
 
 pub returns-clause-stable : goal.returns-clause-stable
 returns-clause-stable c =
     let w = c.args.world.now in
-    let xs = c.deref-part-items.result.now in
+    let xs = c.world_items-part-items.result.now in
     let k = c.loop-part.part-index in
-    let all : take k w.items.items ≡ w.items.items = ap (take k) (sym c.deref-part-items.ensures.value) ∙ take_all k xs (omega arith) ∙ c.deref-part-items.ensures.value in
+    let all : take k w.items.items ≡ w.items.items = ap (take k) (sym c.world_items-part-items.ensures) ∙ take_all k xs (omega arith) ∙ c.world_items-part-items.ensures in
     subst (λ (l : List WorldItem). AreStable (included l)) all c.loop-part.invariant.stable
