@@ -1,5 +1,5 @@
 //! What worlds import and export: it is read, and not treated yet.
-ghost use Rattle.std.specs.Prelude.{◌≡◌, ◌⊎◌, IfOk, IfErr, OnOk, List};
+ghost use Rattle.std.specs.Prelude.{◌≡◌, ◌⊎◌, ◌∷◌, [], IfOk, IfErr, OnOk, List};
 ghost use Rattle.wit_syntax.specs.Fault.{Fault};
 ghost use Rattle.wit_syntax.specs.Source.{TheWorld, TopName, all_items, declared_items, file_items, world_part};
 ghost use Rattle.wit_syntax.specs.Scope.{item_rows};
