@@ -175,6 +175,13 @@ impl<'a> Resolver<'a> {
         }
     }
 
+    /// The files that were pushed, in that order.
+    fn pushed(&self) -> &[PackageFile<'a>]
+        ensures { result.now ≡ self.now.files.items }
+    {
+        &self.files
+    }
+
     /// The header of the last file that has one.
     fn last_header(&self) -> Option<&tree::PackageName<'a>>
         ensures { option_copied result ≡ last_header self.now.files.items }
@@ -264,8 +271,9 @@ impl<'a> Resolver<'a> {
             None => return Err(refuse(alloc, 4, Span::default(), NO_HEADER)),
         };
         let mut types = Entries::new(alloc);
-        let names = read_names(alloc, &self.files)?;
-        let resolved = resolve_files(alloc, &mut types, &names, &self.files)?;
+        let files = self.pushed();
+        let names = read_names(alloc, files)?;
+        let resolved = resolve_files(alloc, &mut types, &names, files)?;
         let foreign = foreign_items(
             alloc,
             &names,
@@ -277,7 +285,7 @@ impl<'a> Resolver<'a> {
             resolved.worlds,
             resolved.interfaces,
             types.into_arena(),
-            package_docs(alloc, &self.files)?,
+            package_docs(alloc, files)?,
             header.span,
             foreign,
         ))

@@ -46,7 +46,8 @@ fn check_declaration(alloc: Global, item: &AstItem<'_>) -> ParseResult<()>
 {
     match item {
         AstItem::World(world) => check_world(alloc, world),
-        AstItem::Interface(_) | AstItem::Use(_) => Ok(()),
+        AstItem::Interface(_) => Ok(()),
+        AstItem::Use(_) => Ok(()),
     }
 }
 

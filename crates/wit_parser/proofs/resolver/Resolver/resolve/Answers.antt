@@ -30,8 +30,8 @@ pub returns-clause-legal : goal.returns-clause-legal
 returns-clause-legal c =
     let files : List PackageFile = c.args.self.files.items in
     let last : last_header files ≡ Some c.in-Some.header.now = sym c.last_header.ensures ∙ ap option_copied c.in-Some.is in
-    let added : AddsFiles files c.resolve_files.new.types c.in_ok-resolved.resolved.interfaces c.in_ok-resolved.resolved.worlds c.in_ok-resolved.resolved.required.items = rw c.deref-2.ensures.value at c.in_ok-resolved.ensures.added in
-    let read : AreRead (all_items files) = rw c.deref.ensures.value at c.in_ok-names.ensures.read in
+    let added : AddsFiles files c.resolve_files.new.types c.in_ok-resolved.resolved.interfaces c.in_ok-resolved.resolved.worlds c.in_ok-resolved.resolved.required.items = rw c.pushed-files.ensures at c.in_ok-resolved.ensures.added in
+    let read : AreRead (all_items files) = rw c.pushed-files.ensures at c.in_ok-names.ensures.read in
     files_legal files _ _ _ _ added read.each c.in-Some.header.now last
 
 pub returns-clause-package : goal.returns-clause-package
@@ -39,9 +39,9 @@ returns-clause-package c =
     let files : List PackageFile = c.args.self.files.items in
     let last : last_header files ≡ Some c.in-Some.header.now = sym c.last_header.ensures ∙ ap option_copied c.in-Some.is in
     let resolved = c.in_ok-resolved.resolved in
-    let added : AddsFiles files c.resolve_files.new.types resolved.interfaces resolved.worlds resolved.required.items = rw c.deref-2.ensures.value at c.in_ok-resolved.ensures.added in
-    let are : AreNamesOf files c.in_ok-names.names = rw c.deref.ensures.value at c.in_ok-names.ensures.names in
-    let spans : resolved.unknown_type_spans.items ≡ map (λ (t : Taking). t.id.span) (first_takings files) = rw c.deref-2.ensures.value at c.in_ok-resolved.ensures.unknown in
+    let added : AddsFiles files c.resolve_files.new.types resolved.interfaces resolved.worlds resolved.required.items = rw c.pushed-files.ensures at c.in_ok-resolved.ensures.added in
+    let are : AreNamesOf files c.in_ok-names.names = rw c.pushed-files.ensures at c.in_ok-names.ensures.names in
+    let spans : resolved.unknown_type_spans.items ≡ map (λ (t : Taking). t.id.span) (first_takings files) = rw c.pushed-files.ensures at c.in_ok-resolved.ensures.unknown in
     let e = c.new.ensures in
     let n = c.in_ok-package_name.ensures in
     let o = c.in_ok-foreign.ensures in
@@ -53,15 +53,15 @@ returns-clause-package c =
     (ap (λ (p : PackageName). p.name) e.name ∙ n.name)
     (ap (λ (p : PackageName). option_map release_parts p.version) e.name ∙ n.version)
     e.name_span
-    (e.docs ∙ (rw c.deref-3.ensures.value at c.in_ok-package_docs.ensures))
+    (e.docs ∙ (rw c.pushed-files.ensures at c.in_ok-package_docs.ensures))
 
 pub returns-clause-faithful : goal.returns-clause-faithful
 returns-clause-faithful c =
     let files : List PackageFile = c.args.self.files.items in
     let resolved = c.in_ok-resolved.resolved in
-    let added : AddsFiles files c.resolve_files.new.types resolved.interfaces resolved.worlds resolved.required.items = rw c.deref-2.ensures.value at c.in_ok-resolved.ensures.added in
-    let are : AreNamesOf files c.in_ok-names.names = rw c.deref.ensures.value at c.in_ok-names.ensures.names in
-    let spans : resolved.unknown_type_spans.items ≡ map (λ (t : Taking). t.id.span) (first_takings files) = rw c.deref-2.ensures.value at c.in_ok-resolved.ensures.unknown in
+    let added : AddsFiles files c.resolve_files.new.types resolved.interfaces resolved.worlds resolved.required.items = rw c.pushed-files.ensures at c.in_ok-resolved.ensures.added in
+    let are : AreNamesOf files c.in_ok-names.names = rw c.pushed-files.ensures at c.in_ok-names.ensures.names in
+    let spans : resolved.unknown_type_spans.items ≡ map (λ (t : Taking). t.id.span) (first_takings files) = rw c.pushed-files.ensures at c.in_ok-resolved.ensures.unknown in
     let e = c.new.ensures in
     let o = c.in_ok-foreign.ensures in
     files_faithful files _ _ _ _ added c.new.result (e.types ∙ c.into_arena.ensures) e.interfaces e.worlds
@@ -71,9 +71,9 @@ pub returns-clause-backward : goal.returns-clause-backward
 returns-clause-backward c =
     let files : List PackageFile = c.args.self.files.items in
     let resolved = c.in_ok-resolved.resolved in
-    let added : AddsFiles files c.resolve_files.new.types resolved.interfaces resolved.worlds resolved.required.items = rw c.deref-2.ensures.value at c.in_ok-resolved.ensures.added in
-    let are : AreNamesOf files c.in_ok-names.names = rw c.deref.ensures.value at c.in_ok-names.ensures.names in
-    let spans : resolved.unknown_type_spans.items ≡ map (λ (t : Taking). t.id.span) (first_takings files) = rw c.deref-2.ensures.value at c.in_ok-resolved.ensures.unknown in
+    let added : AddsFiles files c.resolve_files.new.types resolved.interfaces resolved.worlds resolved.required.items = rw c.pushed-files.ensures at c.in_ok-resolved.ensures.added in
+    let are : AreNamesOf files c.in_ok-names.names = rw c.pushed-files.ensures at c.in_ok-names.ensures.names in
+    let spans : resolved.unknown_type_spans.items ≡ map (λ (t : Taking). t.id.span) (first_takings files) = rw c.pushed-files.ensures at c.in_ok-resolved.ensures.unknown in
     let e = c.new.ensures in
     let o = c.in_ok-foreign.ensures in
     let f = files_faithful files _ _ _ _ added c.new.result (e.types ∙ c.into_arena.ensures) e.interfaces e.worlds (record { deps = e.foreign_deps ∙ o.deps files are; spans = e.foreign_dep_spans ∙ o.spans files are; unknown = e.unknown_type_spans ∙ o.unknown ∙ spans }) in
@@ -83,10 +83,10 @@ pub returns-in_err-names-clause-refused : goal.returns-in_err-names-clause-refus
 returns-in_err-names-clause-refused c =
     let p = err_from_is_err_and c.from_residual.result c.from_residual.ensures.1 in
     let files : List PackageFile = c.args.self.files.items in
-    rw (p.1, p.2) (refused_weaker (λ f. IsUnreadAmong (all_items files) f ⊎ IsBrokenNames files f) (IsBroken files) _ (λ f h. elim h [ inl unread ↦ Unread unread.i unread.among unread.unread | inr names ↦ Names names ]) (rw c.deref.ensures.value at c.in_err-names.ensures.refused))
+    rw (p.1, p.2) (refused_weaker (λ f. IsUnreadAmong (all_items files) f ⊎ IsBrokenNames files f) (IsBroken files) _ (λ f h. elim h [ inl unread ↦ Unread unread.i unread.among unread.unread | inr names ↦ Names names ]) (rw c.pushed-files.ensures at c.in_err-names.ensures.refused))
 
 pub resolve_files-requires-clause-legal : goal.resolve_files-requires-clause-legal
-resolve_files-requires-clause-legal c = subst (λ (fs : List PackageFile). (f : Fault) → IsBrokenNames fs f → ⊥) (c.deref.ensures.value ∙ sym c.deref-2.ensures.value) c.in_ok-names.ensures.legal
+resolve_files-requires-clause-legal c = c.in_ok-names.ensures.legal
 
 pub returns-in_err-foreign-clause-refused : goal.returns-in_err-foreign-clause-refused
 returns-in_err-foreign-clause-refused c =
