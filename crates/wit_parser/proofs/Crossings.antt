@@ -1,5 +1,5 @@
 -- Parts that cross the border of a world, item by item and file by file.
-use Rattle.std.proofs.Common.{◌≡◌, ◌+◌, ℕ, zero, suc, ◌++◌, ◌∷◌, [], List, Some, inl, inr, refl, sym, ap, ◌∙◌, subst, map, length}
+use Rattle.std.proofs.Common.{◌≡◌, ℕ, ◌++◌, ◌∷◌, [], List, Some, inl, inr, refl, sym, ap, ◌∙◌, subst, map}
 use Rattle.std.specs.Prelude.{slice_get, Contains}
 use Rattle.std.specs.List.{flat_map}
 use Rattle.std.specs.Option.{option_map}
@@ -12,7 +12,6 @@ use Rattle.wit_tree.specs.declared.tree.World.{World}
 use Rattle.wit_tree.specs.declared.tree.WorldItem.{WorldItem}
 use Rattle.wit_syntax.specs.Fault.{Fault}
 use Rattle.wit_syntax.specs.Source.{Crossing, Item, Part, TheInterface, TheWorld, TopName, interface_part, parts, world_part}
-use Rattle.wit_syntax.specs.Broken.{IsUnread}
 use Rattle.wit_syntax.proofs.Found.{at_contains, contains_at}
 use Rattle.wit_syntax.proofs.Kept.{behind_one}
 use Rattle.wit_syntax.proofs.Lists.{at_either, flat_map_at, flat_map_has, map_at}

@@ -1,11 +1,9 @@
 -- What worlds import and export is read, and not treated yet.
 use Rattle.std.specs.Prelude.{◌≡◌, ℕ, List, Some, slice_get, Contains}
 use Rattle.wit_tree.specs.declared.tree.Extern.{Extern}
-use Rattle.wit_tree.specs.declared.tree.WorldItem.{WorldItem}
-use Rattle.wit_tree.specs.declared.tree.PackageFile.{PackageFile}
 use Rattle.wit_tree.specs.Externs.{extern_span}
 use Rattle.wit_syntax.specs.Fault.{Fault, fault}
-use Rattle.wit_syntax.specs.Source.{Crossing, Item, Part, all_items}
+use Rattle.wit_syntax.specs.Source.{Crossing, Item, Part}
 use Rattle.wit_syntax.specs.Broken.{IsUnread}
 
 -- a part is none that crosses the border of a world

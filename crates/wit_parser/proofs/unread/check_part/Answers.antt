@@ -1,4 +1,4 @@
-use Rattle.std.proofs.Common.{◌≡◌, inl, inr, refl, ap, ◌∙◌}
+use Rattle.std.proofs.Common.{inl, inr, refl, ap, ◌∙◌}
 use Rattle.wit_syntax.specs.Fault.{fault}
 use Rattle.wit_parser.proofs.unread.check_part.Goals as goal
 

@@ -1,6 +1,5 @@
-use Rattle.std.proofs.Common.{◌≡◌, ◌⊎◌, inl, inr}
+use Rattle.std.proofs.Common.{◌⊎◌, inr}
 use Rattle.std.proofs.lemmas.Result.{IfErr-weaker}
-use Rattle.wit_tree.specs.declared.error.ParseError.{ParseError}
 use Rattle.wit_syntax.specs.Fault.{Fault}
 use Rattle.wit_syntax.specs.Source.{all_items}
 use Rattle.wit_syntax.specs.Broken.{IsBrokenNames, Refused}
