@@ -15,18 +15,21 @@ use Rattle.wit_types.specs.declared.types.TypeOwner.{TypeOwner}
 use Rattle.wit_types.specs.declared.types.TypeOwner.TheVariants as owner
 use Rattle.wit_syntax.specs.Fault.{Fault}
 use Rattle.wit_syntax.specs.Address.{Address, InterfaceNamed, WorldNamed, is_foreign}
-use Rattle.wit_syntax.specs.Source.{address, Item, all_items, item_id, item_notes, item_name, TopName, leads, ScopeName, local_name, takings, included_scope, scope, scope_names}
+use Rattle.wit_syntax.specs.Source.{address, Item, all_items, item_id, item_notes, item_name, TopName, leads, ScopeName, takings, included_scope, scope, scope_names}
 use Rattle.wit_syntax.specs.Foreign.{visited, foreign_interfaces, foreign_worlds}
 use Rattle.wit_syntax.specs.Scope.{in_turn, local_names}
 use Rattle.wit_arena.specs.Meet.{Meeting, Decls}
 use Rattle.wit_model.specs.declared.function.Function.{Function}
 use Rattle.wit_syntax.specs.Signature.{IsUnpairedSetter}
-use Rattle.wit_arena.specs.Functions.{by_name, placed_functions, function_import}
-use Rattle.wit_arena.proofs.FreeNames.{free_of, AreStated}
-use Rattle.wit_arena.proofs.Placed.{function_placed, function_from}
-use Rattle.std.proofs.lemmas.Grind.{flat_map-append}
+use Rattle.wit_tree.specs.declared.tree.WorldSide.TheVariants.{Imported, Exported}
+use Rattle.wit_syntax.specs.Function.{functions}
+use Rattle.wit_syntax.specs.Sides.{FunctionKey}
+use Rattle.wit_arena.specs.Functions.{placed_functions, function_item, made_on}
+use Rattle.wit_syntax.proofs.Sides.{functions_imported}
+use Rattle.wit_arena.proofs.FreeNames.{free_of, free_keyed}
+use Rattle.wit_arena.proofs.Stating.{both_sides, world_types-all, world_functions-all, stated_on_sides, stated_placed}
 use Rattle.wit_syntax.specs.Broken.{IsBrokenUse}
-use Rattle.wit_arena.specs.Package.{IsInterface, IsWorld, import_types, world_types, import_functions, world_functions}
+use Rattle.wit_arena.specs.Package.{IsInterface, IsWorld, import_types, world_types, interface_functions, world_functions}
 use Rattle.wit_arena.specs.Whole.{Ordered, Turned, owner_at, taking_meeting, all_meetings, declarations, type_imports, IsInclude, AreIncludes}
 use Rattle.wit_arena.specs.Resolving.{Names, Cell, Required, cell, cells, Defines, decls_of}
 use Rattle.wit_arena.specs.Resolved.{AddsInterface, AddsInterfaces, worlds_at, AddsWorld, AddsWorlds, AddsForeign}
@@ -47,7 +50,7 @@ SaysInterface o i = IsInterface (item_id o.item) (item_notes o.item) i
 -- it has the functions of a scope, each setter behind its getter
 pub record MakesInterface (c : DoneScope) (i : Interface) : Type 0 where
   pub functions : i.functions ≡ placed_functions c.made
-  pub stated : c.stated ≡ i.functions
+  pub stated : c.stated ≡ interface_functions i
   pub paired : (f : Fault) → IsUnpairedSetter c.functions f → ⊥
 
 -- a world of the arena is the item, with its includes, where the worlds have these addresses
@@ -55,61 +58,15 @@ pub record SaysWorld (worlds : List Address) (o : Ordered) (w : World) : Type 0 
   pub says : IsWorld (item_id o.item) (item_notes o.item) w
   pub includes : AreIncludes worlds o.item w.includes
 
--- it has the types of a scope as its imports, and then the functions
+-- it has the types of a scope as its imports, and then the functions that are imported, and it has those that are exported
 pub record MakesWorld (c : DoneScope) (w : World) : Type 0 where
-  pub imports : w.imports ≡ type_imports c.names c.types ++ map function_import c.made
+  pub imports : w.imports ≡ type_imports c.names c.types ++ map function_item (made_on Imported c.functions c.made)
+  pub exports : w.exports ≡ map function_item (made_on Exported c.functions c.made)
   pub stated : c.stated ≡ world_functions w
 
 -- a world that was resolved, as a scope
 abbrev pub world_cell : World → Cell
 world_cell w = record { address = WorldNamed w.name; types = world_types w; functions = free_of (world_functions w) }
-
--- the types among imports that names of a scope are
-pub world_types_of : (xs : List ScopeName) (types : Names) → map (λ p. p.0) types ≡ local_names xs → flat_map import_types (type_imports xs types) ≡ types
-world_types_of [] [] listed = refl
-world_types_of [] (t ∷ types) listed = absurd (let f : ⊥ = cc in f)
-world_types_of (x ∷ xs) [] listed = absurd (let f : ⊥ = cc in f)
-world_types_of (x ∷ xs) ((name, id) ∷ types) listed =
-    let first : name ≡ local_name x = cc in
-    let rest : map (λ p. p.0) types ≡ local_names xs = cc in
-    ap (λ (n : List ℕ). (n, id) ∷ flat_map import_types (type_imports xs types)) (sym first) ∙ ap (λ (l : Names). (name, id) ∷ l) (world_types_of xs types rest)
-
--- none of these is a function, and no function is one of them
-no_functions_of : (xs : List ScopeName) (types : Names) → flat_map import_functions (type_imports xs types) ≡ []
-no_functions_of [] [] = refl
-no_functions_of [] (t ∷ types) = refl
-no_functions_of (x ∷ xs) [] = refl
-no_functions_of (x ∷ xs) ((name, id) ∷ types) = no_functions_of xs types
-
-no_types_of : (fs : List Function) → flat_map import_types (map function_import fs) ≡ []
-no_types_of [] = refl
-no_types_of (f ∷ fs) = no_types_of fs
-
-functions_imported : (fs : List Function) → flat_map import_functions (map function_import fs) ≡ map by_name fs
-functions_imported [] = refl
-functions_imported (f ∷ fs) = ap (λ (l : List (List ℕ × Function)). (f.name, f) ∷ l) (functions_imported fs)
-
--- the types among imports, and the functions
-world_types-all : (xs : List ScopeName) (types : Names) (fs : List Function) → map (λ p. p.0) types ≡ local_names xs → flat_map import_types (type_imports xs types ++ map function_import fs) ≡ types
-world_types-all xs types fs listed = flat_map-append import_types (type_imports xs types) (map function_import fs) ∙ ap (λ (l : Names). l ++ flat_map import_types (map function_import fs)) (world_types_of xs types listed) ∙ ap (λ (l : Names). types ++ l) (no_types_of fs) ∙ append-nil types
-
-world_functions-all : (xs : List ScopeName) (types : Names) (fs : List Function) → flat_map import_functions (type_imports xs types ++ map function_import fs) ≡ map by_name fs
-world_functions-all xs types fs = flat_map-append import_functions (type_imports xs types) (map function_import fs) ∙ ap (λ (l : List (List ℕ × Function)). l ++ flat_map import_functions (map function_import fs)) (no_functions_of xs types) ∙ functions_imported fs
-
--- functions under their names
-stated_by_name : (fs : List Function) → AreStated fs (map by_name fs)
-stated_by_name fs = record {
-  has = λ k f at. (k, slice_get-map by_name fs k ∙ ap (option_map by_name) at);
-  from = λ place name f at. (
-      let g = map_at by_name fs place (name, f) at in
-      let same : g.0 ≡ f = ap (λ (x : List ℕ × Function). x.1) g.2 in
-      let called : g.0.name ≡ name = ap (λ (x : List ℕ × Function). x.0) g.2 in
-      (place, g.1 ∙ ap Some same, ap (λ (x : Function). x.name) (sym same) ∙ called));
-}
-
--- functions whose setters were placed
-stated_placed : (fs : List Function) (stated : List (List ℕ × Function)) → stated ≡ placed_functions fs → AreStated fs stated
-stated_placed fs stated are = subst (AreStated fs) (sym are) (record { has = function_placed fs; from = function_from fs })
 
 -- what names define beside some scopes, they define beside more
 pub defines_wider : (old new : List TypeDef) (cs ds : List Cell) (o : TypeOwner) (s : Address) (names names' : Names) (xs : List ScopeName) → ((t : ℕ) (c : Cell) → slice_get cs t ≡ Some c → (j : ℕ) × (slice_get ds j ≡ Some c)) → Defines old new cs o s names names' xs → Defines old new ds o s names names' xs
@@ -130,10 +87,10 @@ includes_wider some all item is wider h = record {
   each = λ k written i at there. include_wider some all item.top written i wider (h.each k written i at there);
 }
 
-abbrev called_cell : Names → List (List ℕ × Function) → Option (List ℕ) → Cell
-called_cell types stated name = record { address = InterfaceNamed (unwrap_or name []); types = types; functions = free_of stated }
+abbrev called_cell : Names → List (List ℕ) → Option (List ℕ) → Cell
+called_cell types names name = record { address = InterfaceNamed (unwrap_or name []); types = types; functions = names }
 
-abbrev named_world : Names → List (List ℕ × Function) → List ℕ → Cell
+abbrev named_world : Names → List (FunctionKey × Function) → List ℕ → Cell
 named_world types stated name = record { address = WorldNamed name; types = types; functions = free_of stated }
 
 -- the addresses of interfaces, behind those of other packages, and of worlds
@@ -238,12 +195,16 @@ module _ (files : List PackageFile) (is ws : List Item) where
             defines = subst (λ (o : TypeOwner). Defines old a.middle (map cell_of (front_scopes files front ++ d.scopes)) o (address w) [] a.added.types names) (next_interface xs) (defines_wider old a.middle (cells (map visited (foreign_interfaces files)) (front ++ xs)) (map cell_of (front_scopes files front ++ d.scopes)) (owner.Interface (length (front ++ xs))) (address w) [] a.added.types names (cells_among xs d.scopes d.laid.types) (a.adds.defines (address w)));
             made = a.functions;
             behind = a.behind;
-            stated = a.added.functions;
-            are_stated = stated_placed a.functions a.added.functions a.stand;
+            stated = interface_functions a.added;
+            are_stated = stated_placed (functions w) a.functions a.added (functions_imported w (interfaces.each (length us) w there)) a.stand;
             added = a.added;
             last = last_behind front xs xs' a.added a.last;
             says = λ listed. a.says;
-            is_cell = λ listed. ap (λ (s : Address). record { address = s; types = a.added.types; functions = free_of a.added.functions }) (interface_address w (interfaces.each (length us) w there)) ∙ ap (called_cell a.added.types a.added.functions) (sym a.says.name);
+            is_cell = λ listed. (
+                let names = free_of (interface_functions a.added) in
+                ap (λ (s : Address). record { address = s; types = a.added.types; functions = names }) (interface_address w (interfaces.each (length us) w there))
+                ∙ ap (called_cell a.added.types names) (sym a.says.name)
+                ∙ ap (λ (l : List (List ℕ)). called_cell a.added.types l a.added.name) (free_keyed Imported a.added.functions));
             makes = λ listed. record { functions = a.stand; stated = refl; paired = a.paired };
           }
 
@@ -296,7 +257,8 @@ module _ (files : List PackageFile) (is ws : List Item) where
             let names = in_turn (scope_names w) a.adds.order in
             let before = front_scopes files front ++ d.scopes in
             let ss = map visited (foreign_interfaces files) in
-            let stated : world_functions a.added ≡ map by_name a.functions = ap (flat_map import_functions) a.imports ∙ world_functions-all names a.types a.functions in
+            let both = both_sides (functions w) a.functions in
+            let stated : world_functions a.added ≡ both = world_functions-all names a.types (functions w) a.functions a.added a.imports a.exports in
             record {
               order = a.adds.order;
               least = a.adds.least;
@@ -306,8 +268,8 @@ module _ (files : List PackageFile) (is ws : List Item) where
               defines = subst (λ (o : TypeOwner). Defines old a.middle (map cell_of (before ++ e.scopes)) o (address w) [] a.types names) (next_world ys) (defines_wider old a.middle (cells ss (front ++ xs)) (map cell_of (before ++ e.scopes)) (owner.World (length (wfront ++ ys))) (address w) [] a.types names (world_cells e.scopes) (a.adds.defines (address w)));
               made = a.functions;
               behind = a.behind;
-              stated = map by_name a.functions;
-              are_stated = stated_by_name a.functions;
+              stated = both;
+              are_stated = stated_on_sides (functions w) a.functions;
               added = a.added;
               last = last_behind wfront ys ys' a.added a.last;
               says = λ listed. record {
@@ -315,15 +277,15 @@ module _ (files : List PackageFile) (is ws : List Item) where
                 includes = includes_wider (worlds_at (map visited (foreign_worlds files)) (wfront ++ ys)) (world_list files ws) w a.added.includes (added_address us old ys qs e) a.includes;
               };
               is_cell = λ listed. (
-                  let types = own_types names a.types a.functions a.added listed a.imports in
-                  ap (λ (s : Address). record { address = s; types = a.types; functions = free_of (map by_name a.functions) }) (world_address w (worlds.each (length us) w there))
-                  ∙ ap (named_world a.types (map by_name a.functions)) (sym a.says.name)
-                  ∙ ap (λ (x : Names). named_world x (map by_name a.functions) a.added.name) (sym types)
-                  ∙ ap (λ (x : List (List ℕ × Function)). named_world (world_types a.added) x a.added.name) (sym stated));
-              makes = λ listed. record { imports = a.imports; stated = sym stated };
+                  let types = own_types names a.types (made_on Imported (functions w) a.functions) a.added listed a.imports in
+                  ap (λ (s : Address). record { address = s; types = a.types; functions = free_of both }) (world_address w (worlds.each (length us) w there))
+                  ∙ ap (named_world a.types both) (sym a.says.name)
+                  ∙ ap (λ (x : Names). named_world x both a.added.name) (sym types)
+                  ∙ ap (λ (x : List (FunctionKey × Function)). named_world (world_types a.added) x a.added.name) (sym stated));
+              makes = λ listed. record { imports = a.imports; exports = a.exports; stated = sym stated };
             }
           where
-            own_types : (xs : List ScopeName) (types : Names) (fs : List Function) (w : World) → map (λ p. p.0) types ≡ local_names xs → w.imports ≡ type_imports xs types ++ map function_import fs → world_types w ≡ types
+            own_types : (xs : List ScopeName) (types : Names) (fs : List Function) (w : World) → map (λ p. p.0) types ≡ local_names xs → w.imports ≡ type_imports xs types ++ map function_item fs → world_types w ≡ types
             own_types xs types fs w listed imports = ap (flat_map import_types) imports ∙ world_types-all xs types fs listed
 
         -- the first worlds, behind all interfaces and behind the worlds of other packages

@@ -11,11 +11,10 @@ use Rattle.wit_types.specs.declared.types.«Type».{«Type» as Ty}
 use Rattle.wit_types.specs.declared.types.TypeDef.{TypeDef}
 use Rattle.wit_model.specs.declared.function.Function.{Function}
 use Rattle.wit_model.specs.declared.function.FunctionKind.{FunctionKind}
-use Rattle.wit_model.specs.declared.function.FunctionKind.TheVariants as kind
 use Rattle.wit_model.specs.declared.function.Param.{Param}
 use Rattle.wit_syntax.specs.Shape.{Shape}
 use Rattle.wit_syntax.specs.Address.{Address}
-use Rattle.wit_syntax.specs.Function.{Role, Freestanding, Method, Static, Constructor, SourceParam, SourceFunction, all_params, signature}
+use Rattle.wit_syntax.specs.Function.{Role, Freestanding, Method, Static, Constructor, OnSide, SourceParam, SourceFunction, all_params, signature}
 use Rattle.wit_arena.specs.Functions.{IsKind, IsResult, IsFunction, AreFunctions}
 use Rattle.wit_arena.specs.Expr.{Exprs, one, joined, expr_of, exprs_of}
 use Rattle.wit_arena.specs.Expr as exprs
@@ -83,6 +82,7 @@ kind_stands ks s env (Freestanding id form) k names h = h
 kind_stands ks s env (Method of form) k names h = (h.0, h.1, names.stands of.name.now h.0 h.2)
 kind_stands ks s env (Static of form) k names h = (h.0, h.1, names.stands of.name.now h.0 h.2)
 kind_stands ks s env (Constructor of) k names h = (h.0, h.1, names.stands of.name.now h.0 h.2)
+kind_stands ks s env (OnSide side id form) k names h = h
 
 -- types at the places of shapes, one by one
 typed_of : (ks : List Key) (s : Address) (xs : List Shape) (ts : List Ty) → AreAt ks (exprs_of s (gathered xs)) ts → AreTyped ks s xs ts

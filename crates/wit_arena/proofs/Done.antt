@@ -68,7 +68,7 @@ pub record AddsDone (files : List PackageFile) (decls : Decls) (cs : List DoneSc
   pub own : decls c.address ≡ decls_of c.owner c.address (scope files c.address)
   pub turn : IsTurn (scope files c.address) c.names
   pub functions : c.functions ≡ functions_at files c.address
-  pub stated : AreStated c.made c.stated
+  pub stated : AreStated c.functions c.made c.stated
   pub middle : List TypeDef
   pub defines : Defines es middle (map cell_of cs) c.owner c.address [] c.types c.names
   pub adds : AddsFunctions middle es' c.address c.types c.functions c.made

@@ -34,7 +34,8 @@ use Rattle.wit_arena.proofs.Shape.{key_of, backward, interned, leads, all_lead}
 use Rattle.wit_arena.proofs.Forms.{met_anonymous, name_anonymous}
 use Rattle.wit_arena.proofs.Depth.{IsScope, same_tree}
 use Rattle.wit_arena.proofs.Parts.{part_type}
-use Rattle.wit_syntax.proofs.Legal.{function_name}
+use Rattle.wit_syntax.specs.Sides.{role_side, FunctionKey, function_key}
+use Rattle.wit_arena.proofs.FreeNames.{made_key}
 use Rattle.wit_arena.proofs.Standing.{DoneScope, IsWholeOf, IsInSignatureOf, IsDone}
 use Rattle.wit_arena.proofs.Stated.{function_at, named_at, entry_of, owner_at_name, parts_at, part_in}
 use Rattle.wit_arena.proofs.Takings.{taking_key}
@@ -130,14 +131,14 @@ module _ (files : List PackageFile) (decls : Decls) (written : List Meeting) (cs
       let f = function_at files decls written cs p.types d w.place c i.index i.fn w.at i.among in
       let typed = function_typed ks c.address i.fn f.0 f.2 in
       let ty = type_of typed i.position i.shape i.written in
-      let place = (d.each w.place c w.at).stated.has i.index f.0 f.1 in
+      let place = (d.each w.place c w.at).stated.has i.index i.fn f.0 i.among f.1 in
       record {
         owner = c.owner;
         place = place.0;
-        name = f.0.name;
+        key = made_key i.fn f.0;
         f = f.0;
         ty = ty.0;
-        stands = ap (λ (l : List (List ℕ × Function)). slice_get l place.0) (owners.functions w.place c w.at) ∙ place.1;
+        stands = ap (λ (l : List (FunctionKey × Function)). slice_get l place.0) (owners.functions w.place c w.at) ∙ place.1;
         among = part_has (function_types f.0) i.position ty.0 ty.1;
         leads = leads decls ks p.types d.meeting.keyed (expr_of c.address i.shape) ty.0 j form parts (typed.each i.position i.shape ty.0 i.written ty.1) there i.has;
       }
@@ -204,11 +205,11 @@ module _ (files : List PackageFile) (decls : Decls) (written : List Meeting) (cs
   function_tree_at t c k fn at fat =
       let f = function_at files decls written cs p.types d t c k fn at fat in
       let typed = function_typed ks c.address fn f.0 f.2 in
-      let place = (d.each t c at).stated.has k f.0 f.1 in
+      let place = (d.each t c at).stated.has k fn f.0 fat f.1 in
       record {
         place = place.0;
         f = f.0;
-        stands = ap (λ (l : List (List ℕ × Function)). slice_get l place.0) (owners.functions t c at) ∙ place.1 ∙ ap (λ (n : List ℕ). Some (n, f.0)) f.2.name;
+        stands = ap (λ (l : List (FunctionKey × Function)). slice_get l place.0) (owners.functions t c at) ∙ place.1 ∙ ap (λ (n : List ℕ). Some ((role_side fn.role, n), f.0)) f.2.name;
         count = typed.count;
         trees = λ i x ty xat tat n. same_tree files decls ks p d.meeting.keyed scopes n c.address x ty (typed.each i x ty xat tat);
       }
@@ -233,8 +234,8 @@ module _ (files : List PackageFile) (decls : Decls) (written : List Meeting) (cs
   pub one_type : (x y : Expr) (t u : Ty) → IsAt ks x t → IsAt ks y u → (t ≡ u) ↔ (x ≡ y)
   one_type x y t u h k = (λ same. at_injective ks x y u (subst (IsAt ks x) same h) k, λ same. at_functional ks (once_of d.meeting.keyed) y t u (subst (λ (z : Expr). IsAt ks z t) same h) k)
 
-  -- where no two functions of a scope have one name
-  module _ (apart : (t : ℕ) (c : DoneScope) → slice_get cs t ≡ Some c → AllDiffer (map function_name c.functions)) where
+  -- where no two functions of a scope go by one side and name
+  module _ (apart : (t : ℕ) (c : DoneScope) → slice_get cs t ≡ Some c → AllDiffer (map function_key c.functions)) where
     -- the type of a part of a signature
     in_signature : (x : Place) (ty : Ty) → IsInSignature files p x ty → IsAt ks (expr_of x.0 x.1) ty
     in_signature x ty h =
@@ -243,10 +244,11 @@ module _ (files : List PackageFile) (decls : Decls) (written : List Meeting) (cs
         let own = d.each w.place c w.at in
         let among = ap (λ (l : List SourceFunction). slice_get l h.k) own.functions ∙ ap (λ (z : Address). slice_get (functions_at files z) h.k) w.scope ∙ h.among in
         let stated : functions_of p h.owner ≡ c.stated = ap (functions_of p) (sym w.whose) ∙ owners.functions w.place c w.at in
-        let made = own.stated.from h.place h.fn.name h.f (ap (λ (l : List (List ℕ × Function)). slice_get l h.place) (sym stated) ∙ h.stands) in
+        let made = own.stated.from h.place (function_key h.fn) h.f (ap (λ (l : List (FunctionKey × Function)). slice_get l h.place) (sym stated) ∙ h.stands) in
         let f = function_at files decls written cs p.types d w.place c h.k h.fn w.at among in
         let index = at_made w.place c w.at made.0 h.f made.1 in
-        let place = differ_at function_name c.functions (apart w.place c w.at) index.0 h.k index.1 h.fn index.2 among (sym index.4.name ∙ made.2) in
+        let key : function_key index.1 ≡ function_key h.fn = ap (λ (n : List ℕ). (role_side index.1.role, n)) (sym index.4.name) ∙ made.2 index.1 (ap (slice_get c.functions) (sym index.3) ∙ index.2) in
+        let place = differ_at function_key c.functions (apart w.place c w.at) index.0 h.k index.1 h.fn index.2 among key in
         let same : Some index.1 ≡ Some h.fn = sym index.2 ∙ ap (slice_get c.functions) place ∙ among in
         let one : index.1 ≡ h.fn = cc in
         let is : IsFunction ks c.address h.fn h.f = subst (λ (g : SourceFunction). IsFunction ks c.address g h.f) one index.4 in

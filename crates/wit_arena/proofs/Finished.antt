@@ -35,7 +35,7 @@ use Rattle.wit_arena.proofs.Indexing.{cells-append, front_cell, worlds_at-append
 use Rattle.wit_arena.proofs.Standing.{DoneScope, cell_of, IsDoneScope}
 use Rattle.wit_arena.proofs.Meant.{lacks_nothing}
 use Rattle.wit_syntax.proofs.Kept.{kept_has, kept_next}
-use Rattle.wit_arena.proofs.FreeNames.{free_of, free_stated, stated_free}
+use Rattle.wit_arena.proofs.FreeNames.{free_of, AreStated, free_stated, stated_free}
 use Rattle.wit_arena.proofs.WrongHandles.{interface_handle, world_handle}
 use Rattle.wit_arena.proofs.Interfaces.{AreItems, item_of_scope, scope_of, interface_address, items_kept, interfaces_sort, worlds_sort}
 use Rattle.wit_arena.proofs.Itemizing.{item_index, are_items}
@@ -167,13 +167,14 @@ module _ (files : List PackageFile) (places : List ℕ) (order : IsOrder (item_r
           let done = d.done.each place c.0 c_at in
           let ks = keys d.done.met in
           let are : AreFunctions ks c.0.address (functions v) c.0.made = subst (λ (l : List SourceFunction). AreFunctions ks c.0.address l c.0.made) (sym (ap (λ (x : Turned). x.functions) o.2)) (d.done.made place c.0 c_at) in
+          let says : AreStated (functions v) c.0.made c.0.stated = subst (λ (l : List SourceFunction). AreStated l c.0.made c.0.stated) (sym (ap (λ (x : Turned). x.functions) o.2)) done.stated in
           let stands : free_of c.0.stated ≡ target.functions = ap (λ (x : Cell). x.functions) c.2 in
           record {
             item = v;
             declared = ap (item_at all) (sym here) ∙ item_of_scope files interfaces are_interfaces j v there;
             missing = ap (λ (xs : List ScopeName). meaning xs name) names ∙ unstated files c.0 name done lacks;
-            free = λ h. subst (λ (l : List (List ℕ)). Contains l name) stands (free_stated ks c.0.address v c.0.made c.0.stated are done.stated name h);
-            stated = λ h. stated_free ks c.0.address v c.0.made c.0.stated are done.stated name (subst (λ (l : List (List ℕ)). Contains l name) (sym stands) h);
+            free = λ h. subst (λ (l : List (List ℕ)). Contains l name) stands (free_stated ks c.0.address v c.0.made c.0.stated are says name h);
+            stated = λ h. stated_free ks c.0.address v c.0.made c.0.stated are says name (subst (λ (l : List (List ℕ)). Contains l name) (sym stands) h);
           }
 
       -- a name that an interface of the package lacks is a missing one, or that of a function

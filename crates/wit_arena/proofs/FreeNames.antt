@@ -1,6 +1,6 @@
 -- The written names of functions that are no resource's, in the source and in the package.
 use Rattle.std.proofs.Common.{◌≡◌, ℕ, zero, suc, List, [], ◌∷◌, ◌++◌, Some, refl, sym, ap, ◌∙◌, subst, arith, Contains}
-use Rattle.std.specs.Prelude.{slice_get}
+use Rattle.std.specs.Prelude.{slice_get, map}
 use Rattle.std.specs.List.{flat_map}
 use Rattle.std.proofs.lemmas.Option.{slice_get_within}
 use Rattle.wit_tree.specs.declared.tree.FuncForm.{FuncForm}
@@ -14,20 +14,33 @@ use Rattle.wit_model.specs.declared.function.Function.{Function}
 use Rattle.wit_model.specs.declared.function.FunctionKind.{FunctionKind}
 use Rattle.wit_syntax.specs.Address.{Address}
 use Rattle.wit_syntax.specs.Source.{Item, Part, Defining, Using, Including, Doing, Crossing, parts}
-use Rattle.wit_syntax.specs.Function.{Role, Freestanding, Method, Static, Constructor, SourceFunction, accessor, free_function, resource_function, definition_functions, part_functions, functions, role_names, free_names}
+use Rattle.wit_syntax.specs.Function.{Role, Freestanding, Method, Static, Constructor, OnSide, SourceFunction, accessor, free_function, resource_function, definition_functions, part_functions, functions, role_names, free_names}
 use Rattle.wit_arena.specs.Functions.{freestanding_kind, method_kind, static_kind, IsKind, IsFunction, AreFunctions, freestanding_names}
+use Rattle.wit_tree.specs.declared.tree.WorldSide.{WorldSide}
+use Rattle.wit_syntax.specs.Sides.{role_side, FunctionKey}
+use Rattle.wit_arena.specs.Package.{keyed}
 use Rattle.wit_arena.specs.Meet.{Key}
 use Rattle.wit_syntax.proofs.Lists.{at_within, map_at, flat_map_at, flat_map_has}
 use Rattle.wit_syntax.proofs.Found.{at_contains, contains_at}
+use Rattle.wit_syntax.proofs.Externs.{extern_at}
 
--- of functions of the package, each under its name
-abbrev pub free_of : List (List ℕ × Function) → List (List ℕ)
+-- of functions of the package, each under its side and name
+abbrev pub free_of : List (FunctionKey × Function) → List (List ℕ)
 free_of fs = flat_map (λ f. freestanding_names f.1.kind f.1.name) fs
 
--- what an owner states are these functions, each under its name
-pub record AreStated (made : List Function) (stated : List (List ℕ × Function)) : Type 0 where
-  pub has : (k : ℕ) (f : Function) → slice_get made k ≡ Some f → (place : ℕ) × (slice_get stated place ≡ Some (f.name, f))
-  pub from : (place : ℕ) (name : List ℕ) (f : Function) → slice_get stated place ≡ Some (name, f) → (k : ℕ) × (slice_get made k ≡ Some f) × (f.name ≡ name)
+-- that does not depend on the side
+pub free_keyed : (side : WorldSide) (fs : List (List ℕ × Function)) → free_of (map (keyed side) fs) ≡ flat_map (λ f. freestanding_names f.1.kind f.1.name) fs
+free_keyed side [] = refl
+free_keyed side (f ∷ fs) = ap (λ (l : List (List ℕ)). freestanding_names f.1.kind f.1.name ++ l) (free_keyed side fs)
+
+-- what a function goes by, where this is the written one
+abbrev pub made_key : SourceFunction → Function → FunctionKey
+made_key fn f = (role_side fn.role, f.name)
+
+-- what an owner states are the functions that were made of these, each under its side and name
+pub record AreStated (fns : List SourceFunction) (made : List Function) (stated : List (FunctionKey × Function)) : Type 0 where
+  pub has : (k : ℕ) (fn : SourceFunction) (f : Function) → slice_get fns k ≡ Some fn → slice_get made k ≡ Some f → (place : ℕ) × (slice_get stated place ≡ Some (made_key fn f, f))
+  pub from : (place : ℕ) (key : FunctionKey) (f : Function) → slice_get stated place ≡ Some (key, f) → (k : ℕ) × (slice_get made k ≡ Some f) × ((fn : SourceFunction) → slice_get fns k ≡ Some fn → made_key fn f ≡ key)
 
 -- a function of no resource has its written name behind the mark of an accessor
 abbrev IsCalled : Role → List ℕ → Type 0
@@ -35,6 +48,7 @@ IsCalled (Freestanding id form) name = name ≡ accessor form ++ id.name.now
 IsCalled (Method of form) name = Unit {0}
 IsCalled (Static of form) name = Unit {0}
 IsCalled (Constructor of) name = Unit {0}
+IsCalled (OnSide side id form) name = name ≡ accessor form ++ id.name.now
 
 free_kind : (form : FuncForm) (name : List ℕ) → freestanding_names (freestanding_kind form) (accessor form ++ name) ≡ name ∷ []
 free_kind form.Plain name = refl
@@ -59,6 +73,7 @@ free_role ks s (Freestanding id form) k name called is = ap (λ x. freestanding_
 free_role ks s (Method of form) k name called is = ap (λ x. freestanding_names x name) is.1 ∙ no_method form is.0 name
 free_role ks s (Static of form) k name called is = ap (λ x. freestanding_names x name) is.1 ∙ no_static form is.0 name
 free_role ks s (Constructor of) k name called is = ap (λ x. freestanding_names x name) is.1
+free_role ks s (OnSide side id form) k name called is = ap (λ x. freestanding_names x name) is ∙ ap (freestanding_names (freestanding_kind form)) called ∙ free_kind form id.name.now
 
 -- so it is of the functions of an item
 resource_called : (r : Id) (g : ResourceFunc) → IsCalled (resource_function r g).role (resource_function r g).name
@@ -80,7 +95,7 @@ part_called : (p : Part) (k : ℕ) (fn : SourceFunction) → slice_get (part_fun
 part_called (Defining d) k fn at = definition_called d.name d.body k fn at
 part_called (Using u) k fn at = absurd (let f : ⊥ = cc in f)
 part_called (Including i) k fn at = absurd (let f : ⊥ = cc in f)
-part_called (Crossing x) k fn at = absurd (let f : ⊥ = cc in f)
+part_called (Crossing x) k fn at = (let it = extern_at x x.kind k fn at in subst (λ (g : SourceFunction). IsCalled g.role g.name) it.2 refl)
 part_called (Doing g) zero fn at = let same : free_function g ≡ fn = cc in subst (λ (x : SourceFunction). IsCalled x.role x.name) same refl
 part_called (Doing g) (suc k) fn at = absurd (let f : ⊥ = cc in f)
 
@@ -96,7 +111,7 @@ names_same ks s i k fn f at is = ap (freestanding_names f.kind) is.name ∙ free
 names_again : (ks : List Key) (s : Address) (i : Item) (k : ℕ) (fn : SourceFunction) (f : Function) → slice_get (functions i) k ≡ Some fn → IsFunction ks s fn f → role_names fn.role ≡ freestanding_names f.kind f.name
 names_again ks s i k fn f at is = sym (names_same ks s i k fn f at is)
 
-module _ (ks : List Key) (s : Address) (i : Item) (made : List Function) (stated : List (List ℕ × Function)) (are : AreFunctions ks s (functions i) made) (says : AreStated made stated) where
+module _ (ks : List Key) (s : Address) (i : Item) (made : List Function) (stated : List (FunctionKey × Function)) (are : AreFunctions ks s (functions i) made) (says : AreStated (functions i) made stated) where
   -- a written name of one of its functions, and one that is stated
   stated_at : (k j : ℕ) (fn : SourceFunction) (name : List ℕ) → slice_get (functions i) k ≡ Some fn → slice_get (role_names fn.role) j ≡ Some name → Contains (free_of stated) name
   stated_at k j fn name at written =
@@ -104,8 +119,8 @@ module _ (ks : List Key) (s : Address) (i : Item) (made : List Function) (stated
       let count = are.count in
       let f = at_within made k (omega arith) in
       let same : role_names fn.role ≡ freestanding_names f.0.kind f.0.name = names_again ks s i k fn f.0 at (are.each k fn f.0 at f.1) in
-      let place = says.has k f.0 f.1 in
-      let it = flat_map_has (λ (x : List ℕ × Function). freestanding_names x.1.kind x.1.name) stated place.0 j (f.0.name, f.0) name place.1 (ap (λ (l : List (List ℕ)). slice_get l j) (sym same) ∙ written) in
+      let place = says.has k fn f.0 at f.1 in
+      let it = flat_map_has (λ (x : FunctionKey × Function). freestanding_names x.1.kind x.1.name) stated place.0 j (made_key fn f.0, f.0) name place.1 (ap (λ (l : List (List ℕ)). slice_get l j) (sym same) ∙ written) in
       contains_at (free_of stated) it.0 name it.1
 
   written_at : (k j : ℕ) (f : Function) (name : List ℕ) → slice_get made k ≡ Some f → slice_get (freestanding_names f.kind f.name) j ≡ Some name → Contains (free_names i) name
@@ -127,6 +142,6 @@ module _ (ks : List Key) (s : Address) (i : Item) (made : List Function) (stated
   pub stated_free : (name : List ℕ) → Contains (free_of stated) name → Contains (free_names i) name
   stated_free name among =
       let n = at_contains (free_of stated) name among in
-      let it = flat_map_at (λ (x : List ℕ × Function). freestanding_names x.1.kind x.1.name) stated n.0 name n.1 in
+      let it = flat_map_at (λ (x : FunctionKey × Function). freestanding_names x.1.kind x.1.name) stated n.0 name n.1 in
       let f = says.from it.0 it.1.0 it.1.1 it.2 in
       written_at f.0 it.3.0 it.1.1 name f.1 it.3.1

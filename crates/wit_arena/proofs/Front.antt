@@ -35,7 +35,9 @@ use Rattle.wit_syntax.proofs.Firsts.{firsts_at}
 use Rattle.wit_syntax.proofs.Found.{some_of}
 use Rattle.wit_arena.proofs.Using.{lookup-listed}
 use Rattle.wit_arena.proofs.Meeting.{Has}
-use Rattle.wit_arena.proofs.FreeNames.{AreStated}
+use Rattle.wit_arena.proofs.FreeNames.{free_keyed, AreStated}
+use Rattle.wit_arena.specs.Package.{interface_functions}
+use Rattle.wit_tree.specs.declared.tree.WorldSide.TheVariants.{Imported}
 use Rattle.wit_syntax.proofs.Turns.{at_part}
 use Rattle.wit_arena.proofs.Standing.{DoneScope, done_address, turn_of, cell_of, IsDoneScope, IsNameOf, IsDone}
 use Rattle.wit_arena.proofs.Interfaces.{interface_owner_at}
@@ -44,7 +46,7 @@ use Rattle.wit_arena.proofs.Takings.{taking_key, keys-takings, takings_met, taki
 
 -- the scope of an interface of another package at a place, with the types that it has in the arena
 abbrev pub interface_scope : List PackageFile → ℕ → ForeignVisit → Interface → DoneScope
-interface_scope files t v i = record { address = visited v; owner = owner.Interface t; names = scope files (visited v); types = i.types; functions = []; made = []; stated = i.functions; required = [] }
+interface_scope files t v i = record { address = visited v; owner = owner.Interface t; names = scope files (visited v); types = i.types; functions = []; made = []; stated = interface_functions i; required = [] }
 
 -- the scope of a world of another package, from which nothing is taken
 abbrev pub world_scope : ℕ → ForeignVisit → DoneScope
@@ -89,7 +91,7 @@ module _ (files : List PackageFile) where
   cells-interface_scopes n [] [] count = refl
   cells-interface_scopes n [] (i ∷ is) count = absurd (let f : ⊥ = omega arith in f)
   cells-interface_scopes n (v ∷ vs) [] count = absurd (let f : ⊥ = omega arith in f)
-  cells-interface_scopes n (v ∷ vs) (i ∷ is) count = ap (λ l. cell_at (visited v) i ∷ l) (cells-interface_scopes (suc n) vs is (omega arith))
+  cells-interface_scopes n (v ∷ vs) (i ∷ is) count = ap (λ names. record { address = visited v; types = i.types; functions = names } ∷ map cell_of (interface_scopes files (suc n) vs is)) (free_keyed Imported i.functions) ∙ ap (λ l. cell_at (visited v) i ∷ l) (cells-interface_scopes (suc n) vs is (omega arith))
 
   length-interface_scopes : (n : ℕ) (vs : List ForeignVisit) (is : List Interface) → length is ≡ length vs → length (interface_scopes files n vs is) ≡ length vs
   length-interface_scopes n [] is count = refl
@@ -149,8 +151,8 @@ no_item (i ∷ is) p name = rw (not_declared i.declared p name) (no_item is p na
 no_functions_at : (files : List PackageFile) (p : PackageName) (name : List ℕ) → functions_at files (ForeignNamed p name) ≡ []
 no_functions_at files p name = ap (λ (o : Option Item). option_map_or functions o []) (no_item (all_items files) p name)
 
-nothing_stated : AreStated [] []
-nothing_stated = record { has = λ k f at. absurd (let f : ⊥ = cc in f); from = λ place name f at. absurd (let f : ⊥ = cc in f) }
+nothing_stated : AreStated [] [] []
+nothing_stated = record { has = λ k fn f at. absurd (let f : ⊥ = cc in f); from = λ place key f at. absurd (let f : ⊥ = cc in f) }
 
 no_functions : (ks : List Key) (s : Address) → AreFunctions ks s [] []
 no_functions ks s = record { count = refl; each = λ k fn f at. absurd (let f : ⊥ = cc in f) }

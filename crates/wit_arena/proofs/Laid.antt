@@ -15,6 +15,7 @@ use Rattle.wit_arena.specs.Meet.{Key, Meeting, Decls}
 use Rattle.wit_arena.specs.Whole.{Ordered, Turned, item_of, ordered_names, turned, turn_meetings, meetings, taking_meeting, all_meetings, turn_handles, AreRequired}
 use Rattle.wit_model.specs.declared.function.Function.{Function}
 use Rattle.wit_syntax.specs.Function.{functions}
+use Rattle.wit_syntax.specs.Sides.{FunctionKey}
 use Rattle.std.specs.List.{flat_map}
 use Rattle.wit_arena.specs.Resolving.{Names, Cell, Required, Defines, decls_of}
 use Rattle.wit_arena.specs.Resolved.{AddsBehind, AddsEach}
@@ -91,7 +92,7 @@ module _ {X : Type 0} {Owner : ℕ → TypeOwner} {Says : Ordered → X → Type
       omega arith
 
 -- the scope of an item at a place
-abbrev pub laid_scope : TypeOwner → Ordered → Names → List Function → List (List ℕ × Function) → List Required → DoneScope
+abbrev pub laid_scope : TypeOwner → Ordered → Names → List Function → List (FunctionKey × Function) → List Required → DoneScope
 laid_scope o i types made stated rs = record { address = address i.item; owner = o; names = ordered_names i; types = types; functions = functions i.item; made = made; stated = stated; required = rs }
 
 module _ {X : Type 0} (Owner : ℕ → TypeOwner) (Says : Ordered → X → Type 0) (entry_cell : X → Cell) (Makes : DoneScope → X → Type 0) (ws : List Item) where
@@ -185,8 +186,8 @@ module _ {X : Type 0} (Owner : ℕ → TypeOwner) (Says : Ordered → X → Type
     pub defines : Defines es middle (map cell_of (first ++ d.scopes)) (Owner (length xs)) (address w) [] types (in_turn (scope_names w) order)
     pub made : List Function
     pub behind : AddsBehind middle es' w order types made rs
-    pub stated : List (List ℕ × Function)
-    pub are_stated : AreStated made stated
+    pub stated : List (FunctionKey × Function)
+    pub are_stated : AreStated (functions w) made stated
     pub added : X
     pub last : xs' ≡ xs ++ added ∷ []
     pub says : map (λ p. p.0) types ≡ local_names (in_turn (scope_names w) order) → Says (record { item = w; order = order }) added

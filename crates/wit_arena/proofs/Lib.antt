@@ -8,7 +8,9 @@ pub mod Keys
 pub mod Signatures
 pub mod AddingFunctions
 pub mod Placed
+pub mod MadeOn
 pub mod FreeNames
+pub mod Stating
 pub mod Defining
 pub mod Scoping
 pub mod Using

@@ -12,6 +12,8 @@ use Rattle.wit_tree.specs.declared.tree.PackageName.{PackageName as Header}
 use Rattle.wit_tree.specs.declared.tree.PackageFile.{PackageFile}
 use Rattle.wit_model.specs.declared.interface.Interface.{Interface}
 use Rattle.wit_model.specs.declared.world.World.{World}
+use Rattle.wit_model.specs.declared.world.WorldKey.{WorldKey}
+use Rattle.wit_model.specs.declared.world.WorldItem.{WorldItem}
 use Rattle.wit_model.specs.declared.unresolved.UnresolvedPackage.{UnresolvedPackage}
 use Rattle.wit_types.specs.declared.types.TypeDef.{TypeDef}
 use Rattle.wit_types.specs.declared.types.TypeOwner.{TypeOwner}
@@ -27,10 +29,13 @@ use Rattle.wit_arena.specs.Meet.{Meeting, Key, keys, IsMeeting}
 use Rattle.wit_syntax.specs.Repeats.{AllDiffer}
 use Rattle.wit_model.specs.declared.function.Function.{Function}
 use Rattle.wit_syntax.specs.Function.{functions}
-use Rattle.wit_arena.specs.Functions.{AreFunctions, placed_functions, function_import}
+use Rattle.wit_tree.specs.declared.tree.WorldSide.TheVariants.{Imported, Exported}
+use Rattle.wit_syntax.specs.Function.{SourceFunction}
+use Rattle.wit_syntax.specs.Sides.{function_key}
+use Rattle.wit_arena.specs.Functions.{AreFunctions, placed_functions, function_item, made_on}
 use Rattle.wit_syntax.specs.Scope.{item_rows, rows_of, in_order, interfaces_of, worlds_of}
 use Rattle.wit_syntax.specs.Broken.{headers, last_header}
-use Rattle.wit_arena.specs.Package.{owner_of, names_of, functions_of, named_interface, interface_owner, named_world, world_owner, interface_types, interface_functions, import_types, world_types, import_functions, world_functions}
+use Rattle.wit_arena.specs.Package.{owner_of, names_of, functions_of, named_interface, interface_owner, named_world, world_owner, interface_types, interface_functions, import_types, world_types, item_functions, keyed, world_functions}
 use Rattle.wit_arena.specs.Whole.{Ordered, Turned, item_of, ordered_names, turned, turn_handles, AreRequired, meetings, all_meetings, type_imports, addresses, interface_addresses, world_addresses, declarations, HasTypes, AreIncludes, foreign_turned, AreForeignInterfaces, AreInterfaces, AreWorlds, IsFaithful, NamesOthers, first_docs, IsPackage}
 use Rattle.wit_arena.specs.Resolving.{Names, Cell, Required, cell}
 use Rattle.wit_arena.specs.Resolved.{AddsForeign}
@@ -43,7 +48,6 @@ use Rattle.wit_arena.proofs.Laid.{done_required, required_in_turn, scope_at, ord
 use Rattle.wit_arena.proofs.Added.{world_cell, decls, InterfacesDone, WorldsDone}
 use Rattle.wit_arena.proofs.Required.{required_append}
 use Rattle.wit_arena.proofs.Stated.{has_types}
-use Rattle.wit_syntax.proofs.Legal.{function_name}
 use Rattle.wit_arena.proofs.Faithful.{IsOwnerOf, AreOwners, one_type, faithful}
 use Rattle.wit_arena.proofs.Unknowns.{takings_front}
 
@@ -61,6 +65,10 @@ ordered_addresses os ws all = ap (map address) (sym all) ∙ map_map address ite
 named_world-label : (p : UnresolvedPackage) (place : ℕ) (name : List ℕ) → is_label name ≡ true → named_world p place name ≡ OfScope (WorldNamed name)
 named_world-label p place [] h = absurd (let f : ⊥ = cc in f)
 named_world-label p place (c ∷ cs) h = refl
+
+-- a world without imports and exports has no functions
+no_functions_in : (w : World) → w.imports ≡ [] → w.exports ≡ [] → world_functions w ≡ []
+no_functions_in w imports exports = ap (λ (l : List (WorldKey × WorldItem)). map (keyed Imported) (flat_map item_functions l) ++ map (keyed Exported) (flat_map item_functions w.exports)) imports ∙ ap (λ (l : List (WorldKey × WorldItem)). map (keyed Exported) (flat_map item_functions l)) exports
 
 -- a package of what other packages put in front, and of interfaces and worlds that are done
 module _ (files : List PackageFile) (is ws : List Item) (start middle : List TypeDef) (front xs : List Interface) (wfront ys : List World) (foreign : AddsForeign files start front wfront) (irs wrs : List Required) (p : UnresolvedPackage) (d : InterfacesDone files is ws front is middle xs irs) (e : WorldsDone files is ws front d.ordered d.scopes ws p.types ys wrs) (interface_arena : p.interfaces ≡ front ++ xs) (world_arena : p.worlds ≡ wfront ++ ys) (others : NamesOthers files p) where
@@ -114,7 +122,7 @@ module _ (files : List PackageFile) (is ws : List Item) (start middle : List Typ
         let w = at_within wfront k (omega arith) in
         let there = world_in_front k w.0 w.1 in
         let says = foreign.worlds.says k v w.0 v_at w.1 in
-        (ap (λ (b : DoneScope). owner_of p b.owner) is ∙ world_by k w.0 [] there says.name ∙ foreign_world_owner files p others.deps k v v_at ∙ ap (λ (b : DoneScope). OfScope b.address) (sym is), ap (λ (b : DoneScope). names_of p b.owner) is ∙ ap (λ (o : Option World). option_map_or world_types o []) there ∙ ap (flat_map import_types) says.imports ∙ ap (λ (b : DoneScope). b.types) (sym is), ap (λ (b : DoneScope). functions_of p b.owner) is ∙ ap (λ (o : Option World). option_map_or world_functions o []) there ∙ ap (flat_map import_functions) says.imports ∙ ap (λ (b : DoneScope). b.stated) (sym is)))
+        (ap (λ (b : DoneScope). owner_of p b.owner) is ∙ world_by k w.0 [] there says.name ∙ foreign_world_owner files p others.deps k v v_at ∙ ap (λ (b : DoneScope). OfScope b.address) (sym is), ap (λ (b : DoneScope). names_of p b.owner) is ∙ ap (λ (o : Option World). option_map_or world_types o []) there ∙ ap (flat_map import_types) says.imports ∙ ap (λ (b : DoneScope). b.types) (sym is), ap (λ (b : DoneScope). functions_of p b.owner) is ∙ ap (λ (o : Option World). option_map_or world_functions o []) there ∙ no_functions_in w.0 says.imports says.exports ∙ ap (λ (b : DoneScope). b.stated) (sym is)))
   ]
 
   -- an interface of the package by what it calls it
@@ -228,7 +236,7 @@ module _ (files : List PackageFile) (is ws : List Item) (start middle : List Typ
   pub owners : AreOwners p scopes
   owners = record { called = called_at; names = names_at; functions = functions_at_owner; all = all_owners }
 
-  pub faithful_package : ((t : ℕ) (c : DoneScope) → slice_get scopes t ≡ Some c → AllDiffer (map function_name c.functions)) → IsFaithful files p
+  pub faithful_package : ((t : ℕ) (c : DoneScope) → slice_get scopes t ≡ Some c → AllDiffer (map function_key c.functions)) → IsFaithful files p
   faithful_package apart = faithful files (decls files is ws) written scopes p e.done owners apart (takings_front files (meetings (map turned (d.ordered ++ e.ordered))) e.done.met e.done.meets) (ap length others.unknown ∙ length-map (first_takings files) (λ t. t.id.span))
 
   abbrev met_keys : List Key
@@ -265,7 +273,7 @@ module _ (files : List PackageFile) (is ws : List Item) (start middle : List Typ
       let k = length ahead + t in
       (c.0.made, functions_made k c.0 o (at_front (ahead ++ d.scopes) e.scopes k c.0 (at_back ahead d.scopes t c.0 c.1)) c.2, (d.laid.makes t c.0 i c.1 there).functions)
 
-  world_makes : (t : ℕ) (o : Ordered) (w : World) → slice_get e.ordered t ≡ Some o → slice_get ys t ≡ Some w → (fs : List Function) × AreFunctions met_keys (address o.item) (functions o.item) fs × (w.imports ≡ type_imports (ordered_names o) (world_types w) ++ map function_import fs)
+  world_makes : (t : ℕ) (o : Ordered) (w : World) → slice_get e.ordered t ≡ Some o → slice_get ys t ≡ Some w → (fs : List Function) × AreFunctions met_keys (address o.item) (functions o.item) fs × (w.imports ≡ type_imports (ordered_names o) (world_types w) ++ map function_item (made_on Imported (functions o.item) fs)) × (w.exports ≡ map function_item (made_on Exported (functions o.item) fs))
   world_makes t o w at there =
       let c = scope_at e.laid t o at in
       let k = length (ahead ++ d.scopes) + t in
@@ -274,7 +282,10 @@ module _ (files : List PackageFile) (is ws : List Item) (start middle : List Typ
       let one : c.0 ≡ j.0 = cc in
       let types : c.0.types ≡ world_types w = ap (λ (x : DoneScope). x.types) one ∙ sym (types_of_cell j.0 (world_cell w) (sym j.2)) in
       let names : c.0.names ≡ ordered_names o = ap (λ (x : Turned). x.names) c.2 in
-      (c.0.made, functions_made k c.0 o (at_back (ahead ++ d.scopes) e.scopes t c.0 c.1) c.2, (e.laid.makes t c.0 w c.1 there).imports ∙ ap (λ (l : List ScopeName). type_imports l c.0.types ++ map function_import c.0.made) names ∙ ap (λ (l : Names). type_imports (ordered_names o) l ++ map function_import c.0.made) types)
+      let makes = e.laid.makes t c.0 w c.1 there in
+      let own : c.0.functions ≡ functions o.item = ap (λ (x : Turned). x.functions) c.2 in
+      let imported = map function_item (made_on Imported c.0.functions c.0.made) in
+      (c.0.made, functions_made k c.0 o (at_back (ahead ++ d.scopes) e.scopes t c.0 c.1) c.2, makes.imports ∙ ap (λ (l : List ScopeName). type_imports l c.0.types ++ imported) names ∙ ap (λ (l : Names). type_imports (ordered_names o) l ++ imported) types ∙ ap (λ (l : List SourceFunction). type_imports (ordered_names o) (world_types w) ++ map function_item (made_on Imported l c.0.made)) own, makes.exports ∙ ap (λ (l : List SourceFunction). map function_item (made_on Exported l c.0.made)) own)
 
   foreign_interfaces_are : AreForeignInterfaces files met_keys (foreign_interfaces files) front
   foreign_interfaces_are = record {
@@ -291,7 +302,7 @@ module _ (files : List PackageFile) (is ws : List Item) (start middle : List Typ
     count = e.laid.count;
     says = λ t o w at there. (e.laid.says t o w at there).says;
     types = world_types_at;
-    imports = world_makes;
+    sides = world_makes;
     includes = λ t o w at there. subst (λ (x : List Address). AreIncludes (map visited (foreign_worlds files) ++ x) o.item w.includes) (ordered_addresses e.ordered ws e.all) (e.laid.says t o w at there).includes;
   }
 

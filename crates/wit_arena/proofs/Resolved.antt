@@ -35,7 +35,8 @@ use Rattle.wit_syntax.proofs.Headers.{some_header}
 use Rattle.wit_syntax.proofs.Turns.{at_part}
 use Rattle.wit_syntax.proofs.Repeated.{differ_by, differ_none}
 use Rattle.wit_syntax.proofs.Kept.{kept_at}
-use Rattle.wit_syntax.proofs.Legal.{three_ways, function_name, functions_differ}
+use Rattle.wit_syntax.specs.Sides.{function_key}
+use Rattle.wit_syntax.proofs.Legal.{three_ways, functions_differ}
 use Rattle.wit_arena.proofs.Standing.{DoneScope, turn_of}
 use Rattle.wit_arena.proofs.Front.{front_scopes, front_at, FrontInterface, FrontWorld}
 use Rattle.wit_syntax.proofs.Found.{at_contains, contains_at}
@@ -209,18 +210,18 @@ module _ (files : List PackageFile) (places : List ℕ) (order : IsOrder (item_r
     pub files_required : AreRequired files (keys package_worlds.done.met) (flat_map turn_handles (map turned (is_done.2.ordered ++ package_worlds.ordered))) (irs ++ wrs)
     files_required = required_of files is_items ws_items es middle front is_done.0 wfront ws_done.0 foreign irs wrs p is_done.2 package_worlds (interfaces ∙ is_done.1) (worlds ∙ ws_done.1) others
 
-    -- no two functions of a scope that is legal by itself have one name
-    apart_in : AreLegalScopes (in_order (all_items files) places) → (test : Item → Bool) (o : Ordered) (c : DoneScope) (t : ℕ) → slice_get (filter test (in_order (all_items files) places)) t ≡ Some o.item → IsOrder (rows_of (scope_names o.item)) o.order → turned o ≡ turn_of c → AllDiffer (map function_name c.functions)
+    -- no two functions of a scope that is legal by itself go by one side and name
+    apart_in : AreLegalScopes (in_order (all_items files) places) → (test : Item → Bool) (o : Ordered) (c : DoneScope) (t : ℕ) → slice_get (filter test (in_order (all_items files) places)) t ≡ Some o.item → IsOrder (rows_of (scope_names o.item)) o.order → turned o ≡ turn_of c → AllDiffer (map function_key c.functions)
     apart_in scopes test o c t at least same =
         let p = kept_at test (in_order (all_items files) places) t o.item at in
-        subst (λ (x : Turned). AllDiffer (map function_name x.functions)) same (functions_differ (scope_names o.item) (functions o.item) o.order least (λ f broken. scopes.legal p.0 o.item f p.1 broken))
+        subst (λ (x : Turned). AllDiffer (map function_key x.functions)) same (functions_differ (scope_names o.item) (functions o.item) o.order least (λ f broken. scopes.legal p.0 o.item f p.1 broken))
 
-    functions_apart : AreLegalScopes (in_order (all_items files) places) → (t : ℕ) (c : DoneScope) → slice_get ((front_scopes files front ++ is_done.2.scopes) ++ package_worlds.scopes) t ≡ Some c → AllDiffer (map function_name c.functions)
+    functions_apart : AreLegalScopes (in_order (all_items files) places) → (t : ℕ) (c : DoneScope) → slice_get ((front_scopes files front ++ is_done.2.scopes) ++ package_worlds.scopes) t ≡ Some c → AllDiffer (map function_key c.functions)
     functions_apart scopes t c at = elim (at_part (front_scopes files front ++ is_done.2.scopes) package_worlds.scopes t c at) [
       | inl h ↦ elim (at_part (front_scopes files front) is_done.2.scopes h.0 c h.1) [
         | inl g ↦ elim (front_at files front foreign.interfaces.count g.0 c g.1) [
-          | FrontInterface k v i v_at i_at is ↦ subst (λ (b : DoneScope). AllDiffer (map function_name b.functions)) (sym is) differ_none
-          | FrontWorld k v v_at is ↦ subst (λ (b : DoneScope). AllDiffer (map function_name b.functions)) (sym is) differ_none
+          | FrontInterface k v i v_at i_at is ↦ subst (λ (b : DoneScope). AllDiffer (map function_key b.functions)) (sym is) differ_none
+          | FrontWorld k v v_at is ↦ subst (λ (b : DoneScope). AllDiffer (map function_key b.functions)) (sym is) differ_none
         ]
         | inr g ↦ (
             let o = ordered_at is_done.2.laid g.0 c g.1 in

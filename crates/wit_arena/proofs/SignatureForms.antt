@@ -14,10 +14,14 @@ use Rattle.wit_tree.specs.declared.tree.PackageFile.{PackageFile}
 use Rattle.wit_syntax.specs.Shape.{Shape, Word, shape_of}
 use Rattle.wit_syntax.specs.Address.{Address}
 use Rattle.wit_syntax.specs.Source.{Item, all_items, item_at, Part, Defining, Using, Including, Doing, Crossing, parts}
-use Rattle.wit_syntax.specs.Function.{Role, SourceParam, SourceFunction, all_params, written_param, self_param, function_with, free_function, resource_function, definition_functions, part_functions, functions, signature}
+use Rattle.wit_syntax.specs.Function.{Role, SourceParam, SourceFunction, all_params, written_param, self_param, function_with, free_function, resource_function, definition_functions, part_functions, functions, signature, function_of, side_function}
 use Rattle.wit_arena.specs.Whole.{functions_at}
 use Rattle.wit_syntax.proofs.Lists.{at_split, map_at, flat_map_at}
 use Rattle.wit_arena.proofs.Forms.{AreAnonymous, written_anonymous}
+use Rattle.wit_tree.specs.declared.tree.Func.{Func}
+use Rattle.wit_tree.specs.declared.tree.Docs.{Docs}
+use Rattle.wit_tree.specs.declared.tree.Attribute.{Attribute}
+use Rattle.wit_syntax.proofs.Externs.{extern_at}
 
 -- of a function
 record IsPlain (fn : SourceFunction) : Type 0 where
@@ -54,8 +58,11 @@ plain_made : (r : Id) (t : Option Written) (x : Shape) → Some (option_map_or s
 plain_made r None x h = let same : Word r ≡ x = cc in subst AreAnonymous same tt
 plain_made r (Some t) x h = let same : shape_of t ≡ x = cc in subst AreAnonymous same (written_anonymous t)
 
+plain_of : (name : List ℕ) (role : Role) (given : List SourceParam) (docs : Docs) (attributes : List Attribute) (id : Id) (f : Func) → ((k : ℕ) (p : SourceParam) → slice_get given k ≡ Some p → AreAnonymous p.shape) → IsPlain (function_of name role given docs attributes id f)
+plain_of name role given docs attributes id f h = record { given = h; params = plain_params f.params.items; result = plain_written f.result }
+
 plain_with : (name : List ℕ) (role : Role) (given : List SourceParam) (f : NamedFunc) → ((k : ℕ) (p : SourceParam) → slice_get given k ≡ Some p → AreAnonymous p.shape) → IsPlain (function_with name role given f)
-plain_with name role given f h = record { given = h; params = plain_params f.func.params.items; result = plain_written f.func.result }
+plain_with name role given f h = plain_of name role given f.docs f.attributes.items f.name f.func h
 
 none_given : (k : ℕ) (p : SourceParam) → slice_get [] k ≡ Some p → AreAnonymous p.shape
 none_given k p at = absurd (let f : ⊥ = cc in f)
@@ -83,7 +90,9 @@ plain_part : (p : Part) (k : ℕ) (fn : SourceFunction) → slice_get (part_func
 plain_part (Defining d) k fn at = plain_definition d.name d.body k fn at
 plain_part (Using u) k fn at = absurd (let f : ⊥ = cc in f)
 plain_part (Including i) k fn at = absurd (let f : ⊥ = cc in f)
-plain_part (Crossing x) k fn at = absurd (let f : ⊥ = cc in f)
+plain_part (Crossing x) k fn at =
+    let it = extern_at x x.kind k fn at in
+    subst IsPlain it.2 (plain_of (side_function x.side x.docs x.attributes.items it.0 it.1).name (side_function x.side x.docs x.attributes.items it.0 it.1).role [] x.docs x.attributes.items it.0 it.1 none_given)
 plain_part (Doing g) zero fn at =
     let same : free_function g ≡ fn = cc in
     subst IsPlain same (plain_with (free_function g).name (free_function g).role [] g none_given)

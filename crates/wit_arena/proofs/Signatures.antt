@@ -12,9 +12,9 @@ use Rattle.wit_model.specs.declared.function.Function.{Function}
 use Rattle.wit_model.specs.declared.function.FunctionKind.{FunctionKind}
 use Rattle.wit_model.specs.declared.function.Param.{Param}
 use Rattle.wit_syntax.specs.Form.{Form}
-use Rattle.wit_syntax.specs.Shape.{Shape, Shapes, End, More}
+use Rattle.wit_syntax.specs.Shape.{Shape}
 use Rattle.wit_syntax.specs.Address.{Address}
-use Rattle.wit_syntax.specs.Function.{Role, Freestanding, Method, Static, Constructor, SourceParam, SourceFunction, all_params, signature}
+use Rattle.wit_syntax.specs.Function.{Role, Freestanding, Method, Static, Constructor, OnSide, SourceParam, SourceFunction, all_params, signature}
 use Rattle.wit_arena.specs.Functions.{IsKind, AreParams, IsResult, IsFunction, AreFunctions}
 use Rattle.wit_arena.specs.Expr.{Exprs, expr_of, exprs_of}
 use Rattle.wit_arena.specs.Meet.{Key, Def, Whole, Meeting, keys, Meets, IsAt, shape_meetings, shapes_meetings, function_meetings, all_function_meetings}
@@ -87,6 +87,7 @@ kind_grown g s (Freestanding id form) k h = h
 kind_grown g s (Method of form) k h = (h.0, h.1, key_grown g h.0 (Def s of.name.now) h.2)
 kind_grown g s (Static of form) k h = (h.0, h.1, key_grown g h.0 (Def s of.name.now) h.2)
 kind_grown g s (Constructor of) k h = (h.0, h.1, key_grown g h.0 (Def s of.name.now) h.2)
+kind_grown g s (OnSide side id form) k h = h
 
 result_grown : {a b : List Key} → Grown a b → (s : Address) (x : Option Shape) (t : Option Ty) → IsResult a s x t → IsResult b s x t
 result_grown g s None t h = h

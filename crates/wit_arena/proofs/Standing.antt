@@ -12,6 +12,7 @@ use Rattle.wit_arena.specs.Meet.{Def, Whole, Meeting, keys, Meets, Decls, IsMeet
 use Rattle.wit_syntax.specs.Repeats.{AllDiffer}
 use Rattle.wit_model.specs.declared.function.Function.{Function}
 use Rattle.wit_syntax.specs.Function.{SourceFunction}
+use Rattle.wit_syntax.specs.Sides.{FunctionKey}
 use Rattle.wit_arena.specs.Functions.{AreFunctions}
 use Rattle.wit_arena.specs.Whole.{Turned, functions_at, turn_handles, AreRequired}
 use Rattle.wit_arena.specs.Resolving.{Names, Cell, Required, env_of, all_met, AreNames, decls_of}
@@ -29,7 +30,7 @@ pub record DoneScope : Type 0 where
   pub types : Names
   pub functions : List SourceFunction
   pub made : List Function
-  pub stated : List (List ℕ × Function)
+  pub stated : List (FunctionKey × Function)
   pub required : List Required
 
 abbrev pub done_address : DoneScope → Address
@@ -53,7 +54,7 @@ pub record IsDoneScope (files : List PackageFile) (c : DoneScope) : Type 0 where
   pub turn : IsTurn (scope files c.address) c.names
   pub listed : map (λ p. p.0) c.types ≡ local_names c.names
   pub functions : c.functions ≡ functions_at files c.address
-  pub stated : AreStated c.made c.stated
+  pub stated : AreStated c.functions c.made c.stated
 
 -- a name of one of these scopes
 pub record IsNameOf (cs : List DoneScope) (s : Address) (name : List ℕ) : Type 0 where

@@ -10,7 +10,7 @@ use Rattle.wit_model.specs.declared.function.FunctionKind.TheVariants as kind
 use Rattle.wit_model.specs.declared.function.Param.{Param}
 use Rattle.wit_syntax.specs.Shape.{Shape, Shapes, End, More}
 use Rattle.wit_syntax.specs.Address.{Address}
-use Rattle.wit_syntax.specs.Function.{Role, Freestanding, Method, Static, Constructor, SourceParam, SourceFunction, all_params}
+use Rattle.wit_syntax.specs.Function.{Role, Freestanding, Method, Static, Constructor, OnSide, SourceParam, SourceFunction, all_params}
 use Rattle.wit_arena.specs.Functions.{freestanding_kind, method_kind, static_kind, IsNoted}
 use Rattle.wit_arena.specs.Expr.{exprs_of}
 use Rattle.wit_arena.specs.Meet.{shape_meetings}
@@ -31,6 +31,7 @@ IsKindIn env (Freestanding id form) k = k ≡ freestanding_kind form
 IsKindIn env (Method of form) k = (r : ℕ) × (k ≡ method_kind form r) × (env of.name.now ≡ Some r)
 IsKindIn env (Static of form) k = (r : ℕ) × (k ≡ static_kind form r) × (env of.name.now ≡ Some r)
 IsKindIn env (Constructor of) k = (r : ℕ) × (k ≡ kind.Constructor r) × (env of.name.now ≡ Some r)
+IsKindIn env (OnSide side id form) k = k ≡ freestanding_kind form
 
 -- a parameter of the package is the written one apart from its type
 abbrev pub SaysParam : SourceParam → Param → Type 0

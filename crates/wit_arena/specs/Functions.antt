@@ -1,5 +1,5 @@
 -- What the functions of a package say: each is a written function, whose types stand at the places of their expressions.
-use Rattle.std.specs.Prelude.{◌≡◌, ℕ, List, [], ◌∷◌, length, map, Option, Some, None, slice_get, codes}
+use Rattle.std.specs.Prelude.{if◌then◌else◌, ◌≡◌, ℕ, List, [], ◌∷◌, length, map, Option, Some, None, slice_get, codes}
 use Rattle.std.specs.Option.{option_to_list}
 use Rattle.wit_names.specs.Front.{behind}
 use Rattle.wit_tree.specs.declared.tree.Id.{Id}
@@ -17,7 +17,9 @@ use Rattle.wit_model.specs.declared.world.WorldItem.TheVariants as item
 use Rattle.wit_model.specs.Setters.{placed}
 use Rattle.wit_syntax.specs.Address.{Address}
 use Rattle.wit_syntax.specs.Shape.{Shape}
-use Rattle.wit_syntax.specs.Function.{Role, Freestanding, Method, Static, Constructor, SourceParam, SourceFunction, all_params, function_notes}
+use Rattle.wit_tree.specs.declared.tree.WorldSide.{WorldSide}
+use Rattle.wit_syntax.specs.Sides.{role_side, same_side}
+use Rattle.wit_syntax.specs.Function.{Role, Freestanding, Method, Static, Constructor, OnSide, SourceParam, SourceFunction, all_params, function_notes}
 use Rattle.wit_arena.specs.Expr.{expr_of}
 use Rattle.wit_arena.specs.Meet.{Key, Def, IsAt}
 
@@ -49,6 +51,7 @@ IsKind ks s (Freestanding id form) k = k ≡ freestanding_kind form
 IsKind ks s (Method of form) k = (r : ℕ) × (k ≡ method_kind form r) × IsResourceAt ks s of r
 IsKind ks s (Static of form) k = (r : ℕ) × (k ≡ static_kind form r) × IsResourceAt ks s of r
 IsKind ks s (Constructor of) k = (r : ℕ) × (k ≡ kind.Constructor r) × IsResourceAt ks s of r
+IsKind ks s (OnSide side id form) k = k ≡ freestanding_kind form
 
 -- a parameter of the package is the written one
 pub record IsParam (ks : List Key) (s : Address) (written : SourceParam) (p : Param) : Type 0 where
@@ -102,6 +105,12 @@ by_name f = (f.name, f)
 abbrev pub placed_functions : List Function → List (List ℕ × Function)
 placed_functions fs = placed Some (map by_name fs)
 
--- of a world, functions are imports
-abbrev pub function_import : Function → WorldKey × WorldItem
-function_import f = (key.Name f.name, item.Function f)
+-- in a world, a function stands at its name
+abbrev pub function_item : Function → WorldKey × WorldItem
+function_item f = (key.Name f.name, item.Function f)
+
+-- those functions of a package that stand on a side, where these are the written ones
+abbrev pub made_on : WorldSide → List SourceFunction → List Function → List Function
+made_on side [] fs = []
+made_on side (fn ∷ fns) [] = []
+made_on side (fn ∷ fns) (f ∷ fs) = if same_side side (role_side fn.role) then f ∷ made_on side fns fs else made_on side fns fs

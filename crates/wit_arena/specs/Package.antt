@@ -26,6 +26,9 @@ use Rattle.wit_arena.specs.Kind.{kind_of}
 use Rattle.wit_syntax.specs.Address.{Address, InterfaceNamed, WorldNamed, ForeignNamed}
 use Rattle.wit_syntax.specs.Node.{Owner, OfScope, Nobody, Head, Node, Leaf, Named, Unnamed, Nothing, Tree, unfolded}
 use Rattle.wit_syntax.specs.Node as node
+use Rattle.wit_tree.specs.declared.tree.WorldSide.{WorldSide}
+use Rattle.wit_tree.specs.declared.tree.WorldSide.TheVariants.{Imported, Exported}
+use Rattle.wit_syntax.specs.Sides.{FunctionKey}
 use Rattle.wit_syntax.specs.Notes.{Notes, no_docs}
 
 -- what other packages' items a package names, each with its address
@@ -85,22 +88,27 @@ import_types (key.Interface i, it) = []
 abbrev pub world_types : World → List (List ℕ × ℕ)
 world_types w = flat_map import_types w.imports
 
--- the function that an import is, under its name
-abbrev pub import_functions : WorldKey × WorldItem → List (List ℕ × Function)
-import_functions (key.Name name, item.Function f) = (name, f) ∷ []
-import_functions (key.Name name, item.Type_ id span) = []
-import_functions (key.Name name, item.Interface id stability external_id docs span) = []
-import_functions (key.Interface i, it) = []
+-- the function that an import or an export is, under its name
+abbrev pub item_functions : WorldKey × WorldItem → List (List ℕ × Function)
+item_functions (key.Name name, item.Function f) = (name, f) ∷ []
+item_functions (key.Name name, item.Type_ id span) = []
+item_functions (key.Name name, item.Interface id stability external_id docs span) = []
+item_functions (key.Interface i, it) = []
 
--- the functions among the imports of a world, under their names
-abbrev pub world_functions : World → List (List ℕ × Function)
-world_functions w = flat_map import_functions w.imports
+-- a function under its name, on a side
+abbrev pub keyed : WorldSide → List ℕ × Function → FunctionKey × Function
+keyed side f = ((side, f.0), f.1)
 
-abbrev pub interface_functions : Interface → List (List ℕ × Function)
-interface_functions i = i.functions
+-- the functions among the imports of a world, and then those among its exports, under their sides and names
+abbrev pub world_functions : World → List (FunctionKey × Function)
+world_functions w = map (keyed Imported) (flat_map item_functions w.imports) ++ map (keyed Exported) (flat_map item_functions w.exports)
 
--- the functions of an owner, under their names
-abbrev pub functions_of : UnresolvedPackage → TypeOwner → List (List ℕ × Function)
+-- those of an interface stand where imports do
+abbrev pub interface_functions : Interface → List (FunctionKey × Function)
+interface_functions i = map (keyed Imported) i.functions
+
+-- the functions of an owner, under their sides and names
+abbrev pub functions_of : UnresolvedPackage → TypeOwner → List (FunctionKey × Function)
 functions_of p (owner.Interface i) = option_map_or interface_functions (slice_get p.interfaces i) []
 functions_of p (owner.World w) = option_map_or world_functions (slice_get p.worlds w) []
 functions_of p owner.None = []
@@ -181,11 +189,10 @@ pub record IsInterface (id : Id) (n : Notes) (i : Interface) : Type 0 where
   pub no_package : i.package ≡ None
   pub no_source : i.clone_of ≡ None
 
--- a world of the arena is the declared one of a name and these notes, apart from its imports and includes
+-- a world of the arena is the declared one of a name and these notes, apart from its imports, exports and includes
 pub record IsWorld (id : Id) (n : Notes) (w : World) : Type 0 where
   pub name : w.name ≡ id.name.now
   pub span : w.span ≡ id.span
-  pub exports : w.exports ≡ []
   pub docs : w.docs ≡ n.docs
   pub stability : w.stability ≡ n.stability
   pub no_package : w.package ≡ None

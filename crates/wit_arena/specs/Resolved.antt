@@ -22,7 +22,8 @@ use Rattle.wit_syntax.specs.Scope.{includes, interfaces_of, worlds_of, rows_of, 
 use Rattle.wit_model.specs.declared.function.Function.{Function}
 use Rattle.wit_syntax.specs.Function.{SourceFunction, functions as item_functions, signature, all_types, item_types}
 use Rattle.wit_syntax.specs.Signature.{IsUnpairedSetter}
-use Rattle.wit_arena.specs.Functions.{placed_functions, function_import}
+use Rattle.wit_tree.specs.declared.tree.WorldSide.TheVariants.{Imported, Exported}
+use Rattle.wit_arena.specs.Functions.{placed_functions, function_item, made_on}
 use Rattle.wit_syntax.specs.Broken.{IsBrokenScope}
 use Rattle.wit_arena.specs.Whole.{owner_at, taking_meeting, AreForeignInterfaces, AreForeignWorlds, type_imports, AreIncludes}
 use Rattle.wit_arena.specs.Resolving.{Names, env_of, Cell, cells, named, Defines, AddsFunctions, Required, IsWrongHandle, AreEnded, IsIndex, IsWorldIndex, IsLostInclude, IsWrongScope}
@@ -75,7 +76,8 @@ pub record AddsWorld (foreign others : List Address) (is : List Interface) (old 
   pub adds : AddsScope old middle (cells foreign is) (owner.World (length ws)) (scope_names item) types
   pub functions : List Function
   pub behind : AddsBehind middle new item adds.order types functions rs
-  pub imports : added.imports ≡ type_imports (in_turn (scope_names item) adds.order) types ++ map function_import functions
+  pub imports : added.imports ≡ type_imports (in_turn (scope_names item) adds.order) types ++ map function_item (made_on Imported (item_functions item) functions)
+  pub exports : added.exports ≡ map function_item (made_on Exported (item_functions item) functions)
   pub includes : AreIncludes (worlds_at others ws) item added.includes
 
 -- what items add to the arenas, one after another, and what they require, where `Adds` says what one of them does

@@ -32,7 +32,7 @@ use Rattle.wit_syntax.specs.Shape.{shape_of, all_shapes, words, all_words, handl
 use Rattle.wit_syntax.specs.Notes.{Notes, notes, no_docs, IsBrokenNotes}
 use Rattle.wit_arena.specs.Expr.{Expr, Prim, Use, Of, Exprs, End, More}
 use Rattle.wit_arena.specs.Meet.{Key, Def, Whole, Meeting, keys, IsMet, Meets, AreAt, Decl, Decls, IsAmong, IsMeeting, all_name_meetings, all_function_meetings, decl_of, settled}
-use Rattle.wit_syntax.specs.Fault.{Fault, fault, missing_at, item_word, type_word, name_word}
+use Rattle.wit_syntax.specs.Fault.{Fault, fault, missing_at, missing_type_at, item_word, name_word}
 use Rattle.wit_arena.specs.Package.{At, IsInterface}
 use Rattle.wit_syntax.specs.Bodies.{IsBrokenType, IsBrokenPart, IsBrokenBody}
 use Rattle.wit_syntax.specs.Function.{SourceFunction}
@@ -155,7 +155,7 @@ pub record IsUnknown (env : Env) (ids : List Id) (f : Fault) : Type 0 where
   pub id : Id
   pub among : Contains ids id
   pub free : env id.name.now ≡ None
-  pub is : f ≡ missing_at 15 type_word id
+  pub is : f ≡ missing_type_at id
 
 -- a name in a handle ends at something else than a resource
 pub record IsWrongHandle (env : Env) (es : List TypeDef) (ids : List Id) (f : Fault) : Type 0 where

@@ -40,11 +40,13 @@ use Rattle.wit_model.specs.declared.function.Function.{Function}
 use Rattle.wit_syntax.specs.Function.{SourceFunction, signature, functions as item_functions, all_types}
 use Rattle.wit_syntax.specs.Ends.{AtResource, AtForeign, EndsAt}
 use Rattle.wit_tree.specs.declared.tree.Id.{Id}
-use Rattle.wit_arena.specs.Functions.{AreFunctions, placed_functions, function_import}
+use Rattle.wit_tree.specs.declared.tree.WorldSide.TheVariants.{Imported, Exported}
+use Rattle.wit_arena.specs.Functions.{AreFunctions, placed_functions, function_item, made_on}
 use Rattle.wit_syntax.specs.Scope.{item_rows, interfaces_of, worlds_of, includes, rows_of, in_order, in_turn}
 use Rattle.wit_types.specs.declared.docs.Docs.{Docs}
 use Rattle.wit_syntax.specs.Notes.{docs_of, no_docs, stability_of}
 use Rattle.wit_syntax.specs.Broken.{last_header, headers}
+use Rattle.wit_syntax.specs.Sides.{FunctionKey, function_key}
 use Rattle.wit_arena.specs.Meet.{Key, Def, Meeting, keys, all_name_meetings, all_function_meetings, Meets, IsAt, Decls, decl_of, IsMeeting}
 use Rattle.wit_syntax.specs.Source as source
 use Rattle.wit_arena.specs.Package.{At, HasPart, IsBelow, Reaches, IsInterface, IsWorld, IsForeignInterface, IsForeignWorld, world_types, owner_of, names_of, functions_of, function_types, package_tree}
@@ -128,12 +130,13 @@ pub record AreIncludes (worlds : List Address) (item : Item) (is : List WorldInc
   pub count : length is ≡ length (includes item)
   pub each : (k : ℕ) (written : Include) (i : WorldInclude) → slice_get (includes item) k ≡ Some written → slice_get is k ≡ Some i → IsInclude worlds item.top written i
 
--- these are the worlds of files, each with its names in turn as its imports, and then its functions, and with its includes, where the worlds have these addresses
+-- These are the worlds of files, each with its names in turn as its imports, and then the functions that it imports, with those that it
+-- exports, and with its includes, where the worlds have these addresses.
 pub record AreWorlds (ks : List Key) (worlds : List Address) (os : List Ordered) (ws : List World) : Type 0 where
   pub count : length ws ≡ length os
   pub says : (t : ℕ) (o : Ordered) (w : World) → slice_get os t ≡ Some o → slice_get ws t ≡ Some w → IsWorld (item_id o.item) (item_notes o.item) w
   pub types : (t : ℕ) (o : Ordered) (w : World) → slice_get os t ≡ Some o → slice_get ws t ≡ Some w → HasTypes ks (turned o) (world_types w)
-  pub imports : (t : ℕ) (o : Ordered) (w : World) → slice_get os t ≡ Some o → slice_get ws t ≡ Some w → (fs : List Function) × AreFunctions ks (address o.item) (item_functions o.item) fs × (w.imports ≡ type_imports (ordered_names o) (world_types w) ++ map function_import fs)
+  pub sides : (t : ℕ) (o : Ordered) (w : World) → slice_get os t ≡ Some o → slice_get ws t ≡ Some w → (fs : List Function) × AreFunctions ks (address o.item) (item_functions o.item) fs × (w.imports ≡ type_imports (ordered_names o) (world_types w) ++ map function_item (made_on Imported (item_functions o.item) fs)) × (w.exports ≡ map function_item (made_on Exported (item_functions o.item) fs))
   pub includes : (t : ℕ) (o : Ordered) (w : World) → slice_get os t ≡ Some o → slice_get ws t ≡ Some w → AreIncludes worlds o.item w.includes
 
 -- the names in the handles of a scope, each with the scope, in the order in which they are resolved
@@ -254,12 +257,12 @@ pub record HasTree (files : List PackageFile) (p : UnresolvedPackage) (o : TypeO
 abbrev pub functions_at : List PackageFile → Address → List SourceFunction
 functions_at files s = option_map_or item_functions (item_at (all_items files) s) []
 
--- a function of a scope stands under its name among the functions of its owner, with a type for each of its own, whose tree is that at
+-- a function of a scope stands under its side and name among the functions of its owner, with a type for each of its own, whose tree is that at
 -- every depth
 pub record HasFunctionTree (files : List PackageFile) (p : UnresolvedPackage) (o : TypeOwner) (s : Address) (fn : SourceFunction) : Type 0 where
   pub place : ℕ
   pub f : Function
-  pub stands : slice_get (functions_of p o) place ≡ Some (fn.name, f)
+  pub stands : slice_get (functions_of p o) place ≡ Some (function_key fn, f)
   pub count : length (function_types f) ≡ length (signature fn)
   pub trees : (k : ℕ) (x : Shape) (ty : Ty) → slice_get (signature fn) k ≡ Some x → slice_get (function_types f) k ≡ Some ty → (n : ℕ) → package_tree p n ty ≡ source_tree files n (s, x)
 
@@ -281,10 +284,10 @@ pub record IsReached (p : UnresolvedPackage) (j : ℕ) : Type 0 where
 pub record IsReachedByFunction (p : UnresolvedPackage) (j : ℕ) : Type 0 where
   pub owner : TypeOwner
   pub place : ℕ
-  pub name : List ℕ
+  pub key : FunctionKey
   pub f : Function
   pub ty : Ty
-  pub stands : slice_get (functions_of p owner) place ≡ Some (name, f)
+  pub stands : slice_get (functions_of p owner) place ≡ Some (key, f)
   pub among : HasPart (function_types f) ty
   pub leads : Reaches p.types ty j
 
@@ -298,7 +301,7 @@ pub record IsInSignature (files : List PackageFile) (p : UnresolvedPackage) (wri
   pub index : ℕ
   pub called : owner_of p owner ≡ OfScope written.0
   pub among : slice_get (functions_at files written.0) k ≡ Some fn
-  pub stands : slice_get (functions_of p owner) place ≡ Some (fn.name, f)
+  pub stands : slice_get (functions_of p owner) place ≡ Some (function_key fn, f)
   pub shape : slice_get (signature fn) index ≡ Some written.1
   pub is : slice_get (function_types f) index ≡ Some ty
 

@@ -15,7 +15,7 @@ use Rattle.wit_order.proofs.Rows.{key_eq, rows-insert}
 use Rattle.wit_order.proofs.Tables.{place_by_key}
 use Rattle.wit_syntax.specs.Source.{TopName, top_names, top_text, declared_items, Item, file_items, all_items, item_name}
 use Rattle.wit_syntax.specs.Scope.{item_row, item_rows}
-use Rattle.wit_syntax.specs.Fault.{Fault, item_word}
+use Rattle.wit_syntax.specs.Fault.{Fault, missing_at, item_word}
 use Rattle.wit_syntax.specs.Broken.{IsMissingEdge, IsCyclicEdge, IsBrokenItems, DuplicateItem, DuplicateTopName, MissingItem, CyclicItem, IsBrokenNames, Items, ForeignStability, AttributedTopUse, MissingOriginal}
 use Rattle.wit_syntax.specs.Foreign.{foreign_visits}
 use Rattle.wit_syntax.specs.Repeats.{AllDiffer}
@@ -124,8 +124,8 @@ tops_added files file old new tops more = record {
 }
 
 -- what is wrong with the order of a table is wrong with the items that it has
-pub broken_order : (files : List PackageFile) (rs : List Row) → rs ≡ item_rows files → (f : Fault) → IsMissingEdge 7 item_word rs f ⊎ IsCyclicEdge 8 item_word rs f → IsBrokenItems files f
-broken_order files rs same f (inl h) = MissingItem (subst (λ (l : List Row). IsMissingEdge 7 item_word l f) same h)
+pub broken_order : (files : List PackageFile) (rs : List Row) → rs ≡ item_rows files → (f : Fault) → IsMissingEdge (missing_at 7 item_word) rs f ⊎ IsCyclicEdge 8 item_word rs f → IsBrokenItems files f
+broken_order files rs same f (inl h) = MissingItem (subst (λ (l : List Row). IsMissingEdge (missing_at 7 item_word) l f) same h)
 broken_order files rs same f (inr h) = CyclicItem (subst (λ (l : List Row). IsCyclicEdge 8 item_word l f) same h)
 
 -- where names differ and the items have an order, no rule about items is broken
@@ -134,7 +134,7 @@ legal_items files places differ tops order f (DuplicateItem h) = no_repeat item_
 legal_items files places differ tops order f (DuplicateTopName file among h) =
     let p = at_contains files file among in
     no_repeat top_text (top_names file) h.later (tops.differ p.0 file p.1) h.repeated
-legal_items files places differ tops order f (MissingItem h) = no_missing_edge 7 item_word (item_rows files) places f order h
+legal_items files places differ tops order f (MissingItem h) = no_missing_edge (missing_at 7 item_word) (item_rows files) places f order h
 legal_items files places differ tops order f (CyclicItem h) = no_cyclic_edge 8 item_word (item_rows files) places f order h
 
 -- the table of the items of files finds them

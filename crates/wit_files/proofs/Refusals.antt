@@ -6,7 +6,7 @@ use Rattle.wit_tree.specs.declared.error.ParseError.{ParseError}
 use Rattle.wit_tree.specs.Refusal.{IsWantOfMemory}
 use Rattle.wit_order.specs.Table.{Row, IsEdge}
 use Rattle.wit_order.specs.Faults.{IsFirstMissing, IsFirstCyclic}
-use Rattle.wit_syntax.specs.Fault.{fault_of, missing_at, cyclic_at}
+use Rattle.wit_syntax.specs.Fault.{Fault, fault_of, cyclic_at}
 use Rattle.wit_syntax.specs.Broken.{IsMissingEdge, IsCyclicEdge, Refused}
 
 -- one place and index have one edge
@@ -17,14 +17,14 @@ same_edge rs i k a b x y =
     let ids : Some a ≡ Some b = sym x.2 ∙ ap (λ (r : Row). slice_get r.needs k) row ∙ y.2 in
     cc
 
-pub missing_edge : (number : ℕ) (sort : List ℕ) (other : ℕ) (rs : List Row) (i k : ℕ) (id : Id) (e : ParseError) → IsFirstMissing rs i k → IsEdge rs i k id → IsWantOfMemory e ⊎ (fault_of e ≡ missing_at number sort id) → Refused (λ f. IsMissingEdge number sort rs f ⊎ IsCyclicEdge other sort rs f) e
-missing_edge number sort other rs i k id e f edge says = elim says [
+pub missing_edge : (told : Id → Fault) (other : ℕ) (sort : List ℕ) (rs : List Row) (i k : ℕ) (id : Id) (e : ParseError) → IsFirstMissing rs i k → IsEdge rs i k id → IsWantOfMemory e ⊎ (fault_of e ≡ told id) → Refused (λ f. IsMissingEdge told rs f ⊎ IsCyclicEdge other sort rs f) e
+missing_edge told other sort rs i k id e f edge says = elim says [
   | inl memory ↦ inl memory
-  | inr is ↦ inr (inl (record { place = i; index = k; id = f.id; edge = f.first.is; missing = f.first.holds; is = is ∙ ap (missing_at number sort) (same_edge rs i k id f.id edge f.first.is) }))
+  | inr is ↦ inr (inl (record { place = i; index = k; id = f.id; edge = f.first.is; missing = f.first.holds; is = is ∙ ap told (same_edge rs i k id f.id edge f.first.is) }))
 ]
 
-pub cyclic_edge : (number : ℕ) (sort : List ℕ) (other : ℕ) (rs : List Row) (i k : ℕ) (id : Id) (e : ParseError) → IsFirstCyclic rs i k → IsEdge rs i k id → IsWantOfMemory e ⊎ (fault_of e ≡ cyclic_at number sort id) → Refused (λ f. IsMissingEdge other sort rs f ⊎ IsCyclicEdge number sort rs f) e
-cyclic_edge number sort other rs i k id e f edge says = elim says [
+pub cyclic_edge : (number : ℕ) (sort : List ℕ) (told : Id → Fault) (rs : List Row) (i k : ℕ) (id : Id) (e : ParseError) → IsFirstCyclic rs i k → IsEdge rs i k id → IsWantOfMemory e ⊎ (fault_of e ≡ cyclic_at number sort id) → Refused (λ f. IsMissingEdge told rs f ⊎ IsCyclicEdge number sort rs f) e
+cyclic_edge number sort told rs i k id e f edge says = elim says [
   | inl memory ↦ inl memory
   | inr is ↦ inr (inr (record { place = i; index = k; id = f.id; edge = f.first.is; cyclic = f.first.holds; is = is ∙ ap (cyclic_at number sort) (same_edge rs i k id f.id edge f.first.is) }))
 ]

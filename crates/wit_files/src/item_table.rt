@@ -4,7 +4,7 @@ ghost use Rattle.std.specs.List.{flat_map};
 ghost use Rattle.wit_order.specs.Table.{rows, IsOrder};
 ghost use Rattle.wit_syntax.specs.Source.{TopName as Top, Item, interface_part, world_part, top_names, file_items, item_name, is_world};
 ghost use Rattle.wit_syntax.specs.Scope.{use_path, include_path, item_row};
-ghost use Rattle.wit_syntax.specs.Fault.{item_word};
+ghost use Rattle.wit_syntax.specs.Fault.{missing_at, item_word};
 ghost use Rattle.wit_syntax.specs.Broken.{IsMissingEdge, IsCyclicEdge, Refused};
 ghost use Rattle.wit_syntax.specs.Repeats.{AllDiffer};
 ghost use Rattle.wit_files.specs.Tops.{AreNamed, AreDeclared};
@@ -138,7 +138,7 @@ pub(crate) fn table_order<'a>(
     table: &IndexMap<&'a str, Vec<Id<'a>>>,
 ) -> ParseResult<Vec<usize>>
     ensures order { IfOk result (λ places. IsOrder (rows table.now) places.items) }
-    ensures refused { IfErr result (Refused (λ f. IsMissingEdge 7 item_word (rows table.now) f ⊎ IsCyclicEdge 8 item_word (rows table.now) f)) }
+    ensures refused { IfErr result (Refused (λ f. IsMissingEdge (missing_at 7 item_word) (rows table.now) f ⊎ IsCyclicEdge 8 item_word (rows table.now) f)) }
 {
     match order_places(alloc, table) {
         Ok(places) => Ok(places),

@@ -3,7 +3,7 @@ ghost use Rattle.std.specs.Prelude.{◌⊎◌};
 ghost use Rattle.wit_tree.specs.declared.tree.Id.{Id as TheId};
 ghost use Rattle.wit_order.specs.Table.{rows, IsEdge};
 ghost use Rattle.wit_order.specs.Faults.{IsFaultOf};
-ghost use Rattle.wit_syntax.specs.Fault.{item_word, type_word};
+ghost use Rattle.wit_syntax.specs.Fault.{missing_at, missing_type_at, item_word, type_word};
 ghost use Rattle.wit_syntax.specs.Broken.{IsMissingEdge, IsCyclicEdge, Refused};
 
 use indexmap::IndexMap;
@@ -29,7 +29,7 @@ pub fn refuse_item_order(
     fault: OrderFault,
 ) -> ParseError
     requires { IsFaultOf (rows table.now) fault }
-    ensures { Refused (λ f. IsMissingEdge 7 item_word (rows table.now) f ⊎ IsCyclicEdge 8 item_word (rows table.now) f) result }
+    ensures { Refused (λ f. IsMissingEdge (missing_at 7 item_word) (rows table.now) f ⊎ IsCyclicEdge 8 item_word (rows table.now) f) result }
 {
     match fault {
         OrderFault::Missing { place, index } => {
@@ -49,7 +49,7 @@ pub fn refuse_type_order(
     fault: OrderFault,
 ) -> ParseError
     requires { IsFaultOf (rows table.now) fault }
-    ensures { Refused (λ f. IsMissingEdge 15 type_word (rows table.now) f ⊎ IsCyclicEdge 16 type_word (rows table.now) f) result }
+    ensures { Refused (λ f. IsMissingEdge missing_type_at (rows table.now) f ⊎ IsCyclicEdge 16 type_word (rows table.now) f) result }
 {
     match fault {
         OrderFault::Missing { place, index } => {

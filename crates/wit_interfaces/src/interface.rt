@@ -1,7 +1,7 @@
 //! Declared interfaces.
-ghost use Rattle.std.specs.Prelude.{◌≡◌, ◌<◌, ◌≤◌, ◌++◌, All, length, IfErr, OnOk, map};
+ghost use Rattle.std.specs.Prelude.{◌≡◌, ◌<◌, ◌≤◌, ◌++◌, false, All, length, IfErr, OnOk, map};
 ghost use Rattle.wit_types.specs.declared.types.TypeOwner.TheVariants.{Interface as InterfaceOwner};
-ghost use Rattle.wit_syntax.specs.Source.{declared_attributes, item_id, scope_names as the_names};
+ghost use Rattle.wit_syntax.specs.Source.{declared_attributes, is_world, item_id, scope_names as the_names};
 ghost use Rattle.wit_syntax.specs.Notes.{IsBrokenStability};
 ghost use Rattle.wit_syntax.specs.Scope.{in_order, interfaces_of};
 ghost use Rattle.wit_syntax.specs.Function.{functions as the_functions};
@@ -34,6 +34,7 @@ use wit_items::notes::{ItemNotes, item_notes};
 use wit_model::{Function, Interface};
 use wit_notes::NameScope;
 use wit_rules::held::HeldFunction;
+use wit_sides::Sides;
 use wit_signatures::taken::check_setters;
 use wit_tree::ParseResult;
 use wit_tree::tree::Id;
@@ -99,6 +100,7 @@ fn resolve_interface<'a>(
     id: Id<'a>,
 ) -> ParseResult<()>
     requires id { id ≡ item_id (item_behind item.now) }
+    requires sort { is_world (item_behind item.now) ≡ false }
     requires named { names_behind item.now ≡ the_names (item_behind item.now) }
     requires placed { AreNamesPlaced (front_of interfaces.old.foreign.now) item.now.names.items }
     requires front { length interfaces.old.foreign.now ≤ length interfaces.old.arena }
@@ -114,7 +116,7 @@ fn resolve_interface<'a>(
     let owner = TypeOwner::Interface(interfaces.arena.next_id());
     let mut names = resolve_names(alloc, types, interfaces, owner, &item.names)?;
     let written = held_functions(alloc, item.declared)?;
-    let mut taken = NameScope::new(alloc);
+    let mut taken = Sides::new(alloc);
     let functions = resolve_signatures(
         alloc,
         types,
@@ -123,7 +125,7 @@ fn resolve_interface<'a>(
         &written,
         &mut taken,
     )?;
-    check_pairs(&taken, &names.turn, &written)?;
+    check_pairs(&taken.imports, &names.turn, &written)?;
     let functions = function_table(alloc, functions)?;
     add_interface(alloc, interfaces, id, notes, names.types, functions)?;
     add_required(required, &names.required)?;

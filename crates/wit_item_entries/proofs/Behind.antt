@@ -1,5 +1,5 @@
 -- What is wrong with the functions of an item, and what holds of the names of both.
-use Rattle.std.proofs.Common.{◌≡◌, ℕ, List, [], ◌∷◌, ◌++◌, map, Some, inl, inr, refl, sym, ap, ◌∙◌, subst, Contains}
+use Rattle.std.proofs.Common.{◌≡◌, ℕ, List, [], ◌∷◌, ◌++◌, map, take, Some, inl, inr, refl, sym, ap, ◌∙◌, subst, Contains}
 use Rattle.std.specs.Prelude.{slice_get}
 use Rattle.std.specs.List.{flat_map}
 use Rattle.std.specs.Option.{option_map}
@@ -15,17 +15,22 @@ use Rattle.wit_syntax.specs.Source.{ScopeName, local_id}
 use Rattle.wit_syntax.specs.Scope.{in_turn, local_names}
 use Rattle.wit_syntax.specs.Function.{SourceFunction, written_types}
 use Rattle.wit_syntax.specs.Signature.{Called, called_key, name_called, function_called}
-use Rattle.wit_syntax.specs.Broken.{all_called, IsFoldedTwice}
+use Rattle.wit_tree.specs.declared.tree.WorldSide.{WorldSide}
+use Rattle.wit_tree.specs.declared.tree.WorldSide.TheVariants.{Imported, Exported}
+use Rattle.wit_syntax.specs.Sides.{IsFoldedTwice, IsCrossedTwice, names_on, on_side, side_called}
 use Rattle.wit_arena.specs.Resolving.{Env, Names, env_of}
 use Rattle.wit_syntax.proofs.Lists.{at_front, map_map, flat_map_has}
+use Rattle.wit_syntax.proofs.Found.{contains_at}
 use Rattle.wit_arena.proofs.Meant.{free_unmeant}
 use Rattle.wit_arena.proofs.Required.{handle_of}
 use Rattle.wit_arena.proofs.Written.{handles_at}
 use Rattle.wit_notes.specs.Names.{Name}
+use Rattle.wit_sides.specs.Sides.{taken_on}
+use Rattle.wit_sides.specs.declared.sides.Sides.{Sides}
 use Rattle.wit_rules.specs.Signatures.{AreAllNames, IsWrongFunctionAmong}
-use Rattle.wit_signatures.specs.Taken.{name_of_id, name_of_function, name_key, IsTwiceAmong}
+use Rattle.wit_signatures.specs.Taken.{name_of_id, name_of_function, name_key, IsTwiceAmong, IsCrossedAmong, IsClash, Folded, Crossed}
 use Rattle.wit_item_entries.specs.Between.{names_in}
-use Rattle.wit_item_entries.specs.Behind.{IsTurn, IsWrongFunctions, BrokenFunction, HandleOfOther}
+use Rattle.wit_item_entries.specs.Behind.{IsTurn, IsWrongFunctions, BrokenFunction, BrokenNames, CrossedNames, HandleOfOther}
 use Rattle.wit_item_entries.proofs.Handled.{handle_wider}
 
 -- a name as it is called
@@ -40,12 +45,16 @@ called_names : (xs : List ScopeName) → map called (map name_of_id (map local_i
 called_names [] = refl
 called_names (x ∷ xs) = ap (λ l. name_called x ∷ l) (called_names xs)
 
--- the names of a scope in turn, and then those of its functions
-pub all_taken : (xs : List ScopeName) (fns : List SourceFunction) (order : List ℕ) (ids : List Id) → ids ≡ map local_id (in_turn xs order) → map called (map name_of_id ids ++ map name_of_function fns) ≡ all_called xs fns order
-all_taken xs fns order ids are =
-    map-append called (map name_of_id ids) (map name_of_function fns)
-    ∙ ap (λ (l : List Called). l ++ map called (map name_of_function fns)) (ap (λ (l : List Id). map called (map name_of_id l)) are ∙ called_names (in_turn xs order))
-    ∙ ap (λ (l : List Called). map name_called (in_turn xs order) ++ l) (called_functions fns)
+called_on : (side : WorldSide) (xs : List ScopeName) (ids : List Id) → ids ≡ map local_id xs → map called (names_on side (map name_of_id ids)) ≡ map name_called (names_on side xs)
+called_on Imported xs ids are = ap (λ (l : List Id). map called (map name_of_id l)) are ∙ called_names xs
+called_on Exported xs ids are = refl
+
+-- the names of a scope in turn on a side, and then those of functions
+pub all_taken : (side : WorldSide) (xs : List ScopeName) (fns : List SourceFunction) (order : List ℕ) (ids : List Id) → ids ≡ map local_id (in_turn xs order) → map called (names_on side (map name_of_id ids) ++ map name_of_function fns) ≡ map name_called (names_on side (in_turn xs order)) ++ map function_called fns
+all_taken side xs fns order ids are =
+    map-append called (names_on side (map name_of_id ids)) (map name_of_function fns)
+    ∙ ap (λ (l : List Called). l ++ map called (map name_of_function fns)) (called_on side (in_turn xs order) ids are)
+    ∙ ap (λ (l : List Called). map name_called (names_on side (in_turn xs order)) ++ l) (called_functions fns)
 
 repeated_called : (names : List Name) (later : Name) → IsRepeated name_key names later → IsRepeated called_key (map called names) (called later)
 repeated_called names later h = record {
@@ -58,15 +67,45 @@ repeated_called names later h = record {
   same = h.same;
 }
 
--- a name of a scope or of its functions that is taken is one once folded
-pub twice_folded : (xs : List ScopeName) (fns : List SourceFunction) (ids : List Id) (f : Fault) → IsTurn xs ids → IsTwiceAmong (map name_of_id ids ++ map name_of_function fns) f → IsFoldedTwice xs fns f
-twice_folded xs fns ids f t h = record {
+-- a name of a scope or of its functions that is taken on a side is one once folded
+pub twice_folded : (side : WorldSide) (xs : List ScopeName) (fns : List SourceFunction) (ids : List Id) (f : Fault) → IsTurn xs ids → IsTwiceAmong (names_on side (map name_of_id ids) ++ map name_of_function (on_side side fns)) f → IsFoldedTwice xs fns f
+twice_folded side xs fns ids f t h = record {
+  side = side;
   order = t.order;
   least = t.least;
   later = called h.later;
-  repeated = subst (λ (cs : List Called). IsRepeated called_key cs (called h.later)) (all_taken xs fns t.order ids t.are) (repeated_called (map name_of_id ids ++ map name_of_function fns) h.later h.repeated);
+  repeated = subst (λ (cs : List Called). IsRepeated called_key cs (called h.later)) (all_taken side xs (on_side side fns) t.order ids t.are) (repeated_called (names_on side (map name_of_id ids) ++ map name_of_function (on_side side fns)) h.later h.repeated);
   is = h.is;
 }
+
+-- the name of an import or an export that is taken on its side is one
+crossed_twice : (side : WorldSide) (xs : List ScopeName) (fns : List SourceFunction) (ids : List Id) (f : Fault) → IsTurn xs ids → IsCrossedAmong side (names_on side (map name_of_id ids)) (on_side side fns) f → IsCrossedTwice xs fns f
+crossed_twice side xs fns ids f t h =
+    let front = take h.place (on_side side fns) in
+    let names = names_on side (map name_of_id ids) ++ map name_of_function front in
+    let earlier : Called = record { name = h.later.name; span = h.taken.span } in
+    let all = map name_called (names_on side (in_turn xs t.order)) ++ map function_called front in
+    let there : slice_get all h.taken.place ≡ Some earlier = ap (λ (l : List Called). slice_get l h.taken.place) (sym (all_taken side xs front t.order ids t.are)) ∙ slice_get-map called names h.taken.place ∙ ap (option_map called) h.taken.at in
+    record {
+      side = side;
+      order = t.order;
+      least = t.least;
+      place = h.place;
+      later = h.later;
+      at = h.at;
+      id = h.id;
+      form = h.form;
+      crosses = h.crosses;
+      earlier = earlier;
+      among = contains_at all h.taken.place earlier there;
+      same = refl;
+      is = h.is;
+    }
+
+-- so names that clash behind those of a scope are wrong
+pub wrong_clash : (env : Env) (es : List TypeDef) (xs : List ScopeName) (fns : List SourceFunction) (ids : List Id) (before : WorldSide → List Name) (f : Fault) → IsTurn xs ids → ((side : WorldSide) → before side ≡ names_on side (map name_of_id ids)) → IsClash before fns f → IsWrongFunctions env es xs fns f
+wrong_clash env es xs fns ids before f t are (Folded side h) = BrokenNames (twice_folded side xs fns ids f t (subst (λ (l : List Name). IsTwiceAmong (l ++ map name_of_function (on_side side fns)) f) (are side) h))
+wrong_clash env es xs fns ids before f t are (Crossed side h) = CrossedNames (crossed_twice side xs fns ids f t (subst (λ (l : List Name). IsCrossedAmong side l (on_side side fns) f) (are side) h))
 
 -- so is one of the names alone
 pub twice_front : (names more : List Name) (f : Fault) → IsTwiceAmong names f → IsTwiceAmong (names ++ more) f
@@ -89,9 +128,13 @@ keys_called : (names : List Name) → map called_key (map called names) ≡ map 
 keys_called [] = refl
 keys_called (n ∷ ns) = ap (λ l. name_key n ∷ l) (keys_called ns)
 
--- where the keys of what is taken differ, so do those of all that is called
-pub differ_called : (xs : List ScopeName) (fns : List SourceFunction) (order : List ℕ) (ids : List Id) → ids ≡ map local_id (in_turn xs order) → AllDiffer (map name_key (map name_of_id ids ++ map name_of_function fns)) → AllDiffer (map called_key (all_called xs fns order))
-differ_called xs fns order ids are h = subst AllDiffer (sym (keys_called (map name_of_id ids ++ map name_of_function fns)) ∙ ap (map called_key) (all_taken xs fns order ids are)) h
+-- where the keys of what is taken on a side differ, so do those of all that is called there
+pub differ_called : (side : WorldSide) (xs : List ScopeName) (fns : List SourceFunction) (order : List ℕ) (ids : List Id) → ids ≡ map local_id (in_turn xs order) → AllDiffer (map name_key (names_on side (map name_of_id ids) ++ map name_of_function (on_side side fns))) → AllDiffer (map called_key (side_called side xs fns order))
+differ_called side xs fns order ids are h = subst AllDiffer (sym (keys_called (names_on side (map name_of_id ids) ++ map name_of_function (on_side side fns))) ∙ ap (map called_key) (all_taken side xs (on_side side fns) order ids are)) h
+
+-- once the names of a scope are taken where nothing was, they stand on their side
+pub taken_before : (side : WorldSide) (old new : Sides) (held ids : List Id) → ((s : WorldSide) → taken_on s old ≡ []) → ((s : WorldSide) → taken_on s new ≡ taken_on s old ++ names_on s (map name_of_id held)) → held ≡ ids → taken_on side new ≡ names_on side (map name_of_id ids)
+taken_before side old new held ids nothing defined same = defined side ∙ ap (λ (l : List Name). l ++ names_on side (map name_of_id held)) (nothing side) ∙ ap (λ (l : List Id). names_on side (map name_of_id l)) same
 
 -- the texts of the names of a scope in turn
 pub turn_texts : (xs : List ScopeName) (order : List ℕ) (ids : List Id) → ids ≡ map local_id (in_turn xs order) → map (λ (id : Id). id.name.now) ids ≡ local_names (in_turn xs order)

@@ -14,3 +14,5 @@ mod OwnKeys
 pub mod NoFunctions
 pub mod Owners
 mod PlacedNames
+pub mod MadeSides
+pub mod InterfaceSides

@@ -5,7 +5,11 @@ use Rattle.std.specs.List.{list_any}
 use Rattle.std.proofs.lemmas.List.{nil_from_length}
 use Rattle.wit_tree.specs.declared.tree.Id.{Id}
 use Rattle.wit_syntax.specs.Fault.{Fault}
+use Rattle.wit_tree.specs.declared.tree.WorldSide.{WorldSide}
+use Rattle.wit_tree.specs.declared.tree.WorldSide.TheVariants.{Imported, Exported}
 use Rattle.wit_syntax.specs.Repeats.{AllDiffer}
+use Rattle.wit_syntax.specs.Sides.{names_on, on_side}
+use Rattle.wit_syntax.proofs.Repeated.{differ_none}
 use Rattle.wit_syntax.specs.Source.{ScopeName}
 use Rattle.wit_syntax.specs.Function.{SourceFunction}
 use Rattle.wit_syntax.specs.Signature.{IsUnpairedSetter}
@@ -22,6 +26,10 @@ none_in fn (k, lt, is) = omega arith
 pub none_unpaired : (hs : List HeldFunction) → length hs ≡ 0 → (f : Fault) → IsUnpairedSetter (map function_behind hs) f → ⊥
 none_unpaired hs none f h = none_in h.fn (subst (λ (l : List HeldFunction). Contains (map function_behind l) h.fn) (nil_from_length hs none) h.among)
 
+alone : (side : WorldSide) (xs : List ScopeName) (ids : List Id) → IsTurn xs ids → list_any (λ (id : Id). list_any is_ascii_uppercase id.name.now) ids ≡ false → AllDiffer (map name_key (names_on side (map name_of_id ids) ++ []))
+alone Imported xs ids t lower = turn_keys xs ids t lower
+alone Exported xs ids t lower = differ_none
+
 -- the keys of their names differ where none has a letter in upper case
-pub names_alone : (xs : List ScopeName) (ids : List Id) (hs : List HeldFunction) → length hs ≡ 0 → IsTurn xs ids → list_any (λ (id : Id). list_any is_ascii_uppercase id.name.now) ids ≡ false → AllDiffer (map name_key (map name_of_id ids ++ map name_of_function (map function_behind hs)))
-names_alone xs ids hs none t lower = subst (λ (l : List HeldFunction). AllDiffer (map name_key (map name_of_id ids ++ map name_of_function (map function_behind l)))) (sym (nil_from_length hs none)) (turn_keys xs ids t lower)
+pub names_alone : (side : WorldSide) (xs : List ScopeName) (ids : List Id) (hs : List HeldFunction) → length hs ≡ 0 → IsTurn xs ids → list_any (λ (id : Id). list_any is_ascii_uppercase id.name.now) ids ≡ false → AllDiffer (map name_key (names_on side (map name_of_id ids) ++ map name_of_function (on_side side (map function_behind hs))))
+names_alone side xs ids hs none t lower = subst (λ (l : List HeldFunction). AllDiffer (map name_key (names_on side (map name_of_id ids) ++ map name_of_function (on_side side (map function_behind l))))) (sym (nil_from_length hs none)) (alone side xs ids t lower)

@@ -20,6 +20,7 @@ use Rattle.wit_rules.specs.Signatures.{HasOwner, HaveOwners}
 use Rattle.wit_item_entries.specs.Between.{names_in}
 use Rattle.wit_item_entries.specs.Behind.{IsTurn}
 use Rattle.wit_item_entries.proofs.Behind.{turn_texts}
+use Rattle.wit_syntax.proofs.Externs.{extern_at}
 
 resource_owner : (env : Env) (r : Id) (f : ResourceFunc) → IsSome (env r.name.now) → HasOwner env (owner_of (resource_function r f).role)
 resource_owner env r (resource.Method f) has = has
@@ -44,7 +45,9 @@ module _ (item : Item) (env : Env) (has : (i : ℕ) (x : ScopeName) → slice_ge
       definition_owner env d.name d.body j fn there (has place.0 (Defined d) place.1)
   part_owner i (Using u) j fn at there = absurd (let f : ⊥ = cc in f)
   part_owner i (Including x) j fn at there = absurd (let f : ⊥ = cc in f)
-  part_owner i (Crossing x) j fn at there = absurd (let f : ⊥ = cc in f)
+  part_owner i (Crossing x) j fn at there =
+      let it = extern_at x x.kind j fn there in
+      subst (λ (h : SourceFunction). HasOwner env (owner_of h.role)) it.2 tt
   part_owner i (Doing g) zero fn at there =
       let same : free_function g ≡ fn = cc in
       subst (λ (h : SourceFunction). HasOwner env (owner_of h.role)) same tt

@@ -17,10 +17,13 @@ use Rattle.wit_syntax.specs.Source.{Item, address, ScopeName, scope_names}
 use Rattle.wit_syntax.specs.Scope.{in_turn}
 use Rattle.wit_syntax.specs.Function.{SourceFunction, functions, name_types, written_types, item_types}
 use Rattle.wit_syntax.specs.Signature.{IsBrokenFunction}
-use Rattle.wit_syntax.specs.Broken.{IsBrokenScope, Function as FunctionBroken, FoldedTwice}
+use Rattle.wit_tree.specs.declared.tree.WorldSide.{WorldSide}
+use Rattle.wit_tree.specs.declared.tree.WorldSide.TheVariants.{Imported}
+use Rattle.wit_syntax.specs.Sides.{names_on, on_side}
+use Rattle.wit_syntax.specs.Broken.{IsBrokenScope, Function as FunctionBroken, FoldedTwice, CrossedTwice}
 use Rattle.wit_arena.specs.Resolving.{Env, Names, env_of, Cell, Required, AreEnded, AddsFunctions, IsWrongHandle, WrongItself}
 use Rattle.wit_arena.specs.Resolved.{AddsBehind, IsNameless, IsWrongHandleNow, IsWrongInterface, WrongScope, WrongHandle, IsWrongWorld, WrongWorldScope, WrongWorldHandle}
-use Rattle.wit_syntax.proofs.Legal.{no_fold, function_name}
+use Rattle.wit_syntax.proofs.Legal.{no_fold, no_crossed, function_name}
 use Rattle.wit_arena.proofs.FunctionNames.{names_differ, made_name}
 use Rattle.wit_syntax.proofs.Lists.{map_map}
 use Rattle.wit_arena.proofs.Required.{ended_append, ended_more}
@@ -28,9 +31,9 @@ use Rattle.wit_arena.proofs.Written.{all_handles-append}
 use Rattle.wit_notes.specs.Names.{Name}
 use Rattle.wit_entries.specs.Requiring.{IsGrown, Requires}
 use Rattle.wit_signatures.specs.Taken.{name_of_id, name_of_function, name_of_made, name_key}
-use Rattle.wit_scopes.specs.Between.{IsOfFunctions, OfFunction, OfFolded}
+use Rattle.wit_scopes.specs.Between.{IsOfFunctions, OfFunction, OfFolded, OfCrossed}
 use Rattle.wit_item_entries.specs.Between.{names_in, AddsTurn}
-use Rattle.wit_item_entries.specs.Behind.{IsTurn, IsWrongFunctions, BrokenFunction, BrokenNames, HandleOfOther}
+use Rattle.wit_item_entries.specs.Behind.{IsTurn, IsWrongFunctions, BrokenFunction, BrokenNames, CrossedNames, HandleOfOther}
 use Rattle.wit_item_entries.proofs.Handled.{handle_wider}
 use Rattle.wit_item_entries.proofs.Behind.{differ_called, turn_texts}
 
@@ -59,12 +62,13 @@ functions_behind old mid new cs o item types ids own all fs n adds g q =
     }
 
 -- where the names were legal but for the functions, and these are sound, the scope is
-pub scope_sound : (xs : List ScopeName) (fns : List SourceFunction) (ids : List Id) (t : IsTurn xs ids) → ((f : Fault) → IsBrokenScope xs fns f → IsOfFunctions xs fns f) → AllDiffer (map name_key (map name_of_id ids ++ map name_of_function fns)) → ((k : ℕ) (fn : SourceFunction) → slice_get fns k ≡ Some fn → (f : Fault) → IsBrokenFunction xs fns k fn f → IsNameless xs fns) → (f : Fault) → IsBrokenScope xs fns f → IsNameless xs fns
+pub scope_sound : (xs : List ScopeName) (fns : List SourceFunction) (ids : List Id) (t : IsTurn xs ids) → ((f : Fault) → IsBrokenScope xs fns f → IsOfFunctions xs fns f) → ((side : WorldSide) → AllDiffer (map name_key (names_on side (map name_of_id ids) ++ map name_of_function (on_side side fns)))) → ((k : ℕ) (fn : SourceFunction) → slice_get fns k ≡ Some fn → (f : Fault) → IsBrokenFunction xs fns k fn f → IsNameless xs fns) → (f : Fault) → IsBrokenScope xs fns f → IsNameless xs fns
 scope_sound xs fns ids t only differ sound f broken = by (only f broken)
   where
     by : IsOfFunctions xs fns f → IsNameless xs fns
     by (OfFunction k fn at h) = sound k fn at f h
-    by (OfFolded h) = absurd (no_fold xs fns t.order f t.least (differ_called xs fns t.order ids t.are differ) h)
+    by (OfFolded h) = absurd (no_fold xs fns t.order f t.least (λ side. differ_called side xs fns t.order ids t.are (differ side)) h)
+    by (OfCrossed h) = absurd (no_crossed xs fns t.order f t.least (λ side. differ_called side xs fns t.order ids t.are (differ side)) h)
 
 -- a handle in a function that is wrong is so in the item
 wrong_handle_behind : (old mid new : List TypeDef) (cs : List Cell) (o : TypeOwner) (item : Item) (types : Names) (ids : List Id) (own : List Required) (f : Fault) → AddsTurn old mid cs o (scope_names item) types ids own → IsGrown mid new → IsWrongHandle (env_of types) new (all_handles (flat_map written_types (functions item))) f → IsWrongHandleNow old cs o item f
@@ -88,16 +92,18 @@ wrong_handle_behind old mid new cs o item types ids own f n g h =
 pub wrong_behind : (old mid new : List TypeDef) (cs : List Cell) (by_name : Names) (o : TypeOwner) (item : Item) (types : Names) (ids : List Id) (own : List Required) (f : Fault) → AddsTurn old mid cs o (scope_names item) types ids own → IsGrown mid new → IsWrongFunctions (env_of types) new (scope_names item) (functions item) f → IsWrongInterface old cs by_name o item f
 wrong_behind old mid new cs by_name o item types ids own f n g (BrokenFunction k fn at h) = WrongScope (WrongItself (FunctionBroken k fn at h))
 wrong_behind old mid new cs by_name o item types ids own f n g (BrokenNames h) = WrongScope (WrongItself (FoldedTwice h))
+wrong_behind old mid new cs by_name o item types ids own f n g (CrossedNames h) = WrongScope (WrongItself (CrossedTwice h))
 wrong_behind old mid new cs by_name o item types ids own f n g (HandleOfOther h) = WrongHandle (wrong_handle_behind old mid new cs o item types ids own f n g h)
 
 -- so it is with a world
 pub wrong_behind_world : (files : List PackageFile) (old mid new : List TypeDef) (cs : List Cell) (by_name worlds : Names) (o : TypeOwner) (item : Item) (types : Names) (ids : List Id) (own : List Required) (f : Fault) → AddsTurn old mid cs o (scope_names item) types ids own → IsGrown mid new → IsWrongFunctions (env_of types) new (scope_names item) (functions item) f → IsWrongWorld files old cs by_name worlds o item f
 wrong_behind_world files old mid new cs by_name worlds o item types ids own f n g (BrokenFunction k fn at h) = WrongWorldScope (WrongItself (FunctionBroken k fn at h))
 wrong_behind_world files old mid new cs by_name worlds o item types ids own f n g (BrokenNames h) = WrongWorldScope (WrongItself (FoldedTwice h))
+wrong_behind_world files old mid new cs by_name worlds o item types ids own f n g (CrossedNames h) = WrongWorldScope (WrongItself (CrossedTwice h))
 wrong_behind_world files old mid new cs by_name worlds o item types ids own f n g (HandleOfOther h) = WrongWorldHandle (wrong_handle_behind old mid new cs o item types ids own f n g h)
 
--- the names of functions differ where the keys of what is taken do
-pub made_differ : (xs : List ScopeName) (fns : List SourceFunction) (ids : List Id) (fs : List Function) (t : IsTurn xs ids) → map name_of_made fs ≡ map name_of_function fns → AllDiffer (map name_key (map name_of_id ids ++ map name_of_function fns)) → AllDiffer (map made_name fs)
-made_differ xs fns ids fs t named differ =
+-- the names of functions that stand where imports do differ where the keys of what is taken there do
+pub made_differ : (xs : List ScopeName) (fns : List SourceFunction) (ids : List Id) (fs : List Function) (t : IsTurn xs ids) → on_side Imported fns ≡ fns → map name_of_made fs ≡ map name_of_function fns → AllDiffer (map name_key (map name_of_id ids ++ map name_of_function (on_side Imported fns))) → AllDiffer (map made_name fs)
+made_differ xs fns ids fs t imported named differ =
     let own : map made_name fs ≡ map function_name fns = sym (map_map (λ (n : Name). n.0) name_of_made fs) ∙ ap (map (λ (n : Name). n.0)) named ∙ map_map (λ (n : Name). n.0) name_of_function fns in
-    subst AllDiffer (sym own) (names_differ xs fns t.order (differ_called xs fns t.order ids t.are differ))
+    subst AllDiffer (ap (map function_name) imported ∙ sym own) (names_differ Imported xs fns t.order (differ_called Imported xs fns t.order ids t.are differ))

@@ -26,7 +26,7 @@ pub interface_told : (id : Id) (n : Notes) (held : ItemNotes) (i : Interface) �
 interface_told id n held i are says = record { name = says.name; span = says.span; docs = says.docs ∙ are.docs; stability = says.stability ∙ are.stability; no_package = says.no_package; no_source = says.no_source }
 
 pub world_told : (id : Id) (n : Notes) (held : ItemNotes) (w : World) → AreOf n held → IsWorld id (notes_behind held) w → IsWorld id n w
-world_told id n held w are says = record { name = says.name; span = says.span; exports = says.exports; docs = says.docs ∙ are.docs; stability = says.stability ∙ are.stability; no_package = says.no_package }
+world_told id n held w are says = record { name = says.name; span = says.span; docs = says.docs ∙ are.docs; stability = says.stability ∙ are.stability; no_package = says.no_package }
 
 -- an interface includes nothing
 no_include : (xs : List InterfaceItem) (i : Include) → Contains (flat_map part_includes (map interface_part xs)) i → ⊥

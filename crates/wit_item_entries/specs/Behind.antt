@@ -10,7 +10,7 @@ use Rattle.wit_syntax.specs.Source.{ScopeName, local_id, declared_parts}
 use Rattle.wit_syntax.specs.Scope.{rows_of, in_turn, AreDistinct}
 use Rattle.wit_syntax.specs.Function.{SourceFunction, part_functions, written_types}
 use Rattle.wit_syntax.specs.Signature.{IsBrokenFunction}
-use Rattle.wit_syntax.specs.Broken.{IsFoldedTwice}
+use Rattle.wit_syntax.specs.Sides.{IsFoldedTwice, IsCrossedTwice}
 use Rattle.wit_arena.specs.Resolving.{Env, IsWrongHandle}
 use Rattle.wit_items.specs.declared.items.Item.{Item as Held}
 use Rattle.wit_items.specs.Items.{declared_behind}
@@ -30,4 +30,5 @@ pub record IsTurn (xs : List ScopeName) (ids : List Id) : Type 0 where
 pub data IsWrongFunctions (env : Env) (es : List TypeDef) (xs : List ScopeName) (fns : List SourceFunction) (f : Fault) : Type 0 where
   BrokenFunction : (k : ℕ) (fn : SourceFunction) → slice_get fns k ≡ Some fn → IsBrokenFunction xs fns k fn f → IsWrongFunctions env es xs fns f
   BrokenNames : IsFoldedTwice xs fns f → IsWrongFunctions env es xs fns f
+  CrossedNames : IsCrossedTwice xs fns f → IsWrongFunctions env es xs fns f
   HandleOfOther : IsWrongHandle env es (all_handles (flat_map written_types fns)) f → IsWrongFunctions env es xs fns f

@@ -1,3 +1,4 @@
 pub mod Held
 pub mod Between
 pub mod Behind
+pub mod Sides

@@ -1,15 +1,18 @@
 //! The functions of an item as they are written, and as they stand in the package.
-ghost use Rattle.std.specs.Prelude.{◌≡◌, ◌++◌, IfOk, OnOk, map, nat_eq};
+ghost use Rattle.std.specs.Prelude.{◌≡◌, ◌++◌, IfOk, OnOk, length, map, nat_eq};
 ghost use Rattle.std.specs.Cmp.Lexicographic.{pointwise};
 ghost use Rattle.std.specs.List.{flat_map};
 ghost use Rattle.indexmap.specs.IndexMap.{insert_entry};
+ghost use Rattle.wit_tree.specs.declared.tree.WorldSide.{WorldSide};
+ghost use Rattle.wit_tree.specs.declared.tree.WorldSide.TheVariants.{Imported, Exported};
+ghost use Rattle.wit_item_entries.specs.Sides.{functions_on, kept_on};
 ghost use Rattle.wit_model.specs.declared.world.WorldKey.TheVariants.{Name};
 ghost use Rattle.wit_model.specs.declared.world.WorldItem.TheVariants.{Function as FunctionItem};
 ghost use Rattle.wit_model.specs.contracts.world.WorldKeyPartialEq.TheImpl.{eq-value as key_test};
 ghost use Rattle.wit_syntax.specs.Repeats.{AllDiffer};
 ghost use Rattle.wit_syntax.specs.Source.{interface_part, world_part, declared_parts, local_name};
-ghost use Rattle.wit_syntax.specs.Function.{definition_functions, part_functions};
-ghost use Rattle.wit_arena.specs.Functions.{placed_functions, function_import};
+ghost use Rattle.wit_syntax.specs.Function.{definition_functions, extern_functions, part_functions};
+ghost use Rattle.wit_arena.specs.Functions.{placed_functions, function_item, made_on};
 ghost use Rattle.wit_rules.specs.Held.{function_behind};
 ghost use Rattle.wit_syntax.specs.Signature.{body_ok};
 ghost use Rattle.wit_rules.specs.Signatures.{told_ok, AreResults};
@@ -22,7 +25,9 @@ use wit_model::{Function, WorldItem, WorldKey};
 use wit_rules::held::HeldFunction;
 use wit_scopes::scope_name::ScopeName;
 use wit_setters::setters::setters_behind_getters;
-use wit_tree::tree::{self, Interface, InterfaceItem, Type, TypeBody, TypeDef, World};
+use wit_tree::tree::{
+    self, Extern, ExternKind, Interface, InterfaceItem, Type, TypeBody, TypeDef, World, WorldSide,
+};
 use wit_values::{Table, TextTable};
 
 /// Adds the functions of a definition: those of a resource.
@@ -58,7 +63,26 @@ fn interface_functions<'t, 'a>(
     Ok(functions)
 }
 
-/// The functions of a world: those of its resources.
+/// Adds what a world imports or exports, where it is a function.
+fn add_extern<'t, 'a>(
+    functions: &mut Vec<HeldFunction<'t, 'a>>,
+    written: &'t Extern<'a>,
+) -> Result<(), AllocError>
+    ensures { OnOk result (map function_behind functions.new.items ≡ map function_behind functions.old.items ++ extern_functions written.now written.now.kind) }
+{
+    if let ExternKind::Func(name, func) = &written.kind {
+        functions.push(HeldFunction::Across(
+            written.side,
+            &written.docs,
+            &written.attributes,
+            *name,
+            func,
+        ))?;
+    }
+    Ok(())
+}
+
+/// The functions of a world: those of its resources, and those that it imports and exports.
 fn world_functions<'t, 'a>(
     alloc: Global,
     world: &'t World<'a>,
@@ -71,7 +95,7 @@ fn world_functions<'t, 'a>(
             tree::WorldItem::TypeDef(definition) => add_definition(&mut functions, definition)?,
             tree::WorldItem::Use(_) => {}
             tree::WorldItem::Include(_) => {}
-            tree::WorldItem::Extern(_) => {}
+            tree::WorldItem::Extern(written) => add_extern(&mut functions, written)?,
         }
     }
     Ok(functions)
@@ -152,28 +176,73 @@ pub fn function_table(
     Ok(table)
 }
 
-/// Adds a function to the imports of a world.
-fn add_function_import(
-    imports: &mut Table<WorldKey, WorldItem>,
+/// Adds a function to a side of a world.
+fn add_function_item(
+    items: &mut Table<WorldKey, WorldItem>,
     function: Function,
 ) -> Result<(), AllocError>
-    ensures { OnOk result (imports.new ≡ insert_entry key_test.it imports.old (Name function.name) (FunctionItem function)) }
+    ensures { OnOk result (items.new ≡ insert_entry key_test.it items.old (Name function.name) (FunctionItem function)) }
 {
     let key = WorldKey::Name(function.name.clone()?);
-    imports.insert(key, WorldItem::Function(function))?;
+    items.insert(key, WorldItem::Function(function))?;
     Ok(())
 }
 
-/// Adds functions to the imports of a world, none of which is an import yet.
-pub fn add_function_imports(
-    imports: &mut Table<WorldKey, WorldItem>,
+/// Adds functions to a side of a world, where none of them stands yet.
+pub fn add_function_items(
+    items: &mut Table<WorldKey, WorldItem>,
     functions: Vec<Function>,
 ) -> Result<(), AllocError>
-    requires { AllDiffer (map (λ i. i.0) imports.old ++ map (λ f. (function_import f).0) functions.items) }
-    ensures { OnOk result (imports.new ≡ imports.old ++ map function_import functions.items) }
+    requires { AllDiffer (map (λ i. i.0) items.old ++ map (λ f. (function_item f).0) functions.items) }
+    ensures { OnOk result (items.new ≡ items.old ++ map function_item functions.items) }
 {
     for function in functions {
-        add_function_import(imports, function)?;
+        add_function_item(items, function)?;
     }
     Ok(())
+}
+
+/// The functions of a world on its sides.
+#[derive(Drop)]
+pub struct SideFunctions {
+    pub imports: Vec<Function>,
+    pub exports: Vec<Function>,
+}
+
+/// Adds a function on a side.
+fn add_on_side(
+    sides: &mut SideFunctions,
+    side: WorldSide,
+    function: Function,
+) -> Result<(), AllocError>
+    ensures { OnOk result ((s : WorldSide) → functions_on s sides.new ≡ functions_on s sides.old ++ kept_on s side function) }
+{
+    match side {
+        WorldSide::Imported => sides.imports.push(function)?,
+        WorldSide::Exported => sides.exports.push(function)?,
+    }
+    Ok(())
+}
+
+/// The functions of a world on their sides, in source order; `written` are the functions as they are
+/// written.
+pub fn functions_by_side(
+    alloc: Global,
+    written: &[HeldFunction<'_, '_>],
+    functions: Vec<Function>,
+) -> Result<SideFunctions, AllocError>
+    requires { length functions.items ≡ length written.now }
+    ensures imports { IfOk result (λ sides. sides.imports.items ≡ made_on Imported (map function_behind written.now) functions.items) }
+    ensures exports { IfOk result (λ sides. sides.exports.items ≡ made_on Exported (map function_behind written.now) functions.items) }
+{
+    let mut sides = SideFunctions {
+        imports: Vec::with_capacity(alloc, functions.len())?,
+        exports: Vec::new(alloc),
+    };
+    let mut place = 0;
+    for function in functions {
+        add_on_side(&mut sides, written[place].side(), function)?;
+        place += 1;
+    }
+    Ok(sides)
 }

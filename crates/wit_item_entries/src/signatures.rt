@@ -2,7 +2,10 @@
 ghost use Rattle.std.specs.Prelude.{◌≡◌, ◌<◌, ◌++◌, ℕ, List, [], Some, IfErr, IfOk, OnOk, length, map, slice_get};
 ghost use Rattle.std.specs.List.{flat_map};
 ghost use Rattle.wit_syntax.specs.Address.{Address};
+ghost use Rattle.wit_tree.specs.declared.tree.WorldSide.{WorldSide};
 ghost use Rattle.wit_syntax.specs.Repeats.{AllDiffer};
+ghost use Rattle.wit_syntax.specs.Sides.{names_on, on_side};
+ghost use Rattle.wit_sides.specs.Sides.{taken_on};
 ghost use Rattle.wit_syntax.specs.Shape.{all_handles};
 ghost use Rattle.wit_syntax.specs.Fault.{Fault};
 ghost use Rattle.wit_syntax.specs.Broken.{Refused};
@@ -24,25 +27,25 @@ use crate::own_keys::have_upper_case;
 use std::alloc::Global;
 use wit_entries::entries::Entries;
 use wit_model::Function;
-use wit_notes::NameScope;
 use wit_rules::function_scope::FunctionScope;
 use wit_rules::held::HeldFunction;
 use wit_scopes::scope_name::ScopeName;
+use wit_sides::Sides;
 use wit_signatures::scope_functions::resolve_functions;
 use wit_signatures::taken::define_names;
 use wit_tree::ParseResult;
 
 /// The functions of an item over their types, behind its names `held`, which are resolved. Where there
-/// are functions, the names and then those of the functions are taken.
+/// are functions, the names and then those of the functions are taken, each on its side.
 pub fn resolve_signatures<'t, 'a>(
     alloc: Global,
     types: &mut Entries,
     names: &mut ResolvedNames<'a>,
     held: &[ScopeName<'t, 'a>],
     written: &[HeldFunction<'t, 'a>],
-    taken: &mut NameScope,
+    taken: &mut Sides,
 ) -> ParseResult<Vec<Function>>
-    requires nothing { taken.old ≡ [] }
+    requires nothing { (s : WorldSide) → taken_on s taken.old ≡ [] }
     requires listed { names_in names.old.types ≡ map (λ id. id.name.now) names.old.turn.items }
     requires turn { IsTurn (map name_behind held.now) names.old.turn.items }
     requires owners { HaveOwners (env_of names.old.types) (map function_behind written.now) }
@@ -51,8 +54,8 @@ pub fn resolve_signatures<'t, 'a>(
     ensures adds { IfOk result (λ fs. (s : Address) → AddsFunctions types.old types.new s names.old.types (map function_behind written.now) fs.items) }
     ensures named { IfOk result (λ fs. map name_of_made fs.items ≡ map name_of_function (map function_behind written.now)) }
     ensures handled { OnOk result (Requires (env_of names.old.types) types.new (all_handles (flat_map written_types (map function_behind written.now))) names.old.required.items names.new.required.items) }
-    ensures taken { OnOk result (0 < length written.now → taken.new ≡ map name_of_id names.old.turn.items ++ map name_of_function (map function_behind written.now)) }
-    ensures differ { OnOk result (AllDiffer (map name_key (map name_of_id names.old.turn.items ++ map name_of_function (map function_behind written.now)))) }
+    ensures taken { OnOk result (0 < length written.now → (s : WorldSide) → taken_on s taken.new ≡ names_on s (map name_of_id names.old.turn.items) ++ map name_of_function (on_side s (map function_behind written.now))) }
+    ensures differ { OnOk result ((s : WorldSide) → AllDiffer (map name_key (names_on s (map name_of_id names.old.turn.items) ++ map name_of_function (on_side s (map function_behind written.now))))) }
     ensures sound { OnOk result ((k : ℕ) (fn : SourceFunction) → slice_get (map function_behind written.now) k ≡ Some fn → (f : Fault) → IsBrokenFunction (map name_behind held.now) (map function_behind written.now) k fn f → IsNameless (map name_behind held.now) (map function_behind written.now)) }
     ensures grown { IsGrown types.old types.new }
     ensures refused { IfErr result (Refused (IsWrongFunctions (env_of names.old.types) types.new (map name_behind held.now) (map function_behind written.now))) }

@@ -203,7 +203,7 @@ module _ (ptr : Ptr) (alloc : Global) where
   b_cyclic : IsCyclic around 1 in_b
   b_cyclic = (b_reaches, (0, refl, a_reaches))
 
-  a_refused : IsCyclicType around_names (record { rule = 16; span = at 23 24; name = Some (codes "b"); sort = Cyclic (codes "type") })
+  a_refused : IsCyclicType around_names (record { rule = 16; span = at 23 24; name = Some (codes "b"); sort = Cyclic (codes "type"); hint = None })
   a_refused = record { place = 0; index = 0; id = in_a; edge = (record { name = codes "a"; needs = in_a ∷ [] }, refl, refl); cyclic = a_cyclic; is = refl }
 
   -- interface i { type t = u; }
@@ -216,7 +216,7 @@ module _ (ptr : Ptr) (alloc : Global) where
   u_missing : IsMissing (rows_of t_names) 0 u
   u_missing = refl
 
-  u_refused : IsMissingType t_names (record { rule = 15; span = at 23 24; name = Some (codes "u"); sort = Missing (codes "type") })
+  u_refused : IsMissingType t_names (record { rule = 15; span = at 23 24; name = Some (codes "u"); sort = Missing (codes "type"); hint = None })
   u_refused = record { place = 0; index = 0; id = u; edge = (record { name = codes "t"; needs = u ∷ [] }, refl, refl); missing = u_missing; is = refl }
 
   -- record { a: u8, A: u8 }
@@ -378,5 +378,5 @@ module _ (ptr : Ptr) (alloc : Global) where
     abbrev of_an_alias : ToplevelUse
     of_an_alias = record { attributes = untold; span = at 12 15; item = path.Id (id (codes "y") (at 16 17) refl); as_ = Some (id (codes "z") (at 21 22) refl) }
 
-    original_missing : IsMissingOriginal (all_items two_files) (ToplevelItem alias ∷ ToplevelItem of_an_alias ∷ []) (record { rule = 7; span = at 16 17; name = Some (codes "y"); sort = Missing (codes "interface or world") })
+    original_missing : IsMissingOriginal (all_items two_files) (ToplevelItem alias ∷ ToplevelItem of_an_alias ∷ []) (record { rule = 7; span = at 16 17; name = Some (codes "y"); sort = Missing (codes "interface or world"); hint = None })
     original_missing = record { u = of_an_alias; id = id (codes "y") (at 16 17) refl; among = (1, lit< tt, refl); local = refl; missing = refl; is = refl }

@@ -45,6 +45,7 @@ use Rattle.wit_syntax.specs.Shape.{Word, all_handles}
 use Rattle.wit_syntax.specs.Shape as shape
 use Rattle.wit_syntax.specs.Function.{Freestanding, Method, Static, Constructor, SourceParam, SourceFunction, constructor_of, resource_function, free_function, functions, free_names, item_types, signature}
 use Rattle.wit_arena.specs.Functions.{IsParam, AreParams, IsFunction, AreFunctions, placed_functions}
+use Rattle.wit_syntax.specs.Sides.{FunctionKey}
 use Rattle.wit_arena.specs.Package.{package_tree, functions_of, function_types}
 use Rattle.wit_arena.specs.Whole.{turned, meetings}
 use Rattle.wit_meaning_examples.proofs.Examples.{at, id, vec, no_comments, untold, header}
@@ -220,7 +221,7 @@ module _ (ptr : Ptr) (alloc : Global) where
   whole = record { docs = no_docs; name = record { namespace = codes "foo"; name = codes "foo"; version = None }; worlds = []; interfaces = interface ∷ []; types = types; foreign_deps = []; name_span = at 8 15; unknown_type_spans = []; foreign_dep_spans = []; required_resource_types = [] }
 
   -- no setter is among them, so each keeps its place
-  placed : map (λ (g : List ℕ × Function). g.0) (functions_of whole (owner.Interface 0)) ≡ (codes "[constructor]r" ∷ codes "[method]r.m" ∷ codes "[static]r.s" ∷ codes "f" ∷ [])
+  placed : map (λ (g : FunctionKey × Function). g.0.1) (functions_of whole (owner.Interface 0)) ≡ (codes "[constructor]r" ∷ codes "[method]r.m" ∷ codes "[static]r.s" ∷ codes "f" ∷ [])
   placed = refl
 
   -- each is the written one

@@ -6,4 +6,5 @@ pub mod FunctionExamples
 pub mod HandleExamples
 pub mod SignatureExamples
 pub mod RuleExamples
+pub mod SideExamples
 pub mod NotesExamples

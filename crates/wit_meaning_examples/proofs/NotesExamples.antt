@@ -1,5 +1,5 @@
 -- Worked rows with docs and attributes: what they tell, what is met in a definition with a stability, and what breaks the rules of docs and attributes.
-use Rattle.std.proofs.Common.{◌≡◌, ℕ, ◌<◌, zero, suc, List, [], ◌∷◌, Some, None, inr, refl, lit<}
+use Rattle.std.proofs.Common.{◌≡◌, ℕ, zero, suc, List, [], ◌∷◌, Some, None, inr, refl, lit<}
 use Rattle.std.specs.Prelude.{codes, Box}
 use Rattle.std.specs.declared.alloc.Global.{Global}
 use denote.RawPtr.{Ptr}

@@ -36,7 +36,8 @@ use Rattle.wit_syntax.specs.Notes.{no_docs}
 use Rattle.wit_syntax.specs.Source.{top_names, TheWorld, Item, ScopeName, Defined, source_tree}
 use Rattle.wit_syntax.specs.Shape.{Shape}
 use Rattle.wit_syntax.specs.Function.{Role, Freestanding, SourceFunction, functions, signature}
-use Rattle.wit_arena.specs.Functions.{function_import}
+use Rattle.wit_tree.specs.declared.tree.WorldSide.TheVariants.{Imported}
+use Rattle.wit_arena.specs.Functions.{function_item}
 use Rattle.wit_syntax.specs.Signature.{MissingInSignature, GetterGiven, SetterGiven, GetterWithoutResult, SetterWithResult, ConstructorWithoutResult, ConstructorOfOther, IsEntered, result_ok}
 use Rattle.wit_syntax.specs.Broken.{IsBroken, Function, IsSetterAlone}
 use Rattle.wit_arena.specs.Package.{names_of, functions_of, function_types, package_tree}
@@ -74,7 +75,7 @@ module _ (ptr : Ptr) (alloc : Global) where
         let f : ⊥ = cc in
         f
 
-    later_refused : IsBroken (file_of ptr alloc later ∷ []) (record { rule = 29; span = at 42 43; name = Some (codes "g"); sort = Missing (codes "name") })
+    later_refused : IsBroken (file_of ptr alloc later ∷ []) (record { rule = 29; span = at 42 43; name = Some (codes "g"); sort = Missing (codes "name"); hint = None })
     later_refused = in_scope ptr alloc later _ (Function 0 _ refl (MissingInSignature (record { id = g_id (at 42 43); among = (0, lit< tt, refl); missing = refl; other = not_entered; is = refl })))
 
   -- x: get(v: u8) -> u8;
@@ -181,7 +182,7 @@ module _ (ptr : Ptr) (alloc : Global) where
     whole = record {
       docs = no_docs;
       name = record { namespace = codes "foo"; name = codes "foo"; version = None };
-      worlds = record { name = codes "w"; imports = type_imports (ordered_names ordered) ((codes "r", 0) ∷ []) ++ map function_import made; exports = []; «package» = None; docs = no_docs; stability = Unknown; includes = []; span = at 23 24 } ∷ [];
+      worlds = record { name = codes "w"; imports = type_imports (ordered_names ordered) ((codes "r", 0) ∷ []) ++ map function_item made; exports = []; «package» = None; docs = no_docs; stability = Unknown; includes = []; span = at 23 24 } ∷ [];
       interfaces = [];
       types = types;
       foreign_deps = [];
@@ -194,7 +195,7 @@ module _ (ptr : Ptr) (alloc : Global) where
     types_of_world : names_of whole (owner.World 0) ≡ ((codes "r", 0) ∷ [])
     types_of_world = refl
 
-    functions_of_world : functions_of whole (owner.World 0) ≡ map (λ (g : Made). (g.name, g)) made
+    functions_of_world : functions_of whole (owner.World 0) ≡ map (λ (g : Made). ((Imported, g.name), g)) made
     functions_of_world = refl
 
     trees : map (λ (x : Shape). source_tree (file ∷ []) 3 (WorldNamed (codes "w"), x)) (flat_map signature (functions item)) ≡ map (package_tree whole 3) (flat_map function_types made)

@@ -1,4 +1,3 @@
-pub mod Hint
 pub mod Kinds
 pub mod Lent
 pub mod Names

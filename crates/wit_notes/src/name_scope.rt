@@ -123,6 +123,16 @@ impl NameScope {
         Ok(())
     }
 
+    /// Whether a name is spelled like this.
+    ///
+    /// The error is want of memory.
+    pub fn has(&self, name: &str) -> Result<bool, AllocError>
+        requires { IsTrue (is_mangled name.now) }
+        ensures { IfOk result (λ found. IsTrue found ↔ HasName self.now name.now) }
+    {
+        has_name(self.alloc, &self.names, name)
+    }
+
     /// Refuses the first setter without the getter of its exact spelling.
     ///
     /// The error is E18 at the setter, or want of memory.

@@ -2,8 +2,8 @@
 ghost use Rattle.std.specs.Prelude.{◌≡◌, ◌⊎◌, IfOk, None, Some, string_bytes};
 ghost use Rattle.std.specs.Option.{option_map};
 ghost use Rattle.wit_tree.specs.Refusal.{IsWantOfMemory, IsItemNotFound, IsTypeCycle};
-ghost use Rattle.wit_syntax.specs.Fault.{fault, fault_of, missing_at, cyclic_at, type_word};
-ghost use Rattle.wit_notes.specs.Hint.{hint_of, renamed, type_hint};
+ghost use Rattle.wit_syntax.specs.Fault.{fault, fault_of, missing_at, missing_type_at, cyclic_at, type_word};
+ghost use Rattle.wit_syntax.specs.Hint.{hint_of, renamed, type_hint};
 
 use std::alloc::{AllocError, Global};
 use wit_tree::tree::Id;
@@ -52,8 +52,7 @@ fn item_not_found(
 #[cold]
 #[inline(never)]
 pub fn refuse_missing(alloc: Global, rule: u8, sort: &str, id: Id<'_>) -> ParseError
-    ensures fault { IsWantOfMemory result ⊎ (fault_of result ≡ missing_at rule sort.now id.entry) }
-    ensures hint { hint_of result.kind ≡ None }
+    ensures { IsWantOfMemory result ⊎ (fault_of result ≡ missing_at rule sort.now id.entry) }
 {
     match item_not_found(alloc, sort, id, None) {
         Ok(kind) => ParseError::of(kind, rule),
@@ -95,8 +94,7 @@ fn type_not_found(alloc: Global, id: Id<'_>) -> Result<ParseErrorKind, AllocErro
 #[cold]
 #[inline(never)]
 pub fn refuse_missing_type(alloc: Global, id: Id<'_>) -> ParseError
-    ensures fault { IsWantOfMemory result ⊎ (fault_of result ≡ missing_at 15 type_word id.entry) }
-    ensures hint { IsWantOfMemory result ⊎ (hint_of result.kind ≡ type_hint id.entry.name.now) }
+    ensures { IsWantOfMemory result ⊎ (fault_of result ≡ missing_type_at id.entry) }
 {
     match type_not_found(alloc, id) {
         Ok(kind) => ParseError::of(kind, 15),

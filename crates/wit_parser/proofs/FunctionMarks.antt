@@ -5,6 +5,8 @@ use Rattle.std.specs.List.{flat_map}
 use Rattle.std.specs.Option.{option_map_or}
 use Rattle.std.proofs.lemmas.Grind.{flat_map-append}
 use Rattle.std.proofs.lemmas.Option.{slice_get_within}
+use Rattle.wit_tree.specs.declared.tree.WorldSide.{WorldSide}
+use Rattle.wit_tree.specs.declared.tree.WorldSide.TheVariants.{Imported, Exported}
 use Rattle.wit_tree.specs.declared.tree.PackageFile.{PackageFile}
 use Rattle.wit_types.specs.declared.types.TypeOwner.{TypeOwner}
 use Rattle.wit_types.specs.declared.types.TypeOwner.TheVariants as owner
@@ -17,12 +19,14 @@ use Rattle.wit_syntax.specs.Address.{Address}
 use Rattle.wit_syntax.specs.Foreign.{ForeignVisit, foreign_interfaces, foreign_worlds}
 use Rattle.wit_syntax.specs.Source.{Item, ScopeName, address}
 use Rattle.wit_syntax.specs.Function.{functions}
-use Rattle.wit_arena.specs.Functions.{by_name, placed_functions, function_import, AreFunctions}
+use Rattle.wit_syntax.specs.Sides.{FunctionKey}
+use Rattle.wit_arena.specs.Functions.{by_name, placed_functions, function_item, made_on, AreFunctions}
 use Rattle.wit_arena.specs.Meet.{Key, keys}
-use Rattle.wit_arena.specs.Package.{import_functions, interface_functions, world_functions, world_types, functions_of}
+use Rattle.wit_arena.specs.Package.{item_functions, keyed, interface_functions, world_functions, world_types, functions_of}
 use Rattle.wit_arena.specs.Whole.{Ordered, ordered_names, type_imports, AreInterfaces, AreWorlds, AreForeignInterfaces, AreForeignWorlds, IsPackage, world_addresses}
 use Rattle.wit_syntax.proofs.Lists.{at_split, at_within, map_at}
 use Rattle.wit_arena.proofs.Placed.{function_from}
+use Rattle.wit_arena.proofs.MadeOn.{made_on_from}
 use Rattle.wit_parser.proofs.WrittenMarks.{written_marked}
 use Rattle.wit_parser.specs.Marks.{HaveMarks}
 
@@ -32,6 +36,25 @@ AreMarked es = (place : ℕ) (name : List ℕ) (f : Function) → slice_get es p
 
 none_marked : (es : List (List ℕ × Function)) → es ≡ [] → AreMarked es
 none_marked es none place name f at = absurd (let h : ⊥ = cc in h)
+
+-- so do functions under their sides and names
+abbrev AreKeyed : List (FunctionKey × Function) → Type 0
+AreKeyed es = (place : ℕ) (key : FunctionKey) (f : Function) → slice_get es place ≡ Some (key, f) → HasMarkOf (mark_of f.kind) f.name
+
+none_keyed : (es : List (FunctionKey × Function)) → es ≡ [] → AreKeyed es
+none_keyed es none place key f at = absurd (let h : ⊥ = cc in h)
+
+marked_keyed : (side : WorldSide) (es : List (List ℕ × Function)) → AreMarked es → AreKeyed (map (keyed side) es)
+marked_keyed side es marked place key f at =
+    let e = map_at (keyed side) es place (key, f) at in
+    let same : e.0.1 ≡ f = ap (λ (x : FunctionKey × Function). x.1) e.2 in
+    subst (λ (g : Function). HasMarkOf (mark_of g.kind) g.name) same (marked place e.0.0 e.0.1 e.1)
+
+both_keyed : (xs ys : List (FunctionKey × Function)) → AreKeyed xs → AreKeyed ys → AreKeyed (xs ++ ys)
+both_keyed xs ys first second place key f at = elim (at_split xs ys place (key, f) at) [
+  | inl front ↦ first place key f front
+  | inr back ↦ second back.0 key f back.2
+]
 
 -- so do the functions of the package that are those of an item
 made_marked : (ks : List Key) (s : Address) (i : Item) (fs : List Function) → AreFunctions ks s (functions i) fs → (k : ℕ) (f : Function) → slice_get fs k ≡ Some f → HasMarkOf (mark_of f.kind) f.name
@@ -48,24 +71,25 @@ placed_marked ks s i fs are place name f at =
     let it = function_from fs place name f at in
     made_marked ks s i fs are it.0 f it.1
 
--- the functions among the imports of a world
-type_imports_none : (xs : List ScopeName) (types : List (List ℕ × ℕ)) → flat_map import_functions (type_imports xs types) ≡ []
+-- the functions on a side of a world
+type_imports_none : (xs : List ScopeName) (types : List (List ℕ × ℕ)) → flat_map item_functions (type_imports xs types) ≡ []
 type_imports_none [] types = refl
 type_imports_none (x ∷ xs) [] = refl
 type_imports_none (x ∷ xs) (t ∷ types) = type_imports_none xs types
 
-functions_imported : (fs : List Function) → flat_map import_functions (map function_import fs) ≡ map by_name fs
-functions_imported [] = refl
-functions_imported (f ∷ fs) = ap (λ (l : List (List ℕ × Function)). (f.name, f) ∷ l) (functions_imported fs)
+functions_there : (fs : List Function) → flat_map item_functions (map function_item fs) ≡ map by_name fs
+functions_there [] = refl
+functions_there (f ∷ fs) = ap (λ (l : List (List ℕ × Function)). (f.name, f) ∷ l) (functions_there fs)
 
-imported : (xs : List ScopeName) (types : List (List ℕ × ℕ)) (fs : List Function) → flat_map import_functions (type_imports xs types ++ map function_import fs) ≡ map by_name fs
-imported xs types fs = flat_map-append import_functions (type_imports xs types) (map function_import fs) ∙ ap (λ (l : List (List ℕ × Function)). l ++ flat_map import_functions (map function_import fs)) (type_imports_none xs types) ∙ functions_imported fs
+imported : (xs : List ScopeName) (types : List (List ℕ × ℕ)) (fs : List Function) → flat_map item_functions (type_imports xs types ++ map function_item fs) ≡ map by_name fs
+imported xs types fs = flat_map-append item_functions (type_imports xs types) (map function_item fs) ∙ ap (λ (l : List (List ℕ × Function)). l ++ flat_map item_functions (map function_item fs)) (type_imports_none xs types) ∙ functions_there fs
 
-named_marked : (ks : List Key) (s : Address) (i : Item) (fs : List Function) → AreFunctions ks s (functions i) fs → AreMarked (map by_name fs)
-named_marked ks s i fs are place name f at =
-    let g = map_at by_name fs place (name, f) at in
+side_marked : (side : WorldSide) (ks : List Key) (s : Address) (i : Item) (fs : List Function) → AreFunctions ks s (functions i) fs → AreMarked (map by_name (made_on side (functions i) fs))
+side_marked side ks s i fs are place name f at =
+    let g = map_at by_name (made_on side (functions i) fs) place (name, f) at in
     let same : g.0 ≡ f = ap (λ (e : List ℕ × Function). e.1) g.2 in
-    made_marked ks s i fs are place f (g.1 ∙ ap Some same)
+    let it = made_on_from side (functions i) fs place f (g.1 ∙ ap Some same) in
+    made_marked ks s i fs are it.0 f it.1
 
 -- the interfaces and the worlds of a package: those of other packages have no function
 own_interface : (ks : List Key) (os : List Ordered) (is : List Interface) → AreInterfaces ks os is → (k : ℕ) (i : Interface) → slice_get is k ≡ Some i → AreMarked i.functions
@@ -76,14 +100,18 @@ own_interface ks os is are k i at =
     let has = are.functions k o.0 i o.1 at in
     subst AreMarked (sym has.2) (placed_marked ks (address o.0.item) o.0.item has.0 has.1)
 
-own_world : (ks : List Key) (worlds : List Address) (os : List Ordered) (ws : List World) → AreWorlds ks worlds os ws → (k : ℕ) (w : World) → slice_get ws k ≡ Some w → AreMarked (world_functions w)
+own_world : (ks : List Key) (worlds : List Address) (os : List Ordered) (ws : List World) → AreWorlds ks worlds os ws → (k : ℕ) (w : World) → slice_get ws k ≡ Some w → AreKeyed (world_functions w)
 own_world ks worlds os ws are k w at =
     let within = slice_get_within ws k w at in
     let count = are.count in
     let o = at_within os k (omega arith) in
-    let has = are.imports k o.0 w o.1 at in
-    let same : world_functions w ≡ map by_name has.0 = ap (flat_map import_functions) has.2 ∙ imported (ordered_names o.0) (world_types w) has.0 in
-    subst AreMarked (sym same) (named_marked ks (address o.0.item) o.0.item has.0 has.1)
+    let i = o.0.item in
+    let has = are.sides k o.0 w o.1 at in
+    let ins : flat_map item_functions w.imports ≡ map by_name (made_on Imported (functions i) has.0) = ap (flat_map item_functions) has.2 ∙ imported (ordered_names o.0) (world_types w) (made_on Imported (functions i) has.0) in
+    let outs : flat_map item_functions w.exports ≡ map by_name (made_on Exported (functions i) has.0) = ap (flat_map item_functions) has.3 ∙ functions_there (made_on Exported (functions i) has.0) in
+    both_keyed (map (keyed Imported) (flat_map item_functions w.imports)) (map (keyed Exported) (flat_map item_functions w.exports))
+    (marked_keyed Imported (flat_map item_functions w.imports) (subst AreMarked (sym ins) (side_marked Imported ks (address i) i has.0 has.1)))
+    (marked_keyed Exported (flat_map item_functions w.exports) (subst AreMarked (sym outs) (side_marked Exported ks (address i) i has.0 has.1)))
 
 foreign_interface : (files : List PackageFile) (ks : List Key) (vs : List ForeignVisit) (is : List Interface) → AreForeignInterfaces files ks vs is → (k : ℕ) (i : Interface) → slice_get is k ≡ Some i → AreMarked i.functions
 foreign_interface files ks vs is are k i at =
@@ -92,12 +120,13 @@ foreign_interface files ks vs is are k i at =
     let v = at_within vs k (omega arith) in
     none_marked i.functions (are.says k v.0 i v.1 at).functions
 
-foreign_world : (vs : List ForeignVisit) (ws : List World) → AreForeignWorlds vs ws → (k : ℕ) (w : World) → slice_get ws k ≡ Some w → AreMarked (world_functions w)
+foreign_world : (vs : List ForeignVisit) (ws : List World) → AreForeignWorlds vs ws → (k : ℕ) (w : World) → slice_get ws k ≡ Some w → AreKeyed (world_functions w)
 foreign_world vs ws are k w at =
     let within = slice_get_within ws k w at in
     let count = are.count in
     let v = at_within vs k (omega arith) in
-    none_marked (world_functions w) (ap (flat_map import_functions) (are.says k v.0 w v.1 at).imports)
+    let says = are.says k v.0 w v.1 at in
+    none_keyed (world_functions w) (ap (λ (l : List (List ℕ × Function)). map (keyed Imported) l ++ map (keyed Exported) (flat_map item_functions w.exports)) (ap (flat_map item_functions) says.imports) ∙ ap (λ (l : List (List ℕ × Function)). map (keyed Exported) l) (ap (flat_map item_functions) says.exports))
 
 module _ (files : List PackageFile) (p : UnresolvedPackage) (is : IsPackage files p) where
   interface_marked : (k : ℕ) (i : Interface) → slice_get p.interfaces k ≡ Some i → AreMarked i.functions
@@ -106,21 +135,21 @@ module _ (files : List PackageFile) (p : UnresolvedPackage) (is : IsPackage file
     | inr own ↦ own_interface (keys is.met) is.interfaces is.own_interfaces is.are_interfaces own.0 i own.2
   ]
 
-  world_marked : (k : ℕ) (w : World) → slice_get p.worlds k ≡ Some w → AreMarked (world_functions w)
+  world_marked : (k : ℕ) (w : World) → slice_get p.worlds k ≡ Some w → AreKeyed (world_functions w)
   world_marked k w at = elim (at_split is.worlds_front is.own_worlds k w (ap (λ (l : List World). slice_get l k) (sym is.world_arena) ∙ at)) [
     | inl front ↦ foreign_world (foreign_worlds files) is.worlds_front is.are_foreign_worlds k w front
     | inr own ↦ own_world (keys is.met) (world_addresses files is.worlds) is.worlds is.own_worlds is.are_worlds own.0 w own.2
   ]
 
   -- what one of these has, if there is one
-  found_marked : {X : Type 0} (of : X → List (List ℕ × Function)) (o : Option X) → ((x : X) → o ≡ Some x → AreMarked (of x)) → AreMarked (option_map_or of o [])
-  found_marked of None each = none_marked [] refl
+  found_marked : {X : Type 0} (of : X → List (FunctionKey × Function)) (o : Option X) → ((x : X) → o ≡ Some x → AreKeyed (of x)) → AreKeyed (option_map_or of o [])
+  found_marked of None each = none_keyed [] refl
   found_marked of (Some x) each = each x refl
 
-  owner_marked : (o : TypeOwner) → AreMarked (functions_of p o)
-  owner_marked (owner.Interface k) = found_marked interface_functions (slice_get p.interfaces k) (interface_marked k)
+  owner_marked : (o : TypeOwner) → AreKeyed (functions_of p o)
+  owner_marked (owner.Interface k) = found_marked interface_functions (slice_get p.interfaces k) (λ i at. marked_keyed Imported i.functions (interface_marked k i at))
   owner_marked (owner.World k) = found_marked world_functions (slice_get p.worlds k) (world_marked k)
-  owner_marked owner.None = none_marked [] refl
+  owner_marked owner.None = none_keyed [] refl
 
   pub functions_marked : HaveMarks p
   functions_marked = record { each = owner_marked }

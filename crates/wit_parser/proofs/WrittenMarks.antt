@@ -16,10 +16,15 @@ use Rattle.wit_model.specs.Names.{mark_of, HasMark, HasMarkOf}
 use Rattle.wit_model.specs.declared.function.FunctionKind.{FunctionKind}
 use Rattle.wit_syntax.specs.Address.{Address}
 use Rattle.wit_syntax.specs.Source.{Item, Part, Defining, Using, Including, Doing, Crossing, parts}
-use Rattle.wit_syntax.specs.Function.{SourceFunction, accessor, dotted, free_function, resource_function, definition_functions, part_functions, functions}
+use Rattle.wit_syntax.specs.Function.{SourceFunction, accessor, dotted, free_function, resource_function, definition_functions, part_functions, functions, side_function}
 use Rattle.wit_arena.specs.Functions.{freestanding_kind, method_kind, static_kind, IsKind}
 use Rattle.wit_arena.specs.Meet.{Key}
 use Rattle.wit_syntax.proofs.Lists.{map_at, flat_map_at}
+use Rattle.wit_tree.specs.declared.tree.Func.{Func}
+use Rattle.wit_tree.specs.declared.tree.Docs.{Docs}
+use Rattle.wit_tree.specs.declared.tree.Attribute.{Attribute}
+use Rattle.wit_tree.specs.declared.tree.WorldSide.{WorldSide}
+use Rattle.wit_syntax.proofs.Externs.{extern_at}
 
 -- a mark in one of two texts is in both together
 mark_before : (mark : ℕ) (text more : List ℕ) → HasMark mark text → HasMark mark (text ++ more)
@@ -57,6 +62,9 @@ IsMarked fn = (ks : List Key) (s : Address) (k : FunctionKind) → IsKind ks s f
 free_marked : (f : NamedFunc) → IsMarked (free_function f)
 free_marked f ks s k is = subst (λ (x : FunctionKind). HasMarkOf (mark_of x) (free_function f).name) (sym is) (free_mark f.func.form f.name.name.now)
 
+side_marked : (side : WorldSide) (docs : Docs) (attributes : List Attribute) (name : Id) (f : Func) → IsMarked (side_function side docs attributes name f)
+side_marked side docs attributes name f ks s k is = subst (λ (x : FunctionKind). HasMarkOf (mark_of x) (side_function side docs attributes name f).name) (sym is) (free_mark f.form name.name.now)
+
 resource_marked : (r : Id) (g : ResourceFunc) → IsMarked (resource_function r g)
 resource_marked r (resource.Method f) ks s k is = subst (λ (o : Option ℕ). HasMarkOf o (resource_function r (resource.Method f)).name) (sym (ap mark_of is.1 ∙ method_mark f.func.form is.0)) (dot_named (codes "[method]") (accessor f.func.form) r f.name)
 resource_marked r (resource.Static f) ks s k is = subst (λ (o : Option ℕ). HasMarkOf o (resource_function r (resource.Static f)).name) (sym (ap mark_of is.1 ∙ static_mark f.func.form is.0)) (dot_named (codes "[static]") (accessor f.func.form) r f.name)
@@ -74,7 +82,7 @@ part_marked : (p : Part) (k : ℕ) (fn : SourceFunction) → slice_get (part_fun
 part_marked (Defining d) k fn at = definition_marked d.name d.body k fn at
 part_marked (Using u) k fn at = absurd (let f : ⊥ = cc in f)
 part_marked (Including i) k fn at = absurd (let f : ⊥ = cc in f)
-part_marked (Crossing x) k fn at = absurd (let f : ⊥ = cc in f)
+part_marked (Crossing x) k fn at = (let it = extern_at x x.kind k fn at in subst IsMarked it.2 (side_marked x.side x.docs x.attributes.items it.0 it.1))
 part_marked (Doing g) zero fn at = (let same : free_function g ≡ fn = cc in subst IsMarked same (free_marked g))
 part_marked (Doing g) (suc k) fn at = absurd (let f : ⊥ = cc in f)
 

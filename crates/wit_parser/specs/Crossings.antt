@@ -1,19 +1,21 @@
--- What worlds import and export is read, and not treated yet.
-use Rattle.std.specs.Prelude.{◌≡◌, ℕ, List, Some, slice_get, Contains}
+-- What worlds import and export is read, and but for functions not treated yet.
+use Rattle.std.specs.Prelude.{◌≡◌, ℕ, List, [], Some, slice_get, Contains}
 use Rattle.wit_tree.specs.declared.tree.Extern.{Extern}
 use Rattle.wit_tree.specs.Externs.{extern_span}
 use Rattle.wit_syntax.specs.Fault.{Fault, fault}
 use Rattle.wit_syntax.specs.Source.{Crossing, Item, Part}
+use Rattle.wit_syntax.specs.Function.{extern_functions}
 use Rattle.wit_syntax.specs.Broken.{IsUnread}
 
--- a part is none that crosses the border of a world
+-- a part is none that brings an interface across the border of a world
 pub record IsInside (p : Part) : Type 0 where
-  pub none : (x : Extern) → p ≡ Crossing x → ⊥
+  pub none : (x : Extern) → p ≡ Crossing x → extern_functions x x.kind ≡ [] → ⊥
 
 -- a part does
 pub record IsAcross (p : Part) (f : Fault) : Type 0 where
   pub x : Extern
   pub crosses : p ≡ Crossing x
+  pub interface : extern_functions x x.kind ≡ []
   pub is : f ≡ fault 54 (extern_span x.kind)
 
 -- each of these brings a part that does not

@@ -1,11 +1,12 @@
 -- The names of a package's functions have the marks of their kinds.
-use Rattle.std.specs.Prelude.{◌≡◌, ℕ, List, Some, slice_get}
+use Rattle.std.specs.Prelude.{◌≡◌, ℕ, Some, slice_get}
 use Rattle.wit_types.specs.declared.types.TypeOwner.{TypeOwner}
 use Rattle.wit_model.specs.Names.{mark_of, HasMarkOf}
 use Rattle.wit_model.specs.declared.function.Function.{Function}
 use Rattle.wit_model.specs.declared.unresolved.UnresolvedPackage.{UnresolvedPackage}
+use Rattle.wit_syntax.specs.Sides.{FunctionKey}
 use Rattle.wit_arena.specs.Package.{functions_of}
 
--- each function of each owner, of an interface or among the imports of a world, has the mark of its kind in its name
+-- each function of each owner, of an interface or on a side of a world, has the mark of its kind in its name
 pub record HaveMarks (p : UnresolvedPackage) : Type 0 where
-  pub each : (o : TypeOwner) (place : ℕ) (name : List ℕ) (f : Function) → slice_get (functions_of p o) place ≡ Some (name, f) → HasMarkOf (mark_of f.kind) f.name
+  pub each : (o : TypeOwner) (place : ℕ) (key : FunctionKey) (f : Function) → slice_get (functions_of p o) place ≡ Some (key, f) → HasMarkOf (mark_of f.kind) f.name

@@ -1,7 +1,8 @@
-//! What worlds import and export: it is read, and not treated yet.
-ghost use Rattle.std.specs.Prelude.{◌≡◌, ◌⊎◌, ◌∷◌, [], IfOk, IfErr, OnOk, List};
+//! Interfaces that worlds import and export: they are read, and not treated yet.
+ghost use Rattle.std.specs.Prelude.{◌≡◌, ◌⊎◌, ◌∷◌, ◌↔◌, [], IfOk, IfErr, IsTrue, OnOk, List};
 ghost use Rattle.wit_syntax.specs.Fault.{Fault};
-ghost use Rattle.wit_syntax.specs.Source.{TheWorld, TopName, all_items, declared_items, file_items, world_part};
+ghost use Rattle.wit_syntax.specs.Function.{extern_functions};
+ghost use Rattle.wit_syntax.specs.Source.{Crossing, TheWorld, TopName, all_items, declared_items, file_items, world_part};
 ghost use Rattle.wit_syntax.specs.Scope.{item_rows};
 ghost use Rattle.wit_syntax.specs.Broken.{IsBrokenNames, Refused};
 ghost use Rattle.wit_order.specs.Table.{IsOrder};
@@ -12,23 +13,46 @@ use std::alloc::Global;
 use wit_files::{FileNames, declarations};
 use wit_notes::refusal::refuse;
 use wit_tree::ParseResult;
-use wit_tree::tree::{AstItem, PackageFile, World, WorldItem};
+use wit_tree::tree::{AstItem, Extern, ExternKind, PackageFile, World, WorldItem};
 
-/// The words for what a world imports or exports.
-const UNREAD: &str = "imports and exports of worlds are not read yet";
+/// The words for an interface that a world imports or exports.
+const UNREAD: &str = "interfaces in imports and exports of worlds are not read yet";
 
-/// Refuses a part of a world that is imported or exported.
+/// Whether an import or an export is an interface.
+fn is_interface(external: &Extern<'_>) -> bool
+    ensures { IsTrue result ↔ (extern_functions external.now external.now.kind ≡ []) }
+{
+    match &external.kind {
+        ExternKind::Func(_, _) => false,
+        ExternKind::Interface(_, _) => true,
+        ExternKind::Path(_) => true,
+        ExternKind::NamedPath(_, _) => true,
+    }
+}
+
+/// Refuses an import or an export that is an interface.
+fn check_kind(alloc: Global, external: &Extern<'_>) -> ParseResult<()>
+    ensures inside { OnOk result (IsInside (Crossing external.now)) }
+    ensures refused { IfErr result (Refused (IsAcross (Crossing external.now))) }
+{
+    if is_interface(external) {
+        return Err(refuse(alloc, 54, external.kind.span(), UNREAD));
+    }
+    Ok(())
+}
+
+/// Refuses a part of a world that is an interface which it imports or exports.
 fn check_part(alloc: Global, part: &WorldItem<'_>) -> ParseResult<()>
     ensures inside { OnOk result (IsInside (world_part part.now)) }
     ensures refused { IfErr result (Refused (IsAcross (world_part part.now))) }
 {
     match part {
-        WorldItem::Extern(external) => Err(refuse(alloc, 54, external.kind.span(), UNREAD)),
+        WorldItem::Extern(external) => check_kind(alloc, external),
         WorldItem::TypeDef(_) | WorldItem::Use(_) | WorldItem::Include(_) => Ok(()),
     }
 }
 
-/// Refuses what a world imports or exports.
+/// Refuses the interfaces that a world imports or exports.
 fn check_world(alloc: Global, world: &World<'_>) -> ParseResult<()>
     ensures read { OnOk result ((top : List TopName) → AreRead (record { top = top; declared = TheWorld world.now } ∷ [])) }
     ensures refused { IfErr result (λ e. (top : List TopName) → Refused (IsUnreadAmong (record { top = top; declared = TheWorld world.now } ∷ [])) e) }
@@ -39,7 +63,7 @@ fn check_world(alloc: Global, world: &World<'_>) -> ParseResult<()>
     Ok(())
 }
 
-/// Refuses what a declared world imports or exports.
+/// Refuses the interfaces that a declared world imports or exports.
 fn check_declaration(alloc: Global, item: &AstItem<'_>) -> ParseResult<()>
     ensures read { OnOk result ((top : List TopName) → AreRead (declared_items top item.now)) }
     ensures refused { IfErr result (λ e. (top : List TopName) → Refused (IsUnreadAmong (declared_items top item.now)) e) }
@@ -51,7 +75,7 @@ fn check_declaration(alloc: Global, item: &AstItem<'_>) -> ParseResult<()>
     }
 }
 
-/// Refuses what the worlds of a file import or export.
+/// Refuses the interfaces that the worlds of a file import or export.
 fn check_file(alloc: Global, file: &PackageFile<'_>) -> ParseResult<()>
     ensures read { OnOk result (AreRead (file_items file.now)) }
     ensures refused { IfErr result (Refused (IsUnreadAmong (file_items file.now))) }
@@ -62,7 +86,7 @@ fn check_file(alloc: Global, file: &PackageFile<'_>) -> ParseResult<()>
     Ok(())
 }
 
-/// Refuses what worlds import or export.
+/// Refuses the interfaces that worlds import or export.
 fn check_read(alloc: Global, files: &[PackageFile<'_>]) -> ParseResult<()>
     ensures read { OnOk result (AreRead (all_items files.now)) }
     ensures refused { IfErr result (Refused (IsUnreadAmong (all_items files.now))) }
@@ -73,7 +97,7 @@ fn check_read(alloc: Global, files: &[PackageFile<'_>]) -> ParseResult<()>
     Ok(())
 }
 
-/// The names of files whose worlds import and export nothing.
+/// The names of files whose worlds import and export no interfaces.
 pub(crate) fn read_names<'f, 'a>(
     alloc: Global,
     files: &'f [PackageFile<'a>],

@@ -1,14 +1,16 @@
 -- Written functions that are held until their types are resolved.
 use Rattle.std.specs.Prelude.{Option, Some, None}
 use Rattle.wit_tree.specs.declared.tree.Id.{Id}
-use Rattle.wit_syntax.specs.Function.{Role, Freestanding, Method, Static, Constructor, SourceFunction, free_function, resource_function}
+use Rattle.wit_tree.specs.declared.tree.WorldSide.{WorldSide}
+use Rattle.wit_syntax.specs.Function.{Role, Freestanding, Method, Static, Constructor, OnSide, SourceFunction, free_function, resource_function, side_function}
 use Rattle.wit_rules.specs.declared.held.HeldFunction.{HeldFunction}
-use Rattle.wit_rules.specs.declared.held.HeldFunction.TheVariants.{Free, Of}
+use Rattle.wit_rules.specs.declared.held.HeldFunction.TheVariants.{Free, Of, Across}
 
 -- the function that is held
 abbrev pub function_behind : HeldFunction → SourceFunction
 function_behind (Free f) = free_function f.now
 function_behind (Of r f) = resource_function r f.now
+function_behind (Across side docs attributes name f) = side_function side docs.now attributes.now name f.now
 
 -- the resource that a function belongs to
 abbrev pub owner_of : Role → Option Id
@@ -16,6 +18,7 @@ owner_of (Freestanding id form) = None
 owner_of (Method of form) = Some of
 owner_of (Static of form) = Some of
 owner_of (Constructor of) = Some of
+owner_of (OnSide side id form) = None
 
 -- the resource that a method is first given
 abbrev pub given_of : Role → Option Id
@@ -23,6 +26,15 @@ given_of (Freestanding id form) = None
 given_of (Method of form) = Some of
 given_of (Static of form) = None
 given_of (Constructor of) = None
+given_of (OnSide side id form) = None
+
+-- the side of a world that imports or exports a function
+abbrev pub across_of : Role → Option WorldSide
+across_of (Freestanding id form) = None
+across_of (Method of form) = None
+across_of (Static of form) = None
+across_of (Constructor of) = None
+across_of (OnSide side id form) = Some side
 
 -- the resource that a constructor makes
 abbrev pub made_of : Role → Option Id
@@ -30,3 +42,4 @@ made_of (Freestanding id form) = None
 made_of (Method of form) = None
 made_of (Static of form) = None
 made_of (Constructor of) = Some of
+made_of (OnSide side id form) = None

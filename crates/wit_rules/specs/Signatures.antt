@@ -16,7 +16,7 @@ use Rattle.wit_arena.specs.Adding.{AreShapes, SaysParam}
 use Rattle.wit_syntax.specs.Fault.{Fault, fault, name_word}
 use Rattle.wit_syntax.specs.Shape.{Shape, shape_of, words, handles, all_handles}
 use Rattle.wit_syntax.specs.Source.{ScopeName, meaning}
-use Rattle.wit_syntax.specs.Function.{Role, Freestanding, Method, Static, Constructor, SourceParam, SourceFunction, written_types}
+use Rattle.wit_syntax.specs.Function.{Role, Freestanding, Method, Static, Constructor, OnSide, SourceParam, SourceFunction, written_types}
 use Rattle.wit_syntax.specs.Bodies.{IsBrokenType}
 use Rattle.wit_syntax.specs.Signature.{ok_of, meant_ok, IsEntered, IsGetterWithoutResult, IsSetterWithResult, IsConstructorWithoutResult, IsConstructorOfOther, IsBrokenFunction}
 use Rattle.wit_arena.specs.Resolving.{Env, env_of, IsWrongHandle}
@@ -73,11 +73,12 @@ IsFree (Freestanding id form) name = id.name.now ≡ name
 IsFree (Method of form) name = ⊥
 IsFree (Static of form) name = ⊥
 IsFree (Constructor of) name = ⊥
+IsFree (OnSide side id form) name = ⊥
 
 -- a name that is written at a span is that of a function up to a place, or of none
 pub data IsLostAt (fns : List SourceFunction) (k : ℕ) (span : Span) (name : List ℕ) (f : Fault) : Type 0 where
   AtFunction : IsEntered fns k name → f ≡ fault 28 span → IsLostAt fns k span name f
-  AtNothing : (IsEntered fns k name → ⊥) → f ≡ record { rule = 29; span = span; name = Some name; sort = Missing name_word } → IsLostAt fns k span name f
+  AtNothing : (IsEntered fns k name → ⊥) → f ≡ record { rule = 29; span = span; name = Some name; sort = Missing name_word; hint = None } → IsLostAt fns k span name f
 
 -- a name among these stands for nothing, and it is that of a function up to a place, or of none
 pub record IsLostName (env : Env) (fns : List SourceFunction) (k : ℕ) (ids : List Id) (f : Fault) : Type 0 where

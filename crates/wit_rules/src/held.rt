@@ -1,22 +1,28 @@
 //! Functions as they are written, before their types are resolved.
-ghost use Rattle.std.specs.Prelude.{◌≡◌, map, IfOk, string_bytes};
+ghost use Rattle.std.specs.Prelude.{◌≡◌, ◌++◌, map, IfOk, string_bytes};
 ghost use Rattle.std.specs.Option.{option_map};
-ghost use Rattle.wit_syntax.specs.Function.{accessor, free_function, resource_function, written_param};
+ghost use Rattle.wit_syntax.specs.Function.{accessor, resource_function, written_param};
 ghost use Rattle.wit_syntax.specs.Signature.{role_form};
-ghost use Rattle.wit_rules.specs.Held.{function_behind, owner_of, given_of, made_of};
+ghost use Rattle.wit_syntax.specs.Sides.{role_side};
+ghost use Rattle.wit_rules.specs.Held.{function_behind, owner_of, given_of, made_of, across_of};
 
 use std::alloc::{AllocError, Global};
 use wit_tree::Span;
-use wit_tree::tree::{Attribute, Docs, FuncForm, Id, NamedFunc, Param, ResourceFunc, Type};
+use wit_tree::tree::{
+    Attribute, Docs, Func, FuncForm, Id, NamedFunc, Param, ResourceFunc, Type, WorldSide,
+};
 use wit_values::Text;
 
 /// A written function: one by itself, or one of a resource.
 #[derive(Clone, Copy, Debug)]
 pub enum HeldFunction<'t, 'a> {
-    /// A function of an interface or a world.
+    /// A function of an interface.
     Free(&'t NamedFunc<'a>),
     /// A function of the resource of this name.
     Of(Id<'a>, &'t ResourceFunc<'a>),
+    /// A function that a world imports or exports: its side, its docs and attributes, its name and
+    /// what stands behind that.
+    Across(WorldSide, &'t Docs<'a>, &'t [Attribute<'a>], Id<'a>, &'t Func<'a>),
 }
 
 /// The mark of an accessor in a function's name.
@@ -31,11 +37,11 @@ fn mark(form: FuncForm) -> &'static str
 }
 
 /// The name of a function by itself, with its mark.
-fn free_name(alloc: Global, function: &NamedFunc<'_>) -> Result<String, AllocError>
-    ensures { IfOk result (λ name. string_bytes name ≡ (free_function function.now).name) }
+fn free_name(alloc: Global, form: FuncForm, id: Id<'_>) -> Result<String, AllocError>
+    ensures { IfOk result (λ name. string_bytes name ≡ accessor form ++ id.entry.name.now) }
 {
-    let mark = mark(function.func.form);
-    let name = function.name.name;
+    let mark = mark(form);
+    let name = id.name;
     format!(in alloc; "{mark}{name}")
 }
 
@@ -69,8 +75,9 @@ impl<'t, 'a> HeldFunction<'t, 'a> {
         ensures { IfOk result (λ name. name ≡ (function_behind self.entry).name) }
     {
         let name = match self {
-            HeldFunction::Free(f) => free_name(alloc, f)?,
+            HeldFunction::Free(f) => free_name(alloc, f.func.form, f.name)?,
             HeldFunction::Of(resource, f) => resource_name(alloc, resource, f)?,
+            HeldFunction::Across(_, _, _, name, f) => free_name(alloc, f.form, name)?,
         };
         Ok(Text::from(name))
     }
@@ -80,7 +87,7 @@ impl<'t, 'a> HeldFunction<'t, 'a> {
         ensures { result ≡ owner_of (function_behind self.entry).role }
     {
         match self {
-            HeldFunction::Free(_) => None,
+            HeldFunction::Free(_) | HeldFunction::Across(_, _, _, _, _) => None,
             HeldFunction::Of(resource, _) => Some(resource),
         }
     }
@@ -92,7 +99,8 @@ impl<'t, 'a> HeldFunction<'t, 'a> {
         match self {
             HeldFunction::Of(resource, ResourceFunc::Method(_)) => Some(resource),
             HeldFunction::Of(_, ResourceFunc::Static(_) | ResourceFunc::Constructor { .. })
-            | HeldFunction::Free(_) => None,
+            | HeldFunction::Free(_)
+            | HeldFunction::Across(_, _, _, _, _) => None,
         }
     }
 
@@ -103,7 +111,29 @@ impl<'t, 'a> HeldFunction<'t, 'a> {
         match self {
             HeldFunction::Of(resource, ResourceFunc::Constructor { .. }) => Some(resource),
             HeldFunction::Of(_, ResourceFunc::Method(_) | ResourceFunc::Static(_))
-            | HeldFunction::Free(_) => None,
+            | HeldFunction::Free(_)
+            | HeldFunction::Across(_, _, _, _, _) => None,
+        }
+    }
+
+    /// The side of a world that imports or exports it, if one does.
+    pub fn across(self) -> Option<WorldSide>
+        ensures { result ≡ across_of (function_behind self.entry).role }
+    {
+        match self {
+            HeldFunction::Free(_) | HeldFunction::Of(_, _) => None,
+            HeldFunction::Across(side, _, _, _, _) => Some(side),
+        }
+    }
+
+    /// The side of a world that it stands on; a function of an interface or of a resource stands where
+    /// imports do.
+    pub fn side(self) -> WorldSide
+        ensures { result ≡ role_side (function_behind self.entry).role }
+    {
+        match self {
+            HeldFunction::Free(_) | HeldFunction::Of(_, _) => WorldSide::Imported,
+            HeldFunction::Across(side, _, _, _, _) => side,
         }
     }
 
@@ -113,6 +143,7 @@ impl<'t, 'a> HeldFunction<'t, 'a> {
     {
         match self {
             HeldFunction::Free(f) => f.func.form,
+            HeldFunction::Across(_, _, _, _, f) => f.form,
             HeldFunction::Of(_, ResourceFunc::Method(f) | ResourceFunc::Static(f)) => f.func.form,
             HeldFunction::Of(_, ResourceFunc::Constructor { .. }) => FuncForm::Plain,
         }
@@ -124,6 +155,7 @@ impl<'t, 'a> HeldFunction<'t, 'a> {
     {
         match self {
             HeldFunction::Free(f) => f.name.span,
+            HeldFunction::Across(_, _, _, name, _) => name.span,
             HeldFunction::Of(_, ResourceFunc::Method(f) | ResourceFunc::Static(f)) => f.name.span,
             HeldFunction::Of(_, ResourceFunc::Constructor { span, .. }) => *span,
         }
@@ -135,6 +167,7 @@ impl<'t, 'a> HeldFunction<'t, 'a> {
     {
         match self {
             HeldFunction::Free(f) => f.func.span,
+            HeldFunction::Across(_, _, _, _, f) => f.span,
             HeldFunction::Of(_, ResourceFunc::Method(f) | ResourceFunc::Static(f)) => f.func.span,
             HeldFunction::Of(_, ResourceFunc::Constructor { span, .. }) => *span,
         }
@@ -147,6 +180,7 @@ impl<'t, 'a> HeldFunction<'t, 'a> {
     {
         match self {
             HeldFunction::Free(f) => &f.func.params,
+            HeldFunction::Across(_, _, _, _, f) => &f.params,
             HeldFunction::Of(_, ResourceFunc::Method(f) | ResourceFunc::Static(f)) => &f
                 .func
                 .params,
@@ -160,6 +194,7 @@ impl<'t, 'a> HeldFunction<'t, 'a> {
     {
         match self {
             HeldFunction::Free(f) => f.func.result.as_ref(),
+            HeldFunction::Across(_, _, _, _, f) => f.result.as_ref(),
             HeldFunction::Of(_, ResourceFunc::Method(f) | ResourceFunc::Static(f)) => f
                 .func
                 .result
@@ -174,6 +209,7 @@ impl<'t, 'a> HeldFunction<'t, 'a> {
     {
         match self {
             HeldFunction::Free(f) => &f.docs,
+            HeldFunction::Across(_, docs, _, _, _) => docs,
             HeldFunction::Of(_, ResourceFunc::Method(f) | ResourceFunc::Static(f)) => &f.docs,
             HeldFunction::Of(_, ResourceFunc::Constructor { docs, .. }) => docs,
         }
@@ -185,6 +221,7 @@ impl<'t, 'a> HeldFunction<'t, 'a> {
     {
         match self {
             HeldFunction::Free(f) => &f.attributes,
+            HeldFunction::Across(_, _, attributes, _, _) => attributes,
             HeldFunction::Of(_, ResourceFunc::Method(f) | ResourceFunc::Static(f)) => &f.attributes,
             HeldFunction::Of(_, ResourceFunc::Constructor { attributes, .. }) => attributes,
         }

@@ -11,10 +11,10 @@ use Rattle.wit_tree.specs.declared.tree.Id.{Id}
 use Rattle.wit_tree.specs.declared.tree.TypeDef.{TypeDef as Definition}
 use Rattle.wit_syntax.specs.Shape.{all_words, body_of}
 use Rattle.wit_syntax.specs.Scope.{in_order, is_defined, rows_of, used, defined, AreDistinct, local_names}
-use Rattle.wit_syntax.specs.Fault.{Fault, fault, type_word}
+use Rattle.wit_syntax.specs.Fault.{Fault, fault, missing_type_at, type_word}
 use Rattle.wit_syntax.specs.Bodies.{IsRepeated}
 use Rattle.wit_syntax.specs.Function.{SourceFunction}
-use Rattle.wit_syntax.specs.Broken.{IsBrokenScope, DefinedTwice, MissingType, CyclicType, Notes, Body, Function, FoldedTwice}
+use Rattle.wit_syntax.specs.Broken.{IsBrokenScope, DefinedTwice, MissingType, CyclicType, Notes, Body, Function, FoldedTwice, CrossedTwice}
 use Rattle.wit_syntax.specs.Repeats.{AllDiffer}
 use Rattle.wit_arena.specs.Resolving.{Env, AreLegalNotes, AreLegalBodies, HasNames, IsUnknown}
 use Rattle.wit_syntax.proofs.Lists.{at_within, at_take, map_at, map_map}
@@ -27,7 +27,7 @@ use Rattle.wit_syntax.proofs.Legal.{no_missing_edge, no_cyclic_edge}
 use Rattle.wit_scopes.specs.declared.scope_name.ScopeName.{ScopeName as Held}
 use Rattle.wit_scopes.specs.declared.scope_name.ScopeName.TheVariants as held
 use Rattle.wit_scopes.specs.Held.{name_behind}
-use Rattle.wit_scopes.specs.Between.{AreOrdered, AreInTurn, IsBrokenAmong, IsRepeatedId, OfFunction, OfFolded, IsOfFunctions}
+use Rattle.wit_scopes.specs.Between.{AreOrdered, AreInTurn, IsBrokenAmong, IsRepeatedId, OfFunction, OfFolded, OfCrossed, IsOfFunctions}
 
 -- what stands at the first n places
 in_order-take : {X : Type 0} (xs : List X) (places : List ℕ) (n : ℕ) → ((j p : ℕ) → slice_get places j ≡ Some p → p < length xs) → in_order xs (take n places) ≡ take n (in_order xs places)
@@ -149,7 +149,7 @@ turn_differs xs ds names o are distinct = rw (are, o.are) (subst AllDiffer (map-
 -- where the names and the definitions break no rule, functions or folded names do
 pub legal_unfolded : (xs ds : List ScopeName) (ids : List Id) → AreOrdered xs ds → ids ≡ map local_id (used xs ++ defined xs) → AllDiffer (map text ids) → AreLegalNotes ds → AreLegalBodies ds → (fns : List SourceFunction) (f : Fault) → IsBrokenScope xs fns f → IsOfFunctions xs fns f
 legal_unfolded xs ds ids o are distinct notes bodies fns f (DefinedTwice h) = absurd (no_repeat local_name (used xs ++ defined xs) h.later (differ_names xs ids are distinct) h.repeated)
-legal_unfolded xs ds ids o are distinct notes bodies fns f (MissingType h) = absurd (no_missing_edge 15 type_word (rows_of xs) o.order f o.least h)
+legal_unfolded xs ds ids o are distinct notes bodies fns f (MissingType h) = absurd (no_missing_edge missing_type_at (rows_of xs) o.order f o.least h)
 legal_unfolded xs ds ids o are distinct notes bodies fns f (CyclicType h) = absurd (no_cyclic_edge 16 type_word (rows_of xs) o.order f o.least h)
 legal_unfolded xs ds ids o are distinct notes bodies fns f (Notes d among broken) = absurd (
     let p = at_contains xs (Defined d) among in
@@ -163,3 +163,4 @@ legal_unfolded xs ds ids o are distinct notes bodies fns f (Body d among broken)
     bodies.legal it.0 d f (ap (λ l. slice_get l it.0) o.are ∙ it.1) broken)
 legal_unfolded xs ds ids o are distinct notes bodies fns f (Function k fn at broken) = OfFunction k fn at broken
 legal_unfolded xs ds ids o are distinct notes bodies fns f (FoldedTwice h) = OfFolded h
+legal_unfolded xs ds ids o are distinct notes bodies fns f (CrossedTwice h) = OfCrossed h

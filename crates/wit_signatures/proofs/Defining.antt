@@ -1,6 +1,6 @@
 -- Names that are defined one behind the other, of which no two may have one key.
 use Rattle.std.proofs.Common.{◌≡◌, ℕ, ◌+◌, ◌<◌, List, [], ◌∷◌, ◌++◌, length, take, drop, get_or, sym, ap, ◌∙◌, subst, append_assoc}
-use Rattle.std.specs.Prelude.{map, Result, Ok, Err, OnOk}
+use Rattle.std.specs.Prelude.{map}
 use Rattle.std.proofs.lemmas.List.{map-append, take_more, take-append-drop}
 use Rattle.std.proofs.lemmas.Option.{slice_get_within}
 use Rattle.wit_names.specs.Folded.{folded_key}
@@ -28,7 +28,7 @@ again_twice names name span f h = record {
   is = h.is;
 }
 
-twice_front : (names more : List Name) (f : Fault) → IsTwiceAmong names f → IsTwiceAmong (names ++ more) f
+pub twice_front : (names more : List Name) (f : Fault) → IsTwiceAmong names f → IsTwiceAmong (names ++ more) f
 twice_front names more f h = record {
   later = h.later;
   repeated = record {
@@ -44,7 +44,7 @@ twice_front names more f h = record {
 }
 
 -- the next of the items that are defined
-pub names_more : {X : Type 0} (name : X → Name) (old : List Name) (xs : List X) (i : ℕ) (x : X) → i < length xs → x ≡ get_or xs i x → old ++ map name (take (i + 1) xs) ≡ (old ++ map name (take i xs)) ++ name x ∷ []
+names_more : {X : Type 0} (name : X → Name) (old : List Name) (xs : List X) (i : ℕ) (x : X) → i < length xs → x ≡ get_or xs i x → old ++ map name (take (i + 1) xs) ≡ (old ++ map name (take i xs)) ++ name x ∷ []
 names_more name old xs i x within is =
     ap (λ ys. old ++ map name ys) (take_more xs i x within ∙ ap (λ y. take i xs ++ y ∷ []) (sym is))
     ∙ ap (λ ns. old ++ ns) (map-append name (take i xs) (x ∷ []))
@@ -68,8 +68,3 @@ keys_more names name span free d =
     subst AllDiffer (sym (map-append name_key names ((name, span) ∷ []))) (differ_more (map name_key names) (folded_key name) d (λ i at.
     let there = map_at name_key names i (folded_key name) at in
     free (record { place = i; earlier = there.0; at = there.1; same = there.2 })))
-
--- the same of what a definition says of its result
-pub keys_defined : {T E : Type 0} (r : Result T E) (old new : List Name) (name : List ℕ) (span : Span) → OnOk r (new ≡ old ++ (name, span) ∷ []) → OnOk r (IsTaken old name → ⊥) → OnOk r (AllDiffer (map name_key old) → AllDiffer (map name_key new))
-keys_defined (Ok x) old new name span defined free = λ d. subst (λ ns. AllDiffer (map name_key ns)) (sym defined) (keys_more old name span free d)
-keys_defined (Err e) old new name span defined free = tt

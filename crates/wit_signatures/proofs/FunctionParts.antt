@@ -2,7 +2,7 @@
 use Rattle.std.proofs.Common.{◌≡◌, ◌≤◌, ℕ, zero, suc, List, [], ◌∷◌, ◌++◌, length, map, Option, Some, None, inl, inr, refl, sym, ap, ◌∙◌, subst, arith, append_assoc, length-append}
 use Rattle.std.specs.Prelude.{slice_get}
 use Rattle.std.proofs.lemmas.List.{map-append}
-use Rattle.std.proofs.lemmas.Option.{slice_get_within}
+use Rattle.std.proofs.lemmas.Option.{none-some, slice_get_within}
 use Rattle.wit_values.specs.declared.span.Span.{Span}
 use Rattle.wit_tree.specs.declared.tree.Id.{Id}
 use Rattle.wit_tree.specs.declared.tree.Param.{Param as WrittenParam}
@@ -17,7 +17,9 @@ use Rattle.wit_types.specs.declared.types.TypeDefKind.TheVariants as kind
 use Rattle.wit_types.specs.declared.types.Handle.TheVariants as handle
 use Rattle.wit_model.specs.declared.function.Param.{Param}
 use Rattle.wit_syntax.specs.Shape.{Shape, Word, shape_of}
-use Rattle.wit_syntax.specs.Function.{SourceParam, self_param, written_param, resource_function}
+use Rattle.wit_syntax.specs.Fault.{Fault}
+use Rattle.wit_syntax.specs.Source.{ScopeName}
+use Rattle.wit_syntax.specs.Function.{SourceParam, SourceFunction, self_param, written_param, resource_function}
 use Rattle.wit_arena.specs.Adding.{AreShapes, SaysParam}
 use Rattle.wit_arena.specs.Resolving.{Env, IsInterned}
 use Rattle.wit_arena.proofs.AddingFunctions.{shapes_none, shapes_one, shapes_append}
@@ -26,7 +28,7 @@ use Rattle.wit_rules.specs.declared.held.HeldFunction.{HeldFunction}
 use Rattle.wit_rules.specs.declared.held.HeldFunction.TheVariants as held
 use Rattle.wit_rules.specs.Held.{function_behind, given_of}
 use Rattle.wit_entries.specs.Reading.{IsResolved}
-use Rattle.wit_rules.specs.Signatures.{AreParamsOver, IsResultOver}
+use Rattle.wit_rules.specs.Signatures.{AreParamsOver, IsResultOver, IsBrokenResult}
 use Rattle.wit_entries.proofs.Reading.{alone, resolved_word, whole_stands}
 use Rattle.wit_signatures.proofs.SignatureTypes.{result_shape}
 
@@ -82,6 +84,12 @@ self_stands old new env r word place i found interned = whole_stands old old new
 result_one : (old new : List TypeDef) (env : Env) (x : Shape) (t : Ty) → IsResolved old new env Unknown x t → IsResultOver old new env (Some x) (Some t)
 result_one old new env x t is = record { types = λ s. shapes_one old new s env x t (is s) }
 
+-- where nothing is written as the result, none of its rules is broken
+pub no_result : (xs : List ScopeName) (fn : SourceFunction) (f : Fault) → fn.result_type ≡ None → IsBrokenResult xs fn f → ⊥
+no_result xs fn f none (inl h) = none-some h.t (sym none ∙ h.result)
+no_result xs fn f none (inr (inl h)) = none-some h.t (sym none ∙ h.result)
+no_result xs fn f none (inr (inr h)) = none-some h.t (sym none ∙ h.result)
+
 -- a written result stands for a type
 pub result_behind : (old new : List TypeDef) (env : Env) (h : HeldFunction) (t : Written) (ty : Ty) → (function_behind h).result_type ≡ Some t → IsResolved old new env Unknown (shape_of t) ty → IsResultOver old new env (function_behind h).result (Some ty)
 result_behind old new env h t ty written is = subst (λ (x : Option Shape). IsResultOver old new env x (Some ty)) (sym (result_shape h t written)) (result_one old new env (shape_of t) ty is)
@@ -89,6 +97,7 @@ result_behind old new env h t ty written is = subst (λ (x : Option Shape). IsRe
 -- a method is given its resource, and no other function is given anything
 given_resource : (h : HeldFunction) (r : Id) → given_of (function_behind h).role ≡ Some r → (function_behind h).given ≡ self_param r (function_behind h).word ∷ []
 given_resource (held.Free f) r is = absurd (let x : ⊥ = cc in x)
+given_resource (held.Across side docs attributes name f) r is = absurd (let x : ⊥ = cc in x)
 given_resource (held.Of of f) r is = by f.now is
   where
     by : (g : ResourceFunc) → given_of (resource_function of g).role ≡ Some r → (resource_function of g).given ≡ self_param r (resource_function of g).word ∷ []
@@ -98,6 +107,7 @@ given_resource (held.Of of f) r is = by f.now is
 
 given_nothing : (h : HeldFunction) → given_of (function_behind h).role ≡ None → (function_behind h).given ≡ []
 given_nothing (held.Free f) is = refl
+given_nothing (held.Across side docs attributes name f) is = refl
 given_nothing (held.Of of f) is = by f.now is
   where
     by : (g : ResourceFunc) → given_of (resource_function of g).role ≡ None → (resource_function of g).given ≡ []
@@ -117,6 +127,7 @@ given_none es env h ps given empty = subst (AreParamsOver es es env (function_be
 -- a function is given one parameter at most
 pub given_few : (h : HeldFunction) → length (function_behind h).given ≤ 1
 given_few (held.Free f) = omega arith
+given_few (held.Across side docs attributes name f) = omega arith
 given_few (held.Of r f) = few f.now
   where
     few : (g : ResourceFunc) → length (resource_function r g).given ≤ 1

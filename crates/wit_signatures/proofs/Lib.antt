@@ -6,3 +6,4 @@ mod WholeFunctions
 pub mod Mangling
 mod Paired
 mod Defining
+mod Clashing

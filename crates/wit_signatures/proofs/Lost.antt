@@ -9,7 +9,7 @@ use Rattle.wit_tree.specs.declared.tree.«Type».{«Type» as Written}
 use Rattle.wit_tree.specs.declared.tree.«Type».TheVariants as written
 use Rattle.wit_types.specs.declared.types.TypeDef.{TypeDef}
 use Rattle.wit_syntax.specs.Fault.{Fault, fault_of}
-use Rattle.wit_syntax.specs.Function.{Role, Freestanding, Method, Static, Constructor, SourceFunction}
+use Rattle.wit_syntax.specs.Function.{Role, Freestanding, Method, Static, Constructor, OnSide, SourceFunction}
 use Rattle.wit_syntax.specs.Bodies.{IsBrokenForm, IsBrokenType}
 use Rattle.wit_syntax.specs.Broken.{Refused}
 use Rattle.wit_syntax.specs.Signature.{IsEntered}
@@ -39,6 +39,7 @@ entered_as fns i k fn (Freestanding id form) name le at is free = record { place
 entered_as fns i k fn (Method of form) name le at is free = absurd free
 entered_as fns i k fn (Static of form) name le at is free = absurd free
 entered_as fns i k fn (Constructor of) name le at is free = absurd free
+entered_as fns i k fn (OnSide side id form) name le at is free = absurd free
 
 pub entered_at : (fns : List SourceFunction) (i k : ℕ) (fn : SourceFunction) (name : List ℕ) → i ≤ k → slice_get fns i ≡ Some fn → IsFree fn.role name → IsEntered fns k name
 entered_at fns i k fn name le at free = entered_as fns i k fn fn.role name le at refl free

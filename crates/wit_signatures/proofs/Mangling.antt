@@ -18,7 +18,7 @@ use Rattle.wit_names.proofs.MadeNames.{is_dotted-labels, is_mangled-get, is_mang
 use Rattle.wit_syntax.specs.Function.{accessor, dotted, resource_function}
 use Rattle.wit_syntax.specs.Signature.{role_form}
 use Rattle.wit_rules.specs.declared.held.HeldFunction.{HeldFunction}
-use Rattle.wit_rules.specs.declared.held.HeldFunction.TheVariants.{Free, Of}
+use Rattle.wit_rules.specs.declared.held.HeldFunction.TheVariants.{Free, Of, Across}
 use Rattle.wit_rules.specs.Held.{function_behind}
 
 -- a function by itself, of a resource, a static one
@@ -55,6 +55,7 @@ mangled_resource r (resource.Constructor docs attributes span params result) = i
 pub mangled_behind : (h : HeldFunction) → IsTrue (is_mangled (function_behind h).name)
 mangled_behind (Free f) = mangled_free f.now.func.form f.now.name
 mangled_behind (Of r f) = mangled_resource r f.now
+mangled_behind (Across side docs attributes name f) = mangled_free f.now.form name
 
 -- a label begins with a letter, and so does what has one in front
 letter-label : (text : List ℕ) → is_label text ≡ true → starts_with_letter text ≡ true
@@ -133,6 +134,7 @@ set_resource r (resource.Constructor docs attributes span params result) = refl
 set_behind : (h : HeldFunction) → is_setter (function_behind h).name ≡ is_set (role_form (function_behind h).role)
 set_behind (Free f) = set_free f.now.func.form f.now.name.name.now f.now.name.label
 set_behind (Of r f) = set_resource r f.now
+set_behind (Across side docs attributes name f) = set_free f.now.form name.name.now name.label
 
 set_form : (form : FuncForm) → is_set form ≡ true → form ≡ Setter
 set_form Plain h = (let wrong : false ≡ true = h in cc)

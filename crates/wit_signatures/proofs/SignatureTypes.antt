@@ -7,12 +7,15 @@ use Rattle.std.proofs.lemmas.List.Elements.{Contains-append_left, Contains-appen
 use Rattle.std.proofs.lemmas.Option.{slice_get-map}
 use Rattle.wit_tree.specs.declared.tree.Id.{Id}
 use Rattle.wit_tree.specs.declared.tree.Param.{Param}
+use Rattle.wit_tree.specs.declared.tree.Attribute.{Attribute}
+use Rattle.wit_tree.specs.declared.tree.Docs.{Docs}
+use Rattle.wit_tree.specs.declared.tree.Func.{Func}
 use Rattle.wit_tree.specs.declared.tree.NamedFunc.{NamedFunc}
 use Rattle.wit_tree.specs.declared.tree.ResourceFunc.{ResourceFunc}
 use Rattle.wit_tree.specs.declared.tree.ResourceFunc.TheVariants as resource
 use Rattle.wit_tree.specs.declared.tree.«Type».{«Type» as Written}
 use Rattle.wit_syntax.specs.Shape.{Shape, Word, shape_of, words, handles, all_handles}
-use Rattle.wit_syntax.specs.Function.{Role, SourceParam, SourceFunction, all_params, written_param, written_types, signature, function_with, free_function, resource_function}
+use Rattle.wit_syntax.specs.Function.{Role, SourceParam, SourceFunction, all_params, written_param, written_types, signature, function_of, function_with, free_function, resource_function, side_function}
 use Rattle.wit_syntax.proofs.Lists.{map_map, map_at, flat_map_has, at_front, at_back, at_split}
 use Rattle.wit_syntax.proofs.Found.{contains_at, at_contains}
 use Rattle.wit_rules.specs.declared.held.HeldFunction.{HeldFunction}
@@ -27,8 +30,11 @@ record AreWritten (fn : SourceFunction) : Type 0 where
 params_written : (ps : List Param) → map (λ (p : SourceParam). p.shape) (map written_param ps) ≡ map shape_of (map (λ (p : Param). p.ty) ps)
 params_written ps = map_map (λ (p : SourceParam). p.shape) written_param ps ∙ sym (map_map shape_of (λ (p : Param). p.ty) ps)
 
+written_as : (name : List ℕ) (role : Role) (given : List SourceParam) (docs : Docs) (attributes : List Attribute) (id : Id) (f : Func) → AreWritten (function_of name role given docs attributes id f)
+written_as name role given docs attributes id f = record { params = params_written f.params.items; result = λ t is. ap (option_map shape_of) is }
+
 written_with : (name : List ℕ) (role : Role) (given : List SourceParam) (f : NamedFunc) → AreWritten (function_with name role given f)
-written_with name role given f = record { params = params_written f.func.params.items; result = λ t is. ap (option_map shape_of) is }
+written_with name role given f = written_as name role given f.docs f.attributes.items f.name f.func
 
 written_of : (r : Id) (f : ResourceFunc) → AreWritten (resource_function r f)
 written_of r (resource.Method f) = written_with (resource_function r (resource.Method f)).name (resource_function r (resource.Method f)).role (resource_function r (resource.Method f)).given f
@@ -38,6 +44,9 @@ written_of r (resource.Constructor docs attributes span params result) = record 
 written_behind : (h : HeldFunction) → AreWritten (function_behind h)
 written_behind (held.Free f) = written_with (free_function f.now).name (free_function f.now).role [] f.now
 written_behind (held.Of r f) = written_of r f.now
+written_behind (held.Across side docs attributes name f) =
+    let fn = side_function side docs.now attributes.now name f.now in
+    written_as fn.name fn.role [] docs.now attributes.now name f.now
 
 pub result_shape : (h : HeldFunction) (t : Written) → (function_behind h).result_type ≡ Some t → (function_behind h).result ≡ Some (shape_of t)
 result_shape h t is = (written_behind h).result t is

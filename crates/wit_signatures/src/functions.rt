@@ -92,6 +92,7 @@ fn kind_of(names: &TextTable<TypeId>, function: HeldFunction<'_, '_>) -> Functio
 {
     match function {
         HeldFunction::Free(f) => freestanding(f.func.form),
+        HeldFunction::Across(_, _, _, _, f) => freestanding(f.form),
         HeldFunction::Of(resource, ResourceFunc::Method(f)) => {
             method(f.func.form, place_of(names, resource))
         }

@@ -3,7 +3,10 @@ ghost use Rattle.std.specs.Prelude.{◌≡◌, ◌⊎◌, ◌++◌, ℕ, List, I
 ghost use Rattle.std.specs.List.{flat_map};
 ghost use Rattle.wit_names.specs.Mangled.{is_mangled};
 ghost use Rattle.wit_syntax.specs.Address.{Address};
+ghost use Rattle.wit_tree.specs.declared.tree.WorldSide.{WorldSide};
 ghost use Rattle.wit_syntax.specs.Repeats.{AllDiffer};
+ghost use Rattle.wit_syntax.specs.Sides.{on_side};
+ghost use Rattle.wit_sides.specs.Sides.{taken_on};
 ghost use Rattle.wit_syntax.specs.Shape.{all_handles};
 ghost use Rattle.wit_syntax.specs.Source.{ScopeName};
 ghost use Rattle.wit_syntax.specs.Fault.{Fault};
@@ -14,7 +17,7 @@ ghost use Rattle.wit_arena.specs.Resolving.{env_of, AddsFunctions};
 ghost use Rattle.wit_arena.specs.Resolved.{IsNameless};
 ghost use Rattle.wit_entries.specs.Requiring.{IsGrown, Requires};
 ghost use Rattle.wit_rules.specs.Signatures.{functions_behind, HaveOwners, IsScopeOf, IsWrongFunctionAmong};
-ghost use Rattle.wit_signatures.specs.Taken.{name_key, name_of_function, name_of_made, IsTwiceAmong};
+ghost use Rattle.wit_signatures.specs.Taken.{name_key, name_of_function, name_of_made, IsClash};
 
 use crate::functions::resolve_function;
 use crate::taken::define_function;
@@ -22,36 +25,36 @@ use std::alloc::Global;
 use wit_entries::entries::Entries;
 use wit_entries::scope::Required;
 use wit_model::Function;
-use wit_notes::NameScope;
 use wit_rules::function_scope::FunctionScope;
+use wit_sides::Sides;
 use wit_tree::ParseResult;
 
 /// The functions of a scope over their types, in source order, where the name of each is defined
-/// behind those before it.
+/// behind those before it on its side.
 ///
-/// A refusal is one of `resolve_function`, E17 where an earlier name has the folded key, or want of
-/// memory.
+/// A refusal is one of `resolve_function`, E44 where an earlier name of the side is spelled like that of
+/// an import or an export, E17 where an earlier one has the folded key, or want of memory.
 pub fn resolve_functions(
     alloc: Global,
     types: &mut Entries,
     required: &mut Vec<Required>,
     scope: FunctionScope<'_, '_, '_>,
-    taken: &mut NameScope,
+    taken: &mut Sides,
 ) -> ParseResult<Vec<Function>>
     requires owners { HaveOwners (env_of scope.names.now) (functions_behind scope) }
     ensures adds { IfOk result (λ fs. (s : Address) → AddsFunctions types.old types.new s scope.entry.names.now (functions_behind scope.entry) fs.items) }
     ensures named { IfOk result (λ fs. map name_of_made fs.items ≡ map name_of_function (functions_behind scope.entry)) }
-    ensures defined { OnOk result (taken.new ≡ taken.old ++ map name_of_function (functions_behind scope.entry)) }
-    ensures differ { OnOk result (AllDiffer (map name_key taken.old) → AllDiffer (map name_key taken.new)) }
+    ensures defined { OnOk result ((s : WorldSide) → taken_on s taken.new ≡ taken_on s taken.old ++ map name_of_function (on_side s (functions_behind scope.entry))) }
+    ensures differ { OnOk result ((s : WorldSide) → AllDiffer (map name_key (taken_on s taken.old)) → AllDiffer (map name_key (taken_on s taken.new))) }
     ensures legal { OnOk result ((xs : List ScopeName) → IsScopeOf scope.entry xs → (k : ℕ) (fn : SourceFunction) → slice_get (functions_behind scope.entry) k ≡ Some fn → (f : Fault) → IsBrokenFunction xs (functions_behind scope.entry) k fn f → IsNameless xs (functions_behind scope.entry)) }
     ensures handled { OnOk result (Requires (env_of scope.entry.names.now) types.new (all_handles (flat_map written_types (functions_behind scope.entry))) required.old.items required.new.items) }
     ensures grown { IsGrown types.old types.new }
-    ensures refused { IfErr result (λ e. (xs : List ScopeName) → IsScopeOf scope.entry xs → Refused (λ f. IsWrongFunctionAmong (env_of scope.entry.names.now) types.new xs (functions_behind scope.entry) f ⊎ IsTwiceAmong (taken.old ++ map name_of_function (functions_behind scope.entry)) f) e) }
+    ensures refused { IfErr result (λ e. (xs : List ScopeName) → IsScopeOf scope.entry xs → Refused (λ f. IsWrongFunctionAmong (env_of scope.entry.names.now) types.new xs (functions_behind scope.entry) f ⊎ IsClash (λ s. taken_on s taken.old) (functions_behind scope.entry) f) e) }
 {
     let mut functions = Vec::with_capacity(alloc, scope.functions.len())?;
     for place in 0..scope.functions.len() {
         let function = resolve_function(alloc, types, required, scope, place)?;
-        define_function(taken, &function)?;
+        define_function(alloc, taken, scope.names, scope.functions[place], &function)?;
         functions.push(function)?;
     }
     Ok(functions)

@@ -1,10 +1,11 @@
 //! Types in signatures.
-ghost use Rattle.std.specs.Prelude.{◌<◌, ◌↔◌, List, IfOk, IfErr, IsTrue, OnOk, length, map};
+ghost use Rattle.std.specs.Prelude.{◌≡◌, ◌<◌, ◌↔◌, List, None, IfOk, IfErr, IsTrue, OnOk, length, map};
 ghost use Rattle.wit_tree.specs.Refusal.{IsItemNotFound};
 ghost use Rattle.wit_tree.specs.declared.tree.«Type».{«Type» as Written};
 ghost use Rattle.wit_types.specs.declared.types.TypeDef.{TypeDef};
 ghost use Rattle.wit_types.specs.declared.stability.Stability.TheVariants.{Unknown};
 ghost use Rattle.wit_syntax.specs.Shape.{shape_of, handles};
+ghost use Rattle.wit_syntax.specs.Hint.{hint_of};
 ghost use Rattle.wit_syntax.specs.Fault.{Fault, name_word};
 ghost use Rattle.wit_syntax.specs.Bodies.{IsBrokenType};
 ghost use Rattle.wit_syntax.specs.Broken.{Refused};
@@ -34,7 +35,7 @@ fn is_named(function: HeldFunction<'_, '_>, name: &str) -> bool
 {
     match function {
         HeldFunction::Free(function) => function.name.name == name,
-        HeldFunction::Of(_, _) => false,
+        HeldFunction::Of(_, _) | HeldFunction::Across(_, _, _, _, _) => false,
     }
 }
 
@@ -58,7 +59,8 @@ fn function_as_type(alloc: Global, name: &str) -> Result<String, AllocError> {
 
 /// What is said of a name that stands for nothing.
 fn name_not_found(alloc: Global, span: Span, name: &str) -> Result<ParseErrorKind, AllocError>
-    ensures { IfOk result (IsItemNotFound span name.now name_word) }
+    ensures kind { IfOk result (IsItemNotFound span name.now name_word) }
+    ensures hint { IfOk result (λ kind. hint_of kind ≡ None) }
 {
     Ok(ParseErrorKind::ItemNotFound {
         span,

@@ -11,5 +11,7 @@ pub mod Orders
 pub mod Rows
 pub mod Turns
 pub mod Found
+pub mod Sides
 pub mod Legal
 pub mod Headers
+pub mod Externs

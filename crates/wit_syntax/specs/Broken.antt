@@ -1,5 +1,5 @@
 -- The rules, and what it is that breaks each.
-use Rattle.std.specs.Prelude.{◌≡◌, ◌≢◌, ℕ, ◌⊎◌, Bool, true, false, List, [], ◌∷◌, ◌++◌, map, Option, Some, None, Contains, slice_get}
+use Rattle.std.specs.Prelude.{◌≡◌, ◌≢◌, ℕ, ◌⊎◌, Bool, true, false, List, [], ◌∷◌, ◌++◌, Option, Some, None, Contains, slice_get}
 use Rattle.std.specs.List.{filter_map}
 use Rattle.std.specs.Option.{option_map, option_or}
 use Rattle.semver.specs.Identifiers.{parts_of}
@@ -19,16 +19,17 @@ use Rattle.wit_tree.specs.declared.tree.AstItem.{AstItem}
 use Rattle.wit_tree.specs.declared.tree.AstItem.TheVariants.{Use as ToplevelItem}
 use Rattle.wit_tree.specs.declared.tree.PackageName.{PackageName as Header}
 use Rattle.wit_tree.specs.declared.tree.PackageFile.{PackageFile}
-use Rattle.wit_order.specs.Table.{Row, IsEdge, IsMissing, IsCyclic, IsOrder}
+use Rattle.wit_order.specs.Table.{Row, IsEdge, IsMissing, IsCyclic}
 use Rattle.wit_syntax.specs.Notes.{IsBrokenStability, IsBrokenNotes}
 use Rattle.wit_syntax.specs.Bodies.{IsRepeated, IsBrokenBody}
-use Rattle.wit_syntax.specs.Fault.{Fault, fault_of, fault, missing_at, cyclic_at, item_word, type_word, name_word}
+use Rattle.wit_syntax.specs.Fault.{Fault, fault_of, fault, missing_at, missing_type_at, cyclic_at, item_word, type_word, name_word}
 use Rattle.wit_syntax.specs.Address.{Address, ForeignNamed}
 use Rattle.wit_syntax.specs.Source.{path_id, Target, Local, Foreign, path_target, leads, TopName, top_names, top_text, Item, item_id, item_name, declared_attributes, is_world, all_items, item_named, item_at, ScopeName, Used, Defined, local_id, local_name, scope_names, meaning, address, Crossing, parts}
 use Rattle.wit_syntax.specs.Foreign.{ForeignVisit, foreign_visits, is_foreign_world, foreign_at}
-use Rattle.wit_syntax.specs.Function.{SourceFunction, functions, free_names, item_types}
-use Rattle.wit_syntax.specs.Signature.{Called, called_key, name_called, function_called, IsBrokenFunction, IsNoResource, IsUnpairedSetter}
-use Rattle.wit_syntax.specs.Scope.{use_paths, include_paths, uses, includes, item_rows, rows_of, used, defined, in_turn}
+use Rattle.wit_syntax.specs.Function.{SourceFunction, extern_functions, functions, free_names, item_types}
+use Rattle.wit_syntax.specs.Sides.{IsFoldedTwice, IsCrossedTwice}
+use Rattle.wit_syntax.specs.Signature.{IsBrokenFunction, IsNoResource, IsUnpairedSetter}
+use Rattle.wit_syntax.specs.Scope.{use_paths, include_paths, uses, includes, item_rows, rows_of, used, defined}
 
 -- no file has a header
 pub record IsHeaderless (files : List PackageFile) (f : Fault) : Type 0 where
@@ -107,13 +108,13 @@ abbrev pub IsOtherPackage : List PackageFile → PackageFile → Fault → Type 
 IsOtherPackage files file f = IsMismatch (last_header files) file.package_id f
 
 -- an edge of a table leads to no row
-pub record IsMissingEdge (number : ℕ) (sort : List ℕ) (rs : List Row) (f : Fault) : Type 0 where
+pub record IsMissingEdge (told : Id → Fault) (rs : List Row) (f : Fault) : Type 0 where
   pub place : ℕ
   pub index : ℕ
   pub id : Id
   pub edge : IsEdge rs place index id
   pub missing : IsMissing rs place id
-  pub is : f ≡ missing_at number sort id
+  pub is : f ≡ told id
 
 -- both ends of an edge of a table reach a cycle
 pub record IsCyclicEdge (number : ℕ) (sort : List ℕ) (rs : List Row) (f : Fault) : Type 0 where
@@ -126,7 +127,7 @@ pub record IsCyclicEdge (number : ℕ) (sort : List ℕ) (rs : List Row) (f : Fa
 
 -- a path of an item leads to no item that could come before it
 abbrev pub IsMissingItem : List PackageFile → Fault → Type 0
-IsMissingItem files f = IsMissingEdge 7 item_word (item_rows files) f
+IsMissingItem files f = IsMissingEdge (missing_at 7 item_word) (item_rows files) f
 
 -- items need one another in a cycle
 abbrev pub IsCyclicItem : List PackageFile → Fault → Type 0
@@ -192,23 +193,11 @@ pub record IsDefinedTwice (xs : List ScopeName) (f : Fault) : Type 0 where
 
 -- a name written in a definition's body is none of the scope
 abbrev pub IsMissingType : List ScopeName → Fault → Type 0
-IsMissingType xs f = IsMissingEdge 15 type_word (rows_of xs) f
+IsMissingType xs f = IsMissingEdge missing_type_at (rows_of xs) f
 
 -- definitions name one another in a cycle
 abbrev pub IsCyclicType : List ScopeName → Fault → Type 0
 IsCyclicType xs f = IsCyclicEdge 16 type_word (rows_of xs) f
-
--- the names of a scope as they are resolved, in an order of its table, and then those of its functions
-abbrev pub all_called : List ScopeName → List SourceFunction → List ℕ → List Called
-all_called xs fns order = map name_called (in_turn xs order) ++ map function_called fns
-
--- an earlier name has the key of a later one
-pub record IsFoldedTwice (xs : List ScopeName) (fns : List SourceFunction) (f : Fault) : Type 0 where
-  pub order : List ℕ
-  pub least : IsOrder (rows_of xs) order
-  pub later : Called
-  pub repeated : IsRepeated called_key (all_called xs fns order) later
-  pub is : f ≡ fault 17 later.span
 
 -- what is wrong with a scope by itself, where it has these functions
 pub data IsBrokenScope (xs : List ScopeName) (fns : List SourceFunction) (f : Fault) : Type 0 where
@@ -219,6 +208,7 @@ pub data IsBrokenScope (xs : List ScopeName) (fns : List SourceFunction) (f : Fa
   Body : (d : TypeDef) → Contains xs (Defined d) → IsBrokenBody d.body f → IsBrokenScope xs fns f
   Function : (k : ℕ) (fn : SourceFunction) → slice_get fns k ≡ Some fn → IsBrokenFunction xs fns k fn f → IsBrokenScope xs fns f
   FoldedTwice : IsFoldedTwice xs fns f → IsBrokenScope xs fns f
+  CrossedTwice : IsCrossedTwice xs fns f → IsBrokenScope xs fns f
 
 -- what is wrong with the names of the items that files declare, with those at the top of each, and with what paths of items lead to
 pub data IsBrokenItems (files : List PackageFile) (f : Fault) : Type 0 where
@@ -255,10 +245,11 @@ pub record IsSetterAlone (i : Item) (f : Fault) : Type 0 where
   pub interface : is_world i ≡ false
   pub alone : IsUnpairedSetter (functions i) f
 
--- what a world imports or exports is read, but not treated yet
+-- an interface that a world imports or exports is read, but not treated yet
 pub record IsUnread (i : Item) (f : Fault) : Type 0 where
   pub x : Extern
   pub among : Contains (parts i) (Crossing x)
+  pub interface : extern_functions x x.kind ≡ []
   pub is : f ≡ fault 54 (extern_span x.kind)
 
 -- what is wrong with files

@@ -4,28 +4,30 @@ use Rattle.wit_values.specs.declared.span.Span.{Span}
 use Rattle.wit_tree.specs.declared.tree.Id.{Id}
 use Rattle.wit_tree.specs.declared.error.ParseError.{ParseError}
 use Rattle.wit_tree.specs.Refusal.{span_of, name_of, Sort, Said, Missing, Cyclic, sort_of}
+use Rattle.wit_syntax.specs.Hint.{hint_of, type_hint}
 
--- the number of a rule, a place, the name that it is about, where it is about one, and which kind of refusal it is
+-- the number of a rule, a place, the name that it is about, where it is about one, which kind of refusal it is, and the hint that it gives, where it gives one
 pub record Fault : Type 0 where
   pub rule : ℕ
   pub span : Span
   pub name : Option (List ℕ)
   pub sort : Sort
+  pub hint : Option (List ℕ)
 
 abbrev pub fault_of : ParseError → Fault
-fault_of e = record { rule = e.rule; span = span_of e.kind; name = name_of e.kind; sort = sort_of e.kind }
+fault_of e = record { rule = e.rule; span = span_of e.kind; name = name_of e.kind; sort = sort_of e.kind; hint = hint_of e.kind }
 
 -- a rule is broken at a span, and it is about no name
 abbrev pub fault : ℕ → Span → Fault
-fault number span = record { rule = number; span = span; name = None; sort = Said }
+fault number span = record { rule = number; span = span; name = None; sort = Said; hint = None }
 
 -- a name stands for nothing of a sort, where it is written
 abbrev pub missing_at : ℕ → List ℕ → Id → Fault
-missing_at number sort id = record { rule = number; span = id.span; name = Some id.name.now; sort = Missing sort }
+missing_at number sort id = record { rule = number; span = id.span; name = Some id.name.now; sort = Missing sort; hint = None }
 
 -- a name stands for something of a sort that depends on itself, where it is written
 abbrev pub cyclic_at : ℕ → List ℕ → Id → Fault
-cyclic_at number sort id = record { rule = number; span = id.span; name = Some id.name.now; sort = Cyclic sort }
+cyclic_at number sort id = record { rule = number; span = id.span; name = Some id.name.now; sort = Cyclic sort; hint = None }
 
 -- what is missing: an interface or world
 abbrev pub item_word : List ℕ
@@ -34,6 +36,10 @@ item_word = codes "interface or world"
 -- a type
 abbrev pub type_word : List ℕ
 type_word = codes "type"
+
+-- a name stands for no type, where it is written; one that types had once gets a hint
+abbrev pub missing_type_at : Id → Fault
+missing_type_at id = record { rule = 15; span = id.span; name = Some id.name.now; sort = Missing type_word; hint = type_hint id.name.now }
 
 -- a name of an interface
 abbrev pub name_word : List ℕ

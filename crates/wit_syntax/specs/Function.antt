@@ -10,6 +10,11 @@ use Rattle.wit_tree.specs.declared.tree.«Type».{«Type» as Written}
 use Rattle.wit_tree.specs.declared.tree.TypeBody.{TypeBody}
 use Rattle.wit_tree.specs.declared.tree.TypeBody.TheVariants as body
 use Rattle.wit_tree.specs.declared.tree.NamedFunc.{NamedFunc}
+use Rattle.wit_tree.specs.declared.tree.Func.{Func}
+use Rattle.wit_tree.specs.declared.tree.WorldSide.{WorldSide}
+use Rattle.wit_tree.specs.declared.tree.Extern.{Extern}
+use Rattle.wit_tree.specs.declared.tree.ExternKind.{ExternKind}
+use Rattle.wit_tree.specs.declared.tree.ExternKind.TheVariants as extern
 use Rattle.wit_tree.specs.declared.tree.FuncForm.{FuncForm}
 use Rattle.wit_tree.specs.declared.tree.FuncForm.TheVariants as form
 use Rattle.wit_tree.specs.declared.tree.Param.{Param}
@@ -21,12 +26,13 @@ use Rattle.wit_syntax.specs.Shape.{Shape, Word, Of, one, shape_of}
 use Rattle.wit_syntax.specs.Notes.{Notes, notes, docs_of}
 use Rattle.wit_syntax.specs.Source.{Item, Part, Defining, Using, Including, Doing, Crossing, parts, ScopeName, Used, Defined, Taken, scope_names}
 
--- what a function is: by itself, or of a resource
+-- what a function is: by itself in an interface, of a resource, or by itself on a side of a world
 pub data Role : Type 0 where
   Freestanding : (id : Id) (form : FuncForm) → Role
   Method : (of : Id) (form : FuncForm) → Role
   Static : (of : Id) (form : FuncForm) → Role
   Constructor : (of : Id) → Role
+  OnSide : (side : WorldSide) (id : Id) (form : FuncForm) → Role
 
 -- a parameter: its name, the place of that, and its type
 pub record SourceParam : Type 0 where
@@ -79,25 +85,40 @@ written_param p = record { name = p.name.name.now; span = p.name.span; shape = s
 abbrev pub self_param : Id → Span → SourceParam
 self_param r span = record { name = codes "self"; span = span; shape = Of span BorrowForm (one (Word r)) }
 
--- a function whose mangled name, role and first parameters are these
-abbrev pub function_with : List ℕ → Role → List SourceParam → NamedFunc → SourceFunction
-function_with name role given f = record {
+-- a function whose mangled name, role and first parameters are these, and these the docs and the attributes, its written name and what
+-- stands behind that
+abbrev pub function_of : List ℕ → Role → List SourceParam → Docs → List Attribute → Id → Func → SourceFunction
+function_of name role given docs attributes id f = record {
   name = name;
   role = role;
-  span = f.name.span;
-  word = f.func.span;
+  span = id.span;
+  word = f.span;
   given = given;
-  params = map written_param f.func.params.items;
-  result = option_map shape_of f.func.result;
-  param_types = map (λ p. p.ty) f.func.params.items;
-  result_type = f.func.result;
-  docs = f.docs;
-  attributes = f.attributes.items;
+  params = map written_param f.params.items;
+  result = option_map shape_of f.result;
+  param_types = map (λ p. p.ty) f.params.items;
+  result_type = f.result;
+  docs = docs;
+  attributes = attributes;
 }
+
+abbrev pub function_with : List ℕ → Role → List SourceParam → NamedFunc → SourceFunction
+function_with name role given f = function_of name role given f.docs f.attributes.items f.name f.func
 
 -- a function of an interface
 abbrev pub free_function : NamedFunc → SourceFunction
 free_function f = function_with (accessor f.func.form ++ f.name.name.now) (Freestanding f.name f.func.form) [] f
+
+-- a function on a side of a world
+abbrev pub side_function : WorldSide → Docs → List Attribute → Id → Func → SourceFunction
+side_function side docs attributes id f = function_of (accessor f.form ++ id.name.now) (OnSide side id f.form) [] docs attributes id f
+
+-- the function that a world imports or exports, if it is one
+abbrev pub extern_functions : Extern → ExternKind → List SourceFunction
+extern_functions x (extern.Interface name items) = []
+extern_functions x (extern.Path path) = []
+extern_functions x (extern.Func name f) = side_function x.side x.docs x.attributes.items name f ∷ []
+extern_functions x (extern.NamedPath name path) = []
 
 -- a constructor without a result makes its resource
 abbrev pub constructor_of : Id → Docs → List Attribute → Span → List Param → Option Written → SourceFunction
@@ -132,7 +153,7 @@ part_functions (Defining d) = definition_functions d.name d.body
 part_functions (Using u) = []
 part_functions (Including i) = []
 part_functions (Doing f) = free_function f ∷ []
-part_functions (Crossing x) = []
+part_functions (Crossing x) = extern_functions x x.kind
 
 -- the functions of an item, in source order
 abbrev pub functions : Item → List SourceFunction
@@ -144,6 +165,7 @@ role_names (Freestanding id form) = id.name.now ∷ []
 role_names (Method of form) = []
 role_names (Static of form) = []
 role_names (Constructor of) = []
+role_names (OnSide side id form) = id.name.now ∷ []
 
 abbrev pub free_names : Item → List (List ℕ)
 free_names i = flat_map (λ f. role_names f.role) (functions i)

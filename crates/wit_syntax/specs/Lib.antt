@@ -1,6 +1,7 @@
 pub mod Repeats
 pub mod Address
 pub mod Docs
+pub mod Hint
 pub mod Fault
 pub mod Notes
 pub mod Form
@@ -13,4 +14,5 @@ pub mod Bodies
 pub mod Function
 pub mod Ends
 pub mod Signature
+pub mod Sides
 pub mod Broken

@@ -17,7 +17,7 @@ use Rattle.wit_syntax.specs.Fault.{Fault, fault, missing_at, name_word}
 use Rattle.wit_syntax.specs.Address.{Address}
 use Rattle.wit_syntax.specs.Shape.{Word, shape_of, words, all_handles}
 use Rattle.wit_syntax.specs.Source.{ScopeName, Defined, local_id, local_name, meaning}
-use Rattle.wit_syntax.specs.Function.{Role, Freestanding, Method, Static, Constructor, SourceParam, SourceFunction, all_params, written_types, signature}
+use Rattle.wit_syntax.specs.Function.{Role, Freestanding, Method, Static, Constructor, OnSide, SourceParam, SourceFunction, all_params, written_types, signature}
 use Rattle.wit_syntax.specs.Ends.{Elsewhere, EndsAt}
 use Rattle.wit_syntax.specs.Notes.{IsBrokenNotes}
 use Rattle.wit_syntax.specs.Bodies.{folded, IsRepeated, IsBrokenPart}
@@ -42,6 +42,7 @@ role_form (Freestanding id form) = form
 role_form (Method of form) = form
 role_form (Static of form) = form
 role_form (Constructor of) = form.Plain
+role_form (OnSide side id form) = form
 
 -- where a written type stands
 abbrev pub type_span : Written → Span

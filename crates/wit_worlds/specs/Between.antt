@@ -24,12 +24,13 @@ pub record IsLost (files : List PackageFile) (by_name : Names) (top : List TopNa
   pub lost : IsNoWorld files by_name (leads top i.from)
   pub is : f ≡ fault 11 (path_id i.from).span
 
--- a world was added, with these notes, imports and includes
-pub record IsAddedWorld (ws ws' : List World) (id : Id) (n : Notes) (externs : List (WorldKey × WorldItem)) (included : List WorldInclude) : Type 0 where
+-- a world was added, with these notes, imports, exports and includes
+pub record IsAddedWorld (ws ws' : List World) (id : Id) (n : Notes) (imported exported : List (WorldKey × WorldItem)) (included : List WorldInclude) : Type 0 where
   pub added : World
   pub last : ws' ≡ ws ++ added ∷ []
   pub says : IsWorld id n added
-  pub imports : added.imports ≡ externs
+  pub imports : added.imports ≡ imported
+  pub exports : added.exports ≡ exported
   pub includes : added.includes ≡ included
 
 -- where these are the interfaces, their types were resolved, and these worlds stand in front: once the worlds among some of the items

@@ -1,10 +1,12 @@
 //! Declared worlds.
-ghost use Rattle.std.specs.Prelude.{◌≡◌, ◌<◌, ◌≤◌, ◌⊎◌, List, All, length, IfOk, IfErr, OnOk, map};
+ghost use Rattle.std.specs.Prelude.{◌≡◌, ◌<◌, ◌≤◌, ◌⊎◌, ◌++◌, List, All, length, IfOk, IfErr, OnOk, map};
 ghost use Rattle.std.specs.List.{flat_map};
 ghost use Rattle.std.specs.Option.{option_copied};
 ghost use Rattle.wit_tree.specs.declared.tree.PackageFile.{PackageFile as TheFile};
 ghost use Rattle.indexmap.specs.IndexMap.{insert_entry};
 ghost use Rattle.wit_tree.specs.Refusal.{IsWantOfMemory};
+ghost use Rattle.wit_tree.specs.declared.tree.WorldSide.{WorldSide};
+ghost use Rattle.wit_tree.specs.declared.tree.WorldSide.TheVariants.{Imported, Exported};
 ghost use Rattle.wit_model.specs.declared.world.WorldKey.TheVariants.{Name};
 ghost use Rattle.wit_model.specs.declared.world.WorldItem.TheVariants.{Type_ as TypeItem};
 ghost use Rattle.wit_model.specs.contracts.world.WorldKeyPartialEq.TheImpl.{eq-value as key_test};
@@ -19,12 +21,16 @@ ghost use Rattle.wit_arena.specs.Resolving.{IsIndex, IsWorldIndex, IsLostInclude
 ghost use Rattle.wit_types.specs.declared.types.TypeOwner.TheVariants.{World as WorldOwner};
 ghost use Rattle.wit_syntax.specs.Function.{functions as the_functions};
 ghost use Rattle.wit_syntax.specs.Repeats.{AllDiffer};
+ghost use Rattle.wit_syntax.specs.Sides.{names_on, on_side};
+ghost use Rattle.wit_arena.specs.Functions.{function_item, made_on};
+ghost use Rattle.wit_rules.specs.Held.{function_behind};
+ghost use Rattle.wit_signatures.specs.Taken.{name_key, name_of_function, name_of_id, name_of_made};
 ghost use Rattle.wit_arena.specs.Resolved.{worlds_at, AddsWorld, AddsWorlds, AreSoundScopes, IsBrokenItemStability, HaveLegalStability, IsNameless, IsWrongWorld};
 ghost use Rattle.wit_item_entries.specs.Held.{front_of, cells_of};
 ghost use Rattle.wit_items.specs.Items.{item_behind, names_behind, AreNamesAt, HasFile, HasItem, HasPart, IsNamedAt, AreFiled, HasFiles, AreEntriesOf, others_of, world_entry, world_at};
 ghost use Rattle.wit_scopes.specs.Front.{AreNamesPlaced};
 ghost use Rattle.wit_items.specs.Front.{AreItemsPlaced};
-ghost use Rattle.wit_item_entries.specs.Between.{Emits, AreStable};
+ghost use Rattle.wit_item_entries.specs.Between.{names_in, Emits, AreStable};
 ghost use Rattle.wit_worlds.specs.Between.{IsLost, IsAddedWorld, IsWrongWorldNow};
 ghost use Rattle.wit_items.specs.Told.{notes_behind};
 
@@ -33,16 +39,20 @@ use wit_entries::entries::Entries;
 use wit_entries::scope::Required;
 use wit_files::declaration::world_items;
 use wit_files::{FileNames, Target, path_id};
-use wit_item_entries::functions::{add_function_imports, held_functions};
+use wit_item_entries::functions::{add_function_items, functions_by_side, held_functions};
 use wit_item_entries::names::resolve_names;
 use wit_item_entries::required::add_required;
 use wit_item_entries::signatures::resolve_signatures;
 use wit_item_entries::uses::Interfaces;
 use wit_items::items::{Declared, Item, entry_of};
 use wit_items::notes::{ItemNotes, item_notes};
-use wit_model::{AstItem as Entry, IncludeName, World, WorldInclude, WorldItem, WorldKey};
+use wit_model::{
+    AstItem as Entry, Function, IncludeName, World, WorldInclude, WorldItem, WorldKey,
+};
 use wit_notes::refusal::refuse;
-use wit_notes::{NameScope, stability};
+use wit_notes::stability;
+use wit_rules::held::HeldFunction;
+use wit_sides::Sides;
 use wit_tree::ParseResult;
 use wit_tree::tree::{self, Id, UsePath};
 use wit_types::{Arena, TypeId, TypeOwner, WorldId, WorldPlace};
@@ -203,24 +213,56 @@ fn type_imports(
     Ok(imports)
 }
 
-/// Adds a world of this name, with what is told of it, these imports and these includes.
+/// What a world imports and exports.
+#[derive(Drop)]
+struct WorldSides {
+    imports: Table<WorldKey, WorldItem>,
+    exports: Table<WorldKey, WorldItem>,
+}
+
+/// What a world imports, the names of its scope and then functions, and what it exports; `written`
+/// are its functions as they are written.
+fn world_sides(
+    alloc: Global,
+    turn: &[Id<'_>],
+    types: &TextTable<TypeId>,
+    written: &[HeldFunction<'_, '_>],
+    functions: Vec<Function>,
+) -> Result<WorldSides, AllocError>
+    requires distinct { AllDiffer (map (λ id. id.name.now) turn.now) }
+    requires listed { names_in types.now ≡ map (λ id. id.name.now) turn.now }
+    requires named { map name_of_made functions.items ≡ map name_of_function (map function_behind written.now) }
+    requires differ { (s : WorldSide) → AllDiffer (map name_key (names_on s (map name_of_id turn.now) ++ map name_of_function (on_side s (map function_behind written.now)))) }
+    ensures imports { IfOk result (λ sides. (xs : List ScopeName) → turn.now ≡ map local_id xs → sides.imports ≡ the_imports xs types.now ++ map function_item (made_on Imported (map function_behind written.now) functions.items)) }
+    ensures exports { IfOk result (λ sides. sides.exports ≡ map function_item (made_on Exported (map function_behind written.now) functions.items)) }
+{
+    let mut imports = type_imports(alloc, turn, types)?;
+    let mut exports = Table::new(alloc);
+    let sides = functions_by_side(alloc, written, functions)?;
+    add_function_items(&mut imports, sides.imports)?;
+    add_function_items(&mut exports, sides.exports)?;
+    Ok(WorldSides { imports, exports })
+}
+
+/// Adds a world of this name, with what is told of it, these imports, these exports and these includes.
 fn add_world(
     alloc: Global,
     worlds: &mut Worlds<'_>,
     id: Id<'_>,
     notes: ItemNotes,
     imports: Table<WorldKey, WorldItem>,
+    exports: Table<WorldKey, WorldItem>,
     includes: Row<WorldInclude>,
 ) -> ParseResult<()>
     ensures entries { OnOk result (worlds.new.entries ≡ worlds.old.entries) }
-    ensures added { OnOk result (IsAddedWorld worlds.old.arena worlds.new.arena id.entry (notes_behind notes) imports includes) }
+    ensures added { OnOk result (IsAddedWorld worlds.old.arena worlds.new.arena id.entry (notes_behind notes) imports exports includes) }
     ensures index { OnOk result ((others : List Address) → length others ≤ length worlds.old.arena → IsWorldIndex (worlds_at others worlds.old.arena) worlds.old.by_name → IsWorldIndex (worlds_at others worlds.new.arena) worlds.new.by_name) }
     ensures refused { IfErr result IsWantOfMemory }
 {
     let place = worlds.arena.alloc(World {
         name: Text::from_str(alloc, id.name)?,
         imports,
-        exports: Table::new(alloc),
+        exports,
         package: None,
         docs: notes.docs,
         stability: notes.stability,
@@ -233,8 +275,8 @@ fn add_world(
     Ok(())
 }
 
-/// Adds a world with what is told of it, its names, and what is in them, its includes, and the
-/// functions of its resources.
+/// Adds a world with what is told of it, its names, and what is in them, its includes, the functions
+/// of its resources, and those that it imports and exports.
 fn resolve_world<'f, 'a>(
     alloc: Global,
     world: &'f tree::World<'a>,
@@ -267,7 +309,7 @@ fn resolve_world<'f, 'a>(
     let mut names = resolve_names(alloc, types, interfaces, owner, &item.names)?;
     let includes = resolve_includes(alloc, world, files, worlds, item.place)?;
     let written = held_functions(alloc, item.declared)?;
-    let mut taken = NameScope::new(alloc);
+    let mut taken = Sides::new(alloc);
     let functions = resolve_signatures(
         alloc,
         types,
@@ -276,9 +318,16 @@ fn resolve_world<'f, 'a>(
         &written,
         &mut taken,
     )?;
-    let mut imports = type_imports(alloc, &names.turn, &names.types)?;
-    add_function_imports(&mut imports, functions)?;
-    add_world(alloc, worlds, world.name, notes, imports, includes)?;
+    let sides = world_sides(alloc, &names.turn, &names.types, &written, functions)?;
+    add_world(
+        alloc,
+        worlds,
+        world.name,
+        notes,
+        sides.imports,
+        sides.exports,
+        includes,
+    )?;
     add_required(required, &names.required)?;
     Ok(())
 }

@@ -1,6 +1,8 @@
-use Rattle.std.proofs.Common.{◌≡◌, List, ◌++◌, length, map, inl, sym, ap, ◌∙◌, subst}
+use Rattle.std.proofs.Common.{◌≡◌, ◌<◌, List, ◌++◌, length, map, inl, sym, ap, ◌∙◌, subst}
 use Rattle.std.proofs.lemmas.Result.{err_from_is_err_and}
 use Rattle.wit_tree.specs.declared.tree.Id.{Id}
+use Rattle.wit_tree.specs.declared.tree.WorldSide.{WorldSide}
+use Rattle.wit_tree.specs.declared.tree.WorldSide.TheVariants.{Imported}
 use Rattle.wit_types.specs.declared.types.TypeOwner.TheVariants.{Interface as OfInterface}
 use Rattle.wit_syntax.specs.Notes.{IsBrokenStability}
 use Rattle.wit_syntax.specs.Source.{declared_attributes, item_notes, scope_names}
@@ -10,12 +12,14 @@ use Rattle.wit_syntax.specs.Address.{Address}
 use Rattle.wit_syntax.specs.Shape.{all_handles}
 use Rattle.wit_entries.specs.Requiring.{Requires}
 use Rattle.wit_syntax.specs.Repeats.{AllDiffer}
+use Rattle.wit_syntax.specs.Sides.{names_on, on_side}
 use Rattle.wit_arena.specs.Package.{IsInterface}
 use Rattle.wit_arena.specs.Resolving.{Names, Required, env_of, AddsFunctions}
 use Rattle.wit_arena.specs.Resolved.{OwnStability, IsWrongInterface, Unpaired, WrongStability}
 use Rattle.wit_syntax.specs.Signature.{IsUnpairedSetter}
 use Rattle.wit_syntax.proofs.Refusing.{refused_weaker}
 use Rattle.wit_rules.specs.Held.{function_behind}
+use Rattle.wit_rules.specs.declared.held.HeldFunction.{HeldFunction}
 use Rattle.wit_rules.specs.Signatures.{HaveOwners}
 use Rattle.wit_signatures.specs.Taken.{name_key, name_of_id, name_of_function}
 use Rattle.wit_scopes.specs.Held.{name_behind}
@@ -24,6 +28,7 @@ use Rattle.wit_items.specs.Items.{item_behind}
 use Rattle.wit_item_entries.specs.Between.{IsWrongNames, AddsTurn}
 use Rattle.wit_item_entries.specs.Behind.{IsWrongFunctions}
 use Rattle.wit_item_entries.proofs.Telling.{interface_told}
+use Rattle.wit_item_entries.proofs.InterfaceSides.{all_imported}
 use Rattle.wit_item_entries.proofs.WrongNames.{wrong_names_interface}
 use Rattle.wit_item_entries.proofs.Owners.{owners, turn_has}
 use Rattle.wit_item_entries.proofs.ScopeFunctions.{turn_added, turn_listed, functions_behind, scope_sound, wrong_behind, made_differ}
@@ -79,6 +84,19 @@ returns-in_err-functions-clause-refused c =
     let n : AddsTurn c.args.types.now mid cs o xs types ids own = rw (names, c.next_id.ensures) at c.in_ok-names.ensures.adds in
     rw (p.1, p.2) (refused_weaker (IsWrongFunctions (env_of types) new xs (functions item)) (IsWrongInterface c.args.types.now cs by_name o item) _ (λ f h. wrong_behind c.args.types.now mid new cs by_name o item types ids own f n c.in_err-functions.ensures.grown h) (rw (held, fns) at c.in_err-functions.ensures.refused))
 
+pub check_pairs-requires : goal.check_pairs-requires
+check_pairs-requires c = λ some.
+    let item = item_behind c.args.item.now in
+    let ids = c.in_ok-names.names.turn.items in
+    let e = c.in_ok-functions.ensures in
+    let fns : map function_behind c.deref-3.result.now ≡ functions item = ap (map function_behind) c.deref-3.ensures.value ∙ c.in_ok-written.ensures in
+    let again : map function_behind c.deref-5.result.now ≡ functions item = ap (map function_behind) c.deref-5.ensures.value ∙ c.in_ok-written.ensures in
+    let same : c.deref-5.result.now ≡ c.deref-3.result.now = c.deref-5.ensures.value ∙ sym c.deref-3.ensures.value in
+    let turned : c.deref-4.result.now ≡ ids = c.deref-4.ensures.value ∙ ap (λ t. t.items) e.turn in
+    let own : on_side Imported (map function_behind c.deref-3.result.now) ≡ functions item = ap (on_side Imported) fns ∙ all_imported item c.requires.sort in
+    let taken : c.resolve_signatures.new.taken.imports ≡ map name_of_id ids ++ map name_of_function (functions item) = e.taken (subst (λ (l : List HeldFunction). 0 < length l) same some) Imported ∙ ap (λ (l : List SourceFunction). map name_of_id ids ++ map name_of_function l) own in
+    rw (turned, again) taken
+
 pub returns-in_err-check_pairs-clause-refused : goal.returns-in_err-check_pairs-clause-refused
 returns-in_err-check_pairs-clause-refused c =
     let p = err_from_is_err_and c.from_residual-in_err-check_pairs.result c.from_residual-in_err-check_pairs.ensures.1 in
@@ -102,8 +120,8 @@ function_table-requires c =
     let ids = c.in_ok-names.names.turn.items in
     let n : AddsTurn c.args.types.now c.resolve_names.new.types (cells_of c.args.interfaces.now) (OfInterface (length c.args.interfaces.now.arena)) xs types ids c.in_ok-names.names.required.items = rw (names, c.next_id.ensures) at c.in_ok-names.ensures.adds in
     let e = c.in_ok-functions.ensures in
-    let differ : AllDiffer (map name_key (map name_of_id ids ++ map name_of_function (functions item))) = subst (λ (l : List SourceFunction). AllDiffer (map name_key (map name_of_id ids ++ map name_of_function l))) fns e.differ in
-    made_differ xs (functions item) ids c.in_ok-functions.functions.items (turn_added _ _ _ _ xs types ids _ n) (e.named ∙ ap (map name_of_function) fns) differ
+    let differ : (side : WorldSide) → AllDiffer (map name_key (names_on side (map name_of_id ids) ++ map name_of_function (on_side side (functions item)))) = λ side. subst (λ (l : List SourceFunction). AllDiffer (map name_key (names_on side (map name_of_id ids) ++ map name_of_function (on_side side l)))) fns (e.differ side) in
+    made_differ xs (functions item) ids c.in_ok-functions.functions.items (turn_added _ _ _ _ xs types ids _ n) (all_imported item c.requires.sort) (e.named ∙ ap (map name_of_function) fns) (differ Imported)
 
 pub returns-clause-sound : goal.returns-clause-sound
 returns-clause-sound c =
@@ -116,7 +134,7 @@ returns-clause-sound c =
     let ids = c.in_ok-names.names.turn.items in
     let n : AddsTurn c.args.types.now c.resolve_names.new.types (cells_of c.args.interfaces.now) (OfInterface (length c.args.interfaces.now.arena)) xs types ids c.in_ok-names.names.required.items = rw (names, c.next_id.ensures) at c.in_ok-names.ensures.adds in
     let e = c.in_ok-functions.ensures in
-    let differ : AllDiffer (map name_key (map name_of_id ids ++ map name_of_function (functions item))) = subst (λ (l : List SourceFunction). AllDiffer (map name_key (map name_of_id ids ++ map name_of_function l))) fns e.differ in
+    let differ : (side : WorldSide) → AllDiffer (map name_key (names_on side (map name_of_id ids) ++ map name_of_function (on_side side (functions item)))) = λ side. subst (λ (l : List SourceFunction). AllDiffer (map name_key (names_on side (map name_of_id ids) ++ map name_of_function (on_side side l)))) fns (e.differ side) in
     scope_sound xs (functions item) ids (turn_added _ _ _ _ xs types ids _ n) (rw names at (c.in_ok-names.ensures.legal (functions item))) differ (rw (held, fns) at e.sound)
 
 pub returns-clause-added : goal.returns-clause-added

@@ -34,6 +34,9 @@ grown foreign old new is is' rs w n one enough = omega (arith, ap length one.las
 item_at : (items : List HeldItem) (places : List ℕ) (k : ℕ) (x : HeldItem) → All (λ (place : ℕ). place < length items) places → k < length places → x ≡ get_or items (get_or places k 0) x → slice_get items (get_or places k 0) ≡ Some x
 item_at items places k x within lt is = slice_get-get_or items (get_or places k 0) x (within k 0 lt) ∙ ap Some (sym is)
 
+pub resolve_interface-requires-clause-sort : goal.resolve_interface-requires-clause-sort
+resolve_interface-requires-clause-sort c = ap (λ (d : HeldDeclared). is_declared_world (declared_behind d)) c.in-Interface.is
+
 pub resolve_interface-requires-clause-placed : goal.resolve_interface-requires-clause-placed
 resolve_interface-requires-clause-placed c =
     let there = item_at c.args.items.now c.args.places.now c.loop-place.place-index c.index-items-place.result c.requires.within c.loop-place-test.true c.index-items-place.is in

@@ -3,9 +3,9 @@ use Rattle.std.specs.List.{flat_map}
 use Rattle.std.proofs.lemmas.List.{take_more, append-nil}
 use Rattle.wit_tree.specs.declared.tree.WorldItem.{WorldItem}
 use Rattle.wit_syntax.specs.Source.{world_part}
-use Rattle.wit_syntax.specs.Function.{SourceFunction, definition_functions, part_functions}
+use Rattle.wit_syntax.specs.Function.{SourceFunction, definition_functions, extern_functions, part_functions}
 use Rattle.wit_items.proofs.Usable.{parts_more}
-use Rattle.wit_item_entries.proofs.functions.world_functions.Goals.{in-TypeDef+in_ok-add_definition-in-TypeDef, in-Use, in-Include, in-Extern}
+use Rattle.wit_item_entries.proofs.functions.world_functions.Goals.{in-TypeDef+in_ok-add_definition-in-TypeDef, in-Use, in-Include, in-Extern+in_ok-add_extern-in-Extern}
 use Rattle.wit_item_entries.proofs.functions.world_functions.Goals as goal
 
 pub loop-part-preserved : goal.loop-part-preserved
@@ -23,5 +23,7 @@ loop-part-preserved c =
           rw b.functions-is (b.in_ok-add_definition-in-TypeDef.ensures ∙ ap (λ (l : List SourceFunction). l ++ definition_functions d.name d.body) was ∙ sym (grown ∙ ap (λ (y : WorldItem). front ++ part_functions (world_part y)) b.in-TypeDef.is)))
       | in-Use b ↦ rw b.functions-is (was ∙ sym (grown ∙ ap (λ (y : WorldItem). front ++ part_functions (world_part y)) b.in-Use.is ∙ append-nil front))
       | in-Include b ↦ rw b.functions-is (was ∙ sym (grown ∙ ap (λ (y : WorldItem). front ++ part_functions (world_part y)) b.in-Include.is ∙ append-nil front))
-      | in-Extern b ↦ rw b.functions-is (was ∙ sym (grown ∙ ap (λ (y : WorldItem). front ++ part_functions (world_part y)) b.in-Extern.is ∙ append-nil front))
+      | in-Extern+in_ok-add_extern-in-Extern b ↦ (
+          let x = b.in-Extern.written in
+          rw b.functions-is (b.in_ok-add_extern-in-Extern.ensures ∙ ap (λ (l : List SourceFunction). l ++ extern_functions x x.kind) was ∙ sym (grown ∙ ap (λ (y : WorldItem). front ++ part_functions (world_part y)) b.in-Extern.is)))
     ]

@@ -3,23 +3,28 @@ use Rattle.std.specs.Char.{is_ascii_uppercase}
 use Rattle.std.specs.List.{list_any}
 use Rattle.std.proofs.lemmas.Result.{err_from_is_err_and}
 use Rattle.wit_tree.specs.declared.tree.Id.{Id}
+use Rattle.wit_tree.specs.declared.tree.WorldSide.TheVariants.{Imported}
+use Rattle.wit_syntax.specs.Repeats.{AllDiffer}
+use Rattle.wit_syntax.specs.Sides.{names_on, on_side}
+use Rattle.wit_syntax.proofs.Repeated.{differ_none}
+use Rattle.wit_sides.specs.Sides.{taken_on}
 use Rattle.wit_arena.specs.Resolving.{env_of}
 use Rattle.wit_syntax.proofs.Refusing.{refused_weaker}
 use Rattle.wit_notes.specs.Names.{Name}
 use Rattle.wit_rules.specs.Held.{function_behind}
 use Rattle.wit_rules.specs.Signatures.{IsWrongFunctionAmong}
-use Rattle.wit_signatures.specs.Taken.{name_of_id, name_of_function, IsTwiceAmong}
+use Rattle.wit_signatures.specs.Taken.{name_key, name_of_id, name_of_function, IsTwiceAmong, IsClash}
 use Rattle.wit_item_entries.specs.Behind.{IsWrongFunctions, BrokenNames}
 use Rattle.wit_scopes.specs.Held.{name_behind}
-use Rattle.wit_item_entries.proofs.Behind.{all_names, twice_folded, twice_front, wrong_functions}
+use Rattle.wit_item_entries.proofs.Behind.{all_names, taken_before, twice_folded, twice_front, wrong_clash, wrong_functions}
 use Rattle.wit_item_entries.proofs.NoFunctions.{names_alone}
 use Rattle.wit_item_entries.proofs.signatures.resolve_signatures.Goals as goal
 
 pub returns-then-not-have_upper_case-clause-differ : goal.returns-then-not-have_upper_case-clause-differ
-returns-then-not-have_upper_case-clause-differ c =
+returns-then-not-have_upper_case-clause-differ c = λ side.
     let ids = c.args.names.now.turn.items in
     let lower : list_any (λ (id : Id). list_any is_ascii_uppercase id.name.now) ids ≡ false = ap (list_any (λ (id : Id). list_any is_ascii_uppercase id.name.now)) (sym c.deref.ensures.value) ∙ sym c.have_upper_case.ensures ∙ c.if-not-have_upper_case.true in
-    names_alone (map name_behind c.args.held.now) ids c.args.written.now (omega (arith, c.if-written-eq0.true)) c.requires.turn lower
+    names_alone side (map name_behind c.args.held.now) ids c.args.written.now (omega (arith, c.if-written-eq0.true)) c.requires.turn lower
 
 pub returns-in_err-define_names-clause-refused : goal.returns-in_err-define_names-clause-refused
 returns-in_err-define_names-clause-refused c =
@@ -27,8 +32,22 @@ returns-in_err-define_names-clause-refused c =
     let xs = map name_behind c.args.held.now in
     let fns = map function_behind c.args.written.now in
     let ids = c.args.names.now.turn.items in
-    let same : c.args.taken.now ++ map name_of_id c.deref-2.result.now ≡ map name_of_id ids = ap (λ (l : List Name). l ++ map name_of_id c.deref-2.result.now) c.requires.nothing ∙ ap (map name_of_id) c.deref-2.ensures.value in
-    rw (p.1, p.2) (refused_weaker (IsTwiceAmong (c.args.taken.now ++ map name_of_id c.deref-2.result.now)) (IsWrongFunctions (env_of c.args.names.now.types) c.args.types.now xs fns) _ (λ f h. BrokenNames (twice_folded xs fns ids f c.requires.turn (twice_front (map name_of_id ids) (map name_of_function fns) f (subst (λ (l : List Name). IsTwiceAmong l f) same h)))) c.in_err-define_names.ensures.refused)
+    let before = c.args.taken.now.imports in
+    let same : before ++ map name_of_id c.deref-2.result.now ≡ map name_of_id ids = ap (λ (l : List Name). l ++ map name_of_id c.deref-2.result.now) (c.requires.nothing Imported) ∙ ap (map name_of_id) c.deref-2.ensures.value in
+    rw (p.1, p.2) (refused_weaker (IsTwiceAmong (before ++ map name_of_id c.deref-2.result.now)) (IsWrongFunctions (env_of c.args.names.now.types) c.args.types.now xs fns) _ (λ f h. BrokenNames (twice_folded Imported xs fns ids f c.requires.turn (twice_front (map name_of_id ids) (map name_of_function (on_side Imported fns)) f (subst (λ (l : List Name). IsTwiceAmong l f) same h)))) c.in_err-define_names.ensures.refused)
+
+pub returns-clause-taken : goal.returns-clause-taken
+returns-clause-taken c = λ some side.
+    let before : taken_on side c.define_names.new.taken ≡ names_on side (map name_of_id c.args.names.now.turn.items) = taken_before side c.args.taken.now c.define_names.new.taken c.deref-2.result.now c.args.names.now.turn.items c.requires.nothing c.in_ok-define_names.ensures.defined c.deref-2.ensures.value in
+    c.in_ok-functions.ensures.defined side ∙ ap (λ (l : List Name). l ++ map name_of_function (on_side side (map function_behind c.args.written.now))) before
+
+pub returns-clause-differ : goal.returns-clause-differ
+returns-clause-differ c = λ side.
+    let ids = c.args.names.now.turn.items in
+    let none : AllDiffer (map name_key (taken_on side c.args.taken.now)) = subst (λ (l : List Name). AllDiffer (map name_key l)) (sym (c.requires.nothing side)) differ_none in
+    let before : taken_on side c.define_names.new.taken ≡ names_on side (map name_of_id ids) = taken_before side c.args.taken.now c.define_names.new.taken c.deref-2.result.now ids c.requires.nothing c.in_ok-define_names.ensures.defined c.deref-2.ensures.value in
+    let all : taken_on side c.resolve_functions.new.taken ≡ names_on side (map name_of_id ids) ++ map name_of_function (on_side side (map function_behind c.args.written.now)) = c.in_ok-functions.ensures.defined side ∙ ap (λ (l : List Name). l ++ map name_of_function (on_side side (map function_behind c.args.written.now))) before in
+    subst (λ (l : List Name). AllDiffer (map name_key l)) all (c.in_ok-functions.ensures.differ side (c.in_ok-define_names.ensures.differ side none))
 
 pub returns-clause-sound : goal.returns-clause-sound
 returns-clause-sound c =
@@ -46,8 +65,8 @@ returns-in_err-functions-clause-refused c =
     let env = env_of c.args.names.now.types in
     let es = c.resolve_functions.new.types in
     let are = all_names xs ids c.args.names.now.types c.requires.turn c.requires.listed in
-    let front : c.define_names.new.taken ≡ map name_of_id ids = c.in_ok-define_names.ensures.defined ∙ ap (λ (l : List Name). l ++ map name_of_id c.deref-2.result.now) c.requires.nothing ∙ ap (map name_of_id) c.deref-2.ensures.value in
-    rw (p.1, p.2) (refused_weaker (λ f. IsWrongFunctionAmong env es xs fns f ⊎ IsTwiceAmong (c.define_names.new.taken ++ map name_of_function fns) f) (IsWrongFunctions env es xs fns) _ (λ f h. elim h [
+    let taken = c.define_names.new.taken in
+    rw (p.1, p.2) (refused_weaker (λ f. IsWrongFunctionAmong env es xs fns f ⊎ IsClash (λ s. taken_on s taken) fns f) (IsWrongFunctions env es xs fns) _ (λ f h. elim h [
       | inl wrong ↦ wrong_functions env es xs fns f wrong
-      | inr twice ↦ BrokenNames (twice_folded xs fns ids f c.requires.turn (subst (λ (l : List Name). IsTwiceAmong (l ++ map name_of_function fns) f) front twice))
+      | inr clash ↦ wrong_clash env es xs fns ids (λ s. taken_on s taken) f c.requires.turn (λ s. taken_before s c.args.taken.now taken c.deref-2.result.now ids c.requires.nothing c.in_ok-define_names.ensures.defined c.deref-2.ensures.value) clash
     ]) (c.in_err-functions.ensures.refused xs (record { names = are; results = c.in_ok-results.ensures })))

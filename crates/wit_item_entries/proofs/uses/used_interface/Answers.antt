@@ -21,7 +21,7 @@ pub returns-in-None-clause-refused : goal.returns-in-None-clause-refused
 returns-in-None-clause-refused c =
     let is = c.args.interfaces.now in
     let free : env_of is.by_name c.in-Declared.path.name.now ≡ None = search rules in
-    elim c.refuse_missing.ensures.fault [
+    elim c.refuse_missing.ensures [
       | inl memory ↦ inl memory
       | inr says ↦ inr (c.in-Declared.path, ap source_behind c.in-Declared.is, (free, says))
     ]

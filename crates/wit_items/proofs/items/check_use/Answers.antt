@@ -8,7 +8,7 @@ pub lookup-requires : goal.lookup-requires
 lookup-requires c = record { within = file_within c.args.files.now c.args.place c.requires.named }
 
 pub returns-in-None-clause-refused : goal.returns-in-None-clause-refused
-returns-in-None-clause-refused c = λ fs file at. elim c.refuse_missing.ensures.fault [
+returns-in-None-clause-refused c = λ fs file at. elim c.refuse_missing.ensures [
   | inl memory ↦ inl memory
   | inr says ↦ (
       let to : Target = leads (top_names file) c.args.path.now in

@@ -1,7 +1,7 @@
 use Rattle.std.proofs.Common.{◌⊎◌, Option, inl, inr, sym, ◌∙◌, subst, Contains}
 use Rattle.std.specs.Option.{option_to_list}
 use Rattle.std.proofs.lemmas.Option.{none-some}
-use Rattle.std.proofs.lemmas.Result.{err_from_is_err_and}
+use Rattle.std.proofs.lemmas.Result.{err_from_is_err_and, on_ok_weaker}
 use Rattle.wit_tree.specs.declared.tree.«Type».{«Type» as Written}
 use Rattle.wit_syntax.specs.Fault.{Fault}
 use Rattle.wit_arena.specs.Resolving.{env_of}
@@ -10,7 +10,7 @@ use Rattle.wit_syntax.proofs.Found.{contains_at}
 use Rattle.wit_arena.proofs.Written.{AreLegal, legal_one}
 use Rattle.wit_rules.specs.Held.{function_behind}
 use Rattle.wit_rules.specs.Signatures.{functions_behind, IsWrongInSignature, IsWrongInSignatures, IsBrokenResult, IsBrokenReturn}
-use Rattle.wit_signatures.proofs.FunctionParts.{result_behind}
+use Rattle.wit_signatures.proofs.FunctionParts.{result_behind, no_result}
 use Rattle.wit_signatures.proofs.SignatureTypes.{option_has}
 use Rattle.wit_signatures.proofs.functions.resolve_result.Goals as goal
 
@@ -42,3 +42,9 @@ returns-in_ok-check_result-in-Some-clause-returns c = λ xs scope f wrong. elim 
 
 pub returns-in_ok-check_result-in-Some-clause-legal : goal.returns-in_ok-check_result-in-Some-clause-legal
 returns-in_ok-check_result-in-Some-clause-legal c = subst (λ (o : Option Written). AreLegal (option_to_list o)) c.in-Some.ensures (legal_one c.in-Some.written.now c.in_ok-ty-in-Some.ensures.legal)
+
+pub returns-in-None-clause-returns : goal.returns-in-None-clause-returns
+returns-in-None-clause-returns c = on_ok_weaker c.made_result.result (λ legal xs scope f wrong. elim wrong [
+  | inl getter ↦ legal f getter
+  | inr result ↦ no_result xs (function_behind c.args.function) f (sym c.in-None.ensures) result
+]) c.made_result.ensures.legal

@@ -1,19 +1,64 @@
-use Rattle.std.proofs.Common.{List, ℕ, ◌∷◌, [], ◌++◌, subst}
+use Rattle.std.proofs.Common.{◌≡◌, ◌⊎◌, ◌∷◌, [], List, ℕ, ap, sym, ◌∙◌, inl, inr}
 use Rattle.std.proofs.lemmas.Result.{IfErr-weaker}
+use Rattle.wit_tree.specs.declared.tree.WorldSide.{WorldSide}
+use Rattle.wit_tree.specs.declared.tree.WorldSide.TheVariants.{Imported}
 use Rattle.wit_syntax.specs.Broken.{Refused}
+use Rattle.wit_syntax.specs.Fault.{Fault}
+use Rattle.wit_syntax.specs.Sides.{role_side}
 use Rattle.wit_syntax.proofs.Refusing.{refused_weaker}
-use Rattle.wit_notes.specs.Names.{IsDefinedAgain}
-use Rattle.wit_signatures.specs.Taken.{name_of_made, IsTwiceAmong}
-use Rattle.wit_signatures.proofs.Defining.{again_twice, keys_defined}
+use Rattle.wit_notes.specs.Names.{Name, IsDefinedAgain}
+use Rattle.wit_sides.specs.Sides.{taken_on, IsCrossed}
+use Rattle.wit_rules.specs.Held.{function_behind}
+use Rattle.wit_signatures.specs.Taken.{name_of_function, IsClash}
+use Rattle.wit_signatures.proofs.Clashing.{side_imported, side_across, function_defined, function_differs, clash_again, clash_crossed}
 use Rattle.wit_signatures.proofs.taken.define_function.Goals as goal
 
-pub returns-clause-differ : goal.returns-clause-differ
-returns-clause-differ c = keys_defined c.define.result c.args.taken.now c.define.new.self c.as_str.result.now c.args.function.now.span c.define.ensures.defined c.define.ensures.free
-
-pub returns-clause-refused : goal.returns-clause-refused
-returns-clause-refused c =
-    let taken = c.args.taken.now in
+pub returns-in-None-clause-defined : goal.returns-in-None-clause-defined
+returns-in-None-clause-defined c =
+    let fn = function_behind c.args.held in
+    let name = c.as_str-name.result.now in
     let span = c.args.function.now.span in
-    let again = IsDefinedAgain taken c.as_str.result.now span in
-    let twice = IsTwiceAmong (taken ++ name_of_made c.args.function.now ∷ []) in
-    IfErr-weaker c.define.result (Refused again) (Refused twice) (λ e. refused_weaker again twice e (λ f h. subst (λ (n : List ℕ). IsTwiceAmong (taken ++ (n, span) ∷ []) f) c.as_str.ensures (again_twice taken c.as_str.result.now span f h))) c.define.ensures.refused
+    let called : (name, span) ≡ name_of_function fn = ap (λ (n : List ℕ). (n, span)) c.as_str-name.ensures ∙ c.requires.held in
+    function_defined c.define.result fn Imported (λ s. taken_on s c.args.taken.now) (λ s. taken_on s c.define.new.self) name span (side_imported fn.role (sym c.across.ensures ∙ c.in-None.is)) called c.define.ensures.defined
+
+pub returns-in-None-clause-differ : goal.returns-in-None-clause-differ
+returns-in-None-clause-differ c = function_differs c.define.result Imported (λ s. taken_on s c.args.taken.now) (λ s. taken_on s c.define.new.self) c.as_str-name.result.now c.args.function.now.span c.define.ensures.defined c.define.ensures.free
+
+pub returns-in-None-clause-refused : goal.returns-in-None-clause-refused
+returns-in-None-clause-refused c =
+    let fn = function_behind c.args.held in
+    let name = c.as_str-name.result.now in
+    let span = c.args.function.now.span in
+    let old : WorldSide → List Name = λ s. taken_on s c.args.taken.now in
+    let called : (name, span) ≡ name_of_function fn = ap (λ (n : List ℕ). (n, span)) c.as_str-name.ensures ∙ c.requires.held in
+    let again = IsDefinedAgain (old Imported) name span in
+    let clash = IsClash old (fn ∷ []) in
+    IfErr-weaker c.define.result (Refused again) (Refused clash) (λ e. refused_weaker again clash e (λ f h. clash_again fn Imported old name span f (side_imported fn.role (sym c.across.ensures ∙ c.in-None.is)) called h)) c.define.ensures.refused
+
+pub returns-in-Some-clause-defined : goal.returns-in-Some-clause-defined
+returns-in-Some-clause-defined c =
+    let fn = function_behind c.args.held in
+    let name = c.as_str-name.result.now in
+    let span = c.args.function.now.span in
+    let called : (name, span) ≡ name_of_function fn = ap (λ (n : List ℕ). (n, span)) c.as_str-name.ensures ∙ c.requires.held in
+    let crosses = side_across fn.role c.in-Some.side (sym c.across.ensures ∙ c.in-Some.is) in
+    function_defined c.define_extern.result fn c.in-Some.side (λ s. taken_on s c.args.taken.now) (λ s. taken_on s c.define_extern.new.self) name span (ap role_side crosses.2) called c.define_extern.ensures.defined
+
+pub returns-in-Some-clause-differ : goal.returns-in-Some-clause-differ
+returns-in-Some-clause-differ c = function_differs c.define_extern.result c.in-Some.side (λ s. taken_on s c.args.taken.now) (λ s. taken_on s c.define_extern.new.self) c.as_str-name.result.now c.args.function.now.span c.define_extern.ensures.defined c.define_extern.ensures.free
+
+pub returns-in-Some-clause-refused : goal.returns-in-Some-clause-refused
+returns-in-Some-clause-refused c =
+    let fn = function_behind c.args.held in
+    let name = c.as_str-name.result.now in
+    let span = c.args.function.now.span in
+    let side = c.in-Some.side in
+    let old : WorldSide → List Name = λ s. taken_on s c.args.taken.now in
+    let called : (name, span) ≡ name_of_function fn = ap (λ (n : List ℕ). (n, span)) c.as_str-name.ensures ∙ c.requires.held in
+    let crosses = side_across fn.role side (sym c.across.ensures ∙ c.in-Some.is) in
+    let either : Fault → Type 0 = λ f. IsCrossed (old side) name span f ⊎ IsDefinedAgain (old side) name span f in
+    let clash = IsClash old (fn ∷ []) in
+    IfErr-weaker c.define_extern.result (Refused either) (Refused clash) (λ e. refused_weaker either clash e (λ f h. elim h [
+      | inl crossed ↦ clash_crossed fn side crosses.0 crosses.1 old name span f crosses.2 called crossed
+      | inr again ↦ clash_again fn side old name span f (ap role_side crosses.2) called again
+    ])) c.define_extern.ensures.refused

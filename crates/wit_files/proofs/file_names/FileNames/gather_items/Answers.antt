@@ -2,7 +2,7 @@ use Rattle.std.proofs.Common.{subst, ◌⊎◌}
 use Rattle.std.proofs.lemmas.Result.{err_from_is_err_and}
 use Rattle.wit_order.specs.Table.{rows, IsOrder}
 use Rattle.wit_syntax.specs.Scope.{item_rows}
-use Rattle.wit_syntax.specs.Fault.{item_word}
+use Rattle.wit_syntax.specs.Fault.{missing_at, item_word}
 use Rattle.wit_syntax.specs.Broken.{IsMissingEdge, IsCyclicEdge, IsBrokenItems, IsBrokenNames, Items}
 use Rattle.wit_syntax.specs.Foreign.{foreign_visits}
 use Rattle.wit_syntax.proofs.Refusing.{refused_weaker}
@@ -15,7 +15,7 @@ returns-in_err-names-2-clause-refused c =
     let p = err_from_is_err_and c.from_residual-in_err-names-2.result c.from_residual-in_err-names-2.ensures.1 in
     let files = c.args.files.now in
     let rs = rows c.add_files.new.names.items in
-    rw (p.1, p.2) (refused_weaker (λ f. IsMissingEdge 7 item_word rs f ⊎ IsCyclicEdge 8 item_word rs f) (IsBrokenNames files) _ (λ f h. Items (broken_order files rs c.in_ok-add_files.ensures.names.items f h)) c.in_err-names-2.ensures.refused)
+    rw (p.1, p.2) (refused_weaker (λ f. IsMissingEdge (missing_at 7 item_word) rs f ⊎ IsCyclicEdge 8 item_word rs f) (IsBrokenNames files) _ (λ f h. Items (broken_order files rs c.in_ok-add_files.ensures.names.items f h)) c.in_err-names-2.ensures.refused)
 
 pub returns-clause-legal : goal.returns-clause-legal
 returns-clause-legal c =

@@ -1,0 +1,287 @@
+-- Worked rows about functions that a world imports and exports.
+use Rattle.std.proofs.Common.{◌≡◌, ℕ, zero, suc, List, [], ◌∷◌, length, map, Some, None, inl, inr, refl, sym, ap, ◌∙◌, subst, arith, lit<, Contains}
+use Rattle.std.specs.Prelude.{codes, slice_get}
+use Rattle.std.specs.declared.alloc.Global.{Global}
+use denote.RawPtr.{Ptr}
+use Rattle.wit_values.specs.declared.span.Span.{Span}
+use Rattle.wit_tree.specs.declared.tree.Id.{Id}
+use Rattle.wit_tree.specs.declared.tree.FuncForm.TheVariants as form
+use Rattle.wit_tree.specs.declared.tree.WorldSide.{WorldSide}
+use Rattle.wit_tree.specs.declared.tree.WorldSide.TheVariants.{Imported, Exported}
+use Rattle.wit_tree.specs.declared.tree.«Type».TheVariants as written
+use Rattle.wit_tree.specs.declared.tree.TypeBody.TheVariants.{Plain}
+use Rattle.wit_tree.specs.declared.tree.Func.{Func}
+use Rattle.wit_tree.specs.declared.tree.Attribute.{Attribute}
+use Rattle.wit_tree.specs.declared.attribute_kind.AttributeKind.{AttributeKind}
+use Rattle.wit_tree.specs.declared.attribute_kind.AttributeKind.TheVariants.{Since, Unstable, Deprecated, ExternalId}
+use Rattle.wit_tree.specs.Attributes.{StandsAt}
+use Rattle.wit_tree.specs.declared.tree.Extern.{Extern}
+use Rattle.wit_tree.specs.declared.tree.ExternKind.TheVariants as extern
+use Rattle.wit_tree.specs.declared.tree.WorldItem.TheVariants as world_item
+use Rattle.wit_tree.specs.declared.tree.World.{World as WrittenWorld}
+use Rattle.wit_tree.specs.declared.tree.AstItem.TheVariants as ast
+use Rattle.wit_tree.specs.declared.tree.PackageFile.{PackageFile}
+use Rattle.wit_types.specs.declared.stability.Stability.TheVariants.{Unknown}
+use Rattle.wit_types.specs.declared.types.TypeOwner.TheVariants as owner
+use Rattle.wit_model.specs.declared.function.Function.{Function as Made}
+use Rattle.wit_model.specs.declared.function.FunctionKind.TheVariants as function_kind
+use Rattle.wit_model.specs.declared.unresolved.UnresolvedPackage.{UnresolvedPackage}
+use Rattle.wit_order.specs.Table.{IsOrder}
+use Rattle.wit_syntax.specs.Fault.{Fault, fault}
+use Rattle.wit_syntax.specs.Notes.{no_docs, IsBrokenStability, SinceTwice, DeprecatedTwice, UnstableTwice, SinceAndUnstable, DeprecatedAlone, IsBrokenNotes}
+use Rattle.wit_syntax.specs.Repeats.{AllDiffer}
+use Rattle.wit_syntax.specs.Source.{top_names, TheWorld, Item, Defined, scope_names, Crossing, parts}
+use Rattle.wit_syntax.specs.Function.{SourceFunction, side_function, extern_functions, functions, free_names}
+use Rattle.wit_syntax.specs.Signature.{called_key, IsBrokenFunction, BrokenNotes, BrokenTypes, FunctionAsType, MissingInSignature, GetterGiven, SetterGiven, DuplicateParam, GetterWithoutResult, SetterWithResult, ConstructorWithoutResult, ConstructorOfOther}
+use Rattle.wit_syntax.specs.Sides.{side_called, IsFoldedTwice, IsCrossedTwice}
+use Rattle.wit_syntax.specs.Broken.{IsBrokenScope, DefinedTwice, MissingType, CyclicType, Notes, Body, Function, FoldedTwice, CrossedTwice, IsUnread, IsBroken, Scope}
+use Rattle.wit_syntax.proofs.Found.{at_contains}
+use Rattle.wit_syntax.proofs.Legal.{no_fold, no_crossed}
+use Rattle.wit_arena.specs.Functions.{function_item, made_on}
+use Rattle.wit_arena.specs.Package.{functions_of}
+use Rattle.wit_meaning_examples.proofs.Examples.{at, id, vec, no_comments, untold, header}
+use Rattle.wit_meaning_examples.proofs.SignatureExamples.{one_order}
+
+-- a scope without names has one order
+no_rows : IsOrder [] []
+no_rows = record {
+  complete = λ i k id edge. absurd (let row = edge.1 in let f : ⊥ = cc in f);
+  sorted = record {
+    long = refl;
+    within = λ i lt. absurd (let f : ⊥ = omega arith in f);
+    each = λ p lt. absurd (let f : ⊥ = omega arith in f);
+    once = λ i j lt small. absurd (let f : ⊥ = omega arith in f);
+    after = λ i p lt leads. absurd (let f : ⊥ = omega arith in f);
+  };
+  least = λ other first i lt same. absurd (let f : ⊥ = omega arith in f);
+}
+
+one_differs : {X : Type 0} (x : X) → AllDiffer (x ∷ [])
+one_differs x = record { differ = differ }
+  where
+    differ : (i j : ℕ) (y : _) → slice_get (x ∷ []) i ≡ Some y → slice_get (x ∷ []) j ≡ Some y → i ≡ j
+    differ zero zero y at_i at_j = refl
+    differ zero (suc j) y at_i at_j = absurd (let f : ⊥ = cc in f)
+    differ (suc i) j y at_i at_j = absurd (let f : ⊥ = cc in f)
+
+-- nothing is among none
+none_among : {X : Type 0} (x : X) → Contains [] x → ⊥
+none_among x h = let it = at_contains [] x h in let f : ⊥ = (let there = it.1 in cc) in f
+
+no_attribute : (kind : AttributeKind) (place : ℕ) (a : Attribute) → StandsAt kind [] place a → ⊥
+no_attribute kind place a h = let there = h.at in let f : ⊥ = cc in f
+
+-- no rule of attributes is broken where there are none
+no_stability : (f : Fault) → IsBrokenStability [] f → ⊥
+no_stability f (SinceTwice h) = no_attribute Since h.first h.earlier h.at_first
+no_stability f (DeprecatedTwice h) = no_attribute Deprecated h.first h.earlier h.at_first
+no_stability f (UnstableTwice h) = no_attribute Unstable h.first h.earlier h.at_first
+no_stability f (SinceAndUnstable h) = no_attribute Since h.since_place h.since h.at_since
+no_stability f (DeprecatedAlone h) = no_attribute Deprecated h.place h.deprecated h.at
+
+no_notes : (f : Fault) → IsBrokenNotes [] f → ⊥
+no_notes f (inl h) = no_stability f h
+no_notes f (inr h) = no_attribute ExternalId h.first h.earlier h.at_first
+
+module _ (ptr : Ptr) (alloc : Global) where
+  -- a function without parameters that a world imports or exports, where its name and `func` stand
+  abbrev plain_func : Span → Func
+  plain_func word = record { span = word; form = form.Plain; params = vec ptr alloc [] (lit< tt); result = None }
+
+  abbrev crossing : WorldSide → Id → Span → Extern
+  crossing side name word = record { side = side; docs = no_comments ptr alloc; attributes = untold ptr alloc; kind = extern.Func name (plain_func word) }
+
+  abbrev f_at : Span → Id
+  f_at span = id ptr alloc (codes "f") span refl
+
+  -- package foo:foo; world w { import f: func(); .. }
+  abbrev w : Extern → WrittenWorld
+  w second = record { docs = no_comments ptr alloc; attributes = untold ptr alloc; name = id ptr alloc (codes "w") (at 23 24) refl; items = vec ptr alloc (world_item.Extern (crossing Imported (f_at (at 34 35)) (at 37 41)) ∷ world_item.Extern second ∷ []) (lit< tt) }
+
+  abbrev file_of : WrittenWorld → PackageFile
+  file_of world = record { package_id = Some (header ptr alloc); decl_list = record { items = vec ptr alloc (ast.World world ∷ []) (lit< tt) } }
+
+  abbrev item_of : WrittenWorld → Item
+  item_of world = record { top = top_names (file_of world); declared = TheWorld world }
+
+  -- that function, as it is written
+  abbrev plain : WorldSide → Span → Span → SourceFunction
+  plain side name word = side_function side (no_comments ptr alloc) [] (f_at name) (plain_func word)
+
+  is_crossing : (x y : Extern) → x ≡ y → extern_functions y y.kind ≡ [] → length (extern_functions x x.kind) ≡ 1 → ⊥
+  is_crossing x y same none one =
+      let wrong : suc zero ≡ zero = sym one ∙ ap (λ (z : Extern). length (extern_functions z z.kind)) same ∙ ap length none in
+      let f : ⊥ = cc in
+      f
+
+  -- import f: func(); import F: func();
+  module _ where
+    abbrev folding : WrittenWorld
+    folding = w (crossing Imported (id ptr alloc (codes "F") (at 52 53) refl) (at 55 59))
+
+    one_key : map called_key (side_called Imported [] (functions (item_of folding)) []) ≡ (codes "f" ∷ codes "f" ∷ [])
+    one_key = refl
+
+    folding_refused : IsBroken (file_of folding ∷ []) (fault 17 (at 52 53))
+    folding_refused = Scope (item_of folding) (0, lit< tt, refl) (FoldedTwice (record {
+      side = Imported;
+      order = [];
+      least = no_rows;
+      later = record { name = codes "F"; span = at 52 53 };
+      repeated = record { first = 0; second = 1; earlier = record { name = codes "f"; span = at 34 35 }; before = lit< tt; at_first = refl; at_second = refl; same = refl };
+      is = refl;
+    }))
+
+  -- import f: func(); import f: func();
+  module _ where
+    abbrev repeating : WrittenWorld
+    repeating = w (crossing Imported (f_at (at 52 53)) (at 55 59))
+
+    repeating_refused : IsBroken (file_of repeating ∷ []) (fault 44 (at 52 53))
+    repeating_refused = Scope (item_of repeating) (0, lit< tt, refl) (CrossedTwice (record {
+      side = Imported;
+      order = [];
+      least = no_rows;
+      place = 1;
+      later = _;
+      at = refl;
+      id = f_at (at 52 53);
+      form = form.Plain;
+      crosses = refl;
+      earlier = record { name = codes "f"; span = at 34 35 };
+      among = (0, lit< tt, refl);
+      same = refl;
+      is = refl;
+    }))
+
+  -- import f: func(); export f: func();
+  module _ where
+    abbrev passing : WrittenWorld
+    passing = w (crossing Exported (f_at (at 52 53)) (at 55 59))
+
+    abbrev fns : List SourceFunction
+    fns = functions (item_of passing)
+
+    free : free_names (item_of passing) ≡ (codes "f" ∷ codes "f" ∷ [])
+    free = refl
+
+    -- one stands on each side
+    keys_of : (side : WorldSide) → AllDiffer (map called_key (side_called side [] fns []))
+    keys_of Imported = one_differs (codes "f")
+    keys_of Exported = one_differs (codes "f")
+
+    none_folded : (f : Fault) → IsFoldedTwice (scope_names (item_of passing)) fns f → ⊥
+    none_folded f h = no_fold [] fns [] f no_rows keys_of h
+
+    none_crossed : (f : Fault) → IsCrossedTwice (scope_names (item_of passing)) fns f → ⊥
+    none_crossed f h = no_crossed [] fns [] f no_rows keys_of h
+
+    -- a function without parameters and result breaks no rule of functions
+    none_in : (side : WorldSide) (name word : Span) (k : ℕ) (f : Fault) → IsBrokenFunction [] fns k (plain side name word) f → ⊥
+    none_in side name word k f (BrokenNotes h) = no_notes f h
+    none_in side name word k f (BrokenTypes h) = none_among h.t h.among
+    none_in side name word k f (FunctionAsType h) = none_among h.id h.among
+    none_in side name word k f (MissingInSignature h) = none_among h.id h.among
+    none_in side name word k f (GetterGiven h) = let wrong = h.getter in let g : ⊥ = cc in g
+    none_in side name word k f (SetterGiven h) = let wrong = h.setter in let g : ⊥ = cc in g
+    none_in side name word k f (DuplicateParam h) = let wrong = h.repeated.at_first in let g : ⊥ = cc in g
+    none_in side name word k f (GetterWithoutResult h) = let wrong = h.getter in let g : ⊥ = cc in g
+    none_in side name word k f (SetterWithResult h) = let wrong = h.setter in let g : ⊥ = cc in g
+    none_in side name word k f (ConstructorWithoutResult h) = let wrong = h.constructs in let g : ⊥ = cc in g
+    none_in side name word k f (ConstructorOfOther h) = let wrong = h.constructs in let g : ⊥ = cc in g
+
+    none_at : (k : ℕ) (fn : SourceFunction) → slice_get fns k ≡ Some fn → (f : Fault) → IsBrokenFunction [] fns k fn f → ⊥
+    none_at zero fn at_k f h = none_in Imported (at 34 35) (at 37 41) 0 f (subst (λ (x : SourceFunction). IsBrokenFunction [] fns 0 x f) (let same : fn ≡ plain Imported (at 34 35) (at 37 41) = cc in same) h)
+    none_at (suc zero) fn at_k f h = none_in Exported (at 52 53) (at 55 59) 1 f (subst (λ (x : SourceFunction). IsBrokenFunction [] fns 1 x f) (let same : fn ≡ plain Exported (at 52 53) (at 55 59) = cc in same) h)
+    none_at (suc (suc k)) fn at_k f h = absurd (let g : ⊥ = cc in g)
+
+    -- the scope breaks no rule
+    none_broken : (f : Fault) → IsBrokenScope (scope_names (item_of passing)) fns f → ⊥
+    none_broken f (DefinedTwice h) = let wrong = h.repeated.at_first in let g : ⊥ = cc in g
+    none_broken f (MissingType h) = let wrong = h.edge.1 in let g : ⊥ = cc in g
+    none_broken f (CyclicType h) = let wrong = h.edge.1 in let g : ⊥ = cc in g
+    none_broken f (Notes d among h) = none_among (Defined d) among
+    none_broken f (Body d among h) = none_among (Defined d) among
+    none_broken f (Function k fn at_k h) = none_at k fn at_k f h
+    none_broken f (FoldedTwice h) = none_folded f h
+    none_broken f (CrossedTwice h) = none_crossed f h
+
+    -- and both functions are treated
+    is_function : (k : ℕ) (x : Extern) → slice_get (parts (item_of passing)) k ≡ Some (Crossing x) → extern_functions x x.kind ≡ [] → ⊥
+    is_function zero x here none = is_crossing (crossing Imported (f_at (at 34 35)) (at 37 41)) x (let same : crossing Imported (f_at (at 34 35)) (at 37 41) ≡ x = cc in same) none refl
+    is_function (suc zero) x here none = is_crossing (crossing Exported (f_at (at 52 53)) (at 55 59)) x (let same : crossing Exported (f_at (at 52 53)) (at 55 59) ≡ x = cc in same) none refl
+    is_function (suc (suc k)) x here none = let g : ⊥ = cc in g
+
+    none_unread : (f : Fault) → IsUnread (item_of passing) f → ⊥
+    none_unread f h = let it = at_contains (parts (item_of passing)) (Crossing h.x) h.among in is_function it.0 h.x it.1 h.interface
+
+    -- the functions of the package, by where they are written
+    abbrev made : Span → Made
+    made span = record { name = codes "f"; kind = function_kind.Freestanding; params = []; result = None; docs = no_docs; stability = Unknown; span = span; external_id = None }
+
+    abbrev all_made : List Made
+    all_made = made (at 34 35) ∷ made (at 52 53) ∷ []
+
+    imported : made_on Imported fns all_made ≡ (made (at 34 35) ∷ [])
+    imported = refl
+
+    exported : made_on Exported fns all_made ≡ (made (at 52 53) ∷ [])
+    exported = refl
+
+    abbrev whole : UnresolvedPackage
+    whole = record {
+      docs = no_docs;
+      name = record { namespace = codes "foo"; name = codes "foo"; version = None };
+      worlds = record { name = codes "w"; imports = map function_item (made_on Imported fns all_made); exports = map function_item (made_on Exported fns all_made); «package» = None; docs = no_docs; stability = Unknown; includes = []; span = at 23 24 } ∷ [];
+      interfaces = [];
+      types = [];
+      foreign_deps = [];
+      name_span = at 8 15;
+      unknown_type_spans = [];
+      foreign_dep_spans = [];
+      required_resource_types = [];
+    }
+
+    -- the world has both, and tells them apart
+    both : functions_of whole (owner.World 0) ≡ (((Imported, codes "f"), made (at 34 35)) ∷ ((Exported, codes "f"), made (at 52 53)) ∷ [])
+    both = refl
+
+  -- package foo:foo; world w { type f = u8; .. }
+  module _ where
+    abbrev beside : Extern → WrittenWorld
+    beside second = record { docs = no_comments ptr alloc; attributes = untold ptr alloc; name = id ptr alloc (codes "w") (at 23 24) refl; items = vec ptr alloc (world_item.TypeDef (record { docs = no_comments ptr alloc; attributes = untold ptr alloc; name = f_at (at 32 33); body = Plain (written.U8 (at 36 38)) }) ∷ world_item.Extern second ∷ []) (lit< tt) }
+
+    -- import f: func();
+    abbrev clashing : WrittenWorld
+    clashing = beside (crossing Imported (f_at (at 47 48)) (at 50 54))
+
+    clashing_refused : IsBroken (file_of clashing ∷ []) (fault 44 (at 47 48))
+    clashing_refused = Scope (item_of clashing) (0, lit< tt, refl) (CrossedTwice (record {
+      side = Imported;
+      order = 0 ∷ [];
+      least = one_order (codes "f");
+      place = 0;
+      later = _;
+      at = refl;
+      id = f_at (at 47 48);
+      form = form.Plain;
+      crosses = refl;
+      earlier = record { name = codes "f"; span = at 32 33 };
+      among = (0, lit< tt, refl);
+      same = refl;
+      is = refl;
+    }))
+
+    -- export f: func();
+    abbrev apart : WrittenWorld
+    apart = beside (crossing Exported (f_at (at 47 48)) (at 50 54))
+
+    keys_apart : (side : WorldSide) → AllDiffer (map called_key (side_called side (scope_names (item_of apart)) (functions (item_of apart)) (0 ∷ [])))
+    keys_apart Imported = one_differs (codes "f")
+    keys_apart Exported = one_differs (codes "f")
+
+    apart_folded : (f : Fault) → IsFoldedTwice (scope_names (item_of apart)) (functions (item_of apart)) f → ⊥
+    apart_folded f h = no_fold (scope_names (item_of apart)) (functions (item_of apart)) (0 ∷ []) f (one_order (codes "f")) keys_apart h
+
+    apart_crossed : (f : Fault) → IsCrossedTwice (scope_names (item_of apart)) (functions (item_of apart)) f → ⊥
+    apart_crossed f h = no_crossed (scope_names (item_of apart)) (functions (item_of apart)) (0 ∷ []) f (one_order (codes "f")) keys_apart h

@@ -1,0 +1,6 @@
+//! The names on both sides of a world.
+#![tactic(auto)]
+
+pub mod sides;
+
+pub use sides::Sides;

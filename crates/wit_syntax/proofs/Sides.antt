@@ -1,0 +1,113 @@
+-- The functions that stand on a side.
+use Rattle.std.proofs.Common.{◌≡◌, ℕ, zero, suc, ◌<◌, Bool, true, false, List, [], ◌∷◌, ◌++◌, Some, inl, inr, refl, ap, ◌∙◌, subst, arith}
+use Rattle.std.specs.Prelude.{slice_get, map}
+use Rattle.std.specs.List.{filter, flat_map}
+use Rattle.std.proofs.lemmas.Bool.{cases_Bool, cond-true, cond-false}
+use Rattle.std.proofs.lemmas.List.Elements.{filter-append}
+use Rattle.wit_tree.specs.declared.tree.Id.{Id}
+use Rattle.wit_tree.specs.declared.tree.TypeBody.{TypeBody}
+use Rattle.wit_tree.specs.declared.tree.TypeBody.TheVariants as body
+use Rattle.wit_tree.specs.declared.tree.ResourceFunc.{ResourceFunc}
+use Rattle.wit_tree.specs.declared.tree.ResourceFunc.TheVariants as resource
+use Rattle.wit_tree.specs.declared.tree.InterfaceItem.{InterfaceItem}
+use Rattle.wit_tree.specs.declared.tree.InterfaceItem.TheVariants as interface_item
+use Rattle.wit_tree.specs.declared.tree.WorldSide.{WorldSide}
+use Rattle.wit_tree.specs.declared.tree.WorldSide.TheVariants.{Imported, Exported}
+use Rattle.wit_syntax.specs.Source.{Declared, TheInterface, TheWorld, is_declared_world, declared_parts, interface_part, Item, is_world}
+use Rattle.wit_syntax.specs.Function.{SourceFunction, free_function, resource_function, definition_functions, part_functions, functions}
+use Rattle.wit_syntax.specs.Sides.{role_side, same_side, on_side}
+use Rattle.wit_syntax.proofs.Lists.{flat_map_at, map_at}
+use Rattle.wit_syntax.proofs.Kept.{kept_has}
+
+-- a test keeps all that pass it, and nothing of those that fail it
+pub kept_all : {X : Type 0} (test : X → Bool) (xs : List X) → ((i : ℕ) (x : X) → slice_get xs i ≡ Some x → test x ≡ true) → filter test xs ≡ xs
+kept_all test [] pass = refl
+kept_all test (x ∷ xs) pass = cond-true (test x) (x ∷ filter test xs) (filter test xs) (pass 0 x refl) ∙ ap (λ l. x ∷ l) (kept_all test xs (λ i. pass (suc i)))
+
+pub kept_none : {X : Type 0} (test : X → Bool) (xs : List X) → ((i : ℕ) (x : X) → slice_get xs i ≡ Some x → test x ≡ false) → filter test xs ≡ []
+kept_none test [] fail = refl
+kept_none test (x ∷ xs) fail = cond-false (test x) (x ∷ filter test xs) (filter test xs) (fail 0 x refl) ∙ kept_none test xs (λ i. fail (suc i))
+
+-- two that pass it stand in what is kept as they stand in the list
+pub kept_both : {X : Type 0} (test : X → Bool) (xs : List X) (i j : ℕ) (x y : X) → i < j → slice_get xs i ≡ Some x → slice_get xs j ≡ Some y → test x ≡ true → test y ≡ true → (a : ℕ) × (b : ℕ) × (a < b) × (slice_get (filter test xs) a ≡ Some x) × (slice_get (filter test xs) b ≡ Some y)
+kept_both test [] i j x y before at_x at_y pass_x pass_y = absurd (let f : ⊥ = cc in f)
+kept_both test (z ∷ zs) i zero x y before at_x at_y pass_x pass_y = absurd (let f : ⊥ = omega (arith, before) in f)
+kept_both test (z ∷ zs) zero (suc j) x y before at_x at_y pass_x pass_y =
+    let here : z ≡ x = cc in
+    let kept : filter test (z ∷ zs) ≡ z ∷ filter test zs = cond-true (test z) (z ∷ filter test zs) (filter test zs) (ap test here ∙ pass_x) in
+    let later = kept_has test zs j y pass_y at_y in
+    (0, suc later.0, omega arith, ap (λ l. slice_get l 0) kept ∙ ap Some here, ap (λ l. slice_get l (suc later.0)) kept ∙ later.1)
+kept_both test (z ∷ zs) (suc i) (suc j) x y before at_x at_y pass_x pass_y =
+    let it = kept_both test zs i j x y (omega (arith, before)) at_x at_y pass_x pass_y in
+    let lt = it.2 in
+    elim (cases_Bool (test z)) [
+      | inl hit ↦ (
+          let kept : filter test (z ∷ zs) ≡ z ∷ filter test zs = cond-true (test z) (z ∷ filter test zs) (filter test zs) hit in
+          (suc it.0, suc it.1, omega (arith, lt), ap (λ l. slice_get l (suc it.0)) kept ∙ it.3, ap (λ l. slice_get l (suc it.1)) kept ∙ it.4))
+      | inr miss ↦ (
+          let kept : filter test (z ∷ zs) ≡ filter test zs = cond-false (test z) (z ∷ filter test zs) (filter test zs) miss in
+          (it.0, it.1, lt, ap (λ l. slice_get l it.0) kept ∙ it.3, ap (λ l. slice_get l it.1) kept ∙ it.4))
+    ]
+
+-- a side is itself, and no other
+pub side_itself : (side : WorldSide) → same_side side side ≡ true
+side_itself Imported = refl
+side_itself Exported = refl
+
+pub same_side-equal : (a b : WorldSide) → same_side a b ≡ true → a ≡ b
+same_side-equal Imported Imported same = refl
+same_side-equal Imported Exported same = absurd (let f : ⊥ = cc in f)
+same_side-equal Exported Imported same = absurd (let f : ⊥ = cc in f)
+same_side-equal Exported Exported same = refl
+
+-- those of two lists, one behind the other, and one more
+pub on_side-append : (side : WorldSide) (xs ys : List SourceFunction) → on_side side (xs ++ ys) ≡ on_side side xs ++ on_side side ys
+on_side-append side xs ys = filter-append (λ fn. same_side side (role_side fn.role)) xs ys
+
+pub on_side-here : (side : WorldSide) (fn : SourceFunction) (fns : List SourceFunction) → role_side fn.role ≡ side → on_side side (fn ∷ fns) ≡ fn ∷ on_side side fns
+on_side-here side fn fns is = cond-true (same_side side (role_side fn.role)) (fn ∷ on_side side fns) (on_side side fns) (ap (same_side side) is ∙ side_itself side)
+
+pub on_side-past : (side : WorldSide) (fn : SourceFunction) (fns : List SourceFunction) → same_side side (role_side fn.role) ≡ false → on_side side (fn ∷ fns) ≡ on_side side fns
+on_side-past side fn fns other = cond-false (same_side side (role_side fn.role)) (fn ∷ on_side side fns) (on_side side fns) other
+
+-- all functions of an interface are imported
+resource_imported : (r : Id) (g : ResourceFunc) → role_side (resource_function r g).role ≡ Imported
+resource_imported r (resource.Method f) = refl
+resource_imported r (resource.Static f) = refl
+resource_imported r (resource.Constructor docs attributes span params result) = refl
+
+pub definition_imported : (r : Id) (b : TypeBody) (k : ℕ) (fn : SourceFunction) → slice_get (definition_functions r b) k ≡ Some fn → role_side fn.role ≡ Imported
+definition_imported r (body.Resource funcs) k fn at =
+    let g = map_at (resource_function r) funcs.items k fn at in
+    subst (λ (x : SourceFunction). role_side x.role ≡ Imported) g.2 (resource_imported r g.0)
+definition_imported r (body.Record span fields) k fn at = absurd (let f : ⊥ = cc in f)
+definition_imported r (body.Flags span flags) k fn at = absurd (let f : ⊥ = cc in f)
+definition_imported r (body.Variant span cases) k fn at = absurd (let f : ⊥ = cc in f)
+definition_imported r (body.Enum span cases) k fn at = absurd (let f : ⊥ = cc in f)
+definition_imported r (body.Plain t) k fn at = absurd (let f : ⊥ = cc in f)
+
+item_imported : (i : InterfaceItem) (k : ℕ) (fn : SourceFunction) → slice_get (part_functions (interface_part i)) k ≡ Some fn → role_side fn.role ≡ Imported
+item_imported (interface_item.TypeDef d) k fn at = definition_imported d.name d.body k fn at
+item_imported (interface_item.Use u) k fn at = absurd (let f : ⊥ = cc in f)
+item_imported (interface_item.Func g) zero fn at = let same : free_function g ≡ fn = cc in subst (λ (x : SourceFunction). role_side x.role ≡ Imported) same refl
+item_imported (interface_item.Func g) (suc k) fn at = absurd (let f : ⊥ = cc in f)
+
+pub interface_side : (items : List InterfaceItem) (k : ℕ) (fn : SourceFunction) → slice_get (flat_map part_functions (map interface_part items)) k ≡ Some fn → role_side fn.role ≡ Imported
+interface_side items k fn at =
+    let it = flat_map_at part_functions (map interface_part items) k fn at in
+    let p = map_at interface_part items it.0 it.1 it.2 in
+    item_imported p.0 it.3.0 fn (ap (λ x. slice_get (part_functions x) it.3.0) p.2 ∙ it.3.1)
+
+pub interface_imported : (items : List InterfaceItem) → on_side Imported (flat_map part_functions (map interface_part items)) ≡ flat_map part_functions (map interface_part items)
+interface_imported items = kept_all (λ fn. same_side Imported (role_side fn.role)) (flat_map part_functions (map interface_part items)) (λ k fn at. ap (same_side Imported) (interface_side items k fn at))
+
+pub interface_exported : (items : List InterfaceItem) → on_side Exported (flat_map part_functions (map interface_part items)) ≡ []
+interface_exported items = kept_none (λ fn. same_side Exported (role_side fn.role)) (flat_map part_functions (map interface_part items)) (λ k fn at. ap (same_side Exported) (interface_side items k fn at))
+
+-- so they are where the item is an interface
+declared_imported : (d : Declared) → is_declared_world d ≡ false → (k : ℕ) (fn : SourceFunction) → slice_get (flat_map part_functions (declared_parts d)) k ≡ Some fn → role_side fn.role ≡ Imported
+declared_imported (TheInterface i) own k fn at = interface_side i.items.items k fn at
+declared_imported (TheWorld w) own k fn at = absurd (let f : ⊥ = cc in f)
+
+pub functions_imported : (i : Item) → is_world i ≡ false → (k : ℕ) (fn : SourceFunction) → slice_get (functions i) k ≡ Some fn → role_side fn.role ≡ Imported
+functions_imported i own k fn at = declared_imported i.declared own k fn at
