@@ -58,12 +58,25 @@ fn push_interface(text: &mut String, interface: &Interface) -> Result<(), AllocE
     Ok(())
 }
 
+/// Puts the docs of an item of a side of a world behind a text, if it is a function.
+fn push_item(text: &mut String, item: &WorldItem) -> Result<(), AllocError> {
+    if let WorldItem::Function(function) = item {
+        push_docs(text, function.name.as_str(), &function.docs)?;
+    }
+    Ok(())
+}
+
 /// Puts the docs of a world and of its functions behind a text.
 fn push_world(text: &mut String, world: &World) -> Result<(), AllocError> {
     push_docs(text, world.name.as_str(), &world.docs)?;
     for place in 0..world.imports.len() {
-        if let Some((_, WorldItem::Function(function))) = world.imports.get_index(place) {
-            push_docs(text, function.name.as_str(), &function.docs)?;
+        if let Some((_, item)) = world.imports.get_index(place) {
+            push_item(text, item)?;
+        }
+    }
+    for place in 0..world.exports.len() {
+        if let Some((_, item)) = world.exports.get_index(place) {
+            push_item(text, item)?;
         }
     }
     Ok(())

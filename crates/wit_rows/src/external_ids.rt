@@ -110,14 +110,24 @@ fn push_id(text: &mut String, name: &str, id: &Option<Text>) -> Result<(), Alloc
     Ok(())
 }
 
+/// Puts the external id of what a world has by this key behind a text, if it is a function by a name.
+fn push_item_id(text: &mut String, key: &WorldKey, item: &WorldItem) -> Result<(), AllocError> {
+    if let (WorldKey::Name(name), WorldItem::Function(function)) = (key, item) {
+        push_id(text, name.as_str(), &function.external_id)?;
+    }
+    Ok(())
+}
+
 /// Puts the external ids of a world's functions behind a text.
 fn push_world_ids(text: &mut String, world: &World) -> Result<(), AllocError> {
     for place in 0..world.imports.len() {
-        if let Some((WorldKey::Name(name), WorldItem::Function(function))) = world
-            .imports
-            .get_index(place)
-        {
-            push_id(text, name.as_str(), &function.external_id)?;
+        if let Some((key, item)) = world.imports.get_index(place) {
+            push_item_id(text, key, item)?;
+        }
+    }
+    for place in 0..world.exports.len() {
+        if let Some((key, item)) = world.exports.get_index(place) {
+            push_item_id(text, key, item)?;
         }
     }
     Ok(())

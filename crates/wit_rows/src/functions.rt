@@ -122,6 +122,11 @@ fn push_world(
             push_function(alloc, text, types, None, function)?;
         }
     }
+    for place in 0..world.exports.len() {
+        if let Some((_, WorldItem::Function(function))) = world.exports.get_index(place) {
+            push_function(alloc, text, types, None, function)?;
+        }
+    }
     Ok(())
 }
 

@@ -24,7 +24,7 @@ use std::fs;
 use std::process::ExitCode;
 
 /// The files of rows.
-const FILES: [&str; 19] = [
+const FILES: [&str; 20] = [
     "listings.rows",
     "refusals.rows",
     "files.rows",
@@ -44,6 +44,7 @@ const FILES: [&str; 19] = [
     "made.rows",
     "made_parts.rows",
     "edges.rows",
+    "worlds.rows",
 ];
 
 /// Replays each file, and tells how many cases it has; ends with 0 if each is answered as it says.

@@ -1,9 +1,9 @@
 //! The view `parts`: what stands where the fields, flags and cases of definitions are, and the functions
-//! with their parameters, and what worlds import and include.
+//! with their parameters, and what worlds import, export and include.
 
 use crate::slices::push_slice;
 use std::alloc::AllocError;
-use wit_model::{Function, UnresolvedPackage, World};
+use wit_model::{Function, UnresolvedPackage, World, WorldItem};
 use wit_text::SourceMap;
 use wit_types::TypeDefKind;
 
@@ -48,12 +48,26 @@ fn push_function(
     Ok(())
 }
 
-/// Puts what stands where the imports and the includes of a world are behind a text.
+/// Puts what stands where an item of a side of a world is behind a text.
+fn push_item(text: &mut String, map: &SourceMap, item: &WorldItem) -> Result<(), AllocError> {
+    match item {
+        WorldItem::Function(function) => push_function(text, map, function),
+        other => push_slice(text, map, other.span()),
+    }
+}
+
+/// Puts what stands where what a world imports, exports and includes is behind a text.
 fn push_world(text: &mut String, map: &SourceMap, world: &World) -> Result<(), AllocError> {
     text.push_str("\nimports")?;
     for place in 0..world.imports.len() {
         if let Some((_, item)) = world.imports.get_index(place) {
-            push_slice(text, map, item.span())?;
+            push_item(text, map, item)?;
+        }
+    }
+    text.push_str("\nexports")?;
+    for place in 0..world.exports.len() {
+        if let Some((_, item)) = world.exports.get_index(place) {
+            push_item(text, map, item)?;
         }
     }
     text.push_str("\nincludes")?;
