@@ -1,5 +1,5 @@
 -- Interfaces that were added are done, and behind them so are worlds.
-use Rattle.std.proofs.Common.{◌≡◌, ℕ, ◌+◌, true, false, List, [], ◌∷◌, ◌++◌, length, map, Option, Some, inl, inr, refl, sym, ap, ◌∙◌, subst, append_assoc, length-append, Contains}
+use Rattle.std.proofs.Common.{◌≡◌, ℕ, ◌+◌, true, false, List, [], ◌∷◌, ◌++◌, length, map, Option, Some, inl, inr, refl, sym, ap, ◌∙◌, subst, append_assoc, length-append}
 use Rattle.std.specs.Prelude.{slice_get}
 use Rattle.std.specs.List.{flat_map}
 use Rattle.std.specs.Option.{option_map, unwrap_or}
@@ -22,21 +22,25 @@ use Rattle.wit_arena.specs.Meet.{Meeting, Decls}
 use Rattle.wit_model.specs.declared.function.Function.{Function}
 use Rattle.wit_syntax.specs.Signature.{IsUnpairedSetter}
 use Rattle.wit_tree.specs.declared.tree.WorldSide.TheVariants.{Imported, Exported}
-use Rattle.wit_syntax.specs.Function.{functions}
-use Rattle.wit_syntax.specs.Sides.{FunctionKey}
-use Rattle.wit_arena.specs.Functions.{placed_functions, function_item, made_on}
+use Rattle.wit_syntax.specs.Function.{SourceFunction, functions}
+use Rattle.wit_model.specs.declared.world.WorldKey.{WorldKey}
+use Rattle.wit_model.specs.declared.world.WorldItem.{WorldItem}
+use Rattle.wit_syntax.specs.Sides.{FunctionKey, side_items}
+use Rattle.wit_arena.specs.Functions.{placed_functions}
+use Rattle.wit_arena.specs.SideItems.{AreSideItems}
+use Rattle.wit_syntax.proofs.Legal.{functions_items}
+use Rattle.wit_arena.proofs.SideItems.{side_types, side_items_wider}
 use Rattle.wit_syntax.proofs.Sides.{functions_imported}
 use Rattle.wit_arena.proofs.FreeNames.{free_of, free_keyed}
 use Rattle.wit_arena.proofs.Stating.{both_sides, world_types-all, world_functions-all, stated_on_sides, stated_placed}
-use Rattle.wit_syntax.specs.Broken.{IsBrokenUse}
 use Rattle.wit_arena.specs.Package.{IsInterface, IsWorld, import_types, world_types, interface_functions, world_functions}
 use Rattle.wit_arena.specs.Whole.{Ordered, Turned, owner_at, taking_meeting, all_meetings, declarations, type_imports, IsInclude, AreIncludes}
 use Rattle.wit_arena.specs.Resolving.{Names, Cell, Required, cell, cells, Defines, decls_of}
-use Rattle.wit_arena.specs.Resolved.{AddsInterface, AddsInterfaces, worlds_at, AddsWorld, AddsWorlds, AddsForeign}
+use Rattle.wit_arena.specs.Resolved.{AddsInterface, AddsInterfaces, interfaces_at, worlds_at, AddsWorld, AddsWorlds, AddsForeign, AreUsableUses}
 use Rattle.wit_syntax.proofs.Lists.{at_front, at_back, at_split, append-cancel, map_at}
 use Rattle.wit_syntax.proofs.Turns.{at_part}
 use Rattle.wit_arena.proofs.Adding.{Behind, adds_behind}
-use Rattle.wit_arena.proofs.Indexing.{cells-append, worlds_at-append}
+use Rattle.wit_arena.proofs.Indexing.{cells-append, cell_address, interfaces_at-append, worlds_at-append}
 use Rattle.wit_arena.proofs.Standing.{DoneScope, cell_of, IsDone}
 use Rattle.wit_arena.proofs.Interfaces.{AreItems, AreOfSort, AreAddresses, interface_address, world_address, own_address, interface_owner_at, world_owner_at, item_addresses}
 use Rattle.wit_arena.proofs.Visits.{visited_addresses, addresses_join, visited_foreign, address_own}
@@ -48,7 +52,7 @@ abbrev pub SaysInterface : Ordered → Interface → Type 0
 SaysInterface o i = IsInterface (item_id o.item) (item_notes o.item) i
 
 -- it has the functions of a scope, each setter behind its getter
-pub record MakesInterface (c : DoneScope) (i : Interface) : Type 0 where
+pub record MakesInterface (o : Ordered) (c : DoneScope) (i : Interface) : Type 0 where
   pub functions : i.functions ≡ placed_functions c.made
   pub stated : c.stated ≡ interface_functions i
   pub paired : (f : Fault) → IsUnpairedSetter c.functions f → ⊥
@@ -58,10 +62,12 @@ pub record SaysWorld (worlds : List Address) (o : Ordered) (w : World) : Type 0 
   pub says : IsWorld (item_id o.item) (item_notes o.item) w
   pub includes : AreIncludes worlds o.item w.includes
 
--- it has the types of a scope as its imports, and then the functions that are imported, and it has those that are exported
-pub record MakesWorld (c : DoneScope) (w : World) : Type 0 where
-  pub imports : w.imports ≡ type_imports c.names c.types ++ map function_item (made_on Imported c.functions c.made)
-  pub exports : w.exports ≡ map function_item (made_on Exported c.functions c.made)
+-- it has the types of a scope as its imports, and then, on its sides, what the item has there, where the interfaces have these addresses
+pub record MakesWorld (interfaces : List Address) (o : Ordered) (c : DoneScope) (w : World) : Type 0 where
+  pub imported : List (WorldKey × WorldItem)
+  pub imports : w.imports ≡ type_imports c.names c.types ++ imported
+  pub are_imported : AreSideItems interfaces o.item.top Imported (side_items o.item) c.made imported
+  pub are_exported : AreSideItems interfaces o.item.top Exported (side_items o.item) c.made w.exports
   pub stated : c.stated ≡ world_functions w
 
 -- a world that was resolved, as a scope
@@ -132,7 +138,7 @@ module _ (files : List PackageFile) (is ws : List Item) where
 
   -- the first worlds are done, behind interfaces
   abbrev pub WorldsDone : List Interface → List Ordered → List DoneScope → List Item → List TypeDef → List World → List Required → Type 0
-  WorldsDone front base first us es xs rs = AreDone (WorldOwner files) (SaysWorld (world_list files ws)) world_cell MakesWorld files decls base (front_scopes files front ++ first) ws us es xs rs
+  WorldsDone front base first us es xs rs = AreDone (WorldOwner files) (SaysWorld (world_list files ws)) world_cell (MakesWorld (interface_list files is)) files decls base (front_scopes files front ++ first) ws us es xs rs
 
   module _ (interfaces : AreOfSort false is) (worlds : AreOfSort true ws) (is_items : AreItems files is) (ws_items : AreItems files ws) where
     -- no two addresses are one
@@ -145,7 +151,7 @@ module _ (files : List PackageFile) (is ws : List Item) where
     pub world_declared : (t : ℕ) (s : Address) → slice_get (world_list files ws) t ≡ Some s → decls s ≡ decls_of (owner.World t) s (scope files s)
     world_declared t s at = declared_by files is ws s (owner.World t) (world_owner_at (interface_list files is) (world_list files ws) all_addresses t s at)
 
-    module _ (uses : (i : Item) → Contains (all_items files) i → (f : Fault) → IsBrokenUse files i f → ⊥) (es : List TypeDef) (front : List Interface) (wfront : List World) (foreign : AddsForeign files es front wfront) where
+    module _ (uses : AreUsableUses files (all_items files)) (es : List TypeDef) (front : List Interface) (wfront : List World) (foreign : AddsForeign files es front wfront) where
       -- what other packages put in front is done
       pub foreign_done : IsDone files decls (all_meetings files []) (front_scopes files front) es
       foreign_done = subst (λ (ms : List Meeting). IsDone files decls ms (front_scopes files front) es) (sym (append-nil (map taking_meeting (takings files)))) (front_done files uses es front wfront foreign decls (λ i v at. interface_declared i (visited v) (at_front (map visited (foreign_interfaces files)) (map address is) i (visited v) (slice_get-map visited (foreign_interfaces files) i ∙ ap (option_map visited) at))) (λ i v at. world_declared i (visited v) (at_front (map visited (foreign_worlds files)) (map address ws) i (visited v) (slice_get-map visited (foreign_worlds files) i ∙ ap (option_map visited) at))))
@@ -244,6 +250,21 @@ module _ (files : List PackageFile) (is ws : List Item) where
                   ap (slice_get (world_list files ws)) h.1 ∙ at_back ss (map address ws) h.0 a (slice_get-map address ws h.0 ∙ ap (option_map address) here ∙ ap Some (world_address o.0.item (worlds.each h.0 o.0.item here) ∙ ap WorldNamed (sym name) ∙ x.2)))
             ]
 
+        -- so is the address of an interface
+        interface_added : (t : ℕ) (a : Address) → slice_get (interfaces_at (map visited (foreign_interfaces files)) (front ++ xs)) t ≡ Some a → slice_get (interface_list files is) t ≡ Some a
+        interface_added t a at =
+            let ss = map visited (foreign_interfaces files) in
+            let named = map (λ (i : Interface). (cell i).address) xs in
+            elim (at_split ss named t a (ap (λ (l : List Address). slice_get l t) (sym (interfaces_at-append ss front xs (foreign.interfaces.count ∙ sym (length-map (foreign_interfaces files) visited)))) ∙ at)) [
+              | inl h ↦ at_front ss (map address is) t a h
+              | inr h ↦ (
+                  let x = map_at (λ (i : Interface). (cell i).address) xs h.0 a h.2 in
+                  let o = item_of_entry d.laid h.0 x.0 x.1 in
+                  let here = d.laid.front h.0 o.0 o.1 in
+                  let name = (d.laid.says h.0 o.0 x.0 o.1 x.1).name in
+                  ap (slice_get (interface_list files is)) h.1 ∙ at_back ss (map address is) h.0 a (slice_get-map address is h.0 ∙ ap (option_map address) here ∙ ap Some (interface_address o.0.item (interfaces.each h.0 o.0.item here) ∙ sym (cell_address x.0 (item_name o.0.item) name) ∙ x.2)))
+            ]
+
         -- the scopes of interfaces are among those that are done
         pub world_cells : (cs : List DoneScope) (t : ℕ) (c : Cell) → slice_get (cells (map visited (foreign_interfaces files)) (front ++ xs)) t ≡ Some c → (j : ℕ) × (slice_get (map cell_of ((front_scopes files front ++ d.scopes) ++ cs)) j ≡ Some c)
         world_cells cs t c at =
@@ -252,13 +273,15 @@ module _ (files : List PackageFile) (is ws : List Item) where
             (it.0, ap (λ (l : List Cell). slice_get l it.0) (map-append cell_of before cs) ∙ at_front (map cell_of before) (map cell_of cs) it.0 c it.1)
 
         -- what a world adds is done
-        world_next : (us : List Item) (old new : List TypeDef) (ys ys' : List World) (qs rs : List Required) (w : Item) → slice_get ws (length us) ≡ Some w → (e : WorldsDone front d.ordered d.scopes us old ys qs) → Behind (AddsWorld (map visited (foreign_interfaces files)) (map visited (foreign_worlds files)) (front ++ xs)) (world_grows (map visited (foreign_interfaces files)) (map visited (foreign_worlds files)) (front ++ xs)) wfront old new ys ys' rs w → IsNextDone (WorldOwner files) (SaysWorld (world_list files ws)) world_cell MakesWorld files decls d.ordered (front_scopes files front ++ d.scopes) ws us old new ys ys' qs rs w e
+        world_next : (us : List Item) (old new : List TypeDef) (ys ys' : List World) (qs rs : List Required) (w : Item) → slice_get ws (length us) ≡ Some w → (e : WorldsDone front d.ordered d.scopes us old ys qs) → Behind (AddsWorld (map visited (foreign_interfaces files)) (map visited (foreign_worlds files)) (front ++ xs)) (world_grows (map visited (foreign_interfaces files)) (map visited (foreign_worlds files)) (front ++ xs)) wfront old new ys ys' rs w → IsNextDone (WorldOwner files) (SaysWorld (world_list files ws)) world_cell (MakesWorld (interface_list files is)) files decls d.ordered (front_scopes files front ++ d.scopes) ws us old new ys ys' qs rs w e
         world_next us old new ys ys' qs rs w there e a =
             let names = in_turn (scope_names w) a.adds.order in
             let before = front_scopes files front ++ d.scopes in
             let ss = map visited (foreign_interfaces files) in
             let both = both_sides (functions w) a.functions in
-            let stated : world_functions a.added ≡ both = world_functions-all names a.types (functions w) a.functions a.added a.imports a.exports in
+            let addresses = interfaces_at ss (front ++ xs) in
+            let own = side_items w in
+            let stated : world_functions a.added ≡ both = world_functions-all addresses w.top names a.types own a.functions a.imported a.added a.imports a.are_imported a.are_exported ∙ ap (λ (l : List SourceFunction). both_sides l a.functions) (sym (functions_items w)) in
             record {
               order = a.adds.order;
               least = a.adds.least;
@@ -277,16 +300,22 @@ module _ (files : List PackageFile) (is ws : List Item) where
                 includes = includes_wider (worlds_at (map visited (foreign_worlds files)) (wfront ++ ys)) (world_list files ws) w a.added.includes (added_address us old ys qs e) a.includes;
               };
               is_cell = λ listed. (
-                  let types = own_types names a.types (made_on Imported (functions w) a.functions) a.added listed a.imports in
+                  let types = own_types names a.types a.imported a.added listed a.imports (side_types addresses w.top Imported own a.functions a.imported a.are_imported) in
                   ap (λ (s : Address). record { address = s; types = a.types; functions = free_of both }) (world_address w (worlds.each (length us) w there))
                   ∙ ap (named_world a.types both) (sym a.says.name)
                   ∙ ap (λ (x : Names). named_world x both a.added.name) (sym types)
                   ∙ ap (λ (x : List (FunctionKey × Function)). named_world (world_types a.added) x a.added.name) (sym stated));
-              makes = λ listed. record { imports = a.imports; exports = a.exports; stated = sym stated };
+              makes = λ listed. record {
+                imported = a.imported;
+                imports = a.imports;
+                are_imported = side_items_wider addresses (interface_list files is) interface_added w.top Imported own a.functions a.imported a.are_imported;
+                are_exported = side_items_wider addresses (interface_list files is) interface_added w.top Exported own a.functions a.added.exports a.are_exported;
+                stated = sym stated;
+              };
             }
           where
-            own_types : (xs : List ScopeName) (types : Names) (fs : List Function) (w : World) → map (λ p. p.0) types ≡ local_names xs → w.imports ≡ type_imports xs types ++ map function_item fs → world_types w ≡ types
-            own_types xs types fs w listed imports = ap (flat_map import_types) imports ∙ world_types-all xs types fs listed
+            own_types : (xs : List ScopeName) (types : Names) (behind : List (WorldKey × WorldItem)) (w : World) → map (λ p. p.0) types ≡ local_names xs → w.imports ≡ type_imports xs types ++ behind → flat_map import_types behind ≡ [] → world_types w ≡ types
+            own_types xs types behind w listed imports none = ap (flat_map import_types) imports ∙ world_types-all xs types behind listed none
 
         -- the first worlds, behind all interfaces and behind the worlds of other packages
         pub worlds_done : (new : List TypeDef) (all : List World) (rs : List Required) (vs : List Item) → ((k : ℕ) (w : Item) → slice_get vs k ≡ Some w → slice_get ws k ≡ Some w) → AddsWorlds (map visited (foreign_interfaces files)) (map visited (foreign_worlds files)) (front ++ xs) middle new wfront all rs vs → (own : List World) × (all ≡ wfront ++ own) × WorldsDone front d.ordered d.scopes vs new own rs
@@ -294,4 +323,4 @@ module _ (files : List PackageFile) (is ws : List Item) where
             let ss = map visited (foreign_interfaces files) in
             let others = map visited (foreign_worlds files) in
             let own = adds_behind (AddsWorld ss others (front ++ xs)) (world_grows ss others (front ++ xs)) wfront [] all middle new rs vs (subst (λ (l : List World). AddsWorlds ss others (front ++ xs) middle new l all rs vs) (sym (append-nil wfront)) a) in
-            (own.0, own.1, done_front (WorldOwner files) (SaysWorld (world_list files ws)) world_cell MakesWorld files decls d.ordered (front_scopes files front ++ d.scopes) ws ws_items (λ t w at. world_declared (length others + t) (address w) (at_back others (map address ws) t (address w) (slice_get-map address ws t ∙ ap (option_map address) at))) world_apart (Behind (AddsWorld ss others (front ++ xs)) (world_grows ss others (front ++ xs)) wfront) world_next middle new own.0 rs vs there d.done own.2)
+            (own.0, own.1, done_front (WorldOwner files) (SaysWorld (world_list files ws)) world_cell (MakesWorld (interface_list files is)) files decls d.ordered (front_scopes files front ++ d.scopes) ws ws_items (λ t w at. world_declared (length others + t) (address w) (at_back others (map address ws) t (address w) (slice_get-map address ws t ∙ ap (option_map address) at))) world_apart (Behind (AddsWorld ss others (front ++ xs)) (world_grows ss others (front ++ xs)) wfront) world_next middle new own.0 rs vs there d.done own.2)

@@ -2,6 +2,7 @@
 use Rattle.std.proofs.Common.{◌≡◌, ℕ, ◌+◌, ◌<◌, Bool, true, false, not, List, ◌++◌, length, take, Option, Some, None, ◌⊎◌, IsSome, inl, inr, refl, sym, ap, ◌∙◌, subst, Contains}
 use Rattle.std.specs.Prelude.{slice_get, map}
 use Rattle.std.specs.Option.{option_map}
+use Rattle.std.specs.Str.{bytes_eq}
 use Rattle.std.proofs.lemmas.Bool.{cases_Bool}
 use Rattle.std.proofs.lemmas.List.{length-map}
 use Rattle.std.proofs.lemmas.Option.{slice_get-map}
@@ -15,7 +16,7 @@ use Rattle.wit_model.specs.declared.world.World.{World}
 use Rattle.wit_order.specs.Table.{IsOrder}
 use Rattle.wit_syntax.specs.Fault.{Fault, fault, missing_at, name_word}
 use Rattle.wit_syntax.specs.Address.{Address, InterfaceNamed, WorldNamed, is_foreign}
-use Rattle.wit_syntax.specs.Source.{address, Target, Local, Foreign, leads, Item, ScopeName, Used, all_items, item_name, is_world, item_at, scope_names, scope, meaning, taking, takings, same_taking}
+use Rattle.wit_syntax.specs.Source.{address, Target, Local, Foreign, leads, Item, ScopeName, Used, all_items, item_name, is_world, item_named, item_at, scope_names, scope, meaning, taking, takings, same_taking}
 use Rattle.wit_syntax.specs.Foreign.{visited, foreign_interfaces, foreign_worlds}
 use Rattle.wit_syntax.specs.Scope.{in_order, item_rows, interfaces_of, worlds_of, include_paths}
 use Rattle.wit_arena.specs.Meet.{Def, keys}
@@ -23,14 +24,15 @@ use Rattle.wit_syntax.specs.Function.{SourceFunction, functions, free_names}
 use Rattle.wit_arena.specs.Functions.{AreFunctions}
 use Rattle.std.specs.List.{filter}
 use Rattle.wit_types.specs.declared.types.TypeOwner.TheVariants as owner
-use Rattle.wit_syntax.specs.Broken.{is_world_at, IsBrokenUse, IsBroken, ItemStability, IncludeStability, InterfaceIncluded, MissingName, FunctionUsed, Scope, Handle, Setter}
+use Rattle.wit_syntax.specs.Broken.{is_world_at, IsBroken, ItemStability, IncludeStability, Use, InterfaceIncluded, MissingName, FunctionUsed, Scope, Sides, Handle, Setter}
 use Rattle.wit_syntax.specs.Repeats.{AllDiffer}
 use Rattle.wit_arena.specs.Whole.{Ordered, Turned, item_of}
-use Rattle.wit_arena.specs.Resolving.{Names as Table, Cell, cell, cells, env_of, Required, IsIndex, IsFound, Unresolved, Unstated, OfFunction, WrongName, WrongItself, IsWrongScope, IsWorldIndex, IsNoWorld, IsLostInclude}
-use Rattle.wit_arena.specs.Resolved.{worlds_at, AddsWorlds, AddsForeign, IsBrokenItemStability, OwnStability, OfInclude, IsWrongHandleNow, WrongStability, WrongScope, WrongHandle, Unpaired, WrongWorldStability, WrongWorldScope, WrongWorldHandle, LostInclude, IsWrongAmong, IsWrongWorldAmong}
+use Rattle.wit_arena.specs.Resolving.{Names as Table, Cell, cell, cells, env_of, Required, IsIndex, IsFound, Unresolved, Unstated, OfFunction, WrongName, WrongItself, IsWrongScope, IsWorldIndex, IsNoWorld, IsLostInclude, IsLostLink}
+use Rattle.wit_arena.specs.Resolved.{worlds_at, AddsWorlds, AddsForeign, AreUsableUses, IsBrokenItemStability, OwnStability, OfInclude, IsWrongHandleNow, WrongStability, WrongScope, WrongSides, WrongWorldSides, WrongHandle, Unpaired, WrongWorldStability, WrongWorldScope, WrongWorldHandle, WrongWorldUse, LostLink, LostInclude, IsWrongAmong, IsWrongWorldAmong}
 use Rattle.wit_syntax.proofs.Lists.{at_back, at_seam, at_split, map_at}
 use Rattle.wit_syntax.proofs.Firsts.{firsts_has}
-use Rattle.wit_syntax.proofs.Found.{at_contains, contains_at}
+use Rattle.wit_syntax.proofs.Found.{at_contains, contains_at, find_at, find_passes}
+use Rattle.wit_syntax.proofs.Names.{name_equal}
 use Rattle.wit_arena.proofs.Indexing.{cells-append, front_cell, worlds_at-append}
 use Rattle.wit_arena.proofs.Standing.{DoneScope, cell_of, IsDoneScope}
 use Rattle.wit_arena.proofs.Meant.{lacks_nothing}
@@ -41,7 +43,7 @@ use Rattle.wit_arena.proofs.Interfaces.{AreItems, item_of_scope, scope_of, inter
 use Rattle.wit_arena.proofs.Itemizing.{item_index, are_items}
 use Rattle.wit_arena.proofs.Visits.{visited_foreign}
 use Rattle.wit_arena.proofs.Takings.{taking_key, taking-from, taking-equal}
-use Rattle.wit_arena.proofs.Leading.{kept_front, kept_early, paths_of_world, needed_before, named_at, IsForeignUse, used_interface, used_before}
+use Rattle.wit_arena.proofs.Leading.{option_cases, kept_front, kept_early, paths_of_world, needed_before, named_at, IsForeignUse, used_interface, used_before}
 use Rattle.wit_arena.proofs.Front.{front_scopes, taken_listed}
 use Rattle.wit_arena.proofs.Laid.{scope_at, ordered_at, entry_of_item}
 use Rattle.wit_arena.proofs.Added.{InterfacesDone, WorldsDone, interfaces_done, worlds_done}
@@ -99,7 +101,7 @@ module _ (files : List PackageFile) (places : List ℕ) (order : IsOrder (item_r
     pub sort : is_world item ≡ false
     pub is : from ≡ InterfaceNamed (item_name item)
 
-  module _ (uses : (i : Item) → Contains all i → (f : Fault) → IsBrokenUse files i f → ⊥) (es : List TypeDef) (front : List Interface) (wfront : List World) (foreign : AddsForeign files es front wfront) where
+  module _ (uses : AreUsableUses files all) (es : List TypeDef) (front : List Interface) (wfront : List World) (foreign : AddsForeign files es front wfront) where
     abbrev ss : List Address
     ss = map visited (foreign_interfaces files)
 
@@ -143,6 +145,26 @@ module _ (files : List PackageFile) (places : List ℕ) (order : IsOrder (item_r
           let place = length (cells ss front) + u.place in
           let called : c.0.address ≡ InterfaceNamed name = ap (λ (x : Turned). x.address) c.2 ∙ ap address o.2 ∙ interface_address v u.sort ∙ sym u.is ∙ same in
           index.has place (cell_of c.0) name (ap (λ (x : List Cell). slice_get x place) (cells_of own) ∙ at_back (cells ss front) (map cell own) u.place (cell_of c.0) there) called
+
+      -- so no path of an item is lost that leads to an interface of the package, where all were resolved
+      interface_found : ((v : Item) → is_world v ≡ false → Contains all v → (t : ℕ) × (slice_get vs t ≡ Some v)) → (name : List ℕ) → option_map is_world (item_named all name) ≡ Some false → IsSome (env_of by_name name)
+      interface_found has name usable = option_cases (item_named all name) (IsSome (env_of by_name name)) (λ v found. (
+          let p = find_at (λ (i : Item). bytes_eq (item_name i) name) all v found in
+          let called = name_equal (item_name v) name (find_passes (λ (i : Item). bytes_eq (item_name i) name) all v found) in
+          let both : Some (is_world v) ≡ Some false = sym (ap (option_map is_world) found) ∙ usable in
+          let sort : is_world v ≡ false = cc in
+          let it = has v sort (contains_at all p.0 v p.1) in
+          resolved_found (InterfaceNamed (item_name v)) name (record { place = it.0; item = v; at = it.1; sort = sort; is = refl }) (ap InterfaceNamed called)))
+          (λ none. absurd (
+          let wrong : None ≡ Some false = sym (ap (option_map is_world) none) ∙ usable in
+          let g : ⊥ = cc in
+          g))
+
+      none_lost : ((v : Item) → is_world v ≡ false → Contains all v → (t : ℕ) × (slice_get vs t ≡ Some v)) → (w : Item) (f : Fault) → IsLostLink files by_name w f → ⊥
+      none_lost has w f lost =
+          let wrong : IsSome {T = ℕ} None = subst (λ (x : Option ℕ). IsSome x) lost.lost (interface_found has lost.id.name.now lost.usable) in
+          let g : ⊥ = cc in
+          g
 
       -- an interface of the package that lacks a name, as an item
       record IsTarget (from : Address) (name : List ℕ) (functions : List (List ℕ)) : Type 0 where
@@ -257,7 +279,7 @@ module _ (files : List PackageFile) (places : List ℕ) (order : IsOrder (item_r
         is = lost.is;
       })
 
-  module _ (uses : (i : Item) → Contains all i → (f : Fault) → IsBrokenUse files i f → ⊥) where
+  module _ (uses : AreUsableUses files all) where
     -- what is wrong with an interface, once those before it in the order were resolved, is wrong with the files
     pub broken_among : (f : Fault) → IsWrongAmong files all places f → IsBroken files f
     broken_among f h =
@@ -278,6 +300,7 @@ module _ (files : List PackageFile) (places : List ℕ) (order : IsOrder (item_r
         elim h.wrong [
           | WrongStability wrong ↦ stability_broken files w here f wrong
           | WrongScope wrong ↦ wrong_scope uses h.es h.front h.ws h.foreign vs h.mid d.0 h.rs d.2 h.by_name (subst (λ (l : List Interface). IsIndex (cells fore l) h.by_name) d.1 h.index) w here earlier f (subst (λ (l : List Interface). IsWrongScope (cells fore l) h.by_name (scope_names w) (functions w) f) d.1 wrong)
+          | WrongSides wrong ↦ Sides w here wrong
           | WrongHandle wrong ↦ Handle w here (interface_handle files interfaces worlds (interfaces_sort (in_order all places)) (worlds_sort (in_order all places)) are_interfaces are_worlds uses h.es h.front h.ws h.foreign vs h.mid d.0 h.rs w next d.2 f (subst (λ (l : List Interface). IsWrongHandleNow h.mid (cells fore l) (owner.Interface (length l)) w f) d.1 wrong))
           | Unpaired alone ↦ Setter w here (record { interface = h.sort; alone = alone })
         ]
@@ -306,6 +329,9 @@ module _ (files : List PackageFile) (places : List ℕ) (order : IsOrder (item_r
         elim h.wrong [
           | WrongWorldStability wrong ↦ stability_broken files w here f wrong
           | WrongWorldScope wrong ↦ wrong_scope uses h.es h.front h.worlds_front h.foreign interfaces h.middle d.0 h.rs d.2 h.by_name (subst (λ (l : List Interface). IsIndex (cells fore l) h.by_name) d.1 h.index) w here earlier f (subst (λ (l : List Interface). IsWrongScope (cells fore l) h.by_name (scope_names w) (functions w) f) d.1 wrong)
+          | WrongWorldSides wrong ↦ Sides w here wrong
           | WrongWorldHandle wrong ↦ Handle w here (world_handle files interfaces worlds is_sort ws_sort are_interfaces are_worlds uses h.es h.front h.worlds_front h.foreign h.middle d.0 h.rs d.2 vs h.mid e.0 h.worlds_rs w (next_kept is_world k p w h.next.next h.next.at h.sort) e.2 f (subst (λ (l : List World). IsWrongHandleNow h.mid (cells fore (h.front ++ d.0)) (owner.World (length l)) w f) e.1 (subst (λ (l : List Interface). IsWrongHandleNow h.mid (cells fore l) (owner.World (length h.before)) w f) d.1 wrong)))
+          | WrongWorldUse wrong ↦ Use w here wrong
+          | LostLink lost ↦ absurd (none_lost uses h.es h.front h.worlds_front h.foreign interfaces h.middle d.0 h.rs d.2 h.by_name (subst (λ (l : List Interface). IsIndex (cells fore l) h.by_name) d.1 h.index) interface_at w f lost)
           | LostInclude lost ↦ lost_include uses h.es h.front h.worlds_front h.foreign k p w h.next.next h.next.at h.sort d.2.ordered d.2.scopes h.mid e.0 h.worlds_rs e.2 h.worlds_by_name (subst (λ (l : List World). IsWorldIndex (worlds_at aft l) h.worlds_by_name) e.1 h.worlds_index) f lost
         ]

@@ -1,5 +1,5 @@
 -- What other packages put in front of the arenas, as scopes that are done.
-use Rattle.std.proofs.Common.{◌≡◌, ℕ, zero, suc, ◌+◌, false, List, [], ◌∷◌, ◌++◌, length, take, Option, Some, None, inl, inr, refl, sym, ap, ◌∙◌, subst, arith, Contains}
+use Rattle.std.proofs.Common.{◌≡◌, ℕ, zero, suc, ◌+◌, false, List, [], ◌∷◌, ◌++◌, length, take, Option, Some, None, inl, inr, refl, sym, ap, ◌∙◌, subst, arith}
 use Rattle.std.specs.Prelude.{slice_get, map, IsSome}
 use Rattle.std.specs.Option.{option_map, option_map_or}
 use Rattle.std.specs.List.{flat_map, filter}
@@ -11,7 +11,6 @@ use Rattle.wit_types.specs.declared.types.TypeOwner.{TypeOwner}
 use Rattle.wit_types.specs.declared.types.TypeOwner.TheVariants as owner
 use Rattle.wit_model.specs.declared.interface.Interface.{Interface}
 use Rattle.wit_model.specs.declared.world.World.{World}
-use Rattle.wit_syntax.specs.Fault.{Fault}
 use Rattle.wit_syntax.specs.Form.{Form}
 use Rattle.wit_tree.specs.declared.tree.«Type».{«Type» as Written}
 use Rattle.wit_package_names.specs.declared.package_name.PackageName.{PackageName}
@@ -24,10 +23,9 @@ use Rattle.wit_syntax.specs.Foreign.{ForeignVisit, visited_package, visited, for
 use Rattle.wit_arena.specs.Expr.{Exprs}
 use Rattle.wit_arena.specs.Meet.{Key, Def, Whole, Meeting, keys, Decls, decl_of, IsEntry, IsNamedEntry, IsSettled, IsMeeting}
 use Rattle.wit_syntax.specs.Repeats.{AllDiffer}
-use Rattle.wit_syntax.specs.Broken.{IsBrokenUse}
 use Rattle.wit_arena.specs.Whole.{owner_at, taking_meeting, functions_at, turn_handles, AreRequired}
 use Rattle.wit_arena.specs.Resolving.{cell_at, cells, env_of, AreNames, decls_of}
-use Rattle.wit_arena.specs.Resolved.{foreign_type, AddsForeign}
+use Rattle.wit_arena.specs.Resolved.{foreign_type, AddsForeign, AreUsableUses}
 use Rattle.wit_syntax.proofs.Lists.{at_front, at_within, map_at, map_map}
 use Rattle.wit_syntax.proofs.Names.{lookup-place}
 use Rattle.wit_syntax.proofs.Repeated.{differ_none, differ_join}
@@ -176,7 +174,7 @@ taken_settled ts es i m e at there = let t = map_at taking_meeting ts i m at in 
 
 -- What is taken is met once, and its entries are those of the scopes that it is taken from; `decls` declares each of these scopes by the
 -- owner that the front alone gives it.
-module _ (files : List PackageFile) (uses : (i : Item) → Contains (all_items files) i → (f : Fault) → IsBrokenUse files i f → ⊥) (es : List TypeDef) (front : List Interface) (ws : List World) (adds : AddsForeign files es front ws) where
+module _ (files : List PackageFile) (uses : AreUsableUses files (all_items files)) (es : List TypeDef) (front : List Interface) (ws : List World) (adds : AddsForeign files es front ws) where
   abbrev visits : List ForeignVisit
   visits = foreign_interfaces files
 

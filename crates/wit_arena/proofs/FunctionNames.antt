@@ -1,5 +1,5 @@
 -- The names of functions: where no two keys of a scope are one, no two of them are.
-use Rattle.std.proofs.Common.{◌≡◌, ℕ, suc, ◌+◌, false, List, [], ◌∷◌, length, map, Some, inl, inr, refl, sym, ap, ◌∙◌, subst, arith, nat_eq}
+use Rattle.std.proofs.Common.{◌≡◌, ℕ, suc, ◌+◌, false, List, [], ◌∷◌, ◌++◌, length, map, Some, inl, inr, refl, sym, ap, ◌∙◌, subst, arith, nat_eq}
 use Rattle.std.specs.Prelude.{slice_get}
 use Rattle.std.specs.Cmp.Lexicographic.{pointwise}
 use Rattle.std.specs.List.{flat_map, AllByRecursion, IsDistinct}
@@ -13,21 +13,25 @@ use Rattle.wit_syntax.specs.Function.{SourceFunction}
 use Rattle.wit_arena.specs.Functions.{by_name}
 use Rattle.wit_syntax.specs.Repeats.{AllDiffer}
 use Rattle.wit_syntax.specs.Scope.{in_turn}
-use Rattle.wit_syntax.specs.Signature.{name_called, function_called, called_key}
+use Rattle.wit_syntax.specs.Signature.{Called, name_called, function_called, called_key}
 use Rattle.wit_tree.specs.declared.tree.WorldSide.{WorldSide}
-use Rattle.wit_syntax.specs.Sides.{on_side, names_on, side_called}
+use Rattle.wit_syntax.specs.Sides.{on_side, names_on, SideFunction, side_called}
 use Rattle.wit_syntax.proofs.Lists.{at_back}
 use Rattle.wit_syntax.proofs.Names.{name_cases}
 use Rattle.wit_syntax.proofs.Repeated.{differ_at, differ_by}
 use Rattle.wit_syntax.proofs.Kept.{differ_head, differ_tail}
 use Rattle.wit_syntax.proofs.Legal.{function_name}
+use Rattle.wit_syntax.proofs.Sides.{called_functions}
 
--- where the keys on a side of a scope differ, so do the names of its functions there
-pub names_differ : (side : WorldSide) (xs : List ScopeName) (fns : List SourceFunction) (order : List ℕ) → AllDiffer (map called_key (side_called side xs fns order)) → AllDiffer (map function_name (on_side side fns))
+-- where the keys on a side of a scope differ on which only functions stand behind names, so do the names of these
+pub names_differ : (side : WorldSide) (xs : List ScopeName) (fns : List SourceFunction) (order : List ℕ) → AllDiffer (map called_key (side_called side xs (map SideFunction fns) order)) → AllDiffer (map function_name (on_side side fns))
 names_differ side xs fns order keys = differ_by function_name (on_side side fns) (λ i j x y at_x at_y same. (
     let names = map name_called (names_on side (in_turn xs order)) in
     let ours = on_side side fns in
-    let places = differ_at called_key (side_called side xs fns order) keys (length names + i) (length names + j) (function_called x) (function_called y) (at_back names (map function_called ours) i (function_called x) (slice_get-map function_called ours i ∙ ap (option_map function_called) at_x)) (at_back names (map function_called ours) j (function_called y) (slice_get-map function_called ours j ∙ ap (option_map function_called) at_y)) (ap folded_key same) in
+    let all = names ++ map function_called ours in
+    let whole : side_called side xs (map SideFunction fns) order ≡ all = ap (λ (l : List Called). names ++ l) (called_functions side fns) in
+    let apart : AllDiffer (map called_key all) = subst (λ (l : List Called). AllDiffer (map called_key l)) whole keys in
+    let places = differ_at called_key all apart (length names + i) (length names + j) (function_called x) (function_called y) (at_back names (map function_called ours) i (function_called x) (slice_get-map function_called ours i ∙ ap (option_map function_called) at_x)) (at_back names (map function_called ours) j (function_called y) (slice_get-map function_called ours j ∙ ap (option_map function_called) at_y)) (ap folded_key same) in
     omega arith))
 
 -- functions of the package have the names of the written ones

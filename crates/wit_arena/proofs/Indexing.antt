@@ -9,8 +9,8 @@ use Rattle.wit_model.specs.declared.interface.Interface.{Interface}
 use Rattle.wit_model.specs.declared.world.World.{World}
 use Rattle.wit_syntax.specs.Address.{Address, InterfaceNamed, WorldNamed, is_foreign}
 use Rattle.wit_arena.specs.Resolving.{Names, Cell, cell_at, cell, cells, env_of, IsIndex, IsWorldIndex}
-use Rattle.wit_arena.specs.Resolved.{worlds_at}
-use Rattle.wit_syntax.proofs.Lists.{at_front, at_seam, at_either}
+use Rattle.wit_arena.specs.Resolved.{interfaces_at, worlds_at}
+use Rattle.wit_syntax.proofs.Lists.{at_front, at_seam, at_either, map_map}
 use Rattle.wit_syntax.proofs.Names.{name_cases, name_itself, lookup-insert_entry}
 
 -- what a name finds once another one was put into the table, and what that one finds
@@ -66,6 +66,13 @@ length-cells : (ss : List Address) (is : List Interface) → length ss ≤ lengt
 length-cells [] is enough = length-map is cell
 length-cells (s ∷ ss) [] enough = absurd (let f : ⊥ = omega arith in f)
 length-cells (s ∷ ss) (i ∷ is) enough = ap suc (length-cells ss is (omega arith))
+
+-- the addresses of interfaces: those of other packages, and then by their names
+pub interfaces_at-append : (ss : List Address) (front is : List Interface) → length front ≡ length ss → interfaces_at ss (front ++ is) ≡ ss ++ map (λ (i : Interface). (cell i).address) is
+interfaces_at-append [] [] is count = map_map (λ (c : Cell). c.address) cell is
+interfaces_at-append [] (i ∷ front) is count = absurd (let f : ⊥ = omega arith in f)
+interfaces_at-append (s ∷ ss) [] is count = absurd (let f : ⊥ = omega arith in f)
+interfaces_at-append (s ∷ ss) (i ∷ front) is count = ap (λ l. s ∷ l) (interfaces_at-append ss front is (omega arith))
 
 -- the interface of a cell in front, and its address
 pub front_cell : (ss : List Address) (front : List Interface) (t : ℕ) (c : Cell) → length front ≡ length ss → slice_get (cells ss front) t ≡ Some c → (s : Address) × (i : Interface) × (slice_get ss t ≡ Some s) × (slice_get front t ≡ Some i) × (c ≡ cell_at s i)

@@ -31,7 +31,7 @@ use Rattle.wit_arena.proofs.Interfaces.{AreItems, scope_of, functions_of, name_a
 -- The first of some items, in their orders, are these scopes, and these are their entries in an arena: `Owner` is whom the package
 -- knows by a place in it, `Says` is what holds of an entry, `entry_cell` is the scope that it is, and `Makes` is what it makes of the
 -- functions of a scope.
-pub record AreLaid {X : Type 0} (Owner : ℕ → TypeOwner) (Says : Ordered → X → Type 0) (entry_cell : X → Cell) (Makes : DoneScope → X → Type 0) (ws : List Item) (os : List Ordered) (xs : List X) (cs : List DoneScope) : Type 0 where
+pub record AreLaid {X : Type 0} (Owner : ℕ → TypeOwner) (Says : Ordered → X → Type 0) (entry_cell : X → Cell) (Makes : Ordered → DoneScope → X → Type 0) (ws : List Item) (os : List Ordered) (xs : List X) (cs : List DoneScope) : Type 0 where
   pub count : length xs ≡ length os
   pub front : (t : ℕ) (o : Ordered) → slice_get os t ≡ Some o → slice_get ws t ≡ Some o.item
   pub least : (t : ℕ) (o : Ordered) → slice_get os t ≡ Some o → IsOrder (rows_of (scope_names o.item)) o.order
@@ -39,13 +39,13 @@ pub record AreLaid {X : Type 0} (Owner : ℕ → TypeOwner) (Says : Ordered → 
   pub turns : map turn_of cs ≡ map turned os
   pub types : map cell_of cs ≡ map entry_cell xs
   pub whose : (t : ℕ) (c : DoneScope) → slice_get cs t ≡ Some c → c.owner ≡ Owner t
-  pub makes : (t : ℕ) (c : DoneScope) (x : X) → slice_get cs t ≡ Some c → slice_get xs t ≡ Some x → Makes c x
+  pub makes : (t : ℕ) (o : Ordered) (c : DoneScope) (x : X) → slice_get os t ≡ Some o → slice_get cs t ≡ Some c → slice_get xs t ≡ Some x → Makes o c x
 
 abbrev pub done_required : DoneScope → List Required
 done_required c = c.required
 
 -- the first of some items are done, in some orders of their names, behind others that are, and these are required in them
-pub record AreDone {X : Type 0} (Owner : ℕ → TypeOwner) (Says : Ordered → X → Type 0) (entry_cell : X → Cell) (Makes : DoneScope → X → Type 0) (files : List PackageFile) (decls : Decls) (base : List Ordered) (first : List DoneScope) (ws us : List Item) (es : List TypeDef) (xs : List X) (rs : List Required) : Type 0 where
+pub record AreDone {X : Type 0} (Owner : ℕ → TypeOwner) (Says : Ordered → X → Type 0) (entry_cell : X → Cell) (Makes : Ordered → DoneScope → X → Type 0) (files : List PackageFile) (decls : Decls) (base : List Ordered) (first : List DoneScope) (ws us : List Item) (es : List TypeDef) (xs : List X) (rs : List Required) : Type 0 where
   pub ordered : List Ordered
   pub scopes : List DoneScope
   pub all : map item_of ordered ≡ us
@@ -53,7 +53,7 @@ pub record AreDone {X : Type 0} (Owner : ℕ → TypeOwner) (Says : Ordered → 
   pub required : flat_map done_required scopes ≡ rs
   pub done : IsDone files decls (all_meetings files (base ++ ordered)) (first ++ scopes) es
 
-module _ {X : Type 0} {Owner : ℕ → TypeOwner} {Says : Ordered → X → Type 0} {entry_cell : X → Cell} {Makes : DoneScope → X → Type 0} {ws : List Item} {os : List Ordered} {xs : List X} {cs : List DoneScope} (l : AreLaid Owner Says entry_cell Makes ws os xs cs) where
+module _ {X : Type 0} {Owner : ℕ → TypeOwner} {Says : Ordered → X → Type 0} {entry_cell : X → Cell} {Makes : Ordered → DoneScope → X → Type 0} {ws : List Item} {os : List Ordered} {xs : List X} {cs : List DoneScope} (l : AreLaid Owner Says entry_cell Makes ws os xs cs) where
   -- the scope of an item, and the item of a scope
   pub scope_at : (t : ℕ) (o : Ordered) → slice_get os t ≡ Some o → (c : DoneScope) × (slice_get cs t ≡ Some c) × (turn_of c ≡ turned o)
   scope_at t o at = map_at turn_of cs t (turned o) (ap (λ (x : List Turned). slice_get x t) l.turns ∙ slice_get-map turned os t ∙ ap (option_map turned) at)
@@ -95,7 +95,7 @@ module _ {X : Type 0} {Owner : ℕ → TypeOwner} {Says : Ordered → X → Type
 abbrev pub laid_scope : TypeOwner → Ordered → Names → List Function → List (FunctionKey × Function) → List Required → DoneScope
 laid_scope o i types made stated rs = record { address = address i.item; owner = o; names = ordered_names i; types = types; functions = functions i.item; made = made; stated = stated; required = rs }
 
-module _ {X : Type 0} (Owner : ℕ → TypeOwner) (Says : Ordered → X → Type 0) (entry_cell : X → Cell) (Makes : DoneScope → X → Type 0) (ws : List Item) where
+module _ {X : Type 0} (Owner : ℕ → TypeOwner) (Says : Ordered → X → Type 0) (entry_cell : X → Cell) (Makes : Ordered → DoneScope → X → Type 0) (ws : List Item) where
   pub laid_none : AreLaid Owner Says entry_cell Makes ws [] [] []
   laid_none = record {
     count = refl;
@@ -105,11 +105,11 @@ module _ {X : Type 0} (Owner : ℕ → TypeOwner) (Says : Ordered → X → Type
     turns = refl;
     types = refl;
     whose = λ t c at. absurd (let f : ⊥ = cc in f);
-    makes = λ t c i at. absurd (let f : ⊥ = cc in f);
+    makes = λ t o c i at. absurd (let f : ⊥ = cc in f);
   }
 
   -- one more
-  pub laid_more : (os : List Ordered) (xs xs' : List X) (cs : List DoneScope) (o : Ordered) (c : DoneScope) (added : X) → AreLaid Owner Says entry_cell Makes ws os xs cs → slice_get ws (length os) ≡ Some o.item → IsOrder (rows_of (scope_names o.item)) o.order → xs' ≡ xs ++ added ∷ [] → Says o added → turn_of c ≡ turned o → cell_of c ≡ entry_cell added → c.owner ≡ Owner (length xs) → Makes c added → AreLaid Owner Says entry_cell Makes ws (os ++ o ∷ []) xs' (cs ++ c ∷ [])
+  pub laid_more : (os : List Ordered) (xs xs' : List X) (cs : List DoneScope) (o : Ordered) (c : DoneScope) (added : X) → AreLaid Owner Says entry_cell Makes ws os xs cs → slice_get ws (length os) ≡ Some o.item → IsOrder (rows_of (scope_names o.item)) o.order → xs' ≡ xs ++ added ∷ [] → Says o added → turn_of c ≡ turned o → cell_of c ≡ entry_cell added → c.owner ≡ Owner (length xs) → Makes o c added → AreLaid Owner Says entry_cell Makes ws (os ++ o ∷ []) xs' (cs ++ c ∷ [])
   laid_more os xs xs' cs o c added l next least last says turn of whose makes =
       let count = l.count in
       let long = same_length cs xs l.types in
@@ -130,9 +130,31 @@ module _ {X : Type 0} (Owner : ℕ → TypeOwner) (Says : Ordered → X → Type
           | inl old ↦ l.whose t b old
           | inr new ↦ rw (new.1, new.0) (whose ∙ ap Owner (sym long))
         ];
-        makes = λ t b x at there. both cs b c (λ q y. Makes q y) (sym long) t x at (ap (λ (y : List X). slice_get y t) (sym last) ∙ there) (λ old_b old_x. l.makes t b x old_b old_x) makes;
+        makes = λ t p b x at_o at_c there. made t p b x long count at_o at_c (ap (λ (y : List X). slice_get y t) (sym last) ∙ there);
       }
     where
+      made : (t : ℕ) (p : Ordered) (b : DoneScope) (x : X) → length cs ≡ length xs → length xs ≡ length os → slice_get (os ++ o ∷ []) t ≡ Some p → slice_get (cs ++ c ∷ []) t ≡ Some b → slice_get (xs ++ added ∷ []) t ≡ Some x → Makes p b x
+      made t p b x long count at_o at_c at_x = elim (at_either os o t p at_o) [
+        | inl old ↦ (
+            let lt = slice_get_within os t p old in
+            elim (at_either cs c t b at_c) [
+              | inl old_c ↦ elim (at_either xs added t x at_x) [
+                | inl old_x ↦ l.makes t p b x old old_c old_x
+                | inr new_x ↦ absurd (let is = new_x.0 in let f : ⊥ = omega arith in f)
+              ]
+              | inr new_c ↦ absurd (let is = new_c.0 in let f : ⊥ = omega arith in f)
+            ])
+        | inr new ↦ (
+            let here = new.0 in
+            elim (at_either cs c t b at_c) [
+              | inl old_c ↦ absurd (let lt = slice_get_within cs t b old_c in let f : ⊥ = omega arith in f)
+              | inr new_c ↦ elim (at_either xs added t x at_x) [
+                | inl old_x ↦ absurd (let lt = slice_get_within xs t x old_x in let f : ⊥ = omega arith in f)
+                | inr new_x ↦ rw (new.1, new_c.1, new_x.1) makes
+              ]
+            ])
+      ]
+
       same_length : (cs : List DoneScope) (xs : List X) → map cell_of cs ≡ map entry_cell xs → length cs ≡ length xs
       same_length cs xs same = sym (length-map cs cell_of) ∙ ap length same ∙ length-map xs entry_cell
 
@@ -172,7 +194,7 @@ more_meetings files base os o =
 more_required : (cs : List DoneScope) (c : DoneScope) (rs ss : List Required) → flat_map done_required cs ≡ rs → c.required ≡ ss → flat_map done_required (cs ++ c ∷ []) ≡ rs ++ ss
 more_required cs c rs ss before own = flat_map-append done_required cs (c ∷ []) ∙ ap (λ (x : List Required). x ++ (c.required ++ [])) before ∙ ap (λ (x : List Required). rs ++ x) (append-nil c.required ∙ own)
 
-module _ {X : Type 0} (Owner : ℕ → TypeOwner) (Says : Ordered → X → Type 0) (entry_cell : X → Cell) (Makes : DoneScope → X → Type 0) (files : List PackageFile) (decls : Decls) (base : List Ordered) (first : List DoneScope) (ws : List Item) where
+module _ {X : Type 0} (Owner : ℕ → TypeOwner) (Says : Ordered → X → Type 0) (entry_cell : X → Cell) (Makes : Ordered → DoneScope → X → Type 0) (files : List PackageFile) (decls : Decls) (base : List Ordered) (first : List DoneScope) (ws : List Item) where
   abbrev pub Done : List Item → List TypeDef → List X → List Required → Type 0
   Done us es xs rs = AreDone Owner Says entry_cell Makes files decls base first ws us es xs rs
 
@@ -192,7 +214,7 @@ module _ {X : Type 0} (Owner : ℕ → TypeOwner) (Says : Ordered → X → Type
     pub last : xs' ≡ xs ++ added ∷ []
     pub says : map (λ p. p.0) types ≡ local_names (in_turn (scope_names w) order) → Says (record { item = w; order = order }) added
     pub is_cell : map (λ p. p.0) types ≡ local_names (in_turn (scope_names w) order) → record { address = address w; types = types; functions = free_of stated } ≡ entry_cell added
-    pub makes : map (λ p. p.0) types ≡ local_names (in_turn (scope_names w) order) → Makes (laid_scope (Owner (length xs)) (record { item = w; order = order }) types made stated rs) added
+    pub makes : map (λ p. p.0) types ≡ local_names (in_turn (scope_names w) order) → Makes (record { item = w; order = order }) (laid_scope (Owner (length xs)) (record { item = w; order = order }) types made stated rs) added
 
   module _ (items : AreItems files ws) (own : (t : ℕ) (w : Item) → slice_get ws t ≡ Some w → decls (address w) ≡ decls_of (Owner t) (address w) (scope files (address w))) (apart : (t : ℕ) (w : Item) → slice_get ws t ≡ Some w → (k : ℕ) (c : DoneScope) → slice_get first k ≡ Some c → c.address ≡ address w → ⊥) where
     -- one item more

@@ -4,7 +4,6 @@ use Rattle.std.specs.Prelude.{slice_get, slice_index, map}
 use Rattle.std.specs.List.{filter, flat_map}
 use Rattle.std.specs.Option.{option_map}
 use Rattle.std.specs.Str.{bytes_eq}
-use Rattle.std.proofs.lemmas.Bool.{cases_Bool}
 use Rattle.std.proofs.lemmas.List.{take-append-drop}
 use Rattle.std.proofs.lemmas.List.Elements.{filter-append}
 use Rattle.std.proofs.lemmas.Option.{slice_get-get_or, slice_get_within, get_or_from_slice_get}
@@ -20,12 +19,12 @@ use Rattle.wit_tree.specs.declared.tree.PackageFile.{PackageFile}
 use Rattle.wit_package_names.specs.declared.package_name.PackageName.{PackageName}
 use Rattle.wit_order.specs.Table.{Row, target, IsEdge, Leads, IsOrder}
 use Rattle.wit_order.proofs.Tables.{slice_get-take}
-use Rattle.wit_syntax.specs.Fault.{Fault, fault, missing_at, item_word}
 use Rattle.wit_syntax.specs.Address.{Address, InterfaceNamed, ForeignNamed, is_foreign}
-use Rattle.wit_syntax.specs.Source.{Declared, TheInterface, TheWorld, is_declared_world, Part, Defining, Using, Including, Doing, Crossing, interface_part, declared_parts, path_id, Target, Local, Foreign, leads, used_scope, path_scope, Item, Used, all_items, item_name, is_world, parts, item_named, scope_names, taking, takings}
+use Rattle.wit_syntax.specs.Source.{Declared, TheInterface, TheWorld, is_declared_world, Part, Defining, Using, Including, Doing, Crossing, interface_part, declared_parts, Target, Local, Foreign, leads, used_scope, path_scope, Item, Used, all_items, item_name, is_world, parts, item_named, scope_names, taking, takings}
 use Rattle.wit_syntax.specs.Foreign.{ForeignVisit, visited, foreign_interfaces}
 use Rattle.wit_syntax.specs.Scope.{in_order, use_path, include_path, use_paths, include_paths, needed_path, local_target, item_row, item_rows, part_includes, includes}
-use Rattle.wit_syntax.specs.Broken.{is_world_at, IsBrokenUse, MissingUse, WorldUsed}
+use Rattle.wit_syntax.specs.Broken.{is_world_at}
+use Rattle.wit_arena.specs.Resolved.{AreUsableUses}
 use Rattle.wit_syntax.specs.Repeats.{AllDiffer}
 use Rattle.wit_syntax.proofs.Lists.{at_front, at_within, flat_map_has}
 use Rattle.wit_syntax.proofs.Names.{name_equal}
@@ -35,7 +34,7 @@ use Rattle.wit_syntax.proofs.Found.{at_contains, contains_at, some_of, find_at, 
 use Rattle.wit_syntax.proofs.Kept.{kept_has}
 use Rattle.wit_arena.proofs.Itemizing.{named_found, used_part, length-item_rows}
 use Rattle.wit_syntax.proofs.Rows.{item_row_at}
-use Rattle.wit_arena.proofs.Visits.{use_path_at, used_interface_visit}
+use Rattle.wit_arena.proofs.Visits.{use_at, use_path_at, used_interface_visit}
 use Rattle.wit_arena.proofs.Takings.{taking_has}
 
 pub same_some : {X : Type 0} (o : Option X) (x y : X) → o ≡ Some x → o ≡ Some y → x ≡ y
@@ -176,13 +175,16 @@ module _ (files : List PackageFile) where
     pub index : ℕ
     pub taken : slice_get (takings files) index ≡ Some (taking from attributes n)
 
-  module _ (uses : (i : Item) → Contains all i → (f : Fault) → IsBrokenUse files i f → ⊥) where
-    -- where no use is broken, none leads to a world
-    pub used_is_interface : (w v : Item) (path : UsePath) (id : Id) → Contains all w → Contains (use_paths w) path → leads w.top path ≡ Local id → item_named all id.name.now ≡ Some v → is_world v ≡ false
-    used_is_interface w v path id here among lead found = elim (cases_Bool (is_world v)) [
-      | inl wrong ↦ absurd (uses w here (fault 10 (path_id path).span) (WorldUsed (record { path = path; among = among; other = ap (is_world_at files) lead ∙ ap (option_map is_world) found ∙ ap Some wrong; is = refl })))
-      | inr right ↦ right
-    ]
+  module _ (uses : AreUsableUses files all) where
+    -- where uses lead to interfaces, none leads to a world
+    used_leads : (w : Item) (m : ℕ) (u : Use) (id : Id) → Contains all w → slice_get (parts w) m ≡ Some (Using u) → leads w.top u.from ≡ Local id → option_map is_world (item_named all id.name.now) ≡ Some false
+    used_leads w m u id here part lead = sym (ap (is_world_at files) lead) ∙ uses.usable w u here (use_at w m u part)
+
+    pub used_is_interface : (w v : Item) (m : ℕ) (u : Use) (id : Id) → Contains all w → slice_get (parts w) m ≡ Some (Using u) → leads w.top u.from ≡ Local id → item_named all id.name.now ≡ Some v → is_world v ≡ false
+    used_is_interface w v m u id here part lead found =
+        let both : Some (is_world v) ≡ Some false = sym (ap (option_map is_world) found) ∙ used_leads w m u id here part lead in
+        let right : is_world v ≡ false = cc in
+        right
 
     -- what leads to another package is taken from it
     foreign_use : (q : ℕ) (w : Item) (m : ℕ) (u : Use) (j : ℕ) (n : UseName) (p : PackageName) (id : Id) → slice_get all q ≡ Some w → slice_get (parts w) m ≡ Some (Using u) → slice_get u.names.items j ≡ Some n → leads w.top u.from ≡ Foreign p id → IsForeignUse (path_scope w.top u.from) n
@@ -205,8 +207,11 @@ module _ (files : List PackageFile) where
             option_cases (item_named all id.name.now) (IsOwnUse from ⊎ IsForeignUse from n) (λ v found. (
             let p = find_at (λ (i : Item). bytes_eq (item_name i) id.name.now) all v found in
             let called = name_equal (item_name v) id.name.now (find_passes (λ (i : Item). bytes_eq (item_name i) id.name.now) all v found) in
-            inl (record { place = p.0; item = v; at = p.1; sort = used_is_interface w v u.from id here (use_path_at w m u part) lead found; is = is ∙ ap used_scope lead ∙ ap InterfaceNamed (sym called) })))
-            (λ none. absurd (uses w here (missing_at 7 item_word id) (MissingUse (record { path = u.from; id = id; among = use_path_at w m u part; local = lead; missing = none; is = refl }))))
+            inl (record { place = p.0; item = v; at = p.1; sort = used_is_interface w v m u id here part lead found; is = is ∙ ap used_scope lead ∙ ap InterfaceNamed (sym called) })))
+            (λ none. absurd (
+            let wrong : None ≡ Some false = sym (ap (option_map is_world) none) ∙ used_leads w m u id here part lead in
+            let f : ⊥ = cc in
+            f))
         by_target q m u j at part name is (Foreign p id) lead = inr (subst (λ (s : Address). IsForeignUse s n) (sym is) (foreign_use q w m u j n p id at part name lead))
 
     -- what an interface of the package uses from stands before it in the order, or is of another package
@@ -218,9 +223,8 @@ module _ (files : List PackageFile) where
       where
         by_target : (m : ℕ) (u : Use) (j : ℕ) → slice_get (parts w) m ≡ Some (Using u) → slice_get u.names.items j ≡ Some n → from ≡ path_scope w.top u.from → (t : Target) → leads w.top u.from ≡ t → IsUseBefore places k from ⊎ IsForeignUse from n
         by_target m u j part name is (Local id) lead =
-            let among = use_path_at w m u part in
-            let b = needed_before places order k p w u.from id next at (subst (λ (l : List UsePath). Contains l u.from) (sym (paths_of_interface w sort)) among) lead in
+            let b = needed_before places order k p w u.from id next at (subst (λ (l : List UsePath). Contains l u.from) (sym (paths_of_interface w sort)) (use_path_at w m u part)) lead in
             let found = named_at differ id.name.now b.1 b.2 b.5 b.6 in
-            let right = used_is_interface w b.2 u.from id (contains_at all p w at) among lead found in
+            let right = used_is_interface w b.2 m u id (contains_at all p w at) part lead found in
             inl (record { own = record { place = b.1; item = b.2; at = b.5; sort = right; is = is ∙ ap used_scope lead ∙ ap InterfaceNamed b.6 }; index = b.0; before = b.3; at = b.4 })
         by_target m u j part name is (Foreign q id) lead = inr (subst (λ (s : Address). IsForeignUse s n) (sym is) (foreign_use p w m u j n q id at part name lead))

@@ -9,6 +9,7 @@ pub mod Signatures
 pub mod AddingFunctions
 pub mod Placed
 pub mod MadeOn
+pub mod SideItems
 pub mod FreeNames
 pub mod Stating
 pub mod Defining
@@ -46,4 +47,5 @@ pub mod Upheld
 pub mod Finished
 pub mod Deps
 pub mod Packaged
+pub mod Linked
 pub mod Resolved

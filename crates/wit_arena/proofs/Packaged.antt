@@ -30,13 +30,13 @@ use Rattle.wit_syntax.specs.Repeats.{AllDiffer}
 use Rattle.wit_model.specs.declared.function.Function.{Function}
 use Rattle.wit_syntax.specs.Function.{functions}
 use Rattle.wit_tree.specs.declared.tree.WorldSide.TheVariants.{Imported, Exported}
-use Rattle.wit_syntax.specs.Function.{SourceFunction}
-use Rattle.wit_syntax.specs.Sides.{function_key}
-use Rattle.wit_arena.specs.Functions.{AreFunctions, placed_functions, function_item, made_on}
+use Rattle.wit_syntax.specs.Sides.{function_key, side_items}
+use Rattle.wit_arena.specs.Functions.{AreFunctions, placed_functions}
+use Rattle.wit_arena.specs.SideItems.{AreSideItems}
 use Rattle.wit_syntax.specs.Scope.{item_rows, rows_of, in_order, interfaces_of, worlds_of}
 use Rattle.wit_syntax.specs.Broken.{headers, last_header}
 use Rattle.wit_arena.specs.Package.{owner_of, names_of, functions_of, named_interface, interface_owner, named_world, world_owner, interface_types, interface_functions, import_types, world_types, item_functions, keyed, world_functions}
-use Rattle.wit_arena.specs.Whole.{Ordered, Turned, item_of, ordered_names, turned, turn_handles, AreRequired, meetings, all_meetings, type_imports, addresses, interface_addresses, world_addresses, declarations, HasTypes, AreIncludes, foreign_turned, AreForeignInterfaces, AreInterfaces, AreWorlds, IsFaithful, NamesOthers, first_docs, IsPackage}
+use Rattle.wit_arena.specs.Whole.{Ordered, Turned, item_of, ordered_names, turned, turn_handles, AreRequired, meetings, all_meetings, type_imports, addresses, interface_addresses, world_addresses, declarations, HasTypes, AreIncludes, HasSides, foreign_turned, AreForeignInterfaces, AreInterfaces, AreWorlds, IsFaithful, NamesOthers, first_docs, IsPackage}
 use Rattle.wit_arena.specs.Resolving.{Names, Cell, Required, cell}
 use Rattle.wit_arena.specs.Resolved.{AddsForeign}
 use Rattle.wit_syntax.proofs.Lists.{at_front, at_back, at_split, at_within, map_map}
@@ -45,7 +45,7 @@ use Rattle.wit_arena.proofs.Standing.{DoneScope, turn_of, cell_of}
 use Rattle.wit_arena.proofs.Front.{interface_scope, world_scope, interface_scopes, world_scopes, front_scopes, interface_scope_at, world_scope_at, front_at, FrontInterface, FrontWorld}
 use Rattle.wit_arena.proofs.Deps.{foreign_interface_owner, foreign_world_owner}
 use Rattle.wit_arena.proofs.Laid.{done_required, required_in_turn, scope_at, ordered_at, entry_of, scope_of_entry}
-use Rattle.wit_arena.proofs.Added.{world_cell, decls, InterfacesDone, WorldsDone}
+use Rattle.wit_arena.proofs.Added.{world_cell, interface_list, decls, InterfacesDone, WorldsDone}
 use Rattle.wit_arena.proofs.Required.{required_append}
 use Rattle.wit_arena.proofs.Stated.{has_types}
 use Rattle.wit_arena.proofs.Faithful.{IsOwnerOf, AreOwners, one_type, faithful}
@@ -156,12 +156,14 @@ module _ (files : List PackageFile) (is ws : List Item) (start middle : List Typ
   interface_functions_at : (t : ℕ) (c : DoneScope) → slice_get d.scopes t ≡ Some c → functions_of p c.owner ≡ c.stated
   interface_functions_at t c at =
       let i = entry_of d.laid t c at in
-      ap (functions_of p) (d.laid.whose t c at) ∙ ap (λ (o : Option Interface). option_map_or interface_functions o []) (interface_behind t i.0 i.1) ∙ sym (d.laid.makes t c i.0 at i.1).stated
+      let o = ordered_at d.laid t c at in
+      ap (functions_of p) (d.laid.whose t c at) ∙ ap (λ (o : Option Interface). option_map_or interface_functions o []) (interface_behind t i.0 i.1) ∙ sym (d.laid.makes t o.0 c i.0 o.1 at i.1).stated
 
   world_functions_at : (t : ℕ) (c : DoneScope) → slice_get e.scopes t ≡ Some c → functions_of p c.owner ≡ c.stated
   world_functions_at t c at =
       let w = entry_of e.laid t c at in
-      ap (functions_of p) (e.laid.whose t c at) ∙ ap (λ (o : Option World). option_map_or world_functions o []) (world_behind t w.0 w.1) ∙ sym (e.laid.makes t c w.0 at w.1).stated
+      let o = ordered_at e.laid t c at in
+      ap (functions_of p) (e.laid.whose t c at) ∙ ap (λ (o : Option World). option_map_or world_functions o []) (world_behind t w.0 w.1) ∙ sym (e.laid.makes t o.0 c w.0 o.1 at w.1).stated
 
   called_at : (t : ℕ) (c : DoneScope) → slice_get scopes t ≡ Some c → owner_of p c.owner ≡ OfScope c.address
   called_at t c at = elim (at_part (ahead ++ d.scopes) e.scopes t c at) [
@@ -271,9 +273,10 @@ module _ (files : List PackageFile) (is ws : List Item) (start middle : List Typ
   interface_makes t o i at there =
       let c = scope_at d.laid t o at in
       let k = length ahead + t in
-      (c.0.made, functions_made k c.0 o (at_front (ahead ++ d.scopes) e.scopes k c.0 (at_back ahead d.scopes t c.0 c.1)) c.2, (d.laid.makes t c.0 i c.1 there).functions)
+      (c.0.made, functions_made k c.0 o (at_front (ahead ++ d.scopes) e.scopes k c.0 (at_back ahead d.scopes t c.0 c.1)) c.2, (d.laid.makes t o c.0 i at c.1 there).functions)
 
-  world_makes : (t : ℕ) (o : Ordered) (w : World) → slice_get e.ordered t ≡ Some o → slice_get ys t ≡ Some w → (fs : List Function) × AreFunctions met_keys (address o.item) (functions o.item) fs × (w.imports ≡ type_imports (ordered_names o) (world_types w) ++ map function_item (made_on Imported (functions o.item) fs)) × (w.exports ≡ map function_item (made_on Exported (functions o.item) fs))
+  -- what an entry has on its sides
+  world_makes : (t : ℕ) (o : Ordered) (w : World) → slice_get e.ordered t ≡ Some o → slice_get ys t ≡ Some w → HasSides met_keys (interface_addresses files d.ordered) o w
   world_makes t o w at there =
       let c = scope_at e.laid t o at in
       let k = length (ahead ++ d.scopes) + t in
@@ -282,10 +285,17 @@ module _ (files : List PackageFile) (is ws : List Item) (start middle : List Typ
       let one : c.0 ≡ j.0 = cc in
       let types : c.0.types ≡ world_types w = ap (λ (x : DoneScope). x.types) one ∙ sym (types_of_cell j.0 (world_cell w) (sym j.2)) in
       let names : c.0.names ≡ ordered_names o = ap (λ (x : Turned). x.names) c.2 in
-      let makes = e.laid.makes t c.0 w c.1 there in
-      let own : c.0.functions ≡ functions o.item = ap (λ (x : Turned). x.functions) c.2 in
-      let imported = map function_item (made_on Imported c.0.functions c.0.made) in
-      (c.0.made, functions_made k c.0 o (at_back (ahead ++ d.scopes) e.scopes t c.0 c.1) c.2, makes.imports ∙ ap (λ (l : List ScopeName). type_imports l c.0.types ++ imported) names ∙ ap (λ (l : Names). type_imports (ordered_names o) l ++ imported) types ∙ ap (λ (l : List SourceFunction). type_imports (ordered_names o) (world_types w) ++ map function_item (made_on Imported l c.0.made)) own, makes.exports ∙ ap (λ (l : List SourceFunction). map function_item (made_on Exported l c.0.made)) own)
+      let makes = e.laid.makes t o c.0 w at c.1 there in
+      let fore = map visited (foreign_interfaces files) in
+      let same : interface_list files is ≡ interface_addresses files d.ordered = ap (λ (l : List Address). fore ++ l) (ordered_addresses d.ordered is d.all) in
+      record {
+        functions = c.0.made;
+        are = functions_made k c.0 o (at_back (ahead ++ d.scopes) e.scopes t c.0 c.1) c.2;
+        imported = makes.imported;
+        imports = makes.imports ∙ ap (λ (l : List ScopeName). type_imports l c.0.types ++ makes.imported) names ∙ ap (λ (l : Names). type_imports (ordered_names o) l ++ makes.imported) types;
+        are_imported = subst (λ (l : List Address). AreSideItems l o.item.top Imported (side_items o.item) c.0.made makes.imported) same makes.are_imported;
+        are_exported = subst (λ (l : List Address). AreSideItems l o.item.top Exported (side_items o.item) c.0.made w.exports) same makes.are_exported;
+      }
 
   foreign_interfaces_are : AreForeignInterfaces files met_keys (foreign_interfaces files) front
   foreign_interfaces_are = record {
@@ -297,7 +307,7 @@ module _ (files : List PackageFile) (is ws : List Item) (start middle : List Typ
   interfaces_are : AreInterfaces met_keys d.ordered xs
   interfaces_are = record { count = d.laid.count; says = d.laid.says; types = interface_types_at; functions = interface_makes }
 
-  worlds_are : AreWorlds met_keys (world_addresses files e.ordered) e.ordered ys
+  worlds_are : AreWorlds met_keys (interface_addresses files d.ordered) (world_addresses files e.ordered) e.ordered ys
   worlds_are = record {
     count = e.laid.count;
     says = λ t o w at there. (e.laid.says t o w at there).says;

@@ -1,5 +1,5 @@
 -- Files whose interfaces and then worlds were added: no rule is broken, and they are a package that is faithful to them.
-use Rattle.std.proofs.Common.{◌≡◌, ◌<◌, ℕ, Bool, true, false, not, List, ◌++◌, Some, None, map, inl, inr, refl, sym, ap, ◌∙◌, subst, arith, Contains}
+use Rattle.std.proofs.Common.{◌≡◌, ◌<◌, ℕ, Bool, true, false, not, List, [], ◌++◌, Some, None, map, inl, inr, refl, sym, ap, ◌∙◌, subst, arith, Contains}
 use Rattle.std.specs.Prelude.{slice_get}
 use Rattle.std.specs.Option.{option_map}
 use Rattle.std.proofs.lemmas.Bool.{cases_Bool}
@@ -22,21 +22,22 @@ use Rattle.wit_syntax.specs.Foreign.{visited, is_foreign_world, foreign_interfac
 use Rattle.wit_syntax.specs.Scope.{in_order, uses as uses_of, include_paths, includes, item_rows, interfaces_of, worlds_of, rows_of}
 use Rattle.std.specs.List.{filter, flat_map}
 use Rattle.wit_arena.specs.Meet.{keys}
-use Rattle.wit_syntax.specs.Function.{functions}
 use Rattle.wit_arena.specs.Resolving.{Required}
 use Rattle.wit_syntax.specs.Fault.{Fault, fault}
 use Rattle.wit_syntax.specs.Notes.{IsBrokenNotes}
-use Rattle.wit_syntax.specs.Broken.{IsDuplicateItem, is_world_at, IsInterfaceIncluded, IsBrokenNames, DuplicateItem, Items, IsBrokenUse, IsUnread, Headerless, Names, Unread, ItemStability, UseNotes, IncludeStability, Use, InterfaceIncluded, MissingName, FunctionUsed, Scope, Handle, Setter, IsLegal, headers, last_header}
+use Rattle.wit_syntax.specs.Broken.{IsDuplicateItem, is_world_at, IsInterfaceIncluded, IsBrokenNames, DuplicateItem, Items, IsUnread, Headerless, Names, Unread, ItemStability, UseNotes, IncludeStability, Use, InterfaceIncluded, MissingName, FunctionUsed, Scope, Sides, Handle, Setter, IsLegal, headers, last_header}
 use Rattle.wit_syntax.specs.Repeats.{AllDiffer}
 use Rattle.wit_arena.specs.Whole.{Ordered, Turned, item_of, turned, turn_handles, AreRequired, AreIncludes, NamesOthers, first_docs, IsPackage, IsFaithful}
-use Rattle.wit_arena.specs.Resolved.{AddsInterfaces, AddsWorlds, AddsForeign, AreLegalScopes, AreSoundScopes, IsBrokenItemStability, OwnStability, OfInclude, HaveLegalStability}
+use Rattle.wit_arena.specs.Resolved.{AddsInterfaces, AddsWorlds, AddsForeign, AreLegalScopes, AreLegalSides, AreUsableUses, AreUsableLinks, AreSoundScopes, IsBrokenItemStability, OwnStability, OfInclude, HaveLegalStability}
 use Rattle.wit_syntax.proofs.Lists.{at_within, map_at}
 use Rattle.wit_syntax.proofs.Headers.{some_header}
 use Rattle.wit_syntax.proofs.Turns.{at_part}
 use Rattle.wit_syntax.proofs.Repeated.{differ_by, differ_none}
 use Rattle.wit_syntax.proofs.Kept.{kept_at}
-use Rattle.wit_syntax.specs.Sides.{function_key}
-use Rattle.wit_syntax.proofs.Legal.{three_ways, functions_differ}
+use Rattle.wit_syntax.specs.Function.{SourceFunction}
+use Rattle.wit_syntax.specs.Sides.{function_key, side_items, Link, links, FoldedTwice}
+use Rattle.wit_syntax.proofs.Sides.{links_none}
+use Rattle.wit_syntax.proofs.Legal.{three_ways, functions_differ, functions_items}
 use Rattle.wit_arena.proofs.Standing.{DoneScope, turn_of}
 use Rattle.wit_arena.proofs.Front.{front_scopes, front_at, FrontInterface, FrontWorld}
 use Rattle.wit_syntax.proofs.Found.{at_contains, contains_at}
@@ -44,6 +45,7 @@ use Rattle.wit_arena.proofs.Interfaces.{AreItems, AreOfSort, world_address, inte
 use Rattle.wit_arena.proofs.Itemizing.{items_within, item_index}
 use Rattle.wit_syntax.proofs.Orders.{in_order_at}
 use Rattle.wit_arena.proofs.Visits.{world_visit, foreign_at-visited, visited_foreign, address_own}
+use Rattle.wit_arena.proofs.Linked.{no_broken_use}
 use Rattle.wit_arena.proofs.Leading.{include_at, interface_includes_none}
 use Rattle.wit_arena.proofs.Laid.{ordered_at, entry_of_item}
 use Rattle.wit_arena.proofs.Upheld.{IsItemDone, interface_done, world_done, names_stated, types_stated, handles_stated, names_meant, setters_paired}
@@ -106,7 +108,7 @@ module _ (files : List PackageFile) (ws : List Item) (items : AreItems files ws)
       let i = at_within is k.0 (omega arith) in
       included_world i.0.id (leads w.top path) ((says.each k.0 k.1 i.0 k.2 i.1).place ∙ ap (λ (x : UsePath). Some (included_scope (leads w.top x))) (sym k.3))
 
-module _ (files : List PackageFile) (places : List ℕ) (order : IsOrder (item_rows files) places) (names : (f : Fault) → IsBrokenNames files f → ⊥) (uses : (i : Item) → Contains (all_items files) i → (f : Fault) → IsBrokenUse files i f → ⊥) (es middle new : List TypeDef) (front is : List Interface) (wfront ws : List World) (irs wrs : List Required) (foreign : AddsForeign files es front wfront) (added : AddsInterfaces (map visited (foreign_interfaces files)) es middle front is irs (interfaces_of (in_order (all_items files) places))) (more : AddsWorlds (map visited (foreign_interfaces files)) (map visited (foreign_worlds files)) is middle new wfront ws wrs (worlds_of (in_order (all_items files) places))) where
+module _ (files : List PackageFile) (places : List ℕ) (order : IsOrder (item_rows files) places) (names : (f : Fault) → IsBrokenNames files f → ⊥) (uses : AreUsableUses files (all_items files)) (es middle new : List TypeDef) (front is : List Interface) (wfront ws : List World) (irs wrs : List Required) (foreign : AddsForeign files es front wfront) (added : AddsInterfaces (map visited (foreign_interfaces files)) es middle front is irs (interfaces_of (in_order (all_items files) places))) (more : AddsWorlds (map visited (foreign_interfaces files)) (map visited (foreign_worlds files)) is middle new wfront ws wrs (worlds_of (in_order (all_items files) places))) where
   abbrev differ : AllDiffer (map item_name (all_items files))
   differ = distinct_items files names
 
@@ -157,6 +159,13 @@ module _ (files : List PackageFile) (places : List ℕ) (order : IsOrder (item_r
     | inr other ↦ interface_includes_none w other h.path h.among
   ]
 
+  -- the paths of an item lead to interfaces where those by which worlds import and export do: an interface has none
+  link_usable : AreUsableLinks files ws_items → (w : Item) → Contains (all_items files) w → (link : Link) → Contains (links w) link → is_world_at files (leads w.top link.path) ≡ Some false
+  link_usable usable w among link linked = elim (cases_Bool (is_world w)) [
+    | inl world ↦ (let t = world_at files places order differ w world among in usable.usable t.0 w link t.1 linked)
+    | inr other ↦ absurd (let it = at_contains [] link (subst (λ (l : List Link). Contains l link) (links_none w other) linked) in let wrong = it.1 in let f : ⊥ = cc in f)
+  ]
+
   -- scopes that are sound by themselves are legal: each name in a signature means something
   pub scopes_legal : AreSoundScopes (in_order (all_items files) places) → AreLegalScopes (in_order (all_items files) places)
   scopes_legal scopes = record {
@@ -173,27 +182,32 @@ module _ (files : List PackageFile) (places : List ℕ) (order : IsOrder (item_r
       let t = item_index files places order p.0 w p.1 in
       stability.legal t.0 w f t.2 h
 
-  -- no rule is broken, where the scopes are legal by themselves, and the stability of items and the notes of their uses
-  pub files_legal : AreLegalScopes (in_order (all_items files) places) → HaveLegalStability (in_order (all_items files) places) → ((i : Item) → Contains (all_items files) i → (u : WrittenUse) → Contains (uses_of i) u → (f : Fault) → IsBrokenNotes u.attributes.items f → ⊥) → ((i : Item) → Contains (all_items files) i → (f : Fault) → IsUnread i f → ⊥) → (header : Header) → last_header files ≡ Some header → IsLegal files
-  files_legal scopes stability notes read header last f (Headerless h) =
+  -- no rule is broken, where the scopes are legal by themselves, what stands on the sides, the paths of links, the stability of items and the
+  -- notes of their uses
+  pub files_legal : AreLegalScopes (in_order (all_items files) places) → AreLegalSides (in_order (all_items files) places) → AreUsableLinks files ws_items → HaveLegalStability (in_order (all_items files) places) → ((i : Item) → Contains (all_items files) i → (u : WrittenUse) → Contains (uses_of i) u → (f : Fault) → IsBrokenNotes u.attributes.items f → ⊥) → ((i : Item) → Contains (all_items files) i → (f : Fault) → IsUnread i f → ⊥) → (header : Header) → last_header files ≡ Some header → IsLegal files
+  files_legal scopes sides usable stability notes read header last f (Headerless h) =
       let it = some_header files header last in
       let wrong : None ≡ Some header = sym (h.none it.0 it.1 it.2) ∙ it.3 in
       let g : ⊥ = cc in
       g
-  files_legal scopes stability notes read header last f (Unread i among h) = read i among f h
-  files_legal scopes stability notes read header last f (Names h) = names f h
-  files_legal scopes stability notes read header last f (ItemStability i among h) = stability_told stability i among f (OwnStability h)
-  files_legal scopes stability notes read header last f (UseNotes i among u used h) = notes i among u used f h
-  files_legal scopes stability notes read header last f (IncludeStability i among n included h) = stability_told stability i among f (OfInclude n included h)
-  files_legal scopes stability notes read header last f (Use i among h) = uses i among f h
-  files_legal scopes stability notes read header last f (InterfaceIncluded i among h) = includes_stated i among f h
-  files_legal scopes stability notes read header last f (MissingName i among h) = names_stated files is_items ws_items middle new front is_done.0 ws_done.0 irs wrs is_done.2 ws_done.2 i (item_done i among) f h
-  files_legal scopes stability notes read header last f (FunctionUsed i among h) = types_stated files is_items ws_items middle new front is_done.0 ws_done.0 irs wrs is_done.2 ws_done.2 i (item_done i among) f h
-  files_legal scopes stability notes read header last f (Handle i among h) = handles_stated files is_items ws_items middle new front is_done.0 ws_done.0 irs wrs is_done.2 ws_done.2 i (item_done i among) f h
-  files_legal scopes stability notes read header last f (Setter i among h) =
+  files_legal scopes sides usable stability notes read header last f (Unread i among h) = read i among f h
+  files_legal scopes sides usable stability notes read header last f (Names h) = names f h
+  files_legal scopes sides usable stability notes read header last f (ItemStability i among h) = stability_told stability i among f (OwnStability h)
+  files_legal scopes sides usable stability notes read header last f (UseNotes i among u used h) = notes i among u used f h
+  files_legal scopes sides usable stability notes read header last f (IncludeStability i among n included h) = stability_told stability i among f (OfInclude n included h)
+  files_legal scopes sides usable stability notes read header last f (Use i among h) = no_broken_use files i (λ u used. uses.usable i u among used) (λ link linked. link_usable usable i among link linked) f h
+  files_legal scopes sides usable stability notes read header last f (InterfaceIncluded i among h) = includes_stated i among f h
+  files_legal scopes sides usable stability notes read header last f (MissingName i among h) = names_stated files is_items ws_items middle new front is_done.0 ws_done.0 irs wrs is_done.2 ws_done.2 i (item_done i among) f h
+  files_legal scopes sides usable stability notes read header last f (FunctionUsed i among h) = types_stated files is_items ws_items middle new front is_done.0 ws_done.0 irs wrs is_done.2 ws_done.2 i (item_done i among) f h
+  files_legal scopes sides usable stability notes read header last f (Handle i among h) = handles_stated files is_items ws_items middle new front is_done.0 ws_done.0 irs wrs is_done.2 ws_done.2 i (item_done i among) f h
+  files_legal scopes sides usable stability notes read header last f (Setter i among h) =
       let t = interface_at files places order differ i h.interface among in
       setters_paired files is_items ws_items middle new front is_done.0 ws_done.0 irs wrs is_done.2 ws_done.2 t.0 i t.1 f h.alone
-  files_legal scopes stability notes read header last f (Scope i among h) =
+  files_legal scopes sides usable stability notes read header last f (Sides i among h) =
+      let p = at_contains (all_items files) i among in
+      let t = item_index files places order p.0 i p.1 in
+      sides.legal t.0 i f t.2 h
+  files_legal scopes sides usable stability notes read header last f (Scope i among h) =
       let p = at_contains (all_items files) i among in
       let t = item_index files places order p.0 i p.1 in
       scopes.legal t.0 i f t.2 h
@@ -211,12 +225,12 @@ module _ (files : List PackageFile) (places : List ℕ) (order : IsOrder (item_r
     files_required = required_of files is_items ws_items es middle front is_done.0 wfront ws_done.0 foreign irs wrs p is_done.2 package_worlds (interfaces ∙ is_done.1) (worlds ∙ ws_done.1) others
 
     -- no two functions of a scope that is legal by itself go by one side and name
-    apart_in : AreLegalScopes (in_order (all_items files) places) → (test : Item → Bool) (o : Ordered) (c : DoneScope) (t : ℕ) → slice_get (filter test (in_order (all_items files) places)) t ≡ Some o.item → IsOrder (rows_of (scope_names o.item)) o.order → turned o ≡ turn_of c → AllDiffer (map function_key c.functions)
+    apart_in : AreLegalSides (in_order (all_items files) places) → (test : Item → Bool) (o : Ordered) (c : DoneScope) (t : ℕ) → slice_get (filter test (in_order (all_items files) places)) t ≡ Some o.item → IsOrder (rows_of (scope_names o.item)) o.order → turned o ≡ turn_of c → AllDiffer (map function_key c.functions)
     apart_in scopes test o c t at least same =
         let p = kept_at test (in_order (all_items files) places) t o.item at in
-        subst (λ (x : Turned). AllDiffer (map function_key x.functions)) same (functions_differ (scope_names o.item) (functions o.item) o.order least (λ f broken. scopes.legal p.0 o.item f p.1 broken))
+        subst (λ (x : Turned). AllDiffer (map function_key x.functions)) same (subst (λ (l : List SourceFunction). AllDiffer (map function_key l)) (sym (functions_items o.item)) (functions_differ (scope_names o.item) (side_items o.item) o.order least (λ f twice. scopes.legal p.0 o.item f p.1 (FoldedTwice twice))))
 
-    functions_apart : AreLegalScopes (in_order (all_items files) places) → (t : ℕ) (c : DoneScope) → slice_get ((front_scopes files front ++ is_done.2.scopes) ++ package_worlds.scopes) t ≡ Some c → AllDiffer (map function_key c.functions)
+    functions_apart : AreLegalSides (in_order (all_items files) places) → (t : ℕ) (c : DoneScope) → slice_get ((front_scopes files front ++ is_done.2.scopes) ++ package_worlds.scopes) t ≡ Some c → AllDiffer (map function_key c.functions)
     functions_apart scopes t c at = elim (at_part (front_scopes files front ++ is_done.2.scopes) package_worlds.scopes t c at) [
       | inl h ↦ elim (at_part (front_scopes files front) is_done.2.scopes h.0 c h.1) [
         | inl g ↦ elim (front_at files front foreign.interfaces.count g.0 c g.1) [
@@ -232,5 +246,5 @@ module _ (files : List PackageFile) (places : List ℕ) (order : IsOrder (item_r
           apart_in scopes is_world o.0 c h.0 (package_worlds.laid.front h.0 o.0 o.1) (package_worlds.laid.least h.0 o.0 o.1) o.2)
     ]
 
-    pub files_faithful : AreLegalScopes (in_order (all_items files) places) → IsFaithful files p
+    pub files_faithful : AreLegalSides (in_order (all_items files) places) → IsFaithful files p
     files_faithful scopes = faithful_package files is_items ws_items es middle front is_done.0 wfront ws_done.0 foreign irs wrs p is_done.2 package_worlds (interfaces ∙ is_done.1) (worlds ∙ ws_done.1) others (functions_apart scopes)

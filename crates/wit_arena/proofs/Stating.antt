@@ -11,17 +11,22 @@ use Rattle.wit_tree.specs.declared.tree.WorldSide.TheVariants.{Imported, Exporte
 use Rattle.wit_model.specs.declared.function.Function.{Function}
 use Rattle.wit_model.specs.declared.interface.Interface.{Interface}
 use Rattle.wit_model.specs.declared.world.World.{World}
-use Rattle.wit_syntax.specs.Source.{ScopeName, local_name}
+use Rattle.wit_syntax.specs.Source.{TopName, ScopeName, local_name}
+use Rattle.wit_syntax.specs.Address.{Address}
+use Rattle.wit_model.specs.declared.world.WorldKey.{WorldKey}
+use Rattle.wit_model.specs.declared.world.WorldItem.{WorldItem}
 use Rattle.wit_syntax.specs.Scope.{local_names}
 use Rattle.wit_syntax.specs.Function.{SourceFunction}
-use Rattle.wit_syntax.specs.Sides.{role_side, FunctionKey}
-use Rattle.wit_arena.specs.Functions.{by_name, placed_functions, function_item, made_on}
+use Rattle.wit_syntax.specs.Sides.{role_side, FunctionKey, SideItem, item_function}
+use Rattle.wit_arena.specs.Functions.{by_name, placed_functions, made_on}
+use Rattle.wit_arena.specs.SideItems.{AreSideItems}
 use Rattle.wit_arena.specs.Package.{import_types, item_functions, keyed, interface_functions, world_functions}
 use Rattle.wit_arena.specs.Whole.{type_imports}
 use Rattle.wit_arena.specs.Resolving.{Names}
 use Rattle.wit_syntax.proofs.Lists.{at_front, at_back, at_split, map_at}
 use Rattle.wit_arena.proofs.FreeNames.{made_key, AreStated}
 use Rattle.wit_arena.proofs.MadeOn.{made_on_has, made_on_pair}
+use Rattle.wit_arena.proofs.SideItems.{side_functions}
 use Rattle.wit_arena.proofs.Placed.{function_placed, function_from}
 
 -- the types among imports that names of a scope are
@@ -34,36 +39,29 @@ world_types_of (x ∷ xs) ((name, id) ∷ types) listed =
     let rest : map (λ p. p.0) types ≡ local_names xs = cc in
     ap (λ (n : List ℕ). (n, id) ∷ flat_map import_types (type_imports xs types)) (sym first) ∙ ap (λ (l : Names). (name, id) ∷ l) (world_types_of xs types rest)
 
--- none of these is a function, and no function is one of them
+-- none of these is a function
 no_functions_of : (xs : List ScopeName) (types : Names) → flat_map item_functions (type_imports xs types) ≡ []
 no_functions_of [] [] = refl
 no_functions_of [] (t ∷ types) = refl
 no_functions_of (x ∷ xs) [] = refl
 no_functions_of (x ∷ xs) ((name, id) ∷ types) = no_functions_of xs types
 
-no_types_of : (fs : List Function) → flat_map import_types (map function_item fs) ≡ []
-no_types_of [] = refl
-no_types_of (f ∷ fs) = no_types_of fs
-
-functions_named : (fs : List Function) → flat_map item_functions (map function_item fs) ≡ map by_name fs
-functions_named [] = refl
-functions_named (f ∷ fs) = ap (λ (l : List (List ℕ × Function)). (f.name, f) ∷ l) (functions_named fs)
-
--- the types among imports, and the functions
-pub world_types-all : (xs : List ScopeName) (types : Names) (fs : List Function) → map (λ p. p.0) types ≡ local_names xs → flat_map import_types (type_imports xs types ++ map function_item fs) ≡ types
-world_types-all xs types fs listed = flat_map-append import_types (type_imports xs types) (map function_item fs) ∙ ap (λ (l : Names). l ++ flat_map import_types (map function_item fs)) (world_types_of xs types listed) ∙ ap (λ (l : Names). types ++ l) (no_types_of fs) ∙ append-nil types
+-- the types among imports, where nothing behind them is one
+pub world_types-all : (xs : List ScopeName) (types : Names) (behind : List (WorldKey × WorldItem)) → map (λ p. p.0) types ≡ local_names xs → flat_map import_types behind ≡ [] → flat_map import_types (type_imports xs types ++ behind) ≡ types
+world_types-all xs types behind listed none = flat_map-append import_types (type_imports xs types) behind ∙ ap (λ (l : Names). l ++ flat_map import_types behind) (world_types_of xs types listed) ∙ ap (λ (l : Names). types ++ l) none ∙ append-nil types
 
 -- the functions among imports and exports, where these were made of the written ones
 abbrev pub both_sides : List SourceFunction → List Function → List (FunctionKey × Function)
 both_sides fns fs = map (keyed Imported) (map by_name (made_on Imported fns fs)) ++ map (keyed Exported) (map by_name (made_on Exported fns fs))
 
-import_functions-all : (xs : List ScopeName) (types : Names) (fs : List Function) → flat_map item_functions (type_imports xs types ++ map function_item fs) ≡ map by_name fs
-import_functions-all xs types fs = flat_map-append item_functions (type_imports xs types) (map function_item fs) ∙ ap (λ (l : List (List ℕ × Function)). l ++ flat_map item_functions (map function_item fs)) (no_functions_of xs types) ∙ functions_named fs
+import_functions-all : (xs : List ScopeName) (types : Names) (behind : List (WorldKey × WorldItem)) → flat_map item_functions (type_imports xs types ++ behind) ≡ flat_map item_functions behind
+import_functions-all xs types behind = flat_map-append item_functions (type_imports xs types) behind ∙ ap (λ (l : List (List ℕ × Function)). l ++ flat_map item_functions behind) (no_functions_of xs types)
 
-pub world_functions-all : (xs : List ScopeName) (types : Names) (fns : List SourceFunction) (fs : List Function) (w : World) → w.imports ≡ type_imports xs types ++ map function_item (made_on Imported fns fs) → w.exports ≡ map function_item (made_on Exported fns fs) → world_functions w ≡ both_sides fns fs
-world_functions-all xs types fns fs w imports exports =
-    let imported = ap (flat_map item_functions) imports ∙ import_functions-all xs types (made_on Imported fns fs) in
-    let exported = ap (flat_map item_functions) exports ∙ functions_named (made_on Exported fns fs) in
+pub world_functions-all : (interfaces : List Address) (top : List TopName) (xs : List ScopeName) (types : Names) (items : List SideItem) (fs : List Function) (imports : List (WorldKey × WorldItem)) (w : World) → w.imports ≡ type_imports xs types ++ imports → AreSideItems interfaces top Imported items fs imports → AreSideItems interfaces top Exported items fs w.exports → world_functions w ≡ both_sides (flat_map item_function items) fs
+world_functions-all interfaces top xs types items fs imports w are on_imports on_exports =
+    let fns = flat_map item_function items in
+    let imported = ap (flat_map item_functions) are ∙ import_functions-all xs types imports ∙ side_functions interfaces top Imported items fs imports on_imports in
+    let exported = side_functions interfaces top Exported items fs w.exports on_exports in
     ap (λ (l : List (List ℕ × Function)). map (keyed Imported) l ++ map (keyed Exported) (flat_map item_functions w.exports)) imported ∙ ap (λ (l : List (List ℕ × Function)). map (keyed Imported) (map by_name (made_on Imported fns fs)) ++ map (keyed Exported) l) exported
 
 -- those of a side under their names

@@ -1,5 +1,5 @@
 -- The names that items use from other packages, where each is first used.
-use Rattle.std.proofs.Common.{◌≡◌, ℕ, Bool, true, List, [], ◌∷◌, ◌++◌, Some, inl, inr, refl, sym, ap, ◌∙◌, subst, append_assoc, Contains}
+use Rattle.std.proofs.Common.{◌≡◌, ℕ, Bool, true, List, [], ◌∷◌, ◌++◌, Some, inl, inr, refl, sym, ap, ◌∙◌, subst, append_assoc}
 use Rattle.std.specs.Prelude.{slice_get, map}
 use Rattle.std.specs.List.{flat_map, filter}
 use Rattle.std.specs.Option.{option_map}
@@ -12,11 +12,10 @@ use Rattle.wit_tree.specs.declared.tree.Use.{Use}
 use Rattle.wit_tree.specs.declared.tree.UseName.{UseName}
 use Rattle.wit_tree.specs.declared.tree.PackageFile.{PackageFile}
 use Rattle.wit_package_names.specs.declared.package_name.PackageName.{PackageName}
-use Rattle.wit_syntax.specs.Fault.{Fault}
 use Rattle.wit_syntax.specs.Address.{Address, same_address, is_foreign}
 use Rattle.wit_syntax.specs.Source.{Target, Local, Foreign, leads, used_scope, path_scope, Part, Defining, Using, Including, Doing, Crossing, Item, all_items, parts, ScopeName, Taken, local_name, Taking, taking, part_takings, item_takings, takings, same_taking, first_takings, taken, taken_names}
 use Rattle.wit_syntax.specs.Foreign.{ForeignVisit, visited, foreign_interfaces}
-use Rattle.wit_syntax.specs.Broken.{IsBrokenUse}
+use Rattle.wit_arena.specs.Resolved.{AreUsableUses}
 use Rattle.wit_arena.specs.Meet.{Key, Def, Meeting, keys, Meets}
 use Rattle.wit_syntax.specs.Repeats.{AllDiffer, firsts}
 use Rattle.wit_arena.specs.Whole.{taking_meeting}
@@ -113,8 +112,8 @@ pub foreign_target : (t : Target) → is_foreign (used_scope t) ≡ true → (p 
 foreign_target (Local id) h = absurd (let f : ⊥ = cc in f)
 foreign_target (Foreign p id) h = (p, id, refl)
 
--- where no use is broken, what is taken is taken from an interface
-pub taken_from : (files : List PackageFile) → ((i : Item) → Contains (all_items files) i → (f : Fault) → IsBrokenUse files i f → ⊥) → (k : ℕ) (t : Taking) → slice_get (takings files) k ≡ Some t → (i : ℕ) × (v : ForeignVisit) × (slice_get (foreign_interfaces files) i ≡ Some v) × (visited v ≡ t.from)
+-- where uses lead to interfaces, what is taken is taken from an interface
+pub taken_from : (files : List PackageFile) → AreUsableUses files (all_items files) → (k : ℕ) (t : Taking) → slice_get (takings files) k ≡ Some t → (i : ℕ) × (v : ForeignVisit) × (slice_get (foreign_interfaces files) i ≡ Some v) × (visited v ≡ t.from)
 taken_from files uses k t at =
     let it = taken_at files k t at in
     let from : t.from ≡ path_scope it.item.top it.part.from = ap (λ (x : Taking). x.from) it.is in

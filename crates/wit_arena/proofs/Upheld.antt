@@ -138,4 +138,4 @@ module _ (files : List PackageFile) (is ws : List Item) (middle es : List TypeDe
       let c = scope_at d.laid t o.0 o.1 in
       let i = entry_of d.laid t c.0 c.1 in
       let same : functions w ≡ c.0.functions = ap functions (sym o.2) ∙ sym (ap (λ (x : Turned). x.functions) c.2) in
-      (d.laid.makes t c.0 i.0 c.1 i.1).paired f (subst (λ (l : List SourceFunction). IsUnpairedSetter l f) same g)
+      (d.laid.makes t o.0 c.0 i.0 o.1 c.1 i.1).paired f (subst (λ (l : List SourceFunction). IsUnpairedSetter l f) same g)

@@ -1,6 +1,7 @@
 -- The items of other packages, at the places of their first visits.
 use Rattle.std.proofs.Common.{◌≡◌, ℕ, zero, suc, Bool, true, false, not, List, ◌++◌, Option, Some, None, inl, inr, refl, sym, ap, ◌∙◌, Contains}
 use Rattle.std.specs.Prelude.{slice_get, map, find}
+use Rattle.std.specs.List.{flat_map}
 use Rattle.std.specs.Option.{option_map, option_map_or}
 use Rattle.std.specs.Str.{bytes_eq}
 use Rattle.std.proofs.lemmas.Bool.{cases_Bool, not-true}
@@ -12,15 +13,16 @@ use Rattle.wit_tree.specs.declared.tree.UsePath.TheVariants as path
 use Rattle.wit_tree.specs.declared.tree.AstItem.{AstItem}
 use Rattle.wit_tree.specs.declared.tree.AstItem.TheVariants as ast
 use Rattle.wit_tree.specs.declared.tree.PackageFile.{PackageFile}
+use Rattle.wit_tree.specs.declared.tree.WorldSide.TheVariants.{Imported, Exported}
 use Rattle.wit_package_names.specs.declared.package_name.PackageName.{PackageName}
-use Rattle.wit_syntax.specs.Fault.{Fault, fault}
 use Rattle.wit_syntax.specs.Address.{Address, ForeignNamed, package_of, same_address, is_foreign}
-use Rattle.wit_syntax.specs.Source.{path_id, Local, Foreign, path_target, Using, TopName, top_name, top_names, top_text, top_named, top_target, leads, Part, Item, declared_items, file_items, all_items, address, parts, TheInterface, TheWorld}
-use Rattle.wit_syntax.specs.Foreign.{ForeignVisit, visited, path_visits, part_visits, declared_visits, declaration_visits, file_visits, foreign_visits, same_item, foreign_items, is_foreign_world, foreign_interfaces, foreign_worlds, foreign_at}
-use Rattle.wit_syntax.specs.Scope.{use_path, use_paths}
-use Rattle.wit_syntax.specs.Broken.{is_world_at, IsBrokenUse, WorldUsed}
+use Rattle.wit_syntax.specs.Source.{Local, Foreign, path_target, Using, TopName, top_name, top_names, top_text, top_named, top_target, leads, Part, Item, declared_items, file_items, all_items, address, parts, TheInterface, TheWorld}
+use Rattle.wit_syntax.specs.Foreign.{ForeignVisit, visited, path_visits, part_visits, side_visits, declared_visits, declaration_visits, file_visits, foreign_visits, same_item, foreign_items, is_foreign_world, foreign_interfaces, foreign_worlds, foreign_at}
+use Rattle.wit_syntax.specs.Scope.{use_path, use_paths, part_uses, uses}
+use Rattle.wit_syntax.specs.Broken.{is_world_at}
+use Rattle.wit_arena.specs.Resolved.{AreUsableUses}
 use Rattle.wit_syntax.specs.Repeats.{AllDiffer}
-use Rattle.wit_syntax.proofs.Lists.{map_at, flat_map_at, flat_map_has}
+use Rattle.wit_syntax.proofs.Lists.{at_front, map_at, flat_map_at, flat_map_has}
 use Rattle.wit_syntax.proofs.Addresses.{same_address-from, same_address-equal}
 use Rattle.wit_syntax.proofs.Repeated.{differ_at, differ_join}
 use Rattle.wit_syntax.proofs.Kept.{kept_at, kept_has, kept_differ}
@@ -195,26 +197,32 @@ path_visited files q w m x attributes world from p id at part visits lead = by_p
     by_path origin (path.Package of other) same h =
         let v = foreign_path attributes world from p id (ap path_target same ∙ h) in
         let inner = flat_map_has part_visits (parts w) m 0 x v.0 part (ap (λ (l : List ForeignVisit). slice_get l 0) visits ∙ v.1) in
-        let n = declaration_visited files origin.place origin.index inner.0 origin.file origin.declaration v.0 origin.at origin.among (ap (λ (l : List ForeignVisit). slice_get l inner.0) origin.visits ∙ inner.1) in
+        let n = declaration_visited files origin.place origin.index inner.0 origin.file origin.declaration v.0 origin.at origin.among (ap (λ (l : List ForeignVisit). slice_get l inner.0) origin.visits ∙ at_front (flat_map part_visits (parts w)) (flat_map (side_visits Imported) (parts w) ++ flat_map (side_visits Exported) (parts w)) inner.0 v.0 inner.1) in
         record { place = n.0; v = v.0; at = n.1; is = v.2 }
 
 -- so where the path of a `use` does
 pub leads_visited : (files : List PackageFile) (q : ℕ) (w : Item) (m : ℕ) (u : Use) (p : PackageName) (id : Id) → slice_get (all_items files) q ≡ Some w → slice_get (parts w) m ≡ Some (Using u) → leads w.top u.from ≡ Foreign p id → IsVisited files p id
 leads_visited files q w m u p id at part lead = path_visited files q w m (Using u) u.attributes.items false u.from p id at part refl lead
 
--- the path of a `use` is one of an item's
+-- a `use` among the parts of an item is one of it, and its path one of the item's
+pub use_at : (w : Item) (m : ℕ) (u : Use) → slice_get (parts w) m ≡ Some (Using u) → Contains (uses w) u
+use_at w m u part = let it = flat_map_has part_uses (parts w) m 0 (Using u) u part refl in contains_at (uses w) it.0 u it.1
+
 pub use_path_at : (w : Item) (m : ℕ) (u : Use) → slice_get (parts w) m ≡ Some (Using u) → Contains (use_paths w) u.from
 use_path_at w m u part = let it = flat_map_has use_path (parts w) m 0 (Using u) u.from part refl in contains_at (use_paths w) it.0 u.from it.1
 
--- where no use is broken, one that leads to another package leads to an interface
-pub used_interface_visit : (files : List PackageFile) → ((i : Item) → Contains (all_items files) i → (f : Fault) → IsBrokenUse files i f → ⊥) → (q : ℕ) (w : Item) (m : ℕ) (u : Use) (p : PackageName) (id : Id) → slice_get (all_items files) q ≡ Some w → slice_get (parts w) m ≡ Some (Using u) → leads w.top u.from ≡ Foreign p id → (t : ℕ) × (v : ForeignVisit) × (slice_get (foreign_interfaces files) t ≡ Some v) × (visited v ≡ ForeignNamed p id.name.now)
-used_interface_visit files uses q w m u p id at part lead =
+-- where uses lead to interfaces, one that leads to another package leads to an interface
+pub used_interface_visit : (files : List PackageFile) → AreUsableUses files (all_items files) → (q : ℕ) (w : Item) (m : ℕ) (u : Use) (p : PackageName) (id : Id) → slice_get (all_items files) q ≡ Some w → slice_get (parts w) m ≡ Some (Using u) → leads w.top u.from ≡ Foreign p id → (t : ℕ) × (v : ForeignVisit) × (slice_get (foreign_interfaces files) t ≡ Some v) × (visited v ≡ ForeignNamed p id.name.now)
+used_interface_visit files usable q w m u p id at part lead =
     let here = leads_visited files q w m u p id at part lead in
     let it = visit_listed files here.place here.v here.at in
     let v = it.1 in
     let is : visited v ≡ ForeignNamed p id.name.now = it.3 ∙ here.is in
     let found : is_world_at files (leads w.top u.from) ≡ Some (is_foreign_world v) = ap (is_world_at files) lead ∙ ap (λ s. option_map is_foreign_world (foreign_at files s)) (sym is) ∙ ap (option_map is_foreign_world) (foreign_at-visited files it.0 v it.2) in
     elim (cases_Bool (is_foreign_world v)) [
-      | inl wrong ↦ absurd (uses w (contains_at (all_items files) q w at) (fault 10 (path_id u.from).span) (WorldUsed (record { path = u.from; among = use_path_at w m u part; other = found ∙ ap Some wrong; is = refl })))
+      | inl wrong ↦ absurd (
+          let both : Some true ≡ Some false = sym (found ∙ ap Some wrong) ∙ usable.usable w u (contains_at (all_items files) q w at) (use_at w m u part) in
+          let f : ⊥ = cc in
+          f)
       | inr right ↦ (let k = kept_has (λ x. not (is_foreign_world x)) (foreign_items files) it.0 v (ap not right) it.2 in (k.0, v, k.1, is))
     ]

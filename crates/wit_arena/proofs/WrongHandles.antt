@@ -1,5 +1,5 @@
 -- A handle that is wrong while an item is resolved is wrong in the files.
-use Rattle.std.proofs.Common.{◌≡◌, ℕ, ◌+◌, true, false, List, [], ◌++◌, length, take, map, Some, inl, inr, sym, ap, ◌∙◌, subst, Contains}
+use Rattle.std.proofs.Common.{◌≡◌, ℕ, ◌+◌, true, false, List, [], ◌++◌, length, take, map, Some, inl, inr, sym, ap, ◌∙◌, subst}
 use Rattle.std.specs.Prelude.{slice_get}
 use Rattle.std.specs.Option.{option_map}
 use Rattle.std.proofs.lemmas.List.{length-map}
@@ -17,10 +17,10 @@ use Rattle.wit_syntax.specs.Function.{item_types}
 use Rattle.wit_syntax.specs.Scope.{in_turn, AreDistinct}
 use Rattle.wit_syntax.specs.Fault.{Fault}
 use Rattle.wit_arena.specs.Meet.{Def, Meeting, keys, Decl, Decls, IsAmong, decl_of, all_name_meetings}
-use Rattle.wit_syntax.specs.Broken.{IsBrokenUse, IsHandleBroken}
+use Rattle.wit_syntax.specs.Broken.{IsHandleBroken}
 use Rattle.wit_arena.specs.Whole.{item_of, all_meetings}
 use Rattle.wit_arena.specs.Resolving.{Cell, Required, cells, IsDefined, decls_of}
-use Rattle.wit_arena.specs.Resolved.{AddsForeign, IsWrongHandleNow}
+use Rattle.wit_arena.specs.Resolved.{AddsForeign, AreUsableUses, IsWrongHandleNow}
 use Rattle.wit_syntax.proofs.Lists.{at_take, at_back, map_at}
 use Rattle.wit_syntax.proofs.Repeated.{differ_at, differ_by}
 use Rattle.wit_syntax.proofs.Turns.{at_part, in_turn_among, in_turn_distinct}
@@ -73,7 +73,7 @@ module _ (files : List PackageFile) (declares : Decls) (written : List Meeting) 
     pub handle_wrong : IsHandleBroken files w f
     handle_wrong = defined_broken-more files declares d.met h.mid h.more s [] h.names some defined met_declared (item_types w) f h.wrong
 
-module _ (files : List PackageFile) (is ws : List Item) (interfaces : AreOfSort false is) (worlds : AreOfSort true ws) (is_items : AreItems files is) (ws_items : AreItems files ws) (uses : (i : Item) → Contains (all_items files) i → (f : Fault) → IsBrokenUse files i f → ⊥) (es : List TypeDef) (front : List Interface) (wfront : List World) (foreign : AddsForeign files es front wfront) where
+module _ (files : List PackageFile) (is ws : List Item) (interfaces : AreOfSort false is) (worlds : AreOfSort true ws) (is_items : AreItems files is) (ws_items : AreItems files ws) (uses : AreUsableUses files (all_items files)) (es : List TypeDef) (front : List Interface) (wfront : List World) (foreign : AddsForeign files es front wfront) where
   abbrev fore : List Address
   fore = map visited (foreign_interfaces files)
 

@@ -18,7 +18,8 @@ use Rattle.wit_model.specs.Setters.{placed}
 use Rattle.wit_syntax.specs.Address.{Address}
 use Rattle.wit_syntax.specs.Shape.{Shape}
 use Rattle.wit_tree.specs.declared.tree.WorldSide.{WorldSide}
-use Rattle.wit_syntax.specs.Sides.{role_side, same_side}
+use Rattle.wit_syntax.specs.Crossing.{same_side}
+use Rattle.wit_syntax.specs.Sides.{role_side}
 use Rattle.wit_syntax.specs.Function.{Role, Freestanding, Method, Static, Constructor, OnSide, SourceParam, SourceFunction, all_params, function_notes}
 use Rattle.wit_arena.specs.Expr.{expr_of}
 use Rattle.wit_arena.specs.Meet.{Key, Def, IsAt}

@@ -3,6 +3,7 @@ pub mod Expr
 pub mod Meet
 pub mod EntryEnds
 pub mod Functions
+pub mod SideItems
 pub mod Package
 pub mod Whole
 pub mod Resolving

@@ -3,6 +3,7 @@ use Rattle.std.specs.Prelude.{◌≡◌, ℕ, true, false, List, [], ◌∷◌, 
 use Rattle.std.specs.List.{flat_map}
 use Rattle.wit_tree.specs.declared.tree.Id.{Id}
 use Rattle.wit_tree.specs.declared.tree.Include.{Include}
+use Rattle.wit_tree.specs.declared.tree.Use.{Use}
 use Rattle.wit_tree.specs.declared.tree.PackageFile.{PackageFile}
 use Rattle.wit_types.specs.declared.types.TypeDef.{TypeDef}
 use Rattle.wit_types.specs.declared.types.TypeDefKind.TheVariants.{Unknown}
@@ -13,20 +14,24 @@ use Rattle.wit_model.specs.declared.world.World.{World}
 use Rattle.wit_order.specs.Table.{IsOrder}
 use Rattle.wit_syntax.specs.Address.{Address, WorldNamed}
 use Rattle.wit_syntax.specs.Notes.{notes, no_docs, IsBrokenStability}
-use Rattle.wit_syntax.specs.Source.{Item, item_id, item_notes, declared_attributes, address, is_world, ScopeName, scope_names, meaning, Taking, first_takings}
+use Rattle.wit_model.specs.declared.world.WorldKey.{WorldKey}
+use Rattle.wit_model.specs.declared.world.WorldItem.{WorldItem}
+use Rattle.wit_syntax.specs.Source.{leads, Item, item_id, item_notes, declared_attributes, address, is_world, ScopeName, scope_names, meaning, Taking, first_takings}
 use Rattle.wit_syntax.specs.Foreign.{visited, foreign_interfaces, foreign_worlds}
 use Rattle.wit_arena.specs.Meet.{keys}
 use Rattle.wit_syntax.specs.Fault.{Fault}
 use Rattle.wit_arena.specs.Package.{IsInterface, IsWorld}
-use Rattle.wit_syntax.specs.Scope.{includes, interfaces_of, worlds_of, rows_of, in_order, defined, in_turn, AreDistinct}
+use Rattle.wit_syntax.specs.Scope.{uses, includes, interfaces_of, worlds_of, rows_of, in_order, defined, in_turn, AreDistinct}
 use Rattle.wit_model.specs.declared.function.Function.{Function}
 use Rattle.wit_syntax.specs.Function.{SourceFunction, functions as item_functions, signature, all_types, item_types}
 use Rattle.wit_syntax.specs.Signature.{IsUnpairedSetter}
 use Rattle.wit_tree.specs.declared.tree.WorldSide.TheVariants.{Imported, Exported}
-use Rattle.wit_arena.specs.Functions.{placed_functions, function_item, made_on}
-use Rattle.wit_syntax.specs.Broken.{IsBrokenScope}
+use Rattle.wit_arena.specs.Functions.{placed_functions}
+use Rattle.wit_arena.specs.SideItems.{AreSideItems}
+use Rattle.wit_syntax.specs.Broken.{is_world_at, IsBrokenScope, IsBrokenUse}
+use Rattle.wit_syntax.specs.Sides.{Link, links, side_items, IsBrokenSides}
 use Rattle.wit_arena.specs.Whole.{owner_at, taking_meeting, AreForeignInterfaces, AreForeignWorlds, type_imports, AreIncludes}
-use Rattle.wit_arena.specs.Resolving.{Names, env_of, Cell, cells, named, Defines, AddsFunctions, Required, IsWrongHandle, AreEnded, IsIndex, IsWorldIndex, IsLostInclude, IsWrongScope}
+use Rattle.wit_arena.specs.Resolving.{Names, env_of, Cell, cells, named, Defines, AddsFunctions, Required, IsWrongHandle, AreEnded, IsIndex, IsWorldIndex, IsLostInclude, IsLostLink, IsWrongScope}
 use Rattle.wit_syntax.specs.Shape.{words, all_handles}
 
 -- the definitions of a scope were added in the least dependency-first order, behind its used names
@@ -66,6 +71,10 @@ worlds_at [] ws = map (λ w. WorldNamed w.name) ws
 worlds_at (s ∷ ss) [] = []
 worlds_at (s ∷ ss) (w ∷ ws) = s ∷ worlds_at ss ws
 
+-- the addresses of interfaces: at first of those of other packages
+abbrev pub interfaces_at : List Address → List Interface → List Address
+interfaces_at foreign is = map (λ c. c.address) (cells foreign is)
+
 -- what a world adds to the arenas, where these are the interfaces, and at first those at these addresses
 pub record AddsWorld (foreign others : List Address) (is : List Interface) (old new : List TypeDef) (ws ws' : List World) (rs : List Required) (item : Item) : Type 0 where
   pub added : World
@@ -76,8 +85,10 @@ pub record AddsWorld (foreign others : List Address) (is : List Interface) (old 
   pub adds : AddsScope old middle (cells foreign is) (owner.World (length ws)) (scope_names item) types
   pub functions : List Function
   pub behind : AddsBehind middle new item adds.order types functions rs
-  pub imports : added.imports ≡ type_imports (in_turn (scope_names item) adds.order) types ++ map function_item (made_on Imported (item_functions item) functions)
-  pub exports : added.exports ≡ map function_item (made_on Exported (item_functions item) functions)
+  pub imported : List (WorldKey × WorldItem)
+  pub imports : added.imports ≡ type_imports (in_turn (scope_names item) adds.order) types ++ imported
+  pub are_imported : AreSideItems (interfaces_at foreign is) item.top Imported (side_items item) functions imported
+  pub are_exported : AreSideItems (interfaces_at foreign is) item.top Exported (side_items item) functions added.exports
   pub includes : AreIncludes (worlds_at others ws) item added.includes
 
 -- what items add to the arenas, one after another, and what they require, where `Adds` says what one of them does
@@ -96,6 +107,18 @@ AddsWorlds foreign others is old new ws ws' rs items = AddsEach (AddsWorld forei
 -- no scope of these items is broken by itself
 pub record AreLegalScopes (items : List Item) : Type 0 where
   pub legal : (i : ℕ) (item : Item) (f : Fault) → slice_get items i ≡ Some item → IsBrokenScope (scope_names item) (item_functions item) f → ⊥
+
+-- nothing is wrong with what stands on the sides of these items
+pub record AreLegalSides (items : List Item) : Type 0 where
+  pub legal : (i : ℕ) (item : Item) (f : Fault) → slice_get items i ≡ Some item → IsBrokenSides item f → ⊥
+
+-- the path of each `use` of these items leads to an interface
+pub record AreUsableUses (files : List PackageFile) (items : List Item) : Type 0 where
+  pub usable : (item : Item) (u : Use) → Contains items item → Contains (uses item) u → is_world_at files (leads item.top u.from) ≡ Some false
+
+-- the paths by which these items import and export interfaces lead to interfaces
+pub record AreUsableLinks (files : List PackageFile) (items : List Item) : Type 0 where
+  pub usable : (i : ℕ) (item : Item) (link : Link) → slice_get items i ≡ Some item → Contains (links item) link → is_world_at files (leads item.top link.path) ≡ Some false
 
 -- a name in a signature of a scope with these names and functions means nothing
 pub record IsNameless (xs : List ScopeName) (fns : List SourceFunction) : Type 0 where
@@ -153,6 +176,7 @@ pub data IsWrongInterface (old : List TypeDef) (cs : List Cell) (by_name : Names
   WrongStability : IsBrokenItemStability item f → IsWrongInterface old cs by_name o item f
   WrongScope : IsWrongScope cs by_name (scope_names item) (item_functions item) f → IsWrongInterface old cs by_name o item f
   WrongHandle : IsWrongHandleNow old cs o item f → IsWrongInterface old cs by_name o item f
+  WrongSides : IsBrokenSides item f → IsWrongInterface old cs by_name o item f
   Unpaired : IsUnpairedSetter (item_functions item) f → IsWrongInterface old cs by_name o item f
 
 -- what is wrong with a world, by what was resolved before
@@ -160,6 +184,9 @@ pub data IsWrongWorld (files : List PackageFile) (old : List TypeDef) (cs : List
   WrongWorldStability : IsBrokenItemStability item f → IsWrongWorld files old cs by_name worlds_by_name o item f
   WrongWorldScope : IsWrongScope cs by_name (scope_names item) (item_functions item) f → IsWrongWorld files old cs by_name worlds_by_name o item f
   WrongWorldHandle : IsWrongHandleNow old cs o item f → IsWrongWorld files old cs by_name worlds_by_name o item f
+  WrongWorldSides : IsBrokenSides item f → IsWrongWorld files old cs by_name worlds_by_name o item f
+  WrongWorldUse : IsBrokenUse files item f → IsWrongWorld files old cs by_name worlds_by_name o item f
+  LostLink : IsLostLink files by_name item f → IsWrongWorld files old cs by_name worlds_by_name o item f
   LostInclude : IsLostInclude files worlds_by_name item f → IsWrongWorld files old cs by_name worlds_by_name o item f
 
 -- once the interfaces among some of the items were added in the order of their places, the next item is an interface that is wrong

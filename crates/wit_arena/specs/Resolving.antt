@@ -39,7 +39,8 @@ use Rattle.wit_syntax.specs.Function.{SourceFunction}
 use Rattle.wit_model.specs.declared.function.Function.{Function}
 use Rattle.wit_arena.specs.Functions.{AreFunctions, freestanding_names}
 use Rattle.wit_arena.specs.EntryEnds.{IsResource, IsUnknown as IsUnknownEntry, IsOther, entry_end}
-use Rattle.wit_syntax.specs.Broken.{IsBrokenScope}
+use Rattle.wit_syntax.specs.Sides.{Link, links}
+use Rattle.wit_syntax.specs.Broken.{is_world_at, IsBrokenScope}
 
 -- what the names of a scope stand for
 abbrev pub Env : Type 0
@@ -264,6 +265,16 @@ pub record IsLostInclude (files : List PackageFile) (by_name : Names) (item : It
   pub among : Contains (include_paths item) path
   pub lost : IsNoWorld files by_name (leads item.top path)
   pub is : f ≡ fault 11 (path_id path).span
+
+-- a path by which an item imports or exports an interface leads to one of the package that was not resolved
+pub record IsLostLink (files : List PackageFile) (by_name : Names) (item : Item) (f : Fault) : Type 0 where
+  pub link : Link
+  pub id : Id
+  pub among : Contains (links item) link
+  pub local : leads item.top link.path ≡ Local id
+  pub usable : is_world_at files (Local id) ≡ Some false
+  pub lost : env_of by_name id.name.now ≡ None
+  pub is : f ≡ missing_at 7 item_word id
 
 -- what was met, extended by what is met in functions of a scope, and the functions over that
 pub record HasFunctions (decls : Decls) (ms : List Meeting) (new : List TypeDef) (s : Address) (fns : List SourceFunction) (fs : List Function) : Type 0 where

@@ -41,12 +41,13 @@ use Rattle.wit_syntax.specs.Function.{SourceFunction, signature, functions as it
 use Rattle.wit_syntax.specs.Ends.{AtResource, AtForeign, EndsAt}
 use Rattle.wit_tree.specs.declared.tree.Id.{Id}
 use Rattle.wit_tree.specs.declared.tree.WorldSide.TheVariants.{Imported, Exported}
-use Rattle.wit_arena.specs.Functions.{AreFunctions, placed_functions, function_item, made_on}
+use Rattle.wit_arena.specs.Functions.{AreFunctions, placed_functions}
+use Rattle.wit_arena.specs.SideItems.{AreSideItems}
 use Rattle.wit_syntax.specs.Scope.{item_rows, interfaces_of, worlds_of, includes, rows_of, in_order, in_turn}
 use Rattle.wit_types.specs.declared.docs.Docs.{Docs}
 use Rattle.wit_syntax.specs.Notes.{docs_of, no_docs, stability_of}
 use Rattle.wit_syntax.specs.Broken.{last_header, headers}
-use Rattle.wit_syntax.specs.Sides.{FunctionKey, function_key}
+use Rattle.wit_syntax.specs.Sides.{FunctionKey, function_key, side_items}
 use Rattle.wit_arena.specs.Meet.{Key, Def, Meeting, keys, all_name_meetings, all_function_meetings, Meets, IsAt, Decls, decl_of, IsMeeting}
 use Rattle.wit_syntax.specs.Source as source
 use Rattle.wit_arena.specs.Package.{At, HasPart, IsBelow, Reaches, IsInterface, IsWorld, IsForeignInterface, IsForeignWorld, world_types, owner_of, names_of, functions_of, function_types, package_tree}
@@ -130,13 +131,23 @@ pub record AreIncludes (worlds : List Address) (item : Item) (is : List WorldInc
   pub count : length is ≡ length (includes item)
   pub each : (k : ℕ) (written : Include) (i : WorldInclude) → slice_get (includes item) k ≡ Some written → slice_get is k ≡ Some i → IsInclude worlds item.top written i
 
--- These are the worlds of files, each with its names in turn as its imports, and then the functions that it imports, with those that it
--- exports, and with its includes, where the worlds have these addresses.
-pub record AreWorlds (ks : List Key) (worlds : List Address) (os : List Ordered) (ws : List World) : Type 0 where
+-- Behind the names of types a world has on its sides what an item has there, with functions over the types of the package, where the
+-- interfaces have these addresses.
+pub record HasSides (ks : List Key) (interfaces : List Address) (o : Ordered) (w : World) : Type 0 where
+  pub functions : List Function
+  pub are : AreFunctions ks (address o.item) (item_functions o.item) functions
+  pub imported : List (WorldKey × WorldItem)
+  pub imports : w.imports ≡ type_imports (ordered_names o) (world_types w) ++ imported
+  pub are_imported : AreSideItems interfaces o.item.top Imported (side_items o.item) functions imported
+  pub are_exported : AreSideItems interfaces o.item.top Exported (side_items o.item) functions w.exports
+
+-- These are the worlds of files, each with its names in turn as its imports, and then the functions and interfaces that it imports, with
+-- those that it exports, and with its includes, where the interfaces and the worlds have these addresses.
+pub record AreWorlds (ks : List Key) (interfaces worlds : List Address) (os : List Ordered) (ws : List World) : Type 0 where
   pub count : length ws ≡ length os
   pub says : (t : ℕ) (o : Ordered) (w : World) → slice_get os t ≡ Some o → slice_get ws t ≡ Some w → IsWorld (item_id o.item) (item_notes o.item) w
   pub types : (t : ℕ) (o : Ordered) (w : World) → slice_get os t ≡ Some o → slice_get ws t ≡ Some w → HasTypes ks (turned o) (world_types w)
-  pub sides : (t : ℕ) (o : Ordered) (w : World) → slice_get os t ≡ Some o → slice_get ws t ≡ Some w → (fs : List Function) × AreFunctions ks (address o.item) (item_functions o.item) fs × (w.imports ≡ type_imports (ordered_names o) (world_types w) ++ map function_item (made_on Imported (item_functions o.item) fs)) × (w.exports ≡ map function_item (made_on Exported (item_functions o.item) fs))
+  pub sides : (t : ℕ) (o : Ordered) (w : World) → slice_get os t ≡ Some o → slice_get ws t ≡ Some w → HasSides ks interfaces o w
   pub includes : (t : ℕ) (o : Ordered) (w : World) → slice_get os t ≡ Some o → slice_get ws t ≡ Some w → AreIncludes worlds o.item w.includes
 
 -- the names in the handles of a scope, each with the scope, in the order in which they are resolved
@@ -240,7 +251,7 @@ pub record IsPackage (files : List PackageFile) (p : UnresolvedPackage) : Type 0
   pub own_worlds : List World
   pub world_arena : p.worlds ≡ worlds_front ++ own_worlds
   pub are_foreign_worlds : AreForeignWorlds (foreign_worlds files) worlds_front
-  pub are_worlds : AreWorlds (keys met) (world_addresses files worlds) worlds own_worlds
+  pub are_worlds : AreWorlds (keys met) (interface_addresses files interfaces) (world_addresses files worlds) worlds own_worlds
   -- the types of other packages that must be resources: those at which names in handles end, of all interfaces and then of all worlds
   pub required : AreRequired files (keys met) (flat_map turn_handles (map turned (interfaces ++ worlds))) p.required_resource_types
   -- two written types are one type exactly where they are one expression

@@ -7,4 +7,5 @@ pub mod HandleExamples
 pub mod SignatureExamples
 pub mod RuleExamples
 pub mod SideExamples
+pub mod LinkExamples
 pub mod NotesExamples

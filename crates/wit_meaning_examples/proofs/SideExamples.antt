@@ -33,8 +33,8 @@ use Rattle.wit_syntax.specs.Repeats.{AllDiffer}
 use Rattle.wit_syntax.specs.Source.{top_names, TheWorld, Item, Defined, scope_names, Crossing, parts}
 use Rattle.wit_syntax.specs.Function.{SourceFunction, side_function, extern_functions, functions, free_names}
 use Rattle.wit_syntax.specs.Signature.{called_key, IsBrokenFunction, BrokenNotes, BrokenTypes, FunctionAsType, MissingInSignature, GetterGiven, SetterGiven, DuplicateParam, GetterWithoutResult, SetterWithResult, ConstructorWithoutResult, ConstructorOfOther}
-use Rattle.wit_syntax.specs.Sides.{side_called, IsFoldedTwice, IsCrossedTwice}
-use Rattle.wit_syntax.specs.Broken.{IsBrokenScope, DefinedTwice, MissingType, CyclicType, Notes, Body, Function, FoldedTwice, CrossedTwice, IsUnread, IsBroken, Scope}
+use Rattle.wit_syntax.specs.Sides.{SideItem, SideFunction, SideLink, Link, side_items, items_on, side_called, IsFoldedTwice, IsCrossedTwice, IsBrokenSides, FoldedTwice, CrossedTwice, LinkedTwice, LinkNotes}
+use Rattle.wit_syntax.specs.Broken.{IsBrokenScope, DefinedTwice, MissingType, CyclicType, Notes, Body, Function, IsUnread, IsBroken, Sides}
 use Rattle.wit_syntax.proofs.Found.{at_contains}
 use Rattle.wit_syntax.proofs.Legal.{no_fold, no_crossed}
 use Rattle.wit_arena.specs.Functions.{function_item, made_on}
@@ -43,7 +43,7 @@ use Rattle.wit_meaning_examples.proofs.Examples.{at, id, vec, no_comments, untol
 use Rattle.wit_meaning_examples.proofs.SignatureExamples.{one_order}
 
 -- a scope without names has one order
-no_rows : IsOrder [] []
+pub no_rows : IsOrder [] []
 no_rows = record {
   complete = λ i k id edge. absurd (let row = edge.1 in let f : ⊥ = cc in f);
   sorted = record {
@@ -65,7 +65,7 @@ one_differs x = record { differ = differ }
     differ (suc i) j y at_i at_j = absurd (let f : ⊥ = cc in f)
 
 -- nothing is among none
-none_among : {X : Type 0} (x : X) → Contains [] x → ⊥
+pub none_among : {X : Type 0} (x : X) → Contains [] x → ⊥
 none_among x h = let it = at_contains [] x h in let f : ⊥ = (let there = it.1 in cc) in f
 
 no_attribute : (kind : AttributeKind) (place : ℕ) (a : Attribute) → StandsAt kind [] place a → ⊥
@@ -79,7 +79,7 @@ no_stability f (UnstableTwice h) = no_attribute Unstable h.first h.earlier h.at_
 no_stability f (SinceAndUnstable h) = no_attribute Since h.since_place h.since h.at_since
 no_stability f (DeprecatedAlone h) = no_attribute Deprecated h.place h.deprecated h.at
 
-no_notes : (f : Fault) → IsBrokenNotes [] f → ⊥
+pub no_notes : (f : Fault) → IsBrokenNotes [] f → ⊥
 no_notes f (inl h) = no_stability f h
 no_notes f (inr h) = no_attribute ExternalId h.first h.earlier h.at_first
 
@@ -119,11 +119,11 @@ module _ (ptr : Ptr) (alloc : Global) where
     abbrev folding : WrittenWorld
     folding = w (crossing Imported (id ptr alloc (codes "F") (at 52 53) refl) (at 55 59))
 
-    one_key : map called_key (side_called Imported [] (functions (item_of folding)) []) ≡ (codes "f" ∷ codes "f" ∷ [])
+    one_key : map called_key (side_called Imported [] (side_items (item_of folding)) []) ≡ (codes "f" ∷ codes "f" ∷ [])
     one_key = refl
 
     folding_refused : IsBroken (file_of folding ∷ []) (fault 17 (at 52 53))
-    folding_refused = Scope (item_of folding) (0, lit< tt, refl) (FoldedTwice (record {
+    folding_refused = Sides (item_of folding) (0, lit< tt, refl) (FoldedTwice (record {
       side = Imported;
       order = [];
       least = no_rows;
@@ -138,16 +138,16 @@ module _ (ptr : Ptr) (alloc : Global) where
     repeating = w (crossing Imported (f_at (at 52 53)) (at 55 59))
 
     repeating_refused : IsBroken (file_of repeating ∷ []) (fault 44 (at 52 53))
-    repeating_refused = Scope (item_of repeating) (0, lit< tt, refl) (CrossedTwice (record {
+    repeating_refused = Sides (item_of repeating) (0, lit< tt, refl) (CrossedTwice (record {
       side = Imported;
       order = [];
       least = no_rows;
       place = 1;
-      later = _;
+      later = SideFunction (plain Imported (at 52 53) (at 55 59));
       at = refl;
-      id = f_at (at 52 53);
-      form = form.Plain;
-      crosses = refl;
+      crosses = (Imported, f_at (at 52 53), form.Plain, refl);
+      called = record { name = codes "f"; span = at 52 53 };
+      named = refl;
       earlier = record { name = codes "f"; span = at 34 35 };
       among = (0, lit< tt, refl);
       same = refl;
@@ -162,19 +162,28 @@ module _ (ptr : Ptr) (alloc : Global) where
     abbrev fns : List SourceFunction
     fns = functions (item_of passing)
 
+    abbrev items : List SideItem
+    items = side_items (item_of passing)
+
     free : free_names (item_of passing) ≡ (codes "f" ∷ codes "f" ∷ [])
     free = refl
 
     -- one stands on each side
-    keys_of : (side : WorldSide) → AllDiffer (map called_key (side_called side [] fns []))
+    keys_of : (side : WorldSide) → AllDiffer (map called_key (side_called side [] items []))
     keys_of Imported = one_differs (codes "f")
     keys_of Exported = one_differs (codes "f")
 
-    none_folded : (f : Fault) → IsFoldedTwice (scope_names (item_of passing)) fns f → ⊥
-    none_folded f h = no_fold [] fns [] f no_rows keys_of h
+    no_link : (side : WorldSide) (place : ℕ) (link : Link) → slice_get (items_on side items) place ≡ Some (SideLink link) → ⊥
+    no_link Imported zero link there = let g : ⊥ = cc in g
+    no_link Imported (suc place) link there = let g : ⊥ = cc in g
+    no_link Exported zero link there = let g : ⊥ = cc in g
+    no_link Exported (suc place) link there = let g : ⊥ = cc in g
 
-    none_crossed : (f : Fault) → IsCrossedTwice (scope_names (item_of passing)) fns f → ⊥
-    none_crossed f h = no_crossed [] fns [] f no_rows keys_of h
+    sides_pass : (f : Fault) → IsBrokenSides (item_of passing) f → ⊥
+    sides_pass f (FoldedTwice h) = no_fold [] items [] f no_rows keys_of h
+    sides_pass f (CrossedTwice h) = no_crossed [] items [] f no_rows keys_of h
+    sides_pass f (LinkedTwice h) = no_link h.side h.place h.link h.at
+    sides_pass f (LinkNotes link among h) = none_among link among
 
     -- a function without parameters and result breaks no rule of functions
     none_in : (side : WorldSide) (name word : Span) (k : ℕ) (f : Fault) → IsBrokenFunction [] fns k (plain side name word) f → ⊥
@@ -203,8 +212,6 @@ module _ (ptr : Ptr) (alloc : Global) where
     none_broken f (Notes d among h) = none_among (Defined d) among
     none_broken f (Body d among h) = none_among (Defined d) among
     none_broken f (Function k fn at_k h) = none_at k fn at_k f h
-    none_broken f (FoldedTwice h) = none_folded f h
-    none_broken f (CrossedTwice h) = none_crossed f h
 
     -- and both functions are treated
     is_function : (k : ℕ) (x : Extern) → slice_get (parts (item_of passing)) k ≡ Some (Crossing x) → extern_functions x x.kind ≡ [] → ⊥
@@ -213,7 +220,7 @@ module _ (ptr : Ptr) (alloc : Global) where
     is_function (suc (suc k)) x here none = let g : ⊥ = cc in g
 
     none_unread : (f : Fault) → IsUnread (item_of passing) f → ⊥
-    none_unread f h = let it = at_contains (parts (item_of passing)) (Crossing h.x) h.among in is_function it.0 h.x it.1 h.interface
+    none_unread f h = let it = at_contains (parts (item_of passing)) (Crossing h.x) h.among in is_function it.0 h.x it.1 h.no_function
 
     -- the functions of the package, by where they are written
     abbrev made : Span → Made
@@ -256,16 +263,16 @@ module _ (ptr : Ptr) (alloc : Global) where
     clashing = beside (crossing Imported (f_at (at 47 48)) (at 50 54))
 
     clashing_refused : IsBroken (file_of clashing ∷ []) (fault 44 (at 47 48))
-    clashing_refused = Scope (item_of clashing) (0, lit< tt, refl) (CrossedTwice (record {
+    clashing_refused = Sides (item_of clashing) (0, lit< tt, refl) (CrossedTwice (record {
       side = Imported;
       order = 0 ∷ [];
       least = one_order (codes "f");
       place = 0;
-      later = _;
+      later = SideFunction (plain Imported (at 47 48) (at 50 54));
       at = refl;
-      id = f_at (at 47 48);
-      form = form.Plain;
-      crosses = refl;
+      crosses = (Imported, f_at (at 47 48), form.Plain, refl);
+      called = record { name = codes "f"; span = at 47 48 };
+      named = refl;
       earlier = record { name = codes "f"; span = at 32 33 };
       among = (0, lit< tt, refl);
       same = refl;
@@ -276,12 +283,12 @@ module _ (ptr : Ptr) (alloc : Global) where
     abbrev apart : WrittenWorld
     apart = beside (crossing Exported (f_at (at 47 48)) (at 50 54))
 
-    keys_apart : (side : WorldSide) → AllDiffer (map called_key (side_called side (scope_names (item_of apart)) (functions (item_of apart)) (0 ∷ [])))
+    keys_apart : (side : WorldSide) → AllDiffer (map called_key (side_called side (scope_names (item_of apart)) (side_items (item_of apart)) (0 ∷ [])))
     keys_apart Imported = one_differs (codes "f")
     keys_apart Exported = one_differs (codes "f")
 
-    apart_folded : (f : Fault) → IsFoldedTwice (scope_names (item_of apart)) (functions (item_of apart)) f → ⊥
-    apart_folded f h = no_fold (scope_names (item_of apart)) (functions (item_of apart)) (0 ∷ []) f (one_order (codes "f")) keys_apart h
+    apart_folded : (f : Fault) → IsFoldedTwice (scope_names (item_of apart)) (side_items (item_of apart)) f → ⊥
+    apart_folded f h = no_fold (scope_names (item_of apart)) (side_items (item_of apart)) (0 ∷ []) f (one_order (codes "f")) keys_apart h
 
-    apart_crossed : (f : Fault) → IsCrossedTwice (scope_names (item_of apart)) (functions (item_of apart)) f → ⊥
-    apart_crossed f h = no_crossed (scope_names (item_of apart)) (functions (item_of apart)) (0 ∷ []) f (one_order (codes "f")) keys_apart h
+    apart_crossed : (f : Fault) → IsCrossedTwice (scope_names (item_of apart)) (side_items (item_of apart)) f → ⊥
+    apart_crossed f h = no_crossed (scope_names (item_of apart)) (side_items (item_of apart)) (0 ∷ []) f (one_order (codes "f")) keys_apart h

@@ -42,8 +42,8 @@ use Rattle.wit_syntax.specs.Function.{SourceFunction, functions, free_names}
 use Rattle.wit_arena.specs.Functions.{placed_functions}
 use Rattle.wit_syntax.specs.Signature.{Called, called_key, FunctionAsType, DuplicateParam, SetterWithResult, ConstructorOfOther, IsWrittenAs, result_ok}
 use Rattle.wit_tree.specs.declared.tree.WorldSide.TheVariants.{Imported}
-use Rattle.wit_syntax.specs.Sides.{side_called}
-use Rattle.wit_syntax.specs.Broken.{IsBrokenScope, MissingType, Function, FoldedTwice, IsBroken, Scope, FunctionUsed, Setter}
+use Rattle.wit_syntax.specs.Sides.{side_items, side_called, FoldedTwice}
+use Rattle.wit_syntax.specs.Broken.{IsBrokenScope, MissingType, Function, IsBroken, Scope, Sides, FunctionUsed, Setter}
 use Rattle.wit_arena.specs.Whole.{turned, meetings}
 use Rattle.wit_syntax.proofs.Found.{at_contains}
 use Rattle.wit_meaning_examples.proofs.Examples.{at, id, vec, no_comments, untold, header}
@@ -148,7 +148,7 @@ module _ (ptr : Ptr) (alloc : Global) where
     clash = i_of (TypeItem (resource_of (r_id (at 40 41)) (resource.Method (func (r_id (at 44 45)) (at 47 51) form.Plain None) ∷ []) (lit< tt)) ∷ []) (lit< tt)
 
     abbrev clashing : List Called
-    clashing = side_called Imported (scope_names (item_of clash)) (functions (item_of clash)) (0 ∷ [])
+    clashing = side_called Imported (scope_names (item_of clash)) (side_items (item_of clash)) (0 ∷ [])
 
     clashing_names : map (λ (c : Called). c.name) clashing ≡ (codes "r" ∷ codes "[method]r.r" ∷ [])
     clashing_names = refl
@@ -157,7 +157,7 @@ module _ (ptr : Ptr) (alloc : Global) where
     one_key = refl
 
     clash_refused : IsBroken (file_of clash ∷ []) (fault 17 (at 44 45))
-    clash_refused = in_scope clash (fault 17 (at 44 45)) (FoldedTwice (record {
+    clash_refused = Sides (item_of clash) (0, lit< tt, refl) (FoldedTwice (record {
       side = Imported;
       order = 0 ∷ [];
       least = one_order (codes "r");
@@ -170,14 +170,14 @@ module _ (ptr : Ptr) (alloc : Global) where
   abbrev maker : Interface
   maker = i_of (TypeItem (resource_of (r_id (at 40 41)) (resource.Constructor (no_comments ptr alloc) (untold ptr alloc) (at 44 55) (vec ptr alloc [] (lit< tt)) None ∷ []) (lit< tt)) ∷ []) (lit< tt)
 
-  two_keys : map called_key (side_called Imported (scope_names (item_of maker)) (functions (item_of maker)) (0 ∷ [])) ≡ (codes "r" ∷ codes "[constructor]r" ∷ [])
+  two_keys : map called_key (side_called Imported (scope_names (item_of maker)) (side_items (item_of maker)) (0 ∷ [])) ≡ (codes "r" ∷ codes "[constructor]r" ∷ [])
   two_keys = refl
 
   -- type x = u8; x: get() -> u8;
   abbrev getter_beside : Interface
   getter_beside = i_of (TypeItem (record { docs = no_comments ptr alloc; attributes = untold ptr alloc; name = x_id (at 36 37); body = Plain (written.U8 (at 40 42)) }) ∷ FuncItem (func (x_id (at 44 45)) (at 47 50) form.Getter (Some (written.U8 (at 56 58)))) ∷ []) (lit< tt)
 
-  keys_beside : map called_key (side_called Imported (scope_names (item_of getter_beside)) (functions (item_of getter_beside)) (0 ∷ [])) ≡ (codes "x" ∷ codes "[get]x" ∷ [])
+  keys_beside : map called_key (side_called Imported (scope_names (item_of getter_beside)) (side_items (item_of getter_beside)) (0 ∷ [])) ≡ (codes "x" ∷ codes "[get]x" ∷ [])
   keys_beside = refl
 
   -- x: set(v: u8); f: func(); x: get() -> u8;

@@ -1,28 +1,35 @@
 -- Where a table was ordered and a scope resolved, no rule is broken in them.
-use Rattle.std.proofs.Common.{◌≡◌, ◌⊎◌, ◌<◌, ◌+◌, ◌++◌, ℕ, List, Some, length, take, map, inl, inr, refl, sym, ap, ◌∙◌, subst, arith}
+use Rattle.std.proofs.Common.{◌≡◌, ◌⊎◌, ◌<◌, ◌+◌, ◌++◌, ℕ, zero, suc, List, [], ◌∷◌, Some, length, take, drop, map, inl, inr, refl, sym, ap, ◌∙◌, subst, arith, append_assoc}
 use Rattle.std.specs.Prelude.{slice_get, Contains}
-use Rattle.std.specs.Option.{option_map}
-use Rattle.std.proofs.lemmas.Option.{slice_get_within, slice_get-map}
+use Rattle.std.specs.List.{flat_map}
+use Rattle.std.proofs.lemmas.Bool.{cases_Bool, cond-true, cond-false}
+use Rattle.std.proofs.lemmas.Grind.{flat_map-append}
+use Rattle.std.proofs.lemmas.List.{take-append-drop}
+use Rattle.std.proofs.lemmas.Option.{slice_get_within}
 use Rattle.wit_names.specs.Folded.{folded_key}
 use Rattle.wit_tree.specs.declared.tree.Id.{Id}
+use Rattle.wit_tree.specs.declared.tree.Extern.{Extern}
+use Rattle.wit_tree.specs.declared.tree.ExternKind.{ExternKind}
+use Rattle.wit_tree.specs.declared.tree.ExternKind.TheVariants as extern
 use Rattle.wit_order.specs.Table.{Row, target, Leads, IsOrder}
 use Rattle.wit_order.proofs.Tables.{not_missing}
 use Rattle.wit_order.proofs.Forward.{no_cycle}
 use Rattle.wit_order.proofs.SameEdges.{one_answer}
-use Rattle.wit_syntax.specs.Source.{ScopeName}
+use Rattle.wit_syntax.specs.Source.{Part, Defining, Using, Including, Doing, Crossing, Item, parts, ScopeName}
 use Rattle.wit_syntax.specs.Fault.{Fault, fault}
 use Rattle.wit_syntax.specs.Scope.{rows_of, in_turn}
 use Rattle.wit_syntax.specs.Bodies.{IsRepeated}
-use Rattle.wit_syntax.specs.Function.{SourceFunction}
-use Rattle.wit_syntax.specs.Signature.{called_key, name_called, function_called}
+use Rattle.wit_syntax.specs.Function.{SourceFunction, definition_functions, extern_functions, part_functions, functions}
+use Rattle.wit_syntax.specs.Signature.{Called, called_key, name_called, function_called}
 use Rattle.wit_tree.specs.declared.tree.WorldSide.{WorldSide}
-use Rattle.wit_syntax.specs.Sides.{role_side, same_side, function_key, on_side, names_on, side_called, IsFoldedTwice, IsCrossedTwice}
-use Rattle.wit_syntax.specs.Broken.{IsMissingEdge, IsCyclicEdge, IsBrokenScope, FoldedTwice}
+use Rattle.wit_syntax.specs.Crossing.{same_side}
+use Rattle.wit_syntax.specs.Sides.{role_side, function_key, names_on, SideItem, SideFunction, SideLink, extern_items, part_items, side_items, item_function, item_side, items_on, item_called, side_called, IsFoldedTwice, IsCrossedTwice}
+use Rattle.wit_syntax.specs.Broken.{IsMissingEdge, IsCyclicEdge}
 use Rattle.wit_syntax.specs.Repeats.{AllDiffer}
 use Rattle.wit_syntax.proofs.Repeated.{no_repeat, differ_by, differ_at}
-use Rattle.wit_syntax.proofs.Lists.{at_front, at_back, at_split, at_take, map_at}
+use Rattle.wit_syntax.proofs.Lists.{at_front, at_back, flat_map_has}
 use Rattle.wit_syntax.proofs.Found.{at_contains}
-use Rattle.wit_syntax.proofs.Sides.{side_itself, kept_both}
+use Rattle.wit_syntax.proofs.Sides.{side_itself}
 
 -- no edge of an ordered table is missing
 pub no_missing_edge : (told : Id → Fault) (rs : List Row) (places : List ℕ) (f : Fault) → IsOrder rs places → IsMissingEdge told rs f → ⊥
@@ -32,38 +39,39 @@ no_missing_edge told rs places f order h = not_missing (target rs h.id) (order.c
 pub no_cyclic_edge : (number : ℕ) (sort : List ℕ) (rs : List Row) (places : List ℕ) (f : Fault) → IsOrder rs places → IsCyclicEdge number sort rs f → ⊥
 no_cyclic_edge number sort rs places f order h = no_cycle (Leads rs) (length rs) places order.sorted h.place (slice_get_within rs h.place h.edge.0 h.edge.1) h.cyclic.0
 
--- where the keys of the names on each side differ in turn, and those of functions, none is repeated
-pub no_fold : (xs : List ScopeName) (fns : List SourceFunction) (order : List ℕ) (f : Fault) → IsOrder (rows_of xs) order → ((side : WorldSide) → AllDiffer (map called_key (side_called side xs fns order))) → IsFoldedTwice xs fns f → ⊥
-no_fold xs fns order f least differ h =
+-- where the keys of the names on each side differ in turn, none is repeated
+pub no_fold : (xs : List ScopeName) (items : List SideItem) (order : List ℕ) (f : Fault) → IsOrder (rows_of xs) order → ((side : WorldSide) → AllDiffer (map called_key (side_called side xs items order))) → IsFoldedTwice xs items f → ⊥
+no_fold xs items order f least differ h =
     let same : h.order ≡ order = (one_answer (rows_of xs)).one h.order order h.least least in
-    no_repeat called_key (side_called h.side xs fns order) h.later (differ h.side) (subst (λ places. IsRepeated called_key (side_called h.side xs fns places) h.later) same h.repeated)
+    no_repeat called_key (side_called h.side xs items order) h.later (differ h.side) (subst (λ places. IsRepeated called_key (side_called h.side xs items places) h.later) same h.repeated)
 
--- where all keys differ, none in front of a place has the key of what stands there
-none_before : {X Y : Type 0} (key : X → List ℕ) (of : Y → X) (xs : List X) (ys : List Y) (place : ℕ) (x : X) (y : Y) → AllDiffer (map key (xs ++ map of ys)) → Contains (xs ++ map of (take place ys)) x → slice_get ys place ≡ Some y → key x ≡ key (of y) → ⊥
-none_before key of xs ys place x y differ among at same =
-    let all = xs ++ map of ys in
-    let here : slice_get all (length xs + place) ≡ Some (of y) = at_back xs (map of ys) place (of y) (slice_get-map of ys place ∙ ap (option_map of) at) in
-    let it = at_contains (xs ++ map of (take place ys)) x among in
-    elim (at_split xs (map of (take place ys)) it.0 x it.1) [
-      | inl front ↦ (
-          let lt = slice_get_within xs it.0 x front in
-          let one = differ_at key all differ it.0 (length xs + place) x (of y) (at_front xs (map of ys) it.0 x front) here same in
-          omega (arith, lt, one))
-      | inr back ↦ (
-          let early = map_at of (take place ys) back.0 x back.2 in
-          let whole = at_take ys place back.0 early.0 early.1 in
-          let lt = whole.1 in
-          let there : slice_get all (length xs + back.0) ≡ Some x = at_back xs (map of ys) back.0 x (slice_get-map of ys back.0 ∙ ap (option_map of) whole.0 ∙ ap Some early.2) in
-          let one = differ_at key all differ (length xs + back.0) (length xs + place) x (of y) there here same in
-          omega (arith, lt, one))
-    ]
+-- what stands at a place is the first behind those before it
+at_drop : {X : Type 0} (xs : List X) (n : ℕ) (x : X) → slice_get xs n ≡ Some x → slice_get (drop n xs) 0 ≡ Some x
+at_drop [] n x at = absurd (let f : ⊥ = cc in f)
+at_drop (y ∷ ys) zero x at = at
+at_drop (y ∷ ys) (suc n) x at = at_drop ys n x at
+
+-- where all keys differ, none in front of what an item at a place brings has its key
+none_before : {X Y : Type 0} (key : X → List ℕ) (of : Y → List X) (xs : List X) (ys : List Y) (place : ℕ) (x z : X) (y : Y) → AllDiffer (map key (xs ++ flat_map of ys)) → Contains (xs ++ flat_map of (take place ys)) x → slice_get ys place ≡ Some y → of y ≡ z ∷ [] → key x ≡ key z → ⊥
+none_before key of xs ys place x z y differ among at own same =
+    let front = flat_map of (take place ys) in
+    let all = xs ++ flat_map of ys in
+    let split : flat_map of ys ≡ front ++ flat_map of (drop place ys) = ap (flat_map of) (sym (take-append-drop place ys)) ∙ flat_map-append of (take place ys) (drop place ys) in
+    let whole : all ≡ (xs ++ front) ++ flat_map of (drop place ys) = ap (λ l. xs ++ l) split ∙ sym (append_assoc xs front (flat_map of (drop place ys))) in
+    let next = flat_map_has of (drop place ys) 0 0 y z (at_drop ys place y at) (ap (λ l. slice_get l 0) own) in
+    let it = at_contains (xs ++ front) x among in
+    let lt = slice_get_within (xs ++ front) it.0 x it.1 in
+    let here : slice_get all (length (xs ++ front) + next.0) ≡ Some z = ap (λ l. slice_get l (length (xs ++ front) + next.0)) whole ∙ at_back (xs ++ front) (flat_map of (drop place ys)) next.0 z next.1 in
+    let there : slice_get all it.0 ≡ Some x = ap (λ l. slice_get l it.0) whole ∙ at_front (xs ++ front) (flat_map of (drop place ys)) it.0 x it.1 in
+    let one = differ_at key all differ it.0 (length (xs ++ front) + next.0) x z there here same in
+    omega (arith, lt, one)
 
 -- and none is that of an import or an export behind it
-pub no_crossed : (xs : List ScopeName) (fns : List SourceFunction) (order : List ℕ) (f : Fault) → IsOrder (rows_of xs) order → ((side : WorldSide) → AllDiffer (map called_key (side_called side xs fns order))) → IsCrossedTwice xs fns f → ⊥
-no_crossed xs fns order f least differ h =
+pub no_crossed : (xs : List ScopeName) (items : List SideItem) (order : List ℕ) (f : Fault) → IsOrder (rows_of xs) order → ((side : WorldSide) → AllDiffer (map called_key (side_called side xs items order))) → IsCrossedTwice xs items f → ⊥
+no_crossed xs items order f least differ h =
     let same : h.order ≡ order = (one_answer (rows_of xs)).one h.order order h.least least in
-    let among = subst (λ places. Contains (map name_called (names_on h.side (in_turn xs places)) ++ map function_called (take h.place (on_side h.side fns))) h.earlier) same h.among in
-    none_before called_key function_called (map name_called (names_on h.side (in_turn xs order))) (on_side h.side fns) h.place h.earlier h.later (differ h.side) among h.at (ap folded_key h.same)
+    let among = subst (λ places. Contains (map name_called (names_on h.side (in_turn xs places)) ++ flat_map item_called (take h.place (items_on h.side items))) h.earlier) same h.among in
+    none_before called_key item_called (map name_called (names_on h.side (in_turn xs order))) (items_on h.side items) h.place h.earlier h.called h.later (differ h.side) among h.at h.named (ap folded_key h.same)
 
 pub three_ways : (m n : ℕ) → (m < n) ⊎ ((m ≡ n) ⊎ (n < m))
 three_ways m n = grind arith
@@ -71,17 +79,69 @@ three_ways m n = grind arith
 abbrev pub function_name : SourceFunction → List ℕ
 function_name fn = fn.name
 
+-- what an item brings in front of what the others on its side bring
+called_first : (side : WorldSide) (x : SideItem) (items : List SideItem) → item_side x ≡ side → flat_map item_called (items_on side (x ∷ items)) ≡ item_called x ++ flat_map item_called (items_on side items)
+called_first side x items own = ap (flat_map item_called) (cond-true (same_side side (item_side x)) (x ∷ items_on side items) (items_on side items) (ap (same_side side) own ∙ side_itself side))
+
+-- what is called on a side stands behind what the first item brings there, or there is no more
+called_behind : (side : WorldSide) (x : SideItem) (items : List SideItem) → (n : ℕ) × ((k : ℕ) (c : Called) → slice_get (flat_map item_called (items_on side items)) k ≡ Some c → slice_get (flat_map item_called (items_on side (x ∷ items))) (n + k) ≡ Some c)
+called_behind side x items = elim (cases_Bool (same_side side (item_side x))) [
+  | inl hit ↦ (length (item_called x), λ k c at. ap (λ l. slice_get (flat_map item_called l) (length (item_called x) + k)) (cond-true (same_side side (item_side x)) (x ∷ items_on side items) (items_on side items) hit) ∙ at_back (item_called x) (flat_map item_called (items_on side items)) k c at)
+  | inr miss ↦ (
+    0,
+    λ k c at. (
+        let same : k ≡ 0 + k = omega arith in
+        subst (λ (m : ℕ). slice_get (flat_map item_called (items_on side (x ∷ items))) m ≡ Some c) same (ap (λ l. slice_get (flat_map item_called l) k) (cond-false (same_side side (item_side x)) (x ∷ items_on side items) (items_on side items) miss) ∙ at)),
+  )
+]
+
+-- a function on a side is called there
+function_on : (side : WorldSide) (items : List SideItem) (i : ℕ) (x : SourceFunction) → slice_get (flat_map item_function items) i ≡ Some x → role_side x.role ≡ side → (a : ℕ) × (slice_get (flat_map item_called (items_on side items)) a ≡ Some (function_called x))
+function_on side [] i x at own = absurd (let f : ⊥ = cc in f)
+function_on side (SideLink link ∷ items) i x at own =
+    let it = function_on side items i x at own in
+    let more = called_behind side (SideLink link) items in
+    (more.0 + it.0, more.1 it.0 (function_called x) it.1)
+function_on side (SideFunction fn ∷ items) zero x at own =
+    let here : fn ≡ x = cc in
+    (0, ap (λ l. slice_get l 0) (called_first side (SideFunction fn) items (ap (λ (g : SourceFunction). role_side g.role) here ∙ own)) ∙ ap (λ g. Some (function_called g)) here)
+function_on side (SideFunction fn ∷ items) (suc i) x at own =
+    let it = function_on side items i x at own in
+    let more = called_behind side (SideFunction fn) items in
+    (more.0 + it.0, more.1 it.0 (function_called x) it.1)
+
+-- two functions on a side are called there in their order
+functions_on : (side : WorldSide) (items : List SideItem) (i j : ℕ) (x y : SourceFunction) → i < j → slice_get (flat_map item_function items) i ≡ Some x → slice_get (flat_map item_function items) j ≡ Some y → role_side x.role ≡ side → role_side y.role ≡ side → (a : ℕ) × (b : ℕ) × (a < b) × (slice_get (flat_map item_called (items_on side items)) a ≡ Some (function_called x)) × (slice_get (flat_map item_called (items_on side items)) b ≡ Some (function_called y))
+functions_on side [] i j x y before at_x at_y own_x own_y = absurd (let f : ⊥ = cc in f)
+functions_on side (SideLink link ∷ items) i j x y before at_x at_y own_x own_y =
+    let it = functions_on side items i j x y before at_x at_y own_x own_y in
+    let lt = it.2 in
+    let more = called_behind side (SideLink link) items in
+    (more.0 + it.0, more.0 + it.1, omega (arith, lt), more.1 it.0 (function_called x) it.3, more.1 it.1 (function_called y) it.4)
+functions_on side (SideFunction fn ∷ items) i zero x y before at_x at_y own_x own_y = absurd (let f : ⊥ = omega (arith, before) in f)
+functions_on side (SideFunction fn ∷ items) zero (suc j) x y before at_x at_y own_x own_y =
+    let here : fn ≡ x = cc in
+    let own : role_side fn.role ≡ side = ap (λ (g : SourceFunction). role_side g.role) here ∙ own_x in
+    let whole = called_first side (SideFunction fn) items own in
+    let it = function_on side items j y at_y own_y in
+    (0, suc it.0, omega arith, ap (λ l. slice_get l 0) whole ∙ ap (λ g. Some (function_called g)) here, ap (λ l. slice_get l (suc it.0)) whole ∙ it.1)
+functions_on side (SideFunction fn ∷ items) (suc i) (suc j) x y before at_x at_y own_x own_y =
+    let it = functions_on side items i j x y (omega (arith, before)) at_x at_y own_x own_y in
+    let lt = it.2 in
+    let more = called_behind side (SideFunction fn) items in
+    (more.0 + it.0, more.0 + it.1, omega (arith, lt), more.1 it.0 (function_called x) it.3, more.1 it.1 (function_called y) it.4)
+
 -- of two functions with one name on one side the later one has the key of the earlier one
-function_twice : (xs : List ScopeName) (fns : List SourceFunction) (order : List ℕ) → IsOrder (rows_of xs) order → (i j : ℕ) (x y : SourceFunction) → i < j → slice_get fns i ≡ Some x → slice_get fns j ≡ Some y → function_key x ≡ function_key y → IsBrokenScope xs fns (fault 17 y.span)
-function_twice xs fns order least i j x y before at_x at_y same =
+function_twice : (xs : List ScopeName) (items : List SideItem) (order : List ℕ) → IsOrder (rows_of xs) order → (i j : ℕ) (x y : SourceFunction) → i < j → slice_get (flat_map item_function items) i ≡ Some x → slice_get (flat_map item_function items) j ≡ Some y → function_key x ≡ function_key y → IsFoldedTwice xs items (fault 17 y.span)
+function_twice xs items order least i j x y before at_x at_y same =
     let side = role_side x.role in
     let one : side ≡ role_side y.role = ap (λ k. k.0) same in
     let name : x.name ≡ y.name = ap (λ k. k.1) same in
     let names = map name_called (names_on side (in_turn xs order)) in
-    let ours = on_side side fns in
-    let it = kept_both (λ fn. same_side side (role_side fn.role)) fns i j x y before at_x at_y (side_itself side) (ap (same_side side) (sym one) ∙ side_itself side) in
+    let ours = flat_map item_called (items_on side items) in
+    let it = functions_on side items i j x y before at_x at_y refl (sym one) in
     let lt = it.2 in
-    FoldedTwice (record {
+    record {
       side = side;
       order = order;
       least = least;
@@ -91,19 +151,44 @@ function_twice xs fns order least i j x y before at_x at_y same =
         second = length names + it.1;
         earlier = function_called x;
         before = omega (arith, lt);
-        at_first = at_back names (map function_called ours) it.0 (function_called x) (slice_get-map function_called ours it.0 ∙ ap (option_map function_called) it.3);
-        at_second = at_back names (map function_called ours) it.1 (function_called y) (slice_get-map function_called ours it.1 ∙ ap (option_map function_called) it.4);
+        at_first = at_back names ours it.0 (function_called x) it.3;
+        at_second = at_back names ours it.1 (function_called y) it.4;
         same = ap folded_key name;
       };
       is = refl;
-    })
+    }
 
--- so the functions of a legal scope go by different sides or names
-pub functions_differ : (xs : List ScopeName) (fns : List SourceFunction) (order : List ℕ) → IsOrder (rows_of xs) order → ((f : Fault) → IsBrokenScope xs fns f → ⊥) → AllDiffer (map function_key fns)
-functions_differ xs fns order least legal = differ_by function_key fns (λ i j x y at_x at_y same. elim (three_ways i j) [
-  | inl before ↦ absurd (legal (fault 17 y.span) (function_twice xs fns order least i j x y before at_x at_y same))
+-- so the functions of legal sides go by different sides or names
+pub functions_differ : (xs : List ScopeName) (items : List SideItem) (order : List ℕ) → IsOrder (rows_of xs) order → ((f : Fault) → IsFoldedTwice xs items f → ⊥) → AllDiffer (map function_key (flat_map item_function items))
+functions_differ xs items order least legal = differ_by function_key (flat_map item_function items) (λ i j x y at_x at_y same. elim (three_ways i j) [
+  | inl before ↦ absurd (legal (fault 17 y.span) (function_twice xs items order least i j x y before at_x at_y same))
   | inr rest ↦ elim rest [
     | inl one ↦ one
-    | inr behind ↦ absurd (legal (fault 17 x.span) (function_twice xs fns order least j i y x behind at_y at_x (sym same)))
+    | inr behind ↦ absurd (legal (fault 17 x.span) (function_twice xs items order least j i y x behind at_y at_x (sym same)))
   ]
 ])
+
+-- the functions of an item are those among what stands on its sides
+pub functions_items : (i : Item) → functions i ≡ flat_map item_function (side_items i)
+functions_items i = by_parts (parts i)
+  where
+    resource_items : (fns : List SourceFunction) → flat_map item_function (map SideFunction fns) ≡ fns
+    resource_items [] = refl
+    resource_items (fn ∷ fns) = ap (λ l. fn ∷ l) (resource_items fns)
+
+    extern_function : (x : Extern) (kind : ExternKind) → extern_functions x kind ≡ flat_map item_function (extern_items x kind)
+    extern_function x (extern.Interface name items) = refl
+    extern_function x (extern.Path path) = refl
+    extern_function x (extern.Func name f) = refl
+    extern_function x (extern.NamedPath name path) = refl
+
+    part_function : (p : Part) → part_functions p ≡ flat_map item_function (part_items p)
+    part_function (Defining d) = sym (resource_items (definition_functions d.name d.body))
+    part_function (Using u) = refl
+    part_function (Including n) = refl
+    part_function (Doing f) = refl
+    part_function (Crossing x) = extern_function x x.kind
+
+    by_parts : (ps : List Part) → flat_map part_functions ps ≡ flat_map item_function (flat_map part_items ps)
+    by_parts [] = refl
+    by_parts (p ∷ ps) = ap (λ l. l ++ flat_map part_functions ps) (part_function p) ∙ ap (λ l. flat_map item_function (part_items p) ++ l) (by_parts ps) ∙ sym (flat_map-append item_function (part_items p) (flat_map part_items ps))

@@ -1,8 +1,9 @@
 -- The functions that stand on a side.
-use Rattle.std.proofs.Common.{◌≡◌, ℕ, zero, suc, ◌<◌, Bool, true, false, List, [], ◌∷◌, ◌++◌, Some, inl, inr, refl, ap, ◌∙◌, subst, arith}
+use Rattle.std.proofs.Common.{◌≡◌, ℕ, zero, suc, ◌<◌, Bool, true, false, List, [], ◌∷◌, ◌++◌, Some, inl, inr, refl, sym, ap, ◌∙◌, subst, arith}
 use Rattle.std.specs.Prelude.{slice_get, map}
 use Rattle.std.specs.List.{filter, flat_map}
 use Rattle.std.proofs.lemmas.Bool.{cases_Bool, cond-true, cond-false}
+use Rattle.std.proofs.lemmas.List.{map-append}
 use Rattle.std.proofs.lemmas.List.Elements.{filter-append}
 use Rattle.wit_tree.specs.declared.tree.Id.{Id}
 use Rattle.wit_tree.specs.declared.tree.TypeBody.{TypeBody}
@@ -15,7 +16,9 @@ use Rattle.wit_tree.specs.declared.tree.WorldSide.{WorldSide}
 use Rattle.wit_tree.specs.declared.tree.WorldSide.TheVariants.{Imported, Exported}
 use Rattle.wit_syntax.specs.Source.{Declared, TheInterface, TheWorld, is_declared_world, declared_parts, interface_part, Item, is_world}
 use Rattle.wit_syntax.specs.Function.{SourceFunction, free_function, resource_function, definition_functions, part_functions, functions}
-use Rattle.wit_syntax.specs.Sides.{role_side, same_side, on_side}
+use Rattle.wit_syntax.specs.Crossing.{same_side}
+use Rattle.wit_syntax.specs.Signature.{Called, function_called}
+use Rattle.wit_syntax.specs.Sides.{role_side, on_side, SideItem, SideFunction, part_items, side_items, item_link, links, items_on, item_called}
 use Rattle.wit_syntax.proofs.Lists.{flat_map_at, map_at}
 use Rattle.wit_syntax.proofs.Kept.{kept_has}
 
@@ -111,3 +114,39 @@ declared_imported (TheWorld w) own k fn at = absurd (let f : ⊥ = cc in f)
 
 pub functions_imported : (i : Item) → is_world i ≡ false → (k : ℕ) (fn : SourceFunction) → slice_get (functions i) k ≡ Some fn → role_side fn.role ≡ Imported
 functions_imported i own k fn at = declared_imported i.declared own k fn at
+
+-- where all are functions, what is called on a side are these
+pub called_functions : (side : WorldSide) (fns : List SourceFunction) → flat_map item_called (items_on side (map SideFunction fns)) ≡ map function_called (on_side side fns)
+called_functions side [] = refl
+called_functions side (fn ∷ fns) = elim (cases_Bool (same_side side (role_side fn.role))) [
+  | inl hit ↦ ap (flat_map item_called) (cond-true (same_side side (role_side fn.role)) (SideFunction fn ∷ items_on side (map SideFunction fns)) (items_on side (map SideFunction fns)) hit) ∙ ap (λ (l : List Called). function_called fn ∷ l) (called_functions side fns) ∙ sym (ap (map function_called) (cond-true (same_side side (role_side fn.role)) (fn ∷ on_side side fns) (on_side side fns) hit))
+  | inr miss ↦ ap (flat_map item_called) (cond-false (same_side side (role_side fn.role)) (SideFunction fn ∷ items_on side (map SideFunction fns)) (items_on side (map SideFunction fns)) miss) ∙ called_functions side fns ∙ sym (ap (map function_called) (cond-false (same_side side (role_side fn.role)) (fn ∷ on_side side fns) (on_side side fns) miss))
+]
+
+-- of an interface nothing stands there but functions
+interface_functions : (items : List InterfaceItem) → flat_map part_items (map interface_part items) ≡ map SideFunction (flat_map part_functions (map interface_part items))
+interface_functions [] = refl
+interface_functions (i ∷ items) =
+    let own = part_functions (interface_part i) in
+    let rest = flat_map part_functions (map interface_part items) in
+    ap (λ (l : List SideItem). l ++ flat_map part_items (map interface_part items)) (one i) ∙ ap (λ (l : List SideItem). map SideFunction own ++ l) (interface_functions items) ∙ sym (map-append SideFunction own rest)
+  where
+    one : (i : InterfaceItem) → part_items (interface_part i) ≡ map SideFunction (part_functions (interface_part i))
+    one (interface_item.TypeDef d) = refl
+    one (interface_item.Use u) = refl
+    one (interface_item.Func g) = refl
+
+declared_functions : (d : Declared) → is_declared_world d ≡ false → flat_map part_items (declared_parts d) ≡ map SideFunction (flat_map part_functions (declared_parts d))
+declared_functions (TheInterface i) own = interface_functions i.items.items
+declared_functions (TheWorld w) own = absurd (let f : ⊥ = cc in f)
+
+pub side_items_functions : (i : Item) → is_world i ≡ false → side_items i ≡ map SideFunction (functions i)
+side_items_functions i own = declared_functions i.declared own
+
+-- and no path
+no_link : (fns : List SourceFunction) → flat_map item_link (map SideFunction fns) ≡ []
+no_link [] = refl
+no_link (fn ∷ fns) = no_link fns
+
+pub links_none : (i : Item) → is_world i ≡ false → links i ≡ []
+links_none i own = ap (flat_map item_link) (side_items_functions i own) ∙ no_link (functions i)

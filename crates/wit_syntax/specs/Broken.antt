@@ -27,7 +27,8 @@ use Rattle.wit_syntax.specs.Address.{Address, ForeignNamed}
 use Rattle.wit_syntax.specs.Source.{path_id, Target, Local, Foreign, path_target, leads, TopName, top_names, top_text, Item, item_id, item_name, declared_attributes, is_world, all_items, item_named, item_at, ScopeName, Used, Defined, local_id, local_name, scope_names, meaning, address, Crossing, parts}
 use Rattle.wit_syntax.specs.Foreign.{ForeignVisit, foreign_visits, is_foreign_world, foreign_at}
 use Rattle.wit_syntax.specs.Function.{SourceFunction, extern_functions, functions, free_names, item_types}
-use Rattle.wit_syntax.specs.Sides.{IsFoldedTwice, IsCrossedTwice}
+use Rattle.wit_syntax.specs.Crossing.{extern_paths}
+use Rattle.wit_syntax.specs.Sides.{IsBrokenSides}
 use Rattle.wit_syntax.specs.Signature.{IsBrokenFunction, IsNoResource, IsUnpairedSetter}
 use Rattle.wit_syntax.specs.Scope.{use_paths, include_paths, uses, includes, item_rows, rows_of, used, defined}
 
@@ -207,8 +208,6 @@ pub data IsBrokenScope (xs : List ScopeName) (fns : List SourceFunction) (f : Fa
   Notes : (d : TypeDef) → Contains xs (Defined d) → IsBrokenNotes d.attributes.items f → IsBrokenScope xs fns f
   Body : (d : TypeDef) → Contains xs (Defined d) → IsBrokenBody d.body f → IsBrokenScope xs fns f
   Function : (k : ℕ) (fn : SourceFunction) → slice_get fns k ≡ Some fn → IsBrokenFunction xs fns k fn f → IsBrokenScope xs fns f
-  FoldedTwice : IsFoldedTwice xs fns f → IsBrokenScope xs fns f
-  CrossedTwice : IsCrossedTwice xs fns f → IsBrokenScope xs fns f
 
 -- what is wrong with the names of the items that files declare, with those at the top of each, and with what paths of items lead to
 pub data IsBrokenItems (files : List PackageFile) (f : Fault) : Type 0 where
@@ -245,11 +244,12 @@ pub record IsSetterAlone (i : Item) (f : Fault) : Type 0 where
   pub interface : is_world i ≡ false
   pub alone : IsUnpairedSetter (functions i) f
 
--- an interface that a world imports or exports is read, but not treated yet
+-- an interface that is written in a world is read, but not treated yet
 pub record IsUnread (i : Item) (f : Fault) : Type 0 where
   pub x : Extern
   pub among : Contains (parts i) (Crossing x)
-  pub interface : extern_functions x x.kind ≡ []
+  pub no_function : extern_functions x x.kind ≡ []
+  pub no_path : extern_paths x.kind ≡ []
   pub is : f ≡ fault 54 (extern_span x.kind)
 
 -- what is wrong with files
@@ -265,6 +265,7 @@ pub data IsBroken (files : List PackageFile) (f : Fault) : Type 0 where
   MissingName : (i : Item) → Contains (all_items files) i → IsMissingName files (scope_names i) f → IsBroken files f
   FunctionUsed : (i : Item) → Contains (all_items files) i → IsFunctionUsed files (scope_names i) f → IsBroken files f
   Scope : (i : Item) → Contains (all_items files) i → IsBrokenScope (scope_names i) (functions i) f → IsBroken files f
+  Sides : (i : Item) → Contains (all_items files) i → IsBrokenSides i f → IsBroken files f
   Handle : (i : Item) → Contains (all_items files) i → IsHandleBroken files i f → IsBroken files f
   Setter : (i : Item) → Contains (all_items files) i → IsSetterAlone i f → IsBroken files f
 

@@ -1,5 +1,5 @@
 -- What files name of other packages.
-use Rattle.std.specs.Prelude.{Bool, true, false, not, List, [], ◌∷◌, Option, find}
+use Rattle.std.specs.Prelude.{if◌then◌else◌, Bool, true, false, not, List, [], ◌∷◌, ◌++◌, Option, find}
 use Rattle.std.specs.List.{flat_map, filter}
 use Rattle.wit_tree.specs.declared.tree.Id.{Id}
 use Rattle.wit_tree.specs.declared.tree.Attribute.{Attribute}
@@ -10,6 +10,9 @@ use Rattle.wit_tree.specs.declared.tree.AstItem.{AstItem}
 use Rattle.wit_tree.specs.declared.tree.AstItem.TheVariants as ast
 use Rattle.wit_tree.specs.declared.tree.PackageFile.{PackageFile}
 use Rattle.wit_package_names.specs.declared.package_name.PackageName.{PackageName}
+use Rattle.wit_tree.specs.declared.tree.WorldSide.{WorldSide}
+use Rattle.wit_tree.specs.declared.tree.WorldSide.TheVariants.{Imported, Exported}
+use Rattle.wit_syntax.specs.Crossing.{same_side, extern_paths}
 use Rattle.wit_syntax.specs.Address.{Address, ForeignNamed, package_of, same_package, same_address}
 use Rattle.wit_syntax.specs.Repeats.{firsts}
 use Rattle.wit_syntax.specs.Source.{Declared, TheInterface, TheWorld, declared_parts, Part, Defining, Using, Including, Doing, Crossing}
@@ -40,8 +43,20 @@ part_visits (Including i) = path_visits i.attributes.items true i.from
 part_visits (Doing f) = []
 part_visits (Crossing x) = []
 
+-- what a world imports or exports by a path wants an interface
+abbrev pub side_visits : WorldSide → Part → List ForeignVisit
+side_visits side (Defining d) = []
+side_visits side (Using u) = []
+side_visits side (Including i) = []
+side_visits side (Doing f) = []
+side_visits side (Crossing x) = if same_side side x.side then flat_map (path_visits x.attributes.items false) (extern_paths x.kind) else []
+
+-- the visits of parts: first those of uses and includes, then those of imports, and then those of exports
+abbrev pub visits_in : List Part → List ForeignVisit
+visits_in ps = flat_map part_visits ps ++ (flat_map (side_visits Imported) ps ++ flat_map (side_visits Exported) ps)
+
 abbrev pub declared_visits : Declared → List ForeignVisit
-declared_visits d = flat_map part_visits (declared_parts d)
+declared_visits d = visits_in (declared_parts d)
 
 abbrev pub declaration_visits : AstItem → List ForeignVisit
 declaration_visits (ast.Interface i) = declared_visits (TheInterface i)

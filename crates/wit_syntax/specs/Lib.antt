@@ -1,5 +1,6 @@
 pub mod Repeats
 pub mod Address
+pub mod Crossing
 pub mod Docs
 pub mod Hint
 pub mod Fault

@@ -7,6 +7,7 @@ use Rattle.wit_tree.specs.declared.tree.Use.{Use}
 use Rattle.wit_tree.specs.declared.tree.UsePath.{UsePath}
 use Rattle.wit_tree.specs.declared.tree.PackageFile.{PackageFile}
 use Rattle.wit_order.specs.Table.{Row}
+use Rattle.wit_syntax.specs.Crossing.{extern_paths}
 use Rattle.wit_syntax.specs.Shape.{all_words, body_of}
 use Rattle.wit_syntax.specs.Source.{Target, Local, Foreign, leads, ScopeName, Used, Defined, Taken, local_name, Declared, TheInterface, TheWorld, Part, Defining, Using, Including, Doing, Crossing, Item, item_name, is_world, parts, all_items}
 use Rattle.wit_syntax.specs.Repeats.{AllDiffer}
@@ -45,13 +46,13 @@ defined xs = filter is_defined xs
 abbrev pub in_turn : List ScopeName → List ℕ → List ScopeName
 in_turn xs order = used xs ++ defined (in_order xs order)
 
--- the path of a part that is a `use`
+-- the path of a part to an interface: that of a `use`, or that by which a world imports or exports one
 abbrev pub use_path : Part → List UsePath
 use_path (Defining d) = []
 use_path (Using u) = u.from ∷ []
 use_path (Including i) = []
 use_path (Doing f) = []
-use_path (Crossing x) = []
+use_path (Crossing x) = extern_paths x.kind
 
 -- the path of a part that is an include
 abbrev pub include_path : Part → List UsePath
@@ -61,7 +62,7 @@ include_path (Including i) = i.from ∷ []
 include_path (Doing f) = []
 include_path (Crossing x) = []
 
--- the paths of an item's uses
+-- the paths of an item to interfaces
 abbrev pub use_paths : Item → List UsePath
 use_paths i = flat_map use_path (parts i)
 

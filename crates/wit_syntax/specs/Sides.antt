@@ -1,16 +1,26 @@
 -- What stands on a side of a world, and what must not stand there twice. The names of an interface stand as those that a world imports.
-use Rattle.std.specs.Prelude.{◌≡◌, ℕ, Bool, true, false, List, [], ◌++◌, map, take, Some, Contains, slice_get}
-use Rattle.std.specs.List.{filter}
+use Rattle.std.specs.Prelude.{◌≡◌, ℕ, List, [], ◌∷◌, ◌++◌, Option, Some, None, ⊤, map, take, Contains, slice_get}
+use Rattle.std.specs.List.{filter, flat_map}
+use Rattle.std.specs.Option.{option_map_or}
 use Rattle.wit_tree.specs.declared.tree.Id.{Id}
+use Rattle.wit_tree.specs.declared.tree.Attribute.{Attribute}
+use Rattle.wit_tree.specs.declared.tree.Docs.{Docs}
+use Rattle.wit_tree.specs.declared.tree.Extern.{Extern}
+use Rattle.wit_tree.specs.declared.tree.ExternKind.{ExternKind}
+use Rattle.wit_tree.specs.declared.tree.ExternKind.TheVariants as extern
 use Rattle.wit_tree.specs.declared.tree.FuncForm.{FuncForm}
+use Rattle.wit_tree.specs.declared.tree.UsePath.{UsePath}
 use Rattle.wit_tree.specs.declared.tree.WorldSide.{WorldSide}
 use Rattle.wit_tree.specs.declared.tree.WorldSide.TheVariants.{Imported, Exported}
 use Rattle.wit_order.specs.Table.{IsOrder}
+use Rattle.wit_syntax.specs.Address.{Address}
+use Rattle.wit_syntax.specs.Crossing.{same_side}
 use Rattle.wit_syntax.specs.Fault.{Fault, fault}
+use Rattle.wit_syntax.specs.Notes.{IsBrokenNotes}
 use Rattle.wit_syntax.specs.Bodies.{IsRepeated}
-use Rattle.wit_syntax.specs.Source.{ScopeName}
+use Rattle.wit_syntax.specs.Source.{TopName, path_id, path_scope, Part, Defining, Using, Including, Doing, Crossing, Item, parts, ScopeName, scope_names}
 use Rattle.wit_syntax.specs.Scope.{rows_of, in_turn}
-use Rattle.wit_syntax.specs.Function.{Role, Freestanding, Method, Static, Constructor, OnSide, SourceFunction}
+use Rattle.wit_syntax.specs.Function.{Role, Freestanding, Method, Static, Constructor, OnSide, SourceFunction, definition_functions, free_function, side_function}
 use Rattle.wit_syntax.specs.Signature.{Called, called_key, name_called, function_called}
 
 -- the side that a function of a role stands on
@@ -20,12 +30,6 @@ role_side (Method of form) = Imported
 role_side (Static of form) = Imported
 role_side (Constructor of) = Imported
 role_side (OnSide side id form) = side
-
-abbrev pub same_side : WorldSide → WorldSide → Bool
-same_side Imported Imported = true
-same_side Imported Exported = false
-same_side Exported Imported = false
-same_side Exported Exported = true
 
 -- what a function of a scope goes by: its side and its name
 abbrev pub FunctionKey : Type 0
@@ -38,36 +42,128 @@ function_key fn = (role_side fn.role, fn.name)
 abbrev pub on_side : WorldSide → List SourceFunction → List SourceFunction
 on_side side fns = filter (λ fn. same_side side (role_side fn.role)) fns
 
+-- An interface that a world imports or exports by its path: the side, the name of its own that it has there, if one, and what stands in front of it.
+pub record Link : Type 0 where
+  pub side : WorldSide
+  pub name : Option Id
+  pub path : UsePath
+  pub docs : Docs
+  pub attributes : List Attribute
+
+-- what stands on a side behind the names of types: a function, or an interface by its path
+pub data SideItem : Type 0 where
+  SideFunction : (fn : SourceFunction) → SideItem
+  SideLink : (link : Link) → SideItem
+
+abbrev pub extern_link : Extern → Option Id → UsePath → Link
+extern_link x name path = record { side = x.side; name = name; path = path; docs = x.docs; attributes = x.attributes.items }
+
+-- what a world imports or exports, but for an interface that is written there
+abbrev pub extern_items : Extern → ExternKind → List SideItem
+extern_items x (extern.Interface name items) = []
+extern_items x (extern.Path path) = SideLink (extern_link x None path) ∷ []
+extern_items x (extern.Func name f) = SideFunction (side_function x.side x.docs x.attributes.items name f) ∷ []
+extern_items x (extern.NamedPath name path) = SideLink (extern_link x (Some name) path) ∷ []
+
+abbrev pub part_items : Part → List SideItem
+part_items (Defining d) = map SideFunction (definition_functions d.name d.body)
+part_items (Using u) = []
+part_items (Including i) = []
+part_items (Doing f) = SideFunction (free_function f) ∷ []
+part_items (Crossing x) = extern_items x x.kind
+
+-- what stands on the sides of an item behind its names of types, in source order
+abbrev pub side_items : Item → List SideItem
+side_items i = flat_map part_items (parts i)
+
+-- the function that it is, if it is one
+abbrev pub item_function : SideItem → List SourceFunction
+item_function (SideFunction fn) = fn ∷ []
+item_function (SideLink link) = []
+
+-- the path of an interface that it is, if it is one
+abbrev pub item_link : SideItem → List Link
+item_link (SideFunction fn) = []
+item_link (SideLink link) = link ∷ []
+
+-- the links of an item, in source order
+abbrev pub links : Item → List Link
+links i = flat_map item_link (side_items i)
+
+abbrev pub item_side : SideItem → WorldSide
+item_side (SideFunction fn) = role_side fn.role
+item_side (SideLink link) = link.side
+
+-- what stands on a side, in source order
+abbrev pub items_on : WorldSide → List SideItem → List SideItem
+items_on side items = filter (λ x. same_side side (item_side x)) items
+
+-- the name that it has: an interface may have none of its own
+abbrev pub id_called : Option Id → List Called
+id_called None = []
+id_called (Some id) = record { name = id.name.now; span = id.span } ∷ []
+
+abbrev pub item_called : SideItem → List Called
+item_called (SideFunction fn) = function_called fn ∷ []
+item_called (SideLink link) = id_called link.name
+
 -- the names of types on a side: all are imported
 abbrev pub names_on : {X : Type 0} → WorldSide → List X → List X
 names_on Imported xs = xs
 names_on Exported xs = []
 
--- the names on a side as they are resolved: those of types in an order of their table, and then those of functions
-abbrev pub side_called : WorldSide → List ScopeName → List SourceFunction → List ℕ → List Called
-side_called side xs fns order = map name_called (names_on side (in_turn xs order)) ++ map function_called (on_side side fns)
+-- the names on a side as they are resolved: those of types in an order of their table, and then those of what stands behind them
+abbrev pub side_called : WorldSide → List ScopeName → List SideItem → List ℕ → List Called
+side_called side xs items order = map name_called (names_on side (in_turn xs order)) ++ flat_map item_called (items_on side items)
 
 -- an earlier name on a side has the key of a later one
-pub record IsFoldedTwice (xs : List ScopeName) (fns : List SourceFunction) (f : Fault) : Type 0 where
+pub record IsFoldedTwice (xs : List ScopeName) (items : List SideItem) (f : Fault) : Type 0 where
   pub side : WorldSide
   pub order : List ℕ
   pub least : IsOrder (rows_of xs) order
   pub later : Called
-  pub repeated : IsRepeated called_key (side_called side xs fns order) later
+  pub repeated : IsRepeated called_key (side_called side xs items order) later
   pub is : f ≡ fault 17 later.span
 
+-- what a world imports or exports under a name
+abbrev pub IsCrossing : SideItem → Type 0
+IsCrossing (SideFunction fn) = (side : WorldSide) × (id : Id) × (form : FuncForm) × (fn.role ≡ OnSide side id form)
+IsCrossing (SideLink link) = ⊤
+
 -- an earlier name on a side is that of an import or an export
-pub record IsCrossedTwice (xs : List ScopeName) (fns : List SourceFunction) (f : Fault) : Type 0 where
+pub record IsCrossedTwice (xs : List ScopeName) (items : List SideItem) (f : Fault) : Type 0 where
   pub side : WorldSide
   pub order : List ℕ
   pub least : IsOrder (rows_of xs) order
   pub place : ℕ
-  pub later : SourceFunction
-  pub at : slice_get (on_side side fns) place ≡ Some later
-  pub id : Id
-  pub form : FuncForm
-  pub crosses : later.role ≡ OnSide side id form
+  pub later : SideItem
+  pub at : slice_get (items_on side items) place ≡ Some later
+  pub crosses : IsCrossing later
+  pub called : Called
+  pub named : item_called later ≡ called ∷ []
   pub earlier : Called
-  pub among : Contains (map name_called (names_on side (in_turn xs order)) ++ map function_called (take place (on_side side fns))) earlier
-  pub same : earlier.name ≡ later.name
-  pub is : f ≡ fault 44 later.span
+  pub among : Contains (map name_called (names_on side (in_turn xs order)) ++ flat_map item_called (take place (items_on side items))) earlier
+  pub same : earlier.name ≡ called.name
+  pub is : f ≡ fault 44 called.span
+
+-- the scope of the interface that is imported or exported by its path alone
+abbrev pub bare_scope : List TopName → SideItem → List Address
+bare_scope top (SideFunction fn) = []
+bare_scope top (SideLink link) = option_map_or (λ id. []) link.name (path_scope top link.path ∷ [])
+
+-- an earlier one on a side is the same interface, where both have no name of their own
+pub record IsLinkedTwice (top : List TopName) (items : List SideItem) (f : Fault) : Type 0 where
+  pub side : WorldSide
+  pub place : ℕ
+  pub link : Link
+  pub at : slice_get (items_on side items) place ≡ Some (SideLink link)
+  pub bare : link.name ≡ None
+  pub among : Contains (flat_map (bare_scope top) (take place (items_on side items))) (path_scope top link.path)
+  pub is : f ≡ fault 43 (path_id link.path).span
+
+-- what is wrong with what stands on the sides of an item
+pub data IsBrokenSides (i : Item) (f : Fault) : Type 0 where
+  FoldedTwice : IsFoldedTwice (scope_names i) (side_items i) f → IsBrokenSides i f
+  CrossedTwice : IsCrossedTwice (scope_names i) (side_items i) f → IsBrokenSides i f
+  LinkedTwice : IsLinkedTwice i.top (side_items i) f → IsBrokenSides i f
+  LinkNotes : (link : Link) → Contains (links i) link → IsBrokenNotes link.attributes f → IsBrokenSides i f

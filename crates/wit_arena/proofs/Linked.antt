@@ -1,0 +1,68 @@
+-- Where the paths of an item lead to interfaces, those of its uses and those of what stands on its sides, none of them is broken.
+use Rattle.std.proofs.Common.{◌≡◌, ℕ, zero, suc, true, false, List, Some, None, ◌⊎◌, inl, inr, refl, sym, ap, ◌∙◌}
+use Rattle.std.specs.Prelude.{slice_get, Contains}
+use Rattle.std.specs.Option.{option_map}
+use Rattle.wit_tree.specs.declared.tree.Extern.{Extern}
+use Rattle.wit_tree.specs.declared.tree.ExternKind.{ExternKind}
+use Rattle.wit_tree.specs.declared.tree.ExternKind.TheVariants as extern
+use Rattle.wit_tree.specs.declared.tree.PackageFile.{PackageFile}
+use Rattle.wit_tree.specs.declared.tree.Use.{Use}
+use Rattle.wit_tree.specs.declared.tree.UsePath.{UsePath}
+use Rattle.wit_syntax.specs.Crossing.{extern_paths}
+use Rattle.wit_syntax.specs.Source.{Part, Defining, Using, Including, Doing, Crossing, Item, is_world, leads, parts}
+use Rattle.wit_syntax.specs.Scope.{use_path, use_paths, part_uses, uses}
+use Rattle.wit_syntax.specs.Sides.{Link, SideLink, extern_link, extern_items, part_items, side_items, item_link, links}
+use Rattle.wit_syntax.specs.Fault.{Fault}
+use Rattle.wit_syntax.specs.Broken.{is_world_at, IsBrokenUse, MissingUse, WorldUsed}
+use Rattle.wit_syntax.proofs.Lists.{flat_map_at, flat_map_has}
+use Rattle.wit_syntax.proofs.Found.{at_contains, contains_at}
+
+-- the path that a world imports or exports is that of a link
+crossing_link : (x : Extern) (kind : ExternKind) (j : ℕ) (path : UsePath) → slice_get (extern_paths kind) j ≡ Some path → (link : Link) × (slice_get (extern_items x kind) 0 ≡ Some (SideLink link)) × (link.path ≡ path)
+crossing_link x (extern.Interface name items) j path at = absurd (let f : ⊥ = cc in f)
+crossing_link x (extern.Path own) zero path at = (extern_link x None own, refl, (let same : own ≡ path = cc in same))
+crossing_link x (extern.Path own) (suc j) path at = absurd (let f : ⊥ = cc in f)
+crossing_link x (extern.Func name g) j path at = absurd (let f : ⊥ = cc in f)
+crossing_link x (extern.NamedPath name own) zero path at = (extern_link x (Some name) own, refl, (let same : own ≡ path = cc in same))
+crossing_link x (extern.NamedPath name own) (suc j) path at = absurd (let f : ⊥ = cc in f)
+
+-- a path of an item is that of a `use`, or that of a link
+abbrev IsPathOf : Item → UsePath → Type 0
+IsPathOf i path = ((u : Use) × Contains (uses i) u × (u.from ≡ path)) ⊎ ((link : Link) × Contains (links i) link × (link.path ≡ path))
+
+path_of : (i : Item) (path : UsePath) → Contains (use_paths i) path → IsPathOf i path
+path_of i path among =
+    let k = at_contains (use_paths i) path among in
+    let it = flat_map_at use_path (parts i) k.0 path k.1 in
+    of_part it.0 it.1 it.2 it.3.0 it.3.1
+  where
+    of_part : (m : ℕ) (p : Part) → slice_get (parts i) m ≡ Some p → (j : ℕ) → slice_get (use_path p) j ≡ Some path → IsPathOf i path
+    of_part m (Defining d) there j at = absurd (let f : ⊥ = cc in f)
+    of_part m (Using u) there zero at =
+        let k = flat_map_has part_uses (parts i) m 0 (Using u) u there refl in
+        inl (u, contains_at (uses i) k.0 u k.1, (let same : u.from ≡ path = cc in same))
+    of_part m (Using u) there (suc j) at = absurd (let f : ⊥ = cc in f)
+    of_part m (Including n) there j at = absurd (let f : ⊥ = cc in f)
+    of_part m (Doing g) there j at = absurd (let f : ⊥ = cc in f)
+    of_part m (Crossing x) there j at =
+        let it = crossing_link x x.kind j path at in
+        let own = flat_map_has part_items (parts i) m 0 (Crossing x) (SideLink it.0) there it.1 in
+        let k = flat_map_has item_link (side_items i) own.0 0 (SideLink it.0) it.0 own.1 refl in
+        inr (it.0, contains_at (links i) k.0 it.0 k.1, it.2)
+
+module _ (files : List PackageFile) (i : Item) (of_uses : (u : Use) → Contains (uses i) u → is_world_at files (leads i.top u.from) ≡ Some false) (of_links : (link : Link) → Contains (links i) link → is_world_at files (leads i.top link.path) ≡ Some false) where
+  usable_path : (path : UsePath) → Contains (use_paths i) path → is_world_at files (leads i.top path) ≡ Some false
+  usable_path path among = elim (path_of i path among) [
+    | inl h ↦ ap (λ (p : UsePath). is_world_at files (leads i.top p)) (sym h.2) ∙ of_uses h.0 h.1
+    | inr h ↦ ap (λ (p : UsePath). is_world_at files (leads i.top p)) (sym h.2) ∙ of_links h.0 h.1
+  ]
+
+  pub no_broken_use : (f : Fault) → IsBrokenUse files i f → ⊥
+  no_broken_use f (MissingUse h) =
+      let wrong : None ≡ Some false = sym (ap (is_world_at files) h.local ∙ ap (option_map is_world) h.missing) ∙ usable_path h.path h.among in
+      let g : ⊥ = cc in
+      g
+  no_broken_use f (WorldUsed h) =
+      let wrong : Some true ≡ Some false = sym h.other ∙ usable_path h.path h.among in
+      let g : ⊥ = cc in
+      g

@@ -1,0 +1,72 @@
+-- The functions and the types among what stands on a side, and the addresses of its interfaces.
+use Rattle.std.proofs.Common.{◌≡◌, ℕ, List, [], ◌∷◌, ◌++◌, Option, Some, None, refl, sym, ap, ◌∙◌, map, inl, inr}
+use Rattle.std.specs.Prelude.{slice_get}
+use Rattle.std.specs.List.{flat_map}
+use Rattle.std.proofs.lemmas.Bool.{cases_Bool, cond-true, cond-false}
+use Rattle.wit_tree.specs.declared.tree.Id.{Id}
+use Rattle.wit_tree.specs.declared.tree.WorldSide.{WorldSide}
+use Rattle.wit_model.specs.declared.function.Function.{Function}
+use Rattle.wit_model.specs.declared.world.WorldKey.{WorldKey}
+use Rattle.wit_model.specs.declared.world.WorldItem.{WorldItem}
+use Rattle.wit_syntax.specs.Address.{Address}
+use Rattle.wit_syntax.specs.Crossing.{same_side}
+use Rattle.wit_syntax.specs.Source.{TopName, path_scope}
+use Rattle.wit_syntax.specs.Sides.{role_side, SideItem, SideFunction, SideLink, Link, item_function}
+use Rattle.wit_arena.specs.Functions.{by_name, function_item, made_on}
+use Rattle.wit_arena.specs.Package.{import_types, item_functions}
+use Rattle.wit_arena.specs.SideItems.{link_item, put_on, AreSideItems}
+
+-- what an item puts on a side brings there what it has, or nothing
+put_nothing : {Y : Type 0} (of : WorldKey × WorldItem → List Y) (side own : WorldSide) (x : WorldKey × WorldItem) (xs : List (WorldKey × WorldItem)) → of x ≡ [] → flat_map of (put_on side own x xs) ≡ flat_map of xs
+put_nothing {Y} of side own x xs none = elim (cases_Bool (same_side side own)) [
+  | inl hit ↦ ap (flat_map of) (cond-true (same_side side own) (x ∷ xs) xs hit) ∙ ap (λ (l : List Y). l ++ flat_map of xs) none
+  | inr miss ↦ ap (flat_map of) (cond-false (same_side side own) (x ∷ xs) xs miss)
+]
+
+-- an interface is no function and no type
+abbrev named_link : Link → Option Id → Link
+named_link link name = record { side = link.side; name = name; path = link.path; docs = link.docs; attributes = link.attributes }
+
+link_functions : (link : Link) (place : ℕ) → item_functions (link_item link place) ≡ []
+link_functions link place = by_name_of link.name
+  where
+    by_name_of : (name : Option Id) → item_functions (link_item (named_link link name) place) ≡ []
+    by_name_of None = refl
+    by_name_of (Some id) = refl
+
+link_types : (link : Link) (place : ℕ) → import_types (link_item link place) ≡ []
+link_types link place = by_name_of link.name
+  where
+    by_name_of : (name : Option Id) → import_types (link_item (named_link link name) place) ≡ []
+    by_name_of None = refl
+    by_name_of (Some id) = refl
+
+-- the functions among them are those that were made on the side
+pub side_functions : (interfaces : List Address) (top : List TopName) (side : WorldSide) (written : List SideItem) (fs : List Function) (xs : List (WorldKey × WorldItem)) → AreSideItems interfaces top side written fs xs → flat_map item_functions xs ≡ map by_name (made_on side (flat_map item_function written) fs)
+side_functions interfaces top side [] fs xs are = ap (flat_map item_functions) are
+side_functions interfaces top side (SideFunction fn ∷ written) [] xs are = absurd are
+side_functions interfaces top side (SideFunction fn ∷ written) (f ∷ fs) xs are =
+    let rest = side_functions interfaces top side written fs are.0 are.2 in
+    elim (cases_Bool (same_side side (role_side fn.role))) [
+      | inl hit ↦ ap (flat_map item_functions) (are.1 ∙ cond-true (same_side side (role_side fn.role)) (function_item f ∷ are.0) are.0 hit) ∙ ap (λ (l : List (List ℕ × Function)). by_name f ∷ l) rest ∙ sym (ap (map by_name) (cond-true (same_side side (role_side fn.role)) (f ∷ made_on side (flat_map item_function written) fs) (made_on side (flat_map item_function written) fs) hit))
+      | inr miss ↦ ap (flat_map item_functions) (are.1 ∙ cond-false (same_side side (role_side fn.role)) (function_item f ∷ are.0) are.0 miss) ∙ rest ∙ sym (ap (map by_name) (cond-false (same_side side (role_side fn.role)) (f ∷ made_on side (flat_map item_function written) fs) (made_on side (flat_map item_function written) fs) miss))
+    ]
+side_functions interfaces top side (SideLink link ∷ written) fs xs are =
+    ap (flat_map item_functions) are.3 ∙ put_nothing item_functions side link.side (link_item link are.0) are.1 (link_functions link are.0) ∙ side_functions interfaces top side written fs are.1 are.4
+
+-- and none of them is a type
+pub side_types : (interfaces : List Address) (top : List TopName) (side : WorldSide) (written : List SideItem) (fs : List Function) (xs : List (WorldKey × WorldItem)) → AreSideItems interfaces top side written fs xs → flat_map import_types xs ≡ []
+side_types interfaces top side [] fs xs are = ap (flat_map import_types) are
+side_types interfaces top side (SideFunction fn ∷ written) [] xs are = absurd are
+side_types interfaces top side (SideFunction fn ∷ written) (f ∷ fs) xs are =
+    ap (flat_map import_types) are.1 ∙ put_nothing import_types side (role_side fn.role) (function_item f) are.0 refl ∙ side_types interfaces top side written fs are.0 are.2
+side_types interfaces top side (SideLink link ∷ written) fs xs are =
+    ap (flat_map import_types) are.3 ∙ put_nothing import_types side link.side (link_item link are.0) are.1 (link_types link are.0) ∙ side_types interfaces top side written fs are.1 are.4
+
+-- where each of some addresses stands at its place among all, these are what they are among all
+module _ (some all : List Address) (wider : (t : ℕ) (a : Address) → slice_get some t ≡ Some a → slice_get all t ≡ Some a) (top : List TopName) (side : WorldSide) where
+  pub side_items_wider : (written : List SideItem) (fs : List Function) (xs : List (WorldKey × WorldItem)) → AreSideItems some top side written fs xs → AreSideItems all top side written fs xs
+  side_items_wider [] fs xs are = are
+  side_items_wider (SideFunction fn ∷ written) [] xs are = absurd are
+  side_items_wider (SideFunction fn ∷ written) (f ∷ fs) xs are = (are.0, are.1, side_items_wider written fs are.0 are.2)
+  side_items_wider (SideLink link ∷ written) fs xs are = (are.0, are.1, wider are.0 (path_scope top link.path) are.2, are.3, side_items_wider written fs are.1 are.4)

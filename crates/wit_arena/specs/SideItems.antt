@@ -1,0 +1,46 @@
+-- What stands on the sides of a world in a package, behind types: functions, and interfaces at their places.
+use Rattle.std.specs.Prelude.{if◌then◌else◌, ◌≡◌, ℕ, List, [], ◌∷◌, Option, Some, None, slice_get}
+use Rattle.wit_tree.specs.declared.tree.Id.{Id}
+use Rattle.wit_tree.specs.declared.tree.UsePath.{UsePath}
+use Rattle.wit_tree.specs.declared.tree.WorldSide.{WorldSide}
+use Rattle.wit_values.specs.declared.span.Span.{Span}
+use Rattle.wit_model.specs.declared.function.Function.{Function}
+use Rattle.wit_model.specs.declared.world.WorldKey.{WorldKey}
+use Rattle.wit_model.specs.declared.world.WorldKey.TheVariants as key
+use Rattle.wit_model.specs.declared.world.WorldItem.{WorldItem}
+use Rattle.wit_model.specs.declared.world.WorldItem.TheVariants as item
+use Rattle.wit_syntax.specs.Address.{Address}
+use Rattle.wit_syntax.specs.Crossing.{same_side}
+use Rattle.wit_syntax.specs.Notes.{Notes, notes, docs_of}
+use Rattle.wit_syntax.specs.Source.{TopName, path_id, path_scope}
+use Rattle.wit_syntax.specs.Sides.{role_side, Link, SideItem, SideFunction, SideLink}
+use Rattle.wit_arena.specs.Functions.{function_item}
+
+-- an interface without a name of its own goes by its place
+abbrev pub link_key : Option Id → ℕ → WorldKey
+link_key None place = key.Interface place
+link_key (Some id) place = key.Name id.name.now
+
+-- it stands where its name does, or else its path
+abbrev pub link_span : Option Id → UsePath → Span
+link_span None path = (path_id path).span
+link_span (Some id) path = id.span
+
+-- what is told of it
+abbrev pub link_notes : Link → Notes
+link_notes link = notes (docs_of link.docs) link.attributes
+
+-- an interface that is imported or exported, at its place
+abbrev pub link_item : Link → ℕ → WorldKey × WorldItem
+link_item link place = (link_key link.name place, item.Interface place (link_notes link).stability (link_notes link).external_id (link_notes link).docs (link_span link.name link.path))
+
+-- what stands on a side stands there in front of the others; what stands on the other one does not
+abbrev pub put_on : WorldSide → WorldSide → WorldKey × WorldItem → List (WorldKey × WorldItem) → List (WorldKey × WorldItem)
+put_on side own x xs = if same_side side own then x ∷ xs else xs
+
+-- These stand on a side, where these are the written ones, and these functions were made, and the interfaces have these addresses.
+abbrev pub AreSideItems : List Address → List TopName → WorldSide → List SideItem → List Function → List (WorldKey × WorldItem) → Type 0
+AreSideItems interfaces top side [] fs xs = xs ≡ []
+AreSideItems interfaces top side (SideFunction fn ∷ written) [] xs = ⊥
+AreSideItems interfaces top side (SideFunction fn ∷ written) (f ∷ fs) xs = (rest : List (WorldKey × WorldItem)) × (xs ≡ put_on side (role_side fn.role) (function_item f) rest) × AreSideItems interfaces top side written fs rest
+AreSideItems interfaces top side (SideLink link ∷ written) fs xs = (place : ℕ) × (rest : List (WorldKey × WorldItem)) × (slice_get interfaces place ≡ Some (path_scope top link.path)) × (xs ≡ put_on side link.side (link_item link place) rest) × AreSideItems interfaces top side written fs rest

@@ -1,0 +1,157 @@
+-- Worked rows about interfaces that a world imports and exports by their paths.
+use Rattle.std.proofs.Common.{◌≡◌, ℕ, zero, suc, true, false, List, [], ◌∷◌, map, Option, Some, None, refl, sym, ap, ◌∙◌, subst, lit<, take, Contains}
+use Rattle.std.specs.Prelude.{codes, slice_get}
+use Rattle.std.specs.List.{flat_map}
+use Rattle.std.specs.Str.{bytes_eq}
+use Rattle.std.specs.declared.alloc.Global.{Global}
+use denote.RawPtr.{Ptr}
+use Rattle.wit_values.specs.declared.span.Span.{Span}
+use Rattle.wit_tree.specs.declared.tree.Id.{Id}
+use Rattle.wit_tree.specs.declared.tree.Attribute.{Attribute}
+use Rattle.wit_tree.specs.declared.tree.WorldSide.{WorldSide}
+use Rattle.wit_tree.specs.declared.tree.WorldSide.TheVariants.{Imported, Exported}
+use Rattle.wit_tree.specs.declared.tree.UsePath.TheVariants as path
+use Rattle.wit_tree.specs.declared.tree.ExternKind.{ExternKind}
+use Rattle.wit_tree.specs.declared.tree.ExternKind.TheVariants as extern
+use Rattle.wit_tree.specs.declared.tree.WorldItem.{WorldItem}
+use Rattle.wit_tree.specs.declared.tree.WorldItem.TheVariants as world_item
+use Rattle.wit_tree.specs.declared.tree.Interface.{Interface as WrittenInterface}
+use Rattle.wit_tree.specs.declared.tree.World.{World as WrittenWorld}
+use Rattle.wit_tree.specs.declared.tree.ToplevelUse.{ToplevelUse}
+use Rattle.wit_tree.specs.declared.tree.AstItem.TheVariants as ast
+use Rattle.wit_tree.specs.declared.tree.PackageFile.{PackageFile}
+use Rattle.wit_syntax.specs.Address.{InterfaceNamed}
+use Rattle.wit_syntax.specs.Fault.{Fault, fault}
+use Rattle.wit_syntax.specs.Notes.{IsBrokenNotes}
+use Rattle.wit_syntax.specs.Repeats.{AllDiffer}
+use Rattle.wit_syntax.specs.Signature.{called_key}
+use Rattle.wit_syntax.specs.Source.{top_names, TheWorld, Item, path_scope}
+use Rattle.wit_syntax.specs.Sides.{SideItem, SideLink, Link, side_items, links, items_on, side_called, bare_scope, IsBrokenSides, FoldedTwice, CrossedTwice, LinkedTwice, LinkNotes}
+use Rattle.wit_syntax.specs.Broken.{IsBroken, Sides}
+use Rattle.wit_syntax.proofs.Found.{at_contains}
+use Rattle.wit_syntax.proofs.Legal.{no_fold, no_crossed}
+use Rattle.wit_syntax.proofs.Repeated.{differ_none}
+use Rattle.wit_meaning_examples.proofs.Examples.{at, id, vec, no_comments, untold, header}
+use Rattle.wit_meaning_examples.proofs.SideExamples.{no_rows, none_among, no_notes}
+
+-- two that differ
+two_differ : {X : Type 0} (x y : X) → (x ≡ y → ⊥) → AllDiffer (x ∷ y ∷ [])
+two_differ x y apart = record { differ = differ }
+  where
+    differ : (i j : ℕ) (z : _) → slice_get (x ∷ y ∷ []) i ≡ Some z → slice_get (x ∷ y ∷ []) j ≡ Some z → i ≡ j
+    differ zero zero z at_i at_j = refl
+    differ zero (suc zero) z at_i at_j = absurd (apart (let same : x ≡ y = cc in same))
+    differ (suc zero) zero z at_i at_j = absurd (apart (let same : x ≡ y = cc in same))
+    differ (suc zero) (suc zero) z at_i at_j = refl
+    differ zero (suc (suc j)) z at_i at_j = absurd (let f : ⊥ = cc in f)
+    differ (suc zero) (suc (suc j)) z at_i at_j = absurd (let f : ⊥ = cc in f)
+    differ (suc (suc i)) j z at_i at_j = absurd (let f : ⊥ = cc in f)
+
+-- one that has a name is not alone by its path
+named : (x y : Link) (name : Id) → Some (SideLink x) ≡ Some (SideLink y) → x.name ≡ Some name → y.name ≡ None → ⊥
+named x y name same has none =
+    let one : x ≡ y = cc in
+    let wrong : Some name ≡ None = sym has ∙ ap (λ (l : Link). l.name) one ∙ none in
+    let f : ⊥ = cc in
+    f
+
+attributes_of : (x y : Link) → Some x ≡ Some y → x.attributes ≡ [] → y.attributes ≡ []
+attributes_of x y same none =
+    let one : x ≡ y = cc in
+    ap (λ (l : Link). l.attributes) (sym one) ∙ none
+
+module _ (ptr : Ptr) (alloc : Global) where
+  abbrev i_at : Span → Id
+  i_at span = id ptr alloc (codes "i") span refl
+
+  -- package foo:foo; interface i {}
+  abbrev i : WrittenInterface
+  i = record { docs = no_comments ptr alloc; attributes = untold ptr alloc; name = i_at (at 27 28); items = vec ptr alloc [] (lit< tt) }
+
+  abbrev crossing : WorldSide → ExternKind → WorldItem
+  crossing side kind = world_item.Extern (record { side = side; docs = no_comments ptr alloc; attributes = untold ptr alloc; kind = kind })
+
+  abbrev link : WorldSide → Option Id → Id → Link
+  link side name to = record { side = side; name = name; path = path.Id to; docs = no_comments ptr alloc; attributes = [] }
+
+  -- use i as j; world w { import i; import j; }
+  module _ where
+    abbrev j_at : Span → Id
+    j_at span = id ptr alloc (codes "j") span refl
+
+    abbrev alias : ToplevelUse
+    alias = record { attributes = untold ptr alloc; span = at 32 35; item = path.Id (i_at (at 36 37)); as_ = Some (j_at (at 41 42)) }
+
+    abbrev w : WrittenWorld
+    w = record { docs = no_comments ptr alloc; attributes = untold ptr alloc; name = id ptr alloc (codes "w") (at 50 51) refl; items = vec ptr alloc (crossing Imported (extern.Path (path.Id (i_at (at 61 62)))) ∷ crossing Imported (extern.Path (path.Id (j_at (at 71 72)))) ∷ []) (lit< tt) }
+
+    abbrev file : PackageFile
+    file = record { package_id = Some (header ptr alloc); decl_list = record { items = vec ptr alloc (ast.Interface i ∷ ast.Use alias ∷ ast.World w ∷ []) (lit< tt) } }
+
+    abbrev item : Item
+    item = record { top = top_names file; declared = TheWorld w }
+
+    -- j leads to i
+    leads_to_i : path_scope item.top (path.Id (j_at (at 71 72))) ≡ InterfaceNamed (codes "i")
+    leads_to_i = refl
+
+    -- so it is imported twice
+    twice_refused : IsBroken (file ∷ []) (fault 43 (at 71 72))
+    twice_refused = Sides item (1, lit< tt, refl) (LinkedTwice (record {
+      side = Imported;
+      place = 1;
+      link = link Imported None (j_at (at 71 72));
+      at = refl;
+      bare = refl;
+      among = (0, lit< tt, refl);
+      is = refl;
+    }))
+
+  -- world w { import i; import a: i; import b: i; export i; }
+  module _ where
+    abbrev a_id : Id
+    a_id = id ptr alloc (codes "a") (at 59 60) refl
+
+    abbrev b_id : Id
+    b_id = id ptr alloc (codes "b") (at 72 73) refl
+
+    abbrev several : WrittenWorld
+    several = record { docs = no_comments ptr alloc; attributes = untold ptr alloc; name = id ptr alloc (codes "w") (at 38 39) refl; items = vec ptr alloc (crossing Imported (extern.Path (path.Id (i_at (at 49 50)))) ∷ crossing Imported (extern.NamedPath a_id (path.Id (i_at (at 62 63)))) ∷ crossing Imported (extern.NamedPath b_id (path.Id (i_at (at 75 76)))) ∷ crossing Exported (extern.Path (path.Id (i_at (at 85 86)))) ∷ []) (lit< tt) }
+
+    abbrev several_file : PackageFile
+    several_file = record { package_id = Some (header ptr alloc); decl_list = record { items = vec ptr alloc (ast.Interface i ∷ ast.World several ∷ []) (lit< tt) } }
+
+    abbrev several_item : Item
+    several_item = record { top = top_names several_file; declared = TheWorld several }
+
+    abbrev items : List SideItem
+    items = side_items several_item
+
+    -- two have names, on one side
+    keys : (side : WorldSide) → AllDiffer (map called_key (side_called side [] items []))
+    keys Imported = two_differ (codes "a") (codes "b") (λ same. (let wrong : true ≡ false = ap (bytes_eq (codes "a")) same in let f : ⊥ = cc in f))
+    keys Exported = differ_none
+
+    -- and one has none on each
+    bare_alone : (side : WorldSide) (place : ℕ) (own : Link) → slice_get (items_on side items) place ≡ Some (SideLink own) → own.name ≡ None → Contains (flat_map (bare_scope several_item.top) (take place (items_on side items))) (path_scope several_item.top own.path) → ⊥
+    bare_alone Imported zero own here bare among = none_among (path_scope several_item.top own.path) among
+    bare_alone Imported (suc zero) own here bare among = named (link Imported (Some a_id) (i_at (at 62 63))) own a_id here refl bare
+    bare_alone Imported (suc (suc zero)) own here bare among = named (link Imported (Some b_id) (i_at (at 75 76))) own b_id here refl bare
+    bare_alone Imported (suc (suc (suc place))) own here bare among = let f : ⊥ = cc in f
+    bare_alone Exported zero own here bare among = none_among (path_scope several_item.top own.path) among
+    bare_alone Exported (suc place) own here bare among = let f : ⊥ = cc in f
+
+    untold_link : (k : ℕ) (own : Link) → slice_get (links several_item) k ≡ Some own → own.attributes ≡ []
+    untold_link zero own here = attributes_of (link Imported None (i_at (at 49 50))) own here refl
+    untold_link (suc zero) own here = attributes_of (link Imported (Some a_id) (i_at (at 62 63))) own here refl
+    untold_link (suc (suc zero)) own here = attributes_of (link Imported (Some b_id) (i_at (at 75 76))) own here refl
+    untold_link (suc (suc (suc zero))) own here = attributes_of (link Exported None (i_at (at 85 86))) own here refl
+    untold_link (suc (suc (suc (suc k)))) own here = absurd (let f : ⊥ = cc in f)
+
+    sides_pass : (f : Fault) → IsBrokenSides several_item f → ⊥
+    sides_pass f (FoldedTwice h) = no_fold [] items [] f no_rows keys h
+    sides_pass f (CrossedTwice h) = no_crossed [] items [] f no_rows keys h
+    sides_pass f (LinkedTwice h) = bare_alone h.side h.place h.link h.at h.bare h.among
+    sides_pass f (LinkNotes own among h) =
+        let it = at_contains (links several_item) own among in
+        no_notes f (subst (λ (l : List Attribute). IsBrokenNotes l f) (untold_link it.0 own it.1) h)
