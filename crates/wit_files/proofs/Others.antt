@@ -10,6 +10,10 @@ use Rattle.std.proofs.lemmas.List.{append-nil, map-append, length-map}
 use Rattle.std.proofs.lemmas.Option.{slice_get-map}
 use Rattle.indexmap.specs.IndexSet.{insert_key}
 use Rattle.wit_tree.specs.declared.tree.Id.{Id}
+use Rattle.wit_tree.specs.declared.tree.Attribute.{Attribute}
+use Rattle.wit_tree.specs.declared.tree.UsePath.{UsePath}
+use Rattle.wit_tree.specs.declared.tree.WorldSide.{WorldSide}
+use Rattle.wit_tree.specs.declared.tree.WorldSide.TheVariants.{Imported, Exported}
 use Rattle.wit_tree.specs.declared.tree.InterfaceItem.{InterfaceItem}
 use Rattle.wit_tree.specs.declared.tree.InterfaceItem.TheVariants as interface_item
 use Rattle.wit_tree.specs.declared.tree.WorldItem.{WorldItem}
@@ -18,13 +22,14 @@ use Rattle.wit_tree.specs.declared.tree.AstItem.{AstItem}
 use Rattle.wit_tree.specs.declared.tree.AstItem.TheVariants as ast
 use Rattle.wit_tree.specs.declared.tree.PackageFile.{PackageFile}
 use Rattle.wit_syntax.specs.Address.{Address, same_version, same_address}
-use Rattle.wit_syntax.specs.Source.{interface_part, world_part}
-use Rattle.wit_syntax.specs.Foreign.{ForeignVisit, visited, path_visits, part_visits as the_part_visits, declaration_visits, file_visits, same_item}
+use Rattle.wit_syntax.specs.Source.{Part, interface_part, world_part}
+use Rattle.wit_syntax.specs.Crossing.{same_side, extern_paths}
+use Rattle.wit_syntax.specs.Foreign.{ForeignVisit, visited, path_visits, part_visits as the_part_visits, side_visits, declaration_visits, file_visits, same_item}
 use Rattle.wit_syntax.specs.Repeats.{firsts}
 use Rattle.wit_syntax.proofs.Lists.{map_at}
 use Rattle.wit_syntax.proofs.Addresses.{same_address-from, same_address-equal}
 use Rattle.wit_syntax.proofs.Firsts.{firsts_at, firsts_has, firsts-more}
-use Rattle.wit_files.specs.Visits.{Visit, part_visits, world_part_visits, item_visits, visits}
+use Rattle.wit_files.specs.Visits.{Visit, part_visits, world_part_visits, extern_visit, side_part_visits, item_visits, visits}
 use Rattle.wit_files.specs.Foreign.{wants_world, foreign_behind, key_release, key_address, AreItemsOf}
 use Rattle.wit_files.specs.declared.foreign.ForeignVisit.{ForeignVisit as HeldVisit}
 use Rattle.wit_files.specs.declared.foreign.ForeignItems.{ForeignItems}
@@ -56,9 +61,41 @@ of_world_part owner (world_item.Extern x) = refl
 of_world_part owner (world_item.Use u) = append-nil (path_visits u.attributes.items false u.from)
 of_world_part owner (world_item.Include i) = append-nil (path_visits i.attributes.items true i.from)
 
+of_extern : (attributes : List Attribute) (paths : List UsePath) → flat_map foreign_of (map (extern_visit attributes) paths) ≡ flat_map (path_visits attributes false) paths
+of_extern attributes paths = sym (flat_mapped foreign_of (extern_visit attributes) paths)
+
+of_side_part : (side : WorldSide) (p : WorldItem) → flat_map foreign_of (side_part_visits side p) ≡ side_visits side (world_part p)
+of_side_part side (world_item.TypeDef d) = refl
+of_side_part side (world_item.Extern x) = elim (cases_Bool (same_side side x.side)) [
+  | inl on ↦ rw on (of_extern x.attributes.items (extern_paths x.kind))
+  | inr off ↦ rw off refl
+]
+of_side_part side (world_item.Use u) = refl
+of_side_part side (world_item.Include i) = refl
+
+-- nothing of an interface stands on a side of a world
+no_side : (side : WorldSide) (xs : List InterfaceItem) → flat_map (side_visits side) (map interface_part xs) ≡ []
+no_side side [] = refl
+no_side side (interface_item.TypeDef d ∷ xs) = no_side side xs
+no_side side (interface_item.Use u ∷ xs) = no_side side xs
+no_side side (interface_item.Func f ∷ xs) = no_side side xs
+
+three_parts : {X Y : Type 0} (g : X → List Y) (xs ys zs : List X) (us vs ws : List Y) → flat_map g xs ≡ us → flat_map g ys ≡ vs → flat_map g zs ≡ ws → flat_map g (xs ++ (ys ++ zs)) ≡ us ++ (vs ++ ws)
+three_parts g xs ys zs us vs ws a b c =
+    flat_map-append g xs (ys ++ zs) ∙ ap (λ l. flat_map g xs ++ l) (flat_map-append g ys zs) ∙ ap (λ l. l ++ (flat_map g ys ++ flat_map g zs)) a ∙ ap (λ l. us ++ (l ++ flat_map g zs)) b ∙ ap (λ l. us ++ (vs ++ l)) c
+
+of_parts : {P : Type 0} (part : P → Part) (visit : P → List Visit) (in_part : Part → List ForeignVisit) → ((p : P) → flat_map foreign_of (visit p) ≡ in_part (part p)) → (ps : List P) → flat_map foreign_of (flat_map visit ps) ≡ flat_map in_part (map part ps)
+of_parts part visit in_part each ps = flat_inside foreign_of visit (λ p. in_part (part p)) each ps ∙ flat_mapped in_part part ps
+
 of_item : (d : AstItem) → flat_map foreign_of (item_visits d) ≡ declaration_visits d
-of_item (ast.Interface i) = flat_inside foreign_of (part_visits i.name) (λ p. the_part_visits (interface_part p)) (of_part i.name) i.items.items ∙ flat_mapped the_part_visits interface_part i.items.items
-of_item (ast.World w) = flat_inside foreign_of (world_part_visits w.name) (λ p. the_part_visits (world_part p)) (of_world_part w.name) w.items.items ∙ flat_mapped the_part_visits world_part w.items.items
+of_item (ast.Interface i) =
+    let ps = map interface_part i.items.items in
+    of_parts interface_part (part_visits i.name) the_part_visits (of_part i.name) i.items.items
+    ∙ sym (append-nil (flat_map the_part_visits ps))
+    ∙ ap (λ l. flat_map the_part_visits ps ++ l) (sym (ap (λ l. l ++ flat_map (side_visits Exported) ps) (no_side Imported i.items.items) ∙ no_side Exported i.items.items))
+of_item (ast.World w) =
+    let xs = w.items.items in
+    three_parts foreign_of (flat_map (world_part_visits w.name) xs) (flat_map (side_part_visits Imported) xs) (flat_map (side_part_visits Exported) xs) _ _ _ (of_parts world_part (world_part_visits w.name) the_part_visits (of_world_part w.name) xs) (of_parts world_part (side_part_visits Imported) (side_visits Imported) (of_side_part Imported) xs) (of_parts world_part (side_part_visits Exported) (side_visits Exported) (of_side_part Exported) xs)
 of_item (ast.Use u) = append-nil (path_visits u.attributes.items false u.item)
 
 -- those of the paths of a file are its paths with a package

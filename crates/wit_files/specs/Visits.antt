@@ -1,5 +1,5 @@
--- The paths of a file in source order, each with the item that it stands in, the attributes in front of it, the names that are used from what it leads to, and what that has to be.
-use Rattle.std.specs.Prelude.{List, [], ◌∷◌, Option, Some, None}
+-- The paths of a file, each with the item that it stands in, the attributes in front of it, the names that are used from what it leads to, and what that has to be.
+use Rattle.std.specs.Prelude.{if◌then◌else◌, List, [], ◌∷◌, ◌++◌, map, Option, Some, None}
 use Rattle.std.specs.List.{flat_map}
 use Rattle.std.specs.Option.{option_map}
 use denote.Ref.{Bor}
@@ -13,9 +13,12 @@ use Rattle.wit_tree.specs.declared.tree.InterfaceItem.TheVariants.{TypeDef as Ty
 use Rattle.wit_tree.specs.declared.tree.World.{World}
 use Rattle.wit_tree.specs.declared.tree.WorldItem.{WorldItem}
 use Rattle.wit_tree.specs.declared.tree.WorldItem.TheVariants as world_item
+use Rattle.wit_tree.specs.declared.tree.WorldSide.{WorldSide}
+use Rattle.wit_tree.specs.declared.tree.WorldSide.TheVariants.{Imported, Exported}
 use Rattle.wit_tree.specs.declared.tree.AstItem.{AstItem}
 use Rattle.wit_tree.specs.declared.tree.AstItem.TheVariants.{Interface as InterfaceItem', World as WorldItem', Use as ToplevelItem}
 use Rattle.wit_tree.specs.declared.tree.DeclList.{DeclList}
+use Rattle.wit_syntax.specs.Crossing.{same_side, extern_paths}
 use Rattle.wit_files.specs.declared.visit.Wanted.{Wanted}
 use Rattle.wit_files.specs.declared.visit.Wanted.TheVariants as wanted
 use Rattle.wit_files.specs.declared.visit.Visit.{Visit as Held}
@@ -45,8 +48,20 @@ world_part_visits owner (world_item.Extern x) = []
 world_part_visits owner (world_item.Use u) = record { owner = None; attributes = u.attributes.items; path = u.from; names = Some u.names.items; wanted = wanted.Interface } ∷ []
 world_part_visits owner (world_item.Include i) = record { owner = Some owner; attributes = i.attributes.items; path = i.from; names = None; wanted = wanted.World } ∷ []
 
+-- of a path by which a world imports or exports an interface, which the world does not need to come before it
+abbrev pub extern_visit : List Attribute → UsePath → Visit
+extern_visit attributes path = record { owner = None; attributes = attributes; path = path; names = None; wanted = wanted.Interface }
+
+-- of a part of a world, where it stands on this side
+abbrev pub side_part_visits : WorldSide → WorldItem → List Visit
+side_part_visits side (world_item.TypeDef d) = []
+side_part_visits side (world_item.Extern x) = if same_side side x.side then map (extern_visit x.attributes.items) (extern_paths x.kind) else []
+side_part_visits side (world_item.Use u) = []
+side_part_visits side (world_item.Include i) = []
+
+-- of a world: first those of its uses and includes, then those of its imports, and then those of its exports
 abbrev pub world_visits : World → List Visit
-world_visits w = flat_map (world_part_visits w.name) w.items.items
+world_visits w = flat_map (world_part_visits w.name) w.items.items ++ (flat_map (side_part_visits Imported) w.items.items ++ flat_map (side_part_visits Exported) w.items.items)
 
 -- of a declaration: a `use` at the top of a file may lead to any item
 abbrev pub item_visits : AstItem → List Visit

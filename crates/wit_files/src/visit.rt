@@ -1,17 +1,20 @@
 //! The paths of a file, in the order in which they are met.
 ghost use Rattle.std.specs.Prelude.{◌≡◌, ◌++◌, map, IfOk, OnOk};
-ghost use Rattle.wit_files.specs.Visits.{visit_behind, interface_visits, world_visits, item_visits, visits as the_visits};
+ghost use Rattle.std.specs.List.{flat_map};
+ghost use Rattle.wit_syntax.specs.Crossing.{same_side as are_one_side, extern_paths};
+ghost use Rattle.wit_files.specs.Visits.{visit_behind, interface_visits, world_part_visits, extern_visit, side_part_visits, world_visits, item_visits, visits as the_visits};
 
 use crate::declaration::world_items;
 use std::alloc::{AllocError, Global};
 use wit_tree::tree::{
-    AstItem, Attribute, DeclList, Id, Interface, InterfaceItem, UseName, UsePath, World, WorldItem,
+    AstItem, Attribute, DeclList, Extern, ExternKind, Id, Interface, InterfaceItem, UseName,
+    UsePath, World, WorldItem, WorldSide,
 };
 
 /// What the item that a path leads to has to be.
 #[derive(Clone, Copy, Debug, PartialEq, Eq)]
 pub enum Wanted {
-    /// An interface, from which names are used.
+    /// An interface, from which names are used, or which a world imports or exports.
     Interface,
     /// A world, which is included.
     World,
@@ -23,9 +26,9 @@ pub enum Wanted {
 #[derive(Clone, Copy, Debug)]
 pub struct Visit<'f, 'a> {
     /// The name of the item that has to come after what the path leads to: of an interface for its
-    /// `use`s, of a world for its includes. `None` for a `use` in a world or at the top of a file.
+    /// `use`s, of a world for its includes. `None` for any other path.
     pub owner: Option<Id<'a>>,
-    /// The attributes in front of the `use` or of the include.
+    /// The attributes in front of the `use`, the include, the import or the export.
     pub attributes: &'f [Attribute<'a>],
     pub path: &'f UsePath<'a>,
     /// The names that are used from the item, or `None` where the item itself is named.
@@ -54,32 +57,123 @@ fn add_interface_visits<'f, 'a>(
     Ok(())
 }
 
-/// Adds the visits of a world: one for each `use` and each include.
+/// Adds the visit of a part of a world of this name, where that is a `use` or an include.
+fn add_world_part<'f, 'a>(
+    owner: Id<'a>,
+    item: &'f WorldItem<'a>,
+    visits: &mut Vec<Visit<'f, 'a>>,
+) -> Result<(), AllocError>
+    ensures { OnOk result (map visit_behind visits.new.items ≡ map visit_behind visits.old.items ++ world_part_visits owner.entry item.now) }
+{
+    match item {
+        WorldItem::TypeDef(_) | WorldItem::Extern(_) => {}
+        WorldItem::Use(used) => visits.push(Visit {
+            owner: None,
+            attributes: &used.attributes,
+            path: &used.from,
+            names: Some(&used.names),
+            wanted: Wanted::Interface,
+        })?,
+        WorldItem::Include(include) => visits.push(Visit {
+            owner: Some(owner),
+            attributes: &include.attributes,
+            path: &include.from,
+            names: None,
+            wanted: Wanted::World,
+        })?,
+    }
+    Ok(())
+}
+
+/// Adds the visits of the `use`s and the includes of a world.
+fn add_world_parts<'f, 'a>(
+    world: &'f World<'a>,
+    visits: &mut Vec<Visit<'f, 'a>>,
+) -> Result<(), AllocError>
+    ensures { OnOk result (map visit_behind visits.new.items ≡ map visit_behind visits.old.items ++ flat_map (world_part_visits world.now.name) world.now.items.items) }
+{
+    for item in world_items(world) {
+        add_world_part(world.name, item, visits)?;
+    }
+    Ok(())
+}
+
+/// Whether two sides are one.
+fn is_same_side(a: WorldSide, b: WorldSide) -> bool
+    ensures { result ≡ are_one_side a b }
+{
+    match a {
+        WorldSide::Imported => matches!(b, WorldSide::Imported),
+        WorldSide::Exported => matches!(b, WorldSide::Exported),
+    }
+}
+
+/// Adds the visit of what a world imports or exports, where that is an interface by its path.
+fn add_extern<'f, 'a>(
+    external: &'f Extern<'a>,
+    visits: &mut Vec<Visit<'f, 'a>>,
+) -> Result<(), AllocError>
+    ensures { OnOk result (map visit_behind visits.new.items ≡ map visit_behind visits.old.items ++ map (extern_visit external.now.attributes.items) (extern_paths external.now.kind)) }
+{
+    let path = match &external.kind {
+        ExternKind::Interface(_, _) | ExternKind::Func(_, _) => return Ok(()),
+        ExternKind::Path(path) => path,
+        ExternKind::NamedPath(_, path) => path,
+    };
+    visits.push(Visit {
+        owner: None,
+        attributes: &external.attributes,
+        path,
+        names: None,
+        wanted: Wanted::Interface,
+    })?;
+    Ok(())
+}
+
+/// Adds the visit of a part of a world, where that is an interface by its path on this side.
+fn add_side_part<'f, 'a>(
+    side: WorldSide,
+    item: &'f WorldItem<'a>,
+    visits: &mut Vec<Visit<'f, 'a>>,
+) -> Result<(), AllocError>
+    ensures { OnOk result (map visit_behind visits.new.items ≡ map visit_behind visits.old.items ++ side_part_visits side item.now) }
+{
+    match item {
+        WorldItem::TypeDef(_) | WorldItem::Use(_) | WorldItem::Include(_) => {}
+        WorldItem::Extern(external) => {
+            if is_same_side(side, external.side) {
+                add_extern(external, visits)?;
+            }
+        }
+    }
+    Ok(())
+}
+
+/// Adds the visits of the interfaces that stand on a side of a world by their paths.
+fn add_side<'f, 'a>(
+    world: &'f World<'a>,
+    side: WorldSide,
+    visits: &mut Vec<Visit<'f, 'a>>,
+) -> Result<(), AllocError>
+    ensures { OnOk result (map visit_behind visits.new.items ≡ map visit_behind visits.old.items ++ flat_map (side_part_visits side) world.now.items.items) }
+{
+    for item in world_items(world) {
+        add_side_part(side, item, visits)?;
+    }
+    Ok(())
+}
+
+/// Adds the visits of a world: one for each `use` and each include, then one for each path that it
+/// imports, and then one for each that it exports.
 fn add_world_visits<'f, 'a>(
     world: &'f World<'a>,
     visits: &mut Vec<Visit<'f, 'a>>,
 ) -> Result<(), AllocError>
     ensures { OnOk result (map visit_behind visits.new.items ≡ map visit_behind visits.old.items ++ world_visits world.now) }
 {
-    for item in world_items(world) {
-        match item {
-            WorldItem::TypeDef(_) | WorldItem::Extern(_) => {}
-            WorldItem::Use(used) => visits.push(Visit {
-                owner: None,
-                attributes: &used.attributes,
-                path: &used.from,
-                names: Some(&used.names),
-                wanted: Wanted::Interface,
-            })?,
-            WorldItem::Include(include) => visits.push(Visit {
-                owner: Some(world.name),
-                attributes: &include.attributes,
-                path: &include.from,
-                names: None,
-                wanted: Wanted::World,
-            })?,
-        }
-    }
+    add_world_parts(world, visits)?;
+    add_side(world, WorldSide::Imported, visits)?;
+    add_side(world, WorldSide::Exported, visits)?;
     Ok(())
 }
 
@@ -104,8 +198,9 @@ fn add_visits<'f, 'a>(
     Ok(())
 }
 
-/// The visits of a file, in source order: of an interface one for each `use`, of a world one for
-/// each `use` and each include, and one for a `use` at the top of the file.
+/// The visits of a file, one declaration after another: of an interface one for each `use`; of a
+/// world one for each `use` and each include, then one for each import by its path, and then one for
+/// each export by its path; and one for a `use` at the top of the file.
 ///
 /// The error is want of memory.
 pub fn visits<'f, 'a>(

@@ -5,6 +5,7 @@ ghost use Rattle.wit_syntax.specs.Source.{declared_attributes, is_world, item_id
 ghost use Rattle.wit_syntax.specs.Notes.{IsBrokenStability};
 ghost use Rattle.wit_syntax.specs.Scope.{in_order, interfaces_of};
 ghost use Rattle.wit_syntax.specs.Function.{functions as the_functions};
+ghost use Rattle.wit_syntax.specs.Sides.{IsBrokenSides};
 ghost use Rattle.wit_syntax.specs.Signature.{IsUnpairedSetter};
 ghost use Rattle.wit_syntax.specs.Fault.{Fault};
 ghost use Rattle.wit_syntax.specs.Broken.{IsBrokenScope, Refused};
@@ -13,7 +14,7 @@ ghost use Rattle.wit_rules.specs.Held.{function_behind};
 ghost use Rattle.wit_signatures.specs.Taken.{name_of_function, name_of_id};
 ghost use Rattle.wit_items.specs.Items.{item_behind, names_behind};
 ghost use Rattle.wit_arena.specs.Resolving.{IsIndex, IsAddedInterface};
-ghost use Rattle.wit_arena.specs.Resolved.{AddsInterface, AddsInterfaces, AreSoundScopes, HaveLegalStability, IsNameless, IsWrongInterface};
+ghost use Rattle.wit_arena.specs.Resolved.{AddsInterface, AddsInterfaces, AreLegalSides, AreSoundScopes, HaveLegalStability, IsNameless, IsWrongInterface};
 ghost use Rattle.wit_item_entries.specs.Held.{front_of, cells_of};
 ghost use Rattle.wit_scopes.specs.Front.{AreNamesPlaced};
 ghost use Rattle.wit_items.specs.Front.{AreItemsPlaced};
@@ -24,18 +25,16 @@ ghost use Rattle.wit_items.specs.Told.{notes_behind};
 use std::alloc::Global;
 use wit_entries::entries::Entries;
 use wit_entries::scope::Required;
-use wit_item_entries::functions::{function_table, held_functions};
-use wit_item_entries::names::resolve_names;
+use wit_externs::taken::check_setters;
+use wit_item_entries::body::{resolve_head, resolve_item_functions};
+use wit_item_entries::functions::{function_table, own_externs};
 use wit_item_entries::required::add_required;
-use wit_item_entries::signatures::resolve_signatures;
 use wit_item_entries::uses::Interfaces;
 use wit_items::items::{Declared, Item};
-use wit_items::notes::{ItemNotes, item_notes};
+use wit_items::notes::ItemNotes;
 use wit_model::{Function, Interface};
 use wit_notes::NameScope;
 use wit_rules::held::HeldFunction;
-use wit_sides::Sides;
-use wit_signatures::taken::check_setters;
 use wit_tree::ParseResult;
 use wit_tree::tree::Id;
 use wit_types::{TypeId, TypeOwner};
@@ -93,10 +92,10 @@ fn check_pairs(
 /// Adds an interface with what is told of it, its names, and what is in them, and then its functions.
 fn resolve_interface<'a>(
     alloc: Global,
+    item: &Item<'_, 'a>,
     types: &mut Entries,
     required: &mut Vec<Required>,
     interfaces: &mut Interfaces<'_, '_, '_>,
-    item: &Item<'_, 'a>,
     id: Id<'a>,
 ) -> ParseResult<()>
     requires id { id ≡ item_id (item_behind item.now) }
@@ -110,24 +109,17 @@ fn resolve_interface<'a>(
     ensures index { OnOk result (IsIndex (cells_of interfaces.new) interfaces.new.by_name) }
     ensures stable { OnOk result ((f : Fault) → IsBrokenStability (declared_attributes (item_behind item.now).declared) f → ⊥) }
     ensures sound { OnOk result ((f : Fault) → IsBrokenScope (the_names (item_behind item.now)) (the_functions (item_behind item.now)) f → IsNameless (the_names (item_behind item.now)) (the_functions (item_behind item.now))) }
+    ensures sided { OnOk result ((f : Fault) → IsBrokenSides (item_behind item.now) f → ⊥) }
     ensures refused { IfErr result (Refused (IsWrongInterface types.old (cells_of interfaces.old) interfaces.old.by_name (InterfaceOwner (length interfaces.old.arena)) (item_behind item.now))) }
 {
-    let notes = item_notes(alloc, item.declared)?;
     let owner = TypeOwner::Interface(interfaces.arena.next_id());
-    let mut names = resolve_names(alloc, types, interfaces, owner, &item.names)?;
-    let written = held_functions(alloc, item.declared)?;
-    let mut taken = Sides::new(alloc);
-    let functions = resolve_signatures(
-        alloc,
-        types,
-        &mut names,
-        &item.names,
-        &written,
-        &mut taken,
-    )?;
-    check_pairs(&taken.imports, &names.turn, &written)?;
-    let functions = function_table(alloc, functions)?;
-    add_interface(alloc, interfaces, id, notes, names.types, functions)?;
+    let head = resolve_head(alloc, item, types, interfaces, owner)?;
+    let mut names = head.names;
+    let externs = own_externs(alloc, item.declared)?;
+    let own = resolve_item_functions(alloc, &item.names, &externs, types, &mut names)?;
+    check_pairs(&own.taken.imports, &names.turn, &own.written)?;
+    let functions = function_table(alloc, own.functions)?;
+    add_interface(alloc, interfaces, id, head.notes, names.types, functions)?;
     add_required(required, &names.required)?;
     Ok(())
 }
@@ -152,12 +144,13 @@ pub fn resolve_interfaces(
     ensures index { OnOk result (IsIndex (cells_of interfaces.new) interfaces.new.by_name) }
     ensures stable { OnOk result (HaveLegalStability (interfaces_of (in_order (map item_behind items.now) places.now))) }
     ensures sound { OnOk result (AreSoundScopes (interfaces_of (in_order (map item_behind items.now) places.now))) }
+    ensures sided { OnOk result (AreLegalSides (interfaces_of (in_order (map item_behind items.now) places.now))) }
     ensures refused { IfErr result (Refused (IsWrongNow (front_of interfaces.old.foreign.now) types.old interfaces.old.arena (map item_behind items.now) places.now)) }
 {
     for place in places {
         let item = &items[*place];
         if let Declared::Interface(interface) = item.declared {
-            resolve_interface(alloc, types, required, interfaces, item, interface.name)?;
+            resolve_interface(alloc, item, types, required, interfaces, interface.name)?;
         }
     }
     Ok(())

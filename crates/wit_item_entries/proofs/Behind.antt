@@ -1,8 +1,8 @@
 -- What is wrong with the functions of an item, and what holds of the names of both.
-use Rattle.std.proofs.Common.{◌≡◌, ℕ, List, [], ◌∷◌, ◌++◌, map, take, Some, inl, inr, refl, sym, ap, ◌∙◌, subst, Contains}
+use Rattle.std.proofs.Common.{◌≡◌, ℕ, List, [], ◌∷◌, ◌++◌, map, take, Option, Some, None, inl, inr, refl, sym, ap, ◌∙◌, subst, Contains}
 use Rattle.std.specs.Prelude.{slice_get}
 use Rattle.std.specs.List.{flat_map}
-use Rattle.std.specs.Option.{option_map}
+use Rattle.std.specs.Option.{option_map, option_map_or}
 use Rattle.std.proofs.lemmas.List.{map-append}
 use Rattle.std.proofs.lemmas.Option.{slice_get-map}
 use Rattle.wit_tree.specs.declared.tree.Id.{Id}
@@ -14,10 +14,10 @@ use Rattle.wit_syntax.specs.Shape.{all_handles}
 use Rattle.wit_syntax.specs.Source.{ScopeName, local_id}
 use Rattle.wit_syntax.specs.Scope.{in_turn, local_names}
 use Rattle.wit_syntax.specs.Function.{SourceFunction, written_types}
-use Rattle.wit_syntax.specs.Signature.{Called, called_key, name_called, function_called}
+use Rattle.wit_syntax.specs.Signature.{Called, called_key, name_called}
 use Rattle.wit_tree.specs.declared.tree.WorldSide.{WorldSide}
 use Rattle.wit_tree.specs.declared.tree.WorldSide.TheVariants.{Imported, Exported}
-use Rattle.wit_syntax.specs.Sides.{IsFoldedTwice, IsCrossedTwice, names_on, on_side, side_called}
+use Rattle.wit_syntax.specs.Sides.{SideItem, SideFunction, SideLink, id_called, item_called, items_on, names_on, side_called, IsFoldedTwice, IsCrossedTwice}
 use Rattle.wit_arena.specs.Resolving.{Env, Names, env_of}
 use Rattle.wit_syntax.proofs.Lists.{at_front, map_map, flat_map_has}
 use Rattle.wit_syntax.proofs.Found.{contains_at}
@@ -28,18 +28,33 @@ use Rattle.wit_notes.specs.Names.{Name}
 use Rattle.wit_sides.specs.Sides.{taken_on}
 use Rattle.wit_sides.specs.declared.sides.Sides.{Sides}
 use Rattle.wit_rules.specs.Signatures.{AreAllNames, IsWrongFunctionAmong}
-use Rattle.wit_signatures.specs.Taken.{name_of_id, name_of_function, name_key, IsTwiceAmong, IsCrossedAmong, IsClash, Folded, Crossed}
+use Rattle.wit_signatures.specs.Taken.{name_of_id, name_key, IsTwiceAmong}
+use Rattle.wit_externs.specs.Held.{externs_behind}
+use Rattle.wit_externs.specs.Clash.{item_names, names_of_items, all_on, IsCrossedAmong, IsClash, Folded, Crossed}
+use Rattle.wit_externs.specs.Links.{IsWrongAmong, Clashes, LinkedAgain as AgainAmong, WrongLink as WrongAmong}
+use Rattle.wit_externs.specs.declared.held.HeldExtern.{HeldExtern}
 use Rattle.wit_item_entries.specs.Between.{names_in}
-use Rattle.wit_item_entries.specs.Behind.{IsTurn, IsWrongFunctions, BrokenFunction, BrokenNames, CrossedNames, HandleOfOther}
+use Rattle.wit_item_entries.specs.Behind.{IsTurn, IsWrongFunctions, BrokenFunction, BrokenNames, CrossedNames, LinkedAgain, WrongLink, HandleOfOther}
 use Rattle.wit_item_entries.proofs.Handled.{handle_wider}
 
 -- a name as it is called
 abbrev called : Name → Called
 called n = record { name = n.0; span = n.1 }
 
-called_functions : (fns : List SourceFunction) → map called (map name_of_function fns) ≡ map function_called fns
-called_functions [] = refl
-called_functions (fn ∷ fns) = ap (λ l. function_called fn ∷ l) (called_functions fns)
+called_id : (o : Option Id) → map called (option_map_or (λ id. name_of_id id ∷ []) o []) ≡ id_called o
+called_id None = refl
+called_id (Some id) = refl
+
+called_item : (x : SideItem) → map called (item_names x) ≡ item_called x
+called_item (SideFunction fn) = refl
+called_item (SideLink link) = called_id link.name
+
+called_items : (items : List SideItem) → map called (names_of_items items) ≡ flat_map item_called items
+called_items [] = refl
+called_items (x ∷ items) =
+    map-append called (item_names x) (names_of_items items)
+    ∙ ap (λ (l : List Called). l ++ map called (names_of_items items)) (called_item x)
+    ∙ ap (λ (l : List Called). item_called x ++ l) (called_items items)
 
 called_names : (xs : List ScopeName) → map called (map name_of_id (map local_id xs)) ≡ map name_called xs
 called_names [] = refl
@@ -49,12 +64,12 @@ called_on : (side : WorldSide) (xs : List ScopeName) (ids : List Id) → ids ≡
 called_on Imported xs ids are = ap (λ (l : List Id). map called (map name_of_id l)) are ∙ called_names xs
 called_on Exported xs ids are = refl
 
--- the names of a scope in turn on a side, and then those of functions
-pub all_taken : (side : WorldSide) (xs : List ScopeName) (fns : List SourceFunction) (order : List ℕ) (ids : List Id) → ids ≡ map local_id (in_turn xs order) → map called (names_on side (map name_of_id ids) ++ map name_of_function fns) ≡ map name_called (names_on side (in_turn xs order)) ++ map function_called fns
-all_taken side xs fns order ids are =
-    map-append called (names_on side (map name_of_id ids)) (map name_of_function fns)
-    ∙ ap (λ (l : List Called). l ++ map called (map name_of_function fns)) (called_on side (in_turn xs order) ids are)
-    ∙ ap (λ (l : List Called). map name_called (names_on side (in_turn xs order)) ++ l) (called_functions fns)
+-- the names of a scope in turn on a side, and then those of what stands behind them
+pub all_taken : (side : WorldSide) (xs : List ScopeName) (items : List SideItem) (order : List ℕ) (ids : List Id) → ids ≡ map local_id (in_turn xs order) → map called (names_on side (map name_of_id ids) ++ names_of_items items) ≡ map name_called (names_on side (in_turn xs order)) ++ flat_map item_called items
+all_taken side xs items order ids are =
+    map-append called (names_on side (map name_of_id ids)) (names_of_items items)
+    ∙ ap (λ (l : List Called). l ++ map called (names_of_items items)) (called_on side (in_turn xs order) ids are)
+    ∙ ap (λ (l : List Called). map name_called (names_on side (in_turn xs order)) ++ l) (called_items items)
 
 repeated_called : (names : List Name) (later : Name) → IsRepeated name_key names later → IsRepeated called_key (map called names) (called later)
 repeated_called names later h = record {
@@ -67,24 +82,24 @@ repeated_called names later h = record {
   same = h.same;
 }
 
--- a name of a scope or of its functions that is taken on a side is one once folded
-pub twice_folded : (side : WorldSide) (xs : List ScopeName) (fns : List SourceFunction) (ids : List Id) (f : Fault) → IsTurn xs ids → IsTwiceAmong (names_on side (map name_of_id ids) ++ map name_of_function (on_side side fns)) f → IsFoldedTwice xs fns f
-twice_folded side xs fns ids f t h = record {
+-- a name of a scope, or of what stands behind its names, that is taken on a side is one once folded
+twice_folded : (side : WorldSide) (xs : List ScopeName) (items : List SideItem) (ids : List Id) (f : Fault) → IsTurn xs ids → IsTwiceAmong (all_on side ids items) f → IsFoldedTwice xs items f
+twice_folded side xs items ids f t h = record {
   side = side;
   order = t.order;
   least = t.least;
   later = called h.later;
-  repeated = subst (λ (cs : List Called). IsRepeated called_key cs (called h.later)) (all_taken side xs (on_side side fns) t.order ids t.are) (repeated_called (names_on side (map name_of_id ids) ++ map name_of_function (on_side side fns)) h.later h.repeated);
+  repeated = subst (λ (cs : List Called). IsRepeated called_key cs (called h.later)) (all_taken side xs (items_on side items) t.order ids t.are) (repeated_called (all_on side ids items) h.later h.repeated);
   is = h.is;
 }
 
 -- the name of an import or an export that is taken on its side is one
-crossed_twice : (side : WorldSide) (xs : List ScopeName) (fns : List SourceFunction) (ids : List Id) (f : Fault) → IsTurn xs ids → IsCrossedAmong side (names_on side (map name_of_id ids)) (on_side side fns) f → IsCrossedTwice xs fns f
-crossed_twice side xs fns ids f t h =
-    let front = take h.place (on_side side fns) in
-    let names = names_on side (map name_of_id ids) ++ map name_of_function front in
-    let earlier : Called = record { name = h.later.name; span = h.taken.span } in
-    let all = map name_called (names_on side (in_turn xs t.order)) ++ map function_called front in
+crossed_twice : (side : WorldSide) (xs : List ScopeName) (items : List SideItem) (ids : List Id) (f : Fault) → IsTurn xs ids → IsCrossedAmong (names_on side (map name_of_id ids)) (items_on side items) f → IsCrossedTwice xs items f
+crossed_twice side xs items ids f t h =
+    let front = take h.place (items_on side items) in
+    let names = names_on side (map name_of_id ids) ++ names_of_items front in
+    let earlier : Called = record { name = h.name.0; span = h.taken.span } in
+    let all = map name_called (names_on side (in_turn xs t.order)) ++ flat_map item_called front in
     let there : slice_get all h.taken.place ≡ Some earlier = ap (λ (l : List Called). slice_get l h.taken.place) (sym (all_taken side xs front t.order ids t.are)) ∙ slice_get-map called names h.taken.place ∙ ap (option_map called) h.taken.at in
     record {
       side = side;
@@ -93,9 +108,9 @@ crossed_twice side xs fns ids f t h =
       place = h.place;
       later = h.later;
       at = h.at;
-      id = h.id;
-      form = h.form;
       crosses = h.crosses;
+      called = called h.name;
+      named = sym (called_item h.later) ∙ ap (map called) h.named;
       earlier = earlier;
       among = contains_at all h.taken.place earlier there;
       same = refl;
@@ -103,12 +118,18 @@ crossed_twice side xs fns ids f t h =
     }
 
 -- so names that clash behind those of a scope are wrong
-pub wrong_clash : (env : Env) (es : List TypeDef) (xs : List ScopeName) (fns : List SourceFunction) (ids : List Id) (before : WorldSide → List Name) (f : Fault) → IsTurn xs ids → ((side : WorldSide) → before side ≡ names_on side (map name_of_id ids)) → IsClash before fns f → IsWrongFunctions env es xs fns f
-wrong_clash env es xs fns ids before f t are (Folded side h) = BrokenNames (twice_folded side xs fns ids f t (subst (λ (l : List Name). IsTwiceAmong (l ++ map name_of_function (on_side side fns)) f) (are side) h))
-wrong_clash env es xs fns ids before f t are (Crossed side h) = CrossedNames (crossed_twice side xs fns ids f t (subst (λ (l : List Name). IsCrossedAmong side l (on_side side fns) f) (are side) h))
+wrong_clash : (env : Env) (es : List TypeDef) (xs : List ScopeName) (fns : List SourceFunction) (hs : List HeldExtern) (ids : List Id) (before : WorldSide → List Name) (f : Fault) → IsTurn xs ids → ((side : WorldSide) → before side ≡ names_on side (map name_of_id ids)) → IsClash before (externs_behind hs) f → IsWrongFunctions env es xs fns hs f
+wrong_clash env es xs fns hs ids before f t are (Folded side h) = BrokenNames (twice_folded side xs (externs_behind hs) ids f t (subst (λ (l : List Name). IsTwiceAmong (l ++ names_of_items (items_on side (externs_behind hs))) f) (are side) h))
+wrong_clash env es xs fns hs ids before f t are (Crossed side h) = CrossedNames (crossed_twice side xs (externs_behind hs) ids f t (subst (λ (l : List Name). IsCrossedAmong l (items_on side (externs_behind hs)) f) (are side) h))
 
--- so is one of the names alone
-pub twice_front : (names more : List Name) (f : Fault) → IsTwiceAmong names f → IsTwiceAmong (names ++ more) f
+-- and so is all that is wrong with what stands behind them
+pub wrong_among : (env : Env) (es : List TypeDef) (xs : List ScopeName) (fns : List SourceFunction) (hs : List HeldExtern) (ids : List Id) (before : WorldSide → List Name) (f : Fault) → IsTurn xs ids → ((side : WorldSide) → before side ≡ names_on side (map name_of_id ids)) → IsWrongAmong before hs f → IsWrongFunctions env es xs fns hs f
+wrong_among env es xs fns hs ids before f t are (Clashes h) = wrong_clash env es xs fns hs ids before f t are h
+wrong_among env es xs fns hs ids before f t are (AgainAmong h) = LinkedAgain h
+wrong_among env es xs fns hs ids before f t are (WrongAmong l among h) = WrongLink l among h
+
+-- a name that stands twice does so with more behind it
+twice_front : (names more : List Name) (f : Fault) → IsTwiceAmong names f → IsTwiceAmong (names ++ more) f
 twice_front names more f h = record {
   later = h.later;
   repeated = record {
@@ -123,14 +144,18 @@ twice_front names more f h = record {
   is = h.is;
 }
 
+-- so a name of a scope that stands twice by itself is wrong
+pub wrong_front : (env : Env) (es : List TypeDef) (xs : List ScopeName) (fns : List SourceFunction) (hs : List HeldExtern) (ids : List Id) (f : Fault) → IsTurn xs ids → IsTwiceAmong (map name_of_id ids) f → IsWrongFunctions env es xs fns hs f
+wrong_front env es xs fns hs ids f t h = BrokenNames (twice_folded Imported xs (externs_behind hs) ids f t (twice_front (map name_of_id ids) (names_of_items (items_on Imported (externs_behind hs))) f h))
+
 -- the keys of names are those of what they are called
 keys_called : (names : List Name) → map called_key (map called names) ≡ map name_key names
 keys_called [] = refl
 keys_called (n ∷ ns) = ap (λ l. name_key n ∷ l) (keys_called ns)
 
 -- where the keys of what is taken on a side differ, so do those of all that is called there
-pub differ_called : (side : WorldSide) (xs : List ScopeName) (fns : List SourceFunction) (order : List ℕ) (ids : List Id) → ids ≡ map local_id (in_turn xs order) → AllDiffer (map name_key (names_on side (map name_of_id ids) ++ map name_of_function (on_side side fns))) → AllDiffer (map called_key (side_called side xs fns order))
-differ_called side xs fns order ids are h = subst AllDiffer (sym (keys_called (names_on side (map name_of_id ids) ++ map name_of_function (on_side side fns))) ∙ ap (map called_key) (all_taken side xs (on_side side fns) order ids are)) h
+pub differ_called : (side : WorldSide) (xs : List ScopeName) (items : List SideItem) (order : List ℕ) (ids : List Id) → ids ≡ map local_id (in_turn xs order) → AllDiffer (map name_key (all_on side ids items)) → AllDiffer (map called_key (side_called side xs items order))
+differ_called side xs items order ids are h = subst AllDiffer (sym (keys_called (all_on side ids items)) ∙ ap (map called_key) (all_taken side xs (items_on side items) order ids are)) h
 
 -- once the names of a scope are taken where nothing was, they stand on their side
 pub taken_before : (side : WorldSide) (old new : Sides) (held ids : List Id) → ((s : WorldSide) → taken_on s old ≡ []) → ((s : WorldSide) → taken_on s new ≡ taken_on s old ++ names_on s (map name_of_id held)) → held ≡ ids → taken_on side new ≡ names_on side (map name_of_id ids)
@@ -152,8 +177,8 @@ handles_in fns k fn id at h =
     handles_at (flat_map written_types fns) there.0 it.1 id there.1 it.3
 
 -- what is wrong with one function is wrong with them
-pub wrong_functions : (env : Env) (es : List TypeDef) (xs : List ScopeName) (fns : List SourceFunction) (f : Fault) → IsWrongFunctionAmong env es xs fns f → IsWrongFunctions env es xs fns f
-wrong_functions env es xs fns f h = elim h.wrong [
+pub wrong_functions : (env : Env) (es : List TypeDef) (xs : List ScopeName) (fns : List SourceFunction) (hs : List HeldExtern) (f : Fault) → IsWrongFunctionAmong env es xs fns f → IsWrongFunctions env es xs fns hs f
+wrong_functions env es xs fns hs f h = elim h.wrong [
   | inl broken ↦ BrokenFunction h.place h.fn h.at broken
   | inr handle ↦ HandleOfOther (handle_wider env es (all_handles (written_types h.fn)) (all_handles (flat_map written_types fns)) f (λ id among. handles_in fns h.place h.fn id h.at among) handle)
 ]

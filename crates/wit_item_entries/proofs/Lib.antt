@@ -6,13 +6,14 @@ pub mod Telling
 pub mod Emitting
 mod Results
 mod SettersPlaced
-mod Inserting
+pub mod Inserting
 mod FunctionTables
 pub mod Behind
+mod Linked
+pub mod ItemSides
 pub mod ScopeFunctions
 mod OwnKeys
 pub mod NoFunctions
 pub mod Owners
 mod PlacedNames
-pub mod MadeSides
 pub mod InterfaceSides

@@ -1,11 +1,10 @@
 -- The functions of an item, added behind its names.
-use Rattle.std.proofs.Common.{◌≡◌, ℕ, List, [], ◌++◌, length, map, Some, sym, ap, ◌∙◌, subst, Contains}
+use Rattle.std.proofs.Common.{◌≡◌, ◌⊎◌, ℕ, List, [], ◌++◌, length, map, Some, inl, inr, sym, ap, ◌∙◌, subst, Contains}
 use Rattle.std.specs.Prelude.{slice_get}
 use Rattle.std.specs.List.{flat_map}
 use Rattle.std.proofs.Math.Seq.{take-length}
 use Rattle.std.proofs.lemmas.List.Elements.{Contains-append_right}
 use Rattle.wit_tree.specs.declared.tree.Id.{Id}
-use Rattle.wit_tree.specs.declared.tree.PackageFile.{PackageFile}
 use Rattle.wit_types.specs.declared.types.TypeDef.{TypeDef}
 use Rattle.wit_types.specs.declared.types.TypeOwner.{TypeOwner}
 use Rattle.wit_model.specs.declared.function.Function.{Function}
@@ -17,25 +16,32 @@ use Rattle.wit_syntax.specs.Source.{Item, address, ScopeName, scope_names}
 use Rattle.wit_syntax.specs.Scope.{in_turn}
 use Rattle.wit_syntax.specs.Function.{SourceFunction, functions, name_types, written_types, item_types}
 use Rattle.wit_syntax.specs.Signature.{IsBrokenFunction}
-use Rattle.wit_tree.specs.declared.tree.WorldSide.{WorldSide}
 use Rattle.wit_tree.specs.declared.tree.WorldSide.TheVariants.{Imported}
-use Rattle.wit_syntax.specs.Sides.{names_on, on_side}
-use Rattle.wit_syntax.specs.Broken.{IsBrokenScope, Function as FunctionBroken, FoldedTwice, CrossedTwice}
+use Rattle.wit_syntax.specs.Sides.{SideItem, SideFunction, on_side, side_items}
+use Rattle.wit_syntax.specs.Broken.{IsBrokenScope, Function as FunctionBroken}
 use Rattle.wit_arena.specs.Resolving.{Env, Names, env_of, Cell, Required, AreEnded, AddsFunctions, IsWrongHandle, WrongItself}
-use Rattle.wit_arena.specs.Resolved.{AddsBehind, IsNameless, IsWrongHandleNow, IsWrongInterface, WrongScope, WrongHandle, IsWrongWorld, WrongWorldScope, WrongWorldHandle}
-use Rattle.wit_syntax.proofs.Legal.{no_fold, no_crossed, function_name}
+use Rattle.wit_arena.specs.Resolved.{AddsBehind, IsNameless, IsWrongHandleNow}
+use Rattle.wit_syntax.proofs.Legal.{function_name}
 use Rattle.wit_arena.proofs.FunctionNames.{names_differ, made_name}
 use Rattle.wit_syntax.proofs.Lists.{map_map}
 use Rattle.wit_arena.proofs.Required.{ended_append, ended_more}
 use Rattle.wit_arena.proofs.Written.{all_handles-append}
 use Rattle.wit_notes.specs.Names.{Name}
 use Rattle.wit_entries.specs.Requiring.{IsGrown, Requires}
-use Rattle.wit_signatures.specs.Taken.{name_of_id, name_of_function, name_of_made, name_key}
-use Rattle.wit_scopes.specs.Between.{IsOfFunctions, OfFunction, OfFolded, OfCrossed}
+use Rattle.wit_signatures.specs.Taken.{name_of_function, name_of_made, name_key}
+use Rattle.wit_externs.specs.Clash.{DifferOnSides, all_on}
+use Rattle.wit_externs.specs.Links.{AreLinksPlaced, IsWrongLink, WrongNotes as NotedWrong, AtWorld, AtNothing}
+use Rattle.wit_externs.specs.declared.held.HeldLink.{HeldLink}
+use Rattle.wit_externs.specs.declared.held.HeldExtern.{HeldExtern}
+use Rattle.wit_externs.specs.declared.held.HeldExtern.TheVariants as held
+use Rattle.wit_scopes.specs.declared.scope_name.ScopeName.{ScopeName as HeldName}
+use Rattle.wit_scopes.specs.Between.{IsOfFunctions, OfFunction}
 use Rattle.wit_item_entries.specs.Between.{names_in, AddsTurn}
-use Rattle.wit_item_entries.specs.Behind.{IsTurn, IsWrongFunctions, BrokenFunction, BrokenNames, CrossedNames, HandleOfOther}
+use Rattle.wit_item_entries.specs.Behind.{IsTurn, IsWrongFunctions, BrokenFunction, BrokenNames, CrossedNames, LinkedAgain, WrongLink, HandleOfOther}
+use Rattle.wit_item_entries.specs.Body.{IsHeldBy, AddsBody, IsWrongBody, WrongNames, WrongHandles, WrongSides, IsLinkLost, LostAtWorld, LostAtNothing}
 use Rattle.wit_item_entries.proofs.Handled.{handle_wider}
 use Rattle.wit_item_entries.proofs.Behind.{differ_called, turn_texts}
+use Rattle.wit_item_entries.proofs.ItemSides.{wrong_folded, wrong_crossed, wrong_linked, wrong_noted}
 
 -- the names of a scope that was added, in turn
 pub turn_added : (old mid : List TypeDef) (cs : List Cell) (o : TypeOwner) (xs : List ScopeName) (types : Names) (ids : List Id) (rs : List Required) → AddsTurn old mid cs o xs types ids rs → IsTurn xs ids
@@ -52,7 +58,7 @@ required_behind env mid new ids more own all g p q =
     subst (AreEnded env new (ids ++ more)) (sym (q.added ∙ ap (λ (l : List Required). l ++ q.list) p.added)) (ended_append env new ids more p.list q.list first q.ended)
 
 -- the functions of an item stand behind its names
-pub functions_behind : (old mid new : List TypeDef) (cs : List Cell) (o : TypeOwner) (item : Item) (types : Names) (ids : List Id) (own all : List Required) (fs : List Function) (n : AddsTurn old mid cs o (scope_names item) types ids own) → ((s : Address) → AddsFunctions mid new s types (functions item) fs) → IsGrown mid new → Requires (env_of types) new (all_handles (flat_map written_types (functions item))) own all → AddsBehind mid new item n.adds.order types fs all
+functions_behind : (old mid new : List TypeDef) (cs : List Cell) (o : TypeOwner) (item : Item) (types : Names) (ids : List Id) (own all : List Required) (fs : List Function) (n : AddsTurn old mid cs o (scope_names item) types ids own) → ((s : Address) → AddsFunctions mid new s types (functions item) fs) → IsGrown mid new → Requires (env_of types) new (all_handles (flat_map written_types (functions item))) own all → AddsBehind mid new item n.adds.order types fs all
 functions_behind old mid new cs o item types ids own all fs n adds g q =
     let names = flat_map name_types (in_turn (scope_names item) n.adds.order) in
     let others = flat_map written_types (functions item) in
@@ -61,14 +67,23 @@ functions_behind old mid new cs o item types ids own all fs n adds g q =
       ended = subst (λ (l : List Id). AreEnded (env_of types) new l all) (sym (all_handles-append names others)) (required_behind (env_of types) mid new (all_handles names) (all_handles others) own all g n.handled q);
     }
 
+-- so its names and its functions were added
+pub body_added : (old mid new : List TypeDef) (cs : List Cell) (o : TypeOwner) (item : Item) (types : Names) (ids : List Id) (own all : List Required) (fs : List Function) → AddsTurn old mid cs o (scope_names item) types ids own → ((s : Address) → AddsFunctions mid new s types (functions item) fs) → IsGrown mid new → Requires (env_of types) new (all_handles (flat_map written_types (functions item))) own all → map name_of_made fs ≡ map name_of_function (functions item) → DifferOnSides ids (side_items item) → AddsBody old new cs o item types ids fs all
+body_added old mid new cs o item types ids own all fs n adds g q named differ = record {
+  middle = mid;
+  adds = n.adds;
+  turn = n.turn;
+  behind = functions_behind old mid new cs o item types ids own all fs n adds g q;
+  named = named;
+  differ = differ;
+}
+
 -- where the names were legal but for the functions, and these are sound, the scope is
-pub scope_sound : (xs : List ScopeName) (fns : List SourceFunction) (ids : List Id) (t : IsTurn xs ids) → ((f : Fault) → IsBrokenScope xs fns f → IsOfFunctions xs fns f) → ((side : WorldSide) → AllDiffer (map name_key (names_on side (map name_of_id ids) ++ map name_of_function (on_side side fns)))) → ((k : ℕ) (fn : SourceFunction) → slice_get fns k ≡ Some fn → (f : Fault) → IsBrokenFunction xs fns k fn f → IsNameless xs fns) → (f : Fault) → IsBrokenScope xs fns f → IsNameless xs fns
-scope_sound xs fns ids t only differ sound f broken = by (only f broken)
+pub scope_sound : (xs : List ScopeName) (fns : List SourceFunction) → ((f : Fault) → IsBrokenScope xs fns f → IsOfFunctions xs fns f) → ((k : ℕ) (fn : SourceFunction) → slice_get fns k ≡ Some fn → (f : Fault) → IsBrokenFunction xs fns k fn f → IsNameless xs fns) → (f : Fault) → IsBrokenScope xs fns f → IsNameless xs fns
+scope_sound xs fns only sound f broken = by (only f broken)
   where
     by : IsOfFunctions xs fns f → IsNameless xs fns
     by (OfFunction k fn at h) = sound k fn at f h
-    by (OfFolded h) = absurd (no_fold xs fns t.order f t.least (λ side. differ_called side xs fns t.order ids t.are (differ side)) h)
-    by (OfCrossed h) = absurd (no_crossed xs fns t.order f t.least (λ side. differ_called side xs fns t.order ids t.are (differ side)) h)
 
 -- a handle in a function that is wrong is so in the item
 wrong_handle_behind : (old mid new : List TypeDef) (cs : List Cell) (o : TypeOwner) (item : Item) (types : Names) (ids : List Id) (own : List Required) (f : Fault) → AddsTurn old mid cs o (scope_names item) types ids own → IsGrown mid new → IsWrongHandle (env_of types) new (all_handles (flat_map written_types (functions item))) f → IsWrongHandleNow old cs o item f
@@ -88,22 +103,29 @@ wrong_handle_behind old mid new cs o item types ids own f n g h =
       wrong = handle_wider (env_of types) (mid ++ g.more) (all_handles others) (all_handles (item_types item)) f (λ id among. subst (λ (l : List Id). Contains l id) (sym (all_handles-append names others)) (Contains-append_right (all_handles names) (all_handles others) id among)) (subst (λ (es : List TypeDef). IsWrongHandle (env_of types) es (all_handles others) f) g.is h);
     }
 
--- what is wrong with the functions of an interface is wrong with it
-pub wrong_behind : (old mid new : List TypeDef) (cs : List Cell) (by_name : Names) (o : TypeOwner) (item : Item) (types : Names) (ids : List Id) (own : List Required) (f : Fault) → AddsTurn old mid cs o (scope_names item) types ids own → IsGrown mid new → IsWrongFunctions (env_of types) new (scope_names item) (functions item) f → IsWrongInterface old cs by_name o item f
-wrong_behind old mid new cs by_name o item types ids own f n g (BrokenFunction k fn at h) = WrongScope (WrongItself (FunctionBroken k fn at h))
-wrong_behind old mid new cs by_name o item types ids own f n g (BrokenNames h) = WrongScope (WrongItself (FoldedTwice h))
-wrong_behind old mid new cs by_name o item types ids own f n g (CrossedNames h) = WrongScope (WrongItself (CrossedTwice h))
-wrong_behind old mid new cs by_name o item types ids own f n g (HandleOfOther h) = WrongHandle (wrong_handle_behind old mid new cs o item types ids own f n g h)
+-- what is wrong with a link by itself is wrong with the item, or its path leads to no interface
+wrong_link : (old : List TypeDef) (cs : List Cell) (by_name : Names) (o : TypeOwner) (item : Item) (names : List HeldName) (hs : List HeldExtern) (l : HeldLink) (f : Fault) → IsHeldBy item names hs → Contains hs (held.Link l) → IsWrongLink l f → IsWrongBody old cs by_name o item f ⊎ IsLinkLost hs f
+wrong_link old cs by_name o item names hs l f own among (NotedWrong h) = inl (WrongSides (wrong_noted item names hs l f own among h))
+wrong_link old cs by_name o item names hs l f own among (AtWorld leads is) = inr (LostAtWorld l among leads is)
+wrong_link old cs by_name o item names hs l f own among (AtNothing id leads is) = inr (LostAtNothing l id among leads is)
 
--- so it is with a world
-pub wrong_behind_world : (files : List PackageFile) (old mid new : List TypeDef) (cs : List Cell) (by_name worlds : Names) (o : TypeOwner) (item : Item) (types : Names) (ids : List Id) (own : List Required) (f : Fault) → AddsTurn old mid cs o (scope_names item) types ids own → IsGrown mid new → IsWrongFunctions (env_of types) new (scope_names item) (functions item) f → IsWrongWorld files old cs by_name worlds o item f
-wrong_behind_world files old mid new cs by_name worlds o item types ids own f n g (BrokenFunction k fn at h) = WrongWorldScope (WrongItself (FunctionBroken k fn at h))
-wrong_behind_world files old mid new cs by_name worlds o item types ids own f n g (BrokenNames h) = WrongWorldScope (WrongItself (FoldedTwice h))
-wrong_behind_world files old mid new cs by_name worlds o item types ids own f n g (CrossedNames h) = WrongWorldScope (WrongItself (CrossedTwice h))
-wrong_behind_world files old mid new cs by_name worlds o item types ids own f n g (HandleOfOther h) = WrongWorldHandle (wrong_handle_behind old mid new cs o item types ids own f n g h)
+-- what is wrong with the functions of an item, or with what it has on its sides, is wrong with it, but for a path that leads to no interface
+pub wrong_behind : (old mid new : List TypeDef) (cs : List Cell) (by_name : Names) (o : TypeOwner) (item : Item) (names : List HeldName) (hs : List HeldExtern) (interfaces : List Address) (types : Names) (ids : List Id) (required : List Required) (f : Fault) → IsHeldBy item names hs → AreLinksPlaced interfaces item.top hs → AddsTurn old mid cs o (scope_names item) types ids required → IsGrown mid new → IsWrongFunctions (env_of types) new (scope_names item) (functions item) hs f → IsWrongBody old cs by_name o item f ⊎ IsLinkLost hs f
+wrong_behind old mid new cs by_name o item names hs interfaces types ids required f own placed n g h = by h
+  where
+    by : IsWrongFunctions (env_of types) new (scope_names item) (functions item) hs f → IsWrongBody old cs by_name o item f ⊎ IsLinkLost hs f
+    by (BrokenFunction k fn at h) = inl (WrongNames (WrongItself (FunctionBroken k fn at h)))
+    by (BrokenNames h) = inl (WrongSides (wrong_folded item names hs f own h))
+    by (CrossedNames h) = inl (WrongSides (wrong_crossed item names hs f own h))
+    by (LinkedAgain h) = inl (WrongSides (wrong_linked item names hs interfaces f own placed h))
+    by (WrongLink l among h) = wrong_link old cs by_name o item names hs l f own among h
+    by (HandleOfOther h) = inl (WrongHandles (wrong_handle_behind old mid new cs o item types ids required f n g h))
 
--- the names of functions that stand where imports do differ where the keys of what is taken there do
-pub made_differ : (xs : List ScopeName) (fns : List SourceFunction) (ids : List Id) (fs : List Function) (t : IsTurn xs ids) → on_side Imported fns ≡ fns → map name_of_made fs ≡ map name_of_function fns → AllDiffer (map name_key (map name_of_id ids ++ map name_of_function (on_side Imported fns))) → AllDiffer (map made_name fs)
-made_differ xs fns ids fs t imported named differ =
-    let own : map made_name fs ≡ map function_name fns = sym (map_map (λ (n : Name). n.0) name_of_made fs) ∙ ap (map (λ (n : Name). n.0)) named ∙ map_map (λ (n : Name). n.0) name_of_function fns in
-    subst AllDiffer (ap (map function_name) imported ∙ sym own) (names_differ Imported xs fns t.order (differ_called Imported xs fns t.order ids t.are differ))
+-- the names of functions that stand where imports do differ where nothing else stands there, and the keys of what is taken do
+pub made_differ : (old new : List TypeDef) (cs : List Cell) (o : TypeOwner) (item : Item) (types : Names) (ids : List Id) (fs : List Function) (rs : List Required) → on_side Imported (functions item) ≡ functions item → side_items item ≡ map SideFunction (functions item) → AddsBody old new cs o item types ids fs rs → AllDiffer (map made_name fs)
+made_differ old new cs o item types ids fs rs imported alone b =
+    let xs = scope_names item in
+    let fns = functions item in
+    let own : map made_name fs ≡ map function_name fns = sym (map_map (λ (n : Name). n.0) name_of_made fs) ∙ ap (map (λ (n : Name). n.0)) b.named ∙ map_map (λ (n : Name). n.0) name_of_function fns in
+    let differ : AllDiffer (map name_key (all_on Imported ids (map SideFunction fns))) = subst (λ (items : List SideItem). AllDiffer (map name_key (all_on Imported ids items))) alone (b.differ Imported) in
+    subst AllDiffer (ap (map function_name) imported ∙ sym own) (names_differ Imported xs fns b.adds.order (differ_called Imported xs (map SideFunction fns) b.adds.order ids b.turn differ))

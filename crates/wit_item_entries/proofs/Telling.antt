@@ -13,8 +13,9 @@ use Rattle.wit_syntax.specs.Fault.{Fault}
 use Rattle.wit_syntax.specs.Notes.{Notes, IsBrokenStability}
 use Rattle.wit_syntax.specs.Source.{Declared, TheInterface, TheWorld, declared_parts, declared_attributes, is_declared_world, interface_part, Item, is_world}
 use Rattle.wit_syntax.specs.Scope.{part_includes, includes, interfaces_of, worlds_of}
+use Rattle.wit_syntax.specs.Sides.{IsBrokenSides}
 use Rattle.wit_arena.specs.Package.{IsInterface, IsWorld}
-use Rattle.wit_arena.specs.Resolved.{IsBrokenItemStability, OwnStability, OfInclude, HaveLegalStability}
+use Rattle.wit_arena.specs.Resolved.{IsBrokenItemStability, OwnStability, OfInclude, HaveLegalStability, AreLegalSides}
 use Rattle.wit_syntax.proofs.Kept.{kept_has}
 use Rattle.wit_syntax.proofs.Lists.{at_either}
 use Rattle.wit_items.specs.declared.notes.ItemNotes.{ItemNotes}
@@ -54,6 +55,15 @@ stability_more ws w legal one = record {
   legal = λ i v f at broken. elim (at_either ws w i v at) [
     | inl old ↦ legal.legal i v f old broken
     | inr new ↦ one f (subst (λ (x : Item). IsBrokenItemStability x f) new.1 broken)
+  ];
+}
+
+-- nor is anything with what stands on the sides, where it is not so with one more
+pub sides_more : (ws : List Item) (w : Item) → AreLegalSides ws → ((f : Fault) → IsBrokenSides w f → ⊥) → AreLegalSides (ws ++ w ∷ [])
+sides_more ws w legal one = record {
+  legal = λ i v f at broken. elim (at_either ws w i v at) [
+    | inl old ↦ legal.legal i v f old broken
+    | inr new ↦ one f (subst (λ (x : Item). IsBrokenSides x f) new.1 broken)
   ];
 }
 

@@ -1,4 +1,4 @@
--- What is wrong with the names of a scope is wrong with the item whose scope it is.
+-- What is wrong with the names of a scope is wrong with the item whose scope it is, and that with the interface or world.
 use Rattle.std.proofs.Common.{◌++◌, List, sym, subst, Contains}
 use Rattle.std.specs.List.{flat_map}
 use Rattle.std.proofs.lemmas.List.Elements.{Contains-append_left}
@@ -11,9 +11,10 @@ use Rattle.wit_syntax.specs.Shape.{all_handles}
 use Rattle.wit_syntax.specs.Function.{functions as item_functions, name_types, written_types, item_types}
 use Rattle.wit_syntax.specs.Fault.{Fault}
 use Rattle.wit_arena.specs.Resolving.{Names, Cell, env_of}
-use Rattle.wit_arena.specs.Resolved.{IsWrongHandleNow, IsWrongInterface, WrongScope, WrongHandle, IsWrongWorld, WrongWorldScope, WrongWorldHandle}
+use Rattle.wit_arena.specs.Resolved.{OwnStability, IsWrongHandleNow, IsWrongInterface, WrongStability, WrongScope, WrongHandle, WrongSides, IsWrongWorld, WrongWorldStability, WrongWorldScope, WrongWorldHandle, WrongWorldSides}
 use Rattle.wit_arena.proofs.Written.{all_handles-append}
 use Rattle.wit_item_entries.specs.Between.{IsWrongHandleOf, IsWrongNames, WrongScopeNames, WrongHandleNames}
+use Rattle.wit_item_entries.specs.Body.{IsWrongBody, WrongNotes, WrongNames, WrongHandles, WrongSides as SidesWrong}
 use Rattle.wit_item_entries.proofs.Handled.{handle_wider}
 
 -- a handle in a definition that is wrong is so in the item
@@ -33,10 +34,21 @@ wrong_handle_item old cs o i f h =
       wrong = handle_wider (env_of h.names) (h.mid ++ h.more) (all_handles own) (all_handles (item_types i)) f (λ id among. subst (λ (l : List Id). Contains l id) (sym (all_handles-append own others)) (Contains-append_left (all_handles own) (all_handles others) id among)) h.wrong;
     }
 
-pub wrong_names_interface : (old : List TypeDef) (cs : List Cell) (by_name : Names) (o : TypeOwner) (i : Item) (f : Fault) → IsWrongNames old cs by_name o (scope_names i) f → IsWrongInterface old cs by_name o i f
-wrong_names_interface old cs by_name o i f (WrongScopeNames h) = WrongScope (h (item_functions i))
-wrong_names_interface old cs by_name o i f (WrongHandleNames h) = WrongHandle (wrong_handle_item old cs o i f h)
+-- what is wrong with its names is wrong with it
+pub wrong_names : (old : List TypeDef) (cs : List Cell) (by_name : Names) (o : TypeOwner) (i : Item) (f : Fault) → IsWrongNames old cs by_name o (scope_names i) f → IsWrongBody old cs by_name o i f
+wrong_names old cs by_name o i f (WrongScopeNames h) = WrongNames (h (item_functions i))
+wrong_names old cs by_name o i f (WrongHandleNames h) = WrongHandles (wrong_handle_item old cs o i f h)
 
-pub wrong_names_world : (files : List PackageFile) (old : List TypeDef) (cs : List Cell) (by_name worlds_by_name : Names) (o : TypeOwner) (i : Item) (f : Fault) → IsWrongNames old cs by_name o (scope_names i) f → IsWrongWorld files old cs by_name worlds_by_name o i f
-wrong_names_world files old cs by_name worlds_by_name o i f (WrongScopeNames h) = WrongWorldScope (h (item_functions i))
-wrong_names_world files old cs by_name worlds_by_name o i f (WrongHandleNames h) = WrongWorldHandle (wrong_handle_item old cs o i f h)
+-- what is wrong with an item is wrong with the interface
+pub wrong_interface : (old : List TypeDef) (cs : List Cell) (by_name : Names) (o : TypeOwner) (i : Item) (f : Fault) → IsWrongBody old cs by_name o i f → IsWrongInterface old cs by_name o i f
+wrong_interface old cs by_name o i f (WrongNotes h) = WrongStability (OwnStability h)
+wrong_interface old cs by_name o i f (WrongNames h) = WrongScope h
+wrong_interface old cs by_name o i f (WrongHandles h) = WrongHandle h
+wrong_interface old cs by_name o i f (SidesWrong h) = WrongSides h
+
+-- or with the world
+pub wrong_world : (files : List PackageFile) (old : List TypeDef) (cs : List Cell) (by_name worlds : Names) (o : TypeOwner) (i : Item) (f : Fault) → IsWrongBody old cs by_name o i f → IsWrongWorld files old cs by_name worlds o i f
+wrong_world files old cs by_name worlds o i f (WrongNotes h) = WrongWorldStability (OwnStability h)
+wrong_world files old cs by_name worlds o i f (WrongNames h) = WrongWorldScope h
+wrong_world files old cs by_name worlds o i f (WrongHandles h) = WrongWorldHandle h
+wrong_world files old cs by_name worlds o i f (SidesWrong h) = WrongWorldSides h

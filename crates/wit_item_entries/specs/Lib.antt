@@ -1,4 +1,4 @@
 pub mod Held
 pub mod Between
 pub mod Behind
-pub mod Sides
+pub mod Body

@@ -1,6 +1,7 @@
 //! The names and the functions of a scope as entries of the arena of types.
 #![tactic(auto)]
 
+pub mod body;
 pub mod functions;
 pub mod names;
 mod own_keys;

@@ -1,24 +1,28 @@
 -- What is wrong with uses, part by part, item by item and file by file.
-use Rattle.std.proofs.Common.{◌≡◌, ℕ, zero, suc, true, false, List, [], ◌∷◌, ◌++◌, Some, None, inl, inr, refl, sym, ap, ◌∙◌, subst, arith, Contains}
+use Rattle.std.proofs.Common.{◌≡◌, ℕ, zero, suc, true, false, List, [], ◌∷◌, ◌++◌, Some, None, inl, inr, ◌⊎◌, refl, sym, ap, ◌∙◌, subst, arith, Contains}
 use Rattle.std.specs.Prelude.{slice_get, map}
 use Rattle.std.specs.List.{flat_map}
 use Rattle.std.specs.Option.{option_map}
 use Rattle.std.proofs.lemmas.List.{map-append}
 use Rattle.std.proofs.lemmas.List.Elements.{Contains-append_cases}
-use Rattle.std.proofs.lemmas.Option.{slice_get-map}
 use Rattle.wit_tree.specs.declared.tree.Use.{Use as WrittenUse}
 use Rattle.wit_tree.specs.declared.tree.UsePath.{UsePath}
 use Rattle.wit_tree.specs.declared.tree.PackageFile.{PackageFile}
-use Rattle.wit_syntax.specs.Source.{TopName, Part, Defining, Using, Including, Doing, Crossing, Item, parts, is_world, file_items, all_items}
+use Rattle.wit_tree.specs.declared.tree.Extern.{Extern}
+use Rattle.wit_tree.specs.declared.tree.ExternKind.{ExternKind}
+use Rattle.wit_tree.specs.declared.tree.ExternKind.TheVariants as extern
+use Rattle.wit_syntax.specs.Source.{TopName, Part, Defining, Using, Including, Doing, Crossing, declared_parts, Item, parts, is_world, file_items, all_items}
 use Rattle.wit_syntax.specs.Scope.{use_path, use_paths, part_uses, uses}
+use Rattle.wit_syntax.specs.Crossing.{extern_paths}
+use Rattle.wit_syntax.specs.Sides.{Link, SideLink, extern_link, extern_items, part_items, side_items, item_link, links}
 use Rattle.wit_syntax.specs.Fault.{Fault}
 use Rattle.wit_syntax.specs.Broken.{is_world_at, IsBrokenUse, MissingUse, WorldUsed, IsBroken, UseNotes, Use}
-use Rattle.wit_syntax.proofs.Lists.{at_either, map_at}
+use Rattle.wit_syntax.proofs.Lists.{at_either, flat_map_at, flat_map_has}
 use Rattle.wit_syntax.proofs.Found.{at_contains, contains_at}
 use Rattle.wit_files.proofs.Lost.{at_flat, flat_more}
 use Rattle.wit_files.specs.declared.file_names.FileNames.{FileNames}
 use Rattle.wit_items.specs.declared.items.Item.{Item as Held}
-use Rattle.wit_items.specs.Items.{declared_behind, IsDeclaredIn, AreFiled, IsUsable, IsUnusable, Nowhere, AtWorld, IsSound, IsUnsound, BrokenNotes, Unusable, AreSound, IsUnsoundAmong, HaveSoundUses, HasUnsoundUse}
+use Rattle.wit_items.specs.Items.{declared_behind, HasPart, HasPath, IsDeclaredIn, AreFiled, IsUsable, IsUnusable, Nowhere, AtWorld, IsSound, IsUnsound, BrokenNotes, Unusable, AreSound, IsUnsoundAmong, HaveSoundUses, HasUnsoundUse}
 
 -- what stands in a list of one is that one
 pub contains_one : {X : Type 0} (x y : X) → Contains (x ∷ []) y → x ≡ y
@@ -75,52 +79,80 @@ filed_more files names items new x grown filed one = rw grown (record {
 pub filed_none : (files : List PackageFile) (names : FileNames) → AreFiled files names []
 filed_none files names = record { each = λ k i at. absurd (let f : ⊥ = cc in f) }
 
--- the paths of uses
-abbrev from_of : WrittenUse → UsePath
-from_of u = u.from
-
-use_paths-uses : (ps : List Part) → flat_map use_path ps ≡ map from_of (flat_map part_uses ps)
-use_paths-uses [] = refl
-use_paths-uses (Defining d ∷ ps) = use_paths-uses ps
-use_paths-uses (Using u ∷ ps) = ap (λ (l : List UsePath). u.from ∷ l) (use_paths-uses ps)
-use_paths-uses (Including i ∷ ps) = use_paths-uses ps
-use_paths-uses (Doing g ∷ ps) = use_paths-uses ps
-use_paths-uses (Crossing x ∷ ps) = use_paths-uses ps
-
--- a path of an item is that of a use, and that of a use is one
-use_of : (i : Item) (path : UsePath) → Contains (use_paths i) path → (u : WrittenUse) × Contains (uses i) u × (u.from ≡ path)
-use_of i path among =
-    let k = at_contains (use_paths i) path among in
-    let u = map_at from_of (uses i) k.0 path (ap (λ (l : List UsePath). slice_get l k.0) (sym (use_paths-uses (parts i))) ∙ k.1) in
-    (u.0, contains_at (uses i) k.0 u.0 u.1, u.2)
+-- the path of a `use` is one of its part, and so of its item
+use_path_of : (p : Part) (j : ℕ) (u : WrittenUse) → slice_get (part_uses p) j ≡ Some u → slice_get (use_path p) 0 ≡ Some u.from
+use_path_of (Defining d) j u at = absurd (let f : ⊥ = cc in f)
+use_path_of (Using v) zero u at = (let same : v ≡ u = cc in ap (λ (x : WrittenUse). Some x.from) same)
+use_path_of (Using v) (suc j) u at = absurd (let f : ⊥ = cc in f)
+use_path_of (Including i) j u at = absurd (let f : ⊥ = cc in f)
+use_path_of (Doing g) j u at = absurd (let f : ⊥ = cc in f)
+use_path_of (Crossing x) j u at = absurd (let f : ⊥ = cc in f)
 
 path_of_use : (i : Item) (u : WrittenUse) → Contains (uses i) u → Contains (use_paths i) u.from
 path_of_use i u among =
     let k = at_contains (uses i) u among in
-    contains_at (use_paths i) k.0 u.from (ap (λ (l : List UsePath). slice_get l k.0) (use_paths-uses (parts i)) ∙ slice_get-map from_of (uses i) k.0 ∙ ap (option_map from_of) k.1)
+    let p = flat_map_at part_uses (parts i) k.0 u k.1 in
+    let it = flat_map_has use_path (parts i) p.0 0 p.1 u.from p.2 (use_path_of p.1 p.3.0 u p.3.1) in
+    contains_at (use_paths i) it.0 u.from it.1
 
--- so the paths of sound uses are usable
-usable_path : (files : List PackageFile) (i : Item) (path : UsePath) → AreSound files i.top (uses i) → Contains (use_paths i) path → IsUsable files i.top path
-usable_path files i path sound among =
-    let u = use_of i path among in
-    subst (IsUsable files i.top) u.2 (sound.each u.0 u.1).usable
+-- a path of a part of an item that wants an interface is one of the item
+pub part_path : (names : FileNames) (place : ℕ) (part : Part) (path : UsePath) → use_path part ≡ path ∷ [] → HasPart names place part → HasPath names place path
+part_path names place part path wants h =
+    let ps = declared_parts h.declared in
+    let m = at_contains ps part h.among in
+    let it = flat_map_has use_path ps m.0 0 part path m.1 (ap (λ (l : List UsePath). slice_get l 0) wants) in
+    record { declared = h.declared; item = h.item; among = contains_at (flat_map use_path ps) it.0 path it.1 }
 
--- no use of an item whose uses are sound is broken
-pub usable_use : (files : List PackageFile) (i : Item) → AreSound files i.top (uses i) → (f : Fault) → IsBrokenUse files i f → ⊥
-usable_use files i sound f (MissingUse h) =
-    let u = usable_path files i h.path sound h.among in
+-- one that leads to no interface breaks a rule
+pub unusable_use : (files : List PackageFile) (i : Item) (path : UsePath) (f : Fault) → Contains (use_paths i) path → IsUnusable files i.top path f → IsBrokenUse files i f
+unusable_use files i path f among (Nowhere h) = MissingUse (record { path = path; id = h.id; among = among; local = h.local; missing = h.missing; is = h.is })
+unusable_use files i path f among (AtWorld h) = WorldUsed (record { path = path; among = among; other = h.other; is = h.is })
+
+-- a path of an item that wants an interface is that of a `use`, or that of an import or an export
+path_of_extern : (x : Extern) (kind : ExternKind) (j : ℕ) (path : UsePath) → slice_get (extern_paths kind) j ≡ Some path → (link : Link) × (slice_get (extern_items x kind) 0 ≡ Some (SideLink link)) × (link.path ≡ path)
+path_of_extern x (extern.Interface name items) j path at = absurd (let f : ⊥ = cc in f)
+path_of_extern x (extern.Path from) zero path at = (extern_link x None from, refl, let same : from ≡ path = cc in same)
+path_of_extern x (extern.Path from) (suc j) path at = absurd (let f : ⊥ = cc in f)
+path_of_extern x (extern.Func name g) j path at = absurd (let f : ⊥ = cc in f)
+path_of_extern x (extern.NamedPath name from) zero path at = (extern_link x (Some name) from, refl, let same : from ≡ path = cc in same)
+path_of_extern x (extern.NamedPath name from) (suc j) path at = absurd (let f : ⊥ = cc in f)
+
+abbrev pub IsOfUse : Item → UsePath → Type 0
+IsOfUse i path = (u : WrittenUse) × Contains (uses i) u × (u.from ≡ path)
+
+abbrev pub IsOfLink : Item → UsePath → Type 0
+IsOfLink i path = (link : Link) × Contains (links i) link × (link.path ≡ path)
+
+pub use_path_cases : (i : Item) (path : UsePath) → Contains (use_paths i) path → IsOfUse i path ⊎ IsOfLink i path
+use_path_cases i path among =
+    let k = at_contains (use_paths i) path among in
+    let p = flat_map_at use_path (parts i) k.0 path k.1 in
+    by_part p.0 p.1 p.2 p.3.0 p.3.1
+  where
+    by_part : (m : ℕ) (p : Part) → slice_get (parts i) m ≡ Some p → (j : ℕ) → slice_get (use_path p) j ≡ Some path → IsOfUse i path ⊎ IsOfLink i path
+    by_part m (Defining d) part j at = absurd (let f : ⊥ = cc in f)
+    by_part m (Using u) part zero at = inl (let it = flat_map_has part_uses (parts i) m 0 (Using u) u part refl in (u, contains_at (uses i) it.0 u it.1, let same : u.from ≡ path = cc in same))
+    by_part m (Using u) part (suc j) at = absurd (let f : ⊥ = cc in f)
+    by_part m (Including n) part j at = absurd (let f : ⊥ = cc in f)
+    by_part m (Doing g) part j at = absurd (let f : ⊥ = cc in f)
+    by_part m (Crossing x) part j at = inr (
+        let link = path_of_extern x x.kind j path at in
+        let q = flat_map_has part_items (parts i) m 0 (Crossing x) (SideLink link.0) part link.1 in
+        let it = flat_map_has item_link (side_items i) q.0 0 (SideLink link.0) link.0 q.1 refl in
+        (link.0, contains_at (links i) it.0 link.0 it.1, link.2))
+
+-- where each leads to an interface, no rule about where they lead is broken
+pub usable_paths : (files : List PackageFile) (i : Item) → ((path : UsePath) → Contains (use_paths i) path → IsUsable files i.top path) → (f : Fault) → IsBrokenUse files i f → ⊥
+usable_paths files i usable f (MissingUse h) =
+    let u = usable h.path h.among in
     let wrong : None ≡ Some false = sym (ap (is_world_at files) h.local ∙ ap (option_map is_world) h.missing) ∙ u in
     let g : ⊥ = cc in
     g
-usable_use files i sound f (WorldUsed h) =
-    let u = usable_path files i h.path sound h.among in
+usable_paths files i usable f (WorldUsed h) =
+    let u = usable h.path h.among in
     let wrong : Some true ≡ Some false = sym h.other ∙ u in
     let g : ⊥ = cc in
     g
-
-unusable_use : (files : List PackageFile) (i : Item) (path : UsePath) (f : Fault) → Contains (use_paths i) path → IsUnusable files i.top path f → IsBrokenUse files i f
-unusable_use files i path f among (Nowhere h) = MissingUse (record { path = path; id = h.id; among = among; local = h.local; missing = h.missing; is = h.is })
-unusable_use files i path f among (AtWorld h) = WorldUsed (record { path = path; among = among; other = h.other; is = h.is })
 
 -- what one of a list brings is among what the list brings
 pub declared_among : {X A : Type 0} (of : X → List A) (xs : List X) (i : ℕ) (x : X) (a : A) → slice_get xs i ≡ Some x → of x ≡ a ∷ [] → Contains (flat_map of xs) a

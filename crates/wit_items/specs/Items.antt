@@ -1,6 +1,6 @@
--- Declared items that are held, and where the paths of their uses lead.
+-- Declared items that are held, and where their paths to interfaces lead.
 use Rattle.std.specs.Prelude.{◌≡◌, ℕ, true, false, List, Option, Some, None, Contains, map, slice_get}
-use Rattle.std.specs.List.{filter}
+use Rattle.std.specs.List.{filter, flat_map}
 use Rattle.std.specs.Option.{option_map}
 use Rattle.wit_tree.specs.declared.tree.Id.{Id}
 use Rattle.wit_tree.specs.declared.tree.Use.{Use}
@@ -9,9 +9,9 @@ use Rattle.wit_tree.specs.declared.tree.PackageFile.{PackageFile}
 use Rattle.wit_model.specs.declared.ast_item.AstItem.{AstItem}
 use Rattle.wit_model.specs.declared.ast_item.AstItem.TheVariants as entry
 use Rattle.wit_syntax.specs.Address.{Address, ForeignNamed}
-use Rattle.wit_syntax.specs.Source.{Target, Local, Foreign, leads, path_id, TopName, top_names, Declared, TheInterface, TheWorld, declared_parts, Part, Defining, Using, Including, Doing, Crossing, Item, item_named, all_items, ScopeName}
-use Rattle.wit_syntax.specs.Scope.{uses}
-use Rattle.wit_syntax.specs.Foreign.{visited, is_foreign_world, foreign_at, foreign_items}
+use Rattle.wit_syntax.specs.Source.{Target, Local, Foreign, leads, path_id, path_scope, TopName, top_names, Declared, TheInterface, TheWorld, declared_parts, Part, Defining, Using, Including, Doing, Crossing, Item, item_named, all_items, ScopeName}
+use Rattle.wit_syntax.specs.Scope.{use_path, uses}
+use Rattle.wit_syntax.specs.Foreign.{visited, is_foreign_world, foreign_at, foreign_items, foreign_interfaces}
 use Rattle.wit_arena.specs.Whole.{foreign_entry}
 use Rattle.wit_syntax.specs.Fault.{Fault, fault, missing_at, item_word}
 use Rattle.wit_syntax.specs.Notes.{IsBrokenNotes}
@@ -27,7 +27,9 @@ use Rattle.wit_items.specs.declared.items.Declared.TheVariants as held
 use Rattle.wit_items.specs.declared.items.Part.{Part as HeldPart}
 use Rattle.wit_items.specs.declared.items.Part.TheVariants as held_part
 use Rattle.wit_items.specs.declared.items.Item.{Item as Held}
-use Rattle.wit_scopes.specs.Held.{name_behind}
+use Rattle.wit_items.specs.declared.reached.Reached.{Reached}
+use Rattle.wit_items.specs.declared.reached.Reached.TheVariants as reached
+use Rattle.wit_scopes.specs.Held.{name_behind, source_behind, IsPlaced}
 
 -- the declared interface or world that is held
 abbrev pub declared_behind : HeldDeclared → Declared
@@ -77,6 +79,12 @@ pub record HasPart (names : FileNames) (place : ℕ) (part : Part) : Type 0 wher
   pub declared : Declared
   pub item : HasItem names place declared
   pub among : Contains (declared_parts declared) part
+
+-- this is a path of such an item that wants an interface
+pub record HasPath (names : FileNames) (place : ℕ) (path : UsePath) : Type 0 where
+  pub declared : Declared
+  pub item : HasItem names place declared
+  pub among : Contains (flat_map use_path (declared_parts declared)) path
 
 -- these are the names of files, and this is the file at a place among those
 pub record IsNamedAt (names : FileNames) (place : ℕ) (file : PackageFile) : Type 0 where
@@ -132,23 +140,29 @@ abbrev pub world_at : List PackageFile → Names → Target → Option ℕ
 world_at files by_name (Local id) = env_of by_name id.name.now
 world_at files by_name (Foreign p id) = world_entry (entry_at files (Foreign p id))
 
--- a path of a `use` leads to an interface
+-- a path leads to an interface
 abbrev pub IsUsable : List PackageFile → List TopName → UsePath → Type 0
 IsUsable files top path = is_world_at files (leads top path) ≡ Some false
 
--- a path of a `use` leads to no item
+-- what a path leads to that wants an interface
+abbrev pub IsReached : List PackageFile → List TopName → UsePath → Reached → Type 0
+IsReached files top path (reached.Interface source) = (source_behind source ≡ path_scope top path) × IsPlaced (map visited (foreign_interfaces files)) source × IsUsable files top path
+IsReached files top path reached.World = is_world_at files (leads top path) ≡ Some true
+IsReached files top path (reached.Nothing id) = (leads top path ≡ Local id) × (item_named (all_items files) id.name.now ≡ None)
+
+-- a path that wants an interface leads to no item
 pub record IsNowhere (files : List PackageFile) (top : List TopName) (path : UsePath) (f : Fault) : Type 0 where
   pub id : Id
   pub local : leads top path ≡ Local id
   pub missing : item_named (all_items files) id.name.now ≡ None
   pub is : f ≡ missing_at 7 item_word id
 
--- a path of a `use` leads to a world
+-- it leads to a world
 pub record IsAtWorld (files : List PackageFile) (top : List TopName) (path : UsePath) (f : Fault) : Type 0 where
   pub other : is_world_at files (leads top path) ≡ Some true
   pub is : f ≡ fault 10 (path_id path).span
 
--- what is wrong with where a path of a `use` leads
+-- what is wrong with where it leads
 pub data IsUnusable (files : List PackageFile) (top : List TopName) (path : UsePath) (f : Fault) : Type 0 where
   Nowhere : IsNowhere files top path f → IsUnusable files top path f
   AtWorld : IsAtWorld files top path f → IsUnusable files top path f

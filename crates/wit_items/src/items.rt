@@ -1,33 +1,29 @@
 //! The declared items of all files, each with the names of its scope.
-ghost use Rattle.std.specs.Prelude.{◌≡◌, ◌++◌, List, map, Contains, IfOk, IfErr, OnOk};
+ghost use Rattle.std.specs.Prelude.{◌≡◌, ◌++◌, List, map, IfOk, IfErr, OnOk};
 ghost use Rattle.std.specs.List.{flat_map};
-ghost use Rattle.std.specs.Option.{option_copied};
 ghost use Rattle.wit_tree.specs.declared.tree.PackageFile.{PackageFile as TheFile};
-ghost use Rattle.wit_tree.specs.declared.tree.Use.{Use as TheUse};
-ghost use Rattle.wit_syntax.specs.Source.{Item as TheItem, TheInterface, TheWorld, Using, interface_part as the_interface_part, world_part as the_world_part, part_names, top_names, scope_names, file_items, all_items, path_id as the_path, Local, leads, path_scope};
-ghost use Rattle.wit_syntax.specs.Scope.{part_uses, uses};
-ghost use Rattle.wit_syntax.specs.Notes.{IsBrokenNotes};
+ghost use Rattle.wit_syntax.specs.Source.{TheInterface, TheWorld, Using, interface_part as the_interface_part, world_part as the_world_part, part_names, top_names, scope_names, file_items, all_items, path_scope};
+ghost use Rattle.wit_syntax.specs.Scope.{part_uses};
 ghost use Rattle.wit_syntax.specs.Foreign.{visited, foreign_interfaces};
-ghost use Rattle.wit_syntax.specs.Fault.{Fault, fault};
-ghost use Rattle.wit_syntax.specs.Broken.{IsBrokenUse, IsBroken, Refused};
+ghost use Rattle.wit_syntax.specs.Broken.{IsBroken, Refused};
 ghost use Rattle.wit_files.specs.FileNames.{AreNamesOf};
 ghost use Rattle.wit_scopes.specs.Held.{source_behind, name_behind, IsPlaced};
-ghost use Rattle.wit_items.specs.Items.{part_behind, item_behind, names_behind, AreNamesAt, HasFile, HasItem, HasPart, IsNamedAt, AreFiled, AreEntriesOf, item_place as the_item_place, other_place as the_other_place, entry_at, interface_entry, IsUsable, IsUnusable, IsSound, IsUnsound, AreSound, IsUnsoundAmong, HaveSoundUses, HasUnsoundUse};
+ghost use Rattle.wit_items.specs.Items.{part_behind, item_behind, names_behind, AreNamesAt, HasItem, HasPart, IsNamedAt, AreFiled, AreEntriesOf, IsSound, IsUnsound, AreSound, IsUnsoundAmong, HaveSoundUses, HasUnsoundUse};
 ghost use Rattle.wit_scopes.specs.Front.{AreNamesPlaced};
 ghost use Rattle.wit_items.specs.Front.{AreItemsPlaced};
 
-use std::alloc::{AllocError, Global};
+use crate::reached::path_source;
+use std::alloc::Global;
 use wit_files::declaration::world_items;
-use wit_files::{FileNames, Found, Target, declarations, path_id};
+use wit_files::{FileNames, declarations};
 use wit_model::AstItem as Entry;
 use wit_notes::check_notes;
-use wit_notes::refusal::{refuse, refuse_missing};
 use wit_scopes::scope_name::{DefinedName, ScopeName, Source, add_used_names};
+use wit_tree::ParseResult;
 use wit_tree::tree::{
-    AstItem, Extern, Id, Include, Interface, InterfaceItem, NamedFunc, PackageFile, TypeDef, Use,
-    UsePath, World, WorldItem,
+    AstItem, Extern, Include, Interface, InterfaceItem, NamedFunc, PackageFile, TypeDef, Use,
+    World, WorldItem,
 };
-use wit_tree::{ParseError, ParseResult};
 
 /// A declared interface or world.
 #[derive(Clone, Copy)]
@@ -79,130 +75,6 @@ fn world_part<'f, 'a>(part: &'f WorldItem<'a>) -> Part<'f, 'a>
     }
 }
 
-/// The place of a declared item that was found.
-fn item_place(found: Option<Found>) -> Option<usize>
-    ensures { result ≡ the_item_place found }
-{
-    match found {
-        Some(Found::Item(place)) => Some(place),
-        Some(Found::Foreign(_)) => None,
-        None => None,
-    }
-}
-
-/// The place of an item of another package that was found.
-fn other_place(found: Option<Found>) -> Option<usize>
-    ensures { result ≡ the_other_place found }
-{
-    match found {
-        Some(Found::Foreign(place)) => Some(place),
-        Some(Found::Item(_)) => None,
-        None => None,
-    }
-}
-
-/// The words for a path of a `use` that leads to a world.
-fn not_an_interface(alloc: Global, name: &str) -> Result<String, AllocError> {
-    format!(in alloc; "name `{name}` is defined as a world, not an interface")
-}
-
-/// The refusal of a path of a `use` that leads to a world.
-fn world_used(alloc: Global, path: &UsePath<'_>) -> ParseError
-    ensures { Refused (λ f. f ≡ fault 10 (the_path path.now).span) result }
-{
-    let id = path_id(path);
-    match not_an_interface(alloc, id.name) {
-        Ok(message) => refuse(alloc, 10, id.span, message.as_str()),
-        Err(error) => ParseError::from(error),
-    }
-}
-
-/// The entry of the item of another package that a path in the file at a place leads to; none where
-/// it leads to none. `entries` are those of other packages' items.
-pub fn entry_of<'e, 'f, 'a>(
-    files: &FileNames<'f, 'a>,
-    entries: &'e [Entry],
-    place: usize,
-    path: &'f UsePath<'a>,
-) -> Option<&'e Entry>
-    requires named { HasFile files.now place }
-    requires entries { AreEntriesOf files.now entries.now }
-    ensures { (fs : List TheFile) (file : TheFile) → AreNamesAt fs files.now place file → option_copied result ≡ entry_at fs (leads (top_names file) path.now) }
-{
-    let found = other_place(files.lookup(place, path))?;
-    entries.get(found)
-}
-
-/// The place of the interface that an entry is; none where there is no entry, or a world's.
-fn interface_place(entry: Option<&Entry>) -> Option<usize>
-    ensures { result ≡ interface_entry (option_copied entry.entry) }
-{
-    match entry {
-        Some(Entry::Interface(id)) => Some(id.index()),
-        Some(Entry::World(_)) => None,
-        None => None,
-    }
-}
-
-/// Refuses a path, of a `use` in the file at a place, that leads to no item of this name, or to a
-/// world.
-fn check_use<'f, 'a>(
-    alloc: Global,
-    files: &FileNames<'f, 'a>,
-    place: usize,
-    path: &'f UsePath<'a>,
-    target: Id<'a>,
-) -> ParseResult<()>
-    requires named { HasFile files.now place }
-    requires local { (fs : List TheFile) (file : TheFile) → AreNamesAt fs files.now place file → leads (top_names file) path.now ≡ Local target }
-    ensures usable { OnOk result ((fs : List TheFile) (file : TheFile) → AreNamesAt fs files.now place file → IsUsable fs (top_names file) path.now) }
-    ensures refused { IfErr result (λ e. (fs : List TheFile) (file : TheFile) → AreNamesAt fs files.now place file → Refused (IsUnusable fs (top_names file) path.now) e) }
-{
-    let found = match item_place(files.lookup(place, path)) {
-        Some(found) => found,
-        None => return Err(refuse_missing(alloc, 7, "interface or world", target)),
-    };
-    if files.is_world(found) {
-        return Err(world_used(alloc, path));
-    }
-    Ok(())
-}
-
-/// The interface that a `use` in the file at a place leads to; refuses one that leads to no item, or
-/// to a world. `entries` are those of other packages' items.
-fn use_source<'f, 'a>(
-    alloc: Global,
-    files: &FileNames<'f, 'a>,
-    entries: &[Entry],
-    place: usize,
-    used: &'f Use<'a>,
-) -> ParseResult<Source<'f, 'a>>
-    requires part { HasPart files.now place (Using used.now) }
-    requires entries { AreEntriesOf files.now entries.now }
-    ensures source { IfOk result (λ source. (fs : List TheFile) (file : TheFile) → AreNamesAt fs files.now place file → source_behind source ≡ path_scope (top_names file) used.now.from) }
-    ensures placed { IfOk result (λ source. (fs : List TheFile) (file : TheFile) → AreNamesAt fs files.now place file → IsPlaced (map visited (foreign_interfaces fs)) source) }
-    ensures usable { OnOk result ((fs : List TheFile) (file : TheFile) → AreNamesAt fs files.now place file → IsUsable fs (top_names file) used.now.from) }
-    ensures refused { IfErr result (λ e. (fs : List TheFile) (file : TheFile) → AreNamesAt fs files.now place file → Refused (IsUnusable fs (top_names file) used.now.from) e) }
-{
-    let path = &used.from;
-    match files.target(place, path) {
-        Target::Local(id) => {
-            check_use(alloc, files, place, path, id)?;
-            Ok(Source::Declared(id))
-        }
-        Target::Foreign { package, name } => {
-            match interface_place(entry_of(files, entries, place, path)) {
-                Some(place) => Ok(Source::Foreign {
-                    place,
-                    package,
-                    name,
-                }),
-                None => Err(world_used(alloc, path)),
-            }
-        }
-    }
-}
-
 /// The interface that a `use` in the file at a place leads to; refuses attributes that break a rule, and
 /// then a path that leads to no item, or to a world.
 fn sound_source<'f, 'a>(
@@ -220,7 +92,7 @@ fn sound_source<'f, 'a>(
     ensures refused { IfErr result (λ e. (fs : List TheFile) (file : TheFile) → AreNamesAt fs files.now place file → Refused (IsUnsound fs (top_names file) used.now) e) }
 {
     check_notes(alloc, &used.attributes)?;
-    let source = use_source(alloc, files, entries, place, used)?;
+    let source = path_source(alloc, files, entries, place, &used.from)?;
     Ok(source)
 }
 
@@ -362,8 +234,7 @@ pub fn declared_items<'f, 'a>(
     ensures names { IfOk result (λ items. map names_behind items.items ≡ map scope_names (all_items files.now)) }
     ensures filed { IfOk result (λ items. AreFiled files.now names.now items.items) }
     ensures placed { IfOk result (λ items. AreItemsPlaced (map visited (foreign_interfaces files.now)) items.items) }
-    ensures uses { OnOk result ((i : TheItem) → Contains (all_items files.now) i → (f : Fault) → IsBrokenUse files.now i f → ⊥) }
-    ensures noted { OnOk result ((i : TheItem) → Contains (all_items files.now) i → (u : TheUse) → Contains (uses i) u → (f : Fault) → IsBrokenNotes u.attributes.items f → ⊥) }
+    ensures sound { OnOk result (HaveSoundUses files.now (all_items files.now)) }
     ensures refused { IfErr result (Refused (IsBroken files.now)) }
 {
     let mut items = Vec::with_capacity(alloc, names.item_order().len())?;

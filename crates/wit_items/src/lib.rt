@@ -1,6 +1,7 @@
-//! Declared items, each with the names of its scope, and what is told of a package and of an item.
+//! Declared items, each with the names of its scope, what their paths lead to, and what is told of a package and of an item.
 #![tactic(auto)]
 
 pub mod header;
 pub mod items;
 pub mod notes;
+pub mod reached;

@@ -1,4 +1,4 @@
--- Parts that bring interfaces across the border of a world, item by item and file by file.
+-- Interfaces that are written where worlds import or export them, item by item and file by file.
 use Rattle.std.proofs.Common.{◌≡◌, ℕ, ◌++◌, ◌∷◌, [], List, Some, inl, inr, refl, sym, ap, ◌∙◌, subst, map}
 use Rattle.std.specs.Prelude.{slice_get, Contains}
 use Rattle.std.specs.List.{flat_map}
@@ -12,6 +12,7 @@ use Rattle.wit_tree.specs.declared.tree.World.{World}
 use Rattle.wit_tree.specs.declared.tree.WorldItem.{WorldItem}
 use Rattle.wit_syntax.specs.Fault.{Fault}
 use Rattle.wit_syntax.specs.Source.{Crossing, Item, Part, TheInterface, TheWorld, TopName, interface_part, parts, world_part}
+use Rattle.wit_syntax.specs.Crossing.{extern_paths}
 use Rattle.wit_syntax.specs.Function.{extern_functions}
 use Rattle.wit_syntax.proofs.Found.{at_contains, contains_at}
 use Rattle.wit_syntax.proofs.Kept.{behind_one}
@@ -60,21 +61,21 @@ brought_unread of xs k x f at h =
     record { i = h.i; among = contains_at (flat_map of xs) there.0 h.i there.1; unread = h.unread }
 
 -- one item, each of whose parts is inside
-one_read : (i : Item) → ((x : Extern) → Contains (parts i) (Crossing x) → extern_functions x x.kind ≡ [] → ⊥) → AreRead (i ∷ [])
+one_read : (i : Item) → ((x : Extern) → Contains (parts i) (Crossing x) → extern_functions x x.kind ≡ [] → extern_paths x.kind ≡ [] → ⊥) → AreRead (i ∷ [])
 one_read i none = record {
   each = λ j among f h. (
       let at = at_contains (i ∷ []) j among in
       elim (behind_one i [] at.0 j at.1) [
-        | inl same ↦ none h.x (subst (λ (w : Item). Contains (parts w) (Crossing h.x)) (sym same) h.among) h.interface
+        | inl same ↦ none h.x (subst (λ (w : Item). Contains (parts w) (Crossing h.x)) (sym same) h.among) h.no_function h.no_path
         | inr rest ↦ absurd (let there = rest.1 in let g : ⊥ = cc in g)
       ]);
 }
 
 pub world_read : (top : List TopName) (w : World) → AreInside world_part w.items.items → AreRead (record { top = top; declared = TheWorld w } ∷ [])
-world_read top w all = one_read (record { top = top; declared = TheWorld w }) (λ x among interface. (
+world_read top w all = one_read (record { top = top; declared = TheWorld w }) (λ x among no_function no_path. (
     let at = at_contains (map world_part w.items.items) (Crossing x) among in
     let from = map_at world_part w.items.items at.0 (Crossing x) at.1 in
-    (all.each at.0 from.0 from.1).none x from.2 interface))
+    (all.each at.0 from.0 from.1).none x from.2 no_function no_path))
 
 interface_inside : (p : InterfaceItem) (x : Extern) → interface_part p ≡ Crossing x → ⊥
 interface_inside (interface_item.TypeDef d) x h = cc
@@ -82,7 +83,7 @@ interface_inside (interface_item.Use u) x h = cc
 interface_inside (interface_item.Func f) x h = cc
 
 pub interface_read : (top : List TopName) (i : Interface) → AreRead (record { top = top; declared = TheInterface i } ∷ [])
-interface_read top i = one_read (record { top = top; declared = TheInterface i }) (λ x among interface. (
+interface_read top i = one_read (record { top = top; declared = TheInterface i }) (λ x among no_function no_path. (
     let at = at_contains (map interface_part i.items.items) (Crossing x) among in
     let from = map_at interface_part i.items.items at.0 (Crossing x) at.1 in
     interface_inside from.0 x from.2))
@@ -91,4 +92,4 @@ pub world_unread : (top : List TopName) (w : World) (k : ℕ) (p : WorldItem) (f
 world_unread top w k p f at h =
     let i : Item = record { top = top; declared = TheWorld w } in
     let there : slice_get (map world_part w.items.items) k ≡ Some (Crossing h.x) = slice_get-map world_part w.items.items k ∙ ap (option_map world_part) at ∙ ap Some h.crosses in
-    record { i = i; among = contains_at (i ∷ []) 0 i refl; unread = record { x = h.x; among = contains_at (map world_part w.items.items) k (Crossing h.x) there; interface = h.interface; is = h.is } }
+    record { i = i; among = contains_at (i ∷ []) 0 i refl; unread = record { x = h.x; among = contains_at (map world_part w.items.items) k (Crossing h.x) there; no_function = h.no_function; no_path = h.no_path; is = h.is } }

@@ -7,7 +7,7 @@ use Rattle.wit_order.specs.Table.{IsOrder}
 use Rattle.wit_syntax.specs.Fault.{Fault}
 use Rattle.wit_arena.proofs.Itemizing.{items_within}
 use Rattle.wit_items.specs.declared.items.Item.{Item as Held}
-use Rattle.wit_items.specs.Items.{item_behind}
+use Rattle.wit_items.specs.Items.{item_behind, HaveSoundUses}
 use Rattle.std.specs.Option.{option_map}
 use Rattle.std.proofs.lemmas.Bool.{cases_Bool}
 use Rattle.semver.specs.Identifiers.{parts_of}
@@ -22,7 +22,7 @@ use Rattle.wit_syntax.specs.Source.{Item, all_items, is_world}
 use Rattle.wit_syntax.specs.Scope.{in_order, item_rows, interfaces_of, worlds_of}
 use Rattle.wit_syntax.specs.Broken.{IsLegal, IsUnread, headers, last_header}
 use Rattle.wit_syntax.specs.Foreign.{visited, foreign_interfaces, foreign_worlds}
-use Rattle.wit_arena.specs.Resolved.{AddsForeign, AddsInterfaces, AreLegalScopes, AreSoundScopes, IsWrongAmong, IsWrongWorldAmong}
+use Rattle.wit_arena.specs.Resolved.{AddsForeign, AddsInterfaces, AreLegalScopes, AreLegalSides, AreSoundScopes, AreUsableUses, IsWrongAmong, IsWrongWorldAmong}
 use Rattle.wit_arena.specs.Resolving.{Names, Required, cells, IsIndex}
 use Rattle.wit_arena.specs.Whole.{NamesOthers, first_docs, IsPackage, IsFaithful}
 use Rattle.wit_syntax.proofs.Kept.{kept_has}
@@ -39,6 +39,19 @@ sound_both items interfaces worlds = record {
     | inr other ↦ (let k = kept_has (λ (v : Item). not (is_world v)) items i w (ap not other) at in interfaces.sound k.0 w f k.1)
   ];
 }
+
+-- where nothing is wrong on the sides of interfaces and on those of worlds, nothing is on those of all
+pub sided_both : (items : List Item) → AreLegalSides (interfaces_of items) → AreLegalSides (worlds_of items) → AreLegalSides items
+sided_both items interfaces worlds = record {
+  legal = λ i w f at. elim (cases_Bool (is_world w)) [
+    | inl world ↦ (let k = kept_has is_world items i w world at in worlds.legal k.0 w f k.1)
+    | inr other ↦ (let k = kept_has (λ (v : Item). not (is_world v)) items i w (ap not other) at in interfaces.legal k.0 w f k.1)
+  ];
+}
+
+-- where nothing is wrong with uses, they lead to interfaces
+pub uses_usable : (files : List PackageFile) → HaveSoundUses files (all_items files) → AreUsableUses files (all_items files)
+uses_usable files sound = record { usable = λ w u here used. ((sound.each w here).each u used).usable }
 
 -- the places of items are those of the items that are held
 pub held_within : (files : List PackageFile) (places : List ℕ) (items : List Held) → IsOrder (item_rows files) places → map item_behind items ≡ all_items files → All (λ (place : ℕ). place < length items) places
@@ -61,11 +74,11 @@ module _ (files : List PackageFile) (es : List TypeDef) (is : List Interface) (w
   scopes_legal = legal_scopes files a.places a.order a.names a.uses a.first a.middle es a.front is a.worlds_front ws a.irs a.wrs a.foreign a.interfaces a.worlds a.sound
 
   pub files_legal : ((i : Item) → Contains (all_items files) i → (f : Fault) → IsUnread i f → ⊥) → (header : Header) → last_header files ≡ Some header → IsLegal files
-  files_legal read header last = legal_by files a.places a.order a.names a.uses a.first a.middle es a.front is a.worlds_front ws a.irs a.wrs a.foreign a.interfaces a.worlds scopes_legal a.stable a.noted read header last
+  files_legal read header last = legal_by files a.places a.order a.names a.uses a.first a.middle es a.front is a.worlds_front ws a.irs a.wrs a.foreign a.interfaces a.worlds scopes_legal a.sided a.linked a.stable a.noted read header last
 
   module _ (p : UnresolvedPackage) (types : p.types ≡ es) (interfaces : p.interfaces ≡ is) (worlds : p.worlds ≡ ws) (others : NamesOthers files p) where
     pub files_package : p.required_resource_types ≡ rs → (header : Header) → last_header files ≡ Some header → p.name.namespace ≡ header.namespace.name.now → p.name.name ≡ header.name.name.now → option_map release_parts p.name.version ≡ option_map parts_of header.version → p.name_span ≡ header.span → p.docs ≡ first_docs (headers files) → IsPackage files p
     files_package required header last namespace name version span docs = package_by files a.places a.order a.names a.uses a.first a.middle es a.front is a.worlds_front ws a.irs a.wrs a.foreign a.interfaces a.worlds p types interfaces worlds others (required ∙ a.requires) header last namespace name version span docs
 
     pub files_faithful : IsFaithful files p
-    files_faithful = faithful_by files a.places a.order a.names a.uses a.first a.middle es a.front is a.worlds_front ws a.irs a.wrs a.foreign a.interfaces a.worlds p types interfaces worlds others scopes_legal
+    files_faithful = faithful_by files a.places a.order a.names a.uses a.first a.middle es a.front is a.worlds_front ws a.irs a.wrs a.foreign a.interfaces a.worlds p types interfaces worlds others a.sided

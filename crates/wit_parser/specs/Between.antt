@@ -10,19 +10,20 @@ use Rattle.wit_syntax.specs.Source.{Item, all_items}
 use Rattle.wit_syntax.specs.Scope.{in_order, item_rows, interfaces_of, worlds_of, uses as uses_of}
 use Rattle.wit_syntax.specs.Fault.{Fault}
 use Rattle.wit_syntax.specs.Notes.{IsBrokenNotes}
-use Rattle.wit_syntax.specs.Broken.{IsBrokenUse, IsBrokenNames}
+use Rattle.wit_syntax.specs.Broken.{IsBrokenNames}
 use Rattle.wit_syntax.specs.Foreign.{visited, foreign_interfaces, foreign_worlds}
 use Rattle.wit_arena.specs.Resolving.{Required}
-use Rattle.wit_arena.specs.Resolved.{AddsForeign, AddsInterfaces, AddsWorlds, AreSoundScopes, HaveLegalStability}
+use Rattle.wit_arena.specs.Resolved.{AddsForeign, AddsInterfaces, AddsWorlds, AreLegalSides, AreSoundScopes, AreUsableLinks, AreUsableUses, HaveLegalStability}
 
 -- behind what stands in front, the items of files were added in the least dependency-first order of their table, all interfaces before all
--- worlds; no `use` leads to nothing or to a world, no attributes of a `use`, of an item or of an include break a rule, no scope of theirs is
--- broken by itself, but where a name in a signature means nothing, and this is what their handles require
+-- worlds; no path of a `use`, of an import or of an export leads to nothing or to a world, no attributes of a `use`, of an item or of an include
+-- break a rule, nothing is wrong on the sides of an item, no scope of theirs is broken by itself, but where a name in a signature means
+-- nothing, and this is what their handles require
 pub record AddsFiles (files : List PackageFile) (es : List TypeDef) (is : List Interface) (ws : List World) (required : List Required) : Type 0 where
   pub places : List ℕ
   pub order : IsOrder (item_rows files) places
   pub names : (f : Fault) → IsBrokenNames files f → ⊥
-  pub uses : (i : Item) → Contains (all_items files) i → (f : Fault) → IsBrokenUse files i f → ⊥
+  pub uses : AreUsableUses files (all_items files)
   pub noted : (i : Item) → Contains (all_items files) i → (u : Use) → Contains (uses_of i) u → (f : Fault) → IsBrokenNotes u.attributes.items f → ⊥
   pub first : List TypeDef
   pub front : List Interface
@@ -34,5 +35,7 @@ pub record AddsFiles (files : List PackageFile) (es : List TypeDef) (is : List I
   pub requires : required ≡ irs ++ wrs
   pub interfaces : AddsInterfaces (map visited (foreign_interfaces files)) first middle front is irs (interfaces_of (in_order (all_items files) places))
   pub worlds : AddsWorlds (map visited (foreign_interfaces files)) (map visited (foreign_worlds files)) is middle es worlds_front ws wrs (worlds_of (in_order (all_items files) places))
+  pub sided : AreLegalSides (in_order (all_items files) places)
+  pub linked : AreUsableLinks files (worlds_of (in_order (all_items files) places))
   pub sound : AreSoundScopes (in_order (all_items files) places)
   pub stable : HaveLegalStability (in_order (all_items files) places)

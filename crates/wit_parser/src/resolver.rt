@@ -225,10 +225,11 @@ impl<'a> Resolver<'a> {
     /// and the worlds each keep that order. Each has the names that it uses and then its
     /// definitions, in the least order in which each comes after those that it names; those of a
     /// world are imports. Behind them it has its functions, in source order, but that in an
-    /// interface a setter that is written before its getter stands directly behind it. The arena
-    /// of types has what is met in the interfaces and then in the worlds, each once, in the order of
-    /// its first meeting. What the files hold in which order
-    /// beyond that changes nothing.
+    /// interface a setter that is written before its getter stands directly behind it.
+    /// Among the functions on a side, in source order, a world has the interfaces that it imports or
+    /// exports there: each under the interface itself, or under the name that it has in the world. The
+    /// arena of types has what is met in the interfaces and then in the worlds, each once, in the order
+    /// of its first meeting. What the files hold in which order beyond that changes nothing.
     ///
     /// # Errors
     ///
@@ -240,7 +241,8 @@ impl<'a> Resolver<'a> {
     /// - 7, 8: a path leads to no interface or world; interfaces use, or worlds include, one another
     ///   in a cycle.
     /// - 9: a `use` at the top of a file has attributes.
-    /// - 10, 11: a `use` leads to a world; an include leads to an interface.
+    /// - 10, 11: a `use`, or the path of an import or an export, leads to a world; an include leads to
+    ///   an interface.
     /// - 12, 13: a used name is none of the interface that it comes from; it is that of a function.
     /// - 14, 17: a name stands twice in an interface or a world, to the letter or once case is folded.
     /// - 18: a setter of an interface has no getter.
@@ -252,13 +254,17 @@ impl<'a> Resolver<'a> {
     /// - 26: a map's key is written as a type that no key can have.
     /// - 27: a name in a handle ends at no resource.
     /// - 28, 29: a name in a signature is that of a function, or of nothing.
-    /// - 30 to 35: attributes break a rule, of an item, a definition, a function, a `use` or an include.
+    /// - 30 to 35: attributes break a rule, of an item, a definition, a function, a `use`, an include or
+    ///   an interface that is imported or exported.
     /// - 36, 37: a getter has a parameter, or a setter has not just one.
     /// - 38: two parameters have one name once case is folded.
     /// - 39 to 42: a getter has no result; that of a setter, or of a constructor, is another than it
     ///   has to be.
+    /// - 43: a world imports, or exports, an interface twice by its path alone.
+    /// - 44: an import or an export has the name of something that stands before it on its side.
     /// - 45: a growth was refused.
-    /// - 54: a world imports or exports something, which is read, but not treated yet.
+    /// - 54: an interface is written where a world imports or exports it: that is read, but not treated
+    ///   yet.
     pub fn resolve(self, alloc: Global) -> ParseResult<UnresolvedPackage>
         ensures legal { OnOk result (IsLegal self.entry.files.items) }
         ensures package { IfOk result (IsPackage self.entry.files.items) }

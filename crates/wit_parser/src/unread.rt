@@ -1,6 +1,7 @@
-//! Interfaces that worlds import and export: they are read, and not treated yet.
+//! Interfaces that are written where worlds import or export them: they are read, and not treated yet.
 ghost use Rattle.std.specs.Prelude.{◌≡◌, ◌⊎◌, ◌∷◌, ◌↔◌, [], IfOk, IfErr, IsTrue, OnOk, List};
 ghost use Rattle.wit_syntax.specs.Fault.{Fault};
+ghost use Rattle.wit_syntax.specs.Crossing.{extern_paths};
 ghost use Rattle.wit_syntax.specs.Function.{extern_functions};
 ghost use Rattle.wit_syntax.specs.Source.{Crossing, TheWorld, TopName, all_items, declared_items, file_items, world_part};
 ghost use Rattle.wit_syntax.specs.Scope.{item_rows};
@@ -15,22 +16,22 @@ use wit_notes::refusal::refuse;
 use wit_tree::ParseResult;
 use wit_tree::tree::{AstItem, Extern, ExternKind, PackageFile, World, WorldItem};
 
-/// The words for an interface that a world imports or exports.
-const UNREAD: &str = "interfaces in imports and exports of worlds are not read yet";
+/// The words for an interface that is written in a world.
+const UNREAD: &str = "interfaces written in imports and exports of worlds are not read yet";
 
-/// Whether an import or an export is an interface.
+/// Whether an import or an export is an interface that is written there.
 fn is_interface(external: &Extern<'_>) -> bool
-    ensures { IsTrue result ↔ (extern_functions external.now external.now.kind ≡ []) }
+    ensures { IsTrue result ↔ ((extern_functions external.now external.now.kind ≡ []) × (extern_paths external.now.kind ≡ [])) }
 {
     match &external.kind {
-        ExternKind::Func(_, _) => false,
         ExternKind::Interface(_, _) => true,
-        ExternKind::Path(_) => true,
-        ExternKind::NamedPath(_, _) => true,
+        ExternKind::Path(_) => false,
+        ExternKind::Func(_, _) => false,
+        ExternKind::NamedPath(_, _) => false,
     }
 }
 
-/// Refuses an import or an export that is an interface.
+/// Refuses an import or an export that is an interface which is written there.
 fn check_kind(alloc: Global, external: &Extern<'_>) -> ParseResult<()>
     ensures inside { OnOk result (IsInside (Crossing external.now)) }
     ensures refused { IfErr result (Refused (IsAcross (Crossing external.now))) }
@@ -41,7 +42,7 @@ fn check_kind(alloc: Global, external: &Extern<'_>) -> ParseResult<()>
     Ok(())
 }
 
-/// Refuses a part of a world that is an interface which it imports or exports.
+/// Refuses a part of a world that is an interface which is written there.
 fn check_part(alloc: Global, part: &WorldItem<'_>) -> ParseResult<()>
     ensures inside { OnOk result (IsInside (world_part part.now)) }
     ensures refused { IfErr result (Refused (IsAcross (world_part part.now))) }
@@ -52,7 +53,7 @@ fn check_part(alloc: Global, part: &WorldItem<'_>) -> ParseResult<()>
     }
 }
 
-/// Refuses the interfaces that a world imports or exports.
+/// Refuses the interfaces that are written in a world.
 fn check_world(alloc: Global, world: &World<'_>) -> ParseResult<()>
     ensures read { OnOk result ((top : List TopName) → AreRead (record { top = top; declared = TheWorld world.now } ∷ [])) }
     ensures refused { IfErr result (λ e. (top : List TopName) → Refused (IsUnreadAmong (record { top = top; declared = TheWorld world.now } ∷ [])) e) }
@@ -63,7 +64,7 @@ fn check_world(alloc: Global, world: &World<'_>) -> ParseResult<()>
     Ok(())
 }
 
-/// Refuses the interfaces that a declared world imports or exports.
+/// Refuses the interfaces that are written in a declared world.
 fn check_declaration(alloc: Global, item: &AstItem<'_>) -> ParseResult<()>
     ensures read { OnOk result ((top : List TopName) → AreRead (declared_items top item.now)) }
     ensures refused { IfErr result (λ e. (top : List TopName) → Refused (IsUnreadAmong (declared_items top item.now)) e) }
@@ -75,7 +76,7 @@ fn check_declaration(alloc: Global, item: &AstItem<'_>) -> ParseResult<()>
     }
 }
 
-/// Refuses the interfaces that the worlds of a file import or export.
+/// Refuses the interfaces that are written in the worlds of a file.
 fn check_file(alloc: Global, file: &PackageFile<'_>) -> ParseResult<()>
     ensures read { OnOk result (AreRead (file_items file.now)) }
     ensures refused { IfErr result (Refused (IsUnreadAmong (file_items file.now))) }
@@ -86,7 +87,7 @@ fn check_file(alloc: Global, file: &PackageFile<'_>) -> ParseResult<()>
     Ok(())
 }
 
-/// Refuses the interfaces that worlds import or export.
+/// Refuses the interfaces that are written in worlds.
 fn check_read(alloc: Global, files: &[PackageFile<'_>]) -> ParseResult<()>
     ensures read { OnOk result (AreRead (all_items files.now)) }
     ensures refused { IfErr result (Refused (IsUnreadAmong (all_items files.now))) }
@@ -97,7 +98,7 @@ fn check_read(alloc: Global, files: &[PackageFile<'_>]) -> ParseResult<()>
     Ok(())
 }
 
-/// The names of files whose worlds import and export no interfaces.
+/// The names of files in whose worlds no interface is written.
 pub(crate) fn read_names<'f, 'a>(
     alloc: Global,
     files: &'f [PackageFile<'a>],

@@ -14,7 +14,7 @@ use Rattle.wit_syntax.specs.Scope.{in_order, is_defined, rows_of, used, defined,
 use Rattle.wit_syntax.specs.Fault.{Fault, fault, missing_type_at, type_word}
 use Rattle.wit_syntax.specs.Bodies.{IsRepeated}
 use Rattle.wit_syntax.specs.Function.{SourceFunction}
-use Rattle.wit_syntax.specs.Broken.{IsBrokenScope, DefinedTwice, MissingType, CyclicType, Notes, Body, Function, FoldedTwice, CrossedTwice}
+use Rattle.wit_syntax.specs.Broken.{IsBrokenScope, DefinedTwice, MissingType, CyclicType, Notes, Body, Function}
 use Rattle.wit_syntax.specs.Repeats.{AllDiffer}
 use Rattle.wit_arena.specs.Resolving.{Env, AreLegalNotes, AreLegalBodies, HasNames, IsUnknown}
 use Rattle.wit_syntax.proofs.Lists.{at_within, at_take, map_at, map_map}
@@ -27,7 +27,7 @@ use Rattle.wit_syntax.proofs.Legal.{no_missing_edge, no_cyclic_edge}
 use Rattle.wit_scopes.specs.declared.scope_name.ScopeName.{ScopeName as Held}
 use Rattle.wit_scopes.specs.declared.scope_name.ScopeName.TheVariants as held
 use Rattle.wit_scopes.specs.Held.{name_behind}
-use Rattle.wit_scopes.specs.Between.{AreOrdered, AreInTurn, IsBrokenAmong, IsRepeatedId, OfFunction, OfFolded, OfCrossed, IsOfFunctions}
+use Rattle.wit_scopes.specs.Between.{AreOrdered, AreInTurn, IsBrokenAmong, IsRepeatedId, OfFunction, IsOfFunctions}
 
 -- what stands at the first n places
 in_order-take : {X : Type 0} (xs : List X) (places : List ℕ) (n : ℕ) → ((j p : ℕ) → slice_get places j ≡ Some p → p < length xs) → in_order xs (take n places) ≡ take n (in_order xs places)
@@ -146,7 +146,7 @@ differ_names xs ids are differ = subst AllDiffer (ap (map text) are ∙ map_map 
 pub turn_differs : (xs ds : List ScopeName) (names : List (List ℕ)) → AreOrdered xs ds → names ≡ local_names (used xs) → AreDistinct xs → AllDiffer (names ++ local_names ds)
 turn_differs xs ds names o are distinct = rw (are, o.are) (subst AllDiffer (map-append local_name (used xs) (defined (in_order xs o.order))) (in_turn_distinct xs o.order o.least distinct))
 
--- where the names and the definitions break no rule, functions or folded names do
+-- where the names and the definitions break no rule, functions do
 pub legal_unfolded : (xs ds : List ScopeName) (ids : List Id) → AreOrdered xs ds → ids ≡ map local_id (used xs ++ defined xs) → AllDiffer (map text ids) → AreLegalNotes ds → AreLegalBodies ds → (fns : List SourceFunction) (f : Fault) → IsBrokenScope xs fns f → IsOfFunctions xs fns f
 legal_unfolded xs ds ids o are distinct notes bodies fns f (DefinedTwice h) = absurd (no_repeat local_name (used xs ++ defined xs) h.later (differ_names xs ids are distinct) h.repeated)
 legal_unfolded xs ds ids o are distinct notes bodies fns f (MissingType h) = absurd (no_missing_edge missing_type_at (rows_of xs) o.order f o.least h)
@@ -162,5 +162,3 @@ legal_unfolded xs ds ids o are distinct notes bodies fns f (Body d among broken)
     let it = defined_has (in_order xs o.order) k.0 d k.1 in
     bodies.legal it.0 d f (ap (λ l. slice_get l it.0) o.are ∙ it.1) broken)
 legal_unfolded xs ds ids o are distinct notes bodies fns f (Function k fn at broken) = OfFunction k fn at broken
-legal_unfolded xs ds ids o are distinct notes bodies fns f (FoldedTwice h) = OfFolded h
-legal_unfolded xs ds ids o are distinct notes bodies fns f (CrossedTwice h) = OfCrossed h

@@ -10,7 +10,6 @@ use Rattle.wit_syntax.specs.Notes.{IsBrokenNotes}
 use Rattle.wit_syntax.specs.Bodies.{IsRepeated, IsBrokenBody}
 use Rattle.wit_syntax.specs.Function.{SourceFunction}
 use Rattle.wit_syntax.specs.Signature.{IsBrokenFunction}
-use Rattle.wit_syntax.specs.Sides.{IsFoldedTwice, IsCrossedTwice}
 use Rattle.wit_arena.specs.Resolving.{Env, HasNames}
 
 -- no name of a scope needs one
@@ -42,11 +41,9 @@ pub record IsBrokenAmong (ds : List ScopeName) (f : Fault) : Type 0 where
   pub among : Contains ds (Defined d)
   pub broken : IsBrokenNotes d.attributes.items f ⊎ IsBrokenBody d.body f
 
--- a rule of a scope is broken by one of its functions, or by the folded names
+-- a rule of a scope is broken by one of its functions
 pub data IsOfFunctions (xs : List ScopeName) (fns : List SourceFunction) (f : Fault) : Type 0 where
   OfFunction : (k : ℕ) (fn : SourceFunction) → slice_get fns k ≡ Some fn → IsBrokenFunction xs fns k fn f → IsOfFunctions xs fns f
-  OfFolded : IsFoldedTwice xs fns f → IsOfFunctions xs fns f
-  OfCrossed : IsCrossedTwice xs fns f → IsOfFunctions xs fns f
 
 -- an earlier one of these names has the key of a later one
 pub record IsRepeatedId (number : ℕ) (key : Id → List ℕ) (ids : List Id) (f : Fault) : Type 0 where

@@ -1,12 +1,9 @@
 -- The names that are taken on the sides of a world.
-use Rattle.std.specs.Prelude.{◌≡◌, ℕ, List, [], ◌∷◌, if◌then◌else◌}
-use Rattle.wit_values.specs.declared.span.Span.{Span}
+use Rattle.std.specs.Prelude.{List, [], ◌∷◌, if◌then◌else◌}
 use Rattle.wit_tree.specs.declared.tree.WorldSide.{WorldSide}
 use Rattle.wit_tree.specs.declared.tree.WorldSide.TheVariants.{Imported, Exported}
-use Rattle.wit_syntax.specs.Fault.{Fault, fault}
-use Rattle.wit_syntax.specs.Sides.{same_side}
+use Rattle.wit_syntax.specs.Crossing.{same_side}
 use Rattle.wit_notes.specs.Names.{Name}
-use Rattle.wit_notes.specs.Scope.{HasName}
 use Rattle.wit_sides.specs.declared.sides.Sides.{Sides}
 
 -- the names on a side
@@ -17,8 +14,3 @@ taken_on Exported s = s.exports
 -- what a name on one side adds to a side
 abbrev pub only_on : WorldSide → WorldSide → Name → List Name
 only_on s side n = if same_side s side then n ∷ [] else []
-
--- an earlier name of a side is spelled like that of an import or an export
-pub record IsCrossed (names : List Name) (name : List ℕ) (span : Span) (f : Fault) : Type 0 where
-  pub taken : HasName names name
-  pub is : f ≡ fault 44 span

@@ -1,14 +1,13 @@
 //! What stands on the sides of a world by its name: what it imports, and what it exports.
-ghost use Rattle.std.specs.Prelude.{◌≡◌, ◌⊎◌, ◌++◌, [], ◌↔◌, IfErr, IfOk, IsTrue, OnErr, OnOk};
+ghost use Rattle.std.specs.Prelude.{◌≡◌, ◌++◌, [], ◌↔◌, IfErr, IfOk, IsTrue, OnErr, OnOk};
 ghost use Rattle.wit_names.specs.Mangled.{is_mangled};
 ghost use Rattle.wit_syntax.specs.Broken.{Refused};
 ghost use Rattle.wit_notes.specs.Names.{IsDefinedAgain, IsTaken};
 ghost use Rattle.wit_notes.specs.Scope.{HasName};
-ghost use Rattle.wit_sides.specs.Sides.{IsCrossed, only_on, taken_on};
+ghost use Rattle.wit_sides.specs.Sides.{only_on, taken_on};
 
 use std::alloc::{AllocError, Global};
 use wit_notes::NameScope;
-use wit_notes::refusal::refuse_in;
 use wit_tree::tree::WorldSide;
 use wit_tree::{ParseResult, Span};
 
@@ -18,15 +17,6 @@ use wit_tree::{ParseResult, Span};
 pub struct Sides {
     pub imports: NameScope,
     pub exports: NameScope,
-}
-
-/// The words for an import or an export that has the name of something on its side.
-fn conflict(alloc: Global, side: WorldSide, name: &str, what: &str) -> Result<String, AllocError> {
-    let word = match side {
-        WorldSide::Imported => "import",
-        WorldSide::Exported => "export",
-    };
-    format!(in alloc; "{word} `{name}` conflicts with prior {what} of same name")
 }
 
 impl Sides {
@@ -71,30 +61,5 @@ impl Sides {
             WorldSide::Imported => self.imports.define(name, span),
             WorldSide::Exported => self.exports.define(name, span),
         }
-    }
-
-    /// Defines the name of an import or an export; `what` tells what an earlier one of its spelling
-    /// would be.
-    ///
-    /// Refused under E44, at the span, where an earlier name of the side is spelled like it, else as
-    /// [`Sides::define`]. Then both sides are as they were.
-    pub fn define_extern(
-        &mut self,
-        alloc: Global,
-        side: WorldSide,
-        what: &str,
-        name: &str,
-        span: Span,
-    ) -> ParseResult<()>
-        requires { IsTrue (is_mangled name.now) }
-        ensures defined { OnOk result ((s : WorldSide) → taken_on s self.new ≡ taken_on s self.old ++ only_on s side (name.now, span)) }
-        ensures free { OnOk result (IsTaken (taken_on side self.old) name.now → ⊥) }
-        ensures refused { IfErr result (Refused (λ f. IsCrossed (taken_on side self.old) name.now span f ⊎ IsDefinedAgain (taken_on side self.old) name.now span f)) }
-        ensures unchanged { OnErr result ((s : WorldSide) → taken_on s self.new ≡ taken_on s self.old) }
-    {
-        if self.has(side, name)? {
-            return Err(refuse_in(44, span, conflict(alloc, side, name, what)));
-        }
-        self.define(side, name, span)
     }
 }

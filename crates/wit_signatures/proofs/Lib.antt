@@ -4,6 +4,3 @@ mod FunctionParts
 mod FunctionFaults
 mod WholeFunctions
 pub mod Mangling
-mod Paired
-mod Defining
-mod Clashing

@@ -2,6 +2,4 @@
 #![tactic(auto)]
 
 pub mod functions;
-pub mod scope_functions;
 mod signatures;
-pub mod taken;

@@ -1,3 +1,8 @@
 mod Including
 mod Importing
-mod WorldImports
+mod Entries
+mod SideKeys
+mod SideEntries
+pub mod Leading
+mod Linking
+mod Parts

@@ -5,19 +5,26 @@ use Rattle.wit_tree.specs.declared.tree.Include.{Include}
 use Rattle.wit_tree.specs.declared.tree.PackageFile.{PackageFile}
 use Rattle.wit_types.specs.declared.types.TypeDef.{TypeDef}
 use Rattle.wit_types.specs.declared.types.TypeOwner.TheVariants as owner
+use Rattle.wit_tree.specs.declared.tree.WorldSide.TheVariants.{Imported, Exported}
+use Rattle.wit_model.specs.declared.function.Function.{Function}
 use Rattle.wit_model.specs.declared.interface.Interface.{Interface}
 use Rattle.wit_model.specs.declared.world.World.{World}
 use Rattle.wit_model.specs.declared.world.WorldInclude.{WorldInclude}
 use Rattle.wit_model.specs.declared.world.WorldKey.{WorldKey}
 use Rattle.wit_model.specs.declared.world.WorldItem.{WorldItem}
 use Rattle.wit_syntax.specs.Address.{Address}
-use Rattle.wit_syntax.specs.Source.{path_id, leads, TopName, Item, is_world}
-use Rattle.wit_syntax.specs.Scope.{in_order, worlds_of}
+use Rattle.wit_syntax.specs.Source.{path_id, leads, TopName, Item, is_world, item_notes, scope_names}
+use Rattle.wit_syntax.specs.Scope.{in_order, in_turn, worlds_of}
 use Rattle.wit_syntax.specs.Fault.{Fault, fault}
 use Rattle.wit_syntax.specs.Notes.{Notes}
+use Rattle.wit_syntax.specs.Sides.{side_items}
 use Rattle.wit_arena.specs.Package.{IsWorld}
+use Rattle.wit_arena.specs.SideItems.{AreSideItems}
+use Rattle.wit_arena.specs.Whole.{type_imports, AreIncludes}
 use Rattle.wit_arena.specs.Resolving.{Names, cells, Required, IsWorldIndex, IsNoWorld}
-use Rattle.wit_arena.specs.Resolved.{worlds_at, AddsWorlds, IsNext, IsWrongWorld}
+use Rattle.wit_arena.specs.Resolved.{interfaces_at, worlds_at, AddsScope, AddsBehind, AddsWorlds, IsNext, IsWrongWorld}
+use Rattle.wit_items.specs.Told.{AreOf}
+use Rattle.wit_worlds.specs.declared.world.WorldParts.{WorldParts}
 
 -- an include leads to no world
 pub record IsLost (files : List PackageFile) (by_name : Names) (top : List TopName) (i : Include) (f : Fault) : Type 0 where
@@ -32,6 +39,21 @@ pub record IsAddedWorld (ws ws' : List World) (id : Id) (n : Notes) (imported ex
   pub imports : added.imports ≡ imported
   pub exports : added.exports ≡ exported
   pub includes : added.includes ≡ included
+
+-- These are the parts of a world, which it adds to the arena of types and brings to that of worlds, where these are the interfaces, and at
+-- first those at these addresses.
+pub record AreWorldParts (foreign others : List Address) (is : List Interface) (old new : List TypeDef) (ws : List World) (item : Item) (p : WorldParts) : Type 0 where
+  pub told : AreOf (item_notes item) p.notes
+  pub types : Names
+  pub middle : List TypeDef
+  pub adds : AddsScope old middle (cells foreign is) (owner.World (length ws)) (scope_names item) types
+  pub functions : List Function
+  pub behind : AddsBehind middle new item adds.order types functions p.required.items
+  pub imported : List (WorldKey × WorldItem)
+  pub imports : p.sides.imports ≡ type_imports (in_turn (scope_names item) adds.order) types ++ imported
+  pub are_imported : AreSideItems (interfaces_at foreign is) item.top Imported (side_items item) functions imported
+  pub are_exported : AreSideItems (interfaces_at foreign is) item.top Exported (side_items item) functions p.sides.exports
+  pub includes : AreIncludes (worlds_at others ws) item p.includes
 
 -- where these are the interfaces, their types were resolved, and these worlds stand in front: once the worlds among some of the items
 -- were added in the order of their places, the next item is a world that is wrong

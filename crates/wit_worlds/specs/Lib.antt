@@ -1,1 +1,3 @@
 pub mod Between
+pub mod Links
+pub mod Sides

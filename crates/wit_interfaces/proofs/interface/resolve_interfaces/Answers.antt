@@ -20,7 +20,7 @@ use Rattle.wit_syntax.proofs.Kept.{kept_next, kept_past}
 use Rattle.wit_syntax.proofs.Refusing.{refused_weaker}
 use Rattle.wit_arena.proofs.Adding.{sounds_more}
 use Rattle.wit_item_entries.proofs.Emitting.{emits_more}
-use Rattle.wit_item_entries.proofs.Telling.{interface_stable, stability_more}
+use Rattle.wit_item_entries.proofs.Telling.{interface_stable, sides_more, stability_more}
 use Rattle.wit_items.specs.declared.items.Declared.{Declared as HeldDeclared}
 use Rattle.wit_items.specs.Items.{declared_behind, item_behind, names_behind}
 use Rattle.wit_scopes.proofs.Declaring.{alike}
@@ -122,9 +122,10 @@ loop-place-preserved c =
             index = rw same at e.index;
             sound = rw more (sounds_more front w was.sound e.sound);
             stable = rw more (stability_more front w was.stable (interface_stable w own e.stable));
+            sided = rw more (sides_more front w was.sided e.sided);
           }))
       | in_default b ↦ (
           let sort : not (is_world w) ≡ false = ap (λ (d : HeldDeclared). not (is_declared_world (declared_behind d))) b.in_default.is in
           let past : interfaces_of (in_order ws (take (i + 1) places)) ≡ front = kept_past (λ v. not (is_world v)) ws places i p w at there sort in
-          rw (b.interfaces-is, b.types-is, b.required-is) (record { foreign = was.foreign; front = was.front; added = rw past was.added; index = was.index; sound = rw past was.sound; stable = rw past was.stable }))
+          rw (b.interfaces-is, b.types-is, b.required-is) (record { foreign = was.foreign; front = was.front; added = rw past was.added; index = was.index; sound = rw past was.sound; stable = rw past was.stable; sided = rw past was.sided }))
     ]

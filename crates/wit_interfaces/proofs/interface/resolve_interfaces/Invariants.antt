@@ -1,7 +1,7 @@
 use Rattle.std.proofs.Common.{◌≡◌, ◌≤◌, length, map, take}
 use Rattle.wit_syntax.specs.Scope.{in_order, interfaces_of}
 use Rattle.wit_arena.specs.Resolving.{cells, IsIndex}
-use Rattle.wit_arena.specs.Resolved.{AddsInterfaces, AreSoundScopes, HaveLegalStability}
+use Rattle.wit_arena.specs.Resolved.{AddsInterfaces, AreLegalSides, AreSoundScopes, HaveLegalStability}
 use Rattle.wit_item_entries.specs.Held.{front_of}
 use Rattle.wit_items.specs.Items.{item_behind}
 use Rattle.wit_item_entries.specs.Between.{Emits}
@@ -15,4 +15,5 @@ invariant-loop-place l = record {
   index : IsIndex (cells (front_of l.fn.interfaces.foreign.now) l.interfaces.arena) l.interfaces.by_name;
   sound : AreSoundScopes (interfaces_of (in_order (map item_behind l.items) (take l.place-index l.places)));
   stable : HaveLegalStability (interfaces_of (in_order (map item_behind l.items) (take l.place-index l.places)));
+  sided : AreLegalSides (interfaces_of (in_order (map item_behind l.items) (take l.place-index l.places)));
 }

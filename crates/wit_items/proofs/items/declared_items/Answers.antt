@@ -1,26 +1,19 @@
-use Rattle.std.proofs.Common.{◌≡◌, ◌+◌, ◌++◌, ◌∷◌, [], Some, arith, Contains, map, take, refl, sym, ap, ◌∙◌}
+use Rattle.std.proofs.Common.{◌≡◌, ◌+◌, ◌++◌, ◌∷◌, [], Some, arith, map, take, refl, sym, ap, ◌∙◌}
 use Rattle.std.specs.Prelude.{slice_get}
 use Rattle.std.proofs.lemmas.List.{map-append, take_all}
 use Rattle.std.proofs.lemmas.Option.{slice_get_read}
 use Rattle.std.proofs.lemmas.Result.{err_from_is_err_and}
 use Rattle.wit_syntax.specs.Source.{Item, file_items, all_items, scope_names}
-use Rattle.wit_tree.specs.declared.tree.Use.{Use}
-use Rattle.wit_syntax.specs.Fault.{Fault}
-use Rattle.wit_syntax.specs.Notes.{IsBrokenNotes}
 use Rattle.wit_syntax.specs.Scope.{uses}
-use Rattle.wit_syntax.specs.Broken.{IsBrokenUse, IsBroken}
+use Rattle.wit_syntax.specs.Broken.{IsBroken}
 use Rattle.wit_syntax.proofs.Refusing.{refused_weaker}
 use Rattle.wit_syntax.proofs.Orders.{take_next}
 use Rattle.wit_files.proofs.Lost.{flat_more}
-use Rattle.wit_items.specs.Items.{AreNamesAt, HasUnsoundUse}
+use Rattle.wit_items.specs.Items.{AreNamesAt, AreSound, HasUnsoundUse}
 use Rattle.wit_syntax.specs.Foreign.{visited, foreign_interfaces}
 use Rattle.wit_items.proofs.Placed.{items_none}
-use Rattle.wit_items.proofs.Usable.{filed_none, usable_use, unsound_broken, items_held}
+use Rattle.wit_items.proofs.Usable.{filed_none, unsound_broken, items_held}
 use Rattle.wit_items.proofs.items.declared_items.Goals as goal
-
--- no attributes of its uses break a rule
-abbrev HasLegalNotes : Item → Type 0
-HasLegalNotes w = (u : Use) → Contains (uses w) u → (f : Fault) → IsBrokenNotes u.attributes.items f → ⊥
 
 pub loop-place-init : goal.loop-place-init
 loop-place-init c = rw c.in_ok-items.ensures.items (record {
@@ -28,8 +21,7 @@ loop-place-init c = rw c.in_ok-items.ensures.items (record {
   names = refl;
   filed = filed_none c.args.files.now c.args.names.now;
   placed = items_none (map visited (foreign_interfaces c.args.files.now));
-  uses = λ i among. absurd (let lt = among.1 in let f : ⊥ = omega arith in f);
-  noted = λ i among. absurd (let lt = among.1 in let f : ⊥ = omega arith in f);
+  sound = record { each = λ i among. absurd (let lt = among.1 in let f : ⊥ = omega arith in f) };
 })
 
 pub add_items-requires-clause-named : goal.add_items-requires-clause-named
@@ -50,14 +42,12 @@ loop-place-preserved c =
     let e = c.in_ok-add_items.ensures in
     let more : take (i + 1) files ≡ take i files ++ file ∷ [] = take_next files i file at in
     let grown : all_items (take (i + 1) files) ≡ before ++ own = flat_more file_items (take i files) (take (i + 1) files) file more in
-    let sound = e.sound files named in
     record {
       items = e.items ∙ ap (λ l. l ++ own) was.items ∙ sym grown;
       names = e.names ∙ ap (λ l. l ++ map scope_names own) was.names ∙ sym (map-append scope_names before own) ∙ ap (map scope_names) (sym grown);
       filed = e.filed files named was.filed;
       placed = e.placed files named was.placed;
-      uses = items_held (λ (w : Item). (f : Fault) → IsBrokenUse files w f → ⊥) (take i files) (take (i + 1) files) file more was.uses (λ w among. usable_use files w (sound.each w among));
-      noted = items_held HasLegalNotes (take i files) (take (i + 1) files) file more was.noted (λ w among u used. ((sound.each w among).each u used).noted);
+      sound = record { each = items_held (λ (w : Item). AreSound files w.top (uses w)) (take i files) (take (i + 1) files) file more was.sound.each (e.sound files named).each };
     }
 
 pub returns-in_err-add_items-clause-refused : goal.returns-in_err-add_items-clause-refused
@@ -74,8 +64,5 @@ returns-clause-items c = c.loop-place.invariant.items ∙ ap all_items (take_all
 pub returns-clause-names : goal.returns-clause-names
 returns-clause-names c = c.loop-place.invariant.names ∙ ap (λ l. map scope_names (all_items l)) (take_all c.loop-place.place c.args.files.now c.loop-place-test.false)
 
-pub returns-clause-uses : goal.returns-clause-uses
-returns-clause-uses c = rw (take_all c.loop-place.place c.args.files.now c.loop-place-test.false) at c.loop-place.invariant.uses
-
-pub returns-clause-noted : goal.returns-clause-noted
-returns-clause-noted c = rw (take_all c.loop-place.place c.args.files.now c.loop-place-test.false) at c.loop-place.invariant.noted
+pub returns-clause-sound : goal.returns-clause-sound
+returns-clause-sound c = rw (take_all c.loop-place.place c.args.files.now c.loop-place-test.false) at c.loop-place.invariant.sound

@@ -7,7 +7,7 @@ use Rattle.wit_syntax.specs.Foreign.{visited, foreign_interfaces, foreign_worlds
 use Rattle.wit_syntax.specs.Scope.{in_order, item_rows, interfaces_of, worlds_of}
 use Rattle.wit_syntax.specs.Broken.{IsBroken}
 use Rattle.wit_arena.specs.Resolving.{Required, cells, IsIndex}
-use Rattle.wit_arena.specs.Resolved.{AddsInterfaces, AddsWorlds, AreSoundScopes, HaveLegalStability}
+use Rattle.wit_arena.specs.Resolved.{AddsInterfaces, AddsWorlds, AreLegalSides, AreSoundScopes, AreUsableLinks, HaveLegalStability}
 use Rattle.wit_syntax.proofs.Refusing.{refused_weaker}
 use Rattle.wit_arena.proofs.Resolved.{distinct_items}
 use Rattle.wit_arena.proofs.Finished.{broken_among, broken_world_among}
@@ -17,8 +17,9 @@ use Rattle.wit_front.specs.Front.{IsFront}
 use Rattle.wit_item_entries.specs.Between.{Emits}
 use Rattle.wit_interfaces.specs.Between.{IsWrongNow}
 use Rattle.wit_worlds.specs.Between.{IsWrongWorldNow}
+use Rattle.wit_worlds.proofs.Leading.{interfaces_are}
 use Rattle.wit_item_entries.proofs.Telling.{stability_both}
-use Rattle.wit_parser.proofs.Files.{sound_both, held_within, wrong_interface, wrong_world}
+use Rattle.wit_parser.proofs.Files.{sided_both, sound_both, uses_usable, held_within, wrong_interface, wrong_world}
 use Rattle.wit_parser.proofs.Fronting.{front_started, front_taken, lent_front, lent_placed, lent_enough, lent_index, worlds_enough, worlds_index, others_names}
 use Rattle.wit_parser.proofs.resolver.resolve_files.Goals as goal
 
@@ -65,6 +66,13 @@ resolve_worlds-requires-clause-placed c =
     let front : IsFront files c.take_all.new.types c.take_all.new.self = front_taken files c.foreign.result.now c.args.types.now c.in_ok-front.front c.in_ok-items.items.items c.deref_mut-lent.result.now (c.foreign.ensures.items files c.requires.names) c.requires.empty c.in_ok-front.ensures.bare c.deref_mut-lent.ensures.value e.placed c.take_all.new.types c.take_all.new.self e.names c.in_ok-take_all.ensures.taken in
     lent_placed files c.take_all.new.types c.take_all.new.self front c.resolve_interfaces.new.interfaces.foreign.now (ap (λ r. r.now) c.in_ok-resolve_interfaces.ensures.foreign ∙ c.deref-2.ensures.value) c.in_ok-items.items.items c.deref_mut-lent.result.now c.deref_mut-lent.ensures.value e.placed
 
+pub resolve_worlds-requires-clause-others : goal.resolve_worlds-requires-clause-others
+resolve_worlds-requires-clause-others c =
+    let files = c.args.files.now in
+    let e = c.in_ok-items.ensures in
+    let front : IsFront files c.take_all.new.types c.take_all.new.self = front_taken files c.foreign.result.now c.args.types.now c.in_ok-front.front c.in_ok-items.items.items c.deref_mut-lent.result.now (c.foreign.ensures.items files c.requires.names) c.requires.empty c.in_ok-front.ensures.bare c.deref_mut-lent.ensures.value e.placed c.take_all.new.types c.take_all.new.self e.names c.in_ok-take_all.ensures.taken in
+    lent_front files c.take_all.new.types c.take_all.new.self front c.resolve_interfaces.new.interfaces.foreign.now (ap (λ r. r.now) c.in_ok-resolve_interfaces.ensures.foreign ∙ c.deref-2.ensures.value) ∙ sym (interfaces_are c.args.names.now files c.requires.names)
+
 pub resolve_worlds-requires-clause-worlds_front : goal.resolve_worlds-requires-clause-worlds_front
 resolve_worlds-requires-clause-worlds_front c =
     let files = c.args.files.now in
@@ -94,7 +102,7 @@ returns-in_err-resolve_interfaces-clause-refused c =
     let order : IsOrder (item_rows files) places = subst (IsOrder (item_rows files)) (sym c.item_order.ensures) c.requires.order in
     let differ = distinct_items files c.requires.legal in
     let same = lent_front files types a front held c.deref-2.ensures.value in
-    rw (p.1, p.2) (refused_weaker (IsWrongNow (front_of held) types a.interfaces (map item_behind items) places) (IsBroken files) _ (λ f h. broken_among files places order differ e.uses f (wrong_interface files types a.interfaces a.worlds (all_items files) places f front.adds (subst (λ (l : List Item). IsWrongNow (map visited (foreign_interfaces files)) types a.interfaces l places f) all (subst (λ (ss : List Address). IsWrongNow ss types a.interfaces (map item_behind items) places f) same h)))) c.in_err-resolve_interfaces.ensures.refused)
+    rw (p.1, p.2) (refused_weaker (IsWrongNow (front_of held) types a.interfaces (map item_behind items) places) (IsBroken files) _ (λ f h. broken_among files places order differ (uses_usable files e.sound) f (wrong_interface files types a.interfaces a.worlds (all_items files) places f front.adds (subst (λ (l : List Item). IsWrongNow (map visited (foreign_interfaces files)) types a.interfaces l places f) all (subst (λ (ss : List Address). IsWrongNow ss types a.interfaces (map item_behind items) places f) same h)))) c.in_err-resolve_interfaces.ensures.refused)
 
 pub returns-in_err-resolve_worlds-clause-refused : goal.returns-in_err-resolve_worlds-clause-refused
 returns-in_err-resolve_worlds-clause-refused c =
@@ -119,7 +127,7 @@ returns-in_err-resolve_worlds-clause-refused c =
     let index : IsIndex (cells (map visited (foreign_interfaces files)) now.arena) now.by_name = subst (λ (ss : List Address). IsIndex (cells ss now.arena) now.by_name) kept c.in_ok-resolve_interfaces.ensures.index in
     let differ = distinct_items files c.requires.legal in
     let filed : AreFiled files c.args.names.now items = subst (AreFiled files c.args.names.now) (sym c.deref_mut-lent.ensures.value) e.filed in
-    rw (p.1, p.2) (refused_weaker (IsWrongWorldNow files (front_of now.foreign.now) (others_of c.args.names.now) middle now.arena now.by_name a.worlds (map item_behind items) places) (IsBroken files) _ (λ f h. broken_world_among files places c.requires.order differ e.uses f (wrong_world files types a.interfaces a.worlds middle now.arena now.by_name from.own (all_items files) places f front.adds added index (
+    rw (p.1, p.2) (refused_weaker (IsWrongWorldNow files (front_of now.foreign.now) (others_of c.args.names.now) middle now.arena now.by_name a.worlds (map item_behind items) places) (IsBroken files) _ (λ f h. broken_world_among files places c.requires.order differ (uses_usable files e.sound) f (wrong_world files types a.interfaces a.worlds middle now.arena now.by_name from.own (all_items files) places f front.adds added index (
     subst (λ (l : List Item). IsWrongWorldNow files (map visited (foreign_interfaces files)) (map visited (foreign_worlds files)) middle now.arena now.by_name a.worlds l places f) again (
     subst (λ (ss : List Address). IsWrongWorldNow files (map visited (foreign_interfaces files)) ss middle now.arena now.by_name a.worlds (map item_behind items) places f) others (
     subst (λ (ss : List Address). IsWrongWorldNow files ss (others_of c.args.names.now) middle now.arena now.by_name a.worlds (map item_behind items) places f) kept h))))) (c.in_err-resolve_worlds.ensures.refused files filed))
@@ -146,6 +154,10 @@ returns-clause-added c =
     let new = c.resolve_worlds.new in
     let sound : AreSoundScopes (interfaces_of (in_order (all_items files) places)) = rw (all, c.item_order.ensures) at c.in_ok-resolve_interfaces.ensures.sound in
     let sound' : AreSoundScopes (worlds_of (in_order (all_items files) places)) = rw again at ws.sound in
+    let sided : AreLegalSides (interfaces_of (in_order (all_items files) places)) = rw (all, c.item_order.ensures) at c.in_ok-resolve_interfaces.ensures.sided in
+    let sided' : AreLegalSides (worlds_of (in_order (all_items files) places)) = rw again at ws.sided in
+    let filed : AreFiled files c.args.names.now c.deref_mut-lent.result.now = subst (AreFiled files c.args.names.now) (sym c.deref_mut-lent.ensures.value) e.filed in
+    let linked : AreUsableLinks files (worlds_of (in_order (all_items files) places)) = rw again at ws.linked files filed in
     let stable : HaveLegalStability (interfaces_of (in_order (all_items files) places)) = rw (all, c.item_order.ensures) at c.in_ok-resolve_interfaces.ensures.stable in
     let stable' : HaveLegalStability (worlds_of (in_order (all_items files) places)) = rw again at ws.stable in
     let said : Emits irs new.required.items (λ rs. AddsWorlds (front_of now.foreign.now) (others_of c.args.names.now) now.arena middle new.types a.worlds new.worlds.arena rs (worlds_of (in_order (all_items files) places))) = rw again at ws.added in
@@ -153,8 +165,8 @@ returns-clause-added c =
       places = places;
       order = c.requires.order;
       names = c.requires.legal;
-      uses = e.uses;
-      noted = e.noted;
+      uses = uses_usable files e.sound;
+      noted = λ i among u used. ((e.sound.each i among).each u used).noted;
       first = types;
       front = a.interfaces;
       worlds_front = a.worlds;
@@ -165,6 +177,8 @@ returns-clause-added c =
       requires = said.list ∙ ap (λ (l : List Required). l ++ said.own) (from.list ∙ ap (λ (l : List Required). l ++ from.own) c.new-required.ensures.items);
       interfaces = added;
       worlds = subst (λ (ss : List Address). AddsWorlds (map visited (foreign_interfaces files)) ss now.arena middle new.types a.worlds new.worlds.arena said.own (worlds_of (in_order (all_items files) places))) others (subst (λ (ss : List Address). AddsWorlds ss (others_of c.args.names.now) now.arena middle new.types a.worlds new.worlds.arena said.own (worlds_of (in_order (all_items files) places))) kept said.holds);
+      sided = sided_both (in_order (all_items files) places) sided sided';
+      linked = linked;
       sound = sound_both (in_order (all_items files) places) sound sound';
       stable = stability_both (in_order (all_items files) places) stable stable';
     }

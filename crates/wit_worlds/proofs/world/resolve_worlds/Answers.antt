@@ -2,18 +2,14 @@ use Rattle.std.proofs.Common.{◌≡◌, arith, ◌≤◌, ◌<◌, ◌+◌, ◌
 use Rattle.std.specs.Prelude.{slice_get, map}
 use Rattle.std.proofs.lemmas.Option.{slice_get-get_or}
 use Rattle.std.proofs.lemmas.Result.{err_from_is_err_and}
-use denote.Ref.{Bor}
 use Rattle.std.proofs.lemmas.List.{length-append}
 use Rattle.wit_types.specs.declared.types.TypeDef.{TypeDef}
-use Rattle.wit_tree.specs.declared.tree.World.{World as Written}
 use Rattle.wit_model.specs.declared.interface.Interface.{Interface}
 use Rattle.wit_model.specs.declared.world.World.{World}
 use Rattle.wit_syntax.specs.Address.{Address}
-use Rattle.wit_files.specs.declared.file_names.FileNames.{FileNames}
 use Rattle.wit_items.specs.declared.items.Item.{Item as HeldItem}
-use Rattle.wit_items.specs.declared.items.Declared.TheVariants as held
 use Rattle.wit_item_entries.specs.Held.{front_of, cells_of}
-use Rattle.wit_syntax.specs.Source.{Item, TheWorld, is_declared_world, is_world, scope_names}
+use Rattle.wit_syntax.specs.Source.{Item, is_declared_world, is_world, scope_names}
 use Rattle.wit_syntax.specs.Scope.{in_order, worlds_of}
 use Rattle.wit_arena.specs.Resolving.{Required}
 use Rattle.wit_arena.specs.Resolved.{AddsWorld, IsWrongWorld}
@@ -25,9 +21,10 @@ use Rattle.wit_arena.proofs.Adding.{sounds_more}
 use Rattle.wit_item_entries.proofs.Emitting.{emits_more}
 use Rattle.wit_item_entries.proofs.Telling.{stability_more}
 use Rattle.wit_items.specs.declared.items.Declared.{Declared as HeldDeclared}
-use Rattle.wit_items.specs.Items.{declared_behind, item_behind, names_behind, HasItem, HasFiles, IsDeclaredIn, others_of}
+use Rattle.wit_items.specs.Items.{declared_behind, item_behind, names_behind, others_of}
 use Rattle.wit_worlds.specs.Between.{IsWrongWorldNow}
 use Rattle.wit_scopes.proofs.Declaring.{alike}
+use Rattle.wit_worlds.proofs.Linking.{sides_more, links_more}
 use Rattle.wit_worlds.proofs.world.resolve_worlds.Goals.{in-World+in_ok-resolve_world, in_default}
 use Rattle.wit_worlds.proofs.world.resolve_worlds.Goals as goal
 
@@ -41,13 +38,13 @@ item_at items listed places k x same within lt is =
     let inside = (subst (λ (l : List ℕ). All (λ (place : ℕ). place < length items) l) (sym same) within) k 0 lt in
     slice_get-get_or items (get_or listed k 0) x inside ∙ ap Some (sym is)
 
-declared_world : (names : FileNames) (items : List HeldItem) (p : ℕ) (x : HeldItem) (w : Bor Written) (h : HasFiles names items) → slice_get items p ≡ Some x → x.declared ≡ held.World w → HasItem names x.place (TheWorld w.now)
-declared_world names items p x w h there is = record { files = h.files; file = x.file.now; declared = subst (λ (d : HeldDeclared). IsDeclaredIn h.files names x.place x.file.now (declared_behind d)) is (h.filed.each p x there) }
+pub resolve_world-requires-clause-sort : goal.resolve_world-requires-clause-sort
+resolve_world-requires-clause-sort c = ap (λ (d : HeldDeclared). is_declared_world (declared_behind d)) c.in-World.is
 
 pub resolve_world-requires-clause-item : goal.resolve_world-requires-clause-item
 resolve_world-requires-clause-item c =
     let there = item_at c.args.items.now c.item_order-place-items.result.now c.args.files.now.order.items c.loop-place.place-index c.index-items-place.result c.item_order-place-items.ensures c.requires.within c.loop-place-test.true c.index-items-place.is in
-    declared_world c.args.files.now c.args.items.now _ c.index-items-place.result _ c.requires.filed there c.in-World.is
+    record { files = c.requires.filed.files; file = c.index-items-place.result.file.now; declared = c.requires.filed.filed.each _ c.index-items-place.result there }
 
 pub resolve_world-requires-clause-file : goal.resolve_world-requires-clause-file
 resolve_world-requires-clause-file c =
@@ -120,6 +117,7 @@ loop-place-preserved c =
     let at : slice_get places i ≡ Some p = ap (λ (l : List ℕ). slice_get l i) (sym c.item_order-place-items.ensures) ∙ slice_get-get_or listed i 0 c.loop-place-test.true in
     let within : p < length c.args.items.now = (subst (λ (l : List ℕ). All (λ place. place < length c.args.items.now) l) (sym c.item_order-place-items.ensures) c.requires.within) i 0 c.loop-place-test.true in
     let there : slice_get ws p ≡ Some w = read_map item_behind c.args.items.now p x within c.index-items-place.is in
+    let held : slice_get c.args.items.now p ≡ Some x = slice_get-get_or c.args.items.now p x within ∙ ap Some (sym c.index-items-place.is) in
     let before = c.loop-place.worlds.arena in
     elim c.match-item.branch [
       | in-World+in_ok-resolve_world b ↦ (
@@ -137,9 +135,11 @@ loop-place-preserved c =
             index = e.index;
             sound = rw more (sounds_more front w was.sound e.sound);
             stable = rw more (stability_more front w was.stable e.stable);
+            sided = rw more (sides_more front w was.sided e.sided);
+            linked = λ fs filed. rw more (links_more fs front w (was.linked fs filed) (e.linked fs (filed.each p x held).are));
           }))
       | in_default b ↦ (
           let sort : is_world w ≡ false = ap (λ (d : HeldDeclared). is_declared_world (declared_behind d)) b.in_default.is in
           let past : worlds_of (in_order ws (take (i + 1) places)) ≡ front = kept_past is_world ws places i p w at there sort in
-          rw (b.worlds-is, b.types-is, b.required-is) (record { entries = was.entries; front = was.front; added = rw past was.added; index = was.index; sound = rw past was.sound; stable = rw past was.stable }))
+          rw (b.worlds-is, b.types-is, b.required-is) (record { entries = was.entries; front = was.front; added = rw past was.added; index = was.index; sound = rw past was.sound; stable = rw past was.stable; sided = rw past was.sided; linked = λ fs filed. rw past (was.linked fs filed) }))
     ]

@@ -1,9 +1,10 @@
-use Rattle.std.proofs.Common.{◌≡◌, ◌≤◌, length, map, take}
+use Rattle.std.proofs.Common.{◌≡◌, ◌≤◌, List, length, map, take}
+use Rattle.wit_tree.specs.declared.tree.PackageFile.{PackageFile}
 use Rattle.wit_syntax.specs.Scope.{in_order, worlds_of}
 use Rattle.wit_arena.specs.Resolving.{IsWorldIndex}
-use Rattle.wit_arena.specs.Resolved.{worlds_at, AddsWorlds, AreSoundScopes, HaveLegalStability}
+use Rattle.wit_arena.specs.Resolved.{worlds_at, AddsWorlds, AreLegalSides, AreSoundScopes, AreUsableLinks, HaveLegalStability}
 use Rattle.wit_item_entries.specs.Held.{front_of}
-use Rattle.wit_items.specs.Items.{item_behind, others_of}
+use Rattle.wit_items.specs.Items.{item_behind, others_of, AreFiled}
 use Rattle.wit_item_entries.specs.Between.{Emits}
 use Rattle.wit_worlds.proofs.world.resolve_worlds.Given as goal
 
@@ -15,4 +16,6 @@ invariant-loop-place l = record {
   index : IsWorldIndex (worlds_at (others_of l.files) l.worlds.arena) l.worlds.by_name;
   sound : AreSoundScopes (worlds_of (in_order (map item_behind l.items) (take l.place-index l.files.order.items)));
   stable : HaveLegalStability (worlds_of (in_order (map item_behind l.items) (take l.place-index l.files.order.items)));
+  sided : AreLegalSides (worlds_of (in_order (map item_behind l.items) (take l.place-index l.files.order.items)));
+  linked : (fs : List PackageFile) → AreFiled fs l.files l.items → AreUsableLinks fs (worlds_of (in_order (map item_behind l.items) (take l.place-index l.files.order.items)));
 }

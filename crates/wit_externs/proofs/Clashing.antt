@@ -1,0 +1,141 @@
+-- What stands on each side once names are defined there, and names of what stands there that clash.
+use Rattle.std.proofs.Common.{◌≡◌, ℕ, ◌+◌, Bool, List, [], ◌∷◌, ◌++◌, length, take, drop, map, Some, None, refl, sym, ap, ◌∙◌, subst, append_assoc, arith}
+use Rattle.std.specs.Prelude.{slice_get, Result, Ok, Err, OnOk}
+use Rattle.std.proofs.lemmas.Bool.{cond-true}
+use Rattle.std.proofs.lemmas.Grind.{flat_map-append}
+use Rattle.std.proofs.lemmas.List.{append-nil, take-append-le}
+use Rattle.std.proofs.lemmas.Option.{slice_get_within}
+use Rattle.std.proofs.Math.Seq.{take-append-add}
+use Rattle.wit_values.specs.declared.span.Span.{Span}
+use Rattle.wit_tree.specs.declared.tree.Id.{Id}
+use Rattle.wit_tree.specs.declared.tree.FuncForm.{FuncForm}
+use Rattle.wit_tree.specs.declared.tree.WorldSide.{WorldSide}
+use Rattle.wit_tree.specs.declared.tree.WorldSide.TheVariants.{Imported, Exported}
+use Rattle.wit_syntax.specs.Fault.{Fault}
+use Rattle.wit_syntax.specs.Function.{Role, Freestanding, Method, Static, Constructor, OnSide}
+use Rattle.wit_syntax.specs.Repeats.{AllDiffer}
+use Rattle.wit_syntax.specs.Crossing.{same_side}
+use Rattle.wit_syntax.specs.Sides.{role_side, names_on, SideItem, item_side, items_on, IsCrossing}
+use Rattle.wit_syntax.proofs.Lists.{at_front, at_back}
+use Rattle.wit_syntax.proofs.Sides.{side_itself}
+use Rattle.wit_notes.specs.Names.{Name, IsTaken, IsDefinedAgain}
+use Rattle.wit_notes.specs.Scope.{HasName}
+use Rattle.wit_sides.specs.Sides.{only_on}
+use Rattle.wit_rules.specs.Held.{across_of}
+use Rattle.wit_signatures.specs.Taken.{name_key, IsTwiceAmong}
+use Rattle.wit_externs.specs.Clash.{item_names, names_of_items, IsCrossedAmong, IsClash, Folded, Crossed, IsCrossed}
+use Rattle.wit_externs.proofs.Named.{again_twice, twice_front, keys_more}
+use Rattle.wit_externs.proofs.Steps.{kept_split, kept_next, kept_one, kept_nothing}
+
+-- what a role says of sides
+pub side_imported : (role : Role) → across_of role ≡ None → role_side role ≡ Imported
+side_imported (Freestanding id form) is = refl
+side_imported (Method of form) is = refl
+side_imported (Static of form) is = refl
+side_imported (Constructor of) is = refl
+side_imported (OnSide side id form) is = absurd (let f : ⊥ = cc in f)
+
+pub side_across : (role : Role) (side : WorldSide) → across_of role ≡ Some side → (id : Id) × (form : FuncForm) × (role ≡ OnSide side id form)
+side_across (Freestanding id form) side is = absurd (let f : ⊥ = cc in f)
+side_across (Method of form) side is = absurd (let f : ⊥ = cc in f)
+side_across (Static of form) side is = absurd (let f : ⊥ = cc in f)
+side_across (Constructor of) side is = absurd (let f : ⊥ = cc in f)
+side_across (OnSide there id form) side is = let same : there ≡ side = cc in (id, form, ap (λ (s : WorldSide). OnSide s id form) same)
+
+-- names of types, of which one more is defined
+pub types_more : (s : WorldSide) (old mid new ns ms : List Name) (n : Name) → ms ≡ ns ++ n ∷ [] → mid ≡ old ++ names_on s ns → new ≡ mid ++ only_on s Imported n → new ≡ old ++ names_on s ms
+types_more Imported old mid new ns ms n more before after = after ∙ ap (λ (l : List Name). l ++ n ∷ []) before ∙ append_assoc old ns (n ∷ []) ∙ ap (λ (l : List Name). old ++ l) (sym more)
+types_more Exported old mid new ns ms n more before after = after ∙ append-nil mid ∙ before
+
+-- the keys on a side differ where a name is defined on one that is not taken there
+one_side : (s side : WorldSide) (old new : WorldSide → List Name) (name : List ℕ) (span : Span) → new s ≡ old s ++ only_on s side (name, span) → (IsTaken (old side) name → ⊥) → AllDiffer (map name_key (old s)) → AllDiffer (map name_key (new s))
+one_side Imported Imported old new name span defined free d = subst (λ (l : List Name). AllDiffer (map name_key l)) (sym defined) (keys_more (old Imported) name span free d)
+one_side Exported Exported old new name span defined free d = subst (λ (l : List Name). AllDiffer (map name_key l)) (sym defined) (keys_more (old Exported) name span free d)
+one_side Imported Exported old new name span defined free d = subst (λ (l : List Name). AllDiffer (map name_key l)) (sym (defined ∙ append-nil (old Imported))) d
+one_side Exported Imported old new name span defined free d = subst (λ (l : List Name). AllDiffer (map name_key l)) (sym (defined ∙ append-nil (old Exported))) d
+
+pub sides_differ : (side : WorldSide) (old new : WorldSide → List Name) (name : List ℕ) (span : Span) → ((s : WorldSide) → new s ≡ old s ++ only_on s side (name, span)) → (IsTaken (old side) name → ⊥) → (s : WorldSide) → AllDiffer (map name_key (old s)) → AllDiffer (map name_key (new s))
+sides_differ side old new name span defined free s d = one_side s side old new name span (defined s) free d
+
+pub name_differs : {T E : Type 0} (r : Result T E) (side : WorldSide) (old new : WorldSide → List Name) (name : List ℕ) (span : Span) → OnOk r ((s : WorldSide) → new s ≡ old s ++ only_on s side (name, span)) → OnOk r (IsTaken (old side) name → ⊥) → OnOk r ((s : WorldSide) → AllDiffer (map name_key (old s)) → AllDiffer (map name_key (new s)))
+name_differs (Ok x) side old new name span defined free = sides_differ side old new name span defined free
+name_differs (Err e) side old new name span defined free = tt
+
+-- what passes the test of a side
+abbrev stands_on : WorldSide → SideItem → Bool
+stands_on s x = same_side s (item_side x)
+
+-- the name of an item is all that it adds to a side, and one without a name adds nothing
+pub item_on : (s side : WorldSide) (x : SideItem) (n : Name) → item_side x ≡ side → item_names x ≡ n ∷ [] → only_on s side n ≡ names_of_items (items_on s (x ∷ []))
+item_on s side x n there named = ap (λ (t : WorldSide). only_on s t n) (sym there) ∙ kept_one item_names (stands_on s) x (n ∷ []) named
+
+pub nameless_on : (s : WorldSide) (x : SideItem) (old new : List Name) → item_names x ≡ [] → new ≡ old → new ≡ old ++ names_of_items (items_on s (x ∷ []))
+nameless_on s x old new none same = same ∙ sym (append-nil old) ∙ ap (λ (l : List Name). old ++ l) (kept_nothing item_names (stands_on s) x none)
+
+-- of what a definition says of its result, as the name of an item
+pub item_defined : {T E : Type 0} (r : Result T E) (x : SideItem) (side : WorldSide) (old new : WorldSide → List Name) (name : List ℕ) (span : Span) → item_side x ≡ side → item_names x ≡ (name, span) ∷ [] → OnOk r ((s : WorldSide) → new s ≡ old s ++ only_on s side (name, span)) → OnOk r ((s : WorldSide) → new s ≡ old s ++ names_of_items (items_on s (x ∷ [])))
+item_defined (Ok done) x side old new name span there named defined = λ s. defined s ∙ ap (λ (l : List Name). old s ++ l) (item_on s side x (name, span) there named)
+item_defined (Err e) x side old new name span there named defined = tt
+
+-- an item stands alone on its side
+alone : (side : WorldSide) (x : SideItem) → item_side x ≡ side → items_on side (x ∷ []) ≡ x ∷ []
+alone side x there = cond-true (stands_on side x) (x ∷ []) [] (ap (same_side side) there ∙ side_itself side)
+
+-- an item whose name is taken on its side clashes
+pub clash_again : (x : SideItem) (side : WorldSide) (old : WorldSide → List Name) (name : List ℕ) (span : Span) (f : Fault) → item_side x ≡ side → item_names x ≡ (name, span) ∷ [] → IsDefinedAgain (old side) name span f → IsClash old (x ∷ []) f
+clash_again x side old name span f there named again =
+    let names : (name, span) ∷ [] ≡ names_of_items (items_on side (x ∷ [])) = sym named ∙ sym (append-nil (item_names x)) ∙ ap names_of_items (sym (alone side x there)) in
+    Folded side (subst (λ (l : List Name). IsTwiceAmong (old side ++ l) f) names (again_twice (old side) name span f again))
+
+pub clash_crossed : (x : SideItem) (side : WorldSide) (old : WorldSide → List Name) (name : List ℕ) (span : Span) (f : Fault) → item_side x ≡ side → item_names x ≡ (name, span) ∷ [] → IsCrossing x → IsCrossed (old side) name span f → IsClash old (x ∷ []) f
+clash_crossed x side old name span f there named crosses crossed =
+    Crossed side (record {
+      place = 0;
+      later = x;
+      at = ap (λ (l : List SideItem). slice_get l 0) (alone side x there);
+      crosses = crosses;
+      name = (name, span);
+      named = named;
+      taken = subst (λ (l : List Name). HasName l name) (sym (append-nil (old side))) crossed.taken;
+      is = crossed.is;
+    })
+
+-- names of items behind those of others
+names_behind : (old : List Name) (front mid : List SideItem) → (old ++ names_of_items front) ++ names_of_items mid ≡ old ++ names_of_items (front ++ mid)
+names_behind old front mid = append_assoc old (names_of_items front) (names_of_items mid) ∙ ap (λ (l : List Name). old ++ l) (sym (flat_map-append item_names front mid))
+
+twice_between : (old : List Name) (front mid back : List SideItem) (f : Fault) → IsTwiceAmong ((old ++ names_of_items front) ++ names_of_items mid) f → IsTwiceAmong (old ++ names_of_items (front ++ (mid ++ back))) f
+twice_between old front mid back f twice =
+    let whole : ((old ++ names_of_items front) ++ names_of_items mid) ++ names_of_items back ≡ old ++ names_of_items (front ++ (mid ++ back)) = ap (λ (l : List Name). l ++ names_of_items back) (names_behind old front mid) ∙ names_behind old (front ++ mid) back ∙ ap (λ (l : List SideItem). old ++ names_of_items l) (append_assoc front mid back) in
+    subst (λ (l : List Name). IsTwiceAmong l f) whole (twice_front ((old ++ names_of_items front) ++ names_of_items mid) (names_of_items back) f twice)
+
+crossed_between : (old : List Name) (front mid back : List SideItem) (f : Fault) → IsCrossedAmong (old ++ names_of_items front) mid f → IsCrossedAmong old (front ++ (mid ++ back)) f
+crossed_between old front mid back f crossed =
+    let p = crossed.place in
+    let within = slice_get_within mid p crossed.later crossed.at in
+    let before : front ++ take p mid ≡ take (length front + p) (front ++ (mid ++ back)) = ap (λ (l : List SideItem). front ++ l) (sym (take-append-le p mid back (omega arith))) ∙ sym (take-append-add front (mid ++ back) p) in
+    record {
+      place = length front + p;
+      later = crossed.later;
+      at = at_back front (mid ++ back) p crossed.later (at_front mid back p crossed.later crossed.at);
+      crosses = crossed.crosses;
+      name = crossed.name;
+      named = crossed.named;
+      taken = subst (λ (l : List Name). HasName l crossed.name.0) (names_behind old front (take p mid) ∙ ap (λ (l : List SideItem). old ++ names_of_items l) before) crossed.taken;
+      is = crossed.is;
+    }
+
+-- what clashes behind the items in front of it clashes among all
+pub clash_whole : (old mid : WorldSide → List Name) (xs : List SideItem) (i : ℕ) (x : SideItem) (f : Fault) → slice_get xs i ≡ Some x → ((s : WorldSide) → mid s ≡ old s ++ names_of_items (items_on s (take i xs))) → IsClash mid (x ∷ []) f → IsClash old xs f
+clash_whole old mid xs i x f at before (Folded s twice) =
+    Folded s (subst (λ (l : List SideItem). IsTwiceAmong (old s ++ names_of_items l) f) (sym (kept_split (stands_on s) xs i x at)) (twice_between (old s) (items_on s (take i xs)) (items_on s (x ∷ [])) (items_on s (drop (i + 1) xs)) f (subst (λ (l : List Name). IsTwiceAmong (l ++ names_of_items (items_on s (x ∷ []))) f) (before s) twice)))
+clash_whole old mid xs i x f at before (Crossed s crossed) =
+    Crossed s (subst (λ (l : List SideItem). IsCrossedAmong (old s) l f) (sym (kept_split (stands_on s) xs i x at)) (crossed_between (old s) (items_on s (take i xs)) (items_on s (x ∷ [])) (items_on s (drop (i + 1) xs)) f (subst (λ (l : List Name). IsCrossedAmong l (items_on s (x ∷ [])) f) (before s) crossed)))
+
+-- and what one more item adds to each side
+pub sides_more : (s : WorldSide) (old mid new : List Name) (xs : List SideItem) (i : ℕ) (x : SideItem) → slice_get xs i ≡ Some x → mid ≡ old ++ names_of_items (items_on s (take i xs)) → new ≡ mid ++ names_of_items (items_on s (x ∷ [])) → new ≡ old ++ names_of_items (items_on s (take (i + 1) xs))
+sides_more s old mid new xs i x at before after =
+    after
+    ∙ ap (λ (l : List Name). l ++ names_of_items (items_on s (x ∷ []))) before
+    ∙ append_assoc old (names_of_items (items_on s (take i xs))) (names_of_items (items_on s (x ∷ [])))
+    ∙ ap (λ (l : List Name). old ++ l) (sym (kept_next item_names (stands_on s) xs i x at))

@@ -1,0 +1,60 @@
+-- A list of which one more item is taken, and what passes a test among those that are.
+use Rattle.std.proofs.Common.{◌≡◌, ℕ, ◌+◌, Bool, List, [], ◌∷◌, ◌++◌, length, take, drop, Some, inl, inr, refl, sym, ap, ◌∙◌, subst, append_assoc, add-zero}
+use Rattle.std.specs.Prelude.{slice_get, cond}
+use Rattle.std.specs.List.{filter, flat_map}
+use Rattle.std.proofs.lemmas.Bool.{cases_Bool, cond-true, cond-false}
+use Rattle.std.proofs.lemmas.Grind.{flat_map-append}
+use Rattle.std.proofs.lemmas.List.{append-nil, take_more, take-append-drop}
+use Rattle.std.proofs.lemmas.List.Elements.{filter-append}
+use Rattle.std.proofs.lemmas.Option.{slice_get_within, get_or_from_slice_get}
+use Rattle.wit_syntax.proofs.Lists.{at_back}
+
+-- the next item
+pub taken_next : {X : Type 0} (xs : List X) (i : ℕ) (x : X) → slice_get xs i ≡ Some x → take (i + 1) xs ≡ take i xs ++ x ∷ []
+taken_next xs i x at = take_more xs i x (slice_get_within xs i x at) ∙ ap (λ y. take i xs ++ y ∷ []) (get_or_from_slice_get xs i x x at)
+
+-- what stands behind a front, and in front of the rest
+pub at_middle : {X : Type 0} (front : List X) (x : X) (back : List X) → slice_get (front ++ (x ∷ back)) (length front) ≡ Some x
+at_middle front x back = subst (λ n. slice_get (front ++ (x ∷ back)) n ≡ Some x) (add-zero (length front)) (at_back front (x ∷ back) 0 x refl)
+
+-- those in front of an item, that one, and those behind it
+pub split_at : {X : Type 0} (xs : List X) (i : ℕ) (x : X) → slice_get xs i ≡ Some x → xs ≡ take i xs ++ (x ∷ [] ++ drop (i + 1) xs)
+split_at xs i x at =
+    sym (take-append-drop (i + 1) xs)
+    ∙ ap (λ l. l ++ drop (i + 1) xs) (taken_next xs i x at)
+    ∙ append_assoc (take i xs) (x ∷ []) (drop (i + 1) xs)
+
+-- the same of what a test keeps, and of what items become
+pub kept_split : {X : Type 0} (test : X → Bool) (xs : List X) (i : ℕ) (x : X) → slice_get xs i ≡ Some x → filter test xs ≡ filter test (take i xs) ++ (filter test (x ∷ []) ++ filter test (drop (i + 1) xs))
+kept_split test xs i x at =
+    ap (filter test) (split_at xs i x at)
+    ∙ filter-append test (take i xs) (x ∷ [] ++ drop (i + 1) xs)
+    ∙ ap (λ l. filter test (take i xs) ++ l) (filter-append test (x ∷ []) (drop (i + 1) xs))
+
+pub flat_split : {X Y : Type 0} (g : X → List Y) (xs : List X) (i : ℕ) (x : X) → slice_get xs i ≡ Some x → flat_map g xs ≡ flat_map g (take i xs) ++ (g x ++ flat_map g (drop (i + 1) xs))
+flat_split g xs i x at = ap (flat_map g) (split_at xs i x at) ∙ flat_map-append g (take i xs) (x ∷ [] ++ drop (i + 1) xs)
+
+pub flat_next : {X Y : Type 0} (g : X → List Y) (xs : List X) (i : ℕ) (x : X) → slice_get xs i ≡ Some x → flat_map g (take (i + 1) xs) ≡ flat_map g (take i xs) ++ g x
+flat_next g xs i x at =
+    ap (flat_map g) (taken_next xs i x at)
+    ∙ flat_map-append g (take i xs) (x ∷ [])
+    ∙ ap (λ l. flat_map g (take i xs) ++ l) (append-nil (g x))
+
+pub kept_next : {X Y : Type 0} (g : X → List Y) (test : X → Bool) (xs : List X) (i : ℕ) (x : X) → slice_get xs i ≡ Some x → flat_map g (filter test (take (i + 1) xs)) ≡ flat_map g (filter test (take i xs)) ++ flat_map g (filter test (x ∷ []))
+kept_next g test xs i x at =
+    ap (λ l. flat_map g (filter test l)) (taken_next xs i x at)
+    ∙ ap (flat_map g) (filter-append test (take i xs) (x ∷ []))
+    ∙ flat_map-append g (filter test (take i xs)) (filter test (x ∷ []))
+
+-- what one item becomes, where it passes the test
+pub kept_one : {X Y : Type 0} (g : X → List Y) (test : X → Bool) (x : X) (ys : List Y) → g x ≡ ys → cond (test x) ys [] ≡ flat_map g (filter test (x ∷ []))
+kept_one g test x ys becomes = elim (cases_Bool (test x)) [
+  | inl hit ↦ cond-true (test x) ys [] hit ∙ sym becomes ∙ sym (append-nil (g x)) ∙ sym (ap (flat_map g) (cond-true (test x) (x ∷ []) [] hit))
+  | inr miss ↦ cond-false (test x) ys [] miss ∙ sym (ap (flat_map g) (cond-false (test x) (x ∷ []) [] miss))
+]
+
+pub kept_nothing : {X Y : Type 0} (g : X → List Y) (test : X → Bool) (x : X) → g x ≡ [] → [] ≡ flat_map g (filter test (x ∷ []))
+kept_nothing g test x becomes = elim (cases_Bool (test x)) [
+  | inl hit ↦ sym becomes ∙ sym (append-nil (g x)) ∙ sym (ap (flat_map g) (cond-true (test x) (x ∷ []) [] hit))
+  | inr miss ↦ sym (ap (flat_map g) (cond-false (test x) (x ∷ []) [] miss))
+]

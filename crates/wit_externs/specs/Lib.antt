@@ -1,0 +1,4 @@
+pub mod Held
+pub mod Clash
+pub mod Links
+pub mod Next

@@ -1,0 +1,37 @@
+-- What may be wrong with one more that stands on a side of a scope, behind what stands there.
+use Rattle.std.specs.Prelude.{◌≡◌, ℕ, List, [], ◌∷◌, None, Contains, if◌then◌else◌}
+use Rattle.wit_values.specs.declared.span.Span.{Span}
+use Rattle.wit_tree.specs.declared.tree.WorldSide.{WorldSide}
+use Rattle.wit_tree.specs.declared.tree.WorldSide.TheVariants.{Imported, Exported}
+use Rattle.wit_syntax.specs.Crossing.{same_side}
+use Rattle.wit_syntax.specs.Fault.{Fault, fault}
+use Rattle.wit_syntax.specs.Source.{path_id}
+use Rattle.wit_notes.specs.Names.{Name}
+use Rattle.wit_externs.specs.declared.held.HeldLink.{HeldLink}
+use Rattle.wit_externs.specs.declared.held.HeldExtern.{HeldExtern}
+use Rattle.wit_externs.specs.declared.held.Led.TheVariants as led
+use Rattle.wit_externs.specs.declared.held.HeldExtern.TheVariants as held
+use Rattle.wit_externs.specs.declared.links.Links.{Links}
+use Rattle.wit_externs.specs.Held.{extern_behind}
+use Rattle.wit_externs.specs.Clash.{IsClash}
+use Rattle.wit_externs.specs.Links.{IsWrongLink}
+
+-- the places of the interfaces on a side that have no name of their own
+abbrev pub linked_on : WorldSide → Links → List ℕ
+linked_on Imported l = l.imports.keys
+linked_on Exported l = l.exports.keys
+
+-- what one on a side adds to a side
+abbrev pub only_place : WorldSide → WorldSide → ℕ → List ℕ
+only_place s side id = if same_side s side then id ∷ [] else []
+
+-- an interface is one of these
+pub record IsLinked (ids : List ℕ) (id : ℕ) (span : Span) (f : Fault) : Type 0 where
+  pub among : Contains ids id
+  pub is : f ≡ fault 43 span
+
+-- behind these names of the sides, and these interfaces without a name, one more is wrong
+pub data IsWrongNext (before : WorldSide → List Name) (linked : WorldSide → List ℕ) (h : HeldExtern) (f : Fault) : Type 0 where
+  NextClashes : IsClash before (extern_behind h ∷ []) f → IsWrongNext before linked h f
+  NextLinked : (l : HeldLink) (id : ℕ) → h ≡ held.Link l → l.name ≡ None → l.led ≡ led.Interface id → IsLinked (linked l.side) id (path_id l.path.now).span f → IsWrongNext before linked h f
+  NextWrong : (l : HeldLink) → h ≡ held.Link l → IsWrongLink l f → IsWrongNext before linked h f

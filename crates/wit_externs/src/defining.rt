@@ -1,0 +1,136 @@
+//! Names of what stands on the sides of a scope.
+ghost use Rattle.std.specs.Prelude.{◌≡◌, ◌⊎◌, ◌++◌, ◌∷◌, [], IfErr, IsTrue, OnOk, map};
+ghost use Rattle.wit_names.specs.Mangled.{is_mangled};
+ghost use Rattle.wit_tree.specs.declared.tree.WorldSide.{WorldSide};
+ghost use Rattle.wit_syntax.specs.Broken.{Refused};
+ghost use Rattle.wit_syntax.specs.Repeats.{AllDiffer};
+ghost use Rattle.wit_syntax.specs.Sides.{SideFunction, items_on};
+ghost use Rattle.wit_notes.specs.Names.{IsDefinedAgain, IsTaken};
+ghost use Rattle.wit_rules.specs.Held.{function_behind};
+ghost use Rattle.wit_sides.specs.Sides.{only_on, taken_on};
+ghost use Rattle.wit_signatures.specs.Taken.{name_key, name_of_made, name_of_function};
+ghost use Rattle.wit_externs.specs.Clash.{IsClash, names_of_items, IsCrossed};
+
+use crate::held::HeldExtern;
+use std::alloc::{AllocError, Global};
+use wit_model::Function;
+use wit_notes::refusal::refuse_in;
+use wit_rules::held::HeldFunction;
+use wit_sides::Sides;
+use wit_tree::tree::WorldSide;
+use wit_tree::{ParseResult, Span};
+use wit_types::TypeId;
+use wit_values::TextTable;
+
+/// Whether two sides are one.
+fn is_same_side(a: WorldSide, b: WorldSide) -> bool {
+    match a {
+        WorldSide::Imported => match b {
+            WorldSide::Imported => true,
+            WorldSide::Exported => false,
+        },
+        WorldSide::Exported => match b {
+            WorldSide::Imported => false,
+            WorldSide::Exported => true,
+        },
+    }
+}
+
+/// Whether it is an interface on a side, under this name of its own.
+fn is_link_named(held: &HeldExtern<'_, '_>, side: WorldSide, name: &str) -> bool {
+    match held {
+        HeldExtern::Function(_) => false,
+        HeldExtern::Link(link) => match link.name {
+            Some(id) => is_same_side(link.side, side) && id.name == name,
+            None => false,
+        },
+    }
+}
+
+/// Whether a name on a side is that of a type: a world imports these.
+fn is_type(types: &TextTable<TypeId>, side: WorldSide, name: &str) -> bool {
+    match side {
+        WorldSide::Imported => types.get(name).is_some(),
+        WorldSide::Exported => false,
+    }
+}
+
+/// What stands on a side under a name that is taken there, where `before` is what stands on the sides
+/// behind these types.
+fn sort_of(
+    before: &[HeldExtern<'_, '_>],
+    types: &TextTable<TypeId>,
+    side: WorldSide,
+    name: &str,
+) -> &'static str {
+    if is_type(types, side, name) {
+        return "type";
+    }
+    for held in before {
+        if is_link_named(held, side, name) {
+            return "interface";
+        }
+    }
+    "func"
+}
+
+/// The words for an import or an export that has the name of something on its side.
+fn conflict(alloc: Global, side: WorldSide, name: &str, what: &str) -> Result<String, AllocError> {
+    let word = match side {
+        WorldSide::Imported => "import",
+        WorldSide::Exported => "export",
+    };
+    format!(in alloc; "{word} `{name}` conflicts with prior {what} of same name")
+}
+
+/// Defines the name of an import or an export on its side, behind the others; `before` is what stands
+/// in front of it, `types` the names of the scope.
+///
+/// Refused under E44, at the span, where an earlier name of the side is spelled like it, under E17
+/// where one has its folded key, and for want of memory.
+pub fn define_extern(
+    alloc: Global,
+    before: &[HeldExtern<'_, '_>],
+    types: &TextTable<TypeId>,
+    taken: &mut Sides,
+    side: WorldSide,
+    name: &str,
+    span: Span,
+) -> ParseResult<()>
+    requires { IsTrue (is_mangled name.now) }
+    ensures defined { OnOk result ((s : WorldSide) → taken_on s taken.new ≡ taken_on s taken.old ++ only_on s side (name.now, span)) }
+    ensures free { OnOk result (IsTaken (taken_on side taken.old) name.now → ⊥) }
+    ensures refused { IfErr result (Refused (λ f. IsCrossed (taken_on side taken.old) name.now span f ⊎ IsDefinedAgain (taken_on side taken.old) name.now span f)) }
+{
+    if taken.has(side, name)? {
+        let what = sort_of(before, types, side, name);
+        return Err(refuse_in(44, span, conflict(alloc, side, name, what)));
+    }
+    taken.define(side, name, span)
+}
+
+/// Defines the name of a function on its side; `before` is what stands in front of it, `types` the
+/// names of the scope.
+///
+/// Refused under E44, where it is an import or an export and an earlier name of the side is spelled
+/// like its own, under E17 where one has its folded key, and for want of memory.
+pub fn define_function(
+    alloc: Global,
+    held: HeldFunction<'_, '_>,
+    before: &[HeldExtern<'_, '_>],
+    types: &TextTable<TypeId>,
+    taken: &mut Sides,
+    function: &Function,
+) -> ParseResult<()>
+    requires mangled { IsTrue (is_mangled function.now.name) }
+    requires held { name_of_made function.now ≡ name_of_function (function_behind held) }
+    ensures defined { OnOk result ((s : WorldSide) → taken_on s taken.new ≡ taken_on s taken.old ++ names_of_items (items_on s (SideFunction (function_behind held.entry) ∷ []))) }
+    ensures differ { OnOk result ((s : WorldSide) → AllDiffer (map name_key (taken_on s taken.old)) → AllDiffer (map name_key (taken_on s taken.new))) }
+    ensures refused { IfErr result (Refused (IsClash (λ s. taken_on s taken.old) (SideFunction (function_behind held.entry) ∷ []))) }
+{
+    let name = function.name.as_str();
+    match held.across() {
+        None => taken.define(WorldSide::Imported, name, function.span),
+        Some(side) => define_extern(alloc, before, types, taken, side, name, function.span),
+    }
+}

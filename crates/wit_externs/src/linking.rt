@@ -1,0 +1,91 @@
+//! Interfaces that a world imports or exports by their paths.
+ghost use Rattle.std.specs.Prelude.{◌≡◌, ◌++◌, ◌∷◌, [], IfErr, IfOk, OnOk, map};
+ghost use Rattle.wit_tree.specs.declared.tree.WorldSide.{WorldSide};
+ghost use Rattle.wit_syntax.specs.Broken.{Refused};
+ghost use Rattle.wit_syntax.specs.Fault.{Fault};
+ghost use Rattle.wit_syntax.specs.Notes.{IsBrokenNotes};
+ghost use Rattle.wit_syntax.specs.Repeats.{AllDiffer};
+ghost use Rattle.wit_syntax.specs.Sides.{SideLink, items_on};
+ghost use Rattle.wit_syntax.specs.Source.{path_id as the_path};
+ghost use Rattle.wit_sides.specs.Sides.{taken_on};
+ghost use Rattle.wit_signatures.specs.Taken.{name_key};
+ghost use Rattle.wit_externs.specs.declared.held.Led.TheVariants.{Interface};
+ghost use Rattle.wit_externs.specs.declared.held.HeldExtern.TheVariants.{Link};
+ghost use Rattle.wit_externs.specs.Held.{held_on, link_behind};
+ghost use Rattle.wit_externs.specs.Clash.{names_of_items};
+ghost use Rattle.wit_externs.specs.Links.{IsRightLink, IsWrongLink, bare_places};
+ghost use Rattle.wit_externs.specs.Next.{IsWrongNext, linked_on};
+
+use crate::defining::define_extern;
+use crate::held::{HeldExtern, HeldLink, Led};
+use crate::links::Links;
+use std::alloc::{AllocError, Global};
+use wit_notes::check_notes;
+use wit_notes::refusal::{refuse_in, refuse_missing};
+use wit_sides::Sides;
+use wit_tree::ParseResult;
+use wit_tree::tree::{Id, UsePath};
+use wit_types::TypeId;
+use wit_values::TextTable;
+
+/// The name that a path ends in.
+fn path_id<'a>(path: &UsePath<'a>) -> Id<'a>
+    ensures { result ≡ the_path path.now }
+{
+    match path {
+        UsePath::Id(id) => *id,
+        UsePath::Package { name, .. } => *name,
+    }
+}
+
+/// The words for a path that leads to a world.
+fn world_not_interface(alloc: Global, name: &str) -> Result<String, AllocError> {
+    format!(in alloc; "name `{name}` is defined as a world, not an interface")
+}
+
+/// The place of the interface that a link leads to.
+///
+/// A refusal is E30 to E35, where the attributes of the link break a rule, E7 where its path leads to
+/// no item, E10 where it leads to a world, or want of memory.
+fn check_link(alloc: Global, link: &HeldLink<'_, '_>) -> ParseResult<usize>
+    ensures leads { IfOk result (λ interface. link.now.led ≡ Interface interface) }
+    ensures noted { OnOk result ((f : Fault) → IsBrokenNotes link.now.attributes.now f → ⊥) }
+    ensures refused { IfErr result (Refused (IsWrongLink link.now)) }
+{
+    check_notes(alloc, link.attributes)?;
+    match link.led {
+        Led::Interface(interface) => Ok(interface),
+        Led::World => {
+            let id = path_id(link.path);
+            Err(refuse_in(10, id.span, world_not_interface(alloc, id.name)))
+        }
+        Led::Nothing(id) => Err(refuse_missing(alloc, 7, "interface or world", id)),
+    }
+}
+
+/// Puts an interface on its side: under its name, where it has one of its own, else as itself.
+/// `before` is what stands in front of it, `types` the names of the scope.
+///
+/// A refusal is E30 to E35, E7 or E10 at the link; E44 or E17 at its name, or E43 at its path, where
+/// the side has that already; or want of memory.
+pub fn define_link(
+    alloc: Global,
+    link: &HeldLink<'_, '_>,
+    before: &[HeldExtern<'_, '_>],
+    types: &TextTable<TypeId>,
+    taken: &mut Sides,
+    links: &mut Links,
+) -> ParseResult<()>
+    ensures right { OnOk result (IsRightLink link.now) }
+    ensures defined { OnOk result ((s : WorldSide) → taken_on s taken.new ≡ taken_on s taken.old ++ names_of_items (items_on s (SideLink (link_behind link.now) ∷ []))) }
+    ensures differ { OnOk result ((s : WorldSide) → AllDiffer (map name_key (taken_on s taken.old)) → AllDiffer (map name_key (taken_on s taken.new))) }
+    ensures linked { OnOk result ((s : WorldSide) → linked_on s links.new ≡ linked_on s links.old ++ bare_places (held_on s (Link link.now ∷ []))) }
+    ensures apart { OnOk result ((s : WorldSide) → AllDiffer (linked_on s links.old) → AllDiffer (linked_on s links.new)) }
+    ensures refused { IfErr result (Refused (IsWrongNext (λ s. taken_on s taken.old) (λ s. linked_on s links.old) (Link link.now))) }
+{
+    let interface = check_link(alloc, link)?;
+    match link.name {
+        Some(id) => define_extern(alloc, before, types, taken, link.side, id.name, id.span),
+        None => links.define(alloc, link.side, interface, path_id(link.path).span),
+    }
+}

@@ -1,0 +1,72 @@
+//! Interfaces that stand on the sides of a world by their paths alone.
+ghost use Rattle.std.specs.Prelude.{◌≡◌, ◌++◌, ◌∷◌, [], Contains, IfErr, IfOk, MatchBool, OnOk, OnErr};
+ghost use Rattle.wit_syntax.specs.Broken.{Refused};
+ghost use Rattle.wit_externs.specs.Next.{IsLinked, linked_on, only_place};
+
+use indexmap::IndexSet;
+use std::alloc::{AllocError, Global};
+use wit_notes::refusal::refuse;
+use wit_tree::tree::WorldSide;
+use wit_tree::{ParseResult, Span};
+
+/// The places of the interfaces that a world imports and exports by their paths, without names of
+/// their own, each in source order.
+#[derive(Drop)]
+pub struct Links {
+    imports: IndexSet<usize>,
+    exports: IndexSet<usize>,
+}
+
+/// Puts an interface behind these, where it is none of them; tells whether it was new.
+fn insert(set: &mut IndexSet<usize>, interface: usize) -> Result<bool, AllocError>
+    ensures told { IfOk result (λ new. MatchBool new ((set.new.keys ≡ set.old.keys ++ interface ∷ []) × (Contains set.old.keys interface → ⊥)) (Contains set.old.keys interface)) }
+    ensures unchanged { OnErr result (set.new.keys ≡ set.old.keys) }
+{
+    Ok(set.insert(interface)?)
+}
+
+/// The words for an interface that stands on a side again.
+fn repeated(side: WorldSide) -> &'static str {
+    match side {
+        WorldSide::Imported => "interface cannot be imported more than once",
+        WorldSide::Exported => "interface cannot be exported more than once",
+    }
+}
+
+impl Links {
+    ghost use Rattle.wit_tree.specs.declared.tree.WorldSide.{WorldSide};
+
+    /// No interface on either side.
+    pub fn new(alloc: Global) -> Links
+        ensures { (s : WorldSide) → linked_on s result ≡ [] }
+    {
+        Links {
+            imports: IndexSet::new(alloc),
+            exports: IndexSet::new(alloc),
+        }
+    }
+
+    /// Puts the interface at a place on a side, behind the others.
+    ///
+    /// Refused under E43, at the span, where the side has it, and for want of memory.
+    pub fn define(
+        &mut self,
+        alloc: Global,
+        side: WorldSide,
+        interface: usize,
+        span: Span,
+    ) -> ParseResult<()>
+        ensures defined { OnOk result ((s : WorldSide) → linked_on s self.new ≡ linked_on s self.old ++ only_place s side interface) }
+        ensures free { OnOk result (Contains (linked_on side self.old) interface → ⊥) }
+        ensures refused { IfErr result (Refused (IsLinked (linked_on side self.old) interface span)) }
+    {
+        let new = match side {
+            WorldSide::Imported => insert(&mut self.imports, interface)?,
+            WorldSide::Exported => insert(&mut self.exports, interface)?,
+        };
+        if !new {
+            return Err(refuse(alloc, 43, span, repeated(side)));
+        }
+        Ok(())
+    }
+}

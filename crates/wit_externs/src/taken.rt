@@ -1,0 +1,47 @@
+//! The names of types on the sides of a scope, and the setters of an interface.
+ghost use Rattle.std.specs.Prelude.{◌≡◌, ◌++◌, IfErr, OnOk, map};
+ghost use Rattle.wit_tree.specs.declared.tree.WorldSide.{WorldSide};
+ghost use Rattle.wit_syntax.specs.Repeats.{AllDiffer};
+ghost use Rattle.wit_syntax.specs.Sides.{names_on};
+ghost use Rattle.wit_syntax.specs.Fault.{Fault};
+ghost use Rattle.wit_syntax.specs.Broken.{Refused};
+ghost use Rattle.wit_syntax.specs.Signature.{IsUnpairedSetter};
+ghost use Rattle.wit_rules.specs.Held.{function_behind};
+ghost use Rattle.wit_sides.specs.Sides.{taken_on};
+ghost use Rattle.wit_signatures.specs.Taken.{name_key, name_of_id, name_of_function, IsTwiceAmong};
+
+use wit_notes::NameScope;
+use wit_rules::held::HeldFunction;
+use wit_sides::Sides;
+use wit_tree::ParseResult;
+use wit_tree::tree::{Id, WorldSide};
+
+/// Defines the names of types, one behind the other: a world imports them.
+///
+/// The refusal is E17 at a name whose folded key an earlier one has, or want of memory.
+pub fn define_names(taken: &mut Sides, names: &[Id<'_>]) -> ParseResult<()>
+    ensures defined { OnOk result ((s : WorldSide) → taken_on s taken.new ≡ taken_on s taken.old ++ names_on s (map name_of_id names.now)) }
+    ensures differ { OnOk result ((s : WorldSide) → AllDiffer (map name_key (taken_on s taken.old)) → AllDiffer (map name_key (taken_on s taken.new))) }
+    ensures refused { IfErr result (Refused (IsTwiceAmong (taken.old.imports ++ map name_of_id names.now))) }
+{
+    for name in names {
+        taken.define(WorldSide::Imported, name.name, name.span)?;
+    }
+    Ok(())
+}
+
+/// Refuses a setter of an interface that has no getter of its spelling, where these are its names
+/// and its functions.
+///
+/// The refusal is E18 at such a setter, or want of memory.
+pub fn check_setters(
+    taken: &NameScope,
+    names: &[Id<'_>],
+    functions: &[HeldFunction<'_, '_>],
+) -> ParseResult<()>
+    requires { taken.now ≡ map name_of_id names.now ++ map name_of_function (map function_behind functions.now) }
+    ensures paired { OnOk result ((f : Fault) → IsUnpairedSetter (map function_behind functions.now) f → ⊥) }
+    ensures refused { IfErr result (Refused (IsUnpairedSetter (map function_behind functions.now))) }
+{
+    taken.check_setters()
+}

@@ -1,0 +1,159 @@
+-- Interfaces by their paths: two on a side are one place of the arena just where their paths lead to one scope.
+use Rattle.std.proofs.Common.{◌≡◌, ℕ, zero, suc, ◌+◌, ◌<◌, List, [], ◌∷◌, ◌++◌, length, take, Option, Some, None, inl, inr, refl, sym, ap, ◌∙◌, subst, arith, Contains}
+use Rattle.std.specs.Prelude.{slice_get}
+use Rattle.std.specs.List.{flat_map, take-map}
+use Rattle.std.specs.Option.{option_map, option_map_or}
+use Rattle.std.proofs.lemmas.Bool.{cases_Bool, cond-true, cond-false}
+use Rattle.std.proofs.lemmas.Option.{slice_get-map, slice_get_within}
+use Rattle.wit_tree.specs.declared.tree.Id.{Id}
+use Rattle.wit_tree.specs.declared.tree.WorldSide.{WorldSide}
+use Rattle.wit_syntax.specs.Address.{Address}
+use Rattle.wit_syntax.specs.Fault.{Fault}
+use Rattle.wit_syntax.specs.Repeats.{AllDiffer}
+use Rattle.wit_syntax.specs.Crossing.{same_side}
+use Rattle.wit_syntax.specs.Source.{TopName, path_scope}
+use Rattle.wit_syntax.specs.Sides.{Link, SideItem, SideFunction, SideLink, item_side, items_on, bare_scope, IsLinkedTwice}
+use Rattle.wit_syntax.proofs.Lists.{at_front, at_back, at_take, flat_map_at, flat_map_has, map_at}
+use Rattle.wit_syntax.proofs.Found.{at_contains, contains_at}
+use Rattle.wit_syntax.proofs.Kept.{kept_at}
+use Rattle.wit_externs.specs.Held.{link_behind, extern_behind, externs_behind, held_on}
+use Rattle.wit_externs.specs.Links.{led_places, bare_place, bare_places, AreRightLinks, AreLinksPlaced, IsLinkedAgain}
+use Rattle.wit_externs.specs.declared.held.Led.{Led}
+use Rattle.wit_externs.specs.declared.held.Led.TheVariants as led
+use Rattle.wit_externs.specs.declared.held.HeldLink.{HeldLink}
+use Rattle.wit_externs.specs.declared.held.HeldExtern.{HeldExtern}
+use Rattle.wit_externs.specs.declared.held.HeldExtern.TheVariants as held
+
+-- lists that two items bring, one behind the other, have no common first where all that is brought differs
+differ_back : {X : Type 0} (xs ys : List X) → AllDiffer (xs ++ ys) → AllDiffer ys
+differ_back xs ys d = record {
+  differ = λ i j y at_i at_j. (
+      let same = d.differ (length xs + i) (length xs + j) y (at_back xs ys i y at_i) (at_back xs ys j y at_j) in
+      omega (arith, same));
+}
+
+brought_twice : {X Y : Type 0} (of : X → List Y) (xs : List X) (i j : ℕ) (x z : X) (y : Y) → i < j → slice_get xs i ≡ Some x → slice_get xs j ≡ Some z → slice_get (of x) 0 ≡ Some y → slice_get (of z) 0 ≡ Some y → AllDiffer (flat_map of xs) → ⊥
+brought_twice of [] i j x z y before at_x at_z own other d = let f : ⊥ = cc in f
+brought_twice of (w ∷ ws) i zero x z y before at_x at_z own other d = omega (arith, before)
+brought_twice of (w ∷ ws) zero (suc j) x z y before at_x at_z own other d =
+    let here : w ≡ x = cc in
+    let first : slice_get (of w) 0 ≡ Some y = ap (λ v. slice_get (of v) 0) here ∙ own in
+    let later = flat_map_has of ws j 0 z y at_z other in
+    let lt = slice_get_within (of w) 0 y first in
+    let same = d.differ 0 (length (of w) + later.0) y (at_front (of w) (flat_map of ws) 0 y first) (at_back (of w) (flat_map of ws) later.0 y later.1) in
+    omega (arith, lt, same)
+brought_twice of (w ∷ ws) (suc i) (suc j) x z y before at_x at_z own other d = brought_twice of ws i j x z y (omega (arith, before)) at_x at_z own other (differ_back (of w) (flat_map of ws) d)
+
+-- what is held of a side is what stands there
+held_items : (side : WorldSide) (hs : List HeldExtern) → items_on side (externs_behind hs) ≡ externs_behind (held_on side hs)
+held_items side [] = refl
+held_items side (h ∷ hs) =
+    let test = same_side side (item_side (extern_behind h)) in
+    let rest = items_on side (externs_behind hs) in
+    let own = held_on side hs in
+    elim (cases_Bool test) [
+      | inl hit ↦ cond-true test (extern_behind h ∷ rest) rest hit ∙ ap (λ (l : List SideItem). extern_behind h ∷ l) (held_items side hs) ∙ sym (ap externs_behind (cond-true test (h ∷ own) own hit))
+      | inr miss ↦ cond-false test (extern_behind h ∷ rest) rest miss ∙ held_items side hs ∙ sym (ap externs_behind (cond-false test (h ∷ own) own miss))
+    ]
+
+-- a place of a bare link is that of the interface that it leads to
+bare_leads : (name : Option Id) (to : Led) (m id : ℕ) → slice_get (option_map_or (λ x. []) name (led_places to)) m ≡ Some id → (name ≡ None) × (to ≡ led.Interface id)
+bare_leads (Some x) to m id at = absurd (let f : ⊥ = cc in f)
+bare_leads None (led.Interface p) zero id at = (refl, (let same : p ≡ id = cc in ap led.Interface same))
+bare_leads None (led.Interface p) (suc m) id at = absurd (let f : ⊥ = cc in f)
+bare_leads None led.World m id at = absurd (let f : ⊥ = cc in f)
+bare_leads None (led.Nothing x) m id at = absurd (let f : ⊥ = cc in f)
+
+bare_of : (h : HeldExtern) (m id : ℕ) → slice_get (bare_place h) m ≡ Some id → (l : HeldLink) × (h ≡ held.Link l) × (l.name ≡ None) × (l.led ≡ led.Interface id)
+bare_of (held.Function f) m id at = absurd (let f : ⊥ = cc in f)
+bare_of (held.Link l) m id at =
+    let it = bare_leads l.name l.led m id at in
+    (l, refl, it.0, it.1)
+
+-- a link without a name of its own that leads to an interface has its place
+bare_has : (l : HeldLink) (id : ℕ) → l.name ≡ None → l.led ≡ led.Interface id → slice_get (bare_place (held.Link l)) 0 ≡ Some id
+bare_has l id bare leads = ap (λ (o : Option Id). slice_get (option_map_or (λ x. []) o (led_places l.led)) 0) bare ∙ ap (λ (to : Led). slice_get (led_places to) 0) leads
+
+-- the scope of a bare link is the one that its path leads to
+scope_bare : (name : Option Id) (to s : Address) (m : ℕ) → slice_get (option_map_or (λ x. []) name (to ∷ [])) m ≡ Some s → (name ≡ None) × (to ≡ s)
+scope_bare (Some x) to s m at = absurd (let f : ⊥ = cc in f)
+scope_bare None to s zero at = (refl, (let same : to ≡ s = cc in same))
+scope_bare None to s (suc m) at = absurd (let f : ⊥ = cc in f)
+
+scope_of : (top : List TopName) (x : SideItem) (m : ℕ) (s : Address) → slice_get (bare_scope top x) m ≡ Some s → (link : Link) × (x ≡ SideLink link) × (link.name ≡ None) × (path_scope top link.path ≡ s)
+scope_of top (SideFunction fn) m s at = absurd (let f : ⊥ = cc in f)
+scope_of top (SideLink link) m s at =
+    let it = scope_bare link.name (path_scope top link.path) s m at in
+    (link, refl, it.0, it.1)
+
+scope_has : (top : List TopName) (link : Link) → link.name ≡ None → slice_get (bare_scope top (SideLink link)) 0 ≡ Some (path_scope top link.path)
+scope_has top link bare = ap (λ (o : Option Id). slice_get (option_map_or (λ x. []) o (path_scope top link.path ∷ [])) 0) bare
+
+-- the link that is held where a link stands
+pub link_of : (h : HeldExtern) (link : Link) → extern_behind h ≡ SideLink link → (l : HeldLink) × (h ≡ held.Link l) × (link_behind l ≡ link)
+link_of (held.Function f) link is = absurd (let f : ⊥ = cc in f)
+link_of (held.Link l) link is = (l, refl, (let same : link_behind l ≡ link = cc in same))
+
+-- what stands at a place on a side is held somewhere
+on_held : (side : WorldSide) (hs : List HeldExtern) (k : ℕ) (h : HeldExtern) → slice_get (held_on side hs) k ≡ Some h → (p : ℕ) × (slice_get hs p ≡ Some h)
+on_held side hs k h at =
+    let it = kept_at (λ (x : HeldExtern). same_side side (item_side (extern_behind x))) hs k h at in
+    (it.0, it.1)
+
+module _ (interfaces : List Address) (top : List TopName) (hs : List HeldExtern) (placed : AreLinksPlaced interfaces top hs) where
+  -- where the place of a link is that of an earlier one, their paths lead to one scope
+  pub linked_twice : (f : Fault) → IsLinkedAgain hs f → IsLinkedTwice top (externs_behind hs) f
+  linked_twice f h =
+      let here = held_on h.side hs in
+      let front = take h.place here in
+      let it = at_contains (bare_places front) h.id h.among in
+      let from = flat_map_at bare_place front it.0 h.id it.1 in
+      let own = bare_of from.1 from.3.0 h.id from.3.1 in
+      let l = own.0 in
+      let early : slice_get front from.0 ≡ Some (held.Link l) = from.2 ∙ ap Some own.1 in
+      let there = on_held h.side hs from.0 (held.Link l) (at_take here h.place from.0 (held.Link l) early).0 in
+      let now = on_held h.side hs h.place (held.Link h.link) h.at in
+      let one = placed.called there.0 l h.id there.1 own.3 in
+      let other = placed.called now.0 h.link h.id now.1 h.leads in
+      let same : path_scope top l.path.now ≡ path_scope top h.link.path.now = cc in
+      let stands : slice_get (externs_behind front) from.0 ≡ Some (SideLink (link_behind l)) = slice_get-map extern_behind front from.0 ∙ ap (option_map extern_behind) early in
+      let has = flat_map_has (bare_scope top) (externs_behind front) from.0 0 (SideLink (link_behind l)) (path_scope top h.link.path.now) stands (scope_has top (link_behind l) own.2 ∙ ap Some same) in
+      let items : take h.place (items_on h.side (externs_behind hs)) ≡ externs_behind front = ap (take h.place) (held_items h.side hs) ∙ take-map extern_behind h.place here in
+      record {
+        side = h.side;
+        place = h.place;
+        link = link_behind h.link;
+        at = ap (λ (l : List SideItem). slice_get l h.place) (held_items h.side hs) ∙ slice_get-map extern_behind here h.place ∙ ap (option_map extern_behind) h.at;
+        bare = h.bare;
+        among = subst (λ (l : List SideItem). Contains (flat_map (bare_scope top) l) (path_scope top h.link.path.now)) (sym items) (contains_at (flat_map (bare_scope top) (externs_behind front)) has.0 (path_scope top h.link.path.now) has.1);
+        is = h.is;
+      }
+
+  -- where the places of bare links differ on a side, no two paths lead to one scope
+  pub none_linked : AreRightLinks hs → ((side : WorldSide) → AllDiffer (bare_places (held_on side hs))) → (f : Fault) → IsLinkedTwice top (externs_behind hs) f → ⊥
+  none_linked right apart f h =
+      let here = held_on h.side hs in
+      let items : items_on h.side (externs_behind hs) ≡ externs_behind here = held_items h.side hs in
+      let s = path_scope top h.link.path in
+      let it = at_contains (flat_map (bare_scope top) (take h.place (externs_behind here))) s (subst (λ (l : List SideItem). Contains (flat_map (bare_scope top) (take h.place l)) s) items h.among) in
+      let from = flat_map_at (bare_scope top) (take h.place (externs_behind here)) it.0 s it.1 in
+      let own = scope_of top from.1 from.3.0 s from.3.1 in
+      let early = at_take (externs_behind here) h.place from.0 from.1 from.2 in
+      let first = map_at extern_behind here from.0 from.1 early.0 in
+      let second = map_at extern_behind here h.place (SideLink h.link) (ap (λ (l : List SideItem). slice_get l h.place) (sym items) ∙ h.at) in
+      let a = link_of first.0 own.0 (first.2 ∙ own.1) in
+      let b = link_of second.0 h.link second.2 in
+      let at_a : slice_get here from.0 ≡ Some (held.Link a.0) = first.1 ∙ ap Some a.1 in
+      let at_b : slice_get here h.place ≡ Some (held.Link b.0) = second.1 ∙ ap Some b.1 in
+      let in_a = on_held h.side hs from.0 (held.Link a.0) at_a in
+      let in_b = on_held h.side hs h.place (held.Link b.0) at_b in
+      let right_a = right.each in_a.0 a.0 in_a.1 in
+      let right_b = right.each in_b.0 b.0 in_b.1 in
+      let scope_a : path_scope top a.0.path.now ≡ s = ap (λ (l : Link). path_scope top l.path) a.2 ∙ own.3 in
+      let scope_b : path_scope top b.0.path.now ≡ s = ap (λ (l : Link). path_scope top l.path) b.2 in
+      let same : right_a.place ≡ right_b.place =
+      placed.stands in_a.0 a.0 right_a.place in_a.1 right_a.leads ∙ ap placed.place (scope_a ∙ sym scope_b) ∙ sym (placed.stands in_b.0 b.0 right_b.place in_b.1 right_b.leads)
+      in
+      let bare_a : a.0.name ≡ None = ap (λ (l : Link). l.name) a.2 ∙ own.2 in
+      let bare_b : b.0.name ≡ None = ap (λ (l : Link). l.name) b.2 ∙ h.bare in
+      brought_twice bare_place here from.0 h.place (held.Link a.0) (held.Link b.0) right_b.place early.1 at_a at_b (bare_has a.0 right_a.place bare_a right_a.leads ∙ ap Some same) (bare_has b.0 right_b.place bare_b right_b.leads) (apart h.side)

@@ -1,0 +1,49 @@
+-- What the names and the functions of an item add, and what can be wrong with an item: the same of an interface and of a world.
+use Rattle.std.specs.Prelude.{◌≡◌, List, map, Contains}
+use Rattle.wit_tree.specs.declared.tree.Id.{Id}
+use Rattle.wit_types.specs.declared.types.TypeDef.{TypeDef}
+use Rattle.wit_types.specs.declared.types.TypeOwner.{TypeOwner}
+use Rattle.wit_model.specs.declared.function.Function.{Function}
+use Rattle.wit_syntax.specs.Fault.{Fault, fault, missing_at, item_word}
+use Rattle.wit_syntax.specs.Notes.{IsBrokenStability}
+use Rattle.wit_syntax.specs.Source.{Item, declared_attributes, local_id, path_id, scope_names}
+use Rattle.wit_syntax.specs.Scope.{in_turn}
+use Rattle.wit_syntax.specs.Function.{functions}
+use Rattle.wit_syntax.specs.Sides.{side_items, IsBrokenSides}
+use Rattle.wit_arena.specs.Resolving.{Names, Cell, Required, IsWrongScope}
+use Rattle.wit_arena.specs.Resolved.{AddsScope, AddsBehind, IsWrongHandleNow}
+use Rattle.wit_signatures.specs.Taken.{name_of_function, name_of_made}
+use Rattle.wit_externs.specs.Held.{externs_behind}
+use Rattle.wit_externs.specs.Clash.{DifferOnSides}
+use Rattle.wit_externs.specs.declared.held.Led.TheVariants as led
+use Rattle.wit_externs.specs.declared.held.HeldLink.{HeldLink}
+use Rattle.wit_externs.specs.declared.held.HeldExtern.{HeldExtern}
+use Rattle.wit_externs.specs.declared.held.HeldExtern.TheVariants as held
+use Rattle.wit_scopes.specs.Held.{name_behind}
+use Rattle.wit_scopes.specs.declared.scope_name.ScopeName.{ScopeName as HeldName}
+
+-- these are the names of an item and what it has on its sides
+pub record IsHeldBy (item : Item) (xs : List HeldName) (hs : List HeldExtern) : Type 0 where
+  pub names : scope_names item ≡ map name_behind xs
+  pub sides : side_items item ≡ externs_behind hs
+
+-- the names of an item were added, which are these in turn, and behind them its functions
+pub record AddsBody (old new : List TypeDef) (cs : List Cell) (o : TypeOwner) (item : Item) (types : Names) (ids : List Id) (fs : List Function) (rs : List Required) : Type 0 where
+  pub middle : List TypeDef
+  pub adds : AddsScope old middle cs o (scope_names item) types
+  pub turn : ids ≡ map local_id (in_turn (scope_names item) adds.order)
+  pub behind : AddsBehind middle new item adds.order types fs rs
+  pub named : map name_of_made fs ≡ map name_of_function (functions item)
+  pub differ : DifferOnSides ids (side_items item)
+
+-- what is wrong with an item, by what was resolved before, whichever it is
+pub data IsWrongBody (old : List TypeDef) (cs : List Cell) (by_name : Names) (o : TypeOwner) (item : Item) (f : Fault) : Type 0 where
+  WrongNotes : IsBrokenStability (declared_attributes item.declared) f → IsWrongBody old cs by_name o item f
+  WrongNames : IsWrongScope cs by_name (scope_names item) (functions item) f → IsWrongBody old cs by_name o item f
+  WrongHandles : IsWrongHandleNow old cs o item f → IsWrongBody old cs by_name o item f
+  WrongSides : IsBrokenSides item f → IsWrongBody old cs by_name o item f
+
+-- the path of one of these links leads to a world, or to nothing
+pub data IsLinkLost (hs : List HeldExtern) (f : Fault) : Type 0 where
+  LostAtWorld : (l : HeldLink) → Contains hs (held.Link l) → l.led ≡ led.World → f ≡ fault 10 (path_id l.path.now).span → IsLinkLost hs f
+  LostAtNothing : (l : HeldLink) (id : Id) → Contains hs (held.Link l) → l.led ≡ led.Nothing id → f ≡ missing_at 7 item_word id → IsLinkLost hs f

@@ -1,0 +1,165 @@
+//! What a path of an item leads to that wants an interface.
+ghost use Rattle.std.specs.Prelude.{◌≡◌, List, map, IfOk, IfErr, OnOk};
+ghost use Rattle.std.specs.Option.{option_copied};
+ghost use Rattle.wit_tree.specs.declared.tree.PackageFile.{PackageFile as TheFile};
+ghost use Rattle.wit_syntax.specs.Source.{top_names, path_id as the_path, Local, leads, path_scope};
+ghost use Rattle.wit_syntax.specs.Foreign.{visited, foreign_interfaces};
+ghost use Rattle.wit_syntax.specs.Fault.{fault};
+ghost use Rattle.wit_syntax.specs.Broken.{Refused};
+ghost use Rattle.wit_scopes.specs.Held.{source_behind, IsPlaced};
+ghost use Rattle.wit_items.specs.Items.{AreNamesAt, HasFile, HasPath, AreEntriesOf, item_place as the_item_place, other_place as the_other_place, entry_at, interface_entry, IsReached, IsUsable, IsUnusable};
+
+use std::alloc::{AllocError, Global};
+use wit_files::{FileNames, Found, Target, path_id};
+use wit_model::AstItem as Entry;
+use wit_notes::refusal::{refuse, refuse_missing};
+use wit_scopes::scope_name::Source;
+use wit_tree::tree::{Id, UsePath};
+use wit_tree::{ParseError, ParseResult};
+
+/// What a path of an item leads to that wants an interface.
+#[derive(Clone, Copy)]
+pub enum Reached<'f, 'a> {
+    /// An interface.
+    Interface(Source<'f, 'a>),
+    /// A world.
+    World,
+    /// No item of this name.
+    Nothing(Id<'a>),
+}
+
+/// The place of a declared item that was found.
+fn item_place(found: Option<Found>) -> Option<usize>
+    ensures { result ≡ the_item_place found }
+{
+    match found {
+        Some(Found::Item(place)) => Some(place),
+        Some(Found::Foreign(_)) => None,
+        None => None,
+    }
+}
+
+/// The place of an item of another package that was found.
+fn other_place(found: Option<Found>) -> Option<usize>
+    ensures { result ≡ the_other_place found }
+{
+    match found {
+        Some(Found::Foreign(place)) => Some(place),
+        Some(Found::Item(_)) => None,
+        None => None,
+    }
+}
+
+/// The entry of the item of another package that a path in the file at a place leads to; none where
+/// it leads to none. `entries` are those of other packages' items.
+pub fn entry_of<'e, 'f, 'a>(
+    files: &FileNames<'f, 'a>,
+    entries: &'e [Entry],
+    place: usize,
+    path: &'f UsePath<'a>,
+) -> Option<&'e Entry>
+    requires named { HasFile files.now place }
+    requires entries { AreEntriesOf files.now entries.now }
+    ensures { (fs : List TheFile) (file : TheFile) → AreNamesAt fs files.now place file → option_copied result ≡ entry_at fs (leads (top_names file) path.now) }
+{
+    let found = other_place(files.lookup(place, path))?;
+    entries.get(found)
+}
+
+/// The place of the interface that an entry is; none where there is no entry, or a world's.
+fn interface_place(entry: Option<&Entry>) -> Option<usize>
+    ensures { result ≡ interface_entry (option_copied entry.entry) }
+{
+    match entry {
+        Some(Entry::Interface(id)) => Some(id.index()),
+        Some(Entry::World(_)) => None,
+        None => None,
+    }
+}
+
+/// What a path in the file at a place leads to, where that is a name.
+fn reach_name<'f, 'a>(
+    files: &FileNames<'f, 'a>,
+    place: usize,
+    path: &'f UsePath<'a>,
+    name: Id<'a>,
+) -> Reached<'f, 'a>
+    requires named { HasFile files.now place }
+    requires local { (fs : List TheFile) (file : TheFile) → AreNamesAt fs files.now place file → leads (top_names file) path.now ≡ Local name }
+    ensures { (fs : List TheFile) (file : TheFile) → AreNamesAt fs files.now place file → IsReached fs (top_names file) path.now result }
+{
+    let found = match item_place(files.lookup(place, path)) {
+        Some(found) => found,
+        None => return Reached::Nothing(name),
+    };
+    if files.is_world(found) {
+        return Reached::World;
+    }
+    Reached::Interface(Source::Declared(name))
+}
+
+/// What a path of an item of the file at a place leads to, which wants an interface. `entries` are
+/// those of other packages' items.
+pub fn reach<'f, 'a>(
+    files: &FileNames<'f, 'a>,
+    entries: &[Entry],
+    place: usize,
+    path: &'f UsePath<'a>,
+) -> Reached<'f, 'a>
+    requires path { HasPath files.now place path.now }
+    requires entries { AreEntriesOf files.now entries.now }
+    ensures { (fs : List TheFile) (file : TheFile) → AreNamesAt fs files.now place file → IsReached fs (top_names file) path.now result }
+{
+    match files.target(place, path) {
+        Target::Local(name) => reach_name(files, place, path, name),
+        Target::Foreign { package, name } => {
+            match interface_place(entry_of(files, entries, place, path)) {
+                Some(place) => Reached::Interface(Source::Foreign {
+                    place,
+                    package,
+                    name,
+                }),
+                None => Reached::World,
+            }
+        }
+    }
+}
+
+/// The words for a path that wants an interface and leads to a world.
+fn not_an_interface(alloc: Global, name: &str) -> Result<String, AllocError> {
+    format!(in alloc; "name `{name}` is defined as a world, not an interface")
+}
+
+/// The refusal of a path that wants an interface and leads to a world.
+fn world_used(alloc: Global, path: &UsePath<'_>) -> ParseError
+    ensures { Refused (λ f. f ≡ fault 10 (the_path path.now).span) result }
+{
+    let id = path_id(path);
+    match not_an_interface(alloc, id.name) {
+        Ok(message) => refuse(alloc, 10, id.span, message.as_str()),
+        Err(error) => ParseError::from(error),
+    }
+}
+
+/// The interface that a path of an item of the file at a place leads to; refuses one that leads to
+/// no item (7), or to a world (10). `entries` are those of other packages' items.
+pub fn path_source<'f, 'a>(
+    alloc: Global,
+    files: &FileNames<'f, 'a>,
+    entries: &[Entry],
+    place: usize,
+    path: &'f UsePath<'a>,
+) -> ParseResult<Source<'f, 'a>>
+    requires path { HasPath files.now place path.now }
+    requires entries { AreEntriesOf files.now entries.now }
+    ensures source { IfOk result (λ source. (fs : List TheFile) (file : TheFile) → AreNamesAt fs files.now place file → source_behind source ≡ path_scope (top_names file) path.now) }
+    ensures placed { IfOk result (λ source. (fs : List TheFile) (file : TheFile) → AreNamesAt fs files.now place file → IsPlaced (map visited (foreign_interfaces fs)) source) }
+    ensures usable { OnOk result ((fs : List TheFile) (file : TheFile) → AreNamesAt fs files.now place file → IsUsable fs (top_names file) path.now) }
+    ensures refused { IfErr result (λ e. (fs : List TheFile) (file : TheFile) → AreNamesAt fs files.now place file → Refused (IsUnusable fs (top_names file) path.now) e) }
+{
+    match reach(files, entries, place, path) {
+        Reached::Interface(source) => Ok(source),
+        Reached::World => Err(world_used(alloc, path)),
+        Reached::Nothing(name) => Err(refuse_missing(alloc, 7, "interface or world", name)),
+    }
+}

@@ -1,0 +1,38 @@
+use Rattle.std.proofs.Common.{Contains, List, sym, ap, subst}
+use Rattle.wit_syntax.specs.Crossing.{extern_paths}
+use Rattle.wit_syntax.specs.Sides.{Link}
+use Rattle.wit_syntax.specs.Source.{Crossing, top_names}
+use Rattle.wit_externs.specs.declared.held.HeldExtern.{HeldExtern}
+use Rattle.wit_externs.specs.declared.held.HeldExtern.TheVariants as held
+use Rattle.wit_items.proofs.Usable.{part_path}
+use Rattle.wit_item_entries.specs.Held.{front_of}
+use Rattle.wit_worlds.specs.Links.{AreLed}
+use Rattle.wit_worlds.proofs.Leading.{led_kept, led_link, led_more, links_kept}
+use Rattle.wit_worlds.proofs.externs.add_extern.Goals as goal
+
+pub led-led-requires-clause-path : goal.led-led-requires-clause-path
+led-led-requires-clause-path c = part_path c.args.files.now c.args.place (Crossing c.args.written.now) c.in-Path.path (ap extern_paths c.in-Path.is) c.requires.part
+
+pub led-led-requires-in-NamedPath-clause-path : goal.led-led-requires-in-NamedPath-clause-path
+led-led-requires-in-NamedPath-clause-path c = part_path c.args.files.now c.args.place (Crossing c.args.written.now) c.in-NamedPath.path (ap extern_paths c.in-NamedPath.is) c.requires.part
+
+pub returns-in_ok-push-in-Func-clause-led : goal.returns-in_ok-push-in-Func-clause-led
+returns-in_ok-push-in-Func-clause-led c = λ fs file named are.
+    let old = c.args.externs.now.items in
+    led_kept fs (front_of c.args.interfaces.now.foreign.now) c.args.interfaces.now.by_name (top_names file) old c.push.new.self.items (λ l among. links_kept old _ l (subst (λ (hs : List HeldExtern). Contains hs (held.Link l)) c.in_ok-push-in-Func.ensures.items among)) are
+
+pub returns-in_ok-push-in-Path-clause-led : goal.returns-in_ok-push-in-Path-clause-led
+returns-in_ok-push-in-Path-clause-led c = λ fs file named are.
+    let front = front_of c.args.interfaces.now.foreign.now in
+    let by_name = c.args.interfaces.now.by_name in
+    let top = top_names file in
+    let l = c.held_link.result in
+    subst (AreLed fs front by_name top) (sym c.in_ok-push-in-Path.ensures.items) (led_more fs front by_name top c.args.externs.now.items l are (led_link fs front by_name top l c.in-Path.path c.led-led.result (ap (λ (k : Link). k.path) c.held_link.ensures.behind) c.held_link.ensures.led (c.led-led.ensures fs file named)))
+
+pub returns-in_ok-push-in-NamedPath-clause-led : goal.returns-in_ok-push-in-NamedPath-clause-led
+returns-in_ok-push-in-NamedPath-clause-led c = λ fs file named are.
+    let front = front_of c.args.interfaces.now.foreign.now in
+    let by_name = c.args.interfaces.now.by_name in
+    let top = top_names file in
+    let l = c.held_link-link.result in
+    subst (AreLed fs front by_name top) (sym c.in_ok-push-in-NamedPath.ensures.items) (led_more fs front by_name top c.args.externs.now.items l are (led_link fs front by_name top l c.in-NamedPath.path c.led-led-in-NamedPath.result (ap (λ (k : Link). k.path) c.held_link-link.ensures.behind) c.held_link-link.ensures.led (c.led-led-in-NamedPath.ensures fs file named)))

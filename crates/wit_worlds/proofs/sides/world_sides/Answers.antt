@@ -1,0 +1,26 @@
+use Rattle.std.proofs.Common.{◌≡◌, ◌++◌, map, ap, ◌∙◌}
+use Rattle.wit_tree.specs.declared.tree.Id.{Id}
+use Rattle.wit_tree.specs.declared.tree.WorldSide.TheVariants.{Imported, Exported}
+use Rattle.wit_syntax.specs.Source.{local_id}
+use Rattle.wit_syntax.specs.Scope.{local_names}
+use Rattle.wit_syntax.proofs.Lists.{map_map}
+use Rattle.wit_item_entries.specs.Between.{names_in}
+use Rattle.wit_worlds.specs.Sides.{entries_on}
+use Rattle.wit_worlds.proofs.SideEntries.{right_lead}
+use Rattle.wit_worlds.proofs.SideKeys.{names_of, sides_differ}
+use Rattle.wit_worlds.proofs.sides.world_sides.Goals as goal
+
+pub add_externs-requires-clause-differ : goal.add_externs-requires-clause-differ
+add_externs-requires-clause-differ c =
+    let ids = c.args.turn.now in
+    let types = c.args.types.now in
+    let hs = c.args.externs.now in
+    let own = names_of ids in
+    let listed : names_in types ≡ local_names own.0 = c.requires.listed ∙ ap (map (λ (id : Id). id.name.now)) own.1 ∙ map_map (λ (id : Id). id.name.now) local_id own.0 in
+    sides_differ _ own.0 types ids hs c.args.functions.items own.1 listed (c.in_ok-type_imports.ensures own.0 own.1) c.new.ensures (right_lead hs c.requires.right) c.requires.named c.requires.differ c.requires.apart
+
+pub returns-clause-imports : goal.returns-clause-imports
+returns-clause-imports c = λ xs are. c.in_ok-add_externs.ensures Imported ∙ ap (λ l. l ++ entries_on Imported c.args.externs.now c.args.functions.items) (c.in_ok-type_imports.ensures xs are)
+
+pub returns-clause-exports : goal.returns-clause-exports
+returns-clause-exports c = c.in_ok-add_externs.ensures Exported ∙ ap (λ l. l ++ entries_on Exported c.args.externs.now c.args.functions.items) c.new.ensures

@@ -1,0 +1,163 @@
+//! Includes of worlds.
+ghost use Rattle.std.specs.Prelude.{◌≡◌, ◌≤◌, ◌⊎◌, List, IfErr, IfOk, OnOk, length, map, true};
+ghost use Rattle.std.specs.List.{flat_map};
+ghost use Rattle.std.specs.Option.{option_copied};
+ghost use Rattle.wit_tree.specs.declared.tree.PackageFile.{PackageFile as TheFile};
+ghost use Rattle.wit_syntax.specs.Source.{top_names, leads, TheWorld, Including, world_part, declared_parts, is_declared_world};
+ghost use Rattle.wit_syntax.specs.Scope.{part_includes};
+ghost use Rattle.wit_syntax.specs.Notes.{IsBrokenStability};
+ghost use Rattle.wit_syntax.specs.Fault.{Fault};
+ghost use Rattle.wit_syntax.specs.Broken.{Refused};
+ghost use Rattle.wit_arena.specs.Whole.{renamed, IsInclude, AreIncludes};
+ghost use Rattle.wit_arena.specs.Resolving.{IsWorldIndex, IsLostInclude};
+ghost use Rattle.wit_arena.specs.Resolved.{worlds_at, IsBrokenItemStability};
+ghost use Rattle.wit_items.specs.Items.{declared_behind, AreNamesAt, HasFile, HasItem, HasPart, AreEntriesOf, others_of, world_entry, world_at};
+ghost use Rattle.wit_item_entries.specs.Between.{AreStable};
+ghost use Rattle.wit_worlds.specs.Between.{IsLost};
+
+use crate::world::Worlds;
+use std::alloc::{AllocError, Global};
+use wit_files::declaration::world_items;
+use wit_files::{FileNames, Target, path_id};
+use wit_items::items::Declared;
+use wit_items::reached::entry_of;
+use wit_model::{AstItem as Entry, IncludeName, WorldInclude};
+use wit_notes::refusal::refuse;
+use wit_notes::stability;
+use wit_tree::ParseResult;
+use wit_tree::tree::{self, UsePath};
+use wit_types::WorldId;
+use wit_values::{Row, Text};
+
+/// What an include renames.
+fn renames(alloc: Global, names: &[tree::IncludeName<'_>]) -> Result<Row<IncludeName>, AllocError>
+    ensures { IfOk result (λ renames. renames ≡ map renamed names.now) }
+{
+    let mut renames = Vec::with_capacity(alloc, names.len())?;
+    for name in names {
+        renames.push(IncludeName {
+            name: Text::from_str(alloc, name.name.name)?,
+            as_: Text::from_str(alloc, name.as_.name)?,
+        })?;
+    }
+    Ok(Row::from(renames))
+}
+
+/// The words for an include of an interface.
+fn not_a_world(alloc: Global, name: &str) -> Result<String, AllocError> {
+    format!(in alloc; "name `{name}` is defined as an interface, not a world")
+}
+
+/// The world that an entry is; none where there is no entry, or an interface's.
+fn world_of(entry: Option<&Entry>) -> Option<WorldId>
+    ensures { result ≡ world_entry (option_copied entry.entry) }
+{
+    match entry {
+        Some(Entry::World(id)) => Some(*id),
+        Some(Entry::Interface(_)) => None,
+        None => None,
+    }
+}
+
+/// The world that a path in the file at a place leads to; none where that is no world.
+fn included_world<'f, 'a>(
+    files: &FileNames<'f, 'a>,
+    worlds: &Worlds<'_>,
+    place: usize,
+    path: &'f UsePath<'a>,
+) -> Option<WorldId>
+    requires named { HasFile files.now place }
+    requires entries { AreEntriesOf files.now worlds.now.entries.now }
+    ensures { (fs : List TheFile) (file : TheFile) → AreNamesAt fs files.now place file → result ≡ world_at fs worlds.now.by_name (leads (top_names file) path.now) }
+{
+    match files.target(place, path) {
+        Target::Local(id) => match worlds.by_name.get(id.name) {
+            Some(id) => Some(*id),
+            None => None,
+        },
+        Target::Foreign { .. } => world_of(entry_of(files, worlds.entries, place, path)),
+    }
+}
+
+/// An include in the file at a place; refuses attributes that break a rule of stability, and then an
+/// include of an interface.
+fn resolve_include<'f, 'a>(
+    alloc: Global,
+    files: &FileNames<'f, 'a>,
+    place: usize,
+    worlds: &Worlds<'_>,
+    include: &'f tree::Include<'a>,
+) -> ParseResult<WorldInclude>
+    requires part { HasPart files.now place (Including include.now) }
+    requires entries { AreEntriesOf files.now worlds.now.entries.now }
+    requires front { length (others_of files.now) ≤ length worlds.now.arena }
+    requires index { IsWorldIndex (worlds_at (others_of files.now) worlds.now.arena) worlds.now.by_name }
+    ensures is { IfOk result (λ i. (fs : List TheFile) (file : TheFile) → AreNamesAt fs files.now place file → IsInclude (worlds_at (others_of files.now) worlds.now.arena) (top_names file) include.now i) }
+    ensures stable { OnOk result ((f : Fault) → IsBrokenStability include.now.attributes.items f → ⊥) }
+    ensures refused { IfErr result (λ e. (fs : List TheFile) (file : TheFile) → AreNamesAt fs files.now place file → Refused (λ f. IsBrokenStability include.now.attributes.items f ⊎ IsLost fs worlds.now.by_name (top_names file) include.now f) e) }
+{
+    let stability = stability(alloc, &include.attributes)?;
+    let path = path_id(&include.from);
+    let id = match included_world(files, worlds, place, &include.from) {
+        Some(id) => id,
+        None => {
+            let message = not_a_world(alloc, path.name)?;
+            return Err(refuse(alloc, 11, path.span, message.as_str()));
+        }
+    };
+    Ok(WorldInclude {
+        stability,
+        id,
+        names: renames(alloc, &include.names)?,
+        span: path.span,
+    })
+}
+
+/// The includes of a world.
+fn resolve_includes<'f, 'a>(
+    alloc: Global,
+    world: &'f tree::World<'a>,
+    files: &FileNames<'f, 'a>,
+    worlds: &Worlds<'_>,
+    place: usize,
+) -> ParseResult<Row<WorldInclude>>
+    requires item { HasItem files.now place (TheWorld world.now) }
+    requires entries { AreEntriesOf files.now worlds.now.entries.now }
+    requires front { length (others_of files.now) ≤ length worlds.now.arena }
+    requires index { IsWorldIndex (worlds_at (others_of files.now) worlds.now.arena) worlds.now.by_name }
+    ensures are { IfOk result (λ includes. (fs : List TheFile) (file : TheFile) → AreNamesAt fs files.now place file → AreIncludes (worlds_at (others_of files.now) worlds.now.arena) (record { top = top_names file; declared = TheWorld world.now }) includes) }
+    ensures stable { OnOk result (AreStable (flat_map part_includes (map world_part world.now.items.items))) }
+    ensures refused { IfErr result (λ e. (fs : List TheFile) (file : TheFile) → AreNamesAt fs files.now place file → Refused (λ f. IsBrokenItemStability (record { top = top_names file; declared = TheWorld world.now }) f ⊎ IsLostInclude fs worlds.now.by_name (record { top = top_names file; declared = TheWorld world.now }) f) e) }
+{
+    let mut includes = Vec::new(alloc);
+    for part in world_items(world) {
+        if let tree::WorldItem::Include(include) = part {
+            let include = resolve_include(alloc, files, place, worlds, include)?;
+            includes.push(include)?;
+        }
+    }
+    Ok(Row::from(includes))
+}
+
+/// The includes of a declared world.
+pub(crate) fn declared_includes<'f, 'a>(
+    alloc: Global,
+    declared: Declared<'f, 'a>,
+    files: &FileNames<'f, 'a>,
+    worlds: &Worlds<'_>,
+    place: usize,
+) -> ParseResult<Row<WorldInclude>>
+    requires sort { is_declared_world (declared_behind declared) ≡ true }
+    requires item { HasItem files.now place (declared_behind declared) }
+    requires entries { AreEntriesOf files.now worlds.now.entries.now }
+    requires front { length (others_of files.now) ≤ length worlds.now.arena }
+    requires index { IsWorldIndex (worlds_at (others_of files.now) worlds.now.arena) worlds.now.by_name }
+    ensures are { IfOk result (λ includes. (fs : List TheFile) (file : TheFile) → AreNamesAt fs files.now place file → AreIncludes (worlds_at (others_of files.now) worlds.now.arena) (record { top = top_names file; declared = declared_behind declared.entry }) includes) }
+    ensures stable { OnOk result (AreStable (flat_map part_includes (declared_parts (declared_behind declared.entry)))) }
+    ensures refused { IfErr result (λ e. (fs : List TheFile) (file : TheFile) → AreNamesAt fs files.now place file → Refused (λ f. IsBrokenItemStability (record { top = top_names file; declared = declared_behind declared.entry }) f ⊎ IsLostInclude fs worlds.now.by_name (record { top = top_names file; declared = declared_behind declared.entry }) f) e) }
+{
+    match declared {
+        Declared::World(world) => resolve_includes(alloc, world, files, worlds, place),
+        Declared::Interface(_) => unreachable!(),
+    }
+}
