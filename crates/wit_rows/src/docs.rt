@@ -1,7 +1,7 @@
 //! The view `docs`: the docs of a package and of what it holds.
 
 use std::alloc::AllocError;
-use wit_model::{Interface, UnresolvedPackage, World, WorldItem};
+use wit_model::{Interface, UnresolvedPackage, World, WorldItem, WorldKey};
 use wit_types::{Docs, TypeDefKind};
 
 /// Puts a name and its docs behind a text, as a line; an LF is written `|`.
@@ -11,8 +11,13 @@ fn push_docs(text: &mut String, name: &str, docs: &Docs) -> Result<(), AllocErro
     };
     text.push_str("\n")?;
     text.push_str(name)?;
+    push_lines(text, contents.as_str())
+}
+
+/// Puts the lines of docs behind a text.
+fn push_lines(text: &mut String, contents: &str) -> Result<(), AllocError> {
     text.push_str(":")?;
-    for line in contents.as_str().split('\n') {
+    for line in contents.split('\n') {
         text.push_str(line)?;
         text.push_str("|")?;
     }
@@ -58,25 +63,44 @@ fn push_interface(text: &mut String, interface: &Interface) -> Result<(), AllocE
     Ok(())
 }
 
-/// Puts the docs of an item of a side of a world behind a text, if it is a function.
-fn push_item(text: &mut String, item: &WorldItem) -> Result<(), AllocError> {
-    if let WorldItem::Function(function) = item {
-        push_docs(text, function.name.as_str(), &function.docs)?;
+/// Puts a key of a world behind a text, on a line of its own.
+pub fn push_key(text: &mut String, key: &WorldKey) -> Result<(), AllocError> {
+    text.push_str("\n")?;
+    match key {
+        WorldKey::Name(name) => text.push_str(name.as_str()),
+        WorldKey::Interface(id) => write!(text, "interface-{}", id.index()),
     }
-    Ok(())
 }
 
-/// Puts the docs of a world and of its functions behind a text.
+/// Puts a key of a world and the docs of what it has by this key behind a text, as a line.
+fn push_key_docs(text: &mut String, key: &WorldKey, docs: &Docs) -> Result<(), AllocError> {
+    let Some(contents) = &docs.contents else {
+        return Ok(());
+    };
+    push_key(text, key)?;
+    push_lines(text, contents.as_str())
+}
+
+/// Puts the docs of what a world has by this key behind a text, if it is a function or an interface.
+fn push_item(text: &mut String, key: &WorldKey, item: &WorldItem) -> Result<(), AllocError> {
+    match item {
+        WorldItem::Function(function) => push_key_docs(text, key, &function.docs),
+        WorldItem::Interface { docs, .. } => push_key_docs(text, key, docs),
+        WorldItem::Type_ { .. } => Ok(()),
+    }
+}
+
+/// Puts the docs of a world, of its functions, and of interfaces that it imports and exports behind a text.
 fn push_world(text: &mut String, world: &World) -> Result<(), AllocError> {
     push_docs(text, world.name.as_str(), &world.docs)?;
     for place in 0..world.imports.len() {
-        if let Some((_, item)) = world.imports.get_index(place) {
-            push_item(text, item)?;
+        if let Some((key, item)) = world.imports.get_index(place) {
+            push_item(text, key, item)?;
         }
     }
     for place in 0..world.exports.len() {
-        if let Some((_, item)) = world.exports.get_index(place) {
-            push_item(text, item)?;
+        if let Some((key, item)) = world.exports.get_index(place) {
+            push_item(text, key, item)?;
         }
     }
     Ok(())

@@ -2,6 +2,7 @@
 //! `@unstable(feature = id-..)` of a read tree is made such a name here, before any view of a package
 //! but `listing`.
 
+use crate::docs::push_key;
 use std::alloc::AllocError;
 use wit_model::{UnresolvedPackage, World, WorldItem, WorldKey};
 use wit_tree::tree::{
@@ -110,15 +111,26 @@ fn push_id(text: &mut String, name: &str, id: &Option<Text>) -> Result<(), Alloc
     Ok(())
 }
 
-/// Puts the external id of what a world has by this key behind a text, if it is a function by a name.
-fn push_item_id(text: &mut String, key: &WorldKey, item: &WorldItem) -> Result<(), AllocError> {
-    if let (WorldKey::Name(name), WorldItem::Function(function)) = (key, item) {
-        push_id(text, name.as_str(), &function.external_id)?;
+/// Puts a key of a world and the external id of what it has by this key behind a text, as a line.
+fn push_key_id(text: &mut String, key: &WorldKey, id: &Option<Text>) -> Result<(), AllocError> {
+    if let Some(id) = id {
+        push_key(text, key)?;
+        text.push_str(" ")?;
+        text.push_str(id.as_str())?;
     }
     Ok(())
 }
 
-/// Puts the external ids of a world's functions behind a text.
+/// Puts the external id of what a world has by this key behind a text, if it is a function or an interface.
+fn push_item_id(text: &mut String, key: &WorldKey, item: &WorldItem) -> Result<(), AllocError> {
+    match item {
+        WorldItem::Function(function) => push_key_id(text, key, &function.external_id),
+        WorldItem::Interface { external_id, .. } => push_key_id(text, key, external_id),
+        WorldItem::Type_ { .. } => Ok(()),
+    }
+}
+
+/// Puts the external ids of what a world imports and exports behind a text.
 fn push_world_ids(text: &mut String, world: &World) -> Result<(), AllocError> {
     for place in 0..world.imports.len() {
         if let Some((key, item)) = world.imports.get_index(place) {

@@ -24,7 +24,7 @@ use std::fs;
 use std::process::ExitCode;
 
 /// The files of rows.
-const FILES: [&str; 20] = [
+const FILES: [&str; 21] = [
     "listings.rows",
     "refusals.rows",
     "files.rows",
@@ -45,6 +45,7 @@ const FILES: [&str; 20] = [
     "made_parts.rows",
     "edges.rows",
     "worlds.rows",
+    "paths.rows",
 ];
 
 /// Replays each file, and tells how many cases it has; ends with 0 if each is answered as it says.
