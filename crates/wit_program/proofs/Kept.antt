@@ -34,11 +34,9 @@ written_kept told IsText a b c (Err Memory) w q = keeps_then a b c w q
 
 pub answered_kept : (text : List ℕ) (a b c : Option (List ℕ)) (result : Result Bool RunFault) → IsAnswered text a b result → Keeps b c → IsAnswered text a c result
 answered_kept text a b c result (Ran on) q = Ran (record {
-  source = on.source;
-  is = on.is;
+  sources = on.sources;
+  are = on.are;
   ran = record {
-    source = on.ran.source;
-    first = on.ran.first;
     resolved = on.ran.resolved;
     comes_to = on.ran.comes_to;
     written = written_kept _ _ a b c result on.ran.written q;

@@ -5,16 +5,14 @@ use std::alloc::Global;
 use std::io::Write;
 use wit_listing::{RunFault, error_line};
 use wit_text::SourceMap;
-use wit_tool::run;
+use wit_tool::{bundle, run};
 
-/// The path of standard input in refusals.
-const PATH: &str = "stdin.wit";
-
-/// Writes the listing of the package that a text makes, or the line of its refusal, and answers
-/// whether it was a listing.
+/// Writes the listing of the package that the sources of a text make, or the line of the refusal, and
+/// answers whether it was a listing.
 ///
-/// The text is the source `stdin.wit`. Where it is too large for a source, the refusal has the
-/// number 52.
+/// A line that begins with `=== ` starts a source, whose path is the rest of that line. What stands in
+/// front of the first such line is the source `stdin.wit`, if it is not empty. Where the sources are too
+/// large, the refusal has the number 52.
 ///
 /// # Errors
 ///
@@ -23,14 +21,13 @@ const PATH: &str = "stdin.wit";
 pub fn answer_text<W: Write>(alloc: Global, text: &str, out: &mut W) -> Result<bool, RunFault>
     ensures { IsAnswered text.now (W.contents out.old) (W.contents out.new) result }
 {
-    let mut map = SourceMap::new(alloc);
-    match map.push(alloc, PATH, text) {
-        Ok(()) => run(alloc, &map, out),
+    match bundle(alloc, text) {
+        Ok(map) => run(alloc, &map, out),
         Err(fault) => {
             if fault.rule() != 52 {
                 return Err(RunFault::Memory);
             }
-            error_line(alloc, &map, &fault, out)?;
+            error_line(alloc, &SourceMap::new(alloc), &fault, out)?;
             Ok(false)
         }
     }

@@ -3,8 +3,9 @@
 //! Lines before the first case are comments. A case begins with a line `--- NAME VIEW`. Behind it stand
 //! sources, a line `=>`, and what the view writes of them, to the last LF. A line `=== PATH` stands
 //! before each source; where there is none, the text is the source `stdin.wit`. The LF at the end of a
-//! source's last line is none of its bytes. Where `\` ends the name, what `crate::escapes` tells is
-//! written for other letters.
+//! source's last line is none of its bytes. For the views `input` and `sources` a text stands there, as
+//! the program has it from standard input; the LF in front of `=>` is none of its bytes. Where `\` ends the
+//! name, what `crate::escapes` tells is written for other letters.
 
 use crate::escapes::unescape;
 use std::alloc::{AllocError, Global};

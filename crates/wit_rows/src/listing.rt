@@ -1,5 +1,5 @@
-//! The views `listing` and `marked`: the listing of a package, or the line of its refusal; of one source
-//! as it is run, or once its tree has external ids.
+//! The views `listing` and `input`, of sources as they are run, and `marked`, of sources whose trees have
+//! external ids: the listing of the package, or the line of its refusal.
 
 use crate::sources::resolved;
 use anyhow::Result;
@@ -19,18 +19,15 @@ fn told(alloc: Global, listed: bool, out: &[u8]) -> Result<String> {
     Ok(text)
 }
 
-/// The listing of the package of several sources, or the line of its refusal.
+/// The listing of the package of trees that have external ids, or the line of its refusal.
 pub fn answered(alloc: Global, map: &SourceMap) -> Result<String> {
     let mut out: Vec<u8> = Vec::new(alloc);
     let listed = answer(alloc, map, &resolved(alloc, map), &mut out).map_err(io::Error::from)?;
     told(alloc, listed, out.as_slice())
 }
 
-/// The listing of the package of a map, whose one source is run, or the line of its refusal.
+/// The listing of the package of a map, which is run, or the line of its refusal.
 pub fn listing(alloc: Global, map: &SourceMap) -> Result<String> {
-    if map.sources().len() != 1 {
-        return answered(alloc, map);
-    }
     let mut out: Vec<u8> = Vec::new(alloc);
     let listed = run(alloc, map, &mut out).map_err(io::Error::from)?;
     told(alloc, listed, out.as_slice())

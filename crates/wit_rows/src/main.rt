@@ -24,10 +24,11 @@ use std::fs;
 use std::process::ExitCode;
 
 /// The files of rows.
-const FILES: [&str; 21] = [
+const FILES: [&str; 22] = [
     "listings.rows",
     "refusals.rows",
     "files.rows",
+    "inputs.rows",
     "attributes.rows",
     "docs.rows",
     "external_ids.rows",

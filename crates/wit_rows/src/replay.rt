@@ -1,15 +1,16 @@
 //! Replays the cases of a file, and tells those that differ.
 
 use crate::cases::{CASE, Case, read_case};
-use crate::sources::map_of;
+use crate::sources::map_for;
 use crate::views::view;
 use anyhow::{Result, bail};
 use std::alloc::Global;
 
 /// What the view of a case writes of its sources.
 fn found(alloc: Global, case: &Case) -> Result<String> {
-    match map_of(alloc, case.sources.as_str()) {
-        Ok(map) => view(alloc, case.view.as_str(), &map),
+    let name = case.view.as_str();
+    match map_for(alloc, name, case.sources.as_str()) {
+        Ok(map) => view(alloc, name, &map),
         Err(fault) => bail!("{fault}"),
     }
 }

@@ -1,13 +1,23 @@
-//! The sources of a case, and the package that they make.
+//! The sources of a case, and the package that they make; and the view `sources`, which tells of each
+//! source its place, its path and its text, with `|` behind it.
 
 use crate::external_ids::mark_file;
-use std::alloc::Global;
+use std::alloc::{AllocError, Global};
 use wit_parser::{Resolver, UnresolvedPackage};
 use wit_text::{SourceMap, read_file};
+use wit_tool::bundle;
 use wit_tree::ParseResult;
 
 /// The path of a source that has none.
 const PATH: &str = "stdin.wit";
+
+/// The map that a view goes over: of a text as the program splits it, or of the sources of the case.
+pub fn map_for(alloc: Global, view: &str, sources: &str) -> ParseResult<SourceMap> {
+    match view {
+        "input" | "sources" => bundle(alloc, sources),
+        _ => map_of(alloc, sources),
+    }
+}
 
 /// The map of some sources.
 pub fn map_of(alloc: Global, sources: &str) -> ParseResult<SourceMap> {
@@ -33,4 +43,14 @@ pub fn resolved(alloc: Global, map: &SourceMap) -> ParseResult<UnresolvedPackage
         resolver.push(alloc, file)?;
     }
     resolver.resolve(alloc)
+}
+
+/// The place, the path and the text of each source of a map.
+pub fn sources_view(alloc: Global, map: &SourceMap) -> Result<String, AllocError> {
+    let mut text = String::new(alloc);
+    for source in map.sources() {
+        let (path, contents) = (source.path.as_str(), source.contents.as_str());
+        write!(text, "{} {path}\n{contents}|\n", source.offset)?;
+    }
+    Ok(text)
 }

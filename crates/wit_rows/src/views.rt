@@ -9,7 +9,7 @@ use crate::layouts::push_layouts;
 use crate::listing::{answered, listing, push_line};
 use crate::parts::push_parts;
 use crate::reading::read_view;
-use crate::sources::resolved;
+use crate::sources::{resolved, sources_view};
 use crate::spans::{push_required, push_spans};
 use crate::trees::tree_view;
 use anyhow::{Result, bail};
@@ -68,7 +68,8 @@ fn package_view(
 /// What the view of this name writes.
 pub fn view(alloc: Global, name: &str, map: &SourceMap) -> Result<String> {
     match name {
-        "listing" => listing(alloc, map),
+        "listing" | "input" => listing(alloc, map),
+        "sources" => Ok(sources_view(alloc, map)?),
         "marked" => answered(alloc, map),
         "cuts" => cuts_view(alloc, map),
         "read" => Ok(read_view(alloc, map)?),

@@ -1,7 +1,9 @@
-//! From a source to the listing of its package, or the line of a refusal.
+//! From the sources of a package to its listing, or the line of a refusal. What `wit_bundle` and
+//! `wit_listing` make is given again.
 #![tactic(auto)]
 
 pub mod running;
 
 pub use running::run;
+pub use wit_bundle::bundle;
 pub use wit_listing::{RunFault, answer, error_line, listing};

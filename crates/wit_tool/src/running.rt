@@ -1,30 +1,52 @@
-//! From a source to what is written of it.
-ghost use Rattle.std.specs.Prelude.{◌≡◌, length};
-ghost use Rattle.wit_tool.specs.Run.{IsResolved, IsRun};
+//! From sources to what is written of them.
+ghost use Rattle.std.specs.Prelude.{IfErr, IfOk, map, string_bytes};
+ghost use Rattle.wit_lex.specs.Faults.{IsRefusal};
+ghost use Rattle.wit_tool.specs.Run.{AreRefused, AreTrees, IsResolved, IsRun, IsTree};
 
 use std::alloc::Global;
 use std::io::Write;
+use wit_bundle::by_path;
 use wit_listing::answers::answer;
 use wit_listing::fault::RunFault;
 use wit_model::UnresolvedPackage;
 use wit_parser::Resolver;
 use wit_text::{Source, SourceMap, read_file};
 use wit_tree::ParseResult;
+use wit_tree::tree::PackageFile;
 
-/// The package that a source makes by itself.
-fn resolve_source(alloc: Global, source: &Source) -> ParseResult<UnresolvedPackage>
-    ensures { IsResolved source.now result }
+/// The tree of a source.
+fn read_source<'a>(alloc: Global, source: &'a Source) -> ParseResult<PackageFile<'a>>
+    ensures tree { IfOk result (IsTree source.now) }
+    ensures unread { IfErr result (IsRefusal (string_bytes source.now.contents) source.now.offset) }
 {
-    let file = read_file(alloc, source.contents.as_str(), source.offset)?;
+    read_file(alloc, source.contents.as_str(), source.offset)
+}
+
+/// A resolver with the trees of sources, one behind the other.
+fn push_all<'a>(alloc: Global, turn: &[&'a Source]) -> ParseResult<Resolver<'a>>
+    ensures trees { IfOk result (λ resolver. AreTrees (map (λ s. s.now) turn.now) resolver.files.items) }
+    ensures refused { IfErr result (AreRefused (map (λ s. s.now) turn.now)) }
+{
     let mut resolver = Resolver::new(alloc);
-    resolver.push(alloc, file)?;
+    for source in turn {
+        let file = read_source(alloc, source)?;
+        resolver.push(alloc, file)?;
+    }
+    Ok(resolver)
+}
+
+/// The package that sources make, which are taken by path.
+fn resolve_sources(alloc: Global, sources: &[Source]) -> ParseResult<UnresolvedPackage>
+    ensures { IsResolved sources.now result }
+{
+    let turn = by_path(alloc, sources)?;
+    let resolver = push_all(alloc, &turn)?;
     resolver.resolve(alloc)
 }
 
-/// Reads the map's source, resolves it and writes the listing of the package that it makes, or the
-/// line of its refusal. Answers whether it was a listing.
-///
-/// The map holds one source.
+/// Reads the map's sources, by path, byte by byte, those of one path as they were pushed; resolves
+/// them as one package and writes the listing of it, or the line of the refusal. Answers whether it
+/// was a listing.
 ///
 /// # Errors
 ///
@@ -32,9 +54,8 @@ fn resolve_source(alloc: Global, source: &Source) -> ParseResult<UnresolvedPacka
 /// - `Memory`: a growth was refused while the text was made. Nothing went out. Where memory was
 ///   wanted in reading or resolving, that is a refusal, and its line is written.
 pub fn run<W: Write>(alloc: Global, map: &SourceMap, out: &mut W) -> Result<bool, RunFault>
-    requires one { length map.now.sources.items ≡ 1 }
     ensures { IsRun map.now.sources.items (W.contents out.old) (W.contents out.new) result }
 {
-    let resolved = resolve_source(alloc, &map.sources()[0]);
+    let resolved = resolve_sources(alloc, map.sources());
     answer(alloc, map, &resolved, out)
 }

@@ -1,13 +1,12 @@
-//! Large packages.
+//! Large packages, of one source and of many.
 
 use std::alloc::{AllocError, Global};
 use std::process::Abort;
 use std::str;
 use std::test::Fail;
-use wit_text::SourceMap;
-use wit_tool::run;
+use wit_tool::{bundle, run};
 
-/// Sources and what is written of them, a line `=>` in each case, and an empty line between two.
+/// Texts and what is written of their sources, a line `=>` in each case, and an empty line between two.
 /// `|N*PIECE|` stands for N times the piece. `$` in a piece is the number of the time, from 0 on, `^`
 /// the next number, and `~` how many times come after it.
 const LARGE: &str = r#"package foo:foo; interface i { type t = |99*list<|u8|99*>|; }
@@ -60,6 +59,24 @@ types 2000
 i0 i
 |2000*  d~ = type #$
 |worlds 0
+foreign 0
+
+|10*=== c$.wit
+interface c$ {}
+||10*=== b$.wit
+interface b$ {}
+||10*=== a$.wit
+interface a$ {}
+|=== d.wit
+package foo:foo;
+=>
+package foo:foo
+types 0
+interfaces 30
+|10*i$ a$
+||10*i1$ b$
+||10*i2$ c$
+|worlds 0
 foreign 0"#;
 
 /// Puts a piece of a table behind a text, so many times.
@@ -89,13 +106,12 @@ fn unfold(alloc: Global, table: &str) -> Result<String, Fail> {
     Ok(text)
 }
 
-/// Checks what is written of a source.
+/// Checks what is written of a text.
 fn check(rt: &impl Abort, alloc: Global, case: &str) -> Result<(), Fail> {
-    let Some((source, written)) = case.split_once("\n=>\n") else {
+    let Some((text, written)) = case.split_once("\n=>\n") else {
         rt.panic("a case has no line `=>`")
     };
-    let mut map = SourceMap::new(alloc);
-    map.push(alloc, "stdin.wit", source)?;
+    let map = bundle(alloc, text)?;
     let mut out: Vec<u8> = Vec::new(alloc);
     let listed = run(alloc, &map, &mut out)?;
     let found = str::from_utf8(out.as_slice())?;

@@ -1,0 +1,4 @@
+pub mod Laying
+pub mod Lines
+pub mod Splitting
+pub mod Turning

@@ -1,0 +1,15 @@
+use Rattle.std.proofs.Common.{◌<◌, arith}
+use Rattle.wit_bundle.proofs.Splitting.{found_is, found_front, found_none}
+use Rattle.wit_bundle.proofs.parts.front_of.Goals as goal
+
+pub returns-in-Some-split_once-clause-parts : goal.returns-in-Some-split_once-clause-parts
+returns-in-Some-split_once-clause-parts c =
+    let cut = c.in-Some-split_once.ensures.cases in
+    found_front c.args.text.now c.in-Some-split_once.front.now c.in-Some-split_once.behind.now c.through.result.now
+    (found_is c.args.text.now c.in-Some-split_once.front.now c.in-Some-split_once.behind.now cut.0 cut.1 cut.2.1 cut.3 cut.4)
+    (λ i lt. cut.2.0 i (omega (arith, cut.6)))
+    c.in_default.ensures.cases
+    c.through.ensures
+
+pub returns-in-None-clause-parts : goal.returns-in-None-clause-parts
+returns-in-None-clause-parts c = found_none c.args.text.now c.in-None.ensures.cases c.in_default.ensures.cases

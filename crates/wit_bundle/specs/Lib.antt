@@ -1,0 +1,4 @@
+pub mod Bundle
+pub mod Laid
+pub mod Parts
+pub mod Paths

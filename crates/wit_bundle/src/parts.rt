@@ -1,0 +1,56 @@
+//! A text in parts: what stands in front of a line that starts a source, what that line names, and what
+//! stands behind it.
+ghost use Rattle.std.specs.Prelude.{◌≡◌, ◌+◌, ◌<◌, ◌≤◌, ◌++◌, ◌∷◌, [], length, slice_index, take, IfSome};
+ghost use Rattle.std.specs.Option.{option_copied};
+ghost use Rattle.wit_bundle.specs.Bundle.{mark, without_end};
+ghost use Rattle.wit_bundle.specs.Parts.{parts, sources_behind};
+
+/// What a line begins with that starts a source.
+const MARK: &str = "=== ";
+
+/// The end of a line, and what the next one begins with, which starts a source.
+const NEXT: &str = "\n=== ";
+
+/// A text through the LF at a place.
+fn through(text: &str, place: usize) -> &str
+    requires within { place < length text.now }
+    requires feed { slice_index text.now place ≡ 10 }
+    ensures { result.now ≡ take (place + 1) text.now }
+{
+    &text[..place + 1]
+}
+
+/// A text up to its first line that starts a source, and what stands behind the mark of that line.
+pub(crate) fn front_of(text: &str) -> (&str, Option<&str>)
+    ensures parts { parts text.now ≡ (result.0.now, sources_behind (option_copied result.1)) }
+    ensures shorter { IfSome result.1 (λ behind. length behind.now < length text.now) }
+{
+    if let Some(behind) = text.strip_prefix(MARK) {
+        return ("", Some(behind));
+    }
+    match text.split_once(NEXT) {
+        Some((front, behind)) => (through(text, front.len()), Some(behind)),
+        None => (text, None),
+    }
+}
+
+/// A line without a CR at its end.
+fn without_return(line: &str) -> &str
+    ensures { result.now ≡ without_end 13 line.now }
+{
+    match line.strip_suffix('\r') {
+        Some(front) => front,
+        None => line,
+    }
+}
+
+/// The path that stands behind the mark of a line, and the text behind that line.
+pub(crate) fn named(text: &str) -> (&str, &str)
+    ensures parts { parts (mark ++ text.now) ≡ ([], (result.0.now, (parts result.1.now).0) ∷ (parts result.1.now).1) }
+    ensures shorter { length result.1.now ≤ length text.now }
+{
+    match text.split_once('\n') {
+        Some((line, behind)) => (without_return(line), behind),
+        None => (without_return(text), ""),
+    }
+}
