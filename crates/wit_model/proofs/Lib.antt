@@ -7,3 +7,4 @@ pub mod Pairs
 pub mod Same
 pub mod SameMaps
 pub mod WorldSpans
+pub mod PackageSpans

@@ -1,12 +1,13 @@
--- The spans that functions, interfaces and worlds hold, and these with each span shifted and nothing else changed.
+-- The spans that functions, interfaces, worlds and packages hold, and these with each span shifted and nothing else changed.
 use Rattle.std.specs.Prelude.{ℕ, List, [], ◌∷◌, ◌++◌, map}
 use Rattle.std.specs.List.{flat_map}
 use Rattle.std.specs.Map.{values_of}
 use Rattle.wit_values.specs.declared.span.Span.{Span}
-use Rattle.wit_types.specs.Spans.{on_value, shifted}
+use Rattle.wit_types.specs.Spans.{on_value, required_spans, shifted, shifted_required, shifted_type, type_spans}
 use Rattle.wit_model.specs.declared.function.Function.{Function}
 use Rattle.wit_model.specs.declared.function.Param.{Param}
 use Rattle.wit_model.specs.declared.interface.Interface.{Interface}
+use Rattle.wit_model.specs.declared.unresolved.UnresolvedPackage.{UnresolvedPackage}
 use Rattle.wit_model.specs.declared.world.World.{World}
 use Rattle.wit_model.specs.declared.world.WorldInclude.{WorldInclude}
 use Rattle.wit_model.specs.declared.world.WorldItem.{WorldItem}
@@ -55,3 +56,10 @@ world_spans w = w.span ∷ flat_map item_spans (values_of w.imports) ++ flat_map
 
 abbrev pub shifted_world : ℕ → World → World
 shifted_world offset w = record w { span = shifted offset w.span; imports = map (on_value (shifted_item offset)) w.imports; exports = map (on_value (shifted_item offset)) w.exports; includes = map (shifted_include offset) w.includes }
+
+-- that of its name, those of what it names and requires of other packages, and those of its worlds, interfaces and types
+abbrev pub package_spans : UnresolvedPackage → List Span
+package_spans p = p.name_span ∷ p.unknown_type_spans ++ p.foreign_dep_spans ++ flat_map required_spans p.required_resource_types ++ flat_map world_spans p.worlds ++ flat_map interface_spans p.interfaces ++ flat_map type_spans p.types
+
+abbrev pub shifted_package : ℕ → UnresolvedPackage → UnresolvedPackage
+shifted_package offset p = record p { name_span = shifted offset p.name_span; unknown_type_spans = map (shifted offset) p.unknown_type_spans; foreign_dep_spans = map (shifted offset) p.foreign_dep_spans; required_resource_types = map (shifted_required offset) p.required_resource_types; worlds = map (shifted_world offset) p.worlds; interfaces = map (shifted_interface offset) p.interfaces; types = map (shifted_type offset) p.types }

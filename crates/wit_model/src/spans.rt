@@ -1,4 +1,4 @@
-//! The spans of a package's parts, which move together.
+//! The spans of a package's parts, which move together; those of whole packages are `unresolved`'s.
 
 mod parts;
 mod whole;

@@ -1,6 +1,8 @@
 //! Resolved packages.
 ghost use Rattle.std.specs.Prelude.{◌≡◌, IfOk};
 
+mod spans;
+
 use crate::ast_item::AstItem;
 use crate::foreign::ForeignItems;
 use crate::interface::Interface;
@@ -16,6 +18,9 @@ use wit_values::{Row, Span, Table, TextTable};
 ///
 /// Two are equal if their names, docs, spans, arenas, items of other packages and types that handles
 /// require are, where two maps are equal if they hold the same pairs in any order.
+///
+/// Its spans move together (`HasSpans`): those that its calls answer, and those of its worlds,
+/// interfaces and types, with those of what these hold.
 #[derive(Debug, PartialEq, Eq, Drop)]
 pub struct UnresolvedPackage {
     /// The name that the headers give.

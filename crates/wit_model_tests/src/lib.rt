@@ -18,6 +18,8 @@ mod kinds;
 #[cfg(test)]
 mod orders;
 #[cfg(test)]
+mod package_spans;
+#[cfg(test)]
 mod packages;
 #[cfg(test)]
 mod plain;

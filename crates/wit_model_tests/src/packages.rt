@@ -12,8 +12,8 @@ use wit_tree::Span;
 use wit_types::{Arena, Docs, InterfacePlace, Stability, TypeDef, TypeDefKind, TypeId, TypePlace};
 use wit_values::{Row, Table, TextTable};
 
-// The arena of the interfaces.
-fn interfaces_of(
+/// The arena of the last interface.
+pub fn interfaces_of(
     alloc: Global,
     mut made: Vec<Interface>,
 ) -> Result<Arena<Interface, InterfacePlace>, Fail> {
@@ -24,8 +24,8 @@ fn interfaces_of(
     Ok(interfaces)
 }
 
-// The arena of the types.
-fn types_of(alloc: Global, mut made: Vec<TypeDef>) -> Result<Arena<TypeDef, TypePlace>, Fail> {
+/// The arena of the last type.
+pub fn types_of(alloc: Global, mut made: Vec<TypeDef>) -> Result<Arena<TypeDef, TypePlace>, Fail> {
     let mut types = Arena::new(alloc);
     if let Some(ty) = made.pop() {
         types.alloc(ty)?;
@@ -84,7 +84,8 @@ fn deps_of(
     Ok(deps)
 }
 
-fn spans_of(alloc: Global, count: usize) -> Result<Row<Span>, AllocError> {
+/// So many spans.
+pub fn spans_of(alloc: Global, count: usize) -> Result<Row<Span>, AllocError> {
     let mut spans = Vec::new(alloc);
     for _ in 0..count {
         spans.push(SPAN)?;
@@ -92,8 +93,8 @@ fn spans_of(alloc: Global, count: usize) -> Result<Row<Span>, AllocError> {
     Ok(Row::from(spans))
 }
 
-// The types at these places, which handles require.
-fn required_of(alloc: Global, places: &[usize]) -> Result<Row<(TypeId, Span)>, AllocError> {
+/// The types at these places, which handles require.
+pub fn required_of(alloc: Global, places: &[usize]) -> Result<Row<(TypeId, Span)>, AllocError> {
     let mut required = Vec::new(alloc);
     for place in places {
         required.push((type_at(alloc, *place)?, SPAN))?;

@@ -94,3 +94,10 @@ type_spans t = t.span ∷ kind_spans t.kind
 
 abbrev pub shifted_type : ℕ → TypeDef → TypeDef
 shifted_type offset t = record t { span = shifted offset t.span; kind = shifted_kind offset t.kind }
+
+-- that of its name; the type is told by its place
+abbrev pub required_spans : ℕ × Span → List Span
+required_spans r = r.1 ∷ []
+
+abbrev pub shifted_required : ℕ → ℕ × Span → ℕ × Span
+shifted_required offset r = (r.0, shifted offset r.1)

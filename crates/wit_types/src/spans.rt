@@ -4,7 +4,9 @@ ghost use Rattle.std.specs.Bool.{MatchBool};
 ghost use Rattle.wit_values.specs.declared.span.Span.{Span as TheSpan};
 ghost use Rattle.wit_types.specs.Spans.{AllFit, shifted};
 
+mod arenas;
 mod parts;
+mod required;
 mod rows;
 mod tables;
 mod whole;
