@@ -12,7 +12,7 @@ use Rattle.wit_tree.specs.Slices.{Rise}
 use Rattle.wit_text.specs.declared.reader.Reader.{Reader}
 use Rattle.wit_text.specs.Attributes.{IsAttribute}
 use Rattle.wit_text.specs.Reading.{IsRead, IsReadOn}
-use Rattle.wit_text.proofs.Rises.{rise_sooner}
+use Rattle.wit_text.proofs.Rises.{rise_sooner, rise_order}
 use Rattle.wit_text.proofs.Parts.{then, same_marks, remark}
 
 -- the docs that were found behind the token before
@@ -44,6 +44,14 @@ without_docs {a} {b} {xs} docs p =
       offset = p.offset;
       rise = rise_sooner a.source.now a.offset _ _ _ xs (omega arith) p.rise.1;
     }
+
+-- what stands behind docs is read over
+pub docs_alone : {a b : Reader} {xs : List Mark} (docs : Docs) → IsReadOn a (documented docs ∷ xs) b → IsReadOn a (documented docs ∷ []) b
+docs_alone {a} {b} {xs} docs p = record {
+  source = p.source;
+  offset = p.offset;
+  rise = (p.rise.0, rise_order a.source.now a.offset _ _ xs p.rise.1);
+}
 
 -- a word that stands at a span stands somewhere
 pub told_read : {a b : Reader} (span : Span) (word : List ℕ) → IsRead a (spelled span word ∷ []) b → IsRead a (told word ∷ []) b

@@ -1,5 +1,5 @@
 -- The marks of a header, and of a path with a package.
-use Rattle.std.proofs.Common.{◌≡◌, ℕ, List, [], ◌∷◌, Option, Some, None, ◌∙◌, sym, subst, arith}
+use Rattle.std.proofs.Common.{◌≡◌, ℕ, List, [], ◌∷◌, Option, Some, None, ap, ◌∙◌, sym, subst, arith}
 use Rattle.semver.specs.declared.Version.{Version}
 use Rattle.wit_values.specs.declared.span.Span.{Span}
 use Rattle.wit_tree.specs.declared.tree.Docs.{Docs}
@@ -10,6 +10,7 @@ use Rattle.wit_tree.specs.Marks.{Mark, documented, bare, named, joined, whole_ma
 use Rattle.wit_tree.specs.Comments.{IsNoDocs}
 use Rattle.wit_tree.specs.Slices.{IsJoined, Rise}
 use Rattle.wit_text.specs.declared.reader.Reader.{Reader}
+use Rattle.wit_text.specs.Fronts.{IsReadBehind}
 use Rattle.wit_text.specs.Headers.{IsWhole, found_version, found_marks}
 use Rattle.wit_text.specs.Reading.{IsRead}
 
@@ -32,20 +33,23 @@ whole_rise source offset low high namespace name (Some (place, version)) p w h =
       omega arith,
     )
 
--- docs, two names and what was found behind them are a header
-pub header_read : {a b : Reader} (docs : Docs) (namespace name : Id) (found : Option (Span × Version)) (p : PackageName) → p.docs ≡ docs → p.namespace ≡ namespace → p.name ≡ name →
-    IsWhole namespace name found p → IsRead a (documented docs ∷ named namespace ∷ named name ∷ found_marks found) b → IsRead a (header_marks p) b
-header_read {a} {b} docs namespace name found p same first last w h =
-    let marks : Docs → Id → Id → List Mark = λ d n m. documented d ∷ named n ∷ named m ∷ whole_mark p.span n m p.version ∷ [] in
-    let names : IsRead a (marks docs namespace name) b = record {
+-- two names and what was found behind them are a package's name behind its docs
+pub header_behind : {a b : Reader} (docs : Docs) (namespace name : Id) (found : Option (Span × Version)) (p : PackageName) → p.docs ≡ docs → p.namespace ≡ namespace → p.name ≡ name →
+    IsWhole namespace name found p → IsRead a (named namespace ∷ named name ∷ found_marks found) b → IsReadBehind a (documented docs ∷ []) (header_marks p) b
+header_behind {a} {b} docs namespace name found p same first last w h =
+    let marks : Id → Id → List Mark = λ n m. named n ∷ named m ∷ whole_mark p.span n m p.version ∷ [] in
+    let names : IsRead a (marks namespace name) b = record {
       source = h.source;
       offset = h.offset;
       onward = h.onward;
-      rise = (h.rise.0, (h.rise.1.0, h.rise.1.1, (h.rise.1.2.0, h.rise.1.2.1, whole_rise a.source.now a.offset _ _ namespace name found p w h.rise.1.2.2)));
+      rise = (h.rise.0, h.rise.1, (h.rise.2.0, h.rise.2.1, whole_rise a.source.now a.offset _ _ namespace name found p w h.rise.2.2));
     } in
-    let last_named = subst (λ m. IsRead a (marks docs namespace m) b) (sym last) names in
-    let both_named = subst (λ n. IsRead a (marks docs n p.name) b) (sym first) last_named in
-    subst (λ d. IsRead a (marks d p.namespace p.name) b) (sym same) both_named
+    let last_named = subst (λ m. IsRead a (marks namespace m) b) (sym last) names in
+    record {
+      marks = marks p.namespace p.name;
+      item = ap (λ d. documented d ∷ marks p.namespace p.name) same;
+      read = subst (λ n. IsRead a (marks n p.name) b) (sym first) last_named;
+    }
 
 -- what was found behind an item's name is the version of its package
 release_rise : (source : List ℕ) (offset low high : ℕ) (found : Option (Span × Version)) (version : Option Version) → version ≡ found_version found →

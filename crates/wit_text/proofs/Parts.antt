@@ -40,14 +40,13 @@ then_on {a} {b} {c} {xs} {ys} p q =
     }
 
 -- a source whole
-pub whole : {a b c : Reader} {xs ys : List Mark} → IsReadOn a xs b → IsReadOn b ys c → Rise a.source.now a.offset a.offset (xs ++ ys) (a.offset + length a.source.now)
-whole {a} {b} {c} {xs} {ys} p q =
-    let both = then_on p q in
-    let len : length c.source.now ≡ length a.source.now = ap (λ s. length s.now) both.source in
-    let front = c.front in
-    let order = c.within.order in
-    let within = c.within.within in
-    rise_later a.source.now a.offset a.offset _ _ (xs ++ ys) (rise_sooner a.source.now a.offset a.offset _ _ (xs ++ ys) (omega arith) both.rise) (omega arith)
+pub whole : {a b : Reader} {xs : List Mark} → IsReadOn a xs b → Rise a.source.now a.offset a.offset xs (a.offset + length a.source.now)
+whole {a} {b} {xs} p =
+    let len : length b.source.now ≡ length a.source.now = ap (λ s. length s.now) p.source in
+    let front = b.front in
+    let order = b.within.order in
+    let within = b.within.within in
+    rise_later a.source.now a.offset a.offset _ _ xs (rise_sooner a.source.now a.offset a.offset _ _ xs (omega arith) p.rise) (omega arith)
 
 pub more_on : {A : Type 0} {a b c : Reader} (f : A → List Mark) (xs ys : List A) (x : A) → ys ≡ xs ++ x ∷ [] → IsReadOn a (flat_map f xs) b → IsRead b (f x) c → IsReadOn a (flat_map f ys) c
 more_on {A} {a} {b} {c} f xs ys x e p q = subst (λ marks. IsReadOn a marks c) (sym (ap (flat_map f) e ∙ one_more f xs x)) (then_on p (on q))
@@ -147,6 +146,18 @@ perhaps_then {a} {b} {c} {xs} {ys} p q =
 pub fronted : {a b c : Reader} {front whole : List Mark} → IsReadOn a front b → IsReadBehind b front whole c → IsRead a whole c
 fronted p q = same_marks q.item (perhaps_then p q.read)
 
+-- an item behind a part of it
+pub behind : {a b c : Reader} {front whole : List Mark} → IsRead a front b → IsReadBehind b front whole c → IsRead a whole c
+behind p q = same_marks q.item (then p q.read)
+
+-- with a part behind it that has no marks
+pub closed_behind : {a b c : Reader} {front whole : List Mark} → IsReadBehind a front whole b → IsRead b [] c → IsReadBehind a front whole c
+closed_behind p q = record {
+  marks = p.marks;
+  item = p.item;
+  read = close p.read q;
+}
+
 -- the same told by other marks
 pub remark : {a b : Reader} {xs ys : List Mark} →
     (Rise a.source.now a.offset (a.offset + a.before) xs (a.offset + b.before) → Rise a.source.now a.offset (a.offset + a.before) ys (a.offset + b.before)) →
@@ -157,6 +168,18 @@ remark f p = record {
   onward = p.onward;
   rise = f p.rise;
 }
+
+-- a part of which nothing is kept
+pub passed : {a b : Reader} {xs : List Mark} → IsRead a xs b → IsRead a [] b
+passed p = let onward = p.onward in remark (λ h. omega arith) p
+
+-- with such a part behind it
+pub pass_on : {a b c : Reader} {xs ys : List Mark} → IsReadOn a xs b → IsRead b ys c → IsReadOn a xs c
+pass_on {a} {b} {c} {xs} p q = subst (λ marks. IsReadOn a marks c) (append-nil xs) (then_on p (on (passed q)))
+
+-- one element alone
+pub alone : {A : Type 0} {a b : Reader} (f : A → List Mark) (xs : List A) (x : A) → xs ≡ x ∷ [] → IsRead a (f x) b → IsReadOn a (flat_map f xs) b
+alone {A} {a} {b} f xs x e p = subst (λ marks. IsReadOn a marks b) (sym (ap (flat_map f) e ∙ append-nil (f x))) (on p)
 
 -- what stands behind a beginning completes it
 pub completed : {a b : Reader} {begun xs : List Mark} → IsRead a xs b → Completes a begun (begun ++ xs) b

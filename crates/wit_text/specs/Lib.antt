@@ -1,4 +1,5 @@
 pub mod Attributes
 pub mod Fronts
 pub mod Headers
+pub mod Packages
 pub mod Reading

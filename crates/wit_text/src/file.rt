@@ -1,126 +1,71 @@
 //! Reading a file.
 ghost use Rattle.std.specs.Prelude.{◌≡◌, ◌+◌, ◌<◌, ◌^◌, [], ◌∷◌, length, IfOk, IfErr};
 ghost use Rattle.std.specs.List.{flat_map};
-ghost use Rattle.wit_tree.specs.Marks.{front_marks, interface_marks, declaration_marks, header_marks, package_marks, file_marks};
+ghost use Rattle.wit_tree.specs.Marks.{package_marks, file_marks, nested_marks, inner_marks};
 ghost use Rattle.wit_tree.specs.Slices.{Rise};
 ghost use Rattle.wit_lex.specs.Faults.{IsRefusal};
-ghost use Rattle.wit_text.specs.Fronts.{IsReadBehind};
-ghost use Rattle.wit_text.specs.Headers.{IsWhole};
 
-use crate::front::Front;
+use crate::declaration::PackageItem;
 use crate::reader::Reader;
-use semver::Version;
 use std::alloc::Global;
 use wit_lex::kind::Kind;
 use wit_lex::token::next_token;
 use wit_lex::word::Word;
-use wit_tree::tree::{AstItem, DeclList, Docs, Id, Interface, PackageFile, PackageName};
-use wit_tree::{ParseResult, Span};
-
-/// The header of these names, with the version that was found.
-fn header<'a>(
-    docs: Docs<'a>,
-    namespace: Id<'a>,
-    name: Id<'a>,
-    found: Option<(Span, Version)>,
-) -> PackageName<'a>
-    ensures docs { result.docs ≡ docs.entry }
-    ensures namespace { result.namespace ≡ namespace.entry }
-    ensures name { result.name ≡ name.entry }
-    ensures spans { IsWhole namespace.entry name.entry found result }
-{
-    let (end, version) = match found {
-        Some((place, version)) => (place.end, Some(version)),
-        None => (name.span.end, None),
-    };
-    let span = Span {
-        start: namespace.span.start,
-        end,
-    };
-    PackageName {
-        docs,
-        span,
-        namespace,
-        name,
-        version,
-    }
-}
+use wit_tree::ParseResult;
+use wit_tree::tree::{DeclList, NestedPackage, PackageFile, PackageName, SourceFile};
 
 impl<'a> Reader<'a> {
-    ghost use Rattle.wit_text.specs.Reading.{IsRead, IsReadOn, IsRefused};
+    ghost use Rattle.wit_text.specs.Reading.{IsReadOn, IsRefused};
 
-    /// Reads `interface name { .. }`.
-    fn read_interface(&mut self, front: Front<'a>) -> ParseResult<Interface<'a>>
-        ensures read { IfOk result (λ i. IsReadBehind self.old (front_marks front.entry.docs front.entry.attributes.items) (interface_marks i) self.new) }
+    /// Reads what stands at `package` where a file begins with that: a header, or a nested package.
+    fn read_beginning(&mut self) -> ParseResult<(Option<PackageName<'a>>, Vec<NestedPackage<'a>>)>
+        ensures read { IfOk result (λ r. IsReadOn self.old (package_marks r.0) self.new) }
+        ensures nested { IfOk result (λ r. IsReadOn self.old (flat_map nested_marks r.1.items) self.new) }
+        ensures inner { IfOk result (λ r. IsReadOn self.old (flat_map inner_marks r.1.items) self.new) }
         ensures refused { IfErr result (λ e. IsRefused self.old e) }
     {
-        self.expect_word(Word::Interface)?;
-        let name = self.read_id()?;
-        let items = self.read_interface_items()?;
-        Ok(Interface {
-            docs: front.docs,
-            attributes: front.attributes,
-            name,
-            items,
-        })
-    }
-
-    /// Reads a declaration: an interface, a world, or another name for an item.
-    fn read_declaration(&mut self) -> ParseResult<AstItem<'a>>
-        ensures read { IfOk result (λ item. IsRead self.old (declaration_marks item) self.new) }
-        ensures refused { IfErr result (λ e. IsRefused self.old e) }
-    {
-        let front = self.read_front()?;
-        if self.at_word(Word::Use) {
-            let used = self.read_toplevel_use(front.attributes)?;
-            return Ok(AstItem::Use(used));
-        }
-        if self.at_word(Word::World) {
-            let world = self.read_world(front)?;
-            return Ok(AstItem::World(world));
-        }
-        let interface = self.read_interface(front)?;
-        Ok(AstItem::Interface(interface))
-    }
-
-    /// Reads `package name:name;`, perhaps with a version behind the name.
-    fn read_header(&mut self) -> ParseResult<PackageName<'a>>
-        ensures read { IfOk result (λ p. IsRead self.old (header_marks p) self.new) }
-        ensures refused { IfErr result (λ e. IsRefused self.old e) }
-    {
-        let docs = self.read_docs()?;
-        self.expect_word(Word::Package)?;
-        let namespace = self.read_id()?;
-        self.expect(Kind::Colon)?;
-        let name = self.read_id()?;
-        let found = self.read_at_version()?;
-        self.expect(Kind::Semicolon)?;
-        Ok(header(docs, namespace, name, found))
-    }
-
-    /// Reads the header, if there is one.
-    fn read_package_id(&mut self) -> ParseResult<Option<PackageName<'a>>>
-        ensures read { IfOk result (λ p. IsReadOn self.old (package_marks p) self.new) }
-        ensures refused { IfErr result (λ e. IsRefused self.old e) }
-    {
+        let mut nested = Vec::new(self.alloc);
         if !self.at_word(Word::Package) {
-            return Ok(None);
+            return Ok((None, nested));
         }
-        let header = self.read_header()?;
-        Ok(Some(header))
+        let docs = self.read_docs()?;
+        let name = self.read_package_name(docs)?;
+        if self.at(Kind::OpenBrace) {
+            let first = self.read_nested(name)?;
+            nested.push(first)?;
+            return Ok((None, nested));
+        }
+        self.expect(Kind::Semicolon)?;
+        Ok((Some(name), nested))
     }
 
-    /// Reads the declarations up to the end of the source.
-    fn read_declarations(&mut self) -> ParseResult<DeclList<'a>>
-        ensures read { IfOk result (λ list. IsReadOn self.old (flat_map declaration_marks list.items.items) self.new) }
+    /// Reads up to the end of the source.
+    fn read_whole(&mut self) -> ParseResult<SourceFile<'a>>
+        ensures read { IfOk result (λ source. IsReadOn self.old (file_marks source.file) self.new) }
+        ensures nested { IfOk result (λ source. IsReadOn self.old (flat_map nested_marks source.nested.items) self.new) }
+        ensures inner { IfOk result (λ source. IsReadOn self.old (flat_map inner_marks source.nested.items) self.new) }
         ensures refused { IfErr result (λ e. IsRefused self.old e) }
     {
+        let (package_id, mut nested) = self.read_beginning()?;
         let mut items = Vec::new(self.alloc);
         'items: while !self.at(Kind::End) {
-            let item = self.read_declaration()?;
-            items.push(item)?;
+            let item = self.read_package_item()?;
+            match item {
+                PackageItem::Declaration(declaration) => items.push(declaration)?,
+                PackageItem::Package(docs) => {
+                    let name = self.read_package_name(docs)?;
+                    let package = self.read_nested(name)?;
+                    nested.push(package)?;
+                }
+            }
         }
-        Ok(DeclList { items })
+        Ok(SourceFile {
+            file: PackageFile {
+                package_id,
+                decl_list: DeclList { items },
+            },
+            nested,
+        })
     }
 }
 
@@ -136,16 +81,21 @@ impl<'a> Reader<'a> {
 /// A file that cannot be read is refused under the number and at the place of the first fault:
 /// 46 at a character that begins no token, 47 at a token that the grammar does not allow there or a
 /// name that is no label (twice the end of the source where it ends too soon), 48 at the first two
-/// bytes of a comment without end, 49 at the first word of a type that is the hundred and first of
-/// those in one another, 50 at a version that `semver` refuses, 51 at a number of items over
-/// 4,294,967,295, and 45 for want of memory.
+/// bytes of a comment without end, 49 at the first word of a type or of a package that is the hundred
+/// and first of those in one another, 50 at a version that `semver` refuses, 51 at a number of items
+/// over 4,294,967,295, and 45 for want of memory.
+///
+/// Nested packages stand beside the declarations of the file itself, in source order. Of what is nested
+/// in one of them the names alone are kept; all is read by the same rules.
 ///
 /// A version is three numbers joined by `.`, then perhaps `-` and a run, then perhaps `+` and a run,
 /// without blanks; a run is the longest text of letters, digits, `-` and those `.` that one of these
 /// follows. Where a number or a `.` is wanted and another token stands, that token is refused.
-pub fn read_file<'a>(alloc: Global, source: &'a str, offset: u32) -> ParseResult<PackageFile<'a>>
+pub fn read_file<'a>(alloc: Global, source: &'a str, offset: u32) -> ParseResult<SourceFile<'a>>
     requires fits { offset + length source.now < 2 ^ 32 }
-    ensures read { IfOk result (λ file. Rise source.now offset offset (file_marks file) (offset + length source.now)) }
+    ensures read { IfOk result (λ read. Rise source.now offset offset (file_marks read.file) (offset + length source.now)) }
+    ensures nested { IfOk result (λ read. Rise source.now offset offset (flat_map nested_marks read.nested.items) (offset + length source.now)) }
+    ensures inner { IfOk result (λ read. Rise source.now offset offset (flat_map inner_marks read.nested.items) (offset + length source.now)) }
     ensures refused { IfErr result (λ e. IsRefusal source.now offset e) }
 {
     let token = next_token(alloc, source, offset, 0)?;
@@ -156,10 +106,6 @@ pub fn read_file<'a>(alloc: Global, source: &'a str, offset: u32) -> ParseResult
         before: 0,
         token,
     };
-    let package_id = reader.read_package_id()?;
-    let decl_list = reader.read_declarations()?;
-    Ok(PackageFile {
-        package_id,
-        decl_list,
-    })
+    let file = reader.read_whole()?;
+    Ok(file)
 }

@@ -2,6 +2,7 @@
 #![tactic(auto)]
 
 mod attribute;
+mod declaration;
 mod definition;
 mod extern_kind;
 mod file;
@@ -9,6 +10,7 @@ mod front;
 mod function;
 mod handle;
 mod members;
+mod package;
 mod primitive;
 mod reader;
 mod resource;

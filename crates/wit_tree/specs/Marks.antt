@@ -43,6 +43,7 @@ use Rattle.wit_tree.specs.declared.tree.AstItem.{AstItem}
 use Rattle.wit_tree.specs.declared.tree.AstItem.TheVariants.{Interface as InterfaceItem', World as WorldItem', Use as ToplevelItem}
 use Rattle.wit_tree.specs.declared.tree.ToplevelUse.{ToplevelUse}
 use Rattle.wit_tree.specs.declared.tree.PackageName.{PackageName}
+use Rattle.wit_tree.specs.declared.tree.NestedPackage.{NestedPackage}
 use Rattle.wit_tree.specs.declared.tree.PackageFile.{PackageFile}
 use Rattle.wit_tree.specs.declared.tree.«Type».{«Type» as Written, Bool, U8, U16, U32, U64, S8, S16, S32, S64, F32, F64, Char, String, ErrorContext, Name, List', FixedLengthList', Map', Option', Result', Tuple', Future', Stream', Own, Borrow, Held-Type-Result-1, None', Some', Row_of-Type, end_of-Type, more_of-Type}
 
@@ -270,5 +271,14 @@ abbrev pub package_marks : Option PackageName → List Mark
 package_marks None = []
 package_marks (Some p) = header_marks p
 
+-- the header, and the declarations that are the file's own
 abbrev pub file_marks : PackageFile → List Mark
 file_marks f = package_marks f.package_id ++ flat_map declaration_marks f.decl_list.items.items
+
+-- the name and the declarations of a nested package; the names of those that are nested in it in turn stand anywhere among them
+abbrev pub nested_marks : NestedPackage → List Mark
+nested_marks p = header_marks p.name ++ flat_map declaration_marks p.decl_list.items.items
+
+-- the names of the packages that are nested in a nested one
+abbrev pub inner_marks : NestedPackage → List Mark
+inner_marks p = flat_map header_marks p.nested.items

@@ -4,6 +4,7 @@ ghost use Rattle.wit_names.specs.Label.{is_label};
 
 use semver::Version;
 use std::alloc::Global;
+use std::fmt;
 use wit_names::validate_id;
 use wit_values::Span;
 
@@ -68,20 +69,66 @@ pub enum Attribute<'a> {
     ExternalId { span: Span, id: &'a str },
 }
 
-/// A file: its header, if it has one, and its declarations.
+/// A file of a package: its header, if it has one, and its declarations.
 #[derive(Debug, Drop)]
 pub struct PackageFile<'a> {
     pub package_id: Option<PackageName<'a>>,
     pub decl_list: DeclList<'a>,
 }
 
-/// The name of a package, as a header or a path writes it.
+/// A source as it is read: a file of a package, and the packages that are nested in it.
+#[derive(Drop)]
+pub struct SourceFile<'a> {
+    /// The header, and the declarations that are the file's own.
+    pub file: PackageFile<'a>,
+    /// In source order, wherever they stand among the declarations.
+    pub nested: Vec<NestedPackage<'a>>,
+}
+
+/// Writes packages one after another.
+fn show_packages<W: fmt::Write>(
+    packages: &[NestedPackage<'_>],
+    f: &mut fmt::Formatter<W>,
+) -> fmt::Result {
+    let mut between = "";
+    for package in packages {
+        f.write_str(between)?;
+        fmt::Debug::fmt(package, f)?;
+        between = ", ";
+    }
+    Ok(())
+}
+
+/// Writes what a derive would, in parts: a check of all at once takes too many steps.
+impl<'a> fmt::Debug for SourceFile<'a> {
+    fn fmt<W: fmt::Write>(&self, f: &mut fmt::Formatter<W>) -> fmt::Result {
+        f.write_str("SourceFile { file: ")?;
+        fmt::Debug::fmt(&self.file, f)?;
+        f.write_str(", nested: [")?;
+        show_packages(&self.nested, f)?;
+        f.write_str("] }")
+    }
+}
+
+/// A package that is nested in a file: its declarations stand in braces behind its name.
+#[derive(Debug, Drop)]
+pub struct NestedPackage<'a> {
+    /// Written as in a header.
+    pub name: PackageName<'a>,
+    pub decl_list: DeclList<'a>,
+    /// The names of the packages that are nested in it in turn, in source order. It may have none, so
+    /// that nothing else of them is kept.
+    pub nested: Vec<PackageName<'a>>,
+}
+
+/// The name of a package, as a header, a nested package or a path writes it.
 #[derive(Debug, Drop)]
 pub struct PackageName<'a> {
-    /// Those of a header; a package in a path has none.
+    /// Those of a header or a nested package; a package in a path has none.
     pub docs: Docs<'a>,
-    /// In a header from the namespace to the end of the version, or of the name where there is
-    /// none; in a path to the end of the name, since the version stands behind the item's.
+    /// In a header or a nested package from the namespace to the end of the version, or of the name
+    /// where there is none; in a path to the end of the name, since the version stands behind the
+    /// item's.
     pub span: Span,
     pub namespace: Id<'a>,
     pub name: Id<'a>,

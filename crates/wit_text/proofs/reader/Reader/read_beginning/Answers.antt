@@ -1,0 +1,19 @@
+use Rattle.std.proofs.Common.{◌++◌, ◌∷◌, [], ap, ◌∙◌}
+use Rattle.wit_tree.specs.Marks.{nested_marks, inner_marks}
+use Rattle.wit_text.proofs.Parts.{alone, behind, close, fronted, on, passed, then}
+use Rattle.wit_text.proofs.reader.Reader.read_beginning.Goals as goal
+
+pub returns-then-at-clause-nested : goal.returns-then-at-clause-nested
+returns-then-at-clause-nested c =
+    let header = fronted c.in_ok-docs.ensures.read c.in_ok-name.ensures.read in
+    let first = c.in_ok-push.ensures.items ∙ ap (λ packages. packages ++ c.in_ok-first.first ∷ []) c.new-nested.ensures.items in
+    alone nested_marks c.push.new.self.items _ first (behind header c.in_ok-first.ensures.read)
+
+pub returns-then-at-clause-inner : goal.returns-then-at-clause-inner
+returns-then-at-clause-inner c =
+    let header = fronted c.in_ok-docs.ensures.read c.in_ok-name.ensures.read in
+    let first = c.in_ok-push.ensures.items ∙ ap (λ packages. packages ++ c.in_ok-first.first ∷ []) c.new-nested.ensures.items in
+    alone inner_marks c.push.new.self.items _ first (then (passed header) c.in_ok-first.ensures.inner)
+
+pub returns-clause-read : goal.returns-clause-read
+returns-clause-read c = on (close (fronted c.in_ok-docs.ensures.read c.in_ok-name.ensures.read) c.in_ok-expect.ensures.read)
