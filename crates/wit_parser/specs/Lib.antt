@@ -1,3 +1,4 @@
 pub mod Between
 pub mod Marks
 pub mod Crossings
+pub mod Stray

@@ -1,14 +1,16 @@
 //! From parsed files to a package.
-ghost use Rattle.std.specs.Prelude.{◌≡◌, ◌⊎◌, ◌++◌, ◌∷◌, List, [], map, IfOk, IfErr, OnOk, OnErr};
+ghost use Rattle.std.specs.Prelude.{◌≡◌, ◌++◌, ◌∷◌, List, [], map, IfOk, IfErr, OnOk, OnErr};
 ghost use Rattle.std.specs.Option.{option_copied};
 ghost use Rattle.wit_syntax.specs.Fault.{Fault};
 ghost use Rattle.wit_order.specs.Table.{IsOrder};
 ghost use Rattle.wit_syntax.specs.Source.{first_takings};
 ghost use Rattle.wit_syntax.specs.Scope.{item_rows};
 ghost use Rattle.wit_files.specs.FileNames.{AreNamesOf};
-ghost use Rattle.wit_syntax.specs.Broken.{IsMismatch, IsOtherPackage, IsDocumentedTwice, IsBrokenNames, IsBroken, IsLegal, Refused, headers, last_header};
+ghost use Rattle.wit_syntax.specs.Broken.{IsMismatch, IsBrokenNames, IsBroken, IsLegal, Refused, headers, last_header};
 ghost use Rattle.wit_items.specs.Headers.{header_at, have_docs as the_docs};
+ghost use Rattle.wit_tree.specs.Refusal.{IsWantOfMemory};
 ghost use Rattle.wit_parser.specs.Between.{AddsFiles};
+ghost use Rattle.wit_parser.specs.Stray.{IsNesting, IsStray};
 ghost use Rattle.wit_types.specs.Types.{IsBackward};
 ghost use Rattle.wit_tree.specs.declared.tree.PackageFile.{PackageFile as TheFile};
 ghost use Rattle.wit_syntax.specs.Foreign.{foreign_packages};
@@ -28,7 +30,7 @@ use wit_items::items::{Item, declared_items};
 use wit_model::{ForeignItems, Interface, UnresolvedPackage, World};
 use wit_notes::package_name;
 use wit_notes::refusal::refuse;
-use wit_tree::tree::{self, PackageFile};
+use wit_tree::tree::{self, NestedPackage, PackageFile, SourceFile};
 use wit_tree::{ParseResult, Span};
 use wit_types::{Arena, InterfacePlace, WorldPlace};
 use wit_values::{Row, TextTable};
@@ -36,6 +38,9 @@ use wit_worlds::world::{Worlds, resolve_worlds};
 
 /// The words for files without a header.
 const NO_HEADER: &str = "no `package` header was found in any WIT file for this package";
+
+/// The words for a package that is nested in a source of another one.
+const NESTED: &str = "nested packages must be placed at the top-level";
 
 /// Files of one package, which are to be resolved together.
 #[derive(Drop)]
@@ -67,6 +72,17 @@ fn check_header(
         }
     }
     Ok(())
+}
+
+/// Refuses packages that are nested in a source, at the name of the first.
+fn check_nested(alloc: Global, nested: &[NestedPackage<'_>]) -> ParseResult<()>
+    ensures accepted { OnOk result ((f : Fault) → IsNesting nested.now f → ⊥) }
+    ensures refused { IfErr result (Refused (IsNesting nested.now)) }
+{
+    match nested.first() {
+        Some(inner) => Err(refuse(alloc, 3, inner.name.span, NESTED)),
+        None => Ok(()),
+    }
 }
 
 /// The interfaces and the worlds of files, where types of other packages are first used, and which of
@@ -190,23 +206,12 @@ impl<'a> Resolver<'a> {
         file.package_id.as_ref()
     }
 
-    /// Adds a file behind the others.
-    ///
-    /// # Errors
-    ///
-    /// A refusal leaves the files as they were.
-    ///
-    /// - 1, at the header: it names another package, or another version, than the last header before it.
-    /// - 2, at the header's docs: it has docs, and so has a header before it.
-    /// - 45: a growth was refused.
-    pub fn push(&mut self, alloc: Global, file: PackageFile<'a>) -> ParseResult<()>
+    /// Keeps a file behind the others.
+    fn keep(&mut self, file: PackageFile<'a>) -> ParseResult<()>
         ensures ok { OnOk result (self.new.files.items ≡ self.old.files.items ++ file.entry ∷ []) }
-        ensures accepted { OnOk result ((f : Fault) → (IsOtherPackage self.old.files.items file.entry f ⊎ IsDocumentedTwice self.old.files.items file.entry f) → ⊥) }
         ensures unchanged { OnErr result (self.new.files.items ≡ self.old.files.items) }
-        ensures refused { IfErr result (Refused (λ f. IsOtherPackage self.old.files.items file.entry f ⊎ IsDocumentedTwice self.old.files.items file.entry f)) }
+        ensures wanted { IfErr result IsWantOfMemory }
     {
-        check_header(alloc, self.last_header(), &file.package_id)?;
-        check_docs(alloc, self.documented, &file.package_id)?;
         let place = self.files.len();
         let has_header = file.package_id.is_some();
         let documented = have_docs(self.documented, &file.package_id);
@@ -215,6 +220,30 @@ impl<'a> Resolver<'a> {
         if has_header {
             self.last = place;
         }
+        Ok(())
+    }
+
+    /// Adds the file of a source behind the others.
+    ///
+    /// # Errors
+    ///
+    /// A refusal leaves the files as they were.
+    ///
+    /// - 1, at the header: it names another package, or another version, than the last header before it.
+    /// - 2, at the header's docs: it has docs, and so has a header before it.
+    /// - 3, at its name: a package is nested in the source.
+    /// - 45: a growth was refused.
+    pub fn push(&mut self, alloc: Global, source: SourceFile<'a>) -> ParseResult<()>
+        ensures ok { OnOk result (self.new.files.items ≡ self.old.files.items ++ source.entry.file ∷ []) }
+        ensures accepted { OnOk result ((f : Fault) → IsStray self.old.files.items source.entry f → ⊥) }
+        ensures unchanged { OnErr result (self.new.files.items ≡ self.old.files.items) }
+        ensures refused { IfErr result (Refused (IsStray self.old.files.items source.entry)) }
+    {
+        let SourceFile { file, nested } = source;
+        check_header(alloc, self.last_header(), &file.package_id)?;
+        check_docs(alloc, self.documented, &file.package_id)?;
+        check_nested(alloc, &nested)?;
+        self.keep(file)?;
         Ok(())
     }
 
