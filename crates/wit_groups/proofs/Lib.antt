@@ -1,0 +1,5 @@
+pub mod Fitting
+pub mod Fronts
+pub mod Making
+pub mod Names
+pub mod Outcome

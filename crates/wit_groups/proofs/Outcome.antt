@@ -1,0 +1,69 @@
+-- What sources come to, one more at a time.
+use Rattle.std.proofs.Common.{◌≡◌, ℕ, ◌+◌, ◌<◌, suc, List, [], ◌∷◌, ◌++◌, Bor, length, get_or, map, take, drop, ap, sym, subst, ◌∙◌}
+use Rattle.std.specs.Prelude.{Result, Ok, Err, IfErr, IfOk, string_bytes}
+use Rattle.wit_tree.specs.declared.tree.PackageFile.{PackageFile}
+use Rattle.wit_tree.specs.declared.tree.SourceFile.{SourceFile}
+use Rattle.wit_tree.specs.declared.error.ParseError.{ParseError}
+use Rattle.wit_lex.specs.declared.source.Source.{Source}
+use Rattle.wit_lex.specs.declared.source_map.SourceMap.{SourceMap}
+use Rattle.wit_lex.specs.Sources.{IsSource, space}
+use Rattle.wit_bundle.specs.Paths.{IsByPath}
+use Rattle.wit_lex.specs.Faults.{IsRefusal}
+use Rattle.wit_model.specs.declared.unresolved.UnresolvedPackage.{UnresolvedPackage}
+use Rattle.wit_syntax.specs.Fault.{Fault}
+use Rattle.wit_syntax.specs.Broken.{IsBroken, Refused}
+use Rattle.wit_groups.specs.Nested.{GrowByNested, IsUnfit}
+use Rattle.wit_groups.specs.declared.group.UnresolvedPackageGroup.{UnresolvedPackageGroup}
+use Rattle.wit_groups.specs.Groups.{AreRefused, AreTaken, IsAlone, IsRefused, IsTree, IsUnparsed}
+use Rattle.wit_groups.specs.Groups.AreRefused.{Unread, Unfit, Illegal}
+use Rattle.wit_groups.specs.Groups.IsRefused.{InTurn}
+use Rattle.wit_groups.specs.Groups.IsUnparsed.{Alone}
+use Rattle.wit_groups.specs.Groups.AreTaken.{None, More}
+use Rattle.wit_groups.proofs.Fronts.{front_more, front_none, front_split}
+
+-- a source that is lent
+abbrev pub now_of : Bor Source → Source
+now_of s = s.now
+
+-- no source yet
+pub taken_none : (turn : List (Bor Source)) (files : List PackageFile) (packages : List UnresolvedPackage) → files ≡ [] → packages ≡ [] → AreTaken (map now_of (take 0 turn)) files packages
+taken_none turn files packages e f = rw (front_none now_of turn, e, f) None
+
+-- a tree more
+pub taken_more : (turn : List (Bor Source)) (i : ℕ) (s : Bor Source) (files grown : List PackageFile) (packages kept : List UnresolvedPackage) (read : SourceFile) → i < length turn → s ≡ get_or turn i s →
+    AreTaken (map now_of (take i turn)) files packages → IsTree s.now read → ((f : Fault) → IsUnfit files read f → ⊥) → grown ≡ files ++ read.file ∷ [] → GrowByNested read.nested.items packages kept →
+    AreTaken (map now_of (take (i + 1) turn)) grown kept
+taken_more turn i s files grown packages kept read lt is taken tree fit e nested = rw (front_more now_of turn i s lt is, e) (More (map now_of (take i turn)) files packages kept s.now read taken tree fit nested)
+
+-- a source that cannot be read
+pub unread : (turn : List (Bor Source)) (i : ℕ) (s : Bor Source) (files : List PackageFile) (packages : List UnresolvedPackage) (e : ParseError) → i < length turn → s ≡ get_or turn i s →
+    AreTaken (map now_of (take i turn)) files packages → IsRefusal (string_bytes s.now.contents) s.now.offset e → AreRefused (map now_of turn) e
+unread turn i s files packages e lt is taken refused = Unread (map now_of (take i turn)) (map now_of (drop (suc i) turn)) s.now (front_split now_of turn i s lt is) files packages taken refused
+
+-- a tree that is unfit
+pub unfit : (turn : List (Bor Source)) (i : ℕ) (s : Bor Source) (files : List PackageFile) (packages : List UnresolvedPackage) (read : SourceFile) (e : ParseError) → i < length turn → s ≡ get_or turn i s →
+    AreTaken (map now_of (take i turn)) files packages → IsTree s.now read → Refused (IsUnfit files read) e → AreRefused (map now_of turn) e
+unfit turn i s files packages read e lt is taken tree refused = Unfit (map now_of (take i turn)) (map now_of (drop (suc i) turn)) s.now (front_split now_of turn i s lt is) files packages read taken tree refused
+
+-- files that break a rule
+pub illegal : {X : Type 0} (sources turn : List Source) (files : List PackageFile) (packages : List UnresolvedPackage) (r : Result X ParseError) → IsByPath sources turn → AreTaken turn files packages →
+    IfErr r (Refused (IsBroken files)) → IfErr r (IsRefused sources)
+illegal sources turn files packages (Ok x) by_path taken refused = tt
+illegal sources turn files packages (Err e) by_path taken refused = InTurn turn by_path (Illegal files packages taken refused)
+
+-- a text behind no source
+pub only_source : (path text : List ℕ) (old new : List Source) → old ≡ [] → (s : Source) × IsSource path text (space old) s × (new ≡ old ++ s ∷ []) → IsAlone path text new
+only_source path text old new none h = record { source = h.0; is = subst (λ ss. IsSource path text (space ss) h.0) none h.1; only = h.2 ∙ ap (λ ss. ss ++ h.0 ∷ []) none }
+
+-- the group of a text
+pub parsed : (path text : List ℕ) (map : SourceMap) (r : Result UnresolvedPackageGroup (SourceMap × ParseError)) → IsAlone path text map.sources.items → IfOk r (λ g. g.source_map ≡ map) →
+    IfOk r (λ g. IsAlone path text g.source_map.sources.items)
+parsed path text map (Ok g) alone same = subst (λ (m : SourceMap). IsAlone path text m.sources.items) (sym same) alone
+parsed path text map (Err e) alone same = tt
+
+-- a text that makes none
+pub unparsed : (path text : List ℕ) (map : SourceMap) (r : Result UnresolvedPackageGroup (SourceMap × ParseError)) → IsAlone path text map.sources.items → IfErr r (λ e. IsRefused map.sources.items e.1) →
+    IfErr r (λ e. e.0 ≡ map) → IfErr r (λ e. IsUnparsed path text e.0.sources.items e.1)
+unparsed path text map (Ok g) alone refused same = tt
+unparsed path text map (Err e) alone refused same =
+    Alone (subst (λ (m : SourceMap). IsAlone path text m.sources.items) (sym same) alone) (subst (λ (m : SourceMap). IsRefused m.sources.items e.1) (sym same) refused)

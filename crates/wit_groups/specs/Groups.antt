@@ -1,0 +1,66 @@
+-- What sources come to: the package that they make and those that are nested in them, or why they make none.
+use Rattle.std.specs.Prelude.{◌≡◌, ℕ, ◌+◌, List, [], ◌∷◌, ◌++◌, length, string_bytes}
+use Rattle.std.specs.List.{flat_map}
+use Rattle.wit_tree.specs.declared.tree.PackageFile.{PackageFile}
+use Rattle.wit_tree.specs.declared.tree.SourceFile.{SourceFile}
+use Rattle.wit_tree.specs.declared.error.ParseError.{ParseError}
+use Rattle.wit_tree.specs.Marks.{Mark, file_marks, inner_marks, nested_marks}
+use Rattle.wit_tree.specs.Refusal.{IsWantOfMemory}
+use Rattle.wit_tree.specs.Slices.{Rise}
+use Rattle.wit_lex.specs.declared.source.Source.{Source}
+use Rattle.wit_lex.specs.Faults.{IsRefusal}
+use Rattle.wit_lex.specs.Sources.{IsSource, IsTooLarge}
+use Rattle.wit_bundle.specs.Paths.{IsByPath}
+use Rattle.wit_model.specs.declared.unresolved.UnresolvedPackage.{UnresolvedPackage}
+use Rattle.wit_syntax.specs.Fault.{Fault}
+use Rattle.wit_syntax.specs.Broken.{IsBroken, Refused}
+use Rattle.wit_groups.specs.Nested.{GrowByNested, IsMadeOf, IsUnfit}
+
+-- marks stand in the source, one behind the other
+abbrev pub AreIn : Source → List Mark → Type 0
+AreIn s marks = Rise (string_bytes s.contents) s.offset s.offset marks (s.offset + length (string_bytes s.contents))
+
+-- the names and words of a tree stand in the source, one behind the other, and so do those of the packages that are nested in it
+pub record IsTree (s : Source) (read : SourceFile) : Type 0 where
+  pub file : AreIn s (file_marks read.file)
+  pub nested : AreIn s (flat_map nested_marks read.nested.items)
+  pub inner : AreIn s (flat_map inner_marks read.nested.items)
+
+-- there is a tree of each source, none of which is unfit behind those before it; these are their files, and the packages that are nested in
+-- them
+pub data AreTaken : List Source → List PackageFile → List UnresolvedPackage → Type 0 where
+  None : AreTaken [] [] []
+  More : (sources : List Source) (files : List PackageFile) (packages kept : List UnresolvedPackage) (s : Source) (read : SourceFile) → AreTaken sources files packages → IsTree s read →
+      ((f : Fault) → IsUnfit files read f → ⊥) → GrowByNested read.nested.items packages kept → AreTaken (sources ++ s ∷ []) (files ++ read.file ∷ []) kept
+
+-- the package that sources make, taken by path, and those that are nested in them, in the order in which they are written
+pub record IsGroup (sources : List Source) (main : UnresolvedPackage) (nested : List UnresolvedPackage) : Type 0 where
+  pub turn : List Source
+  pub by_path : IsByPath sources turn
+  pub files : List PackageFile
+  pub taken : AreTaken turn files nested
+  pub made : IsMadeOf files main
+
+-- one of some sources cannot be read, or its tree is unfit behind the files of those before it; or the files of all break a rule
+pub data AreRefused (turn : List Source) (e : ParseError) : Type 0 where
+  Unread : (front rest : List Source) (s : Source) → turn ≡ front ++ s ∷ rest → (files : List PackageFile) (packages : List UnresolvedPackage) → AreTaken front files packages →
+      IsRefusal (string_bytes s.contents) s.offset e → AreRefused turn e
+  Unfit : (front rest : List Source) (s : Source) → turn ≡ front ++ s ∷ rest → (files : List PackageFile) (packages : List UnresolvedPackage) (read : SourceFile) → AreTaken front files packages →
+      IsTree s read → Refused (IsUnfit files read) e → AreRefused turn e
+  Illegal : (files : List PackageFile) (packages : List UnresolvedPackage) → AreTaken turn files packages → Refused (IsBroken files) e → AreRefused turn e
+
+-- the sources, taken by path, are refused, or memory was wanted
+pub data IsRefused (sources : List Source) (e : ParseError) : Type 0 where
+  InTurn : (turn : List Source) → IsByPath sources turn → AreRefused turn e → IsRefused sources e
+  Wanted : IsWantOfMemory e → IsRefused sources e
+
+-- a text under a path is the only source
+pub record IsAlone (path text : List ℕ) (sources : List Source) : Type 0 where
+  pub source : Source
+  pub is : IsSource path text 0 source
+  pub only : sources ≡ source ∷ []
+
+-- a text is too large to be a source, or is refused as the only one
+pub data IsUnparsed (path text : List ℕ) (sources : List Source) (e : ParseError) : Type 0 where
+  TooLarge : sources ≡ [] → IsTooLarge (length text + 1) e → IsUnparsed path text sources e
+  Alone : IsAlone path text sources → IsRefused sources e → IsUnparsed path text sources e
