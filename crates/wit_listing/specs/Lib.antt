@@ -1,4 +1,3 @@
-pub mod Answers
 pub mod ErrorLine
 pub mod Foreign
 pub mod Functions
@@ -7,6 +6,7 @@ pub mod Kinds
 pub mod Listing
 pub mod Lists
 pub mod Output
+pub mod Package
 pub mod Types
 pub mod Words
 pub mod Worlds

@@ -1,20 +1,19 @@
-//! The listing of a package, and the line of a refusal.
+//! The listing of a package and of those that are nested in it, and the line of a refusal.
 #![tactic(auto)]
 
-pub mod answers;
 pub mod fault;
 mod foreign;
 mod functions;
+pub mod group;
 mod interfaces;
 mod kinds;
 mod output;
-pub mod package;
+mod package;
 pub mod refusal;
 mod types;
 mod words;
 mod worlds;
 
-pub use answers::answer;
 pub use fault::RunFault;
-pub use package::listing;
+pub use group::listing;
 pub use refusal::error_line;

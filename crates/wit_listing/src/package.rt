@@ -1,17 +1,13 @@
-//! The listing of a package.
-ghost use Rattle.std.specs.Prelude.{◌≡◌, ◌++◌, IfOk, OnOk, string_bytes};
+//! A package in a listing.
+ghost use Rattle.std.specs.Prelude.{◌≡◌, ◌++◌, OnOk, string_bytes};
 ghost use Rattle.wit_listing.specs.Words.{Adds};
-ghost use Rattle.wit_listing.specs.Output.{IsWritten};
-ghost use Rattle.wit_listing.specs.Listing.{count_line, foreign_text, header_text, interfaces_text, listing_text, types_text, worlds_text};
+ghost use Rattle.wit_listing.specs.Package.{count_line, foreign_text, header_text, interfaces_text, package_text, types_text, worlds_text};
 
-use crate::fault::RunFault;
 use crate::foreign::push_deps;
 use crate::interfaces::push_interfaces;
-use crate::output::put;
 use crate::types::push_type_lines;
 use crate::worlds::push_worlds;
-use std::alloc::{AllocError, Global};
-use std::io::Write;
+use std::alloc::AllocError;
 use wit_model::{AstItem, Interface, UnresolvedPackage, World};
 use wit_package_names::PackageName;
 use wit_types::{Arena, InterfacePlace, Stability, TypeDef, TypePlace, WorldPlace};
@@ -72,31 +68,13 @@ fn push_foreign(
     push_deps(text, deps)
 }
 
-/// The listing of a package, as a text.
-fn listing_of(alloc: Global, resolved: &UnresolvedPackage) -> Result<String, AllocError>
-    ensures { IfOk result (λ text. string_bytes text ≡ listing_text resolved.now) }
+/// A package: its name, its types, its interfaces, its worlds, and what it names of other packages.
+pub fn push_package(text: &mut String, resolved: &UnresolvedPackage) -> Result<(), AllocError>
+    ensures { OnOk result (Adds text.old text.new (package_text resolved.now)) }
 {
-    let mut text = String::new(alloc);
-    push_header(&mut text, &resolved.name)?;
-    push_types(&mut text, &resolved.types)?;
-    push_all_interfaces(&mut text, &resolved.interfaces)?;
-    push_all_worlds(&mut text, &resolved.interfaces, &resolved.worlds)?;
-    push_foreign(&mut text, &resolved.foreign_deps)?;
-    Ok(text)
-}
-
-/// Writes the listing of a package: its name, its types, its interfaces, its worlds, and what it
-/// names of other packages, a line for each and for what it holds.
-///
-/// Where a write fails or takes no byte, a beginning of the listing went out; for want of memory,
-/// nothing.
-pub fn listing<W: Write>(
-    alloc: Global,
-    resolved: &UnresolvedPackage,
-    out: &mut W,
-) -> Result<(), RunFault>
-    ensures { IsWritten (λ text. text ≡ listing_text resolved.now) (W.contents out.old) (W.contents out.new) result }
-{
-    let text = listing_of(alloc, resolved)?;
-    put(out, text.as_bytes())
+    push_header(text, &resolved.name)?;
+    push_types(text, &resolved.types)?;
+    push_all_interfaces(text, &resolved.interfaces)?;
+    push_all_worlds(text, &resolved.interfaces, &resolved.worlds)?;
+    push_foreign(text, &resolved.foreign_deps)
 }

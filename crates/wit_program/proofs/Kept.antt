@@ -5,6 +5,9 @@ use Rattle.std.specs.Io.KnownBytes.{Appends, Keeps}
 use Rattle.wit_listing.specs.declared.fault.RunFault.{RunFault}
 use Rattle.wit_listing.specs.declared.fault.RunFault.TheVariants.{Output, Memory}
 use Rattle.wit_listing.specs.Output.{IsWrittenAs}
+use Rattle.wit_lex.specs.declared.source.Source.{Source}
+use Rattle.wit_tool.specs.Run.{IsRun}
+use Rattle.wit_tool.specs.Run.IsRun.{Group, Refusal}
 use Rattle.wit_program.specs.Input.{IsAnswered}
 use Rattle.wit_program.specs.Input.IsAnswered.{Ran, TooMuch, GivenUp}
 use Rattle.wit_program.specs.Status.{IsEnded, status_of}
@@ -32,15 +35,15 @@ written_kept told IsText a b c (Ok answer) w q = (w.0, w.1, w.2, appends_kept a 
 written_kept told IsText a b c (Err Output) w q = (w.0, w.1, (w.2.0, appends_kept a b c (take w.2.0 w.0) w.2.1 q))
 written_kept told IsText a b c (Err Memory) w q = keeps_then a b c w q
 
+pub run_kept : (sources : List Source) (a b c : Option (List ℕ)) (result : Result Bool RunFault) → IsRun sources a b result → Keeps b c → IsRun sources a c result
+run_kept sources a b c result (Group main nested group written) q = Group main nested group (written_kept _ _ a b c result written q)
+run_kept sources a b c result (Refusal e refused written) q = Refusal e refused (written_kept _ _ a b c result written q)
+
 pub answered_kept : (text : List ℕ) (a b c : Option (List ℕ)) (result : Result Bool RunFault) → IsAnswered text a b result → Keeps b c → IsAnswered text a c result
 answered_kept text a b c result (Ran on) q = Ran (record {
   sources = on.sources;
   are = on.are;
-  ran = record {
-    resolved = on.ran.resolved;
-    comes_to = on.ran.comes_to;
-    written = written_kept _ _ a b c result on.ran.written q;
-  };
+  ran = run_kept on.sources a b c result on.ran q;
 })
 answered_kept text a b c result (TooMuch much) q = TooMuch (record {
   large = much.large;

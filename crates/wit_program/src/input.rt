@@ -7,8 +7,8 @@ use wit_listing::{RunFault, error_line};
 use wit_text::SourceMap;
 use wit_tool::{bundle, run};
 
-/// Writes the listing of the package that the sources of a text make, or the line of the refusal, and
-/// answers whether it was a listing.
+/// Writes the listing of the package that the sources of a text make, and of those that are nested in
+/// it, or the line of the refusal, and answers whether it was a listing.
 ///
 /// A line that begins with `=== ` starts a source, whose path is the rest of that line. What stands in
 /// front of the first such line is the source `stdin.wit`, if it is not empty. Where the sources are too
@@ -22,7 +22,7 @@ pub fn answer_text<W: Write>(alloc: Global, text: &str, out: &mut W) -> Result<b
     ensures { IsAnswered text.now (W.contents out.old) (W.contents out.new) result }
 {
     match bundle(alloc, text) {
-        Ok(map) => run(alloc, &map, out),
+        Ok(map) => run(alloc, map, out),
         Err(fault) => {
             if fault.rule() != 52 {
                 return Err(RunFault::Memory);

@@ -10,7 +10,7 @@ use wit_text::SourceMap;
 /// What is written of a text by itself.
 fn written(alloc: Global, text: &str) -> Result<String> {
     match map_of(alloc, text) {
-        Ok(map) => listing(alloc, &map),
+        Ok(map) => listing(alloc, map),
         Err(fault) => bail!("{fault}"),
     }
 }

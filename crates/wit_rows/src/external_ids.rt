@@ -6,8 +6,8 @@ use crate::docs::push_key;
 use std::alloc::AllocError;
 use wit_model::{UnresolvedPackage, World, WorldItem, WorldKey};
 use wit_tree::tree::{
-    self, AstItem, Attribute, Extern, ExternKind, InterfaceItem, PackageFile, ResourceFunc,
-    TypeBody, TypeDef,
+    self, AstItem, Attribute, DeclList, Extern, ExternKind, InterfaceItem, ResourceFunc,
+    SourceFile, TypeBody, TypeDef,
 };
 use wit_values::Text;
 
@@ -93,10 +93,17 @@ fn mark_item(item: &mut AstItem<'_>) {
     }
 }
 
-/// Makes external ids of the features of a file that begin with `id-`.
-pub fn mark_file(file: &mut PackageFile<'_>) {
-    for item in file.decl_list.items.iter_mut() {
+fn mark_declarations(declarations: &mut DeclList<'_>) {
+    for item in declarations.items.iter_mut() {
         mark_item(item);
+    }
+}
+
+/// Makes external ids of the features of a source that begin with `id-`.
+pub fn mark_source(source: &mut SourceFile<'_>) {
+    mark_declarations(&mut source.file.decl_list);
+    for inner in source.nested.iter_mut() {
+        mark_declarations(&mut inner.decl_list);
     }
 }
 

@@ -1,11 +1,11 @@
 //! The views `listing` and `input`, of sources as they are run, and `marked`, of sources whose trees have
-//! external ids: the listing of the package, or the line of its refusal.
+//! external ids: the listing of the packages, or the line of their refusal.
 
 use crate::sources::resolved;
 use anyhow::Result;
 use std::alloc::Global;
 use std::{io, str};
-use wit_listing::{answer, error_line};
+use wit_listing::{RunFault, error_line};
 use wit_text::SourceMap;
 use wit_tool::run;
 use wit_tree::ParseError;
@@ -19,15 +19,30 @@ fn told(alloc: Global, listed: bool, out: &[u8]) -> Result<String> {
     Ok(text)
 }
 
-/// The listing of the package of trees that have external ids, or the line of its refusal.
-pub fn answered(alloc: Global, map: &SourceMap) -> Result<String> {
+/// Writes the listing of the packages of trees that have external ids, or the line of their refusal, and
+/// answers whether it is a listing.
+fn write_marked(alloc: Global, map: &SourceMap, out: &mut Vec<u8>) -> Result<bool, RunFault> {
+    match resolved(alloc, map) {
+        Ok((main, nested)) => {
+            wit_listing::listing(alloc, &main, &nested, out)?;
+            Ok(true)
+        }
+        Err(fault) => {
+            error_line(alloc, map, &fault, out)?;
+            Ok(false)
+        }
+    }
+}
+
+/// The listing of the packages of trees that have external ids, or the line of their refusal.
+pub fn marked(alloc: Global, map: &SourceMap) -> Result<String> {
     let mut out: Vec<u8> = Vec::new(alloc);
-    let listed = answer(alloc, map, &resolved(alloc, map), &mut out).map_err(io::Error::from)?;
+    let listed = write_marked(alloc, map, &mut out).map_err(io::Error::from)?;
     told(alloc, listed, out.as_slice())
 }
 
-/// The listing of the package of a map, which is run, or the line of its refusal.
-pub fn listing(alloc: Global, map: &SourceMap) -> Result<String> {
+/// The listing of the packages of a map, which is run, or the line of their refusal.
+pub fn listing(alloc: Global, map: SourceMap) -> Result<String> {
     let mut out: Vec<u8> = Vec::new(alloc);
     let listed = run(alloc, map, &mut out).map_err(io::Error::from)?;
     told(alloc, listed, out.as_slice())

@@ -24,7 +24,7 @@ use std::fs;
 use std::process::ExitCode;
 
 /// The files of rows.
-const FILES: [&str; 22] = [
+const FILES: [&str; 23] = [
     "listings.rows",
     "refusals.rows",
     "files.rows",
@@ -47,6 +47,7 @@ const FILES: [&str; 22] = [
     "edges.rows",
     "worlds.rows",
     "paths.rows",
+    "groups.rows",
 ];
 
 /// Replays each file, and tells how many cases it has; ends with 0 if each is answered as it says.

@@ -10,7 +10,7 @@ use std::alloc::Global;
 fn found(alloc: Global, case: &Case) -> Result<String> {
     let name = case.view.as_str();
     match map_for(alloc, name, case.sources.as_str()) {
-        Ok(map) => view(alloc, name, &map),
+        Ok(map) => view(alloc, name, map),
         Err(fault) => bail!("{fault}"),
     }
 }

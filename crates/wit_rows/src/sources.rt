@@ -1,9 +1,10 @@
-//! The sources of a case, and the package that they make; and the view `sources`, which tells of each
+//! The sources of a case, and the packages that they make; and the view `sources`, which tells of each
 //! source its place, its path and its text, with `|` behind it.
 
-use crate::external_ids::mark_file;
+use crate::external_ids::mark_source;
 use std::alloc::{AllocError, Global};
-use wit_parser::{Resolver, UnresolvedPackage};
+use wit_groups::GroupResolver;
+use wit_model::UnresolvedPackage;
 use wit_text::{SourceMap, read_file};
 use wit_tool::bundle;
 use wit_tree::ParseResult;
@@ -34,13 +35,17 @@ pub fn map_of(alloc: Global, sources: &str) -> ParseResult<SourceMap> {
     Ok(map)
 }
 
-/// What the sources of a map come to, where each can be read and is of the package.
-pub fn resolved(alloc: Global, map: &SourceMap) -> ParseResult<UnresolvedPackage> {
-    let mut resolver = Resolver::new(alloc);
+/// What the sources of a map come to, in their order: the package that they make, and those that are
+/// nested in it.
+pub fn resolved(
+    alloc: Global,
+    map: &SourceMap,
+) -> ParseResult<(UnresolvedPackage, Vec<UnresolvedPackage>)> {
+    let mut resolver = GroupResolver::new(alloc);
     for source in map.sources() {
-        let mut file = read_file(alloc, source.contents.as_str(), source.offset)?;
-        mark_file(&mut file);
-        resolver.push(alloc, file)?;
+        let mut read = read_file(alloc, source.contents.as_str(), source.offset)?;
+        mark_source(&mut read);
+        resolver.push(alloc, read)?;
     }
     resolver.resolve(alloc)
 }

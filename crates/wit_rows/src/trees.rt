@@ -1,13 +1,17 @@
-//! The view `tree`: the debug text of the tree of each source, whose first byte is at 1000. Docs without
-//! comments and lists of no attribute are left out.
+//! The view `tree`: the debug text of the tree of each source, whose first byte is at 1000: of its file,
+//! and behind that of each package that is nested in it. Docs without comments, lists of no attribute and
+//! lists of no nested package are left out.
 
 use std::alloc::{AllocError, Global};
 use wit_text::{Source, SourceMap, read_file};
+use wit_tree::tree::{NestedPackage, SourceFile};
 
 /// The debug text of docs without comments.
 const NO_DOCS: &str = "docs: Docs { docs: [], span: Span { start: 0, end: 0 } }, ";
 
 const NO_ATTRIBUTES: &str = "attributes: [], ";
+
+const NO_NESTED: &str = ", nested: []";
 
 /// A text without a part, wherever that stands in it.
 fn without(alloc: Global, text: &str, part: &str) -> Result<String, AllocError> {
@@ -18,6 +22,14 @@ fn without(alloc: Global, text: &str, part: &str) -> Result<String, AllocError> 
     Ok(rest)
 }
 
+/// Puts the debug texts of packages behind a text.
+fn push_nested(text: &mut String, packages: &[NestedPackage<'_>]) -> Result<(), AllocError> {
+    for package in packages {
+        write!(text, ", {package:?}")?;
+    }
+    Ok(())
+}
+
 /// Puts the tree of a source behind a text.
 fn push_tree(alloc: Global, text: &mut String, source: &Source) -> Result<(), AllocError> {
     let contents = source.contents.as_str();
@@ -25,10 +37,12 @@ fn push_tree(alloc: Global, text: &mut String, source: &Source) -> Result<(), Al
         return text.push_str("too long\n");
     }
     match read_file(alloc, contents, 1000) {
-        Ok(file) => {
-            let shown = format!(in alloc; "{file:?}")?;
+        Ok(SourceFile { file, nested }) => {
+            let mut shown = format!(in alloc; "{file:?}")?;
+            push_nested(&mut shown, &nested)?;
             let short = without(alloc, shown.as_str(), NO_DOCS)?;
-            let shortest = without(alloc, short.as_str(), NO_ATTRIBUTES)?;
+            let shorter = without(alloc, short.as_str(), NO_ATTRIBUTES)?;
+            let shortest = without(alloc, shorter.as_str(), NO_NESTED)?;
             write!(text, "{}\n", shortest.as_str())
         }
         Err(fault) => write!(text, "{fault}\n"),

@@ -6,7 +6,7 @@ use crate::external_ids::push_ids;
 use crate::foreign::push_foreign;
 use crate::functions::push_functions;
 use crate::layouts::push_layouts;
-use crate::listing::{answered, listing, push_line};
+use crate::listing::{listing, marked, push_line};
 use crate::parts::push_parts;
 use crate::reading::read_view;
 use crate::sources::{resolved, sources_view};
@@ -14,7 +14,7 @@ use crate::spans::{push_required, push_spans};
 use crate::trees::tree_view;
 use anyhow::{Result, bail};
 use std::alloc::Global;
-use wit_parser::UnresolvedPackage;
+use wit_model::UnresolvedPackage;
 use wit_text::SourceMap;
 use wit_tree::ParseResult;
 
@@ -50,30 +50,36 @@ fn push_view(
     Ok(())
 }
 
-/// What the view of this name writes of a package, or the line of its refusal.
-fn package_view(
+/// What the view of this name writes of a package and of those that are nested in it, or the line of their
+/// refusal.
+fn packages_view(
     alloc: Global,
     name: &str,
     map: &SourceMap,
-    found: &ParseResult<UnresolvedPackage>,
+    found: &ParseResult<(UnresolvedPackage, Vec<UnresolvedPackage>)>,
 ) -> Result<String> {
     let mut text = String::new(alloc);
     match found {
-        Ok(package) => push_view(alloc, &mut text, name, map, package)?,
+        Ok((main, nested)) => {
+            push_view(alloc, &mut text, name, map, main)?;
+            for inner in nested {
+                push_view(alloc, &mut text, name, map, inner)?;
+            }
+        }
         Err(fault) => push_line(alloc, &mut text, map, fault)?,
     }
     Ok(text)
 }
 
 /// What the view of this name writes.
-pub fn view(alloc: Global, name: &str, map: &SourceMap) -> Result<String> {
+pub fn view(alloc: Global, name: &str, map: SourceMap) -> Result<String> {
     match name {
         "listing" | "input" => listing(alloc, map),
-        "sources" => Ok(sources_view(alloc, map)?),
-        "marked" => answered(alloc, map),
-        "cuts" => cuts_view(alloc, map),
-        "read" => Ok(read_view(alloc, map)?),
-        "tree" => Ok(tree_view(alloc, map)?),
-        _ => package_view(alloc, name, map, &resolved(alloc, map)),
+        "sources" => Ok(sources_view(alloc, &map)?),
+        "marked" => marked(alloc, &map),
+        "cuts" => cuts_view(alloc, &map),
+        "read" => Ok(read_view(alloc, &map)?),
+        "tree" => Ok(tree_view(alloc, &map)?),
+        _ => packages_view(alloc, name, &map, &resolved(alloc, &map)),
     }
 }

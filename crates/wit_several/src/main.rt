@@ -1,4 +1,4 @@
-//! The same program, over several sources.
+//! The same program, over several sources, in one of which a package is nested.
 #![tactic(auto)]
 
 use std::process::ExitCode;

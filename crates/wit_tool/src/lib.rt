@@ -4,6 +4,6 @@
 
 pub mod running;
 
-pub use running::run;
+pub use running::{listing, run};
 pub use wit_bundle::bundle;
-pub use wit_listing::{RunFault, answer, error_line, listing};
+pub use wit_listing::{RunFault, error_line};

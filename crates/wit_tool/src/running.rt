@@ -1,61 +1,73 @@
 //! From sources to what is written of them.
-ghost use Rattle.std.specs.Prelude.{IfErr, IfOk, map, string_bytes};
-ghost use Rattle.wit_lex.specs.Faults.{IsRefusal};
-ghost use Rattle.wit_tool.specs.Run.{AreRefused, AreTrees, IsResolved, IsRun, IsTree};
+ghost use Rattle.std.specs.Prelude.{◌≡◌, true};
+ghost use Rattle.wit_listing.specs.Listing.{listing_text};
+ghost use Rattle.wit_listing.specs.Output.{IsWritten};
+ghost use Rattle.wit_tool.specs.Run.{IsListed, IsRefusalWritten, IsRun};
 
 use std::alloc::Global;
 use std::io::Write;
-use wit_bundle::by_path;
-use wit_listing::answers::answer;
-use wit_listing::fault::RunFault;
-use wit_model::UnresolvedPackage;
-use wit_parser::Resolver;
-use wit_text::{Source, SourceMap, read_file};
-use wit_tree::ParseResult;
-use wit_tree::tree::PackageFile;
+use wit_groups::UnresolvedPackageGroup;
+use wit_lex::SourceMap;
+use wit_listing::{RunFault, error_line};
+use wit_tree::ParseError;
 
-/// The tree of a source.
-fn read_source<'a>(alloc: Global, source: &'a Source) -> ParseResult<PackageFile<'a>>
-    ensures tree { IfOk result (IsTree source.now) }
-    ensures unread { IfErr result (IsRefusal (string_bytes source.now.contents) source.now.offset) }
+/// Writes the listing of a group: of its main package, and behind it, in the same way, of its nested
+/// ones: of each its name, its types, its interfaces, its worlds, and what it names of other packages, a
+/// line for each and for what it holds.
+///
+/// # Errors
+///
+/// - `Output`: a write failed or took no byte. What went out is a beginning of the listing.
+/// - `Memory`: a growth was refused. Nothing went out.
+pub fn listing<W: Write>(
+    alloc: Global,
+    group: &UnresolvedPackageGroup,
+    out: &mut W,
+) -> Result<(), RunFault>
+    ensures { IsWritten (λ text. text ≡ listing_text group.now.main group.now.nested) (W.contents out.old) (W.contents out.new) result }
 {
-    read_file(alloc, source.contents.as_str(), source.offset)
+    wit_listing::listing(alloc, &group.main, group.nested.as_slice(), out)
 }
 
-/// A resolver with the trees of sources, one behind the other.
-fn push_all<'a>(alloc: Global, turn: &[&'a Source]) -> ParseResult<Resolver<'a>>
-    ensures trees { IfOk result (λ resolver. AreTrees (map (λ s. s.now) turn.now) resolver.files.items) }
-    ensures refused { IfErr result (AreRefused (map (λ s. s.now) turn.now)) }
+/// Writes the listing of a group, and answers that it is one.
+fn list<W: Write>(
+    alloc: Global,
+    group: &UnresolvedPackageGroup,
+    out: &mut W,
+) -> Result<bool, RunFault>
+    ensures { IsListed group.now.main group.now.nested (W.contents out.old) (W.contents out.new) result }
 {
-    let mut resolver = Resolver::new(alloc);
-    for source in turn {
-        let file = read_source(alloc, source)?;
-        resolver.push(alloc, file)?;
-    }
-    Ok(resolver)
+    listing(alloc, group, out)?;
+    Ok(true)
 }
 
-/// The package that sources make, which are taken by path.
-fn resolve_sources(alloc: Global, sources: &[Source]) -> ParseResult<UnresolvedPackage>
-    ensures { IsResolved sources.now result }
+/// Writes the line of a refusal, and answers that it is no listing.
+fn refuse<W: Write>(
+    alloc: Global,
+    map: &SourceMap,
+    fault: &ParseError,
+    out: &mut W,
+) -> Result<bool, RunFault>
+    ensures { IsRefusalWritten map.now.sources.items fault.now (W.contents out.old) (W.contents out.new) result }
 {
-    let turn = by_path(alloc, sources)?;
-    let resolver = push_all(alloc, &turn)?;
-    resolver.resolve(alloc)
+    error_line(alloc, map, fault, out)?;
+    Ok(false)
 }
 
 /// Reads the map's sources, by path, byte by byte, those of one path as they were pushed; resolves
-/// them as one package and writes the listing of it, or the line of the refusal. Answers whether it
-/// was a listing.
+/// them as one package, and each package that is nested in them by itself, and writes the listing of
+/// all, or the line of the refusal. Answers whether it was a listing.
 ///
 /// # Errors
 ///
 /// - `Output`: a write failed or took no byte. What went out is a beginning of the text.
 /// - `Memory`: a growth was refused while the text was made. Nothing went out. Where memory was
 ///   wanted in reading or resolving, that is a refusal, and its line is written.
-pub fn run<W: Write>(alloc: Global, map: &SourceMap, out: &mut W) -> Result<bool, RunFault>
-    ensures { IsRun map.now.sources.items (W.contents out.old) (W.contents out.new) result }
+pub fn run<W: Write>(alloc: Global, map: SourceMap, out: &mut W) -> Result<bool, RunFault>
+    ensures { IsRun map.sources.items (W.contents out.old) (W.contents out.new) result }
 {
-    let resolved = resolve_sources(alloc, map.sources());
-    answer(alloc, map, &resolved, out)
+    match UnresolvedPackageGroup::from_sources(alloc, map) {
+        Ok(group) => list(alloc, &group, out),
+        Err((map, fault)) => refuse(alloc, &map, &fault, out),
+    }
 }

@@ -113,7 +113,7 @@ fn check(rt: &impl Abort, alloc: Global, case: &str) -> Result<(), Fail> {
     };
     let map = bundle(alloc, text)?;
     let mut out: Vec<u8> = Vec::new(alloc);
-    let listed = run(alloc, &map, &mut out)?;
+    let listed = run(alloc, map, &mut out)?;
     let found = str::from_utf8(out.as_slice())?;
     assert_eq!(rt; found.strip_suffix('\n'), Some(written));
     assert_eq!(rt; listed, !written.starts_with("error "));

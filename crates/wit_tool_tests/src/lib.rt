@@ -1,4 +1,4 @@
-//! Tests of `wit_lex`, `wit_parser` and `wit_tool`: what no row of `wit_rows` asks.
+//! Tests of `wit_lex`, `wit_parser`, `wit_groups` and `wit_tool`: what no row of `wit_rows` asks.
 #![tactic(auto)]
 
 #[cfg(test)]

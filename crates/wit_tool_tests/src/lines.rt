@@ -95,7 +95,7 @@ fn check_room(
     map.push(alloc, "stdin.wit", "package foo:foo;")?;
     let taken = Vec::new(alloc);
     let mut out = Narrow { taken, room };
-    assert_eq!(rt; run(alloc, &map, &mut out), answered, "room {room}");
+    assert_eq!(rt; run(alloc, map, &mut out), answered, "room {room}");
     assert!(rt; room <= LISTING.len());
     assert_eq!(rt;
         out.taken.as_slice(),
