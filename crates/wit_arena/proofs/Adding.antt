@@ -10,15 +10,15 @@ use Rattle.wit_arena.specs.Resolving.{Required}
 use Rattle.wit_arena.specs.Resolved.{AddsEach, IsNameless, AreSoundScopes}
 use Rattle.wit_syntax.proofs.Lists.{at_either}
 
-module _ {X : Type 0} (Adds : List TypeDef → List TypeDef → List X → List X → List Required → Item → Type 0) where
-  pub adds_append : (a b c : List TypeDef) (i j k : List X) (rs ss : List Required) (ws vs : List Item) → AddsEach Adds a b i j rs ws → AddsEach Adds b c j k ss vs → AddsEach Adds a c i k (rs ++ ss) (ws ++ vs)
+module _ {X : Type 0} (Adds : List TypeDef → List TypeDef → X → X → List Required → Item → Type 0) where
+  pub adds_append : (a b c : List TypeDef) (i j k : X) (rs ss : List Required) (ws vs : List Item) → AddsEach Adds a b i j rs ws → AddsEach Adds b c j k ss vs → AddsEach Adds a c i k (rs ++ ss) (ws ++ vs)
   adds_append a b c i j k rs ss [] vs p q = subst (λ x. AddsEach Adds x c i k (rs ++ ss) vs) p.0 (subst (λ x. AddsEach Adds b c x k (rs ++ ss) vs) p.1 (subst (λ r. AddsEach Adds b c j k (r ++ ss) vs) (sym p.2) q))
   adds_append a b c i j k rs ss (w ∷ ws) vs p q = (p.0, p.1, p.2, p.3 ++ ss, ap (λ r. r ++ ss) p.4 ∙ append_assoc p.2 p.3 ss, p.5, adds_append p.0 b c p.1 j k p.3 ss ws vs p.6 q)
 
-  pub adds_one : (a b : List TypeDef) (i j : List X) (rs : List Required) (w : Item) → Adds a b i j rs w → AddsEach Adds a b i j rs (w ∷ [])
+  pub adds_one : (a b : List TypeDef) (i j : X) (rs : List Required) (w : Item) → Adds a b i j rs w → AddsEach Adds a b i j rs (w ∷ [])
   adds_one a b i j rs w p = (b, j, rs, [], sym (append-nil rs), p, (refl, refl, refl))
 
-  pub adds_none : (a : List TypeDef) (i : List X) → AddsEach Adds a a i i [] []
+  pub adds_none : (a : List TypeDef) (i : X) → AddsEach Adds a a i i [] []
   adds_none a i = (refl, refl, refl)
 
 -- behind entries that stand before, where each item adds one

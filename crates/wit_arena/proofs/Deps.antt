@@ -1,10 +1,10 @@
 -- Whose the items of other packages are, by what a package names of others.
-use Rattle.std.proofs.Common.{◌≡◌, ℕ, Bool, true, List, Some, ◌⊎◌, inl, inr, refl, sym, ap, ◌∙◌, eqb-true, eq-eqb}
-use Rattle.std.specs.Prelude.{slice_get, map, not, if◌then◌else◌}
+use Rattle.std.proofs.Common.{◌≡◌, ◌≤◌, ℕ, suc, Bool, true, List, [], ◌∷◌, length, Some, None, ◌⊎◌, inl, inr, refl, sym, ap, ◌∙◌, arith, eqb-true, eq-eqb}
+use Rattle.std.specs.Prelude.{slice_get, map, find, not, if◌then◌else◌}
 use Rattle.std.specs.List.{flat_map}
 use Rattle.std.specs.Option.{option_map}
 use Rattle.std.proofs.lemmas.Bool.{cases_Bool}
-use Rattle.std.proofs.lemmas.Option.{slice_get-map}
+use Rattle.std.proofs.lemmas.Option.{slice_get_within, slice_get-map}
 use Rattle.wit_tree.specs.declared.tree.PackageFile.{PackageFile}
 use Rattle.wit_model.specs.declared.ast_item.AstItem.{AstItem}
 use Rattle.wit_model.specs.declared.ast_item.AstItem.TheVariants as entry
@@ -12,7 +12,7 @@ use Rattle.wit_package_names.specs.declared.package_name.PackageName.{PackageNam
 use Rattle.wit_model.specs.declared.unresolved.UnresolvedPackage.{UnresolvedPackage}
 use Rattle.wit_types.specs.declared.stability.Stability.{Stability}
 use Rattle.wit_syntax.specs.Address.{Address, ForeignNamed, same_package}
-use Rattle.wit_syntax.specs.Node.{OfScope}
+use Rattle.wit_syntax.specs.Node.{OfScope, Nobody}
 use Rattle.wit_syntax.specs.Foreign.{ForeignVisit, visited_package, visited, same_item, foreign_visits, foreign_items, is_foreign_world, foreign_interfaces, foreign_worlds, foreign_packages, items_of_package}
 use Rattle.wit_arena.specs.Package.{dep_items, same_entry, address_of, foreign_owner}
 use Rattle.wit_syntax.specs.Repeats.{AllDiffer}
@@ -39,6 +39,14 @@ same_entry-equal (entry.World i) (entry.Interface j) h = absurd (let f : ⊥ = c
 -- a visit stands behind as many as its place says
 foreign_place-at : (vs : List ForeignVisit) (t : ℕ) (v : ForeignVisit) → AllDiffer (map visited vs) → slice_get vs t ≡ Some v → foreign_place vs v ≡ t
 foreign_place-at vs t v differ at = prefix_len-only (λ (u : ForeignVisit). same_item u v) vs t v at (same_address-from (visited v) (visited v) refl) (λ i u at_u same. differ_at visited vs differ i t u v at_u at (same_address-equal (visited u) (visited v) same))
+
+-- nothing is found where nothing passes
+none_found : {X : Type 0} (p : X → Bool) (xs : List X) → ((k : ℕ) (x : X) → slice_get xs k ≡ Some x → p x ≡ true → ⊥) → find p xs ≡ None
+none_found p [] none = refl
+none_found p (x ∷ xs) none = elim (cases_Bool (p x)) [
+  | inl hit ↦ absurd (none 0 x refl hit)
+  | inr miss ↦ (let rest = none_found p xs (λ k. none (suc k)) in rw miss rest)
+]
 
 module _ (files : List PackageFile) where
   abbrev entry_by : ForeignVisit → Bool → AstItem
@@ -144,3 +152,18 @@ module _ (files : List PackageFile) where
 
     pub foreign_world_owner : (t : ℕ) (v : ForeignVisit) → slice_get (foreign_worlds files) t ≡ Some v → foreign_owner p (entry.World t) ≡ OfScope (visited v)
     foreign_world_owner t v at = let q = world_visit files t v at in ap (foreign_owner p) (sym (entry_of_world t v at)) ∙ foreign_owner-entry q.0 v q.1
+
+    -- no interface behind those of other packages is one of them
+    pub foreign_interface-none : (t : ℕ) → length (foreign_interfaces files) ≤ t → foreign_owner p (entry.Interface t) ≡ Nobody
+    foreign_interface-none t past = ap address_of (none_found (λ (e : AstItem × Address). same_entry e.0 (entry.Interface t)) listed (λ k e at passes. (
+        let u = listed_at k e at in
+        let one : foreign_entry files u.1 ≡ entry.Interface t = ap (λ (x : AstItem × Address). x.0) (sym u.3) ∙ same_entry-equal e.0 (entry.Interface t) passes in
+        elim (item_sort u.0 u.1 u.2) [
+          | inl h ↦ (
+              let both : entry.Interface h.0 ≡ entry.Interface t = sym (entry_of_interface h.0 u.1 h.1) ∙ one in
+              let place : h.0 ≡ t = cc in
+              let lt = slice_get_within (foreign_interfaces files) h.0 u.1 h.1 in
+              let f : ⊥ = omega arith in
+              f)
+          | inr h ↦ (let both : entry.World h.0 ≡ entry.Interface t = sym (entry_of_world h.0 u.1 h.1) ∙ one in let f : ⊥ = cc in f)
+        ])))

@@ -18,7 +18,8 @@ use Rattle.wit_syntax.specs.Shape.{Shape, Shapes}
 use Rattle.wit_syntax.specs.Shape as shape
 use Rattle.wit_syntax.specs.Notes.{Notes, HasNotes}
 use Rattle.wit_syntax.specs.Address.{Address}
-use Rattle.wit_syntax.specs.Source.{ScopeName, local_name, scope, meaning, head, named_node, name_form, name_body, name_scope, name_span, name_notes, placed, source_tree}
+use Rattle.wit_syntax.specs.Source.{ScopeName, local_name, meaning, head, named_node, name_form, name_body, name_scope, name_span, name_notes, placed}
+use Rattle.wit_syntax.specs.Trees.{scope, source_tree}
 use Rattle.wit_arena.specs.Expr.{expr_of, exprs_of, name_exprs, Exprs}
 use Rattle.wit_arena.specs.Meet.{Key, Def, Whole, IsAt, AreAt, Decl, Decls, decl_of, IsKeyed, primitive_type}
 use Rattle.wit_arena.specs.Package.{package_tree, node_at, entry_head, entry_node, owner_of}

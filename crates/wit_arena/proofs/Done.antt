@@ -8,7 +8,8 @@ use Rattle.wit_tree.specs.declared.tree.PackageFile.{PackageFile}
 use Rattle.wit_types.specs.declared.types.TypeDef.{TypeDef}
 use Rattle.wit_types.specs.declared.types.TypeOwner.{TypeOwner}
 use Rattle.wit_syntax.specs.Address.{Address}
-use Rattle.wit_syntax.specs.Source.{ScopeName, scope, local_name}
+use Rattle.wit_syntax.specs.Source.{ScopeName, local_name}
+use Rattle.wit_syntax.specs.Trees.{scope}
 use Rattle.wit_arena.specs.Meet.{Key, Def, Whole, Meeting, keys, Decl, Decls, IsAmong, decl_of, Meets, all_name_meetings, all_function_meetings}
 use Rattle.wit_syntax.specs.Form.{Form}
 use Rattle.wit_arena.specs.Expr.{Exprs}
@@ -29,7 +30,7 @@ use Rattle.wit_arena.proofs.Wholes.{whole_in_names}
 use Rattle.wit_arena.proofs.Standing.{DoneScope, done_address, turn_of, cell_of, IsTurn, IsDoneScope, IsNameOf, IsWholeOf, IsInSignatureOf, IsDone}
 
 -- the names in turn are declared where those of the scope are
-turned_among : (o : TypeOwner) (s : Address) (xs ys : List ScopeName) → IsTurn xs ys → (d : Decl) → IsAmong (decls_of o s ys) d → IsAmong (decls_of o s xs) d
+pub turned_among : (o : TypeOwner) (s : Address) (xs ys : List ScopeName) → IsTurn xs ys → (d : Decl) → IsAmong (decls_of o s ys) d → IsAmong (decls_of o s xs) d
 turned_among o s xs ys turn d h =
     let x = map_at (decl_of o s) ys h.0 d h.1 in
     let p = turn.among h.0 x.0 x.1 in

@@ -19,7 +19,8 @@ use Rattle.wit_syntax.specs.Node.{Primitive, Head, Node, Leaf, Named, Unnamed, N
 use Rattle.wit_syntax.specs.Node as node
 use Rattle.wit_syntax.specs.Shape.{Shapes, Prim, Word, one, written_body, body_of}
 use Rattle.wit_syntax.specs.Address.{Address}
-use Rattle.wit_syntax.specs.Source.{ScopeName, Used, Defined, Taken, Place, local_name, scope, meaning, head, placed, name_form, name_body, name_scope, name_parts, named_node, source_node, source_tree}
+use Rattle.wit_syntax.specs.Source.{ScopeName, Used, Defined, Taken, Place, local_name, meaning, head, placed, name_form, name_body, name_scope, name_parts, named_node}
+use Rattle.wit_syntax.specs.Trees.{scope, source_node, source_tree}
 use Rattle.wit_arena.specs.Expr.{Exprs, exprs_of, name_exprs}
 use Rattle.wit_arena.specs.Meet.{Key, Def, AreAt, Decl, Decls, decl_of, IsKeyed, primitive_type}
 use Rattle.wit_arena.specs.Package.{HasPart}

@@ -12,7 +12,8 @@ use Rattle.wit_arena.specs.Kind.{kind_of}
 use Rattle.wit_syntax.specs.Shape.{Word, Of}
 use Rattle.wit_syntax.specs.Address.{Address}
 use Rattle.wit_syntax.specs.Node.{OfScope}
-use Rattle.wit_syntax.specs.Source.{ScopeName, Place, local_name, local_id, first_takings, scope, name_parts}
+use Rattle.wit_syntax.specs.Source.{ScopeName, Place, local_name, local_id, first_takings, name_parts}
+use Rattle.wit_syntax.specs.Trees.{scope}
 use Rattle.wit_arena.specs.Expr.{Expr, Exprs, expr_of, exprs_of, name_exprs}
 use Rattle.wit_arena.specs.Meet.{Key, Def, Whole, Meeting, keys, IsAt, Decls, IsEntry}
 use Rattle.wit_arena.specs.Package.{At, owner_of, names_of, functions_of, function_types}

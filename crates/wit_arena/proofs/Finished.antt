@@ -16,42 +16,44 @@ use Rattle.wit_model.specs.declared.world.World.{World}
 use Rattle.wit_order.specs.Table.{IsOrder}
 use Rattle.wit_syntax.specs.Fault.{Fault, fault, missing_at, name_word}
 use Rattle.wit_syntax.specs.Address.{Address, InterfaceNamed, WorldNamed, is_foreign}
-use Rattle.wit_syntax.specs.Source.{address, Target, Local, Foreign, leads, Item, ScopeName, Used, all_items, item_name, is_world, item_named, item_at, scope_names, scope, meaning, taking, takings, same_taking}
+use Rattle.wit_syntax.specs.Source.{address, Target, Local, Foreign, leads, Item, ScopeName, Used, all_items, item_name, is_world, item_named, item_at, scope_names, meaning, taking, takings, same_taking}
+use Rattle.wit_syntax.specs.Trees.{scope}
 use Rattle.wit_syntax.specs.Foreign.{visited, foreign_interfaces, foreign_worlds}
 use Rattle.wit_syntax.specs.Scope.{in_order, item_rows, interfaces_of, worlds_of, include_paths}
+use Rattle.wit_syntax.specs.Sides.{inline_items, all_scopes}
 use Rattle.wit_arena.specs.Meet.{Def, keys}
 use Rattle.wit_syntax.specs.Function.{SourceFunction, functions, free_names}
 use Rattle.wit_arena.specs.Functions.{AreFunctions}
 use Rattle.std.specs.List.{filter}
 use Rattle.wit_types.specs.declared.types.TypeOwner.TheVariants as owner
-use Rattle.wit_syntax.specs.Broken.{is_world_at, IsBroken, ItemStability, IncludeStability, Use, InterfaceIncluded, MissingName, FunctionUsed, Scope, Sides, Handle, Setter}
+use Rattle.wit_syntax.specs.Broken.{is_world_at, IsBroken, Use, InterfaceIncluded, MissingName, FunctionUsed, Scope, Sides, Handle, Setter}
 use Rattle.wit_syntax.specs.Repeats.{AllDiffer}
-use Rattle.wit_arena.specs.Whole.{Ordered, Turned, item_of}
+use Rattle.wit_arena.specs.Whole.{Ordered, own_item, Turned, item_of}
 use Rattle.wit_arena.specs.Resolving.{Names as Table, Cell, cell, cells, env_of, Required, IsIndex, IsFound, Unresolved, Unstated, OfFunction, WrongName, WrongItself, IsWrongScope, IsWorldIndex, IsNoWorld, IsLostInclude, IsLostLink}
-use Rattle.wit_arena.specs.Resolved.{worlds_at, AddsWorlds, AddsForeign, AreUsableUses, IsBrokenItemStability, OwnStability, OfInclude, IsWrongHandleNow, WrongStability, WrongScope, WrongSides, WrongWorldSides, WrongHandle, Unpaired, WrongWorldStability, WrongWorldScope, WrongWorldHandle, WrongWorldUse, LostLink, LostInclude, IsWrongAmong, IsWrongWorldAmong}
+use Rattle.wit_arena.specs.Resolved.{worlds_at, WorldArenas, front_worlds, AddsWorlds, AddsForeign, AreUsableUses, IsWrongHandleNow, WrongStability, WrongScope, WrongSides, WrongWorldSides, WrongHandle, Unpaired, IsWrongInline, WrongInline, WrongWorldStability, WrongWorldScope, WrongWorldHandle, WrongWorldUse, LostLink, LostInclude, IsWrongAmong, IsWrongWorldAmong}
 use Rattle.wit_syntax.proofs.Lists.{at_back, at_seam, at_split, map_at}
 use Rattle.wit_syntax.proofs.Firsts.{firsts_has}
 use Rattle.wit_syntax.proofs.Found.{at_contains, contains_at, find_at, find_passes}
 use Rattle.wit_syntax.proofs.Names.{name_equal}
+use Rattle.wit_syntax.proofs.Inline.{inline_interface}
+use Rattle.wit_syntax.proofs.Scopes.{all_declared, addresses_differ, item_at_its, scopes_declared, scopes_inline}
 use Rattle.wit_arena.proofs.Indexing.{cells-append, front_cell, worlds_at-append}
 use Rattle.wit_arena.proofs.Standing.{DoneScope, cell_of, IsDoneScope}
 use Rattle.wit_arena.proofs.Meant.{lacks_nothing}
 use Rattle.wit_syntax.proofs.Kept.{kept_has, kept_next}
 use Rattle.wit_arena.proofs.FreeNames.{free_of, AreStated, free_stated, stated_free}
-use Rattle.wit_arena.proofs.WrongHandles.{interface_handle, world_handle}
-use Rattle.wit_arena.proofs.Interfaces.{AreItems, item_of_scope, scope_of, interface_address, items_kept, interfaces_sort, worlds_sort}
+use Rattle.wit_arena.proofs.Stability.{stability_broken, inline_stability}
+use Rattle.wit_arena.proofs.WrongHandles.{interface_handle, world_handle, inline_handle}
+use Rattle.wit_arena.proofs.Interfaces.{AreItems, AreOfSort, item_scopes, scope_of, interface_address, items_kept, interfaces_sort, worlds_sort}
 use Rattle.wit_arena.proofs.Itemizing.{item_index, are_items}
 use Rattle.wit_arena.proofs.Visits.{visited_foreign}
 use Rattle.wit_arena.proofs.Takings.{taking_key, taking-from, taking-equal}
 use Rattle.wit_arena.proofs.Leading.{option_cases, kept_front, kept_early, paths_of_world, needed_before, named_at, IsForeignUse, used_interface, used_before}
 use Rattle.wit_arena.proofs.Front.{front_scopes, taken_listed}
 use Rattle.wit_arena.proofs.Laid.{scope_at, ordered_at, entry_of_item}
-use Rattle.wit_arena.proofs.Added.{InterfacesDone, WorldsDone, interfaces_done, worlds_done}
-
--- what is wrong with the stability of an item is wrong with the files
-stability_broken : (files : List PackageFile) (w : Item) → Contains (all_items files) w → (f : Fault) → IsBrokenItemStability w f → IsBroken files f
-stability_broken files w here f (OwnStability h) = ItemStability w here h
-stability_broken files w here f (OfInclude n among h) = IncludeStability w here n among h
+use Rattle.wit_arena.proofs.Added.{InterfacesDone, interfaces_done}
+use Rattle.wit_arena.proofs.DoneWorlds.{own_order, AreWorldsDone}
+use Rattle.wit_arena.proofs.Worlds.{worlds_done}
 
 -- a name that the table of a scope lacks means nothing in it
 pub unstated : (files : List PackageFile) (c : DoneScope) (name : List ℕ) → IsDoneScope files c → env_of c.types name ≡ None → meaning (scope files c.address) name ≡ None
@@ -143,7 +145,8 @@ module _ (files : List PackageFile) (places : List ℕ) (order : IsOrder (item_r
           let c = scope_at d.laid u.place o.0 o.1 in
           let there : slice_get (map cell own) u.place ≡ Some (cell_of c.0) = ap (λ (x : List Cell). slice_get x u.place) (sym d.laid.types) ∙ slice_get-map cell_of d.scopes u.place ∙ ap (option_map cell_of) c.1 in
           let place = length (cells ss front) + u.place in
-          let called : c.0.address ≡ InterfaceNamed name = ap (λ (x : Turned). x.address) c.2 ∙ ap address o.2 ∙ interface_address v u.sort ∙ sym u.is ∙ same in
+          let declared : address o.0.item ≡ InterfaceNamed (item_name o.0.item) = interface_address files interfaces are_interfaces u.place o.0.item (d.laid.front u.place o.0 o.1) (ap is_world o.2 ∙ u.sort) in
+          let called : c.0.address ≡ InterfaceNamed name = ap (λ (x : Turned). x.address) c.2 ∙ declared ∙ ap (λ (i : Item). InterfaceNamed (item_name i)) o.2 ∙ sym u.is ∙ same in
           index.has place (cell_of c.0) name (ap (λ (x : List Cell). slice_get x place) (cells_of own) ∙ at_back (cells ss front) (map cell own) u.place (cell_of c.0) there) called
 
       -- so no path of an item is lost that leads to an interface of the package, where all were resolved
@@ -166,6 +169,12 @@ module _ (files : List PackageFile) (places : List ℕ) (order : IsOrder (item_r
           let g : ⊥ = cc in
           g
 
+      -- an interface is the declared item at its address
+      declared_at : (j : ℕ) (v : Item) → slice_get interfaces j ≡ Some v → item_at all (address v) ≡ Some v
+      declared_at j v at =
+          let p = find_at (λ (i : Item). bytes_eq (item_name i) (item_name v)) all v (are_interfaces.found j v at) in
+          item_at_its all p.0 v (addresses_differ all (all_declared files) differ) p.1
+
       -- an interface of the package that lacks a name, as an item
       record IsTarget (from : Address) (name : List ℕ) (functions : List (List ℕ)) : Type 0 where
         item : Item
@@ -183,7 +192,7 @@ module _ (files : List PackageFile) (places : List ℕ) (order : IsOrder (item_r
           let same : address v ≡ c.0.address = ap (λ (x : Turned). x.address) o.2 in
           let here : address v ≡ from = same ∙ ap (λ (x : Cell). x.address) c.2 ∙ called in
           let lacks : env_of c.0.types name ≡ None = ap (λ (x : Cell). env_of x.types name) c.2 ∙ none in
-          let names : scope_names v ≡ scope files c.0.address = sym (scope_of files interfaces are_interfaces j v there) ∙ ap (scope files) same in
+          let names : scope_names v ≡ scope files c.0.address = sym (scope_of files interfaces (item_scopes files interfaces are_interfaces) j v there) ∙ ap (scope files) same in
           let place = length (front_scopes files front) + j in
           let c_at = at_back (front_scopes files front) d.scopes j c.0 c.1 in
           let done = d.done.each place c.0 c_at in
@@ -193,19 +202,19 @@ module _ (files : List PackageFile) (places : List ℕ) (order : IsOrder (item_r
           let stands : free_of c.0.stated ≡ target.functions = ap (λ (x : Cell). x.functions) c.2 in
           record {
             item = v;
-            declared = ap (item_at all) (sym here) ∙ item_of_scope files interfaces are_interfaces j v there;
+            declared = ap (item_at all) (sym here) ∙ declared_at j v there;
             missing = ap (λ (xs : List ScopeName). meaning xs name) names ∙ unstated files c.0 name done lacks;
             free = λ h. subst (λ (l : List (List ℕ)). Contains l name) stands (free_stated ks c.0.address v c.0.made c.0.stated are says name h);
             stated = λ h. stated_free ks c.0.address v c.0.made c.0.stated are says name (subst (λ (l : List (List ℕ)). Contains l name) (sym stands) h);
           }
 
       -- a name that an interface of the package lacks is a missing one, or that of a function
-      missing_own : (w : Item) → Contains all w → (from : Address) (attributes : List Attribute) (n : UseName) → Contains (scope_names w) (Used from attributes n) → (j : ℕ) (target : Cell) → slice_get (map cell own) j ≡ Some target → target.address ≡ from → env_of target.types n.name.name.now ≡ None → (Contains target.functions n.name.name.now → ⊥) → (f : Fault) → f ≡ missing_at 12 name_word n.name → IsBroken files f
+      missing_own : (w : Item) → Contains (all_scopes files) w → (from : Address) (attributes : List Attribute) (n : UseName) → Contains (scope_names w) (Used from attributes n) → (j : ℕ) (target : Cell) → slice_get (map cell own) j ≡ Some target → target.address ≡ from → env_of target.types n.name.name.now ≡ None → (Contains target.functions n.name.name.now → ⊥) → (f : Fault) → f ≡ missing_at 12 name_word n.name → IsBroken files f
       missing_own w here_w from attributes n among j target at called none other f says =
           let t = target_of from n.name.name.now j target at called none in
           MissingName w here_w (record { from = from; attributes = attributes; n = n; among = among; target = t.item; declared = t.declared; missing = t.missing; other = λ h. other (t.free h); is = says })
 
-      function_own : (w : Item) → Contains all w → (from : Address) (attributes : List Attribute) (n : UseName) → Contains (scope_names w) (Used from attributes n) → (j : ℕ) (target : Cell) → slice_get (map cell own) j ≡ Some target → target.address ≡ from → env_of target.types n.name.name.now ≡ None → Contains target.functions n.name.name.now → (f : Fault) → f ≡ fault 13 n.name.span → IsBroken files f
+      function_own : (w : Item) → Contains (all_scopes files) w → (from : Address) (attributes : List Attribute) (n : UseName) → Contains (scope_names w) (Used from attributes n) → (j : ℕ) (target : Cell) → slice_get (map cell own) j ≡ Some target → target.address ≡ from → env_of target.types n.name.name.now ≡ None → Contains target.functions n.name.name.now → (f : Fault) → f ≡ fault 13 n.name.span → IsBroken files f
       function_own w here_w from attributes n among j target at called none function f says =
           let t = target_of from n.name.name.now j target at called none in
           FunctionUsed w here_w (record { from = from; attributes = attributes; n = n; among = among; target = t.item; declared = t.declared; missing = t.missing; function = t.stated function; is = says })
@@ -229,7 +238,7 @@ module _ (files : List PackageFile) (places : List ℕ) (order : IsOrder (item_r
 
       -- What is wrong with the scope of an item, by interfaces that were resolved, is wrong with the files where those of the package that
       -- it uses from are among them.
-      wrong_scope : (w : Item) → Contains all w → ((from : Address) (attributes : List Attribute) (n : UseName) → Contains (scope_names w) (Used from attributes n) → IsResolvedUse vs from ⊎ IsForeignUse files from n) → (f : Fault) → IsWrongScope (cells ss (front ++ own)) by_name (scope_names w) (functions w) f → IsBroken files f
+      wrong_scope : (w : Item) → Contains (all_scopes files) w → ((from : Address) (attributes : List Attribute) (n : UseName) → Contains (scope_names w) (Used from attributes n) → IsResolvedUse vs from ⊎ IsForeignUse files from n) → (f : Fault) → IsWrongScope (cells ss (front ++ own)) by_name (scope_names w) (functions w) f → IsBroken files f
       wrong_scope w here_w earlier f (WrongItself b) = Scope w here_w b
       wrong_scope w here_w earlier f (WrongName from attributes n among (Unresolved path same free)) = elim (earlier from attributes n among) [
         | inl u ↦ absurd (
@@ -246,16 +255,17 @@ module _ (files : List PackageFile) (places : List ℕ) (order : IsOrder (item_r
           function_own w here_w from attributes n among j.0 target j.1 found.called none function f says
 
     -- no world stands where the include of a world leads, where the worlds before it were resolved
-    module _ (k p : ℕ) (w : Item) (next : slice_get places k ≡ Some p) (at : slice_get all p ≡ Some w) (sort : is_world w ≡ true) (base : List Ordered) (first : List DoneScope) (mid : List TypeDef) (own : List World) (rs : List Required) (e : WorldsDone files interfaces worlds front base first (worlds_of (in_order all (take k places))) mid own rs) (by_name : Table) (index : IsWorldIndex (worlds_at others (wfront ++ own)) by_name) where
+    module _ (k p : ℕ) (w : Item) (next : slice_get places k ≡ Some p) (at : slice_get all p ≡ Some w) (sort : is_world w ≡ true) (base : List Ordered) (first : List DoneScope) (mid : List TypeDef) (a : WorldArenas) (rs : List Required) (e : AreWorldsDone files interfaces worlds wfront base first (worlds_of (in_order all (take k places))) mid a rs) (by_name : Table) (index : IsWorldIndex (worlds_at others a.worlds) by_name) where
       world_found : (t q : ℕ) (v : Item) (name : List ℕ) → t < k → slice_get places t ≡ Some q → slice_get all q ≡ Some v → is_world v ≡ true → name ≡ item_name v → IsSome (env_of by_name name)
       world_found t q v name before at_t at_q world same =
           let j = kept_early is_world all places k t q v before at_t at_q world in
-          let o = map_at item_of e.ordered j.0 v (ap (λ (l : List Item). slice_get l j.0) e.all ∙ j.1) in
-          let x = entry_of_item e.laid j.0 o.0 o.1 in
-          let called : x.0.name ≡ name = (e.laid.says j.0 o.0 x.0 o.1 x.1).says.name ∙ ap item_name o.2 ∙ sym same in
-          let named = map (λ (y : World). WorldNamed y.name) own in
+          let o = map_at own_item e.ordered j.0 v (ap (λ (l : List Item). slice_get l j.0) e.all ∙ j.1) in
+          let own_at : slice_get (map own_order e.ordered) j.0 ≡ Some o.0.own = slice_get-map own_order e.ordered j.0 ∙ ap (option_map own_order) o.1 in
+          let x = entry_of_item e.laid j.0 o.0.own own_at in
+          let called : x.0.name ≡ name = (e.laid.says j.0 o.0.own x.0 own_at x.1).says.name ∙ ap item_name o.2 ∙ sym same in
+          let named = map (λ (y : World). WorldNamed y.name) e.own in
           let place = length others + j.0 in
-          index.has place name (ap (λ (l : List Address). slice_get l place) (worlds_of_front own) ∙ at_back others named j.0 (WorldNamed name) (slice_get-map (λ (y : World). WorldNamed y.name) own j.0 ∙ ap (option_map (λ (y : World). WorldNamed y.name)) x.1 ∙ ap (λ (m : List ℕ). Some (WorldNamed m)) called))
+          index.has place name (ap (λ (l : List Address). slice_get l place) (ap (worlds_at others) e.arena ∙ worlds_of_front e.own) ∙ at_back others named j.0 (WorldNamed name) (slice_get-map (λ (y : World). WorldNamed y.name) e.own j.0 ∙ ap (option_map (λ (y : World). WorldNamed y.name)) x.1 ∙ ap (λ (m : List ℕ). Some (WorldNamed m)) called))
 
       lost_leads : (path : UsePath) → Contains (include_paths w) path → (t : Target) → leads w.top path ≡ t → IsNoWorld files by_name t → is_world_at files t ≡ Some false
       lost_leads path among (Local id) lead lost =
@@ -295,15 +305,50 @@ module _ (files : List PackageFile) (places : List ℕ) (order : IsOrder (item_r
               inl (record { place = it.0; item = b.own.item; at = it.1; sort = b.own.sort; is = b.own.is }))
           | inr b ↦ inr b
         ] in
-        let here = contains_at all p w h.next.at in
+        let declared = contains_at all p w h.next.at in
+        let here = scopes_declared files w declared in
         let next = next_kept (λ (i : Item). not (is_world i)) k p w h.next.next h.next.at (ap not h.sort) in
         elim h.wrong [
-          | WrongStability wrong ↦ stability_broken files w here f wrong
+          | WrongStability wrong ↦ stability_broken files w declared f wrong
           | WrongScope wrong ↦ wrong_scope uses h.es h.front h.ws h.foreign vs h.mid d.0 h.rs d.2 h.by_name (subst (λ (l : List Interface). IsIndex (cells fore l) h.by_name) d.1 h.index) w here earlier f (subst (λ (l : List Interface). IsWrongScope (cells fore l) h.by_name (scope_names w) (functions w) f) d.1 wrong)
           | WrongSides wrong ↦ Sides w here wrong
           | WrongHandle wrong ↦ Handle w here (interface_handle files interfaces worlds (interfaces_sort (in_order all places)) (worlds_sort (in_order all places)) are_interfaces are_worlds uses h.es h.front h.ws h.foreign vs h.mid d.0 h.rs w next d.2 f (subst (λ (l : List Interface). IsWrongHandleNow h.mid (cells fore l) (owner.Interface (length l)) w f) d.1 wrong))
           | Unpaired alone ↦ Setter w here (record { interface = h.sort; alone = alone })
         ]
+
+    -- a scope of the files uses from interfaces of the package, or of others
+    used_among : (w : Item) → Contains (all_scopes files) w → (from : Address) (attributes : List Attribute) (n : UseName) → Contains (scope_names w) (Used from attributes n) → IsResolvedUse interfaces from ⊎ IsForeignUse files from n
+    used_among w here from attributes n among = elim (used_interface files uses w from attributes n here among) [
+      | inl b ↦ (
+          let it = interface_at b.item b.sort (contains_at all b.place b.item b.at) in
+          inl (record { place = it.0; item = b.item; at = it.1; sort = b.sort; is = b.is }))
+      | inr b ↦ inr b
+    ]
+
+    -- all interfaces are resolved, and some worlds
+    module _ (es : List TypeDef) (front : List Interface) (wfront : List World) (foreign : AddsForeign files es front wfront) (middle : List TypeDef) (xs : List Interface) (irs : List Required) (d : InterfacesDone files interfaces worlds front interfaces middle xs irs) (by_name : Table) (index : IsIndex (cells (map visited (foreign_interfaces files)) (front ++ xs)) by_name) (us : List Item) (mid : List TypeDef) (a : WorldArenas) (wrs : List Required) (e : AreWorldsDone files interfaces worlds wfront d.ordered (front_scopes files front ++ d.scopes) us mid a wrs) (w : Item) (next : slice_get worlds (length us) ≡ Some w) (declared : Contains all w) where
+      abbrev fore : List Address
+      fore = map visited (foreign_interfaces files)
+
+      abbrev is_sort : AreOfSort false interfaces
+      is_sort = interfaces_sort (in_order all places)
+
+      abbrev ws_sort : AreOfSort true worlds
+      ws_sort = worlds_sort (in_order all places)
+
+      -- what is wrong with an interface that is written in the next one is wrong with the files
+      inline_broken : (f : Fault) → IsWrongInline mid (cells fore (front ++ xs)) (length (front ++ xs)) a.inside by_name (owner.World (length a.worlds)) w f → IsBroken files f
+      inline_broken f h =
+          let inner = h.inner in
+          let here = scopes_inline files w inner declared (contains_at (inline_items w) h.done inner h.next) in
+          let sort = inline_interface w h.done inner h.next in
+          elim h.wrong [
+            | WrongStability wrong ↦ Sides w (scopes_declared files w declared) (inline_stability w h.done inner h.next f wrong)
+            | WrongScope wrong ↦ wrong_scope uses es front wfront foreign interfaces middle xs irs d by_name index inner here (used_among inner here) f wrong
+            | WrongSides wrong ↦ Sides inner here wrong
+            | WrongHandle wrong ↦ Handle inner here (inline_handle files interfaces worlds is_sort ws_sort are_interfaces are_worlds uses es front wfront foreign middle xs irs d us mid a wrs w next e h.place h.done inner h.next h.types h.middle h.mid h.adds h.now h.functions h.rs h.sides h.reached f wrong)
+            | Unpaired alone ↦ Setter inner here (record { interface = sort; alone = alone })
+          ]
 
     -- what is wrong with a world, once all interfaces and the worlds before it in the order were resolved, is wrong with the files
     pub broken_world_among : (f : Fault) → IsWrongWorldAmong files all places f → IsBroken files f
@@ -317,21 +362,19 @@ module _ (files : List PackageFile) (places : List ℕ) (order : IsOrder (item_r
         let is_sort = interfaces_sort (in_order all places) in
         let ws_sort = worlds_sort (in_order all places) in
         let d = interfaces_done files interfaces worlds is_sort ws_sort are_interfaces are_worlds uses h.es h.front h.worlds_front h.foreign h.middle h.is h.rs interfaces (λ j v at. at) h.interfaces in
-        let more = subst (λ (l : List Interface). AddsWorlds fore aft l h.middle h.mid h.worlds_front h.before h.worlds_rs vs) d.1 h.added in
+        let more = subst (λ (l : List Interface). AddsWorlds fore aft l h.middle h.mid (front_worlds h.worlds_front) h.before h.worlds_rs vs) d.1 h.added in
         let e = worlds_done files interfaces worlds is_sort ws_sort are_interfaces are_worlds uses h.es h.front h.worlds_front h.foreign h.middle d.0 h.rs d.2 h.mid h.before h.worlds_rs vs (λ j v at. kept_front is_world all places k j v at) more in
-        let here = contains_at all p w h.next.at in
-        let earlier : (from : Address) (attributes : List Attribute) (n : UseName) → Contains (scope_names w) (Used from attributes n) → IsResolvedUse interfaces from ⊎ IsForeignUse files from n = λ from attributes n among. elim (used_interface files uses w from attributes n here among) [
-          | inl b ↦ (
-              let it = interface_at b.item b.sort (contains_at all b.place b.item b.at) in
-              inl (record { place = it.0; item = b.item; at = it.1; sort = b.sort; is = b.is }))
-          | inr b ↦ inr b
-        ] in
+        let declared = contains_at all p w h.next.at in
+        let here = scopes_declared files w declared in
+        let next = next_kept is_world k p w h.next.next h.next.at h.sort in
+        let index = subst (λ (l : List Interface). IsIndex (cells fore l) h.by_name) d.1 h.index in
         elim h.wrong [
-          | WrongWorldStability wrong ↦ stability_broken files w here f wrong
-          | WrongWorldScope wrong ↦ wrong_scope uses h.es h.front h.worlds_front h.foreign interfaces h.middle d.0 h.rs d.2 h.by_name (subst (λ (l : List Interface). IsIndex (cells fore l) h.by_name) d.1 h.index) w here earlier f (subst (λ (l : List Interface). IsWrongScope (cells fore l) h.by_name (scope_names w) (functions w) f) d.1 wrong)
+          | WrongInline wrong ↦ inline_broken h.es h.front h.worlds_front h.foreign h.middle d.0 h.rs d.2 h.by_name index vs h.mid h.before h.worlds_rs e w next declared f (subst (λ (l : List Interface). IsWrongInline h.mid (cells fore l) (length l) h.before.inside h.by_name (owner.World (length h.before.worlds)) w f) d.1 wrong)
+          | WrongWorldStability wrong ↦ stability_broken files w declared f wrong
+          | WrongWorldScope wrong ↦ wrong_scope uses h.es h.front h.worlds_front h.foreign interfaces h.middle d.0 h.rs d.2 h.by_name index w here (used_among w here) f (subst (λ (l : List Interface). IsWrongScope (cells fore l) h.by_name (scope_names w) (functions w) f) d.1 wrong)
           | WrongWorldSides wrong ↦ Sides w here wrong
-          | WrongWorldHandle wrong ↦ Handle w here (world_handle files interfaces worlds is_sort ws_sort are_interfaces are_worlds uses h.es h.front h.worlds_front h.foreign h.middle d.0 h.rs d.2 vs h.mid e.0 h.worlds_rs w (next_kept is_world k p w h.next.next h.next.at h.sort) e.2 f (subst (λ (l : List World). IsWrongHandleNow h.mid (cells fore (h.front ++ d.0)) (owner.World (length l)) w f) e.1 (subst (λ (l : List Interface). IsWrongHandleNow h.mid (cells fore l) (owner.World (length h.before)) w f) d.1 wrong)))
-          | WrongWorldUse wrong ↦ Use w here wrong
-          | LostLink lost ↦ absurd (none_lost uses h.es h.front h.worlds_front h.foreign interfaces h.middle d.0 h.rs d.2 h.by_name (subst (λ (l : List Interface). IsIndex (cells fore l) h.by_name) d.1 h.index) interface_at w f lost)
-          | LostInclude lost ↦ lost_include uses h.es h.front h.worlds_front h.foreign k p w h.next.next h.next.at h.sort d.2.ordered d.2.scopes h.mid e.0 h.worlds_rs e.2 h.worlds_by_name (subst (λ (l : List World). IsWorldIndex (worlds_at aft l) h.worlds_by_name) e.1 h.worlds_index) f lost
+          | WrongWorldHandle wrong ↦ Handle w here (world_handle files interfaces worlds is_sort ws_sort are_interfaces are_worlds uses h.es h.front h.worlds_front h.foreign h.middle d.0 h.rs d.2 vs h.mid h.before h.worlds_rs w next e f (subst (λ (l : List Interface). IsWrongHandleNow h.mid (cells fore l) (owner.World (length h.before.worlds)) w f) d.1 wrong))
+          | WrongWorldUse wrong ↦ Use w declared wrong
+          | LostLink lost ↦ absurd (none_lost uses h.es h.front h.worlds_front h.foreign interfaces h.middle d.0 h.rs d.2 h.by_name index interface_at w f lost)
+          | LostInclude lost ↦ lost_include uses h.es h.front h.worlds_front h.foreign k p w h.next.next h.next.at h.sort d.2.ordered (front_scopes files h.front ++ d.2.scopes) h.mid h.before h.worlds_rs e h.worlds_by_name h.worlds_index f lost
         ]

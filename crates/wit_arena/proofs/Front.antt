@@ -18,7 +18,9 @@ use Rattle.wit_syntax.specs.Shape.{all_handles}
 use Rattle.wit_syntax.specs.Function.{functions, name_types}
 use Rattle.wit_arena.specs.Functions.{AreFunctions}
 use Rattle.wit_syntax.specs.Address.{Address, ForeignNamed, same_address}
-use Rattle.wit_syntax.specs.Source.{Declared, TheInterface, TheWorld, declared_address, Item, all_items, item_at, Taken, taken, local_name, Taking, takings, same_taking, first_takings, scope, taken_names}
+use Rattle.wit_syntax.specs.Source.{Declared, TheInterface, TheWorld, TheInline, declared_address, Item, all_items, item_at, Taken, taken, local_name, Taking, takings, same_taking, first_takings, taken_names}
+use Rattle.wit_syntax.specs.Sides.{all_scopes}
+use Rattle.wit_syntax.specs.Trees.{scope}
 use Rattle.wit_syntax.specs.Foreign.{ForeignVisit, visited_package, visited, foreign_interfaces, foreign_worlds}
 use Rattle.wit_arena.specs.Expr.{Exprs}
 use Rattle.wit_arena.specs.Meet.{Key, Def, Whole, Meeting, keys, Decls, decl_of, IsEntry, IsNamedEntry, IsSettled, IsMeeting}
@@ -140,6 +142,7 @@ front_at files front count t c at = elim (at_part (interface_scopes files 0 (for
 not_declared : (d : Declared) (p : PackageName) (name : List ℕ) → same_address (declared_address d) (ForeignNamed p name) ≡ false
 not_declared (TheInterface i) p name = refl
 not_declared (TheWorld w) p name = refl
+not_declared (TheInline world place x own items) p name = refl
 
 no_item : (is : List Item) (p : PackageName) (name : List ℕ) → item_at is (ForeignNamed p name) ≡ None
 no_item [] p name = refl
@@ -147,7 +150,7 @@ no_item (i ∷ is) p name = rw (not_declared i.declared p name) (no_item is p na
 
 -- so nothing is known of functions of another package's items
 no_functions_at : (files : List PackageFile) (p : PackageName) (name : List ℕ) → functions_at files (ForeignNamed p name) ≡ []
-no_functions_at files p name = ap (λ (o : Option Item). option_map_or functions o []) (no_item (all_items files) p name)
+no_functions_at files p name = ap (λ (o : Option Item). option_map_or functions o []) (no_item (all_scopes files) p name)
 
 nothing_stated : AreStated [] [] []
 nothing_stated = record { has = λ k fn f at. absurd (let f : ⊥ = cc in f); from = λ place key f at. absurd (let f : ⊥ = cc in f) }

@@ -1,27 +1,31 @@
 -- Where items stand by their names and by their scopes.
-use Rattle.std.proofs.Common.{◌≡◌, ℕ, zero, suc, ◌+◌, Bool, true, false, not, cond, List, [], ◌∷◌, length, Option, Some, None, inl, inr, refl, sym, ap, ◌∙◌, arith, get_or}
-use Rattle.std.specs.Prelude.{slice_get, map, nat_lt, position, find}
-use Rattle.std.specs.List.{filter, prefix_len}
+use Rattle.std.proofs.Common.{◌≡◌, ℕ, zero, suc, ◌+◌, Bool, true, false, not, cond, List, [], ◌∷◌, ◌++◌, length, Option, Some, None, inl, inr, refl, sym, ap, ◌∙◌, subst, arith, get_or}
+use Rattle.std.specs.Prelude.{slice_get, map, nat_lt, position}
+use Rattle.std.specs.List.{filter, flat_map, prefix_len}
 use Rattle.std.specs.Option.{option_map, option_map_or, option_or, unwrap_or}
 use Rattle.std.specs.Str.{bytes_eq}
 use Rattle.std.proofs.lemmas.Bool.{cases_Bool, cond-true, lt-ltb, not-true}
+use Rattle.std.proofs.lemmas.List.{map-append}
 use Rattle.std.proofs.lemmas.List.Quantifiers.{position-Some}
 use Rattle.std.proofs.lemmas.Option.{slice_get_within, slice_get-get_or}
 use Rattle.wit_tree.specs.declared.tree.PackageFile.{PackageFile}
 use Rattle.wit_types.specs.declared.types.TypeOwner.TheVariants as owner
-use Rattle.wit_syntax.specs.Address.{Address, InterfaceNamed, WorldNamed, ForeignNamed, same_address, is_foreign}
-use Rattle.wit_syntax.specs.Source.{Declared, TheInterface, TheWorld, declared_id, declared_address, is_declared_world, address, Item, all_items, item_name, is_world, item_named, item_at, scope_names, scope}
+use Rattle.wit_syntax.specs.Address.{Address, InterfaceNamed, WorldNamed, InlineAt, ForeignNamed, same_address, is_foreign}
+use Rattle.wit_syntax.specs.Source.{Declared, TheInterface, TheWorld, TheInline, declared_id, declared_name, declared_address, is_declared_world, address, Item, all_items, item_name, is_world, item_named, item_at, scope_names}
+use Rattle.wit_syntax.specs.Trees.{scope}
 use Rattle.wit_syntax.specs.Scope.{interfaces_of, worlds_of}
 use Rattle.wit_syntax.specs.Repeats.{AllDiffer}
 use Rattle.wit_arena.specs.Whole.{place_at, owner_at, functions_at}
 use Rattle.wit_syntax.specs.Function.{functions}
-use Rattle.wit_syntax.proofs.Lists.{map_at}
-use Rattle.wit_syntax.proofs.Names.{name_equal}
+use Rattle.wit_syntax.specs.Sides.{inline_items, with_inline, all_scopes}
+use Rattle.wit_syntax.proofs.Lists.{at_split, map_at, flat_map_at}
 use Rattle.wit_syntax.proofs.Addresses.{same_address-itself, same_address-equal}
-use Rattle.wit_syntax.proofs.Repeated.{differ_at, differ_by}
+use Rattle.wit_syntax.proofs.Repeated.{differ_join}
 use Rattle.wit_syntax.proofs.Kept.{kept_at, kept_differ}
 use Rattle.wit_syntax.proofs.Tables.{none_if}
-use Rattle.wit_syntax.proofs.Found.{find_passes}
+use Rattle.wit_syntax.proofs.Found.{find_at, find_passes}
+use Rattle.wit_syntax.proofs.Inline.{is_inside}
+use Rattle.wit_syntax.proofs.Scopes.{AreDeclared, all_declared, addresses_differ, inline_differ, scopes_differ, scope_item_at, inside_one}
 
 -- the only one that passes stands behind those that fail
 pub prefix_len-only : {X : Type 0} (p : X → Bool) (xs : List X) (t : ℕ) (x : X) → slice_get xs t ≡ Some x → p x ≡ true → ((i : ℕ) (y : X) → slice_get xs i ≡ Some y → p y ≡ true → i ≡ t) → prefix_len (λ y. not (p y)) xs ≡ t
@@ -48,51 +52,66 @@ pub record AreItems (files : List PackageFile) (ws : List Item) : Type 0 where
   pub found : (t : ℕ) (w : Item) → slice_get ws t ≡ Some w → item_named (all_items files) (item_name w) ≡ Some w
   pub unique : AllDiffer (map item_name ws)
 
--- what a test finds first, a test that it passes and that lets no other one pass finds first
-find_finer : {X : Type 0} (p q : X → Bool) (xs : List X) (x : X) → ((y : X) → q y ≡ true → p y ≡ true) → q x ≡ true → find p xs ≡ Some x → find q xs ≡ Some x
-find_finer p q [] x finer pass h = absurd (let f : ⊥ = cc in f)
-find_finer p q (y ∷ xs) x finer pass h = elim (cases_Bool (q y)) [
-  | inl hit ↦ (let coarse = finer y hit in let here : Some y ≡ Some x = rw coarse at h in rw hit here)
-  | inr miss ↦ elim (cases_Bool (p y)) [
-    | inl coarse ↦ absurd (
-        let here : Some y ≡ Some x = rw coarse at h in
-        let same : y ≡ x = cc in
-        let wrong : true ≡ false = sym pass ∙ ap q (sym same) ∙ miss in
-        let f : ⊥ = cc in
-        f)
-    | inr none ↦ (let rest = find_finer p q xs x finer pass (rw none at h) in rw miss rest)
-  ]
-]
+-- scopes in an order, each the one at its address, and no two at one address
+pub record AreScopes (files : List PackageFile) (ws : List Item) : Type 0 where
+  pub found : (t : ℕ) (w : Item) → slice_get ws t ≡ Some w → item_at (all_scopes files) (address w) ≡ Some w
+  pub unique : AllDiffer (map address ws)
 
--- declared items at one address have one name
-declared_same : (a b : Declared) → same_address (declared_address a) (declared_address b) ≡ true → bytes_eq (declared_id a).name.now (declared_id b).name.now ≡ true
-declared_same (TheInterface a) (TheInterface b) h = h
-declared_same (TheInterface a) (TheWorld b) h = absurd (let f : ⊥ = cc in f)
-declared_same (TheWorld a) (TheInterface b) h = absurd (let f : ⊥ = cc in f)
-declared_same (TheWorld a) (TheWorld b) h = h
+module _ (files : List PackageFile) (ws : List Item) (items : AreItems files ws) where
+  -- such items are declared
+  pub items_declared : AreDeclared ws
+  items_declared t w at =
+      let it = find_at (λ (i : Item). bytes_eq (item_name i) (item_name w)) (all_items files) w (items.found t w at) in
+      all_declared files it.0 w it.1
 
-same_name : (v w : Item) → same_address (address v) (address w) ≡ true → bytes_eq (item_name v) (item_name w) ≡ true
-same_name v w h = declared_same v.declared w.declared h
+  -- each stands at its address, with those that are written in it
+  with_found : (k : ℕ) (i : Item) → slice_get (flat_map with_inline ws) k ≡ Some i → item_at (all_scopes files) (address i) ≡ Some i
+  with_found k i at =
+      let it = flat_map_at with_inline ws k i at in
+      scope_item_at (all_items files) it.1 it.3.0 i (all_declared files) (items.found it.0 it.1 it.2) it.3.1
 
--- items at one address have one name
-pub name_at_address : (v w : Item) → address v ≡ address w → item_name v ≡ item_name w
-name_at_address v w h = name_equal (item_name v) (item_name w) (same_name v w (ap (λ (a : Address). same_address a (address w)) h ∙ same_address-itself (address w)))
+  pub item_scopes : AreScopes files ws
+  item_scopes = record {
+    found = λ t w at. scope_item_at (all_items files) w 0 w (all_declared files) (items.found t w at) refl;
+    unique = addresses_differ ws items_declared items.unique;
+  }
 
--- the first item of a name is the first at its address
-pub item_at_address : (is : List Item) (w : Item) → item_named is (item_name w) ≡ Some w → item_at is (address w) ≡ Some w
-item_at_address is w found = find_finer (λ i. bytes_eq (item_name i) (item_name w)) (λ i. same_address (address i) (address w)) is w (λ v h. same_name v w h) (same_address-itself (address w)) found
+  pub inline_scopes : AreScopes files (flat_map inline_items ws)
+  inline_scopes = record {
+    found = λ k i at. (
+        let it = flat_map_at inline_items ws k i at in
+        scope_item_at (all_items files) it.1 (suc it.3.0) i (all_declared files) (items.found it.0 it.1 it.2) it.3.1);
+    unique = inline_differ ws items_declared items.unique;
+  }
 
--- the address of an interface, and of a world
-declared_at_interface : (a : Declared) → is_declared_world a ≡ false → declared_address a ≡ InterfaceNamed (declared_id a).name.now
-declared_at_interface (TheInterface i) h = refl
-declared_at_interface (TheWorld w) h = absurd (let f : ⊥ = cc in f)
+  pub with_scopes : AreScopes files (flat_map with_inline ws)
+  with_scopes = record { found = with_found; unique = scopes_differ ws items_declared items.unique }
+
+-- the address of a declared interface and what it is called, and the address of a world
+declared_at_interface : (a : Declared) → is_inside (declared_address a) ≡ false → is_declared_world a ≡ false → declared_address a ≡ InterfaceNamed (declared_id a).name.now
+declared_at_interface (TheInterface i) own h = refl
+declared_at_interface (TheWorld w) own h = absurd (let f : ⊥ = cc in f)
+declared_at_interface (TheInline world place x name items) own h = absurd (let f : ⊥ = cc in f)
+
+called_interface : (a : Declared) → is_inside (declared_address a) ≡ false → declared_name a ≡ Some (declared_id a).name.now
+called_interface (TheInterface i) own = refl
+called_interface (TheWorld w) own = refl
+called_interface (TheInline world place x name items) own = absurd (let f : ⊥ = cc in f)
 
 declared_at_world : (a : Declared) → is_declared_world a ≡ true → declared_address a ≡ WorldNamed (declared_id a).name.now
 declared_at_world (TheInterface i) h = absurd (let f : ⊥ = cc in f)
 declared_at_world (TheWorld w) h = refl
+declared_at_world (TheInline world place x name items) h = absurd (let f : ⊥ = cc in f)
 
-pub interface_address : (w : Item) → is_world w ≡ false → address w ≡ InterfaceNamed (item_name w)
-interface_address w h = declared_at_interface w.declared h
+pub own_interface_address : (w : Item) → is_inside (address w) ≡ false → is_world w ≡ false → address w ≡ InterfaceNamed (item_name w)
+own_interface_address w own h = declared_at_interface w.declared own h
+
+module _ (files : List PackageFile) (ws : List Item) (items : AreItems files ws) (t : ℕ) (w : Item) (at : slice_get ws t ≡ Some w) where
+  pub interface_address : is_world w ≡ false → address w ≡ InterfaceNamed (item_name w)
+  interface_address h = own_interface_address w (items_declared files ws items t w at) h
+
+  pub declared_called : declared_name w.declared ≡ Some (item_name w)
+  declared_called = called_interface w.declared (items_declared files ws items t w at)
 
 pub world_address : (w : Item) → is_world w ≡ true → address w ≡ WorldNamed (item_name w)
 world_address w h = declared_at_world w.declared h
@@ -101,6 +120,7 @@ world_address w h = declared_at_world w.declared h
 own_declared : (a : Declared) → is_foreign (declared_address a) ≡ false
 own_declared (TheInterface i) = refl
 own_declared (TheWorld w) = refl
+own_declared (TheInline world place x name items) = refl
 
 pub own_address : (w : Item) → is_foreign (address w) ≡ false
 own_address w = own_declared w.declared
@@ -156,23 +176,20 @@ module _ (is ws : List Address) (addresses : AreAddresses is ws) where
   world_owner_at t s at = owner_of_world is ws s t (place_at-none is s (λ i iat. addresses.apart i t s iat at)) (place_at-found ws s t addresses.worlds at)
 
 -- the scope at the address of an item has its names
-pub scope_at : (files : List PackageFile) (s : Address) (w : Item) → item_at (all_items files) s ≡ Some w → scope files s ≡ scope_names w
+pub scope_at : (files : List PackageFile) (s : Address) (w : Item) → item_at (all_scopes files) s ≡ Some w → scope files s ≡ scope_names w
 scope_at files (InterfaceNamed name) w found = ap (λ (o : Option Item). option_map_or scope_names o []) found
 scope_at files (WorldNamed name) w found = ap (λ (o : Option Item). option_map_or scope_names o []) found
+scope_at files (InlineAt world side place) w found = ap (λ (o : Option Item). option_map_or scope_names o []) found
 scope_at files (ForeignNamed p name) w found = absurd (
-    let same = same_address-equal (address w) (ForeignNamed p name) (find_passes (λ (i : Item). same_address (address i) (ForeignNamed p name)) (all_items files) w found) in
+    let same = same_address-equal (address w) (ForeignNamed p name) (find_passes (λ (i : Item). same_address (address i) (ForeignNamed p name)) (all_scopes files) w found) in
     let wrong : false ≡ true = sym (own_address w) ∙ ap is_foreign same in
     let f : ⊥ = cc in
     f)
 
--- items of different names have different addresses
-pub addresses_differ : (ws : List Item) → AllDiffer (map item_name ws) → AllDiffer (map address ws)
-addresses_differ ws differ = differ_by address ws (λ i j v w ati atj same. differ_at item_name ws differ i j v w ati atj (name_at_address v w same))
-
-module _ (files : List PackageFile) (ws : List Item) (items : AreItems files ws) where
+module _ (files : List PackageFile) (ws : List Item) (scopes : AreScopes files ws) where
   -- the item at the address of one is the one
-  pub item_of_scope : (t : ℕ) (w : Item) → slice_get ws t ≡ Some w → item_at (all_items files) (address w) ≡ Some w
-  item_of_scope t w at = item_at_address (all_items files) w (items.found t w at)
+  pub item_of_scope : (t : ℕ) (w : Item) → slice_get ws t ≡ Some w → item_at (all_scopes files) (address w) ≡ Some w
+  item_of_scope t w at = scopes.found t w at
 
   -- the scope of an item has its names
   pub scope_of : (t : ℕ) (w : Item) → slice_get ws t ≡ Some w → scope files (address w) ≡ scope_names w
@@ -182,15 +199,27 @@ module _ (files : List PackageFile) (ws : List Item) (items : AreItems files ws)
   pub functions_of : (t : ℕ) (w : Item) → slice_get ws t ≡ Some w → functions_at files (address w) ≡ functions w
   functions_of t w at = ap (λ (o : Option Item). option_map_or functions o []) (item_of_scope t w at)
 
--- the addresses of interfaces and of worlds
-pub item_addresses : (files : List PackageFile) (is ws : List Item) → AreOfSort false is → AreOfSort true ws → AreItems files is → AreItems files ws → AreAddresses (map address is) (map address ws)
-item_addresses files is ws interfaces worlds a b = record {
-  interfaces = addresses_differ is a.unique;
-  worlds = addresses_differ ws b.unique;
-  apart = λ i j s ati atj. (
-      let v = map_at address is i s ati in
-      let w = map_at address ws j s atj in
-      let wrong : InterfaceNamed (item_name v.0) ≡ WorldNamed (item_name w.0) = sym (interface_address v.0 (interfaces.each i v.0 v.1)) ∙ v.2 ∙ sym w.2 ∙ world_address w.0 (worlds.each j w.0 w.1) in
-      let f : ⊥ = cc in
-      f);
-}
+-- the addresses of interfaces, those that are written in worlds behind the declared ones, and of worlds
+pub scope_addresses : (files : List PackageFile) (is ws : List Item) → AreOfSort false is → AreOfSort true ws → AreItems files is → AreItems files ws → AreAddresses (map address (is ++ flat_map inline_items ws)) (map address ws)
+scope_addresses files is ws interfaces worlds a b =
+    let inside = flat_map inline_items ws in
+    record {
+      interfaces = subst (λ (l : List Address). AllDiffer l) (sym (map-append address is inside)) (differ_join (map address is) (map address inside) (item_scopes files is a).unique (inline_scopes files ws b).unique (λ i j s ati atj. (
+          let v = map_at address is i s ati in
+          let w = map_at address inside j s atj in
+          never_inside v.0 w.0 (items_declared files is a i v.0 v.1) (inside_one ws j w.0 w.1) (v.2 ∙ sym w.2))));
+      worlds = (item_scopes files ws b).unique;
+      apart = λ i j s ati atj. (
+          let v = map_at address (is ++ inside) i s ati in
+          let w = map_at address ws j s atj in
+          elim (at_split is inside i v.0 v.1) [
+            | inl own ↦ (
+                let wrong : InterfaceNamed (item_name v.0) ≡ WorldNamed (item_name w.0) = sym (interface_address files is a i v.0 own (interfaces.each i v.0 own)) ∙ v.2 ∙ sym w.2 ∙ world_address w.0 (worlds.each j w.0 w.1) in
+                let f : ⊥ = cc in
+                f)
+            | inr behind ↦ never_inside w.0 v.0 (items_declared files ws b j w.0 w.1) (inside_one ws behind.0 v.0 behind.2) (w.2 ∙ sym v.2)
+          ]);
+    }
+  where
+    never_inside : (v w : Item) → is_inside (address v) ≡ false → is_inside (address w) ≡ true → address v ≡ address w → ⊥
+    never_inside v w own inside same = let wrong : false ≡ true = sym own ∙ ap is_inside same ∙ inside in let f : ⊥ = cc in f

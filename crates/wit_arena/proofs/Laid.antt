@@ -9,24 +9,27 @@ use Rattle.wit_tree.specs.declared.tree.PackageFile.{PackageFile}
 use Rattle.wit_types.specs.declared.types.TypeDef.{TypeDef}
 use Rattle.wit_types.specs.declared.types.TypeOwner.{TypeOwner}
 use Rattle.wit_order.specs.Table.{IsOrder}
-use Rattle.wit_syntax.specs.Source.{address, Item, item_name, ScopeName, takings, scope, scope_names}
+use Rattle.wit_syntax.specs.Address.{Address}
+use Rattle.wit_syntax.specs.Source.{address, Item, ScopeName, takings, scope_names}
+use Rattle.wit_syntax.specs.Trees.{scope}
+use Rattle.wit_syntax.specs.Repeats.{AllDiffer}
 use Rattle.wit_syntax.specs.Scope.{rows_of, in_turn, local_names, AreDistinct}
 use Rattle.wit_arena.specs.Meet.{Key, Meeting, Decls}
-use Rattle.wit_arena.specs.Whole.{Ordered, Turned, item_of, ordered_names, turned, turn_meetings, meetings, taking_meeting, all_meetings, turn_handles, AreRequired}
+use Rattle.wit_arena.specs.Whole.{Ordered, Turned, item_of, ordered_names, turned, turn_meetings, addresses, meetings, taking_meeting, all_meetings, turn_handles, AreRequired}
 use Rattle.wit_model.specs.declared.function.Function.{Function}
 use Rattle.wit_syntax.specs.Function.{functions}
 use Rattle.wit_syntax.specs.Sides.{FunctionKey}
 use Rattle.std.specs.List.{flat_map}
 use Rattle.wit_arena.specs.Resolving.{Names, Cell, Required, Defines, decls_of}
 use Rattle.wit_arena.specs.Resolved.{AddsBehind, AddsEach}
-use Rattle.wit_syntax.proofs.Lists.{at_either, at_seam, at_within, map_at}
+use Rattle.wit_syntax.proofs.Lists.{at_either, at_seam, at_within, map_at, map_map}
 use Rattle.wit_syntax.proofs.Repeated.{differ_at}
 use Rattle.wit_syntax.proofs.Turns.{at_part, in_turn_among, in_turn_has, in_turn_distinct}
 use Rattle.wit_arena.proofs.Standing.{DoneScope, turn_of, cell_of, IsTurn, IsDone}
 use Rattle.wit_arena.proofs.Required.{required_append}
 use Rattle.wit_arena.proofs.Done.{AddsDone, done_more}
 use Rattle.wit_arena.proofs.FreeNames.{free_of, AreStated}
-use Rattle.wit_arena.proofs.Interfaces.{AreItems, scope_of, functions_of, name_at_address}
+use Rattle.wit_arena.proofs.Interfaces.{AreScopes, scope_of, functions_of}
 
 -- The first of some items, in their orders, are these scopes, and these are their entries in an arena: `Owner` is whom the package
 -- knows by a place in it, `Says` is what holds of an entry, `entry_cell` is the scope that it is, and `Makes` is what it makes of the
@@ -45,13 +48,17 @@ abbrev pub done_required : DoneScope → List Required
 done_required c = c.required
 
 -- the first of some items are done, in some orders of their names, behind others that are, and these are required in them
-pub record AreDone {X : Type 0} (Owner : ℕ → TypeOwner) (Says : Ordered → X → Type 0) (entry_cell : X → Cell) (Makes : Ordered → DoneScope → X → Type 0) (files : List PackageFile) (decls : Decls) (base : List Ordered) (first : List DoneScope) (ws us : List Item) (es : List TypeDef) (xs : List X) (rs : List Required) : Type 0 where
+pub record AreDone {X : Type 0} (Owner : ℕ → TypeOwner) (Says : Ordered → X → Type 0) (entry_cell : X → Cell) (Makes : Ordered → DoneScope → X → Type 0) (files : List PackageFile) (decls : Decls) (first : List DoneScope) (ws us : List Item) (es : List TypeDef) (xs : List X) (rs : List Required) : Type 0 where
   pub ordered : List Ordered
   pub scopes : List DoneScope
   pub all : map item_of ordered ≡ us
   pub laid : AreLaid Owner Says entry_cell Makes ws ordered xs scopes
   pub required : flat_map done_required scopes ≡ rs
-  pub done : IsDone files decls (all_meetings files (base ++ ordered)) (first ++ scopes) es
+  pub done : IsDone files decls (all_meetings files (map turned ordered)) (first ++ scopes) es
+
+-- the addresses of items in their orders
+pub ordered_addresses : (os : List Ordered) (ws : List Item) → map item_of os ≡ ws → map address ws ≡ addresses os
+ordered_addresses os ws all = ap (map address) (sym all) ∙ map_map address item_of os
 
 module _ {X : Type 0} {Owner : ℕ → TypeOwner} {Says : Ordered → X → Type 0} {entry_cell : X → Cell} {Makes : Ordered → DoneScope → X → Type 0} {ws : List Item} {os : List Ordered} {xs : List X} {cs : List DoneScope} (l : AreLaid Owner Says entry_cell Makes ws os xs cs) where
   -- the scope of an item, and the item of a scope
@@ -82,12 +89,21 @@ module _ {X : Type 0} {Owner : ℕ → TypeOwner} {Says : Ordered → X → Type
       let count = l.count in
       at_within xs t (omega arith)
 
+  -- the addresses of entries are those of items
+  pub laid_addresses : map (λ (x : X). (entry_cell x).address) xs ≡ addresses os
+  laid_addresses = sym (map_map (λ (c : Cell). c.address) entry_cell xs) ∙ ap (map (λ (c : Cell). c.address)) (sym l.types) ∙ map_map (λ (c : Cell). c.address) cell_of cs ∙ sym (map_map (λ (x : Turned). x.address) turn_of cs) ∙ ap (map (λ (x : Turned). x.address)) l.turns ∙ map_map (λ (x : Turned). x.address) turned os
+
+  pub laid_place : (t : ℕ) (a : Address) → slice_get (map (λ (x : X). (entry_cell x).address) xs) t ≡ Some a → slice_get (map address ws) t ≡ Some a
+  laid_place t a at =
+      let o = map_at (λ (o : Ordered). address o.item) os t a (ap (λ (y : List Address). slice_get y t) (sym laid_addresses) ∙ at) in
+      slice_get-map address ws t ∙ ap (option_map address) (l.front t o.0 o.1) ∙ ap Some o.2
+
   -- the scope of the next one is none of them
-  pub none_is_next : (files : List PackageFile) → AreItems files ws → (w : Item) → slice_get ws (length os) ≡ Some w → (t : ℕ) (c : DoneScope) → slice_get cs t ≡ Some c → c.address ≡ address w → ⊥
-  none_is_next files items w next t c at same =
+  pub none_is_next : AllDiffer (map address ws) → (w : Item) → slice_get ws (length os) ≡ Some w → (t : ℕ) (c : DoneScope) → slice_get cs t ≡ Some c → c.address ≡ address w → ⊥
+  none_is_next differ w next t c at same =
       let o = ordered_at t c at in
       let here : address o.0.item ≡ address w = ap (λ (x : Turned). x.address) o.2 ∙ same in
-      let place = differ_at item_name ws items.unique t (length os) o.0.item w (l.front t o.0 o.1) next (name_at_address o.0.item w here) in
+      let place = differ_at address ws differ t (length os) o.0.item w (l.front t o.0 o.1) next here in
       let lt = slice_get_within os t o.0 o.1 in
       omega arith
 
@@ -184,19 +200,19 @@ in_turn_is xs order least distinct = record {
 }
 
 -- the meetings of one item more
-more_meetings : (files : List PackageFile) (base os : List Ordered) (o : Ordered) → all_meetings files (base ++ (os ++ o ∷ [])) ≡ all_meetings files (base ++ os) ++ turn_meetings (turned o)
-more_meetings files base os o =
+more_meetings : (files : List PackageFile) (os : List Ordered) (o : Ordered) → all_meetings files (map turned (os ++ o ∷ [])) ≡ all_meetings files (map turned os) ++ turn_meetings (turned o)
+more_meetings files os o =
     let front : List Meeting = map taking_meeting (takings files) in
-    let behind : meetings (map turned (base ++ (os ++ o ∷ []))) ≡ meetings (map turned (base ++ os)) ++ turn_meetings (turned o) = ap (λ (x : List Ordered). meetings (map turned x)) (sym (append_assoc base os (o ∷ []))) ∙ ap meetings (map-append turned (base ++ os) (o ∷ [])) ∙ meetings-append (map turned (base ++ os)) (turned o) in
-    ap (λ (ms : List Meeting). front ++ ms) behind ∙ sym (append_assoc front (meetings (map turned (base ++ os))) (turn_meetings (turned o)))
+    let behind : meetings (map turned (os ++ o ∷ [])) ≡ meetings (map turned os) ++ turn_meetings (turned o) = ap meetings (map-append turned os (o ∷ [])) ∙ meetings-append (map turned os) (turned o) in
+    ap (λ (ms : List Meeting). front ++ ms) behind ∙ sym (append_assoc front (meetings (map turned os)) (turn_meetings (turned o)))
 
 -- what is required in one scope more
 more_required : (cs : List DoneScope) (c : DoneScope) (rs ss : List Required) → flat_map done_required cs ≡ rs → c.required ≡ ss → flat_map done_required (cs ++ c ∷ []) ≡ rs ++ ss
 more_required cs c rs ss before own = flat_map-append done_required cs (c ∷ []) ∙ ap (λ (x : List Required). x ++ (c.required ++ [])) before ∙ ap (λ (x : List Required). rs ++ x) (append-nil c.required ∙ own)
 
-module _ {X : Type 0} (Owner : ℕ → TypeOwner) (Says : Ordered → X → Type 0) (entry_cell : X → Cell) (Makes : Ordered → DoneScope → X → Type 0) (files : List PackageFile) (decls : Decls) (base : List Ordered) (first : List DoneScope) (ws : List Item) where
+module _ {X : Type 0} (Owner : ℕ → TypeOwner) (Says : Ordered → X → Type 0) (entry_cell : X → Cell) (Makes : Ordered → DoneScope → X → Type 0) (files : List PackageFile) (decls : Decls) (first : List DoneScope) (ws : List Item) where
   abbrev pub Done : List Item → List TypeDef → List X → List Required → Type 0
-  Done us es xs rs = AreDone Owner Says entry_cell Makes files decls base first ws us es xs rs
+  Done us es xs rs = AreDone Owner Says entry_cell Makes files decls first ws us es xs rs
 
   -- what the next item adds is done, and its entry says so
   pub record IsNextDone (us : List Item) (es es' : List TypeDef) (xs xs' : List X) (qs rs : List Required) (w : Item) (d : Done us es xs qs) : Type 0 where
@@ -216,7 +232,7 @@ module _ {X : Type 0} (Owner : ℕ → TypeOwner) (Says : Ordered → X → Type
     pub is_cell : map (λ p. p.0) types ≡ local_names (in_turn (scope_names w) order) → record { address = address w; types = types; functions = free_of stated } ≡ entry_cell added
     pub makes : map (λ p. p.0) types ≡ local_names (in_turn (scope_names w) order) → Makes (record { item = w; order = order }) (laid_scope (Owner (length xs)) (record { item = w; order = order }) types made stated rs) added
 
-  module _ (items : AreItems files ws) (own : (t : ℕ) (w : Item) → slice_get ws t ≡ Some w → decls (address w) ≡ decls_of (Owner t) (address w) (scope files (address w))) (apart : (t : ℕ) (w : Item) → slice_get ws t ≡ Some w → (k : ℕ) (c : DoneScope) → slice_get first k ≡ Some c → c.address ≡ address w → ⊥) where
+  module _ (items : AreScopes files ws) (own : (t : ℕ) (w : Item) → slice_get ws t ≡ Some w → decls (address w) ≡ decls_of (Owner t) (address w) (scope files (address w))) (apart : (t : ℕ) (w : Item) → slice_get ws t ≡ Some w → (k : ℕ) (c : DoneScope) → slice_get first k ≡ Some c → c.address ≡ address w → ⊥) where
     -- one item more
     pub one_done : (us : List Item) (es es' : List TypeDef) (xs xs' : List X) (qs rs : List Required) (w : Item) → slice_get ws (length us) ≡ Some w → (d : Done us es xs qs) → IsNextDone us es es' xs xs' qs rs w d → Done (us ++ w ∷ []) es' xs' (qs ++ rs)
     one_done us es es' xs xs' qs rs w there d a =
@@ -234,7 +250,7 @@ module _ {X : Type 0} (Owner : ℕ → TypeOwner) (Says : Ordered → X → Type
         let turn : IsTurn (scope files s) (in_turn names a.order) = subst (λ (x : List ScopeName). IsTurn x (in_turn names a.order)) (sym (scope_of files ws items place w at_place)) (in_turn_is names a.order a.least a.distinct) in
         let fresh : (t : ℕ) (b : DoneScope) → slice_get (first ++ cs) t ≡ Some b → b.address ≡ s → ⊥ = λ t b at same. elim (at_part first cs t b at) [
           | inl h ↦ apart place w at_place h.0 b h.1 same
-          | inr h ↦ none_is_next l files items w next h.0 b h.1 same
+          | inr h ↦ none_is_next l items.unique w next h.0 b h.1 same
         ] in
         let adds : AddsDone files decls (first ++ cs) es es' c = record {
           own = own place w at_place;
@@ -246,7 +262,7 @@ module _ {X : Type 0} (Owner : ℕ → TypeOwner) (Says : Ordered → X → Type
           adds = a.behind.adds;
           ended = a.behind.ended;
         } in
-        let done = done_more files decls (all_meetings files (base ++ os)) (first ++ cs) es es' c d.done fresh adds in
+        let done = done_more files decls (all_meetings files (map turned os)) (first ++ cs) es es' c d.done fresh adds in
         let listed = (done.each (length (first ++ cs)) c (at_seam (first ++ cs) c)).listed in
         record {
           ordered = os ++ o ∷ [];
@@ -254,7 +270,7 @@ module _ {X : Type 0} (Owner : ℕ → TypeOwner) (Says : Ordered → X → Type
           all = map-append item_of os (o ∷ []) ∙ ap (λ (x : List Item). x ++ w ∷ []) d.all;
           laid = laid_more Owner Says entry_cell Makes ws os xs xs' cs o c a.added l next a.least a.last (a.says listed) refl (a.is_cell listed) refl (a.makes listed);
           required = more_required cs c qs rs d.required refl;
-          done = subst (λ (ms : List Meeting). IsDone files decls ms (first ++ (cs ++ c ∷ [])) es') (sym (more_meetings files base os o)) (subst (λ (x : List DoneScope). IsDone files decls (all_meetings files (base ++ os) ++ turn_meetings (turned o)) x es') (append_assoc first cs (c ∷ [])) done);
+          done = subst (λ (ms : List Meeting). IsDone files decls ms (first ++ (cs ++ c ∷ [])) es') (sym (more_meetings files os o)) (subst (λ (x : List DoneScope). IsDone files decls (all_meetings files (map turned os) ++ turn_meetings (turned o)) x es') (append_assoc first cs (c ∷ [])) done);
         }
 
     -- all that is left, where what one of them adds is done
@@ -269,14 +285,14 @@ module _ {X : Type 0} (Owner : ℕ → TypeOwner) (Says : Ordered → X → Type
         subst (λ (x : List Item). Done x new xs' (qs ++ rs)) (append_assoc us (w ∷ []) vs) (subst (λ (x : List Required). Done ((us ++ w ∷ []) ++ vs) new xs' x) more whole)
 
     -- the first items, from what was done before
-    pub done_front : (Adds : List TypeDef → List TypeDef → List X → List X → List Required → Item → Type 0) → ((us : List Item) (es es' : List TypeDef) (xs xs' : List X) (qs rs : List Required) (w : Item) → slice_get ws (length us) ≡ Some w → (d : Done us es xs qs) → Adds es es' xs xs' rs w → IsNextDone us es es' xs xs' qs rs w d) → (es new : List TypeDef) (xs : List X) (rs : List Required) (vs : List Item) → ((k : ℕ) (w : Item) → slice_get vs k ≡ Some w → slice_get ws k ≡ Some w) → IsDone files decls (all_meetings files base) first es → AddsEach Adds es new [] xs rs vs → Done vs new xs rs
+    pub done_front : (Adds : List TypeDef → List TypeDef → List X → List X → List Required → Item → Type 0) → ((us : List Item) (es es' : List TypeDef) (xs xs' : List X) (qs rs : List Required) (w : Item) → slice_get ws (length us) ≡ Some w → (d : Done us es xs qs) → Adds es es' xs xs' rs w → IsNextDone us es es' xs xs' qs rs w d) → (es new : List TypeDef) (xs : List X) (rs : List Required) (vs : List Item) → ((k : ℕ) (w : Item) → slice_get vs k ≡ Some w → slice_get ws k ≡ Some w) → IsDone files decls (all_meetings files []) first es → AddsEach Adds es new [] xs rs vs → Done vs new xs rs
     done_front Adds step es new xs rs vs there d a = all_done Adds step [] es new [] xs [] rs vs (λ k w h. subst (λ (m : ℕ). slice_get ws m ≡ Some w) (sym (zero-add k)) (there k w h)) (record {
       ordered = [];
       scopes = [];
       all = refl;
       laid = laid_none Owner Says entry_cell Makes ws;
       required = refl;
-      done = subst (λ (x : List Ordered). IsDone files decls (all_meetings files x) (first ++ []) es) (sym (append-nil base)) (subst (λ (x : List DoneScope). IsDone files decls (all_meetings files base) x es) (sym (append-nil first)) d);
+      done = subst (λ (x : List DoneScope). IsDone files decls (all_meetings files []) x es) (sym (append-nil first)) d;
     }) a
 
 -- what is required in scopes that are those of items in their orders

@@ -20,18 +20,20 @@ use Rattle.wit_package_names.specs.declared.package_name.PackageName.{PackageNam
 use Rattle.wit_order.specs.Table.{Row, target, IsEdge, Leads, IsOrder}
 use Rattle.wit_order.proofs.Tables.{slice_get-take}
 use Rattle.wit_syntax.specs.Address.{Address, InterfaceNamed, ForeignNamed, is_foreign}
-use Rattle.wit_syntax.specs.Source.{Declared, TheInterface, TheWorld, is_declared_world, Part, Defining, Using, Including, Doing, Crossing, interface_part, declared_parts, Target, Local, Foreign, leads, used_scope, path_scope, Item, Used, all_items, item_name, is_world, parts, item_named, scope_names, taking, takings}
+use Rattle.wit_syntax.specs.Source.{TopName, Declared, TheInterface, TheWorld, TheInline, is_declared_world, Part, Defining, Using, Including, Doing, Crossing, interface_part, declared_parts, Target, Local, Foreign, leads, used_scope, path_scope, Item, Used, all_items, item_name, is_world, parts, item_named, scope_names, taking, takings}
 use Rattle.wit_syntax.specs.Foreign.{ForeignVisit, visited, foreign_interfaces}
-use Rattle.wit_syntax.specs.Scope.{in_order, use_path, include_path, use_paths, include_paths, needed_path, local_target, item_row, item_rows, part_includes, includes}
+use Rattle.wit_syntax.specs.Scope.{in_order, use_path, include_path, use_paths, include_paths, needed_path, local_target, item_row, item_rows, uses, part_includes, includes}
+use Rattle.wit_syntax.specs.Sides.{with_inline, all_scopes}
 use Rattle.wit_syntax.specs.Broken.{is_world_at}
 use Rattle.wit_arena.specs.Resolved.{AreUsableUses}
 use Rattle.wit_syntax.specs.Repeats.{AllDiffer}
-use Rattle.wit_syntax.proofs.Lists.{at_front, at_within, flat_map_has}
+use Rattle.wit_syntax.proofs.Lists.{at_front, at_within, flat_map_at, flat_map_has}
 use Rattle.wit_syntax.proofs.Names.{name_equal}
 use Rattle.wit_syntax.proofs.Tables.{place_of-Some}
 use Rattle.wit_syntax.proofs.Orders.{in_order-append, in_order_has}
 use Rattle.wit_syntax.proofs.Found.{at_contains, contains_at, some_of, find_at, find_passes}
 use Rattle.wit_syntax.proofs.Kept.{kept_has}
+use Rattle.wit_syntax.proofs.Inline.{with_uses}
 use Rattle.wit_arena.proofs.Itemizing.{named_found, used_part, length-item_rows}
 use Rattle.wit_syntax.proofs.Rows.{item_row_at}
 use Rattle.wit_arena.proofs.Visits.{use_at, use_path_at, used_interface_visit}
@@ -62,10 +64,12 @@ kept_early test xs places n t q x lt at there passes =
 needed_of_interface : (a : Declared) → is_declared_world a ≡ false → needed_path a ≡ use_path
 needed_of_interface (TheInterface i) h = refl
 needed_of_interface (TheWorld w) h = absurd (let f : ⊥ = cc in f)
+needed_of_interface (TheInline world place x name items) h = refl
 
 needed_of_world : (a : Declared) → is_declared_world a ≡ true → needed_path a ≡ include_path
 needed_of_world (TheInterface i) h = absurd (let f : ⊥ = cc in f)
 needed_of_world (TheWorld w) h = refl
+needed_of_world (TheInline world place x name items) h = absurd (let f : ⊥ = cc in f)
 
 -- the paths to items that have to come before an item
 abbrev pub paths : Item → List UsePath
@@ -106,6 +110,7 @@ interface_includes_none w h path among = of_declared w.declared h among
     of_declared : (a : Declared) → is_declared_world a ≡ false → Contains (flat_map include_path (declared_parts a)) path → ⊥
     of_declared (TheInterface i) h among = none_included i.items.items path among
     of_declared (TheWorld w) h among = let f : ⊥ = cc in f
+    of_declared (TheInline world place x name items) h among = none_included items path among
 
 row_name : (r : Row) (w : Item) → r ≡ item_row w → r.name ≡ item_name w
 row_name r w same = ap (λ (x : Row). x.name) same
@@ -175,44 +180,60 @@ module _ (files : List PackageFile) where
     pub index : ℕ
     pub taken : slice_get (takings files) index ≡ Some (taking from attributes n)
 
-  module _ (uses : AreUsableUses files all) where
-    -- where uses lead to interfaces, none leads to a world
-    used_leads : (w : Item) (m : ℕ) (u : Use) (id : Id) → Contains all w → slice_get (parts w) m ≡ Some (Using u) → leads w.top u.from ≡ Local id → option_map is_world (item_named all id.name.now) ≡ Some false
-    used_leads w m u id here part lead = sym (ap (is_world_at files) lead) ∙ uses.usable w u here (use_at w m u part)
+  -- a scope stands in an item, with its uses
+  pub record IsScopeIn (i : Item) : Type 0 where
+    pub place : ℕ
+    pub item : Item
+    pub at : slice_get all place ≡ Some item
+    pub top : i.top ≡ item.top
+    pub uses : (u : Use) → Contains (uses i) u → Contains (uses item) u
 
-    pub used_is_interface : (w v : Item) (m : ℕ) (u : Use) (id : Id) → Contains all w → slice_get (parts w) m ≡ Some (Using u) → leads w.top u.from ≡ Local id → item_named all id.name.now ≡ Some v → is_world v ≡ false
-    used_is_interface w v m u id here part lead found =
-        let both : Some (is_world v) ≡ Some false = sym (ap (option_map is_world) found) ∙ used_leads w m u id here part lead in
+  pub scope_in : (i : Item) → Contains (all_scopes files) i → IsScopeIn i
+  scope_in i here =
+      let k = at_contains (all_scopes files) i here in
+      let it = flat_map_at with_inline all k.0 i k.1 in
+      let is = with_uses it.1 it.3.0 i it.3.1 in
+      record { place = it.0; item = it.1; at = it.2; top = is.0; uses = is.1 }
+
+  module _ (usable : AreUsableUses files all) where
+    -- where uses lead to interfaces, none leads to a world
+    used_leads : (w : Item) (u : Use) (id : Id) → Contains all w → Contains (uses w) u → leads w.top u.from ≡ Local id → option_map is_world (item_named all id.name.now) ≡ Some false
+    used_leads w u id here among lead = sym (ap (is_world_at files) lead) ∙ usable.usable w u here among
+
+    pub used_is_interface : (w v : Item) (u : Use) (id : Id) → Contains all w → Contains (uses w) u → leads w.top u.from ≡ Local id → item_named all id.name.now ≡ Some v → is_world v ≡ false
+    used_is_interface w v u id here among lead found =
+        let both : Some (is_world v) ≡ Some false = sym (ap (option_map is_world) found) ∙ used_leads w u id here among lead in
         let right : is_world v ≡ false = cc in
         right
 
     -- what leads to another package is taken from it
-    foreign_use : (q : ℕ) (w : Item) (m : ℕ) (u : Use) (j : ℕ) (n : UseName) (p : PackageName) (id : Id) → slice_get all q ≡ Some w → slice_get (parts w) m ≡ Some (Using u) → slice_get u.names.items j ≡ Some n → leads w.top u.from ≡ Foreign p id → IsForeignUse (path_scope w.top u.from) n
-    foreign_use q w m u j n p id at part name lead =
-        let v = used_interface_visit files uses q w m u p id at part lead in
+    foreign_use : (q : ℕ) (w : Item) (u : Use) (j : ℕ) (n : UseName) (p : PackageName) (id : Id) → slice_get all q ≡ Some w → Contains (uses w) u → slice_get u.names.items j ≡ Some n → leads w.top u.from ≡ Foreign p id → IsForeignUse (path_scope w.top u.from) n
+    foreign_use q w u j n p id at among name lead =
+        let v = used_interface_visit files usable q w u p id at among lead in
         let from : path_scope w.top u.from ≡ ForeignNamed p id.name.now = ap used_scope lead in
-        let t = taking_has files q w m u j n at part name (ap is_foreign from) in
+        let t = taking_has files q w u j n at among name (ap is_foreign from) in
         record { place = v.0; v = v.1; at = v.2; is = v.3 ∙ sym from; attributes = u.attributes.items; index = t.0; taken = t.1 }
 
-    -- a used name comes from an interface of the package, or is taken from one of another
-    pub used_interface : (w : Item) (from : Address) (attributes : List Attribute) (n : UseName) → Contains all w → Contains (scope_names w) (Used from attributes n) → IsOwnUse from ⊎ IsForeignUse from n
-    used_interface w from attributes n here among =
-        let q = at_contains all w here in
-        let k = at_contains (scope_names w) (Used from attributes n) among in
-        let it = used_part w.top (parts w) k.0 from attributes n k.1 in
-        by_target q.0 it.0 it.1 it.3.0 q.1 it.2 it.3.1 it.4 (leads w.top it.1.from) refl
+    -- a name that a scope uses comes from an interface of the package, or is taken from one of another
+    pub used_interface : (i : Item) (from : Address) (attributes : List Attribute) (n : UseName) → Contains (all_scopes files) i → Contains (scope_names i) (Used from attributes n) → IsOwnUse from ⊎ IsForeignUse from n
+    used_interface i from attributes n here among =
+        let s = scope_in i here in
+        let k = at_contains (scope_names i) (Used from attributes n) among in
+        let it = used_part i.top (parts i) k.0 from attributes n k.1 in
+        by_target s.place s.item it.1 it.3.0 s.at (s.uses it.1 (use_at i it.0 it.1 it.2)) it.3.1 (it.4 ∙ ap (λ (top : List TopName). path_scope top it.1.from) s.top) (leads s.item.top it.1.from) refl
       where
-        by_target : (q m : ℕ) (u : Use) (j : ℕ) → slice_get all q ≡ Some w → slice_get (parts w) m ≡ Some (Using u) → slice_get u.names.items j ≡ Some n → from ≡ path_scope w.top u.from → (t : Target) → leads w.top u.from ≡ t → IsOwnUse from ⊎ IsForeignUse from n
-        by_target q m u j at part name is (Local id) lead =
+        by_target : (q : ℕ) (w : Item) (u : Use) (j : ℕ) → slice_get all q ≡ Some w → Contains (uses w) u → slice_get u.names.items j ≡ Some n → from ≡ path_scope w.top u.from → (t : Target) → leads w.top u.from ≡ t → IsOwnUse from ⊎ IsForeignUse from n
+        by_target q w u j at used name is (Local id) lead =
+            let own = contains_at all q w at in
             option_cases (item_named all id.name.now) (IsOwnUse from ⊎ IsForeignUse from n) (λ v found. (
-            let p = find_at (λ (i : Item). bytes_eq (item_name i) id.name.now) all v found in
-            let called = name_equal (item_name v) id.name.now (find_passes (λ (i : Item). bytes_eq (item_name i) id.name.now) all v found) in
-            inl (record { place = p.0; item = v; at = p.1; sort = used_is_interface w v m u id here part lead found; is = is ∙ ap used_scope lead ∙ ap InterfaceNamed (sym called) })))
+            let p = find_at (λ (x : Item). bytes_eq (item_name x) id.name.now) all v found in
+            let called = name_equal (item_name v) id.name.now (find_passes (λ (x : Item). bytes_eq (item_name x) id.name.now) all v found) in
+            inl (record { place = p.0; item = v; at = p.1; sort = used_is_interface w v u id own used lead found; is = is ∙ ap used_scope lead ∙ ap InterfaceNamed (sym called) })))
             (λ none. absurd (
-            let wrong : None ≡ Some false = sym (ap (option_map is_world) none) ∙ used_leads w m u id here part lead in
+            let wrong : None ≡ Some false = sym (ap (option_map is_world) none) ∙ used_leads w u id own used lead in
             let f : ⊥ = cc in
             f))
-        by_target q m u j at part name is (Foreign p id) lead = inr (subst (λ (s : Address). IsForeignUse s n) (sym is) (foreign_use q w m u j n p id at part name lead))
+        by_target q w u j at used name is (Foreign p id) lead = inr (subst (λ (s : Address). IsForeignUse s n) (sym is) (foreign_use q w u j n p id at used name lead))
 
     -- what an interface of the package uses from stands before it in the order, or is of another package
     pub used_before : AllDiffer (map item_name all) → (places : List ℕ) → IsOrder (item_rows files) places → (k p : ℕ) (w : Item) (from : Address) (attributes : List Attribute) (n : UseName) → is_world w ≡ false → slice_get places k ≡ Some p → slice_get all p ≡ Some w → Contains (scope_names w) (Used from attributes n) → IsUseBefore places k from ⊎ IsForeignUse from n
@@ -225,6 +246,6 @@ module _ (files : List PackageFile) where
         by_target m u j part name is (Local id) lead =
             let b = needed_before places order k p w u.from id next at (subst (λ (l : List UsePath). Contains l u.from) (sym (paths_of_interface w sort)) (use_path_at w m u part)) lead in
             let found = named_at differ id.name.now b.1 b.2 b.5 b.6 in
-            let right = used_is_interface w b.2 m u id (contains_at all p w at) part lead found in
+            let right = used_is_interface w b.2 u id (contains_at all p w at) (use_at w m u part) lead found in
             inl (record { own = record { place = b.1; item = b.2; at = b.5; sort = right; is = is ∙ ap used_scope lead ∙ ap InterfaceNamed b.6 }; index = b.0; before = b.3; at = b.4 })
-        by_target m u j part name is (Foreign q id) lead = inr (subst (λ (s : Address). IsForeignUse s n) (sym is) (foreign_use p w m u j n q id at part name lead))
+        by_target m u j part name is (Foreign q id) lead = inr (subst (λ (s : Address). IsForeignUse s n) (sym is) (foreign_use p w u j n q id at (use_at w m u part) name lead))

@@ -1,6 +1,6 @@
 -- Where the paths of an item lead to interfaces, those of its uses and those of what stands on its sides, none of them is broken.
 use Rattle.std.proofs.Common.{◌≡◌, ℕ, zero, suc, true, false, List, Some, None, ◌⊎◌, inl, inr, refl, sym, ap, ◌∙◌}
-use Rattle.std.specs.Prelude.{slice_get, Contains}
+use Rattle.std.specs.Prelude.{slice_get, map, Contains}
 use Rattle.std.specs.Option.{option_map}
 use Rattle.wit_tree.specs.declared.tree.Extern.{Extern}
 use Rattle.wit_tree.specs.declared.tree.ExternKind.{ExternKind}
@@ -8,14 +8,15 @@ use Rattle.wit_tree.specs.declared.tree.ExternKind.TheVariants as extern
 use Rattle.wit_tree.specs.declared.tree.PackageFile.{PackageFile}
 use Rattle.wit_tree.specs.declared.tree.Use.{Use}
 use Rattle.wit_tree.specs.declared.tree.UsePath.{UsePath}
-use Rattle.wit_syntax.specs.Crossing.{extern_paths}
+use Rattle.wit_syntax.specs.Crossing.{extern_paths, inline_uses}
 use Rattle.wit_syntax.specs.Source.{Part, Defining, Using, Including, Doing, Crossing, Item, is_world, leads, parts}
 use Rattle.wit_syntax.specs.Scope.{use_path, use_paths, part_uses, uses}
 use Rattle.wit_syntax.specs.Sides.{Link, SideLink, extern_link, extern_items, part_items, side_items, item_link, links}
 use Rattle.wit_syntax.specs.Fault.{Fault}
 use Rattle.wit_syntax.specs.Broken.{is_world_at, IsBrokenUse, MissingUse, WorldUsed}
-use Rattle.wit_syntax.proofs.Lists.{flat_map_at, flat_map_has}
+use Rattle.wit_syntax.proofs.Lists.{flat_map_at, flat_map_has, map_at}
 use Rattle.wit_syntax.proofs.Found.{at_contains, contains_at}
+use Rattle.wit_syntax.proofs.Turns.{at_part}
 
 -- the path that a world imports or exports is that of a link
 crossing_link : (x : Extern) (kind : ExternKind) (j : ℕ) (path : UsePath) → slice_get (extern_paths kind) j ≡ Some path → (link : Link) × (slice_get (extern_items x kind) 0 ≡ Some (SideLink link)) × (link.path ≡ path)
@@ -44,11 +45,17 @@ path_of i path among =
     of_part m (Using u) there (suc j) at = absurd (let f : ⊥ = cc in f)
     of_part m (Including n) there j at = absurd (let f : ⊥ = cc in f)
     of_part m (Doing g) there j at = absurd (let f : ⊥ = cc in f)
-    of_part m (Crossing x) there j at =
-        let it = crossing_link x x.kind j path at in
-        let own = flat_map_has part_items (parts i) m 0 (Crossing x) (SideLink it.0) there it.1 in
-        let k = flat_map_has item_link (side_items i) own.0 0 (SideLink it.0) it.0 own.1 refl in
-        inr (it.0, contains_at (links i) k.0 it.0 k.1, it.2)
+    of_part m (Crossing x) there j at = elim (at_part (map (λ (u : Use). u.from) (inline_uses x.kind)) (extern_paths x.kind) j path at) [
+      | inl h ↦ (
+          let u = map_at (λ (u : Use). u.from) (inline_uses x.kind) h.0 path h.1 in
+          let k = flat_map_has part_uses (parts i) m h.0 (Crossing x) u.0 there u.1 in
+          inl (u.0, contains_at (uses i) k.0 u.0 k.1, u.2))
+      | inr h ↦ (
+          let it = crossing_link x x.kind h.0 path h.1 in
+          let own = flat_map_has part_items (parts i) m 0 (Crossing x) (SideLink it.0) there it.1 in
+          let k = flat_map_has item_link (side_items i) own.0 0 (SideLink it.0) it.0 own.1 refl in
+          inr (it.0, contains_at (links i) k.0 it.0 k.1, it.2))
+    ]
 
 module _ (files : List PackageFile) (i : Item) (of_uses : (u : Use) → Contains (uses i) u → is_world_at files (leads i.top u.from) ≡ Some false) (of_links : (link : Link) → Contains (links i) link → is_world_at files (leads i.top link.path) ≡ Some false) where
   usable_path : (path : UsePath) → Contains (use_paths i) path → is_world_at files (leads i.top path) ≡ Some false

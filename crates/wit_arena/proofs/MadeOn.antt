@@ -9,7 +9,7 @@ use Rattle.wit_syntax.specs.Crossing.{same_side}
 use Rattle.wit_syntax.specs.Sides.{role_side, on_side}
 use Rattle.wit_arena.specs.Functions.{made_on}
 use Rattle.wit_syntax.proofs.Kept.{behind_one}
-use Rattle.wit_syntax.proofs.Sides.{side_itself, same_side-equal}
+use Rattle.wit_syntax.proofs.Addresses.{side_itself, same_side-equal}
 
 -- whether a written function stands on a side
 abbrev pub stands_on : WorldSide → SourceFunction → Bool

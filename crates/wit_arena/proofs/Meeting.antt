@@ -184,3 +184,25 @@ meet_whole decls ms old new kind given span parts i only m at interned = elim in
         at = rw (added.1, keyed.count) (ap (λ l. slice_get l (length (keys ms))) (keys-append ms (record { key = key; span = span; given = given } ∷ [])) ∙ at_seam (keys ms) key);
       })
 ]
+
+-- what is met first, and what is met behind it
+pub meets_split : (ks ls a c : List Meeting) → Meets a (ks ++ ls) c → (b : List Meeting) × Meets a ks b × Meets b ls c
+meets_split [] ls a c h = (a, refl, h)
+meets_split (x ∷ ks) ls a c h = elim h [
+  | inl old ↦ (let it = meets_split ks ls a c old.1 in (it.0, inl (old.0, it.1), it.2))
+  | inr fresh ↦ (let it = meets_split ks ls (a ++ x ∷ []) c fresh.1 in (it.0, inr (fresh.0, it.1), it.2))
+]
+
+-- it is one list
+pub meets_one : (ks a b c : List Meeting) → Meets a ks b → Meets a ks c → b ≡ c
+meets_one [] a b c h k = h ∙ sym k
+meets_one (x ∷ ks) a b c h k = elim h [
+  | inl old ↦ elim k [ inl other ↦ meets_one ks a b c old.1 other.1 | inr fresh ↦ absurd (fresh.0 old.0) ]
+  | inr fresh ↦ elim k [ inl old ↦ absurd (fresh.0 old.0) | inr other ↦ meets_one ks (a ++ x ∷ []) b c fresh.1 other.1 ]
+]
+
+-- where more is met, there is more
+pub meets_longer : (ks ls a b c : List Meeting) → Meets a ks b → Meets a (ks ++ ls) c → Grown (keys b) (keys c)
+meets_longer ks ls a b c h k =
+    let it = meets_split ks ls a c k in
+    subst (λ (ms : List Meeting). Grown (keys ms) (keys c)) (meets_one ks a it.0 b it.1 h) (meets_grown ls it.0 c it.2)

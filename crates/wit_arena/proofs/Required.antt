@@ -16,7 +16,7 @@ use Rattle.wit_syntax.specs.Ends.{AtResource, AtForeign, Elsewhere, EndsAt}
 use Rattle.wit_arena.specs.EntryEnds.{EntryEnd, IsResource, IsOther, entry_end}
 use Rattle.wit_arena.specs.EntryEnds as ends
 use Rattle.wit_arena.specs.Meet.{Key, Def, Meeting, keys, Decls, IsKeyed}
-use Rattle.wit_syntax.specs.Signature.{IsNoResource}
+use Rattle.wit_syntax.specs.Ends.{IsNoResource}
 use Rattle.wit_arena.specs.Whole.{AreRequired}
 use Rattle.wit_arena.specs.Resolving.{Env, Names, env_of, AreNames, Required, AreEnded, IsWrongHandle, IsDefined}
 use Rattle.wit_arena.proofs.Places.{Grown, key_grown}

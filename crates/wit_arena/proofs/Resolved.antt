@@ -1,9 +1,9 @@
 -- Files whose interfaces and then worlds were added: no rule is broken, and they are a package that is faithful to them.
-use Rattle.std.proofs.Common.{◌≡◌, ◌<◌, ℕ, Bool, true, false, not, List, [], ◌++◌, Some, None, map, inl, inr, refl, sym, ap, ◌∙◌, subst, arith, Contains}
+use Rattle.std.proofs.Common.{◌≡◌, ◌<◌, ℕ, suc, Bool, true, false, not, List, [], ◌++◌, Some, None, map, inl, inr, refl, sym, ap, ◌∙◌, subst, arith, Contains}
 use Rattle.std.specs.Prelude.{slice_get}
 use Rattle.std.specs.Option.{option_map}
 use Rattle.std.proofs.lemmas.Bool.{cases_Bool}
-use Rattle.std.proofs.lemmas.Option.{slice_get_within}
+use Rattle.std.proofs.lemmas.Option.{slice_get_within, slice_get-map}
 use Rattle.semver.specs.Identifiers.{parts_of}
 use Rattle.wit_values.specs.ReleaseText.{release_parts}
 use Rattle.wit_tree.specs.declared.tree.PackageName.{PackageName as Header}
@@ -19,26 +19,29 @@ use Rattle.wit_order.specs.Table.{IsOrder}
 use Rattle.wit_syntax.specs.Address.{Address, WorldNamed, ForeignNamed}
 use Rattle.wit_syntax.specs.Source.{address, Target, Local, Foreign, leads, item_id, item_named, included_scope, is_world, Item, all_items, item_name, scope_names}
 use Rattle.wit_syntax.specs.Foreign.{visited, is_foreign_world, foreign_interfaces, foreign_worlds, foreign_at}
-use Rattle.wit_syntax.specs.Scope.{in_order, uses as uses_of, include_paths, includes, item_rows, interfaces_of, worlds_of, rows_of}
+use Rattle.wit_syntax.specs.Scope.{in_order, uses as uses_of, include_paths, includes, item_rows, interfaces_of, worlds_of}
 use Rattle.std.specs.List.{filter, flat_map}
-use Rattle.wit_arena.specs.Meet.{keys}
+use Rattle.wit_arena.specs.Meet.{Meeting, keys}
 use Rattle.wit_arena.specs.Resolving.{Required}
 use Rattle.wit_syntax.specs.Fault.{Fault, fault}
 use Rattle.wit_syntax.specs.Notes.{IsBrokenNotes}
-use Rattle.wit_syntax.specs.Broken.{IsDuplicateItem, is_world_at, IsInterfaceIncluded, IsBrokenNames, DuplicateItem, Items, IsUnread, Headerless, Names, Unread, ItemStability, UseNotes, IncludeStability, Use, InterfaceIncluded, MissingName, FunctionUsed, Scope, Sides, Handle, Setter, IsLegal, headers, last_header}
+use Rattle.wit_syntax.specs.Broken.{IsDuplicateItem, is_world_at, IsInterfaceIncluded, IsBrokenNames, DuplicateItem, Items, Headerless, Names, ItemStability, UseNotes, IncludeStability, Use, InterfaceIncluded, MissingName, FunctionUsed, Scope, Sides, Handle, Setter, IsLegal, headers, last_header}
 use Rattle.wit_syntax.specs.Repeats.{AllDiffer}
-use Rattle.wit_arena.specs.Whole.{Ordered, Turned, item_of, turned, turn_handles, AreRequired, AreIncludes, NamesOthers, first_docs, IsPackage, IsFaithful}
-use Rattle.wit_arena.specs.Resolved.{AddsInterfaces, AddsWorlds, AddsForeign, AreLegalScopes, AreLegalSides, AreUsableUses, AreUsableLinks, AreSoundScopes, IsBrokenItemStability, OwnStability, OfInclude, HaveLegalStability}
-use Rattle.wit_syntax.proofs.Lists.{at_within, map_at}
+use Rattle.wit_arena.specs.Whole.{own_item, Turned, turn_handles, all_turns, all_meetings, AreRequired, AreIncludes, NamesOthers, first_docs, IsPackage, IsFaithful}
+use Rattle.wit_arena.specs.Resolved.{WorldArenas, front_worlds, AddsInterfaces, AddsWorlds, AddsForeign, AreLegalScopes, AreLegalSides, AreUsableUses, AreUsableLinks, AreSoundScopes, IsBrokenItemStability, OwnStability, OfInclude, HaveLegalStability}
+use Rattle.wit_syntax.proofs.Lists.{at_within, flat_map_at, flat_map_has, map_at}
 use Rattle.wit_syntax.proofs.Headers.{some_header}
 use Rattle.wit_syntax.proofs.Turns.{at_part}
 use Rattle.wit_syntax.proofs.Repeated.{differ_by, differ_none}
 use Rattle.wit_syntax.proofs.Kept.{kept_at}
-use Rattle.wit_syntax.specs.Function.{SourceFunction}
-use Rattle.wit_syntax.specs.Sides.{function_key, side_items, Link, links, FoldedTwice}
+use Rattle.wit_syntax.specs.Function.{SourceFunction, functions}
+use Rattle.wit_syntax.specs.Signature.{IsUnpairedSetter}
+use Rattle.wit_syntax.specs.Sides.{function_key, side_items, Link, links, inline_items, with_inline, all_scopes, FoldedTwice}
 use Rattle.wit_syntax.proofs.Sides.{links_none}
+use Rattle.wit_syntax.proofs.Inline.{inline_items_none}
+use Rattle.wit_syntax.proofs.Scopes.{scopes_either}
 use Rattle.wit_syntax.proofs.Legal.{three_ways, functions_differ, functions_items}
-use Rattle.wit_arena.proofs.Standing.{DoneScope, turn_of}
+use Rattle.wit_arena.proofs.Standing.{DoneScope}
 use Rattle.wit_arena.proofs.Front.{front_scopes, front_at, FrontInterface, FrontWorld}
 use Rattle.wit_syntax.proofs.Found.{at_contains, contains_at}
 use Rattle.wit_arena.proofs.Interfaces.{AreItems, AreOfSort, world_address, interfaces_sort, worlds_sort}
@@ -47,9 +50,11 @@ use Rattle.wit_syntax.proofs.Orders.{in_order_at}
 use Rattle.wit_arena.proofs.Visits.{world_visit, foreign_at-visited, visited_foreign, address_own}
 use Rattle.wit_arena.proofs.Linked.{no_broken_use}
 use Rattle.wit_arena.proofs.Leading.{include_at, interface_includes_none}
-use Rattle.wit_arena.proofs.Laid.{ordered_at, entry_of_item}
-use Rattle.wit_arena.proofs.Upheld.{IsItemDone, interface_done, world_done, names_stated, types_stated, handles_stated, names_meant, setters_paired}
-use Rattle.wit_arena.proofs.Added.{world_list, InterfacesDone, WorldsDone, interfaces_done, worlds_done}
+use Rattle.wit_arena.proofs.Laid.{entry_of_item}
+use Rattle.wit_arena.proofs.Upheld.{IsWholeItem, IsScopeOf, interface_done, world_done, inline_done, names_stated, types_stated, handles_stated, names_meant, interface_paired, inline_paired, interface_whose, world_whose}
+use Rattle.wit_arena.proofs.Added.{inside_of, world_list, decls, InterfacesDone, interfaces_done}
+use Rattle.wit_arena.proofs.DoneWorlds.{scopes_of, own_order, AreWorldsDone}
+use Rattle.wit_arena.proofs.Worlds.{worlds_done}
 use Rattle.wit_arena.proofs.Finished.{are_interfaces, are_worlds, interface_at, world_at}
 use Rattle.wit_arena.proofs.Packaged.{faithful_package, required_of, package_of}
 
@@ -108,46 +113,104 @@ module _ (files : List PackageFile) (ws : List Item) (items : AreItems files ws)
       let i = at_within is k.0 (omega arith) in
       included_world i.0.id (leads w.top path) ((says.each k.0 k.1 i.0 k.2 i.1).place ∙ ap (λ (x : UsePath). Some (included_scope (leads w.top x))) (sym k.3))
 
-module _ (files : List PackageFile) (places : List ℕ) (order : IsOrder (item_rows files) places) (names : (f : Fault) → IsBrokenNames files f → ⊥) (uses : AreUsableUses files (all_items files)) (es middle new : List TypeDef) (front is : List Interface) (wfront ws : List World) (irs wrs : List Required) (foreign : AddsForeign files es front wfront) (added : AddsInterfaces (map visited (foreign_interfaces files)) es middle front is irs (interfaces_of (in_order (all_items files) places))) (more : AddsWorlds (map visited (foreign_interfaces files)) (map visited (foreign_worlds files)) is middle new wfront ws wrs (worlds_of (in_order (all_items files) places))) where
+module _ (files : List PackageFile) (places : List ℕ) (order : IsOrder (item_rows files) places) (names : (f : Fault) → IsBrokenNames files f → ⊥) (uses : AreUsableUses files (all_items files)) (es middle new : List TypeDef) (front is : List Interface) (wfront : List World) (a : WorldArenas) (irs wrs : List Required) (foreign : AddsForeign files es front wfront) (added : AddsInterfaces (map visited (foreign_interfaces files)) es middle front is irs (interfaces_of (in_order (all_items files) places))) (more : AddsWorlds (map visited (foreign_interfaces files)) (map visited (foreign_worlds files)) is middle new (front_worlds wfront) a wrs (worlds_of (in_order (all_items files) places))) where
   abbrev differ : AllDiffer (map item_name (all_items files))
   differ = distinct_items files names
 
+  abbrev in_turns : List Item
+  in_turns = in_order (all_items files) places
+
   abbrev is_items : List Item
-  is_items = interfaces_of (in_order (all_items files) places)
+  is_items = interfaces_of in_turns
 
   abbrev ws_items : List Item
-  ws_items = worlds_of (in_order (all_items files) places)
+  ws_items = worlds_of in_turns
 
   abbrev is_sort : AreOfSort false is_items
-  is_sort = interfaces_sort (in_order (all_items files) places)
+  is_sort = interfaces_sort in_turns
 
   abbrev ws_sort : AreOfSort true ws_items
-  ws_sort = worlds_sort (in_order (all_items files) places)
+  ws_sort = worlds_sort in_turns
+
+  -- the items of files in their order, each with the interfaces that are written in it
+  abbrev pub scopes_in_order : List Item
+  scopes_in_order = flat_map with_inline in_turns
 
   -- the interfaces of the package, and its worlds, behind those of other packages
   pub is_done : (own : List Interface) × (is ≡ front ++ own) × InterfacesDone files is_items ws_items front is_items middle own irs
   is_done = interfaces_done files is_items ws_items is_sort ws_sort (are_interfaces files places order differ) (are_worlds files places order differ) uses es front wfront foreign middle is irs is_items (λ k w at. at) added
 
-  pub ws_done : (own : List World) × (ws ≡ wfront ++ own) × WorldsDone files is_items ws_items front is_done.2.ordered is_done.2.scopes ws_items new own wrs
-  ws_done = worlds_done files is_items ws_items is_sort ws_sort (are_interfaces files places order differ) (are_worlds files places order differ) uses es front wfront foreign middle is_done.0 irs is_done.2 new ws wrs ws_items (λ k w at. at) (subst (λ (l : List Interface). AddsWorlds (map visited (foreign_interfaces files)) (map visited (foreign_worlds files)) l middle new wfront ws wrs ws_items) is_done.1 more)
+  pub ws_done : AreWorldsDone files is_items ws_items wfront is_done.2.ordered (front_scopes files front ++ is_done.2.scopes) ws_items new a wrs
+  ws_done = worlds_done files is_items ws_items is_sort ws_sort (are_interfaces files places order differ) (are_worlds files places order differ) uses es front wfront foreign middle is_done.0 irs is_done.2 new a wrs ws_items (λ k w at. at) (subst (λ (l : List Interface). AddsWorlds (map visited (foreign_interfaces files)) (map visited (foreign_worlds files)) l middle new (front_worlds wfront) a wrs ws_items) is_done.1 more)
+
+  -- each item stands in the order, and each interface that is written in one
+  in_turn_at : (w : Item) → Contains (all_items files) w → (t : ℕ) × (slice_get in_turns t ≡ Some w)
+  in_turn_at w among =
+      let p = at_contains (all_items files) w among in
+      let t = item_index files places order p.0 w p.1 in
+      (t.0, t.2)
+
+  scope_index : (w : Item) → Contains (all_scopes files) w → (t : ℕ) × (slice_get scopes_in_order t ≡ Some w)
+  scope_index w among =
+      let k = at_contains (all_scopes files) w among in
+      let it = flat_map_at with_inline (all_items files) k.0 w k.1 in
+      let t = item_index files places order it.0 it.1 it.2 in
+      flat_map_has with_inline in_turns t.0 it.3.0 it.1 w t.2 it.3.1
+
+  scope_among : (t : ℕ) (w : Item) → slice_get scopes_in_order t ≡ Some w → Contains (all_scopes files) w
+  scope_among t w at =
+      let it = flat_map_at with_inline in_turns t w at in
+      let p = in_order_at (all_items files) places it.0 it.1 (items_within files places order) it.2 in
+      let k = flat_map_has with_inline (all_items files) p.0 it.3.0 it.1 w p.2 it.3.1 in
+      contains_at (all_scopes files) k.0 w k.1
+
+  -- what is written in an item is written in a world
+  inline_index : (w i : Item) → Contains (all_items files) w → Contains (inline_items w) i → (q : ℕ) × (slice_get (inside_of ws_items) q ≡ Some i)
+  inline_index w i among inside = elim (cases_Bool (is_world w)) [
+    | inl world ↦ (
+        let t = world_at files places order differ w world among in
+        let j = at_contains (inline_items w) i inside in
+        flat_map_has inline_items ws_items t.0 j.0 w i t.1 j.1)
+    | inr other ↦ absurd (let it = at_contains [] i (subst (λ (l : List Item). Contains l i) (inline_items_none w other) inside) in let wrong = it.1 in let f : ⊥ = cc in f)
+  ]
+
+  abbrev scopes_done : List DoneScope
+  scopes_done = (front_scopes files front ++ is_done.2.scopes) ++ flat_map scopes_of ws_done.scopes
+
+  abbrev written : List Meeting
+  written = all_meetings files (all_turns is_done.2.ordered ws_done.ordered)
 
   -- the scope of an item
   abbrev IsDoneItem : Item → Type 0
-  IsDoneItem w = IsItemDone files is_items ws_items middle new front is_done.0 ws_done.0 irs wrs is_done.2 ws_done.2 w
+  IsDoneItem w = IsWholeItem files is_items ws_items middle new front is_done.0 wfront a irs wrs is_done.2 ws_done w
 
-  item_done : (w : Item) → Contains (all_items files) w → IsDoneItem w
-  item_done w among = elim (cases_Bool (is_world w)) [
-    | inl world ↦ (let t = world_at files places order differ w world among in world_done files is_items ws_items middle new front is_done.0 ws_done.0 irs wrs is_done.2 ws_done.2 (are_worlds files places order differ) t.0 w t.1)
-    | inr other ↦ (let t = interface_at files places order differ w other among in interface_done files is_items ws_items middle new front is_done.0 ws_done.0 irs wrs is_done.2 ws_done.2 (are_interfaces files places order differ) t.0 w t.1)
+  declared_done : (w : Item) → Contains (all_items files) w → IsDoneItem w
+  declared_done w among = elim (cases_Bool (is_world w)) [
+    | inl world ↦ (let t = world_at files places order differ w world among in world_done files is_items ws_items middle new front is_done.0 wfront a irs wrs is_done.2 ws_done (are_worlds files places order differ) t.0 w t.1)
+    | inr other ↦ (let t = interface_at files places order differ w other among in interface_done files is_items ws_items middle new front is_done.0 wfront a irs wrs is_done.2 ws_done (are_interfaces files places order differ) t.0 w t.1)
+  ]
+
+  item_done : (w : Item) → Contains (all_scopes files) w → IsDoneItem w
+  item_done w among = elim (scopes_either files w among) [
+    | inl declared ↦ declared_done w declared
+    | inr inside ↦ (let q = inline_index inside.0 w inside.1 inside.2 in inline_done files is_items ws_items middle new front is_done.0 wfront a irs wrs is_done.2 ws_done (are_worlds files places order differ) q.0 w q.1)
+  ]
+
+  -- each setter of an interface has its getter
+  setter_paired : (w : Item) → is_world w ≡ false → Contains (all_scopes files) w → (f : Fault) → IsUnpairedSetter (functions w) f → ⊥
+  setter_paired w interface among f alone = elim (scopes_either files w among) [
+    | inl declared ↦ (let t = interface_at files places order differ w interface declared in interface_paired files is_items ws_items middle new front is_done.0 wfront a irs wrs is_done.2 ws_done (are_interfaces files places order differ) t.0 w t.1 f alone)
+    | inr inside ↦ (let q = inline_index inside.0 w inside.1 inside.2 in inline_paired files is_items ws_items middle new front is_done.0 wfront a irs wrs is_done.2 ws_done (are_worlds files places order differ) q.0 w q.1 f alone)
   ]
 
   -- the include of a world leads to a world
   world_included : (w : Item) → Contains (all_items files) w → is_world w ≡ true → (f : Fault) → IsInterfaceIncluded files w f → ⊥
   world_included w among world f h =
       let t = world_at files places order differ w world among in
-      let o = map_at item_of ws_done.2.ordered t.0 w (ap (λ (l : List Item). slice_get l t.0) ws_done.2.all ∙ t.1) in
-      let x = entry_of_item ws_done.2.laid t.0 o.0 o.1 in
-      let says = subst (λ (v : Item). AreIncludes (world_list files ws_items) v x.0.includes) o.2 (ws_done.2.laid.says t.0 o.0 x.0 o.1 x.1).includes in
+      let o = map_at own_item ws_done.ordered t.0 w (ap (λ (l : List Item). slice_get l t.0) ws_done.all ∙ t.1) in
+      let own : slice_get (map own_order ws_done.ordered) t.0 ≡ Some o.0.own = slice_get-map own_order ws_done.ordered t.0 ∙ ap (option_map own_order) o.1 in
+      let x = entry_of_item ws_done.laid t.0 o.0.own own in
+      let says = subst (λ (v : Item). AreIncludes (world_list files ws_items) v x.0.includes) o.2 (ws_done.laid.says t.0 o.0.own x.0 own x.1).includes in
       let to_world = include_leads files ws_items (are_worlds files places order differ) ws_sort w x.0.includes h.path says h.among in
       let wrong : Some true ≡ Some false = sym to_world ∙ h.other in
       let g : ⊥ = cc in
@@ -167,84 +230,84 @@ module _ (files : List PackageFile) (places : List ℕ) (order : IsOrder (item_r
   ]
 
   -- scopes that are sound by themselves are legal: each name in a signature means something
-  pub scopes_legal : AreSoundScopes (in_order (all_items files) places) → AreLegalScopes (in_order (all_items files) places)
+  pub scopes_legal : AreSoundScopes scopes_in_order → AreLegalScopes scopes_in_order
   scopes_legal scopes = record {
     legal = λ t w f at broken. (
         let it = scopes.sound t w f at broken in
-        let p = in_order_at (all_items files) places t w (items_within files places order) at in
-        names_meant files is_items ws_items middle new front is_done.0 ws_done.0 irs wrs is_done.2 ws_done.2 w (item_done w (contains_at (all_items files) p.0 w p.2)) it.k it.fn it.id it.at it.among it.missing);
+        names_meant files (decls files is_items ws_items) written scopes_done new ws_done.done w (item_done w (scope_among t w at)) it.k it.fn it.id it.at it.among it.missing);
   }
 
   -- nothing is wrong with the stability of an item
-  stability_told : HaveLegalStability (in_order (all_items files) places) → (w : Item) → Contains (all_items files) w → (f : Fault) → IsBrokenItemStability w f → ⊥
-  stability_told stability w among f h =
-      let p = at_contains (all_items files) w among in
-      let t = item_index files places order p.0 w p.1 in
-      stability.legal t.0 w f t.2 h
+  stability_told : HaveLegalStability in_turns → (w : Item) → Contains (all_items files) w → (f : Fault) → IsBrokenItemStability w f → ⊥
+  stability_told stability w among f h = (let t = in_turn_at w among in stability.legal t.0 w f t.1 h)
 
   -- no rule is broken, where the scopes are legal by themselves, what stands on the sides, the paths of links, the stability of items and the
   -- notes of their uses
-  pub files_legal : AreLegalScopes (in_order (all_items files) places) → AreLegalSides (in_order (all_items files) places) → AreUsableLinks files ws_items → HaveLegalStability (in_order (all_items files) places) → ((i : Item) → Contains (all_items files) i → (u : WrittenUse) → Contains (uses_of i) u → (f : Fault) → IsBrokenNotes u.attributes.items f → ⊥) → ((i : Item) → Contains (all_items files) i → (f : Fault) → IsUnread i f → ⊥) → (header : Header) → last_header files ≡ Some header → IsLegal files
-  files_legal scopes sides usable stability notes read header last f (Headerless h) =
+  pub files_legal : AreLegalScopes scopes_in_order → AreLegalSides scopes_in_order → AreUsableLinks files ws_items → HaveLegalStability in_turns → ((i : Item) → Contains (all_items files) i → (u : WrittenUse) → Contains (uses_of i) u → (f : Fault) → IsBrokenNotes u.attributes.items f → ⊥) → (header : Header) → last_header files ≡ Some header → IsLegal files
+  files_legal scopes sides usable stability notes header last f (Headerless h) =
       let it = some_header files header last in
       let wrong : None ≡ Some header = sym (h.none it.0 it.1 it.2) ∙ it.3 in
       let g : ⊥ = cc in
       g
-  files_legal scopes sides usable stability notes read header last f (Unread i among h) = read i among f h
-  files_legal scopes sides usable stability notes read header last f (Names h) = names f h
-  files_legal scopes sides usable stability notes read header last f (ItemStability i among h) = stability_told stability i among f (OwnStability h)
-  files_legal scopes sides usable stability notes read header last f (UseNotes i among u used h) = notes i among u used f h
-  files_legal scopes sides usable stability notes read header last f (IncludeStability i among n included h) = stability_told stability i among f (OfInclude n included h)
-  files_legal scopes sides usable stability notes read header last f (Use i among h) = no_broken_use files i (λ u used. uses.usable i u among used) (λ link linked. link_usable usable i among link linked) f h
-  files_legal scopes sides usable stability notes read header last f (InterfaceIncluded i among h) = includes_stated i among f h
-  files_legal scopes sides usable stability notes read header last f (MissingName i among h) = names_stated files is_items ws_items middle new front is_done.0 ws_done.0 irs wrs is_done.2 ws_done.2 i (item_done i among) f h
-  files_legal scopes sides usable stability notes read header last f (FunctionUsed i among h) = types_stated files is_items ws_items middle new front is_done.0 ws_done.0 irs wrs is_done.2 ws_done.2 i (item_done i among) f h
-  files_legal scopes sides usable stability notes read header last f (Handle i among h) = handles_stated files is_items ws_items middle new front is_done.0 ws_done.0 irs wrs is_done.2 ws_done.2 i (item_done i among) f h
-  files_legal scopes sides usable stability notes read header last f (Setter i among h) =
-      let t = interface_at files places order differ i h.interface among in
-      setters_paired files is_items ws_items middle new front is_done.0 ws_done.0 irs wrs is_done.2 ws_done.2 t.0 i t.1 f h.alone
-  files_legal scopes sides usable stability notes read header last f (Sides i among h) =
-      let p = at_contains (all_items files) i among in
-      let t = item_index files places order p.0 i p.1 in
-      sides.legal t.0 i f t.2 h
-  files_legal scopes sides usable stability notes read header last f (Scope i among h) =
-      let p = at_contains (all_items files) i among in
-      let t = item_index files places order p.0 i p.1 in
-      scopes.legal t.0 i f t.2 h
+  files_legal scopes sides usable stability notes header last f (Names h) = names f h
+  files_legal scopes sides usable stability notes header last f (ItemStability i among h) = stability_told stability i among f (OwnStability h)
+  files_legal scopes sides usable stability notes header last f (UseNotes i among u used h) = notes i among u used f h
+  files_legal scopes sides usable stability notes header last f (IncludeStability i among n included h) = stability_told stability i among f (OfInclude n included h)
+  files_legal scopes sides usable stability notes header last f (Use i among h) = no_broken_use files i (λ u used. uses.usable i u among used) (λ link linked. link_usable usable i among link linked) f h
+  files_legal scopes sides usable stability notes header last f (InterfaceIncluded i among h) = includes_stated i among f h
+  files_legal scopes sides usable stability notes header last f (MissingName i among h) = names_stated files (decls files is_items ws_items) written scopes_done new ws_done.done i (item_done i among) f h
+  files_legal scopes sides usable stability notes header last f (FunctionUsed i among h) = types_stated files (decls files is_items ws_items) written scopes_done new ws_done.done i (item_done i among) f h
+  files_legal scopes sides usable stability notes header last f (Handle i among h) = handles_stated files (decls files is_items ws_items) written scopes_done new ws_done.done i (item_done i among) f h
+  files_legal scopes sides usable stability notes header last f (Setter i among h) = setter_paired i h.interface among f h.alone
+  files_legal scopes sides usable stability notes header last f (Sides i among h) = (let t = scope_index i among in sides.legal t.0 i f t.1 h)
+  files_legal scopes sides usable stability notes header last f (Scope i among h) = (let t = scope_index i among in scopes.legal t.0 i f t.1 h)
 
   -- a package that has these arenas, and names what the files name of other packages
-  module _ (p : UnresolvedPackage) (types : p.types ≡ new) (interfaces : p.interfaces ≡ is) (worlds : p.worlds ≡ ws) (others : NamesOthers files p) where
-    pub package_worlds : WorldsDone files is_items ws_items front is_done.2.ordered is_done.2.scopes ws_items p.types ws_done.0 wrs
-    package_worlds = subst (λ (l : List TypeDef). WorldsDone files is_items ws_items front is_done.2.ordered is_done.2.scopes ws_items l ws_done.0 wrs) (sym types) ws_done.2
+  module _ (p : UnresolvedPackage) (types : p.types ≡ new) (interfaces : p.interfaces ≡ is ++ a.inside) (worlds : p.worlds ≡ a.worlds) (others : NamesOthers files p) where
+    pub package_worlds : AreWorldsDone files is_items ws_items wfront is_done.2.ordered (front_scopes files front ++ is_done.2.scopes) ws_items p.types a wrs
+    package_worlds = subst (λ (l : List TypeDef). AreWorldsDone files is_items ws_items wfront is_done.2.ordered (front_scopes files front ++ is_done.2.scopes) ws_items l a wrs) (sym types) ws_done
+
+    interface_arena : p.interfaces ≡ (front ++ is_done.0) ++ a.inside
+    interface_arena = interfaces ∙ ap (λ (l : List Interface). l ++ a.inside) is_done.1
 
     pub files_package : p.required_resource_types ≡ irs ++ wrs → (header : Header) → last_header files ≡ Some header → p.name.namespace ≡ header.namespace.name.now → p.name.name ≡ header.name.name.now → option_map release_parts p.name.version ≡ option_map parts_of header.version → p.name_span ≡ header.span → p.docs ≡ first_docs (headers files) → IsPackage files p
-    files_package requires header last namespace name version span docs = package_of files is_items ws_items es middle front is_done.0 wfront ws_done.0 foreign irs wrs p is_done.2 package_worlds (interfaces ∙ is_done.1) (worlds ∙ ws_done.1) others requires header places order refl refl last namespace name version span docs
+    files_package requires header last namespace name version span docs = package_of files is_items ws_items is_sort ws_sort (are_interfaces files places order differ) (are_worlds files places order differ) es middle front is_done.0 wfront foreign irs wrs p a is_done.2 package_worlds interface_arena worlds others requires header places order refl refl last namespace name version span docs
 
     -- what handles require of other packages: first those of interfaces, then those of worlds
-    pub files_required : AreRequired files (keys package_worlds.done.met) (flat_map turn_handles (map turned (is_done.2.ordered ++ package_worlds.ordered))) (irs ++ wrs)
-    files_required = required_of files is_items ws_items es middle front is_done.0 wfront ws_done.0 foreign irs wrs p is_done.2 package_worlds (interfaces ∙ is_done.1) (worlds ∙ ws_done.1) others
+    pub files_required : AreRequired files (keys package_worlds.done.met) (flat_map turn_handles (all_turns is_done.2.ordered package_worlds.ordered)) (irs ++ wrs)
+    files_required = required_of files is_items ws_items is_sort ws_sort (are_interfaces files places order differ) (are_worlds files places order differ) es middle front is_done.0 wfront foreign irs wrs p a is_done.2 package_worlds interface_arena worlds others
 
-    -- no two functions of a scope that is legal by itself go by one side and name
-    apart_in : AreLegalSides (in_order (all_items files) places) → (test : Item → Bool) (o : Ordered) (c : DoneScope) (t : ℕ) → slice_get (filter test (in_order (all_items files) places)) t ≡ Some o.item → IsOrder (rows_of (scope_names o.item)) o.order → turned o ≡ turn_of c → AllDiffer (map function_key c.functions)
-    apart_in scopes test o c t at least same =
-        let p = kept_at test (in_order (all_items files) places) t o.item at in
-        subst (λ (x : Turned). AllDiffer (map function_key x.functions)) same (subst (λ (l : List SourceFunction). AllDiffer (map function_key l)) (sym (functions_items o.item)) (functions_differ (scope_names o.item) (side_items o.item) o.order least (λ f twice. scopes.legal p.0 o.item f p.1 (FoldedTwice twice))))
+    -- no two functions of a scope of these items go by one side and name
+    apart_in : AreLegalSides scopes_in_order → (ws : List Item) (c : DoneScope) → ((t : ℕ) (w : Item) → slice_get ws t ≡ Some w → (k : ℕ) × (slice_get scopes_in_order k ≡ Some w)) → IsScopeOf ws c → AllDiffer (map function_key c.functions)
+    apart_in sides ws c among h =
+        let o = h.ordered in
+        let k = among h.place o.item h.at in
+        subst (λ (x : Turned). AllDiffer (map function_key x.functions)) h.same (subst (λ (l : List SourceFunction). AllDiffer (map function_key l)) (sym (functions_items o.item)) (functions_differ (scope_names o.item) (side_items o.item) o.order h.least (λ f twice. sides.legal k.0 o.item f k.1 (FoldedTwice twice))))
 
-    functions_apart : AreLegalSides (in_order (all_items files) places) → (t : ℕ) (c : DoneScope) → slice_get ((front_scopes files front ++ is_done.2.scopes) ++ package_worlds.scopes) t ≡ Some c → AllDiffer (map function_key c.functions)
-    functions_apart scopes t c at = elim (at_part (front_scopes files front ++ is_done.2.scopes) package_worlds.scopes t c at) [
+    -- an item of a sort stands among all, and so does one that is written in a world
+    kept_among : (test : Item → Bool) (t : ℕ) (w : Item) → slice_get (filter test in_turns) t ≡ Some w → (k : ℕ) × (slice_get scopes_in_order k ≡ Some w)
+    kept_among test t w at = (let q = kept_at test in_turns t w at in flat_map_has with_inline in_turns q.0 0 w w q.1 refl)
+
+    inside_among : (t : ℕ) (w : Item) → slice_get (inside_of ws_items) t ≡ Some w → (k : ℕ) × (slice_get scopes_in_order k ≡ Some w)
+    inside_among t w at =
+        let it = flat_map_at inline_items ws_items t w at in
+        let q = kept_at is_world in_turns it.0 it.1 it.2 in
+        flat_map_has with_inline in_turns q.0 (suc it.3.0) it.1 w q.1 it.3.1
+
+    functions_apart : AreLegalSides scopes_in_order → (t : ℕ) (c : DoneScope) → slice_get ((front_scopes files front ++ is_done.2.scopes) ++ flat_map scopes_of package_worlds.scopes) t ≡ Some c → AllDiffer (map function_key c.functions)
+    functions_apart sides t c at = elim (at_part (front_scopes files front ++ is_done.2.scopes) (flat_map scopes_of package_worlds.scopes) t c at) [
       | inl h ↦ elim (at_part (front_scopes files front) is_done.2.scopes h.0 c h.1) [
         | inl g ↦ elim (front_at files front foreign.interfaces.count g.0 c g.1) [
           | FrontInterface k v i v_at i_at is ↦ subst (λ (b : DoneScope). AllDiffer (map function_key b.functions)) (sym is) differ_none
           | FrontWorld k v v_at is ↦ subst (λ (b : DoneScope). AllDiffer (map function_key b.functions)) (sym is) differ_none
         ]
-        | inr g ↦ (
-            let o = ordered_at is_done.2.laid g.0 c g.1 in
-            apart_in scopes (λ (i : Item). not (is_world i)) o.0 c g.0 (is_done.2.laid.front g.0 o.0 o.1) (is_done.2.laid.least g.0 o.0 o.1) o.2)
+        | inr g ↦ apart_in sides is_items c (kept_among (λ (i : Item). not (is_world i))) (interface_whose files is_items ws_items middle p.types front is_done.0 wfront a irs wrs is_done.2 package_worlds g.0 c g.1)
       ]
-      | inr h ↦ (
-          let o = ordered_at package_worlds.laid h.0 c h.1 in
-          apart_in scopes is_world o.0 c h.0 (package_worlds.laid.front h.0 o.0 o.1) (package_worlds.laid.least h.0 o.0 o.1) o.2)
+      | inr h ↦ elim (world_whose files is_items ws_items middle p.types front is_done.0 wfront a irs wrs is_done.2 package_worlds h.0 c h.1) [
+        | inl own ↦ apart_in sides ws_items c (kept_among is_world) own
+        | inr inside ↦ apart_in sides (inside_of ws_items) c inside_among inside
+      ]
     ]
 
-    pub files_faithful : AreLegalSides (in_order (all_items files) places) → IsFaithful files p
-    files_faithful scopes = faithful_package files is_items ws_items es middle front is_done.0 wfront ws_done.0 foreign irs wrs p is_done.2 package_worlds (interfaces ∙ is_done.1) (worlds ∙ ws_done.1) others (functions_apart scopes)
+    pub files_faithful : AreLegalSides scopes_in_order → IsFaithful files p
+    files_faithful sides = faithful_package files is_items ws_items is_sort ws_sort (are_interfaces files places order differ) (are_worlds files places order differ) es middle front is_done.0 wfront foreign irs wrs p a is_done.2 package_worlds interface_arena worlds others (functions_apart sides)

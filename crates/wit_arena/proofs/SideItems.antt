@@ -11,10 +11,10 @@ use Rattle.wit_model.specs.declared.world.WorldItem.{WorldItem}
 use Rattle.wit_syntax.specs.Address.{Address}
 use Rattle.wit_syntax.specs.Crossing.{same_side}
 use Rattle.wit_syntax.specs.Source.{TopName, path_scope}
-use Rattle.wit_syntax.specs.Sides.{role_side, SideItem, SideFunction, SideLink, Link, item_function}
+use Rattle.wit_syntax.specs.Sides.{role_side, SideItem, SideFunction, SideLink, SideInline, Link, item_function}
 use Rattle.wit_arena.specs.Functions.{by_name, function_item, made_on}
 use Rattle.wit_arena.specs.Package.{import_types, item_functions}
-use Rattle.wit_arena.specs.SideItems.{link_item, put_on, AreSideItems}
+use Rattle.wit_arena.specs.SideItems.{link_item, inline_entry, put_on, AreSideItems}
 
 -- what an item puts on a side brings there what it has, or nothing
 put_nothing : {Y : Type 0} (of : WorldKey × WorldItem → List Y) (side own : WorldSide) (x : WorldKey × WorldItem) (xs : List (WorldKey × WorldItem)) → of x ≡ [] → flat_map of (put_on side own x xs) ≡ flat_map of xs
@@ -42,31 +42,39 @@ link_types link place = by_name_of link.name
     by_name_of (Some id) = refl
 
 -- the functions among them are those that were made on the side
-pub side_functions : (interfaces : List Address) (top : List TopName) (side : WorldSide) (written : List SideItem) (fs : List Function) (xs : List (WorldKey × WorldItem)) → AreSideItems interfaces top side written fs xs → flat_map item_functions xs ≡ map by_name (made_on side (flat_map item_function written) fs)
-side_functions interfaces top side [] fs xs are = ap (flat_map item_functions) are
-side_functions interfaces top side (SideFunction fn ∷ written) [] xs are = absurd are
-side_functions interfaces top side (SideFunction fn ∷ written) (f ∷ fs) xs are =
-    let rest = side_functions interfaces top side written fs are.0 are.2 in
+pub side_functions : (interfaces : List Address) (top : List TopName) (side : WorldSide) (written : List SideItem) (fs : List Function) (ss : List Address) (xs : List (WorldKey × WorldItem)) → AreSideItems interfaces top side written fs ss xs → flat_map item_functions xs ≡ map by_name (made_on side (flat_map item_function written) fs)
+side_functions interfaces top side [] fs ss xs are = ap (flat_map item_functions) are
+side_functions interfaces top side (SideFunction fn ∷ written) [] ss xs are = absurd are
+side_functions interfaces top side (SideFunction fn ∷ written) (f ∷ fs) ss xs are =
+    let rest = side_functions interfaces top side written fs ss are.0 are.2 in
     elim (cases_Bool (same_side side (role_side fn.role))) [
       | inl hit ↦ ap (flat_map item_functions) (are.1 ∙ cond-true (same_side side (role_side fn.role)) (function_item f ∷ are.0) are.0 hit) ∙ ap (λ (l : List (List ℕ × Function)). by_name f ∷ l) rest ∙ sym (ap (map by_name) (cond-true (same_side side (role_side fn.role)) (f ∷ made_on side (flat_map item_function written) fs) (made_on side (flat_map item_function written) fs) hit))
       | inr miss ↦ ap (flat_map item_functions) (are.1 ∙ cond-false (same_side side (role_side fn.role)) (function_item f ∷ are.0) are.0 miss) ∙ rest ∙ sym (ap (map by_name) (cond-false (same_side side (role_side fn.role)) (f ∷ made_on side (flat_map item_function written) fs) (made_on side (flat_map item_function written) fs) miss))
     ]
-side_functions interfaces top side (SideLink link ∷ written) fs xs are =
-    ap (flat_map item_functions) are.3 ∙ put_nothing item_functions side link.side (link_item link are.0) are.1 (link_functions link are.0) ∙ side_functions interfaces top side written fs are.1 are.4
+side_functions interfaces top side (SideLink link ∷ written) fs ss xs are =
+    ap (flat_map item_functions) are.3 ∙ put_nothing item_functions side link.side (link_item link are.0) are.1 (link_functions link are.0) ∙ side_functions interfaces top side written fs ss are.1 are.4
+side_functions interfaces top side (SideInline x name items ∷ written) fs [] xs are = absurd are
+side_functions interfaces top side (SideInline x name items ∷ written) fs (s ∷ ss) xs are =
+    ap (flat_map item_functions) are.3 ∙ put_nothing item_functions side x.side (inline_entry x name are.0) are.1 refl ∙ side_functions interfaces top side written fs ss are.1 are.4
 
 -- and none of them is a type
-pub side_types : (interfaces : List Address) (top : List TopName) (side : WorldSide) (written : List SideItem) (fs : List Function) (xs : List (WorldKey × WorldItem)) → AreSideItems interfaces top side written fs xs → flat_map import_types xs ≡ []
-side_types interfaces top side [] fs xs are = ap (flat_map import_types) are
-side_types interfaces top side (SideFunction fn ∷ written) [] xs are = absurd are
-side_types interfaces top side (SideFunction fn ∷ written) (f ∷ fs) xs are =
-    ap (flat_map import_types) are.1 ∙ put_nothing import_types side (role_side fn.role) (function_item f) are.0 refl ∙ side_types interfaces top side written fs are.0 are.2
-side_types interfaces top side (SideLink link ∷ written) fs xs are =
-    ap (flat_map import_types) are.3 ∙ put_nothing import_types side link.side (link_item link are.0) are.1 (link_types link are.0) ∙ side_types interfaces top side written fs are.1 are.4
+pub side_types : (interfaces : List Address) (top : List TopName) (side : WorldSide) (written : List SideItem) (fs : List Function) (ss : List Address) (xs : List (WorldKey × WorldItem)) → AreSideItems interfaces top side written fs ss xs → flat_map import_types xs ≡ []
+side_types interfaces top side [] fs ss xs are = ap (flat_map import_types) are
+side_types interfaces top side (SideFunction fn ∷ written) [] ss xs are = absurd are
+side_types interfaces top side (SideFunction fn ∷ written) (f ∷ fs) ss xs are =
+    ap (flat_map import_types) are.1 ∙ put_nothing import_types side (role_side fn.role) (function_item f) are.0 refl ∙ side_types interfaces top side written fs ss are.0 are.2
+side_types interfaces top side (SideLink link ∷ written) fs ss xs are =
+    ap (flat_map import_types) are.3 ∙ put_nothing import_types side link.side (link_item link are.0) are.1 (link_types link are.0) ∙ side_types interfaces top side written fs ss are.1 are.4
+side_types interfaces top side (SideInline x name items ∷ written) fs [] xs are = absurd are
+side_types interfaces top side (SideInline x name items ∷ written) fs (s ∷ ss) xs are =
+    ap (flat_map import_types) are.3 ∙ put_nothing import_types side x.side (inline_entry x name are.0) are.1 refl ∙ side_types interfaces top side written fs ss are.1 are.4
 
 -- where each of some addresses stands at its place among all, these are what they are among all
 module _ (some all : List Address) (wider : (t : ℕ) (a : Address) → slice_get some t ≡ Some a → slice_get all t ≡ Some a) (top : List TopName) (side : WorldSide) where
-  pub side_items_wider : (written : List SideItem) (fs : List Function) (xs : List (WorldKey × WorldItem)) → AreSideItems some top side written fs xs → AreSideItems all top side written fs xs
-  side_items_wider [] fs xs are = are
-  side_items_wider (SideFunction fn ∷ written) [] xs are = absurd are
-  side_items_wider (SideFunction fn ∷ written) (f ∷ fs) xs are = (are.0, are.1, side_items_wider written fs are.0 are.2)
-  side_items_wider (SideLink link ∷ written) fs xs are = (are.0, are.1, wider are.0 (path_scope top link.path) are.2, are.3, side_items_wider written fs are.1 are.4)
+  pub side_items_wider : (written : List SideItem) (fs : List Function) (ss : List Address) (xs : List (WorldKey × WorldItem)) → AreSideItems some top side written fs ss xs → AreSideItems all top side written fs ss xs
+  side_items_wider [] fs ss xs are = are
+  side_items_wider (SideFunction fn ∷ written) [] ss xs are = absurd are
+  side_items_wider (SideFunction fn ∷ written) (f ∷ fs) ss xs are = (are.0, are.1, side_items_wider written fs ss are.0 are.2)
+  side_items_wider (SideLink link ∷ written) fs ss xs are = (are.0, are.1, wider are.0 (path_scope top link.path) are.2, are.3, side_items_wider written fs ss are.1 are.4)
+  side_items_wider (SideInline x name items ∷ written) fs [] xs are = absurd are
+  side_items_wider (SideInline x name items ∷ written) fs (s ∷ ss) xs are = (are.0, are.1, wider are.0 s are.2, are.3, side_items_wider written fs ss are.1 are.4)

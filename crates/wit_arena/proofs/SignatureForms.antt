@@ -13,7 +13,8 @@ use Rattle.wit_tree.specs.declared.tree.ResourceFunc.TheVariants as resource
 use Rattle.wit_tree.specs.declared.tree.PackageFile.{PackageFile}
 use Rattle.wit_syntax.specs.Shape.{Shape, Word, shape_of}
 use Rattle.wit_syntax.specs.Address.{Address}
-use Rattle.wit_syntax.specs.Source.{Item, all_items, item_at, Part, Defining, Using, Including, Doing, Crossing, parts}
+use Rattle.wit_syntax.specs.Source.{Item, item_at, Part, Defining, Using, Including, Doing, Crossing, parts}
+use Rattle.wit_syntax.specs.Sides.{all_scopes}
 use Rattle.wit_syntax.specs.Function.{Role, SourceParam, SourceFunction, all_params, written_param, self_param, function_with, free_function, resource_function, definition_functions, part_functions, functions, signature, function_of, side_function}
 use Rattle.wit_arena.specs.Whole.{functions_at}
 use Rattle.wit_syntax.proofs.Lists.{at_split, map_at, flat_map_at}
@@ -100,7 +101,7 @@ plain_part (Doing g) (suc k) fn at = absurd (let f : ⊥ = cc in f)
 
 -- so it is in the functions of a scope
 pub signature_anonymous : (files : List PackageFile) (s : Address) (k : ℕ) (fn : SourceFunction) → slice_get (functions_at files s) k ≡ Some fn → (j : ℕ) (x : Shape) → slice_get (signature fn) j ≡ Some x → AreAnonymous x
-signature_anonymous files s k fn at j x written = of_item (item_at (all_items files) s) at
+signature_anonymous files s k fn at j x written = of_item (item_at (all_scopes files) s) at
   where
     of_item : (o : Option Item) → slice_get (option_map_or functions o []) k ≡ Some fn → AreAnonymous x
     of_item None there = absurd (let f : ⊥ = cc in f)

@@ -10,7 +10,8 @@ use Rattle.wit_types.specs.declared.types.TypeDef.{TypeDef}
 use Rattle.wit_syntax.specs.Shape.{Shape, Shapes, words, all_words}
 use Rattle.wit_syntax.specs.Shape as shape
 use Rattle.wit_syntax.specs.Address.{Address}
-use Rattle.wit_syntax.specs.Source.{scope, meaning}
+use Rattle.wit_syntax.specs.Source.{meaning}
+use Rattle.wit_syntax.specs.Trees.{scope}
 use Rattle.wit_syntax.specs.Function.{SourceFunction, signature}
 use Rattle.wit_arena.specs.Expr.{expr_of, exprs_of}
 use Rattle.wit_arena.specs.Meet.{Key, Def, Whole, Meeting, keys, IsAt, AreAt, Decls, IsKeyed}

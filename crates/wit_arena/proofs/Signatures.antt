@@ -94,7 +94,7 @@ result_grown g s None t h = h
 result_grown g s (Some x) None h = h
 result_grown g s (Some x) (Some t) h = at_grown g (expr_of s x) t h
 
-function_grown : {a b : List Key} → Grown a b → (s : Address) (fn : SourceFunction) (f : Function) → IsFunction a s fn f → IsFunction b s fn f
+pub function_grown : {a b : List Key} → Grown a b → (s : Address) (fn : SourceFunction) (f : Function) → IsFunction a s fn f → IsFunction b s fn f
 function_grown g s fn f h = record {
   name = h.name;
   kind = kind_grown g s fn.role f.kind h.kind;

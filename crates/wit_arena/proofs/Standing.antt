@@ -6,7 +6,8 @@ use Rattle.wit_types.specs.declared.types.TypeDef.{TypeDef}
 use Rattle.wit_types.specs.declared.types.TypeOwner.{TypeOwner}
 use Rattle.wit_syntax.specs.Form.{Form}
 use Rattle.wit_syntax.specs.Address.{Address}
-use Rattle.wit_syntax.specs.Source.{ScopeName, scope, local_name}
+use Rattle.wit_syntax.specs.Source.{ScopeName, local_name}
+use Rattle.wit_syntax.specs.Trees.{scope}
 use Rattle.wit_arena.specs.Expr.{Exprs, name_exprs}
 use Rattle.wit_arena.specs.Meet.{Def, Whole, Meeting, keys, Meets, Decls, IsMeeting}
 use Rattle.wit_syntax.specs.Repeats.{AllDiffer}

@@ -13,7 +13,8 @@ use Rattle.wit_types.specs.declared.types.«Type».{«Type» as Ty}
 use Rattle.wit_types.specs.declared.types.TypeDef.{TypeDef}
 use Rattle.wit_arena.specs.Kind.{kind_of}
 use Rattle.wit_syntax.specs.Address.{Address}
-use Rattle.wit_syntax.specs.Source.{Item, all_items, item_at, ScopeName, Used, Place, local_name, scope_names, scope, meaning, name_body, name_scope, name_parts}
+use Rattle.wit_syntax.specs.Source.{Item, all_items, item_at, ScopeName, Used, Place, local_name, scope_names, meaning, name_body, name_scope, name_parts}
+use Rattle.wit_syntax.specs.Trees.{scope}
 use Rattle.wit_arena.specs.Expr.{Use, Exprs, one, expr_of, name_exprs}
 use Rattle.wit_arena.specs.Meet.{Key, Def, Meeting, keys, IsAt, AreAt, Decl, Decls, decl_of}
 use Rattle.wit_syntax.specs.Fault.{Fault}
@@ -24,6 +25,7 @@ use Rattle.wit_syntax.proofs.Names.{lookup-at}
 use Rattle.wit_arena.proofs.Places.{all_at_untaken}
 use Rattle.wit_syntax.proofs.Repeated.{differ_at}
 use Rattle.wit_syntax.proofs.Found.{at_contains}
+use Rattle.wit_syntax.proofs.Scopes.{declared_at}
 use Rattle.wit_arena.proofs.Interfaces.{scope_at}
 use Rattle.wit_arena.proofs.Shape.{entry_of_key}
 use Rattle.wit_arena.proofs.Depth.{meaning_found}
@@ -128,7 +130,7 @@ module _ (files : List PackageFile) (decls : Decls) (written : List Meeting) (cs
       let j = original_met t c k.0 from attributes n at k.1 in
       let name = n.name.name.now in
       let it = meaning_at j.0 from name j.1 in
-      let same : meaning (scope files from) name ≡ meaning (scope_names target) name = ap (λ (xs : List ScopeName). meaning xs name) (scope_at files from target declared) in
+      let same : meaning (scope files from) name ≡ meaning (scope_names target) name = ap (λ (xs : List ScopeName). meaning xs name) (scope_at files from target (declared_at files from target declared)) in
       let wrong : None ≡ Some it.0 = sym missing ∙ sym same ∙ it.1 in
       let g : ⊥ = cc in
       g

@@ -57,11 +57,11 @@ both_sides fns fs = map (keyed Imported) (map by_name (made_on Imported fns fs))
 import_functions-all : (xs : List ScopeName) (types : Names) (behind : List (WorldKey × WorldItem)) → flat_map item_functions (type_imports xs types ++ behind) ≡ flat_map item_functions behind
 import_functions-all xs types behind = flat_map-append item_functions (type_imports xs types) behind ∙ ap (λ (l : List (List ℕ × Function)). l ++ flat_map item_functions behind) (no_functions_of xs types)
 
-pub world_functions-all : (interfaces : List Address) (top : List TopName) (xs : List ScopeName) (types : Names) (items : List SideItem) (fs : List Function) (imports : List (WorldKey × WorldItem)) (w : World) → w.imports ≡ type_imports xs types ++ imports → AreSideItems interfaces top Imported items fs imports → AreSideItems interfaces top Exported items fs w.exports → world_functions w ≡ both_sides (flat_map item_function items) fs
-world_functions-all interfaces top xs types items fs imports w are on_imports on_exports =
+pub world_functions-all : (interfaces : List Address) (top : List TopName) (xs : List ScopeName) (types : Names) (items : List SideItem) (fs : List Function) (inside : List Address) (imports : List (WorldKey × WorldItem)) (w : World) → w.imports ≡ type_imports xs types ++ imports → AreSideItems interfaces top Imported items fs inside imports → AreSideItems interfaces top Exported items fs inside w.exports → world_functions w ≡ both_sides (flat_map item_function items) fs
+world_functions-all interfaces top xs types items fs inside imports w are on_imports on_exports =
     let fns = flat_map item_function items in
-    let imported = ap (flat_map item_functions) are ∙ import_functions-all xs types imports ∙ side_functions interfaces top Imported items fs imports on_imports in
-    let exported = side_functions interfaces top Exported items fs w.exports on_exports in
+    let imported = ap (flat_map item_functions) are ∙ import_functions-all xs types imports ∙ side_functions interfaces top Imported items fs inside imports on_imports in
+    let exported = side_functions interfaces top Exported items fs inside w.exports on_exports in
     ap (λ (l : List (List ℕ × Function)). map (keyed Imported) l ++ map (keyed Exported) (flat_map item_functions w.exports)) imported ∙ ap (λ (l : List (List ℕ × Function)). map (keyed Imported) (map by_name (made_on Imported fns fs)) ++ map (keyed Exported) l) exported
 
 -- those of a side under their names

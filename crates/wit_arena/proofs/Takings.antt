@@ -1,32 +1,36 @@
 -- The names that items use from other packages, where each is first used.
-use Rattle.std.proofs.Common.{◌≡◌, ℕ, Bool, true, List, [], ◌∷◌, ◌++◌, Some, inl, inr, refl, sym, ap, ◌∙◌, subst, append_assoc}
+use Rattle.std.proofs.Common.{◌≡◌, ℕ, zero, suc, Bool, true, cond, List, [], ◌∷◌, ◌++◌, Some, Contains, inl, inr, refl, sym, ap, ◌∙◌, subst, append_assoc}
 use Rattle.std.specs.Prelude.{slice_get, map}
 use Rattle.std.specs.List.{flat_map, filter}
 use Rattle.std.specs.Option.{option_map}
 use Rattle.std.specs.Str.{bytes_eq}
-use Rattle.std.proofs.lemmas.Bool.{and_parts, and_from, both_ways}
+use Rattle.std.proofs.lemmas.Bool.{and_parts, and_from, both_ways, cases_Bool}
 use Rattle.std.proofs.lemmas.List.{append-nil, map-append}
 use Rattle.std.proofs.lemmas.Option.{slice_get-map}
 use Rattle.wit_tree.specs.declared.tree.Id.{Id}
 use Rattle.wit_tree.specs.declared.tree.Use.{Use}
 use Rattle.wit_tree.specs.declared.tree.UseName.{UseName}
 use Rattle.wit_tree.specs.declared.tree.PackageFile.{PackageFile}
+use Rattle.wit_tree.specs.declared.tree.WorldSide.{WorldSide}
+use Rattle.wit_tree.specs.declared.tree.WorldSide.TheVariants.{Imported, Exported}
 use Rattle.wit_package_names.specs.declared.package_name.PackageName.{PackageName}
 use Rattle.wit_syntax.specs.Address.{Address, same_address, is_foreign}
-use Rattle.wit_syntax.specs.Source.{Target, Local, Foreign, leads, used_scope, path_scope, Part, Defining, Using, Including, Doing, Crossing, Item, all_items, parts, ScopeName, Taken, local_name, Taking, taking, part_takings, item_takings, takings, same_taking, first_takings, taken, taken_names}
+use Rattle.wit_syntax.specs.Crossing.{same_side, inline_uses}
+use Rattle.wit_syntax.specs.Source.{TopName, Target, Local, Foreign, leads, used_scope, path_scope, Part, Defining, Using, Including, Doing, Crossing, Item, all_items, parts, ScopeName, Taken, local_name, Taking, taking, use_takings, part_takings, side_takings, takings_in, item_takings, takings, same_taking, first_takings, taken, taken_names}
 use Rattle.wit_syntax.specs.Foreign.{ForeignVisit, visited, foreign_interfaces}
 use Rattle.wit_arena.specs.Resolved.{AreUsableUses}
 use Rattle.wit_arena.specs.Meet.{Key, Def, Meeting, keys, Meets}
 use Rattle.wit_syntax.specs.Repeats.{AllDiffer, firsts}
 use Rattle.wit_arena.specs.Whole.{taking_meeting}
-use Rattle.wit_syntax.specs.Scope.{AreDistinct}
-use Rattle.wit_syntax.proofs.Lists.{map_at, map_map, flat_map_at, flat_map_has}
+use Rattle.wit_syntax.specs.Scope.{part_uses, uses, AreDistinct}
+use Rattle.wit_syntax.proofs.Lists.{at_front, map_at, map_map, flat_map_at, flat_map_has}
 use Rattle.wit_syntax.proofs.Names.{name_itself, name_equal}
-use Rattle.wit_syntax.proofs.Addresses.{same_address-from, same_address-equal}
+use Rattle.wit_syntax.proofs.Addresses.{side_itself, same_address-from, same_address-equal}
 use Rattle.wit_syntax.proofs.Repeated.{differ_at, differ_by}
 use Rattle.wit_syntax.proofs.Kept.{kept_at, kept_has, kept_differ}
 use Rattle.wit_syntax.proofs.Firsts.{firsts_at, firsts_has, firsts_differ, firsts-more}
-use Rattle.wit_arena.proofs.Visits.{used_interface_visit}
+use Rattle.wit_syntax.proofs.Found.{at_contains}
+use Rattle.wit_arena.proofs.Visits.{side_has, side_at, part_use_at, use_at, used_interface_visit}
 
 -- a name of a scope, as it is met
 abbrev pub taking_key : Taking → Key
@@ -75,9 +79,8 @@ pub record IsTakenAt (files : List PackageFile) (t : Taking) : Type 0 where
   pub place : ℕ
   pub item : Item
   pub at : slice_get (all_items files) place ≡ Some item
-  pub index : ℕ
   pub part : Use
-  pub among : slice_get (parts item) index ≡ Some (Using part)
+  pub among : Contains (uses item) part
   pub name : UseName
   pub is : t ≡ taking (path_scope item.top part.from) part.attributes.items name
   pub foreign : is_foreign t.from ≡ true
@@ -85,26 +88,67 @@ pub record IsTakenAt (files : List PackageFile) (t : Taking) : Type 0 where
 pub taken_at : (files : List PackageFile) (k : ℕ) (t : Taking) → slice_get (takings files) k ≡ Some t → IsTakenAt files t
 taken_at files k t at =
     let w = flat_map_at item_takings (all_items files) k t at in
-    let kept = kept_at (λ (x : Taking). is_foreign x.from) (flat_map (part_takings w.1.top) (parts w.1)) w.3.0 t w.3.1 in
-    let m = flat_map_at (part_takings w.1.top) (parts w.1) kept.0 t kept.1 in
-    of_part w.0 w.1 w.2 m.0 m.1 m.2 m.3.0 m.3.1 kept.2
+    let top = w.1.top in
+    let ps = parts w.1 in
+    let kept = kept_at (λ (x : Taking). is_foreign x.from) (takings_in top ps) w.3.0 t w.3.1 in
+    elim (side_at (flat_map (part_takings top) ps) (λ side. flat_map (side_takings top side) ps) kept.0 t kept.1) [
+      | inl own ↦ (let m = flat_map_at (part_takings top) ps own.0 t own.1 in of_part w.0 w.1 w.2 m.0 m.1 m.2 m.3.0 m.3.1 kept.2)
+      | inr inside ↦ (let m = flat_map_at (side_takings top inside.0) ps inside.1 t inside.2 in of_side inside.0 w.0 w.1 w.2 m.0 m.1 m.2 m.3.0 m.3.1 kept.2)
+    ]
   where
+    of_use : (p : ℕ) (w : Item) → slice_get (all_items files) p ≡ Some w → (u : Use) → Contains (uses w) u → (j : ℕ) → slice_get (use_takings w.top u) j ≡ Some t → is_foreign t.from ≡ true → IsTakenAt files t
+    of_use p w here u among j is foreign =
+        let n = map_at (taking (path_scope w.top u.from) u.attributes.items) u.names.items j t is in
+        record { place = p; item = w; at = here; part = u; among = among; name = n.0; is = sym n.2; foreign = foreign }
+
     of_part : (p : ℕ) (w : Item) → slice_get (all_items files) p ≡ Some w → (m : ℕ) (part : Part) → slice_get (parts w) m ≡ Some part → (j : ℕ) → slice_get (part_takings w.top part) j ≡ Some t → is_foreign t.from ≡ true → IsTakenAt files t
     of_part p w here m (Defining d) there j is foreign = absurd (let f : ⊥ = cc in f)
-    of_part p w here m (Using u) there j is foreign =
-        let n = map_at (taking (path_scope w.top u.from) u.attributes.items) u.names.items j t is in
-        record { place = p; item = w; at = here; index = m; part = u; among = there; name = n.0; is = sym n.2; foreign = foreign }
+    of_part p w here m (Using u) there j is foreign = of_use p w here u (use_at w m u there) j is foreign
     of_part p w here m (Including i) there j is foreign = absurd (let f : ⊥ = cc in f)
     of_part p w here m (Doing g) there j is foreign = absurd (let f : ⊥ = cc in f)
     of_part p w here m (Crossing x) there j is foreign = absurd (let f : ⊥ = cc in f)
 
+    none_taken : (j : ℕ) → slice_get [] j ≡ Some t → IsTakenAt files t
+    none_taken j is = absurd (let f : ⊥ = cc in f)
+
+    of_side : (side : WorldSide) (p : ℕ) (w : Item) → slice_get (all_items files) p ≡ Some w → (m : ℕ) (part : Part) → slice_get (parts w) m ≡ Some part → (j : ℕ) → slice_get (side_takings w.top side part) j ≡ Some t → is_foreign t.from ≡ true → IsTakenAt files t
+    of_side side p w here m (Defining d) there j is foreign = absurd (let f : ⊥ = cc in f)
+    of_side side p w here m (Using u) there j is foreign = absurd (let f : ⊥ = cc in f)
+    of_side side p w here m (Including i) there j is foreign = absurd (let f : ⊥ = cc in f)
+    of_side side p w here m (Doing g) there j is foreign = absurd (let f : ⊥ = cc in f)
+    of_side side p w here m (Crossing x) there j is foreign = elim (cases_Bool (same_side side x.side)) [
+      | inl hit ↦ (
+          let among : slice_get (flat_map (use_takings w.top) (inline_uses x.kind)) j ≡ Some t = rw hit at is in
+          let u = flat_map_at (use_takings w.top) (inline_uses x.kind) j t among in
+          of_use p w here u.1 (part_use_at w m (Crossing x) u.0 u.1 there u.2) u.3.0 u.3.1 foreign)
+      | inr miss ↦ none_taken j (rw miss at is)
+    ]
+
+-- what a `use` of a part takes stands among what is taken in an item
+taking_in : (top : List TopName) (ps : List Part) (m : ℕ) (x : Part) (i : ℕ) (u : Use) (j : ℕ) (t : Taking) → slice_get ps m ≡ Some x → slice_get (part_uses x) i ≡ Some u → slice_get (use_takings top u) j ≡ Some t → (k : ℕ) × (slice_get (takings_in top ps) k ≡ Some t)
+taking_in top ps m (Defining d) i u j t part at takes = absurd (let f : ⊥ = cc in f)
+taking_in top ps m (Using y) zero u j t part at takes =
+    let same : y ≡ u = cc in
+    let inner = flat_map_has (part_takings top) ps m j (Using y) t part (ap (λ (z : Use). slice_get (use_takings top z) j) same ∙ takes) in
+    (inner.0, at_front (flat_map (part_takings top) ps) (flat_map (side_takings top Imported) ps ++ flat_map (side_takings top Exported) ps) inner.0 t inner.1)
+taking_in top ps m (Using y) (suc i) u j t part at takes = absurd (let f : ⊥ = cc in f)
+taking_in top ps m (Including y) i u j t part at takes = absurd (let f : ⊥ = cc in f)
+taking_in top ps m (Doing g) i u j t part at takes = absurd (let f : ⊥ = cc in f)
+taking_in top ps m (Crossing x) i u j t part at takes =
+    let own = flat_map_has (use_takings top) (inline_uses x.kind) i j u t at takes in
+    let here : slice_get (side_takings top x.side (Crossing x)) own.0 ≡ Some t = ap (λ (b : Bool). slice_get (cond b (flat_map (use_takings top) (inline_uses x.kind)) []) own.0) (side_itself x.side) ∙ own.1 in
+    let on_side = flat_map_has (side_takings top x.side) ps m own.0 (Crossing x) t part here in
+    side_has (flat_map (part_takings top) ps) (λ side. flat_map (side_takings top side) ps) x.side on_side.0 t on_side.1
+
 -- what is used from another package is taken
-pub taking_has : (files : List PackageFile) (q : ℕ) (w : Item) (m : ℕ) (u : Use) (j : ℕ) (n : UseName) → slice_get (all_items files) q ≡ Some w → slice_get (parts w) m ≡ Some (Using u) → slice_get u.names.items j ≡ Some n → is_foreign (path_scope w.top u.from) ≡ true → (k : ℕ) × (slice_get (takings files) k ≡ Some (taking (path_scope w.top u.from) u.attributes.items n))
-taking_has files q w m u j n at part name foreign =
+pub taking_has : (files : List PackageFile) (q : ℕ) (w : Item) (u : Use) (j : ℕ) (n : UseName) → slice_get (all_items files) q ≡ Some w → Contains (uses w) u → slice_get u.names.items j ≡ Some n → is_foreign (path_scope w.top u.from) ≡ true → (k : ℕ) × (slice_get (takings files) k ≡ Some (taking (path_scope w.top u.from) u.attributes.items n))
+taking_has files q w u j n at among name foreign =
     let s = path_scope w.top u.from in
     let xs = u.attributes.items in
-    let inner = flat_map_has (part_takings w.top) (parts w) m j (Using u) (taking s xs n) part (slice_get-map (taking s xs) u.names.items j ∙ ap (option_map (taking s xs)) name) in
-    let kept = kept_has (λ (x : Taking). is_foreign x.from) (flat_map (part_takings w.top) (parts w)) inner.0 (taking s xs n) foreign inner.1 in
+    let i = at_contains (uses w) u among in
+    let x = flat_map_at part_uses (parts w) i.0 u i.1 in
+    let inner = taking_in w.top (parts w) x.0 x.1 x.3.0 u j (taking s xs n) x.2 x.3.1 (slice_get-map (taking s xs) u.names.items j ∙ ap (option_map (taking s xs)) name) in
+    let kept = kept_has (λ (y : Taking). is_foreign y.from) (takings_in w.top (parts w)) inner.0 (taking s xs n) foreign inner.1 in
     flat_map_has item_takings (all_items files) q kept.0 w (taking s xs n) at kept.1
 
 -- a scope of another package is used where a path leads there
@@ -114,11 +158,11 @@ foreign_target (Foreign p id) h = (p, id, refl)
 
 -- where uses lead to interfaces, what is taken is taken from an interface
 pub taken_from : (files : List PackageFile) → AreUsableUses files (all_items files) → (k : ℕ) (t : Taking) → slice_get (takings files) k ≡ Some t → (i : ℕ) × (v : ForeignVisit) × (slice_get (foreign_interfaces files) i ≡ Some v) × (visited v ≡ t.from)
-taken_from files uses k t at =
+taken_from files usable k t at =
     let it = taken_at files k t at in
     let from : t.from ≡ path_scope it.item.top it.part.from = ap (λ (x : Taking). x.from) it.is in
     let to = foreign_target (leads it.item.top it.part.from) (sym (ap is_foreign from) ∙ it.foreign) in
-    let v = used_interface_visit files uses it.place it.item it.index it.part to.0 to.1 it.at it.among to.2 in
+    let v = used_interface_visit files usable it.place it.item it.part to.0 to.1 it.at it.among to.2 in
     (v.0, v.1, v.2, v.3 ∙ sym (from ∙ ap used_scope to.2))
 
 module _ (files : List PackageFile) where

@@ -10,8 +10,10 @@ use Rattle.wit_tree.specs.declared.tree.PackageFile.{PackageFile}
 use Rattle.wit_types.specs.declared.types.TypeDef.{TypeDef}
 use Rattle.wit_syntax.specs.Form.{UnknownForm}
 use Rattle.wit_arena.specs.Kind.{kind_of}
-use Rattle.wit_syntax.specs.Address.{Address, InterfaceNamed, WorldNamed, ForeignNamed, is_foreign}
-use Rattle.wit_syntax.specs.Source.{Item, all_items, item_at, ScopeName, Used, Defined, Taken, local_name, scope_names, Taking, takings, same_taking, first_takings, scope, name_form}
+use Rattle.wit_syntax.specs.Address.{Address, InterfaceNamed, WorldNamed, InlineAt, ForeignNamed, is_foreign}
+use Rattle.wit_syntax.specs.Source.{Item, item_at, ScopeName, Used, Defined, Taken, local_name, scope_names, Taking, takings, same_taking, first_takings, name_form}
+use Rattle.wit_syntax.specs.Trees.{scope}
+use Rattle.wit_syntax.specs.Sides.{all_scopes}
 use Rattle.wit_arena.specs.Meet.{Key, Def, Whole, Meeting, keys, Meets, Decl, Decls}
 use Rattle.wit_arena.specs.Package.{At}
 use Rattle.wit_arena.specs.Whole.{taking_meeting, IsAnonymousForm}
@@ -49,6 +51,7 @@ first_foreign files j t at = let k = firsts_at same_taking (takings files) j t a
 foreign_name : (files : List PackageFile) (s : Address) (k : ℕ) (x : ScopeName) → is_foreign s ≡ true → slice_get (scope files s) k ≡ Some x → (j : ℕ) × (t : Taking) × (slice_get (first_takings files) j ≡ Some t) × (t.from ≡ s) × (x ≡ Taken t.attributes t.id)
 foreign_name files (InterfaceNamed name) k x foreign at = absurd (let f : ⊥ = cc in f)
 foreign_name files (WorldNamed name) k x foreign at = absurd (let f : ⊥ = cc in f)
+foreign_name files (InlineAt world side place) k x foreign at = absurd (let f : ⊥ = cc in f)
 foreign_name files (ForeignNamed p name) k x foreign at = taken_name_at files (ForeignNamed p name) k x at
 
 -- a name of a declared item is not
@@ -57,8 +60,9 @@ own_in None k attributes id at = let f : ⊥ = cc in f
 own_in (Some w) k attributes id at = own_names w k attributes id at
 
 own_name : (files : List PackageFile) (s : Address) (k : ℕ) (attributes : List Attribute) (id : Id) → is_foreign s ≡ false → slice_get (scope files s) k ≡ Some (Taken attributes id) → ⊥
-own_name files (InterfaceNamed name) k attributes id own at = own_in (item_at (all_items files) (InterfaceNamed name)) k attributes id at
-own_name files (WorldNamed name) k attributes id own at = own_in (item_at (all_items files) (WorldNamed name)) k attributes id at
+own_name files (InterfaceNamed name) k attributes id own at = own_in (item_at (all_scopes files) (InterfaceNamed name)) k attributes id at
+own_name files (WorldNamed name) k attributes id own at = own_in (item_at (all_scopes files) (WorldNamed name)) k attributes id at
+own_name files (InlineAt world side place) k attributes id own at = own_in (item_at (all_scopes files) (InlineAt world side place)) k attributes id at
 own_name files (ForeignNamed p name) k attributes id own at = let f : ⊥ = cc in f
 
 -- only what is taken has an unknown form

@@ -1,6 +1,9 @@
--- Rules that hold once all interfaces and all worlds are done.
-use Rattle.std.proofs.Common.{◌≡◌, ℕ, zero, suc, ◌+◌, List, [], ◌∷◌, ◌++◌, length, map, Some, None, inl, inr, sym, ap, ◌∙◌, subst, Contains}
+-- Rules that hold once all scopes are done.
+use Rattle.std.proofs.Common.{◌≡◌, ℕ, zero, suc, ◌+◌, List, [], ◌∷◌, ◌++◌, length, map, Some, None, ◌⊎◌, inl, inr, sym, ap, ◌∙◌, subst, arith, Contains}
 use Rattle.std.specs.Prelude.{slice_get}
+use Rattle.std.specs.List.{flat_map}
+use Rattle.std.specs.Option.{option_map}
+use Rattle.std.proofs.lemmas.Option.{slice_get-map, slice_get_within}
 use Rattle.wit_tree.specs.declared.tree.Id.{Id}
 use Rattle.wit_tree.specs.declared.tree.PackageFile.{PackageFile}
 use Rattle.wit_model.specs.declared.interface.Interface.{Interface}
@@ -8,29 +11,34 @@ use Rattle.wit_model.specs.declared.world.World.{World}
 use Rattle.wit_types.specs.declared.types.TypeDef.{TypeDef}
 use Rattle.wit_syntax.specs.Address.{Address}
 use Rattle.wit_syntax.specs.Source.{address, Item, ScopeName, meaning, scope_names}
-use Rattle.wit_syntax.specs.Source as source
+use Rattle.wit_syntax.specs.Trees as source
 use Rattle.wit_order.specs.Table.{IsOrder}
 use Rattle.wit_syntax.specs.Shape.{words, all_handles}
-use Rattle.std.specs.List.{flat_map}
 use Rattle.wit_syntax.specs.Function.{SourceFunction, functions, signature, all_types}
 use Rattle.wit_syntax.specs.Scope.{rows_of, in_turn}
+use Rattle.wit_syntax.specs.Foreign.{visited, foreign_interfaces}
 use Rattle.wit_syntax.specs.Ends.{AtResource, AtForeign, Elsewhere, EndsAt}
-use Rattle.wit_arena.specs.Meet.{Key, keys}
+use Rattle.wit_arena.specs.Meet.{Key, Meeting, keys, Decls}
 use Rattle.wit_syntax.specs.Fault.{Fault}
 use Rattle.wit_syntax.specs.Signature.{IsUnpairedSetter}
 use Rattle.wit_syntax.specs.Broken.{IsMissingName, IsFunctionUsed, IsHandleBroken}
-use Rattle.wit_arena.specs.Whole.{Ordered, Turned, item_of, turned, turn_handles, all_meetings, AreRequired}
+use Rattle.wit_arena.specs.Whole.{Ordered, own_item, Turned, item_of, turned, all_turns, all_inside, all_meetings, turn_handles, AreRequired}
 use Rattle.wit_arena.specs.Resolving.{Required}
-use Rattle.wit_syntax.proofs.Lists.{at_front, at_back, map_at}
+use Rattle.wit_arena.specs.Resolved.{WorldArenas}
+use Rattle.wit_syntax.proofs.Lists.{at_front, at_back, map_at, flat_map_at, flat_map_has}
 use Rattle.wit_syntax.proofs.Found.{at_contains}
-use Rattle.wit_syntax.proofs.Turns.{at_part, in_turn_has}
+use Rattle.wit_syntax.proofs.Kept.{behind_one}
+use Rattle.wit_syntax.proofs.Turns.{in_turn_has}
 use Rattle.wit_arena.proofs.Ends.{ends_one}
 use Rattle.wit_arena.proofs.Required.{in_scope, handle_turned}
-use Rattle.wit_arena.proofs.Standing.{DoneScope, turn_of}
-use Rattle.wit_arena.proofs.Interfaces.{AreItems, scope_of}
+use Rattle.wit_arena.proofs.Standing.{DoneScope, turn_of, IsDone}
+use Rattle.wit_arena.proofs.Interfaces.{AreItems, item_scopes, inline_scopes, scope_of}
+use Rattle.wit_arena.proofs.Leading.{same_some}
 use Rattle.wit_arena.proofs.Front.{front_scopes}
-use Rattle.wit_arena.proofs.Laid.{scope_at, entry_of}
-use Rattle.wit_arena.proofs.Added.{decls, InterfacesDone, WorldsDone}
+use Rattle.wit_arena.proofs.Laid.{scope_at, ordered_at, entry_of}
+use Rattle.wit_arena.proofs.Inside.{HasInside, inside_at, inside_scopes-count}
+use Rattle.wit_arena.proofs.Added.{decls, inside_of, InterfacesDone}
+use Rattle.wit_arena.proofs.DoneWorlds.{DoneWorld, own_scope, scopes_of, all_within, own_order, AreWorldsDone, own_among, within_among}
 use Rattle.wit_arena.proofs.Stated.{stated, stated_type}
 use Rattle.wit_arena.proofs.SignatureNames.{signature_meant}
 
@@ -50,92 +58,168 @@ required_ends files ks s (x ∷ ids) rs zero id (inr far) at wrong =
 required_ends files ks s (x ∷ ids) rs (suc j) id (inl own) at wrong = required_ends files ks s ids rs j id own.1 at wrong
 required_ends files ks s (x ∷ ids) rs (suc j) id (inr far) at wrong = required_ends files ks s ids far.3 j id far.7 at wrong
 
-module _ (files : List PackageFile) (is ws : List Item) (middle es : List TypeDef) (front xs : List Interface) (ys : List World) (irs wrs : List Required) (d : InterfacesDone files is ws front is middle xs irs) (e : WorldsDone files is ws front d.ordered d.scopes ws es ys wrs) where
-  abbrev cs : List DoneScope
-  cs = (front_scopes files front ++ d.scopes) ++ e.scopes
+abbrev pub in_an_order : Item → List ℕ → Ordered
+in_an_order w order = record { item = w; order = order }
 
-  -- the scope of an item that is done
+module _ (files : List PackageFile) (declares : Decls) (written : List Meeting) (cs : List DoneScope) (es : List TypeDef) (d : IsDone files declares written cs es) where
+  -- the scope of an item is done, in an order of its names
   pub record IsItemDone (w : Item) : Type 0 where
-    pub ordered : Ordered
-    pub same_item : ordered.item ≡ w
-    pub among : (t : ℕ) × (slice_get (d.ordered ++ e.ordered) t ≡ Some ordered)
+    pub order : List ℕ
+    pub least : IsOrder (rows_of (scope_names w)) order
     pub place : ℕ
     pub scope : DoneScope
     pub at : slice_get cs place ≡ Some scope
-    pub same : turn_of scope ≡ turned ordered
-    pub names : scope_names w ≡ source.scope files (address w)
-
-  pub interface_done : AreItems files is → (t : ℕ) (w : Item) → slice_get is t ≡ Some w → IsItemDone w
-  interface_done items t w at =
-      let o = map_at item_of d.ordered t w (ap (λ (l : List Item). slice_get l t) d.all ∙ at) in
-      let c = scope_at d.laid t o.0 o.1 in
-      let k = length (front_scopes files front) + t in
-      record {
-        ordered = o.0;
-        same_item = o.2;
-        among = (t, at_front d.ordered e.ordered t o.0 o.1);
-        place = k;
-        scope = c.0;
-        at = at_front (front_scopes files front ++ d.scopes) e.scopes k c.0 (at_back (front_scopes files front) d.scopes t c.0 c.1);
-        same = c.2;
-        names = sym (scope_of files is items t w at);
-      }
-
-  pub world_done : AreItems files ws → (t : ℕ) (w : Item) → slice_get ws t ≡ Some w → IsItemDone w
-  world_done items t w at =
-      let o = map_at item_of e.ordered t w (ap (λ (l : List Item). slice_get l t) e.all ∙ at) in
-      let c = scope_at e.laid t o.0 o.1 in
-      record {
-        ordered = o.0;
-        same_item = o.2;
-        among = (length d.ordered + t, at_back d.ordered e.ordered t o.0 o.1);
-        place = length (front_scopes files front ++ d.scopes) + t;
-        scope = c.0;
-        at = at_back (front_scopes files front ++ d.scopes) e.scopes t c.0 c.1;
-        same = c.2;
-        names = sym (scope_of files ws items t w at);
-      }
-
-  least_orders : (t : ℕ) (o : Ordered) → slice_get (d.ordered ++ e.ordered) t ≡ Some o → IsOrder (rows_of (scope_names o.item)) o.order
-  least_orders t o at = elim (at_part d.ordered e.ordered t o at) [ inl h ↦ d.laid.least h.0 o h.1 | inr h ↦ e.laid.least h.0 o h.1 ]
+    pub same : turn_of scope ≡ turned (in_an_order w order)
+    pub names : source.scope files (address w) ≡ scope_names w
 
   module _ (w : Item) (h : IsItemDone w) where
-    here : h.scope.address ≡ address w
-    here = ap (λ (x : Turned). x.address) h.same ∙ ap address h.same_item
-
     own_names : scope_names w ≡ source.scope files h.scope.address
-    own_names = h.names ∙ ap (source.scope files) (sym here)
+    own_names = sym h.names ∙ ap (source.scope files) (sym (ap (λ (x : Turned). x.address) h.same))
 
     -- what is used in it is a name of the interface that it comes from
     pub names_stated : (f : Fault) → IsMissingName files (scope_names w) f → ⊥
-    names_stated f g = stated files (decls files is ws) (all_meetings files (d.ordered ++ e.ordered)) cs es e.done h.place h.scope f h.at (subst (λ (l : List ScopeName). IsMissingName files l f) own_names g)
+    names_stated f g = stated files declares written cs es d h.place h.scope f h.at (subst (λ (l : List ScopeName). IsMissingName files l f) own_names g)
 
     -- and no function's
     pub types_stated : (f : Fault) → IsFunctionUsed files (scope_names w) f → ⊥
-    types_stated f g = stated_type files (decls files is ws) (all_meetings files (d.ordered ++ e.ordered)) cs es e.done h.place h.scope f h.at (subst (λ (l : List ScopeName). IsFunctionUsed files l f) own_names g)
+    types_stated f g = stated_type files declares written cs es d h.place h.scope f h.at (subst (λ (l : List ScopeName). IsFunctionUsed files l f) own_names g)
 
     -- a name in a signature means something in it
     pub names_meant : (k : ℕ) (fn : SourceFunction) (id : Id) → slice_get (functions w) k ≡ Some fn → Contains (flat_map words (signature fn)) id → meaning (scope_names w) id.name.now ≡ None → ⊥
     names_meant k fn id at among missing =
-        let own : functions w ≡ h.scope.functions = ap functions (sym h.same_item) ∙ sym (ap (λ (x : Turned). x.functions) h.same) in
-        signature_meant files (decls files is ws) (all_meetings files (d.ordered ++ e.ordered)) cs es e.done h.place h.scope k fn id h.at (ap (λ (l : List SourceFunction). slice_get l k) (sym own) ∙ at) among (ap (λ (l : List ScopeName). meaning l id.name.now) (sym own_names) ∙ missing)
+        let own : functions w ≡ h.scope.functions = sym (ap (λ (x : Turned). x.functions) h.same) in
+        signature_meant files declares written cs es d h.place h.scope k fn id h.at (ap (λ (l : List SourceFunction). slice_get l k) (sym own) ∙ at) among (ap (λ (l : List ScopeName). meaning l id.name.now) (sym own_names) ∙ missing)
 
     -- its handles name resources
     pub handles_stated : (f : Fault) → IsHandleBroken files w f → ⊥
     handles_stated f g =
-        let o = h.ordered in
-        let names = in_turn (scope_names w) o.order in
-        let required : AreRequired files (keys e.done.met) (map (in_scope (address w)) (all_handles (all_types names (functions w)))) h.scope.required = subst (λ (i : Item). AreRequired files (keys e.done.met) (turn_handles (turned (record { item = i; order = o.order }))) h.scope.required) h.same_item (subst (λ (t : Turned). AreRequired files (keys e.done.met) (turn_handles t) h.scope.required) h.same (e.done.required h.place h.scope h.at)) in
-        let least = subst (λ (i : Item). IsOrder (rows_of (scope_names i)) o.order) h.same_item (least_orders h.among.0 o h.among.1) in
-        let among = handle_turned (scope_names w) names (functions w) (in_turn_has (scope_names w) o.order least) g.id g.among in
-        let at = at_contains (all_handles (all_types names (functions w))) g.id among in
-        required_ends files (keys e.done.met) (address w) (all_handles (all_types names (functions w))) h.scope.required at.0 g.id required at.1 g.ends
+        let handles = all_handles (all_types (in_turn (scope_names w) h.order) (functions w)) in
+        let required : AreRequired files (keys d.met) (map (in_scope (address w)) handles) h.scope.required = subst (λ (t : Turned). AreRequired files (keys d.met) (turn_handles t) h.scope.required) h.same (d.required h.place h.scope h.at) in
+        let at = at_contains handles g.id (handle_turned (scope_names w) (in_turn (scope_names w) h.order) (functions w) (in_turn_has (scope_names w) h.order h.least) g.id g.among) in
+        required_ends files (keys d.met) (address w) handles h.scope.required at.0 g.id required at.1 g.ends
 
-  -- each setter of an interface has its getter
-  pub setters_paired : (t : ℕ) (w : Item) → slice_get is t ≡ Some w → (f : Fault) → IsUnpairedSetter (functions w) f → ⊥
-  setters_paired t w at f g =
-      let o = map_at item_of d.ordered t w (ap (λ (l : List Item). slice_get l t) d.all ∙ at) in
-      let c = scope_at d.laid t o.0 o.1 in
-      let i = entry_of d.laid t c.0 c.1 in
-      let same : functions w ≡ c.0.functions = ap functions (sym o.2) ∙ sym (ap (λ (x : Turned). x.functions) c.2) in
-      (d.laid.makes t o.0 c.0 i.0 o.1 c.1 i.1).paired f (subst (λ (l : List SourceFunction). IsUnpairedSetter l f) same g)
+-- a scope is that of one of these items, in an order of its names
+pub record IsScopeOf (ws : List Item) (c : DoneScope) : Type 0 where
+  pub place : ℕ
+  pub ordered : Ordered
+  pub at : slice_get ws place ≡ Some ordered.item
+  pub least : IsOrder (rows_of (scope_names ordered.item)) ordered.order
+  pub same : turned ordered ≡ turn_of c
+
+module _ (files : List PackageFile) (is ws : List Item) (middle es : List TypeDef) (front xs : List Interface) (wfront : List World) (a : WorldArenas) (irs wrs : List Required) (d : InterfacesDone files is ws front is middle xs irs) (e : AreWorldsDone files is ws wfront d.ordered (front_scopes files front ++ d.scopes) ws es a wrs) where
+  abbrev before : List DoneScope
+  before = front_scopes files front ++ d.scopes
+
+  -- the place of the first interface that is written in a world
+  abbrev start : ℕ
+  start = length (map visited (foreign_interfaces files)) + length is
+
+  -- an item of files is done
+  abbrev pub IsWholeItem : Item → Type 0
+  IsWholeItem w = IsItemDone files (decls files is ws) (all_meetings files (all_turns d.ordered e.ordered)) (before ++ flat_map scopes_of e.scopes) es e.done w
+
+  turned_of : (c : DoneScope) (o : Ordered) (w : Item) → o.item ≡ w → turn_of c ≡ turned o → turn_of c ≡ turned (in_an_order w o.order)
+  turned_of c o w is same = subst (λ (i : Item). turn_of c ≡ turned (in_an_order i o.order)) is same
+
+  least_of : (o : Ordered) (w : Item) → o.item ≡ w → IsOrder (rows_of (scope_names o.item)) o.order → IsOrder (rows_of (scope_names w)) o.order
+  least_of o w is least = subst (λ (i : Item). IsOrder (rows_of (scope_names i)) o.order) is least
+
+  module _ (items : AreItems files is) (t : ℕ) (w : Item) (at : slice_get is t ≡ Some w) where
+    interface_ordered : (o : Ordered) × (slice_get d.ordered t ≡ Some o) × (o.item ≡ w)
+    interface_ordered = map_at item_of d.ordered t w (ap (λ (l : List Item). slice_get l t) d.all ∙ at)
+
+    -- a declared interface
+    pub interface_done : IsWholeItem w
+    interface_done =
+        let o = interface_ordered in
+        let c = scope_at d.laid t o.0 o.1 in
+        let k = length (front_scopes files front) + t in
+        record {
+          order = o.0.order;
+          least = least_of o.0 w o.2 (d.laid.least t o.0 o.1);
+          place = k;
+          scope = c.0;
+          at = at_front before (flat_map scopes_of e.scopes) k c.0 (at_back (front_scopes files front) d.scopes t c.0 c.1);
+          same = turned_of c.0 o.0 w o.2 c.2;
+          names = scope_of files is (item_scopes files is items) t w at;
+        }
+
+    -- each setter of it has its getter
+    pub interface_paired : (f : Fault) → IsUnpairedSetter (functions w) f → ⊥
+    interface_paired f g =
+        let o = interface_ordered in
+        let c = scope_at d.laid t o.0 o.1 in
+        let i = entry_of d.laid t c.0 c.1 in
+        let same : functions w ≡ c.0.functions = ap functions (sym o.2) ∙ sym (ap (λ (x : Turned). x.functions) c.2) in
+        (d.laid.makes t o.0 c.0 i.0 o.1 c.1 i.1).paired f (subst (λ (l : List SourceFunction). IsUnpairedSetter l f) same g)
+
+  module _ (items : AreItems files ws) where
+    -- a world
+    pub world_done : (t : ℕ) (w : Item) → slice_get ws t ≡ Some w → IsWholeItem w
+    world_done t w at =
+        let o = map_at own_item e.ordered t w (ap (λ (l : List Item). slice_get l t) e.all ∙ at) in
+        let own : slice_get (map own_order e.ordered) t ≡ Some o.0.own = slice_get-map own_order e.ordered t ∙ ap (option_map own_order) o.1 in
+        let c = scope_at e.laid t o.0.own own in
+        let k = own_among e.scopes t c.0 c.1 in
+        record {
+          order = o.0.own.order;
+          least = least_of o.0.own w o.2 (e.laid.least t o.0.own own);
+          place = length before + k.0;
+          scope = c.0;
+          at = at_back before (flat_map scopes_of e.scopes) k.0 c.0 k.1;
+          same = turned_of c.0 o.0.own w o.2 c.2;
+          names = scope_of files ws (item_scopes files ws items) t w at;
+        }
+
+    module _ (q : ℕ) (w : Item) (at : slice_get (inside_of ws) q ≡ Some w) where
+      listed : slice_get (map item_of (all_inside e.ordered)) q ≡ Some w
+      listed = ap (λ (l : List Item). slice_get l q) e.inside ∙ at
+
+      has_inside : HasInside start (all_inside e.ordered) (all_within e.scopes) a.inside q
+      has_inside = (let o = map_at item_of (all_inside e.ordered) q w listed in inside_at start (all_inside e.ordered) (all_within e.scopes) a.inside e.laid_inside q (slice_get_within (all_inside e.ordered) q o.0 o.1))
+
+      is_item : has_inside.o.item ≡ w
+      is_item = same_some (slice_get (map item_of (all_inside e.ordered)) q) has_inside.o.item w (slice_get-map item_of (all_inside e.ordered) q ∙ ap (option_map item_of) has_inside.at_o) listed
+
+      -- an interface that is written in a world
+      pub inline_done : IsWholeItem w
+      inline_done =
+          let it = has_inside in
+          let k = within_among e.scopes q it.c it.at_c in
+          record {
+            order = it.o.order;
+            least = least_of it.o w is_item it.holds.least;
+            place = length before + k.0;
+            scope = it.c;
+            at = at_back before (flat_map scopes_of e.scopes) k.0 it.c k.1;
+            same = turned_of it.c it.o w is_item it.holds.turn;
+            names = scope_of files (inside_of ws) (inline_scopes files ws items) q w at;
+          }
+
+      -- each setter of it has its getter, too
+      pub inline_paired : (f : Fault) → IsUnpairedSetter (functions w) f → ⊥
+      inline_paired f g =
+          let it = has_inside in
+          let same : functions w ≡ it.c.functions = ap functions (sym is_item) ∙ sym (ap (λ (x : Turned). x.functions) it.holds.turn) in
+          it.holds.paired f (subst (λ (l : List SourceFunction). IsUnpairedSetter l f) same g)
+
+  -- each scope of a declared interface is an item's
+  pub interface_whose : (t : ℕ) (c : DoneScope) → slice_get d.scopes t ≡ Some c → IsScopeOf is c
+  interface_whose t c at = (let o = ordered_at d.laid t c at in record { place = t; ordered = o.0; at = d.laid.front t o.0 o.1; least = d.laid.least t o.0 o.1; same = o.2 })
+
+  -- and each of a world, or in a world
+  pub world_whose : (k : ℕ) (c : DoneScope) → slice_get (flat_map scopes_of e.scopes) k ≡ Some c → IsScopeOf ws c ⊎ IsScopeOf (inside_of ws) c
+  world_whose k c at =
+      let b = flat_map_at scopes_of e.scopes k c at in
+      elim (behind_one b.1.own b.1.inside b.3.0 c b.3.1) [
+        | inl own ↦ (
+            let o = ordered_at e.laid b.0 c (slice_get-map own_scope e.scopes b.0 ∙ ap (option_map own_scope) b.2 ∙ ap Some own) in
+            inl (record { place = b.0; ordered = o.0; at = e.laid.front b.0 o.0 o.1; least = e.laid.least b.0 o.0 o.1; same = o.2 }))
+        | inr inside ↦ (
+            let q = flat_map_has (λ (v : DoneWorld). v.inside) e.scopes b.0 inside.0 b.1 c b.2 inside.1 in
+            let lt = slice_get_within (all_within e.scopes) q.0 c q.1 in
+            let long = inside_scopes-count start (all_inside e.ordered) (all_within e.scopes) a.inside e.laid_inside in
+            let it = inside_at start (all_inside e.ordered) (all_within e.scopes) a.inside e.laid_inside q.0 (omega arith) in
+            let one = same_some (slice_get (all_within e.scopes) q.0) it.c c it.at_c q.1 in
+            inr (record { place = q.0; ordered = it.o; at = ap (λ (l : List Item). slice_get l q.0) (sym e.inside) ∙ slice_get-map item_of (all_inside e.ordered) q.0 ∙ ap (option_map item_of) it.at_o; least = it.holds.least; same = sym it.holds.turn ∙ ap turn_of one }))
+      ]

@@ -1,5 +1,5 @@
 -- The items of other packages, at the places of their first visits.
-use Rattle.std.proofs.Common.{◌≡◌, ℕ, zero, suc, Bool, true, false, not, List, ◌++◌, Option, Some, None, inl, inr, refl, sym, ap, ◌∙◌, Contains}
+use Rattle.std.proofs.Common.{◌≡◌, ℕ, zero, suc, ◌+◌, Bool, true, false, not, cond, List, [], ◌++◌, length, Option, Some, None, ◌⊎◌, inl, inr, refl, sym, ap, ◌∙◌, Contains}
 use Rattle.std.specs.Prelude.{slice_get, map, find}
 use Rattle.std.specs.List.{flat_map}
 use Rattle.std.specs.Option.{option_map, option_map_or}
@@ -13,21 +13,23 @@ use Rattle.wit_tree.specs.declared.tree.UsePath.TheVariants as path
 use Rattle.wit_tree.specs.declared.tree.AstItem.{AstItem}
 use Rattle.wit_tree.specs.declared.tree.AstItem.TheVariants as ast
 use Rattle.wit_tree.specs.declared.tree.PackageFile.{PackageFile}
+use Rattle.wit_tree.specs.declared.tree.WorldSide.{WorldSide}
 use Rattle.wit_tree.specs.declared.tree.WorldSide.TheVariants.{Imported, Exported}
 use Rattle.wit_package_names.specs.declared.package_name.PackageName.{PackageName}
 use Rattle.wit_syntax.specs.Address.{Address, ForeignNamed, package_of, same_address, is_foreign}
-use Rattle.wit_syntax.specs.Source.{Local, Foreign, path_target, Using, TopName, top_name, top_names, top_text, top_named, top_target, leads, Part, Item, declared_items, file_items, all_items, address, parts, TheInterface, TheWorld}
-use Rattle.wit_syntax.specs.Foreign.{ForeignVisit, visited, path_visits, part_visits, side_visits, declared_visits, declaration_visits, file_visits, foreign_visits, same_item, foreign_items, is_foreign_world, foreign_interfaces, foreign_worlds, foreign_at}
+use Rattle.wit_syntax.specs.Crossing.{extern_paths, inline_uses}
+use Rattle.wit_syntax.specs.Source.{Local, Foreign, path_target, Defining, Using, Including, Doing, Crossing, TopName, top_name, top_names, top_text, top_named, top_target, leads, Part, Item, declared_items, file_items, all_items, address, parts, TheInterface, TheWorld}
+use Rattle.wit_syntax.specs.Foreign.{ForeignVisit, visited, path_visits, part_visits, extern_visits, side_visits, visits_in, declared_visits, declaration_visits, file_visits, foreign_visits, same_item, foreign_items, is_foreign_world, foreign_interfaces, foreign_worlds, foreign_at}
 use Rattle.wit_syntax.specs.Scope.{use_path, use_paths, part_uses, uses}
 use Rattle.wit_syntax.specs.Broken.{is_world_at}
 use Rattle.wit_arena.specs.Resolved.{AreUsableUses}
 use Rattle.wit_syntax.specs.Repeats.{AllDiffer}
-use Rattle.wit_syntax.proofs.Lists.{at_front, map_at, flat_map_at, flat_map_has}
-use Rattle.wit_syntax.proofs.Addresses.{same_address-from, same_address-equal}
+use Rattle.wit_syntax.proofs.Lists.{at_front, at_back, map_at, flat_map_at, flat_map_has}
+use Rattle.wit_syntax.proofs.Addresses.{side_itself, same_address-from, same_address-equal}
 use Rattle.wit_syntax.proofs.Repeated.{differ_at, differ_join}
 use Rattle.wit_syntax.proofs.Kept.{kept_at, kept_has, kept_differ}
 use Rattle.wit_syntax.proofs.Firsts.{firsts_has, firsts_differ}
-use Rattle.wit_syntax.proofs.Found.{contains_at, find_at, find_passes, find_some}
+use Rattle.wit_syntax.proofs.Found.{contains_at, at_contains, find_at, find_passes, find_some}
 use Rattle.wit_syntax.proofs.Turns.{at_part}
 use Rattle.wit_arena.proofs.Interfaces.{AreAddresses, own_address}
 
@@ -182,9 +184,9 @@ top_leads : (o : Option TopName) (other : Id) (p : PackageName) (id : Id) → op
 top_leads None other p id h = absurd (let f : ⊥ = cc in f)
 top_leads (Some t) other p id h = (t, refl, h)
 
--- where a path of a part of an item leads to another package, that item is visited
-pub path_visited : (files : List PackageFile) (q : ℕ) (w : Item) (m : ℕ) (x : Part) (attributes : List Attribute) (world : Bool) (from : UsePath) (p : PackageName) (id : Id) → slice_get (all_items files) q ≡ Some w → slice_get (parts w) m ≡ Some x → part_visits x ≡ path_visits attributes world from → leads w.top from ≡ Foreign p id → IsVisited files p id
-path_visited files q w m x attributes world from p id at part visits lead = by_path (item_origin files q w at) from refl lead
+-- where a path leads to another package, whose visit is one of an item, what it leads to is visited
+pub path_among : (files : List PackageFile) (q : ℕ) (w : Item) (attributes : List Attribute) (world : Bool) (from : UsePath) (p : PackageName) (id : Id) → slice_get (all_items files) q ≡ Some w → ((v : ForeignVisit) → slice_get (path_visits attributes world from) 0 ≡ Some v → (n : ℕ) × (slice_get (visits_in (parts w)) n ≡ Some v)) → leads w.top from ≡ Foreign p id → IsVisited files p id
+path_among files q w attributes world from p id at among lead = by_path (item_origin files q w at) from refl lead
   where
     by_path : IsOrigin files w → (to : UsePath) → from ≡ to → leads w.top to ≡ Foreign p id → IsVisited files p id
     by_path origin (path.Id other) same h =
@@ -196,32 +198,76 @@ path_visited files q w m x attributes world from p id at part visits lead = by_p
         record { place = n.0; v = v.0; at = n.1; is = v.2 }
     by_path origin (path.Package of other) same h =
         let v = foreign_path attributes world from p id (ap path_target same ∙ h) in
-        let inner = flat_map_has part_visits (parts w) m 0 x v.0 part (ap (λ (l : List ForeignVisit). slice_get l 0) visits ∙ v.1) in
-        let n = declaration_visited files origin.place origin.index inner.0 origin.file origin.declaration v.0 origin.at origin.among (ap (λ (l : List ForeignVisit). slice_get l inner.0) origin.visits ∙ at_front (flat_map part_visits (parts w)) (flat_map (side_visits Imported) (parts w) ++ flat_map (side_visits Exported) (parts w)) inner.0 v.0 inner.1) in
+        let inner = among v.0 v.1 in
+        let n = declaration_visited files origin.place origin.index inner.0 origin.file origin.declaration v.0 origin.at origin.among (ap (λ (l : List ForeignVisit). slice_get l inner.0) origin.visits ∙ inner.1) in
         record { place = n.0; v = v.0; at = n.1; is = v.2 }
 
--- so where the path of a `use` does
-pub leads_visited : (files : List PackageFile) (q : ℕ) (w : Item) (m : ℕ) (u : Use) (p : PackageName) (id : Id) → slice_get (all_items files) q ≡ Some w → slice_get (parts w) m ≡ Some (Using u) → leads w.top u.from ≡ Foreign p id → IsVisited files p id
-leads_visited files q w m u p id at part lead = path_visited files q w m (Using u) u.attributes.items false u.from p id at part refl lead
+-- so where it is that of a part
+pub path_visited : (files : List PackageFile) (q : ℕ) (w : Item) (m : ℕ) (x : Part) (attributes : List Attribute) (world : Bool) (from : UsePath) (p : PackageName) (id : Id) → slice_get (all_items files) q ≡ Some w → slice_get (parts w) m ≡ Some x → part_visits x ≡ path_visits attributes world from → leads w.top from ≡ Foreign p id → IsVisited files p id
+path_visited files q w m x attributes world from p id at part visits lead = path_among files q w attributes world from p id at (λ v first. (
+    let inner = flat_map_has part_visits (parts w) m 0 x v part (ap (λ (l : List ForeignVisit). slice_get l 0) visits ∙ first) in
+    (inner.0, at_front (flat_map part_visits (parts w)) (flat_map (side_visits Imported) (parts w) ++ flat_map (side_visits Exported) (parts w)) inner.0 v inner.1))) lead
 
--- a `use` among the parts of an item is one of it, and its path one of the item's
+-- what stands for a side stands behind a front, and the other way round
+pub side_has : {Y : Type 0} (front : List Y) (of : WorldSide → List Y) (side : WorldSide) (j : ℕ) (y : Y) → slice_get (of side) j ≡ Some y → (k : ℕ) × (slice_get (front ++ (of Imported ++ of Exported)) k ≡ Some y)
+side_has front of Imported j y at = (length front + j, at_back front (of Imported ++ of Exported) j y (at_front (of Imported) (of Exported) j y at))
+side_has front of Exported j y at = (length front + (length (of Imported) + j), at_back front (of Imported ++ of Exported) (length (of Imported) + j) y (at_back (of Imported) (of Exported) j y at))
+
+pub side_at : {Y : Type 0} (front : List Y) (of : WorldSide → List Y) (k : ℕ) (y : Y) → slice_get (front ++ (of Imported ++ of Exported)) k ≡ Some y → ((j : ℕ) × (slice_get front j ≡ Some y)) ⊎ ((side : WorldSide) × (j : ℕ) × (slice_get (of side) j ≡ Some y))
+side_at front of k y at = elim (at_part front (of Imported ++ of Exported) k y at) [
+  | inl own ↦ inl own
+  | inr behind ↦ elim (at_part (of Imported) (of Exported) behind.0 y behind.1) [
+    | inl imported ↦ inr (Imported, imported.0, imported.1)
+    | inr exported ↦ inr (Exported, exported.0, exported.1)
+  ]
+]
+
+-- the visit of a `use` of a part is one of the item's
+use_visited : (ps : List Part) (m : ℕ) (x : Part) (j : ℕ) (u : Use) (v : ForeignVisit) → slice_get ps m ≡ Some x → slice_get (part_uses x) j ≡ Some u → slice_get (path_visits u.attributes.items false u.from) 0 ≡ Some v → (n : ℕ) × (slice_get (visits_in ps) n ≡ Some v)
+use_visited ps m (Defining d) j u v part at first = absurd (let f : ⊥ = cc in f)
+use_visited ps m (Using y) zero u v part at first =
+    let same : y ≡ u = cc in
+    let inner = flat_map_has part_visits ps m 0 (Using y) v part (ap (λ (z : Use). slice_get (path_visits z.attributes.items false z.from) 0) same ∙ first) in
+    (inner.0, at_front (flat_map part_visits ps) (flat_map (side_visits Imported) ps ++ flat_map (side_visits Exported) ps) inner.0 v inner.1)
+use_visited ps m (Using y) (suc j) u v part at first = absurd (let f : ⊥ = cc in f)
+use_visited ps m (Including i) j u v part at first = absurd (let f : ⊥ = cc in f)
+use_visited ps m (Doing g) j u v part at first = absurd (let f : ⊥ = cc in f)
+use_visited ps m (Crossing x) j u v part at first =
+    let visits = λ (z : Use). path_visits z.attributes.items false z.from in
+    let own = flat_map_has visits (inline_uses x.kind) j 0 u v at first in
+    let there = at_front (flat_map visits (inline_uses x.kind)) (flat_map (path_visits x.attributes.items false) (extern_paths x.kind)) own.0 v own.1 in
+    let here : slice_get (side_visits x.side (Crossing x)) own.0 ≡ Some v = ap (λ (b : Bool). slice_get (cond b (extern_visits x) []) own.0) (side_itself x.side) ∙ there in
+    let on_side = flat_map_has (side_visits x.side) ps m own.0 (Crossing x) v part here in
+    side_has (flat_map part_visits ps) (λ side. flat_map (side_visits side) ps) x.side on_side.0 v on_side.1
+
+-- so where the path of a `use` of an item leads to another package, what it leads to is visited
+pub leads_visited : (files : List PackageFile) (q : ℕ) (w : Item) (u : Use) (p : PackageName) (id : Id) → slice_get (all_items files) q ≡ Some w → Contains (uses w) u → leads w.top u.from ≡ Foreign p id → IsVisited files p id
+leads_visited files q w u p id at among lead =
+    let k = at_contains (uses w) u among in
+    let x = flat_map_at part_uses (parts w) k.0 u k.1 in
+    path_among files q w u.attributes.items false u.from p id at (λ v first. use_visited (parts w) x.0 x.1 x.3.0 u v x.2 x.3.1 first) lead
+
+-- a `use` of a part of an item is one of it, and the path of one among its parts is one of the item's
+pub part_use_at : (w : Item) (m : ℕ) (x : Part) (j : ℕ) (u : Use) → slice_get (parts w) m ≡ Some x → slice_get (part_uses x) j ≡ Some u → Contains (uses w) u
+part_use_at w m x j u part at = let it = flat_map_has part_uses (parts w) m j x u part at in contains_at (uses w) it.0 u it.1
+
 pub use_at : (w : Item) (m : ℕ) (u : Use) → slice_get (parts w) m ≡ Some (Using u) → Contains (uses w) u
-use_at w m u part = let it = flat_map_has part_uses (parts w) m 0 (Using u) u part refl in contains_at (uses w) it.0 u it.1
+use_at w m u part = part_use_at w m (Using u) 0 u part refl
 
 pub use_path_at : (w : Item) (m : ℕ) (u : Use) → slice_get (parts w) m ≡ Some (Using u) → Contains (use_paths w) u.from
 use_path_at w m u part = let it = flat_map_has use_path (parts w) m 0 (Using u) u.from part refl in contains_at (use_paths w) it.0 u.from it.1
 
 -- where uses lead to interfaces, one that leads to another package leads to an interface
-pub used_interface_visit : (files : List PackageFile) → AreUsableUses files (all_items files) → (q : ℕ) (w : Item) (m : ℕ) (u : Use) (p : PackageName) (id : Id) → slice_get (all_items files) q ≡ Some w → slice_get (parts w) m ≡ Some (Using u) → leads w.top u.from ≡ Foreign p id → (t : ℕ) × (v : ForeignVisit) × (slice_get (foreign_interfaces files) t ≡ Some v) × (visited v ≡ ForeignNamed p id.name.now)
-used_interface_visit files usable q w m u p id at part lead =
-    let here = leads_visited files q w m u p id at part lead in
+pub used_interface_visit : (files : List PackageFile) → AreUsableUses files (all_items files) → (q : ℕ) (w : Item) (u : Use) (p : PackageName) (id : Id) → slice_get (all_items files) q ≡ Some w → Contains (uses w) u → leads w.top u.from ≡ Foreign p id → (t : ℕ) × (v : ForeignVisit) × (slice_get (foreign_interfaces files) t ≡ Some v) × (visited v ≡ ForeignNamed p id.name.now)
+used_interface_visit files usable q w u p id at among lead =
+    let here = leads_visited files q w u p id at among lead in
     let it = visit_listed files here.place here.v here.at in
     let v = it.1 in
     let is : visited v ≡ ForeignNamed p id.name.now = it.3 ∙ here.is in
     let found : is_world_at files (leads w.top u.from) ≡ Some (is_foreign_world v) = ap (is_world_at files) lead ∙ ap (λ s. option_map is_foreign_world (foreign_at files s)) (sym is) ∙ ap (option_map is_foreign_world) (foreign_at-visited files it.0 v it.2) in
     elim (cases_Bool (is_foreign_world v)) [
       | inl wrong ↦ absurd (
-          let both : Some true ≡ Some false = sym (found ∙ ap Some wrong) ∙ usable.usable w u (contains_at (all_items files) q w at) (use_at w m u part) in
+          let both : Some true ≡ Some false = sym (found ∙ ap Some wrong) ∙ usable.usable w u (contains_at (all_items files) q w at) among in
           let f : ⊥ = cc in
           f)
       | inr right ↦ (let k = kept_has (λ x. not (is_foreign_world x)) (foreign_items files) it.0 v (ap not right) it.2 in (k.0, v, k.1, is))

@@ -1,46 +1,90 @@
 -- A handle that is wrong while an item is resolved is wrong in the files.
-use Rattle.std.proofs.Common.{◌≡◌, ℕ, ◌+◌, true, false, List, [], ◌++◌, length, take, map, Some, inl, inr, sym, ap, ◌∙◌, subst}
+use Rattle.std.proofs.Common.{◌≡◌, ℕ, ◌+◌, true, false, List, [], ◌∷◌, ◌++◌, length, take, map, Some, inl, inr, sym, ap, ◌∙◌, subst, arith}
 use Rattle.std.specs.Prelude.{slice_get}
+use Rattle.std.specs.List.{flat_map}
 use Rattle.std.specs.Option.{option_map}
-use Rattle.std.proofs.lemmas.List.{length-map}
-use Rattle.std.proofs.lemmas.Option.{slice_get-map}
+use Rattle.std.proofs.lemmas.List.{length-map, map-append}
+use Rattle.std.proofs.lemmas.Option.{slice_get-map, slice_get_within}
 use Rattle.wit_tree.specs.declared.tree.PackageFile.{PackageFile}
 use Rattle.wit_model.specs.declared.interface.Interface.{Interface}
 use Rattle.wit_model.specs.declared.world.World.{World}
+use Rattle.wit_model.specs.declared.function.Function.{Function}
 use Rattle.wit_types.specs.declared.types.TypeDef.{TypeDef}
 use Rattle.wit_types.specs.declared.types.TypeOwner.{TypeOwner}
 use Rattle.wit_types.specs.declared.types.TypeOwner.TheVariants as owner
 use Rattle.wit_syntax.specs.Address.{Address}
-use Rattle.wit_syntax.specs.Source.{address, Item, all_items, ScopeName, local_name, scope, scope_names}
-use Rattle.wit_syntax.specs.Foreign.{visited, foreign_interfaces, foreign_worlds}
+use Rattle.wit_syntax.specs.Source.{address, Item, all_items, ScopeName, local_name, scope_names}
+use Rattle.wit_syntax.specs.Trees.{scope}
+use Rattle.wit_syntax.specs.Foreign.{visited, foreign_interfaces}
 use Rattle.wit_syntax.specs.Function.{item_types}
 use Rattle.wit_syntax.specs.Scope.{in_turn, AreDistinct}
+use Rattle.wit_syntax.specs.Sides.{side_items, inline_items}
 use Rattle.wit_syntax.specs.Fault.{Fault}
 use Rattle.wit_arena.specs.Meet.{Def, Meeting, keys, Decl, Decls, IsAmong, decl_of, all_name_meetings}
 use Rattle.wit_syntax.specs.Broken.{IsHandleBroken}
-use Rattle.wit_arena.specs.Whole.{item_of, all_meetings}
-use Rattle.wit_arena.specs.Resolving.{Cell, Required, cells, IsDefined, decls_of}
-use Rattle.wit_arena.specs.Resolved.{AddsForeign, AreUsableUses, IsWrongHandleNow}
-use Rattle.wit_syntax.proofs.Lists.{at_take, at_back, map_at}
+use Rattle.wit_arena.specs.Whole.{own_item, Turned, item_of, turned, all_meetings, all_turns}
+use Rattle.wit_arena.specs.Resolving.{Names, Cell, Required, env_of, cells, AreNames, AreKnown, IsDefined, decls_of}
+use Rattle.wit_arena.specs.Resolved.{WorldArenas, AddsScope, AddsSides, AddsForeign, AreUsableUses, IsWrongHandleNow}
+use Rattle.wit_syntax.proofs.Lists.{at_front, at_take, map_at}
 use Rattle.wit_syntax.proofs.Repeated.{differ_at, differ_by}
 use Rattle.wit_syntax.proofs.Turns.{at_part, in_turn_among, in_turn_distinct}
+use Rattle.wit_syntax.proofs.Inline.{inline_items_differ}
 use Rattle.wit_arena.proofs.Meeting.{meets_from}
 use Rattle.wit_arena.proofs.Defining.{name_met_in}
 use Rattle.wit_arena.proofs.Ends.{IsDeclared}
 use Rattle.wit_arena.proofs.Required.{defined_broken-more}
-use Rattle.wit_arena.proofs.Standing.{DoneScope, cell_of, IsDone}
-use Rattle.wit_arena.proofs.Done.{known, anew, nothing, declared_scope}
-use Rattle.wit_arena.proofs.Interfaces.{AreItems, AreOfSort, scope_of}
+use Rattle.wit_arena.proofs.Standing.{DoneScope, done_address, cell_of, IsNameOf}
+use Rattle.wit_arena.proofs.Doing.{DoneFunction, scope_functions, IsDoing}
+use Rattle.wit_arena.proofs.Interfaces.{AreItems, AreOfSort, item_scopes, scope_of}
 use Rattle.wit_arena.proofs.Front.{front_scopes}
 use Rattle.wit_arena.proofs.Laid.{none_is_next}
-use Rattle.wit_arena.proofs.Added.{decls, InterfacesDone, WorldsDone, defines_wider, interface_declared, world_declared, front_apart, cells_among, next_interface, next_world, world_apart, world_cells}
+use Rattle.wit_arena.proofs.Added.{decls, InterfacesDone, defines_wider, item_declared, world_item_declared, front_apart, cells_among, next_interface, next_world}
+use Rattle.wit_arena.proofs.Inside.{inside_at, inside_scopes-count}
+use Rattle.wit_arena.proofs.Begun.{doing_of}
+use Rattle.wit_arena.proofs.Sided.{AreSided, IsFreshInside}
+use Rattle.wit_arena.proofs.DoneWorlds.{scopes_of, own_order, AreWorldsDone}
+use Rattle.wit_arena.proofs.WorldSides.{world_fresh, fresh_inside, sides_done}
+use Rattle.wit_arena.proofs.WorldSides as done
 
--- An item whose scope comes next, where some scopes are done
-module _ (files : List PackageFile) (declares : Decls) (written : List Meeting) (cs : List DoneScope) (es : List TypeDef) (d : IsDone files declares written cs es) (w : Item) (o : TypeOwner) (fresh : (t : ℕ) (c : DoneScope) → slice_get cs t ≡ Some c → c.address ≡ address w → ⊥) (own : declares (address w) ≡ decls_of o (address w) (scope files (address w))) (names_are : scope files (address w) ≡ scope_names w) where
+-- these scopes are among those that are being resolved
+abbrev AreAmong : List Cell → List DoneScope → Type 0
+AreAmong known cs = (t : ℕ) (c : Cell) → slice_get known t ≡ Some c → (j : ℕ) × (slice_get (map cell_of cs) j ≡ Some c)
+
+among_more : (known : List Cell) (cs more : List DoneScope) → AreAmong known cs → AreAmong known (cs ++ more)
+among_more known cs more among t c at =
+    let it = among t c at in
+    (it.0, ap (λ (l : List Cell). slice_get l it.0) (map-append cell_of cs more) ∙ at_front (map cell_of cs) (map cell_of more) it.0 c it.1)
+
+-- An item whose scope comes next, while others are being resolved
+module _ (files : List PackageFile) (declares : Decls) (written : List Meeting) (cs : List DoneScope) (gs : List DoneFunction) (es : List TypeDef) (d : IsDoing files declares written cs gs es) (w : Item) (o : TypeOwner) (fresh : (t : ℕ) (c : DoneScope) → slice_get cs t ≡ Some c → c.address ≡ address w → ⊥) (own : declares (address w) ≡ decls_of o (address w) (scope files (address w))) (names_are : scope files (address w) ≡ scope_names w) where
   abbrev s : Address
   s = address w
 
-  module _ (cells : List Cell) (among : (t : ℕ) (c : Cell) → slice_get cells t ≡ Some c → (j : ℕ) × (slice_get (map cell_of cs) j ≡ Some c)) (f : Fault) (h : IsWrongHandleNow es cells o w f) where
+  -- the names of the others stand for their places, and none of its own is met
+  known : AreKnown (keys d.met) s (map cell_of cs)
+  known = record {
+    names = λ t k at. (let c = map_at cell_of cs t k at in subst (λ (x : Cell). AreNames (keys d.met) x.address (env_of x.types)) c.2 (d.stand t c.0 c.1));
+    others = λ t k at same. (let c = map_at cell_of cs t k at in fresh t c.0 c.1 (ap (λ (x : Cell). x.address) c.2 ∙ same));
+  }
+
+  unmet : (j : ℕ) (name : List ℕ) → slice_get (keys d.met) j ≡ Some (Def s name) → ⊥
+  unmet j name at = let it = d.before j s name at in fresh it.place it.cell it.at it.scope
+
+  nothing : AreNames (keys d.met) s (env_of [])
+  nothing = record {
+    stands = λ name i h. absurd (let f : ⊥ = cc in f);
+    has = λ j name at. absurd (unmet j name at);
+  }
+
+  -- the scope of what was met before is declared by files
+  declared_before : (t : Address) (name : List ℕ) → IsNameOf cs t name → IsDeclared files declares t
+  declared_before t name it = subst (λ (z : Address). IsDeclared files declares z) it.scope (record {
+    distinct = (d.each it.place it.cell it.at).turn.distinct;
+    whose = it.cell.owner;
+    own = d.own it.place it.cell it.at;
+  })
+
+  module _ (cells : List Cell) (among : AreAmong cells cs) (f : Fault) (h : IsWrongHandleNow es cells o w f) where
     abbrev turn : List ScopeName
     turn = in_turn (scope_names w) h.order
 
@@ -59,12 +103,12 @@ module _ (files : List PackageFile) (declares : Decls) (written : List Meeting) 
     apart = differ_by local_name some (λ i j x y at_x at_y same. differ_at local_name turn (in_turn_distinct (scope_names w) h.order h.least h.distinct) i j x y (at_take turn h.count i x at_x).0 (at_take turn h.count j y at_y).0 same)
 
     defined : IsDefined declares d.met h.mid s [] h.names some
-    defined = (defines_wider es h.mid cells (map cell_of cs) o s [] h.names some among (h.defines s)).from declares d.met declared apart (anew files declares written cs es d s fresh some) (known files declares written cs es d s fresh) d.meeting (nothing files declares written cs es d s fresh)
+    defined = (defines_wider es h.mid cells (map cell_of cs) o s [] h.names some among (h.defines s)).from declares d.met declared apart (record { new = λ i x at was. unmet was.0 (local_name x) was.1 }) known d.meeting nothing
 
     -- the scope of what was met is declared by files
     met_declared : (j : ℕ) (t : Address) (name : List ℕ) → slice_get (keys defined.now) j ≡ Some (Def t name) → IsDeclared files declares t
     met_declared j t name at = elim (meets_from (all_name_meetings s some) d.met defined.now defined.meets j (Def t name) at) [
-      | inl was ↦ declared_scope files declares cs t name d.each d.own (d.before was.0 t name was.1)
+      | inl was ↦ declared_before t name (d.before was.0 t name was.1)
       | inr new ↦ (
           let same = (name_met_in s some t name new).0 in
           subst (λ (z : Address). IsDeclared files declares z) (sym same) (record { distinct = subst AreDistinct (sym names_are) h.distinct; whose = o; own = own }))
@@ -77,32 +121,77 @@ module _ (files : List PackageFile) (is ws : List Item) (interfaces : AreOfSort 
   abbrev fore : List Address
   fore = map visited (foreign_interfaces files)
 
-  abbrev aft : List Address
-  aft = map visited (foreign_worlds files)
-
   -- of an interface that comes next
   pub interface_handle : (us : List Item) (old : List TypeDef) (xs : List Interface) (rs : List Required) (w : Item) → slice_get is (length us) ≡ Some w → (d : InterfacesDone files is ws front us old xs rs) → (f : Fault) → IsWrongHandleNow old (cells fore (front ++ xs)) (owner.Interface (length (front ++ xs))) w f → IsHandleBroken files w f
   interface_handle us old xs rs w there d f h =
+      let cs = front_scopes files front ++ d.scopes in
       let long : length us ≡ length d.ordered = sym (ap length d.all) ∙ length-map d.ordered item_of in
       let next : slice_get is (length d.ordered) ≡ Some w = subst (λ (n : ℕ). slice_get is n ≡ Some w) long there in
       let at : slice_get is (length xs) ≡ Some w = subst (λ (n : ℕ). slice_get is n ≡ Some w) (sym d.laid.count) next in
-      let own = interface_declared files is ws interfaces worlds is_items ws_items (length fore + length xs) (address w) (at_back fore (map address is) (length xs) (address w) (slice_get-map address is (length xs) ∙ ap (option_map address) at)) in
+      let own = item_declared files is ws interfaces worlds is_items ws_items (length xs) w at in
       let whose = next_interface files is ws interfaces worlds is_items ws_items uses es front wfront foreign xs in
-      handle_wrong files (decls files is ws) (all_meetings files d.ordered) (front_scopes files front ++ d.scopes) old d.done w (owner.Interface (length (front ++ xs))) (λ t c c_at same. elim (at_part (front_scopes files front) d.scopes t c c_at) [
+      let written = all_meetings files (map turned d.ordered) in
+      handle_wrong files (decls files is ws) written cs (flat_map scope_functions cs) old (doing_of files (decls files is ws) written cs old d.done) w (owner.Interface (length (front ++ xs))) (λ t c c_at same. elim (at_part (front_scopes files front) d.scopes t c c_at) [
         | inl g ↦ front_apart files is ws interfaces worlds is_items ws_items uses es front wfront foreign w g.0 c g.1 same
-        | inr g ↦ none_is_next d.laid files is_items w next g.0 c g.1 same
-      ]) (subst (λ (o : TypeOwner). decls files is ws (address w) ≡ decls_of o (address w) (scope files (address w))) (sym whose) own) (scope_of files is is_items (length xs) w at) (cells fore (front ++ xs)) (cells_among files is ws interfaces worlds is_items ws_items uses es front wfront foreign xs d.scopes d.laid.types) f h
+        | inr g ↦ none_is_next d.laid (item_scopes files is is_items).unique w next g.0 c g.1 same
+      ]) (own ∙ ap (λ (o : TypeOwner). decls_of o (address w) (scope files (address w))) (sym whose)) (scope_of files is (item_scopes files is is_items) (length xs) w at) (cells fore (front ++ xs)) (cells_among files is ws interfaces worlds is_items ws_items uses es front wfront foreign xs d.scopes d.laid.types) f h
 
-  -- and of a world
-  pub world_handle : (middle : List TypeDef) (xs : List Interface) (irs : List Required) (d : InterfacesDone files is ws front is middle xs irs) (us : List Item) (old : List TypeDef) (ys : List World) (rs : List Required) (w : Item) → slice_get ws (length us) ≡ Some w → (e : WorldsDone files is ws front d.ordered d.scopes us old ys rs) → (f : Fault) → IsWrongHandleNow old (cells fore (front ++ xs)) (owner.World (length (wfront ++ ys))) w f → IsHandleBroken files w f
-  world_handle middle xs irs d us old ys rs w there e f h =
-      let long : length us ≡ length e.ordered = sym (ap length e.all) ∙ length-map e.ordered item_of in
-      let next : slice_get ws (length e.ordered) ≡ Some w = subst (λ (n : ℕ). slice_get ws n ≡ Some w) long there in
-      let at : slice_get ws (length ys) ≡ Some w = subst (λ (n : ℕ). slice_get ws n ≡ Some w) (sym e.laid.count) next in
-      let own = world_declared files is ws interfaces worlds is_items ws_items (length aft + length ys) (address w) (at_back aft (map address ws) (length ys) (address w) (slice_get-map address ws (length ys) ∙ ap (option_map address) at)) in
-      let whose = next_world files is ws interfaces worlds is_items ws_items uses es front wfront foreign ys in
-      let before = front_scopes files front ++ d.scopes in
-      handle_wrong files (decls files is ws) (all_meetings files (d.ordered ++ e.ordered)) (before ++ e.scopes) old e.done w (owner.World (length (wfront ++ ys))) (λ t c c_at same. elim (at_part before e.scopes t c c_at) [
-        | inl g ↦ world_apart files is ws interfaces worlds is_items ws_items uses es front wfront foreign middle xs irs d (length ys) w at g.0 c g.1 same
-        | inr g ↦ none_is_next e.laid files ws_items w next g.0 c g.1 same
-      ]) (subst (λ (o : TypeOwner). decls files is ws (address w) ≡ decls_of o (address w) (scope files (address w))) (sym whose) own) (scope_of files ws ws_items (length ys) w at) (cells fore (front ++ xs)) (world_cells files is ws interfaces worlds is_items ws_items uses es front wfront foreign middle xs irs d e.scopes) f h
+  -- what comes next behind all interfaces and some worlds
+  module _ (middle : List TypeDef) (xs : List Interface) (irs : List Required) (d : InterfacesDone files is ws front is middle xs irs) (us : List Item) (old : List TypeDef) (a : WorldArenas) (qs : List Required) (w : Item) (there : slice_get ws (length us) ≡ Some w) (e : AreWorldsDone files is ws wfront d.ordered (front_scopes files front ++ d.scopes) us old a qs) where
+    abbrev before : List DoneScope
+    before = (front_scopes files front ++ d.scopes) ++ flat_map scopes_of e.scopes
+
+    abbrev pub resolved : List Cell
+    resolved = cells fore (front ++ xs)
+
+    known_before : AreAmong resolved before
+    known_before = among_more resolved (front_scopes files front ++ d.scopes) (flat_map scopes_of e.scopes) (cells_among files is ws interfaces worlds is_items ws_items uses es front wfront foreign xs d.scopes d.laid.types)
+
+    -- of a world
+    pub world_handle : (f : Fault) → IsWrongHandleNow old resolved (owner.World (length a.worlds)) w f → IsHandleBroken files w f
+    world_handle f h =
+        let written = all_meetings files (all_turns d.ordered e.ordered) in
+        let place : length e.own ≡ length us = e.laid.count ∙ length-map e.ordered own_order ∙ sym (length-map e.ordered own_item) ∙ ap length e.all in
+        let own = world_item_declared files is ws interfaces worlds is_items ws_items (length e.own) w (ap (slice_get ws) place ∙ there) in
+        let whose = ap (λ (l : List World). owner.World (length l)) e.arena ∙ next_world files is ws interfaces worlds is_items ws_items uses es front wfront foreign e.own in
+        handle_wrong files (decls files is ws) written before (flat_map scope_functions before) old (doing_of files (decls files is ws) written before old e.done) w (owner.World (length a.worlds)) (world_fresh files is ws interfaces worlds is_items ws_items uses es front wfront foreign middle xs irs d us old a qs e w there) (own ∙ ap (λ (o : TypeOwner). decls_of o (address w) (scope files (address w))) (sym whose)) (scope_of files ws (item_scopes files ws ws_items) (length us) w there) resolved known_before f h
+
+    -- and of an interface that is written in it, once its names and what stands in front on its sides were added
+    module _ (inner_place count : ℕ) (inner : Item) (next : slice_get (inline_items w) count ≡ Some inner) (types : Names) (named mid : List TypeDef) (adds : AddsScope old named resolved (owner.World (length a.worlds)) (scope_names w) types) (now : List Interface) (made : List Function) (rs : List Required) (sides : AddsSides resolved (length (front ++ xs)) (address w) types named mid a.inside now made rs (take inner_place (side_items w)) (take count (inline_items w))) (reached : length now ≡ length a.inside + count) where
+      abbrev own_scope : DoneScope
+      own_scope = done.c files is ws interfaces worlds is_items ws_items uses es front wfront foreign middle xs irs d us old a qs e w there named types adds [] [] []
+
+      abbrev IsSided : Type 0
+      IsSided = AreSided files (decls files is ws) (all_meetings files (all_turns d.ordered e.ordered) ++ all_name_meetings (address w) own_scope.names) (before ++ own_scope ∷ []) (flat_map scope_functions before) (length (front ++ xs) + length a.inside) (address w) mid a.inside now made rs (take inner_place (side_items w)) (take count (inline_items w))
+
+      sided : IsSided
+      sided = sides_done files is ws interfaces worlds is_items ws_items uses es front wfront foreign middle xs irs d us old a qs e w there named types adds [] [] [] mid now made rs (take inner_place (side_items w)) (take count (inline_items w)) (λ k i at. (at_take (inline_items w) count k i at).0) sides
+
+      can_be_next : IsFreshInside files (decls files is ws) (before ++ own_scope ∷ []) ((length (front ++ xs) + length a.inside) + count) inner
+      can_be_next = fresh_inside files is ws interfaces worlds is_items ws_items uses es front wfront foreign middle xs irs d us old a qs e w there named types adds [] [] [] count inner next
+
+      -- what was written before it in this world is another one
+      apart_inside : (t : ℕ) (b : DoneScope) → slice_get sided.scopes t ≡ Some b → b.address ≡ address inner → ⊥
+      apart_inside t b at same =
+          let start = length (front ++ xs) + length a.inside in
+          let lt = slice_get_within sided.scopes t b at in
+          let long = inside_scopes-count start sided.ordered sided.scopes sided.added sided.laid in
+          let it = inside_at start sided.ordered sided.scopes sided.added sided.laid t (omega arith) in
+          let both : Some it.c ≡ Some b = sym it.at_c ∙ at in
+          let one : b ≡ it.c = cc in
+          let listed : slice_get (take count (inline_items w)) t ≡ Some it.o.item = ap (λ (l : List Item). slice_get l t) (sym sided.items) ∙ at_front (map item_of sided.ordered) sided.left t it.o.item (slice_get-map item_of sided.ordered t ∙ ap (option_map item_of) it.at_o) in
+          let early = at_take (inline_items w) count t it.o.item listed in
+          let here : address it.o.item ≡ address inner = sym (ap (λ (x : Turned). x.address) it.holds.turn) ∙ ap done_address (sym one) ∙ same in
+          let place = differ_at address (inline_items w) (inline_items_differ w) t count it.o.item inner early.0 next here in
+          let less = early.1 in
+          omega (arith, place, less)
+
+      pub inline_handle : (f : Fault) → IsWrongHandleNow mid resolved (owner.Interface (length (front ++ xs) + length now)) inner f → IsHandleBroken files inner f
+      inline_handle f h =
+          let o = owner.Interface (length (front ++ xs) + length now) in
+          let scopes = (before ++ own_scope ∷ []) ++ sided.scopes in
+          let place : (length (front ++ xs) + length a.inside) + count ≡ length (front ++ xs) + length now = omega (arith, reached) in
+          handle_wrong files (decls files is ws) _ scopes _ mid sided.doing inner o (λ t b at same. elim (at_part (before ++ own_scope ∷ []) sided.scopes t b at) [
+            | inl g ↦ can_be_next.fresh g.0 b g.1 same
+            | inr g ↦ apart_inside g.0 b g.1 same
+          ]) (can_be_next.own ∙ ap (λ (n : ℕ). decls_of (owner.Interface n) (address inner) (scope files (address inner))) place) can_be_next.has resolved (among_more resolved (before ++ own_scope ∷ []) sided.scopes (among_more resolved before (own_scope ∷ []) known_before)) f h

@@ -1,6 +1,6 @@
 -- What types of a package mean: the arenas unfolded, whose names are by what the package calls them, and what an interface says.
-use Rattle.std.specs.Prelude.{◌≡◌, ℕ, zero, suc, ◌<◌, Bool, false, nat_eq, List, [], ◌∷◌, ◌++◌, Option, Some, None, ◌⊎◌, map, find, slice_get}
-use Rattle.std.specs.List.{flat_map}
+use Rattle.std.specs.Prelude.{◌≡◌, ℕ, zero, suc, ◌<◌, Bool, true, false, not, nat_eq, List, [], ◌∷◌, ◌++◌, Option, Some, None, ◌⊎◌, map, find, slice_get}
+use Rattle.std.specs.List.{flat_map, filter}
 use Rattle.std.specs.Option.{option_map_or, option_to_list}
 use Rattle.wit_model.specs.declared.function.Function.{Function}
 use Rattle.wit_model.specs.declared.function.Param.{Param}
@@ -23,13 +23,15 @@ use Rattle.wit_types.specs.declared.types.TypeDef.{TypeDef}
 use Rattle.wit_types.specs.declared.types.TypeOwner.{TypeOwner}
 use Rattle.wit_types.specs.declared.types.TypeOwner.TheVariants as owner
 use Rattle.wit_arena.specs.Kind.{kind_of}
-use Rattle.wit_syntax.specs.Address.{Address, InterfaceNamed, WorldNamed, ForeignNamed}
+use Rattle.wit_syntax.specs.Address.{Address, InterfaceNamed, WorldNamed, InlineAt, ForeignNamed}
+use Rattle.wit_syntax.specs.Source.{Item, item_id, item_notes, declared_name}
 use Rattle.wit_syntax.specs.Node.{Owner, OfScope, Nobody, Head, Node, Leaf, Named, Unnamed, Nothing, Tree, unfolded}
 use Rattle.wit_syntax.specs.Node as node
 use Rattle.wit_tree.specs.declared.tree.WorldSide.{WorldSide}
 use Rattle.wit_tree.specs.declared.tree.WorldSide.TheVariants.{Imported, Exported}
 use Rattle.wit_syntax.specs.Sides.{FunctionKey}
 use Rattle.wit_syntax.specs.Notes.{Notes, no_docs}
+use Rattle.wit_values.specs.declared.span.Span.{Span}
 
 -- what other packages' items a package names, each with its address
 abbrev pub dep_items : PackageName × List (List ℕ × (AstItem × List Stability)) → List (AstItem × Address)
@@ -50,9 +52,46 @@ address_of (Some e) = OfScope e.1
 abbrev pub foreign_owner : UnresolvedPackage → AstItem → Owner
 foreign_owner p i = address_of (find (λ e. same_entry e.0 i) (flat_map dep_items p.foreign_deps))
 
--- an interface goes by its name; one without a name is another package's
+-- what stands on a side behind the names of types
+abbrev pub is_type_item : WorldKey × WorldItem → Bool
+is_type_item (key, item.Type_ id span) = true
+is_type_item (key, item.Interface id stability external_id docs span) = false
+is_type_item (key, item.Function f) = false
+
+abbrev pub behind_types : List (WorldKey × WorldItem) → List (WorldKey × WorldItem)
+behind_types xs = filter (λ x. not (is_type_item x)) xs
+
+-- an interface that stands under a name at a place on a side of a world, with the address that it has where it is written there
+abbrev pub interface_at : List ℕ → WorldSide → ℕ → WorldKey × WorldItem → List (ℕ × Address)
+interface_at world side place (key.Name name, item.Interface id stability external_id docs span) = (id, InlineAt world side place) ∷ []
+interface_at world side place (key.Name name, item.Type_ id span) = []
+interface_at world side place (key.Name name, item.Function f) = []
+interface_at world side place (key.Interface i, it) = []
+
+abbrev pub interfaces_from : List ℕ → WorldSide → ℕ → List (WorldKey × WorldItem) → List (ℕ × Address)
+interfaces_from world side place [] = []
+interfaces_from world side place (x ∷ xs) = interface_at world side place x ++ interfaces_from world side (suc place) xs
+
+-- those of a world: first among its imports, and then among its exports
+abbrev pub world_interfaces : World → List (ℕ × Address)
+world_interfaces w = interfaces_from w.name Imported 0 (behind_types w.imports) ++ interfaces_from w.name Exported 0 (behind_types w.exports)
+
+abbrev pub inline_address : Option (ℕ × Address) → Owner
+inline_address None = Nobody
+inline_address (Some e) = OfScope e.1
+
+-- an interface that is written in a world, by the place where it stands there
+abbrev pub inline_owner : UnresolvedPackage → ℕ → Owner
+inline_owner p place = inline_address (find (λ e. nat_eq e.0 place) (flat_map world_interfaces p.worlds))
+
+-- an owner, or where that is nobody another one
+abbrev pub or_owner : Owner → Owner → Owner
+or_owner Nobody other = other
+or_owner (OfScope s) other = OfScope s
+
+-- an interface goes by its name; one without a name is another package's, or is written in a world
 abbrev pub named_interface : UnresolvedPackage → ℕ → Option (List ℕ) → Owner
-named_interface p place None = foreign_owner p (entry.Interface place)
+named_interface p place None = or_owner (foreign_owner p (entry.Interface place)) (inline_owner p place)
 named_interface p place (Some name) = OfScope (InterfaceNamed name)
 
 abbrev pub interface_owner : UnresolvedPackage → ℕ → Option Interface → Owner
@@ -180,14 +219,18 @@ LeadsTo es (suc n) ty j = (i : ℕ) × (e : TypeDef) × (part : Ty) × (ty ≡ t
 abbrev pub Reaches : List TypeDef → Ty → ℕ → Type 0
 Reaches es ty j = (n : ℕ) × LeadsTo es n ty j
 
--- an interface of the arena is the declared one of a name and these notes, apart from its types and functions
-pub record IsInterface (id : Id) (n : Notes) (i : Interface) : Type 0 where
-  pub name : i.name ≡ Some id.name.now
-  pub span : i.span ≡ id.span
+-- an interface of the arena has this name, stands there, and has these notes, apart from its types and functions
+pub record IsInterface (name : Option (List ℕ)) (span : Span) (n : Notes) (i : Interface) : Type 0 where
+  pub called : i.name ≡ name
+  pub stands : i.span ≡ span
   pub docs : i.docs ≡ n.docs
   pub stability : i.stability ≡ n.stability
   pub no_package : i.package ≡ None
   pub no_source : i.clone_of ≡ None
+
+-- it is the one of an item
+abbrev pub IsInterfaceOf : Item → Interface → Type 0
+IsInterfaceOf item i = IsInterface (declared_name item.declared) (item_id item).span (item_notes item) i
 
 -- a world of the arena is the declared one of a name and these notes, apart from its imports, exports and includes
 pub record IsWorld (id : Id) (n : Notes) (w : World) : Type 0 where

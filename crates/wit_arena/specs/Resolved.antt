@@ -1,5 +1,5 @@
 -- What resolving interfaces and worlds does to the arenas, one after another.
-use Rattle.std.specs.Prelude.{◌≡◌, ℕ, true, false, List, [], ◌∷◌, ◌++◌, length, map, take, Some, None, slice_get, Contains}
+use Rattle.std.specs.Prelude.{◌≡◌, ℕ, ◌+◌, true, false, List, [], ◌∷◌, ◌++◌, length, map, take, Some, None, slice_get, Contains}
 use Rattle.std.specs.List.{flat_map}
 use Rattle.wit_tree.specs.declared.tree.Id.{Id}
 use Rattle.wit_tree.specs.declared.tree.Include.{Include}
@@ -20,16 +20,16 @@ use Rattle.wit_syntax.specs.Source.{leads, Item, item_id, item_notes, declared_a
 use Rattle.wit_syntax.specs.Foreign.{visited, foreign_interfaces, foreign_worlds}
 use Rattle.wit_arena.specs.Meet.{keys}
 use Rattle.wit_syntax.specs.Fault.{Fault}
-use Rattle.wit_arena.specs.Package.{IsInterface, IsWorld}
+use Rattle.wit_arena.specs.Package.{IsInterfaceOf, IsWorld}
 use Rattle.wit_syntax.specs.Scope.{uses, includes, interfaces_of, worlds_of, rows_of, in_order, defined, in_turn, AreDistinct}
 use Rattle.wit_model.specs.declared.function.Function.{Function}
-use Rattle.wit_syntax.specs.Function.{SourceFunction, functions as item_functions, signature, all_types, item_types}
+use Rattle.wit_syntax.specs.Function.{SourceFunction, functions as item_functions, signature, name_types, written_types, all_types, item_types}
 use Rattle.wit_syntax.specs.Signature.{IsUnpairedSetter}
 use Rattle.wit_tree.specs.declared.tree.WorldSide.TheVariants.{Imported, Exported}
 use Rattle.wit_arena.specs.Functions.{placed_functions}
 use Rattle.wit_arena.specs.SideItems.{AreSideItems}
 use Rattle.wit_syntax.specs.Broken.{is_world_at, IsBrokenScope, IsBrokenUse}
-use Rattle.wit_syntax.specs.Sides.{Link, links, side_items, IsBrokenSides}
+use Rattle.wit_syntax.specs.Sides.{Link, links, SideItem, SideFunction, SideLink, SideInline, side_items, inline_items, IsBrokenSides}
 use Rattle.wit_arena.specs.Whole.{owner_at, taking_meeting, AreForeignInterfaces, AreForeignWorlds, type_imports, AreIncludes}
 use Rattle.wit_arena.specs.Resolving.{Names, env_of, Cell, cells, named, Defines, AddsFunctions, Required, IsWrongHandle, AreEnded, IsIndex, IsWorldIndex, IsLostInclude, IsLostLink, IsWrongScope}
 use Rattle.wit_syntax.specs.Shape.{words, all_handles}
@@ -53,17 +53,21 @@ pub record AddsBehind (old new : List TypeDef) (item : Item) (order : List ℕ) 
   pub adds : AddsFunctions old new (address item) names (item_functions item) fs
   pub ended : AreEnded (env_of names) new (all_handles (all_types (in_turn (scope_names item) order) (item_functions item))) rs
 
--- what an interface adds to the arenas, where those at these addresses are of other packages
-pub record AddsInterface (foreign : List Address) (old new : List TypeDef) (is is' : List Interface) (rs : List Required) (item : Item) : Type 0 where
-  pub added : Interface
-  pub last : is' ≡ is ++ added ∷ []
-  pub says : IsInterface (item_id item) (item_notes item) added
+-- what an interface adds to the arena of types, where it stands at this place, and these are the scopes that it may use
+pub record AddsInterface (cs : List Cell) (place : ℕ) (old new : List TypeDef) (added : Interface) (rs : List Required) (item : Item) : Type 0 where
+  pub says : IsInterfaceOf item added
   pub middle : List TypeDef
-  pub adds : AddsScope old middle (cells foreign is) (owner.Interface (length is)) (scope_names item) added.types
+  pub adds : AddsScope old middle cs (owner.Interface place) (scope_names item) added.types
   pub functions : List Function
   pub behind : AddsBehind middle new item adds.order added.types functions rs
   pub stand : added.functions ≡ placed_functions functions
   pub paired : (f : Fault) → IsUnpairedSetter (item_functions item) f → ⊥
+
+-- what a declared interface adds to the arenas, where those at these addresses are of other packages
+pub record AddsDeclared (foreign : List Address) (old new : List TypeDef) (is is' : List Interface) (rs : List Required) (item : Item) : Type 0 where
+  pub added : Interface
+  pub last : is' ≡ is ++ added ∷ []
+  pub adds : AddsInterface (cells foreign is) (length is) old new added rs item
 
 -- the addresses of worlds: at first of those of other packages
 abbrev pub worlds_at : List Address → List World → List Address
@@ -75,34 +79,63 @@ worlds_at (s ∷ ss) (w ∷ ws) = s ∷ worlds_at ss ws
 abbrev pub interfaces_at : List Address → List Interface → List Address
 interfaces_at foreign is = map (λ c. c.address) (cells foreign is)
 
--- what a world adds to the arenas, where these are the interfaces, and at first those at these addresses
-pub record AddsWorld (foreign others : List Address) (is : List Interface) (old new : List TypeDef) (ws ws' : List World) (rs : List Required) (item : Item) : Type 0 where
+-- what a function of a scope adds to the arena of types, behind its names, and what its handles require
+pub record AddsFunction (s : Address) (names : Names) (old new : List TypeDef) (fn : SourceFunction) (f : Function) (rs : List Required) : Type 0 where
+  pub adds : AddsFunctions old new s names (fn ∷ []) (f ∷ [])
+  pub ended : AreEnded (env_of names) new (all_handles (written_types fn)) rs
+
+-- What stands on the sides of a world adds to the arenas, one after another, behind its names: functions, and the interfaces that are written
+-- there, which are these items, behind so many others; `cs` are the scopes that these may use.
+abbrev pub AddsSides : List Cell → ℕ → Address → Names → List TypeDef → List TypeDef → List Interface → List Interface → List Function → List Required → List SideItem → List Item → Type 0
+AddsSides cs count s names old new is is' fs rs [] inside = (new ≡ old) × (is' ≡ is) × (fs ≡ []) × (rs ≡ [])
+AddsSides cs count s names old new is is' fs rs (SideFunction fn ∷ xs) inside = (mid : List TypeDef) × (f : Function) × (more : List Function) × (own : List Required) × (rest : List Required) × (fs ≡ f ∷ more) × (rs ≡ own ++ rest) × AddsFunction s names old mid fn f own × AddsSides cs count s names mid new is is' more rest xs inside
+AddsSides cs count s names old new is is' fs rs (SideLink link ∷ xs) inside = AddsSides cs count s names old new is is' fs rs xs inside
+AddsSides cs count s names old new is is' fs rs (SideInline x name items ∷ xs) [] = ⊥
+AddsSides cs count s names old new is is' fs rs (SideInline x name items ∷ xs) (i ∷ inside) = (mid : List TypeDef) × (added : Interface) × (own : List Required) × (rest : List Required) × (rs ≡ own ++ rest) × AddsInterface cs (count + length is) old mid added own i × AddsSides cs count s names mid new (is ++ added ∷ []) is' fs rest xs inside
+
+-- the worlds of the arena, and the interfaces that are written in them, with their addresses
+pub record WorldArenas : Type 0 where
+  pub worlds : List World
+  pub inside : List Interface
+  pub addresses : List Address
+
+-- what a world adds to the arenas, where these are the declared interfaces, and at first those at these addresses
+pub record AddsWorld (foreign others : List Address) (is : List Interface) (old new : List TypeDef) (a b : WorldArenas) (rs : List Required) (item : Item) : Type 0 where
   pub added : World
-  pub last : ws' ≡ ws ++ added ∷ []
+  pub last : b.worlds ≡ a.worlds ++ added ∷ []
+  pub more : b.addresses ≡ a.addresses ++ map address (inline_items item)
   pub says : IsWorld (item_id item) (item_notes item) added
   pub types : Names
   pub middle : List TypeDef
-  pub adds : AddsScope old middle (cells foreign is) (owner.World (length ws)) (scope_names item) types
+  pub adds : AddsScope old middle (cells foreign is) (owner.World (length a.worlds)) (scope_names item) types
+  pub own : List Required
+  pub ended : AreEnded (env_of types) middle (all_handles (flat_map name_types (in_turn (scope_names item) adds.order))) own
   pub functions : List Function
-  pub behind : AddsBehind middle new item adds.order types functions rs
+  pub rest : List Required
+  pub requires : rs ≡ own ++ rest
+  pub sides : AddsSides (cells foreign is) (length is) (address item) types middle new a.inside b.inside functions rest (side_items item) (inline_items item)
   pub imported : List (WorldKey × WorldItem)
   pub imports : added.imports ≡ type_imports (in_turn (scope_names item) adds.order) types ++ imported
-  pub are_imported : AreSideItems (interfaces_at foreign is) item.top Imported (side_items item) functions imported
-  pub are_exported : AreSideItems (interfaces_at foreign is) item.top Exported (side_items item) functions added.exports
-  pub includes : AreIncludes (worlds_at others ws) item added.includes
+  pub are_imported : AreSideItems (interfaces_at foreign is ++ b.addresses) item.top Imported (side_items item) functions (map address (inline_items item)) imported
+  pub are_exported : AreSideItems (interfaces_at foreign is ++ b.addresses) item.top Exported (side_items item) functions (map address (inline_items item)) added.exports
+  pub includes : AreIncludes (worlds_at others a.worlds) item added.includes
 
 -- what items add to the arenas, one after another, and what they require, where `Adds` says what one of them does
-abbrev pub AddsEach : {X : Type 0} → (List TypeDef → List TypeDef → List X → List X → List Required → Item → Type 0) → List TypeDef → List TypeDef → List X → List X → List Required → List Item → Type 0
-AddsEach Adds old new xs xs' rs [] = (new ≡ old) × (xs' ≡ xs) × (rs ≡ [])
-AddsEach {X} Adds old new xs xs' rs (w ∷ ws) = (mid : List TypeDef) × (between : List X) × (own : List Required) × (rest : List Required) × (rs ≡ own ++ rest) × Adds old mid xs between own w × AddsEach Adds mid new between xs' rest ws
+abbrev pub AddsEach : {X : Type 0} → (List TypeDef → List TypeDef → X → X → List Required → Item → Type 0) → List TypeDef → List TypeDef → X → X → List Required → List Item → Type 0
+AddsEach Adds old new x x' rs [] = (new ≡ old) × (x' ≡ x) × (rs ≡ [])
+AddsEach {X} Adds old new x x' rs (w ∷ ws) = (mid : List TypeDef) × (between : X) × (own : List Required) × (rest : List Required) × (rs ≡ own ++ rest) × Adds old mid x between own w × AddsEach Adds mid new between x' rest ws
 
 -- what interfaces add, behind those of other packages
 abbrev pub AddsInterfaces : List Address → List TypeDef → List TypeDef → List Interface → List Interface → List Required → List Item → Type 0
-AddsInterfaces foreign old new is is' rs items = AddsEach (AddsInterface foreign) old new is is' rs items
+AddsInterfaces foreign old new is is' rs items = AddsEach (AddsDeclared foreign) old new is is' rs items
 
--- what worlds add, where these are the interfaces
-abbrev pub AddsWorlds : List Address → List Address → List Interface → List TypeDef → List TypeDef → List World → List World → List Required → List Item → Type 0
-AddsWorlds foreign others is old new ws ws' rs items = AddsEach (AddsWorld foreign others is) old new ws ws' rs items
+-- what worlds add, where these are the declared interfaces
+abbrev pub AddsWorlds : List Address → List Address → List Interface → List TypeDef → List TypeDef → WorldArenas → WorldArenas → List Required → List Item → Type 0
+AddsWorlds foreign others is old new a b rs items = AddsEach (AddsWorld foreign others is) old new a b rs items
+
+-- the arenas with these worlds in front
+abbrev pub front_worlds : List World → WorldArenas
+front_worlds ws = record { worlds = ws; inside = []; addresses = [] }
 
 -- no scope of these items is broken by itself
 pub record AreLegalScopes (items : List Item) : Type 0 where
@@ -179,15 +212,34 @@ pub data IsWrongInterface (old : List TypeDef) (cs : List Cell) (by_name : Names
   WrongSides : IsBrokenSides item f → IsWrongInterface old cs by_name o item f
   Unpaired : IsUnpairedSetter (item_functions item) f → IsWrongInterface old cs by_name o item f
 
+-- Once the names of a world were added, and some of what stands on its sides, the next interface that is written there is wrong; there are so
+-- many others, and then those that were written before it.
+pub record IsWrongInline (old : List TypeDef) (cs : List Cell) (count : ℕ) (inside : List Interface) (by_name : Names) (o : TypeOwner) (item : Item) (f : Fault) : Type 0 where
+  pub types : Names
+  pub middle : List TypeDef
+  pub adds : AddsScope old middle cs o (scope_names item) types
+  pub place : ℕ
+  pub done : ℕ
+  pub mid : List TypeDef
+  pub now : List Interface
+  pub functions : List Function
+  pub rs : List Required
+  pub sides : AddsSides cs count (address item) types middle mid inside now functions rs (take place (side_items item)) (take done (inline_items item))
+  pub reached : length now ≡ length inside + done
+  pub inner : Item
+  pub next : slice_get (inline_items item) done ≡ Some inner
+  pub wrong : IsWrongInterface mid cs by_name (owner.Interface (count + length now)) inner f
+
 -- what is wrong with a world, by what was resolved before
-pub data IsWrongWorld (files : List PackageFile) (old : List TypeDef) (cs : List Cell) (by_name worlds_by_name : Names) (o : TypeOwner) (item : Item) (f : Fault) : Type 0 where
-  WrongWorldStability : IsBrokenItemStability item f → IsWrongWorld files old cs by_name worlds_by_name o item f
-  WrongWorldScope : IsWrongScope cs by_name (scope_names item) (item_functions item) f → IsWrongWorld files old cs by_name worlds_by_name o item f
-  WrongWorldHandle : IsWrongHandleNow old cs o item f → IsWrongWorld files old cs by_name worlds_by_name o item f
-  WrongWorldSides : IsBrokenSides item f → IsWrongWorld files old cs by_name worlds_by_name o item f
-  WrongWorldUse : IsBrokenUse files item f → IsWrongWorld files old cs by_name worlds_by_name o item f
-  LostLink : IsLostLink files by_name item f → IsWrongWorld files old cs by_name worlds_by_name o item f
-  LostInclude : IsLostInclude files worlds_by_name item f → IsWrongWorld files old cs by_name worlds_by_name o item f
+pub data IsWrongWorld (files : List PackageFile) (old : List TypeDef) (cs : List Cell) (count : ℕ) (inside : List Interface) (by_name worlds_by_name : Names) (o : TypeOwner) (item : Item) (f : Fault) : Type 0 where
+  WrongInline : IsWrongInline old cs count inside by_name o item f → IsWrongWorld files old cs count inside by_name worlds_by_name o item f
+  WrongWorldStability : IsBrokenItemStability item f → IsWrongWorld files old cs count inside by_name worlds_by_name o item f
+  WrongWorldScope : IsWrongScope cs by_name (scope_names item) (item_functions item) f → IsWrongWorld files old cs count inside by_name worlds_by_name o item f
+  WrongWorldHandle : IsWrongHandleNow old cs o item f → IsWrongWorld files old cs count inside by_name worlds_by_name o item f
+  WrongWorldSides : IsBrokenSides item f → IsWrongWorld files old cs count inside by_name worlds_by_name o item f
+  WrongWorldUse : IsBrokenUse files item f → IsWrongWorld files old cs count inside by_name worlds_by_name o item f
+  LostLink : IsLostLink files by_name item f → IsWrongWorld files old cs count inside by_name worlds_by_name o item f
+  LostInclude : IsLostInclude files worlds_by_name item f → IsWrongWorld files old cs count inside by_name worlds_by_name o item f
 
 -- once the interfaces among some of the items were added in the order of their places, the next item is an interface that is wrong
 pub record IsWrongAmong (files : List PackageFile) (items : List Item) (places : List ℕ) (f : Fault) : Type 0 where
@@ -223,11 +275,11 @@ pub record IsWrongWorldAmong (files : List PackageFile) (items : List Item) (pla
   pub next : IsNext items places count item
   pub sort : is_world item ≡ true
   pub mid : List TypeDef
-  pub before : List World
+  pub before : WorldArenas
   pub worlds_rs : List Required
-  pub added : AddsWorlds (map visited (foreign_interfaces files)) (map visited (foreign_worlds files)) is middle mid worlds_front before worlds_rs (worlds_of (in_order items (take count places)))
+  pub added : AddsWorlds (map visited (foreign_interfaces files)) (map visited (foreign_worlds files)) is middle mid (front_worlds worlds_front) before worlds_rs (worlds_of (in_order items (take count places)))
   pub by_name : Names
   pub index : IsIndex (cells (map visited (foreign_interfaces files)) is) by_name
   pub worlds_by_name : Names
-  pub worlds_index : IsWorldIndex (worlds_at (map visited (foreign_worlds files)) before) worlds_by_name
-  pub wrong : IsWrongWorld files mid (cells (map visited (foreign_interfaces files)) is) by_name worlds_by_name (owner.World (length before)) item f
+  pub worlds_index : IsWorldIndex (worlds_at (map visited (foreign_worlds files)) before.worlds) worlds_by_name
+  pub wrong : IsWrongWorld files mid (cells (map visited (foreign_interfaces files)) is) (length is) before.inside by_name worlds_by_name (owner.World (length before.worlds)) item f

@@ -33,7 +33,7 @@ use Rattle.wit_syntax.specs.Notes.{Notes, notes, no_docs, IsBrokenNotes}
 use Rattle.wit_arena.specs.Expr.{Expr, Prim, Use, Of, Exprs, End, More}
 use Rattle.wit_arena.specs.Meet.{Key, Def, Whole, Meeting, keys, IsMet, Meets, AreAt, Decl, Decls, IsAmong, IsMeeting, all_name_meetings, all_function_meetings, decl_of, settled}
 use Rattle.wit_syntax.specs.Fault.{Fault, fault, missing_at, missing_type_at, item_word, name_word}
-use Rattle.wit_arena.specs.Package.{At, IsInterface}
+use Rattle.wit_arena.specs.Package.{At}
 use Rattle.wit_syntax.specs.Bodies.{IsBrokenType, IsBrokenPart, IsBrokenBody}
 use Rattle.wit_syntax.specs.Function.{SourceFunction}
 use Rattle.wit_model.specs.declared.function.Function.{Function}
@@ -240,14 +240,6 @@ pub data IsWrongUse (cs : List Cell) (by_name names : Names) (from : Address) (a
 pub data IsWrongScope (cs : List Cell) (by_name : Names) (xs : List ScopeName) (fns : List SourceFunction) (f : Fault) : Type 0 where
   WrongName : (from : Address) (attributes : List Attribute) (n : UseName) → Contains xs (Used from attributes n) → IsWrongName cs by_name from n f → IsWrongScope cs by_name xs fns f
   WrongItself : IsBrokenScope xs fns f → IsWrongScope cs by_name xs fns f
-
--- an interface was added, with these names and functions
-pub record IsAddedInterface (is is' : List Interface) (id : Id) (n : Notes) (names : Names) (functions : List (List ℕ × Function)) : Type 0 where
-  pub added : Interface
-  pub last : is' ≡ is ++ added ∷ []
-  pub says : IsInterface id n added
-  pub types : added.types ≡ names
-  pub has : added.functions ≡ functions
 
 -- worlds that were resolved, at these addresses, and the places of those of the package by name
 pub record IsWorldIndex (worlds : List Address) (by_name : Names) : Type 0 where

@@ -1,5 +1,6 @@
 -- What stands on the sides of a world in a package, behind types: functions, and interfaces at their places.
 use Rattle.std.specs.Prelude.{if◌then◌else◌, ◌≡◌, ℕ, List, [], ◌∷◌, Option, Some, None, slice_get}
+use Rattle.wit_tree.specs.declared.tree.Extern.{Extern}
 use Rattle.wit_tree.specs.declared.tree.Id.{Id}
 use Rattle.wit_tree.specs.declared.tree.UsePath.{UsePath}
 use Rattle.wit_tree.specs.declared.tree.WorldSide.{WorldSide}
@@ -11,9 +12,9 @@ use Rattle.wit_model.specs.declared.world.WorldItem.{WorldItem}
 use Rattle.wit_model.specs.declared.world.WorldItem.TheVariants as item
 use Rattle.wit_syntax.specs.Address.{Address}
 use Rattle.wit_syntax.specs.Crossing.{same_side}
-use Rattle.wit_syntax.specs.Notes.{Notes, notes, docs_of}
+use Rattle.wit_syntax.specs.Notes.{Notes, notes, docs_of, no_docs, stability_of, external_id_of}
 use Rattle.wit_syntax.specs.Source.{TopName, path_id, path_scope}
-use Rattle.wit_syntax.specs.Sides.{role_side, Link, SideItem, SideFunction, SideLink}
+use Rattle.wit_syntax.specs.Sides.{role_side, Link, SideItem, SideFunction, SideLink, SideInline}
 use Rattle.wit_arena.specs.Functions.{function_item}
 
 -- an interface without a name of its own goes by its place
@@ -34,13 +35,20 @@ link_notes link = notes (docs_of link.docs) link.attributes
 abbrev pub link_item : Link → ℕ → WorldKey × WorldItem
 link_item link place = (link_key link.name place, item.Interface place (link_notes link).stability (link_notes link).external_id (link_notes link).docs (link_span link.name link.path))
 
+-- an interface that is written there, at its place: what is told of it is told of the interface, but for the name that it has elsewhere
+abbrev pub inline_entry : Extern → Id → ℕ → WorldKey × WorldItem
+inline_entry x name place = (key.Name name.name.now, item.Interface place (stability_of x.attributes.items) (external_id_of x.attributes.items) no_docs name.span)
+
 -- what stands on a side stands there in front of the others; what stands on the other one does not
 abbrev pub put_on : WorldSide → WorldSide → WorldKey × WorldItem → List (WorldKey × WorldItem) → List (WorldKey × WorldItem)
 put_on side own x xs = if same_side side own then x ∷ xs else xs
 
--- These stand on a side, where these are the written ones, and these functions were made, and the interfaces have these addresses.
-abbrev pub AreSideItems : List Address → List TopName → WorldSide → List SideItem → List Function → List (WorldKey × WorldItem) → Type 0
-AreSideItems interfaces top side [] fs xs = xs ≡ []
-AreSideItems interfaces top side (SideFunction fn ∷ written) [] xs = ⊥
-AreSideItems interfaces top side (SideFunction fn ∷ written) (f ∷ fs) xs = (rest : List (WorldKey × WorldItem)) × (xs ≡ put_on side (role_side fn.role) (function_item f) rest) × AreSideItems interfaces top side written fs rest
-AreSideItems interfaces top side (SideLink link ∷ written) fs xs = (place : ℕ) × (rest : List (WorldKey × WorldItem)) × (slice_get interfaces place ≡ Some (path_scope top link.path)) × (xs ≡ put_on side link.side (link_item link place) rest) × AreSideItems interfaces top side written fs rest
+-- These stand on a side, where these are the written ones, and these functions were made; the interfaces of the package have these addresses,
+-- and those that are written there have those.
+abbrev pub AreSideItems : List Address → List TopName → WorldSide → List SideItem → List Function → List Address → List (WorldKey × WorldItem) → Type 0
+AreSideItems interfaces top side [] fs ss xs = xs ≡ []
+AreSideItems interfaces top side (SideFunction fn ∷ written) [] ss xs = ⊥
+AreSideItems interfaces top side (SideFunction fn ∷ written) (f ∷ fs) ss xs = (rest : List (WorldKey × WorldItem)) × (xs ≡ put_on side (role_side fn.role) (function_item f) rest) × AreSideItems interfaces top side written fs ss rest
+AreSideItems interfaces top side (SideLink link ∷ written) fs ss xs = (place : ℕ) × (rest : List (WorldKey × WorldItem)) × (slice_get interfaces place ≡ Some (path_scope top link.path)) × (xs ≡ put_on side link.side (link_item link place) rest) × AreSideItems interfaces top side written fs ss rest
+AreSideItems interfaces top side (SideInline x name items ∷ written) fs [] xs = ⊥
+AreSideItems interfaces top side (SideInline x name items ∷ written) fs (s ∷ ss) xs = (place : ℕ) × (rest : List (WorldKey × WorldItem)) × (slice_get interfaces place ≡ Some s) × (xs ≡ put_on side x.side (inline_entry x name place) rest) × AreSideItems interfaces top side written fs ss rest

@@ -33,7 +33,8 @@ use Rattle.std.specs.List.{flat_map, prefix_len}
 use Rattle.wit_syntax.specs.Shape.{Shape, Word, Of, Shapes, all_handles}
 use Rattle.wit_syntax.specs.Address.{Address, same_address}
 use Rattle.wit_syntax.specs.Node.{OfScope}
-use Rattle.wit_syntax.specs.Source.{path_id, leads, TopName, Item, item_id, item_notes, address, included_scope, ScopeName, all_items, item_at, scope_names, local_name, local_id, Place, placed, Taking, takings, first_takings, scope, name_parts, source_tree}
+use Rattle.wit_syntax.specs.Source.{path_id, leads, TopName, Item, item_id, item_notes, address, included_scope, ScopeName, all_items, item_at, scope_names, local_name, local_id, Place, placed, Taking, takings, first_takings, name_parts}
+use Rattle.wit_syntax.specs.Trees.{scope, source_tree}
 use Rattle.wit_syntax.specs.Foreign.{ForeignVisit, visited_package, visited, same_item, foreign_interfaces, foreign_worlds, foreign_packages, items_of_package, visits_of}
 use Rattle.wit_arena.specs.Expr.{Expr, expr_of}
 use Rattle.wit_model.specs.declared.function.Function.{Function}
@@ -47,10 +48,10 @@ use Rattle.wit_syntax.specs.Scope.{item_rows, interfaces_of, worlds_of, includes
 use Rattle.wit_types.specs.declared.docs.Docs.{Docs}
 use Rattle.wit_syntax.specs.Notes.{docs_of, no_docs, stability_of}
 use Rattle.wit_syntax.specs.Broken.{last_header, headers}
-use Rattle.wit_syntax.specs.Sides.{FunctionKey, function_key, side_items}
+use Rattle.wit_syntax.specs.Sides.{FunctionKey, function_key, SideItem, SideFunction, SideLink, SideInline, side_items, inline_items, all_scopes}
 use Rattle.wit_arena.specs.Meet.{Key, Def, Meeting, keys, all_name_meetings, all_function_meetings, Meets, IsAt, Decls, decl_of, IsMeeting}
-use Rattle.wit_syntax.specs.Source as source
-use Rattle.wit_arena.specs.Package.{At, HasPart, IsBelow, Reaches, IsInterface, IsWorld, IsForeignInterface, IsForeignWorld, world_types, owner_of, names_of, functions_of, function_types, package_tree}
+use Rattle.wit_syntax.specs.Trees as trees
+use Rattle.wit_arena.specs.Package.{At, HasPart, IsBelow, Reaches, IsInterfaceOf, IsWorld, IsForeignInterface, IsForeignWorld, world_types, owner_of, names_of, functions_of, function_types, package_tree}
 
 -- an item, with an order of its names
 pub record Ordered : Type 0 where
@@ -72,6 +73,41 @@ pub record Turned : Type 0 where
 
 abbrev pub turned : Ordered → Turned
 turned o = record { address = address o.item; names = ordered_names o; functions = item_functions o.item }
+
+-- a world, and the interfaces that are written in it, each with an order of its names
+pub record OrderedWorld : Type 0 where
+  pub own : Ordered
+  pub inside : List Ordered
+
+abbrev pub own_item : OrderedWorld → Item
+own_item w = w.own.item
+
+-- the names of a scope, and a function of it, each by itself
+abbrev pub names_turn : Address → List ScopeName → Turned
+names_turn s xs = record { address = s; names = xs; functions = [] }
+
+abbrev pub function_turn : Address → SourceFunction → Turned
+function_turn s fn = record { address = s; names = []; functions = fn ∷ [] }
+
+-- what stands on the sides of a world, one after another: its functions, each by itself, and the interfaces that are written there, whole
+abbrev pub side_turns : Address → List SideItem → List Ordered → List Turned
+side_turns s [] os = []
+side_turns s (SideFunction fn ∷ xs) os = function_turn s fn ∷ side_turns s xs os
+side_turns s (SideLink link ∷ xs) os = side_turns s xs os
+side_turns s (SideInline x name items ∷ xs) [] = side_turns s xs []
+side_turns s (SideInline x name items ∷ xs) (o ∷ os) = turned o ∷ side_turns s xs os
+
+-- a world, as it is resolved: its names, and then what stands on its sides
+abbrev pub world_turns : OrderedWorld → List Turned
+world_turns w = names_turn (address w.own.item) (ordered_names w.own) ∷ side_turns (address w.own.item) (side_items w.own.item) w.inside
+
+-- interfaces and then worlds, as they are resolved
+abbrev pub all_turns : List Ordered → List OrderedWorld → List Turned
+all_turns is ws = map turned is ++ flat_map world_turns ws
+
+-- the interfaces that are written in worlds
+abbrev pub all_inside : List OrderedWorld → List Ordered
+all_inside ws = flat_map (λ w. w.inside) ws
 
 -- what is met in a scope: in its names, and then in its functions
 abbrev pub turn_meetings : Turned → List Meeting
@@ -105,7 +141,7 @@ pub record HasTypes (ks : List Key) (t : Turned) (types : List (List ℕ × ℕ)
 -- these are the interfaces of files, each with its names in turn, and its functions
 pub record AreInterfaces (ks : List Key) (os : List Ordered) (is : List Interface) : Type 0 where
   pub count : length is ≡ length os
-  pub says : (t : ℕ) (o : Ordered) (i : Interface) → slice_get os t ≡ Some o → slice_get is t ≡ Some i → IsInterface (item_id o.item) (item_notes o.item) i
+  pub says : (t : ℕ) (o : Ordered) (i : Interface) → slice_get os t ≡ Some o → slice_get is t ≡ Some i → IsInterfaceOf o.item i
   pub types : (t : ℕ) (o : Ordered) (i : Interface) → slice_get os t ≡ Some o → slice_get is t ≡ Some i → HasTypes ks (turned o) i.types
   pub functions : (t : ℕ) (o : Ordered) (i : Interface) → slice_get os t ≡ Some o → slice_get is t ≡ Some i → (fs : List Function) × AreFunctions ks (address o.item) (item_functions o.item) fs × (i.functions ≡ placed_functions fs)
 
@@ -132,23 +168,23 @@ pub record AreIncludes (worlds : List Address) (item : Item) (is : List WorldInc
   pub each : (k : ℕ) (written : Include) (i : WorldInclude) → slice_get (includes item) k ≡ Some written → slice_get is k ≡ Some i → IsInclude worlds item.top written i
 
 -- Behind the names of types a world has on its sides what an item has there, with functions over the types of the package, where the
--- interfaces have these addresses.
-pub record HasSides (ks : List Key) (interfaces : List Address) (o : Ordered) (w : World) : Type 0 where
+-- interfaces have these addresses, and those that are written in it have those.
+pub record HasSides (ks : List Key) (interfaces inside : List Address) (o : Ordered) (w : World) : Type 0 where
   pub functions : List Function
   pub are : AreFunctions ks (address o.item) (item_functions o.item) functions
   pub imported : List (WorldKey × WorldItem)
   pub imports : w.imports ≡ type_imports (ordered_names o) (world_types w) ++ imported
-  pub are_imported : AreSideItems interfaces o.item.top Imported (side_items o.item) functions imported
-  pub are_exported : AreSideItems interfaces o.item.top Exported (side_items o.item) functions w.exports
+  pub are_imported : AreSideItems interfaces o.item.top Imported (side_items o.item) functions inside imported
+  pub are_exported : AreSideItems interfaces o.item.top Exported (side_items o.item) functions inside w.exports
 
 -- These are the worlds of files, each with its names in turn as its imports, and then the functions and interfaces that it imports, with
 -- those that it exports, and with its includes, where the interfaces and the worlds have these addresses.
-pub record AreWorlds (ks : List Key) (interfaces worlds : List Address) (os : List Ordered) (ws : List World) : Type 0 where
+pub record AreWorlds (ks : List Key) (interfaces worlds : List Address) (os : List OrderedWorld) (ws : List World) : Type 0 where
   pub count : length ws ≡ length os
-  pub says : (t : ℕ) (o : Ordered) (w : World) → slice_get os t ≡ Some o → slice_get ws t ≡ Some w → IsWorld (item_id o.item) (item_notes o.item) w
-  pub types : (t : ℕ) (o : Ordered) (w : World) → slice_get os t ≡ Some o → slice_get ws t ≡ Some w → HasTypes ks (turned o) (world_types w)
-  pub sides : (t : ℕ) (o : Ordered) (w : World) → slice_get os t ≡ Some o → slice_get ws t ≡ Some w → HasSides ks interfaces o w
-  pub includes : (t : ℕ) (o : Ordered) (w : World) → slice_get os t ≡ Some o → slice_get ws t ≡ Some w → AreIncludes worlds o.item w.includes
+  pub says : (t : ℕ) (o : OrderedWorld) (w : World) → slice_get os t ≡ Some o → slice_get ws t ≡ Some w → IsWorld (item_id o.own.item) (item_notes o.own.item) w
+  pub types : (t : ℕ) (o : OrderedWorld) (w : World) → slice_get os t ≡ Some o → slice_get ws t ≡ Some w → HasTypes ks (turned o.own) (world_types w)
+  pub sides : (t : ℕ) (o : OrderedWorld) (w : World) → slice_get os t ≡ Some o → slice_get ws t ≡ Some w → HasSides ks interfaces (addresses o.inside) o.own w
+  pub includes : (t : ℕ) (o : OrderedWorld) (w : World) → slice_get os t ≡ Some o → slice_get ws t ≡ Some w → AreIncludes worlds o.own.item w.includes
 
 -- the names in the handles of a scope, each with the scope, in the order in which they are resolved
 abbrev pub turn_handles : Turned → List (Address × Id)
@@ -164,17 +200,17 @@ AreRequired files ks (h ∷ hs) rs = (EndsAt files h.0 h.1 AtResource × AreRequ
 abbrev pub taking_meeting : Taking → Meeting
 taking_meeting t = record { key = Def t.from t.id.name.now; span = t.id.span; given = stability_of t.attributes }
 
--- what is met in files: first what they take from other packages, then what stands in their items, in these orders
-abbrev pub all_meetings : List PackageFile → List Ordered → List Meeting
-all_meetings files os = map taking_meeting (takings files) ++ meetings (map turned os)
+-- what is met in files: first what they take from other packages, then what stands in these scopes
+abbrev pub all_meetings : List PackageFile → List Turned → List Meeting
+all_meetings files ts = map taking_meeting (takings files) ++ meetings ts
 
 -- the addresses of other packages' interfaces, and of these
 abbrev pub interface_addresses : List PackageFile → List Ordered → List Address
 interface_addresses files os = map visited (foreign_interfaces files) ++ addresses os
 
 -- the addresses of other packages' worlds, and of these
-abbrev pub world_addresses : List PackageFile → List Ordered → List Address
-world_addresses files os = map visited (foreign_worlds files) ++ addresses os
+abbrev pub world_addresses : List PackageFile → List OrderedWorld → List Address
+world_addresses files ws = map visited (foreign_worlds files) ++ map (λ w. address w.own.item) ws
 
 -- an item of another package, with the names that are taken from it
 abbrev pub foreign_turned : List PackageFile → ForeignVisit → Turned
@@ -222,7 +258,8 @@ first_docs (h ∷ hs) = if length h.docs.docs.items == 0 then first_docs hs else
 -- The package has the name and the version of the last header, and the docs of the one that has some. Its arenas begin with the items of other packages, in the order of
 -- their first visits; then they have the interfaces and the worlds in the least order in which each item comes after those that it
 -- needs, each with its used names and then its definitions in the least dependency-first order. Its arena of types is the list of first
--- meetings: of what is taken from other packages, then of all interfaces, then of all worlds.
+-- meetings: of what is taken from other packages, then of all declared interfaces, then of all worlds. Behind the declared interfaces stand
+-- those that are written in worlds.
 pub record IsPackage (files : List PackageFile) (p : UnresolvedPackage) : Type 0 where
   pub header : Header
   pub last : last_header files ≡ Some header
@@ -235,25 +272,26 @@ pub record IsPackage (files : List PackageFile) (p : UnresolvedPackage) : Type 0
   pub places : List ℕ
   pub item_order : IsOrder (item_rows files) places
   pub interfaces : List Ordered
-  pub worlds : List Ordered
+  pub worlds : List OrderedWorld
   pub all_interfaces : map item_of interfaces ≡ interfaces_of (in_order (all_items files) places)
-  pub all_worlds : map item_of worlds ≡ worlds_of (in_order (all_items files) places)
-  pub least : (t : ℕ) (o : Ordered) → slice_get (interfaces ++ worlds) t ≡ Some o → IsOrder (rows_of (scope_names o.item)) o.order
+  pub all_worlds : map own_item worlds ≡ worlds_of (in_order (all_items files) places)
+  pub inside : (t : ℕ) (w : OrderedWorld) → slice_get worlds t ≡ Some w → map item_of w.inside ≡ inline_items w.own.item
+  pub least : (t : ℕ) (o : Ordered) → slice_get (interfaces ++ (map (λ w. w.own) worlds ++ all_inside worlds)) t ≡ Some o → IsOrder (rows_of (scope_names o.item)) o.order
   pub met : List Meeting
-  pub meets : Meets [] (all_meetings files (interfaces ++ worlds)) met
-  pub meeting : IsMeeting (declarations files (interface_addresses files interfaces) (world_addresses files worlds)) met p.types
+  pub meets : Meets [] (all_meetings files (all_turns interfaces worlds)) met
+  pub meeting : IsMeeting (declarations files (interface_addresses files (interfaces ++ all_inside worlds)) (world_addresses files worlds)) met p.types
   pub foreign_front : List Interface
   pub own_interfaces : List Interface
   pub interface_arena : p.interfaces ≡ foreign_front ++ own_interfaces
   pub are_foreign_interfaces : AreForeignInterfaces files (keys met) (foreign_interfaces files) foreign_front
-  pub are_interfaces : AreInterfaces (keys met) interfaces own_interfaces
+  pub are_interfaces : AreInterfaces (keys met) (interfaces ++ all_inside worlds) own_interfaces
   pub worlds_front : List World
   pub own_worlds : List World
   pub world_arena : p.worlds ≡ worlds_front ++ own_worlds
   pub are_foreign_worlds : AreForeignWorlds (foreign_worlds files) worlds_front
-  pub are_worlds : AreWorlds (keys met) (interface_addresses files interfaces) (world_addresses files worlds) worlds own_worlds
+  pub are_worlds : AreWorlds (keys met) (interface_addresses files (interfaces ++ all_inside worlds)) (world_addresses files worlds) worlds own_worlds
   -- the types of other packages that must be resources: those at which names in handles end, of all interfaces and then of all worlds
-  pub required : AreRequired files (keys met) (flat_map turn_handles (map turned (interfaces ++ worlds))) p.required_resource_types
+  pub required : AreRequired files (keys met) (flat_map turn_handles (all_turns interfaces worlds)) p.required_resource_types
   -- two written types are one type exactly where they are one expression
   pub one : (x y : Expr) (t u : Ty) → IsAt (keys met) x t → IsAt (keys met) y u → (t ≡ u) ↔ (x ≡ y)
 
@@ -266,7 +304,7 @@ pub record HasTree (files : List PackageFile) (p : UnresolvedPackage) (o : TypeO
 
 -- the functions of a scope
 abbrev pub functions_at : List PackageFile → Address → List SourceFunction
-functions_at files s = option_map_or item_functions (item_at (all_items files) s) []
+functions_at files s = option_map_or item_functions (item_at (all_scopes files) s) []
 
 -- a function of a scope stands under its side and name among the functions of its owner, with a type for each of its own, whose tree is that at
 -- every depth
@@ -327,7 +365,7 @@ pub record IsPartOfName (files : List PackageFile) (p : UnresolvedPackage) (writ
   pub e : TypeDef
   pub part : ℕ
   pub called : owner_of p owner ≡ OfScope scope
-  pub among : slice_get (source.scope files scope) k ≡ Some x
+  pub among : slice_get (trees.scope files scope) k ≡ Some x
   pub stands : slice_get (names_of p owner) index ≡ Some (local_name x, id)
   pub entry : slice_get p.types id ≡ Some e
   pub place : slice_get (name_parts scope x) part ≡ Some written

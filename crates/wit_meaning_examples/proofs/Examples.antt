@@ -39,7 +39,8 @@ use Rattle.wit_syntax.specs.Node.{OfScope, Head, Leaf, Named, Unnamed, Tree}
 use Rattle.wit_syntax.specs.Node as node
 use Rattle.wit_syntax.specs.Address.{InterfaceNamed}
 use Rattle.wit_syntax.specs.Notes.{no_docs}
-use Rattle.wit_syntax.specs.Source.{path_id, Local, top_names, TheInterface, Item, all_items, ScopeName, Used, Defined, scope_names, source_tree}
+use Rattle.wit_syntax.specs.Source.{path_id, Local, top_names, TheInterface, Item, all_items, ScopeName, Used, Defined, scope_names}
+use Rattle.wit_syntax.specs.Trees.{source_tree}
 use Rattle.wit_arena.specs.Expr.{Prim, one}
 use Rattle.wit_arena.specs.Meet.{Def, Whole, Meeting, IsMet, Meets}
 use Rattle.wit_syntax.specs.Scope.{rows_of, item_rows, in_turn}

@@ -26,13 +26,14 @@ use Rattle.wit_syntax.specs.Form.{AliasForm, UnknownForm}
 use Rattle.wit_syntax.specs.Address.{Address, InterfaceNamed, ForeignNamed}
 use Rattle.wit_syntax.specs.Node.{OfScope, Head, Named, Tree}
 use Rattle.wit_syntax.specs.Notes.{no_docs}
-use Rattle.wit_syntax.specs.Source.{top_names, TheInterface, Item, takings, source_tree}
+use Rattle.wit_syntax.specs.Source.{top_names, TheInterface, Item, takings}
+use Rattle.wit_syntax.specs.Trees.{source_tree}
 use Rattle.wit_syntax.specs.Foreign.{foreign_items}
 use Rattle.wit_syntax.specs.Scope.{item_rows}
 use Rattle.wit_arena.specs.Meet.{Def, Meeting}
 use Rattle.wit_syntax.specs.Shape.{Word}
 use Rattle.wit_arena.specs.Package.{owner_of, package_tree}
-use Rattle.wit_arena.specs.Whole.{all_meetings, NamesOthers}
+use Rattle.wit_arena.specs.Whole.{turned, all_meetings, NamesOthers}
 use Rattle.wit_arena.specs.Resolved.{foreign_type}
 use Rattle.wit_meaning_examples.proofs.Examples.{at, id, vec, no_comments, untold, header}
 
@@ -87,7 +88,7 @@ module _ (ptr : Ptr) (alloc : Global) where
   abbrev t_met : Address → Meeting
   t_met s = record { key = Def s (codes "t"); span = at 54 55; given = Unknown }
 
-  meetings_of_files : all_meetings files (record { item = item; order = 0 ∷ [] } ∷ []) ≡ (t_met c_of_ab ∷ t_met (InterfaceNamed (codes "i")) ∷ [])
+  meetings_of_files : all_meetings files (turned (record { item = item; order = 0 ∷ [] }) ∷ []) ≡ (t_met c_of_ab ∷ t_met (InterfaceNamed (codes "i")) ∷ [])
   meetings_of_files = refl
 
   -- the package: c of a:b as an interface without a name, and then i

@@ -37,7 +37,8 @@ use Rattle.wit_syntax.specs.Form.{BorrowForm, FutureForm, FixedLengthListForm, M
 use Rattle.wit_syntax.specs.Node as node
 use Rattle.wit_syntax.specs.Address.{Address, InterfaceNamed}
 use Rattle.wit_syntax.specs.Notes.{no_docs}
-use Rattle.wit_syntax.specs.Source.{top_names, TheInterface, Item, scope_names, source_tree}
+use Rattle.wit_syntax.specs.Source.{top_names, TheInterface, Item, scope_names}
+use Rattle.wit_syntax.specs.Trees.{source_tree}
 use Rattle.wit_syntax.specs.Scope.{rows_of}
 use Rattle.wit_arena.specs.Expr.{Expr, Prim, Use, Of, End, More, one}
 use Rattle.wit_arena.specs.Meet.{Key, Def, Whole, Meeting}

@@ -127,7 +127,7 @@ module _ (ptr : Ptr) (alloc : Global) where
     abbrev met : List Meeting
     met = name_met in_i (codes "r") (at 40 41) ∷ name_met in_i (codes "a") (at 48 49) ∷ borrow_met (codes "r") (at 66 72) ∷ borrow_met (codes "a") (at 80 86) ∷ []
 
-    meetings_of_files : all_meetings files (ordered ∷ []) ≡ met
+    meetings_of_files : all_meetings files (turned ordered ∷ []) ≡ met
     meetings_of_files = refl
 
     abbrev ks : List Key
@@ -201,7 +201,7 @@ module _ (ptr : Ptr) (alloc : Global) where
     in_c = ForeignNamed (record { namespace = codes "a"; name = codes "b"; version = None }) (codes "c")
 
     -- c's r is met first, then i's, and then the handle
-    user_meetings : all_meetings user_files (user_ordered ∷ []) ≡ (name_met in_c (codes "r") (at 42 43) ∷ name_met in_i (codes "r") (at 42 43) ∷ borrow_met (codes "r") (at 57 63) ∷ [])
+    user_meetings : all_meetings user_files (turned user_ordered ∷ []) ≡ (name_met in_c (codes "r") (at 42 43) ∷ name_met in_i (codes "r") (at 42 43) ∷ borrow_met (codes "r") (at 57 63) ∷ [])
     user_meetings = refl
 
     abbrev user_keys : List Key

@@ -8,4 +8,5 @@ pub mod SignatureExamples
 pub mod RuleExamples
 pub mod SideExamples
 pub mod LinkExamples
+pub mod InlineExamples
 pub mod NotesExamples

@@ -26,7 +26,7 @@ use Rattle.wit_syntax.specs.Notes.{IsBrokenNotes}
 use Rattle.wit_syntax.specs.Repeats.{AllDiffer}
 use Rattle.wit_syntax.specs.Signature.{called_key}
 use Rattle.wit_syntax.specs.Source.{top_names, TheWorld, Item, path_scope}
-use Rattle.wit_syntax.specs.Sides.{SideItem, SideLink, Link, side_items, links, items_on, side_called, bare_scope, IsBrokenSides, FoldedTwice, CrossedTwice, LinkedTwice, LinkNotes}
+use Rattle.wit_syntax.specs.Sides.{SideItem, SideLink, Link, side_items, links, items_on, side_called, bare_scope, IsBrokenSides, FoldedTwice, CrossedTwice, LinkedTwice, LinkNotes, InlineNotes}
 use Rattle.wit_syntax.specs.Broken.{IsBroken, Sides}
 use Rattle.wit_syntax.proofs.Found.{at_contains}
 use Rattle.wit_syntax.proofs.Legal.{no_fold, no_crossed}
@@ -155,3 +155,4 @@ module _ (ptr : Ptr) (alloc : Global) where
     sides_pass f (LinkNotes own among h) =
         let it = at_contains (links several_item) own among in
         no_notes f (subst (λ (l : List Attribute). IsBrokenNotes l f) (untold_link it.0 own it.1) h)
+    sides_pass f (InlineNotes x among h) = none_among x among

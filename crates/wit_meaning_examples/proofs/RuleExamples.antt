@@ -33,7 +33,8 @@ use Rattle.wit_model.specs.declared.unresolved.UnresolvedPackage.{UnresolvedPack
 use Rattle.wit_syntax.specs.Fault.{Fault, fault}
 use Rattle.wit_syntax.specs.Address.{WorldNamed}
 use Rattle.wit_syntax.specs.Notes.{no_docs}
-use Rattle.wit_syntax.specs.Source.{top_names, TheWorld, Item, ScopeName, Defined, source_tree}
+use Rattle.wit_syntax.specs.Source.{top_names, TheWorld, Item, ScopeName, Defined}
+use Rattle.wit_syntax.specs.Trees.{source_tree}
 use Rattle.wit_syntax.specs.Shape.{Shape}
 use Rattle.wit_syntax.specs.Function.{Role, Freestanding, SourceFunction, functions, signature}
 use Rattle.wit_tree.specs.declared.tree.WorldSide.TheVariants.{Imported}

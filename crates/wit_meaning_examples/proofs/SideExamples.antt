@@ -1,5 +1,5 @@
 -- Worked rows about functions that a world imports and exports.
-use Rattle.std.proofs.Common.{◌≡◌, ℕ, zero, suc, List, [], ◌∷◌, length, map, Some, None, inl, inr, refl, sym, ap, ◌∙◌, subst, arith, lit<, Contains}
+use Rattle.std.proofs.Common.{◌≡◌, ℕ, zero, suc, List, [], ◌∷◌, map, Some, None, inl, inr, refl, subst, arith, lit<, Contains}
 use Rattle.std.specs.Prelude.{codes, slice_get}
 use Rattle.std.specs.declared.alloc.Global.{Global}
 use denote.RawPtr.{Ptr}
@@ -30,11 +30,11 @@ use Rattle.wit_order.specs.Table.{IsOrder}
 use Rattle.wit_syntax.specs.Fault.{Fault, fault}
 use Rattle.wit_syntax.specs.Notes.{no_docs, IsBrokenStability, SinceTwice, DeprecatedTwice, UnstableTwice, SinceAndUnstable, DeprecatedAlone, IsBrokenNotes}
 use Rattle.wit_syntax.specs.Repeats.{AllDiffer}
-use Rattle.wit_syntax.specs.Source.{top_names, TheWorld, Item, Defined, scope_names, Crossing, parts}
-use Rattle.wit_syntax.specs.Function.{SourceFunction, side_function, extern_functions, functions, free_names}
+use Rattle.wit_syntax.specs.Source.{top_names, TheWorld, Item, Defined, scope_names}
+use Rattle.wit_syntax.specs.Function.{SourceFunction, side_function, functions, free_names}
 use Rattle.wit_syntax.specs.Signature.{called_key, IsBrokenFunction, BrokenNotes, BrokenTypes, FunctionAsType, MissingInSignature, GetterGiven, SetterGiven, DuplicateParam, GetterWithoutResult, SetterWithResult, ConstructorWithoutResult, ConstructorOfOther}
-use Rattle.wit_syntax.specs.Sides.{SideItem, SideFunction, SideLink, Link, side_items, items_on, side_called, IsFoldedTwice, IsCrossedTwice, IsBrokenSides, FoldedTwice, CrossedTwice, LinkedTwice, LinkNotes}
-use Rattle.wit_syntax.specs.Broken.{IsBrokenScope, DefinedTwice, MissingType, CyclicType, Notes, Body, Function, IsUnread, IsBroken, Sides}
+use Rattle.wit_syntax.specs.Sides.{SideItem, SideFunction, SideLink, Link, side_items, items_on, side_called, IsFoldedTwice, IsCrossedTwice, IsBrokenSides, FoldedTwice, CrossedTwice, LinkedTwice, LinkNotes, InlineNotes}
+use Rattle.wit_syntax.specs.Broken.{IsBrokenScope, DefinedTwice, MissingType, CyclicType, Notes, Body, Function, IsBroken, Sides}
 use Rattle.wit_syntax.proofs.Found.{at_contains}
 use Rattle.wit_syntax.proofs.Legal.{no_fold, no_crossed}
 use Rattle.wit_arena.specs.Functions.{function_item, made_on}
@@ -108,12 +108,6 @@ module _ (ptr : Ptr) (alloc : Global) where
   abbrev plain : WorldSide → Span → Span → SourceFunction
   plain side name word = side_function side (no_comments ptr alloc) [] (f_at name) (plain_func word)
 
-  is_crossing : (x y : Extern) → x ≡ y → extern_functions y y.kind ≡ [] → length (extern_functions x x.kind) ≡ 1 → ⊥
-  is_crossing x y same none one =
-      let wrong : suc zero ≡ zero = sym one ∙ ap (λ (z : Extern). length (extern_functions z z.kind)) same ∙ ap length none in
-      let f : ⊥ = cc in
-      f
-
   -- import f: func(); import F: func();
   module _ where
     abbrev folding : WrittenWorld
@@ -184,6 +178,7 @@ module _ (ptr : Ptr) (alloc : Global) where
     sides_pass f (CrossedTwice h) = no_crossed [] items [] f no_rows keys_of h
     sides_pass f (LinkedTwice h) = no_link h.side h.place h.link h.at
     sides_pass f (LinkNotes link among h) = none_among link among
+    sides_pass f (InlineNotes x among h) = none_among x among
 
     -- a function without parameters and result breaks no rule of functions
     none_in : (side : WorldSide) (name word : Span) (k : ℕ) (f : Fault) → IsBrokenFunction [] fns k (plain side name word) f → ⊥
@@ -212,15 +207,6 @@ module _ (ptr : Ptr) (alloc : Global) where
     none_broken f (Notes d among h) = none_among (Defined d) among
     none_broken f (Body d among h) = none_among (Defined d) among
     none_broken f (Function k fn at_k h) = none_at k fn at_k f h
-
-    -- and both functions are treated
-    is_function : (k : ℕ) (x : Extern) → slice_get (parts (item_of passing)) k ≡ Some (Crossing x) → extern_functions x x.kind ≡ [] → ⊥
-    is_function zero x here none = is_crossing (crossing Imported (f_at (at 34 35)) (at 37 41)) x (let same : crossing Imported (f_at (at 34 35)) (at 37 41) ≡ x = cc in same) none refl
-    is_function (suc zero) x here none = is_crossing (crossing Exported (f_at (at 52 53)) (at 55 59)) x (let same : crossing Exported (f_at (at 52 53)) (at 55 59) ≡ x = cc in same) none refl
-    is_function (suc (suc k)) x here none = let g : ⊥ = cc in g
-
-    none_unread : (f : Fault) → IsUnread (item_of passing) f → ⊥
-    none_unread f h = let it = at_contains (parts (item_of passing)) (Crossing h.x) h.among in is_function it.0 h.x it.1 h.no_function
 
     -- the functions of the package, by where they are written
     abbrev made : Span → Made

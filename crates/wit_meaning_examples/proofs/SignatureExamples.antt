@@ -42,10 +42,10 @@ use Rattle.wit_syntax.specs.Function.{SourceFunction, functions, free_names}
 use Rattle.wit_arena.specs.Functions.{placed_functions}
 use Rattle.wit_syntax.specs.Signature.{Called, called_key, FunctionAsType, DuplicateParam, SetterWithResult, ConstructorOfOther, IsWrittenAs, result_ok}
 use Rattle.wit_tree.specs.declared.tree.WorldSide.TheVariants.{Imported}
-use Rattle.wit_syntax.specs.Sides.{side_items, side_called, FoldedTwice}
+use Rattle.wit_syntax.specs.Sides.{side_items, all_scopes, side_called, FoldedTwice}
 use Rattle.wit_syntax.specs.Broken.{IsBrokenScope, MissingType, Function, IsBroken, Scope, Sides, FunctionUsed, Setter}
 use Rattle.wit_arena.specs.Whole.{turned, meetings}
-use Rattle.wit_syntax.proofs.Found.{at_contains}
+use Rattle.wit_syntax.proofs.Found.{contains_at, at_contains}
 use Rattle.wit_meaning_examples.proofs.Examples.{at, id, vec, no_comments, untold, header}
 
 -- a scope of one name that needs none has one order
@@ -108,7 +108,7 @@ module _ (ptr : Ptr) (alloc : Global) where
 
   -- what is broken in its scope is broken
   pub in_scope : (i : Interface) (f : Fault) → IsBrokenScope (scope_names (item_of i)) (functions (item_of i)) f → IsBroken (file_of i ∷ []) f
-  in_scope i f broken = Scope (item_of i) (0, lit< tt, refl) broken
+  in_scope i f broken = Scope (item_of i) (contains_at (all_scopes (file_of i ∷ [])) 0 (item_of i) refl) broken
 
   abbrev pub f_id : Span → Id
   f_id span = id ptr alloc (codes "f") span refl

@@ -34,7 +34,8 @@ use Rattle.wit_syntax.specs.Node.{OfScope, Head, Leaf, Named}
 use Rattle.wit_syntax.specs.Node as node
 use Rattle.wit_syntax.specs.Address.{Address, InterfaceNamed, WorldNamed}
 use Rattle.wit_syntax.specs.Notes.{no_docs}
-use Rattle.wit_syntax.specs.Source.{TheInterface, TheWorld, Item, top_names, all_items, Used, Defined, scope_names, source_tree}
+use Rattle.wit_syntax.specs.Source.{TheInterface, TheWorld, Item, top_names, all_items, Used, Defined, scope_names}
+use Rattle.wit_syntax.specs.Trees.{source_tree}
 use Rattle.wit_arena.specs.Meet.{Def, Meeting}
 use Rattle.wit_syntax.specs.Scope.{in_order, item_rows, interfaces_of, worlds_of}
 use Rattle.wit_syntax.specs.Shape.{Word}

@@ -1,10 +1,13 @@
 -- Versions, packages and addresses: the same ones are equal.
-use Rattle.std.proofs.Common.{◌≡◌, ℕ, true, List, Option, Some, None, nat_eq, refl, ap, ◌∙◌, eqb-true, eq-eqb}
+use Rattle.std.proofs.Common.{◌≡◌, ℕ, true, ◌&&◌, List, Option, Some, None, nat_eq, refl, ap, ◌∙◌, eqb-true, eq-eqb}
 use Rattle.std.specs.Str.{bytes_eq}
 use Rattle.std.proofs.lemmas.Bool.{and_parts, and_from}
 use Rattle.wit_values.specs.declared.release.Release.{Release}
 use Rattle.wit_package_names.specs.declared.package_name.PackageName.{PackageName}
-use Rattle.wit_syntax.specs.Address.{Address, InterfaceNamed, WorldNamed, ForeignNamed, same_release, same_version, same_package, same_address}
+use Rattle.wit_tree.specs.declared.tree.WorldSide.{WorldSide}
+use Rattle.wit_tree.specs.declared.tree.WorldSide.TheVariants.{Imported, Exported}
+use Rattle.wit_syntax.specs.Crossing.{same_side}
+use Rattle.wit_syntax.specs.Address.{Address, InterfaceNamed, WorldNamed, InlineAt, ForeignNamed, same_release, same_version, same_package, same_address}
 use Rattle.wit_syntax.proofs.Names.{name_itself, name_equal}
 
 number_itself : (n : ℕ) → nat_eq n n ≡ true
@@ -55,19 +58,41 @@ same_package-equal a b h =
     ∙ ap (λ x. named b.namespace x a.version) (name_equal a.name b.name two.0)
     ∙ ap (λ x. named b.namespace b.name x) (same_version-equal a.version b.version two.1)
 
+-- a side is itself, and no other
+pub side_itself : (side : WorldSide) → same_side side side ≡ true
+side_itself Imported = refl
+side_itself Exported = refl
+
+pub same_side-equal : (a b : WorldSide) → same_side a b ≡ true → a ≡ b
+same_side-equal Imported Imported same = refl
+same_side-equal Imported Exported same = absurd (let f : ⊥ = cc in f)
+same_side-equal Exported Imported same = absurd (let f : ⊥ = cc in f)
+same_side-equal Exported Exported same = refl
+
 pub same_address-itself : (a : Address) → same_address a a ≡ true
 same_address-itself (InterfaceNamed a) = name_itself a
 same_address-itself (WorldNamed a) = name_itself a
+same_address-itself (InlineAt a s i) = and_from (bytes_eq a a) (same_side s s && nat_eq i i) (name_itself a) (and_from (same_side s s) (nat_eq i i) (side_itself s) (number_itself i))
 same_address-itself (ForeignNamed p a) = and_from (same_package p p) (bytes_eq a a) (same_package-itself p) (name_itself a)
 
 pub same_address-equal : (a b : Address) → same_address a b ≡ true → a ≡ b
 same_address-equal (InterfaceNamed a) (InterfaceNamed b) h = ap InterfaceNamed (name_equal a b h)
 same_address-equal (WorldNamed a) (WorldNamed b) h = ap WorldNamed (name_equal a b h)
+same_address-equal (InlineAt a s i) (InlineAt b t j) h =
+    let one = and_parts (bytes_eq a b) (same_side s t && nat_eq i j) h in
+    let two = and_parts (same_side s t) (nat_eq i j) one.1 in
+    ap (λ x. InlineAt x s i) (name_equal a b one.0) ∙ ap (λ x. InlineAt b x i) (same_side-equal s t two.0) ∙ ap (InlineAt b t) (number_equal i j two.1)
 same_address-equal (ForeignNamed p a) (ForeignNamed q b) h =
     let both = and_parts (same_package p q) (bytes_eq a b) h in
     ap (λ x. ForeignNamed x a) (same_package-equal p q both.0) ∙ ap (ForeignNamed q) (name_equal a b both.1)
 same_address-equal (InterfaceNamed a) (WorldNamed b) h = absurd (let f : ⊥ = cc in f)
 same_address-equal (InterfaceNamed a) (ForeignNamed q b) h = absurd (let f : ⊥ = cc in f)
+same_address-equal (InterfaceNamed a) (InlineAt b t j) h = absurd (let f : ⊥ = cc in f)
+same_address-equal (WorldNamed a) (InlineAt b t j) h = absurd (let f : ⊥ = cc in f)
+same_address-equal (ForeignNamed p a) (InlineAt b t j) h = absurd (let f : ⊥ = cc in f)
+same_address-equal (InlineAt a s i) (InterfaceNamed b) h = absurd (let f : ⊥ = cc in f)
+same_address-equal (InlineAt a s i) (WorldNamed b) h = absurd (let f : ⊥ = cc in f)
+same_address-equal (InlineAt a s i) (ForeignNamed q b) h = absurd (let f : ⊥ = cc in f)
 same_address-equal (WorldNamed a) (InterfaceNamed b) h = absurd (let f : ⊥ = cc in f)
 same_address-equal (WorldNamed a) (ForeignNamed q b) h = absurd (let f : ⊥ = cc in f)
 same_address-equal (ForeignNamed p a) (InterfaceNamed b) h = absurd (let f : ⊥ = cc in f)

@@ -23,13 +23,13 @@ use Rattle.wit_syntax.specs.Function.{SourceFunction, definition_functions, exte
 use Rattle.wit_syntax.specs.Signature.{Called, called_key, name_called, function_called}
 use Rattle.wit_tree.specs.declared.tree.WorldSide.{WorldSide}
 use Rattle.wit_syntax.specs.Crossing.{same_side}
-use Rattle.wit_syntax.specs.Sides.{role_side, function_key, names_on, SideItem, SideFunction, SideLink, extern_items, part_items, side_items, item_function, item_side, items_on, item_called, side_called, IsFoldedTwice, IsCrossedTwice}
+use Rattle.wit_syntax.specs.Sides.{role_side, function_key, names_on, SideItem, SideFunction, SideLink, SideInline, extern_items, part_items, side_items, item_function, item_side, items_on, item_called, side_called, IsFoldedTwice, IsCrossedTwice}
 use Rattle.wit_syntax.specs.Broken.{IsMissingEdge, IsCyclicEdge}
 use Rattle.wit_syntax.specs.Repeats.{AllDiffer}
 use Rattle.wit_syntax.proofs.Repeated.{no_repeat, differ_by, differ_at}
 use Rattle.wit_syntax.proofs.Lists.{at_front, at_back, flat_map_has}
 use Rattle.wit_syntax.proofs.Found.{at_contains}
-use Rattle.wit_syntax.proofs.Sides.{side_itself}
+use Rattle.wit_syntax.proofs.Addresses.{side_itself}
 
 -- no edge of an ordered table is missing
 pub no_missing_edge : (told : Id → Fault) (rs : List Row) (places : List ℕ) (f : Fault) → IsOrder rs places → IsMissingEdge told rs f → ⊥
@@ -102,6 +102,10 @@ function_on side (SideLink link ∷ items) i x at own =
     let it = function_on side items i x at own in
     let more = called_behind side (SideLink link) items in
     (more.0 + it.0, more.1 it.0 (function_called x) it.1)
+function_on side (SideInline y name inner ∷ items) i x at own =
+    let it = function_on side items i x at own in
+    let more = called_behind side (SideInline y name inner) items in
+    (more.0 + it.0, more.1 it.0 (function_called x) it.1)
 function_on side (SideFunction fn ∷ items) zero x at own =
     let here : fn ≡ x = cc in
     (0, ap (λ l. slice_get l 0) (called_first side (SideFunction fn) items (ap (λ (g : SourceFunction). role_side g.role) here ∙ own)) ∙ ap (λ g. Some (function_called g)) here)
@@ -117,6 +121,11 @@ functions_on side (SideLink link ∷ items) i j x y before at_x at_y own_x own_y
     let it = functions_on side items i j x y before at_x at_y own_x own_y in
     let lt = it.2 in
     let more = called_behind side (SideLink link) items in
+    (more.0 + it.0, more.0 + it.1, omega (arith, lt), more.1 it.0 (function_called x) it.3, more.1 it.1 (function_called y) it.4)
+functions_on side (SideInline z name inner ∷ items) i j x y before at_x at_y own_x own_y =
+    let it = functions_on side items i j x y before at_x at_y own_x own_y in
+    let lt = it.2 in
+    let more = called_behind side (SideInline z name inner) items in
     (more.0 + it.0, more.0 + it.1, omega (arith, lt), more.1 it.0 (function_called x) it.3, more.1 it.1 (function_called y) it.4)
 functions_on side (SideFunction fn ∷ items) i zero x y before at_x at_y own_x own_y = absurd (let f : ⊥ = omega (arith, before) in f)
 functions_on side (SideFunction fn ∷ items) zero (suc j) x y before at_x at_y own_x own_y =

@@ -15,3 +15,5 @@ pub mod Sides
 pub mod Legal
 pub mod Headers
 pub mod Externs
+pub mod Inline
+pub mod Scopes

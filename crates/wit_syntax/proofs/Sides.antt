@@ -14,13 +14,14 @@ use Rattle.wit_tree.specs.declared.tree.InterfaceItem.{InterfaceItem}
 use Rattle.wit_tree.specs.declared.tree.InterfaceItem.TheVariants as interface_item
 use Rattle.wit_tree.specs.declared.tree.WorldSide.{WorldSide}
 use Rattle.wit_tree.specs.declared.tree.WorldSide.TheVariants.{Imported, Exported}
-use Rattle.wit_syntax.specs.Source.{Declared, TheInterface, TheWorld, is_declared_world, declared_parts, interface_part, Item, is_world}
+use Rattle.wit_syntax.specs.Source.{Declared, TheInterface, TheWorld, TheInline, is_declared_world, declared_parts, interface_part, Item, is_world}
 use Rattle.wit_syntax.specs.Function.{SourceFunction, free_function, resource_function, definition_functions, part_functions, functions}
 use Rattle.wit_syntax.specs.Crossing.{same_side}
 use Rattle.wit_syntax.specs.Signature.{Called, function_called}
 use Rattle.wit_syntax.specs.Sides.{role_side, on_side, SideItem, SideFunction, part_items, side_items, item_link, links, items_on, item_called}
 use Rattle.wit_syntax.proofs.Lists.{flat_map_at, map_at}
 use Rattle.wit_syntax.proofs.Kept.{kept_has}
+use Rattle.wit_syntax.proofs.Addresses.{side_itself}
 
 -- a test keeps all that pass it, and nothing of those that fail it
 pub kept_all : {X : Type 0} (test : X → Bool) (xs : List X) → ((i : ℕ) (x : X) → slice_get xs i ≡ Some x → test x ≡ true) → filter test xs ≡ xs
@@ -51,17 +52,6 @@ kept_both test (z ∷ zs) (suc i) (suc j) x y before at_x at_y pass_x pass_y =
           let kept : filter test (z ∷ zs) ≡ filter test zs = cond-false (test z) (z ∷ filter test zs) (filter test zs) miss in
           (it.0, it.1, lt, ap (λ l. slice_get l it.0) kept ∙ it.3, ap (λ l. slice_get l it.1) kept ∙ it.4))
     ]
-
--- a side is itself, and no other
-pub side_itself : (side : WorldSide) → same_side side side ≡ true
-side_itself Imported = refl
-side_itself Exported = refl
-
-pub same_side-equal : (a b : WorldSide) → same_side a b ≡ true → a ≡ b
-same_side-equal Imported Imported same = refl
-same_side-equal Imported Exported same = absurd (let f : ⊥ = cc in f)
-same_side-equal Exported Imported same = absurd (let f : ⊥ = cc in f)
-same_side-equal Exported Exported same = refl
 
 -- those of two lists, one behind the other, and one more
 pub on_side-append : (side : WorldSide) (xs ys : List SourceFunction) → on_side side (xs ++ ys) ≡ on_side side xs ++ on_side side ys
@@ -111,6 +101,7 @@ interface_exported items = kept_none (λ fn. same_side Exported (role_side fn.ro
 declared_imported : (d : Declared) → is_declared_world d ≡ false → (k : ℕ) (fn : SourceFunction) → slice_get (flat_map part_functions (declared_parts d)) k ≡ Some fn → role_side fn.role ≡ Imported
 declared_imported (TheInterface i) own k fn at = interface_side i.items.items k fn at
 declared_imported (TheWorld w) own k fn at = absurd (let f : ⊥ = cc in f)
+declared_imported (TheInline world place x name items) own k fn at = interface_side items k fn at
 
 pub functions_imported : (i : Item) → is_world i ≡ false → (k : ℕ) (fn : SourceFunction) → slice_get (functions i) k ≡ Some fn → role_side fn.role ≡ Imported
 functions_imported i own k fn at = declared_imported i.declared own k fn at
@@ -139,6 +130,7 @@ interface_functions (i ∷ items) =
 declared_functions : (d : Declared) → is_declared_world d ≡ false → flat_map part_items (declared_parts d) ≡ map SideFunction (flat_map part_functions (declared_parts d))
 declared_functions (TheInterface i) own = interface_functions i.items.items
 declared_functions (TheWorld w) own = absurd (let f : ⊥ = cc in f)
+declared_functions (TheInline world place x name items) own = interface_functions items
 
 pub side_items_functions : (i : Item) → is_world i ≡ false → side_items i ≡ map SideFunction (functions i)
 side_items_functions i own = declared_functions i.declared own

@@ -6,12 +6,16 @@ use Rattle.semver.specs.Identifiers.{pre_text, build_text}
 use Rattle.semver.specs.declared.Version.{Version}
 use Rattle.wit_values.specs.declared.release.Release.{Release}
 use Rattle.wit_tree.specs.declared.tree.PackageName.{PackageName as Written}
+use Rattle.wit_tree.specs.declared.tree.WorldSide.{WorldSide}
 use Rattle.wit_package_names.specs.declared.package_name.PackageName.{PackageName}
+use Rattle.wit_syntax.specs.Crossing.{same_side}
 
--- a scope: the declared interface, or the declared world, of a name, or the item of that name in another package
+-- a scope: the declared interface, or the declared world, of a name; the interface that is written in a world, at a place on a side of it; or
+-- the item of a name in another package
 pub data Address : Type 0 where
   InterfaceNamed : (name : List ℕ) → Address
   WorldNamed : (name : List ℕ) → Address
+  InlineAt : (world : List ℕ) (side : WorldSide) (place : ℕ) → Address
   ForeignNamed : (of : PackageName) (name : List ℕ) → Address
 
 -- a version that is written
@@ -41,6 +45,7 @@ same_package a b = bytes_eq a.namespace b.namespace && (bytes_eq a.name b.name &
 abbrev pub same_address : Address → Address → Bool
 same_address (InterfaceNamed a) (InterfaceNamed b) = bytes_eq a b
 same_address (WorldNamed a) (WorldNamed b) = bytes_eq a b
+same_address (InlineAt a s i) (InlineAt b t j) = bytes_eq a b && (same_side s t && nat_eq i j)
 same_address (ForeignNamed p a) (ForeignNamed q b) = same_package p q && bytes_eq a b
 same_address _ _ = false
 
@@ -48,4 +53,5 @@ same_address _ _ = false
 abbrev pub is_foreign : Address → Bool
 is_foreign (InterfaceNamed name) = false
 is_foreign (WorldNamed name) = false
+is_foreign (InlineAt world side place) = false
 is_foreign (ForeignNamed p name) = true

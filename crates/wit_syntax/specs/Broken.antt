@@ -6,8 +6,6 @@ use Rattle.semver.specs.Identifiers.{parts_of}
 use Rattle.wit_tree.specs.declared.error.ParseError.{ParseError}
 use Rattle.wit_tree.specs.Refusal.{IsWantOfMemory}
 use Rattle.wit_tree.specs.declared.tree.Id.{Id}
-use Rattle.wit_tree.specs.declared.tree.Extern.{Extern}
-use Rattle.wit_tree.specs.Externs.{extern_span}
 use Rattle.wit_tree.specs.declared.tree.Attribute.{Attribute}
 use Rattle.wit_tree.specs.declared.tree.Use.{Use as WrittenUse}
 use Rattle.wit_tree.specs.declared.tree.Include.{Include}
@@ -24,12 +22,12 @@ use Rattle.wit_syntax.specs.Notes.{IsBrokenStability, IsBrokenNotes}
 use Rattle.wit_syntax.specs.Bodies.{IsRepeated, IsBrokenBody}
 use Rattle.wit_syntax.specs.Fault.{Fault, fault_of, fault, missing_at, missing_type_at, cyclic_at, item_word, type_word, name_word}
 use Rattle.wit_syntax.specs.Address.{Address, ForeignNamed}
-use Rattle.wit_syntax.specs.Source.{path_id, Target, Local, Foreign, path_target, leads, TopName, top_names, top_text, Item, item_id, item_name, declared_attributes, is_world, all_items, item_named, item_at, ScopeName, Used, Defined, local_id, local_name, scope_names, meaning, address, Crossing, parts}
+use Rattle.wit_syntax.specs.Source.{path_id, Target, Local, Foreign, path_target, leads, TopName, top_names, top_text, Item, item_id, item_name, declared_attributes, is_world, all_items, item_named, item_at, ScopeName, Used, Defined, local_id, local_name, scope_names, meaning, address}
 use Rattle.wit_syntax.specs.Foreign.{ForeignVisit, foreign_visits, is_foreign_world, foreign_at}
-use Rattle.wit_syntax.specs.Function.{SourceFunction, extern_functions, functions, free_names, item_types}
-use Rattle.wit_syntax.specs.Crossing.{extern_paths}
-use Rattle.wit_syntax.specs.Sides.{IsBrokenSides}
-use Rattle.wit_syntax.specs.Signature.{IsBrokenFunction, IsNoResource, IsUnpairedSetter}
+use Rattle.wit_syntax.specs.Function.{SourceFunction, functions, free_names, item_types}
+use Rattle.wit_syntax.specs.Sides.{all_scopes, IsBrokenSides}
+use Rattle.wit_syntax.specs.Signature.{IsBrokenFunction, IsUnpairedSetter}
+use Rattle.wit_syntax.specs.Ends.{IsNoResource}
 use Rattle.wit_syntax.specs.Scope.{use_paths, include_paths, uses, includes, item_rows, rows_of, used, defined}
 
 -- no file has a header
@@ -244,30 +242,21 @@ pub record IsSetterAlone (i : Item) (f : Fault) : Type 0 where
   pub interface : is_world i ≡ false
   pub alone : IsUnpairedSetter (functions i) f
 
--- an interface that is written in a world is read, but not treated yet
-pub record IsUnread (i : Item) (f : Fault) : Type 0 where
-  pub x : Extern
-  pub among : Contains (parts i) (Crossing x)
-  pub no_function : extern_functions x x.kind ≡ []
-  pub no_path : extern_paths x.kind ≡ []
-  pub is : f ≡ fault 54 (extern_span x.kind)
-
 -- what is wrong with files
 pub data IsBroken (files : List PackageFile) (f : Fault) : Type 0 where
   Headerless : IsHeaderless files f → IsBroken files f
-  Unread : (i : Item) → Contains (all_items files) i → IsUnread i f → IsBroken files f
   Names : IsBrokenNames files f → IsBroken files f
   ItemStability : (i : Item) → Contains (all_items files) i → IsBrokenStability (declared_attributes i.declared) f → IsBroken files f
   UseNotes : (i : Item) → Contains (all_items files) i → (u : WrittenUse) → Contains (uses i) u → IsBrokenNotes u.attributes.items f → IsBroken files f
   IncludeStability : (i : Item) → Contains (all_items files) i → (n : Include) → Contains (includes i) n → IsBrokenStability n.attributes.items f → IsBroken files f
   Use : (i : Item) → Contains (all_items files) i → IsBrokenUse files i f → IsBroken files f
   InterfaceIncluded : (i : Item) → Contains (all_items files) i → IsInterfaceIncluded files i f → IsBroken files f
-  MissingName : (i : Item) → Contains (all_items files) i → IsMissingName files (scope_names i) f → IsBroken files f
-  FunctionUsed : (i : Item) → Contains (all_items files) i → IsFunctionUsed files (scope_names i) f → IsBroken files f
-  Scope : (i : Item) → Contains (all_items files) i → IsBrokenScope (scope_names i) (functions i) f → IsBroken files f
-  Sides : (i : Item) → Contains (all_items files) i → IsBrokenSides i f → IsBroken files f
-  Handle : (i : Item) → Contains (all_items files) i → IsHandleBroken files i f → IsBroken files f
-  Setter : (i : Item) → Contains (all_items files) i → IsSetterAlone i f → IsBroken files f
+  MissingName : (i : Item) → Contains (all_scopes files) i → IsMissingName files (scope_names i) f → IsBroken files f
+  FunctionUsed : (i : Item) → Contains (all_scopes files) i → IsFunctionUsed files (scope_names i) f → IsBroken files f
+  Scope : (i : Item) → Contains (all_scopes files) i → IsBrokenScope (scope_names i) (functions i) f → IsBroken files f
+  Sides : (i : Item) → Contains (all_scopes files) i → IsBrokenSides i f → IsBroken files f
+  Handle : (i : Item) → Contains (all_scopes files) i → IsHandleBroken files i f → IsBroken files f
+  Setter : (i : Item) → Contains (all_scopes files) i → IsSetterAlone i f → IsBroken files f
 
 -- no rule is broken
 abbrev pub IsLegal : List PackageFile → Type 0

@@ -1,5 +1,9 @@
--- What a world imports or exports: the side that it stands on, and the path of an interface that it gives.
+-- What a world imports or exports: the side that it stands on, the path of an interface that it gives, and the uses that are written in it.
 use Rattle.std.specs.Prelude.{Bool, true, false, List, [], ◌∷◌}
+use Rattle.std.specs.List.{flat_map}
+use Rattle.wit_tree.specs.declared.tree.InterfaceItem.{InterfaceItem}
+use Rattle.wit_tree.specs.declared.tree.InterfaceItem.TheVariants as interface_item
+use Rattle.wit_tree.specs.declared.tree.Use.{Use}
 use Rattle.wit_tree.specs.declared.tree.UsePath.{UsePath}
 use Rattle.wit_tree.specs.declared.tree.ExternKind.{ExternKind}
 use Rattle.wit_tree.specs.declared.tree.ExternKind.TheVariants as extern
@@ -19,3 +23,15 @@ extern_paths (extern.Interface name items) = []
 extern_paths (extern.Path path) = path ∷ []
 extern_paths (extern.Func name f) = []
 extern_paths (extern.NamedPath name path) = path ∷ []
+
+abbrev pub item_uses : InterfaceItem → List Use
+item_uses (interface_item.TypeDef d) = []
+item_uses (interface_item.Use u) = u ∷ []
+item_uses (interface_item.Func f) = []
+
+-- the uses of an interface that is written there
+abbrev pub inline_uses : ExternKind → List Use
+inline_uses (extern.Interface name items) = flat_map item_uses items.items
+inline_uses (extern.Path path) = []
+inline_uses (extern.Func name f) = []
+inline_uses (extern.NamedPath name path) = []

@@ -1,12 +1,14 @@
 -- Where names end, through uses and definitions that are other words for a type.
-use Rattle.std.specs.Prelude.{◌≡◌, ℕ, zero, suc, List, [], ◌∷◌, Option, Some, None}
+use Rattle.std.specs.Prelude.{◌≡◌, ℕ, zero, suc, List, [], ◌∷◌, Option, Some, None, Contains}
 use Rattle.wit_tree.specs.declared.tree.Id.{Id}
 use Rattle.wit_tree.specs.declared.tree.PackageFile.{PackageFile}
+use Rattle.wit_tree.specs.declared.tree.«Type».{«Type» as Written}
 use Rattle.wit_syntax.specs.Form.{Form, AliasForm, ResourceForm, UnknownForm}
 use Rattle.wit_syntax.specs.Address.{Address}
 use Rattle.wit_syntax.specs.Node.{Owner, OfScope, Nobody, Head, Node, Leaf, Named, Unnamed, Nothing, Tree}
-use Rattle.wit_syntax.specs.Shape.{Word}
-use Rattle.wit_syntax.specs.Source.{source_tree}
+use Rattle.wit_syntax.specs.Shape.{Word, all_handles}
+use Rattle.wit_syntax.specs.Fault.{Fault, fault}
+use Rattle.wit_syntax.specs.Trees.{source_tree}
 
 -- a resource, a name of another package, or anything else
 pub data End : Type 0 where
@@ -42,3 +44,10 @@ tree_end (suc n) t = node_end (tree_end n) t
 pub record EndsAt (files : List PackageFile) (s : Address) (id : Id) (end : End) : Type 0 where
   pub levels : ℕ
   pub is : tree_end levels (source_tree files levels (s, Word id)) ≡ Some end
+
+-- a name in a handle ends at no resource
+pub record IsNoResource (files : List PackageFile) (s : Address) (types : List Written) (f : Fault) : Type 0 where
+  pub id : Id
+  pub among : Contains (all_handles types) id
+  pub ends : EndsAt files s id Elsewhere
+  pub is : f ≡ fault 27 id.span

@@ -4,6 +4,7 @@ use Rattle.std.specs.List.{flat_map, filter}
 use Rattle.wit_tree.specs.declared.tree.Id.{Id}
 use Rattle.wit_tree.specs.declared.tree.Attribute.{Attribute}
 use Rattle.wit_tree.specs.declared.tree.PackageName.{PackageName as Written}
+use Rattle.wit_tree.specs.declared.tree.Extern.{Extern}
 use Rattle.wit_tree.specs.declared.tree.UsePath.{UsePath}
 use Rattle.wit_tree.specs.declared.tree.UsePath.TheVariants as path
 use Rattle.wit_tree.specs.declared.tree.AstItem.{AstItem}
@@ -12,7 +13,7 @@ use Rattle.wit_tree.specs.declared.tree.PackageFile.{PackageFile}
 use Rattle.wit_package_names.specs.declared.package_name.PackageName.{PackageName}
 use Rattle.wit_tree.specs.declared.tree.WorldSide.{WorldSide}
 use Rattle.wit_tree.specs.declared.tree.WorldSide.TheVariants.{Imported, Exported}
-use Rattle.wit_syntax.specs.Crossing.{same_side, extern_paths}
+use Rattle.wit_syntax.specs.Crossing.{same_side, extern_paths, inline_uses}
 use Rattle.wit_syntax.specs.Address.{Address, ForeignNamed, package_of, same_package, same_address}
 use Rattle.wit_syntax.specs.Repeats.{firsts}
 use Rattle.wit_syntax.specs.Source.{Declared, TheInterface, TheWorld, declared_parts, Part, Defining, Using, Including, Doing, Crossing}
@@ -43,13 +44,16 @@ part_visits (Including i) = path_visits i.attributes.items true i.from
 part_visits (Doing f) = []
 part_visits (Crossing x) = []
 
--- what a world imports or exports by a path wants an interface
+-- what is imported or exported by a path wants an interface, as each `use` does that is written there
+abbrev pub extern_visits : Extern → List ForeignVisit
+extern_visits x = flat_map (λ u. path_visits u.attributes.items false u.from) (inline_uses x.kind) ++ flat_map (path_visits x.attributes.items false) (extern_paths x.kind)
+
 abbrev pub side_visits : WorldSide → Part → List ForeignVisit
 side_visits side (Defining d) = []
 side_visits side (Using u) = []
 side_visits side (Including i) = []
 side_visits side (Doing f) = []
-side_visits side (Crossing x) = if same_side side x.side then flat_map (path_visits x.attributes.items false) (extern_paths x.kind) else []
+side_visits side (Crossing x) = if same_side side x.side then extern_visits x else []
 
 -- the visits of parts: first those of uses and includes, then those of imports, and then those of exports
 abbrev pub visits_in : List Part → List ForeignVisit

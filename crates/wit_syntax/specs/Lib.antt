@@ -1,6 +1,6 @@
 pub mod Repeats
-pub mod Address
 pub mod Crossing
+pub mod Address
 pub mod Docs
 pub mod Hint
 pub mod Fault
@@ -13,7 +13,8 @@ pub mod Foreign
 pub mod Scope
 pub mod Bodies
 pub mod Function
-pub mod Ends
 pub mod Signature
 pub mod Sides
+pub mod Trees
+pub mod Ends
 pub mod Broken

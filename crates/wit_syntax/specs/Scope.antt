@@ -7,9 +7,9 @@ use Rattle.wit_tree.specs.declared.tree.Use.{Use}
 use Rattle.wit_tree.specs.declared.tree.UsePath.{UsePath}
 use Rattle.wit_tree.specs.declared.tree.PackageFile.{PackageFile}
 use Rattle.wit_order.specs.Table.{Row}
-use Rattle.wit_syntax.specs.Crossing.{extern_paths}
+use Rattle.wit_syntax.specs.Crossing.{extern_paths, inline_uses}
 use Rattle.wit_syntax.specs.Shape.{all_words, body_of}
-use Rattle.wit_syntax.specs.Source.{Target, Local, Foreign, leads, ScopeName, Used, Defined, Taken, local_name, Declared, TheInterface, TheWorld, Part, Defining, Using, Including, Doing, Crossing, Item, item_name, is_world, parts, all_items}
+use Rattle.wit_syntax.specs.Source.{Target, Local, Foreign, leads, ScopeName, Used, Defined, Taken, local_name, Declared, TheInterface, TheWorld, TheInline, Part, Defining, Using, Including, Doing, Crossing, Item, item_name, is_world, parts, all_items}
 use Rattle.wit_syntax.specs.Repeats.{AllDiffer}
 
 -- the names that a name of a scope needs: those in a definition's body; a used name needs none of its own scope
@@ -46,13 +46,13 @@ defined xs = filter is_defined xs
 abbrev pub in_turn : List ScopeName → List ℕ → List ScopeName
 in_turn xs order = used xs ++ defined (in_order xs order)
 
--- the path of a part to an interface: that of a `use`, or that by which a world imports or exports one
+-- the paths of a part to interfaces: that of a `use`, that by which a world imports or exports one, and those of uses that are written there
 abbrev pub use_path : Part → List UsePath
 use_path (Defining d) = []
 use_path (Using u) = u.from ∷ []
 use_path (Including i) = []
 use_path (Doing f) = []
-use_path (Crossing x) = extern_paths x.kind
+use_path (Crossing x) = map (λ u. u.from) (inline_uses x.kind) ++ extern_paths x.kind
 
 -- the path of a part that is an include
 abbrev pub include_path : Part → List UsePath
@@ -74,6 +74,7 @@ include_paths i = flat_map include_path (parts i)
 abbrev pub needed_path : Declared → Part → List UsePath
 needed_path (TheInterface i) = use_path
 needed_path (TheWorld w) = include_path
+needed_path (TheInline world place x name items) = use_path
 
 -- the name of an item of the package that a path leads to
 abbrev pub local_target : Target → List Id
@@ -104,9 +105,9 @@ part_uses (Defining d) = []
 part_uses (Using u) = u ∷ []
 part_uses (Including i) = []
 part_uses (Doing f) = []
-part_uses (Crossing x) = []
+part_uses (Crossing x) = inline_uses x.kind
 
--- the uses of an item, in source order
+-- the uses of an item, and of interfaces that are written in it, in source order
 abbrev pub uses : Item → List Use
 uses i = flat_map part_uses (parts i)
 

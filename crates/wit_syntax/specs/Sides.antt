@@ -1,5 +1,5 @@
 -- What stands on a side of a world, and what must not stand there twice. The names of an interface stand as those that a world imports.
-use Rattle.std.specs.Prelude.{◌≡◌, ℕ, List, [], ◌∷◌, ◌++◌, Option, Some, None, ⊤, map, take, Contains, slice_get}
+use Rattle.std.specs.Prelude.{◌≡◌, ℕ, List, [], ◌∷◌, ◌++◌, length, Option, Some, None, ⊤, map, take, Contains, slice_get}
 use Rattle.std.specs.List.{filter, flat_map}
 use Rattle.std.specs.Option.{option_map_or}
 use Rattle.wit_tree.specs.declared.tree.Id.{Id}
@@ -9,6 +9,8 @@ use Rattle.wit_tree.specs.declared.tree.Extern.{Extern}
 use Rattle.wit_tree.specs.declared.tree.ExternKind.{ExternKind}
 use Rattle.wit_tree.specs.declared.tree.ExternKind.TheVariants as extern
 use Rattle.wit_tree.specs.declared.tree.FuncForm.{FuncForm}
+use Rattle.wit_tree.specs.declared.tree.InterfaceItem.{InterfaceItem}
+use Rattle.wit_tree.specs.declared.tree.PackageFile.{PackageFile}
 use Rattle.wit_tree.specs.declared.tree.UsePath.{UsePath}
 use Rattle.wit_tree.specs.declared.tree.WorldSide.{WorldSide}
 use Rattle.wit_tree.specs.declared.tree.WorldSide.TheVariants.{Imported, Exported}
@@ -18,7 +20,7 @@ use Rattle.wit_syntax.specs.Crossing.{same_side}
 use Rattle.wit_syntax.specs.Fault.{Fault, fault}
 use Rattle.wit_syntax.specs.Notes.{IsBrokenNotes}
 use Rattle.wit_syntax.specs.Bodies.{IsRepeated}
-use Rattle.wit_syntax.specs.Source.{TopName, path_id, path_scope, Part, Defining, Using, Including, Doing, Crossing, Item, parts, ScopeName, scope_names}
+use Rattle.wit_syntax.specs.Source.{TopName, path_id, path_scope, TheInline, Part, Defining, Using, Including, Doing, Crossing, Item, item_name, parts, all_items, ScopeName, scope_names}
 use Rattle.wit_syntax.specs.Scope.{rows_of, in_turn}
 use Rattle.wit_syntax.specs.Function.{Role, Freestanding, Method, Static, Constructor, OnSide, SourceFunction, definition_functions, free_function, side_function}
 use Rattle.wit_syntax.specs.Signature.{Called, called_key, name_called, function_called}
@@ -50,17 +52,18 @@ pub record Link : Type 0 where
   pub docs : Docs
   pub attributes : List Attribute
 
--- what stands on a side behind the names of types: a function, or an interface by its path
+-- what stands on a side behind the names of types: a function, an interface by its path, or one that is written there, under a name
 pub data SideItem : Type 0 where
   SideFunction : (fn : SourceFunction) → SideItem
   SideLink : (link : Link) → SideItem
+  SideInline : (x : Extern) (name : Id) (items : List InterfaceItem) → SideItem
 
 abbrev pub extern_link : Extern → Option Id → UsePath → Link
 extern_link x name path = record { side = x.side; name = name; path = path; docs = x.docs; attributes = x.attributes.items }
 
--- what a world imports or exports, but for an interface that is written there
+-- what a world imports or exports
 abbrev pub extern_items : Extern → ExternKind → List SideItem
-extern_items x (extern.Interface name items) = []
+extern_items x (extern.Interface name items) = SideInline x name items.items ∷ []
 extern_items x (extern.Path path) = SideLink (extern_link x None path) ∷ []
 extern_items x (extern.Func name f) = SideFunction (side_function x.side x.docs x.attributes.items name f) ∷ []
 extern_items x (extern.NamedPath name path) = SideLink (extern_link x (Some name) path) ∷ []
@@ -80,11 +83,13 @@ side_items i = flat_map part_items (parts i)
 abbrev pub item_function : SideItem → List SourceFunction
 item_function (SideFunction fn) = fn ∷ []
 item_function (SideLink link) = []
+item_function (SideInline x name items) = []
 
 -- the path of an interface that it is, if it is one
 abbrev pub item_link : SideItem → List Link
 item_link (SideFunction fn) = []
 item_link (SideLink link) = link ∷ []
+item_link (SideInline x name items) = []
 
 -- the links of an item, in source order
 abbrev pub links : Item → List Link
@@ -93,10 +98,44 @@ links i = flat_map item_link (side_items i)
 abbrev pub item_side : SideItem → WorldSide
 item_side (SideFunction fn) = role_side fn.role
 item_side (SideLink link) = link.side
+item_side (SideInline x name items) = x.side
+
+-- the interface that it is, if it is written there
+abbrev pub item_inline : SideItem → List Extern
+item_inline (SideFunction fn) = []
+item_inline (SideLink link) = []
+item_inline (SideInline x name items) = x ∷ []
+
+-- the interfaces that are written in an item, in source order
+abbrev pub inline_externs : Item → List Extern
+inline_externs i = flat_map item_inline (side_items i)
 
 -- what stands on a side, in source order
 abbrev pub items_on : WorldSide → List SideItem → List SideItem
 items_on side items = filter (λ x. same_side side (item_side x)) items
+
+-- the item that an interface is which is written in another one, where this is its place on its side
+abbrev pub inline_item : Item → ℕ → SideItem → List Item
+inline_item i place (SideFunction fn) = []
+inline_item i place (SideLink link) = []
+inline_item i place (SideInline x name items) = record { top = i.top; declared = TheInline (item_name i) place x name items } ∷ []
+
+-- the items that are interfaces which are written in an item, behind these: the place of each is how many stand before it on its side
+abbrev pub inline_behind : Item → List SideItem → List SideItem → List Item
+inline_behind i before [] = []
+inline_behind i before (x ∷ xs) = inline_item i (length (items_on (item_side x) before)) x ++ inline_behind i (before ++ x ∷ []) xs
+
+-- the interfaces that are written in an item, in source order
+abbrev pub inline_items : Item → List Item
+inline_items i = inline_behind i [] (side_items i)
+
+-- an item, and those that are written in it
+abbrev pub with_inline : Item → List Item
+with_inline i = i ∷ inline_items i
+
+-- all items: those that files declare, each with those that are written in it
+abbrev pub all_scopes : List PackageFile → List Item
+all_scopes files = flat_map with_inline (all_items files)
 
 -- the name that it has: an interface may have none of its own
 abbrev pub id_called : Option Id → List Called
@@ -106,6 +145,7 @@ id_called (Some id) = record { name = id.name.now; span = id.span } ∷ []
 abbrev pub item_called : SideItem → List Called
 item_called (SideFunction fn) = function_called fn ∷ []
 item_called (SideLink link) = id_called link.name
+item_called (SideInline x name items) = id_called (Some name)
 
 -- the names of types on a side: all are imported
 abbrev pub names_on : {X : Type 0} → WorldSide → List X → List X
@@ -129,6 +169,7 @@ pub record IsFoldedTwice (xs : List ScopeName) (items : List SideItem) (f : Faul
 abbrev pub IsCrossing : SideItem → Type 0
 IsCrossing (SideFunction fn) = (side : WorldSide) × (id : Id) × (form : FuncForm) × (fn.role ≡ OnSide side id form)
 IsCrossing (SideLink link) = ⊤
+IsCrossing (SideInline x name items) = ⊤
 
 -- an earlier name on a side is that of an import or an export
 pub record IsCrossedTwice (xs : List ScopeName) (items : List SideItem) (f : Fault) : Type 0 where
@@ -150,6 +191,7 @@ pub record IsCrossedTwice (xs : List ScopeName) (items : List SideItem) (f : Fau
 abbrev pub bare_scope : List TopName → SideItem → List Address
 bare_scope top (SideFunction fn) = []
 bare_scope top (SideLink link) = option_map_or (λ id. []) link.name (path_scope top link.path ∷ [])
+bare_scope top (SideInline x name items) = []
 
 -- an earlier one on a side is the same interface, where both have no name of their own
 pub record IsLinkedTwice (top : List TopName) (items : List SideItem) (f : Fault) : Type 0 where
@@ -167,3 +209,4 @@ pub data IsBrokenSides (i : Item) (f : Fault) : Type 0 where
   CrossedTwice : IsCrossedTwice (scope_names i) (side_items i) f → IsBrokenSides i f
   LinkedTwice : IsLinkedTwice i.top (side_items i) f → IsBrokenSides i f
   LinkNotes : (link : Link) → Contains (links i) link → IsBrokenNotes link.attributes f → IsBrokenSides i f
+  InlineNotes : (x : Extern) → Contains (inline_externs i) x → IsBrokenNotes x.attributes.items f → IsBrokenSides i f

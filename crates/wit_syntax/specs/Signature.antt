@@ -12,13 +12,10 @@ use Rattle.wit_tree.specs.declared.tree.TypeBody.{TypeBody}
 use Rattle.wit_tree.specs.declared.tree.TypeBody.TheVariants as body
 use Rattle.wit_tree.specs.declared.tree.«Type».{«Type» as Written, Held-Type-Result-1 as Held, None', Some'}
 use Rattle.wit_tree.specs.declared.tree.«Type».TheVariants as written
-use Rattle.wit_tree.specs.declared.tree.PackageFile.{PackageFile}
 use Rattle.wit_syntax.specs.Fault.{Fault, fault, missing_at, name_word}
-use Rattle.wit_syntax.specs.Address.{Address}
-use Rattle.wit_syntax.specs.Shape.{Word, shape_of, words, all_handles}
+use Rattle.wit_syntax.specs.Shape.{Word, shape_of, words}
 use Rattle.wit_syntax.specs.Source.{ScopeName, Defined, local_id, local_name, meaning}
 use Rattle.wit_syntax.specs.Function.{Role, Freestanding, Method, Static, Constructor, OnSide, SourceParam, SourceFunction, all_params, written_types, signature}
-use Rattle.wit_syntax.specs.Ends.{Elsewhere, EndsAt}
 use Rattle.wit_syntax.specs.Notes.{IsBrokenNotes}
 use Rattle.wit_syntax.specs.Bodies.{folded, IsRepeated, IsBrokenPart}
 
@@ -110,13 +107,6 @@ pub record IsEntered (fs : List SourceFunction) (k : ℕ) (name : List ℕ) : Ty
   pub at : slice_get fs place ≡ Some entered
   pub role : entered.role ≡ Freestanding id form
   pub same : id.name.now ≡ name
-
--- a name in a handle ends at no resource
-pub record IsNoResource (files : List PackageFile) (s : Address) (types : List Written) (f : Fault) : Type 0 where
-  pub id : Id
-  pub among : Contains (all_handles types) id
-  pub ends : EndsAt files s id Elsewhere
-  pub is : f ≡ fault 27 id.span
 
 -- a name in a signature is that of a function
 pub record IsFunctionAsType (xs : List ScopeName) (fs : List SourceFunction) (k : ℕ) (fn : SourceFunction) (f : Fault) : Type 0 where

@@ -1,5 +1,5 @@
--- What written types mean, by lexical scope.
-use Rattle.std.specs.Prelude.{ℕ, Bool, true, false, ◌&&◌, List, [], ◌∷◌, Option, Some, None, map, find}
+-- The items of files, the names of their scopes, and what a name stands for.
+use Rattle.std.specs.Prelude.{if◌then◌else◌, ℕ, Bool, true, false, ◌&&◌, List, [], ◌∷◌, ◌++◌, Option, Some, None, map, find}
 use Rattle.std.specs.List.{flat_map, filter}
 use Rattle.std.specs.Option.{option_map_or, unwrap_or}
 use Rattle.std.specs.Str.{bytes_eq}
@@ -26,10 +26,13 @@ use Rattle.wit_tree.specs.declared.tree.PackageFile.{PackageFile}
 use Rattle.wit_package_names.specs.declared.package_name.PackageName.{PackageName}
 use Rattle.wit_types.specs.declared.stability.Stability.{Stability}
 use Rattle.wit_syntax.specs.Form.{Form, AliasForm, UnknownForm}
-use Rattle.wit_syntax.specs.Address.{Address, InterfaceNamed, WorldNamed, ForeignNamed, package_of, same_address, is_foreign}
+use Rattle.wit_tree.specs.declared.tree.WorldSide.{WorldSide}
+use Rattle.wit_tree.specs.declared.tree.WorldSide.TheVariants.{Imported, Exported}
+use Rattle.wit_syntax.specs.Address.{Address, InterfaceNamed, WorldNamed, InlineAt, ForeignNamed, package_of, same_address, is_foreign}
+use Rattle.wit_syntax.specs.Crossing.{same_side, inline_uses}
 use Rattle.wit_syntax.specs.Repeats.{firsts}
-use Rattle.wit_syntax.specs.Node.{OfScope, Head, Node, Leaf, Named, Unnamed, Nothing, Tree, unfolded}
-use Rattle.wit_syntax.specs.Shape.{Shape, Prim, Word, Of, Shapes, End, More, one, Body, body_of}
+use Rattle.wit_syntax.specs.Node.{OfScope, Head, Node, Named, Nothing}
+use Rattle.wit_syntax.specs.Shape.{Shape, Word, Shapes, End, More, one, Body, body_of}
 use Rattle.wit_syntax.specs.Notes.{Notes, notes, docs_of, no_docs}
 
 -- the name that a path ends in
@@ -47,32 +50,45 @@ abbrev pub path_target : UsePath → Target
 path_target (path.Id id) = Local id
 path_target (path.Package p id) = Foreign (package_of p) id
 
--- a declared item: an interface or a world
+-- an item: a declared interface, a declared world, or an interface that is written where a world imports or exports it, under a name, at a
+-- place on its side
 pub data Declared : Type 0 where
   TheInterface : (i : Interface) → Declared
   TheWorld : (w : World) → Declared
+  TheInline : (world : List ℕ) (place : ℕ) (x : Extern) (name : Id) (items : List InterfaceItem) → Declared
 
 abbrev pub declared_id : Declared → Id
 declared_id (TheInterface i) = i.name
 declared_id (TheWorld w) = w.name
+declared_id (TheInline world place x name items) = name
 
--- what is told of a declared item
+-- the name that it goes by: one that is written in a world has none
+abbrev pub declared_name : Declared → Option (List ℕ)
+declared_name (TheInterface i) = Some i.name.name.now
+declared_name (TheWorld w) = Some w.name.name.now
+declared_name (TheInline world place x name items) = None
+
+-- what is told of an item
 abbrev pub declared_notes : Declared → Notes
 declared_notes (TheInterface i) = notes (docs_of i.docs) i.attributes.items
 declared_notes (TheWorld w) = notes (docs_of w.docs) w.attributes.items
+declared_notes (TheInline world place x name items) = notes (docs_of x.docs) x.attributes.items
 
 abbrev pub declared_attributes : Declared → List Attribute
 declared_attributes (TheInterface i) = i.attributes.items
 declared_attributes (TheWorld w) = w.attributes.items
+declared_attributes (TheInline world place x name items) = x.attributes.items
 
 -- the scope of an item
 abbrev pub declared_address : Declared → Address
 declared_address (TheInterface i) = InterfaceNamed i.name.name.now
 declared_address (TheWorld w) = WorldNamed w.name.name.now
+declared_address (TheInline world place x name items) = InlineAt world x.side place
 
 abbrev pub is_declared_world : Declared → Bool
 is_declared_world (TheInterface i) = false
 is_declared_world (TheWorld w) = true
+is_declared_world (TheInline world place x name items) = false
 
 -- a part of an item
 pub data Part : Type 0 where
@@ -97,6 +113,7 @@ world_part (world_item.Extern x) = Crossing x
 abbrev pub declared_parts : Declared → List Part
 declared_parts (TheInterface i) = map interface_part i.items.items
 declared_parts (TheWorld w) = map world_part w.items.items
+declared_parts (TheInline world place x name items) = map interface_part items
 
 -- a name at the top of a file, and what it stands for: a declared item for itself, a `use` for what its path says
 pub record TopName : Type 0 where
@@ -130,7 +147,7 @@ abbrev pub leads : List TopName → UsePath → Target
 leads top (path.Id id) = option_map_or top_target (top_named top id.name.now) (Local id)
 leads top (path.Package p id) = Foreign (package_of p) id
 
--- a declared item, with the names at the top of its file
+-- an item, with the names at the top of its file
 pub record Item : Type 0 where
   pub top : List TopName
   pub declared : Declared
@@ -140,11 +157,11 @@ declared_items top (ast.Interface i) = record { top = top; declared = TheInterfa
 declared_items top (ast.World w) = record { top = top; declared = TheWorld w } ∷ []
 declared_items top (ast.Use u) = []
 
--- the items of a file, in source order
+-- the items that a file declares, in source order
 abbrev pub file_items : PackageFile → List Item
 file_items f = flat_map (declared_items (top_names f)) f.decl_list.items.items
 
--- the items of all files, in push order and then in source order
+-- the items that all files declare, in push order and then in source order
 abbrev pub all_items : List PackageFile → List Item
 all_items files = flat_map file_items files
 
@@ -224,16 +241,31 @@ pub record Taking : Type 0 where
 abbrev pub taking : Address → List Attribute → UseName → Taking
 taking s attributes n = record { from = s; attributes = attributes; id = n.name }
 
+abbrev pub use_takings : List TopName → Use → List Taking
+use_takings top u = map (taking (path_scope top u.from) u.attributes.items) u.names.items
+
 abbrev pub part_takings : List TopName → Part → List Taking
 part_takings top (Defining d) = []
-part_takings top (Using u) = map (taking (path_scope top u.from) u.attributes.items) u.names.items
+part_takings top (Using u) = use_takings top u
 part_takings top (Including i) = []
 part_takings top (Doing f) = []
 part_takings top (Crossing x) = []
 
+-- those that are used in interfaces that are written on a side of a world
+abbrev pub side_takings : List TopName → WorldSide → Part → List Taking
+side_takings top side (Defining d) = []
+side_takings top side (Using u) = []
+side_takings top side (Including i) = []
+side_takings top side (Doing f) = []
+side_takings top side (Crossing x) = if same_side side x.side then flat_map (use_takings top) (inline_uses x.kind) else []
+
+-- those that are used in parts: first those of their own, then those of imports, and then those of exports
+abbrev pub takings_in : List TopName → List Part → List Taking
+takings_in top ps = flat_map (part_takings top) ps ++ (flat_map (side_takings top Imported) ps ++ flat_map (side_takings top Exported) ps)
+
 -- the names that an item uses from items of other packages
 abbrev pub item_takings : Item → List Taking
-item_takings i = filter (λ t. is_foreign t.from) (flat_map (part_takings i.top) (parts i))
+item_takings i = filter (λ t. is_foreign t.from) (takings_in i.top (parts i))
 
 -- those that all items use, in source order
 abbrev pub takings : List PackageFile → List Taking
@@ -253,12 +285,6 @@ taken t = Taken t.attributes t.id
 -- the names that are taken from an item of another package
 abbrev pub taken_names : List PackageFile → Address → List ScopeName
 taken_names files s = map taken (filter (λ t. same_address t.from s) (first_takings files))
-
--- the names of a scope
-abbrev pub scope : List PackageFile → Address → List ScopeName
-scope files (InterfaceNamed name) = option_map_or scope_names (item_at (all_items files) (InterfaceNamed name)) []
-scope files (WorldNamed name) = option_map_or scope_names (item_at (all_items files) (WorldNamed name)) []
-scope files (ForeignNamed p name) = taken_names files (ForeignNamed p name)
 
 -- what a name stands for: the first that goes by it
 abbrev pub meaning : List ScopeName → List ℕ → Option ScopeName
@@ -312,13 +338,3 @@ head s x = record { owner = OfScope s; name = local_name x; span = name_span x; 
 abbrev pub named_node : Address → Option ScopeName → Node Place
 named_node s None = Nothing
 named_node s (Some x) = Named (head s x) (name_form x) (name_parts s x)
-
--- one level of a written type: a name means what its scope says, every other form stands for itself
-abbrev pub source_node : List PackageFile → Place → Node Place
-source_node files (s, Prim p) = Leaf p
-source_node files (s, Word id) = named_node s (meaning (scope files s) id.name.now)
-source_node files (s, Of span form parts) = Unnamed form (placed s parts)
-
--- the tree of a written type, to n levels
-abbrev pub source_tree : List PackageFile → (n : ℕ) → Place → Tree n
-source_tree files n place = unfolded (source_node files) n place

@@ -1,5 +1,5 @@
 //! Ids and arenas: an arena is a list, an id a place in it.
-ghost use Rattle.std.specs.Prelude.{◌≡◌, ◌+◌, ◌<◌, ◌^◌, List, [], ◌∷◌, ◌++◌, ℕ, length, slice_get, slice_set, IfOk, OnErr, IfErr, OnOk, IsTrue};
+ghost use Rattle.std.specs.Prelude.{◌≡◌, ◌+◌, ◌<◌, ◌^◌, List, [], ◌∷◌, ◌++◌, ℕ, length, slice_get, slice_set, IfOk, OnErr, IfErr, IfSome, OnOk, IsTrue};
 ghost use Rattle.std.specs.List.{AllZip};
 ghost use Rattle.std.specs.Cmp.Lexicographic.{pointwise};
 ghost use Rattle.std.specs.Cmp.Rules.{comparing};
@@ -99,6 +99,17 @@ impl<T, M> Arena<T, M> {
         }
     }
 
+    /// The id of a value that stands so many places behind the last one; none where no place is so far.
+    pub fn id_behind(&self, places: usize) -> Option<Id<M>>
+        ensures { IfSome result (λ i. i ≡ length self.now + places) }
+    {
+        let place = self.items.len().checked_add(places)?;
+        Some(Id {
+            place,
+            of: PhantomData,
+        })
+    }
+
     /// Puts a value behind the others, and answers its id.
     ///
     /// If a growth is refused, the arena stays as it was and the value comes back.
@@ -114,6 +125,18 @@ impl<T, M> Arena<T, M> {
             place,
             of: PhantomData,
         })
+    }
+
+    /// Puts the values of another arena behind these, and leaves none there.
+    ///
+    /// If a growth is refused, both stay as they were.
+    pub fn append(&mut self, behind: &mut Arena<T, M>) -> Result<(), AllocError>
+        ensures ok { OnOk result (self.new ≡ self.old ++ behind.old) }
+        ensures left { OnOk result (behind.new ≡ []) }
+        ensures unchanged { OnErr result ((self.new ≡ self.old) × (behind.new ≡ behind.old)) }
+    {
+        self.items.append(&mut behind.items)?;
+        Ok(())
     }
 
     /// The value at an id of this arena.

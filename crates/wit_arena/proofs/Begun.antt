@@ -1,0 +1,206 @@
+-- From scopes that are done to names and functions that are, one by one, and back.
+use Rattle.std.proofs.Common.{◌≡◌, ℕ, zero, suc, List, [], ◌∷◌, ◌++◌, length, map, Some, ◌⊎◌, inl, inr, refl, sym, ap, ◌∙◌, subst, arith}
+use Rattle.std.specs.Prelude.{slice_get}
+use Rattle.std.specs.List.{flat_map}
+use Rattle.std.specs.Option.{option_map}
+use Rattle.std.proofs.lemmas.List.{map-append}
+use Rattle.std.proofs.lemmas.Option.{slice_get_within, slice_get-map}
+use Rattle.wit_tree.specs.declared.tree.PackageFile.{PackageFile}
+use Rattle.wit_types.specs.declared.types.TypeDef.{TypeDef}
+use Rattle.wit_model.specs.declared.function.Function.{Function}
+use Rattle.wit_syntax.specs.Address.{Address}
+use Rattle.wit_syntax.specs.Form.{Form}
+use Rattle.wit_syntax.specs.Function.{SourceFunction}
+use Rattle.wit_syntax.specs.Repeats.{AllDiffer}
+use Rattle.wit_syntax.specs.Source.{local_name}
+use Rattle.wit_syntax.specs.Trees.{scope}
+use Rattle.wit_syntax.proofs.Kept.{behind_one}
+use Rattle.wit_syntax.proofs.Lists.{at_front, at_seam, at_either, at_within, map_at, flat_map_at, flat_map_has}
+use Rattle.wit_syntax.proofs.Repeated.{differ_more}
+use Rattle.wit_arena.specs.Expr.{Exprs}
+use Rattle.wit_arena.specs.Functions.{IsFunction, AreFunctions}
+use Rattle.wit_arena.specs.Meet.{Key, Def, Whole, Meeting, keys, Decl, Decls, IsAmong, all_name_meetings}
+use Rattle.wit_arena.specs.Resolving.{Cell, env_of, AreNames, AreKnown, AreNew, IsDefined, Defines, decls_of}
+use Rattle.wit_arena.proofs.Defining.{name_met_in, known_kept}
+use Rattle.wit_arena.proofs.Doing.{DoneFunction, done_functions, scope_functions, AreDoneNames, IsInFunctionOf, IsDoing, AreWhole}
+use Rattle.wit_arena.proofs.Done.{turned_among}
+use Rattle.wit_arena.proofs.Meeting.{Has, has_either, keys-append, meets_append, meets_from, meets_grown}
+use Rattle.wit_arena.proofs.Signatures.{IsInFunctions, function_grown}
+use Rattle.wit_arena.proofs.Standing.{DoneScope, done_address, cell_of, IsTurn, IsNameOf, IsWholeOf, IsInSignatureOf, IsDone}
+use Rattle.wit_arena.proofs.Wholes.{whole_in_names}
+
+-- a function with the one that was made of it
+abbrev pub done_function : Address → SourceFunction → Function → DoneFunction
+done_function s fn f = record { address = s; fn = fn; made = f }
+
+pub done_function_at : (s : Address) (fns : List SourceFunction) (fs : List Function) (k : ℕ) (fn : SourceFunction) (f : Function) → slice_get fns k ≡ Some fn → slice_get fs k ≡ Some f → slice_get (done_functions s fns fs) k ≡ Some (done_function s fn f)
+done_function_at s [] fs k fn f at there = absurd (let wrong : ⊥ = cc in wrong)
+done_function_at s (x ∷ fns) [] k fn f at there = absurd (let wrong : ⊥ = cc in wrong)
+done_function_at s (x ∷ fns) (g ∷ fs) zero fn f at there =
+    let one : x ≡ fn = cc in
+    let two : g ≡ f = cc in
+    ap (λ (y : SourceFunction). Some (done_function s y g)) one ∙ ap (λ (y : Function). Some (done_function s fn y)) two
+done_function_at s (x ∷ fns) (g ∷ fs) (suc k) fn f at there = done_function_at s fns fs k fn f at there
+
+-- it is one of these
+pub record IsMadeOf (s : Address) (fns : List SourceFunction) (fs : List Function) (k : ℕ) (g : DoneFunction) : Type 0 where
+  pub whose : g.address ≡ s
+  pub written : slice_get fns k ≡ Some g.fn
+  pub made_at : slice_get fs k ≡ Some g.made
+
+pub done_function_from : (s : Address) (fns : List SourceFunction) (fs : List Function) (k : ℕ) (g : DoneFunction) → slice_get (done_functions s fns fs) k ≡ Some g → IsMadeOf s fns fs k g
+done_function_from s [] fs k g at = absurd (let wrong : ⊥ = cc in wrong)
+done_function_from s (x ∷ fns) [] k g at = absurd (let wrong : ⊥ = cc in wrong)
+done_function_from s (x ∷ fns) (f ∷ fs) zero g at =
+    let same : done_function s x f ≡ g = cc in
+    record { whose = ap (λ (y : DoneFunction). y.address) (sym same); written = ap (λ (y : DoneFunction). Some y.fn) same; made_at = ap (λ (y : DoneFunction). Some y.made) same }
+done_function_from s (x ∷ fns) (f ∷ fs) (suc k) g at =
+    let it = done_function_from s fns fs k g at in
+    record { whose = it.whose; written = it.written; made_at = it.made_at }
+
+module _ (files : List PackageFile) (decls : Decls) (written : List Meeting) (cs : List DoneScope) (es : List TypeDef) (d : IsDone files decls written cs es) where
+  function_inside : (form : Form) (parts : Exprs) → IsInSignatureOf cs form parts → IsInFunctionOf (flat_map scope_functions cs) form parts
+  function_inside form parts it =
+      let c = it.cell in
+      let i = it.inside in
+      let count = (d.made it.place c it.at).count in
+      let lt = slice_get_within c.functions i.index i.fn i.among in
+      let f = at_within c.made i.index (omega (arith, lt, count)) in
+      let g = done_function c.address i.fn f.0 in
+      let k = flat_map_has scope_functions cs it.place i.index c g it.at (done_function_at c.address c.functions c.made i.index i.fn f.0 i.among f.1) in
+      record { place = k.0; function = g; at = k.1; inside = record { index = 0; fn = i.fn; among = refl; position = i.position; shape = i.shape; written = i.written; has = i.has } }
+
+  function_made : (k : ℕ) (g : DoneFunction) → slice_get (flat_map scope_functions cs) k ≡ Some g → IsFunction (keys d.met) g.address g.fn g.made
+  function_made k g at =
+      let it = flat_map_at scope_functions cs k g at in
+      let one = done_function_from it.1.address it.1.functions it.1.made it.3.0 g it.3.1 in
+      subst (λ (s : Address). IsFunction (keys d.met) s g.fn g.made) (sym one.whose) ((d.made it.0 it.1 it.2).each it.3.0 g.fn g.made one.written one.made_at)
+
+  -- what is done can go on
+  pub doing_of : IsDoing files decls written cs (flat_map scope_functions cs) es
+  doing_of = record {
+    met = d.met;
+    meets = d.meets;
+    meeting = d.meeting;
+    each = λ t c at. record { turn = (d.each t c at).turn; listed = (d.each t c at).listed };
+    own = d.own;
+    stand = d.stand;
+    before = d.before;
+    unique = d.unique;
+    wholes = λ form parts h. elim (d.wholes form parts h) [ inl it ↦ inl it | inr it ↦ inr (function_inside form parts it) ];
+    made = function_made;
+  }
+
+module _ (files : List PackageFile) (decls : Decls) (written : List Meeting) (cs : List DoneScope) (gs : List DoneFunction) (es : List TypeDef) (d : IsDoing files decls written cs gs es) (w : AreWhole files cs gs (keys d.met)) where
+  signature_inside : (form : Form) (parts : Exprs) → IsInFunctionOf gs form parts → IsInSignatureOf cs form parts
+  signature_inside form parts it =
+      let g = it.function in
+      let e = w.each it.place g it.at in
+      let c = e.2 in
+      let one = done_function_from c.address c.functions c.made e.1 g e.4 in
+      let i = subst (λ (s : Address). IsInFunctions s (g.fn ∷ []) form parts) one.whose it.inside in
+      let same : g.fn ≡ i.fn = elim (behind_one g.fn [] i.index i.fn i.among) [ inl here ↦ here | inr none ↦ absurd (let at = none.1 in let f : ⊥ = cc in f) ] in
+      record { place = e.0; cell = c; at = e.3; inside = record { index = e.1; fn = i.fn; among = one.written ∙ ap Some same; position = i.position; shape = i.shape; written = i.written; has = i.has } }
+
+  functions_made : (t : ℕ) (c : DoneScope) → slice_get cs t ≡ Some c → AreFunctions (keys d.met) c.address c.functions c.made
+  functions_made t c at = record {
+    count = w.count t c at;
+    each = λ k fn f written_at made_at. (
+        let j = w.made t k c (done_function c.address fn f) at (done_function_at c.address c.functions c.made k fn f written_at made_at) in
+        d.made j.0 (done_function c.address fn f) j.1);
+  }
+
+  -- what is whole is done
+  pub done_of : IsDone files decls written cs es
+  done_of = record {
+    met = d.met;
+    meets = d.meets;
+    meeting = d.meeting;
+    each = λ t c at. record { turn = (d.each t c at).turn; listed = (d.each t c at).listed; functions = w.functions t c at; stated = w.stated t c at };
+    own = d.own;
+    stand = d.stand;
+    before = d.before;
+    unique = d.unique;
+    wholes = λ form parts h. elim (d.wholes form parts h) [ inl it ↦ inl it | inr it ↦ inr (signature_inside form parts it) ];
+    made = functions_made;
+    required = w.required;
+  }
+
+module _ (files : List PackageFile) (decls : Decls) (written : List Meeting) (cs : List DoneScope) (gs : List DoneFunction) (es es' : List TypeDef) (c : DoneScope) (d : IsDoing files decls written cs gs es) (fresh : (t : ℕ) (b : DoneScope) → slice_get cs t ≡ Some b → b.address ≡ c.address → ⊥) (own : decls c.address ≡ decls_of c.owner c.address (scope files c.address)) (turn : IsTurn (scope files c.address) c.names) (defines : Defines es es' (map cell_of cs) c.owner c.address [] c.types c.names) where
+  abbrev s : Address
+  s = c.address
+
+  abbrev named : List Meeting
+  named = all_name_meetings s c.names
+
+  others : AreKnown (keys d.met) s (map cell_of cs)
+  others = record {
+    names = λ t k at. (let b = map_at cell_of cs t k at in subst (λ (x : Cell). AreNames (keys d.met) x.address (env_of x.types)) b.2 (d.stand t b.0 b.1));
+    others = λ t k at same. (let b = map_at cell_of cs t k at in fresh t b.0 b.1 (ap (λ (x : Cell). x.address) b.2 ∙ same));
+  }
+
+  unmet : (j : ℕ) (name : List ℕ) → slice_get (keys d.met) j ≡ Some (Def s name) → ⊥
+  unmet j name at = let it = d.before j s name at in fresh it.place it.cell it.at it.scope
+
+  anew : AreNew (keys d.met) s c.names
+  anew = record { new = λ i x at was. unmet was.0 (local_name x) was.1 }
+
+  nothing : AreNames (keys d.met) s (env_of [])
+  nothing = record {
+    stands = λ name i h. absurd (let f : ⊥ = cc in f);
+    has = λ j name at. absurd (unmet j name at);
+  }
+
+  defined : IsDefined decls d.met es' s [] c.types c.names
+  defined = defines.from decls d.met (λ x h. subst (λ (l : List Decl). IsAmong l x) (sym own) (turned_among c.owner s (scope files s) c.names turn x h)) turn.differ anew others d.meeting nothing
+
+  kept : AreKnown (keys defined.now) s (map cell_of cs)
+  kept = known_kept d.met defined.now s (map cell_of cs) c.names defined.meets others
+
+  abbrev all : List DoneScope
+  all = cs ++ c ∷ []
+
+  named_among : (j : ℕ) (t : Address) (name : List ℕ) → slice_get (keys defined.now) j ≡ Some (Def t name) → IsNameOf all t name
+  named_among j t name at = elim (meets_from named d.met defined.now defined.meets j (Def t name) at) [
+    | inl was ↦ (
+        let it = d.before was.0 t name was.1 in
+        record { place = it.place; cell = it.cell; at = at_front cs (c ∷ []) it.place it.cell it.at; scope = it.scope; index = it.index; x = it.x; among = it.among; called = it.called })
+    | inr new ↦ (
+        let it = name_met_in s c.names t name new in
+        record { place = length cs; cell = c; at = at_seam cs c; scope = sym it.0; index = it.1.0; x = it.1.1; among = it.1.2; called = it.1.3 })
+  ]
+
+  wholes_among : (form : Form) (parts : Exprs) → Has (keys (written ++ named)) (Whole form parts) → IsWholeOf all form parts ⊎ IsInFunctionOf gs form parts
+  wholes_among form parts h = elim (has_either (keys written) (keys named) (Whole form parts) (subst (λ (l : List Key). Has l (Whole form parts)) (keys-append written named) h)) [
+    | inl old ↦ elim (d.wholes form parts old) [
+      | inl it ↦ inl (record { place = it.place; cell = it.cell; at = at_front cs (c ∷ []) it.place it.cell it.at; index = it.index; x = it.x; among = it.among; has = it.has })
+      | inr it ↦ inr it
+    ]
+    | inr new ↦ (
+        let it = whole_in_names s c.names form parts new in
+        inl (record { place = length cs; cell = c; at = at_seam cs c; index = it.0; x = it.1; among = it.2; has = it.3 }))
+  ]
+
+  -- the names of one scope more
+  pub names_doing : IsDoing files decls (written ++ named) all gs es'
+  names_doing = record {
+    met = defined.now;
+    meets = meets_append written named [] d.met defined.now d.meets defined.meets;
+    meeting = defined.meeting;
+    each = λ t b at. elim (at_either cs c t b at) [
+      | inl old ↦ d.each t b old
+      | inr new ↦ subst (λ (x : DoneScope). AreDoneNames files x) (sym new.1) (record { turn = turn; listed = defined.listed })
+    ];
+    own = λ t b at. elim (at_either cs c t b at) [
+      | inl old ↦ d.own t b old
+      | inr new ↦ subst (λ (x : DoneScope). decls x.address ≡ decls_of x.owner x.address (scope files x.address)) (sym new.1) own
+    ];
+    stand = λ t b at. elim (at_either cs c t b at) [
+      | inl old ↦ kept.names t (cell_of b) (slice_get-map cell_of cs t ∙ ap (option_map cell_of) old)
+      | inr new ↦ subst (λ (x : DoneScope). AreNames (keys defined.now) x.address (env_of x.types)) (sym new.1) defined.stand
+    ];
+    before = named_among;
+    unique = subst AllDiffer (sym (map-append done_address cs (c ∷ []))) (differ_more (map done_address cs) s d.unique (λ i at. (let b = map_at done_address cs i s at in fresh i b.0 b.1 b.2)));
+    wholes = wholes_among;
+    made = λ k g at. function_grown (meets_grown named d.met defined.now defined.meets) g.address g.fn g.made (d.made k g at);
+  }

@@ -1,0 +1,106 @@
+-- What the handles of a scope require is told apart from what stands while scopes are resolved.
+use Rattle.std.proofs.Common.{◌≡◌, ℕ, ◌+◌, List, [], ◌∷◌, ◌++◌, length, map, Some, ◌⊎◌, inl, inr, sym, ap, ◌∙◌, subst}
+use Rattle.std.specs.Prelude.{slice_get}
+use Rattle.std.proofs.lemmas.List.{map-append}
+use Rattle.wit_tree.specs.declared.tree.PackageFile.{PackageFile}
+use Rattle.wit_types.specs.declared.types.TypeDef.{TypeDef}
+use Rattle.wit_syntax.specs.Address.{Address}
+use Rattle.wit_syntax.specs.Function.{functions}
+use Rattle.wit_syntax.specs.Repeats.{AllDiffer}
+use Rattle.wit_syntax.specs.Source.{address}
+use Rattle.wit_syntax.specs.Trees.{scope}
+use Rattle.wit_syntax.proofs.Lists.{at_front, at_back, at_seam}
+use Rattle.wit_syntax.specs.Form.{Form}
+use Rattle.wit_arena.specs.Expr.{Exprs, name_exprs}
+use Rattle.wit_arena.specs.Meet.{Whole, Meeting, keys, Decls}
+use Rattle.wit_arena.specs.Resolving.{env_of, Required, cell, all_met, AreNames, decls_of}
+use Rattle.wit_arena.proofs.Added.{decls}
+use Rattle.wit_arena.proofs.Doing.{DoneFunction, AreDoneNames, IsDoing}
+use Rattle.wit_arena.proofs.Meeting.{Has}
+use Rattle.wit_arena.proofs.Standing.{DoneScope, done_address, IsNameOf, IsWholeOf}
+use Rattle.wit_arena.proofs.DoneWorlds.{one_of_three}
+
+-- a scope with other requirements
+abbrev pub requiring : DoneScope → List Required → DoneScope
+requiring c rs = record { address = c.address; owner = c.owner; names = c.names; types = c.types; functions = c.functions; made = c.made; stated = c.stated; required = rs }
+
+module _ (files : List PackageFile) (decls : Decls) (written : List Meeting) (first ds : List DoneScope) (c : DoneScope) (rs : List Required) (gs : List DoneFunction) (es : List TypeDef) (d : IsDoing files decls written ((first ++ c ∷ []) ++ ds) gs es) where
+  abbrev was : List DoneScope
+  was = (first ++ c ∷ []) ++ ds
+
+  abbrev now : List DoneScope
+  now = (first ++ requiring c rs ∷ []) ++ ds
+
+  here_was : slice_get was (length first) ≡ Some c
+  here_was = at_front (first ++ c ∷ []) ds (length first) c (at_seam first c)
+
+  here_now : slice_get now (length first) ≡ Some (requiring c rs)
+  here_now = at_front (first ++ requiring c rs ∷ []) ds (length first) (requiring c rs) (at_seam first (requiring c rs))
+
+  in_both : (x y : DoneScope) (t : ℕ) (b : DoneScope) → slice_get ((first ++ x ∷ []) ++ ds) t ≡ Some b → ((k : ℕ) × (slice_get ((first ++ y ∷ []) ++ ds) k ≡ Some b)) ⊎ (b ≡ x)
+  in_both x y t b at = elim (one_of_three first ds x t b at) [
+    | inl h ↦ inl (h.0, at_front (first ++ y ∷ []) ds h.0 b (at_front first (y ∷ []) h.0 b h.1))
+    | inr h ↦ elim h [
+      | inl is ↦ inr is
+      | inr far ↦ inl (length (first ++ y ∷ []) + far.0, at_back (first ++ y ∷ []) ds far.0 b far.1)
+    ]
+  ]
+
+  name_requiring : (s : Address) (name : List ℕ) → IsNameOf was s name → IsNameOf now s name
+  name_requiring s name it = elim (in_both c (requiring c rs) it.place it.cell it.at) [
+    | inl h ↦ record { place = h.0; cell = it.cell; at = h.1; scope = it.scope; index = it.index; x = it.x; among = it.among; called = it.called }
+    | inr is ↦ record {
+      place = length first;
+      cell = requiring c rs;
+      at = here_now;
+      scope = ap (λ (b : DoneScope). b.address) (sym is) ∙ it.scope;
+      index = it.index;
+      x = it.x;
+      among = ap (λ (b : DoneScope). slice_get b.names it.index) (sym is) ∙ it.among;
+      called = it.called;
+    }
+  ]
+
+  whole_requiring : (form : Form) (parts : Exprs) → IsWholeOf was form parts → IsWholeOf now form parts
+  whole_requiring form parts it = elim (in_both c (requiring c rs) it.place it.cell it.at) [
+    | inl h ↦ record { place = h.0; cell = it.cell; at = h.1; index = it.index; x = it.x; among = it.among; has = it.has }
+    | inr is ↦ record {
+      place = length first;
+      cell = requiring c rs;
+      at = here_now;
+      index = it.index;
+      x = it.x;
+      among = ap (λ (b : DoneScope). slice_get b.names it.index) (sym is) ∙ it.among;
+      has = subst (λ (b : DoneScope). Has (all_met (name_exprs b.address it.x)) (Whole form parts)) is it.has;
+    }
+  ]
+
+  addresses_requiring : map done_address was ≡ map done_address now
+  addresses_requiring = of c ∙ sym (of (requiring c rs))
+    where
+      of : (x : DoneScope) → map done_address ((first ++ x ∷ []) ++ ds) ≡ (map done_address first ++ x.address ∷ []) ++ map done_address ds
+      of x = map-append done_address (first ++ x ∷ []) ds ∙ ap (λ (l : List Address). l ++ map done_address ds) (map-append done_address first (x ∷ []))
+
+  -- what is required is told apart
+  pub doing_requiring : IsDoing files decls written now gs es
+  doing_requiring = record {
+    met = d.met;
+    meets = d.meets;
+    meeting = d.meeting;
+    each = λ t b at. elim (in_both (requiring c rs) c t b at) [
+      | inl h ↦ d.each h.0 b h.1
+      | inr is ↦ subst (λ (x : DoneScope). AreDoneNames files x) (sym is) (let it = d.each (length first) c here_was in record { turn = it.turn; listed = it.listed })
+    ];
+    own = λ t b at. elim (in_both (requiring c rs) c t b at) [
+      | inl h ↦ d.own h.0 b h.1
+      | inr is ↦ subst (λ (x : DoneScope). decls x.address ≡ decls_of x.owner x.address (scope files x.address)) (sym is) (d.own (length first) c here_was)
+    ];
+    stand = λ t b at. elim (in_both (requiring c rs) c t b at) [
+      | inl h ↦ d.stand h.0 b h.1
+      | inr is ↦ subst (λ (x : DoneScope). AreNames (keys d.met) x.address (env_of x.types)) (sym is) (d.stand (length first) c here_was)
+    ];
+    before = λ j s name at. name_requiring s name (d.before j s name at);
+    unique = subst AllDiffer addresses_requiring d.unique;
+    wholes = λ form parts h. elim (d.wholes form parts h) [ inl it ↦ inl (whole_requiring form parts it) | inr it ↦ inr it ];
+    made = d.made;
+  }

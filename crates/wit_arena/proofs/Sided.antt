@@ -1,0 +1,391 @@
+-- What stands on the sides of a world is done, one after another: its functions, and the interfaces that are written there.
+use Rattle.std.proofs.Common.{◌≡◌, ℕ, suc, ◌+◌, false, List, [], ◌∷◌, ◌++◌, length, map, Some, ◌⊎◌, inl, inr, refl, sym, ap, ◌∙◌, subst, append_assoc, arith, length-append}
+use Rattle.std.specs.Prelude.{slice_get}
+use Rattle.std.specs.List.{flat_map}
+use Rattle.std.proofs.lemmas.List.{append-nil, map-append}
+use Rattle.std.proofs.lemmas.Option.{slice_get_within}
+use Rattle.wit_tree.specs.declared.tree.Extern.{Extern}
+use Rattle.wit_tree.specs.declared.tree.Id.{Id}
+use Rattle.wit_tree.specs.declared.tree.InterfaceItem.{InterfaceItem}
+use Rattle.wit_tree.specs.declared.tree.«Type».{«Type» as Written}
+use Rattle.wit_tree.specs.declared.tree.PackageFile.{PackageFile}
+use Rattle.wit_types.specs.declared.types.TypeDef.{TypeDef}
+use Rattle.wit_types.specs.declared.types.TypeOwner.TheVariants as owner
+use Rattle.wit_model.specs.declared.function.Function.{Function}
+use Rattle.wit_model.specs.declared.interface.Interface.{Interface}
+use Rattle.wit_syntax.specs.Address.{Address}
+use Rattle.wit_syntax.specs.Form.{Form}
+use Rattle.wit_syntax.specs.Function.{SourceFunction, functions, written_types, all_types}
+use Rattle.wit_syntax.specs.Repeats.{AllDiffer}
+use Rattle.wit_syntax.specs.Scope.{in_turn}
+use Rattle.wit_syntax.specs.Shape.{all_handles}
+use Rattle.wit_syntax.specs.Sides.{SideItem, SideFunction, Link, SideLink, SideInline, item_function, item_inline}
+use Rattle.wit_syntax.specs.Source.{address, Item, is_world, ScopeName, scope_names}
+use Rattle.wit_syntax.specs.Trees.{scope}
+use Rattle.wit_syntax.proofs.Kept.{behind_one, differ_head, differ_tail}
+use Rattle.wit_syntax.proofs.Lists.{at_front, at_back, at_seam, at_either, at_within}
+use Rattle.wit_syntax.proofs.Sides.{functions_imported}
+use Rattle.wit_syntax.proofs.Turns.{at_part}
+use Rattle.wit_arena.specs.Expr.{Exprs}
+use Rattle.wit_arena.specs.Functions.{IsFunction}
+use Rattle.wit_arena.specs.Meet.{Key, Def, Whole, Meeting, keys, Meets, Decls, all_name_meetings, all_function_meetings}
+use Rattle.wit_arena.specs.Package.{interface_functions}
+use Rattle.wit_arena.specs.Resolving.{env_of, Cell, Required, HasFunctions, AddsFunctions, AreEnded, decls_of}
+use Rattle.wit_arena.specs.Resolved.{AddsInterface, AddsFunction, AddsSides}
+use Rattle.wit_arena.specs.Whole.{Ordered, Turned, item_of, turned, functions_at, function_turn, side_turns, turn_meetings, meetings, turn_handles, AreRequired}
+use Rattle.wit_arena.proofs.Added.{defines_wider}
+use Rattle.wit_arena.proofs.Begun.{done_function, done_function_at, done_function_from, names_doing}
+use Rattle.wit_arena.proofs.Doing.{DoneFunction, done_functions, scope_functions, IsInFunctionOf, IsDoing}
+use Rattle.wit_arena.proofs.DoneWorlds.{all_handles-append, doing_declared}
+use Rattle.wit_arena.proofs.FreeNames.{AreStated}
+use Rattle.wit_arena.proofs.Inside.{IsInside, AreInside}
+use Rattle.wit_arena.proofs.Laid.{laid_scope, in_turn_is}
+use Rattle.wit_arena.proofs.Meeting.{Has, has_either, keys-append, meets_append, meets_from, meets_grown, meets_longer}
+use Rattle.wit_arena.proofs.Required.{in_scope, ended_required, required_append, required_grown}
+use Rattle.wit_arena.proofs.Signatures.{IsInFunctions, function_grown, names_beside, no_name_in_functions, whole_in_functions}
+use Rattle.wit_arena.proofs.Standing.{DoneScope, turn_of, cell_of, IsTurn, IsWholeOf}
+use Rattle.wit_arena.proofs.Stating.{stated_placed}
+
+module _ (files : List PackageFile) (decls : Decls) (written : List Meeting) (cs : List DoneScope) (gs : List DoneFunction) (es es' : List TypeDef) (d : IsDoing files decls written cs gs es) (t : ℕ) (c : DoneScope) (at_c : slice_get cs t ≡ Some c) (fns : List SourceFunction) (fs : List Function) (adds : AddsFunctions es es' c.address c.types fns fs) where
+  abbrev s : Address
+  s = c.address
+
+  abbrev behind : List Meeting
+  behind = all_function_meetings s fns
+
+  abbrev more : List DoneFunction
+  more = done_functions s fns fs
+
+  added : HasFunctions decls d.met es' s fns fs
+  added = adds.from decls d.met d.meeting (d.stand t c at_c)
+
+  pub functions_count : length fs ≡ length fns
+  functions_count = added.are.count
+
+  function_among : (form : Form) (parts : Exprs) → IsInFunctions s fns form parts → IsInFunctionOf (gs ++ more) form parts
+  function_among form parts i =
+      let lt = slice_get_within fns i.index i.fn i.among in
+      let count = functions_count in
+      let f = at_within fs i.index (omega (arith, lt, count)) in
+      record {
+        place = length gs + i.index;
+        function = done_function s i.fn f.0;
+        at = at_back gs more i.index (done_function s i.fn f.0) (done_function_at s fns fs i.index i.fn f.0 i.among f.1);
+        inside = record { index = 0; fn = i.fn; among = refl; position = i.position; shape = i.shape; written = i.written; has = i.has };
+      }
+
+  wholes_among : (form : Form) (parts : Exprs) → Has (keys (written ++ behind)) (Whole form parts) → IsWholeOf cs form parts ⊎ IsInFunctionOf (gs ++ more) form parts
+  wholes_among form parts h = elim (has_either (keys written) (keys behind) (Whole form parts) (subst (λ (l : List Key). Has l (Whole form parts)) (keys-append written behind) h)) [
+    | inl old ↦ elim (d.wholes form parts old) [
+      | inl it ↦ inl it
+      | inr it ↦ inr (record { place = it.place; function = it.function; at = at_front gs more it.place it.function it.at; inside = it.inside })
+    ]
+    | inr new ↦ inr (function_among form parts (whole_in_functions s fns form parts new))
+  ]
+
+  all_made : (k : ℕ) (g : DoneFunction) → slice_get (gs ++ more) k ≡ Some g → IsFunction (keys added.now) g.address g.fn g.made
+  all_made k g at = elim (at_part gs more k g at) [
+    | inl h ↦ function_grown (meets_grown behind d.met added.now added.meets) g.address g.fn g.made (d.made h.0 g h.1)
+    | inr h ↦ (
+        let one = done_function_from s fns fs h.0 g h.1 in
+        subst (λ (x : Address). IsFunction (keys added.now) x g.fn g.made) (sym one.whose) (added.are.each h.0 g.fn g.made one.written one.made_at))
+  ]
+
+  -- functions of a scope that is there
+  pub functions_doing : IsDoing files decls (written ++ behind) cs (gs ++ more) es'
+  functions_doing = record {
+    met = added.now;
+    meets = meets_append written behind [] d.met added.now d.meets added.meets;
+    meeting = added.meeting;
+    each = d.each;
+    own = d.own;
+    stand = λ k b at. names_beside s fns d.met added.now b.address (env_of b.types) added.meets (d.stand k b at);
+    before = λ j x name at. elim (meets_from behind d.met added.now added.meets j (Def x name) at) [
+      | inl was ↦ d.before was.0 x name was.1
+      | inr new ↦ absurd (no_name_in_functions s fns x name new)
+    ];
+    unique = d.unique;
+    wholes = wholes_among;
+    made = all_made;
+  }
+
+-- what handles require, where it stands in the arena by now, and what was met since
+required_since : (files : List PackageFile) (decls : Decls) (written more : List Meeting) (cs : List DoneScope) (gs : List DoneFunction) (es : List TypeDef) (d : IsDoing files decls written cs gs es) (t : ℕ) (c : DoneScope) → slice_get cs t ≡ Some c → (ids : List Id) (rs : List Required) → AreEnded (env_of c.types) es ids rs → (met : List Meeting) → Meets [] (written ++ more) met → AreRequired files (keys met) (map (in_scope c.address) ids) rs
+required_since files decls written more cs gs es d t c at ids rs ended met meets = required_grown files (meets_longer written more [] d.met met d.meets meets) (map (in_scope c.address) ids) rs (ended_required files decls (keys d.met) es d.meeting.keyed (λ j x name there. doing_declared files decls written cs gs es x name d (d.before j x name there)) c.address (env_of c.types) (d.stand t c at) ids rs ended)
+
+-- a scope has its functions, as they were made and are stated
+pub record IsScopeWhole (files : List PackageFile) (c : DoneScope) : Type 0 where
+  pub functions : c.functions ≡ functions_at files c.address
+  pub stated : AreStated c.functions c.made c.stated
+  pub count : length c.made ≡ length c.functions
+
+-- an interface that is written in a world can come next, at a place
+pub record IsFreshInside (files : List PackageFile) (decls : Decls) (cs : List DoneScope) (place : ℕ) (i : Item) : Type 0 where
+  pub interface : is_world i ≡ false
+  pub fresh : (t : ℕ) (c : DoneScope) → slice_get cs t ≡ Some c → c.address ≡ address i → ⊥
+  pub has : scope files (address i) ≡ scope_names i
+  pub does : functions_at files (address i) ≡ functions i
+  pub own : decls (address i) ≡ decls_of (owner.Interface place) (address i) (scope files (address i))
+
+-- what is required in what stands on sides: in the interfaces that are written there, in functions, and in all of it
+pub record AreTold (files : List PackageFile) (ks : List Key) (s : Address) (xs : List SideItem) (turns : List Turned) (scopes : List DoneScope) (own rs : List Required) : Type 0 where
+  pub each : (t : ℕ) (c : DoneScope) → slice_get scopes t ≡ Some c → AreRequired files ks (turn_handles (turn_of c)) c.required
+  pub by_functions : AreRequired files ks (map (in_scope s) (all_handles (flat_map written_types (flat_map item_function xs)))) own
+  pub in_all : AreRequired files ks (flat_map turn_handles turns) rs
+
+-- What stands on the sides of a world is done: the interfaces that are written there, which are the first of these items, and its functions.
+pub record AreSided (files : List PackageFile) (decls : Decls) (written : List Meeting) (cs : List DoneScope) (gs : List DoneFunction) (place : ℕ) (s : Address) (new : List TypeDef) (is is' : List Interface) (fs : List Function) (rs : List Required) (xs : List SideItem) (inside : List Item) : Type 0 where
+  pub ordered : List Ordered
+  pub scopes : List DoneScope
+  pub added : List Interface
+  pub more : List DoneFunction
+  pub last : is' ≡ is ++ added
+  pub left : List Item
+  pub items : map item_of ordered ++ left ≡ inside
+  pub consumed : length ordered ≡ length (flat_map item_inline xs)
+  pub laid : AreInside place ordered scopes added
+  pub doing : IsDoing files decls (written ++ meetings (side_turns s xs ordered)) (cs ++ scopes) (gs ++ more) new
+  pub count : length fs ≡ length (flat_map item_function xs)
+  pub own : (k : ℕ) (g : DoneFunction) → slice_get (done_functions s (flat_map item_function xs) fs) k ≡ Some g → (j : ℕ) × (slice_get more j ≡ Some g)
+  pub within : (t k : ℕ) (c : DoneScope) (g : DoneFunction) → slice_get scopes t ≡ Some c → slice_get (scope_functions c) k ≡ Some g → (j : ℕ) × (slice_get more j ≡ Some g)
+  pub each : (j : ℕ) (g : DoneFunction) → slice_get more j ≡ Some g → ((k : ℕ) × (slice_get (done_functions s (flat_map item_function xs) fs) k ≡ Some g)) ⊎ ((t : ℕ) × (k : ℕ) × (c : DoneScope) × (slice_get scopes t ≡ Some c) × (slice_get (scope_functions c) k ≡ Some g))
+  pub whole : (t : ℕ) (c : DoneScope) → slice_get scopes t ≡ Some c → IsScopeWhole files c
+  pub own_required : List Required
+  pub told : (met : List Meeting) → Meets [] (written ++ meetings (side_turns s xs ordered)) met → AreTold files (keys met) s xs (side_turns s xs ordered) scopes own_required rs
+
+-- nothing more stands there
+sided_none : (files : List PackageFile) (decls : Decls) (written : List Meeting) (cs : List DoneScope) (gs : List DoneFunction) (place : ℕ) (s : Address) (es : List TypeDef) (is : List Interface) (inside : List Item) → IsDoing files decls written cs gs es → AreSided files decls written cs gs place s es is is [] [] [] inside
+sided_none files decls written cs gs place s es is inside d = record {
+  ordered = [];
+  scopes = [];
+  added = [];
+  more = [];
+  last = sym (append-nil is);
+  left = inside;
+  items = refl;
+  consumed = refl;
+  laid = tt;
+  doing = subst (λ (l : List Meeting). IsDoing files decls l (cs ++ []) (gs ++ []) es) (sym (append-nil written)) (subst (λ (l : List DoneScope). IsDoing files decls written l (gs ++ []) es) (sym (append-nil cs)) (subst (λ (l : List DoneFunction). IsDoing files decls written cs l es) (sym (append-nil gs)) d));
+  count = refl;
+  own = λ k g at. absurd (let f : ⊥ = cc in f);
+  within = λ t k c g at there. absurd (let f : ⊥ = cc in f);
+  each = λ j g at. absurd (let f : ⊥ = cc in f);
+  whole = λ t c at. absurd (let f : ⊥ = cc in f);
+  own_required = [];
+  told = λ met meets. record { each = λ t c at. absurd (let f : ⊥ = cc in f); by_functions = refl; in_all = refl };
+}
+
+-- a function, and what stands behind it
+module _ (files : List PackageFile) (decls : Decls) (written : List Meeting) (cs : List DoneScope) (gs : List DoneFunction) (place : ℕ) (old mid new : List TypeDef) (is is' : List Interface) (fn : SourceFunction) (f : Function) (fs : List Function) (own rest : List Required) (xs : List SideItem) (inside : List Item) (d : IsDoing files decls written cs gs old) (t : ℕ) (c : DoneScope) (at_c : slice_get cs t ≡ Some c) (a : AddsFunction c.address c.types old mid fn f own) where
+  abbrev met_there : List Meeting
+  met_there = all_function_meetings c.address (fn ∷ [])
+
+  abbrev one : DoneFunction
+  one = done_function c.address fn f
+
+  pub function_step : IsDoing files decls (written ++ met_there) cs (gs ++ one ∷ []) mid
+  function_step = functions_doing files decls written cs gs old mid d t c at_c (fn ∷ []) (f ∷ []) a.adds
+
+  module _ (r : AreSided files decls (written ++ met_there) cs (gs ++ one ∷ []) place c.address new is is' fs rest xs inside) where
+    abbrev sides : List Turned
+    sides = side_turns c.address xs r.ordered
+
+    told_function : (met : List Meeting) → Meets [] (written ++ (met_there ++ meetings sides)) met → AreTold files (keys met) c.address (SideFunction fn ∷ xs) (function_turn c.address fn ∷ sides) r.scopes (own ++ r.own_required) (own ++ rest)
+    told_function met meets =
+        let behind : Meets [] ((written ++ met_there) ++ meetings sides) met = subst (λ (l : List Meeting). Meets [] l met) (sym (append_assoc written met_there (meetings sides))) meets in
+        let it = r.told met behind in
+        let ids : List Id = all_handles (written_types fn) in
+        let later : List Id = all_handles (flat_map written_types (flat_map item_function xs)) in
+        let here = required_since files decls (written ++ met_there) (meetings sides) cs (gs ++ one ∷ []) mid function_step t c at_c ids own a.ended met behind in
+        let alone : map (in_scope c.address) ids ≡ turn_handles (function_turn c.address fn) = ap (λ (l : List Written). map (in_scope c.address) (all_handles l)) (sym (append-nil (written_types fn))) in
+        let together : map (in_scope c.address) ids ++ map (in_scope c.address) later ≡ map (in_scope c.address) (all_handles (written_types fn ++ flat_map written_types (flat_map item_function xs))) = sym (map-append (in_scope c.address) ids later) ∙ ap (map (in_scope c.address)) (sym (all_handles-append (written_types fn) (flat_map written_types (flat_map item_function xs)))) in
+        record {
+          each = it.each;
+          by_functions = subst (λ (hs : List (Address × Id)). AreRequired files (keys met) hs (own ++ r.own_required)) together (required_append files (keys met) (map (in_scope c.address) ids) (map (in_scope c.address) later) own r.own_required here it.by_functions);
+          in_all = required_append files (keys met) (turn_handles (function_turn c.address fn)) (flat_map turn_handles sides) own rest (subst (λ (hs : List (Address × Id)). AreRequired files (keys met) hs own) alone here) it.in_all;
+        }
+
+    pub sided_function : AreSided files decls written cs gs place c.address new is is' (f ∷ fs) (own ++ rest) (SideFunction fn ∷ xs) inside
+    sided_function = record {
+      ordered = r.ordered;
+      scopes = r.scopes;
+      added = r.added;
+      more = one ∷ r.more;
+      last = r.last;
+      left = r.left;
+      items = r.items;
+      consumed = r.consumed;
+      laid = r.laid;
+      doing = subst (λ (l : List Meeting). IsDoing files decls l (cs ++ r.scopes) (gs ++ one ∷ r.more) new) (append_assoc written met_there (meetings sides)) (subst (λ (l : List DoneFunction). IsDoing files decls ((written ++ met_there) ++ meetings sides) (cs ++ r.scopes) l new) (append_assoc gs (one ∷ []) r.more) r.doing);
+      count = ap suc r.count;
+      own = λ k g at. elim (behind_one one (done_functions c.address (flat_map item_function xs) fs) k g at) [
+        | inl here ↦ (0, ap Some here)
+        | inr later ↦ (let it = r.own later.0 g later.1 in (suc it.0, it.1))
+      ];
+      within = λ k j b g at there. (let it = r.within k j b g at there in (suc it.0, it.1));
+      each = λ j g at. elim (behind_one one r.more j g at) [
+        | inl here ↦ inl (0, ap Some here)
+        | inr later ↦ elim (r.each later.0 g later.1) [ inl it ↦ inl (suc it.0, it.1) | inr it ↦ inr it ]
+      ];
+      whole = r.whole;
+      own_required = own ++ r.own_required;
+      told = told_function;
+    }
+
+-- an interface by its path adds nothing
+sided_link : (files : List PackageFile) (decls : Decls) (written : List Meeting) (cs : List DoneScope) (gs : List DoneFunction) (place : ℕ) (s : Address) (new : List TypeDef) (is is' : List Interface) (fs : List Function) (rs : List Required) (link : Link) (xs : List SideItem) (inside : List Item) → AreSided files decls written cs gs place s new is is' fs rs xs inside → AreSided files decls written cs gs place s new is is' fs rs (SideLink link ∷ xs) inside
+sided_link files decls written cs gs place s new is is' fs rs link xs inside r = record {
+  ordered = r.ordered;
+  scopes = r.scopes;
+  added = r.added;
+  more = r.more;
+  last = r.last;
+  left = r.left;
+  items = r.items;
+  consumed = r.consumed;
+  laid = r.laid;
+  doing = r.doing;
+  count = r.count;
+  own = r.own;
+  within = r.within;
+  each = r.each;
+  whole = r.whole;
+  own_required = r.own_required;
+  told = λ met meets. (let it = r.told met meets in record { each = it.each; by_functions = it.by_functions; in_all = it.in_all });
+}
+
+-- an interface that is written there, and what stands behind it
+module _ (files : List PackageFile) (decls : Decls) (written : List Meeting) (cs : List DoneScope) (gs : List DoneFunction) (ccs : List Cell) (place : ℕ) (old mid : List TypeDef) (added : Interface) (own : List Required) (i : Item) (d : IsDoing files decls written cs gs old) (known : (k : ℕ) (x : Cell) → slice_get ccs k ≡ Some x → (j : ℕ) × (slice_get (map cell_of cs) j ≡ Some x)) (fresh : IsFreshInside files decls cs place i) (a : AddsInterface ccs place old mid added own i) where
+  abbrev pub o : Ordered
+  o = record { item = i; order = a.adds.order }
+
+  abbrev names : List ScopeName
+  names = in_turn (scope_names i) a.adds.order
+
+  abbrev pub b : DoneScope
+  b = laid_scope (owner.Interface place) o added.types a.functions (interface_functions added) own
+
+  abbrev named : List Meeting
+  named = all_name_meetings (address i) names
+
+  names_step : IsDoing files decls (written ++ named) (cs ++ b ∷ []) gs a.middle
+  names_step = names_doing files decls written cs gs old a.middle b d fresh.fresh fresh.own (subst (λ (l : List ScopeName). IsTurn l names) (sym fresh.has) (in_turn_is (scope_names i) a.adds.order a.adds.least a.adds.distinct)) (defines_wider old a.middle ccs (map cell_of cs) (owner.Interface place) (address i) [] added.types names known (a.adds.defines (address i)))
+
+  functions_step : IsDoing files decls ((written ++ named) ++ all_function_meetings (address i) (functions i)) (cs ++ b ∷ []) (gs ++ scope_functions b) mid
+  functions_step = functions_doing files decls (written ++ named) (cs ++ b ∷ []) gs a.middle mid names_step (length cs) b (at_seam cs b) (functions i) a.functions a.behind.adds
+
+  pub inline_step : IsDoing files decls (written ++ turn_meetings (turned o)) (cs ++ b ∷ []) (gs ++ scope_functions b) mid
+  inline_step = subst (λ (l : List Meeting). IsDoing files decls l (cs ++ b ∷ []) (gs ++ scope_functions b) mid) (append_assoc written named (all_function_meetings (address i) (functions i))) functions_step
+
+  inline_inside : IsInside place o b added
+  inline_inside = record {
+    least = a.adds.least;
+    turn = refl;
+    types = refl;
+    listed = (names_step.each (length cs) b (at_seam cs b)).listed;
+    whose = refl;
+    says = a.says;
+    stand = a.stand;
+    stated = refl;
+    paired = a.paired;
+  }
+
+  inline_whole : IsScopeWhole files b
+  inline_whole = record {
+    functions = sym fresh.does;
+    stated = stated_placed (functions i) a.functions added (functions_imported i fresh.interface) a.stand;
+    count = functions_count files decls (written ++ named) (cs ++ b ∷ []) gs a.middle mid names_step (length cs) b (at_seam cs b) (functions i) a.functions a.behind.adds;
+  }
+
+  module _ (s : Address) (new : List TypeDef) (is is' : List Interface) (fs : List Function) (rest : List Required) (x : Extern) (name : Id) (items : List InterfaceItem) (xs : List SideItem) (inside : List Item) (r : AreSided files decls (written ++ turn_meetings (turned o)) (cs ++ b ∷ []) (gs ++ scope_functions b) (suc place) s new (is ++ added ∷ []) is' fs rest xs inside) where
+    abbrev rest_turns : List Turned
+    rest_turns = side_turns s xs r.ordered
+
+    abbrev all : List DoneScope
+    all = b ∷ r.scopes
+
+    told_inline : (met : List Meeting) → Meets [] (written ++ (turn_meetings (turned o) ++ meetings rest_turns)) met → AreTold files (keys met) s (SideInline x name items ∷ xs) (turned o ∷ rest_turns) all r.own_required (own ++ rest)
+    told_inline met meets =
+        let behind : Meets [] ((written ++ turn_meetings (turned o)) ++ meetings rest_turns) met = subst (λ (l : List Meeting). Meets [] l met) (sym (append_assoc written (turn_meetings (turned o)) (meetings rest_turns))) meets in
+        let it = r.told met behind in
+        let here : AreRequired files (keys met) (turn_handles (turned o)) own = required_since files decls (written ++ turn_meetings (turned o)) (meetings rest_turns) (cs ++ b ∷ []) (gs ++ scope_functions b) mid inline_step (length cs) b (at_seam cs b) (all_handles (all_types names (functions i))) own a.behind.ended met behind in
+        record {
+          each = λ k c at. elim (behind_one b r.scopes k c at) [
+            | inl same ↦ subst (λ (y : DoneScope). AreRequired files (keys met) (turn_handles (turn_of y)) y.required) same here
+            | inr later ↦ it.each later.0 c later.1
+          ];
+          by_functions = it.by_functions;
+          in_all = required_append files (keys met) (turn_handles (turned o)) (flat_map turn_handles rest_turns) own rest here it.in_all;
+        }
+
+    front_more : (g : DoneFunction) → (j : ℕ) × (slice_get r.more j ≡ Some g) → (j : ℕ) × (slice_get (scope_functions b ++ r.more) j ≡ Some g)
+    front_more g it = (length (scope_functions b) + it.0, at_back (scope_functions b) r.more it.0 g it.1)
+
+    within_inline : (k j : ℕ) (c : DoneScope) (g : DoneFunction) → slice_get all k ≡ Some c → slice_get (scope_functions c) j ≡ Some g → (n : ℕ) × (slice_get (scope_functions b ++ r.more) n ≡ Some g)
+    within_inline k j c g at there = elim (behind_one b r.scopes k c at) [
+      | inl same ↦ (j, at_front (scope_functions b) r.more j g (ap (λ (y : DoneScope). slice_get (scope_functions y) j) same ∙ there))
+      | inr later ↦ front_more g (r.within later.0 j c g later.1 there)
+    ]
+
+    each_inline : (j : ℕ) (g : DoneFunction) → slice_get (scope_functions b ++ r.more) j ≡ Some g → ((k : ℕ) × (slice_get (done_functions s (flat_map item_function xs) fs) k ≡ Some g)) ⊎ ((t : ℕ) × (k : ℕ) × (c : DoneScope) × (slice_get all t ≡ Some c) × (slice_get (scope_functions c) k ≡ Some g))
+    each_inline j g at = elim (at_part (scope_functions b) r.more j g at) [
+      | inl h ↦ inr (0, h.0, b, refl, h.1)
+      | inr h ↦ elim (r.each h.0 g h.1) [ inl it ↦ inl it | inr it ↦ inr (suc it.0, it.1, it.2, it.3, it.4) ]
+    ]
+
+    pub sided_inline : AreSided files decls written cs gs place s new is is' fs (own ++ rest) (SideInline x name items ∷ xs) (i ∷ inside)
+    sided_inline = record {
+      ordered = o ∷ r.ordered;
+      scopes = all;
+      added = added ∷ r.added;
+      more = scope_functions b ++ r.more;
+      last = r.last ∙ append_assoc is (added ∷ []) r.added;
+      left = r.left;
+      items = ap (λ (l : List Item). i ∷ l) r.items;
+      consumed = ap suc r.consumed;
+      laid = (inline_inside, r.laid);
+      doing = subst (λ (l : List Meeting). IsDoing files decls l (cs ++ all) (gs ++ (scope_functions b ++ r.more)) new) (append_assoc written (turn_meetings (turned o)) (meetings rest_turns)) (subst (λ (l : List DoneScope). IsDoing files decls ((written ++ turn_meetings (turned o)) ++ meetings rest_turns) l (gs ++ (scope_functions b ++ r.more)) new) (append_assoc cs (b ∷ []) r.scopes) (subst (λ (l : List DoneFunction). IsDoing files decls ((written ++ turn_meetings (turned o)) ++ meetings rest_turns) ((cs ++ b ∷ []) ++ r.scopes) l new) (append_assoc gs (scope_functions b) r.more) r.doing));
+      count = r.count;
+      own = λ k g at. front_more g (r.own k g at);
+      within = within_inline;
+      each = each_inline;
+      whole = λ k c at. elim (behind_one b r.scopes k c at) [
+        | inl same ↦ subst (λ (y : DoneScope). IsScopeWhole files y) same inline_whole
+        | inr later ↦ r.whole later.0 c later.1
+      ];
+      own_required = r.own_required;
+      told = told_inline;
+    }
+
+-- one fresh item less, once a scope at another address was added
+fresh_later : (files : List PackageFile) (decls : Decls) (cs : List DoneScope) (place : ℕ) (i : Item) (b : DoneScope) → (b.address ≡ address i → ⊥) → IsFreshInside files decls cs place i → IsFreshInside files decls (cs ++ b ∷ []) place i
+fresh_later files decls cs place i b other f = record {
+  interface = f.interface;
+  fresh = λ t c at same. elim (at_either cs b t c at) [ inl old ↦ f.fresh t c old same | inr new ↦ other (ap (λ (x : DoneScope). x.address) (sym new.1) ∙ same) ];
+  has = f.has;
+  does = f.does;
+  own = f.own;
+}
+
+-- what stands on the sides of a world, where its names are done
+pub are_sided : (files : List PackageFile) (decls : Decls) (written : List Meeting) (cs : List DoneScope) (gs : List DoneFunction) (es new : List TypeDef) (ccs : List Cell) (count t : ℕ) (c : DoneScope) (is is' : List Interface) (fs : List Function) (rs : List Required) (xs : List SideItem) (inside : List Item) → IsDoing files decls written cs gs es → slice_get cs t ≡ Some c → ((k : ℕ) (x : Cell) → slice_get ccs k ≡ Some x → (j : ℕ) × (slice_get (map cell_of cs) j ≡ Some x)) → AllDiffer (map address inside) → ((k : ℕ) (i : Item) → slice_get inside k ≡ Some i → IsFreshInside files decls cs ((count + length is) + k) i) → AddsSides ccs count c.address c.types es new is is' fs rs xs inside → AreSided files decls written cs gs (count + length is) c.address new is is' fs rs xs inside
+are_sided files decls written cs gs es new ccs count t c is is' fs rs [] inside d at known differ fresh a = rw (a.0, a.1, a.2, a.3) (sided_none files decls written cs gs (count + length is) c.address es is inside d)
+are_sided files decls written cs gs es new ccs count t c is is' fs rs (SideFunction fn ∷ xs) inside d at known differ fresh a =
+    let step = function_step files decls written cs gs (count + length is) es a.0 new is is' fn a.1 a.2 a.3 a.4 xs inside d t c at a.7 in
+    let r = are_sided files decls (written ++ all_function_meetings c.address (fn ∷ [])) cs (gs ++ done_function c.address fn a.1 ∷ []) a.0 new ccs count t c is is' a.2 a.4 xs inside step at known differ fresh a.8 in
+    let whole = sided_function files decls written cs gs (count + length is) es a.0 new is is' fn a.1 a.2 a.3 a.4 xs inside d t c at a.7 r in
+    subst (λ (l : List Function). AreSided files decls written cs gs (count + length is) c.address new is is' l rs (SideFunction fn ∷ xs) inside) (sym a.5) (subst (λ (l : List Required). AreSided files decls written cs gs (count + length is) c.address new is is' (a.1 ∷ a.2) l (SideFunction fn ∷ xs) inside) (sym a.6) whole)
+are_sided files decls written cs gs es new ccs count t c is is' fs rs (SideLink link ∷ xs) inside d at known differ fresh a = sided_link files decls written cs gs (count + length is) c.address new is is' fs rs link xs inside (are_sided files decls written cs gs es new ccs count t c is is' fs rs xs inside d at known differ fresh a)
+are_sided files decls written cs gs es new ccs count t c is is' fs rs (SideInline x name items ∷ xs) [] d at known differ fresh a = absurd a
+are_sided files decls written cs gs es new ccs count t c is is' fs rs (SideInline x name items ∷ xs) (i ∷ inside) d at known differ fresh a =
+    let place = count + length is in
+    let first : IsFreshInside files decls cs place i = subst (λ (n : ℕ). IsFreshInside files decls cs n i) (let same : (count + length is) + 0 ≡ count + length is = omega arith in same) (fresh 0 i refl) in
+    let next : DoneScope = b files decls written cs gs ccs place es a.0 a.1 a.2 i d known first a.5 in
+    let turn : Turned = turned (o files decls written cs gs ccs place es a.0 a.1 a.2 i d known first a.5) in
+    let step = inline_step files decls written cs gs ccs place es a.0 a.1 a.2 i d known first a.5 in
+    let longer : length (is ++ a.1 ∷ []) ≡ length is + 1 = length-append is (a.1 ∷ []) in
+    let known_more : (k : ℕ) (y : Cell) → slice_get ccs k ≡ Some y → (j : ℕ) × (slice_get (map cell_of (cs ++ next ∷ [])) j ≡ Some y) = λ k y h. (let it = known k y h in (it.0, ap (λ (l : List Cell). slice_get l it.0) (map-append cell_of cs (next ∷ [])) ∙ at_front (map cell_of cs) (map cell_of (next ∷ [])) it.0 y it.1)) in
+    let fresh_more = λ (k : ℕ) (j : Item) (h : slice_get inside k ≡ Some j). subst (λ (n : ℕ). IsFreshInside files decls (cs ++ next ∷ []) n j) (let same : (count + length is) + suc k ≡ (count + length (is ++ a.1 ∷ [])) + k = omega (arith, longer) in same) (fresh_later files decls cs ((count + length is) + suc k) j next (λ same. differ_head address i inside differ k j h (sym same)) (fresh (suc k) j h)) in
+    let r = are_sided files decls (written ++ turn_meetings turn) (cs ++ next ∷ []) (gs ++ scope_functions next) a.0 new ccs count t c (is ++ a.1 ∷ []) is' fs a.3 xs inside step (at_front cs (next ∷ []) t c at) known_more (differ_tail address i inside differ) fresh_more a.6 in
+    let spot : AreSided files decls (written ++ turn_meetings turn) (cs ++ next ∷ []) (gs ++ scope_functions next) (suc place) c.address new (is ++ a.1 ∷ []) is' fs a.3 xs inside = subst (λ (n : ℕ). AreSided files decls (written ++ turn_meetings turn) (cs ++ next ∷ []) (gs ++ scope_functions next) n c.address new (is ++ a.1 ∷ []) is' fs a.3 xs inside) (let same : count + length (is ++ a.1 ∷ []) ≡ suc (count + length is) = omega (arith, longer) in same) r in
+    subst (λ (l : List Required). AreSided files decls written cs gs place c.address new is is' fs l (SideInline x name items ∷ xs) (i ∷ inside)) (sym a.4) (sided_inline files decls written cs gs ccs place es a.0 a.1 a.2 i d known first a.5 c.address new is is' fs a.3 x name items xs inside spot)

@@ -1,0 +1,315 @@
+-- Worlds that were added are done, behind interfaces, each with the interfaces that are written in it.
+use Rattle.std.proofs.Common.{◌≡◌, ℕ, suc, ◌+◌, true, false, List, [], ◌∷◌, ◌++◌, length, map, Some, inl, inr, refl, sym, ap, ◌∙◌, subst, append_assoc, arith, length-append, zero-add, add-zero}
+use Rattle.std.specs.Prelude.{slice_get}
+use Rattle.std.specs.List.{flat_map}
+use Rattle.std.proofs.lemmas.Grind.{flat_map-append}
+use Rattle.std.proofs.lemmas.List.{append-nil, map-append, length-map}
+use Rattle.wit_tree.specs.declared.tree.Id.{Id}
+use Rattle.wit_tree.specs.declared.tree.PackageFile.{PackageFile}
+use Rattle.wit_tree.specs.declared.tree.WorldSide.TheVariants.{Imported, Exported}
+use Rattle.wit_model.specs.declared.function.Function.{Function}
+use Rattle.wit_model.specs.declared.interface.Interface.{Interface}
+use Rattle.wit_model.specs.declared.world.World.{World}
+use Rattle.wit_types.specs.declared.types.TypeDef.{TypeDef}
+use Rattle.wit_syntax.specs.Address.{Address}
+use Rattle.wit_syntax.specs.Function.{SourceFunction, functions, name_types, written_types}
+use Rattle.wit_syntax.specs.Shape.{all_handles, handles}
+use Rattle.wit_tree.specs.declared.tree.«Type».{«Type» as Written}
+use Rattle.wit_syntax.specs.Sides.{FunctionKey, item_function, side_items, inline_items}
+use Rattle.wit_syntax.specs.Source.{address, Item, all_items, ScopeName, scope_names}
+use Rattle.wit_syntax.specs.Trees.{scope}
+use Rattle.wit_syntax.specs.Foreign.{visited, foreign_interfaces, foreign_worlds}
+use Rattle.wit_syntax.specs.Scope.{in_turn, local_names}
+use Rattle.wit_syntax.proofs.Lists.{at_front, at_back, at_seam, at_either, flat_map_at, flat_map_has}
+use Rattle.wit_syntax.proofs.Turns.{at_part}
+use Rattle.wit_syntax.proofs.Legal.{functions_items}
+use Rattle.wit_arena.specs.Meet.{Meeting, keys, Meets, all_name_meetings}
+use Rattle.wit_arena.specs.Package.{world_types, world_functions}
+use Rattle.wit_arena.specs.Resolved.{interfaces_at, worlds_at, WorldArenas, front_worlds, AddsWorld, AddsWorlds, AddsForeign, AreUsableUses}
+use Rattle.wit_arena.specs.Resolving.{Names, env_of, Cell, Required, cells}
+use Rattle.wit_arena.specs.Whole.{Ordered, OrderedWorld, own_item, Turned, item_of, addresses, turned, side_turns, world_turns, all_turns, all_inside, meetings, all_meetings, turn_handles, AreRequired, functions_at}
+use Rattle.wit_arena.proofs.Added.{InterfacesDone, WorldOwner, inside_of, interface_list, world_list, decls}
+use Rattle.wit_arena.proofs.Sided.{AreTold, AreSided}
+use Rattle.wit_arena.proofs.Begun.{done_of}
+use Rattle.wit_arena.proofs.Doing.{AreWhole, DoneFunction, done_functions, scope_functions, IsDoing}
+use Rattle.wit_arena.proofs.FreeNames.{free_of, AreStated}
+use Rattle.wit_arena.proofs.Front.{front_scopes}
+use Rattle.wit_arena.proofs.Inside.{AreInside, inside_append}
+use Rattle.wit_arena.proofs.Interfaces.{AreItems, AreOfSort, item_scopes, functions_of, world_address}
+use Rattle.wit_arena.proofs.Laid.{AreLaid, laid_none, laid_more}
+use Rattle.wit_arena.proofs.Meeting.{meets_one, meets_longer}
+use Rattle.wit_arena.proofs.Places.{Grown, grown_trans}
+use Rattle.wit_arena.proofs.Required.{in_scope, ended_required, required_append, required_grown}
+use Rattle.wit_arena.proofs.SideItems.{side_types, side_items_wider}
+use Rattle.wit_arena.proofs.Standing.{DoneScope, turn_of, cell_of, IsDone}
+use Rattle.wit_arena.proofs.Stating.{both_sides, world_functions-all, stated_on_sides}
+use Rattle.wit_arena.proofs.DoneWorlds.{none_left, inline_count, SaysWorld, MakesWorld, world_cell, DoneWorld, own_scope, scopes_of, all_within, own_order, AreWorldsDone, includes_wider, named_world, own_types, all_handles-append, written_more, scopes_more, handles_more, one_of_three, doing_declared}
+use Rattle.wit_arena.proofs.Requiring.{requiring, doing_requiring}
+use Rattle.wit_arena.proofs.WorldSides.{place, next_place, long_inside, inside_split, world_added, interface_added, c, names_done, sides_done}
+
+module _ (files : List PackageFile) (is ws : List Item) (interfaces : AreOfSort false is) (worlds : AreOfSort true ws) (is_items : AreItems files is) (ws_items : AreItems files ws) (uses : AreUsableUses files (all_items files)) (es : List TypeDef) (front : List Interface) (wfront : List World) (foreign : AddsForeign files es front wfront) (middle : List TypeDef) (xs : List Interface) (irs : List Required) (d : InterfacesDone files is ws front is middle xs irs) where
+  abbrev ss : List Address
+  ss = map visited (foreign_interfaces files)
+
+  abbrev others : List Address
+  others = map visited (foreign_worlds files)
+
+  abbrev before : List DoneScope
+  before = front_scopes files front ++ d.scopes
+
+  abbrev known : List Cell
+  known = cells ss (front ++ xs)
+
+  -- the first worlds are done, behind all interfaces
+  abbrev WorldsDone : List Item → List TypeDef → WorldArenas → List Required → Type 0
+  WorldsDone us new a rs = AreWorldsDone files is ws wfront d.ordered before us new a rs
+
+  module _ (us : List Item) (old : List TypeDef) (a : WorldArenas) (qs : List Required) (e : WorldsDone us old a qs) (w : Item) (next : slice_get ws (length us) ≡ Some w) where
+    abbrev s : Address
+    s = address w
+
+    abbrev first : List DoneScope
+    first = before ++ flat_map scopes_of e.scopes
+
+    abbrev made_before : List DoneFunction
+    made_before = flat_map scope_functions first
+
+    abbrev written : List Meeting
+    written = all_meetings files (all_turns d.ordered e.ordered)
+
+    -- what this world adds
+    module _ (new : List TypeDef) (b : WorldArenas) (rs : List Required) (adds : AddsWorld ss others (front ++ xs) old new a b rs w) where
+      abbrev turns_names : List ScopeName
+      turns_names = in_turn (scope_names w) adds.adds.order
+
+      abbrev both : List (FunctionKey × Function)
+      both = both_sides (functions w) adds.functions
+
+      abbrev opened : DoneScope
+      opened = c files is ws interfaces worlds is_items ws_items uses es front wfront foreign middle xs irs d us old a qs e w next adds.middle adds.types adds.adds adds.functions both []
+
+      opened_names : IsDoing files (decls files is ws) (written ++ all_name_meetings s turns_names) (first ++ opened ∷ []) made_before adds.middle
+      opened_names = names_done files is ws interfaces worlds is_items ws_items uses es front wfront foreign middle xs irs d us old a qs e w next adds.middle adds.types adds.adds adds.functions both []
+
+      sided : AreSided files (decls files is ws) (written ++ all_name_meetings s turns_names) (first ++ opened ∷ []) made_before (length (front ++ xs) + length a.inside) s new a.inside b.inside adds.functions adds.rest (side_items w) (inline_items w)
+      sided = sides_done files is ws interfaces worlds is_items ws_items uses es front wfront foreign middle xs irs d us old a qs e w next adds.middle adds.types adds.adds adds.functions both [] new b.inside adds.functions adds.rest (side_items w) (inline_items w) (λ k i at. at) adds.sides
+
+      -- its scope, with what its handles require
+      abbrev closed : DoneScope
+      closed = requiring opened (adds.own ++ sided.own_required)
+
+      abbrev sides : List Turned
+      sides = side_turns s (side_items w) sided.ordered
+
+      abbrev all_scopes_now : List DoneScope
+      all_scopes_now = (first ++ closed ∷ []) ++ sided.scopes
+
+      doing : IsDoing files (decls files is ws) ((written ++ all_name_meetings s turns_names) ++ meetings sides) all_scopes_now (made_before ++ sided.more) new
+      doing = doing_requiring files (decls files is ws) ((written ++ all_name_meetings s turns_names) ++ meetings sides) first sided.scopes opened (adds.own ++ sided.own_required) (made_before ++ sided.more) new sided.doing
+
+      -- what is required on its sides
+      told : AreTold files (keys doing.met) s (side_items w) sides sided.scopes sided.own_required adds.rest
+      told = sided.told doing.met doing.meets
+
+      -- all that are written in it stand there
+      items_all : map item_of sided.ordered ≡ inline_items w
+      items_all =
+          let long : length (map item_of sided.ordered ++ sided.left) ≡ length (inline_items w) = ap length sided.items in
+          let parts = length-append (map item_of sided.ordered) sided.left in
+          let own = length-map sided.ordered item_of in
+          let used = sided.consumed in
+          let count = inline_count [] w (side_items w) in
+          let none : sided.left ≡ [] = none_left sided.left (omega (arith, long, parts, own, used, count)) in
+          sym (append-nil (map item_of sided.ordered)) ∙ ap (λ (l : List Item). map item_of sided.ordered ++ l) (sym none) ∙ sided.items
+
+      grown_names : Grown (keys opened_names.met) (keys doing.met)
+      grown_names = meets_longer (written ++ all_name_meetings s turns_names) (meetings sides) [] opened_names.met doing.met opened_names.meets doing.meets
+
+      grown_before : Grown (keys e.done.met) (keys doing.met)
+      grown_before = grown_trans (meets_longer written (all_name_meetings s turns_names) [] e.done.met opened_names.met e.done.meets opened_names.meets) grown_names
+
+      -- what its names require
+      names_required : AreRequired files (keys doing.met) (map (in_scope s) (all_handles (flat_map name_types turns_names))) adds.own
+      names_required = required_grown files grown_names (map (in_scope s) (all_handles (flat_map name_types turns_names))) adds.own (ended_required files (decls files is ws) (keys opened_names.met) adds.middle opened_names.meeting.keyed (λ j t name at. doing_declared files (decls files is ws) (written ++ all_name_meetings s turns_names) (first ++ opened ∷ []) made_before adds.middle t name opened_names (opened_names.before j t name at)) s (env_of adds.types) (opened_names.stand (length first) opened (at_seam first opened)) (all_handles (flat_map name_types turns_names)) adds.own adds.ended)
+
+      -- and with them its functions
+      own_required : AreRequired files (keys doing.met) (turn_handles (turn_of closed)) closed.required
+      own_required =
+          let ts : List Written = flat_map name_types turns_names in
+          let fns : List Written = flat_map written_types (functions w) in
+          let functions_required : AreRequired files (keys doing.met) (map (in_scope s) (all_handles fns)) sided.own_required = subst (λ (l : List SourceFunction). AreRequired files (keys doing.met) (map (in_scope s) (all_handles (flat_map written_types l))) sided.own_required) (sym (functions_items w)) told.by_functions in
+          let whole : map (in_scope s) (all_handles (ts ++ fns)) ≡ map (in_scope s) (all_handles ts) ++ map (in_scope s) (all_handles fns) = ap (map (in_scope s)) (all_handles-append ts fns) ∙ map-append (in_scope s) (all_handles ts) (all_handles fns) in
+          subst (λ (hs : List (Address × Id)). AreRequired files (keys doing.met) hs (adds.own ++ sided.own_required)) (sym whole) (required_append files (keys doing.met) (map (in_scope s) (all_handles ts)) (map (in_scope s) (all_handles fns)) adds.own sided.own_required names_required functions_required)
+
+      -- its functions, as they are written and as they stand on its sides
+      by_items : (k : ℕ) → slice_get (scope_functions closed) k ≡ slice_get (done_functions s (flat_map item_function (side_items w)) adds.functions) k
+      by_items k = ap (λ (l : List SourceFunction). slice_get (done_functions s l adds.functions) k) (functions_items w)
+
+      behind_made : (g : DoneFunction) → (j : ℕ) × (slice_get sided.more j ≡ Some g) → (j : ℕ) × (slice_get (made_before ++ sided.more) j ≡ Some g)
+      behind_made g it = (length made_before + it.0, at_back made_before sided.more it.0 g it.1)
+
+      made_among : (t k : ℕ) (x : DoneScope) (g : DoneFunction) → slice_get all_scopes_now t ≡ Some x → slice_get (scope_functions x) k ≡ Some g → (j : ℕ) × (slice_get (made_before ++ sided.more) j ≡ Some g)
+      made_among t k x g at there = elim (one_of_three first sided.scopes closed t x at) [
+        | inl h ↦ (let it = flat_map_has scope_functions first h.0 k x g h.1 there in (it.0, at_front made_before sided.more it.0 g it.1))
+        | inr h ↦ elim h [
+          | inl own ↦ behind_made g (sided.own k g (sym (by_items k) ∙ ap (λ (y : DoneScope). slice_get (scope_functions y) k) (sym own) ∙ there))
+          | inr far ↦ behind_made g (sided.within far.0 k x g far.1 there)
+        ]
+      ]
+
+      made_each : (j : ℕ) (g : DoneFunction) → slice_get (made_before ++ sided.more) j ≡ Some g → (t : ℕ) × (k : ℕ) × (x : DoneScope) × (slice_get all_scopes_now t ≡ Some x) × (slice_get (scope_functions x) k ≡ Some g)
+      made_each j g at = elim (at_part made_before sided.more j g at) [
+        | inl h ↦ (let it = flat_map_at scope_functions first h.0 g h.1 in (it.0, it.3.0, it.1, at_front (first ++ closed ∷ []) sided.scopes it.0 it.1 (at_front first (closed ∷ []) it.0 it.1 it.2), it.3.1))
+        | inr h ↦ elim (sided.each h.0 g h.1) [
+          | inl own ↦ (length first, own.0, closed, at_front (first ++ closed ∷ []) sided.scopes (length first) closed (at_seam first closed), by_items own.0 ∙ own.1)
+          | inr far ↦ (length (first ++ closed ∷ []) + far.0, far.1, far.2, at_back (first ++ closed ∷ []) sided.scopes far.0 far.2 far.3, far.4)
+        ]
+      ]
+
+      -- of each scope this holds, where it does of those before, of this one, and of those that are written in it
+      of_each : (P : DoneScope → Type 0) → ((k : ℕ) (x : DoneScope) → slice_get first k ≡ Some x → P x) → P closed → ((k : ℕ) (x : DoneScope) → slice_get sided.scopes k ≡ Some x → P x) → (t : ℕ) (x : DoneScope) → slice_get all_scopes_now t ≡ Some x → P x
+      of_each P old own far t x at = elim (one_of_three first sided.scopes closed t x at) [
+        | inl h ↦ old h.0 x h.1
+        | inr h ↦ elim h [ inl is ↦ subst P (sym is) own | inr it ↦ far it.0 x it.1 ]
+      ]
+
+      all_of : AreWhole files all_scopes_now (made_before ++ sided.more) (keys doing.met)
+      all_of = record {
+        functions = of_each (λ (x : DoneScope). x.functions ≡ functions_at files x.address) (λ k x at. (e.done.each k x at).functions) (sym (functions_of files ws (item_scopes files ws ws_items) (length us) w next)) (λ k x at. (sided.whole k x at).functions);
+        stated = of_each (λ (x : DoneScope). AreStated x.functions x.made x.stated) (λ k x at. (e.done.each k x at).stated) (stated_on_sides (functions w) adds.functions) (λ k x at. (sided.whole k x at).stated);
+        count = of_each (λ (x : DoneScope). length x.made ≡ length x.functions) (λ k x at. (e.done.made k x at).count) (sided.count ∙ ap length (sym (functions_items w))) (λ k x at. (sided.whole k x at).count);
+        made = made_among;
+        each = made_each;
+        required = of_each (λ (x : DoneScope). AreRequired files (keys doing.met) (turn_handles (turn_of x)) x.required) (λ k x at. required_grown files grown_before (turn_handles (turn_of x)) x.required (e.done.required k x at)) own_required told.each;
+      }
+
+      abbrev world : OrderedWorld
+      world = record { own = record { item = w; order = adds.adds.order }; inside = sided.ordered }
+
+      abbrev world_done : DoneWorld
+      world_done = record { own = closed; inside = sided.scopes }
+
+      abbrev then_written : List Meeting
+      then_written = all_meetings files (all_turns d.ordered (e.ordered ++ world ∷ []))
+
+      then_meets : then_written ≡ (written ++ all_name_meetings s turns_names) ++ meetings sides
+      then_meets = written_more files d.ordered e.ordered world s turns_names refl
+
+      all_done : IsDone files (decls files is ws) then_written (before ++ flat_map scopes_of (e.scopes ++ world_done ∷ [])) new
+      all_done = subst (λ (ms : List Meeting). IsDone files (decls files is ws) ms (before ++ flat_map scopes_of (e.scopes ++ world_done ∷ [])) new) (sym then_meets) (subst (λ (l : List DoneScope). IsDone files (decls files is ws) ((written ++ all_name_meetings s turns_names) ++ meetings sides) l new) (sym (scopes_more before e.scopes world_done)) (done_of files (decls files is ws) ((written ++ all_name_meetings s turns_names) ++ meetings sides) all_scopes_now (made_before ++ sided.more) new doing all_of))
+
+      all_required : (met : List Meeting) → Meets [] then_written met → AreRequired files (keys met) (flat_map turn_handles (flat_map world_turns (e.ordered ++ world ∷ []))) (qs ++ rs)
+      all_required met meets =
+          let same : doing.met ≡ met = meets_one ((written ++ all_name_meetings s turns_names) ++ meetings sides) [] doing.met met doing.meets (subst (λ (ms : List Meeting). Meets [] ms met) then_meets meets) in
+          let old_handles = flat_map turn_handles (flat_map world_turns e.ordered) in
+          let own_handles = map (in_scope s) (all_handles (flat_map name_types turns_names)) in
+          let side_handles = flat_map turn_handles sides in
+          let old_required = required_grown files grown_before old_handles qs (e.required e.done.met e.done.meets) in
+          let new_required = required_append files (keys doing.met) own_handles side_handles adds.own adds.rest names_required told.in_all in
+          let whole = required_append files (keys doing.met) old_handles (own_handles ++ side_handles) qs (adds.own ++ adds.rest) old_required new_required in
+          subst (λ (ms : List Meeting). AreRequired files (keys ms) (flat_map turn_handles (flat_map world_turns (e.ordered ++ world ∷ []))) (qs ++ rs)) same (subst (λ (hs : List (Address × Id)). AreRequired files (keys doing.met) hs (qs ++ rs)) (sym (handles_more e.ordered world s turns_names refl)) (subst (λ (ts : List Required). AreRequired files (keys doing.met) (old_handles ++ (own_handles ++ side_handles)) (qs ++ ts)) (sym adds.requires) whole))
+
+      listed : map (λ p. p.0) adds.types ≡ local_names turns_names
+      listed = (opened_names.each (length first) opened (at_seam first opened)).listed
+
+      abbrev all_addresses : List Address
+      all_addresses = interfaces_at ss (front ++ xs) ++ b.addresses
+
+      abbrev inside_addresses : List Address
+      inside_addresses = map address (inline_items w)
+
+      stated_all : world_functions adds.added ≡ both
+      stated_all = world_functions-all all_addresses w.top turns_names adds.types (side_items w) adds.functions inside_addresses adds.imported adds.added adds.imports adds.are_imported adds.are_exported ∙ ap (λ (l : List SourceFunction). both_sides l adds.functions) (sym (functions_items w))
+
+      is_cell : cell_of closed ≡ world_cell adds.added
+      is_cell =
+          let types = own_types turns_names adds.types adds.imported adds.added listed adds.imports (side_types all_addresses w.top Imported (side_items w) adds.functions inside_addresses adds.imported adds.are_imported) in
+          ap (λ (x : Address). record { address = x; types = adds.types; functions = free_of both }) (world_address w (worlds.each (length us) w next))
+          ∙ ap (named_world adds.types both) (sym adds.says.name)
+          ∙ ap (λ (x : Names). named_world x both adds.added.name) (sym types)
+          ∙ ap (λ (x : List (FunctionKey × Function)). named_world (world_types adds.added) x adds.added.name) (sym stated_all)
+
+      makes : MakesWorld (interface_list files is (inside_of ws)) world.own closed adds.added
+      makes = record {
+        imported = adds.imported;
+        imports = adds.imports;
+        are_imported = side_items_wider all_addresses (interface_list files is (inside_of ws)) (interface_added files is ws interfaces worlds is_items ws_items uses es front wfront foreign middle xs irs d us old a qs e w next b.addresses adds.more) w.top Imported (side_items w) adds.functions inside_addresses adds.imported adds.are_imported;
+        are_exported = side_items_wider all_addresses (interface_list files is (inside_of ws)) (interface_added files is ws interfaces worlds is_items ws_items uses es front wfront foreign middle xs irs d us old a qs e w next b.addresses adds.more) w.top Exported (side_items w) adds.functions inside_addresses adds.added.exports adds.are_exported;
+        stated = sym stated_all;
+      }
+
+      says : SaysWorld (world_list files ws) world.own adds.added
+      says = record {
+        says = adds.says;
+        includes = includes_wider (worlds_at others a.worlds) (world_list files ws) w adds.added.includes (world_added files is ws interfaces worlds is_items ws_items uses es front wfront foreign middle xs irs d us old a qs e w next) adds.includes;
+      }
+
+      abbrev Laid : List Ordered → List DoneScope → Type 0
+      Laid os cs = AreLaid (WorldOwner files) (SaysWorld (world_list files ws)) world_cell (MakesWorld (interface_list files is (inside_of ws))) ws os (e.own ++ adds.added ∷ []) cs
+
+      all_laid : Laid (map own_order (e.ordered ++ world ∷ [])) (map own_scope (e.scopes ++ world_done ∷ []))
+      all_laid = subst (λ (os : List Ordered). Laid os (map own_scope (e.scopes ++ world_done ∷ []))) (sym (map-append own_order e.ordered (world ∷ []))) (subst (λ (cs : List DoneScope). Laid (map own_order e.ordered ++ world.own ∷ []) cs) (sym (map-append own_scope e.scopes (world_done ∷ []))) (laid_more (WorldOwner files) (SaysWorld (world_list files ws)) world_cell (MakesWorld (interface_list files is (inside_of ws))) ws (map own_order e.ordered) e.own (e.own ++ adds.added ∷ []) (map own_scope e.scopes) world.own closed adds.added e.laid (ap (slice_get ws) (place files is ws interfaces worlds is_items ws_items uses es front wfront foreign middle xs irs d us old a qs e w next) ∙ next) adds.adds.least refl says refl is_cell refl makes))
+
+      inside_orders : all_inside (e.ordered ++ world ∷ []) ≡ all_inside e.ordered ++ sided.ordered
+      inside_orders = flat_map-append (λ (x : OrderedWorld). x.inside) e.ordered (world ∷ []) ∙ ap (λ (l : List Ordered). all_inside e.ordered ++ l) (append-nil sided.ordered)
+
+      inside_scopes : all_within (e.scopes ++ world_done ∷ []) ≡ all_within e.scopes ++ sided.scopes
+      inside_scopes = flat_map-append (λ (x : DoneWorld). x.inside) e.scopes (world_done ∷ []) ∙ ap (λ (l : List DoneScope). all_within e.scopes ++ l) (append-nil sided.scopes)
+
+      inside_laid : AreInside (length ss + length is) (all_inside (e.ordered ++ world ∷ [])) (all_within (e.scopes ++ world_done ∷ [])) b.inside
+      inside_laid =
+          let spot : length (front ++ xs) + length a.inside ≡ (length ss + length is) + length (all_inside e.ordered) = (let p = (next_place files is ws interfaces worlds is_items ws_items uses es front wfront foreign middle xs irs d us old a qs e w next) in let q = (long_inside files is ws interfaces worlds is_items ws_items uses es front wfront foreign middle xs irs d us old a qs e w next) in omega arith) in
+          let more = inside_append (length ss + length is) (all_inside e.ordered) sided.ordered (all_within e.scopes) sided.scopes a.inside sided.added e.laid_inside (subst (λ (n : ℕ). AreInside n sided.ordered sided.scopes sided.added) spot sided.laid) in
+          subst (λ (os : List Ordered). AreInside (length ss + length is) os (all_within (e.scopes ++ world_done ∷ [])) b.inside) (sym inside_orders) (subst (λ (cs : List DoneScope). AreInside (length ss + length is) (all_inside e.ordered ++ sided.ordered) cs b.inside) (sym inside_scopes) (subst (λ (js : List Interface). AreInside (length ss + length is) (all_inside e.ordered ++ sided.ordered) (all_within e.scopes ++ sided.scopes) js) (sym sided.last) more))
+
+      -- one world more
+      pub world_more : WorldsDone (us ++ w ∷ []) new b (qs ++ rs)
+      world_more = record {
+        ordered = e.ordered ++ world ∷ [];
+        scopes = e.scopes ++ world_done ∷ [];
+        own = e.own ++ adds.added ∷ [];
+        arena = adds.last ∙ ap (λ (l : List World). l ++ adds.added ∷ []) e.arena ∙ append_assoc wfront e.own (adds.added ∷ []);
+        all = map-append own_item e.ordered (world ∷ []) ∙ ap (λ (l : List Item). l ++ w ∷ []) e.all;
+        each_inside = λ t p at. elim (at_either e.ordered world t p at) [
+          | inl old ↦ e.each_inside t p old
+          | inr new ↦ subst (λ (x : OrderedWorld). map item_of x.inside ≡ inline_items x.own.item) (sym new.1) items_all
+        ];
+        inside = ap (map item_of) inside_orders ∙ map-append item_of (all_inside e.ordered) sided.ordered ∙ ap (λ (l : List Item). l ++ map item_of sided.ordered) e.inside ∙ ap (λ (l : List Item). inside_of us ++ l) items_all ∙ sym (inside_split files is ws interfaces worlds is_items ws_items uses es front wfront foreign middle xs irs d us old a qs e w next);
+        laid = all_laid;
+        laid_inside = inside_laid;
+        addresses = adds.more ∙ ap (λ (l : List Address). l ++ inside_addresses) e.addresses ∙ sym (map-append address (inside_of us) (inline_items w)) ∙ ap (map address) (sym (inside_split files is ws interfaces worlds is_items ws_items uses es front wfront foreign middle xs irs d us old a qs e w next));
+        done = all_done;
+        required = all_required;
+      }
+
+  -- no world is done yet
+  no_world : WorldsDone [] middle (front_worlds wfront) []
+  no_world = record {
+    ordered = [];
+    scopes = [];
+    own = [];
+    arena = sym (append-nil wfront);
+    all = refl;
+    each_inside = λ t o at. absurd (let f : ⊥ = cc in f);
+    inside = refl;
+    laid = laid_none (WorldOwner files) (SaysWorld (world_list files ws)) world_cell (MakesWorld (interface_list files is (inside_of ws))) ws;
+    laid_inside = tt;
+    addresses = refl;
+    done = subst (λ (l : List DoneScope). IsDone files (decls files is ws) (all_meetings files (all_turns d.ordered [])) l middle) (sym (append-nil before)) (subst (λ (ts : List Turned). IsDone files (decls files is ws) (all_meetings files ts) before middle) (sym (append-nil (map turned d.ordered))) d.done);
+    required = λ met meets. refl;
+  }
+
+  -- all that are left
+  more_worlds : (us : List Item) (old new : List TypeDef) (a b : WorldArenas) (qs rs : List Required) (vs : List Item) → ((k : ℕ) (w : Item) → slice_get vs k ≡ Some w → slice_get ws (length us + k) ≡ Some w) → WorldsDone us old a qs → AddsWorlds ss others (front ++ xs) old new a b rs vs → WorldsDone (us ++ vs) new b (qs ++ rs)
+  more_worlds us old new a b qs rs [] there e adds = rw (append-nil us, adds.0, adds.1, adds.2, append-nil qs) e
+  more_worlds us old new a b qs rs (w ∷ vs) there e adds =
+      let at : slice_get ws (length us) ≡ Some w = subst (λ (m : ℕ). slice_get ws m ≡ Some w) (add-zero (length us)) (there 0 w refl) in
+      let longer : length (us ++ w ∷ []) ≡ length us + 1 = length-append us (w ∷ []) in
+      let rest = λ (k : ℕ) (v : Item) (h : slice_get vs k ≡ Some v). subst (λ (m : ℕ). slice_get ws m ≡ Some v) (let same : length us + suc k ≡ length (us ++ w ∷ []) + k = omega arith in same) (there (suc k) v h) in
+      let more : (qs ++ adds.2) ++ adds.3 ≡ qs ++ rs = append_assoc qs adds.2 adds.3 ∙ ap (λ (x : List Required). qs ++ x) (sym adds.4) in
+      let whole = more_worlds (us ++ w ∷ []) adds.0 new adds.1 b (qs ++ adds.2) adds.3 vs rest (world_more us old a qs e w at adds.0 adds.1 adds.2 adds.5) adds.6 in
+      subst (λ (x : List Item). WorldsDone x new b (qs ++ rs)) (append_assoc us (w ∷ []) vs) (subst (λ (x : List Required). WorldsDone ((us ++ w ∷ []) ++ vs) new b x) more whole)
+
+  -- the first worlds, behind all interfaces and behind the worlds of other packages
+  pub worlds_done : (new : List TypeDef) (b : WorldArenas) (rs : List Required) (vs : List Item) → ((k : ℕ) (w : Item) → slice_get vs k ≡ Some w → slice_get ws k ≡ Some w) → AddsWorlds ss others (front ++ xs) middle new (front_worlds wfront) b rs vs → WorldsDone vs new b rs
+  worlds_done new b rs vs there adds = more_worlds [] middle new (front_worlds wfront) b [] rs vs (λ k w h. subst (λ (m : ℕ). slice_get ws m ≡ Some w) (sym (zero-add k)) (there k w h)) no_world adds

@@ -1,0 +1,30 @@
+-- The names of each scope, and what written types mean, by lexical scope.
+use Rattle.std.specs.Prelude.{ℕ, List, []}
+use Rattle.std.specs.Option.{option_map_or}
+use Rattle.wit_tree.specs.declared.tree.PackageFile.{PackageFile}
+use Rattle.wit_syntax.specs.Address.{Address, InterfaceNamed, WorldNamed, InlineAt, ForeignNamed}
+use Rattle.wit_syntax.specs.Node.{Node, Leaf, Unnamed, Tree, unfolded}
+use Rattle.wit_syntax.specs.Shape.{Prim, Word, Of}
+use Rattle.wit_syntax.specs.Source.{ScopeName, scope_names, item_at, taken_names, meaning, Place, placed, named_node}
+use Rattle.wit_syntax.specs.Sides.{all_scopes}
+
+-- the names of the item at an address
+abbrev pub item_scope : List PackageFile → Address → List ScopeName
+item_scope files s = option_map_or scope_names (item_at (all_scopes files) s) []
+
+-- the names of a scope
+abbrev pub scope : List PackageFile → Address → List ScopeName
+scope files (InterfaceNamed name) = item_scope files (InterfaceNamed name)
+scope files (WorldNamed name) = item_scope files (WorldNamed name)
+scope files (InlineAt world side place) = item_scope files (InlineAt world side place)
+scope files (ForeignNamed p name) = taken_names files (ForeignNamed p name)
+
+-- one level of a written type: a name means what its scope says, every other form stands for itself
+abbrev pub source_node : List PackageFile → Place → Node Place
+source_node files (s, Prim p) = Leaf p
+source_node files (s, Word id) = named_node s (meaning (scope files s) id.name.now)
+source_node files (s, Of span form parts) = Unnamed form (placed s parts)
+
+-- the tree of a written type, to n levels
+abbrev pub source_tree : List PackageFile → (n : ℕ) → Place → Tree n
+source_tree files n place = unfolded (source_node files) n place
