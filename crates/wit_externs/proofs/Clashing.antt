@@ -17,7 +17,7 @@ use Rattle.wit_syntax.specs.Repeats.{AllDiffer}
 use Rattle.wit_syntax.specs.Crossing.{same_side}
 use Rattle.wit_syntax.specs.Sides.{role_side, names_on, SideItem, item_side, items_on, IsCrossing}
 use Rattle.wit_syntax.proofs.Lists.{at_front, at_back}
-use Rattle.wit_syntax.proofs.Sides.{side_itself}
+use Rattle.wit_syntax.proofs.Addresses.{side_itself}
 use Rattle.wit_notes.specs.Names.{Name, IsTaken, IsDefinedAgain}
 use Rattle.wit_notes.specs.Scope.{HasName}
 use Rattle.wit_sides.specs.Sides.{only_on}

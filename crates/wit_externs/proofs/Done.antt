@@ -2,10 +2,11 @@
 use Rattle.std.proofs.Common.{◌≡◌, ◌<◌, ◌≤◌, ◌+◌, ℕ, List, [], ◌∷◌, ◌++◌, length, map, take, drop, Some, All, IsTrue, inl, inr, sym, ap, ◌∙◌, subst, arith}
 use Rattle.std.specs.Prelude.{slice_get}
 use Rattle.std.specs.List.{flat_map}
+use Rattle.std.specs.Option.{option_map}
 use Rattle.std.proofs.lemmas.Grind.{flat_map-append}
-use Rattle.std.proofs.lemmas.List.{map-append, append-nil, length-map, take_all}
+use Rattle.std.proofs.lemmas.List.{map-append, append-nil, length-map, length-take-le, take_all}
 use Rattle.std.proofs.lemmas.List.Elements.{All-push, All-same}
-use Rattle.std.proofs.lemmas.Option.{slice_get_within}
+use Rattle.std.proofs.lemmas.Option.{slice_get_within, slice_get-map}
 use Rattle.wit_names.specs.Mangled.{is_mangled}
 use Rattle.wit_values.specs.declared.span.Span.{Span}
 use Rattle.wit_notes.specs.Names.{Name}
@@ -19,7 +20,7 @@ use Rattle.wit_syntax.specs.Source.{ScopeName}
 use Rattle.wit_syntax.specs.Fault.{Fault}
 use Rattle.wit_syntax.specs.Broken.{Refused}
 use Rattle.wit_syntax.specs.Function.{SourceFunction, written_types}
-use Rattle.wit_syntax.specs.Sides.{SideItem, item_function}
+use Rattle.wit_syntax.specs.Sides.{SideItem, SideFunction, item_function}
 use Rattle.wit_syntax.specs.Signature.{IsBrokenFunction}
 use Rattle.wit_arena.specs.Resolving.{Env, Required, env_of, AddsFunctions}
 use Rattle.wit_arena.specs.Resolved.{IsNameless}
@@ -27,6 +28,7 @@ use Rattle.wit_arena.proofs.AddingFunctions.{functions_append}
 use Rattle.wit_syntax.proofs.Lists.{at_either}
 use Rattle.wit_syntax.proofs.Refusing.{refused_weaker}
 use Rattle.wit_rules.specs.declared.function_scope.FunctionScope.{FunctionScope}
+use Rattle.wit_rules.specs.declared.held.HeldFunction.{HeldFunction}
 use Rattle.wit_rules.specs.Held.{function_behind}
 use Rattle.wit_entries.specs.Requiring.{IsGrown, Requires}
 use Rattle.wit_rules.specs.Signatures.{functions_behind, IsScopeOf, IsWrongFunction, IsWrongFunctionAmong}
@@ -95,7 +97,26 @@ place_within scope k fn at =
     let same = length-map scope.functions.now function_behind in
     omega (arith, within, same)
 
+-- where the functions of a scope are taken one behind the other, the one that is read is the next of them
+pub scope_next : (scope : FunctionScope) (i : ℕ) (h : HeldFunction) → slice_get scope.functions.now i ≡ Some h → slice_get (functions_behind scope) i ≡ Some (function_behind h)
+scope_next scope i h at = slice_get-map function_behind scope.functions.now i ∙ ap (option_map function_behind) at
+
+-- and stands at that place on the sides
+pub item_next : (fns : List SourceFunction) (i : ℕ) (fn : SourceFunction) → slice_get fns i ≡ Some fn → slice_get (map SideFunction fns) i ≡ Some (SideFunction fn)
+item_next fns i fn at = slice_get-map SideFunction fns i ∙ ap (option_map SideFunction) at
+
+-- as many as are taken are made
+pub made_to : (fns : List SourceFunction) (i : ℕ) (fn : SourceFunction) (fs : List Function) → slice_get fns i ≡ Some fn → map name_of_made fs ≡ map name_of_function (take i fns) → length fs ≡ i
+made_to fns i fn fs at named =
+    let within = slice_get_within fns i fn at in
+    made_count (take i fns) fs named ∙ length-take-le i fns (omega (arith, within))
+
 -- all of them
+pub done_all : (first now : List TypeDef) (scope : FunctionScope) (i : ℕ) (fs : List Function) (a b : List Required) → length scope.functions.now ≤ i → AreDone first now scope (take i (functions_behind scope)) fs a b → AreDone first now scope (functions_behind scope) fs a b
+done_all first now scope i fs a b le h =
+    let same = length-map scope.functions.now function_behind in
+    subst (λ (fns : List SourceFunction). AreDone first now scope fns fs a b) (take_all i (functions_behind scope) (omega (arith, le, same))) h
+
 pub done_whole : (first now : List TypeDef) (scope : FunctionScope) (xs : List SideItem) (i : ℕ) (fs : List Function) (a b : List Required) → flat_map item_function xs ≡ functions_behind scope → length xs ≤ i → AreDone first now scope (functions_to i xs) fs a b → AreDone first now scope (functions_behind scope) fs a b
 done_whole first now scope xs i fs a b all le h = subst (λ (fns : List SourceFunction). AreDone first now scope fns fs a b) (ap (flat_map item_function) (take_all i xs le) ∙ all) h
 

@@ -1,7 +1,7 @@
 mod Named
 mod Paired
-mod Steps
-mod Clashing
-mod Done
-mod HeldAt
-mod Linked
+pub mod Steps
+pub mod Clashing
+pub mod Done
+pub mod HeldAt
+pub mod Linked

@@ -12,23 +12,25 @@ use Rattle.wit_tree.specs.declared.tree.Id.{Id}
 use Rattle.wit_tree.specs.declared.tree.WorldSide.{WorldSide}
 use Rattle.wit_tree.specs.declared.tree.WorldSide.TheVariants.{Imported, Exported}
 use Rattle.wit_syntax.specs.Fault.{Fault}
+use Rattle.wit_syntax.specs.Notes.{IsBrokenNotes}
 use Rattle.wit_syntax.specs.Repeats.{AllDiffer}
 use Rattle.wit_syntax.specs.Crossing.{same_side}
 use Rattle.wit_syntax.specs.Sides.{item_side, items_on}
 use Rattle.wit_syntax.proofs.Found.{contains_at, at_contains}
 use Rattle.wit_syntax.proofs.Lists.{at_either, take_seam}
 use Rattle.wit_syntax.proofs.Repeated.{differ_more}
-use Rattle.wit_syntax.proofs.Sides.{side_itself}
+use Rattle.wit_syntax.proofs.Addresses.{side_itself}
 use Rattle.wit_notes.specs.Names.{Name}
 use Rattle.wit_rules.specs.declared.held.HeldFunction.{HeldFunction}
 use Rattle.wit_externs.specs.declared.held.Led.TheVariants as led
 use Rattle.wit_externs.specs.declared.held.HeldLink.{HeldLink}
+use Rattle.wit_externs.specs.declared.held.HeldInline.{HeldInline}
 use Rattle.wit_externs.specs.declared.held.HeldExtern.{HeldExtern}
 use Rattle.wit_externs.specs.declared.held.HeldExtern.TheVariants as held
 use Rattle.wit_externs.specs.Held.{extern_behind, externs_behind, held_on}
 use Rattle.wit_externs.specs.Clash.{names_of_items}
-use Rattle.wit_externs.specs.Links.{led_places, bare_place, bare_places, IsRightLink, AreRightLinks, IsWrongAmong, Clashes, LinkedAgain, WrongLink}
-use Rattle.wit_externs.specs.Next.{only_place, IsWrongNext, NextClashes, NextLinked, NextWrong}
+use Rattle.wit_externs.specs.Links.{led_places, bare_place, bare_places, IsRightLink, AreRightLinks, AreNotedInside, IsWrongAmong, Clashes, LinkedAgain, WrongLink, WrongInside}
+use Rattle.wit_externs.specs.Next.{only_place, IsWrongNext, NextClashes, NextLinked, NextNoted, NextWrong}
 use Rattle.wit_externs.proofs.Steps.{taken_next, at_middle, kept_split, kept_next, kept_one, kept_nothing}
 use Rattle.wit_externs.proofs.Clashing.{clash_whole}
 use Rattle.wit_externs.proofs.HeldAt.{behind_at}
@@ -90,6 +92,15 @@ right_more hs i h at right before = record {
   ];
 }
 
+-- so it is with the attributes of interfaces that are written there
+pub noted_more : (hs : List HeldExtern) (i : ℕ) (h : HeldExtern) → slice_get hs i ≡ Some h → ((x : HeldInline) → h ≡ held.Inline x → (f : Fault) → IsBrokenNotes x.written.now.attributes.items f → ⊥) → AreNotedInside (take i hs) → AreNotedInside (take (i + 1) hs)
+noted_more hs i h at noted before = record {
+  each = λ k x there. elim (at_either (take i hs) h k (held.Inline x) (ap (λ (xs : List HeldExtern). slice_get xs k) (sym (taken_next hs i h at)) ∙ there)) [
+    | inl front ↦ before.each k x front
+    | inr here ↦ noted x (sym here.1)
+  ];
+}
+
 -- one that stands on a side stands behind those of the side in front of it
 side_split : (s : WorldSide) (hs : List HeldExtern) (i : ℕ) (h : HeldExtern) → slice_get hs i ≡ Some h → item_side (extern_behind h) ≡ s → held_on s hs ≡ held_on s (take i hs) ++ (h ∷ held_on s (drop (i + 1) hs))
 side_split s hs i h at there =
@@ -100,6 +111,7 @@ side_split s hs i h at there =
 pub wrong_whole : (old mid : WorldSide → List Name) (linked : WorldSide → List ℕ) (hs : List HeldExtern) (i : ℕ) (h : HeldExtern) (f : Fault) → slice_get hs i ≡ Some h → ((s : WorldSide) → mid s ≡ old s ++ names_of_items (items_on s (take i (externs_behind hs)))) → ((s : WorldSide) → linked s ≡ bare_places (held_on s (take i hs))) → IsWrongNext mid linked h f → IsWrongAmong old hs f
 wrong_whole old mid linked hs i h f at before led (NextClashes clash) = Clashes (clash_whole old mid (externs_behind hs) i (extern_behind h) f (behind_at hs i h at) before clash)
 wrong_whole old mid linked hs i h f at before led (NextWrong l is wrong) = WrongLink l (contains_at hs i (held.Link l) (at ∙ ap Some is)) wrong
+wrong_whole old mid linked hs i h f at before led (NextNoted x is broken) = WrongInside x (contains_at hs i (held.Inline x) (at ∙ ap Some is)) broken
 wrong_whole old mid linked hs i h f at before led (NextLinked l id is bare leads again) =
     let here : slice_get hs i ≡ Some (held.Link l) = at ∙ ap Some is in
     let front = held_on l.side (take i hs) in
@@ -121,9 +133,29 @@ wrong_whole old mid linked hs i h f at before led (NextLinked l id is bare leads
 pub whole_apart : (hs : List HeldExtern) (i : ℕ) (s : WorldSide) (ids : List ℕ) → length hs ≤ i → ids ≡ bare_places (held_on s (take i hs)) → AllDiffer ids → AllDiffer (bare_places (held_on s hs))
 whole_apart hs i s ids le is apart = subst AllDiffer (is ∙ ap (λ (l : List HeldExtern). bare_places (held_on s l)) (take_all i hs le)) apart
 
--- a link is no function, and it is itself
+-- all of the links are right, and so it is with what is written there
+pub whole_right : (hs : List HeldExtern) (i : ℕ) → length hs ≤ i → AreRightLinks (take i hs) → AreRightLinks hs
+whole_right hs i le right = subst AreRightLinks (take_all i hs le) right
+
+pub whole_noted : (hs : List HeldExtern) (i : ℕ) → length hs ≤ i → AreNotedInside (take i hs) → AreNotedInside hs
+whole_noted hs i le noted = subst AreNotedInside (take_all i hs le) noted
+
+-- a link is no function and nothing that is written there, and it is itself
 pub no_link : (f : HeldFunction) (l : HeldLink) → held.Function f ≡ held.Link l → IsRightLink l
 no_link f l is = absurd (let wrong : ⊥ = cc in wrong)
 
+pub inline_no_link : (x : HeldInline) (l : HeldLink) → held.Inline x ≡ held.Link l → IsRightLink l
+inline_no_link x l is = absurd (let wrong : ⊥ = cc in wrong)
+
 pub same_link : (l m : HeldLink) → IsRightLink l → held.Link l ≡ held.Link m → IsRightLink m
 same_link l m right is = subst IsRightLink (let same : l ≡ m = cc in same) right
+
+-- what is written there is no function and no link, and it is itself
+pub no_inline : (f : HeldFunction) (x : HeldInline) → held.Function f ≡ held.Inline x → (e : Fault) → IsBrokenNotes x.written.now.attributes.items e → ⊥
+no_inline f x is = absurd (let wrong : ⊥ = cc in wrong)
+
+pub link_no_inline : (l : HeldLink) (x : HeldInline) → held.Link l ≡ held.Inline x → (e : Fault) → IsBrokenNotes x.written.now.attributes.items e → ⊥
+link_no_inline l x is = absurd (let wrong : ⊥ = cc in wrong)
+
+pub same_inline : (x y : HeldInline) → ((e : Fault) → IsBrokenNotes x.written.now.attributes.items e → ⊥) → held.Inline x ≡ held.Inline y → (e : Fault) → IsBrokenNotes y.written.now.attributes.items e → ⊥
+same_inline x y noted is = subst (λ (z : HeldInline). (e : Fault) → IsBrokenNotes z.written.now.attributes.items e → ⊥) (let same : x ≡ y = cc in same) noted

@@ -7,7 +7,7 @@ use Rattle.wit_tree.specs.declared.tree.Id.{Id}
 use Rattle.wit_tree.specs.declared.tree.WorldSide.{WorldSide}
 use Rattle.wit_syntax.specs.Fault.{Fault, fault}
 use Rattle.wit_syntax.specs.Repeats.{AllDiffer}
-use Rattle.wit_syntax.specs.Sides.{SideItem, SideFunction, SideLink, items_on, names_on, IsCrossing}
+use Rattle.wit_syntax.specs.Sides.{SideItem, SideFunction, SideLink, SideInline, items_on, names_on, IsCrossing}
 use Rattle.wit_notes.specs.Names.{Name}
 use Rattle.wit_notes.specs.Scope.{HasName}
 use Rattle.wit_signatures.specs.Taken.{name_key, name_of_id, name_of_function, IsTwiceAmong}
@@ -16,6 +16,7 @@ use Rattle.wit_signatures.specs.Taken.{name_key, name_of_id, name_of_function, I
 abbrev pub item_names : SideItem → List Name
 item_names (SideFunction fn) = name_of_function fn ∷ []
 item_names (SideLink link) = option_map_or (λ id. name_of_id id ∷ []) link.name []
+item_names (SideInline x name items) = name_of_id name ∷ []
 
 abbrev pub names_of_items : List SideItem → List Name
 names_of_items items = flat_map item_names items

@@ -3,7 +3,7 @@ use Rattle.std.specs.Prelude.{List, map}
 use Rattle.std.specs.List.{filter}
 use Rattle.wit_tree.specs.declared.tree.WorldSide.{WorldSide}
 use Rattle.wit_syntax.specs.Crossing.{same_side}
-use Rattle.wit_syntax.specs.Sides.{Link, SideItem, SideFunction, SideLink, item_side}
+use Rattle.wit_syntax.specs.Sides.{Link, SideItem, SideFunction, SideLink, SideInline, item_side}
 use Rattle.wit_rules.specs.Held.{function_behind}
 use Rattle.wit_externs.specs.declared.held.HeldLink.{HeldLink}
 use Rattle.wit_externs.specs.declared.held.HeldExtern.{HeldExtern}
@@ -17,6 +17,7 @@ link_behind l = record { side = l.side; name = l.name; path = l.path.now; docs =
 abbrev pub extern_behind : HeldExtern → SideItem
 extern_behind (held.Function f) = SideFunction (function_behind f)
 extern_behind (held.Link l) = SideLink (link_behind l)
+extern_behind (held.Inline i) = SideInline i.written.now i.name i.items.now
 
 abbrev pub externs_behind : List HeldExtern → List SideItem
 externs_behind hs = map extern_behind hs

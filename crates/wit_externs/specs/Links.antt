@@ -1,4 +1,4 @@
--- Where the paths lead by which interfaces stand on the sides of a scope, and what can be wrong with them.
+-- Where the paths lead by which interfaces stand on the sides of a scope, and what can be wrong with them and with those that are written there.
 use Rattle.std.specs.Prelude.{◌≡◌, ℕ, List, [], ◌∷◌, take, Some, None, Contains, slice_get}
 use Rattle.std.specs.List.{flat_map}
 use Rattle.std.specs.Option.{option_map_or}
@@ -12,6 +12,7 @@ use Rattle.wit_notes.specs.Names.{Name}
 use Rattle.wit_externs.specs.declared.held.Led.{Led}
 use Rattle.wit_externs.specs.declared.held.Led.TheVariants as led
 use Rattle.wit_externs.specs.declared.held.HeldLink.{HeldLink}
+use Rattle.wit_externs.specs.declared.held.HeldInline.{HeldInline}
 use Rattle.wit_externs.specs.declared.held.HeldExtern.{HeldExtern}
 use Rattle.wit_externs.specs.declared.held.HeldExtern.TheVariants as held
 use Rattle.wit_externs.specs.Held.{externs_behind, held_on}
@@ -27,6 +28,7 @@ led_places (led.Nothing id) = []
 abbrev pub bare_place : HeldExtern → List ℕ
 bare_place (held.Function f) = []
 bare_place (held.Link l) = option_map_or (λ id. []) l.name (led_places l.led)
+bare_place (held.Inline i) = []
 
 abbrev pub bare_places : List HeldExtern → List ℕ
 bare_places hs = flat_map bare_place hs
@@ -40,6 +42,10 @@ pub record IsRightLink (l : HeldLink) : Type 0 where
 -- so it is with each link among these
 pub record AreRightLinks (hs : List HeldExtern) : Type 0 where
   pub each : (k : ℕ) (l : HeldLink) → slice_get hs k ≡ Some (held.Link l) → IsRightLink l
+
+-- the attributes of no interface that is written among these break a rule
+pub record AreNotedInside (hs : List HeldExtern) : Type 0 where
+  pub each : (k : ℕ) (i : HeldInline) → slice_get hs k ≡ Some (held.Inline i) → (f : Fault) → IsBrokenNotes i.written.now.attributes.items f → ⊥
 
 -- what is wrong with a link by itself
 pub data IsWrongLink (l : HeldLink) (f : Fault) : Type 0 where
@@ -64,6 +70,7 @@ pub data IsWrongAmong (before : WorldSide → List Name) (hs : List HeldExtern) 
   Clashes : IsClash before (externs_behind hs) f → IsWrongAmong before hs f
   LinkedAgain : IsLinkedAgain hs f → IsWrongAmong before hs f
   WrongLink : (l : HeldLink) → Contains hs (held.Link l) → IsWrongLink l f → IsWrongAmong before hs f
+  WrongInside : (i : HeldInline) → Contains hs (held.Inline i) → IsBrokenNotes i.written.now.attributes.items f → IsWrongAmong before hs f
 
 -- The links lead to interfaces of these addresses: each place is that of the scope that its path leads to, so that two are one where their
 -- scopes are one.

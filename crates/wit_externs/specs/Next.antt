@@ -5,9 +5,11 @@ use Rattle.wit_tree.specs.declared.tree.WorldSide.{WorldSide}
 use Rattle.wit_tree.specs.declared.tree.WorldSide.TheVariants.{Imported, Exported}
 use Rattle.wit_syntax.specs.Crossing.{same_side}
 use Rattle.wit_syntax.specs.Fault.{Fault, fault}
+use Rattle.wit_syntax.specs.Notes.{IsBrokenNotes}
 use Rattle.wit_syntax.specs.Source.{path_id}
 use Rattle.wit_notes.specs.Names.{Name}
 use Rattle.wit_externs.specs.declared.held.HeldLink.{HeldLink}
+use Rattle.wit_externs.specs.declared.held.HeldInline.{HeldInline}
 use Rattle.wit_externs.specs.declared.held.HeldExtern.{HeldExtern}
 use Rattle.wit_externs.specs.declared.held.Led.TheVariants as led
 use Rattle.wit_externs.specs.declared.held.HeldExtern.TheVariants as held
@@ -34,4 +36,5 @@ pub record IsLinked (ids : List ℕ) (id : ℕ) (span : Span) (f : Fault) : Type
 pub data IsWrongNext (before : WorldSide → List Name) (linked : WorldSide → List ℕ) (h : HeldExtern) (f : Fault) : Type 0 where
   NextClashes : IsClash before (extern_behind h ∷ []) f → IsWrongNext before linked h f
   NextLinked : (l : HeldLink) (id : ℕ) → h ≡ held.Link l → l.name ≡ None → l.led ≡ led.Interface id → IsLinked (linked l.side) id (path_id l.path.now).span f → IsWrongNext before linked h f
+  NextNoted : (i : HeldInline) → h ≡ held.Inline i → IsBrokenNotes i.written.now.attributes.items f → IsWrongNext before linked h f
   NextWrong : (l : HeldLink) → h ≡ held.Link l → IsWrongLink l f → IsWrongNext before linked h f

@@ -36,14 +36,17 @@ fn is_same_side(a: WorldSide, b: WorldSide) -> bool {
     }
 }
 
-/// Whether it is an interface on a side, under this name of its own.
-fn is_link_named(held: &HeldExtern<'_, '_>, side: WorldSide, name: &str) -> bool {
+/// Whether it is an interface on a side, under this name.
+fn is_interface_named(held: &HeldExtern<'_, '_>, side: WorldSide, name: &str) -> bool {
     match held {
         HeldExtern::Function(_) => false,
         HeldExtern::Link(link) => match link.name {
             Some(id) => is_same_side(link.side, side) && id.name == name,
             None => false,
         },
+        HeldExtern::Inline(inline) => {
+            is_same_side(inline.written.side, side) && inline.name.name == name
+        }
     }
 }
 
@@ -67,7 +70,7 @@ fn sort_of(
         return "type";
     }
     for held in before {
-        if is_link_named(held, side, name) {
+        if is_interface_named(held, side, name) {
             return "interface";
         }
     }
@@ -133,4 +136,23 @@ pub fn define_function(
         None => taken.define(WorldSide::Imported, name, function.span),
         Some(side) => define_extern(alloc, before, types, taken, side, name, function.span),
     }
+}
+
+/// Defines the name of a function on its side, where functions alone stand in front of it.
+///
+/// Refused like `define_function`.
+pub fn define_alone(
+    alloc: Global,
+    held: HeldFunction<'_, '_>,
+    types: &TextTable<TypeId>,
+    taken: &mut Sides,
+    function: &Function,
+) -> ParseResult<()>
+    requires mangled { IsTrue (is_mangled function.now.name) }
+    requires held { name_of_made function.now ≡ name_of_function (function_behind held) }
+    ensures defined { OnOk result ((s : WorldSide) → taken_on s taken.new ≡ taken_on s taken.old ++ names_of_items (items_on s (SideFunction (function_behind held.entry) ∷ []))) }
+    ensures differ { OnOk result ((s : WorldSide) → AllDiffer (map name_key (taken_on s taken.old)) → AllDiffer (map name_key (taken_on s taken.new))) }
+    ensures refused { IfErr result (Refused (IsClash (λ s. taken_on s taken.old) (SideFunction (function_behind held.entry) ∷ []))) }
+{
+    define_function(alloc, held, &[], types, taken, function)
 }

@@ -1,7 +1,7 @@
 //! What stands on the sides of a scope as it is written, before its types are resolved.
 
 use wit_rules::held::HeldFunction;
-use wit_tree::tree::{Attribute, Docs, Id, UsePath, WorldSide};
+use wit_tree::tree::{Attribute, Docs, Extern, Id, InterfaceItem, UsePath, WorldSide};
 
 /// What the path of an import or an export leads to.
 #[derive(Clone, Copy, Debug)]
@@ -26,9 +26,18 @@ pub struct HeldLink<'t, 'a> {
     pub led: Led<'a>,
 }
 
-/// A function, or an interface by its path.
+/// An interface that is written where a world imports or exports it, under a name.
+#[derive(Clone, Copy, Debug)]
+pub struct HeldInline<'t, 'a> {
+    pub written: &'t Extern<'a>,
+    pub name: Id<'a>,
+    pub items: &'t [InterfaceItem<'a>],
+}
+
+/// A function, an interface by its path, or one that is written there.
 #[derive(Clone, Copy, Debug)]
 pub enum HeldExtern<'t, 'a> {
     Function(HeldFunction<'t, 'a>),
     Link(HeldLink<'t, 'a>),
+    Inline(HeldInline<'t, 'a>),
 }

@@ -1,10 +1,11 @@
-//! What stands on the sides of a scope behind its names of types: functions, and interfaces by their
-//! paths.
+//! What stands on the sides of a scope behind its names of types: functions, interfaces by their paths,
+//! and interfaces that are written there.
 #![tactic(auto)]
 
-mod defining;
+pub mod defining;
 pub mod held;
-mod linking;
-mod links;
-pub mod scope_externs;
+pub mod inline;
+pub mod linking;
+pub mod links;
+pub mod scope_functions;
 pub mod taken;

@@ -11,7 +11,9 @@ use Rattle.std.proofs.lemmas.Option.{slice_get-map}
 use Rattle.indexmap.specs.IndexSet.{insert_key}
 use Rattle.wit_tree.specs.declared.tree.Id.{Id}
 use Rattle.wit_tree.specs.declared.tree.Attribute.{Attribute}
-use Rattle.wit_tree.specs.declared.tree.UsePath.{UsePath}
+use Rattle.wit_tree.specs.declared.tree.Use.{Use}
+use Rattle.wit_tree.specs.declared.tree.ExternKind.{ExternKind}
+use Rattle.wit_tree.specs.declared.tree.ExternKind.TheVariants as extern
 use Rattle.wit_tree.specs.declared.tree.WorldSide.{WorldSide}
 use Rattle.wit_tree.specs.declared.tree.WorldSide.TheVariants.{Imported, Exported}
 use Rattle.wit_tree.specs.declared.tree.InterfaceItem.{InterfaceItem}
@@ -23,13 +25,13 @@ use Rattle.wit_tree.specs.declared.tree.AstItem.TheVariants as ast
 use Rattle.wit_tree.specs.declared.tree.PackageFile.{PackageFile}
 use Rattle.wit_syntax.specs.Address.{Address, same_version, same_address}
 use Rattle.wit_syntax.specs.Source.{Part, interface_part, world_part}
-use Rattle.wit_syntax.specs.Crossing.{same_side, extern_paths}
+use Rattle.wit_syntax.specs.Crossing.{same_side, extern_paths, item_uses, inline_uses}
 use Rattle.wit_syntax.specs.Foreign.{ForeignVisit, visited, path_visits, part_visits as the_part_visits, side_visits, declaration_visits, file_visits, same_item}
 use Rattle.wit_syntax.specs.Repeats.{firsts}
 use Rattle.wit_syntax.proofs.Lists.{map_at}
 use Rattle.wit_syntax.proofs.Addresses.{same_address-from, same_address-equal}
 use Rattle.wit_syntax.proofs.Firsts.{firsts_at, firsts_has, firsts-more}
-use Rattle.wit_files.specs.Visits.{Visit, part_visits, world_part_visits, extern_visit, side_part_visits, item_visits, visits}
+use Rattle.wit_files.specs.Visits.{Visit, part_visits, world_part_visits, kind_visits, side_part_visits, item_visits, visits}
 use Rattle.wit_files.specs.Foreign.{wants_world, foreign_behind, key_release, key_address, AreItemsOf}
 use Rattle.wit_files.specs.declared.foreign.ForeignVisit.{ForeignVisit as HeldVisit}
 use Rattle.wit_files.specs.declared.foreign.ForeignItems.{ForeignItems}
@@ -50,7 +52,7 @@ flat_mapped : {X Y Z : Type 0} (g : Y → List Z) (f : X → Y) (xs : List X) �
 flat_mapped g f [] = refl
 flat_mapped g f (x ∷ xs) = ap (λ l. g (f x) ++ l) (flat_mapped g f xs)
 
-of_part : (owner : Id) (p : InterfaceItem) → flat_map foreign_of (part_visits owner p) ≡ the_part_visits (interface_part p)
+of_part : (owner : Option Id) (p : InterfaceItem) → flat_map foreign_of (part_visits owner p) ≡ the_part_visits (interface_part p)
 of_part owner (interface_item.TypeDef d) = refl
 of_part owner (interface_item.Use u) = append-nil (path_visits u.attributes.items false u.from)
 of_part owner (interface_item.Func f) = refl
@@ -61,13 +63,29 @@ of_world_part owner (world_item.Extern x) = refl
 of_world_part owner (world_item.Use u) = append-nil (path_visits u.attributes.items false u.from)
 of_world_part owner (world_item.Include i) = append-nil (path_visits i.attributes.items true i.from)
 
-of_extern : (attributes : List Attribute) (paths : List UsePath) → flat_map foreign_of (map (extern_visit attributes) paths) ≡ flat_map (path_visits attributes false) paths
-of_extern attributes paths = sym (flat_mapped foreign_of (extern_visit attributes) paths)
+abbrev of_use : Use → List ForeignVisit
+of_use u = path_visits u.attributes.items false u.from
+
+of_inline_part : (p : InterfaceItem) → flat_map foreign_of (part_visits None p) ≡ flat_map of_use (item_uses p)
+of_inline_part (interface_item.TypeDef d) = refl
+of_inline_part (interface_item.Use u) = refl
+of_inline_part (interface_item.Func f) = refl
+
+of_inline : (ps : List InterfaceItem) → flat_map foreign_of (flat_map (part_visits None) ps) ≡ flat_map of_use (flat_map item_uses ps)
+of_inline ps =
+    let each : InterfaceItem → List ForeignVisit = λ p. flat_map of_use (item_uses p) in
+    flat_inside foreign_of (part_visits None) each of_inline_part ps ∙ sym (flat_inside of_use item_uses each (λ p. refl) ps)
+
+of_kind : (attributes : List Attribute) (kind : ExternKind) → flat_map foreign_of (kind_visits attributes kind) ≡ flat_map of_use (inline_uses kind) ++ flat_map (path_visits attributes false) (extern_paths kind)
+of_kind attributes (extern.Interface name items) = of_inline items.items ∙ sym (append-nil (flat_map of_use (flat_map item_uses items.items)))
+of_kind attributes (extern.Path path) = refl
+of_kind attributes (extern.Func name f) = refl
+of_kind attributes (extern.NamedPath name path) = refl
 
 of_side_part : (side : WorldSide) (p : WorldItem) → flat_map foreign_of (side_part_visits side p) ≡ side_visits side (world_part p)
 of_side_part side (world_item.TypeDef d) = refl
 of_side_part side (world_item.Extern x) = elim (cases_Bool (same_side side x.side)) [
-  | inl on ↦ rw on (of_extern x.attributes.items (extern_paths x.kind))
+  | inl on ↦ rw on (of_kind x.attributes.items x.kind)
   | inr off ↦ rw off refl
 ]
 of_side_part side (world_item.Use u) = refl
@@ -90,7 +108,7 @@ of_parts part visit in_part each ps = flat_inside foreign_of visit (λ p. in_par
 of_item : (d : AstItem) → flat_map foreign_of (item_visits d) ≡ declaration_visits d
 of_item (ast.Interface i) =
     let ps = map interface_part i.items.items in
-    of_parts interface_part (part_visits i.name) the_part_visits (of_part i.name) i.items.items
+    of_parts interface_part (part_visits (Some i.name)) the_part_visits (of_part (Some i.name)) i.items.items
     ∙ sym (append-nil (flat_map the_part_visits ps))
     ∙ ap (λ l. flat_map the_part_visits ps ++ l) (sym (ap (λ l. l ++ flat_map (side_visits Exported) ps) (no_side Imported i.items.items) ∙ no_side Exported i.items.items))
 of_item (ast.World w) =

@@ -20,7 +20,7 @@ use wit_tree::tree::{Attribute, Id, PackageFile, PackageName, UsePath};
 /// The first visit of an item tells what it is: a world if that visit wants one, else an interface.
 #[derive(Clone, Copy, Debug)]
 pub struct ForeignVisit<'f, 'a> {
-    /// The attributes in front of the `use` or of the include.
+    /// The attributes in front of the `use`, the include, the import or the export.
     pub attributes: &'f [Attribute<'a>],
     pub package: &'f PackageName<'a>,
     /// The name of the item.

@@ -1,13 +1,13 @@
 //! The paths of a file, in the order in which they are met.
-ghost use Rattle.std.specs.Prelude.{◌≡◌, ◌++◌, map, IfOk, OnOk};
+ghost use Rattle.std.specs.Prelude.{◌≡◌, [], ◌∷◌, ◌++◌, map, None, IfOk, OnOk};
 ghost use Rattle.std.specs.List.{flat_map};
-ghost use Rattle.wit_syntax.specs.Crossing.{same_side as are_one_side, extern_paths};
-ghost use Rattle.wit_files.specs.Visits.{visit_behind, interface_visits, world_part_visits, extern_visit, side_part_visits, world_visits, item_visits, visits as the_visits};
+ghost use Rattle.wit_syntax.specs.Crossing.{same_side as are_one_side};
+ghost use Rattle.wit_files.specs.Visits.{visit_behind, use_visit, part_visits, interface_visits, world_part_visits, extern_visit, extern_visits, side_part_visits, world_visits, item_visits, visits as the_visits};
 
 use crate::declaration::world_items;
 use std::alloc::{AllocError, Global};
 use wit_tree::tree::{
-    AstItem, Attribute, DeclList, Extern, ExternKind, Id, Interface, InterfaceItem, UseName,
+    AstItem, Attribute, DeclList, Extern, ExternKind, Id, Interface, InterfaceItem, Use, UseName,
     UsePath, World, WorldItem, WorldSide,
 };
 
@@ -25,8 +25,8 @@ pub enum Wanted {
 /// A path of a file, with whose it is, what is told in front of it, and what is taken by it.
 #[derive(Clone, Copy, Debug)]
 pub struct Visit<'f, 'a> {
-    /// The name of the item that has to come after what the path leads to: of an interface for its
-    /// `use`s, of a world for its includes. `None` for any other path.
+    /// The name of the item that has to come after what the path leads to: of a declared interface
+    /// for its `use`s, of a world for its includes. `None` for any other path.
     pub owner: Option<Id<'a>>,
     /// The attributes in front of the `use`, the include, the import or the export.
     pub attributes: &'f [Attribute<'a>],
@@ -34,6 +34,24 @@ pub struct Visit<'f, 'a> {
     /// The names that are used from the item, or `None` where the item itself is named.
     pub names: Option<&'f [UseName<'a>]>,
     pub wanted: Wanted,
+}
+
+/// Adds the visit of a `use`, of the item of this name, if one has to come after what it leads to.
+fn add_use<'f, 'a>(
+    owner: Option<Id<'a>>,
+    used: &'f Use<'a>,
+    visits: &mut Vec<Visit<'f, 'a>>,
+) -> Result<(), AllocError>
+    ensures { OnOk result (map visit_behind visits.new.items ≡ map visit_behind visits.old.items ++ use_visit owner.entry used.now ∷ []) }
+{
+    visits.push(Visit {
+        owner,
+        attributes: &used.attributes,
+        path: &used.from,
+        names: Some(&used.names),
+        wanted: Wanted::Interface,
+    })?;
+    Ok(())
 }
 
 /// Adds the visits of an interface: one for each `use`.
@@ -45,13 +63,7 @@ fn add_interface_visits<'f, 'a>(
 {
     for item in &interface.items {
         if let InterfaceItem::Use(used) = item {
-            visits.push(Visit {
-                owner: Some(interface.name),
-                attributes: &used.attributes,
-                path: &used.from,
-                names: Some(&used.names),
-                wanted: Wanted::Interface,
-            })?;
+            add_use(Some(interface.name), used, visits)?;
         }
     }
     Ok(())
@@ -67,13 +79,7 @@ fn add_world_part<'f, 'a>(
 {
     match item {
         WorldItem::TypeDef(_) | WorldItem::Extern(_) => {}
-        WorldItem::Use(used) => visits.push(Visit {
-            owner: None,
-            attributes: &used.attributes,
-            path: &used.from,
-            names: Some(&used.names),
-            wanted: Wanted::Interface,
-        })?,
+        WorldItem::Use(used) => add_use(None, used, visits)?,
         WorldItem::Include(include) => visits.push(Visit {
             owner: Some(owner),
             attributes: &include.attributes,
@@ -108,21 +114,32 @@ fn is_same_side(a: WorldSide, b: WorldSide) -> bool
     }
 }
 
-/// Adds the visit of what a world imports or exports, where that is an interface by its path.
-fn add_extern<'f, 'a>(
-    external: &'f Extern<'a>,
+/// Adds the visits of an interface that is written in a world: one for each `use`.
+fn add_inline_visits<'f, 'a>(
+    items: &'f [InterfaceItem<'a>],
     visits: &mut Vec<Visit<'f, 'a>>,
 ) -> Result<(), AllocError>
-    ensures { OnOk result (map visit_behind visits.new.items ≡ map visit_behind visits.old.items ++ map (extern_visit external.now.attributes.items) (extern_paths external.now.kind)) }
+    ensures { OnOk result (map visit_behind visits.new.items ≡ map visit_behind visits.old.items ++ flat_map (part_visits None) items.now) }
 {
-    let path = match &external.kind {
-        ExternKind::Interface(_, _) | ExternKind::Func(_, _) => return Ok(()),
-        ExternKind::Path(path) => path,
-        ExternKind::NamedPath(_, path) => path,
-    };
+    for item in items {
+        if let InterfaceItem::Use(used) = item {
+            add_use(None, used, visits)?;
+        }
+    }
+    Ok(())
+}
+
+/// Adds the visit of a path by which a world imports or exports an interface.
+fn add_link<'f, 'a>(
+    attributes: &'f [Attribute<'a>],
+    path: &'f UsePath<'a>,
+    visits: &mut Vec<Visit<'f, 'a>>,
+) -> Result<(), AllocError>
+    ensures { OnOk result (map visit_behind visits.new.items ≡ map visit_behind visits.old.items ++ extern_visit attributes.now path.now ∷ []) }
+{
     visits.push(Visit {
         owner: None,
-        attributes: &external.attributes,
+        attributes,
         path,
         names: None,
         wanted: Wanted::Interface,
@@ -130,7 +147,24 @@ fn add_extern<'f, 'a>(
     Ok(())
 }
 
-/// Adds the visit of a part of a world, where that is an interface by its path on this side.
+/// Adds the visits of what a world imports or exports: of an interface that is written there one
+/// for each `use`, and one of an interface by its path.
+fn add_extern<'f, 'a>(
+    external: &'f Extern<'a>,
+    visits: &mut Vec<Visit<'f, 'a>>,
+) -> Result<(), AllocError>
+    ensures { OnOk result (map visit_behind visits.new.items ≡ map visit_behind visits.old.items ++ extern_visits external.now) }
+{
+    match &external.kind {
+        ExternKind::Interface(_, items) => add_inline_visits(items, visits)?,
+        ExternKind::Path(path) => add_link(&external.attributes, path, visits)?,
+        ExternKind::Func(_, _) => {}
+        ExternKind::NamedPath(_, path) => add_link(&external.attributes, path, visits)?,
+    }
+    Ok(())
+}
+
+/// Adds the visits of a part of a world, where that stands on this side.
 fn add_side_part<'f, 'a>(
     side: WorldSide,
     item: &'f WorldItem<'a>,
@@ -149,7 +183,7 @@ fn add_side_part<'f, 'a>(
     Ok(())
 }
 
-/// Adds the visits of the interfaces that stand on a side of a world by their paths.
+/// Adds the visits of what stands on a side of a world.
 fn add_side<'f, 'a>(
     world: &'f World<'a>,
     side: WorldSide,
@@ -163,8 +197,8 @@ fn add_side<'f, 'a>(
     Ok(())
 }
 
-/// Adds the visits of a world: one for each `use` and each include, then one for each path that it
-/// imports, and then one for each that it exports.
+/// Adds the visits of a world: one for each `use` and each include, then those of its imports, and
+/// then those of its exports.
 fn add_world_visits<'f, 'a>(
     world: &'f World<'a>,
     visits: &mut Vec<Visit<'f, 'a>>,
@@ -199,8 +233,9 @@ fn add_visits<'f, 'a>(
 }
 
 /// The visits of a file, one declaration after another: of an interface one for each `use`; of a
-/// world one for each `use` and each include, then one for each import by its path, and then one for
-/// each export by its path; and one for a `use` at the top of the file.
+/// world one for each `use` and each include, then those of its imports in order, and then those of
+/// its exports in order; and one for a `use` at the top of the file. An import or an export by a path
+/// gives one, and one that is an interface written there gives one for each `use` in it.
 ///
 /// The error is want of memory.
 pub fn visits<'f, 'a>(

@@ -1,22 +1,18 @@
 -- What stands in front of the arenas, with one item more, and with one name more.
 use Rattle.std.proofs.Common.{◌≡◌, ℕ, zero, suc, ◌+◌, ◌<◌, Bool, true, false, not, cond, if◌then◌else◌, List, [], ◌∷◌, ◌++◌, length, Some, None, inl, inr, nat_eq, refl, sym, ap, ◌∙◌, subst, arith, append_assoc, add-zero}
 use Rattle.std.specs.Prelude.{slice_get, slice_set, map}
-use Rattle.std.specs.List.{filter, flat_map}
+use Rattle.std.specs.List.{filter}
 use Rattle.std.specs.Map.{lookup}
 use Rattle.std.specs.Cmp.Lexicographic.{pointwise}
 use Rattle.std.proofs.lemmas.Bool.{cases_Bool}
 use Rattle.std.proofs.lemmas.List.{append-nil}
 use Rattle.std.proofs.lemmas.List.Elements.{filter-append}
-use Rattle.std.proofs.lemmas.Grind.{flat_map-append}
 use Rattle.std.proofs.lemmas.Option.{slice_get_within}
 use Rattle.indexmap.specs.IndexMap.{insert_entry}
-use Rattle.wit_tree.specs.declared.tree.Attribute.{Attribute}
-use Rattle.wit_tree.specs.declared.tree.UseName.{UseName}
-use Rattle.wit_tree.specs.declared.tree.PackageFile.{PackageFile}
 use Rattle.wit_model.specs.declared.ast_item.AstItem.{AstItem}
 use Rattle.wit_model.specs.declared.ast_item.AstItem.TheVariants as entry
-use Rattle.wit_syntax.specs.Address.{Address, same_address, is_foreign}
-use Rattle.wit_syntax.specs.Source.{Item, TopName, path_scope, Part, Defining, Using, Including, Doing, Crossing, parts, part_names, scope_names, Used, Taking, taking, part_takings, item_takings, all_items, takings}
+use Rattle.wit_syntax.specs.Address.{Address, same_address}
+use Rattle.wit_syntax.specs.Source.{Taking}
 use Rattle.wit_syntax.specs.Repeats.{AllDiffer}
 use Rattle.wit_syntax.specs.Foreign.{ForeignVisit, visited, same_item, is_foreign_world}
 use Rattle.wit_arena.specs.Whole.{foreign_place}
@@ -26,7 +22,7 @@ use Rattle.wit_syntax.proofs.Names.{name_itself}
 use Rattle.wit_syntax.proofs.Addresses.{same_address-itself, same_address-equal, same_address-from}
 use Rattle.wit_syntax.proofs.Repeated.{differ_at}
 use Rattle.wit_syntax.proofs.Kept.{kept_at, behind_one}
-use Rattle.wit_front.specs.Front.{interfaces_among, worlds_among, entry_behind, entries_behind, taken_from, name_takings, names_takings}
+use Rattle.wit_front.specs.Front.{interfaces_among, worlds_among, entry_behind, entries_behind, taken_from}
 
 -- one is moved from what stands before to what is counted
 move : (n m : ℕ) → suc n + m ≡ n + suc m
@@ -150,33 +146,6 @@ slice_set-map {X} {Y} f g (z ∷ xs) zero x at others =
     map_same f g [] same = refl
     map_same {X} {Y} f g (y ∷ xs) same = ap (λ (w : Y). w ∷ map f xs) (same 0 y refl) ∙ ap (λ (l : List Y). g y ∷ l) (map_same f g xs (λ j z there. same (suc j) z there))
 slice_set-map {X} {Y} f g (z ∷ xs) (suc i) x at others = ap (λ (w : Y). w ∷ slice_set (map f xs) i (g x)) (others 0 z refl (λ wrong. (let f : ⊥ = omega arith in f))) ∙ ap (λ (l : List Y). g z ∷ l) (slice_set-map f g xs i x at (λ j y there other. others (suc j) y there (λ same. other (omega arith))))
-
--- what a `use` takes from other packages
-used-takings : (s : Address) (attributes : List Attribute) (ns : List UseName) → flat_map name_takings (map (Used s attributes) ns) ≡ filter (λ t. is_foreign t.from) (map (taking s attributes) ns)
-used-takings s attributes [] = refl
-used-takings s attributes (n ∷ ns) = ap (λ (l : List Taking). name_takings (Used s attributes n) ++ l) (used-takings s attributes ns) ∙ sym (filter-append (λ (t : Taking). is_foreign t.from) (taking s attributes n ∷ []) (map (taking s attributes) ns))
-
--- those of a part
-part-takings : (top : List TopName) (p : Part) → names_takings (part_names top p) ≡ filter (λ t. is_foreign t.from) (part_takings top p)
-part-takings top (Defining d) = refl
-part-takings top (Using u) = used-takings (path_scope top u.from) u.attributes.items u.names.items
-part-takings top (Including i) = refl
-part-takings top (Doing f) = refl
-part-takings top (Crossing x) = refl
-
--- those of parts
-parts-takings : (top : List TopName) (ps : List Part) → names_takings (flat_map (part_names top) ps) ≡ filter (λ t. is_foreign t.from) (flat_map (part_takings top) ps)
-parts-takings top [] = refl
-parts-takings top (p ∷ ps) = flat_map-append name_takings (part_names top p) (flat_map (part_names top) ps) ∙ ap (λ (l : List Taking). l ++ names_takings (flat_map (part_names top) ps)) (part-takings top p) ∙ ap (λ (l : List Taking). filter (λ t. is_foreign t.from) (part_takings top p) ++ l) (parts-takings top ps) ∙ sym (filter-append (λ (t : Taking). is_foreign t.from) (part_takings top p) (flat_map (part_takings top) ps))
-
--- the names that items use from other packages
-items-takings : (ws : List Item) → flat_map names_takings (map scope_names ws) ≡ flat_map item_takings ws
-items-takings [] = refl
-items-takings (w ∷ ws) = ap (λ (l : List Taking). l ++ flat_map names_takings (map scope_names ws)) (parts-takings w.top (parts w)) ∙ ap (λ (l : List Taking). item_takings w ++ l) (items-takings ws)
-
--- those that all items use
-pub names-takings : (files : List PackageFile) → flat_map names_takings (map scope_names (all_items files)) ≡ takings files
-names-takings files = items-takings (all_items files)
 
 -- none of these is the item
 abbrev pub IsNoneOf : List ForeignVisit → ForeignVisit → Type 0

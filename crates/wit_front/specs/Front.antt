@@ -1,5 +1,5 @@
 -- What stands in front of the arenas, while it is made.
-use Rattle.std.specs.Prelude.{◌≡◌, ℕ, suc, List, [], ◌∷◌, not, None, map, if◌then◌else◌}
+use Rattle.std.specs.Prelude.{◌≡◌, ℕ, suc, List, [], ◌∷◌, ◌++◌, not, None, map, if◌then◌else◌}
 use Rattle.std.specs.List.{filter, flat_map}
 use Rattle.wit_values.specs.declared.span.Span.{Span}
 use Rattle.wit_tree.specs.declared.tree.PackageFile.{PackageFile}
@@ -18,7 +18,11 @@ use Rattle.wit_syntax.specs.Foreign.{ForeignVisit, visited, is_foreign_world, fo
 use Rattle.wit_arena.specs.Whole.{foreign_entry, owner_at}
 use Rattle.wit_arena.specs.Resolving.{Names, named}
 use Rattle.wit_arena.specs.Resolved.{AddsForeign}
+use Rattle.wit_tree.specs.declared.tree.WorldSide.TheVariants.{Imported, Exported}
 use Rattle.wit_files.specs.Foreign.{foreign_behind}
+use Rattle.wit_items.specs.declared.items.Item.{Item as HeldItem}
+use Rattle.wit_items.specs.Items.{names_behind}
+use Rattle.wit_items.specs.Inside.{inside_behind}
 use Rattle.wit_front.specs.declared.foreign.ForeignArenas.{ForeignArenas}
 
 -- an interface of another package with these types
@@ -87,6 +91,10 @@ name_takings (Taken attributes id) = []
 
 abbrev pub names_takings : List ScopeName → List Taking
 names_takings xs = flat_map name_takings xs
+
+-- those among the names of an item, and then among those of what is written in it, on the imported side and on the exported one
+abbrev pub held_takings : HeldItem → List Taking
+held_takings i = names_takings (names_behind i) ++ (flat_map names_takings (inside_behind Imported i) ++ flat_map names_takings (inside_behind Exported i))
 
 -- some names were taken from some items, at which what is at hand is placed
 pub record HasTaken (types : List TypeDef) (a : ForeignArenas) (Placed : List Address → Type 0) : Type 0 where

@@ -1,8 +1,10 @@
 //! What other packages' items put in front of the arenas.
-ghost use Rattle.std.specs.Prelude.{◌≡◌, ◌++◌, ◌∷◌, ◌<◌, List, [], Some, true, false, length, map, nat_eq, slice_get, IfOk, IfErr, OnOk};
+ghost use Rattle.std.specs.Prelude.{◌≡◌, ◌++◌, ◌∷◌, ◌<◌, All, List, [], Some, true, false, length, map, nat_eq, slice_get, IfOk, IfErr, OnOk};
+ghost use Rattle.std.specs.List.{flat_map};
 ghost use Rattle.std.specs.Cmp.Lexicographic.{pointwise};
 ghost use Rattle.indexmap.specs.IndexMap.{insert_entry};
 ghost use Rattle.wit_tree.specs.declared.tree.PackageFile.{PackageFile as TheFile};
+ghost use Rattle.wit_tree.specs.declared.tree.WorldSide.{WorldSide as TheSide};
 ghost use Rattle.wit_tree.specs.Refusal.{IsWantOfMemory};
 ghost use Rattle.wit_syntax.specs.Address.{Address};
 ghost use Rattle.wit_syntax.specs.Source.{all_items, scope_names, Taking, taking};
@@ -11,9 +13,10 @@ ghost use Rattle.wit_arena.specs.Whole.{foreign_entry};
 ghost use Rattle.wit_files.specs.Foreign.{foreign_behind};
 ghost use Rattle.wit_scopes.specs.Held.{name_behind};
 ghost use Rattle.wit_items.specs.Items.{names_behind};
+ghost use Rattle.wit_items.specs.Inside.{inside_behind, names_written};
 ghost use Rattle.wit_scopes.specs.Front.{IsNamePlaced, AreNamesPlaced};
 ghost use Rattle.wit_items.specs.Front.{AreItemsPlaced};
-ghost use Rattle.wit_front.specs.Front.{interface_with, with_types, bare_world, addresses_among, IsTaken, AreApart, HasTaken, name_takings, names_takings, IsFront};
+ghost use Rattle.wit_front.specs.Front.{interface_with, with_types, bare_world, addresses_among, IsTaken, AreApart, HasTaken, name_takings, names_takings, held_takings, IsFront};
 
 use std::alloc::{AllocError, Global};
 use wit_entries::entries::Entries;
@@ -220,7 +223,46 @@ impl<'f, 'a> ForeignArenas<'f, 'a> {
         Ok(())
     }
 
-    /// Adds the types that items use from interfaces of other packages, in source order.
+    /// Adds the types that interfaces which are written in a world use from those of other packages.
+    ///
+    /// The error is want of memory.
+    fn take_inside(
+        &mut self,
+        alloc: Global,
+        types: &mut Entries,
+        inside: &[Vec<ScopeName<'_, '_>>],
+    ) -> ParseResult<()>
+        requires { HasTaken types.old self.old (λ front. All (λ ns. AreNamesPlaced front ns.items) inside.now) }
+        ensures taken { OnOk result ((vs : List TheVisit) (ts : List Taking) → AreApart vs → All (λ ns. AreNamesPlaced (addresses_among vs) ns.items) inside.now → IsTaken vs ts types.old self.old → IsTaken vs (ts ++ flat_map names_takings (map (λ ns. map name_behind ns.items) inside.now)) types.new self.new) }
+        ensures refused { IfErr result IsWantOfMemory }
+    {
+        for names in inside {
+            self.take_names(alloc, types, names)?;
+        }
+        Ok(())
+    }
+
+    /// Adds the types that an item uses from interfaces of other packages: those of its own names, then
+    /// those of what is written in it, on the imported side and then on the exported one.
+    ///
+    /// The error is want of memory.
+    fn take_item(
+        &mut self,
+        alloc: Global,
+        types: &mut Entries,
+        item: &Item<'_, '_>,
+    ) -> ParseResult<()>
+        requires { HasTaken types.old self.old (λ front. AreItemsPlaced front (item.now ∷ [])) }
+        ensures taken { OnOk result ((vs : List TheVisit) (ts : List Taking) → AreApart vs → AreItemsPlaced (addresses_among vs) (item.now ∷ []) → IsTaken vs ts types.old self.old → IsTaken vs (ts ++ held_takings item.now) types.new self.new) }
+        ensures refused { IfErr result IsWantOfMemory }
+    {
+        self.take_names(alloc, types, &item.names)?;
+        self.take_inside(alloc, types, &item.imported)?;
+        self.take_inside(alloc, types, &item.exported)?;
+        Ok(())
+    }
+
+    /// Adds the types that items use from interfaces of other packages, in the order of their visits.
     ///
     /// The error is want of memory.
     pub fn take_all(
@@ -230,11 +272,11 @@ impl<'f, 'a> ForeignArenas<'f, 'a> {
         items: &[Item<'_, '_>],
     ) -> ParseResult<()>
         requires { HasTaken types.old self.old (λ front. AreItemsPlaced front items.now) }
-        ensures taken { OnOk result ((files : List TheFile) → IsTaken (foreign_items files) [] types.old self.old → AreItemsPlaced (addresses_among (foreign_items files)) items.now → map names_behind items.now ≡ map scope_names (all_items files) → IsFront files types.new self.new) }
+        ensures taken { OnOk result ((files : List TheFile) → IsTaken (foreign_items files) [] types.old self.old → AreItemsPlaced (addresses_among (foreign_items files)) items.now → map names_behind items.now ≡ map scope_names (all_items files) → ((side : TheSide) → map (inside_behind side) items.now ≡ map (names_written side) (all_items files)) → IsFront files types.new self.new) }
         ensures refused { IfErr result IsWantOfMemory }
     {
         for item in items {
-            self.take_names(alloc, types, &item.names)?;
+            self.take_item(alloc, types, item)?;
         }
         Ok(())
     }

@@ -2,4 +2,5 @@ mod Finding
 pub mod Others
 mod Placed
 pub mod Usable
+pub mod Written
 pub mod Documented

@@ -10,28 +10,26 @@ use Rattle.wit_tree.specs.declared.tree.Attribute.{Attribute}
 use Rattle.wit_tree.specs.declared.tree.UsePath.{UsePath}
 use Rattle.wit_tree.specs.declared.tree.UsePath.TheVariants as path
 use Rattle.wit_tree.specs.declared.tree.PackageFile.{PackageFile}
-use Rattle.wit_tree.specs.declared.tree.PackageName.{PackageName as Written}
 use Rattle.wit_tree.specs.declared.tree.Extern.{Extern}
-use Rattle.wit_tree.specs.declared.tree.WorldSide.{WorldSide}
-use Rattle.wit_tree.specs.declared.tree.WorldSide.TheVariants.{Imported, Exported}
+use Rattle.wit_tree.specs.declared.tree.Use.{Use as WrittenUse}
 use Rattle.wit_package_names.specs.declared.package_name.PackageName.{PackageName}
 use Rattle.wit_model.specs.declared.ast_item.AstItem.{AstItem}
 use Rattle.wit_model.specs.declared.ast_item.AstItem.TheVariants as entry
 use Rattle.wit_model.specs.declared.world.World.{World}
 use Rattle.wit_syntax.specs.Address.{Address, ForeignNamed, package_of, same_address}
 use Rattle.wit_syntax.specs.Source.{Target, Local, Foreign, top_named, top_names, top_target, leads, included_scope, Item, Part, Defining, Using, Including, Doing, Crossing, parts, all_items}
-use Rattle.wit_syntax.specs.Foreign.{ForeignVisit, visited, path_visits, part_visits, side_visits, visits_in, same_item, foreign_at, foreign_items, foreign_interfaces, foreign_worlds, is_foreign_world}
-use Rattle.wit_syntax.specs.Crossing.{same_side, extern_paths}
+use Rattle.wit_syntax.specs.Foreign.{ForeignVisit, visited, path_visits, part_visits, extern_visits, side_visits, visits_in, same_item, foreign_at, foreign_items, foreign_interfaces, foreign_worlds, is_foreign_world}
+use Rattle.wit_syntax.specs.Crossing.{extern_paths, inline_uses}
 use Rattle.wit_syntax.specs.Scope.{use_path}
 use Rattle.wit_arena.specs.Whole.{foreign_place, foreign_entry}
 use Rattle.wit_syntax.specs.Broken.{is_world_at}
 use Rattle.wit_arena.specs.Resolving.{Names, IsWorldIndex, IsNoWorld}
 use Rattle.wit_arena.specs.Resolved.{worlds_at}
-use Rattle.wit_syntax.proofs.Addresses.{same_address-equal, same_address-from}
+use Rattle.wit_syntax.proofs.Addresses.{side_itself, same_address-equal, same_address-from}
 use Rattle.wit_syntax.proofs.Found.{find_passes, find_some, find_at, at_contains}
 use Rattle.wit_syntax.proofs.Kept.{kept_has}
-use Rattle.wit_syntax.proofs.Lists.{at_within, at_front, at_back, flat_map_at, flat_map_has}
-use Rattle.wit_arena.proofs.Visits.{IsVisited, visit_listed, item_origin, declaration_visited, path_visited}
+use Rattle.wit_syntax.proofs.Lists.{at_within, at_back, at_split, map_at, flat_map_at, flat_map_has}
+use Rattle.wit_arena.proofs.Visits.{IsVisited, visit_listed, path_among, path_visited, side_has, leads_visited, part_use_at}
 use Rattle.wit_files.specs.FileNames.{found_at}
 use Rattle.wit_files.specs.declared.file_names.FileNames.{FileNames}
 use Rattle.wit_files.specs.declared.file_names.Found.{Found}
@@ -224,36 +222,17 @@ part_visited names place part attributes world from h visits files file are p id
     let here = path_visited h.item.files q.0 item m.0 part attributes world from p id q.1 m.1 visits (leads_same names place h.item.files files h.item.file file from was are ∙ lead) in
     visited_here names place h.item.files files h.item.file file was are p id here
 
--- a side is one with itself
-same_side-itself : (side : WorldSide) → same_side side side ≡ true
-same_side-itself Imported = refl
-same_side-itself Exported = refl
-
--- a visit on a side is one of all
-side_among : (ps : List Part) (side : WorldSide) (j : ℕ) (v : ForeignVisit) → slice_get (flat_map (side_visits side) ps) j ≡ Some v → (k : ℕ) × (slice_get (visits_in ps) k ≡ Some v)
-side_among ps Imported j v at =
-    let own = flat_map part_visits ps in
-    let imported = flat_map (side_visits Imported) ps in
-    let exported = flat_map (side_visits Exported) ps in
-    (length own + j, at_back own (imported ++ exported) j v (at_front imported exported j v at))
-side_among ps Exported j v at =
-    let own = flat_map part_visits ps in
-    let imported = flat_map (side_visits Imported) ps in
-    let exported = flat_map (side_visits Exported) ps in
-    (length own + (length imported + j), at_back own (imported ++ exported) (length imported + j) v (at_back imported exported j v at))
-
--- the visit of an import or an export by a path with a package is one of the files
-extern_visited : (files : List PackageFile) (q : ℕ) (w : Item) (m : ℕ) (x : Extern) (j : ℕ) (of : Written) (id : Id) → slice_get (all_items files) q ≡ Some w → slice_get (parts w) m ≡ Some (Crossing x) → slice_get (extern_paths x.kind) j ≡ Some (path.Package of id) → IsVisited files (package_of of) id
-extern_visited files q w m x j of id at part from =
-    let v : ForeignVisit = record { attributes = x.attributes.items; of = of; id = id; wants_world = false } in
-    let visits : UsePath → List ForeignVisit = path_visits x.attributes.items false in
-    let own = flat_map_has visits (extern_paths x.kind) j 0 (path.Package of id) v from refl in
-    let here : slice_get (side_visits x.side (Crossing x)) own.0 ≡ Some v = ap (λ (b : Bool). slice_get (cond b (flat_map visits (extern_paths x.kind)) []) own.0) (same_side-itself x.side) ∙ own.1 in
-    let on_side = flat_map_has (side_visits x.side) (parts w) m own.0 (Crossing x) v part here in
-    let among = side_among (parts w) x.side on_side.0 v on_side.1 in
-    let origin = item_origin files q w at in
-    let n = declaration_visited files origin.place origin.index among.0 origin.file origin.declaration v origin.at origin.among (ap (λ (l : List ForeignVisit). slice_get l among.0) origin.visits ∙ among.1) in
-    record { place = n.0; v = v; at = n.1; is = refl }
+-- the visit of an import or an export by its path is one of its item's
+crossing_visited : (ps : List Part) (m : ℕ) (x : Extern) (j : ℕ) (from : UsePath) (v : ForeignVisit) → slice_get ps m ≡ Some (Crossing x) → slice_get (extern_paths x.kind) j ≡ Some from → slice_get (path_visits x.attributes.items false from) 0 ≡ Some v → (n : ℕ) × (slice_get (visits_in ps) n ≡ Some v)
+crossing_visited ps m x j from v part at first =
+    let of_use : WrittenUse → List ForeignVisit = λ u. path_visits u.attributes.items false u.from in
+    let of_path : UsePath → List ForeignVisit = path_visits x.attributes.items false in
+    let own = flat_map_has of_path (extern_paths x.kind) j 0 from v at first in
+    let there = at_back (flat_map of_use (inline_uses x.kind)) (flat_map of_path (extern_paths x.kind)) own.0 v own.1 in
+    let place = length (flat_map of_use (inline_uses x.kind)) + own.0 in
+    let here : slice_get (side_visits x.side (Crossing x)) place ≡ Some v = ap (λ (b : Bool). slice_get (cond b (extern_visits x) []) place) (side_itself x.side) ∙ there in
+    let on_side = flat_map_has (side_visits x.side) ps m place (Crossing x) v part here in
+    side_has (flat_map part_visits ps) (λ side. flat_map (side_visits side) ps) x.side on_side.0 v on_side.1
 
 -- where a path of an item that wants an interface leads to another package, that item is visited
 wanted_in : (files : List PackageFile) (q : ℕ) (w : Item) (m : ℕ) (x : Part) (j : ℕ) (from : UsePath) (p : PackageName) (id : Id) → slice_get (all_items files) q ≡ Some w → slice_get (parts w) m ≡ Some x → slice_get (use_path x) j ≡ Some from → leads w.top from ≡ Foreign p id → IsVisited files p id
@@ -264,11 +243,14 @@ wanted_in files q w m (Using u) zero from p id at part here lead =
 wanted_in files q w m (Using u) (suc j) from p id at part here lead = absurd (let f : ⊥ = cc in f)
 wanted_in files q w m (Including i) j from p id at part here lead = absurd (let f : ⊥ = cc in f)
 wanted_in files q w m (Doing g) j from p id at part here lead = absurd (let f : ⊥ = cc in f)
-wanted_in files q w m (Crossing x) j (path.Id other) p id at part here lead = path_visited files q w m (Crossing x) [] false (path.Id other) p id at part refl lead
-wanted_in files q w m (Crossing x) j (path.Package of other) p id at part here lead =
-    let whose : package_of of ≡ p = cc in
-    let name : other ≡ id = cc in
-    subst (λ (y : PackageName). IsVisited files y id) whose (subst (IsVisited files (package_of of)) name (extern_visited files q w m x j of other at part here))
+wanted_in files q w m (Crossing x) j from p id at part here lead =
+    let from_of : WrittenUse → UsePath = λ u. u.from in
+    elim (at_split (map from_of (inline_uses x.kind)) (extern_paths x.kind) j from here) [
+      | inl inside ↦ (
+          let u = map_at from_of (inline_uses x.kind) j from inside in
+          leads_visited files q w u.0 p id at (part_use_at w m (Crossing x) j u.0 part u.1) (ap (leads w.top) u.2 ∙ lead))
+      | inr own ↦ path_among files q w x.attributes.items false from p id at (λ v first. crossing_visited (parts w) m x own.0 from v part own.2 first) lead
+    ]
 
 pub wanted_visited : (names : FileNames) (place : ℕ) (from : UsePath) → HasPath names place from → (files : List PackageFile) (file : PackageFile) → AreNamesAt files names place file → (p : PackageName) (id : Id) → leads (top_names file) from ≡ Foreign p id → (v : ForeignVisit) × (foreign_at files (ForeignNamed p id.name.now) ≡ Some v)
 wanted_visited names place from h files file are p id lead =

@@ -1,5 +1,7 @@
 -- Names of scopes, and the interfaces of other packages at their places.
-use Rattle.std.proofs.Common.{◌≡◌, List, [], ◌∷◌, ◌++◌, inl, inr, sym, subst}
+use Rattle.std.proofs.Common.{◌≡◌, ℕ, zero, suc, List, [], ◌∷◌, ◌++◌, Some, inl, inr, refl, sym, subst}
+use Rattle.std.specs.Prelude.{All, slice_get}
+use Rattle.std.proofs.lemmas.List.Elements.{All-nil, All-push}
 use Rattle.wit_syntax.specs.Address.{Address}
 use Rattle.wit_syntax.proofs.Lists.{at_either}
 use Rattle.wit_items.specs.declared.items.Item.{Item}
@@ -10,13 +12,45 @@ pub names_none : (front : List Address) → AreNamesPlaced front []
 names_none front = record { each = λ k x at. absurd (let f : ⊥ = cc in f) }
 
 pub items_none : (front : List Address) → AreItemsPlaced front []
-items_none front = record { each = λ k i at. absurd (let f : ⊥ = cc in f) }
+items_none front = record {
+  each = λ k i at. absurd (let f : ⊥ = cc in f);
+  imported = λ k i at. absurd (let f : ⊥ = cc in f);
+  exported = λ k i at. absurd (let f : ⊥ = cc in f);
+}
+
+-- one item, by what it holds
+pub item_placed : (front : List Address) (x : Item) → AreNamesPlaced front x.names.items → All (λ ns. AreNamesPlaced front ns.items) x.imported.items → All (λ ns. AreNamesPlaced front ns.items) x.exported.items → AreItemsPlaced front (x ∷ [])
+item_placed front x own imported exported = record {
+  each = λ k i at. subst (λ (y : Item). AreNamesPlaced front y.names.items) (only k i at) own;
+  imported = λ k i at. subst (λ (y : Item). All (λ ns. AreNamesPlaced front ns.items) y.imported.items) (only k i at) imported;
+  exported = λ k i at. subst (λ (y : Item). All (λ ns. AreNamesPlaced front ns.items) y.exported.items) (only k i at) exported;
+}
+  where
+    only : (k : ℕ) (i : Item) → slice_get (x ∷ []) k ≡ Some i → x ≡ i
+    only zero i at = cc
+    only (suc k) i at = absurd (let f : ⊥ = cc in f)
+
+-- what holds of each of none
+pub none_all : {X : Type 0} (P : X → Type 0) (xs : List X) → xs ≡ [] → All P xs
+none_all P xs none = rw none (All-nil P)
 
 -- one item more
-pub items_more : (front : List Address) (items new : List Item) (x : Item) → new ≡ items ++ x ∷ [] → AreItemsPlaced front items → AreNamesPlaced front x.names.items → AreItemsPlaced front new
+pub items_more : (front : List Address) (items new : List Item) (x : Item) → new ≡ items ++ x ∷ [] → AreItemsPlaced front items → AreItemsPlaced front (x ∷ []) → AreItemsPlaced front new
 items_more front items new x grown placed one = rw grown (record {
   each = λ k i at. elim (at_either items x k i at) [
     | inl early ↦ placed.each k i early
-    | inr last ↦ subst (λ (y : Item). AreNamesPlaced front y.names.items) (sym last.1) one
+    | inr last ↦ subst (λ (y : Item). AreNamesPlaced front y.names.items) (sym last.1) (one.each 0 x refl)
+  ];
+  imported = λ k i at. elim (at_either items x k i at) [
+    | inl early ↦ placed.imported k i early
+    | inr last ↦ subst (λ (y : Item). All (λ ns. AreNamesPlaced front ns.items) y.imported.items) (sym last.1) (one.imported 0 x refl)
+  ];
+  exported = λ k i at. elim (at_either items x k i at) [
+    | inl early ↦ placed.exported k i early
+    | inr last ↦ subst (λ (y : Item). All (λ ns. AreNamesPlaced front ns.items) y.exported.items) (sym last.1) (one.exported 0 x refl)
   ];
 })
+
+-- what holds of each of a list holds of one more
+pub all_more : {X : Type 0} (P : X → Type 0) (xs ys : List X) (x : X) → ys ≡ xs ++ x ∷ [] → All P xs → P x → All P ys
+all_more P xs ys x grown before one = rw grown (All-push P xs x before one)

@@ -1,5 +1,5 @@
 -- Declared items that are held, and where their paths to interfaces lead.
-use Rattle.std.specs.Prelude.{◌≡◌, ℕ, true, false, List, Option, Some, None, Contains, map, slice_get}
+use Rattle.std.specs.Prelude.{◌≡◌, ℕ, true, false, List, [], ◌∷◌, Option, Some, None, Contains, map, slice_get}
 use Rattle.std.specs.List.{filter, flat_map}
 use Rattle.std.specs.Option.{option_map}
 use Rattle.wit_tree.specs.declared.tree.Id.{Id}
@@ -9,7 +9,7 @@ use Rattle.wit_tree.specs.declared.tree.PackageFile.{PackageFile}
 use Rattle.wit_model.specs.declared.ast_item.AstItem.{AstItem}
 use Rattle.wit_model.specs.declared.ast_item.AstItem.TheVariants as entry
 use Rattle.wit_syntax.specs.Address.{Address, ForeignNamed}
-use Rattle.wit_syntax.specs.Source.{Target, Local, Foreign, leads, path_id, path_scope, TopName, top_names, Declared, TheInterface, TheWorld, declared_parts, Part, Defining, Using, Including, Doing, Crossing, Item, item_named, all_items, ScopeName}
+use Rattle.wit_syntax.specs.Source.{Target, Local, Foreign, leads, path_id, path_scope, TopName, top_names, Declared, TheInterface, TheWorld, TheInline, declared_parts, Part, Defining, Using, Including, Doing, Crossing, Item, item_named, all_items, ScopeName}
 use Rattle.wit_syntax.specs.Scope.{use_path, uses}
 use Rattle.wit_syntax.specs.Foreign.{visited, is_foreign_world, foreign_at, foreign_items, foreign_interfaces}
 use Rattle.wit_arena.specs.Whole.{foreign_entry}
@@ -24,17 +24,19 @@ use Rattle.wit_files.specs.declared.file_names.Found.TheVariants.{Item as ItemAt
 use Rattle.wit_files.specs.FileNames.{AreNamesOf}
 use Rattle.wit_items.specs.declared.items.Declared.{Declared as HeldDeclared}
 use Rattle.wit_items.specs.declared.items.Declared.TheVariants as held
-use Rattle.wit_items.specs.declared.items.Part.{Part as HeldPart}
-use Rattle.wit_items.specs.declared.items.Part.TheVariants as held_part
+use Rattle.wit_items.specs.declared.parts.Part.{Part as HeldPart}
+use Rattle.wit_items.specs.declared.parts.Part.TheVariants as held_part
 use Rattle.wit_items.specs.declared.items.Item.{Item as Held}
+use Rattle.wit_items.specs.declared.items.ItemScope.{ItemScope as HeldScope}
 use Rattle.wit_items.specs.declared.reached.Reached.{Reached}
 use Rattle.wit_items.specs.declared.reached.Reached.TheVariants as reached
 use Rattle.wit_scopes.specs.Held.{name_behind, source_behind, IsPlaced}
 
--- the declared interface or world that is held
+-- the interface or the world that is held
 abbrev pub declared_behind : HeldDeclared → Declared
 declared_behind (held.Interface i) = TheInterface i.now
 declared_behind (held.World w) = TheWorld w.now
+declared_behind (held.Inline i) = TheInline i.world.now i.place i.written.now i.name i.items.now
 
 -- the part that is held
 abbrev pub part_behind : HeldPart → Part
@@ -47,6 +49,18 @@ part_behind (held_part.Crossing x) = Crossing x.now
 -- the item that is held
 abbrev pub item_behind : Held → Item
 item_behind i = record { top = top_names i.file.now; declared = declared_behind i.declared }
+
+-- the item whose names are lent
+abbrev pub scope_item : HeldScope → Item
+scope_item s = record { top = top_names s.file.now; declared = declared_behind s.declared }
+
+-- the uses of a part that are its own: those of an interface that is written in a world are that one's
+abbrev pub own_uses : Part → List Use
+own_uses (Defining d) = []
+own_uses (Using u) = u ∷ []
+own_uses (Including i) = []
+own_uses (Doing f) = []
+own_uses (Crossing x) = []
 
 -- the names of its scope
 abbrev pub names_behind : Held → List ScopeName

@@ -1,4 +1,5 @@
 pub mod Headers
 pub mod Items
+pub mod Inside
 pub mod Front
 pub mod Told

@@ -2,6 +2,8 @@
 #![tactic(auto)]
 
 pub mod header;
+mod inside;
 pub mod items;
 pub mod notes;
+mod parts;
 pub mod reached;

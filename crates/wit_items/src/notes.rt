@@ -14,7 +14,7 @@ use wit_tree::ParseResult;
 use wit_tree::tree::{self, Attribute};
 use wit_types::{Docs, Stability};
 
-/// What is told of an item. It has no name elsewhere.
+/// What is told of an item, but for its name elsewhere.
 #[derive(Drop)]
 pub struct ItemNotes {
     pub docs: Docs,
@@ -46,5 +46,8 @@ pub fn item_notes(alloc: Global, declared: Declared<'_, '_>) -> ParseResult<Item
     match declared {
         Declared::Interface(interface) => told(alloc, &interface.docs, &interface.attributes),
         Declared::World(world) => told(alloc, &world.docs, &world.attributes),
+        Declared::Inline(inline) => {
+            told(alloc, &inline.written.docs, &inline.written.attributes)
+        }
     }
 }

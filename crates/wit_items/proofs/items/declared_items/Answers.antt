@@ -11,7 +11,9 @@ use Rattle.wit_syntax.proofs.Orders.{take_next}
 use Rattle.wit_files.proofs.Lost.{flat_more}
 use Rattle.wit_items.specs.Items.{AreNamesAt, AreSound, HasUnsoundUse}
 use Rattle.wit_syntax.specs.Foreign.{visited, foreign_interfaces}
+use Rattle.wit_items.specs.Inside.{names_written}
 use Rattle.wit_items.proofs.Placed.{items_none}
+use Rattle.wit_items.proofs.Written.{inside_none}
 use Rattle.wit_items.proofs.Usable.{filed_none, unsound_broken, items_held}
 use Rattle.wit_items.proofs.items.declared_items.Goals as goal
 
@@ -19,6 +21,7 @@ pub loop-place-init : goal.loop-place-init
 loop-place-init c = rw c.in_ok-items.ensures.items (record {
   items = refl;
   names = refl;
+  inside = λ side. inside_none side;
   filed = filed_none c.args.files.now c.args.names.now;
   placed = items_none (map visited (foreign_interfaces c.args.files.now));
   sound = record { each = λ i among. absurd (let lt = among.1 in let f : ⊥ = omega arith in f) };
@@ -45,6 +48,7 @@ loop-place-preserved c =
     record {
       items = e.items ∙ ap (λ l. l ++ own) was.items ∙ sym grown;
       names = e.names ∙ ap (λ l. l ++ map scope_names own) was.names ∙ sym (map-append scope_names before own) ∙ ap (map scope_names) (sym grown);
+      inside = λ side. e.inside side ∙ ap (λ l. l ++ map (names_written side) own) (was.inside side) ∙ sym (map-append (names_written side) before own) ∙ ap (map (names_written side)) (sym grown);
       filed = e.filed files named was.filed;
       placed = e.placed files named was.placed;
       sound = record { each = items_held (λ (w : Item). AreSound files w.top (uses w)) (take i files) (take (i + 1) files) file more was.sound.each (e.sound files named).each };
@@ -63,6 +67,9 @@ returns-clause-items c = c.loop-place.invariant.items ∙ ap all_items (take_all
 
 pub returns-clause-names : goal.returns-clause-names
 returns-clause-names c = c.loop-place.invariant.names ∙ ap (λ l. map scope_names (all_items l)) (take_all c.loop-place.place c.args.files.now c.loop-place-test.false)
+
+pub returns-clause-inside : goal.returns-clause-inside
+returns-clause-inside c = λ side. c.loop-place.invariant.inside side ∙ ap (λ l. map (names_written side) (all_items l)) (take_all c.loop-place.place c.args.files.now c.loop-place-test.false)
 
 pub returns-clause-sound : goal.returns-clause-sound
 returns-clause-sound c = rw (take_all c.loop-place.place c.args.files.now c.loop-place-test.false) at c.loop-place.invariant.sound

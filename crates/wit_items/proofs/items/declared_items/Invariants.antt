@@ -1,14 +1,17 @@
 use Rattle.std.proofs.Common.{◌≡◌, map, take}
+use Rattle.wit_tree.specs.declared.tree.WorldSide.{WorldSide}
 use Rattle.wit_syntax.specs.Source.{all_items, scope_names}
 use Rattle.wit_syntax.specs.Foreign.{visited, foreign_interfaces}
 use Rattle.wit_items.specs.Front.{AreItemsPlaced}
 use Rattle.wit_items.specs.Items.{item_behind, names_behind, AreFiled, HaveSoundUses}
+use Rattle.wit_items.specs.Inside.{inside_behind, names_written}
 use Rattle.wit_items.proofs.items.declared_items.Given as goal
 
 abbrev pub invariant-loop-place : goal.invariant-loop-place
 invariant-loop-place l = record {
   items : map item_behind l.items.items ≡ all_items (take l.place l.files);
   names : map names_behind l.items.items ≡ map scope_names (all_items (take l.place l.files));
+  inside : (side : WorldSide) → map (inside_behind side) l.items.items ≡ map (names_written side) (all_items (take l.place l.files));
   filed : AreFiled l.files l.names l.items.items;
   placed : AreItemsPlaced (map visited (foreign_interfaces l.files)) l.items.items;
   sound : HaveSoundUses l.files (all_items (take l.place l.files));

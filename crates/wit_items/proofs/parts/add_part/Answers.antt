@@ -1,20 +1,21 @@
-use Rattle.std.proofs.Common.{◌++◌, ◌∷◌, [], map, sym, ap, ◌∙◌}
+use Rattle.std.proofs.Common.{◌++◌, ◌∷◌, [], map, refl, sym, ap, ◌∙◌}
 use Rattle.std.proofs.lemmas.List.{map-append, append-nil}
 use Rattle.std.proofs.lemmas.Result.{err_from_is_err_and}
 use Rattle.wit_tree.specs.declared.tree.Use.{Use}
 use Rattle.wit_syntax.specs.Address.{Address}
 use Rattle.wit_syntax.specs.Source.{top_names, Used}
+use Rattle.wit_syntax.proofs.Found.{contains_at}
 use Rattle.wit_syntax.proofs.Refusing.{refused_weaker}
 use Rattle.wit_scopes.specs.Held.{name_behind}
 use Rattle.wit_items.specs.Items.{IsUnsound, IsUnsoundAmong}
 use Rattle.wit_syntax.specs.Foreign.{visited, foreign_interfaces}
 use Rattle.wit_scopes.proofs.Placed.{names_more}
 use Rattle.wit_items.proofs.Usable.{sound_none, sound_one, unsound_one}
-use Rattle.wit_items.proofs.items.add_part.Goals.{in-Defining+in_ok-push-in-Defining, in-Using+in_ok-from-in-Using+in_ok-add_used_names-in-Using, in-Including, in-Doing, in-Crossing}
-use Rattle.wit_items.proofs.items.add_part.Goals as goal
+use Rattle.wit_items.proofs.parts.add_part.Goals.{in-Defining+in_ok-push-in-Defining, in-Using+in_ok-from-in-Using+in_ok-add_used_names-in-Using, in-Including, in-Doing, in-Crossing}
+use Rattle.wit_items.proofs.parts.add_part.Goals as goal
 
-pub sound_source-requires-clause-part : goal.sound_source-requires-clause-part
-sound_source-requires-clause-part c = rw c.in-Using.is at c.requires.part
+pub sound_source-requires-clause-path : goal.sound_source-requires-clause-path
+sound_source-requires-clause-path c = let u : Use = c.in-Using.used.now in (rw c.in-Using.is at c.requires.paths) u (contains_at (u ∷ []) 0 u refl)
 
 pub returns-in_err-from-in-Using-clause-refused :
     goal.returns-in_err-from-in-Using-clause-refused

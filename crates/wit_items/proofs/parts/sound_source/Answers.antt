@@ -1,14 +1,9 @@
-use Rattle.std.proofs.Common.{refl}
 use Rattle.std.proofs.lemmas.Result.{err_from_is_err_and}
-use Rattle.wit_syntax.specs.Source.{Using, top_names}
+use Rattle.wit_syntax.specs.Source.{top_names}
 use Rattle.wit_syntax.specs.Notes.{IsBrokenNotes}
 use Rattle.wit_syntax.proofs.Refusing.{refused_weaker}
 use Rattle.wit_items.specs.Items.{IsUnusable, IsUnsound, BrokenNotes, Unusable}
-use Rattle.wit_items.proofs.Usable.{part_path}
-use Rattle.wit_items.proofs.items.sound_source.Goals as goal
-
-pub path_source-requires-clause-path : goal.path_source-requires-clause-path
-path_source-requires-clause-path c = let u = c.args.used.now in part_path c.args.files.now c.args.place (Using u) u.from refl c.requires.part
+use Rattle.wit_items.proofs.parts.sound_source.Goals as goal
 
 pub returns-in_err-check_notes-clause-refused : goal.returns-in_err-check_notes-clause-refused
 returns-in_err-check_notes-clause-refused c =

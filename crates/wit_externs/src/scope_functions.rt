@@ -1,10 +1,10 @@
-//! What stands on the sides of a scope, one after another.
+//! The functions of a scope, one after another, where nothing else stands on its sides.
 ghost use Rattle.std.specs.Prelude.{◌≡◌, ◌⊎◌, ◌++◌, ℕ, IfErr, IfOk, List, OnOk, Some, map, slice_get};
 ghost use Rattle.std.specs.List.{flat_map};
 ghost use Rattle.wit_syntax.specs.Address.{Address};
 ghost use Rattle.wit_tree.specs.declared.tree.WorldSide.{WorldSide};
 ghost use Rattle.wit_syntax.specs.Repeats.{AllDiffer};
-ghost use Rattle.wit_syntax.specs.Sides.{item_function, items_on};
+ghost use Rattle.wit_syntax.specs.Sides.{SideFunction, items_on};
 ghost use Rattle.wit_sides.specs.Sides.{taken_on};
 ghost use Rattle.wit_syntax.specs.Shape.{all_handles};
 ghost use Rattle.wit_syntax.specs.Source.{ScopeName};
@@ -17,14 +17,9 @@ ghost use Rattle.wit_arena.specs.Resolved.{IsNameless};
 ghost use Rattle.wit_entries.specs.Requiring.{IsGrown, Requires};
 ghost use Rattle.wit_rules.specs.Signatures.{functions_behind, HaveOwners, IsScopeOf, IsWrongFunctionAmong};
 ghost use Rattle.wit_signatures.specs.Taken.{name_key, name_of_function, name_of_made};
-ghost use Rattle.wit_externs.specs.Held.{externs_behind, held_on};
-ghost use Rattle.wit_externs.specs.Clash.{names_of_items};
-ghost use Rattle.wit_externs.specs.Links.{AreRightLinks, IsWrongAmong, bare_places};
+ghost use Rattle.wit_externs.specs.Clash.{IsClash, names_of_items};
 
-use crate::defining::define_function;
-use crate::held::HeldExtern;
-use crate::linking::define_link;
-use crate::links::Links;
+use crate::defining::define_alone;
 use std::alloc::Global;
 use wit_entries::entries::Entries;
 use wit_entries::scope::Required;
@@ -34,50 +29,33 @@ use wit_sides::Sides;
 use wit_signatures::functions::resolve_function;
 use wit_tree::ParseResult;
 
-/// The functions of a scope over their types, in source order, where it has these on its sides: the
-/// name of each is defined behind those before it on its side, and so is an interface that has no
-/// name of its own.
+/// The functions of a scope over their types, in source order: the name of each is defined behind those
+/// before it.
 ///
-/// A refusal is one of `resolve_function`; of a link E30 to E35, where its attributes break a rule, E7
-/// where its path leads to no item, E10 where it leads to a world, E43 where an earlier link of the
-/// side without a name leads to the same interface; E44 where an earlier name of the side is spelled
-/// like that of an import or an export, E17 where an earlier one has the folded key; or want of memory.
-pub fn resolve_externs(
+/// A refusal is one of `resolve_function`; E44 where an earlier name of the side is spelled like that of
+/// an import or an export, E17 where an earlier one has the folded key; or want of memory.
+pub fn resolve_functions(
     alloc: Global,
     types: &mut Entries,
     required: &mut Vec<Required>,
     scope: FunctionScope<'_, '_, '_>,
-    externs: &[HeldExtern<'_, '_>],
     taken: &mut Sides,
 ) -> ParseResult<Vec<Function>>
     requires owners { HaveOwners (env_of scope.names.now) (functions_behind scope) }
-    requires functions { flat_map item_function (externs_behind externs.now) ≡ functions_behind scope }
     ensures adds { IfOk result (λ fs. (s : Address) → AddsFunctions types.old types.new s scope.entry.names.now (functions_behind scope.entry) fs.items) }
     ensures named { IfOk result (λ fs. map name_of_made fs.items ≡ map name_of_function (functions_behind scope.entry)) }
-    ensures defined { OnOk result ((s : WorldSide) → taken_on s taken.new ≡ taken_on s taken.old ++ names_of_items (items_on s (externs_behind externs.now))) }
+    ensures defined { OnOk result ((s : WorldSide) → taken_on s taken.new ≡ taken_on s taken.old ++ names_of_items (items_on s (map SideFunction (functions_behind scope.entry)))) }
     ensures differ { OnOk result ((s : WorldSide) → AllDiffer (map name_key (taken_on s taken.old)) → AllDiffer (map name_key (taken_on s taken.new))) }
     ensures legal { OnOk result ((xs : List ScopeName) → IsScopeOf scope.entry xs → (k : ℕ) (fn : SourceFunction) → slice_get (functions_behind scope.entry) k ≡ Some fn → (f : Fault) → IsBrokenFunction xs (functions_behind scope.entry) k fn f → IsNameless xs (functions_behind scope.entry)) }
     ensures handled { OnOk result (Requires (env_of scope.entry.names.now) types.new (all_handles (flat_map written_types (functions_behind scope.entry))) required.old.items required.new.items) }
-    ensures right { OnOk result (AreRightLinks externs.now) }
-    ensures apart { OnOk result ((s : WorldSide) → AllDiffer (bare_places (held_on s externs.now))) }
     ensures grown { IsGrown types.old types.new }
-    ensures refused { IfErr result (λ e. (xs : List ScopeName) → IsScopeOf scope.entry xs → Refused (λ f. IsWrongFunctionAmong (env_of scope.entry.names.now) types.new xs (functions_behind scope.entry) f ⊎ IsWrongAmong (λ s. taken_on s taken.old) externs.now f) e) }
+    ensures refused { IfErr result (λ e. (xs : List ScopeName) → IsScopeOf scope.entry xs → Refused (λ f. IsWrongFunctionAmong (env_of scope.entry.names.now) types.new xs (functions_behind scope.entry) f ⊎ IsClash (λ s. taken_on s taken.old) (map SideFunction (functions_behind scope.entry)) f) e) }
 {
     let mut functions = Vec::with_capacity(alloc, scope.functions.len())?;
-    let mut links = Links::new(alloc);
-    for place in 0..externs.len() {
-        let before = &externs[..place];
-        match &externs[place] {
-            HeldExtern::Function(held) => {
-                let held = *held;
-                let function = resolve_function(alloc, types, required, scope, functions.len())?;
-                define_function(alloc, held, before, scope.names, taken, &function)?;
-                functions.push(function)?;
-            }
-            HeldExtern::Link(link) => {
-                define_link(alloc, link, before, scope.names, taken, &mut links)?;
-            }
-        }
+    for held in scope.functions {
+        let function = resolve_function(alloc, types, required, scope, functions.len())?;
+        define_alone(alloc, *held, scope.names, taken, &function)?;
+        functions.push(function)?;
     }
     Ok(functions)
 }

@@ -8,12 +8,12 @@ use Rattle.std.specs.Option.{option_map}
 use Rattle.wit_syntax.specs.Source.{TheWorld, world_part, part_names, top_names}
 use Rattle.wit_syntax.specs.Scope.{part_uses}
 use Rattle.wit_syntax.proofs.Refusing.{refused_weaker}
-use Rattle.wit_items.specs.Items.{part_behind, AreSound, IsUnsoundAmong}
+use Rattle.wit_items.specs.Items.{part_behind, own_uses, AreSound, IsUnsoundAmong}
 use Rattle.wit_syntax.specs.Foreign.{visited, foreign_interfaces}
-use Rattle.wit_syntax.proofs.Found.{contains_at}
 use Rattle.wit_items.proofs.Placed.{names_none}
-use Rattle.wit_items.proofs.Usable.{sound_none, sound_append, parts_more, unsound_part}
-use Rattle.wit_items.proofs.items.world_names.Goals as goal
+use Rattle.wit_items.proofs.Written.{own_among}
+use Rattle.wit_items.proofs.Usable.{sound_none, sound_append, among_flat, parts_more, unsound_among, use_has_path}
+use Rattle.wit_items.proofs.parts.world_names.Goals as goal
 
 pub loop-part-init : goal.loop-part-init
 loop-part-init c = rw c.new-names.ensures.items (record {
@@ -22,13 +22,13 @@ loop-part-init c = rw c.new-names.ensures.items (record {
   sound = λ fs file named. sound_none fs (top_names file);
 })
 
-pub add_part-requires-clause-part : goal.add_part-requires-clause-part
-add_part-requires-clause-part c =
+pub add_part-requires-clause-paths : goal.add_part-requires-clause-paths
+add_part-requires-clause-paths c = λ u among. (
     let xs = c.world_items-part-items.result.now in
     let i = c.loop-part.part-index in
     let q = part_behind c.world_part.result in
     let at : slice_get (map world_part xs) i ≡ Some q = slice_get-map world_part xs i ∙ ap (option_map world_part) (slice_get_read xs _ i c.part-item.result refl c.loop-part-test.true c.part-item.is) ∙ ap Some (sym c.world_part.ensures) in
-    record { declared = TheWorld c.args.world.now; item = c.requires.item; among = rw c.world_items-part-items.ensures at (contains_at (map world_part xs) i q at) }
+    use_has_path c.args.files.now c.args.place (TheWorld c.args.world.now) u c.requires.item (rw c.world_items-part-items.ensures at (among_flat part_uses (map world_part xs) i q u at (own_among q u among))))
 
 pub returns-in_err-add_part-clause-refused : goal.returns-in_err-add_part-clause-refused
 returns-in_err-add_part-clause-refused c =
@@ -38,7 +38,7 @@ returns-in_err-add_part-clause-refused c =
     let x = c.part-item.result in
     let q = part_behind c.world_part.result in
     let at : slice_get (map world_part xs) i ≡ Some q = slice_get-map world_part xs i ∙ ap (option_map world_part) (slice_get_read xs _ i x refl c.loop-part-test.true c.part-item.is) ∙ ap Some (sym c.world_part.ensures) in
-    rw (p.1, p.2, sym c.world_items-part-items.ensures) (λ fs file named. refused_weaker (IsUnsoundAmong fs (top_names file) (part_uses q)) (IsUnsoundAmong fs (top_names file) (flat_map part_uses (map world_part xs))) _ (λ f h. unsound_part fs (top_names file) world_part xs i x q f at h) (c.in_err-add_part.ensures.refused fs file named))
+    rw (p.1, p.2, sym c.world_items-part-items.ensures) (λ fs file named. refused_weaker (IsUnsoundAmong fs (top_names file) (own_uses q)) (IsUnsoundAmong fs (top_names file) (flat_map own_uses (map world_part xs))) _ (λ f h. unsound_among fs (top_names file) own_uses (map world_part xs) i q f at h) (c.in_err-add_part.ensures.refused fs file named))
 
 pub loop-part-preserved : goal.loop-part-preserved
 loop-part-preserved c =
@@ -52,11 +52,11 @@ loop-part-preserved c =
     record {
       names = λ fs file named. e.names fs file named ∙ ap (λ l. l ++ part_names (top_names file) q) (was.names fs file named) ∙ sym (parts_more (part_names (top_names file)) world_part (take i xs) (take (i + 1) xs) x q more c.world_part.ensures);
       placed = λ fs file named. e.placed fs file named (was.placed fs file named);
-      sound = λ fs file named. sound_append fs (top_names file) (flat_map part_uses (map world_part (take i xs))) (part_uses q) (flat_map part_uses (map world_part (take (i + 1) xs))) (parts_more part_uses world_part (take i xs) (take (i + 1) xs) x q more c.world_part.ensures) (was.sound fs file named) (e.sound fs file named);
+      sound = λ fs file named. sound_append fs (top_names file) (flat_map own_uses (map world_part (take i xs))) (own_uses q) (flat_map own_uses (map world_part (take (i + 1) xs))) (parts_more own_uses world_part (take i xs) (take (i + 1) xs) x q more c.world_part.ensures) (was.sound fs file named) (e.sound fs file named);
     }
 
 pub returns-clause-names : goal.returns-clause-names
 returns-clause-names c = λ fs file named. rw (sym c.world_items-part-items.ensures) (c.loop-part.invariant.names fs file named ∙ ap (λ l. flat_map (part_names (top_names file)) (map world_part l)) (take_all c.loop-part.part-index c.world_items-part-items.result.now c.loop-part-test.false))
 
 pub returns-clause-sound : goal.returns-clause-sound
-returns-clause-sound c = λ fs file named. rw (sym c.world_items-part-items.ensures) (subst (λ l. AreSound fs (top_names file) (flat_map part_uses (map world_part l))) (take_all c.loop-part.part-index c.world_items-part-items.result.now c.loop-part-test.false) (c.loop-part.invariant.sound fs file named))
+returns-clause-sound c = λ fs file named. rw (sym c.world_items-part-items.ensures) (subst (λ l. AreSound fs (top_names file) (flat_map own_uses (map world_part l))) (take_all c.loop-part.part-index c.world_items-part-items.result.now c.loop-part-test.false) (c.loop-part.invariant.sound fs file named))

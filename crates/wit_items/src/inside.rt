@@ -1,0 +1,85 @@
+//! The names of the interfaces that are written in a world.
+ghost use Rattle.std.specs.Prelude.{◌≡◌, All, List, map, IfOk, IfErr, OnOk};
+ghost use Rattle.std.specs.List.{flat_map};
+ghost use Rattle.std.specs.Option.{option_copied, option_to_list};
+ghost use Rattle.wit_tree.specs.declared.tree.PackageFile.{PackageFile as TheFile};
+ghost use Rattle.wit_syntax.specs.Crossing.{same_side};
+ghost use Rattle.wit_syntax.specs.Source.{TheWorld, world_part as the_world_part, top_names};
+ghost use Rattle.wit_syntax.specs.Sides.{items_on, part_items};
+ghost use Rattle.wit_syntax.specs.Foreign.{visited, foreign_interfaces};
+ghost use Rattle.wit_syntax.specs.Broken.{Refused};
+ghost use Rattle.wit_items.specs.Items.{AreNamesAt, HasItem, AreEntriesOf, AreSound, IsUnsoundAmong};
+ghost use Rattle.wit_items.specs.Inside.{inline_names, kind_items, side_uses, written_items};
+ghost use Rattle.wit_scopes.specs.Held.{name_behind};
+ghost use Rattle.wit_scopes.specs.Front.{AreNamesPlaced};
+
+use crate::parts::interface_names;
+use std::alloc::Global;
+use wit_files::FileNames;
+use wit_files::declaration::world_items;
+use wit_model::AstItem as Entry;
+use wit_scopes::scope_name::ScopeName;
+use wit_tree::ParseResult;
+use wit_tree::tree::{ExternKind, InterfaceItem, World, WorldItem, WorldSide};
+
+/// Whether two sides are one.
+fn is_same_side(a: WorldSide, b: WorldSide) -> bool
+    ensures { result ≡ same_side a b }
+{
+    match a {
+        WorldSide::Imported => matches!(b, WorldSide::Imported),
+        WorldSide::Exported => matches!(b, WorldSide::Exported),
+    }
+}
+
+/// The items of the interface that a world imports or exports, if it is written there.
+fn written_there<'f, 'a>(kind: &'f ExternKind<'a>) -> Option<&'f [InterfaceItem<'a>]>
+    ensures { option_to_list (option_copied result) ≡ kind_items kind.now }
+{
+    match kind {
+        ExternKind::Interface(_, items) => Some(items),
+        ExternKind::Path(_) | ExternKind::Func(_, _) | ExternKind::NamedPath(_, _) => None,
+    }
+}
+
+/// The items of the interface that is written where a part of a world imports or exports it, if that
+/// is so and it stands on this side.
+fn written_on<'f, 'a>(part: &'f WorldItem<'a>, side: WorldSide) -> Option<&'f [InterfaceItem<'a>]>
+    ensures { option_to_list (option_copied result) ≡ written_items side (the_world_part part.now) }
+{
+    match part {
+        WorldItem::Extern(written) => {
+            if !is_same_side(side, written.side) {
+                return None;
+            }
+            written_there(&written.kind)
+        }
+        WorldItem::TypeDef(_) | WorldItem::Use(_) | WorldItem::Include(_) => None,
+    }
+}
+
+/// The names of each interface that is written on a side of a world of the file at a place, in source
+/// order.
+pub(crate) fn names_inside<'f, 'a>(
+    alloc: Global,
+    world: &'f World<'a>,
+    side: WorldSide,
+    files: &FileNames<'f, 'a>,
+    entries: &[Entry],
+    place: usize,
+) -> ParseResult<Vec<Vec<ScopeName<'f, 'a>>>>
+    requires item { HasItem files.now place (TheWorld world.now) }
+    requires entries { AreEntriesOf files.now entries.now }
+    ensures names { IfOk result (λ inside. (fs : List TheFile) (file : TheFile) → AreNamesAt fs files.now place file → map (λ ns. map name_behind ns.items) inside.items ≡ flat_map (inline_names (top_names file)) (items_on side (flat_map part_items (map the_world_part world.now.items.items)))) }
+    ensures placed { IfOk result (λ inside. (fs : List TheFile) (file : TheFile) → AreNamesAt fs files.now place file → All (λ ns. AreNamesPlaced (map visited (foreign_interfaces fs)) ns.items) inside.items) }
+    ensures sound { OnOk result ((fs : List TheFile) (file : TheFile) → AreNamesAt fs files.now place file → AreSound fs (top_names file) (flat_map (side_uses side) (map the_world_part world.now.items.items))) }
+    ensures refused { IfErr result (λ e. (fs : List TheFile) (file : TheFile) → AreNamesAt fs files.now place file → Refused (IsUnsoundAmong fs (top_names file) (flat_map (side_uses side) (map the_world_part world.now.items.items))) e) }
+{
+    let mut inside = Vec::new(alloc);
+    for part in world_items(world) {
+        if let Some(items) = written_on(part, side) {
+            inside.push(interface_names(alloc, items, files, entries, place)?)?;
+        }
+    }
+    Ok(inside)
+}
