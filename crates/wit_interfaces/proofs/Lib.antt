@@ -1,1 +1,1 @@
-mod Functions
+pub mod Outer

@@ -1,4 +1,5 @@
-//! Declared interfaces, one after another.
+//! Interfaces: the declared ones, one after another, and one by itself.
 #![tactic(auto)]
 
+pub mod declared;
 pub mod interface;

@@ -1,5 +1,5 @@
 -- What is wrong with the functions of an item, and what holds of the names of both.
-use Rattle.std.proofs.Common.{◌≡◌, ℕ, List, [], ◌∷◌, ◌++◌, map, take, Option, Some, None, inl, inr, refl, sym, ap, ◌∙◌, subst, Contains}
+use Rattle.std.proofs.Common.{◌≡◌, ◌⊎◌, ℕ, List, [], ◌∷◌, ◌++◌, map, take, Option, Some, None, inl, inr, refl, sym, ap, ◌∙◌, subst, Contains}
 use Rattle.std.specs.Prelude.{slice_get}
 use Rattle.std.specs.List.{flat_map}
 use Rattle.std.specs.Option.{option_map, option_map_or}
@@ -17,8 +17,8 @@ use Rattle.wit_syntax.specs.Function.{SourceFunction, written_types}
 use Rattle.wit_syntax.specs.Signature.{Called, called_key, name_called}
 use Rattle.wit_tree.specs.declared.tree.WorldSide.{WorldSide}
 use Rattle.wit_tree.specs.declared.tree.WorldSide.TheVariants.{Imported, Exported}
-use Rattle.wit_syntax.specs.Sides.{SideItem, SideFunction, SideLink, id_called, item_called, items_on, names_on, side_called, IsFoldedTwice, IsCrossedTwice}
-use Rattle.wit_arena.specs.Resolving.{Env, Names, env_of}
+use Rattle.wit_syntax.specs.Sides.{SideItem, SideFunction, SideLink, SideInline, id_called, item_called, items_on, names_on, side_called, IsFoldedTwice, IsCrossedTwice}
+use Rattle.wit_arena.specs.Resolving.{Env, Names, env_of, IsWrongHandle}
 use Rattle.wit_syntax.proofs.Lists.{at_front, map_map, flat_map_has}
 use Rattle.wit_syntax.proofs.Found.{contains_at}
 use Rattle.wit_arena.proofs.Meant.{free_unmeant}
@@ -29,12 +29,9 @@ use Rattle.wit_sides.specs.Sides.{taken_on}
 use Rattle.wit_sides.specs.declared.sides.Sides.{Sides}
 use Rattle.wit_rules.specs.Signatures.{AreAllNames, IsWrongFunctionAmong}
 use Rattle.wit_signatures.specs.Taken.{name_of_id, name_key, IsTwiceAmong}
-use Rattle.wit_externs.specs.Held.{externs_behind}
 use Rattle.wit_externs.specs.Clash.{item_names, names_of_items, all_on, IsCrossedAmong, IsClash, Folded, Crossed}
-use Rattle.wit_externs.specs.Links.{IsWrongAmong, Clashes, LinkedAgain as AgainAmong, WrongLink as WrongAmong}
-use Rattle.wit_externs.specs.declared.held.HeldExtern.{HeldExtern}
 use Rattle.wit_item_entries.specs.Between.{names_in}
-use Rattle.wit_item_entries.specs.Behind.{IsTurn, IsWrongFunctions, BrokenFunction, BrokenNames, CrossedNames, LinkedAgain, WrongLink, HandleOfOther}
+use Rattle.wit_item_entries.specs.Behind.{IsTurn, IsWrongFunctions, BrokenFunction, BrokenNames, CrossedNames, HandleOfOther}
 use Rattle.wit_item_entries.proofs.Handled.{handle_wider}
 
 -- a name as it is called
@@ -48,6 +45,7 @@ called_id (Some id) = refl
 called_item : (x : SideItem) → map called (item_names x) ≡ item_called x
 called_item (SideFunction fn) = refl
 called_item (SideLink link) = called_id link.name
+called_item (SideInline x name items) = refl
 
 called_items : (items : List SideItem) → map called (names_of_items items) ≡ flat_map item_called items
 called_items [] = refl
@@ -117,16 +115,17 @@ crossed_twice side xs items ids f t h =
       is = h.is;
     }
 
--- so names that clash behind those of a scope are wrong
-wrong_clash : (env : Env) (es : List TypeDef) (xs : List ScopeName) (fns : List SourceFunction) (hs : List HeldExtern) (ids : List Id) (before : WorldSide → List Name) (f : Fault) → IsTurn xs ids → ((side : WorldSide) → before side ≡ names_on side (map name_of_id ids)) → IsClash before (externs_behind hs) f → IsWrongFunctions env es xs fns hs f
-wrong_clash env es xs fns hs ids before f t are (Folded side h) = BrokenNames (twice_folded side xs (externs_behind hs) ids f t (subst (λ (l : List Name). IsTwiceAmong (l ++ names_of_items (items_on side (externs_behind hs))) f) (are side) h))
-wrong_clash env es xs fns hs ids before f t are (Crossed side h) = CrossedNames (crossed_twice side xs (externs_behind hs) ids f t (subst (λ (l : List Name). IsCrossedAmong l (items_on side (externs_behind hs)) f) (are side) h))
+-- so names that clash behind those of a scope are such
+pub clash_broken : (xs : List ScopeName) (items : List SideItem) (ids : List Id) (before : WorldSide → List Name) (f : Fault) → IsTurn xs ids → ((side : WorldSide) → before side ≡ names_on side (map name_of_id ids)) → IsClash before items f → IsFoldedTwice xs items f ⊎ IsCrossedTwice xs items f
+clash_broken xs items ids before f t are (Folded side h) = inl (twice_folded side xs items ids f t (subst (λ (l : List Name). IsTwiceAmong (l ++ names_of_items (items_on side items)) f) (are side) h))
+clash_broken xs items ids before f t are (Crossed side h) = inr (crossed_twice side xs items ids f t (subst (λ (l : List Name). IsCrossedAmong l (items_on side items) f) (are side) h))
 
--- and so is all that is wrong with what stands behind them
-pub wrong_among : (env : Env) (es : List TypeDef) (xs : List ScopeName) (fns : List SourceFunction) (hs : List HeldExtern) (ids : List Id) (before : WorldSide → List Name) (f : Fault) → IsTurn xs ids → ((side : WorldSide) → before side ≡ names_on side (map name_of_id ids)) → IsWrongAmong before hs f → IsWrongFunctions env es xs fns hs f
-wrong_among env es xs fns hs ids before f t are (Clashes h) = wrong_clash env es xs fns hs ids before f t are h
-wrong_among env es xs fns hs ids before f t are (AgainAmong h) = LinkedAgain h
-wrong_among env es xs fns hs ids before f t are (WrongAmong l among h) = WrongLink l among h
+-- and so they are wrong where functions alone stand behind them
+pub wrong_clash : (env : Env) (es : List TypeDef) (xs : List ScopeName) (fns : List SourceFunction) (ids : List Id) (before : WorldSide → List Name) (f : Fault) → IsTurn xs ids → ((side : WorldSide) → before side ≡ names_on side (map name_of_id ids)) → IsClash before (map SideFunction fns) f → IsWrongFunctions env es xs fns f
+wrong_clash env es xs fns ids before f t are h = elim (clash_broken xs (map SideFunction fns) ids before f t are h) [
+  | inl folded ↦ BrokenNames folded
+  | inr crossed ↦ CrossedNames crossed
+]
 
 -- a name that stands twice does so with more behind it
 twice_front : (names more : List Name) (f : Fault) → IsTwiceAmong names f → IsTwiceAmong (names ++ more) f
@@ -144,9 +143,9 @@ twice_front names more f h = record {
   is = h.is;
 }
 
--- so a name of a scope that stands twice by itself is wrong
-pub wrong_front : (env : Env) (es : List TypeDef) (xs : List ScopeName) (fns : List SourceFunction) (hs : List HeldExtern) (ids : List Id) (f : Fault) → IsTurn xs ids → IsTwiceAmong (map name_of_id ids) f → IsWrongFunctions env es xs fns hs f
-wrong_front env es xs fns hs ids f t h = BrokenNames (twice_folded Imported xs (externs_behind hs) ids f t (twice_front (map name_of_id ids) (names_of_items (items_on Imported (externs_behind hs))) f h))
+-- so a name of a scope that stands twice by itself is one once folded
+pub front_folded : (xs : List ScopeName) (items : List SideItem) (ids : List Id) (f : Fault) → IsTurn xs ids → IsTwiceAmong (map name_of_id ids) f → IsFoldedTwice xs items f
+front_folded xs items ids f t h = twice_folded Imported xs items ids f t (twice_front (map name_of_id ids) (names_of_items (items_on Imported items)) f h)
 
 -- the keys of names are those of what they are called
 keys_called : (names : List Name) → map called_key (map called names) ≡ map name_key names
@@ -176,9 +175,13 @@ handles_in fns k fn id at h =
     let there = flat_map_has written_types fns k it.0 fn it.1 at it.2 in
     handles_at (flat_map written_types fns) there.0 it.1 id there.1 it.3
 
+-- so one that is wrong in one function is so among them
+pub function_handle : (env : Env) (es : List TypeDef) (fns : List SourceFunction) (k : ℕ) (fn : SourceFunction) (f : Fault) → slice_get fns k ≡ Some fn → IsWrongHandle env es (all_handles (written_types fn)) f → IsWrongHandle env es (all_handles (flat_map written_types fns)) f
+function_handle env es fns k fn f at handle = handle_wider env es (all_handles (written_types fn)) (all_handles (flat_map written_types fns)) f (λ id among. handles_in fns k fn id at among) handle
+
 -- what is wrong with one function is wrong with them
-pub wrong_functions : (env : Env) (es : List TypeDef) (xs : List ScopeName) (fns : List SourceFunction) (hs : List HeldExtern) (f : Fault) → IsWrongFunctionAmong env es xs fns f → IsWrongFunctions env es xs fns hs f
-wrong_functions env es xs fns hs f h = elim h.wrong [
+pub wrong_functions : (env : Env) (es : List TypeDef) (xs : List ScopeName) (fns : List SourceFunction) (f : Fault) → IsWrongFunctionAmong env es xs fns f → IsWrongFunctions env es xs fns f
+wrong_functions env es xs fns f h = elim h.wrong [
   | inl broken ↦ BrokenFunction h.place h.fn h.at broken
-  | inr handle ↦ HandleOfOther (handle_wider env es (all_handles (written_types h.fn)) (all_handles (flat_map written_types fns)) f (λ id among. handles_in fns h.place h.fn id h.at among) handle)
+  | inr handle ↦ HandleOfOther (function_handle env es fns h.place h.fn f h.at handle)
 ]

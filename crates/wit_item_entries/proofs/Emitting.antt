@@ -8,13 +8,13 @@ use Rattle.wit_arena.specs.Resolved.{AddsEach}
 use Rattle.wit_arena.proofs.Adding.{adds_append, adds_one, adds_none}
 use Rattle.wit_item_entries.specs.Between.{Emits}
 
-module _ {X : Type 0} (Adds : List TypeDef → List TypeDef → List X → List X → List Required → Item → Type 0) where
+module _ {X : Type 0} (Adds : List TypeDef → List TypeDef → X → X → List Required → Item → Type 0) where
   -- no item requires anything
-  pub emits_none : (es : List TypeDef) (is : List X) (rs : List Required) → Emits rs rs (λ own. AddsEach Adds es es is is own [])
+  pub emits_none : (es : List TypeDef) (is : X) (rs : List Required) → Emits rs rs (λ own. AddsEach Adds es es is is own [])
   emits_none es is rs = record { own = []; list = sym (append-nil rs); holds = adds_none Adds es is }
 
   -- one item behind others
-  pub emits_more : (a b c : List TypeDef) (i j k : List X) (rs ss ts : List Required) (ws : List Item) (w : Item) → Emits rs ss (λ own. AddsEach Adds a b i j own ws) → Emits ss ts (λ own. Adds b c j k own w) → Emits rs ts (λ own. AddsEach Adds a c i k own (ws ++ w ∷ []))
+  pub emits_more : (a b c : List TypeDef) (i j k : X) (rs ss ts : List Required) (ws : List Item) (w : Item) → Emits rs ss (λ own. AddsEach Adds a b i j own ws) → Emits ss ts (λ own. Adds b c j k own w) → Emits rs ts (λ own. AddsEach Adds a c i k own (ws ++ w ∷ []))
   emits_more a b c i j k rs ss ts ws w p q = record {
     own = p.own ++ q.own;
     list = q.list ∙ ap (λ (l : List Required). l ++ q.own) p.list ∙ append_assoc rs p.own q.own;

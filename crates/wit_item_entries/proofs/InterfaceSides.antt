@@ -1,15 +1,96 @@
--- The functions of an interface all stand where imports do.
-use Rattle.std.proofs.Common.{◌≡◌, false}
+-- An interface has functions alone on its sides, and they stand where imports do.
+use Rattle.std.proofs.Common.{◌≡◌, ℕ, ◌∷◌, ◌++◌, [], List, map, Some, false, inl, inr, refl, sym, ap, ◌∙◌, Contains}
+use Rattle.std.specs.Prelude.{slice_get}
 use Rattle.std.specs.List.{flat_map}
+use Rattle.std.proofs.lemmas.Bool.{cases_Bool, cond-true, cond-false}
+use Rattle.wit_tree.specs.declared.tree.Id.{Id}
 use Rattle.wit_tree.specs.declared.tree.WorldSide.TheVariants.{Imported}
-use Rattle.wit_syntax.specs.Source.{Declared, TheInterface, TheWorld, declared_parts, is_declared_world, Item, is_world}
-use Rattle.wit_syntax.specs.Function.{functions, part_functions}
-use Rattle.wit_syntax.specs.Sides.{on_side}
-use Rattle.wit_syntax.proofs.Sides.{interface_imported}
+use Rattle.wit_syntax.specs.Crossing.{same_side}
+use Rattle.wit_syntax.specs.Fault.{Fault}
+use Rattle.wit_syntax.specs.Source.{Declared, TheInterface, TheWorld, TheInline, declared_parts, is_declared_world, Item, ScopeName, is_world, scope_names}
+use Rattle.wit_syntax.specs.Function.{SourceFunction, functions, part_functions}
+use Rattle.wit_syntax.specs.Sides.{Link, SideItem, SideFunction, SideLink, item_side, item_inline, inline_externs, items_on, links, on_side, role_side, side_items, IsLinkedTwice, IsBrokenSides, FoldedTwice, CrossedTwice, LinkedTwice, LinkNotes, InlineNotes}
+use Rattle.wit_syntax.proofs.Found.{at_contains}
+use Rattle.wit_syntax.proofs.Kept.{kept_at}
+use Rattle.wit_syntax.proofs.Legal.{no_fold, no_crossed}
+use Rattle.wit_syntax.proofs.Lists.{map_at}
+use Rattle.wit_syntax.proofs.Sides.{interface_imported, links_none, side_items_functions}
+use Rattle.wit_notes.specs.Names.{Name}
+use Rattle.wit_rules.specs.declared.held.HeldFunction.{HeldFunction}
+use Rattle.wit_rules.specs.Held.{function_behind}
+use Rattle.wit_signatures.specs.Taken.{name_of_function, name_of_id}
+use Rattle.wit_externs.specs.Clash.{DifferOnSides, all_on, names_of_items}
+use Rattle.wit_scopes.specs.declared.scope_name.ScopeName.{ScopeName as HeldName}
+use Rattle.wit_item_entries.specs.Behind.{IsTurn}
+use Rattle.wit_item_entries.specs.Body.{IsHeldBy}
+use Rattle.wit_item_entries.proofs.Behind.{differ_called}
 
 declared_imported : (d : Declared) → is_declared_world d ≡ false → on_side Imported (flat_map part_functions (declared_parts d)) ≡ flat_map part_functions (declared_parts d)
 declared_imported (TheInterface x) sort = interface_imported x.items.items
 declared_imported (TheWorld w) sort = absurd (let f : ⊥ = cc in f)
+declared_imported (TheInline world place x name items) sort = interface_imported items
 
 pub all_imported : (item : Item) → is_world item ≡ false → on_side Imported (functions item) ≡ functions item
 all_imported item sort = declared_imported item.declared sort
+
+-- an item that is held by an interface is that
+pub declared_interface : (item : Item) (d : Declared) (names : List HeldName) → IsHeldBy item d names → is_declared_world d ≡ false → is_world item ≡ false
+declared_interface item d names own sort = ap is_declared_world own.declared ∙ sort
+
+-- and the functions that are written in it are its own
+pub declared_functions : (item : Item) (d : Declared) (names : List HeldName) (all ws : List HeldFunction) → IsHeldBy item d names → ws ≡ all → map function_behind all ≡ flat_map part_functions (declared_parts d) → map function_behind ws ≡ functions item
+declared_functions item d names all ws own same are = ap (map function_behind) same ∙ are ∙ ap (λ (x : Declared). flat_map part_functions (declared_parts x)) (sym own.declared)
+
+-- among functions there is no path of an interface, and nothing is written there
+no_path : (fns : List SourceFunction) (k : ℕ) (link : Link) → slice_get (map SideFunction fns) k ≡ Some (SideLink link) → ⊥
+no_path fns k link at =
+    let it = map_at SideFunction fns k (SideLink link) at in
+    let wrong : SideFunction it.0 ≡ SideLink link = it.2 in
+    let f : ⊥ = cc in
+    f
+
+none_written : (fns : List SourceFunction) → flat_map item_inline (map SideFunction fns) ≡ []
+none_written [] = refl
+none_written (fn ∷ fns) = none_written fns
+
+none_in : {X : Type 0} (xs : List X) (x : X) → xs ≡ [] → Contains xs x → ⊥
+none_in xs x none among =
+    let it = at_contains xs x among in
+    let at = ap (λ l. slice_get l it.0) (sym none) ∙ it.1 in
+    let f : ⊥ = cc in
+    f
+
+names_functions : (fns : List SourceFunction) → names_of_items (items_on Imported (map SideFunction fns)) ≡ map name_of_function (on_side Imported fns)
+names_functions [] = refl
+names_functions (fn ∷ fns) =
+    let test = same_side Imported (role_side fn.role) in
+    let items = items_on Imported (map SideFunction fns) in
+    let rest = on_side Imported fns in
+    elim (cases_Bool test) [
+      | inl hit ↦ ap names_of_items (cond-true test (SideFunction fn ∷ items) items hit) ∙ ap (λ (l : List Name). name_of_function fn ∷ l) (names_functions fns) ∙ sym (ap (map name_of_function) (cond-true test (fn ∷ rest) rest hit))
+      | inr miss ↦ ap names_of_items (cond-false test (SideFunction fn ∷ items) items miss) ∙ names_functions fns ∙ sym (ap (map name_of_function) (cond-false test (fn ∷ rest) rest miss))
+    ]
+
+module _ (item : Item) (sort : is_world item ≡ false) where
+  -- the names that are taken where imports stand are those of types and of functions
+  pub names_imported : (ids : List Id) → all_on Imported ids (map SideFunction (functions item)) ≡ map name_of_id ids ++ map name_of_function (functions item)
+  names_imported ids = ap (λ (l : List Name). map name_of_id ids ++ l) (names_functions (functions item) ∙ ap (map name_of_function) (all_imported item sort))
+
+  not_linked : (f : Fault) → IsLinkedTwice item.top (side_items item) f → ⊥
+  not_linked f h =
+      let it = kept_at (λ (x : SideItem). same_side h.side (item_side x)) (side_items item) h.place (SideLink h.link) h.at in
+      no_path (functions item) it.0 h.link (ap (λ (l : List SideItem). slice_get l it.0) (sym (side_items_functions item sort)) ∙ it.1)
+
+  -- where what is taken on each side differs, nothing is wrong with the sides
+  pub sides_sound : (ids : List Id) → IsTurn (scope_names item) ids → DifferOnSides ids (side_items item) → (f : Fault) → IsBrokenSides item f → ⊥
+  sides_sound ids t differ f broken = by broken
+    where
+      xs : List ScopeName
+      xs = scope_names item
+
+      by : IsBrokenSides item f → ⊥
+      by (FoldedTwice h) = no_fold xs (side_items item) t.order f t.least (λ side. differ_called side xs (side_items item) t.order ids t.are (differ side)) h
+      by (CrossedTwice h) = no_crossed xs (side_items item) t.order f t.least (λ side. differ_called side xs (side_items item) t.order ids t.are (differ side)) h
+      by (LinkedTwice h) = not_linked f h
+      by (LinkNotes link among h) = none_in (links item) link (links_none item sort) among
+      by (InlineNotes x among h) = none_in (inline_externs item) x (ap (flat_map item_inline) (side_items_functions item sort) ∙ none_written (functions item)) among

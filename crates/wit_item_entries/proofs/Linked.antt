@@ -12,7 +12,7 @@ use Rattle.wit_syntax.specs.Fault.{Fault}
 use Rattle.wit_syntax.specs.Repeats.{AllDiffer}
 use Rattle.wit_syntax.specs.Crossing.{same_side}
 use Rattle.wit_syntax.specs.Source.{TopName, path_scope}
-use Rattle.wit_syntax.specs.Sides.{Link, SideItem, SideFunction, SideLink, item_side, items_on, bare_scope, IsLinkedTwice}
+use Rattle.wit_syntax.specs.Sides.{Link, SideItem, SideFunction, SideLink, SideInline, item_side, items_on, bare_scope, IsLinkedTwice}
 use Rattle.wit_syntax.proofs.Lists.{at_front, at_back, at_take, flat_map_at, flat_map_has, map_at}
 use Rattle.wit_syntax.proofs.Found.{at_contains, contains_at}
 use Rattle.wit_syntax.proofs.Kept.{kept_at}
@@ -69,6 +69,7 @@ bare_of (held.Function f) m id at = absurd (let f : ⊥ = cc in f)
 bare_of (held.Link l) m id at =
     let it = bare_leads l.name l.led m id at in
     (l, refl, it.0, it.1)
+bare_of (held.Inline i) m id at = absurd (let f : ⊥ = cc in f)
 
 -- a link without a name of its own that leads to an interface has its place
 bare_has : (l : HeldLink) (id : ℕ) → l.name ≡ None → l.led ≡ led.Interface id → slice_get (bare_place (held.Link l)) 0 ≡ Some id
@@ -85,6 +86,7 @@ scope_of top (SideFunction fn) m s at = absurd (let f : ⊥ = cc in f)
 scope_of top (SideLink link) m s at =
     let it = scope_bare link.name (path_scope top link.path) s m at in
     (link, refl, it.0, it.1)
+scope_of top (SideInline x name items) m s at = absurd (let f : ⊥ = cc in f)
 
 scope_has : (top : List TopName) (link : Link) → link.name ≡ None → slice_get (bare_scope top (SideLink link)) 0 ≡ Some (path_scope top link.path)
 scope_has top link bare = ap (λ (o : Option Id). slice_get (option_map_or (λ x. []) o (path_scope top link.path ∷ [])) 0) bare
@@ -93,6 +95,7 @@ scope_has top link bare = ap (λ (o : Option Id). slice_get (option_map_or (λ x
 pub link_of : (h : HeldExtern) (link : Link) → extern_behind h ≡ SideLink link → (l : HeldLink) × (h ≡ held.Link l) × (link_behind l ≡ link)
 link_of (held.Function f) link is = absurd (let f : ⊥ = cc in f)
 link_of (held.Link l) link is = (l, refl, (let same : link_behind l ≡ link = cc in same))
+link_of (held.Inline i) link is = absurd (let f : ⊥ = cc in f)
 
 -- what stands at a place on a side is held somewhere
 on_held : (side : WorldSide) (hs : List HeldExtern) (k : ℕ) (h : HeldExtern) → slice_get (held_on side hs) k ≡ Some h → (p : ℕ) × (slice_get hs p ≡ Some h)

@@ -16,8 +16,9 @@ use Rattle.wit_syntax.specs.Source.{Item, address, ScopeName, scope_names}
 use Rattle.wit_syntax.specs.Scope.{in_turn}
 use Rattle.wit_syntax.specs.Function.{SourceFunction, functions, name_types, written_types, item_types}
 use Rattle.wit_syntax.specs.Signature.{IsBrokenFunction}
+use Rattle.wit_tree.specs.declared.tree.WorldSide.{WorldSide}
 use Rattle.wit_tree.specs.declared.tree.WorldSide.TheVariants.{Imported}
-use Rattle.wit_syntax.specs.Sides.{SideItem, SideFunction, on_side, side_items}
+use Rattle.wit_syntax.specs.Sides.{SideItem, SideFunction, names_on, on_side, side_items, IsFoldedTwice, IsCrossedTwice, FoldedTwice, CrossedTwice}
 use Rattle.wit_syntax.specs.Broken.{IsBrokenScope, Function as FunctionBroken}
 use Rattle.wit_arena.specs.Resolving.{Env, Names, env_of, Cell, Required, AreEnded, AddsFunctions, IsWrongHandle, WrongItself}
 use Rattle.wit_arena.specs.Resolved.{AddsBehind, IsNameless, IsWrongHandleNow}
@@ -28,20 +29,22 @@ use Rattle.wit_arena.proofs.Required.{ended_append, ended_more}
 use Rattle.wit_arena.proofs.Written.{all_handles-append}
 use Rattle.wit_notes.specs.Names.{Name}
 use Rattle.wit_entries.specs.Requiring.{IsGrown, Requires}
-use Rattle.wit_signatures.specs.Taken.{name_of_function, name_of_made, name_key}
+use Rattle.wit_rules.specs.Signatures.{IsWrongFunctionAmong}
+use Rattle.wit_signatures.specs.Taken.{name_of_function, name_of_id, name_of_made, name_key}
+use Rattle.wit_externs.specs.Held.{externs_behind}
 use Rattle.wit_externs.specs.Clash.{DifferOnSides, all_on}
-use Rattle.wit_externs.specs.Links.{AreLinksPlaced, IsWrongLink, WrongNotes as NotedWrong, AtWorld, AtNothing}
+use Rattle.wit_externs.specs.Links.{AreLinksPlaced, IsWrongLink, WrongNotes as NotedWrong, AtWorld, AtNothing, IsWrongAmong, Clashes, LinkedAgain, WrongLink, WrongInside}
 use Rattle.wit_externs.specs.declared.held.HeldLink.{HeldLink}
 use Rattle.wit_externs.specs.declared.held.HeldExtern.{HeldExtern}
 use Rattle.wit_externs.specs.declared.held.HeldExtern.TheVariants as held
 use Rattle.wit_scopes.specs.declared.scope_name.ScopeName.{ScopeName as HeldName}
 use Rattle.wit_scopes.specs.Between.{IsOfFunctions, OfFunction}
 use Rattle.wit_item_entries.specs.Between.{names_in, AddsTurn}
-use Rattle.wit_item_entries.specs.Behind.{IsTurn, IsWrongFunctions, BrokenFunction, BrokenNames, CrossedNames, LinkedAgain, WrongLink, HandleOfOther}
-use Rattle.wit_item_entries.specs.Body.{IsHeldBy, AddsBody, IsWrongBody, WrongNames, WrongHandles, WrongSides, IsLinkLost, LostAtWorld, LostAtNothing}
+use Rattle.wit_item_entries.specs.Behind.{IsTurn, IsWrongFunctions, BrokenFunction, BrokenNames, CrossedNames, HandleOfOther}
+use Rattle.wit_item_entries.specs.Body.{IsStandingBy, AddsBody, IsWrongBody, WrongNames, WrongHandles, WrongSides, IsLinkLost, LostAtWorld, LostAtNothing}
 use Rattle.wit_item_entries.proofs.Handled.{handle_wider}
-use Rattle.wit_item_entries.proofs.Behind.{differ_called, turn_texts}
-use Rattle.wit_item_entries.proofs.ItemSides.{wrong_folded, wrong_crossed, wrong_linked, wrong_noted}
+use Rattle.wit_item_entries.proofs.Behind.{clash_broken, differ_called, function_handle, turn_texts}
+use Rattle.wit_item_entries.proofs.ItemSides.{wrong_folded, wrong_crossed, wrong_linked, wrong_noted, wrong_inside}
 
 -- the names of a scope that was added, in turn
 pub turn_added : (old mid : List TypeDef) (cs : List Cell) (o : TypeOwner) (xs : List ScopeName) (types : Names) (ids : List Id) (rs : List Required) → AddsTurn old mid cs o xs types ids rs → IsTurn xs ids
@@ -103,23 +106,41 @@ wrong_handle_behind old mid new cs o item types ids own f n g h =
       wrong = handle_wider (env_of types) (mid ++ g.more) (all_handles others) (all_handles (item_types item)) f (λ id among. subst (λ (l : List Id). Contains l id) (sym (all_handles-append names others)) (Contains-append_right (all_handles names) (all_handles others) id among)) (subst (λ (es : List TypeDef). IsWrongHandle (env_of types) es (all_handles others) f) g.is h);
     }
 
+-- what is wrong with functions is wrong with the item that has these, and nothing else, on its sides
+pub wrong_behind : (old mid new : List TypeDef) (cs : List Cell) (by_name : Names) (o : TypeOwner) (item : Item) (types : Names) (ids : List Id) (required : List Required) (f : Fault) → side_items item ≡ map SideFunction (functions item) → AddsTurn old mid cs o (scope_names item) types ids required → IsGrown mid new → IsWrongFunctions (env_of types) new (scope_names item) (functions item) f → IsWrongBody old cs by_name o item f
+wrong_behind old mid new cs by_name o item types ids required f alone n g h = by h
+  where
+    xs : List ScopeName
+    xs = scope_names item
+
+    by : IsWrongFunctions (env_of types) new (scope_names item) (functions item) f → IsWrongBody old cs by_name o item f
+    by (BrokenFunction k fn at h) = WrongNames (WrongItself (FunctionBroken k fn at h))
+    by (BrokenNames h) = WrongSides (FoldedTwice (subst (λ (items : List SideItem). IsFoldedTwice xs items f) (sym alone) h))
+    by (CrossedNames h) = WrongSides (CrossedTwice (subst (λ (items : List SideItem). IsCrossedTwice xs items f) (sym alone) h))
+    by (HandleOfOther h) = WrongHandles (wrong_handle_behind old mid new cs o item types ids required f n g h)
+
+-- what is wrong with one of its functions is wrong with an item, whatever else it has on its sides
+pub wrong_function : (old mid new : List TypeDef) (cs : List Cell) (by_name : Names) (o : TypeOwner) (item : Item) (types : Names) (ids : List Id) (required : List Required) (f : Fault) → AddsTurn old mid cs o (scope_names item) types ids required → IsGrown mid new → IsWrongFunctionAmong (env_of types) new (scope_names item) (functions item) f → IsWrongBody old cs by_name o item f
+wrong_function old mid new cs by_name o item types ids required f n g h = elim h.wrong [
+  | inl broken ↦ WrongNames (WrongItself (FunctionBroken h.place h.fn h.at broken))
+  | inr handle ↦ WrongHandles (wrong_handle_behind old mid new cs o item types ids required f n g (function_handle (env_of types) new (functions item) h.place h.fn f h.at handle))
+]
+
 -- what is wrong with a link by itself is wrong with the item, or its path leads to no interface
-wrong_link : (old : List TypeDef) (cs : List Cell) (by_name : Names) (o : TypeOwner) (item : Item) (names : List HeldName) (hs : List HeldExtern) (l : HeldLink) (f : Fault) → IsHeldBy item names hs → Contains hs (held.Link l) → IsWrongLink l f → IsWrongBody old cs by_name o item f ⊎ IsLinkLost hs f
+wrong_link : (old : List TypeDef) (cs : List Cell) (by_name : Names) (o : TypeOwner) (item : Item) (names : List HeldName) (hs : List HeldExtern) (l : HeldLink) (f : Fault) → IsStandingBy item names hs → Contains hs (held.Link l) → IsWrongLink l f → IsWrongBody old cs by_name o item f ⊎ IsLinkLost hs f
 wrong_link old cs by_name o item names hs l f own among (NotedWrong h) = inl (WrongSides (wrong_noted item names hs l f own among h))
 wrong_link old cs by_name o item names hs l f own among (AtWorld leads is) = inr (LostAtWorld l among leads is)
 wrong_link old cs by_name o item names hs l f own among (AtNothing id leads is) = inr (LostAtNothing l id among leads is)
 
--- what is wrong with the functions of an item, or with what it has on its sides, is wrong with it, but for a path that leads to no interface
-pub wrong_behind : (old mid new : List TypeDef) (cs : List Cell) (by_name : Names) (o : TypeOwner) (item : Item) (names : List HeldName) (hs : List HeldExtern) (interfaces : List Address) (types : Names) (ids : List Id) (required : List Required) (f : Fault) → IsHeldBy item names hs → AreLinksPlaced interfaces item.top hs → AddsTurn old mid cs o (scope_names item) types ids required → IsGrown mid new → IsWrongFunctions (env_of types) new (scope_names item) (functions item) hs f → IsWrongBody old cs by_name o item f ⊎ IsLinkLost hs f
-wrong_behind old mid new cs by_name o item names hs interfaces types ids required f own placed n g h = by h
-  where
-    by : IsWrongFunctions (env_of types) new (scope_names item) (functions item) hs f → IsWrongBody old cs by_name o item f ⊎ IsLinkLost hs f
-    by (BrokenFunction k fn at h) = inl (WrongNames (WrongItself (FunctionBroken k fn at h)))
-    by (BrokenNames h) = inl (WrongSides (wrong_folded item names hs f own h))
-    by (CrossedNames h) = inl (WrongSides (wrong_crossed item names hs f own h))
-    by (LinkedAgain h) = inl (WrongSides (wrong_linked item names hs interfaces f own placed h))
-    by (WrongLink l among h) = wrong_link old cs by_name o item names hs l f own among h
-    by (HandleOfOther h) = inl (WrongHandles (wrong_handle_behind old mid new cs o item types ids required f n g h))
+-- what is wrong with what an item has on its sides is wrong with it, but for a path that leads to no interface
+pub wrong_among : (old : List TypeDef) (cs : List Cell) (by_name : Names) (o : TypeOwner) (item : Item) (names : List HeldName) (hs : List HeldExtern) (interfaces : List Address) (ids : List Id) (before : WorldSide → List Name) (f : Fault) → IsStandingBy item names hs → AreLinksPlaced interfaces item.top hs → IsTurn (scope_names item) ids → ((side : WorldSide) → before side ≡ names_on side (map name_of_id ids)) → IsWrongAmong before hs f → IsWrongBody old cs by_name o item f ⊎ IsLinkLost hs f
+wrong_among old cs by_name o item names hs interfaces ids before f own placed t are (Clashes h) = elim (clash_broken (scope_names item) (externs_behind hs) ids before f t are h) [
+  | inl folded ↦ inl (WrongSides (wrong_folded item names hs f own folded))
+  | inr crossed ↦ inl (WrongSides (wrong_crossed item names hs f own crossed))
+]
+wrong_among old cs by_name o item names hs interfaces ids before f own placed t are (LinkedAgain h) = inl (WrongSides (wrong_linked item names hs interfaces f own placed h))
+wrong_among old cs by_name o item names hs interfaces ids before f own placed t are (WrongLink l among h) = wrong_link old cs by_name o item names hs l f own among h
+wrong_among old cs by_name o item names hs interfaces ids before f own placed t are (WrongInside i among h) = inl (WrongSides (wrong_inside item names hs i f own among h))
 
 -- the names of functions that stand where imports do differ where nothing else stands there, and the keys of what is taken do
 pub made_differ : (old new : List TypeDef) (cs : List Cell) (o : TypeOwner) (item : Item) (types : Names) (ids : List Id) (fs : List Function) (rs : List Required) → on_side Imported (functions item) ≡ functions item → side_items item ≡ map SideFunction (functions item) → AddsBody old new cs o item types ids fs rs → AllDiffer (map made_name fs)

@@ -1,8 +1,9 @@
 -- What is told of items, and that nothing is wrong with it.
-use Rattle.std.proofs.Common.{◌≡◌, ◌∷◌, ◌++◌, List, [], false, not, inl, inr, ap, ◌∙◌, subst, arith, Contains}
+use Rattle.std.proofs.Common.{◌≡◌, ◌∷◌, ◌++◌, ℕ, List, [], Option, false, not, inl, inr, ap, ◌∙◌, subst, arith, Contains}
 use Rattle.std.specs.Prelude.{map}
 use Rattle.std.specs.List.{flat_map}
 use Rattle.std.proofs.lemmas.Bool.{cases_Bool}
+use Rattle.wit_values.specs.declared.span.Span.{Span}
 use Rattle.wit_tree.specs.declared.tree.Id.{Id}
 use Rattle.wit_tree.specs.declared.tree.Include.{Include}
 use Rattle.wit_tree.specs.declared.tree.InterfaceItem.{InterfaceItem}
@@ -11,7 +12,7 @@ use Rattle.wit_model.specs.declared.interface.Interface.{Interface}
 use Rattle.wit_model.specs.declared.world.World.{World}
 use Rattle.wit_syntax.specs.Fault.{Fault}
 use Rattle.wit_syntax.specs.Notes.{Notes, IsBrokenStability}
-use Rattle.wit_syntax.specs.Source.{Declared, TheInterface, TheWorld, declared_parts, declared_attributes, is_declared_world, interface_part, Item, is_world}
+use Rattle.wit_syntax.specs.Source.{Declared, TheInterface, TheWorld, TheInline, declared_parts, declared_attributes, is_declared_world, interface_part, Item, is_world}
 use Rattle.wit_syntax.specs.Scope.{part_includes, includes, interfaces_of, worlds_of}
 use Rattle.wit_syntax.specs.Sides.{IsBrokenSides}
 use Rattle.wit_arena.specs.Package.{IsInterface, IsWorld}
@@ -23,8 +24,8 @@ use Rattle.wit_items.specs.Told.{notes_behind, AreOf}
 use Rattle.wit_item_entries.specs.Between.{AreStable}
 
 -- an item is what is told of it
-pub interface_told : (id : Id) (n : Notes) (held : ItemNotes) (i : Interface) → AreOf n held → IsInterface id (notes_behind held) i → IsInterface id n i
-interface_told id n held i are says = record { name = says.name; span = says.span; docs = says.docs ∙ are.docs; stability = says.stability ∙ are.stability; no_package = says.no_package; no_source = says.no_source }
+pub interface_told : (name : Option (List ℕ)) (span : Span) (n : Notes) (held : ItemNotes) (i : Interface) → AreOf n held → IsInterface name span (notes_behind held) i → IsInterface name span n i
+interface_told name span n held i are says = record { called = says.called; stands = says.stands; docs = says.docs ∙ are.docs; stability = says.stability ∙ are.stability; no_package = says.no_package; no_source = says.no_source }
 
 pub world_told : (id : Id) (n : Notes) (held : ItemNotes) (w : World) → AreOf n held → IsWorld id (notes_behind held) w → IsWorld id n w
 world_told id n held w are says = record { name = says.name; span = says.span; docs = says.docs ∙ are.docs; stability = says.stability ∙ are.stability; no_package = says.no_package }
@@ -39,6 +40,7 @@ no_include (interface_item.Func g ∷ xs) i among = no_include xs i among
 interface_includes : (d : Declared) (i : Include) → is_declared_world d ≡ false → Contains (flat_map part_includes (declared_parts d)) i → ⊥
 interface_includes (TheInterface x) i sort among = no_include x.items.items i among
 interface_includes (TheWorld w) i sort among = let f : ⊥ = cc in f
+interface_includes (TheInline world place x name items) i sort among = no_include items i among
 
 -- so where nothing is wrong with its own attributes, nothing is
 pub interface_stable : (w : Item) → is_world w ≡ false → ((f : Fault) → IsBrokenStability (declared_attributes w.declared) f → ⊥) → (f : Fault) → IsBrokenItemStability w f → ⊥

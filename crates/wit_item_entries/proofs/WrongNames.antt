@@ -1,11 +1,12 @@
 -- What is wrong with the names of a scope is wrong with the item whose scope it is, and that with the interface or world.
-use Rattle.std.proofs.Common.{◌++◌, List, sym, subst, Contains}
+use Rattle.std.proofs.Common.{◌++◌, ℕ, List, sym, subst, Contains}
 use Rattle.std.specs.List.{flat_map}
 use Rattle.std.proofs.lemmas.List.Elements.{Contains-append_left}
 use Rattle.wit_tree.specs.declared.tree.Id.{Id}
 use Rattle.wit_tree.specs.declared.tree.PackageFile.{PackageFile}
 use Rattle.wit_types.specs.declared.types.TypeDef.{TypeDef}
 use Rattle.wit_types.specs.declared.types.TypeOwner.{TypeOwner}
+use Rattle.wit_model.specs.declared.interface.Interface.{Interface}
 use Rattle.wit_syntax.specs.Source.{Item, scope_names}
 use Rattle.wit_syntax.specs.Shape.{all_handles}
 use Rattle.wit_syntax.specs.Function.{functions as item_functions, name_types, written_types, item_types}
@@ -47,8 +48,8 @@ wrong_interface old cs by_name o i f (WrongHandles h) = WrongHandle h
 wrong_interface old cs by_name o i f (SidesWrong h) = WrongSides h
 
 -- or with the world
-pub wrong_world : (files : List PackageFile) (old : List TypeDef) (cs : List Cell) (by_name worlds : Names) (o : TypeOwner) (i : Item) (f : Fault) → IsWrongBody old cs by_name o i f → IsWrongWorld files old cs by_name worlds o i f
-wrong_world files old cs by_name worlds o i f (WrongNotes h) = WrongWorldStability (OwnStability h)
-wrong_world files old cs by_name worlds o i f (WrongNames h) = WrongWorldScope h
-wrong_world files old cs by_name worlds o i f (WrongHandles h) = WrongWorldHandle h
-wrong_world files old cs by_name worlds o i f (SidesWrong h) = WrongWorldSides h
+pub wrong_world : (files : List PackageFile) (old : List TypeDef) (cs : List Cell) (count : ℕ) (inside : List Interface) (by_name worlds : Names) (o : TypeOwner) (i : Item) (f : Fault) → IsWrongBody old cs by_name o i f → IsWrongWorld files old cs count inside by_name worlds o i f
+wrong_world files old cs count inside by_name worlds o i f (WrongNotes h) = WrongWorldStability (OwnStability h)
+wrong_world files old cs count inside by_name worlds o i f (WrongNames h) = WrongWorldScope h
+wrong_world files old cs count inside by_name worlds o i f (WrongHandles h) = WrongWorldHandle h
+wrong_world files old cs count inside by_name worlds o i f (SidesWrong h) = WrongWorldSides h

@@ -1,5 +1,5 @@
 -- What the functions of an item add behind its names.
-use Rattle.std.specs.Prelude.{◌≡◌, ℕ, List, map, Some, slice_get, Contains}
+use Rattle.std.specs.Prelude.{◌≡◌, ℕ, List, map, Some, slice_get}
 use Rattle.std.specs.List.{flat_map}
 use Rattle.wit_tree.specs.declared.tree.Id.{Id}
 use Rattle.wit_types.specs.declared.types.TypeDef.{TypeDef}
@@ -10,13 +10,8 @@ use Rattle.wit_syntax.specs.Source.{ScopeName, local_id}
 use Rattle.wit_syntax.specs.Scope.{rows_of, in_turn, AreDistinct}
 use Rattle.wit_syntax.specs.Function.{SourceFunction, written_types}
 use Rattle.wit_syntax.specs.Signature.{IsBrokenFunction}
-use Rattle.wit_syntax.specs.Sides.{IsFoldedTwice, IsCrossedTwice}
+use Rattle.wit_syntax.specs.Sides.{SideFunction, IsFoldedTwice, IsCrossedTwice}
 use Rattle.wit_arena.specs.Resolving.{Env, IsWrongHandle}
-use Rattle.wit_externs.specs.Held.{externs_behind}
-use Rattle.wit_externs.specs.Links.{IsLinkedAgain, IsWrongLink}
-use Rattle.wit_externs.specs.declared.held.HeldLink.{HeldLink}
-use Rattle.wit_externs.specs.declared.held.HeldExtern.{HeldExtern}
-use Rattle.wit_externs.specs.declared.held.HeldExtern.TheVariants as held
 
 -- these are the names of a scope as they are resolved
 pub record IsTurn (xs : List ScopeName) (ids : List Id) : Type 0 where
@@ -25,11 +20,9 @@ pub record IsTurn (xs : List ScopeName) (ids : List Id) : Type 0 where
   pub distinct : AreDistinct xs
   pub are : ids ≡ map local_id (in_turn xs order)
 
--- what is wrong with the functions of a scope, and with what it has on its sides, whose names stand for places of an arena
-pub data IsWrongFunctions (env : Env) (es : List TypeDef) (xs : List ScopeName) (fns : List SourceFunction) (hs : List HeldExtern) (f : Fault) : Type 0 where
-  BrokenFunction : (k : ℕ) (fn : SourceFunction) → slice_get fns k ≡ Some fn → IsBrokenFunction xs fns k fn f → IsWrongFunctions env es xs fns hs f
-  BrokenNames : IsFoldedTwice xs (externs_behind hs) f → IsWrongFunctions env es xs fns hs f
-  CrossedNames : IsCrossedTwice xs (externs_behind hs) f → IsWrongFunctions env es xs fns hs f
-  LinkedAgain : IsLinkedAgain hs f → IsWrongFunctions env es xs fns hs f
-  WrongLink : (l : HeldLink) → Contains hs (held.Link l) → IsWrongLink l f → IsWrongFunctions env es xs fns hs f
-  HandleOfOther : IsWrongHandle env es (all_handles (flat_map written_types fns)) f → IsWrongFunctions env es xs fns hs f
+-- what is wrong with the functions of a scope on whose sides nothing else stands, whose names stand for places of an arena
+pub data IsWrongFunctions (env : Env) (es : List TypeDef) (xs : List ScopeName) (fns : List SourceFunction) (f : Fault) : Type 0 where
+  BrokenFunction : (k : ℕ) (fn : SourceFunction) → slice_get fns k ≡ Some fn → IsBrokenFunction xs fns k fn f → IsWrongFunctions env es xs fns f
+  BrokenNames : IsFoldedTwice xs (map SideFunction fns) f → IsWrongFunctions env es xs fns f
+  CrossedNames : IsCrossedTwice xs (map SideFunction fns) f → IsWrongFunctions env es xs fns f
+  HandleOfOther : IsWrongHandle env es (all_handles (flat_map written_types fns)) f → IsWrongFunctions env es xs fns f

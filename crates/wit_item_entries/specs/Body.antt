@@ -6,7 +6,7 @@ use Rattle.wit_types.specs.declared.types.TypeOwner.{TypeOwner}
 use Rattle.wit_model.specs.declared.function.Function.{Function}
 use Rattle.wit_syntax.specs.Fault.{Fault, fault, missing_at, item_word}
 use Rattle.wit_syntax.specs.Notes.{IsBrokenStability}
-use Rattle.wit_syntax.specs.Source.{Item, declared_attributes, local_id, path_id, scope_names}
+use Rattle.wit_syntax.specs.Source.{Declared, Item, declared_attributes, local_id, path_id, scope_names}
 use Rattle.wit_syntax.specs.Scope.{in_turn}
 use Rattle.wit_syntax.specs.Function.{functions}
 use Rattle.wit_syntax.specs.Sides.{side_items, IsBrokenSides}
@@ -22,8 +22,13 @@ use Rattle.wit_externs.specs.declared.held.HeldExtern.TheVariants as held
 use Rattle.wit_scopes.specs.Held.{name_behind}
 use Rattle.wit_scopes.specs.declared.scope_name.ScopeName.{ScopeName as HeldName}
 
+-- the item is this one, and these are its names
+pub record IsHeldBy (item : Item) (d : Declared) (xs : List HeldName) : Type 0 where
+  pub declared : item.declared ≡ d
+  pub names : scope_names item ≡ map name_behind xs
+
 -- these are the names of an item and what it has on its sides
-pub record IsHeldBy (item : Item) (xs : List HeldName) (hs : List HeldExtern) : Type 0 where
+pub record IsStandingBy (item : Item) (xs : List HeldName) (hs : List HeldExtern) : Type 0 where
   pub names : scope_names item ≡ map name_behind xs
   pub sides : side_items item ≡ externs_behind hs
 

@@ -5,87 +5,66 @@ ghost use Rattle.std.specs.List.{flat_map};
 ghost use Rattle.indexmap.specs.IndexMap.{insert_entry};
 ghost use Rattle.wit_syntax.specs.Repeats.{AllDiffer};
 ghost use Rattle.wit_syntax.specs.Source.{interface_part, is_declared_world, declared_parts, local_name};
-ghost use Rattle.wit_syntax.specs.Function.{definition_functions};
+ghost use Rattle.wit_syntax.specs.Function.{definition_functions, part_functions};
 ghost use Rattle.wit_arena.specs.Functions.{placed_functions};
 ghost use Rattle.wit_rules.specs.Held.{function_behind};
 ghost use Rattle.wit_syntax.specs.Signature.{body_ok};
-ghost use Rattle.wit_syntax.specs.Sides.{SideFunction, item_function, part_items};
-ghost use Rattle.wit_externs.specs.Held.{externs_behind};
 ghost use Rattle.wit_rules.specs.Signatures.{told_ok, AreResults};
 ghost use Rattle.wit_items.specs.Items.{declared_behind};
 ghost use Rattle.wit_scopes.specs.Held.{name_behind};
 
 use std::alloc::{AllocError, Global};
-use wit_externs::held::HeldExtern;
 use wit_items::items::Declared;
 use wit_model::Function;
 use wit_rules::held::HeldFunction;
 use wit_scopes::scope_name::ScopeName;
 use wit_setters::setters::setters_behind_getters;
-use wit_tree::tree::{Interface, InterfaceItem, Type, TypeBody, TypeDef};
+use wit_tree::tree::{InterfaceItem, Type, TypeBody, TypeDef};
 use wit_values::TextTable;
 
-/// Adds the functions of a definition, those of a resource, to what stands on the sides of an interface.
+/// Adds the functions of a definition: those of a resource.
 fn add_definition<'t, 'a>(
-    externs: &mut Vec<HeldExtern<'t, 'a>>,
+    functions: &mut Vec<HeldFunction<'t, 'a>>,
     definition: &'t TypeDef<'a>,
 ) -> Result<(), AllocError>
-    ensures { OnOk result (externs_behind externs.new.items ≡ externs_behind externs.old.items ++ map SideFunction (definition_functions definition.now.name definition.now.body)) }
+    ensures { OnOk result (map function_behind functions.new.items ≡ map function_behind functions.old.items ++ definition_functions definition.now.name definition.now.body) }
 {
     if let TypeBody::Resource { funcs } = &definition.body {
         for function in funcs {
-            externs.push(HeldExtern::Function(HeldFunction::Of(definition.name, function)))?;
+            functions.push(HeldFunction::Of(definition.name, function))?;
         }
     }
     Ok(())
 }
 
-/// The functions among what stands on the sides of an item, in source order.
-pub fn written_functions<'t, 'a>(
+/// The functions of an interface with these items, in source order.
+fn items_functions<'t, 'a>(
     alloc: Global,
-    externs: &[HeldExtern<'t, 'a>],
+    items: &'t [InterfaceItem<'a>],
 ) -> Result<Vec<HeldFunction<'t, 'a>>, AllocError>
-    ensures { IfOk result (λ functions. map function_behind functions.items ≡ flat_map item_function (externs_behind externs.now)) }
+    ensures { IfOk result (λ functions. map function_behind functions.items ≡ flat_map part_functions (map interface_part items.now)) }
 {
     let mut functions = Vec::new(alloc);
-    for held in externs {
-        match held {
-            HeldExtern::Function(function) => functions.push(*function)?,
-            HeldExtern::Link(_) => {}
+    for part in items {
+        match part {
+            InterfaceItem::TypeDef(definition) => add_definition(&mut functions, definition)?,
+            InterfaceItem::Func(function) => functions.push(HeldFunction::Free(function))?,
+            InterfaceItem::Use(_) => {}
         }
     }
     Ok(functions)
 }
 
-/// What an interface has on its sides: its functions, in source order.
-fn interface_externs<'t, 'a>(
-    alloc: Global,
-    interface: &'t Interface<'a>,
-) -> Result<Vec<HeldExtern<'t, 'a>>, AllocError>
-    ensures { IfOk result (λ externs. externs_behind externs.items ≡ flat_map part_items (map interface_part interface.now.items.items)) }
-{
-    let mut externs = Vec::new(alloc);
-    for part in &interface.items {
-        match part {
-            InterfaceItem::TypeDef(definition) => add_definition(&mut externs, definition)?,
-            InterfaceItem::Func(function) => {
-                externs.push(HeldExtern::Function(HeldFunction::Free(function)))?
-            }
-            InterfaceItem::Use(_) => {}
-        }
-    }
-    Ok(externs)
-}
-
-/// What an item has on its sides, where it is an interface.
-pub fn own_externs<'t, 'a>(
+/// The functions of an interface, in source order; none of a world.
+pub fn interface_functions<'t, 'a>(
     alloc: Global,
     declared: Declared<'t, 'a>,
-) -> Result<Vec<HeldExtern<'t, 'a>>, AllocError>
-    ensures { IfOk result (λ externs. is_declared_world (declared_behind declared.entry) ≡ false → externs_behind externs.items ≡ flat_map part_items (declared_parts (declared_behind declared.entry))) }
+) -> Result<Vec<HeldFunction<'t, 'a>>, AllocError>
+    ensures { IfOk result (λ functions. is_declared_world (declared_behind declared.entry) ≡ false → map function_behind functions.items ≡ flat_map part_functions (declared_parts (declared_behind declared.entry))) }
 {
     match declared {
-        Declared::Interface(interface) => interface_externs(alloc, interface),
+        Declared::Interface(interface) => items_functions(alloc, &interface.items),
+        Declared::Inline(inline) => items_functions(alloc, inline.items),
         Declared::World(_) => Ok(Vec::new(alloc)),
     }
 }

@@ -8,7 +8,7 @@ ghost use Rattle.wit_syntax.specs.Broken.{IsBrokenScope, Refused};
 ghost use Rattle.wit_syntax.specs.Repeats.{AllDiffer};
 ghost use Rattle.wit_syntax.specs.Shape.{all_handles};
 ghost use Rattle.wit_syntax.specs.Function.{SourceFunction, name_types};
-ghost use Rattle.wit_entries.specs.Requiring.{Requires};
+ghost use Rattle.wit_entries.specs.Requiring.{IsGrown, Requires};
 ghost use Rattle.wit_scopes.specs.Held.{name_behind, use_behind, definition_behind};
 ghost use Rattle.wit_item_entries.specs.Held.{front_of, cells_of};
 ghost use Rattle.wit_scopes.specs.Front.{AreNamesPlaced};
@@ -55,6 +55,7 @@ fn define_all(
     ensures noted { OnOk result (AreLegalNotes (map definition_behind definitions.now)) }
     ensures legal { OnOk result (AreLegalBodies (map definition_behind definitions.now)) }
     ensures handled { OnOk result (Requires (env_of scope.new.names) types.new (all_handles (flat_map name_types (map definition_behind definitions.now))) scope.old.required.items scope.new.required.items) }
+    ensures grown { OnOk result (IsGrown types.old types.new) }
     ensures refused { IfErr result (Refused (λ f. IsBrokenAmong (map definition_behind definitions.now) f ⊎ IsWrongHandleIn types.old scope.old.owner scope.old.names (map definition_behind definitions.now) f)) }
 {
     for definition in definitions {
@@ -77,6 +78,7 @@ fn resolve_types<'t, 'a>(
     requires listed { names_in scope.old.names ≡ local_names (used (map name_behind names.now)) }
     ensures defines { IfOk result (λ turn. DefinesTurn types.old types.new scope.old.owner scope.old.names scope.new.names (map name_behind names.now) turn.items scope.old.required.items scope.new.required.items) }
     ensures legal { OnOk result ((fns : List SourceFunction) (f : Fault) → IsBrokenScope (map name_behind names.now) fns f → IsOfFunctions (map name_behind names.now) fns f) }
+    ensures grown { OnOk result (IsGrown types.old types.new) }
     ensures refused { IfErr result (Refused (λ f. ((fns : List SourceFunction) → IsBrokenScope (map name_behind names.now) fns f) ⊎ IsWrongHandleTurn types.old scope.old.owner scope.old.names (map name_behind names.now) f)) }
 {
     let written = definitions(alloc, names)?;
@@ -105,6 +107,7 @@ pub fn resolve_names<'a>(
     requires front { length interfaces.now.foreign.now ≤ length interfaces.now.arena }
     ensures adds { IfOk result (λ r. AddsTurn types.old types.new (cells_of interfaces.now) owner (map name_behind names.now) r.types r.turn.items r.required.items) }
     ensures legal { OnOk result ((fns : List SourceFunction) (f : Fault) → IsBrokenScope (map name_behind names.now) fns f → IsOfFunctions (map name_behind names.now) fns f) }
+    ensures grown { OnOk result (IsGrown types.old types.new) }
     ensures refused { IfErr result (Refused (IsWrongNames types.old (cells_of interfaces.now) interfaces.now.by_name owner (map name_behind names.now))) }
 {
     let uses = used_names(alloc, names)?;

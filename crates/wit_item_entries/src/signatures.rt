@@ -1,10 +1,9 @@
-//! The functions of an item over their types, behind its names.
+//! The functions of an interface over their types, behind its names.
 ghost use Rattle.std.specs.Prelude.{◌≡◌, ◌<◌, ℕ, [], Some, IfErr, IfOk, OnOk, length, map, slice_get};
 ghost use Rattle.std.specs.List.{flat_map};
 ghost use Rattle.wit_syntax.specs.Address.{Address};
 ghost use Rattle.wit_tree.specs.declared.tree.WorldSide.{WorldSide};
-ghost use Rattle.wit_syntax.specs.Repeats.{AllDiffer};
-ghost use Rattle.wit_syntax.specs.Sides.{item_function};
+ghost use Rattle.wit_syntax.specs.Sides.{SideFunction};
 ghost use Rattle.wit_sides.specs.Sides.{taken_on};
 ghost use Rattle.wit_syntax.specs.Shape.{all_handles};
 ghost use Rattle.wit_syntax.specs.Fault.{Fault};
@@ -17,9 +16,7 @@ ghost use Rattle.wit_rules.specs.Held.{function_behind};
 ghost use Rattle.wit_entries.specs.Requiring.{IsGrown, Requires};
 ghost use Rattle.wit_rules.specs.Signatures.{HaveOwners};
 ghost use Rattle.wit_signatures.specs.Taken.{name_of_function, name_of_made};
-ghost use Rattle.wit_externs.specs.Held.{externs_behind, held_on};
 ghost use Rattle.wit_externs.specs.Clash.{DifferOnSides, all_on};
-ghost use Rattle.wit_externs.specs.Links.{AreRightLinks, bare_places};
 ghost use Rattle.wit_item_entries.specs.Between.{names_in};
 ghost use Rattle.wit_item_entries.specs.Behind.{IsTurn, IsWrongFunctions};
 ghost use Rattle.wit_scopes.specs.Held.{name_behind};
@@ -29,8 +26,7 @@ use crate::names::ResolvedNames;
 use crate::own_keys::have_upper_case;
 use std::alloc::Global;
 use wit_entries::entries::Entries;
-use wit_externs::held::HeldExtern;
-use wit_externs::scope_externs::resolve_externs;
+use wit_externs::scope_functions::resolve_functions;
 use wit_externs::taken::define_names;
 use wit_model::Function;
 use wit_rules::function_scope::FunctionScope;
@@ -39,37 +35,32 @@ use wit_scopes::scope_name::ScopeName;
 use wit_sides::Sides;
 use wit_tree::ParseResult;
 
-/// The functions of an item over their types, behind its names `held`, which are resolved: they are
-/// `written` among what it has on its sides. Where something stands there, the names and then those of
-/// what stands there are taken, each on its side.
+/// The functions of an interface over their types, behind its names `held`, which are resolved; these are
+/// `written`. Where it has some, its names and then those of the functions are taken.
 pub fn resolve_signatures<'t, 'a>(
     alloc: Global,
     types: &mut Entries,
     names: &mut ResolvedNames<'a>,
     held: &[ScopeName<'t, 'a>],
-    externs: &[HeldExtern<'t, 'a>],
     written: &[HeldFunction<'t, 'a>],
     taken: &mut Sides,
 ) -> ParseResult<Vec<Function>>
     requires nothing { (s : WorldSide) → taken_on s taken.old ≡ [] }
     requires listed { names_in names.old.types ≡ map (λ id. id.name.now) names.old.turn.items }
     requires turn { IsTurn (map name_behind held.now) names.old.turn.items }
-    requires functions { flat_map item_function (externs_behind externs.now) ≡ map function_behind written.now }
     requires owners { HaveOwners (env_of names.old.types) (map function_behind written.now) }
     ensures types { OnOk result (names.new.types ≡ names.old.types) }
     ensures turn { OnOk result (names.new.turn ≡ names.old.turn) }
     ensures adds { IfOk result (λ fs. (s : Address) → AddsFunctions types.old types.new s names.old.types (map function_behind written.now) fs.items) }
     ensures named { IfOk result (λ fs. map name_of_made fs.items ≡ map name_of_function (map function_behind written.now)) }
     ensures handled { OnOk result (Requires (env_of names.old.types) types.new (all_handles (flat_map written_types (map function_behind written.now))) names.old.required.items names.new.required.items) }
-    ensures taken { OnOk result (0 < length externs.now → (s : WorldSide) → taken_on s taken.new ≡ all_on s names.old.turn.items (externs_behind externs.now)) }
-    ensures differ { OnOk result (DifferOnSides names.old.turn.items (externs_behind externs.now)) }
-    ensures right { OnOk result (AreRightLinks externs.now) }
-    ensures apart { OnOk result ((s : WorldSide) → AllDiffer (bare_places (held_on s externs.now))) }
+    ensures taken { OnOk result (0 < length written.now → (s : WorldSide) → taken_on s taken.new ≡ all_on s names.old.turn.items (map SideFunction (map function_behind written.now))) }
+    ensures differ { OnOk result (DifferOnSides names.old.turn.items (map SideFunction (map function_behind written.now))) }
     ensures sound { OnOk result ((k : ℕ) (fn : SourceFunction) → slice_get (map function_behind written.now) k ≡ Some fn → (f : Fault) → IsBrokenFunction (map name_behind held.now) (map function_behind written.now) k fn f → IsNameless (map name_behind held.now) (map function_behind written.now)) }
     ensures grown { IsGrown types.old types.new }
-    ensures refused { IfErr result (Refused (IsWrongFunctions (env_of names.old.types) types.new (map name_behind held.now) (map function_behind written.now) externs.now)) }
+    ensures refused { IfErr result (Refused (IsWrongFunctions (env_of names.old.types) types.new (map name_behind held.now) (map function_behind written.now))) }
 {
-    if externs.len() == 0 {
+    if written.len() == 0 {
         if !have_upper_case(&names.turn) {
             return Ok(Vec::new(alloc));
         }
@@ -81,6 +72,6 @@ pub fn resolve_signatures<'t, 'a>(
         results: &results,
         functions: written,
     };
-    let functions = resolve_externs(alloc, types, &mut names.required, scope, externs, taken)?;
+    let functions = resolve_functions(alloc, types, &mut names.required, scope, taken)?;
     Ok(functions)
 }

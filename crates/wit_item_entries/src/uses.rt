@@ -12,6 +12,7 @@ ghost use Rattle.wit_syntax.specs.Function.{SourceFunction};
 ghost use Rattle.wit_arena.specs.Functions.{freestanding_names};
 ghost use Rattle.wit_scopes.specs.Between.{IsUnstated};
 ghost use Rattle.wit_item_entries.specs.Between.{names_in};
+ghost use Rattle.wit_entries.specs.Requiring.{IsGrown};
 ghost use Rattle.wit_scopes.specs.Held.{source_behind, use_behind, IsPlaced, ArePlaced};
 ghost use Rattle.wit_item_entries.specs.Held.{front_of, cells_of};
 ghost use Rattle.wit_arena.specs.Resolving.{cell_at, env_of, free_functions, Defines, HasNames, IsIndex, IsFound, IsUnresolved, IsUsed, IsWrongUse, IsWrongScope};
@@ -133,6 +134,7 @@ fn resolve_use(
     ensures used { OnOk result (IsUsed types.old types.new (cells_of interfaces.now) scope.old.owner scope.old.names scope.new.names (source_behind used.now.from) used.now.attributes.now used.now.name.now) }
     ensures owner { OnOk result (scope.new.owner ≡ scope.old.owner) }
     ensures required { scope.new.required ≡ scope.old.required }
+    ensures grown { OnOk result (IsGrown types.old types.new) }
     ensures refused { IfErr result (Refused (IsWrongUse (cells_of interfaces.now) interfaces.now.by_name scope.old.names (source_behind used.now.from) used.now.attributes.now used.now.name.now)) }
 {
     let name = used.name;
@@ -169,6 +171,7 @@ pub fn resolve_uses(
     ensures listed { OnOk result (names_in scope.new.names ≡ local_names (map use_behind uses.now)) }
     ensures required { scope.new.required ≡ scope.old.required }
     ensures has { OnOk result (HasNames (env_of scope.new.names) (map use_behind uses.now)) }
+    ensures grown { OnOk result (IsGrown types.old types.new) }
     ensures refused { IfErr result (λ e. (xs : List ScopeName) → map use_behind uses.now ≡ used xs → Refused (λ f. (fns : List SourceFunction) → IsWrongScope (cells_of interfaces.now) interfaces.now.by_name xs fns f) e) }
 {
     for name in uses {

@@ -14,12 +14,13 @@ use Rattle.wit_syntax.specs.Crossing.{same_side}
 use Rattle.wit_syntax.specs.Repeats.{AllDiffer}
 use Rattle.wit_syntax.specs.Sides.{role_side}
 use Rattle.wit_arena.specs.Functions.{function_item}
-use Rattle.wit_arena.specs.SideItems.{link_item, put_on}
+use Rattle.wit_arena.specs.SideItems.{inline_entry, link_item, put_on}
 use Rattle.wit_rules.specs.Held.{function_behind}
 use Rattle.wit_rules.specs.declared.held.HeldFunction.{HeldFunction}
 use Rattle.wit_externs.specs.Held.{link_behind}
 use Rattle.wit_externs.specs.declared.held.Led.{Led}
 use Rattle.wit_externs.specs.declared.held.Led.TheVariants as led
+use Rattle.wit_externs.specs.declared.held.HeldInline.{HeldInline}
 use Rattle.wit_externs.specs.declared.held.HeldLink.{HeldLink}
 use Rattle.wit_externs.specs.declared.held.HeldExtern.{HeldExtern}
 use Rattle.wit_externs.specs.declared.held.HeldExtern.TheVariants as held
@@ -72,21 +73,26 @@ put_next false front rest x differ = refl
 
 module _ (s : WorldSide) (front total : List Entry) (differ : AllDiffer (map key_of total)) where
   -- the first of what is left is a function, which is put on its side
-  pub function_put : (now : List Entry) (f : HeldFunction) (m : Function) (hs : List HeldExtern) (fs : List Function) → front ++ entries_on s (held.Function f ∷ hs) (m ∷ fs) ≡ total → now ≡ inserted_on s (role_side (function_behind f).role) (function_item m) front → now ++ entries_on s hs fs ≡ total
-  function_put now f m hs fs was is =
-      ap (λ (l : List Entry). l ++ entries_on s hs fs) is ∙ put_next (same_side s (role_side (function_behind f).role)) front (entries_on s hs fs) (function_item m) (subst (λ (l : List Entry). AllDiffer (map key_of l)) (sym was) differ) ∙ was
+  pub function_put : (now : List Entry) (f : HeldFunction) (m : Function) (hs : List HeldExtern) (fs : List Function) (ids : List ℕ) → front ++ entries_on s (held.Function f ∷ hs) (m ∷ fs) ids ≡ total → now ≡ inserted_on s (role_side (function_behind f).role) (function_item m) front → now ++ entries_on s hs fs ids ≡ total
+  function_put now f m hs fs ids was is =
+      ap (λ (l : List Entry). l ++ entries_on s hs fs ids) is ∙ put_next (same_side s (role_side (function_behind f).role)) front (entries_on s hs fs ids) (function_item m) (subst (λ (l : List Entry). AllDiffer (map key_of l)) (sym was) differ) ∙ was
 
-  -- or an interface
-  pub link_put : (now : List Entry) (l : HeldLink) (place : ℕ) (hs : List HeldExtern) (fs : List Function) → l.led ≡ led.Interface place → front ++ entries_on s (held.Link l ∷ hs) fs ≡ total → now ≡ inserted_on s l.side (link_item (link_behind l) place) front → now ++ entries_on s hs fs ≡ total
-  link_put now l place hs fs lead was is =
-      let here : front ++ put_on s l.side (link_item (link_behind l) place) (entries_on s hs fs) ≡ total = ap (λ (d : Led). front ++ put_link s (link_behind l) d (entries_on s hs fs)) (sym lead) ∙ was in
-      ap (λ (l : List Entry). l ++ entries_on s hs fs) is ∙ put_next (same_side s l.side) front (entries_on s hs fs) (link_item (link_behind l) place) (subst (λ (l : List Entry). AllDiffer (map key_of l)) (sym here) differ) ∙ here
+  -- or an interface by its path
+  pub link_put : (now : List Entry) (l : HeldLink) (place : ℕ) (hs : List HeldExtern) (fs : List Function) (ids : List ℕ) → l.led ≡ led.Interface place → front ++ entries_on s (held.Link l ∷ hs) fs ids ≡ total → now ≡ inserted_on s l.side (link_item (link_behind l) place) front → now ++ entries_on s hs fs ids ≡ total
+  link_put now l place hs fs ids lead was is =
+      let here : front ++ put_on s l.side (link_item (link_behind l) place) (entries_on s hs fs ids) ≡ total = ap (λ (d : Led). front ++ put_link s (link_behind l) d (entries_on s hs fs ids)) (sym lead) ∙ was in
+      ap (λ (l : List Entry). l ++ entries_on s hs fs ids) is ∙ put_next (same_side s l.side) front (entries_on s hs fs ids) (link_item (link_behind l) place) (subst (λ (l : List Entry). AllDiffer (map key_of l)) (sym here) differ) ∙ here
 
   -- or nothing, where its path leads to no interface
-  pub link_left : (l : HeldLink) (hs : List HeldExtern) (fs : List Function) → ((place : ℕ) → l.led ≡ led.Interface place → ⊥) → front ++ entries_on s (held.Link l ∷ hs) fs ≡ total → front ++ entries_on s hs fs ≡ total
-  link_left l hs fs other was = ap (λ (xs : List Entry). front ++ xs) (sym (left l.led other)) ∙ was
+  pub link_left : (l : HeldLink) (hs : List HeldExtern) (fs : List Function) (ids : List ℕ) → ((place : ℕ) → l.led ≡ led.Interface place → ⊥) → front ++ entries_on s (held.Link l ∷ hs) fs ids ≡ total → front ++ entries_on s hs fs ids ≡ total
+  link_left l hs fs ids other was = ap (λ (xs : List Entry). front ++ xs) (sym (left l.led other)) ∙ was
     where
-      left : (d : Led) → ((place : ℕ) → d ≡ led.Interface place → ⊥) → put_link s (link_behind l) d (entries_on s hs fs) ≡ entries_on s hs fs
+      left : (d : Led) → ((place : ℕ) → d ≡ led.Interface place → ⊥) → put_link s (link_behind l) d (entries_on s hs fs ids) ≡ entries_on s hs fs ids
       left (led.Interface place) other = absurd (other place refl)
       left led.World other = refl
       left (led.Nothing id) other = refl
+
+  -- or an interface that is written there
+  pub inline_put : (now : List Entry) (i : HeldInline) (id : ℕ) (hs : List HeldExtern) (fs : List Function) (ids : List ℕ) → front ++ entries_on s (held.Inline i ∷ hs) fs (id ∷ ids) ≡ total → now ≡ inserted_on s i.written.now.side (inline_entry i.written.now i.name id) front → now ++ entries_on s hs fs ids ≡ total
+  inline_put now i id hs fs ids was is =
+      ap (λ (l : List Entry). l ++ entries_on s hs fs ids) is ∙ put_next (same_side s i.written.now.side) front (entries_on s hs fs ids) (inline_entry i.written.now i.name id) (subst (λ (l : List Entry). AllDiffer (map key_of l)) (sym was) differ) ∙ was

@@ -11,12 +11,13 @@ use Rattle.wit_tree.specs.declared.tree.Id.{Id}
 use Rattle.wit_tree.specs.declared.tree.UsePath.{UsePath}
 use Rattle.wit_tree.specs.declared.tree.PackageFile.{PackageFile}
 use Rattle.wit_model.specs.declared.interface.Interface.{Interface}
-use Rattle.wit_syntax.specs.Address.{Address, InterfaceNamed, WorldNamed, ForeignNamed, package_of, same_address, is_foreign}
+use Rattle.wit_syntax.specs.Address.{Address, InterfaceNamed, WorldNamed, InlineAt, ForeignNamed, package_of, same_address, is_foreign}
 use Rattle.wit_syntax.specs.Broken.{is_world_at}
 use Rattle.wit_syntax.specs.Foreign.{ForeignVisit, visited, foreign_interfaces, is_foreign_world}
 use Rattle.wit_syntax.specs.Source.{Target, Local, leads, path_scope, used_scope, TopName}
 use Rattle.wit_syntax.proofs.Addresses.{same_address-equal}
 use Rattle.wit_syntax.proofs.Found.{contains_at}
+use Rattle.wit_syntax.proofs.Lists.{at_front as before}
 use Rattle.wit_arena.specs.Resolving.{Cell, Names, IsIndex, cells}
 use Rattle.wit_arena.specs.Resolved.{interfaces_at}
 use Rattle.wit_arena.specs.Whole.{place_at}
@@ -28,6 +29,7 @@ use Rattle.wit_files.specs.declared.foreign.ForeignVisit.{ForeignVisit as HeldVi
 use Rattle.wit_item_entries.specs.Held.{front_of}
 use Rattle.wit_externs.specs.declared.held.Led.{Led}
 use Rattle.wit_externs.specs.declared.held.Led.TheVariants as led
+use Rattle.wit_externs.specs.declared.held.HeldInline.{HeldInline}
 use Rattle.wit_externs.specs.declared.held.HeldLink.{HeldLink}
 use Rattle.wit_externs.specs.declared.held.HeldExtern.{HeldExtern}
 use Rattle.wit_externs.specs.declared.held.HeldExtern.TheVariants as held
@@ -67,7 +69,7 @@ at_front (r ∷ ss) (i ∷ is) zero s enough at = at
 at_front (r ∷ ss) (i ∷ is) (suc t) s enough at = at_front ss is t s (omega arith) at
 
 -- there are as many addresses as interfaces
-addresses_count : (ss : List Address) (is : List Interface) → length ss ≤ length is → length (interfaces_at ss is) ≡ length is
+pub addresses_count : (ss : List Address) (is : List Interface) → length ss ≤ length is → length (interfaces_at ss is) ≡ length is
 addresses_count [] is enough = length-map (cells [] is) (λ c. c.address) ∙ length-map is _
 addresses_count (s ∷ ss) [] enough = absurd (let f : ⊥ = omega arith in f)
 addresses_count (s ∷ ss) (i ∷ is) enough = ap suc (addresses_count ss is (omega arith))
@@ -78,6 +80,7 @@ called_at front is by_name (InterfaceNamed name) id enough index at =
     let c = index.stands name id at in
     slice_get-map (λ (d : Cell). d.address) (cells front is) id ∙ ap (option_map (λ (d : Cell). d.address)) c.1 ∙ ap Some c.2
 called_at front is by_name (WorldNamed name) id enough index at = absurd (let f : ⊥ = cc in f)
+called_at front is by_name (InlineAt world side place) id enough index at = absurd (let f : ⊥ = cc in f)
 called_at front is by_name (ForeignNamed p name) id enough index at =
     let s = ForeignNamed p name in
     let it = position-Some (λ (a : Address). same_address a s) front id s at in
@@ -127,15 +130,26 @@ led_more files front by_name top hs m are one = record {
     link_same : (a b : HeldLink) → held.Link a ≡ held.Link b → a ≡ b
     link_same a b h = cc
 
--- a function is no link
-pub links_kept : (hs : List HeldExtern) (g : HeldFunction) (l : HeldLink) → Contains (hs ++ held.Function g ∷ []) (held.Link l) → Contains hs (held.Link l)
-links_kept hs g l among = elim (Contains-append_cases hs (held.Function g ∷ []) (held.Link l) among) [
+-- what is no link brings none
+pub links_kept : (hs : List HeldExtern) (h : HeldExtern) (l : HeldLink) → ((m : HeldLink) → h ≡ held.Link m → ⊥) → Contains (hs ++ h ∷ []) (held.Link l) → Contains hs (held.Link l)
+links_kept hs h l other among = elim (Contains-append_cases hs (h ∷ []) (held.Link l) among) [
   | inl early ↦ early
-  | inr last ↦ absurd (
-      let wrong : held.Function g ≡ held.Link l = contains_one (held.Function g) (held.Link l) last in
-      let f : ⊥ = cc in
-      f)
+  | inr last ↦ absurd (other l (contains_one h (held.Link l) last))
 ]
+
+pub no_function : (g : HeldFunction) (m : HeldLink) → held.Function g ≡ held.Link m → ⊥
+no_function g m same = cc
+
+pub no_inline : (i : HeldInline) (m : HeldLink) → held.Inline i ≡ held.Link m → ⊥
+no_inline i m same = cc
+
+-- places among more addresses
+pub links_wider : (is more : List Address) (top : List TopName) (hs : List HeldExtern) → AreLinksPlaced is top hs → AreLinksPlaced (is ++ more) top hs
+links_wider is more top hs placed = record {
+  place = placed.place;
+  stands = placed.stands;
+  called = λ k l id at lead. before is more id (path_scope top l.path.now) (placed.called k l id at lead);
+}
 
 pub led_link : (files : List PackageFile) (front : List Address) (by_name : Names) (top : List TopName) (l : HeldLink) (path : UsePath) (d : Led) → l.path.now ≡ path → l.led ≡ d → IsLed files front by_name top path d → IsLed files front by_name top l.path.now l.led
 led_link files front by_name top l path d at lead one = subst (λ (p : UsePath). IsLed files front by_name top p l.led) (sym at) (subst (IsLed files front by_name top path) (sym lead) one)

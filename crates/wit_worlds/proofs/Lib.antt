@@ -1,8 +1,16 @@
 mod Including
 mod Importing
+mod Counted
+mod Inlined
 mod Entries
 mod SideKeys
 mod SideEntries
 pub mod Leading
 mod Linking
+mod Adding
+mod DoneSides
+mod InsideAt
+mod StandingItem
+mod WrongStanding
+mod WorldsMore
 mod Parts

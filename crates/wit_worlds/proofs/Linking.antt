@@ -1,5 +1,5 @@
 -- The links of a world, as they are held: where they lead, and what is wrong with them.
-use Rattle.std.proofs.Common.{◌≡◌, ℕ, zero, suc, false, List, [], ◌∷◌, ◌++◌, Option, Some, None, inl, inr, refl, sym, ap, ◌∙◌, subst, Contains}
+use Rattle.std.proofs.Common.{◌≡◌, ℕ, ◌+◌, zero, suc, false, List, [], ◌∷◌, ◌++◌, length, Option, Some, None, inl, inr, refl, sym, ap, ◌∙◌, subst, Contains}
 use Rattle.std.specs.Prelude.{map, slice_get}
 use Rattle.std.specs.List.{flat_map}
 use Rattle.std.specs.Option.{option_map}
@@ -8,18 +8,20 @@ use Rattle.wit_tree.specs.declared.tree.Extern.{Extern}
 use Rattle.wit_tree.specs.declared.tree.ExternKind.{ExternKind}
 use Rattle.wit_tree.specs.declared.tree.ExternKind.TheVariants as extern
 use Rattle.wit_tree.specs.declared.tree.PackageFile.{PackageFile}
+use Rattle.wit_tree.specs.declared.tree.Use.{Use}
 use Rattle.wit_types.specs.declared.types.TypeDef.{TypeDef}
 use Rattle.wit_types.specs.declared.types.TypeOwner.{TypeOwner}
+use Rattle.wit_model.specs.declared.interface.Interface.{Interface}
 use Rattle.wit_syntax.specs.Address.{Address}
 use Rattle.wit_syntax.specs.Broken.{is_world_at, IsBrokenUse, MissingUse, WorldUsed}
-use Rattle.wit_syntax.specs.Crossing.{extern_paths}
+use Rattle.wit_syntax.specs.Crossing.{extern_paths, inline_uses}
 use Rattle.wit_syntax.specs.Fault.{Fault}
 use Rattle.wit_syntax.specs.Function.{SourceFunction}
 use Rattle.wit_syntax.specs.Scope.{use_path, use_paths}
 use Rattle.wit_syntax.specs.Sides.{Link, SideItem, SideFunction, SideLink, extern_items, item_link, links, part_items, side_items, IsBrokenSides}
 use Rattle.wit_syntax.specs.Source.{Item, Part, TopName, Defining, Using, Including, Doing, Crossing, leads, parts}
 use Rattle.wit_syntax.proofs.Found.{at_contains, contains_at}
-use Rattle.wit_syntax.proofs.Lists.{at_either, flat_map_at, flat_map_has, map_at}
+use Rattle.wit_syntax.proofs.Lists.{at_back, at_either, flat_map_at, flat_map_has, map_at}
 use Rattle.wit_arena.specs.Resolving.{Cell, Names}
 use Rattle.wit_arena.specs.Resolved.{AreLegalSides, AreUsableLinks, IsWrongWorld, WrongWorldUse, LostLink}
 use Rattle.wit_externs.specs.Held.{externs_behind, extern_behind, link_behind}
@@ -42,7 +44,8 @@ no_link fns k link at =
 
 -- the path of a link is one of the part that it is
 extern_path : (x : Extern) (kind : ExternKind) (k : ℕ) (link : Link) → slice_get (extern_items x kind) k ≡ Some (SideLink link) → slice_get (extern_paths kind) 0 ≡ Some link.path
-extern_path x (extern.Interface name items) k link at = absurd (let f : ⊥ = cc in f)
+extern_path x (extern.Interface name items) zero link at = absurd (let f : ⊥ = cc in f)
+extern_path x (extern.Interface name items) (suc k) link at = absurd (let f : ⊥ = cc in f)
 extern_path x (extern.Path path) zero link at = (let same : SideLink (record { side = x.side; name = None; path = path; docs = x.docs; attributes = x.attributes.items }) ≡ SideLink link = cc in let one = link_of same in ap (λ (l : Link). Some l.path) one)
   where
     link_of : {a b : Link} → SideLink a ≡ SideLink b → a ≡ b
@@ -56,19 +59,22 @@ extern_path x (extern.NamedPath name path) zero link at = (let same : SideLink (
     link_of h = cc
 extern_path x (extern.NamedPath name path) (suc k) link at = absurd (let f : ⊥ = cc in f)
 
-part_path : (p : Part) (k : ℕ) (link : Link) → slice_get (part_items p) k ≡ Some (SideLink link) → slice_get (use_path p) 0 ≡ Some link.path
+part_path : (p : Part) (k : ℕ) (link : Link) → slice_get (part_items p) k ≡ Some (SideLink link) → (j : ℕ) × (slice_get (use_path p) j ≡ Some link.path)
 part_path (Defining d) k link at = absurd (no_link _ k link at)
 part_path (Using u) k link at = absurd (let f : ⊥ = cc in f)
 part_path (Including i) k link at = absurd (let f : ⊥ = cc in f)
 part_path (Doing g) zero link at = absurd (let f : ⊥ = cc in f)
 part_path (Doing g) (suc k) link at = absurd (let f : ⊥ = cc in f)
-part_path (Crossing x) k link at = extern_path x x.kind k link at
+part_path (Crossing x) k link at =
+    let front = map (λ (u : Use). u.from) (inline_uses x.kind) in
+    (length front + 0, at_back front (extern_paths x.kind) 0 link.path (extern_path x x.kind k link at))
 
 -- it is one by which the item uses interfaces
 link_path : (i : Item) (k : ℕ) (link : Link) → slice_get (side_items i) k ≡ Some (SideLink link) → Contains (use_paths i) link.path
 link_path i k link at =
     let p = flat_map_at part_items (parts i) k (SideLink link) at in
-    let q = flat_map_has use_path (parts i) p.0 0 p.1 link.path p.2 (part_path p.1 p.3.0 link p.3.1) in
+    let w = part_path p.1 p.3.0 link p.3.1 in
+    let q = flat_map_has use_path (parts i) p.0 w.0 p.1 link.path p.2 w.1 in
     contains_at (use_paths i) q.0 link.path q.1
 
 -- a link that is held is one of the item
@@ -78,8 +84,8 @@ held_at i hs l same among =
     (k.0, ap (λ (xs : List SideItem). slice_get xs k.0) same ∙ slice_get-map extern_behind hs k.0 ∙ ap (option_map extern_behind) k.1)
 
 -- a path that leads to no interface breaks a rule, or is lost
-pub lost_link : (files : List PackageFile) (front : List Address) (old : List TypeDef) (cs : List Cell) (by_name worlds : Names) (o : TypeOwner) (i : Item) (hs : List HeldExtern) (f : Fault) → side_items i ≡ externs_behind hs → AreLed files front by_name i.top hs → IsLinkLost hs f → IsWrongWorld files old cs by_name worlds o i f
-lost_link files front old cs by_name worlds o i hs f same are (LostAtWorld l among lead is) =
+pub lost_link : (files : List PackageFile) (front : List Address) (old : List TypeDef) (cs : List Cell) (count : ℕ) (inside : List Interface) (by_name worlds : Names) (o : TypeOwner) (i : Item) (hs : List HeldExtern) (f : Fault) → side_items i ≡ externs_behind hs → AreLed files front by_name i.top hs → IsLinkLost hs f → IsWrongWorld files old cs count inside by_name worlds o i f
+lost_link files front old cs count inside by_name worlds o i hs f same are (LostAtWorld l among lead is) =
     let at = held_at i hs l same among in
     WrongWorldUse (WorldUsed (record {
       path = l.path.now;
@@ -87,7 +93,7 @@ lost_link files front old cs by_name worlds o i hs f same are (LostAtWorld l amo
       other = subst (λ (d : Led). IsLed files front by_name i.top l.path.now d) lead (are.each l among);
       is = is;
     }))
-lost_link files front old cs by_name worlds o i hs f same are (LostAtNothing l id among lead is) =
+lost_link files front old cs count inside by_name worlds o i hs f same are (LostAtNothing l id among lead is) =
     let at = held_at i hs l same among in
     let lost : IsLostAt files by_name i.top l.path.now id = subst (λ (d : Led). IsLed files front by_name i.top l.path.now d) lead (are.each l among) in
     elim lost.1 [
@@ -102,6 +108,7 @@ link_held : (h : HeldExtern) (j : ℕ) (link : Link) → slice_get (item_link (e
 link_held (held.Function g) j link at = absurd (let f : ⊥ = cc in f)
 link_held (held.Link l) zero link at = (l, refl, cc)
 link_held (held.Link l) (suc j) link at = absurd (let f : ⊥ = cc in f)
+link_held (held.Inline i) j link at = absurd (let f : ⊥ = cc in f)
 
 -- a right link leads to an interface
 led_usable : (files : List PackageFile) (front : List Address) (by_name : Names) (top : List TopName) (hs : List HeldExtern) (k : ℕ) (l : HeldLink) → AreLed files front by_name top hs → AreRightLinks hs → slice_get hs k ≡ Some (held.Link l) → is_world_at files (leads top l.path.now) ≡ Some false

@@ -1,5 +1,5 @@
 -- The keys of what a world has on a side differ, where its names do, and the places of interfaces without one.
-use Rattle.std.proofs.Common.{◌≡◌, ℕ, zero, suc, Bool, true, false, List, [], ◌∷◌, ◌++◌, Option, Some, None, map, if◌then◌else◌, refl, sym, ap, ◌∙◌, subst}
+use Rattle.std.proofs.Common.{◌≡◌, ℕ, ◌+◌, zero, suc, Bool, true, false, List, [], ◌∷◌, ◌++◌, length, Option, Some, None, map, if◌then◌else◌, refl, sym, ap, ◌∙◌, subst, arith}
 use Rattle.std.specs.Prelude.{slice_get}
 use Rattle.std.specs.List.{flat_map}
 use Rattle.std.specs.Option.{option_map_or}
@@ -15,11 +15,11 @@ use Rattle.wit_model.specs.declared.world.WorldKey.TheVariants as key
 use Rattle.wit_syntax.specs.Crossing.{same_side}
 use Rattle.wit_syntax.specs.Repeats.{AllDiffer}
 use Rattle.wit_syntax.specs.Scope.{local_names}
-use Rattle.wit_syntax.specs.Sides.{SideItem, SideFunction, SideLink, role_side, item_function, items_on}
+use Rattle.wit_syntax.specs.Sides.{SideItem, SideFunction, SideLink, SideInline, role_side, item_function, item_inline, items_on}
 use Rattle.wit_syntax.specs.Source.{ScopeName, Taken, local_id, local_name}
 use Rattle.wit_arena.specs.Functions.{function_item}
 use Rattle.wit_arena.specs.Resolving.{Names}
-use Rattle.wit_arena.specs.SideItems.{link_item, link_key, put_on}
+use Rattle.wit_arena.specs.SideItems.{inline_entry, link_item, link_key, put_on}
 use Rattle.wit_arena.specs.Whole.{type_imports}
 use Rattle.wit_notes.specs.Names.{Name}
 use Rattle.wit_rules.specs.Held.{function_behind}
@@ -29,6 +29,7 @@ use Rattle.wit_externs.specs.Held.{externs_behind, extern_behind, held_on, link_
 use Rattle.wit_externs.specs.Links.{bare_place, bare_places, led_places}
 use Rattle.wit_externs.specs.declared.held.Led.{Led}
 use Rattle.wit_externs.specs.declared.held.Led.TheVariants as led
+use Rattle.wit_externs.specs.declared.held.HeldInline.{HeldInline}
 use Rattle.wit_externs.specs.declared.held.HeldLink.{HeldLink}
 use Rattle.wit_externs.specs.declared.held.HeldExtern.{HeldExtern}
 use Rattle.wit_externs.specs.declared.held.HeldExtern.TheVariants as held
@@ -115,39 +116,55 @@ Lead hs = (k : ℕ) (l : HeldLink) → slice_get hs k ≡ Some (held.Link l) →
 abbrev pub AreMade : List HeldExtern → List Function → Type 0
 AreMade hs fs = map name_of_made fs ≡ map name_of_function (flat_map item_function (externs_behind hs))
 
+-- the interfaces that are written there are as many as these
+abbrev pub AreCounted : List HeldExtern → List ℕ → Type 0
+AreCounted hs ids = length ids ≡ length (flat_map item_inline (externs_behind hs))
+
+pub counted_rest : (i : HeldInline) (hs : List HeldExtern) (id : ℕ) (ids : List ℕ) → AreCounted (held.Inline i ∷ hs) (id ∷ ids) → AreCounted hs ids
+counted_rest i hs id ids count = omega arith
+
+pub counted_some : (i : HeldInline) (hs : List HeldExtern) → AreCounted (held.Inline i ∷ hs) [] → ⊥
+counted_some i hs count = omega arith
+
 -- the names of the entries of a side are those of what stands there
-side_names : (side : WorldSide) (hs : List HeldExtern) (fs : List Function) → Lead hs → AreMade hs fs → names_among (entries_on side hs fs) ≡ map text (names_of_items (items_on side (externs_behind hs)))
-side_names side [] fs lead made = refl
-side_names side (held.Function f ∷ hs) [] lead made = absurd (let wrong : ⊥ = cc in wrong)
-side_names side (held.Function f ∷ hs) (m ∷ fs) lead made =
+side_names : (side : WorldSide) (hs : List HeldExtern) (fs : List Function) (ids : List ℕ) → Lead hs → AreMade hs fs → AreCounted hs ids → names_among (entries_on side hs fs ids) ≡ map text (names_of_items (items_on side (externs_behind hs)))
+side_names side [] fs ids lead made count = refl
+side_names side (held.Function f ∷ hs) [] ids lead made count = absurd (let wrong : ⊥ = cc in wrong)
+side_names side (held.Function f ∷ hs) (m ∷ fs) ids lead made count =
     let one : name_of_made m ≡ name_of_function (function_behind f) = cc in
     let rest : AreMade hs fs = cc in
-    entry_names (same_side side (role_side (function_behind f).role)) (function_item m) (SideFunction (function_behind f)) (entries_on side hs fs) (items_on side (externs_behind hs)) (ap (λ (n : Name). n.0 ∷ []) one) (side_names side hs fs (λ k l at. lead (suc k) l at) rest)
-side_names side (held.Link l ∷ hs) fs lead made =
+    entry_names (same_side side (role_side (function_behind f).role)) (function_item m) (SideFunction (function_behind f)) (entries_on side hs fs ids) (items_on side (externs_behind hs)) (ap (λ (n : Name). n.0 ∷ []) one) (side_names side hs fs ids (λ k l at. lead (suc k) l at) rest count)
+side_names side (held.Link l ∷ hs) fs ids lead made count =
     let at = lead zero l refl in
-    ap (λ (d : Led). names_among (put_link side (link_behind l) d (entries_on side hs fs))) at.1
-    ∙ entry_names (same_side side l.side) (link_item (link_behind l) at.0) (SideLink (link_behind l)) (entries_on side hs fs) (items_on side (externs_behind hs)) (link_names l.name at.0) (side_names side hs fs (λ k m there. lead (suc k) m there) made)
+    ap (λ (d : Led). names_among (put_link side (link_behind l) d (entries_on side hs fs ids))) at.1
+    ∙ entry_names (same_side side l.side) (link_item (link_behind l) at.0) (SideLink (link_behind l)) (entries_on side hs fs ids) (items_on side (externs_behind hs)) (link_names l.name at.0) (side_names side hs fs ids (λ k m there. lead (suc k) m there) made count)
+side_names side (held.Inline i ∷ hs) fs [] lead made count = absurd (counted_some i hs count)
+side_names side (held.Inline i ∷ hs) fs (id ∷ ids) lead made count =
+    entry_names (same_side side i.written.now.side) (inline_entry i.written.now i.name id) (SideInline i.written.now i.name i.items.now) (entries_on side hs fs ids) (items_on side (externs_behind hs)) refl (side_names side hs fs ids (λ k l at. lead (suc k) l at) made (counted_rest i hs id ids count))
 
 -- their places are those of the interfaces that have no name there
-side_places : (side : WorldSide) (hs : List HeldExtern) (fs : List Function) → Lead hs → AreMade hs fs → places_among (entries_on side hs fs) ≡ bare_places (held_on side hs)
-side_places side [] fs lead made = refl
-side_places side (held.Function f ∷ hs) [] lead made = absurd (let wrong : ⊥ = cc in wrong)
-side_places side (held.Function f ∷ hs) (m ∷ fs) lead made =
+side_places : (side : WorldSide) (hs : List HeldExtern) (fs : List Function) (ids : List ℕ) → Lead hs → AreMade hs fs → AreCounted hs ids → places_among (entries_on side hs fs ids) ≡ bare_places (held_on side hs)
+side_places side [] fs ids lead made count = refl
+side_places side (held.Function f ∷ hs) [] ids lead made count = absurd (let wrong : ⊥ = cc in wrong)
+side_places side (held.Function f ∷ hs) (m ∷ fs) ids lead made count =
     let rest : AreMade hs fs = cc in
-    entry_places (same_side side (role_side (function_behind f).role)) (function_item m) (held.Function f) (entries_on side hs fs) (held_on side hs) refl (side_places side hs fs (λ k l at. lead (suc k) l at) rest)
-side_places side (held.Link l ∷ hs) fs lead made =
+    entry_places (same_side side (role_side (function_behind f).role)) (function_item m) (held.Function f) (entries_on side hs fs ids) (held_on side hs) refl (side_places side hs fs ids (λ k l at. lead (suc k) l at) rest count)
+side_places side (held.Link l ∷ hs) fs ids lead made count =
     let at = lead zero l refl in
-    ap (λ (d : Led). places_among (put_link side (link_behind l) d (entries_on side hs fs))) at.1
-    ∙ entry_places (same_side side l.side) (link_item (link_behind l) at.0) (held.Link l) (entries_on side hs fs) (held_on side hs) (link_places l.name at.0 ∙ ap (λ (d : Led). option_map_or (λ (id : Id). []) l.name (led_places d)) (sym at.1)) (side_places side hs fs (λ k m there. lead (suc k) m there) made)
+    ap (λ (d : Led). places_among (put_link side (link_behind l) d (entries_on side hs fs ids))) at.1
+    ∙ entry_places (same_side side l.side) (link_item (link_behind l) at.0) (held.Link l) (entries_on side hs fs ids) (held_on side hs) (link_places l.name at.0 ∙ ap (λ (d : Led). option_map_or (λ (id : Id). []) l.name (led_places d)) (sym at.1)) (side_places side hs fs ids (λ k m there. lead (suc k) m there) made count)
+side_places side (held.Inline i ∷ hs) fs [] lead made count = absurd (counted_some i hs count)
+side_places side (held.Inline i ∷ hs) fs (id ∷ ids) lead made count =
+    entry_places (same_side side i.written.now.side) (inline_entry i.written.now i.name id) (held.Inline i) (entries_on side hs fs ids) (held_on side hs) refl (side_places side hs fs ids (λ k l at. lead (suc k) l at) made (counted_rest i hs id ids count))
 
 -- the keys of a side differ, where some stand in front whose names are these
-pub side_differ : (side : WorldSide) (front : List Entry) (names : List Name) (hs : List HeldExtern) (fs : List Function) → names_among front ≡ map text names → places_among front ≡ [] → Lead hs → AreMade hs fs → AllDiffer (map name_key (names ++ names_of_items (items_on side (externs_behind hs)))) → AllDiffer (bare_places (held_on side hs)) → AllDiffer (map key_of (front ++ entries_on side hs fs))
-side_differ side front names hs fs called bare lead made differ apart =
-    let es = entries_on side hs fs in
+pub side_differ : (side : WorldSide) (front : List Entry) (names : List Name) (hs : List HeldExtern) (fs : List Function) (ids : List ℕ) → names_among front ≡ map text names → places_among front ≡ [] → Lead hs → AreMade hs fs → AreCounted hs ids → AllDiffer (map name_key (names ++ names_of_items (items_on side (externs_behind hs)))) → AllDiffer (bare_places (held_on side hs)) → AllDiffer (map key_of (front ++ entries_on side hs fs ids))
+side_differ side front names hs fs ids called bare lead made count differ apart =
+    let es = entries_on side hs fs ids in
     let behind = names_of_items (items_on side (externs_behind hs)) in
     let split : map key_of (front ++ es) ≡ map key_of front ++ map key_of es = map-append key_of front es in
-    let texts : names_among (front ++ es) ≡ map text (names ++ behind) = ap (flat_map key_names) split ∙ flat_map-append key_names (map key_of front) (map key_of es) ∙ ap (λ (l : List (List ℕ)). l ++ names_among es) called ∙ ap (λ (l : List (List ℕ)). map text names ++ l) (side_names side hs fs lead made) ∙ sym (map-append text names behind) in
-    let places : places_among (front ++ es) ≡ bare_places (held_on side hs) = ap (flat_map key_places) split ∙ flat_map-append key_places (map key_of front) (map key_of es) ∙ ap (λ (l : List ℕ). l ++ places_among es) bare ∙ side_places side hs fs lead made in
+    let texts : names_among (front ++ es) ≡ map text (names ++ behind) = ap (flat_map key_names) split ∙ flat_map-append key_names (map key_of front) (map key_of es) ∙ ap (λ (l : List (List ℕ)). l ++ names_among es) called ∙ ap (λ (l : List (List ℕ)). map text names ++ l) (side_names side hs fs ids lead made count) ∙ sym (map-append text names behind) in
+    let places : places_among (front ++ es) ≡ bare_places (held_on side hs) = ap (flat_map key_places) split ∙ flat_map-append key_places (map key_of front) (map key_of es) ∙ ap (λ (l : List ℕ). l ++ places_among es) bare ∙ side_places side hs fs ids lead made count in
     keys_apart (map key_of (front ++ es)) (subst AllDiffer (sym texts) (texts_differ (names ++ behind) differ)) (subst AllDiffer (sym places) apart)
 
 -- the names of a scope as imports: their keys are names alone
@@ -169,6 +186,6 @@ names_of [] = ([], refl)
 names_of (id ∷ ids) = let rest = names_of ids in (Taken [] id ∷ rest.0, ap (λ l. id ∷ l) rest.1)
 
 -- the keys of both sides differ, where the names of a scope are imports
-pub sides_differ : (sides : WorldSides) (xs : List ScopeName) (types : Names) (ids : List Id) (hs : List HeldExtern) (fs : List Function) → ids ≡ map local_id xs → names_in types ≡ local_names xs → sides.imports ≡ type_imports xs types → sides.exports ≡ [] → Lead hs → AreMade hs fs → DifferOnSides ids (externs_behind hs) → ((s : WorldSide) → AllDiffer (bare_places (held_on s hs))) → (s : WorldSide) → AllDiffer (map key_of (entries_of s sides ++ entries_on s hs fs))
-sides_differ sides xs types ids hs fs are listed imports exports lead made differ apart Imported = side_differ Imported sides.imports (map name_of_id ids) hs fs (ap names_among imports ∙ type_names xs types listed ∙ ap (λ (l : List Id). map text (map name_of_id l)) (sym are)) (ap places_among imports ∙ type_places xs types) lead made (differ Imported) (apart Imported)
-sides_differ sides xs types ids hs fs are listed imports exports lead made differ apart Exported = side_differ Exported sides.exports [] hs fs (ap names_among exports) (ap places_among exports) lead made (differ Exported) (apart Exported)
+pub sides_differ : (sides : WorldSides) (xs : List ScopeName) (types : Names) (turn : List Id) (hs : List HeldExtern) (fs : List Function) (ids : List ℕ) → turn ≡ map local_id xs → names_in types ≡ local_names xs → sides.imports ≡ type_imports xs types → sides.exports ≡ [] → Lead hs → AreMade hs fs → AreCounted hs ids → DifferOnSides turn (externs_behind hs) → ((s : WorldSide) → AllDiffer (bare_places (held_on s hs))) → (s : WorldSide) → AllDiffer (map key_of (entries_of s sides ++ entries_on s hs fs ids))
+sides_differ sides xs types turn hs fs ids are listed imports exports lead made count differ apart Imported = side_differ Imported sides.imports (map name_of_id turn) hs fs ids (ap names_among imports ∙ type_names xs types listed ∙ ap (λ (l : List Id). map text (map name_of_id l)) (sym are)) (ap places_among imports ∙ type_places xs types) lead made count (differ Imported) (apart Imported)
+sides_differ sides xs types turn hs fs ids are listed imports exports lead made count differ apart Exported = side_differ Exported sides.exports [] hs fs ids (ap names_among exports) (ap places_among exports) lead made count (differ Exported) (apart Exported)

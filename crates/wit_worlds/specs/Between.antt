@@ -1,5 +1,5 @@
 -- What the resolver's functions tell one another: orders that were found, names that stand twice, and what was resolved so far.
-use Rattle.std.specs.Prelude.{◌≡◌, ℕ, true, List, [], ◌∷◌, ◌++◌, length, take}
+use Rattle.std.specs.Prelude.{◌≡◌, ℕ, ◌+◌, true, List, [], ◌∷◌, ◌++◌, length, map, take}
 use Rattle.wit_tree.specs.declared.tree.Id.{Id}
 use Rattle.wit_tree.specs.declared.tree.Include.{Include}
 use Rattle.wit_tree.specs.declared.tree.PackageFile.{PackageFile}
@@ -13,16 +13,19 @@ use Rattle.wit_model.specs.declared.world.WorldInclude.{WorldInclude}
 use Rattle.wit_model.specs.declared.world.WorldKey.{WorldKey}
 use Rattle.wit_model.specs.declared.world.WorldItem.{WorldItem}
 use Rattle.wit_syntax.specs.Address.{Address}
-use Rattle.wit_syntax.specs.Source.{path_id, leads, TopName, Item, is_world, item_notes, scope_names}
+use Rattle.wit_syntax.specs.Source.{address, path_id, leads, TopName, Item, is_world, item_notes, scope_names}
 use Rattle.wit_syntax.specs.Scope.{in_order, in_turn, worlds_of}
 use Rattle.wit_syntax.specs.Fault.{Fault, fault}
+use Rattle.wit_syntax.specs.Function.{name_types}
+use Rattle.wit_syntax.specs.Shape.{all_handles}
+use Rattle.std.specs.List.{flat_map}
 use Rattle.wit_syntax.specs.Notes.{Notes}
-use Rattle.wit_syntax.specs.Sides.{side_items}
+use Rattle.wit_syntax.specs.Sides.{inline_items, side_items}
 use Rattle.wit_arena.specs.Package.{IsWorld}
 use Rattle.wit_arena.specs.SideItems.{AreSideItems}
 use Rattle.wit_arena.specs.Whole.{type_imports, AreIncludes}
-use Rattle.wit_arena.specs.Resolving.{Names, cells, Required, IsWorldIndex, IsNoWorld}
-use Rattle.wit_arena.specs.Resolved.{interfaces_at, worlds_at, AddsScope, AddsBehind, AddsWorlds, IsNext, IsWrongWorld}
+use Rattle.wit_arena.specs.Resolving.{Names, env_of, cells, Required, AreEnded, IsWorldIndex, IsNoWorld}
+use Rattle.wit_arena.specs.Resolved.{interfaces_at, worlds_at, AddsScope, AddsSides, AddsWorlds, WorldArenas, front_worlds, IsNext, IsWrongWorld}
 use Rattle.wit_items.specs.Told.{AreOf}
 use Rattle.wit_worlds.specs.declared.world.WorldParts.{WorldParts}
 
@@ -40,19 +43,28 @@ pub record IsAddedWorld (ws ws' : List World) (id : Id) (n : Notes) (imported ex
   pub exports : added.exports ≡ exported
   pub includes : added.includes ≡ included
 
--- These are the parts of a world, which it adds to the arena of types and brings to that of worlds, where these are the interfaces, and at
--- first those at these addresses.
-pub record AreWorldParts (foreign others : List Address) (is : List Interface) (old new : List TypeDef) (ws : List World) (item : Item) (p : WorldParts) : Type 0 where
+-- the worlds, and the interfaces that are written in them, at these addresses
+abbrev pub arenas : List World → List Interface → List Address → WorldArenas
+arenas ws inside ss = record { worlds = ws; inside = inside; addresses = ss }
+
+-- These are the parts of a world, which it adds to the arena of types and brings to that of worlds, where these are the declared interfaces, and
+-- at first those at these addresses; the interfaces that are written in it stand behind those that were written before it.
+pub record AreWorldParts (foreign others : List Address) (is : List Interface) (old new : List TypeDef) (ws : List World) (inside now : List Interface) (ss : List Address) (item : Item) (p : WorldParts) : Type 0 where
   pub told : AreOf (item_notes item) p.notes
   pub types : Names
   pub middle : List TypeDef
   pub adds : AddsScope old middle (cells foreign is) (owner.World (length ws)) (scope_names item) types
+  pub own : List Required
+  pub ended : AreEnded (env_of types) middle (all_handles (flat_map name_types (in_turn (scope_names item) adds.order))) own
   pub functions : List Function
-  pub behind : AddsBehind middle new item adds.order types functions p.required.items
+  pub rest : List Required
+  pub requires : p.required.items ≡ own ++ rest
+  pub sides : AddsSides (cells foreign is) (length is) (address item) types middle new inside now functions rest (side_items item) (inline_items item)
+  pub grown : length now ≡ length inside + length (inline_items item)
   pub imported : List (WorldKey × WorldItem)
   pub imports : p.sides.imports ≡ type_imports (in_turn (scope_names item) adds.order) types ++ imported
-  pub are_imported : AreSideItems (interfaces_at foreign is) item.top Imported (side_items item) functions imported
-  pub are_exported : AreSideItems (interfaces_at foreign is) item.top Exported (side_items item) functions p.sides.exports
+  pub are_imported : AreSideItems (interfaces_at foreign is ++ (ss ++ map address (inline_items item))) item.top Imported (side_items item) functions (map address (inline_items item)) imported
+  pub are_exported : AreSideItems (interfaces_at foreign is ++ (ss ++ map address (inline_items item))) item.top Exported (side_items item) functions (map address (inline_items item)) p.sides.exports
   pub includes : AreIncludes (worlds_at others ws) item p.includes
 
 -- where these are the interfaces, their types were resolved, and these worlds stand in front: once the worlds among some of the items
@@ -63,9 +75,9 @@ pub record IsWrongWorldNow (files : List PackageFile) (foreign others : List Add
   pub next : IsNext items places count item
   pub sort : is_world item ≡ true
   pub mid : List TypeDef
-  pub before : List World
+  pub before : WorldArenas
   pub rs : List Required
-  pub added : AddsWorlds foreign others is middle mid front before rs (worlds_of (in_order items (take count places)))
+  pub added : AddsWorlds foreign others is middle mid (front_worlds front) before rs (worlds_of (in_order items (take count places)))
   pub worlds_by_name : Names
-  pub worlds_index : IsWorldIndex (worlds_at others before) worlds_by_name
-  pub wrong : IsWrongWorld files mid (cells foreign is) by_name worlds_by_name (owner.World (length before)) item f
+  pub worlds_index : IsWorldIndex (worlds_at others before.worlds) worlds_by_name
+  pub wrong : IsWrongWorld files mid (cells foreign is) (length is) before.inside by_name worlds_by_name (owner.World (length before.worlds)) item f

@@ -4,7 +4,7 @@ use Rattle.std.specs.List.{filter}
 use Rattle.wit_tree.specs.declared.tree.Id.{Id}
 use Rattle.wit_tree.specs.declared.tree.UsePath.{UsePath}
 use Rattle.wit_tree.specs.declared.tree.PackageFile.{PackageFile}
-use Rattle.wit_syntax.specs.Address.{Address, InterfaceNamed, WorldNamed, ForeignNamed}
+use Rattle.wit_syntax.specs.Address.{Address, InterfaceNamed, WorldNamed, InlineAt, ForeignNamed}
 use Rattle.wit_syntax.specs.Source.{Local, leads, path_scope, TopName, item_named, all_items}
 use Rattle.wit_syntax.specs.Foreign.{visited, is_foreign_world}
 use Rattle.wit_syntax.specs.Broken.{is_world_at}
@@ -28,6 +28,7 @@ interfaces_of_others names = map visited (filter (λ v. not (is_foreign_world v)
 abbrev pub interface_place : List Address → Names → Address → Option ℕ
 interface_place front by_name (InterfaceNamed name) = env_of by_name name
 interface_place front by_name (WorldNamed name) = None
+interface_place front by_name (InlineAt world side place) = None
 interface_place front by_name (ForeignNamed p name) = place_at front (ForeignNamed p name)
 
 -- the place of the interface that is held, if it is resolved

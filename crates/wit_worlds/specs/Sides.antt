@@ -1,5 +1,5 @@
 -- What a world has on its sides, while that is put there.
-use Rattle.std.specs.Prelude.{List, [], ◌∷◌, if◌then◌else◌}
+use Rattle.std.specs.Prelude.{ℕ, List, [], ◌∷◌, if◌then◌else◌}
 use Rattle.indexmap.specs.IndexMap.{insert_entry}
 use Rattle.wit_tree.specs.declared.tree.WorldSide.{WorldSide}
 use Rattle.wit_tree.specs.declared.tree.WorldSide.TheVariants.{Imported, Exported}
@@ -10,7 +10,7 @@ use Rattle.wit_model.specs.contracts.world.WorldKeyPartialEq.TheImpl.{eq-value a
 use Rattle.wit_syntax.specs.Crossing.{same_side}
 use Rattle.wit_syntax.specs.Sides.{Link, role_side}
 use Rattle.wit_arena.specs.Functions.{function_item}
-use Rattle.wit_arena.specs.SideItems.{link_item, put_on}
+use Rattle.wit_arena.specs.SideItems.{inline_entry, link_item, put_on}
 use Rattle.wit_rules.specs.Held.{function_behind}
 use Rattle.wit_externs.specs.Held.{link_behind}
 use Rattle.wit_externs.specs.declared.held.Led.{Led}
@@ -34,9 +34,12 @@ put_link side link (led.Interface place) xs = put_on side link.side (link_item l
 put_link side link led.World xs = xs
 put_link side link (led.Nothing id) xs = xs
 
--- the entries of a side, where these functions are those that were made of the written ones
-abbrev pub entries_on : WorldSide → List HeldExtern → List Function → List (WorldKey × WorldItem)
-entries_on side [] fs = []
-entries_on side (held.Function f ∷ hs) [] = entries_on side hs []
-entries_on side (held.Function f ∷ hs) (m ∷ fs) = put_on side (role_side (function_behind f).role) (function_item m) (entries_on side hs fs)
-entries_on side (held.Link l ∷ hs) fs = put_link side (link_behind l) l.led (entries_on side hs fs)
+-- the entries of a side, where these functions are those that were made of the written ones, and the interfaces that are written there stand
+-- at these places
+abbrev pub entries_on : WorldSide → List HeldExtern → List Function → List ℕ → List (WorldKey × WorldItem)
+entries_on side [] fs ids = []
+entries_on side (held.Function f ∷ hs) [] ids = entries_on side hs [] ids
+entries_on side (held.Function f ∷ hs) (m ∷ fs) ids = put_on side (role_side (function_behind f).role) (function_item m) (entries_on side hs fs ids)
+entries_on side (held.Link l ∷ hs) fs ids = put_link side (link_behind l) l.led (entries_on side hs fs ids)
+entries_on side (held.Inline i ∷ hs) fs [] = entries_on side hs fs []
+entries_on side (held.Inline i ∷ hs) fs (id ∷ ids) = put_on side i.written.now.side (inline_entry i.written.now i.name id) (entries_on side hs fs ids)

@@ -14,7 +14,7 @@ ghost use Rattle.wit_item_entries.specs.Held.{front_of};
 ghost use Rattle.wit_worlds.specs.Links.{AreLed, IsLed, interfaces_of_others, source_place};
 
 use std::alloc::{AllocError, Global};
-use wit_externs::held::{HeldExtern, HeldLink, Led};
+use wit_externs::held::{HeldExtern, HeldInline, HeldLink, Led};
 use wit_files::declaration::world_items;
 use wit_files::{FileNames, Target};
 use wit_item_entries::uses::Interfaces;
@@ -110,8 +110,7 @@ fn held_link<'f, 'a>(
     }
 }
 
-/// Adds what a world in the file at a place imports or exports, but for an interface that is written
-/// there.
+/// Adds what a world in the file at a place imports or exports.
 fn add_extern<'f, 'a>(
     written: &'f Extern<'a>,
     externs: &mut Vec<HeldExtern<'f, 'a>>,
@@ -127,7 +126,11 @@ fn add_extern<'f, 'a>(
     ensures led { OnOk result ((fs : List TheFile) (file : TheFile) → AreNamesAt fs files.now place file → AreLed fs (front_of interfaces.now.foreign.now) interfaces.now.by_name (top_names file) externs.old.items → AreLed fs (front_of interfaces.now.foreign.now) interfaces.now.by_name (top_names file) externs.new.items) }
 {
     match &written.kind {
-        ExternKind::Interface(_, _) => {}
+        ExternKind::Interface(name, items) => externs.push(HeldExtern::Inline(HeldInline {
+            written,
+            name: *name,
+            items,
+        }))?,
         ExternKind::Func(name, func) => externs.push(HeldExtern::Function(HeldFunction::Across(
             written.side,
             &written.docs,
@@ -182,21 +185,21 @@ fn world_externs<'f, 'a>(
 /// packages' items.
 pub(crate) fn declared_externs<'f, 'a>(
     alloc: Global,
-    declared: Declared<'f, 'a>,
+    declared: &Declared<'f, 'a>,
     files: &FileNames<'f, 'a>,
     entries: &[Entry],
     interfaces: &Interfaces<'_, '_, '_>,
     place: usize,
 ) -> Result<Vec<HeldExtern<'f, 'a>>, AllocError>
-    requires sort { is_declared_world (declared_behind declared) ≡ true }
-    requires item { HasItem files.now place (declared_behind declared) }
+    requires sort { is_declared_world (declared_behind declared.now) ≡ true }
+    requires item { HasItem files.now place (declared_behind declared.now) }
     requires entries { AreEntriesOf files.now entries.now }
     requires others { front_of interfaces.now.foreign.now ≡ interfaces_of_others files.now }
-    ensures behind { IfOk result (λ externs. externs_behind externs.items ≡ flat_map part_items (declared_parts (declared_behind declared.entry))) }
+    ensures behind { IfOk result (λ externs. externs_behind externs.items ≡ flat_map part_items (declared_parts (declared_behind declared.now))) }
     ensures led { IfOk result (λ externs. (fs : List TheFile) (file : TheFile) → AreNamesAt fs files.now place file → AreLed fs (front_of interfaces.now.foreign.now) interfaces.now.by_name (top_names file) externs.items) }
 {
     match declared {
-        Declared::World(world) => world_externs(alloc, world, files, entries, interfaces, place),
-        Declared::Interface(_) => unreachable!(),
+        Declared::World(world) => world_externs(alloc, *world, files, entries, interfaces, place),
+        Declared::Interface(_) | Declared::Inline(_) => unreachable!(),
     }
 }

@@ -142,22 +142,22 @@ fn resolve_includes<'f, 'a>(
 /// The includes of a declared world.
 pub(crate) fn declared_includes<'f, 'a>(
     alloc: Global,
-    declared: Declared<'f, 'a>,
+    declared: &Declared<'f, 'a>,
     files: &FileNames<'f, 'a>,
     worlds: &Worlds<'_>,
     place: usize,
 ) -> ParseResult<Row<WorldInclude>>
-    requires sort { is_declared_world (declared_behind declared) ≡ true }
-    requires item { HasItem files.now place (declared_behind declared) }
+    requires sort { is_declared_world (declared_behind declared.now) ≡ true }
+    requires item { HasItem files.now place (declared_behind declared.now) }
     requires entries { AreEntriesOf files.now worlds.now.entries.now }
     requires front { length (others_of files.now) ≤ length worlds.now.arena }
     requires index { IsWorldIndex (worlds_at (others_of files.now) worlds.now.arena) worlds.now.by_name }
-    ensures are { IfOk result (λ includes. (fs : List TheFile) (file : TheFile) → AreNamesAt fs files.now place file → AreIncludes (worlds_at (others_of files.now) worlds.now.arena) (record { top = top_names file; declared = declared_behind declared.entry }) includes) }
-    ensures stable { OnOk result (AreStable (flat_map part_includes (declared_parts (declared_behind declared.entry)))) }
-    ensures refused { IfErr result (λ e. (fs : List TheFile) (file : TheFile) → AreNamesAt fs files.now place file → Refused (λ f. IsBrokenItemStability (record { top = top_names file; declared = declared_behind declared.entry }) f ⊎ IsLostInclude fs worlds.now.by_name (record { top = top_names file; declared = declared_behind declared.entry }) f) e) }
+    ensures are { IfOk result (λ includes. (fs : List TheFile) (file : TheFile) → AreNamesAt fs files.now place file → AreIncludes (worlds_at (others_of files.now) worlds.now.arena) (record { top = top_names file; declared = declared_behind declared.now }) includes) }
+    ensures stable { OnOk result (AreStable (flat_map part_includes (declared_parts (declared_behind declared.now)))) }
+    ensures refused { IfErr result (λ e. (fs : List TheFile) (file : TheFile) → AreNamesAt fs files.now place file → Refused (λ f. IsBrokenItemStability (record { top = top_names file; declared = declared_behind declared.now }) f ⊎ IsLostInclude fs worlds.now.by_name (record { top = top_names file; declared = declared_behind declared.now }) f) e) }
 {
     match declared {
-        Declared::World(world) => resolve_includes(alloc, world, files, worlds, place),
-        Declared::Interface(_) => unreachable!(),
+        Declared::World(world) => resolve_includes(alloc, *world, files, worlds, place),
+        Declared::Interface(_) | Declared::Inline(_) => unreachable!(),
     }
 }

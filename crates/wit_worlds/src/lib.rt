@@ -3,5 +3,7 @@
 
 mod externs;
 mod includes;
+mod inside;
 mod sides;
+mod standing;
 pub mod world;

@@ -1,5 +1,5 @@
-//! What a world has on its sides: the names of its scope as imports, and then functions, and
-//! interfaces by their paths.
+//! What a world has on its sides: the names of its scope as imports, and then functions, interfaces by
+//! their paths, and interfaces that are written there.
 ghost use Rattle.std.specs.Prelude.{◌≡◌, ◌<◌, ◌++◌, List, IfOk, OnOk, length, map};
 ghost use Rattle.std.specs.List.{flat_map};
 ghost use Rattle.indexmap.specs.IndexMap.{insert_entry};
@@ -9,10 +9,10 @@ ghost use Rattle.wit_model.specs.declared.world.WorldKey.TheVariants.{Name};
 ghost use Rattle.wit_model.specs.declared.world.WorldItem.TheVariants.{Type_ as TypeItem};
 ghost use Rattle.wit_model.specs.contracts.world.WorldKeyPartialEq.TheImpl.{eq-value as key_test};
 ghost use Rattle.wit_syntax.specs.Repeats.{AllDiffer};
-ghost use Rattle.wit_syntax.specs.Sides.{item_function};
+ghost use Rattle.wit_syntax.specs.Sides.{item_function, item_inline};
 ghost use Rattle.wit_syntax.specs.Source.{ScopeName, local_id};
 ghost use Rattle.wit_arena.specs.Functions.{function_item};
-ghost use Rattle.wit_arena.specs.SideItems.{link_item, link_key as the_link_key, link_span as the_link_span};
+ghost use Rattle.wit_arena.specs.SideItems.{inline_entry, link_item, link_key as the_link_key, link_span as the_link_span};
 ghost use Rattle.wit_arena.specs.Whole.{type_imports as the_imports};
 ghost use Rattle.wit_signatures.specs.Taken.{name_of_function, name_of_made};
 ghost use Rattle.wit_externs.specs.Clash.{DifferOnSides};
@@ -22,15 +22,16 @@ ghost use Rattle.wit_item_entries.specs.Between.{names_in};
 ghost use Rattle.wit_worlds.specs.Links.{AreWithin};
 ghost use Rattle.wit_worlds.specs.Sides.{entries_of, entries_on, inserted_on};
 
+use crate::standing::Standing;
 use std::alloc::{AllocError, Global};
-use wit_externs::held::{HeldExtern, HeldLink, Led};
+use wit_externs::held::{HeldExtern, HeldInline, HeldLink, Led};
 use wit_files::path_id;
 use wit_item_entries::uses::Interfaces;
 use wit_model::{Function, WorldItem, WorldKey};
 use wit_notes::{docs, told_notes};
 use wit_tree::Span;
 use wit_tree::tree::{Id, UsePath, WorldSide};
-use wit_types::{InterfaceId, TypeId};
+use wit_types::{Docs, InterfaceId, TypeId};
 use wit_values::{Table, Text, TextTable};
 
 /// Puts a type at a name of a world, as an import.
@@ -155,20 +156,45 @@ fn add_link(
     Ok(())
 }
 
+/// Puts an interface that is written in a world on its side, under its name, with what is told of it
+/// there. Its attributes were checked.
+fn add_inline(
+    alloc: Global,
+    inline: &HeldInline<'_, '_>,
+    sides: &mut WorldSides,
+    id: InterfaceId,
+) -> Result<(), AllocError>
+    ensures { OnOk result ((s : TheSide) → entries_of s sides.new ≡ inserted_on s inline.now.written.now.side (inline_entry inline.now.written.now inline.now.name id) (entries_of s sides.old)) }
+{
+    let told = told_notes(alloc, &inline.written.attributes)?;
+    let key = WorldKey::Name(Text::from_str(alloc, inline.name.name)?);
+    let item = WorldItem::Interface {
+        id,
+        stability: told.stability,
+        external_id: told.external_id,
+        docs: Docs::default(),
+        span: inline.name.span,
+    };
+    add_item(sides, inline.written.side, key, item)?;
+    Ok(())
+}
+
 /// Puts on the sides what is written, where its keys differ from one another and from those that are
-/// there; `functions` are its functions over their types.
+/// there; `standing` is what was made of it.
 fn add_externs(
     alloc: Global,
     externs: &[HeldExtern<'_, '_>],
     interfaces: &Interfaces<'_, '_, '_>,
     sides: &mut WorldSides,
-    functions: Vec<Function>,
+    standing: Standing,
 ) -> Result<(), AllocError>
     requires within { AreWithin (length interfaces.now.arena) externs.now }
-    requires differ { (s : TheSide) → AllDiffer (map (λ i. i.0) (entries_of s sides.old ++ entries_on s externs.now functions.items)) }
-    ensures { OnOk result ((s : TheSide) → entries_of s sides.new ≡ entries_of s sides.old ++ entries_on s externs.now functions.items) }
+    requires differ { (s : TheSide) → AllDiffer (map (λ i. i.0) (entries_of s sides.old ++ entries_on s externs.now standing.functions.items standing.inside.items)) }
+    ensures { OnOk result ((s : TheSide) → entries_of s sides.new ≡ entries_of s sides.old ++ entries_on s externs.now standing.functions.items standing.inside.items) }
 {
+    let Standing { functions, inside } = standing;
     let mut made = functions.into_iter();
+    let mut ids = inside.into_iter();
     for held in externs {
         match held {
             HeldExtern::Function(written) => {
@@ -181,35 +207,41 @@ fn add_externs(
                     add_link(alloc, link, interfaces, sides, place)?;
                 }
             }
+            HeldExtern::Inline(inline) => {
+                if let Some(id) = ids.next() {
+                    add_inline(alloc, inline, sides, id)?;
+                }
+            }
         }
     }
     Ok(())
 }
 
 /// What a world imports, the names of its scope and then what is written, and what it exports;
-/// `functions` are its functions over their types.
+/// `standing` is what was made of that.
 pub(crate) fn world_sides(
     alloc: Global,
     turn: &[Id<'_>],
     types: &TextTable<TypeId>,
     externs: &[HeldExtern<'_, '_>],
     interfaces: &Interfaces<'_, '_, '_>,
-    functions: Vec<Function>,
+    standing: Standing,
 ) -> Result<WorldSides, AllocError>
     requires distinct { AllDiffer (map (λ id. id.name.now) turn.now) }
     requires listed { names_in types.now ≡ map (λ id. id.name.now) turn.now }
-    requires named { map name_of_made functions.items ≡ map name_of_function (flat_map item_function (externs_behind externs.now)) }
+    requires named { map name_of_made standing.functions.items ≡ map name_of_function (flat_map item_function (externs_behind externs.now)) }
+    requires counted { length standing.inside.items ≡ length (flat_map item_inline (externs_behind externs.now)) }
     requires differ { DifferOnSides turn.now (externs_behind externs.now) }
     requires right { AreRightLinks externs.now }
     requires within { AreWithin (length interfaces.now.arena) externs.now }
     requires apart { (s : TheSide) → AllDiffer (bare_places (held_on s externs.now)) }
-    ensures imports { IfOk result (λ sides. (xs : List ScopeName) → turn.now ≡ map local_id xs → sides.imports ≡ the_imports xs types.now ++ entries_on Imported externs.now functions.items) }
-    ensures exports { IfOk result (λ sides. sides.exports ≡ entries_on Exported externs.now functions.items) }
+    ensures imports { IfOk result (λ sides. (xs : List ScopeName) → turn.now ≡ map local_id xs → sides.imports ≡ the_imports xs types.now ++ entries_on Imported externs.now standing.functions.items standing.inside.items) }
+    ensures exports { IfOk result (λ sides. sides.exports ≡ entries_on Exported externs.now standing.functions.items standing.inside.items) }
 {
     let mut sides = WorldSides {
         imports: type_imports(alloc, turn, types)?,
         exports: Table::new(alloc),
     };
-    add_externs(alloc, externs, interfaces, &mut sides, functions)?;
+    add_externs(alloc, externs, interfaces, &mut sides, standing)?;
     Ok(sides)
 }

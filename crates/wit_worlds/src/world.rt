@@ -1,42 +1,52 @@
 //! Declared worlds.
-ghost use Rattle.std.specs.Prelude.{◌≡◌, ◌<◌, ◌≤◌, List, All, Contains, Some, false, true, length, IfOk, IfErr, OnOk, map};
+ghost use Rattle.std.specs.Prelude.{◌≡◌, ◌<◌, ◌≤◌, ◌+◌, ◌++◌, ◌∷◌, [], List, All, Contains, Some, false, true, length, IfOk, IfErr, OnOk, map};
 ghost use Rattle.wit_tree.specs.declared.tree.PackageFile.{PackageFile as TheFile};
 ghost use Rattle.wit_tree.specs.Refusal.{IsWantOfMemory};
 ghost use Rattle.wit_syntax.specs.Address.{Address};
-ghost use Rattle.wit_syntax.specs.Source.{declared_id, is_world, leads, scope_names as the_names};
+ghost use Rattle.wit_syntax.specs.Source.{address, declared_attributes, is_world, item_notes as the_notes, leads, scope_names as the_names};
+ghost use Rattle.wit_syntax.specs.Function.{SourceFunction};
+ghost use Rattle.wit_syntax.specs.Notes.{IsBrokenStability};
 ghost use Rattle.wit_syntax.specs.Scope.{in_order, worlds_of};
 ghost use Rattle.wit_syntax.specs.Fault.{Fault};
-ghost use Rattle.wit_syntax.specs.Function.{functions as the_functions};
-ghost use Rattle.wit_syntax.specs.Sides.{Link, links, IsBrokenSides};
+ghost use Rattle.wit_syntax.specs.Sides.{Link, links, inline_items, with_inline};
 ghost use Rattle.wit_syntax.specs.Broken.{is_world_at, IsBrokenScope, Refused};
 ghost use Rattle.wit_types.specs.declared.types.TypeOwner.TheVariants.{World as WorldOwner};
 ghost use Rattle.wit_arena.specs.Resolving.{IsIndex, IsWorldIndex};
-ghost use Rattle.wit_arena.specs.Resolved.{worlds_at, AddsWorld, AddsWorlds, AreLegalSides, AreSoundScopes, AreUsableLinks, IsBrokenItemStability, HaveLegalStability, IsNameless, IsWrongWorld};
+ghost use Rattle.wit_arena.specs.Resolved.{worlds_at, AddsWorld, AddsWorlds, AreLegalSides, AreSoundScopes, AreUsableLinks, IsBrokenItemStability, HaveLegalStability, IsWrongWorld, front_worlds};
 ghost use Rattle.wit_items.specs.Items.{declared_behind, item_behind, names_behind, AreNamesAt, HasItem, IsNamedAt, AreFiled, HasFiles, AreEntriesOf, others_of};
 ghost use Rattle.wit_items.specs.Front.{AreItemsPlaced};
-ghost use Rattle.wit_items.specs.Told.{notes_behind};
+ghost use Rattle.wit_items.specs.Inside.{inside_behind, names_written};
+ghost use Rattle.wit_items.specs.Told.{notes_behind, AreOf};
+ghost use Rattle.wit_scopes.specs.Between.{IsOfFunctions};
 ghost use Rattle.wit_scopes.specs.Front.{AreNamesPlaced};
 ghost use Rattle.wit_item_entries.specs.Held.{front_of, cells_of};
-ghost use Rattle.wit_item_entries.specs.Between.{Emits};
-ghost use Rattle.wit_worlds.specs.Between.{AreWorldParts, IsAddedWorld, IsWrongWorldNow};
+ghost use Rattle.wit_item_entries.specs.Between.{AddsTurn, Emits};
+ghost use Rattle.wit_item_entries.specs.Body.{IsWrongBody};
+ghost use Rattle.std.specs.List.{flat_map};
+ghost use Rattle.wit_tree.specs.declared.tree.WorldSide.{WorldSide as TheSide};
+ghost use Rattle.wit_worlds.specs.Between.{arenas, AreWorldParts, IsAddedWorld, IsWrongWorldNow};
 ghost use Rattle.wit_worlds.specs.Links.{interfaces_of_others};
 
 use crate::externs::declared_externs;
 use crate::includes::declared_includes;
+use crate::inside::declared_name;
 use crate::sides::{WorldSides, world_sides};
+use crate::standing::resolve_standing;
 use std::alloc::Global;
 use wit_entries::entries::Entries;
 use wit_entries::scope::Required;
+use wit_externs::held::HeldExtern;
 use wit_files::FileNames;
-use wit_item_entries::body::{resolve_head, resolve_item_functions};
+use wit_item_entries::body::Head;
+use wit_item_entries::names::resolve_names;
 use wit_item_entries::required::add_required;
 use wit_item_entries::uses::Interfaces;
 use wit_items::items::{Declared, Item};
-use wit_items::notes::ItemNotes;
-use wit_model::{AstItem as Entry, World, WorldInclude};
+use wit_items::notes::{ItemNotes, item_notes};
+use wit_model::{AstItem as Entry, Interface, World, WorldInclude};
 use wit_tree::ParseResult;
 use wit_tree::tree::Id;
-use wit_types::{Arena, TypeOwner, WorldId, WorldPlace};
+use wit_types::{Arena, InterfacePlace, TypeOwner, WorldId, WorldPlace};
 use wit_values::{Row, Text, TextTable};
 
 /// The worlds that are resolved, and the places of the declared ones by their names.
@@ -88,14 +98,27 @@ fn add_world(
     Ok(())
 }
 
-/// The name of a declared item.
-fn declared_name<'a>(declared: Declared<'_, 'a>) -> Id<'a>
-    ensures { result ≡ declared_id (declared_behind declared.entry) }
+/// What is told of a world, and its names.
+fn world_head<'a>(
+    alloc: Global,
+    item: &Item<'_, 'a>,
+    types: &mut Entries,
+    interfaces: &Interfaces<'_, '_, '_>,
+    owner: TypeOwner,
+) -> ParseResult<Head<'a>>
+    requires named { names_behind item.now ≡ the_names (item_behind item.now) }
+    requires placed { AreNamesPlaced (front_of interfaces.now.foreign.now) item.now.names.items }
+    requires front { length interfaces.now.foreign.now ≤ length interfaces.now.arena }
+    requires index { IsIndex (cells_of interfaces.now) interfaces.now.by_name }
+    ensures told { IfOk result (λ head. AreOf (the_notes (item_behind item.now)) head.notes) }
+    ensures stable { OnOk result ((f : Fault) → IsBrokenStability (declared_attributes (item_behind item.now).declared) f → ⊥) }
+    ensures adds { IfOk result (λ head. AddsTurn types.old types.new (cells_of interfaces.now) owner (the_names (item_behind item.now)) head.names.types head.names.turn.items head.names.required.items) }
+    ensures legal { OnOk result ((fns : List SourceFunction) (f : Fault) → IsBrokenScope (the_names (item_behind item.now)) fns f → IsOfFunctions (the_names (item_behind item.now)) fns f) }
+    ensures refused { IfErr result (Refused (IsWrongBody types.old (cells_of interfaces.now) interfaces.now.by_name owner (item_behind item.now))) }
 {
-    match declared {
-        Declared::Interface(interface) => interface.name,
-        Declared::World(world) => world.name,
-    }
+    let notes = item_notes(alloc, item.declared)?;
+    let names = resolve_names(alloc, types, interfaces, owner, &item.names)?;
+    Ok(Head { notes, names })
 }
 
 /// What a world has, behind its names, and what is in them: its includes, the functions of its
@@ -106,6 +129,7 @@ fn world_parts<'f, 'a>(
     types: &mut Entries,
     files: &FileNames<'f, 'a>,
     interfaces: &Interfaces<'_, '_, '_>,
+    inside: &mut Arena<Interface, InterfacePlace>,
     worlds: &Worlds<'_>,
 ) -> ParseResult<WorldParts>
     requires sort { is_world (item_behind item.now) ≡ true }
@@ -113,40 +137,36 @@ fn world_parts<'f, 'a>(
     requires file { IsNamedAt files.now item.now.place item.now.file.now }
     requires named { names_behind item.now ≡ the_names (item_behind item.now) }
     requires placed { AreNamesPlaced (front_of interfaces.now.foreign.now) item.now.names.items }
+    requires written { (side : TheSide) → inside_behind side item.now ≡ names_written side (item_behind item.now) }
+    requires placed_inside { AreItemsPlaced (front_of interfaces.now.foreign.now) (item.now ∷ []) }
     requires front { length interfaces.now.foreign.now ≤ length interfaces.now.arena }
     requires others { front_of interfaces.now.foreign.now ≡ interfaces_of_others files.now }
     requires index { IsIndex (cells_of interfaces.now) interfaces.now.by_name }
     requires entries { AreEntriesOf files.now worlds.now.entries.now }
     requires worlds_front { length (others_of files.now) ≤ length worlds.now.arena }
     requires worlds_index { IsWorldIndex (worlds_at (others_of files.now) worlds.now.arena) worlds.now.by_name }
-    ensures parts { IfOk result (AreWorldParts (front_of interfaces.now.foreign.now) (others_of files.now) interfaces.now.arena types.old types.new worlds.now.arena (item_behind item.now)) }
+    ensures parts { IfOk result (λ parts. (ss : List Address) → length ss ≡ length inside.old → AreWorldParts (front_of interfaces.now.foreign.now) (others_of files.now) interfaces.now.arena types.old types.new worlds.now.arena inside.old inside.new ss (item_behind item.now) parts) }
     ensures stable { OnOk result ((f : Fault) → IsBrokenItemStability (item_behind item.now) f → ⊥) }
-    ensures sound { OnOk result ((f : Fault) → IsBrokenScope (the_names (item_behind item.now)) (the_functions (item_behind item.now)) f → IsNameless (the_names (item_behind item.now)) (the_functions (item_behind item.now))) }
-    ensures sided { OnOk result ((f : Fault) → IsBrokenSides (item_behind item.now) f → ⊥) }
+    ensures sound { OnOk result (AreSoundScopes (with_inline (item_behind item.now))) }
+    ensures sided { OnOk result (AreLegalSides (with_inline (item_behind item.now))) }
     ensures linked { OnOk result ((fs : List TheFile) → AreNamesAt fs files.now item.now.place item.now.file.now → (link : Link) → Contains (links (item_behind item.now)) link → is_world_at fs (leads (item_behind item.now).top link.path) ≡ Some false) }
-    ensures refused { IfErr result (λ e. (fs : List TheFile) → AreNamesAt fs files.now item.now.place item.now.file.now → Refused (IsWrongWorld fs types.old (cells_of interfaces.now) interfaces.now.by_name worlds.now.by_name (WorldOwner (length worlds.now.arena)) (item_behind item.now)) e) }
+    ensures refused { IfErr result (λ e. (fs : List TheFile) → AreNamesAt fs files.now item.now.place item.now.file.now → Refused (IsWrongWorld fs types.old (cells_of interfaces.now) (length interfaces.now.arena) inside.old interfaces.now.by_name worlds.now.by_name (WorldOwner (length worlds.now.arena)) (item_behind item.now)) e) }
 {
     let owner = TypeOwner::World(worlds.arena.next_id());
-    let head = resolve_head(alloc, item, types, interfaces, owner)?;
+    let head = world_head(alloc, item, types, interfaces, owner)?;
     let mut names = head.names;
-    let includes = declared_includes(alloc, item.declared, files, worlds, item.place)?;
-    let externs = declared_externs(
+    let includes = declared_includes(alloc, &item.declared, files, worlds, item.place)?;
+    let mut externs = declared_externs(
         alloc,
-        item.declared,
+        &item.declared,
         files,
         worlds.entries,
         interfaces,
         item.place,
     )?;
-    let own = resolve_item_functions(alloc, &item.names, &externs, types, &mut names)?;
-    let sides = world_sides(
-        alloc,
-        &names.turn,
-        &names.types,
-        &externs,
-        interfaces,
-        own.functions,
-    )?;
+    let lent: &mut [HeldExtern<'_, '_>] = &mut externs;
+    let standing = resolve_standing(alloc, item, lent, types, &mut names, interfaces, inside)?;
+    let sides = world_sides(alloc, &names.turn, &names.types, lent, interfaces, standing)?;
     Ok(WorldParts {
         notes: head.notes,
         required: names.required,
@@ -163,13 +183,15 @@ fn resolve_world<'f, 'a>(
     required: &mut Vec<Required>,
     files: &FileNames<'f, 'a>,
     interfaces: &Interfaces<'_, '_, '_>,
+    inside: &mut Arena<Interface, InterfacePlace>,
     worlds: &mut Worlds<'_>,
 ) -> ParseResult<()>
     requires sort { is_world (item_behind item.now) ≡ true }
     requires item { HasItem files.now item.now.place (declared_behind item.now.declared) }
     requires file { IsNamedAt files.now item.now.place item.now.file.now }
     requires named { names_behind item.now ≡ the_names (item_behind item.now) }
-    requires placed { AreNamesPlaced (front_of interfaces.now.foreign.now) item.now.names.items }
+    requires written { (side : TheSide) → inside_behind side item.now ≡ names_written side (item_behind item.now) }
+    requires placed { AreItemsPlaced (front_of interfaces.now.foreign.now) (item.now ∷ []) }
     requires front { length interfaces.now.foreign.now ≤ length interfaces.now.arena }
     requires others { front_of interfaces.now.foreign.now ≡ interfaces_of_others files.now }
     requires index { IsIndex (cells_of interfaces.now) interfaces.now.by_name }
@@ -177,16 +199,17 @@ fn resolve_world<'f, 'a>(
     requires worlds_front { length (others_of files.now) ≤ length worlds.old.arena }
     requires worlds_index { IsWorldIndex (worlds_at (others_of files.now) worlds.old.arena) worlds.old.by_name }
     ensures entries { OnOk result (worlds.new.entries ≡ worlds.old.entries) }
-    ensures added { OnOk result (Emits required.old.items required.new.items (λ rs. AddsWorld (front_of interfaces.now.foreign.now) (others_of files.now) interfaces.now.arena types.old types.new worlds.old.arena worlds.new.arena rs (item_behind item.now))) }
+    ensures added { OnOk result ((ss : List Address) → length ss ≡ length inside.old → Emits required.old.items required.new.items (λ rs. AddsWorld (front_of interfaces.now.foreign.now) (others_of files.now) interfaces.now.arena types.old types.new (arenas worlds.old.arena inside.old ss) (arenas worlds.new.arena inside.new (ss ++ map address (inline_items (item_behind item.now)))) rs (item_behind item.now))) }
+    ensures grown { OnOk result (length inside.new ≡ length inside.old + length (inline_items (item_behind item.now))) }
     ensures index { OnOk result (IsWorldIndex (worlds_at (others_of files.now) worlds.new.arena) worlds.new.by_name) }
     ensures stable { OnOk result ((f : Fault) → IsBrokenItemStability (item_behind item.now) f → ⊥) }
-    ensures sound { OnOk result ((f : Fault) → IsBrokenScope (the_names (item_behind item.now)) (the_functions (item_behind item.now)) f → IsNameless (the_names (item_behind item.now)) (the_functions (item_behind item.now))) }
-    ensures sided { OnOk result ((f : Fault) → IsBrokenSides (item_behind item.now) f → ⊥) }
+    ensures sound { OnOk result (AreSoundScopes (with_inline (item_behind item.now))) }
+    ensures sided { OnOk result (AreLegalSides (with_inline (item_behind item.now))) }
     ensures linked { OnOk result ((fs : List TheFile) → AreNamesAt fs files.now item.now.place item.now.file.now → (link : Link) → Contains (links (item_behind item.now)) link → is_world_at fs (leads (item_behind item.now).top link.path) ≡ Some false) }
-    ensures refused { IfErr result (λ e. (fs : List TheFile) → AreNamesAt fs files.now item.now.place item.now.file.now → Refused (IsWrongWorld fs types.old (cells_of interfaces.now) interfaces.now.by_name worlds.old.by_name (WorldOwner (length worlds.old.arena)) (item_behind item.now)) e) }
+    ensures refused { IfErr result (λ e. (fs : List TheFile) → AreNamesAt fs files.now item.now.place item.now.file.now → Refused (IsWrongWorld fs types.old (cells_of interfaces.now) (length interfaces.now.arena) inside.old interfaces.now.by_name worlds.old.by_name (WorldOwner (length worlds.old.arena)) (item_behind item.now)) e) }
 {
-    let parts = world_parts(alloc, item, types, files, interfaces, worlds)?;
-    let name = declared_name(item.declared);
+    let parts = world_parts(alloc, item, types, files, interfaces, inside, worlds)?;
+    let name = declared_name(&item.declared);
     add_required(required, &parts.required)?;
     add_world(
         alloc,
@@ -199,19 +222,23 @@ fn resolve_world<'f, 'a>(
     Ok(())
 }
 
-/// Adds the worlds among items, in the order of their places, behind those of other packages.
+/// Adds the worlds among items, in the order of their places, behind those of other packages; the
+/// interfaces that are written in them are put `inside`, in the order in which they are met.
 pub fn resolve_worlds<'f, 'a>(
     alloc: Global,
     types: &mut Entries,
     required: &mut Vec<Required>,
     files: &FileNames<'f, 'a>,
     interfaces: &Interfaces<'_, '_, '_>,
+    inside: &mut Arena<Interface, InterfacePlace>,
     worlds: &mut Worlds<'_>,
     items: &[Item<'f, 'a>],
 ) -> ParseResult<()>
     requires within { All (λ place. place < length items.now) files.now.order.items }
     requires filed { HasFiles files.now items.now }
     requires named { map names_behind items.now ≡ map the_names (map item_behind items.now) }
+    requires written { (side : TheSide) → map (inside_behind side) items.now ≡ map (names_written side) (map item_behind items.now) }
+    requires bare { inside.old ≡ [] }
     requires placed { AreItemsPlaced (front_of interfaces.now.foreign.now) items.now }
     requires front { length interfaces.now.foreign.now ≤ length interfaces.now.arena }
     requires others { front_of interfaces.now.foreign.now ≡ interfaces_of_others files.now }
@@ -219,17 +246,23 @@ pub fn resolve_worlds<'f, 'a>(
     requires entries { AreEntriesOf files.now worlds.old.entries.now }
     requires worlds_front { length (others_of files.now) ≤ length worlds.old.arena }
     requires worlds_index { IsWorldIndex (worlds_at (others_of files.now) worlds.old.arena) worlds.old.by_name }
-    ensures added { OnOk result (Emits required.old.items required.new.items (λ rs. AddsWorlds (front_of interfaces.now.foreign.now) (others_of files.now) interfaces.now.arena types.old types.new worlds.old.arena worlds.new.arena rs (worlds_of (in_order (map item_behind items.now) files.now.order.items)))) }
+    ensures added { OnOk result (Emits required.old.items required.new.items (λ rs. (ss : List Address) × AddsWorlds (front_of interfaces.now.foreign.now) (others_of files.now) interfaces.now.arena types.old types.new (front_worlds worlds.old.arena) (arenas worlds.new.arena inside.new ss) rs (worlds_of (in_order (map item_behind items.now) files.now.order.items)))) }
     ensures stable { OnOk result (HaveLegalStability (worlds_of (in_order (map item_behind items.now) files.now.order.items))) }
-    ensures sound { OnOk result (AreSoundScopes (worlds_of (in_order (map item_behind items.now) files.now.order.items))) }
-    ensures sided { OnOk result (AreLegalSides (worlds_of (in_order (map item_behind items.now) files.now.order.items))) }
+    ensures sound { OnOk result (AreSoundScopes (flat_map with_inline (worlds_of (in_order (map item_behind items.now) files.now.order.items)))) }
+    ensures sided { OnOk result (AreLegalSides (flat_map with_inline (worlds_of (in_order (map item_behind items.now) files.now.order.items)))) }
     ensures linked { OnOk result ((fs : List TheFile) → AreFiled fs files.now items.now → AreUsableLinks fs (worlds_of (in_order (map item_behind items.now) files.now.order.items))) }
     ensures refused { IfErr result (λ e. (fs : List TheFile) → AreFiled fs files.now items.now → Refused (IsWrongWorldNow fs (front_of interfaces.now.foreign.now) (others_of files.now) types.old interfaces.now.arena interfaces.now.by_name worlds.old.arena (map item_behind items.now) files.now.order.items) e) }
 {
     for place in files.item_order() {
         let item = &items[*place];
-        if let Declared::World(_) = item.declared {
-            resolve_world(alloc, item, types, required, files, interfaces, worlds)?;
+        match item.declared {
+            Declared::World(_) => {
+                resolve_world(
+                    alloc, item, types, required, files, interfaces, inside, worlds,
+                )?;
+            }
+            Declared::Interface(_) => {}
+            Declared::Inline(_) => {}
         }
     }
     Ok(())

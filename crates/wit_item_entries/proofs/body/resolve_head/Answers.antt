@@ -1,10 +1,8 @@
-use Rattle.std.proofs.Common.{◌≡◌, map, ap, ◌∙◌}
 use Rattle.std.proofs.lemmas.Result.{err_from_is_err_and}
 use Rattle.wit_syntax.specs.Notes.{IsBrokenStability}
 use Rattle.wit_syntax.specs.Source.{declared_attributes, scope_names}
 use Rattle.wit_syntax.proofs.Refusing.{refused_weaker}
-use Rattle.wit_scopes.specs.Held.{name_behind}
-use Rattle.wit_items.specs.Items.{item_behind}
+use Rattle.wit_items.specs.Items.{scope_item}
 use Rattle.wit_item_entries.specs.Between.{IsWrongNames}
 use Rattle.wit_item_entries.specs.Body.{IsWrongBody, WrongNotes}
 use Rattle.wit_item_entries.specs.Held.{cells_of}
@@ -15,7 +13,7 @@ pub returns-in_err-notes-clause-refused : goal.returns-in_err-notes-clause-refus
 returns-in_err-notes-clause-refused c =
     let p = err_from_is_err_and c.from_residual.result c.from_residual.ensures.1 in
     let is = c.args.interfaces.now in
-    let item = item_behind c.args.item.now in
+    let item = scope_item c.args.item.now in
     rw (p.1, p.2) (refused_weaker (IsBrokenStability (declared_attributes item.declared)) (IsWrongBody c.args.types.now (cells_of is) is.by_name c.args.owner item) _ (λ f h. WrongNotes h) c.in_err-notes.ensures.refused)
 
 pub returns-in_err-names-clause-refused : goal.returns-in_err-names-clause-refused
@@ -23,16 +21,13 @@ returns-in_err-names-clause-refused c =
     let p = err_from_is_err_and c.from_residual-in_err-names.result c.from_residual-in_err-names.ensures.1 in
     let cs = cells_of c.args.interfaces.now in
     let by_name = c.args.interfaces.now.by_name in
-    let item = item_behind c.args.item.now in
-    let names : map name_behind c.deref.result.now ≡ scope_names item = ap (map name_behind) c.deref.ensures.value ∙ c.requires.named in
-    rw (p.1, p.2) (refused_weaker (IsWrongNames c.args.types.now cs by_name c.args.owner (scope_names item)) (IsWrongBody c.args.types.now cs by_name c.args.owner item) _ (wrong_names c.args.types.now cs by_name c.args.owner item) (rw names at c.in_err-names.ensures.refused))
+    let item = scope_item c.args.item.now in
+    rw (p.1, p.2) (refused_weaker (IsWrongNames c.args.types.now cs by_name c.args.owner (scope_names item)) (IsWrongBody c.args.types.now cs by_name c.args.owner item) _ (wrong_names c.args.types.now cs by_name c.args.owner item) (rw c.requires.named at c.in_err-names.ensures.refused))
 
 pub returns-clause-adds : goal.returns-clause-adds
 returns-clause-adds c =
-    let names : map name_behind c.deref.result.now ≡ scope_names (item_behind c.args.item.now) = ap (map name_behind) c.deref.ensures.value ∙ c.requires.named in
-    rw names at c.in_ok-names.ensures.adds
+    rw c.requires.named at c.in_ok-names.ensures.adds
 
 pub returns-clause-legal : goal.returns-clause-legal
 returns-clause-legal c = λ fns.
-    let names : map name_behind c.deref.result.now ≡ scope_names (item_behind c.args.item.now) = ap (map name_behind) c.deref.ensures.value ∙ c.requires.named in
-    rw names at (c.in_ok-names.ensures.legal fns)
+    rw c.requires.named at (c.in_ok-names.ensures.legal fns)

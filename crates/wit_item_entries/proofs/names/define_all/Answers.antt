@@ -12,6 +12,7 @@ use Rattle.wit_syntax.proofs.Refusing.{refused_weaker}
 use Rattle.wit_arena.proofs.Defining.{defines_none, defines_more}
 use Rattle.wit_arena.proofs.Scoping.{names_none, names_kept, names_more, legal_none, legal_more, noted_none, noted_more}
 use Rattle.wit_syntax.proofs.Found.{contains_at}
+use Rattle.wit_entries.proofs.Requiring.{grown_then}
 use Rattle.wit_scopes.specs.Held.{definition_behind}
 use Rattle.wit_scopes.specs.Between.{IsBrokenAmong}
 use Rattle.wit_item_entries.specs.Between.{names_in, IsWrongHandleIn}
@@ -29,6 +30,7 @@ loop-definition-init c = record {
   legal = legal_none;
   kept = λ xs h. h;
   has = names_none (env_of c.args.scope.now.names);
+  grown = record { more = []; is = sym (append-nil c.args.types.now) };
 }
 
 pub returns-in_err-define-clause-refused : goal.returns-in_err-define-clause-refused
@@ -79,4 +81,5 @@ loop-definition-preserved c =
       legal = rw more (legal_more (take i ds) d before.legal e.legal);
       kept = λ xs h. names_kept old new xs d.name.name.now (before.kept xs h) e.stored;
       has = rw more (names_more old new (take i ds) (Defined d) before.has e.stored);
+      grown = grown_then c.args.types.now c.loop-definition.types c.define.new.types before.grown e.grown;
     }

@@ -6,7 +6,7 @@ use Rattle.wit_syntax.specs.Shape.{all_handles}
 use Rattle.wit_syntax.specs.Function.{name_types}
 use Rattle.wit_arena.specs.Resolving.{Cell, env_of, Defines, AreLegalBodies, AreLegalNotes, HasNames}
 use Rattle.wit_syntax.specs.Scope.{local_names}
-use Rattle.wit_entries.specs.Requiring.{Requires}
+use Rattle.wit_entries.specs.Requiring.{IsGrown, Requires}
 use Rattle.wit_scopes.specs.Held.{definition_behind}
 use Rattle.wit_item_entries.specs.Between.{names_in}
 use Rattle.wit_item_entries.proofs.names.define_all.Given as goal
@@ -21,4 +21,5 @@ invariant-loop-definition l = record {
   legal : AreLegalBodies (take l.definition-index (map definition_behind l.definitions));
   kept : (xs : List ScopeName) → HasNames (env_of l.fn.scope.names) xs → HasNames (env_of l.scope.names) xs;
   has : HasNames (env_of l.scope.names) (take l.definition-index (map definition_behind l.definitions));
+  grown : IsGrown l.fn.types l.types;
 }

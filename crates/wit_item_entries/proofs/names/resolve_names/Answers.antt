@@ -13,6 +13,7 @@ use Rattle.wit_arena.specs.Resolving.{Required, env_of, Defines, IsWrongScope, W
 use Rattle.wit_syntax.proofs.Refusing.{refused_weaker}
 use Rattle.wit_arena.proofs.Defining.{defines_more}
 use Rattle.wit_entries.specs.Requiring.{Requires}
+use Rattle.wit_entries.proofs.Requiring.{grown_then}
 use Rattle.wit_scopes.specs.Held.{name_behind, use_behind}
 use Rattle.wit_item_entries.specs.Held.{cells_of}
 use Rattle.wit_item_entries.specs.Between.{names_in, DefinesTurn, IsWrongHandleTurn, IsWrongNames, WrongScopeNames, WrongHandleNames}
@@ -72,3 +73,6 @@ returns-clause-adds c =
       listed = turn.listed ∙ ap (λ l. l ++ local_names ds) listed ∙ sym (map-append local_name (used xs) ds);
       handled = subst (λ (before : List Required). Requires (env_of now) new (all_handles (flat_map name_types (used xs ++ ds))) before after.required.items) none (subst (λ (ts : List Written). Requires (env_of now) new (all_handles ts) scope.required.items after.required.items) (sym (types-in_turn xs all.order)) turn.handled);
     }
+
+pub returns-clause-grown : goal.returns-clause-grown
+returns-clause-grown c = grown_then c.args.types.now c.resolve_uses.new.types c.resolve_types.new.types c.in_ok-resolve_uses.ensures.grown c.in_ok-turn.ensures.grown

@@ -13,6 +13,7 @@ use Rattle.wit_syntax.proofs.Orders.{take_next}
 use Rattle.wit_arena.proofs.Defining.{defines_used, defines_more}
 use Rattle.wit_syntax.proofs.Refusing.{refused_weaker}
 use Rattle.wit_arena.proofs.Using.{listed_has, listed_more}
+use Rattle.wit_entries.proofs.Requiring.{grown_then}
 use Rattle.wit_scopes.specs.Held.{source_behind, use_behind}
 use Rattle.wit_item_entries.specs.Held.{cells_of}
 use Rattle.wit_scopes.proofs.UsedNames.{wrong_used}
@@ -58,6 +59,7 @@ loop-name-preserved c =
       owner = e.owner ∙ c.loop-name.invariant.owner;
       required = e.required ∙ c.loop-name.invariant.required;
       listed = rw more (listed_more (take i us) from attributes n c.loop-name.invariant.listed e.used);
+      grown = grown_then c.args.types.now c.loop-name.types c.resolve_use.new.types c.loop-name.invariant.grown e.grown;
     }
 
 pub returns-clause-has : goal.returns-clause-has

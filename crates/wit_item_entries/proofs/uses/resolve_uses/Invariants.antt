@@ -2,6 +2,7 @@ use Rattle.std.proofs.Common.{◌≡◌, map, take}
 use Rattle.wit_syntax.specs.Address.{Address}
 use Rattle.wit_arena.specs.Resolving.{Defines}
 use Rattle.wit_syntax.specs.Scope.{local_names}
+use Rattle.wit_entries.specs.Requiring.{IsGrown}
 use Rattle.wit_scopes.specs.Held.{use_behind}
 use Rattle.wit_item_entries.specs.Held.{cells_of}
 use Rattle.wit_item_entries.proofs.uses.resolve_uses.Given as goal
@@ -12,4 +13,5 @@ invariant-loop-name l = record {
   owner : l.scope.owner ≡ l.fn.scope.owner;
   required : l.scope.required ≡ l.fn.scope.required;
   listed : map (λ p. p.0) l.scope.names ≡ local_names (take l.name-index (map use_behind l.uses));
+  grown : IsGrown l.fn.types l.types;
 }

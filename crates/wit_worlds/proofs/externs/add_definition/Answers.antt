@@ -7,7 +7,7 @@ use Rattle.wit_syntax.specs.Sides.{SideItem, SideFunction}
 use Rattle.wit_externs.specs.Held.{extern_behind, externs_behind}
 use Rattle.wit_externs.specs.declared.held.HeldExtern.{HeldExtern}
 use Rattle.wit_externs.specs.declared.held.HeldExtern.TheVariants as held
-use Rattle.wit_worlds.proofs.Leading.{links_kept}
+use Rattle.wit_worlds.proofs.Leading.{links_kept, no_function}
 use Rattle.wit_worlds.proofs.externs.add_definition.Goals as goal
 
 -- one function of a resource more
@@ -32,5 +32,5 @@ loop-function-preserved c =
           ∙ map-append extern_behind old (_ ∷ [])
           ∙ ap (λ (l : List SideItem). l ++ SideFunction (resource_function id f) ∷ []) was.behind
           ∙ functions_more (externs_behind c.args.externs.now.items) id fs i f taken;
-      links = λ m among. was.links m (links_kept old _ m (subst (λ (l : List HeldExtern). Contains l (held.Link m)) c.in_ok-push.ensures.items among));
+      links = λ m among. was.links m (links_kept old _ m (no_function _) (subst (λ (l : List HeldExtern). Contains l (held.Link m)) c.in_ok-push.ensures.items among));
     }

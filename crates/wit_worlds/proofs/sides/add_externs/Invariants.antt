@@ -7,5 +7,6 @@ use Rattle.wit_worlds.proofs.sides.add_externs.Given as goal
 abbrev pub invariant-loop-held : goal.invariant-loop-held
 invariant-loop-held l = record {
   left : into_iter_len l.made ≡ length (into_iter_items l.made);
-  total : (s : WorldSide) → entries_of s l.sides ++ entries_on s (drop l.held-index l.externs) (into_iter_items l.made) ≡ entries_of s l.fn.sides ++ entries_on s l.externs l.fn.functions.items;
+  places : into_iter_len l.ids ≡ length (into_iter_items l.ids);
+  total : (s : WorldSide) → entries_of s l.sides ++ entries_on s (drop l.held-index l.externs) (into_iter_items l.made) (into_iter_items l.ids) ≡ entries_of s l.fn.sides ++ entries_on s l.externs l.fn.standing.functions.items l.fn.standing.inside.items;
 }

@@ -17,10 +17,10 @@ add_externs-requires-clause-differ c =
     let hs = c.args.externs.now in
     let own = names_of ids in
     let listed : names_in types ≡ local_names own.0 = c.requires.listed ∙ ap (map (λ (id : Id). id.name.now)) own.1 ∙ map_map (λ (id : Id). id.name.now) local_id own.0 in
-    sides_differ _ own.0 types ids hs c.args.functions.items own.1 listed (c.in_ok-type_imports.ensures own.0 own.1) c.new.ensures (right_lead hs c.requires.right) c.requires.named c.requires.differ c.requires.apart
+    sides_differ _ own.0 types ids hs c.args.standing.functions.items c.args.standing.inside.items own.1 listed (c.in_ok-type_imports.ensures own.0 own.1) c.new.ensures (right_lead hs c.requires.right) c.requires.named c.requires.counted c.requires.differ c.requires.apart
 
 pub returns-clause-imports : goal.returns-clause-imports
-returns-clause-imports c = λ xs are. c.in_ok-add_externs.ensures Imported ∙ ap (λ l. l ++ entries_on Imported c.args.externs.now c.args.functions.items) (c.in_ok-type_imports.ensures xs are)
+returns-clause-imports c = λ xs are. c.in_ok-add_externs.ensures Imported ∙ ap (λ l. l ++ entries_on Imported c.args.externs.now c.args.standing.functions.items c.args.standing.inside.items) (c.in_ok-type_imports.ensures xs are)
 
 pub returns-clause-exports : goal.returns-clause-exports
-returns-clause-exports c = c.in_ok-add_externs.ensures Exported ∙ ap (λ l. l ++ entries_on Exported c.args.externs.now c.args.functions.items) c.new.ensures
+returns-clause-exports c = c.in_ok-add_externs.ensures Exported ∙ ap (λ l. l ++ entries_on Exported c.args.externs.now c.args.standing.functions.items c.args.standing.inside.items) c.new.ensures

@@ -3,7 +3,7 @@ use Rattle.std.specs.List.{flat_map}
 use Rattle.wit_syntax.specs.Sides.{item_function}
 use Rattle.wit_rules.specs.Held.{function_behind}
 use Rattle.wit_externs.specs.Held.{externs_behind}
-use Rattle.wit_item_entries.proofs.functions.written_functions.Given as goal
+use Rattle.wit_worlds.proofs.standing.written_functions.Given as goal
 
 abbrev pub invariant-loop-held : goal.invariant-loop-held
-invariant-loop-held l = map function_behind l.functions.items ≡ flat_map item_function (externs_behind (take l.held-index l.externs))
+invariant-loop-held l = map function_behind l.functions.items ≡ flat_map item_function (take l.held-index (externs_behind l.externs))

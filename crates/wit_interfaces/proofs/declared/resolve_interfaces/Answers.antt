@@ -9,7 +9,7 @@ use Rattle.wit_syntax.specs.Address.{Address}
 use Rattle.wit_syntax.specs.Source.{Item, is_declared_world, is_world, scope_names}
 use Rattle.wit_syntax.specs.Scope.{in_order, interfaces_of}
 use Rattle.wit_arena.specs.Resolving.{Required, cells}
-use Rattle.wit_arena.specs.Resolved.{AddsInterface, IsWrongInterface}
+use Rattle.wit_arena.specs.Resolved.{AddsDeclared, IsWrongInterface}
 use Rattle.wit_types.specs.declared.types.TypeOwner.TheVariants.{Interface as OfInterface}
 use Rattle.wit_item_entries.specs.Held.{front_of}
 use Rattle.wit_item_entries.specs.Between.{Emits}
@@ -24,11 +24,11 @@ use Rattle.wit_item_entries.proofs.Telling.{interface_stable, sides_more, stabil
 use Rattle.wit_items.specs.declared.items.Declared.{Declared as HeldDeclared}
 use Rattle.wit_items.specs.Items.{declared_behind, item_behind, names_behind}
 use Rattle.wit_scopes.proofs.Declaring.{alike}
-use Rattle.wit_interfaces.proofs.interface.resolve_interfaces.Goals.{in-Interface+in_ok-resolve_interface, in_default}
-use Rattle.wit_interfaces.proofs.interface.resolve_interfaces.Goals as goal
+use Rattle.wit_interfaces.proofs.declared.resolve_interfaces.Goals.{in-Interface+in_ok-resolve_interface-in-Interface, in-World, in-Inline}
+use Rattle.wit_interfaces.proofs.declared.resolve_interfaces.Goals as goal
 
 -- the interfaces have one more
-grown : (foreign : List Address) (old new : List TypeDef) (is is' : List Interface) (rs : List Required) (w : Item) (n : ℕ) → AddsInterface foreign old new is is' rs w → n ≤ length is → n ≤ length is'
+grown : (foreign : List Address) (old new : List TypeDef) (is is' : List Interface) (rs : List Required) (w : Item) (n : ℕ) → AddsDeclared foreign old new is is' rs w → n ≤ length is → n ≤ length is'
 grown foreign old new is is' rs w n one enough = omega (arith, ap length one.last, length-append is (one.added ∷ []), enough)
 
 item_at : (items : List HeldItem) (places : List ℕ) (k : ℕ) (x : HeldItem) → All (λ (place : ℕ). place < length items) places → k < length places → x ≡ get_or items (get_or places k 0) x → slice_get items (get_or places k 0) ≡ Some x
@@ -60,8 +60,8 @@ resolve_interface-requires-clause-named c =
     let there : slice_get items p ≡ Some x = slice_get-get_or items p x within ∙ ap Some (sym c.index-items-place.is) in
     alike names_behind (λ i. scope_names (item_behind i)) items (c.requires.named ∙ map_map scope_names item_behind items) p x there
 
-pub returns-in_err-resolve_interface-clause-refused : goal.returns-in_err-resolve_interface-clause-refused
-returns-in_err-resolve_interface-clause-refused c =
+pub returns-in_err-resolve_interface-in-Interface-clause-refused : goal.returns-in_err-resolve_interface-in-Interface-clause-refused
+returns-in_err-resolve_interface-in-Interface-clause-refused c =
     let q = err_from_is_err_and c.from_residual.result c.from_residual.ensures.1 in
     let ws = map item_behind c.args.items.now in
     let places = c.args.places.now in
@@ -87,7 +87,7 @@ returns-in_err-resolve_interface-clause-refused c =
       by_name = now.by_name;
       index = c.loop-place.invariant.index;
       wrong = h;
-    }) (rw c.loop-place.invariant.foreign at c.in_err-resolve_interface.ensures.refused))
+    }) (rw c.loop-place.invariant.foreign at c.in_err-resolve_interface-in-Interface.ensures.refused))
 
 pub loop-place-preserved : goal.loop-place-preserved
 loop-place-preserved c =
@@ -104,28 +104,29 @@ loop-place-preserved c =
     let there : slice_get ws p ≡ Some w = read_map item_behind c.args.items.now p x within c.index-items-place.is in
     let before = c.loop-place.interfaces.arena in
     elim c.match-item.branch [
-      | in-Interface+in_ok-resolve_interface b ↦ (
+      | in-Interface+in_ok-resolve_interface-in-Interface b ↦ (
           let sort : not (is_world w) ≡ true = ap (λ (d : HeldDeclared). not (is_declared_world (declared_behind d))) b.in-Interface.is in
           let more : interfaces_of (in_order ws (take (i + 1) places)) ≡ front ++ w ∷ [] = kept_next (λ v. not (is_world v)) ws places i p w at there sort in
           let own : is_world w ≡ false = ap (λ (d : HeldDeclared). is_declared_world (declared_behind d)) b.in-Interface.is in
-          let e = b.in_ok-resolve_interface.ensures in
+          let e = b.in_ok-resolve_interface-in-Interface.ensures in
           let new = b.resolve_interface.new.interfaces.arena in
           let types = b.resolve_interface.new.types in
           let foreign = front_of c.args.interfaces.now.foreign.now in
           let required = b.resolve_interface.new.required.items in
-          let one : Emits c.loop-place.required.items required (λ rs. AddsInterface foreign c.loop-place.types types before new rs w) = rw was.foreign at e.added in
+          let one : Emits c.loop-place.required.items required (λ rs. AddsDeclared foreign c.loop-place.types types before new rs w) = rw was.foreign at e.added in
           let same = e.foreign ∙ was.foreign in
           rw (b.interfaces-is, b.types-is, b.required-is) (record {
             foreign = same;
             front = grown foreign c.loop-place.types types before new one.own w _ one.holds was.front;
-            added = rw more (emits_more (AddsInterface foreign) c.args.types.now c.loop-place.types types c.args.interfaces.now.arena before new c.args.required.now.items c.loop-place.required.items required front w was.added one);
+            added = rw more (emits_more (AddsDeclared foreign) c.args.types.now c.loop-place.types types c.args.interfaces.now.arena before new c.args.required.now.items c.loop-place.required.items required front w was.added one);
             index = rw same at e.index;
             sound = rw more (sounds_more front w was.sound e.sound);
             stable = rw more (stability_more front w was.stable (interface_stable w own e.stable));
             sided = rw more (sides_more front w was.sided e.sided);
           }))
-      | in_default b ↦ (
-          let sort : not (is_world w) ≡ false = ap (λ (d : HeldDeclared). not (is_declared_world (declared_behind d))) b.in_default.is in
+      | in-World b ↦ (
+          let sort : not (is_world w) ≡ false = ap (λ (d : HeldDeclared). not (is_declared_world (declared_behind d))) b.in-World.is in
           let past : interfaces_of (in_order ws (take (i + 1) places)) ≡ front = kept_past (λ v. not (is_world v)) ws places i p w at there sort in
           rw (b.interfaces-is, b.types-is, b.required-is) (record { foreign = was.foreign; front = was.front; added = rw past was.added; index = was.index; sound = rw past was.sound; stable = rw past was.stable; sided = rw past was.sided }))
+      | in-Inline b ↦ absurd (c.requires.outer.outer p w _ _ _ _ _ there (ap declared_behind b.in-Inline.is))
     ]

@@ -5,7 +5,7 @@ use Rattle.wit_arena.specs.Resolved.{AddsInterfaces, AreLegalSides, AreSoundScop
 use Rattle.wit_item_entries.specs.Held.{front_of}
 use Rattle.wit_items.specs.Items.{item_behind}
 use Rattle.wit_item_entries.specs.Between.{Emits}
-use Rattle.wit_interfaces.proofs.interface.resolve_interfaces.Given as goal
+use Rattle.wit_interfaces.proofs.declared.resolve_interfaces.Given as goal
 
 abbrev pub invariant-loop-place : goal.invariant-loop-place
 invariant-loop-place l = record {

@@ -1,0 +1,47 @@
+-- How many were met on the sides of a world: none at first, and no more than all.
+use Rattle.std.proofs.Common.{◌≡◌, ℕ, ◌<◌, ◌≤◌, Bool, true, false, cond, List, [], ◌∷◌, length, ap, arith}
+use Rattle.std.specs.List.{flat_map, filter}
+use Rattle.wit_tree.specs.declared.tree.WorldSide.{WorldSide}
+use Rattle.wit_tree.specs.declared.tree.WorldSide.TheVariants.{Imported, Exported}
+use Rattle.wit_syntax.specs.Crossing.{same_side}
+use Rattle.wit_syntax.specs.Sides.{SideItem, SideFunction, SideLink, SideInline, item_inline, item_side, items_on}
+use Rattle.wit_worlds.specs.declared.inside.Counts.{Counts}
+use Rattle.wit_worlds.specs.declared.inside.Met.{Met}
+use Rattle.wit_worlds.specs.Inside.{IsMet, counted, met_on}
+
+-- nothing was met at first
+pub met_none : (m : Met) → m.imports ≡ counted [] → m.exports ≡ counted [] → IsMet [] m
+met_none m imports exports = record { on = on }
+  where
+    on : (side : WorldSide) → met_on side m ≡ counted (items_on side [])
+    on Imported = imports
+    on Exported = exports
+
+-- on a side there are no more than on both, and no more that are written there
+kept_either : (b : Bool) (x : SideItem) (kept xs : List SideItem) → length kept ≤ length xs → length (cond b (x ∷ kept) kept) ≤ length (x ∷ xs)
+kept_either true x kept xs few = omega arith
+kept_either false x kept xs few = omega arith
+
+kept_count : (p : SideItem → Bool) (xs : List SideItem) → length (filter p xs) ≤ length xs
+kept_count p [] = omega arith
+kept_count p (x ∷ xs) = kept_either (p x) x (filter p xs) xs (kept_count p xs)
+
+inline_count : (xs : List SideItem) → length (flat_map item_inline xs) ≤ length xs
+inline_count [] = omega arith
+inline_count (SideFunction fn ∷ xs) = let rest = inline_count xs in omega arith
+inline_count (SideLink link ∷ xs) = let rest = inline_count xs in omega arith
+inline_count (SideInline x name items ∷ xs) = let rest = inline_count xs in omega arith
+
+pub met_room : (xs : List SideItem) (m : Met) (n : ℕ) → IsMet xs m → length xs < n → (side : WorldSide) → (met_on side m).all < n
+met_room xs m n met room side =
+    let is : (met_on side m).all ≡ length (items_on side xs) = ap (λ (c : Counts). c.all) (met.on side) in
+    let few : length (items_on side xs) ≤ length xs = kept_count (λ y. same_side side (item_side y)) xs in
+    omega arith
+
+pub met_room-inline : (xs : List SideItem) (m : Met) (n : ℕ) → IsMet xs m → length xs < n → (side : WorldSide) → (met_on side m).inline < n
+met_room-inline xs m n met room side =
+    let on = items_on side xs in
+    let is : (met_on side m).inline ≡ length (flat_map item_inline on) = ap (λ (c : Counts). c.inline) (met.on side) in
+    let few : length on ≤ length xs = kept_count (λ y. same_side side (item_side y)) xs in
+    let fewer : length (flat_map item_inline on) ≤ length on = inline_count on in
+    omega arith
