@@ -4,6 +4,7 @@ use Rattle.std.specs.Prelude.{map, if◌then◌else◌, not}
 use Rattle.std.specs.List.{filter}
 use Rattle.std.proofs.lemmas.List.{length-map, append-nil}
 use Rattle.wit_tree.specs.declared.tree.PackageFile.{PackageFile}
+use Rattle.wit_tree.specs.declared.tree.WorldSide.{WorldSide}
 use Rattle.wit_types.specs.declared.types.TypeDef.{TypeDef}
 use Rattle.wit_model.specs.declared.ast_item.AstItem.{AstItem}
 use Rattle.wit_model.specs.declared.ast_item.AstItem.TheVariants as entry
@@ -26,6 +27,7 @@ use Rattle.wit_front.specs.declared.foreign.ForeignArenas.{ForeignArenas}
 use Rattle.wit_items.specs.declared.items.Item.{Item as HeldItem}
 use Rattle.wit_item_entries.specs.Held.{front_of}
 use Rattle.wit_items.specs.Items.{others_of, names_behind}
+use Rattle.wit_items.specs.Inside.{inside_behind, names_written}
 use Rattle.wit_items.specs.Front.{AreItemsPlaced}
 use Rattle.wit_front.specs.Front.{addresses_among, IsTaken, HasTaken, IsFront}
 
@@ -74,8 +76,8 @@ module _ (files : List PackageFile) (vs : List Held) (types : List TypeDef) (a :
   }
 
   -- once all are taken, they are what stands in front
-  pub front_taken : (types' : List TypeDef) (a' : ForeignArenas) → map names_behind items ≡ map scope_names (all_items files) → ((fs : List PackageFile) → IsTaken (foreign_items fs) [] types a → AreItemsPlaced (addresses_among (foreign_items fs)) held → map names_behind held ≡ map scope_names (all_items fs) → IsFront fs types' a') → IsFront files types' a'
-  front_taken types' a' names taken = taken files (bare files vs types a all empty made) (subst (AreItemsPlaced (map visited (foreign_interfaces files))) (sym lent) placed) (ap (map names_behind) lent ∙ names)
+  pub front_taken : (types' : List TypeDef) (a' : ForeignArenas) → map names_behind items ≡ map scope_names (all_items files) → ((side : WorldSide) → map (inside_behind side) items ≡ map (names_written side) (all_items files)) → ((fs : List PackageFile) → IsTaken (foreign_items fs) [] types a → AreItemsPlaced (addresses_among (foreign_items fs)) held → map names_behind held ≡ map scope_names (all_items fs) → ((side : WorldSide) → map (inside_behind side) held ≡ map (names_written side) (all_items fs)) → IsFront fs types' a') → IsFront files types' a'
+  front_taken types' a' names inside taken = taken files (bare files vs types a all empty made) (subst (AreItemsPlaced (map visited (foreign_interfaces files))) (sym lent) placed) (ap (map names_behind) lent ∙ names) (λ side. ap (map (inside_behind side)) lent ∙ inside side)
 
 -- where what stands in front was made
 module _ (files : List PackageFile) (types : List TypeDef) (a : ForeignArenas) (front : IsFront files types a) (vs : List Held) (lent : vs ≡ a.visits.items) where

@@ -28,7 +28,7 @@ use Rattle.wit_arena.specs.SideItems.{AreSideItems}
 use Rattle.wit_arena.proofs.SideItems.{side_functions}
 use Rattle.wit_arena.specs.Meet.{Key, keys}
 use Rattle.wit_arena.specs.Package.{item_functions, keyed, interface_functions, world_functions, world_types, functions_of}
-use Rattle.wit_arena.specs.Whole.{Ordered, ordered_names, type_imports, AreInterfaces, AreWorlds, AreForeignInterfaces, AreForeignWorlds, IsPackage, interface_addresses, world_addresses}
+use Rattle.wit_arena.specs.Whole.{Ordered, OrderedWorld, ordered_names, addresses, all_inside, type_imports, AreInterfaces, AreWorlds, AreForeignInterfaces, AreForeignWorlds, IsPackage, interface_addresses, world_addresses}
 use Rattle.wit_syntax.proofs.Lists.{at_split, at_within, map_at}
 use Rattle.wit_arena.proofs.Placed.{function_from}
 use Rattle.wit_arena.proofs.MadeOn.{made_on_from}
@@ -86,8 +86,8 @@ imported : (xs : List ScopeName) (types : List (List ℕ × ℕ)) (rest : List (
 imported xs types rest = flat_map-append item_functions (type_imports xs types) rest ∙ ap (λ (l : List (List ℕ × Function)). l ++ flat_map item_functions rest) (type_imports_none xs types)
 
 -- what stands on a side of an item has the functions of the item there
-there : (interfaces : List Address) (side : WorldSide) (i : Item) (fs : List Function) (xs : List (WorldKey × WorldItem)) → AreSideItems interfaces i.top side (side_items i) fs xs → flat_map item_functions xs ≡ map by_name (made_on side (functions i) fs)
-there interfaces side i fs xs are = side_functions interfaces i.top side (side_items i) fs xs are ∙ ap (λ (fns : List SourceFunction). map by_name (made_on side fns fs)) (sym (functions_items i))
+there : (interfaces inside : List Address) (side : WorldSide) (i : Item) (fs : List Function) (xs : List (WorldKey × WorldItem)) → AreSideItems interfaces i.top side (side_items i) fs inside xs → flat_map item_functions xs ≡ map by_name (made_on side (functions i) fs)
+there interfaces inside side i fs xs are = side_functions interfaces i.top side (side_items i) fs inside xs are ∙ ap (λ (fns : List SourceFunction). map by_name (made_on side fns fs)) (sym (functions_items i))
 
 side_marked : (side : WorldSide) (ks : List Key) (s : Address) (i : Item) (fs : List Function) → AreFunctions ks s (functions i) fs → AreMarked (map by_name (made_on side (functions i) fs))
 side_marked side ks s i fs are place name f at =
@@ -105,16 +105,18 @@ own_interface ks os is are k i at =
     let has = are.functions k o.0 i o.1 at in
     subst AreMarked (sym has.2) (placed_marked ks (address o.0.item) o.0.item has.0 has.1)
 
-own_world : (ks : List Key) (interfaces worlds : List Address) (os : List Ordered) (ws : List World) → AreWorlds ks interfaces worlds os ws → (k : ℕ) (w : World) → slice_get ws k ≡ Some w → AreKeyed (world_functions w)
+own_world : (ks : List Key) (interfaces worlds : List Address) (os : List OrderedWorld) (ws : List World) → AreWorlds ks interfaces worlds os ws → (k : ℕ) (w : World) → slice_get ws k ≡ Some w → AreKeyed (world_functions w)
 own_world ks interfaces worlds os ws are k w at =
     let within = slice_get_within ws k w at in
     let count = are.count in
     let o = at_within os k (omega arith) in
-    let i = o.0.item in
+    let own = o.0.own in
+    let i = own.item in
+    let inside = addresses o.0.inside in
     let has = are.sides k o.0 w o.1 at in
     let fs = has.functions in
-    let ins : flat_map item_functions w.imports ≡ map by_name (made_on Imported (functions i) fs) = ap (flat_map item_functions) has.imports ∙ imported (ordered_names o.0) (world_types w) has.imported ∙ there interfaces Imported i fs has.imported has.are_imported in
-    let outs : flat_map item_functions w.exports ≡ map by_name (made_on Exported (functions i) fs) = there interfaces Exported i fs w.exports has.are_exported in
+    let ins : flat_map item_functions w.imports ≡ map by_name (made_on Imported (functions i) fs) = ap (flat_map item_functions) has.imports ∙ imported (ordered_names own) (world_types w) has.imported ∙ there interfaces inside Imported i fs has.imported has.are_imported in
+    let outs : flat_map item_functions w.exports ≡ map by_name (made_on Exported (functions i) fs) = there interfaces inside Exported i fs w.exports has.are_exported in
     both_keyed (map (keyed Imported) (flat_map item_functions w.imports)) (map (keyed Exported) (flat_map item_functions w.exports))
     (marked_keyed Imported (flat_map item_functions w.imports) (subst AreMarked (sym ins) (side_marked Imported ks (address i) i fs has.are)))
     (marked_keyed Exported (flat_map item_functions w.exports) (subst AreMarked (sym outs) (side_marked Exported ks (address i) i fs has.are)))
@@ -138,13 +140,13 @@ module _ (files : List PackageFile) (p : UnresolvedPackage) (is : IsPackage file
   interface_marked : (k : ℕ) (i : Interface) → slice_get p.interfaces k ≡ Some i → AreMarked i.functions
   interface_marked k i at = elim (at_split is.foreign_front is.own_interfaces k i (ap (λ (l : List Interface). slice_get l k) (sym is.interface_arena) ∙ at)) [
     | inl front ↦ foreign_interface files (keys is.met) (foreign_interfaces files) is.foreign_front is.are_foreign_interfaces k i front
-    | inr own ↦ own_interface (keys is.met) is.interfaces is.own_interfaces is.are_interfaces own.0 i own.2
+    | inr own ↦ own_interface (keys is.met) (is.interfaces ++ all_inside is.worlds) is.own_interfaces is.are_interfaces own.0 i own.2
   ]
 
   world_marked : (k : ℕ) (w : World) → slice_get p.worlds k ≡ Some w → AreKeyed (world_functions w)
   world_marked k w at = elim (at_split is.worlds_front is.own_worlds k w (ap (λ (l : List World). slice_get l k) (sym is.world_arena) ∙ at)) [
     | inl front ↦ foreign_world (foreign_worlds files) is.worlds_front is.are_foreign_worlds k w front
-    | inr own ↦ own_world (keys is.met) (interface_addresses files is.interfaces) (world_addresses files is.worlds) is.worlds is.own_worlds is.are_worlds own.0 w own.2
+    | inr own ↦ own_world (keys is.met) (interface_addresses files (is.interfaces ++ all_inside is.worlds)) (world_addresses files is.worlds) is.worlds is.own_worlds is.are_worlds own.0 w own.2
   ]
 
   -- what one of these has, if there is one

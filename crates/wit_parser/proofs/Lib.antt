@@ -4,4 +4,6 @@ mod Backward
 mod Fronting
 mod WrittenMarks
 mod FunctionMarks
-mod Crossings
+mod TypeIds
+mod SideIds
+mod Ids

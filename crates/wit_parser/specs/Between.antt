@@ -1,5 +1,6 @@
 -- What is said between the functions of the resolver: what stands in the arenas once the items of files were added.
 use Rattle.std.specs.Prelude.{◌≡◌, ℕ, List, ◌++◌, map, Contains}
+use Rattle.std.specs.List.{flat_map}
 use Rattle.wit_tree.specs.declared.tree.Use.{Use}
 use Rattle.wit_tree.specs.declared.tree.PackageFile.{PackageFile}
 use Rattle.wit_order.specs.Table.{IsOrder}
@@ -8,18 +9,19 @@ use Rattle.wit_model.specs.declared.interface.Interface.{Interface}
 use Rattle.wit_model.specs.declared.world.World.{World}
 use Rattle.wit_syntax.specs.Source.{Item, all_items}
 use Rattle.wit_syntax.specs.Scope.{in_order, item_rows, interfaces_of, worlds_of, uses as uses_of}
+use Rattle.wit_syntax.specs.Sides.{with_inline}
 use Rattle.wit_syntax.specs.Fault.{Fault}
 use Rattle.wit_syntax.specs.Notes.{IsBrokenNotes}
 use Rattle.wit_syntax.specs.Broken.{IsBrokenNames}
 use Rattle.wit_syntax.specs.Foreign.{visited, foreign_interfaces, foreign_worlds}
 use Rattle.wit_arena.specs.Resolving.{Required}
-use Rattle.wit_arena.specs.Resolved.{AddsForeign, AddsInterfaces, AddsWorlds, AreLegalSides, AreSoundScopes, AreUsableLinks, AreUsableUses, HaveLegalStability}
+use Rattle.wit_arena.specs.Resolved.{WorldArenas, front_worlds, AddsForeign, AddsInterfaces, AddsWorlds, AreLegalSides, AreSoundScopes, AreUsableLinks, AreUsableUses, HaveLegalStability}
 
 -- behind what stands in front, the items of files were added in the least dependency-first order of their table, all interfaces before all
--- worlds; no path of a `use`, of an import or of an export leads to nothing or to a world, no attributes of a `use`, of an item or of an include
--- break a rule, nothing is wrong on the sides of an item, no scope of theirs is broken by itself, but where a name in a signature means
--- nothing, and this is what their handles require
-pub record AddsFiles (files : List PackageFile) (es : List TypeDef) (is : List Interface) (ws : List World) (required : List Required) : Type 0 where
+-- worlds, and behind all interfaces those that are written in worlds; no path of a `use`, of an import or of an export leads to nothing or to a
+-- world, no attributes of a `use`, of an item or of an include break a rule, nothing is wrong on the sides of an item, no scope of theirs is
+-- broken by itself, but where a name in a signature means nothing, and this is what their handles require
+pub record AddsFiles (files : List PackageFile) (es : List TypeDef) (all : List Interface) (ws : List World) (required : List Required) : Type 0 where
   pub places : List ℕ
   pub order : IsOrder (item_rows files) places
   pub names : (f : Fault) → IsBrokenNames files f → ⊥
@@ -30,12 +32,16 @@ pub record AddsFiles (files : List PackageFile) (es : List TypeDef) (is : List I
   pub worlds_front : List World
   pub foreign : AddsForeign files first front worlds_front
   pub middle : List TypeDef
+  pub is : List Interface
+  pub arenas : WorldArenas
+  pub interface_arena : all ≡ is ++ arenas.inside
+  pub world_arena : ws ≡ arenas.worlds
   pub irs : List Required
   pub wrs : List Required
   pub requires : required ≡ irs ++ wrs
   pub interfaces : AddsInterfaces (map visited (foreign_interfaces files)) first middle front is irs (interfaces_of (in_order (all_items files) places))
-  pub worlds : AddsWorlds (map visited (foreign_interfaces files)) (map visited (foreign_worlds files)) is middle es worlds_front ws wrs (worlds_of (in_order (all_items files) places))
-  pub sided : AreLegalSides (in_order (all_items files) places)
+  pub worlds : AddsWorlds (map visited (foreign_interfaces files)) (map visited (foreign_worlds files)) is middle es (front_worlds worlds_front) arenas wrs (worlds_of (in_order (all_items files) places))
+  pub sided : AreLegalSides (flat_map with_inline (in_order (all_items files) places))
   pub linked : AreUsableLinks files (worlds_of (in_order (all_items files) places))
-  pub sound : AreSoundScopes (in_order (all_items files) places)
+  pub sound : AreSoundScopes (flat_map with_inline (in_order (all_items files) places))
   pub stable : HaveLegalStability (in_order (all_items files) places)

@@ -1,4 +1,4 @@
 pub mod Between
+pub mod Ids
 pub mod Marks
-pub mod Crossings
 pub mod Stray

@@ -5,7 +5,6 @@
 
 pub mod laws;
 pub mod resolver;
-mod unread;
 
 pub use resolver::Resolver;
 pub use wit_files::{FileNames, Found, Visit, Wanted, visits};

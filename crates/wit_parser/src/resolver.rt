@@ -16,14 +16,13 @@ ghost use Rattle.wit_tree.specs.declared.tree.PackageFile.{PackageFile as TheFil
 ghost use Rattle.wit_syntax.specs.Foreign.{foreign_packages};
 ghost use Rattle.wit_arena.specs.Whole.{dep, IsPackage, IsFaithful};
 
-use crate::unread::read_names;
 use std::alloc::{AllocError, Global};
 use wit_entries::entries::Entries;
 use wit_entries::scope::Required;
 use wit_files::FileNames;
 use wit_foreign::foreign_deps;
 use wit_front::foreign::ForeignArenas;
-use wit_interfaces::interface::resolve_interfaces;
+use wit_interfaces::declared::resolve_interfaces;
 use wit_item_entries::uses::Interfaces;
 use wit_items::header::{check_docs, have_docs, is_same, mismatch, package_docs};
 use wit_items::items::{Item, declared_items};
@@ -140,15 +139,18 @@ fn resolve_files<'f, 'a>(
         arena: worlds,
         by_name: TextTable::new(alloc),
     };
+    let mut inside = Arena::new(alloc);
     resolve_worlds(
         alloc,
         types,
         &mut required,
         names,
         &interfaces,
+        &mut inside,
         &mut worlds,
         lent,
     )?;
+    interfaces.arena.append(&mut inside)?;
     Ok(Resolved {
         interfaces: interfaces.arena,
         worlds: worlds.arena,
@@ -256,9 +258,9 @@ impl<'a> Resolver<'a> {
     /// world are imports. Behind them it has its functions, in source order, but that in an
     /// interface a setter that is written before its getter stands directly behind it.
     /// Among the functions on a side, in source order, a world has the interfaces that it imports or
-    /// exports there: each under the interface itself, or under the name that it has in the world. The
-    /// arena of types has what is met in the interfaces and then in the worlds, each once, in the order
-    /// of its first meeting. What the files hold in which order beyond that changes nothing.
+    /// exports there: each under the interface itself, or under the name that it has in the world. Those
+    /// that are written there stand behind all declared ones, as they are met. The arena of types has what
+    /// is met in the interfaces and then in the worlds, each once, in the order of its first meeting. What the files hold in which order beyond that changes nothing.
     ///
     /// # Errors
     ///
@@ -292,8 +294,6 @@ impl<'a> Resolver<'a> {
     /// - 43: a world imports, or exports, an interface twice by its path alone.
     /// - 44: an import or an export has the name of something that stands before it on its side.
     /// - 45: a growth was refused.
-    /// - 54: an interface is written where a world imports or exports it: that is read, but not treated
-    ///   yet.
     pub fn resolve(self, alloc: Global) -> ParseResult<UnresolvedPackage>
         ensures legal { OnOk result (IsLegal self.entry.files.items) }
         ensures package { IfOk result (IsPackage self.entry.files.items) }
@@ -307,7 +307,7 @@ impl<'a> Resolver<'a> {
         };
         let mut types = Entries::new(alloc);
         let files = self.pushed();
-        let names = read_names(alloc, files)?;
+        let names = FileNames::gather(alloc, files)?;
         let resolved = resolve_files(alloc, &mut types, &names, files)?;
         let foreign = foreign_items(
             alloc,

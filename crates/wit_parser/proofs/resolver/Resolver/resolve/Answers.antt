@@ -1,16 +1,15 @@
-use Rattle.std.proofs.Common.{◌≡◌, ◌⊎◌, List, map, Some, None, inl, inr, sym, ap, ◌∙◌}
+use Rattle.std.proofs.Common.{◌≡◌, List, map, Some, None, inl, inr, sym, ap, ◌∙◌}
 use Rattle.std.specs.Option.{option_copied, option_map}
 use Rattle.wit_values.specs.ReleaseText.{release_parts}
 use Rattle.wit_package_names.specs.declared.package_name.PackageName.{PackageName}
 use Rattle.wit_parser.proofs.Backward.{kind_below}
 use Rattle.wit_tree.specs.declared.tree.PackageFile.{PackageFile}
-use Rattle.wit_syntax.specs.Source.{Taking, all_items, first_takings}
+use Rattle.wit_syntax.specs.Source.{Taking, first_takings}
 use Rattle.wit_files.specs.FileNames.{AreNamesOf}
 use Rattle.wit_parser.specs.Between.{AddsFiles}
-use Rattle.wit_parser.specs.Crossings.{AreRead, IsUnreadAmong}
 use Rattle.std.proofs.lemmas.Result.{err_from_is_err_and}
 use Rattle.wit_syntax.specs.Fault.{fault}
-use Rattle.wit_syntax.specs.Broken.{IsBrokenNames, IsBroken, Headerless, Names, Unread, last_header}
+use Rattle.wit_syntax.specs.Broken.{IsBrokenNames, IsBroken, Headerless, Names, last_header}
 use Rattle.wit_syntax.proofs.Refusing.{refused_weaker}
 use Rattle.wit_syntax.proofs.Headers.{no_header, span_of_ends}
 use Rattle.wit_parser.proofs.Files.{files_legal, files_package, files_faithful}
@@ -31,8 +30,7 @@ returns-clause-legal c =
     let files : List PackageFile = c.args.self.files.items in
     let last : last_header files ≡ Some c.in-Some.header.now = sym c.last_header.ensures ∙ ap option_copied c.in-Some.is in
     let added : AddsFiles files c.resolve_files.new.types c.in_ok-resolved.resolved.interfaces c.in_ok-resolved.resolved.worlds c.in_ok-resolved.resolved.required.items = rw c.pushed-files.ensures at c.in_ok-resolved.ensures.added in
-    let read : AreRead (all_items files) = rw c.pushed-files.ensures at c.in_ok-names.ensures.read in
-    files_legal files _ _ _ _ added read.each c.in-Some.header.now last
+    files_legal files _ _ _ _ added c.in-Some.header.now last
 
 pub returns-clause-package : goal.returns-clause-package
 returns-clause-package c =
@@ -83,7 +81,7 @@ pub returns-in_err-names-clause-refused : goal.returns-in_err-names-clause-refus
 returns-in_err-names-clause-refused c =
     let p = err_from_is_err_and c.from_residual.result c.from_residual.ensures.1 in
     let files : List PackageFile = c.args.self.files.items in
-    rw (p.1, p.2) (refused_weaker (λ f. IsUnreadAmong (all_items files) f ⊎ IsBrokenNames files f) (IsBroken files) _ (λ f h. elim h [ inl unread ↦ Unread unread.i unread.among unread.unread | inr names ↦ Names names ]) (rw c.pushed-files.ensures at c.in_err-names.ensures.refused))
+    rw (p.1, p.2) (refused_weaker (IsBrokenNames files) (IsBroken files) _ (λ f h. Names h) (rw c.pushed-files.ensures at c.in_err-names.ensures.refused))
 
 pub resolve_files-requires-clause-legal : goal.resolve_files-requires-clause-legal
 resolve_files-requires-clause-legal c = c.in_ok-names.ensures.legal

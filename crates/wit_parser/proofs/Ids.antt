@@ -1,0 +1,213 @@
+-- The ids of a package are places of entries of its arenas.
+use Rattle.std.proofs.Common.{◌≡◌, ◌<◌, ◌≤◌, ℕ, ◌+◌, List, ◌++◌, length, map, take, Option, Some, None, refl, sym, ap, ◌∙◌, subst, arith, inl, inr, length-append}
+use Rattle.std.specs.Prelude.{slice_get}
+use Rattle.std.specs.List.{flat_map}
+use Rattle.std.specs.Option.{option_map, option_or, unwrap_or}
+use Rattle.std.proofs.lemmas.List.{length-map}
+use Rattle.std.proofs.lemmas.List.Quantifiers.{position-Some}
+use Rattle.std.proofs.lemmas.Option.{slice_get_within}
+use Rattle.wit_tree.specs.declared.tree.PackageFile.{PackageFile}
+use Rattle.wit_tree.specs.declared.tree.WorldSide.TheVariants.{Imported, Exported}
+use Rattle.wit_types.specs.declared.stability.Stability.{Stability}
+use Rattle.wit_types.specs.declared.types.TypeDef.{TypeDef}
+use Rattle.wit_types.specs.declared.types.TypeOwner.TheVariants as owner
+use Rattle.wit_package_names.specs.declared.package_name.PackageName.{PackageName}
+use Rattle.wit_model.specs.declared.ast_item.AstItem.{AstItem}
+use Rattle.wit_model.specs.declared.function.Function.{Function}
+use Rattle.wit_model.specs.declared.interface.Interface.{Interface}
+use Rattle.wit_model.specs.declared.world.World.{World}
+use Rattle.wit_model.specs.declared.world.WorldInclude.{WorldInclude}
+use Rattle.wit_model.specs.declared.unresolved.UnresolvedPackage.{UnresolvedPackage}
+use Rattle.wit_syntax.specs.Address.{Address, same_address, same_package}
+use Rattle.wit_syntax.specs.Foreign.{ForeignVisit, visited, visited_package, foreign_items, foreign_interfaces, foreign_worlds, foreign_packages, items_of_package}
+use Rattle.wit_syntax.specs.Function.{functions}
+use Rattle.wit_syntax.specs.Scope.{includes}
+use Rattle.wit_syntax.specs.Sides.{side_items}
+use Rattle.wit_syntax.specs.Source.{Item, address, included_scope, leads}
+use Rattle.wit_syntax.specs.Trees.{scope}
+use Rattle.wit_arena.specs.Kind.{kind_of}
+use Rattle.wit_arena.specs.Meet.{Key, Def, Whole, keys, decl_of, IsEntry, IsKeyed}
+use Rattle.wit_arena.specs.Package.{world_types}
+use Rattle.wit_arena.specs.Whole.{Ordered, OrderedWorld, turned, ordered_names, addresses, all_inside, all_turns, turn_handles, type_imports, place_at, owner_at, declarations, AreInterfaces, AreIncludes, AreWorlds, AreForeignInterfaces, AreForeignWorlds, IsPackage, interface_addresses, world_addresses, foreign_turned, foreign_entry, dep_item, dep}
+use Rattle.wit_syntax.proofs.Kept.{kept_at}
+use Rattle.wit_syntax.proofs.Lists.{at_split, at_within, map_at}
+use Rattle.wit_arena.proofs.Deps.{entry_of_interface, entry_of_world, item_sort}
+use Rattle.wit_arena.proofs.Placed.{function_from}
+use Rattle.wit_arena.proofs.Places.{all_at_untaken}
+use Rattle.wit_arena.proofs.Shape.{key_of}
+use Rattle.wit_parser.proofs.TypeIds.{parts_within, names_within, functions_within, required_within}
+use Rattle.wit_parser.proofs.SideIds.{none_within, both_within, type_imports_within, side_within}
+use Rattle.wit_parser.specs.Ids.{IsOwnerWithin, IsTypeWithin, AreItemsWithin, IsInterfaceWithin, IsWorldWithin, IsForeignWithin, AreIdsWithin}
+
+-- what is found among addresses stands among them
+place_within : (ss : List Address) (s : Address) (k : ℕ) → place_at ss s ≡ Some k → k < length ss
+place_within ss s k at = (position-Some (λ (a : Address). same_address a s) ss k s at).0
+
+-- where the interfaces and the worlds of the package have these addresses
+module _ (p : UnresolvedPackage) (ks : List Key) (types : length p.types ≡ length ks) (is ws : List Address) (interfaces : length p.interfaces ≡ length is) (worlds : length p.worlds ≡ length ws) where
+  -- an owner is the place of one
+  owner_of_places : (a b : Option ℕ) → ((k : ℕ) → a ≡ Some k → k < length p.interfaces) → ((k : ℕ) → b ≡ Some k → k < length p.worlds) → IsOwnerWithin p (unwrap_or (option_or (option_map owner.Interface a) (option_map owner.World b)) owner.None)
+  owner_of_places (Some i) b first second = first i refl
+  owner_of_places None (Some w) first second = second w refl
+  owner_of_places None None first second = tt
+
+  owner_within : (s : Address) → IsOwnerWithin p (owner_at is ws s)
+  owner_within s = owner_of_places (place_at is s) (place_at ws s) (λ k at. let within = place_within is s k at in omega (arith, within, interfaces)) (λ k at. let within = place_within ws s k at in omega (arith, within, worlds))
+
+  -- an entry of the arena of types
+  entry_within : (files : List PackageFile) (i : ℕ) (k : Key) (e : TypeDef) → IsEntry (declarations files is ws) (take i ks) k e → IsTypeWithin p e
+  entry_within files i (Def s name) e it =
+      let x = map_at (decl_of (owner_at is ws s) s) (scope files s) it.among.0 it.decl it.among.1 in
+      record {
+        parts = parts_within p ks types it.decl.parts (kind_of e.kind).parts (all_at_untaken i ks it.decl.parts (kind_of e.kind).parts it.parts);
+        owner = subst (IsOwnerWithin p) (ap (λ d. d.owner) x.2 ∙ sym it.owner) (owner_within s);
+      }
+  entry_within files i (Whole form parts) e it = record {
+    parts = parts_within p ks types parts (kind_of e.kind).parts (all_at_untaken i ks parts (kind_of e.kind).parts it.parts);
+    owner = subst (IsOwnerWithin p) (sym it.owner) tt;
+  }
+
+  entries_within : (files : List PackageFile) → IsKeyed (declarations files is ws) ks p.types → (i : ℕ) (e : TypeDef) → slice_get p.types i ≡ Some e → IsTypeWithin p e
+  entries_within files keyed i e at = let k = key_of (declarations files is ws) ks p.types keyed i e at in entry_within files i k.0 e (keyed.each i k.0 e k.1 at)
+
+  -- the interfaces of the package, and those of other packages
+  own_interface : (os : List Ordered) (own : List Interface) → AreInterfaces ks os own → (k : ℕ) (i : Interface) → slice_get own k ≡ Some i → IsInterfaceWithin p i
+  own_interface os own are k i at =
+      let within = slice_get_within own k i at in
+      let count = are.count in
+      let o = at_within os k (omega arith) in
+      let says = are.says k o.0 i o.1 at in
+      let has = are.functions k o.0 i o.1 at in
+      record {
+        types = names_within p ks types (turned o.0) i.types (are.types k o.0 i o.1 at);
+        functions = λ j name f there. (
+            let it = function_from has.0 j name f (ap (λ (l : List (List ℕ × Function)). slice_get l j) (sym has.2) ∙ there) in
+            functions_within p ks types (address o.0.item) (functions o.0.item) has.0 has.1 it.0 f it.1);
+        no_package = says.no_package;
+        no_source = says.no_source;
+      }
+
+  foreign_interface : (files : List PackageFile) (vs : List ForeignVisit) (front : List Interface) → AreForeignInterfaces files ks vs front → (k : ℕ) (i : Interface) → slice_get front k ≡ Some i → IsInterfaceWithin p i
+  foreign_interface files vs front are k i at =
+      let within = slice_get_within front k i at in
+      let count = are.count in
+      let v = at_within vs k (omega arith) in
+      let says = are.says k v.0 i v.1 at in
+      record {
+        types = names_within p ks types (foreign_turned files v.0) i.types (are.types k v.0 i v.1 at);
+        functions = λ j name f there. absurd (let none = says.functions in let f : ⊥ = cc in f);
+        no_package = says.no_package;
+        no_source = says.no_source;
+      }
+
+  -- the includes of a world
+  include_within : (item : Item) (xs : List WorldInclude) → AreIncludes ws item xs → (k : ℕ) (i : WorldInclude) → slice_get xs k ≡ Some i → i.id < length p.worlds
+  include_within item xs are k i at =
+      let within = slice_get_within xs k i at in
+      let count = are.count in
+      let written = at_within (includes item) k (omega arith) in
+      let is_one = are.each k written.0 i written.1 at in
+      let placed = slice_get_within ws i.id (included_scope (leads item.top written.0.from)) is_one.place in
+      omega (arith, placed, worlds)
+
+  -- the worlds of the package, and those of other packages
+  own_world : (os : List OrderedWorld) (own : List World) → AreWorlds ks is ws os own → (k : ℕ) (w : World) → slice_get own k ≡ Some w → IsWorldWithin p w
+  own_world os own are k w at =
+      let within = slice_get_within own k w at in
+      let count = are.count in
+      let o = at_within os k (omega arith) in
+      let item = o.0.own.item in
+      let has = are.sides k o.0 w o.1 at in
+      let each = functions_within p ks types (address item) (functions item) has.functions has.are in
+      let names = names_within p ks types (turned o.0.own) (world_types w) (are.types k o.0 w o.1 at) in
+      record {
+        imports = subst (AreItemsWithin p) (sym has.imports) (both_within p (type_imports (ordered_names o.0.own) (world_types w)) has.imported (type_imports_within p (ordered_names o.0.own) (world_types w) names) (side_within p is interfaces item.top Imported (side_items item) has.functions (addresses o.0.inside) has.imported each has.are_imported));
+        exports = side_within p is interfaces item.top Exported (side_items item) has.functions (addresses o.0.inside) w.exports each has.are_exported;
+        includes = include_within item w.includes (are.includes k o.0 w o.1 at);
+        no_package = (are.says k o.0 w o.1 at).no_package;
+      }
+
+  foreign_world : (vs : List ForeignVisit) (front : List World) → AreForeignWorlds vs front → (k : ℕ) (w : World) → slice_get front k ≡ Some w → IsWorldWithin p w
+  foreign_world vs front are k w at =
+      let within = slice_get_within front k w at in
+      let count = are.count in
+      let v = at_within vs k (omega arith) in
+      let says = are.says k v.0 w v.1 at in
+      record {
+        imports = none_within p w.imports says.imports;
+        exports = none_within p w.exports says.exports;
+        includes = λ j i there. absurd (let none = says.includes in let f : ⊥ = cc in f);
+        no_package = says.no_package;
+      }
+
+-- the items of other packages, where the arenas have as many
+module _ (files : List PackageFile) (p : UnresolvedPackage) (interfaces : length (foreign_interfaces files) ≤ length p.interfaces) (worlds : length (foreign_worlds files) ≤ length p.worlds) where
+  item_within : (q : ℕ) (v : ForeignVisit) → slice_get (foreign_items files) q ≡ Some v → IsForeignWithin p (foreign_entry files v)
+  item_within q v at = elim (item_sort files q v at) [
+    | inl i ↦ subst (IsForeignWithin p) (sym (entry_of_interface files i.0 v i.1)) (let within = slice_get_within (foreign_interfaces files) i.0 v i.1 in omega (arith, within, interfaces))
+    | inr w ↦ subst (IsForeignWithin p) (sym (entry_of_world files w.0 v w.1)) (let within = slice_get_within (foreign_worlds files) w.0 v w.1 in omega (arith, within, worlds))
+  ]
+
+  dep_within : (v : ForeignVisit) (j : ℕ) (x : List ℕ × (AstItem × List Stability)) → slice_get (dep files v).1 j ≡ Some x → IsForeignWithin p x.1.0
+  dep_within v j x at =
+      let u = map_at (dep_item files) (items_of_package files (visited_package v)) j x at in
+      let it = kept_at (λ (w : ForeignVisit). same_package (visited_package w) (visited_package v)) (foreign_items files) j u.0 u.1 in
+      subst (IsForeignWithin p) (ap (λ (y : List ℕ × (AstItem × List Stability)). y.1.0) u.2) (item_within it.0 u.0 it.1)
+
+-- as many addresses as entries
+length_joined : {X Y Z : Type 0} (f : X → Z) (g : Y → Z) (xs : List X) (ys : List Y) → length (map f xs ++ map g ys) ≡ length xs + length ys
+length_joined f g xs ys = length-append (map f xs) (map g ys) ∙ ap (λ n. n + length (map g ys)) (length-map xs f) ∙ ap (λ n. length xs + n) (length-map ys g)
+
+module _ (files : List PackageFile) (p : UnresolvedPackage) (is : IsPackage files p) where
+  abbrev interface_list : List Address
+  interface_list = interface_addresses files (is.interfaces ++ all_inside is.worlds)
+
+  abbrev world_list : List Address
+  world_list = world_addresses files is.worlds
+
+  types : length p.types ≡ length (keys is.met)
+  types = is.meeting.keyed.count
+
+  interface_count : length p.interfaces ≡ length is.foreign_front + length is.own_interfaces
+  interface_count = ap length is.interface_arena ∙ length-append is.foreign_front is.own_interfaces
+
+  world_count : length p.worlds ≡ length is.worlds_front + length is.own_worlds
+  world_count = ap length is.world_arena ∙ length-append is.worlds_front is.own_worlds
+
+  interfaces : length p.interfaces ≡ length interface_list
+  interfaces =
+      let all = length_joined visited (λ (o : Ordered). address o.item) (foreign_interfaces files) (is.interfaces ++ all_inside is.worlds) in
+      omega (arith, all, interface_count, is.are_foreign_interfaces.count, is.are_interfaces.count)
+
+  worlds : length p.worlds ≡ length world_list
+  worlds =
+      let all = length_joined visited (λ (w : OrderedWorld). address w.own.item) (foreign_worlds files) is.worlds in
+      omega (arith, all, world_count, is.are_foreign_worlds.count, is.are_worlds.count)
+
+  interface_within : (k : ℕ) (i : Interface) → slice_get p.interfaces k ≡ Some i → IsInterfaceWithin p i
+  interface_within k i at = elim (at_split is.foreign_front is.own_interfaces k i (ap (λ (l : List Interface). slice_get l k) (sym is.interface_arena) ∙ at)) [
+    | inl front ↦ foreign_interface p (keys is.met) types interface_list world_list interfaces worlds files (foreign_interfaces files) is.foreign_front is.are_foreign_interfaces k i front
+    | inr own ↦ own_interface p (keys is.met) types interface_list world_list interfaces worlds (is.interfaces ++ all_inside is.worlds) is.own_interfaces is.are_interfaces own.0 i own.2
+  ]
+
+  world_within : (k : ℕ) (w : World) → slice_get p.worlds k ≡ Some w → IsWorldWithin p w
+  world_within k w at = elim (at_split is.worlds_front is.own_worlds k w (ap (λ (l : List World). slice_get l k) (sym is.world_arena) ∙ at)) [
+    | inl front ↦ foreign_world p (keys is.met) types interface_list world_list interfaces worlds (foreign_worlds files) is.worlds_front is.are_foreign_worlds k w front
+    | inr own ↦ own_world p (keys is.met) types interface_list world_list interfaces worlds is.worlds is.own_worlds is.are_worlds own.0 w own.2
+  ]
+
+  foreign_within : (k : ℕ) (d : PackageName × List (List ℕ × (AstItem × List Stability))) → slice_get p.foreign_deps k ≡ Some d → (j : ℕ) (x : List ℕ × (AstItem × List Stability)) → slice_get d.1 j ≡ Some x → IsForeignWithin p x.1.0
+  foreign_within k d at j x there =
+      let v = map_at (dep files) (foreign_packages files) k d (ap (λ l. slice_get l k) (sym is.others.deps) ∙ at) in
+      let is_front : length (foreign_interfaces files) ≤ length p.interfaces = omega (arith, interface_count, is.are_foreign_interfaces.count) in
+      let ws_front : length (foreign_worlds files) ≤ length p.worlds = omega (arith, world_count, is.are_foreign_worlds.count) in
+      dep_within files p is_front ws_front v.0 j x (ap (λ (y : PackageName × List (List ℕ × (AstItem × List Stability))). slice_get y.1 j) v.2 ∙ there)
+
+  pub ids_within : AreIdsWithin p
+  ids_within = record {
+    types = entries_within p (keys is.met) types interface_list world_list interfaces worlds files is.meeting.keyed;
+    interfaces = interface_within;
+    worlds = world_within;
+    foreign = foreign_within;
+    required = required_within p (keys is.met) types files (flat_map turn_handles (all_turns is.interfaces is.worlds)) p.required_resource_types is.required;
+  }

@@ -1,0 +1,83 @@
+-- What stands on the sides of a world: its ids are places of types and of interfaces.
+use Rattle.std.proofs.Common.{◌≡◌, ◌<◌, ℕ, suc, List, [], ◌∷◌, ◌++◌, length, Option, Some, None, refl, sym, subst, arith, inl, inr}
+use Rattle.std.specs.Prelude.{slice_get}
+use Rattle.std.proofs.lemmas.Bool.{cases_Bool, cond-true, cond-false}
+use Rattle.std.proofs.lemmas.Option.{slice_get_within}
+use Rattle.wit_tree.specs.declared.tree.Id.{Id}
+use Rattle.wit_tree.specs.declared.tree.WorldSide.{WorldSide}
+use Rattle.wit_model.specs.declared.function.Function.{Function}
+use Rattle.wit_model.specs.declared.world.WorldItem.{WorldItem}
+use Rattle.wit_model.specs.declared.world.WorldItem.TheVariants.{Type_}
+use Rattle.wit_model.specs.declared.world.WorldKey.{WorldKey}
+use Rattle.wit_model.specs.declared.world.WorldKey.TheVariants as key
+use Rattle.wit_model.specs.declared.unresolved.UnresolvedPackage.{UnresolvedPackage}
+use Rattle.wit_syntax.specs.Address.{Address}
+use Rattle.wit_syntax.specs.Crossing.{same_side}
+use Rattle.wit_syntax.specs.Sides.{role_side, SideItem, SideFunction, SideLink, SideInline}
+use Rattle.wit_syntax.specs.Source.{TopName, ScopeName, local_name, local_id, path_scope}
+use Rattle.wit_arena.specs.Functions.{function_item}
+use Rattle.wit_arena.specs.SideItems.{link_key, link_item, inline_entry, put_on, AreSideItems}
+use Rattle.wit_arena.specs.Whole.{type_imports}
+use Rattle.wit_syntax.proofs.Kept.{behind_one}
+use Rattle.wit_syntax.proofs.Lists.{at_split}
+use Rattle.wit_parser.specs.Ids.{AreNamesWithin, IsFunctionWithin, IsKeyWithin, IsItemWithin, AreItemsWithin}
+
+abbrev Entry : Type 0
+Entry = WorldKey × WorldItem
+
+module _ (p : UnresolvedPackage) where
+  abbrev IsEntryWithin : Entry → Type 0
+  IsEntryWithin x = IsKeyWithin p x.0 × IsItemWithin p x.1
+
+  -- nothing, one more in front, one more on its side, and more behind
+  pub none_within : (xs : List Entry) → xs ≡ [] → AreItemsWithin p xs
+  none_within xs none k x at = absurd (let f : ⊥ = cc in f)
+
+  more_within : (x : Entry) (xs : List Entry) → IsEntryWithin x → AreItemsWithin p xs → AreItemsWithin p (x ∷ xs)
+  more_within x xs first rest k y at = elim (behind_one x xs k y at) [
+    | inl here ↦ subst IsEntryWithin here first
+    | inr behind ↦ rest behind.0 y behind.1
+  ]
+
+  put_within : (side own : WorldSide) (x : Entry) (xs : List Entry) → IsEntryWithin x → AreItemsWithin p xs → AreItemsWithin p (put_on side own x xs)
+  put_within side own x xs first rest = elim (cases_Bool (same_side side own)) [
+    | inl hit ↦ subst (AreItemsWithin p) (sym (cond-true (same_side side own) (x ∷ xs) xs hit)) (more_within x xs first rest)
+    | inr miss ↦ subst (AreItemsWithin p) (sym (cond-false (same_side side own) (x ∷ xs) xs miss)) rest
+  ]
+
+  pub both_within : (xs ys : List Entry) → AreItemsWithin p xs → AreItemsWithin p ys → AreItemsWithin p (xs ++ ys)
+  both_within xs ys first second k x at = elim (at_split xs ys k x at) [
+    | inl front ↦ first k x front
+    | inr back ↦ second back.0 x back.2
+  ]
+
+  -- names as imports
+  pub type_imports_within : (xs : List ScopeName) (types : List (List ℕ × ℕ)) → AreNamesWithin p types → AreItemsWithin p (type_imports xs types)
+  type_imports_within [] types within = none_within [] refl
+  type_imports_within (x ∷ xs) [] within = none_within [] refl
+  type_imports_within (x ∷ xs) (t ∷ types) within = more_within (key.Name (local_name x), Type_ t.1 (local_id x).span) (type_imports xs types) (tt, within 0 t.0 t.1 refl) (type_imports_within xs types (λ k. within (suc k)))
+
+  link_within : (name : Option Id) (place : ℕ) → place < length p.interfaces → IsKeyWithin p (link_key name place)
+  link_within None place within = within
+  link_within (Some id) place within = tt
+
+  -- where the interfaces of the package have these addresses
+  module _ (interfaces : List Address) (count : length p.interfaces ≡ length interfaces) (top : List TopName) (side : WorldSide) where
+    placed_within : (place : ℕ) (s : Address) → slice_get interfaces place ≡ Some s → place < length p.interfaces
+    placed_within place s at = let within = slice_get_within interfaces place s at in omega (arith, count, within)
+
+    pub side_within : (written : List SideItem) (fs : List Function) (ss : List Address) (xs : List Entry) → ((k : ℕ) (f : Function) → slice_get fs k ≡ Some f → IsFunctionWithin p f) → AreSideItems interfaces top side written fs ss xs → AreItemsWithin p xs
+    side_within [] fs ss xs each are = none_within xs are
+    side_within (SideFunction fn ∷ written) [] ss xs each are = absurd are
+    side_within (SideFunction fn ∷ written) (f ∷ fs) ss xs each are =
+        let rest = side_within written fs ss are.0 (λ k. each (suc k)) are.2 in
+        subst (AreItemsWithin p) (sym are.1) (put_within side (role_side fn.role) (function_item f) are.0 (tt, each 0 f refl) rest)
+    side_within (SideLink link ∷ written) fs ss xs each are =
+        let within = placed_within are.0 (path_scope top link.path) are.2 in
+        let rest = side_within written fs ss are.1 each are.4 in
+        subst (AreItemsWithin p) (sym are.3) (put_within side link.side (link_item link are.0) are.1 (link_within link.name are.0 within, within) rest)
+    side_within (SideInline x name items ∷ written) fs [] xs each are = absurd are
+    side_within (SideInline x name items ∷ written) fs (s ∷ ss) xs each are =
+        let within = placed_within are.0 s are.2 in
+        let rest = side_within written fs ss are.1 each are.4 in
+        subst (AreItemsWithin p) (sym are.3) (put_within side x.side (inline_entry x name are.0) are.1 (tt, within) rest)

@@ -1,0 +1,104 @@
+-- Types, functions and names over the keys that were met: their ids are places of types.
+use Rattle.std.proofs.Common.{◌≡◌, ◌<◌, ℕ, zero, suc, List, [], ◌∷◌, length, Some, refl, sym, ap, ◌∙◌, subst, arith, inl, inr}
+use Rattle.std.specs.Prelude.{slice_get}
+use Rattle.std.proofs.lemmas.Option.{slice_get_within}
+use Rattle.wit_values.specs.declared.span.Span.{Span}
+use Rattle.wit_tree.specs.declared.tree.FuncForm.{FuncForm}
+use Rattle.wit_tree.specs.declared.tree.FuncForm.TheVariants as form
+use Rattle.wit_tree.specs.declared.tree.Id.{Id}
+use Rattle.wit_tree.specs.declared.tree.PackageFile.{PackageFile}
+use Rattle.wit_types.specs.declared.types.«Type».{«Type» as Ty}
+use Rattle.wit_model.specs.FunctionKinds.{resource_of}
+use Rattle.wit_model.specs.declared.function.Function.{Function}
+use Rattle.wit_model.specs.declared.function.FunctionKind.{FunctionKind}
+use Rattle.wit_model.specs.declared.unresolved.UnresolvedPackage.{UnresolvedPackage}
+use Rattle.wit_syntax.specs.Address.{Address}
+use Rattle.wit_syntax.specs.Function.{Role, Freestanding, Method, Static, Constructor, OnSide, SourceFunction, signature}
+use Rattle.wit_arena.specs.Expr.{Expr, Prim, Use, Of, Exprs, End, More, expr_of}
+use Rattle.wit_arena.specs.Functions.{freestanding_kind, method_kind, static_kind, IsKind, IsFunction, AreFunctions}
+use Rattle.wit_arena.specs.Meet.{Key, Def, Whole, IsAt, AreAt}
+use Rattle.wit_arena.specs.Package.{IsBelow, function_types}
+use Rattle.wit_arena.specs.Whole.{Turned, HasTypes, AreRequired}
+use Rattle.wit_syntax.proofs.Kept.{behind_one}
+use Rattle.wit_syntax.proofs.Lists.{at_within}
+use Rattle.wit_arena.proofs.Primitives.{primitive_below}
+use Rattle.wit_arena.proofs.Signatures.{function_typed}
+use Rattle.wit_parser.specs.Ids.{AreTypesWithin, AreNamesWithin, IsFunctionWithin}
+
+-- the resource of a kind, by its form
+free_resource : (f : FuncForm) (id : ℕ) → resource_of (freestanding_kind f) ≡ Some id → ⊥
+free_resource form.Plain id h = let f : ⊥ = cc in f
+free_resource form.Async id h = let f : ⊥ = cc in f
+free_resource form.Getter id h = let f : ⊥ = cc in f
+free_resource form.Setter id h = let f : ⊥ = cc in f
+
+method_resource : (f : FuncForm) (r : ℕ) → resource_of (method_kind f r) ≡ Some r
+method_resource form.Plain r = refl
+method_resource form.Async r = refl
+method_resource form.Getter r = refl
+method_resource form.Setter r = refl
+
+static_resource : (f : FuncForm) (r : ℕ) → resource_of (static_kind f r) ≡ Some r
+static_resource form.Plain r = refl
+static_resource form.Async r = refl
+static_resource form.Getter r = refl
+static_resource form.Setter r = refl
+
+-- each key that was met is that of a type
+module _ (p : UnresolvedPackage) (ks : List Key) (count : length p.types ≡ length ks) where
+  key_within : (id : ℕ) (k : Key) → slice_get ks id ≡ Some k → id < length p.types
+  key_within id k at = let within = slice_get_within ks id k at in omega (arith, count, within)
+
+  type_within : (x : Expr) (ty : Ty) → IsAt ks x ty → IsBelow (length p.types) ty
+  type_within (Prim q) ty h = subst (IsBelow (length p.types)) (sym h) (primitive_below (length p.types) q)
+  type_within (Use s name) ty h = rw h.1 (key_within h.0 (Def s name) h.2)
+  type_within (Of form parts) ty h = rw h.1 (key_within h.0 (Whole form parts) h.2)
+
+  pub parts_within : (xs : Exprs) (tys : List Ty) → AreAt ks xs tys → AreTypesWithin p tys
+  parts_within End [] are k ty at = absurd (let f : ⊥ = cc in f)
+  parts_within (More x xs) (t ∷ tys) are zero ty at = subst (IsBelow (length p.types)) (let same : t ≡ ty = cc in same) (type_within x t are.0)
+  parts_within (More x xs) (t ∷ tys) are (suc k) ty at = parts_within xs tys are.1 k ty at
+  parts_within End (t ∷ tys) are k ty at = absurd are
+  parts_within (More x xs) [] are k ty at = absurd are
+
+  -- the names of a scope stand for places of types
+  pub names_within : (t : Turned) (names : List (List ℕ × ℕ)) → HasTypes ks t names → AreNamesWithin p names
+  names_within t names has k name id at = key_within id (Def t.address name) (has.places k name id at)
+
+  -- the resource of a function
+  one_resource : (s : Address) (of : Id) (r id : ℕ) (k : FunctionKind) → resource_of k ≡ Some r → slice_get ks r ≡ Some (Def s of.name.now) → resource_of k ≡ Some id → id < length p.types
+  one_resource s of r id k is at has = subst (λ (n : ℕ). n < length p.types) (let both : Some r ≡ Some id = sym is ∙ has in let same : r ≡ id = cc in same) (key_within r (Def s of.name.now) at)
+
+  resource_within : (s : Address) (role : Role) (k : FunctionKind) → IsKind ks s role k → (id : ℕ) → resource_of k ≡ Some id → id < length p.types
+  resource_within s (Freestanding of f) k is id has = absurd (free_resource f id (sym (ap resource_of is) ∙ has))
+  resource_within s (Method of f) k is id has = one_resource s of is.0 id k (ap resource_of is.1 ∙ method_resource f is.0) is.2 has
+  resource_within s (Static of f) k is id has = one_resource s of is.0 id k (ap resource_of is.1 ∙ static_resource f is.0) is.2 has
+  resource_within s (Constructor of) k is id has = one_resource s of is.0 id k (ap resource_of is.1) is.2 has
+  resource_within s (OnSide side of f) k is id has = absurd (free_resource f id (sym (ap resource_of is) ∙ has))
+
+  function_within : (s : Address) (fn : SourceFunction) (f : Function) → IsFunction ks s fn f → IsFunctionWithin p f
+  function_within s fn f is = record {
+    resource = resource_within s fn.role f.kind is.kind;
+    types = λ k ty at. (
+        let typed = function_typed ks s fn f is in
+        let within = slice_get_within (function_types f) k ty at in
+        let as_many = typed.count in
+        let x = at_within (signature fn) k (omega arith) in
+        type_within (expr_of s x.0) ty (typed.each k x.0 ty x.1 at));
+  }
+
+  pub functions_within : (s : Address) (fns : List SourceFunction) (fs : List Function) → AreFunctions ks s fns fs → (k : ℕ) (f : Function) → slice_get fs k ≡ Some f → IsFunctionWithin p f
+  functions_within s fns fs are k f at =
+      let within = slice_get_within fs k f at in
+      let as_many = are.count in
+      let fn = at_within fns k (omega arith) in
+      function_within s fn.0 f (are.each k fn.0 f fn.1 at)
+
+  -- what handles require
+  pub required_within : (files : List PackageFile) (hs : List (Address × Id)) (rs : List (ℕ × Span)) → AreRequired files ks hs rs → (k : ℕ) (r : ℕ × Span) → slice_get rs k ≡ Some r → r.0 < length p.types
+  required_within files [] rs none k r at = absurd (let f : ⊥ = cc in f)
+  required_within files (h ∷ hs) rs (inl own) k r at = required_within files hs rs own.1 k r at
+  required_within files (h ∷ hs) rs (inr far) k r at = elim (behind_one (far.2, h.1.span) far.3 k r (ap (λ (l : List (ℕ × Span)). slice_get l k) (sym far.6) ∙ at)) [
+    | inl here ↦ subst (λ (x : ℕ × Span). x.0 < length p.types) here (key_within far.2 (Def far.0 far.1) far.5)
+    | inr behind ↦ required_within files hs far.3 far.7 behind.0 r behind.1
+  ]

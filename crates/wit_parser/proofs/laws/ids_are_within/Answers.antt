@@ -1,0 +1,5 @@
+use Rattle.wit_parser.proofs.Ids.{ids_within}
+use Rattle.wit_parser.proofs.laws.ids_are_within.Goals as goal
+
+pub returns : goal.returns
+returns c files is = ids_within files c.args.«package».now is
