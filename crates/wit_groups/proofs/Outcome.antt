@@ -1,5 +1,5 @@
 -- What sources come to, one more at a time.
-use Rattle.std.proofs.Common.{◌≡◌, ℕ, ◌+◌, ◌<◌, suc, List, [], ◌∷◌, ◌++◌, Bor, length, get_or, map, take, drop, ap, sym, subst, ◌∙◌}
+use Rattle.std.proofs.Common.{◌≡◌, ℕ, ◌+◌, ◌<◌, suc, List, [], ◌∷◌, ◌++◌, Bor, length, get_or, map, take, drop, inl, inr, ap, sym, subst, ◌∙◌}
 use Rattle.std.specs.Prelude.{Result, Ok, Err, IfErr, IfOk, string_bytes}
 use Rattle.wit_tree.specs.declared.tree.PackageFile.{PackageFile}
 use Rattle.wit_tree.specs.declared.tree.SourceFile.{SourceFile}
@@ -11,11 +11,13 @@ use Rattle.wit_bundle.specs.Paths.{IsByPath}
 use Rattle.wit_lex.specs.Faults.{IsRefusal}
 use Rattle.wit_model.specs.declared.unresolved.UnresolvedPackage.{UnresolvedPackage}
 use Rattle.wit_syntax.specs.Fault.{Fault}
-use Rattle.wit_syntax.specs.Broken.{IsBroken, Refused}
+use Rattle.wit_syntax.specs.Broken.{Refused}
 use Rattle.wit_groups.specs.Nested.{GrowByNested, IsUnfit}
+use Rattle.wit_groups.specs.Names.{IsUnjoined}
+use Rattle.wit_groups.specs.Names.IsUnjoined.{Broken, Repeated as RepeatedName}
 use Rattle.wit_groups.specs.declared.group.UnresolvedPackageGroup.{UnresolvedPackageGroup}
 use Rattle.wit_groups.specs.Groups.{AreRefused, AreTaken, IsAlone, IsRefused, IsTree, IsUnparsed}
-use Rattle.wit_groups.specs.Groups.AreRefused.{Unread, Unfit, Illegal}
+use Rattle.wit_groups.specs.Groups.AreRefused.{Unread, Unfit, Illegal, Repeated}
 use Rattle.wit_groups.specs.Groups.IsRefused.{InTurn}
 use Rattle.wit_groups.specs.Groups.IsUnparsed.{Alone}
 use Rattle.wit_groups.specs.Groups.AreTaken.{None, More}
@@ -45,11 +47,16 @@ pub unfit : (turn : List (Bor Source)) (i : ℕ) (s : Bor Source) (files : List 
     AreTaken (map now_of (take i turn)) files packages → IsTree s.now read → Refused (IsUnfit files read) e → AreRefused (map now_of turn) e
 unfit turn i s files packages read e lt is taken tree refused = Unfit (map now_of (take i turn)) (map now_of (drop (suc i) turn)) s.now (front_split now_of turn i s lt is) files packages read taken tree refused
 
--- files that break a rule
-pub illegal : {X : Type 0} (sources turn : List Source) (files : List PackageFile) (packages : List UnresolvedPackage) (r : Result X ParseError) → IsByPath sources turn → AreTaken turn files packages →
-    IfErr r (Refused (IsBroken files)) → IfErr r (IsRefused sources)
-illegal sources turn files packages (Ok x) by_path taken refused = tt
-illegal sources turn files packages (Err e) by_path taken refused = InTurn turn by_path (Illegal files packages taken refused)
+-- files that break a rule, or behind which a nested package has a name again
+refused_whole : (turn : List Source) (files : List PackageFile) (packages : List UnresolvedPackage) (e : ParseError) → AreTaken turn files packages → Refused (IsUnjoined files packages) e → AreRefused turn e
+refused_whole turn files packages e taken (inl wanted) = Illegal files packages taken (inl wanted)
+refused_whole turn files packages e taken (inr (Broken broken)) = Illegal files packages taken (inr broken)
+refused_whole turn files packages e taken (inr (RepeatedName main made again)) = Repeated files packages main taken made again
+
+pub not_joined : {X : Type 0} (sources turn : List Source) (files : List PackageFile) (packages : List UnresolvedPackage) (r : Result X ParseError) → IsByPath sources turn → AreTaken turn files packages →
+    IfErr r (Refused (IsUnjoined files packages)) → IfErr r (IsRefused sources)
+not_joined sources turn files packages (Ok x) by_path taken refused = tt
+not_joined sources turn files packages (Err e) by_path taken refused = InTurn turn by_path (refused_whole turn files packages e taken refused)
 
 -- a text behind no source
 pub only_source : (path text : List ℕ) (old new : List Source) → old ≡ [] → (s : Source) × IsSource path text (space old) s × (new ≡ old ++ s ∷ []) → IsAlone path text new

@@ -12,9 +12,10 @@ use Rattle.wit_lex.specs.Faults.{IsRefusal}
 use Rattle.wit_lex.specs.Sources.{IsSource, IsTooLarge}
 use Rattle.wit_bundle.specs.Paths.{IsByPath}
 use Rattle.wit_model.specs.declared.unresolved.UnresolvedPackage.{UnresolvedPackage}
-use Rattle.wit_syntax.specs.Fault.{Fault}
+use Rattle.wit_syntax.specs.Fault.{Fault, fault_of}
 use Rattle.wit_syntax.specs.Broken.{IsBroken, Refused}
 use Rattle.wit_groups.specs.Nested.{GrowByNested, IsMadeOf, IsUnfit}
+use Rattle.wit_groups.specs.Names.{AreNamedApart, IsRepeatedPackage}
 
 -- marks stand in the source, one behind the other
 abbrev pub AreIn : Source → List Mark → Type 0
@@ -33,21 +34,25 @@ pub data AreTaken : List Source → List PackageFile → List UnresolvedPackage 
   More : (sources : List Source) (files : List PackageFile) (packages kept : List UnresolvedPackage) (s : Source) (read : SourceFile) → AreTaken sources files packages → IsTree s read →
       ((f : Fault) → IsUnfit files read f → ⊥) → GrowByNested read.nested.items packages kept → AreTaken (sources ++ s ∷ []) (files ++ read.file ∷ []) kept
 
--- the package that sources make, taken by path, and those that are nested in them, in the order in which they are written
+-- the package that sources make, taken by path, and those that are nested in them, in the order in which they are written, each with a name of its own
 pub record IsGroup (sources : List Source) (main : UnresolvedPackage) (nested : List UnresolvedPackage) : Type 0 where
   pub turn : List Source
   pub by_path : IsByPath sources turn
   pub files : List PackageFile
   pub taken : AreTaken turn files nested
   pub made : IsMadeOf files main
+  pub apart : AreNamedApart main nested
 
--- one of some sources cannot be read, or its tree is unfit behind the files of those before it; or the files of all break a rule
+-- one of some sources cannot be read, or its tree is unfit behind the files of those before it; or the files of all break a rule; or
+-- all of them are read, fit and legal, and a nested package has the name of the main one or of a nested one before it
 pub data AreRefused (turn : List Source) (e : ParseError) : Type 0 where
   Unread : (front rest : List Source) (s : Source) → turn ≡ front ++ s ∷ rest → (files : List PackageFile) (packages : List UnresolvedPackage) → AreTaken front files packages →
       IsRefusal (string_bytes s.contents) s.offset e → AreRefused turn e
   Unfit : (front rest : List Source) (s : Source) → turn ≡ front ++ s ∷ rest → (files : List PackageFile) (packages : List UnresolvedPackage) (read : SourceFile) → AreTaken front files packages →
       IsTree s read → Refused (IsUnfit files read) e → AreRefused turn e
   Illegal : (files : List PackageFile) (packages : List UnresolvedPackage) → AreTaken turn files packages → Refused (IsBroken files) e → AreRefused turn e
+  Repeated : (files : List PackageFile) (packages : List UnresolvedPackage) (main : UnresolvedPackage) → AreTaken turn files packages → IsMadeOf files main →
+      IsRepeatedPackage main packages (fault_of e) → AreRefused turn e
 
 -- the sources, taken by path, are refused, or memory was wanted
 pub data IsRefused (sources : List Source) (e : ParseError) : Type 0 where

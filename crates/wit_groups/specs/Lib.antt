@@ -1,3 +1,4 @@
 pub mod Nested
+pub mod Names
 pub mod Between
 pub mod Groups

@@ -3,6 +3,7 @@
 
 pub mod group;
 mod nested;
+mod repeats;
 pub mod resolver;
 
 pub use group::UnresolvedPackageGroup;

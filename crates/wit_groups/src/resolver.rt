@@ -1,10 +1,12 @@
 //! From parsed files to a package and those that are nested in them.
 ghost use Rattle.std.specs.Prelude.{◌≡◌, ◌++◌, ◌∷◌, [], IfErr, IfOk, OnErr, OnOk};
 ghost use Rattle.wit_syntax.specs.Fault.{Fault};
-ghost use Rattle.wit_syntax.specs.Broken.{IsBroken, Refused};
+ghost use Rattle.wit_syntax.specs.Broken.{Refused};
 ghost use Rattle.wit_groups.specs.Nested.{GrowByNested, IsMadeOf, IsUnfit};
+ghost use Rattle.wit_groups.specs.Names.{AreNamedApart, IsUnjoined};
 
 use crate::nested::{alone, resolve_all};
+use crate::repeats::check_names;
 use std::alloc::Global;
 use wit_model::UnresolvedPackage;
 use wit_parser::Resolver;
@@ -39,7 +41,7 @@ impl<'a> GroupResolver<'a> {
     /// A refusal leaves files and packages as they were.
     ///
     /// - 3, at its name: a package is nested in a nested one.
-    /// - 4 to 54: a nested package breaks a rule by itself, as `Resolver::resolve` tells.
+    /// - 4 to 44: a nested package breaks a rule by itself, as `Resolver::resolve` tells.
     /// - 1, 2: the source's file cannot stand behind the files before it, as `Resolver::push` tells.
     /// - 45: a growth was refused.
     pub fn push(&mut self, alloc: Global, source: SourceFile<'a>) -> ParseResult<()>
@@ -68,14 +70,18 @@ impl<'a> GroupResolver<'a> {
     ///
     /// # Errors
     ///
-    /// As `Resolver::resolve` tells, of the main package: all others are resolved already.
+    /// - 4 to 45, as `Resolver::resolve` tells, of the main package: all others are resolved already.
+    /// - 53, at its name, behind all others: a nested package has the name of the main one, or of a nested
+    ///   one before it. Versions count.
     pub fn resolve(self, alloc: Global) -> ParseResult<(UnresolvedPackage, Vec<UnresolvedPackage>)>
         ensures made { IfOk result (λ made. IsMadeOf self.entry.main.files.items made.0) }
         ensures nested { IfOk result (λ made. made.1.items ≡ self.entry.nested.items) }
-        ensures refused { IfErr result (Refused (IsBroken self.entry.main.files.items)) }
+        ensures apart { IfOk result (λ made. AreNamedApart made.0 made.1.items) }
+        ensures refused { IfErr result (Refused (IsUnjoined self.entry.main.files.items self.entry.nested.items)) }
     {
         let GroupResolver { main, nested } = self;
         let made = main.resolve(alloc)?;
+        check_names(alloc, &made, &nested)?;
         Ok((made, nested))
     }
 }

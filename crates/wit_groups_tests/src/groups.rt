@@ -31,7 +31,12 @@ fn parses_nested_packages(rt: HostRuntime) -> Result<(), Fail> {
         "package a:b; package c:d { interface i {} } interface j {}",
         "a:b j;c:d i;",
     )?;
-    check(&rt, alloc, "package a:b; package a:b {}", "a:b;a:b;")
+    check(
+        &rt,
+        alloc,
+        "package a:b; package a:b@1.0.0 {}",
+        "a:b;a:b@1.0.0;",
+    )
 }
 
 #[test]
@@ -44,7 +49,8 @@ fn hands_the_source_back(rt: HostRuntime) -> Result<(), Fail> {
         "package a:b; package c:d { interface i { type t = u; } }",
         "E15, 1 back",
     )?;
-    check(&rt, alloc, "package a:b; interface", "E47, 1 back")
+    check(&rt, alloc, "package a:b; interface", "E47, 1 back")?;
+    check(&rt, alloc, "package a:b; package a:b {}", "E53, 1 back")
 }
 
 /// Two sources, of which the second in their order is the first by its path.

@@ -1,7 +1,7 @@
 use Rattle.std.proofs.Common.{map}
 use Rattle.std.proofs.lemmas.Result.{err_from_is_err_and}
 use Rattle.wit_groups.specs.Groups.IsRefused.{InTurn}
-use Rattle.wit_groups.proofs.Outcome.{illegal, now_of}
+use Rattle.wit_groups.proofs.Outcome.{not_joined, now_of}
 use Rattle.wit_groups.proofs.group.resolve_sources.Goals as goal
 
 pub returns-in_err-resolver-clause-refused : goal.returns-in_err-resolver-clause-refused
@@ -12,4 +12,4 @@ returns-in_err-resolver-clause-refused c =
 pub returns-clause-refused : goal.returns-clause-refused
 returns-clause-refused c =
     let made = c.in_ok-resolver.resolver in
-    illegal c.args.sources.now (map now_of c.in_ok-turn.turn.items) made.main.files.items made.nested.items c.resolve.result c.in_ok-turn.ensures (rw c.deref.ensures.value at c.in_ok-resolver.ensures.taken) c.resolve.ensures.refused
+    not_joined c.args.sources.now (map now_of c.in_ok-turn.turn.items) made.main.files.items made.nested.items c.resolve.result c.in_ok-turn.ensures (rw c.deref.ensures.value at c.in_ok-resolver.ensures.taken) c.resolve.ensures.refused
