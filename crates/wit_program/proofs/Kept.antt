@@ -8,8 +8,8 @@ use Rattle.wit_listing.specs.Output.{IsWrittenAs}
 use Rattle.wit_lex.specs.declared.source.Source.{Source}
 use Rattle.wit_tool.specs.Run.{IsRun}
 use Rattle.wit_tool.specs.Run.IsRun.{Group, Refusal}
-use Rattle.wit_program.specs.Input.{IsAnswered}
-use Rattle.wit_program.specs.Input.IsAnswered.{Ran, TooMuch, GivenUp}
+use Rattle.wit_tool.specs.Answered.{IsAnswered}
+use Rattle.wit_tool.specs.Answered.IsAnswered.{Ran, TooMuch, GivenUp}
 use Rattle.wit_program.specs.Status.{IsEnded, status_of}
 use Rattle.wit_program.specs.Status.IsEnded.{Listed, Refused, Failed, Unread}
 

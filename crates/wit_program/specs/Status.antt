@@ -2,7 +2,7 @@
 use Rattle.std.specs.Prelude.{ℕ, Bool, true, false, List, Option, Result, Ok, Err}
 use Rattle.std.specs.Io.KnownBytes.{Keeps}
 use Rattle.wit_listing.specs.declared.fault.RunFault.{RunFault}
-use Rattle.wit_program.specs.Input.{IsAnswered}
+use Rattle.wit_tool.specs.Answered.{IsAnswered}
 
 -- 0 after a listing, 1 after the line of a refusal, 2 where neither was written whole
 abbrev pub status_of : {E : Type 0} → Result Bool E → ℕ

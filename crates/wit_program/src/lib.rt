@@ -1,7 +1,6 @@
 //! The program: from standard input to standard output.
 #![tactic(auto)]
 
-pub mod input;
 pub mod program;
 pub mod status;
 #[cfg(test)]

@@ -3,11 +3,11 @@ ghost use Rattle.std.specs.Prelude.{◌≡◌, ◌≤◌, IfSome};
 ghost use Rattle.std.specs.Process.{exit_status};
 ghost use Rattle.wit_program.specs.Status.{IsEnded, status_of};
 
-use crate::input::answer_text;
 use std::alloc::Global;
 use std::io;
 use std::io::{Read, Write};
 use std::process::ExitCode;
+use wit_tool::answer_text;
 
 /// The status: 0 after a listing, 1 after the line of a refusal, 2 where neither was written whole.
 pub fn exit_code(answered: io::Result<bool>) -> ExitCode

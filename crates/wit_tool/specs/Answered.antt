@@ -1,4 +1,4 @@
--- What is written of the text of standard input.
+-- What is written of a text.
 use Rattle.std.specs.Prelude.{◌≡◌, ℕ, ◌<◌, Bool, false, List, [], Option, Result, Err}
 use Rattle.std.specs.Io.KnownBytes.{Keeps}
 use Rattle.wit_tree.specs.declared.error.ParseError.{ParseError}

@@ -1,11 +1,12 @@
 //! Answering a text.
-ghost use Rattle.wit_program.specs.Input.{IsAnswered};
+ghost use Rattle.wit_tool.specs.Answered.{IsAnswered};
 
+use crate::running::run;
 use std::alloc::Global;
 use std::io::Write;
+use wit_bundle::bundle;
+use wit_lex::SourceMap;
 use wit_listing::{RunFault, error_line};
-use wit_text::SourceMap;
-use wit_tool::{bundle, run};
 
 /// Writes the listing of the package that the sources of a text make, and of those that are nested in
 /// it, or the line of the refusal, and answers whether it was a listing.

@@ -1,0 +1,4 @@
+pub mod Room
+pub mod Told
+pub mod Plain
+pub mod Checked

@@ -1,0 +1,16 @@
+//! Bytes laid over the room of a caller.
+ghost use Rattle.std.specs.Prelude.{◌≡◌};
+ghost use Rattle.wit_ffi.specs.Room.{laid_over};
+
+/// Copies bytes over the front of others, as far as they fit.
+pub(crate) fn lay(room: &mut [u8], bytes: &[u8])
+    ensures { room.new ≡ laid_over room.old bytes.now }
+{
+    if bytes.len() <= room.len() {
+        let (front, _) = room.split_at_mut(bytes.len());
+        front.copy_from_slice(bytes);
+    } else {
+        let most = room.len();
+        room.copy_from_slice(&bytes[..most]);
+    }
+}

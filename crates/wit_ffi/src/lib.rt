@@ -1,0 +1,67 @@
+//! The resolver for callers in C and Rust: from a text to the listing of its packages, or why it is
+//! refused, in room that the caller gives.
+#![tactic(auto)]
+
+mod checking;
+mod laying;
+mod plain;
+pub mod refusal;
+mod status;
+mod telling;
+#[cfg(test)]
+mod tests;
+
+ghost use Rattle.std.specs.Prelude.{◌≡◌, ℕ, List, length};
+ghost use Rattle.wit_ffi.specs.Room.{laid_over};
+ghost use Rattle.wit_ffi.specs.Checked.{IsChecked};
+ghost use Rattle.wit_ffi.specs.Plain.{fields_of};
+ghost use Rattle.wit_ffi.specs.Told.{IsTold};
+ghost use Rattle.wit_ffi.specs.declared.plain.Plain.{Plain};
+
+use crate::checking::{Checked, check};
+use crate::laying::lay;
+use crate::plain::fields_of;
+use crate::telling::{Told, tell};
+pub use refusal::Refusal;
+use std::alloc::Global;
+
+/// Writes what is told of a text over the front of `told`, as far as it fits, and its whole length to
+/// `len`. The rest of `told` stays as it was.
+///
+/// Answers 0 for the listing of the packages that the text's sources make, 1 for the line of their
+/// refusal, 2 where the text is not UTF-8, and 3 where memory was wanted outside the package. For 2
+/// and 3 nothing is told.
+#[unsafe(no_mangle)]
+pub extern "C" fn wit_ffi_answer(alloc: Global, text: &[u8], told: &mut [u8], len: &mut usize) -> u8
+    ensures { (whole : List ℕ) × IsTold text.now result whole × (told.new ≡ laid_over told.old whole) × (len.new ≡ length whole) }
+{
+    let Told { status, bytes } = tell(alloc, text);
+    let whole = bytes.as_slice();
+    *len = whole.len();
+    lay(told, whole);
+    status
+}
+
+/// Tells the refusal of a text in plain fields, its path over the front of `path` and its words over
+/// that of `message`, each as far as it fits. The rest of both stays as it was, and `refusal` has the
+/// whole lengths.
+///
+/// Answers 1 for a refusal, 0 where the text's sources make packages, 2 where the text is not UTF-8,
+/// and 3 where memory was wanted outside the package. For 0, 2 and 3 nothing is told, and each field
+/// is 0.
+#[unsafe(no_mangle)]
+pub extern "C" fn wit_ffi_check(
+    alloc: Global,
+    text: &[u8],
+    path: &mut [u8],
+    message: &mut [u8],
+    refusal: &mut Refusal,
+) -> u8
+    ensures { (whole : Plain) × IsChecked text.now result whole × (path.new ≡ laid_over path.old whole.path) × (message.new ≡ laid_over message.old whole.message) × (refusal.new ≡ fields_of whole) }
+{
+    let Checked { status, plain } = check(alloc, text);
+    lay(path, plain.path.as_str().as_bytes());
+    lay(message, plain.message.as_str().as_bytes());
+    *refusal = fields_of(&plain);
+    status
+}

@@ -1,0 +1,13 @@
+//! The answers of calls.
+
+/// The sources make packages.
+pub(crate) const MADE: u8 = 0;
+
+/// The sources are refused.
+pub(crate) const REFUSED: u8 = 1;
+
+/// The text is not UTF-8.
+pub(crate) const NO_TEXT: u8 = 2;
+
+/// Memory was wanted outside the package.
+pub(crate) const NO_MEMORY: u8 = 3;
