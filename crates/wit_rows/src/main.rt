@@ -24,7 +24,7 @@ use std::fs;
 use std::process::ExitCode;
 
 /// The files of rows.
-const FILES: [&str; 23] = [
+const FILES: [&str; 24] = [
     "listings.rows",
     "refusals.rows",
     "files.rows",
@@ -48,6 +48,7 @@ const FILES: [&str; 23] = [
     "worlds.rows",
     "paths.rows",
     "groups.rows",
+    "inline.rows",
 ];
 
 /// Replays each file, and tells how many cases it has; ends with 0 if each is answered as it says.
