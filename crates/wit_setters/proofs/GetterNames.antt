@@ -4,21 +4,21 @@ use Rattle.std.proofs.Common.{◌≡◌, ℕ, ◌++◌, ◌&&◌, Bool, true, fa
 use Rattle.std.specs.Prelude.{slice_set, if◌then◌else◌}
 use Rattle.std.specs.Cmp.Lexicographic.{pointwise}
 use Rattle.std.specs.List.{starts_with}
-use Rattle.std.specs.Option.{option_map}
+use Rattle.std.specs.Option.{is_some, option_map}
 use Rattle.std.proofs.lemmas.Bool.{cases_Bool}
 use Rattle.std.proofs.lemmas.List.{take-append-drop}
 use Rattle.wit_names.specs.Front.{behind}
 use Rattle.wit_model.specs.declared.function.Function.{Function}
 use Rattle.wit_model.specs.declared.function.FunctionKind.{FunctionKind}
 use Rattle.wit_model.specs.declared.function.FunctionKind.TheVariants as kind
-use Rattle.wit_model.specs.Setters.{fronts, goes_on_alike, is_getter, is_getter_of, is_same_text}
+use Rattle.wit_model.specs.Setters.{fronts, goes_on_alike, goes_with, is_getter, is_same_text}
 use Rattle.wit_syntax.proofs.Names.{name_equal}
-use Rattle.wit_setters.specs.Parted.{getter_name, turned}
+use Rattle.wit_setters.specs.Told.{is_setter, offered, turned, wanted}
 
--- there is a name, and it is this one
-abbrev pub is_name : Option (List ℕ) → List ℕ → Bool
-is_name None name = false
-is_name (Some n) name = pointwise nat_eq n name
+-- no text is the same as none
+pub same_as_none : (o : Option (List ℕ)) → is_same_text o None ≡ false
+same_as_none None = refl
+same_as_none (Some a) = refl
 
 same_behind : (rest front name : List ℕ) → is_same_text (Some rest) (behind front name) ≡ pointwise nat_eq (front ++ rest) name
 same_behind rest [] name = refl
@@ -28,32 +28,37 @@ same_behind rest (a ∷ front) (b ∷ name) = elim (cases_Bool (nat_eq a b)) [
   | inr miss ↦ rw miss refl
 ]
 
-alike_turned : (f : Option (List ℕ × List ℕ)) (s g : List ℕ) → goes_on_alike f s g ≡ is_name (turned f s) g
+alike_turned : (f : Option (List ℕ × List ℕ)) (s g : List ℕ) → goes_on_alike f s g ≡ is_same_text (turned f s) (Some g)
 alike_turned None s g = refl
 alike_turned (Some f) s g = go (behind f.0 s)
   where
-    go : (o : Option (List ℕ)) → is_same_text o (behind f.1 g) ≡ is_name (option_map (λ rest. f.1 ++ rest) o) g
+    go : (o : Option (List ℕ)) → is_same_text o (behind f.1 g) ≡ is_same_text (option_map (λ rest. f.1 ++ rest) o) (Some g)
     go None = refl
     go (Some rest) = same_behind rest f.1 g
 
--- a setter's getter is the one of that name
-pub goes_wanted : (s g : Function) → is_getter_of s g ≡ (is_getter g.kind && is_name (getter_name s) g.name)
-goes_wanted s g = ap (λ b. is_getter g.kind && b) (alike_turned (fronts s.kind) s.name g.name)
-
-pub goes_named : (s g : Function) → is_getter_of s g ≡ true → getter_name s ≡ Some g.name
-goes_named s g goes = named (getter_name s) (right (is_getter g.kind) (is_name (getter_name s) g.name) (sym (goes_wanted s g) ∙ goes))
+-- a setter's getter offers the name that it wants
+pub goes_wanted : (s g : Option Function) → goes_with s g ≡ is_same_text (wanted s) (offered g)
+goes_wanted None g = refl
+goes_wanted (Some s) None = sym (same_as_none (wanted (Some s)))
+goes_wanted (Some s) (Some g) = ap (λ b. is_getter g.kind && b) (alike_turned (fronts s.kind) s.name g.name) ∙ go (is_getter g.kind)
   where
-    right : (a b : Bool) → (a && b) ≡ true → b ≡ true
-    right true b h = h
-    right false b h = cc
+    go : (b : Bool) → (b && is_same_text (wanted (Some s)) (Some g.name)) ≡ is_same_text (wanted (Some s)) (if b then Some g.name else None)
+    go true = refl
+    go false = sym (same_as_none (wanted (Some s)))
 
-    named : (o : Option (List ℕ)) → is_name o g.name ≡ true → o ≡ Some g.name
-    named None h = cc
-    named (Some n) h = ap Some (name_equal n g.name h)
+-- what is no setter wants none
+pub wants_none : (o : Option Function) → is_setter o ≡ false → wanted o ≡ None
+wants_none None h = refl
+wants_none (Some f) h = go (fronts f.kind) h
+  where
+    go : (o : Option (List ℕ × List ℕ)) → is_some o ≡ false → turned o f.name ≡ None
+    go None h = refl
+    go (Some p) h = cc
 
--- a setter is no getter
-pub no_getter : (f : Function) (name : List ℕ) → getter_name f ≡ Some name → is_getter f.kind ≡ false
-no_getter f name h = go f.kind h
+-- a setter offers none
+pub offers_none : (o : Option Function) (name : List ℕ) → wanted o ≡ Some name → offered o ≡ None
+offers_none None name h = refl
+offers_none (Some f) name h = ap (λ (b : Bool). if b then Some f.name else None) (go f.kind h)
   where
     go : (k : FunctionKind) → turned (fronts k) f.name ≡ Some name → is_getter k ≡ false
     go kind.Getter h = cc
@@ -104,6 +109,6 @@ setter_named (Some f) s name back h = elim (cases_Bool (starts_with nat_eq s f.0
   | inr miss ↦ let none : None ≡ Some name = rw miss at h in cc
 ]
 
--- two setters of one getter's name have one name
-pub one_setter : (s t : Function) (name : List ℕ) → getter_name s ≡ Some name → getter_name t ≡ Some name → s.name ≡ t.name
+-- two setters that want one name have one name
+pub one_setter : (s t : Function) (name : List ℕ) → wanted (Some s) ≡ Some name → wanted (Some t) ≡ Some name → s.name ≡ t.name
 one_setter s t name of_s of_t = sym (setter_named (fronts s.kind) s.name name (turns_back s.kind) of_s) ∙ setter_named (fronts t.kind) t.name name (turns_back t.kind) of_t

@@ -1,4 +1,8 @@
 pub mod Results
-mod NoSetters
 mod GetterNames
+mod NoSetters
+mod OwnNames
 mod Parting
+mod Serving
+pub mod Keys
+mod OneSide

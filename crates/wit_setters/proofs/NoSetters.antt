@@ -1,47 +1,42 @@
--- Where no function is a setter, all stay where they are.
+-- Where no item is a setter, all stay where they are.
 use Rattle.std.proofs.Common.{◌≡◌, ◌||◌, Bool, true, false, List, [], ◌∷◌, refl, ap, ◌∙◌}
-use Rattle.std.specs.Prelude.{Option, Some, None}
+use Rattle.std.specs.Prelude.{Option}
 use Rattle.std.specs.List.{flat_map, list_any}
-use Rattle.std.specs.Option.{is_some}
-use Rattle.std.proofs.Math.Bool.{and-false}
-use Rattle.wit_model.specs.Setters.{early, fronts, is_getter, is_getter_of, others, setters_placed, with_setters}
+use Rattle.wit_model.specs.Setters.{early, is_same_text, others, setters_placed, with_setters}
 use Rattle.wit_model.specs.declared.function.Function.{Function}
+use Rattle.wit_setters.specs.Told.{goes, is_setter, offered}
+use Rattle.wit_setters.proofs.GetterNames.{goes_wanted, wants_none}
 
 none_of : (a b : Bool) → (a || b) ≡ false → (a ≡ false) × (b ≡ false)
 none_of false b h = (refl, h)
 none_of true b h = absurd (let f : ⊥ = cc in f)
 
-is_none : {X : Type 0} → (o : Option X) → is_some o ≡ false → o ≡ None
-is_none None h = refl
-is_none (Some x) h = absurd (let f : ⊥ = cc in f)
-
--- no function is the getter of one that is no setter
-none_fits : (s g : Function) → fronts s.kind ≡ None → is_getter_of s g ≡ false
-none_fits s g e = rw e (and-false (is_getter g.kind))
-
-none_any : (s : Function) (gs : List Function) → fronts s.kind ≡ None → list_any (is_getter_of s) gs ≡ false
-none_any s [] e = refl
-none_any s (g ∷ gs) e = rw (none_fits s g e) (none_any s gs e)
-
-early_none : (fs : List Function) → list_any (λ (f : Function). is_some (fronts f.kind)) fs ≡ false → early is_getter_of fs ≡ []
-early_none [] h = refl
-early_none (f ∷ fs) h =
-    let told = none_of (is_some (fronts f.kind)) (list_any (λ (g : Function). is_some (fronts g.kind)) fs) h in
-    rw (none_any f fs (is_none (fronts f.kind) told.0)) (early_none fs told.1)
-
-others_none : (fs : List Function) → list_any (λ (f : Function). is_some (fronts f.kind)) fs ≡ false → others is_getter_of fs ≡ fs
-others_none [] h = refl
-others_none (f ∷ fs) h =
-    let told = none_of (is_some (fronts f.kind)) (list_any (λ (g : Function). is_some (fronts g.kind)) fs) h in
-    rw (none_any f fs (is_none (fronts f.kind) told.0)) (ap (λ (l : List Function). f ∷ l) (others_none fs told.1))
-
 -- with no setter behind it, each stands alone
-each_alone : (fs : List Function) → flat_map (with_setters is_getter_of []) fs ≡ fs
-each_alone [] = refl
-each_alone (f ∷ fs) = ap (λ (l : List Function). f ∷ l) (each_alone fs)
+each_alone : {X : Type 0} (test : X → X → Bool) (es : List X) → flat_map (with_setters test []) es ≡ es
+each_alone test [] = refl
+each_alone test (e ∷ es) = ap (λ l. e ∷ l) (each_alone test es)
 
-pub no_setters : (fs : List Function) → list_any (λ (f : Function). is_some (fronts f.kind)) fs ≡ false → setters_placed is_getter_of fs ≡ fs
-no_setters fs h =
-    ap (λ (l : List Function). flat_map (with_setters is_getter_of l) (others is_getter_of fs)) (early_none fs h)
-    ∙ ap (flat_map (with_setters is_getter_of [])) (others_none fs h)
-    ∙ each_alone fs
+module _ {X : Type 0} (tells : X → Option Function) where
+  none_goes : (s : X) (es : List X) → is_setter (tells s) ≡ false → list_any (goes tells s) es ≡ false
+  none_goes s [] h = refl
+  none_goes s (e ∷ es) h =
+      let one : goes tells s e ≡ false = goes_wanted (tells s) (tells e) ∙ ap (λ o. is_same_text o (offered (tells e))) (wants_none (tells s) h) in
+      rw one (none_goes s es h)
+
+  early_none : (es : List X) → list_any (λ e. is_setter (tells e)) es ≡ false → early (goes tells) es ≡ []
+  early_none [] h = refl
+  early_none (e ∷ es) h =
+      let told = none_of (is_setter (tells e)) (list_any (λ x. is_setter (tells x)) es) h in
+      rw (none_goes e es told.0) (early_none es told.1)
+
+  others_none : (es : List X) → list_any (λ e. is_setter (tells e)) es ≡ false → others (goes tells) es ≡ es
+  others_none [] h = refl
+  others_none (e ∷ es) h =
+      let told = none_of (is_setter (tells e)) (list_any (λ x. is_setter (tells x)) es) h in
+      rw (none_goes e es told.0) (ap (λ l. e ∷ l) (others_none es told.1))
+
+  pub no_setters : (es : List X) → list_any (λ e. is_setter (tells e)) es ≡ false → setters_placed (goes tells) es ≡ es
+  no_setters es h =
+      ap (λ l. flat_map (with_setters (goes tells) l) (others (goes tells) es)) (early_none es h)
+      ∙ ap (flat_map (with_setters (goes tells) [])) (others_none es h)
+      ∙ each_alone (goes tells) es

@@ -1,60 +1,140 @@
--- Functions parted on the way back through them, one more in front.
-use Rattle.std.proofs.Common.{◌≡◌, ℕ, suc, ◌++◌, ◌&&◌, ◌||◌, Bool, true, false, cond, List, [], ◌∷◌, Option, Some, None, slice_get, reverse, nat_eq, inl, inr, refl, sym, ap, ◌∙◌, subst, append_assoc}
-use Rattle.std.specs.Prelude.{map}
+-- Items parted on the way back through them, one more in front.
+use Rattle.std.proofs.Common.{◌≡◌, ℕ, ◌++◌, ◌||◌, Bool, true, false, cond, List, [], ◌∷◌, Option, Some, None, reverse, nat_eq, inl, inr, refl, sym, ap, ◌∙◌, append_assoc}
+use Rattle.std.specs.Prelude.{if◌then◌else◌}
 use Rattle.std.specs.Cmp.Lexicographic.{pointwise}
-use Rattle.std.specs.List.{filter, flat_map, list_any}
-use Rattle.std.specs.Map.{lookup}
+use Rattle.std.specs.List.{filter, list_any}
 use Rattle.std.specs.Option.{is_some, option_to_list}
+use Rattle.std.specs.Str.{bytes_eq}
 use Rattle.std.proofs.lemmas.Bool.{cases_Bool}
-use Rattle.std.proofs.lemmas.List.{flat_map_more, reverse-append, reverse-reverse}
-use Rattle.indexmap.specs.IndexMap.{insert_entry}
+use Rattle.std.proofs.lemmas.List.{reverse-append}
 use Rattle.wit_model.specs.declared.function.Function.{Function}
-use Rattle.wit_model.specs.Setters.{early, is_getter, is_getter_of, others, setters_placed, with_setters}
-use Rattle.wit_syntax.specs.Repeats.{AllDiffer}
-use Rattle.wit_arena.proofs.FunctionNames.{made_name}
-use Rattle.wit_syntax.proofs.Kept.{HasNot, differ_head, differ_tail}
-use Rattle.wit_syntax.proofs.Names.{name_cases}
-use Rattle.wit_setters.specs.Parted.{getter_name, getters_with, known, waiting_for, with_waiting, IsParted}
-use Rattle.wit_setters.proofs.GetterNames.{is_name, goes_named, goes_wanted, no_getter, one_setter}
-use Rattle.wit_setters.proofs.Results.{lookup-inserted}
+use Rattle.wit_model.specs.Setters.{early, is_same_text, name_in, others}
+use Rattle.wit_syntax.proofs.Names.{name_cases, name_equal, name_itself}
+use Rattle.wit_setters.specs.Told.{goes, offered, wanted, HaveOwnNames}
+use Rattle.wit_setters.specs.Parted.{known, IsParted}
+use Rattle.wit_setters.proofs.GetterNames.{goes_wanted, offers_none, one_setter}
+use Rattle.wit_setters.proofs.OwnNames.{Differs, differs_rest, names, own_head}
 
--- what is known among the names of getters is the name itself
-known_name : (names : List (List ℕ × Unit {0})) (o : Option (List ℕ)) (name : List ℕ) → known names o ≡ Some name → o ≡ Some name
-known_name names None name h = cc
-known_name names (Some n) name h = elim (cases_Bool (is_some (lookup (pointwise nat_eq n) names))) [
+-- a name that is known is that name
+known_name : (has : List ℕ → Bool) (o : Option (List ℕ)) (name : List ℕ) → known has o ≡ Some name → o ≡ Some name
+known_name has None name h = cc
+known_name has (Some n) name h = elim (cases_Bool (has n)) [
   | inl hit ↦ rw hit at h
   | inr miss ↦ let none : None ≡ Some name = rw miss at h in cc
 ]
 
-module _ {X : Type 0} (goes : X → X → Bool) (e : X) (es : List X) where
-  others_early : list_any (goes e) es ≡ true → others goes (e ∷ es) ≡ others goes es
+known_test : (has : List ℕ → Bool) (n : List ℕ) → is_some (known has (Some n)) ≡ has n
+known_test has n = elim (cases_Bool (has n)) [
+  | inl hit ↦ rw hit refl
+  | inr miss ↦ rw miss refl
+]
+
+same_text : (o : Option (List ℕ)) (name : List ℕ) → is_same_text o (Some name) ≡ true → o ≡ Some name
+same_text None name h = cc
+same_text (Some n) name h = ap Some (name_equal n name h)
+
+module _ {X : Type 0} (test : X → X → Bool) (e : X) (es : List X) where
+  others_early : list_any (test e) es ≡ true → others test (e ∷ es) ≡ others test es
   others_early hit = rw hit refl
 
-  early_early : list_any (goes e) es ≡ true → early goes (e ∷ es) ≡ e ∷ early goes es
+  early_early : list_any (test e) es ≡ true → early test (e ∷ es) ≡ e ∷ early test es
   early_early hit = rw hit refl
 
-  others_kept : list_any (goes e) es ≡ false → others goes (e ∷ es) ≡ e ∷ others goes es
+  others_kept : list_any (test e) es ≡ false → others test (e ∷ es) ≡ e ∷ others test es
   others_kept miss = rw miss refl
 
-  early_kept : list_any (goes e) es ≡ false → early goes (e ∷ es) ≡ early goes es
+  early_kept : list_any (test e) es ≡ false → early test (e ∷ es) ≡ early test es
   early_kept miss = rw miss refl
 
--- where only this setter's getter is g, no other of the list waits for g
-none_waits : {X : Type 0} (goes : X → X → Bool) (g : X) (es : List X) → ((i : ℕ) (t : X) → slice_get es i ≡ Some t → goes t g ≡ true → ⊥) → filter (λ t. goes t g) (early goes es) ≡ []
-none_waits goes g [] none = refl
-none_waits goes g (t ∷ es) none =
-    let rest = none_waits goes g es (λ i x at. none (suc i) x at) in
-    elim (cases_Bool (list_any (goes t) es)) [
-      | inl some ↦ elim (cases_Bool (goes t g)) [
-        | inl hit ↦ absurd (none 0 t refl hit)
-        | inr miss ↦ rw (some, miss) rest
-      ]
-      | inr none ↦ rw none rest
-    ]
+-- of items taken from the last, the next stands in front of those before it
+pub turned_next : {X : Type 0} (front rest : List X) (x : X) → reverse rest ++ reverse (front ++ x ∷ []) ≡ reverse (x ∷ rest) ++ reverse front
+turned_next front rest x =
+    ap (λ l. reverse rest ++ l) (reverse-append front (x ∷ []))
+    ∙ sym (append_assoc (reverse rest) (x ∷ []) (reverse front))
+    ∙ ap (λ l. l ++ reverse front) (sym (reverse-append (x ∷ []) rest))
 
--- of names that differ, no other setter waits for a setter's getter
-alone : (s g : Function) (fs : List Function) → HasNot made_name s.name fs → is_getter_of s g ≡ true → filter (λ t. is_getter_of t g) (early is_getter_of fs) ≡ []
-alone s g fs fresh goes = none_waits is_getter_of g fs (λ i t at hit. fresh i t at (one_setter t s g.name (goes_named t g hit) (goes_named s g goes)))
+-- one more in front, where the test says so
+chosen : {X : Type 0} (x : X) (xs : List X) (b : Bool) (o : Option X) → (b ≡ true → xs ≡ []) → option_to_list o ≡ xs → option_to_list (if b then Some x else o) ≡ (if b then x ∷ xs else xs)
+chosen x xs true o none was = ap (λ l. x ∷ l) (sym (none refl))
+chosen x xs false o none was = was
+
+module _ {X : Type 0} (tells : X → Option Function) where
+  -- these want the name
+  abbrev wanting : List ℕ → X → Bool
+  wanting name s = is_same_text (wanted (tells s)) (Some name)
+
+  -- no function of another name wants what a setter does
+  other_wants : (f : Function) (name : List ℕ) (o : Option Function) (ns : List (List ℕ)) → wanted (Some f) ≡ Some name → Differs f.name (name_in o ++ ns) → is_same_text (wanted o) (Some name) ≡ false
+  other_wants f name None ns wants d = refl
+  other_wants f name (Some g) ns wants d = elim (cases_Bool (is_same_text (wanted (Some g)) (Some name))) [
+    | inl hit ↦ (
+        let same = one_setter f g name wants (same_text (wanted (Some g)) name hit) in
+        let wrong : false ≡ true = sym d.0 ∙ ap (pointwise nat_eq f.name) (sym same) ∙ name_itself f.name in
+        absurd (let f : ⊥ = cc in f))
+    | inr miss ↦ miss
+  ]
+
+  none_want : (f : Function) (name : List ℕ) (es : List X) → wanted (Some f) ≡ Some name → Differs f.name (names tells es) → filter (wanting name) (early (goes tells) es) ≡ []
+  none_want f name [] wants d = refl
+  none_want f name (e ∷ es) wants d =
+      let rest = none_want f name es wants (differs_rest f.name (tells e) (names tells es) d) in
+      elim (cases_Bool (list_any (goes tells e) es)) [
+        | inl hit ↦ (let other : wanting name e ≡ false = other_wants f name (tells e) (names tells es) wants d in rw (hit, other) rest)
+        | inr miss ↦ rw miss rest
+      ]
+
+  -- no other setter wants the name that a setter wants
+  alone : (s : X) (es : List X) (name : List ℕ) → wanted (tells s) ≡ Some name → HaveOwnNames tells (s ∷ es) → filter (wanting name) (early (goes tells) es) ≡ []
+  alone s es name wants own = go (tells s) refl
+    where
+      go : (o : Option Function) → tells s ≡ o → filter (wanting name) (early (goes tells) es) ≡ []
+      go None is = (let none : None ≡ Some name = ap wanted (sym is) ∙ wants in absurd (let f : ⊥ = cc in f))
+      go (Some f) is = none_want f name es (ap wanted (sym is) ∙ wants) (own_head tells s f es is own)
+
+  no_name : (es : List X) → list_any (λ g. is_same_text None (offered (tells g))) es ≡ false
+  no_name [] = refl
+  no_name (e ∷ es) = no_name es
+
+  module _ (es kept : List X) (has : List ℕ → Bool) (waits : List ℕ → Option X) (was : IsParted tells es kept has waits) where
+    -- a getter is known exactly if it is one of these
+    stands : (s : X) → list_any (goes tells s) es ≡ is_some (known has (wanted (tells s)))
+    stands s = (λ i. list_any (λ g. goes_wanted (tells s) (tells g) i) es) ∙ go (wanted (tells s))
+      where
+        go : (o : Option (List ℕ)) → list_any (λ g. is_same_text o (offered (tells g))) es ≡ is_some (known has o)
+        go None = no_name es
+        go (Some n) = sym (was.offer n) ∙ sym (known_test has n)
+
+    -- a setter more that waits
+    pub parted_early : (now : List ℕ → Option X) (s : X) (name : List ℕ) → known has (wanted (tells s)) ≡ Some name → ((n : List ℕ) → now n ≡ (if pointwise nat_eq name n then Some s else waits n)) → HaveOwnNames tells (s ∷ es) → IsParted tells (s ∷ es) kept has now
+    parted_early now s name h put own =
+        let hit : list_any (goes tells s) es ≡ true = stands s ∙ ap is_some h in
+        let wants = known_name has (wanted (tells s)) name h in
+        record {
+          stay = was.stay ∙ sym (others_early (goes tells) s es hit);
+          offer = λ n. was.offer n ∙ ap (λ o. is_same_text (Some n) o || list_any (λ g. is_same_text (Some n) (offered (tells g))) es) (sym (offers_none (tells s) name wants));
+          wait = λ n. (
+              let mine = filter (wanting n) (early (goes tells) es) in
+              let none : pointwise nat_eq name n ≡ true → mine ≡ [] = λ same. ap (λ q. filter (wanting q) (early (goes tells) es)) (sym (name_equal name n same)) ∙ alone s es name wants own in
+              ap option_to_list (put n)
+              ∙ chosen s mine (pointwise nat_eq name n) (waits n) none (was.wait n)
+              ∙ ap (λ o. if is_same_text o (Some n) then s ∷ mine else mine) (sym wants)
+              ∙ ap (filter (wanting n)) (sym (early_early (goes tells) s es hit)));
+        }
+
+    -- an item more that waits for none
+    pub parted_kept : (kept_now : List X) (has_now : List ℕ → Bool) (x : X) → known has (wanted (tells x)) ≡ None → kept_now ≡ kept ++ x ∷ [] → ((n : List ℕ) → has_now n ≡ (is_same_text (Some n) (offered (tells x)) || has n)) → IsParted tells (x ∷ es) kept_now has_now waits
+    parted_kept kept_now has_now x h more put =
+        let miss : list_any (goes tells x) es ≡ false = stands x ∙ ap is_some h in
+        record {
+          stay = ap reverse more ∙ reverse-append kept (x ∷ []) ∙ ap (λ l. x ∷ l) was.stay ∙ sym (others_kept (goes tells) x es miss);
+          offer = λ n. put n ∙ ap (λ b. is_same_text (Some n) (offered (tells x)) || b) (was.offer n);
+          wait = λ n. was.wait n ∙ ap (filter (wanting n)) (sym (early_kept (goes tells) x es miss));
+        }
+
+-- the names with one more that is offered
+or_cond : (a b : Bool) → cond a true b ≡ (a || b)
+or_cond true b = refl
+or_cond false b = refl
 
 same_either_way : (m n : List ℕ) → pointwise nat_eq m n ≡ pointwise nat_eq n m
 same_either_way m n = elim (name_cases m n) [
@@ -65,93 +145,5 @@ same_either_way m n = elim (name_cases m n) [
   ]
 ]
 
--- one more in front, where the test says so
-chosen : {X : Type 0} (x : X) (xs : List X) (p q : Bool) (o : Option X) → p ≡ q → (q ≡ true → xs ≡ []) → option_to_list o ≡ xs → option_to_list (cond p (Some x) o) ≡ cond q (x ∷ xs) xs
-chosen x xs true true o same none was = ap (λ l. x ∷ l) (sym (none refl))
-chosen x xs true false o same none was = cc
-chosen x xs false true o same none was = cc
-chosen x xs false false o same none was = was
-
--- what waits for a function once a setter waits for the getter of that name
-waits_more : (waiting : List (List ℕ × Function)) (s g : Function) (name : List ℕ) (before : List Function) → getter_name s ≡ Some name → (is_getter_of s g ≡ true → before ≡ []) → option_to_list (waiting_for waiting g) ≡ before → option_to_list (waiting_for (insert_entry (pointwise nat_eq) waiting name s) g) ≡ cond (is_getter_of s g) (s ∷ before) before
-waits_more waiting s g name before wants none was = elim (cases_Bool (is_getter g.kind)) [
-  | inl hit ↦ (
-      let now : waiting_for (insert_entry (pointwise nat_eq) waiting name s) g ≡ cond (pointwise nat_eq g.name name) (Some s) (waiting_for waiting g) = rw hit (lookup-inserted waiting name g.name s) in
-      let goes : is_getter_of s g ≡ pointwise nat_eq name g.name = goes_wanted s g ∙ ap (λ b. b && is_name (getter_name s) g.name) hit ∙ ap (λ o. is_name o g.name) wants in
-      ap option_to_list now ∙ chosen s before (pointwise nat_eq g.name name) (is_getter_of s g) (waiting_for waiting g) (same_either_way g.name name ∙ sym goes) none was)
-  | inr miss ↦ (
-      let now : waiting_for (insert_entry (pointwise nat_eq) waiting name s) g ≡ waiting_for waiting g = rw miss refl in
-      let goes : is_getter_of s g ≡ false = goes_wanted s g ∙ ap (λ b. b && is_name (getter_name s) g.name) miss in
-      ap option_to_list now ∙ chosen s before false (is_getter_of s g) (waiting_for waiting g) (sym goes) none was)
-]
-
--- a setter more that waits
-pub parted_early : (fs kept : List Function) (getters : List (List ℕ × Unit {0})) (waiting : List (List ℕ × Function)) (s : Function) (name : List ℕ) → known getters (getter_name s) ≡ Some name → AllDiffer (map made_name (s ∷ fs)) → IsParted fs kept getters waiting → IsParted (s ∷ fs) kept getters (insert_entry (pointwise nat_eq) waiting name s)
-parted_early fs kept getters waiting s name h differ was =
-    let hit : list_any (is_getter_of s) fs ≡ true = sym (was.tells s) ∙ ap is_some h in
-    let wants = known_name getters (getter_name s) name h in
-    let plain : is_getter s.kind ≡ false = no_getter s name wants in
-    record {
-      stay = was.stay ∙ sym (others_early is_getter_of s fs hit);
-      tells = λ t. (
-          let miss : is_getter_of t s ≡ false = goes_wanted t s ∙ ap (λ b. b && is_name (getter_name t) s.name) plain in
-          was.tells t ∙ ap (λ b. b || list_any (is_getter_of t) fs) (sym miss));
-      waits = λ g.
-          waits_more waiting s g name (filter (λ t. is_getter_of t g) (early is_getter_of fs)) wants (alone s g fs (differ_head made_name s fs differ)) (was.waits g)
-          ∙ ap (filter (λ t. is_getter_of t g)) (sym (early_early is_getter_of s fs hit));
-    }
-
--- a getter more may be known
-known_more : (getters : List (List ℕ × Unit {0})) (f : Function) (o : Option (List ℕ)) → is_some (known (getters_with getters f) o) ≡ ((is_getter f.kind && is_name o f.name) || is_some (known getters o))
-known_more getters f o = elim (cases_Bool (is_getter f.kind)) [
-  | inl hit ↦ rw hit (go o)
-  | inr miss ↦ rw miss refl
-]
-  where
-    go : (o : Option (List ℕ)) → is_some (known (insert_entry (pointwise nat_eq) getters f.name tt) o) ≡ (is_name o f.name || is_some (known getters o))
-    go None = refl
-    go (Some n) =
-        let found = lookup-inserted getters f.name n tt in
-        elim (cases_Bool (pointwise nat_eq n f.name)) [
-          | inl hit ↦ rw (found, hit) refl
-          | inr miss ↦ rw (found, miss) refl
-        ]
-
--- a function more that waits for none
-pub parted_kept : (fs kept : List Function) (getters : List (List ℕ × Unit {0})) (waiting : List (List ℕ × Function)) (f : Function) → known getters (getter_name f) ≡ None → IsParted fs kept getters waiting → IsParted (f ∷ fs) (kept ++ f ∷ []) (getters_with getters f) waiting
-parted_kept fs kept getters waiting f h was =
-    let miss : list_any (is_getter_of f) fs ≡ false = sym (was.tells f) ∙ ap is_some h in
-    record {
-      stay = reverse-append kept (f ∷ []) ∙ ap (λ l. f ∷ l) was.stay ∙ sym (others_kept is_getter_of f fs miss);
-      tells = λ s. known_more getters f (getter_name s) ∙ (λ i. sym (goes_wanted s f) i || was.tells s i);
-      waits = λ g. was.waits g ∙ ap (filter (λ t. is_getter_of t g)) (sym (early_kept is_getter_of f fs miss));
-    }
-
--- what stands behind the functions, each with what waits for it
-pub parted_placed : (fs kept : List Function) (getters : List (List ℕ × Unit {0})) (waiting : List (List ℕ × Function)) → IsParted fs kept getters waiting → flat_map (with_waiting waiting) (reverse kept) ≡ setters_placed is_getter_of fs
-parted_placed fs kept getters waiting was = ap (flat_map (with_waiting waiting)) was.stay ∙ go (others is_getter_of fs)
-  where
-    go : (gs : List Function) → flat_map (with_waiting waiting) gs ≡ flat_map (with_setters is_getter_of (early is_getter_of fs)) gs
-    go [] = refl
-    go (g ∷ gs) = λ i. (g ∷ was.waits g i) ++ go gs i
-
--- of functions taken from the last, the next stands in front of those before it
-behind_next : (fs front rest : List Function) (f : Function) → front ++ f ∷ rest ≡ reverse fs → reverse rest ++ f ∷ reverse front ≡ fs
-behind_next fs front rest f all =
-    sym (append_assoc (reverse rest) (f ∷ []) (reverse front))
-    ∙ ap (λ l. l ++ reverse front) (sym (reverse-append (f ∷ []) rest))
-    ∙ sym (reverse-append front (f ∷ rest))
-    ∙ ap reverse all
-    ∙ reverse-reverse fs
-
-differ_behind : (front fs : List Function) → AllDiffer (map made_name (front ++ fs)) → AllDiffer (map made_name fs)
-differ_behind [] fs d = d
-differ_behind (f ∷ front) fs d = differ_behind front fs (differ_tail made_name f (front ++ fs) d)
-
--- so its name is none of theirs
-pub differ_next : (fs front rest : List Function) (f : Function) → front ++ f ∷ rest ≡ reverse fs → AllDiffer (map made_name fs) → AllDiffer (map made_name (f ∷ reverse front))
-differ_next fs front rest f all d = differ_behind (reverse rest) (f ∷ reverse front) (subst (λ l. AllDiffer (map made_name l)) (sym (behind_next fs front rest f all)) d)
-
--- a function more, with what waits for it
-pub placed_next : (waiting : List (List ℕ × Function)) (front placed : List Function) (f : Function) → placed ≡ flat_map (with_waiting waiting) front → placed ++ with_waiting waiting f ≡ flat_map (with_waiting waiting) (front ++ f ∷ [])
-placed_next waiting front placed f was = ap (λ l. l ++ with_waiting waiting f) was ∙ flat_map_more (with_waiting waiting) [] front f
+pub offered_more : (k n name : List ℕ) (o : Option (List ℕ)) (b : Bool) → k ≡ n → o ≡ Some n → cond (bytes_eq k name) true b ≡ (is_same_text (Some name) o || b)
+offered_more k n name o b same is = ap (λ m. cond (bytes_eq m name) true b) same ∙ or_cond (bytes_eq n name) b ∙ ap (λ a. a || b) (same_either_way n name) ∙ ap (λ m. is_same_text (Some name) m || b) (sym is)

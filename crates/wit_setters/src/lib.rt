@@ -1,4 +1,8 @@
-//! Setters of an interface, put behind their getters.
+//! Setters of an interface or of a side of a world, put behind their getters.
 #![tactic(auto)]
 
+mod parted;
+mod placed;
 pub mod setters;
+pub mod sides;
+mod told;

@@ -1,0 +1,12 @@
+use Rattle.std.proofs.Common.{◌≡◌, ◌++◌, reverse}
+use Rattle.std.specs.HashMap.{get_by_text}
+use Rattle.std.specs.HashSet.{contains_text}
+use Rattle.std.specs.Vec.Iter.{into_iter_items}
+use Rattle.wit_setters.specs.Parted.{IsParted}
+use Rattle.wit_setters.proofs.parted.part.Given as goal
+
+abbrev pub invariant-loop-item : goal.invariant-loop-item
+invariant-loop-item g l = record {
+  all : reverse (into_iter_items l.item-iterator) ++ reverse l.yielded ≡ l.fn.items.items;
+  parted : IsParted g.T.Told.tells (reverse l.yielded) l.parted.others.items (contains_text l.parted.getters) (get_by_text l.parted.waiting);
+}

@@ -1,0 +1,10 @@
+use Rattle.std.proofs.Common.{◌∙◌}
+use Rattle.std.specs.HashMap.{get_by_text}
+use Rattle.std.specs.HashSet.{contains_text}
+use Rattle.wit_setters.proofs.Serving.{served_placed}
+use Rattle.wit_setters.proofs.placed.behind_getters.Goals as goal
+
+pub returns : goal.returns
+returns g c =
+    let parted = c.in_ok-parted.parted in
+    c.in_ok-placed.ensures ∙ served_placed g.T.Told.tells c.args.items.items parted.others.items (contains_text parted.getters) (get_by_text parted.waiting) c.in_ok-parted.ensures c.requires

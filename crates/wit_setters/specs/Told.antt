@@ -1,0 +1,37 @@
+-- The names by which a setter finds its getter, among items of which some are functions.
+use Rattle.std.specs.Prelude.{ℕ, ◌++◌, Bool, false, List, Option, Some, None, if◌then◌else◌, nat_eq}
+use Rattle.std.specs.Cmp.Lexicographic.{pointwise}
+use Rattle.std.specs.List.{IsDistinct, flat_map}
+use Rattle.std.specs.Option.{is_some, option_map}
+use Rattle.wit_names.specs.Front.{behind}
+use Rattle.wit_model.specs.Setters.{fronts, goes_with, is_getter, name_in}
+use Rattle.wit_model.specs.declared.function.Function.{Function}
+
+-- it is a function, and a setter
+abbrev pub is_setter : Option Function → Bool
+is_setter None = false
+is_setter (Some f) = is_some (fronts f.kind)
+
+-- a name with the second of two fronts in place of the first
+abbrev pub turned : Option (List ℕ × List ℕ) → List ℕ → Option (List ℕ)
+turned None name = None
+turned (Some f) name = option_map (λ rest. f.1 ++ rest) (behind f.0 name)
+
+-- the name of the getter that a setter wants
+abbrev pub wanted : Option Function → Option (List ℕ)
+wanted None = None
+wanted (Some f) = turned (fronts f.kind) f.name
+
+-- the name that a getter offers
+abbrev pub offered : Option Function → Option (List ℕ)
+offered None = None
+offered (Some f) = if is_getter f.kind then Some f.name else None
+
+module _ {X : Type 0} (tells : X → Option Function) where
+  -- the one is a setter, and the other its getter
+  abbrev pub goes : X → X → Bool
+  goes s g = goes_with (tells s) (tells g)
+
+  -- no two functions have one name
+  abbrev pub HaveOwnNames : List X → Type 0
+  HaveOwnNames es = IsDistinct (pointwise nat_eq) (flat_map (λ e. name_in (tells e)) es)

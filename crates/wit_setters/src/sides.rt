@@ -1,0 +1,84 @@
+//! Setters of a side of a world that stand before their getters, put directly behind them.
+ghost use Rattle.std.specs.Prelude.{◌≡◌, ℕ, Some, IfOk, OnOk, map, slice_get};
+ghost use Rattle.std.specs.List.{list_any};
+ghost use Rattle.indexmap.specs.IndexMap.{insert_entry};
+ghost use Rattle.wit_model.specs.Setters.{placed};
+ghost use Rattle.wit_model.specs.Worlds.{function_of};
+ghost use Rattle.wit_model.specs.declared.function.Function.{Function};
+ghost use Rattle.wit_model.specs.declared.world.WorldItem.{WorldItem as TheItem};
+ghost use Rattle.wit_model.specs.declared.world.WorldKey.{WorldKey as TheKey};
+ghost use Rattle.wit_model.specs.declared.world.WorldKey.TheVariants.{Name};
+ghost use Rattle.wit_model.specs.contracts.world.WorldKeyPartialEq.TheImpl.{eq-value as key_test};
+ghost use Rattle.wit_syntax.specs.Repeats.{AllDiffer};
+ghost use Rattle.wit_setters.specs.Told.{is_setter as is_a_setter};
+
+use crate::placed::behind_getters;
+use crate::told::is_setter;
+use std::alloc::{AllocError, Global};
+use wit_model::{WorldItem, WorldKey, world_item_func};
+use wit_values::Table;
+
+/// Whether one of these is a setter.
+fn have_setter(side: &Table<WorldKey, WorldItem>) -> bool
+    ensures { result ≡ list_any (λ e. is_a_setter (function_of e.1)) side.now }
+{
+    side.as_map()
+        .iter()
+        .any(|(_, item)| is_setter(world_item_func(item)))
+}
+
+/// The entries of a side, moved out of its table.
+fn entries_of(
+    alloc: Global,
+    side: Table<WorldKey, WorldItem>,
+) -> Result<Vec<(WorldKey, WorldItem)>, AllocError>
+    ensures { IfOk result (λ entries. entries.items ≡ side) }
+{
+    side.into_map().into_iter().collect(alloc)
+}
+
+/// Puts an entry into a table.
+fn add(
+    table: &mut Table<WorldKey, WorldItem>,
+    entry: (WorldKey, WorldItem),
+) -> Result<(), AllocError>
+    ensures { OnOk result (table.new ≡ insert_entry key_test.it table.old entry.0 entry.1) }
+{
+    let (key, item) = entry;
+    table.insert(key, item)?;
+    Ok(())
+}
+
+/// Entries, moved into a table in their order.
+fn table_of(
+    alloc: Global,
+    entries: Vec<(WorldKey, WorldItem)>,
+) -> Result<Table<WorldKey, WorldItem>, AllocError>
+    requires { AllDiffer (map (λ e. e.0) entries.items) }
+    ensures { IfOk result (λ table. table ≡ entries.items) }
+{
+    let mut table = Table::new(alloc);
+    for entry in entries {
+        add(&mut table, entry)?;
+    }
+    Ok(table)
+}
+
+/// A side of a world, where each setter that stands before its getter stands directly behind it
+/// instead. All else keeps its order. A function stands at its name.
+pub fn place_setters(
+    alloc: Global,
+    side: Table<WorldKey, WorldItem>,
+) -> Result<Table<WorldKey, WorldItem>, AllocError>
+    requires distinct { AllDiffer (map (λ e. e.0) side) }
+    requires named { (k : ℕ) (e : TheKey × TheItem) (f : Function) → slice_get side k ≡ Some e → function_of e.1 ≡ Some f → e.0 ≡ Name f.name }
+    ensures { IfOk result (λ done. done ≡ placed function_of side) }
+{
+    if !have_setter(&side) {
+        return Ok(side);
+    }
+    let entries = entries_of(alloc, side)?;
+    let placed = behind_getters(alloc, entries)?;
+    let table = table_of(alloc, placed)?;
+    Ok(table)
+}
