@@ -24,7 +24,9 @@ use Rattle.wit_syntax.specs.Sides.{FunctionKey, side_items, inline_items, SideIt
 use Rattle.wit_syntax.specs.Source.{address, Item, item_id, item_notes, TopName, leads, ScopeName, included_scope}
 use Rattle.wit_syntax.specs.Trees.{scope}
 use Rattle.wit_syntax.specs.Foreign.{visited, foreign_interfaces}
-use Rattle.wit_syntax.specs.Scope.{local_names}
+use Rattle.wit_syntax.specs.Scope.{includes, local_names}
+use Rattle.wit_syntax.specs.Fault.{Fault}
+use Rattle.wit_syntax.specs.Broken.{IsSetterAlone}
 use Rattle.wit_syntax.proofs.Lists.{at_front, at_back, at_either, at_split, map_at, flat_map_at, flat_map_has}
 use Rattle.wit_syntax.proofs.Turns.{at_part}
 use Rattle.wit_syntax.proofs.Kept.{behind_one}
@@ -32,7 +34,7 @@ use Rattle.wit_arena.specs.Meet.{Meeting, keys, Meets, Decls, all_name_meetings}
 use Rattle.wit_arena.specs.Package.{IsWorld, import_types, world_types, world_functions}
 use Rattle.wit_arena.specs.Resolved.{WorldArenas}
 use Rattle.wit_arena.specs.Resolving.{Names, Cell, Required}
-use Rattle.wit_arena.specs.SideItems.{AreSideItems}
+use Rattle.wit_arena.specs.SideItems.{AreSideItems, settled}
 use Rattle.wit_arena.specs.Whole.{Ordered, OrderedWorld, own_item, Turned, item_of, addresses, turned, names_turn, side_turns, world_turns, all_turns, all_inside, turn_meetings, meetings, taking_meeting, all_meetings, turn_handles, AreRequired, type_imports, IsInclude, AreIncludes}
 use Rattle.wit_syntax.specs.Source as source
 use Rattle.wit_arena.proofs.Added.{WorldOwner, inside_of, interface_list, world_list, decls}
@@ -50,13 +52,17 @@ pub record SaysWorld (worlds : List Address) (o : Ordered) (w : World) : Type 0 
   pub says : IsWorld (item_id o.item) (item_notes o.item) w
   pub includes : AreIncludes worlds o.item w.includes
 
--- it has the types of a scope as its imports, and then, on its sides, what the item has there, where the interfaces have these addresses
+-- it has the types of a scope as its imports, and then, on its sides, what the item has there, each setter behind its getter where nothing is
+-- included; the interfaces have these addresses
 pub record MakesWorld (interfaces : List Address) (o : Ordered) (c : DoneScope) (w : World) : Type 0 where
   pub imported : List (WorldKey × WorldItem)
-  pub imports : w.imports ≡ type_imports c.names c.types ++ imported
   pub are_imported : AreSideItems interfaces o.item.top Imported (side_items o.item) c.made (map address (inline_items o.item)) imported
-  pub are_exported : AreSideItems interfaces o.item.top Exported (side_items o.item) c.made (map address (inline_items o.item)) w.exports
+  pub imports : w.imports ≡ settled (includes o.item) (type_imports c.names c.types ++ imported)
+  pub exported : List (WorldKey × WorldItem)
+  pub are_exported : AreSideItems interfaces o.item.top Exported (side_items o.item) c.made (map address (inline_items o.item)) exported
+  pub exports : w.exports ≡ settled (includes o.item) exported
   pub stated : c.stated ≡ world_functions w
+  pub paired : (f : Fault) → IsSetterAlone o.item f → ⊥
 
 -- a world that was resolved, as a scope
 abbrev pub world_cell : World → Cell

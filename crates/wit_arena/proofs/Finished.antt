@@ -30,12 +30,13 @@ use Rattle.wit_syntax.specs.Broken.{is_world_at, IsBroken, Use, InterfaceInclude
 use Rattle.wit_syntax.specs.Repeats.{AllDiffer}
 use Rattle.wit_arena.specs.Whole.{Ordered, own_item, Turned, item_of}
 use Rattle.wit_arena.specs.Resolving.{Names as Table, Cell, cell, cells, env_of, Required, IsIndex, IsFound, Unresolved, Unstated, OfFunction, WrongName, WrongItself, IsWrongScope, IsWorldIndex, IsNoWorld, IsLostInclude, IsLostLink}
-use Rattle.wit_arena.specs.Resolved.{worlds_at, WorldArenas, front_worlds, AddsWorlds, AddsForeign, AreUsableUses, IsWrongHandleNow, WrongStability, WrongScope, WrongSides, WrongWorldSides, WrongHandle, Unpaired, IsWrongInline, WrongInline, WrongWorldStability, WrongWorldScope, WrongWorldHandle, WrongWorldUse, LostLink, LostInclude, IsWrongAmong, IsWrongWorldAmong}
+use Rattle.wit_arena.specs.Resolved.{worlds_at, WorldArenas, front_worlds, AddsWorlds, AddsForeign, AreUsableUses, IsWrongHandleNow, WrongStability, WrongScope, WrongSides, WrongWorldSides, UnpairedOnSide, WrongHandle, Unpaired, IsWrongInline, WrongInline, WrongWorldStability, WrongWorldScope, WrongWorldHandle, WrongWorldUse, LostLink, LostInclude, IsWrongAmong, IsWrongWorldAmong}
 use Rattle.wit_syntax.proofs.Lists.{at_back, at_seam, at_split, map_at}
 use Rattle.wit_syntax.proofs.Firsts.{firsts_has}
 use Rattle.wit_syntax.proofs.Found.{at_contains, contains_at, find_at, find_passes}
 use Rattle.wit_syntax.proofs.Names.{name_equal}
 use Rattle.wit_syntax.proofs.Inline.{inline_interface}
+use Rattle.wit_syntax.proofs.Setters.{alone_among}
 use Rattle.wit_syntax.proofs.Scopes.{all_declared, addresses_differ, item_at_its, scopes_declared, scopes_inline}
 use Rattle.wit_arena.proofs.Indexing.{cells-append, front_cell, worlds_at-append}
 use Rattle.wit_arena.proofs.Standing.{DoneScope, cell_of, IsDoneScope}
@@ -313,7 +314,7 @@ module _ (files : List PackageFile) (places : List ℕ) (order : IsOrder (item_r
           | WrongScope wrong ↦ wrong_scope uses h.es h.front h.ws h.foreign vs h.mid d.0 h.rs d.2 h.by_name (subst (λ (l : List Interface). IsIndex (cells fore l) h.by_name) d.1 h.index) w here earlier f (subst (λ (l : List Interface). IsWrongScope (cells fore l) h.by_name (scope_names w) (functions w) f) d.1 wrong)
           | WrongSides wrong ↦ Sides w here wrong
           | WrongHandle wrong ↦ Handle w here (interface_handle files interfaces worlds (interfaces_sort (in_order all places)) (worlds_sort (in_order all places)) are_interfaces are_worlds uses h.es h.front h.ws h.foreign vs h.mid d.0 h.rs w next d.2 f (subst (λ (l : List Interface). IsWrongHandleNow h.mid (cells fore l) (owner.Interface (length l)) w f) d.1 wrong))
-          | Unpaired alone ↦ Setter w here (record { interface = h.sort; alone = alone })
+          | Unpaired alone ↦ Setter w here (alone_among w h.sort f alone)
         ]
 
     -- a scope of the files uses from interfaces of the package, or of others
@@ -347,7 +348,7 @@ module _ (files : List PackageFile) (places : List ℕ) (order : IsOrder (item_r
             | WrongScope wrong ↦ wrong_scope uses es front wfront foreign interfaces middle xs irs d by_name index inner here (used_among inner here) f wrong
             | WrongSides wrong ↦ Sides inner here wrong
             | WrongHandle wrong ↦ Handle inner here (inline_handle files interfaces worlds is_sort ws_sort are_interfaces are_worlds uses es front wfront foreign middle xs irs d us mid a wrs w next e h.place h.done inner h.next h.types h.middle h.mid h.adds h.now h.functions h.rs h.sides h.reached f wrong)
-            | Unpaired alone ↦ Setter inner here (record { interface = sort; alone = alone })
+            | Unpaired alone ↦ Setter inner here (alone_among inner sort f alone)
           ]
 
     -- what is wrong with a world, once all interfaces and the worlds before it in the order were resolved, is wrong with the files
@@ -373,6 +374,7 @@ module _ (files : List PackageFile) (places : List ℕ) (order : IsOrder (item_r
           | WrongWorldStability wrong ↦ stability_broken files w declared f wrong
           | WrongWorldScope wrong ↦ wrong_scope uses h.es h.front h.worlds_front h.foreign interfaces h.middle d.0 h.rs d.2 h.by_name index w here (used_among w here) f (subst (λ (l : List Interface). IsWrongScope (cells fore l) h.by_name (scope_names w) (functions w) f) d.1 wrong)
           | WrongWorldSides wrong ↦ Sides w here wrong
+          | UnpairedOnSide alone ↦ Setter w here alone
           | WrongWorldHandle wrong ↦ Handle w here (world_handle files interfaces worlds is_sort ws_sort are_interfaces are_worlds uses h.es h.front h.worlds_front h.foreign h.middle d.0 h.rs d.2 vs h.mid h.before h.worlds_rs w next e f (subst (λ (l : List Interface). IsWrongHandleNow h.mid (cells fore l) (owner.World (length h.before.worlds)) w f) d.1 wrong))
           | WrongWorldUse wrong ↦ Use w declared wrong
           | LostLink lost ↦ absurd (none_lost uses h.es h.front h.worlds_front h.foreign interfaces h.middle d.0 h.rs d.2 h.by_name index interface_at w f lost)

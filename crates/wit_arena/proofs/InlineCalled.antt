@@ -9,12 +9,13 @@ use Rattle.wit_model.specs.declared.unresolved.UnresolvedPackage.{UnresolvedPack
 use Rattle.wit_syntax.specs.Address.{Address, InlineAt}
 use Rattle.wit_syntax.specs.Node.{OfScope}
 use Rattle.wit_syntax.specs.Repeats.{AllDiffer}
-use Rattle.wit_syntax.specs.Sides.{items_on, side_items, inline_items}
+use Rattle.wit_syntax.specs.Sides.{interfaces_on, side_items, inline_items}
 use Rattle.wit_syntax.specs.Source.{Item, item_name, address, declared_name}
 use Rattle.wit_syntax.proofs.Found.{find_at, find_passes, find_some}
 use Rattle.wit_syntax.proofs.Inline.{is_inside, inline_items_at, inline_inside}
 use Rattle.wit_syntax.proofs.Lists.{at_back, flat_map_at, flat_map_has}
 use Rattle.wit_syntax.proofs.Turns.{at_part}
+use Rattle.wit_syntax.specs.Scope.{includes}
 use Rattle.wit_arena.specs.Package.{world_interfaces, inline_address, inline_owner}
 use Rattle.wit_arena.specs.Whole.{Ordered}
 use Rattle.wit_arena.proofs.InlineOwners.{IsInlineEntry, world_entries, world_entry}
@@ -35,7 +36,7 @@ written_at w k i at =
     let it = inline_items_at w k i at in
     record {
       side = it.x.side;
-      place = length (items_on it.x.side (take it.place (side_items w)));
+      place = length (interfaces_on it.x.side (take it.place (side_items w)));
       stands = ap address (sym it.is);
       unnamed = ap (λ (v : Item). declared_name v.declared) (sym it.is);
     }
@@ -54,7 +55,7 @@ module _ (files : List PackageFile) (p : UnresolvedPackage) (interfaces worlds :
             let o = item_of_entry laid h.0 it.1 h.1 in
             let c = scope_at laid h.0 o.0 o.1 in
             let makes = laid.makes h.0 o.0 c.0 it.1 o.1 c.1 h.1 in
-            world_entries interfaces o.0.item it.1 (laid.says h.0 o.0 it.1 o.1 h.1).says.name c.0.names c.0.types makes.imported makes.imports c.0.made makes.are_imported makes.are_exported it.3.0 e it.3.1)
+            world_entries interfaces o.0.item it.1 (laid.says h.0 o.0 it.1 o.1 h.1).says.name c.0.names c.0.types (includes o.0.item) makes.imported makes.exported makes.imports makes.exports c.0.made makes.are_imported makes.are_exported it.3.0 e it.3.1)
       ]
 
   -- each that is written in a world has one
@@ -64,7 +65,7 @@ module _ (files : List PackageFile) (p : UnresolvedPackage) (interfaces worlds :
       let c = scope_at laid t o at in
       let makes = laid.makes t o c.0 w.0 at c.1 w.1 in
       let spot = written_at o.item k i inside in
-      let it = world_entry interfaces o.item w.0 (laid.says t o w.0 at w.1).says.name c.0.names c.0.types makes.imported makes.imports c.0.made makes.are_imported makes.are_exported k i spot.side spot.place inside spot.stands in
+      let it = world_entry interfaces o.item w.0 (laid.says t o w.0 at w.1).says.name c.0.names c.0.types (includes o.item) makes.imported makes.exported makes.imports makes.exports c.0.made makes.are_imported makes.are_exported k i spot.side spot.place inside spot.stands in
       let there : slice_get p.worlds (length wfront + t) ≡ Some w.0 = ap (λ (l : List World). slice_get l (length wfront + t)) arena ∙ at_back wfront own t w.0 w.1 in
       let n = flat_map_has world_interfaces p.worlds (length wfront + t) it.0 w.0 (it.1, address i) there it.2 in
       (n.0, it.1, n.1, it.3)

@@ -1,10 +1,12 @@
 -- Where the interfaces that are written in worlds stand among what these have on their sides.
 use Rattle.std.proofs.Common.{◌≡◌, ℕ, zero, suc, true, false, List, [], ◌∷◌, ◌++◌, ◌+◌, length, map, Option, Some, None, ◌⊎◌, inl, inr, refl, sym, ap, ◌∙◌, arith, length-append}
-use Rattle.std.specs.Prelude.{slice_get, not}
+use Rattle.std.specs.Prelude.{slice_get}
+use Rattle.std.specs.List.{filter}
 use Rattle.std.specs.Option.{option_map_or}
 use Rattle.std.proofs.lemmas.Bool.{cases_Bool, cond-true, cond-false}
 use Rattle.std.proofs.lemmas.List.Elements.{filter-append}
 use Rattle.wit_tree.specs.declared.tree.Id.{Id}
+use Rattle.wit_tree.specs.declared.tree.Include.{Include}
 use Rattle.wit_tree.specs.declared.tree.WorldSide.{WorldSide}
 use Rattle.wit_tree.specs.declared.tree.WorldSide.TheVariants.{Imported, Exported}
 use Rattle.wit_model.specs.declared.function.Function.{Function}
@@ -13,50 +15,60 @@ use Rattle.wit_model.specs.declared.world.WorldKey.{WorldKey}
 use Rattle.wit_model.specs.declared.world.WorldItem.{WorldItem}
 use Rattle.wit_syntax.specs.Address.{Address, InlineAt}
 use Rattle.wit_syntax.specs.Crossing.{same_side}
-use Rattle.wit_syntax.specs.Sides.{role_side, Link, SideItem, SideFunction, SideLink, SideInline, item_side, items_on, side_items, inline_behind, inline_items}
-use Rattle.wit_syntax.specs.Source.{TopName, Target, Local, Foreign, leads, path_scope, used_scope, Item, item_name, address, ScopeName}
+use Rattle.wit_syntax.specs.Function.{SourceFunction}
+use Rattle.wit_syntax.specs.Sides.{role_side, Link, SideItem, SideFunction, SideLink, SideInline, is_interface, item_side, interfaces_on, side_items, inline_behind, inline_items}
+use Rattle.wit_syntax.specs.Source.{Target, Local, Foreign, leads, path_scope, used_scope, Item, item_name, address, ScopeName}
 use Rattle.wit_syntax.proofs.Addresses.{same_side-equal, side_itself}
-use Rattle.wit_syntax.proofs.Inline.{is_inside}
+use Rattle.wit_syntax.proofs.Inline.{is_inside, interfaces_on-append}
 use Rattle.wit_syntax.proofs.Lists.{at_front, at_back}
 use Rattle.wit_syntax.proofs.Turns.{at_part}
 use Rattle.wit_arena.specs.Functions.{function_item}
-use Rattle.wit_arena.specs.Package.{is_type_item, behind_types, interface_at, interfaces_from, world_interfaces}
+use Rattle.wit_arena.specs.Package.{is_interface_item, interface_items, interface_at, interfaces_from, world_interfaces}
 use Rattle.wit_arena.specs.Resolving.{Names}
-use Rattle.wit_arena.specs.SideItems.{link_item, inline_entry, put_on, AreSideItems}
+use Rattle.wit_arena.specs.SideItems.{link_item, inline_entry, put_on, AreSideItems, settled}
+use Rattle.wit_arena.proofs.Settled.{settled_interfaces}
 use Rattle.wit_arena.specs.Whole.{type_imports}
 
 abbrev Entry : Type 0
 Entry = WorldKey × WorldItem
 
--- names of types stand behind no types
-no_types_behind : (xs : List ScopeName) (types : Names) → behind_types (type_imports xs types) ≡ []
-no_types_behind [] types = refl
-no_types_behind (x ∷ xs) [] = refl
-no_types_behind (x ∷ xs) (t ∷ types) = no_types_behind xs types
+-- names of types are no interfaces
+no_interfaces : (xs : List ScopeName) (types : Names) → interface_items (type_imports xs types) ≡ []
+no_interfaces [] types = refl
+no_interfaces (x ∷ xs) [] = refl
+no_interfaces (x ∷ xs) (t ∷ types) = no_interfaces xs types
 
-put_behind : (side own : WorldSide) (x : Entry) (rest : List Entry) → is_type_item x ≡ false → behind_types rest ≡ rest → behind_types (put_on side own x rest) ≡ put_on side own x rest
-put_behind side own x rest other same = elim (cases_Bool (same_side side own)) [
-  | inl hit ↦ ap behind_types (cond-true (same_side side own) (x ∷ rest) rest hit) ∙ cond-true (not (is_type_item x)) (x ∷ behind_types rest) (behind_types rest) (ap not other) ∙ ap (λ (l : List Entry). x ∷ l) same ∙ sym (cond-true (same_side side own) (x ∷ rest) rest hit)
-  | inr miss ↦ ap behind_types (cond-false (same_side side own) (x ∷ rest) rest miss) ∙ same ∙ sym (cond-false (same_side side own) (x ∷ rest) rest miss)
+-- of what is put on a side an interface stands among those there, and nothing else does
+put_interface : (side own : WorldSide) (x : Entry) (rest : List Entry) → is_interface_item x ≡ true → interface_items (put_on side own x rest) ≡ put_on side own x (interface_items rest)
+put_interface side own x rest is = elim (cases_Bool (same_side side own)) [
+  | inl hit ↦ ap interface_items (cond-true (same_side side own) (x ∷ rest) rest hit) ∙ cond-true (is_interface_item x) (x ∷ interface_items rest) (interface_items rest) is ∙ sym (cond-true (same_side side own) (x ∷ interface_items rest) (interface_items rest) hit)
+  | inr miss ↦ ap interface_items (cond-false (same_side side own) (x ∷ rest) rest miss) ∙ sym (cond-false (same_side side own) (x ∷ interface_items rest) (interface_items rest) miss)
 ]
 
--- but all that an item has on its sides
-side_behind : (interfaces : List Address) (top : List TopName) (side : WorldSide) (written : List SideItem) (fs : List Function) (ss : List Address) (xs : List Entry) → AreSideItems interfaces top side written fs ss xs → behind_types xs ≡ xs
-side_behind interfaces top side [] fs ss xs are = ap behind_types are ∙ sym are
-side_behind interfaces top side (SideFunction fn ∷ written) [] ss xs are = absurd are
-side_behind interfaces top side (SideFunction fn ∷ written) (f ∷ fs) ss xs are = ap behind_types are.1 ∙ put_behind side (role_side fn.role) (function_item f) are.0 refl (side_behind interfaces top side written fs ss are.0 are.2) ∙ sym are.1
-side_behind interfaces top side (SideLink link ∷ written) fs ss xs are = ap behind_types are.3 ∙ put_behind side link.side (link_item link are.0) are.1 refl (side_behind interfaces top side written fs ss are.1 are.4) ∙ sym are.3
-side_behind interfaces top side (SideInline x name items ∷ written) fs [] xs are = absurd are
-side_behind interfaces top side (SideInline x name items ∷ written) fs (s ∷ ss) xs are = ap behind_types are.3 ∙ put_behind side x.side (inline_entry x name are.0) are.1 refl (side_behind interfaces top side written fs ss are.1 are.4) ∙ sym are.3
+put_other : (side own : WorldSide) (x : Entry) (rest : List Entry) → is_interface_item x ≡ false → interface_items (put_on side own x rest) ≡ interface_items rest
+put_other side own x rest is = elim (cases_Bool (same_side side own)) [
+  | inl hit ↦ ap interface_items (cond-true (same_side side own) (x ∷ rest) rest hit) ∙ cond-false (is_interface_item x) (x ∷ interface_items rest) (interface_items rest) is
+  | inr miss ↦ ap interface_items (cond-false (same_side side own) (x ∷ rest) rest miss)
+]
 
--- how many stand on a side
+-- how many interfaces stand on a side
 abbrev on : WorldSide → List SideItem → ℕ
-on side xs = length (items_on side xs)
+on side xs = length (interfaces_on side xs)
 
 on_more : (side : WorldSide) (before : List SideItem) (x : SideItem) → on side (before ++ x ∷ []) ≡ on side before + on side (x ∷ [])
-on_more side before x = ap length (filter-append (λ y. same_side side (item_side y)) before (x ∷ [])) ∙ length-append (items_on side before) (items_on side (x ∷ []))
+on_more side before x = ap length (interfaces_on-append side before (x ∷ [])) ∙ length-append (interfaces_on side before) (interfaces_on side (x ∷ []))
 
-module _ (world : List ℕ) (side : WorldSide) (before : List SideItem) (x : SideItem) (z : Entry) (rest : List Entry) where
+-- a function is none
+on_function : (side : WorldSide) (before : List SideItem) (fn : SourceFunction) → on side (before ++ SideFunction fn ∷ []) ≡ on side before
+on_function side before fn =
+    let none : on side (SideFunction fn ∷ []) ≡ 0 = elim (cases_Bool (same_side side (role_side fn.role))) [
+      | inl hit ↦ ap (λ (l : List SideItem). length (filter is_interface l)) (cond-true (same_side side (role_side fn.role)) (SideFunction fn ∷ []) [] hit)
+      | inr miss ↦ ap (λ (l : List SideItem). length (filter is_interface l)) (cond-false (same_side side (role_side fn.role)) (SideFunction fn ∷ []) [] miss)
+    ] in
+    let more = on_more side before (SideFunction fn) in
+    omega arith
+
+module _ (world : List ℕ) (side : WorldSide) (before : List SideItem) (x : SideItem) (is : is_interface x ≡ true) (z : Entry) (rest : List Entry) where
   abbrev all : List (ℕ × Address)
   all = interfaces_from world side (on side before) (put_on side (item_side x) z rest)
 
@@ -65,14 +77,14 @@ module _ (world : List ℕ) (side : WorldSide) (before : List SideItem) (x : Sid
 
   put_here : same_side side (item_side x) ≡ true → all ≡ interface_at world side (on side before) z ++ later
   put_here hit =
-      let one : on side (x ∷ []) ≡ 1 = ap length (cond-true (same_side side (item_side x)) (x ∷ []) [] hit) in
+      let one : on side (x ∷ []) ≡ 1 = ap (λ (l : List SideItem). length (filter is_interface l)) (cond-true (same_side side (item_side x)) (x ∷ []) [] hit) ∙ ap length (cond-true (is_interface x) (x ∷ []) [] is) in
       let more = on_more side before x in
       let next : suc (on side before) ≡ on side (before ++ x ∷ []) = omega arith in
       ap (interfaces_from world side (on side before)) (cond-true (same_side side (item_side x)) (z ∷ rest) rest hit) ∙ ap (λ (n : ℕ). interface_at world side (on side before) z ++ interfaces_from world side n rest) next
 
   put_past : same_side side (item_side x) ≡ false → all ≡ later
   put_past miss =
-      let none : on side (x ∷ []) ≡ 0 = ap length (cond-false (same_side side (item_side x)) (x ∷ []) [] miss) in
+      let none : on side (x ∷ []) ≡ 0 = ap (λ (l : List SideItem). length (filter is_interface l)) (cond-false (same_side side (item_side x)) (x ∷ []) [] miss) in
       let more = on_more side before x in
       let next : on side before ≡ on side (before ++ x ∷ []) = omega arith in
       ap (interfaces_from world side (on side before)) (cond-false (same_side side (item_side x)) (z ∷ rest) rest miss) ∙ ap (λ (n : ℕ). interfaces_from world side n rest) next
@@ -116,13 +128,23 @@ module _ (interfaces : List Address) (w : Item) (side : WorldSide) where
       entry_one zero e own = inr (path_scope w.top link.path, (let same : e.0 ≡ place = (let both : Some (place, InlineAt (item_name w) side n) ≡ Some e = own in ap (λ (x : ℕ × Address). x.0) (let one : e ≡ (place, InlineAt (item_name w) side n) = cc in one)) in ap (slice_get interfaces) same ∙ at), used_outside (leads w.top link.path))
       entry_one (suc j) e own = absurd (let f : ⊥ = cc in f)
 
+  -- those of a function more are those behind it
+  function_past : (before : List SideItem) (fn : SourceFunction) (f : Function) (xs rest : List Entry) → xs ≡ put_on side (role_side fn.role) (function_item f) rest → interfaces_from (item_name w) side (on side before) (interface_items xs) ≡ interfaces_from (item_name w) side (on side (before ++ SideFunction fn ∷ [])) (interface_items rest)
+  function_past before fn f xs rest are =
+      ap (λ (l : List Entry). interfaces_from (item_name w) side (on side before) l) (ap interface_items are ∙ put_other side (role_side fn.role) (function_item f) rest refl)
+      ∙ ap (λ (n : ℕ). interfaces_from (item_name w) side n (interface_items rest)) (sym (on_function side before fn))
+
+  -- those of an interface more
+  interface_first : (before : List SideItem) (own : WorldSide) (z : Entry) (xs rest : List Entry) → is_interface_item z ≡ true → xs ≡ put_on side own z rest → interfaces_from (item_name w) side (on side before) (interface_items xs) ≡ interfaces_from (item_name w) side (on side before) (put_on side own z (interface_items rest))
+  interface_first before own z xs rest is are = ap (λ (l : List Entry). interfaces_from (item_name w) side (on side before) l) (ap interface_items are ∙ put_interface side own z rest is)
+
   -- each is such
-  pub entries_each : (before written : List SideItem) (fs : List Function) (xs : List Entry) → AreSideItems interfaces w.top side written fs (map address (inline_behind w before written)) xs → (j : ℕ) (e : ℕ × Address) → slice_get (interfaces_from (item_name w) side (on side before) xs) j ≡ Some e → IsInlineEntry interfaces e
-  entries_each before [] fs xs are j e at = absurd (let none : slice_get (interfaces_from (item_name w) side (on side before) xs) j ≡ None = rw are refl in let f : ⊥ = cc in f)
+  pub entries_each : (before written : List SideItem) (fs : List Function) (xs : List Entry) → AreSideItems interfaces w.top side written fs (map address (inline_behind w before written)) xs → (j : ℕ) (e : ℕ × Address) → slice_get (interfaces_from (item_name w) side (on side before) (interface_items xs)) j ≡ Some e → IsInlineEntry interfaces e
+  entries_each before [] fs xs are j e at = absurd (let none : slice_get (interfaces_from (item_name w) side (on side before) (interface_items xs)) j ≡ None = rw are refl in let f : ⊥ = cc in f)
   entries_each before (SideFunction fn ∷ written) [] xs are j e at = absurd are
-  entries_each before (SideFunction fn ∷ written) (f ∷ fs) xs are j e at = put_each (item_name w) side before (SideFunction fn) (function_item f) are.0 (IsInlineEntry interfaces) (λ hit k x none. absurd (let wrong : ⊥ = cc in wrong)) (entries_each (before ++ SideFunction fn ∷ []) written fs are.0 are.2) j e (ap (λ l. slice_get (interfaces_from (item_name w) side (on side before) l) j) (sym are.1) ∙ at)
-  entries_each before (SideLink link ∷ written) fs xs are j e at = put_each (item_name w) side before (SideLink link) (link_item link are.0) are.1 (IsInlineEntry interfaces) (λ hit. link_entry link.name link are.0 (on side before) refl are.2) (entries_each (before ++ SideLink link ∷ []) written fs are.1 are.4) j e (ap (λ l. slice_get (interfaces_from (item_name w) side (on side before) l) j) (sym are.3) ∙ at)
-  entries_each before (SideInline x name items ∷ written) fs xs are j e at = put_each (item_name w) side before (SideInline x name items) (inline_entry x name are.0) are.1 (IsInlineEntry interfaces) (λ hit k y own. inl (inline_own are.0 x.side (on x.side before) hit refl are.2 k y own)) (entries_each (before ++ SideInline x name items ∷ []) written fs are.1 are.4) j e (ap (λ l. slice_get (interfaces_from (item_name w) side (on side before) l) j) (sym are.3) ∙ at)
+  entries_each before (SideFunction fn ∷ written) (f ∷ fs) xs are j e at = entries_each (before ++ SideFunction fn ∷ []) written fs are.0 are.2 j e (ap (λ l. slice_get l j) (sym (function_past before fn f xs are.0 are.1)) ∙ at)
+  entries_each before (SideLink link ∷ written) fs xs are j e at = put_each (item_name w) side before (SideLink link) refl (link_item link are.0) (interface_items are.1) (IsInlineEntry interfaces) (λ hit. link_entry link.name link are.0 (on side before) refl are.2) (entries_each (before ++ SideLink link ∷ []) written fs are.1 are.4) j e (ap (λ l. slice_get l j) (sym (interface_first before link.side (link_item link are.0) xs are.1 refl are.3)) ∙ at)
+  entries_each before (SideInline x name items ∷ written) fs xs are j e at = put_each (item_name w) side before (SideInline x name items) refl (inline_entry x name are.0) (interface_items are.1) (IsInlineEntry interfaces) (λ hit k y own. inl (inline_own are.0 x.side (on x.side before) hit refl are.2 k y own)) (entries_each (before ++ SideInline x name items ∷ []) written fs are.1 are.4) j e (ap (λ l. slice_get l j) (sym (interface_first before x.side (inline_entry x name are.0) xs are.1 refl are.3)) ∙ at)
     where
       inline_own : (place : ℕ) (own : WorldSide) (n : ℕ) → same_side side own ≡ true → n ≡ on own before → slice_get interfaces place ≡ Some (InlineAt (item_name w) own n) → (k : ℕ) (y : ℕ × Address) → slice_get ((place, InlineAt (item_name w) side (on side before)) ∷ []) k ≡ Some y → slice_get interfaces y.0 ≡ Some y.1
       inline_own place own n hit is there zero y at_y =
@@ -133,17 +155,16 @@ module _ (interfaces : List Address) (w : Item) (side : WorldSide) where
       inline_own place own n hit is there (suc k) y at_y = absurd (let f : ⊥ = cc in f)
 
   -- and each that is written on the side has one
-  pub entries_has : (before written : List SideItem) (fs : List Function) (xs : List Entry) → AreSideItems interfaces w.top side written fs (map address (inline_behind w before written)) xs → (k : ℕ) (i : Item) (n : ℕ) → slice_get (inline_behind w before written) k ≡ Some i → address i ≡ InlineAt (item_name w) side n → (j : ℕ) × (place : ℕ) × (slice_get (interfaces_from (item_name w) side (on side before) xs) j ≡ Some (place, address i)) × (slice_get interfaces place ≡ Some (address i))
+  pub entries_has : (before written : List SideItem) (fs : List Function) (xs : List Entry) → AreSideItems interfaces w.top side written fs (map address (inline_behind w before written)) xs → (k : ℕ) (i : Item) (n : ℕ) → slice_get (inline_behind w before written) k ≡ Some i → address i ≡ InlineAt (item_name w) side n → (j : ℕ) × (place : ℕ) × (slice_get (interfaces_from (item_name w) side (on side before) (interface_items xs)) j ≡ Some (place, address i)) × (slice_get interfaces place ≡ Some (address i))
   entries_has before [] fs xs are k i n at is = absurd (let f : ⊥ = cc in f)
   entries_has before (SideFunction fn ∷ written) [] xs are k i n at is = absurd are
   entries_has before (SideFunction fn ∷ written) (f ∷ fs) xs are k i n at is =
       let it = entries_has (before ++ SideFunction fn ∷ []) written fs are.0 are.2 k i n at is in
-      let there = put_later (item_name w) side before (SideFunction fn) (function_item f) are.0 it.0 (it.1, address i) it.2 in
-      (there.0, it.1, ap (λ l. slice_get (interfaces_from (item_name w) side (on side before) l) there.0) are.1 ∙ there.1, it.3)
+      (it.0, it.1, ap (λ l. slice_get l it.0) (function_past before fn f xs are.0 are.1) ∙ it.2, it.3)
   entries_has before (SideLink link ∷ written) fs xs are k i n at is =
       let it = entries_has (before ++ SideLink link ∷ []) written fs are.1 are.4 k i n at is in
-      let there = put_later (item_name w) side before (SideLink link) (link_item link are.0) are.1 it.0 (it.1, address i) it.2 in
-      (there.0, it.1, ap (λ l. slice_get (interfaces_from (item_name w) side (on side before) l) there.0) are.3 ∙ there.1, it.3)
+      let there = put_later (item_name w) side before (SideLink link) refl (link_item link are.0) (interface_items are.1) it.0 (it.1, address i) it.2 in
+      (there.0, it.1, ap (λ l. slice_get l there.0) (interface_first before link.side (link_item link are.0) xs are.1 refl are.3) ∙ there.1, it.3)
   entries_has before (SideInline x name items ∷ written) fs xs are zero i n at is =
       let place = are.0 in
       let here : InlineAt (item_name w) x.side (on x.side before) ≡ address i = ap (λ (y : Option Item). option_map_or address y (address i)) at in
@@ -151,35 +172,35 @@ module _ (interfaces : List Address) (w : Item) (side : WorldSide) where
       let own : x.side ≡ side = cc in
       let hit : same_side side x.side ≡ true = ap (same_side side) own ∙ side_itself side in
       let spot : InlineAt (item_name w) side (on side before) ≡ address i = ap (λ (z : WorldSide). InlineAt (item_name w) z (on z before)) (sym own) ∙ here in
-      let there = put_first (item_name w) side before (SideInline x name items) (inline_entry x name place) are.1 0 (place, address i) hit (ap (λ (s : Address). Some (place, s)) spot) in
-      (there.0, place, ap (λ l. slice_get (interfaces_from (item_name w) side (on side before) l) there.0) are.3 ∙ there.1, are.2 ∙ ap Some here)
+      let there = put_first (item_name w) side before (SideInline x name items) refl (inline_entry x name place) (interface_items are.1) 0 (place, address i) hit (ap (λ (s : Address). Some (place, s)) spot) in
+      (there.0, place, ap (λ l. slice_get l there.0) (interface_first before x.side (inline_entry x name place) xs are.1 refl are.3) ∙ there.1, are.2 ∙ ap Some here)
   entries_has before (SideInline x name items ∷ written) fs xs are (suc k) i n at is =
       let it = entries_has (before ++ SideInline x name items ∷ []) written fs are.1 are.4 k i n at is in
-      let there = put_later (item_name w) side before (SideInline x name items) (inline_entry x name are.0) are.1 it.0 (it.1, address i) it.2 in
-      (there.0, it.1, ap (λ l. slice_get (interfaces_from (item_name w) side (on side before) l) there.0) are.3 ∙ there.1, it.3)
+      let there = put_later (item_name w) side before (SideInline x name items) refl (inline_entry x name are.0) (interface_items are.1) it.0 (it.1, address i) it.2 in
+      (there.0, it.1, ap (λ l. slice_get l there.0) (interface_first before x.side (inline_entry x name are.0) xs are.1 refl are.3) ∙ there.1, it.3)
 
 -- the interfaces of a world, by what it has on its sides
-module _ (interfaces : List Address) (item : Item) (w : World) (called : w.name ≡ item_name item) (xs : List ScopeName) (types : Names) (imported : List Entry) (imports : w.imports ≡ type_imports xs types ++ imported) (fs : List Function) (on_imports : AreSideItems interfaces item.top Imported (side_items item) fs (map address (inline_items item)) imported) (on_exports : AreSideItems interfaces item.top Exported (side_items item) fs (map address (inline_items item)) w.exports) where
+module _ (interfaces : List Address) (item : Item) (w : World) (called : w.name ≡ item_name item) (xs : List ScopeName) (types : Names) (included : List Include) (imported exported : List Entry) (imports : w.imports ≡ settled included (type_imports xs types ++ imported)) (exports : w.exports ≡ settled included exported) (fs : List Function) (on_imports : AreSideItems interfaces item.top Imported (side_items item) fs (map address (inline_items item)) imported) (on_exports : AreSideItems interfaces item.top Exported (side_items item) fs (map address (inline_items item)) exported) where
   abbrev of_side : WorldSide → List Entry → List (ℕ × Address)
-  of_side side entries = interfaces_from (item_name item) side 0 entries
+  of_side side entries = interfaces_from (item_name item) side 0 (interface_items entries)
 
-  world_listed : world_interfaces w ≡ of_side Imported imported ++ of_side Exported w.exports
+  world_listed : world_interfaces w ≡ of_side Imported imported ++ of_side Exported exported
   world_listed =
-      let first : behind_types w.imports ≡ imported = ap behind_types imports ∙ filter-append (λ x. not (is_type_item x)) (type_imports xs types) imported ∙ ap (λ (l : List Entry). l ++ behind_types imported) (no_types_behind xs types) ∙ side_behind interfaces item.top Imported (side_items item) fs (map address (inline_items item)) imported on_imports in
-      let second : behind_types w.exports ≡ w.exports = side_behind interfaces item.top Exported (side_items item) fs (map address (inline_items item)) w.exports on_exports in
-      ap (λ (l : List Entry). interfaces_from w.name Imported 0 l ++ interfaces_from w.name Exported 0 (behind_types w.exports)) first ∙ ap (λ (l : List Entry). interfaces_from w.name Imported 0 imported ++ interfaces_from w.name Exported 0 l) second ∙ ap (λ (n : List ℕ). interfaces_from n Imported 0 imported ++ interfaces_from n Exported 0 w.exports) called
+      let first : interface_items w.imports ≡ interface_items imported = ap interface_items imports ∙ settled_interfaces included (type_imports xs types ++ imported) ∙ filter-append is_interface_item (type_imports xs types) imported ∙ ap (λ (l : List Entry). l ++ interface_items imported) (no_interfaces xs types) in
+      let second : interface_items w.exports ≡ interface_items exported = ap interface_items exports ∙ settled_interfaces included exported in
+      ap (λ (l : List Entry). interfaces_from w.name Imported 0 l ++ interfaces_from w.name Exported 0 (interface_items w.exports)) first ∙ ap (λ (l : List Entry). interfaces_from w.name Imported 0 (interface_items imported) ++ interfaces_from w.name Exported 0 l) second ∙ ap (λ (n : List ℕ). interfaces_from n Imported 0 (interface_items imported) ++ interfaces_from n Exported 0 (interface_items exported)) called
 
   pub world_entries : (j : ℕ) (e : ℕ × Address) → slice_get (world_interfaces w) j ≡ Some e → IsInlineEntry interfaces e
-  world_entries j e at = elim (at_part (of_side Imported imported) (of_side Exported w.exports) j e (ap (λ l. slice_get l j) (sym world_listed) ∙ at)) [
+  world_entries j e at = elim (at_part (of_side Imported imported) (of_side Exported exported) j e (ap (λ l. slice_get l j) (sym world_listed) ∙ at)) [
     | inl h ↦ entries_each interfaces item Imported [] (side_items item) fs imported on_imports h.0 e h.1
-    | inr h ↦ entries_each interfaces item Exported [] (side_items item) fs w.exports on_exports h.0 e h.1
+    | inr h ↦ entries_each interfaces item Exported [] (side_items item) fs exported on_exports h.0 e h.1
   ]
 
   pub world_entry : (k : ℕ) (i : Item) (side : WorldSide) (n : ℕ) → slice_get (inline_items item) k ≡ Some i → address i ≡ InlineAt (item_name item) side n → (j : ℕ) × (place : ℕ) × (slice_get (world_interfaces w) j ≡ Some (place, address i)) × (slice_get interfaces place ≡ Some (address i))
   world_entry k i Imported n at is =
       let it = entries_has interfaces item Imported [] (side_items item) fs imported on_imports k i n at is in
-      (it.0, it.1, ap (λ l. slice_get l it.0) world_listed ∙ at_front (of_side Imported imported) (of_side Exported w.exports) it.0 (it.1, address i) it.2, it.3)
+      (it.0, it.1, ap (λ l. slice_get l it.0) world_listed ∙ at_front (of_side Imported imported) (of_side Exported exported) it.0 (it.1, address i) it.2, it.3)
   world_entry k i Exported n at is =
-      let it = entries_has interfaces item Exported [] (side_items item) fs w.exports on_exports k i n at is in
+      let it = entries_has interfaces item Exported [] (side_items item) fs exported on_exports k i n at is in
       let first = of_side Imported imported in
-      (length first + it.0, it.1, ap (λ l. slice_get l (length first + it.0)) world_listed ∙ at_back first (of_side Exported w.exports) it.0 (it.1, address i) it.2, it.3)
+      (length first + it.0, it.1, ap (λ l. slice_get l (length first + it.0)) world_listed ∙ at_back first (of_side Exported exported) it.0 (it.1, address i) it.2, it.3)

@@ -8,6 +8,7 @@ pub mod Keys
 pub mod Signatures
 pub mod AddingFunctions
 pub mod Placed
+pub mod Settled
 pub mod MadeOn
 pub mod SideItems
 pub mod InlineOwners

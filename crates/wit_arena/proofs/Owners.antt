@@ -23,7 +23,7 @@ use Rattle.wit_arena.specs.Meet.{Meeting}
 use Rattle.wit_syntax.specs.Function.{functions}
 use Rattle.wit_tree.specs.declared.tree.WorldSide.TheVariants.{Imported, Exported}
 use Rattle.wit_syntax.specs.Sides.{inline_items}
-use Rattle.wit_arena.specs.Package.{owner_of, names_of, functions_of, inline_owner, or_owner, named_interface, interface_owner, named_world, world_owner, interface_types, interface_functions, import_types, world_types, item_functions, keyed, world_functions, behind_types, interfaces_from, world_interfaces}
+use Rattle.wit_arena.specs.Package.{owner_of, names_of, functions_of, inline_owner, or_owner, named_interface, interface_owner, named_world, world_owner, interface_types, interface_functions, import_types, world_types, item_functions, keyed, world_functions, interface_items, interfaces_from, world_interfaces}
 use Rattle.wit_arena.specs.Whole.{Ordered, own_item, Turned, item_of, all_turns, all_inside, all_meetings, NamesOthers}
 use Rattle.wit_arena.specs.Resolving.{Cell, Required, cell}
 use Rattle.wit_arena.specs.Resolved.{WorldArenas, AddsForeign}
@@ -187,7 +187,7 @@ module _ (files : List PackageFile) (is ws : List Item) (interfaces : AreOfSort 
       let count = foreign.worlds.count in
       let v = at_within (foreign_worlds files) t (omega (arith, lt, count)) in
       let says = foreign.worlds.says t v.0 w v.1 at in
-      ap (λ l. interfaces_from w.name Imported 0 (behind_types l) ++ interfaces_from w.name Exported 0 (behind_types w.exports)) says.imports ∙ ap (λ l. interfaces_from w.name Exported 0 (behind_types l)) says.exports
+      ap (λ l. interfaces_from w.name Imported 0 (interface_items l) ++ interfaces_from w.name Exported 0 (interface_items w.exports)) says.imports ∙ ap (λ l. interfaces_from w.name Exported 0 (interface_items l)) says.exports
 
   -- the package knows it by its place
   known_inside : (k : ℕ) (o : Ordered) → slice_get (all_inside e.ordered) k ≡ Some o → (inline_owner p ((length ss + length is) + k) ≡ OfScope (address o.item)) × (declared_name o.item.declared ≡ None)

@@ -26,8 +26,8 @@ use Rattle.wit_syntax.specs.Function.{functions}
 use Rattle.wit_tree.specs.declared.tree.WorldSide.TheVariants.{Imported, Exported}
 use Rattle.wit_syntax.specs.Sides.{function_key, side_items, inline_items}
 use Rattle.wit_arena.specs.Functions.{AreFunctions, placed_functions}
-use Rattle.wit_arena.specs.SideItems.{AreSideItems}
-use Rattle.wit_syntax.specs.Scope.{item_rows, rows_of, in_order, interfaces_of, worlds_of}
+use Rattle.wit_arena.specs.SideItems.{AreSideItems, settled}
+use Rattle.wit_syntax.specs.Scope.{includes, item_rows, rows_of, in_order, interfaces_of, worlds_of}
 use Rattle.wit_syntax.specs.Broken.{headers, last_header}
 use Rattle.wit_arena.specs.Package.{world_types}
 use Rattle.wit_arena.specs.Whole.{Ordered, OrderedWorld, own_item, Turned, item_of, ordered_names, turned, world_turns, all_turns, all_inside, turn_handles, AreRequired, meetings, all_meetings, type_imports, addresses, interface_addresses, world_addresses, declarations, HasTypes, AreIncludes, HasSides, foreign_turned, AreForeignInterfaces, AreInterfaces, AreWorlds, IsFaithful, NamesOthers, first_docs, IsPackage}
@@ -150,9 +150,11 @@ module _ (files : List PackageFile) (is ws : List Item) (interfaces : AreOfSort 
         functions = c.0.made;
         are = functions_made k.0 c.0 own k.1 c.2;
         imported = makes.imported;
-        imports = makes.imports ∙ ap (λ (l : List ScopeName). type_imports l c.0.types ++ makes.imported) names ∙ ap (λ (l : Names). type_imports (ordered_names own) l ++ makes.imported) types;
+        imports = makes.imports ∙ ap (λ (l : List ScopeName). settled (includes own.item) (type_imports l c.0.types ++ makes.imported)) names ∙ ap (λ (l : Names). settled (includes own.item) (type_imports (ordered_names own) l ++ makes.imported)) types;
+        exported = makes.exported;
+        exports = makes.exports;
         are_imported = subst (λ (l : List Address). AreSideItems l own.item.top Imported (side_items own.item) c.0.made (addresses o.inside) makes.imported) same_interfaces (subst (λ (l : List Address). AreSideItems all_interfaces own.item.top Imported (side_items own.item) c.0.made l makes.imported) inside makes.are_imported);
-        are_exported = subst (λ (l : List Address). AreSideItems l own.item.top Exported (side_items own.item) c.0.made (addresses o.inside) w.exports) same_interfaces (subst (λ (l : List Address). AreSideItems all_interfaces own.item.top Exported (side_items own.item) c.0.made l w.exports) inside makes.are_exported);
+        are_exported = subst (λ (l : List Address). AreSideItems l own.item.top Exported (side_items own.item) c.0.made (addresses o.inside) makes.exported) same_interfaces (subst (λ (l : List Address). AreSideItems all_interfaces own.item.top Exported (side_items own.item) c.0.made l makes.exported) inside makes.are_exported);
       }
 
   foreign_interfaces_are : AreForeignInterfaces files met_keys (foreign_interfaces files) front

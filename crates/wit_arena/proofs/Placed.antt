@@ -1,11 +1,11 @@
 -- Functions whose setters were put directly behind their getters are the same functions.
-use Rattle.std.proofs.Common.{◌≡◌, ℕ, zero, suc, Bool, true, false, ◌&&◌, ◌||◌, List, [], ◌∷◌, map, Some, None, ◌⊎◌, inl, inr, refl, sym, ap, ◌∙◌}
+use Rattle.std.proofs.Common.{◌≡◌, ℕ, zero, suc, Bool, true, false, ◌&&◌, ◌||◌, List, [], ◌∷◌, map, Option, Some, None, ◌⊎◌, inl, inr, refl, sym, ap, ◌∙◌}
 use Rattle.std.specs.Prelude.{slice_get}
 use Rattle.std.specs.List.{filter, list_any}
 use Rattle.std.specs.Option.{option_map}
 use Rattle.std.proofs.lemmas.Bool.{cases_Bool, cond-true, cond-false}
 use Rattle.std.proofs.lemmas.Option.{slice_get-map}
-use Rattle.wit_model.specs.Setters.{fronts, is_getter, goes_on_alike, early, others, with_setters, setters_placed, pairs}
+use Rattle.wit_model.specs.Setters.{fronts, is_getter, is_getter_of, goes_on_alike, goes_with, early, others, with_setters, setters_placed, pairs}
 use Rattle.wit_model.specs.declared.function.Function.{Function}
 use Rattle.wit_model.specs.declared.function.FunctionKind.{FunctionKind}
 use Rattle.wit_model.specs.declared.function.FunctionKind.TheVariants as kind
@@ -14,7 +14,7 @@ use Rattle.wit_syntax.proofs.Lists.{map_at, flat_map_at, flat_map_has}
 use Rattle.wit_syntax.proofs.Kept.{behind_one, kept_at, kept_has}
 
 -- what passes a test that one of a list passes
-any_at : {X : Type 0} (test : X → Bool) (xs : List X) → list_any test xs ≡ true → (i : ℕ) × (x : X) × (slice_get xs i ≡ Some x) × (test x ≡ true)
+pub any_at : {X : Type 0} (test : X → Bool) (xs : List X) → list_any test xs ≡ true → (i : ℕ) × (x : X) × (slice_get xs i ≡ Some x) × (test x ≡ true)
 any_at test [] h = absurd (let f : ⊥ = cc in f)
 any_at test (x ∷ xs) h = elim (cases_Bool (test x)) [
   | inl hit ↦ (0, x, refl, hit)
@@ -114,17 +114,27 @@ both_pass true true h = (refl, refl)
 both_pass true false h = absurd (let f : ⊥ = cc in f)
 both_pass false b h = absurd (let f : ⊥ = cc in f)
 
-getters_alone : (s g x : List ℕ × Function) → pairs Some s g ≡ true → pairs Some g x ≡ true → ⊥
-getters_alone s g x one two =
-    let getter = (both_pass (is_getter g.1.kind) (goes_on_alike (fronts s.1.kind) s.1.name g.1.name) one).0 in
-    let goes = (both_pass (is_getter x.1.kind) (goes_on_alike (fronts g.1.kind) g.1.name x.1.name) two).1 in
-    let wrong : false ≡ true = sym (ap (λ f. goes_on_alike f g.1.name x.1.name) (getter_front g.1.kind getter)) ∙ goes in
+function_alone : (s g x : Function) → is_getter_of s g ≡ true → is_getter_of g x ≡ true → ⊥
+function_alone s g x one two =
+    let getter = (both_pass (is_getter g.kind) (goes_on_alike (fronts s.kind) s.name g.name) one).0 in
+    let goes = (both_pass (is_getter x.kind) (goes_on_alike (fronts g.kind) g.name x.name) two).1 in
+    let wrong : false ≡ true = sym (ap (λ f. goes_on_alike f g.name x.name) (getter_front g.kind getter)) ∙ goes in
     let f : ⊥ = cc in
     f
 
+told_alone : (s g x : Option Function) → goes_with s g ≡ true → goes_with g x ≡ true → ⊥
+told_alone None g x one two = absurd (let f : ⊥ = cc in f)
+told_alone (Some s) None x one two = absurd (let f : ⊥ = cc in f)
+told_alone (Some s) (Some g) None one two = absurd (let f : ⊥ = cc in f)
+told_alone (Some s) (Some g) (Some x) one two = function_alone s g x one two
+
+-- so no getter has a getter
+pub getters_alone : {K V : Type 0} (tells : V → Option Function) (s g x : K × V) → pairs tells s g ≡ true → pairs tells g x ≡ true → ⊥
+getters_alone tells s g x one two = told_alone (tells s.1) (tells g.1) (tells x.1) one two
+
 -- functions, each at its name, and then placed
 pub function_placed : (fs : List Function) (k : ℕ) (f : Function) → slice_get fs k ≡ Some f → (place : ℕ) × (slice_get (placed_functions fs) place ≡ Some (f.name, f))
-function_placed fs k f at = placed_has (pairs Some) getters_alone (map by_name fs) k (f.name, f) (slice_get-map by_name fs k ∙ ap (option_map by_name) at)
+function_placed fs k f at = placed_has (pairs Some) (getters_alone Some) (map by_name fs) k (f.name, f) (slice_get-map by_name fs k ∙ ap (option_map by_name) at)
 
 pub function_from : (fs : List Function) (place : ℕ) (name : List ℕ) (f : Function) → slice_get (placed_functions fs) place ≡ Some (name, f) → (k : ℕ) × (slice_get fs k ≡ Some f) × (f.name ≡ name)
 function_from fs place name f at =

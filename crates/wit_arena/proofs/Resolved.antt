@@ -25,7 +25,7 @@ use Rattle.wit_arena.specs.Meet.{Meeting, keys}
 use Rattle.wit_arena.specs.Resolving.{Required}
 use Rattle.wit_syntax.specs.Fault.{Fault, fault}
 use Rattle.wit_syntax.specs.Notes.{IsBrokenNotes}
-use Rattle.wit_syntax.specs.Broken.{IsDuplicateItem, is_world_at, IsInterfaceIncluded, IsBrokenNames, DuplicateItem, Items, Headerless, Names, ItemStability, UseNotes, IncludeStability, Use, InterfaceIncluded, MissingName, FunctionUsed, Scope, Sides, Handle, Setter, IsLegal, headers, last_header}
+use Rattle.wit_syntax.specs.Broken.{IsDuplicateItem, is_world_at, IsInterfaceIncluded, IsBrokenNames, DuplicateItem, Items, Headerless, Names, ItemStability, UseNotes, IncludeStability, Use, InterfaceIncluded, MissingName, FunctionUsed, Scope, Sides, Handle, Setter, IsSetterAlone, IsLegal, headers, last_header}
 use Rattle.wit_syntax.specs.Repeats.{AllDiffer}
 use Rattle.wit_arena.specs.Whole.{own_item, Turned, turn_handles, all_turns, all_meetings, AreRequired, AreIncludes, NamesOthers, first_docs, IsPackage, IsFaithful}
 use Rattle.wit_arena.specs.Resolved.{WorldArenas, front_worlds, AddsInterfaces, AddsWorlds, AddsForeign, AreLegalScopes, AreLegalSides, AreUsableUses, AreUsableLinks, AreSoundScopes, IsBrokenItemStability, OwnStability, OfInclude, HaveLegalStability}
@@ -35,10 +35,10 @@ use Rattle.wit_syntax.proofs.Turns.{at_part}
 use Rattle.wit_syntax.proofs.Repeated.{differ_by, differ_none}
 use Rattle.wit_syntax.proofs.Kept.{kept_at}
 use Rattle.wit_syntax.specs.Function.{SourceFunction, functions}
-use Rattle.wit_syntax.specs.Signature.{IsUnpairedSetter}
+use Rattle.wit_syntax.proofs.Setters.{among_alone}
 use Rattle.wit_syntax.specs.Sides.{function_key, side_items, Link, links, inline_items, with_inline, all_scopes, FoldedTwice}
 use Rattle.wit_syntax.proofs.Sides.{links_none}
-use Rattle.wit_syntax.proofs.Inline.{inline_items_none}
+use Rattle.wit_syntax.proofs.Inline.{inline_items_none, inline_interface}
 use Rattle.wit_syntax.proofs.Scopes.{scopes_either}
 use Rattle.wit_syntax.proofs.Legal.{three_ways, functions_differ, functions_items}
 use Rattle.wit_arena.proofs.Standing.{DoneScope}
@@ -51,7 +51,7 @@ use Rattle.wit_arena.proofs.Visits.{world_visit, foreign_at-visited, visited_for
 use Rattle.wit_arena.proofs.Linked.{no_broken_use}
 use Rattle.wit_arena.proofs.Leading.{include_at, interface_includes_none}
 use Rattle.wit_arena.proofs.Laid.{entry_of_item}
-use Rattle.wit_arena.proofs.Upheld.{IsWholeItem, IsScopeOf, interface_done, world_done, inline_done, names_stated, types_stated, handles_stated, names_meant, interface_paired, inline_paired, interface_whose, world_whose}
+use Rattle.wit_arena.proofs.Upheld.{IsWholeItem, IsScopeOf, interface_done, world_done, inline_done, names_stated, types_stated, handles_stated, names_meant, interface_paired, world_paired, inline_paired, interface_whose, world_whose}
 use Rattle.wit_arena.proofs.Added.{inside_of, world_list, decls, InterfacesDone, interfaces_done}
 use Rattle.wit_arena.proofs.DoneWorlds.{scopes_of, own_order, AreWorldsDone}
 use Rattle.wit_arena.proofs.Worlds.{worlds_done}
@@ -196,11 +196,17 @@ module _ (files : List PackageFile) (places : List ℕ) (order : IsOrder (item_r
     | inr inside ↦ (let q = inline_index inside.0 w inside.1 inside.2 in inline_done files is_items ws_items middle new front is_done.0 wfront a irs wrs is_done.2 ws_done (are_worlds files places order differ) q.0 w q.1)
   ]
 
-  -- each setter of an interface has its getter
-  setter_paired : (w : Item) → is_world w ≡ false → Contains (all_scopes files) w → (f : Fault) → IsUnpairedSetter (functions w) f → ⊥
-  setter_paired w interface among f alone = elim (scopes_either files w among) [
-    | inl declared ↦ (let t = interface_at files places order differ w interface declared in interface_paired files is_items ws_items middle new front is_done.0 wfront a irs wrs is_done.2 ws_done (are_interfaces files places order differ) t.0 w t.1 f alone)
-    | inr inside ↦ (let q = inline_index inside.0 w inside.1 inside.2 in inline_paired files is_items ws_items middle new front is_done.0 wfront a irs wrs is_done.2 ws_done (are_worlds files places order differ) q.0 w q.1 f alone)
+  -- no setter is alone on its side
+  setter_paired : (w : Item) → Contains (all_scopes files) w → (f : Fault) → IsSetterAlone w f → ⊥
+  setter_paired w among f alone = elim (scopes_either files w among) [
+    | inl declared ↦ elim (cases_Bool (is_world w)) [
+      | inl world ↦ (let t = world_at files places order differ w world declared in world_paired files is_items ws_items middle new front is_done.0 wfront a irs wrs is_done.2 ws_done (are_worlds files places order differ) t.0 w t.1 f alone)
+      | inr other ↦ (let t = interface_at files places order differ w other declared in interface_paired files is_items ws_items middle new front is_done.0 wfront a irs wrs is_done.2 ws_done (are_interfaces files places order differ) t.0 w t.1 f (among_alone w other f alone))
+    ]
+    | inr inside ↦ (
+        let q = inline_index inside.0 w inside.1 inside.2 in
+        let k = at_contains (inline_items inside.0) w inside.2 in
+        inline_paired files is_items ws_items middle new front is_done.0 wfront a irs wrs is_done.2 ws_done (are_worlds files places order differ) q.0 w q.1 f (among_alone w (inline_interface inside.0 k.0 w k.1) f alone))
   ]
 
   -- the include of a world leads to a world
@@ -258,7 +264,7 @@ module _ (files : List PackageFile) (places : List ℕ) (order : IsOrder (item_r
   files_legal scopes sides usable stability notes header last f (MissingName i among h) = names_stated files (decls files is_items ws_items) written scopes_done new ws_done.done i (item_done i among) f h
   files_legal scopes sides usable stability notes header last f (FunctionUsed i among h) = types_stated files (decls files is_items ws_items) written scopes_done new ws_done.done i (item_done i among) f h
   files_legal scopes sides usable stability notes header last f (Handle i among h) = handles_stated files (decls files is_items ws_items) written scopes_done new ws_done.done i (item_done i among) f h
-  files_legal scopes sides usable stability notes header last f (Setter i among h) = setter_paired i h.interface among f h.alone
+  files_legal scopes sides usable stability notes header last f (Setter i among h) = setter_paired i among f h
   files_legal scopes sides usable stability notes header last f (Sides i among h) = (let t = scope_index i among in sides.legal t.0 i f t.1 h)
   files_legal scopes sides usable stability notes header last f (Scope i among h) = (let t = scope_index i among in scopes.legal t.0 i f t.1 h)
 

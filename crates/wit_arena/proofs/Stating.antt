@@ -6,6 +6,7 @@ use Rattle.std.specs.Option.{option_map}
 use Rattle.std.proofs.lemmas.List.{append-nil}
 use Rattle.std.proofs.lemmas.Option.{slice_get-map}
 use Rattle.std.proofs.lemmas.Grind.{flat_map-append}
+use Rattle.wit_tree.specs.declared.tree.Include.{Include}
 use Rattle.wit_tree.specs.declared.tree.WorldSide.{WorldSide}
 use Rattle.wit_tree.specs.declared.tree.WorldSide.TheVariants.{Imported, Exported}
 use Rattle.wit_model.specs.declared.function.Function.{Function}
@@ -19,7 +20,7 @@ use Rattle.wit_syntax.specs.Scope.{local_names}
 use Rattle.wit_syntax.specs.Function.{SourceFunction}
 use Rattle.wit_syntax.specs.Sides.{role_side, FunctionKey, SideItem, item_function}
 use Rattle.wit_arena.specs.Functions.{by_name, placed_functions, made_on}
-use Rattle.wit_arena.specs.SideItems.{AreSideItems}
+use Rattle.wit_arena.specs.SideItems.{AreSideItems, settled}
 use Rattle.wit_arena.specs.Package.{import_types, item_functions, keyed, interface_functions, world_functions}
 use Rattle.wit_arena.specs.Whole.{type_imports}
 use Rattle.wit_arena.specs.Resolving.{Names}
@@ -28,6 +29,14 @@ use Rattle.wit_arena.proofs.FreeNames.{made_key, AreStated}
 use Rattle.wit_arena.proofs.MadeOn.{made_on_has, made_on_pair}
 use Rattle.wit_arena.proofs.SideItems.{side_functions}
 use Rattle.wit_arena.proofs.Placed.{function_placed, function_from}
+use Rattle.wit_arena.proofs.Settled.{moved, settled_at, settled_has}
+
+abbrev Entry : Type 0
+Entry = WorldKey × WorldItem
+
+-- what stands in one list stands in the other
+abbrev AreAmong : List Entry → List Entry → Type 0
+AreAmong xs ys = (k : ℕ) (x : Entry) → slice_get xs k ≡ Some x → (j : ℕ) × (slice_get ys j ≡ Some x)
 
 -- the types among imports that names of a scope are
 world_types_of : (xs : List ScopeName) (types : Names) → map (λ p. p.0) types ≡ local_names xs → flat_map import_types (type_imports xs types) ≡ types
@@ -51,18 +60,11 @@ pub world_types-all : (xs : List ScopeName) (types : Names) (behind : List (Worl
 world_types-all xs types behind listed none = flat_map-append import_types (type_imports xs types) behind ∙ ap (λ (l : Names). l ++ flat_map import_types behind) (world_types_of xs types listed) ∙ ap (λ (l : Names). types ++ l) none ∙ append-nil types
 
 -- the functions among imports and exports, where these were made of the written ones
-abbrev pub both_sides : List SourceFunction → List Function → List (FunctionKey × Function)
+abbrev both_sides : List SourceFunction → List Function → List (FunctionKey × Function)
 both_sides fns fs = map (keyed Imported) (map by_name (made_on Imported fns fs)) ++ map (keyed Exported) (map by_name (made_on Exported fns fs))
 
 import_functions-all : (xs : List ScopeName) (types : Names) (behind : List (WorldKey × WorldItem)) → flat_map item_functions (type_imports xs types ++ behind) ≡ flat_map item_functions behind
 import_functions-all xs types behind = flat_map-append item_functions (type_imports xs types) behind ∙ ap (λ (l : List (List ℕ × Function)). l ++ flat_map item_functions behind) (no_functions_of xs types)
-
-pub world_functions-all : (interfaces : List Address) (top : List TopName) (xs : List ScopeName) (types : Names) (items : List SideItem) (fs : List Function) (inside : List Address) (imports : List (WorldKey × WorldItem)) (w : World) → w.imports ≡ type_imports xs types ++ imports → AreSideItems interfaces top Imported items fs inside imports → AreSideItems interfaces top Exported items fs inside w.exports → world_functions w ≡ both_sides (flat_map item_function items) fs
-world_functions-all interfaces top xs types items fs inside imports w are on_imports on_exports =
-    let fns = flat_map item_function items in
-    let imported = ap (flat_map item_functions) are ∙ import_functions-all xs types imports ∙ side_functions interfaces top Imported items fs inside imports on_imports in
-    let exported = side_functions interfaces top Exported items fs inside w.exports on_exports in
-    ap (λ (l : List (List ℕ × Function)). map (keyed Imported) l ++ map (keyed Exported) (flat_map item_functions w.exports)) imported ∙ ap (λ (l : List (List ℕ × Function)). map (keyed Imported) (map by_name (made_on Imported fns fs)) ++ map (keyed Exported) l) exported
 
 -- those of a side under their names
 side_has : (side : WorldSide) (fns : List SourceFunction) (fs : List Function) (k : ℕ) (fn : SourceFunction) (f : Function) → slice_get fns k ≡ Some fn → slice_get fs k ≡ Some f → role_side fn.role ≡ side → (place : ℕ) × (slice_get (map (keyed side) (map by_name (made_on side fns fs))) place ≡ Some (made_key fn f, f))
@@ -103,7 +105,7 @@ stated_has Exported fns fs k fn f at there is =
     (length front + it.0, at_back front (map (keyed Exported) (map by_name (made_on Exported fns fs))) it.0 (made_key fn f, f) it.1)
 
 -- those of both sides are stated
-pub stated_on_sides : (fns : List SourceFunction) (fs : List Function) → AreStated fns fs (both_sides fns fs)
+stated_on_sides : (fns : List SourceFunction) (fs : List Function) → AreStated fns fs (both_sides fns fs)
 stated_on_sides fns fs = record {
   has = λ k fn f at there. stated_has (role_side fn.role) fns fs k fn f at there refl;
   from = λ place key f at. elim (at_split (map (keyed Imported) (map by_name (made_on Imported fns fs))) (map (keyed Exported) (map by_name (made_on Exported fns fs))) place (key, f) at) [
@@ -111,6 +113,42 @@ stated_on_sides fns fs = record {
     | inr h ↦ side_from Exported fns fs h.0 key f h.2
   ];
 }
+
+-- what is stated may stand in another order
+stated_moved : (fns : List SourceFunction) (fs : List Function) (xs ys : List (FunctionKey × Function)) → ((k : ℕ) (x : FunctionKey × Function) → slice_get xs k ≡ Some x → (j : ℕ) × (slice_get ys j ≡ Some x)) → ((k : ℕ) (x : FunctionKey × Function) → slice_get ys k ≡ Some x → (j : ℕ) × (slice_get xs j ≡ Some x)) → AreStated fns fs xs → AreStated fns fs ys
+stated_moved fns fs xs ys there back h = record {
+  has = λ k fn f at made. (let it = h.has k fn f at made in there it.0 (made_key fn f, f) it.1);
+  from = λ place key f at. (let it = back place (key, f) at in h.from it.0 key f it.1);
+}
+
+abbrev of_side : WorldSide → List Entry → List (FunctionKey × Function)
+of_side side xs = map (keyed side) (flat_map item_functions xs)
+
+side_moved : (side : WorldSide) (xs ys : List Entry) → AreAmong xs ys → (k : ℕ) (x : FunctionKey × Function) → slice_get (of_side side xs) k ≡ Some x → (j : ℕ) × (slice_get (of_side side ys) j ≡ Some x)
+side_moved side xs ys among k x at =
+    let f = map_at (keyed side) (flat_map item_functions xs) k x at in
+    let it = moved item_functions xs ys among k f.0 f.1 in
+    (it.0, slice_get-map (keyed side) (flat_map item_functions ys) it.0 ∙ ap (option_map (keyed side)) it.1 ∙ ap Some f.2)
+
+sides_moved : (xs xs' ys ys' : List Entry) → AreAmong xs xs' → AreAmong ys ys' → (k : ℕ) (x : FunctionKey × Function) → slice_get (of_side Imported xs ++ of_side Exported ys) k ≡ Some x → (j : ℕ) × (slice_get (of_side Imported xs' ++ of_side Exported ys') j ≡ Some x)
+sides_moved xs xs' ys ys' first second k x at = elim (at_split (of_side Imported xs) (of_side Exported ys) k x at) [
+  | inl h ↦ (let it = side_moved Imported xs xs' first k x h in (it.0, at_front (of_side Imported xs') (of_side Exported ys') it.0 x it.1))
+  | inr h ↦ (let it = side_moved Exported ys ys' second h.0 x h.2 in (length (of_side Imported xs') + it.0, at_back (of_side Imported xs') (of_side Exported ys') it.0 x it.1))
+]
+
+-- the functions among imports and exports, whose setters were placed
+pub stated_settled : (interfaces : List Address) (top : List TopName) (xs : List ScopeName) (types : Names) (items : List SideItem) (fs : List Function) (inside : List Address) (is : List Include) (imports exports : List Entry) (w : World) → w.imports ≡ settled is (type_imports xs types ++ imports) → w.exports ≡ settled is exports → AreSideItems interfaces top Imported items fs inside imports → AreSideItems interfaces top Exported items fs inside exports → AreStated (flat_map item_function items) fs (world_functions w)
+stated_settled interfaces top xs types items fs inside is imports exports w on_imports on_exports are_imported are_exported =
+    let fns = flat_map item_function items in
+    let whole = type_imports xs types ++ imports in
+    let first : of_side Imported whole ≡ map (keyed Imported) (map by_name (made_on Imported fns fs)) = ap (map (keyed Imported)) (import_functions-all xs types imports ∙ side_functions interfaces top Imported items fs inside imports are_imported) in
+    let second : of_side Exported exports ≡ map (keyed Exported) (map by_name (made_on Exported fns fs)) = ap (map (keyed Exported)) (side_functions interfaces top Exported items fs inside exports are_exported) in
+    let all : of_side Imported whole ++ of_side Exported exports ≡ both_sides fns fs = ap (λ (l : List (FunctionKey × Function)). l ++ of_side Exported exports) first ∙ ap (λ (l : List (FunctionKey × Function)). map (keyed Imported) (map by_name (made_on Imported fns fs)) ++ l) second in
+    let stated = subst (AreStated fns fs) (sym all) (stated_on_sides fns fs) in
+    let there = sides_moved whole (settled is whole) exports (settled is exports) (settled_has is whole) (settled_has is exports) in
+    let back = sides_moved (settled is whole) whole (settled is exports) exports (settled_at is whole) (settled_at is exports) in
+    let now = stated_moved fns fs (of_side Imported whole ++ of_side Exported exports) (of_side Imported (settled is whole) ++ of_side Exported (settled is exports)) there back stated in
+    subst (λ (l : List Entry). AreStated fns fs (of_side Imported l ++ of_side Exported w.exports)) (sym on_imports) (subst (λ (l : List Entry). AreStated fns fs (of_side Imported (settled is whole) ++ of_side Exported l)) (sym on_exports) now)
 
 -- functions whose setters were placed, where all of them are imported
 pub stated_placed : (fns : List SourceFunction) (fs : List Function) (i : Interface) → ((k : ℕ) (fn : SourceFunction) → slice_get fns k ≡ Some fn → role_side fn.role ≡ Imported) → i.functions ≡ placed_functions fs → AreStated fns fs (interface_functions i)

@@ -21,7 +21,7 @@ use Rattle.wit_syntax.specs.Ends.{AtResource, AtForeign, Elsewhere, EndsAt}
 use Rattle.wit_arena.specs.Meet.{Key, Meeting, keys, Decls}
 use Rattle.wit_syntax.specs.Fault.{Fault}
 use Rattle.wit_syntax.specs.Signature.{IsUnpairedSetter}
-use Rattle.wit_syntax.specs.Broken.{IsMissingName, IsFunctionUsed, IsHandleBroken}
+use Rattle.wit_syntax.specs.Broken.{IsMissingName, IsFunctionUsed, IsHandleBroken, IsSetterAlone}
 use Rattle.wit_arena.specs.Whole.{Ordered, own_item, Turned, item_of, turned, all_turns, all_inside, all_meetings, turn_handles, AreRequired}
 use Rattle.wit_arena.specs.Resolving.{Required}
 use Rattle.wit_arena.specs.Resolved.{WorldArenas}
@@ -170,6 +170,15 @@ module _ (files : List PackageFile) (is ws : List Item) (middle es : List TypeDe
           same = turned_of c.0 o.0.own w o.2 c.2;
           names = scope_of files ws (item_scopes files ws items) t w at;
         }
+
+    -- no setter of it is alone on its side
+    pub world_paired : (t : ℕ) (w : Item) → slice_get ws t ≡ Some w → (f : Fault) → IsSetterAlone w f → ⊥
+    world_paired t w at f alone =
+        let o = map_at own_item e.ordered t w (ap (λ (l : List Item). slice_get l t) e.all ∙ at) in
+        let own : slice_get (map own_order e.ordered) t ≡ Some o.0.own = slice_get-map own_order e.ordered t ∙ ap (option_map own_order) o.1 in
+        let c = scope_at e.laid t o.0.own own in
+        let x = entry_of e.laid t c.0 c.1 in
+        (e.laid.makes t o.0.own c.0 x.0 own c.1 x.1).paired f (subst (λ (v : Item). IsSetterAlone v f) (sym o.2) alone)
 
     module _ (q : ℕ) (w : Item) (at : slice_get (inside_of ws) q ≡ Some w) where
       listed : slice_get (map item_of (all_inside e.ordered)) q ≡ Some w

@@ -19,12 +19,13 @@ use Rattle.wit_syntax.specs.Sides.{FunctionKey, item_function, side_items, inlin
 use Rattle.wit_syntax.specs.Source.{address, Item, all_items, ScopeName, scope_names}
 use Rattle.wit_syntax.specs.Trees.{scope}
 use Rattle.wit_syntax.specs.Foreign.{visited, foreign_interfaces, foreign_worlds}
-use Rattle.wit_syntax.specs.Scope.{in_turn, local_names}
+use Rattle.wit_syntax.specs.Scope.{in_turn, includes, local_names}
 use Rattle.wit_syntax.proofs.Lists.{at_front, at_back, at_seam, at_either, flat_map_at, flat_map_has}
 use Rattle.wit_syntax.proofs.Turns.{at_part}
 use Rattle.wit_syntax.proofs.Legal.{functions_items}
 use Rattle.wit_arena.specs.Meet.{Meeting, keys, Meets, all_name_meetings}
-use Rattle.wit_arena.specs.Package.{world_types, world_functions}
+use Rattle.wit_arena.specs.Package.{import_types, world_functions}
+use Rattle.wit_arena.specs.SideItems.{settled}
 use Rattle.wit_arena.specs.Resolved.{interfaces_at, worlds_at, WorldArenas, front_worlds, AddsWorld, AddsWorlds, AddsForeign, AreUsableUses}
 use Rattle.wit_arena.specs.Resolving.{Names, env_of, Cell, Required, cells}
 use Rattle.wit_arena.specs.Whole.{Ordered, OrderedWorld, own_item, Turned, item_of, addresses, turned, side_turns, world_turns, all_turns, all_inside, meetings, all_meetings, turn_handles, AreRequired, functions_at}
@@ -42,7 +43,8 @@ use Rattle.wit_arena.proofs.Places.{Grown, grown_trans}
 use Rattle.wit_arena.proofs.Required.{in_scope, ended_required, required_append, required_grown}
 use Rattle.wit_arena.proofs.SideItems.{side_types, side_items_wider}
 use Rattle.wit_arena.proofs.Standing.{DoneScope, turn_of, cell_of, IsDone}
-use Rattle.wit_arena.proofs.Stating.{both_sides, world_functions-all, stated_on_sides}
+use Rattle.wit_arena.proofs.Settled.{settled_none, settled_types}
+use Rattle.wit_arena.proofs.Stating.{stated_settled}
 use Rattle.wit_arena.proofs.DoneWorlds.{none_left, inline_count, SaysWorld, MakesWorld, world_cell, DoneWorld, own_scope, scopes_of, all_within, own_order, AreWorldsDone, includes_wider, named_world, own_types, all_handles-append, written_more, scopes_more, handles_more, one_of_three, doing_declared}
 use Rattle.wit_arena.proofs.Requiring.{requiring, doing_requiring}
 use Rattle.wit_arena.proofs.WorldSides.{place, next_place, long_inside, inside_split, world_added, interface_added, c, names_done, sides_done}
@@ -82,8 +84,17 @@ module _ (files : List PackageFile) (is ws : List Item) (interfaces : AreOfSort 
       abbrev turns_names : List ScopeName
       turns_names = in_turn (scope_names w) adds.adds.order
 
+      abbrev all_addresses : List Address
+      all_addresses = interfaces_at ss (front ++ xs) ++ b.addresses
+
+      abbrev inside_addresses : List Address
+      inside_addresses = map address (inline_items w)
+
       abbrev both : List (FunctionKey × Function)
-      both = both_sides (functions w) adds.functions
+      both = world_functions adds.added
+
+      stated_all : AreStated (functions w) adds.functions both
+      stated_all = subst (λ (l : List SourceFunction). AreStated l adds.functions both) (sym (functions_items w)) (stated_settled all_addresses w.top turns_names adds.types (side_items w) adds.functions inside_addresses (includes w) adds.imported adds.exported adds.added adds.imports adds.exports adds.are_imported adds.are_exported)
 
       abbrev opened : DoneScope
       opened = c files is ws interfaces worlds is_items ws_items uses es front wfront foreign middle xs irs d us old a qs e w next adds.middle adds.types adds.adds adds.functions both []
@@ -176,7 +187,7 @@ module _ (files : List PackageFile) (is ws : List Item) (interfaces : AreOfSort 
       all_of : AreWhole files all_scopes_now (made_before ++ sided.more) (keys doing.met)
       all_of = record {
         functions = of_each (λ (x : DoneScope). x.functions ≡ functions_at files x.address) (λ k x at. (e.done.each k x at).functions) (sym (functions_of files ws (item_scopes files ws ws_items) (length us) w next)) (λ k x at. (sided.whole k x at).functions);
-        stated = of_each (λ (x : DoneScope). AreStated x.functions x.made x.stated) (λ k x at. (e.done.each k x at).stated) (stated_on_sides (functions w) adds.functions) (λ k x at. (sided.whole k x at).stated);
+        stated = of_each (λ (x : DoneScope). AreStated x.functions x.made x.stated) (λ k x at. (e.done.each k x at).stated) stated_all (λ k x at. (sided.whole k x at).stated);
         count = of_each (λ (x : DoneScope). length x.made ≡ length x.functions) (λ k x at. (e.done.made k x at).count) (sided.count ∙ ap length (sym (functions_items w))) (λ k x at. (sided.whole k x at).count);
         made = made_among;
         each = made_each;
@@ -212,30 +223,24 @@ module _ (files : List PackageFile) (is ws : List Item) (interfaces : AreOfSort 
       listed : map (λ p. p.0) adds.types ≡ local_names turns_names
       listed = (opened_names.each (length first) opened (at_seam first opened)).listed
 
-      abbrev all_addresses : List Address
-      all_addresses = interfaces_at ss (front ++ xs) ++ b.addresses
-
-      abbrev inside_addresses : List Address
-      inside_addresses = map address (inline_items w)
-
-      stated_all : world_functions adds.added ≡ both
-      stated_all = world_functions-all all_addresses w.top turns_names adds.types (side_items w) adds.functions inside_addresses adds.imported adds.added adds.imports adds.are_imported adds.are_exported ∙ ap (λ (l : List SourceFunction). both_sides l adds.functions) (sym (functions_items w))
-
       is_cell : cell_of closed ≡ world_cell adds.added
       is_cell =
-          let types = own_types turns_names adds.types adds.imported adds.added listed adds.imports (side_types all_addresses w.top Imported (side_items w) adds.functions inside_addresses adds.imported adds.are_imported) in
+          let none = settled_none import_types (includes w) adds.imported (side_types all_addresses w.top Imported (side_items w) adds.functions inside_addresses adds.imported adds.are_imported) in
+          let types = own_types turns_names adds.types (settled (includes w) adds.imported) adds.added listed (adds.imports ∙ settled_types (includes w) turns_names adds.types adds.imported) none in
           ap (λ (x : Address). record { address = x; types = adds.types; functions = free_of both }) (world_address w (worlds.each (length us) w next))
           ∙ ap (named_world adds.types both) (sym adds.says.name)
           ∙ ap (λ (x : Names). named_world x both adds.added.name) (sym types)
-          ∙ ap (λ (x : List (FunctionKey × Function)). named_world (world_types adds.added) x adds.added.name) (sym stated_all)
 
       makes : MakesWorld (interface_list files is (inside_of ws)) world.own closed adds.added
       makes = record {
         imported = adds.imported;
         imports = adds.imports;
+        exported = adds.exported;
+        exports = adds.exports;
         are_imported = side_items_wider all_addresses (interface_list files is (inside_of ws)) (interface_added files is ws interfaces worlds is_items ws_items uses es front wfront foreign middle xs irs d us old a qs e w next b.addresses adds.more) w.top Imported (side_items w) adds.functions inside_addresses adds.imported adds.are_imported;
-        are_exported = side_items_wider all_addresses (interface_list files is (inside_of ws)) (interface_added files is ws interfaces worlds is_items ws_items uses es front wfront foreign middle xs irs d us old a qs e w next b.addresses adds.more) w.top Exported (side_items w) adds.functions inside_addresses adds.added.exports adds.are_exported;
-        stated = sym stated_all;
+        are_exported = side_items_wider all_addresses (interface_list files is (inside_of ws)) (interface_added files is ws interfaces worlds is_items ws_items uses es front wfront foreign middle xs irs d us old a qs e w next b.addresses adds.more) w.top Exported (side_items w) adds.functions inside_addresses adds.exported adds.are_exported;
+        stated = refl;
+        paired = adds.paired;
       }
 
       says : SaysWorld (world_list files ws) world.own adds.added

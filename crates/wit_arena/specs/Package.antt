@@ -1,5 +1,5 @@
 -- What types of a package mean: the arenas unfolded, whose names are by what the package calls them, and what an interface says.
-use Rattle.std.specs.Prelude.{◌≡◌, ℕ, zero, suc, ◌<◌, Bool, true, false, not, nat_eq, List, [], ◌∷◌, ◌++◌, Option, Some, None, ◌⊎◌, map, find, slice_get}
+use Rattle.std.specs.Prelude.{◌≡◌, ℕ, zero, suc, ◌<◌, Bool, true, false, nat_eq, List, [], ◌∷◌, ◌++◌, Option, Some, None, ◌⊎◌, map, find, slice_get}
 use Rattle.std.specs.List.{flat_map, filter}
 use Rattle.std.specs.Option.{option_map_or, option_to_list}
 use Rattle.wit_model.specs.declared.function.Function.{Function}
@@ -52,16 +52,16 @@ address_of (Some e) = OfScope e.1
 abbrev pub foreign_owner : UnresolvedPackage → AstItem → Owner
 foreign_owner p i = address_of (find (λ e. same_entry e.0 i) (flat_map dep_items p.foreign_deps))
 
--- what stands on a side behind the names of types
-abbrev pub is_type_item : WorldKey × WorldItem → Bool
-is_type_item (key, item.Type_ id span) = true
-is_type_item (key, item.Interface id stability external_id docs span) = false
-is_type_item (key, item.Function f) = false
+-- the interfaces among what stands on a side
+abbrev pub is_interface_item : WorldKey × WorldItem → Bool
+is_interface_item (key, item.Type_ id span) = false
+is_interface_item (key, item.Interface id stability external_id docs span) = true
+is_interface_item (key, item.Function f) = false
 
-abbrev pub behind_types : List (WorldKey × WorldItem) → List (WorldKey × WorldItem)
-behind_types xs = filter (λ x. not (is_type_item x)) xs
+abbrev pub interface_items : List (WorldKey × WorldItem) → List (WorldKey × WorldItem)
+interface_items xs = filter is_interface_item xs
 
--- an interface that stands under a name at a place on a side of a world, with the address that it has where it is written there
+-- an interface that stands under a name, at a place among those of a side of a world, with the address that it has where it is written there
 abbrev pub interface_at : List ℕ → WorldSide → ℕ → WorldKey × WorldItem → List (ℕ × Address)
 interface_at world side place (key.Name name, item.Interface id stability external_id docs span) = (id, InlineAt world side place) ∷ []
 interface_at world side place (key.Name name, item.Type_ id span) = []
@@ -74,7 +74,7 @@ interfaces_from world side place (x ∷ xs) = interface_at world side place x ++
 
 -- those of a world: first among its imports, and then among its exports
 abbrev pub world_interfaces : World → List (ℕ × Address)
-world_interfaces w = interfaces_from w.name Imported 0 (behind_types w.imports) ++ interfaces_from w.name Exported 0 (behind_types w.exports)
+world_interfaces w = interfaces_from w.name Imported 0 (interface_items w.imports) ++ interfaces_from w.name Exported 0 (interface_items w.exports)
 
 abbrev pub inline_address : Option (ℕ × Address) → Owner
 inline_address None = Nobody

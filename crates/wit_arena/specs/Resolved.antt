@@ -27,8 +27,8 @@ use Rattle.wit_syntax.specs.Function.{SourceFunction, functions as item_function
 use Rattle.wit_syntax.specs.Signature.{IsUnpairedSetter}
 use Rattle.wit_tree.specs.declared.tree.WorldSide.TheVariants.{Imported, Exported}
 use Rattle.wit_arena.specs.Functions.{placed_functions}
-use Rattle.wit_arena.specs.SideItems.{AreSideItems}
-use Rattle.wit_syntax.specs.Broken.{is_world_at, IsBrokenScope, IsBrokenUse}
+use Rattle.wit_arena.specs.SideItems.{AreSideItems, settled}
+use Rattle.wit_syntax.specs.Broken.{is_world_at, IsBrokenScope, IsBrokenUse, IsSetterAlone}
 use Rattle.wit_syntax.specs.Sides.{Link, links, SideItem, SideFunction, SideLink, SideInline, side_items, inline_items, IsBrokenSides}
 use Rattle.wit_arena.specs.Whole.{owner_at, taking_meeting, AreForeignInterfaces, AreForeignWorlds, type_imports, AreIncludes}
 use Rattle.wit_arena.specs.Resolving.{Names, env_of, Cell, cells, named, Defines, AddsFunctions, Required, IsWrongHandle, AreEnded, IsIndex, IsWorldIndex, IsLostInclude, IsLostLink, IsWrongScope}
@@ -115,9 +115,12 @@ pub record AddsWorld (foreign others : List Address) (is : List Interface) (old 
   pub requires : rs ≡ own ++ rest
   pub sides : AddsSides (cells foreign is) (length is) (address item) types middle new a.inside b.inside functions rest (side_items item) (inline_items item)
   pub imported : List (WorldKey × WorldItem)
-  pub imports : added.imports ≡ type_imports (in_turn (scope_names item) adds.order) types ++ imported
   pub are_imported : AreSideItems (interfaces_at foreign is ++ b.addresses) item.top Imported (side_items item) functions (map address (inline_items item)) imported
-  pub are_exported : AreSideItems (interfaces_at foreign is ++ b.addresses) item.top Exported (side_items item) functions (map address (inline_items item)) added.exports
+  pub imports : added.imports ≡ settled (includes item) (type_imports (in_turn (scope_names item) adds.order) types ++ imported)
+  pub exported : List (WorldKey × WorldItem)
+  pub are_exported : AreSideItems (interfaces_at foreign is ++ b.addresses) item.top Exported (side_items item) functions (map address (inline_items item)) exported
+  pub exports : added.exports ≡ settled (includes item) exported
+  pub paired : (f : Fault) → IsSetterAlone item f → ⊥
   pub includes : AreIncludes (worlds_at others a.worlds) item added.includes
 
 -- what items add to the arenas, one after another, and what they require, where `Adds` says what one of them does
@@ -237,6 +240,7 @@ pub data IsWrongWorld (files : List PackageFile) (old : List TypeDef) (cs : List
   WrongWorldScope : IsWrongScope cs by_name (scope_names item) (item_functions item) f → IsWrongWorld files old cs count inside by_name worlds_by_name o item f
   WrongWorldHandle : IsWrongHandleNow old cs o item f → IsWrongWorld files old cs count inside by_name worlds_by_name o item f
   WrongWorldSides : IsBrokenSides item f → IsWrongWorld files old cs count inside by_name worlds_by_name o item f
+  UnpairedOnSide : IsSetterAlone item f → IsWrongWorld files old cs count inside by_name worlds_by_name o item f
   WrongWorldUse : IsBrokenUse files item f → IsWrongWorld files old cs count inside by_name worlds_by_name o item f
   LostLink : IsLostLink files by_name item f → IsWrongWorld files old cs count inside by_name worlds_by_name o item f
   LostInclude : IsLostInclude files worlds_by_name item f → IsWrongWorld files old cs count inside by_name worlds_by_name o item f

@@ -1,7 +1,8 @@
--- What stands on the sides of a world in a package, behind types: functions, and interfaces at their places.
+-- What stands on the sides of a world in a package, behind types: functions, and interfaces at their places; and where its setters stand.
 use Rattle.std.specs.Prelude.{if◌then◌else◌, ◌≡◌, ℕ, List, [], ◌∷◌, Option, Some, None, slice_get}
 use Rattle.wit_tree.specs.declared.tree.Extern.{Extern}
 use Rattle.wit_tree.specs.declared.tree.Id.{Id}
+use Rattle.wit_tree.specs.declared.tree.Include.{Include}
 use Rattle.wit_tree.specs.declared.tree.UsePath.{UsePath}
 use Rattle.wit_tree.specs.declared.tree.WorldSide.{WorldSide}
 use Rattle.wit_values.specs.declared.span.Span.{Span}
@@ -10,6 +11,8 @@ use Rattle.wit_model.specs.declared.world.WorldKey.{WorldKey}
 use Rattle.wit_model.specs.declared.world.WorldKey.TheVariants as key
 use Rattle.wit_model.specs.declared.world.WorldItem.{WorldItem}
 use Rattle.wit_model.specs.declared.world.WorldItem.TheVariants as item
+use Rattle.wit_model.specs.Setters.{placed}
+use Rattle.wit_model.specs.Worlds.{function_of}
 use Rattle.wit_syntax.specs.Address.{Address}
 use Rattle.wit_syntax.specs.Crossing.{same_side}
 use Rattle.wit_syntax.specs.Notes.{Notes, notes, docs_of, no_docs, stability_of, external_id_of}
@@ -52,3 +55,9 @@ AreSideItems interfaces top side (SideFunction fn ∷ written) (f ∷ fs) ss xs 
 AreSideItems interfaces top side (SideLink link ∷ written) fs ss xs = (place : ℕ) × (rest : List (WorldKey × WorldItem)) × (slice_get interfaces place ≡ Some (path_scope top link.path)) × (xs ≡ put_on side link.side (link_item link place) rest) × AreSideItems interfaces top side written fs ss rest
 AreSideItems interfaces top side (SideInline x name items ∷ written) fs [] xs = ⊥
 AreSideItems interfaces top side (SideInline x name items ∷ written) fs (s ∷ ss) xs = (place : ℕ) × (rest : List (WorldKey × WorldItem)) × (slice_get interfaces place ≡ Some s) × (xs ≡ put_on side x.side (inline_entry x name place) rest) × AreSideItems interfaces top side written fs ss rest
+
+-- A side of a world with these includes: where there is none, each setter that is written before its getter stands directly behind it, as in
+-- an interface; with an include, whose getters may come, all stays as it is written.
+abbrev pub settled : List Include → List (WorldKey × WorldItem) → List (WorldKey × WorldItem)
+settled [] xs = placed function_of xs
+settled (i ∷ is) xs = xs

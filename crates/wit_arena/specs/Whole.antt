@@ -1,5 +1,5 @@
 -- The theorem: what a resolved package is.
-use Rattle.std.specs.Prelude.{◌≡◌, ◌↔◌, ◌<◌, ◌==◌, ℕ, zero, suc, not, List, [], ◌∷◌, ◌++◌, length, map, Option, Some, None, slice_get, ◌⊎◌, position, if◌then◌else◌}
+use Rattle.std.specs.Prelude.{if◌then◌else◌, ◌≡◌, ◌↔◌, ◌<◌, ◌==◌, ℕ, zero, suc, not, List, [], ◌∷◌, ◌++◌, length, map, Option, Some, None, slice_get, ◌⊎◌, position}
 use Rattle.wit_values.specs.declared.span.Span.{Span}
 use Rattle.std.specs.Option.{option_map, option_map_or, option_or, unwrap_or}
 use Rattle.semver.specs.Identifiers.{parts_of}
@@ -43,7 +43,7 @@ use Rattle.wit_syntax.specs.Ends.{AtResource, AtForeign, EndsAt}
 use Rattle.wit_tree.specs.declared.tree.Id.{Id}
 use Rattle.wit_tree.specs.declared.tree.WorldSide.TheVariants.{Imported, Exported}
 use Rattle.wit_arena.specs.Functions.{AreFunctions, placed_functions}
-use Rattle.wit_arena.specs.SideItems.{AreSideItems}
+use Rattle.wit_arena.specs.SideItems.{AreSideItems, settled}
 use Rattle.wit_syntax.specs.Scope.{item_rows, interfaces_of, worlds_of, includes, rows_of, in_order, in_turn}
 use Rattle.wit_types.specs.declared.docs.Docs.{Docs}
 use Rattle.wit_syntax.specs.Notes.{docs_of, no_docs, stability_of}
@@ -167,15 +167,17 @@ pub record AreIncludes (worlds : List Address) (item : Item) (is : List WorldInc
   pub count : length is ≡ length (includes item)
   pub each : (k : ℕ) (written : Include) (i : WorldInclude) → slice_get (includes item) k ≡ Some written → slice_get is k ≡ Some i → IsInclude worlds item.top written i
 
--- Behind the names of types a world has on its sides what an item has there, with functions over the types of the package, where the
--- interfaces have these addresses, and those that are written in it have those.
+-- Behind the names of types a world has on its sides what an item has there, with functions over the types of the package, and each setter
+-- behind its getter where nothing is included; the interfaces have these addresses, and those that are written in it have those.
 pub record HasSides (ks : List Key) (interfaces inside : List Address) (o : Ordered) (w : World) : Type 0 where
   pub functions : List Function
   pub are : AreFunctions ks (address o.item) (item_functions o.item) functions
   pub imported : List (WorldKey × WorldItem)
-  pub imports : w.imports ≡ type_imports (ordered_names o) (world_types w) ++ imported
   pub are_imported : AreSideItems interfaces o.item.top Imported (side_items o.item) functions inside imported
-  pub are_exported : AreSideItems interfaces o.item.top Exported (side_items o.item) functions inside w.exports
+  pub imports : w.imports ≡ settled (includes o.item) (type_imports (ordered_names o) (world_types w) ++ imported)
+  pub exported : List (WorldKey × WorldItem)
+  pub are_exported : AreSideItems interfaces o.item.top Exported (side_items o.item) functions inside exported
+  pub exports : w.exports ≡ settled (includes o.item) exported
 
 -- These are the worlds of files, each with its names in turn as its imports, and then the functions and interfaces that it imports, with
 -- those that it exports, and with its includes, where the interfaces and the worlds have these addresses.

@@ -1,5 +1,6 @@
 mod Named
 mod Paired
+mod PairedNames
 pub mod Steps
 pub mod Clashing
 pub mod Done

@@ -1,15 +1,19 @@
-//! The names of types on the sides of a scope, and the setters of an interface.
+//! The names of types on the sides of a scope, and the setters of an interface and of the sides of a world.
 ghost use Rattle.std.specs.Prelude.{◌≡◌, ◌++◌, IfErr, OnOk, map};
+ghost use Rattle.std.specs.List.{flat_map};
 ghost use Rattle.wit_tree.specs.declared.tree.WorldSide.{WorldSide};
 ghost use Rattle.wit_syntax.specs.Repeats.{AllDiffer};
-ghost use Rattle.wit_syntax.specs.Sides.{names_on};
+ghost use Rattle.wit_syntax.specs.Sides.{item_function, names_on, on_side};
 ghost use Rattle.wit_syntax.specs.Fault.{Fault};
 ghost use Rattle.wit_syntax.specs.Broken.{Refused};
 ghost use Rattle.wit_syntax.specs.Signature.{IsUnpairedSetter};
 ghost use Rattle.wit_rules.specs.Held.{function_behind};
 ghost use Rattle.wit_sides.specs.Sides.{taken_on};
 ghost use Rattle.wit_signatures.specs.Taken.{name_key, name_of_id, name_of_function, IsTwiceAmong};
+ghost use Rattle.wit_externs.specs.Clash.{all_on};
+ghost use Rattle.wit_externs.specs.Held.{externs_behind};
 
+use crate::held::HeldExtern;
 use wit_notes::NameScope;
 use wit_rules::held::HeldFunction;
 use wit_sides::Sides;
@@ -44,4 +48,22 @@ pub fn check_setters(
     ensures refused { IfErr result (Refused (IsUnpairedSetter (map function_behind functions.now))) }
 {
     taken.check_setters()
+}
+
+/// Refuses a setter of a world that has no getter of its spelling on its side, where these are the
+/// names of its types and what stands on its sides: first one that is imported.
+///
+/// The refusal is E18 at such a setter, or want of memory.
+pub fn check_sides(
+    taken: &Sides,
+    names: &[Id<'_>],
+    externs: &[HeldExtern<'_, '_>],
+) -> ParseResult<()>
+    requires { (s : WorldSide) → taken_on s taken.now ≡ all_on s names.now (externs_behind externs.now) }
+    ensures paired { OnOk result ((s : WorldSide) (f : Fault) → IsUnpairedSetter (on_side s (flat_map item_function (externs_behind externs.now))) f → ⊥) }
+    ensures refused { IfErr result (Refused (λ f. (s : WorldSide) × IsUnpairedSetter (on_side s (flat_map item_function (externs_behind externs.now))) f)) }
+{
+    taken.imports.check_setters()?;
+    taken.exports.check_setters()?;
+    Ok(())
 }

@@ -7,6 +7,7 @@ use Rattle.std.proofs.lemmas.Grind.{flat_map-append}
 use Rattle.std.proofs.lemmas.Option.{slice_get_within}
 use Rattle.wit_tree.specs.declared.tree.WorldSide.{WorldSide}
 use Rattle.wit_tree.specs.declared.tree.WorldSide.TheVariants.{Imported, Exported}
+use Rattle.wit_tree.specs.declared.tree.Include.{Include}
 use Rattle.wit_tree.specs.declared.tree.PackageFile.{PackageFile}
 use Rattle.wit_types.specs.declared.types.TypeOwner.{TypeOwner}
 use Rattle.wit_types.specs.declared.types.TypeOwner.TheVariants as owner
@@ -21,10 +22,12 @@ use Rattle.wit_syntax.specs.Address.{Address}
 use Rattle.wit_syntax.specs.Foreign.{ForeignVisit, foreign_interfaces, foreign_worlds}
 use Rattle.wit_syntax.specs.Source.{Item, ScopeName, address}
 use Rattle.wit_syntax.specs.Function.{SourceFunction, functions}
+use Rattle.wit_syntax.specs.Scope.{includes}
 use Rattle.wit_syntax.specs.Sides.{FunctionKey, side_items}
 use Rattle.wit_syntax.proofs.Legal.{functions_items}
 use Rattle.wit_arena.specs.Functions.{by_name, placed_functions, made_on, AreFunctions}
-use Rattle.wit_arena.specs.SideItems.{AreSideItems}
+use Rattle.wit_arena.specs.SideItems.{AreSideItems, settled}
+use Rattle.wit_arena.proofs.Settled.{moved, settled_at}
 use Rattle.wit_arena.proofs.SideItems.{side_functions}
 use Rattle.wit_arena.specs.Meet.{Key, keys}
 use Rattle.wit_arena.specs.Package.{item_functions, keyed, interface_functions, world_functions, world_types, functions_of}
@@ -96,6 +99,10 @@ side_marked side ks s i fs are place name f at =
     let it = made_on_from side (functions i) fs place f (g.1 ∙ ap Some same) in
     made_marked ks s i fs are it.0 f it.1
 
+-- so do those of a side whose setters were placed
+settled_marked : (is : List Include) (xs ys : List (WorldKey × WorldItem)) → ys ≡ settled is xs → AreMarked (flat_map item_functions xs) → AreMarked (flat_map item_functions ys)
+settled_marked is xs ys are marked = subst (λ (l : List (WorldKey × WorldItem)). AreMarked (flat_map item_functions l)) (sym are) (λ place name f at. (let it = moved item_functions (settled is xs) xs (settled_at is xs) place (name, f) at in marked it.0 name f it.1))
+
 -- the interfaces and the worlds of a package: those of other packages have no function
 own_interface : (ks : List Key) (os : List Ordered) (is : List Interface) → AreInterfaces ks os is → (k : ℕ) (i : Interface) → slice_get is k ≡ Some i → AreMarked i.functions
 own_interface ks os is are k i at =
@@ -115,11 +122,12 @@ own_world ks interfaces worlds os ws are k w at =
     let inside = addresses o.0.inside in
     let has = are.sides k o.0 w o.1 at in
     let fs = has.functions in
-    let ins : flat_map item_functions w.imports ≡ map by_name (made_on Imported (functions i) fs) = ap (flat_map item_functions) has.imports ∙ imported (ordered_names own) (world_types w) has.imported ∙ there interfaces inside Imported i fs has.imported has.are_imported in
-    let outs : flat_map item_functions w.exports ≡ map by_name (made_on Exported (functions i) fs) = there interfaces inside Exported i fs w.exports has.are_exported in
+    let whole = type_imports (ordered_names own) (world_types w) ++ has.imported in
+    let ins : flat_map item_functions whole ≡ map by_name (made_on Imported (functions i) fs) = imported (ordered_names own) (world_types w) has.imported ∙ there interfaces inside Imported i fs has.imported has.are_imported in
+    let outs : flat_map item_functions has.exported ≡ map by_name (made_on Exported (functions i) fs) = there interfaces inside Exported i fs has.exported has.are_exported in
     both_keyed (map (keyed Imported) (flat_map item_functions w.imports)) (map (keyed Exported) (flat_map item_functions w.exports))
-    (marked_keyed Imported (flat_map item_functions w.imports) (subst AreMarked (sym ins) (side_marked Imported ks (address i) i fs has.are)))
-    (marked_keyed Exported (flat_map item_functions w.exports) (subst AreMarked (sym outs) (side_marked Exported ks (address i) i fs has.are)))
+    (marked_keyed Imported (flat_map item_functions w.imports) (settled_marked (includes i) whole w.imports has.imports (subst AreMarked (sym ins) (side_marked Imported ks (address i) i fs has.are))))
+    (marked_keyed Exported (flat_map item_functions w.exports) (settled_marked (includes i) has.exported w.exports has.exports (subst AreMarked (sym outs) (side_marked Exported ks (address i) i fs has.are))))
 
 foreign_interface : (files : List PackageFile) (ks : List Key) (vs : List ForeignVisit) (is : List Interface) → AreForeignInterfaces files ks vs is → (k : ℕ) (i : Interface) → slice_get is k ≡ Some i → AreMarked i.functions
 foreign_interface files ks vs is are k i at =

@@ -36,8 +36,8 @@ use Rattle.wit_arena.proofs.Placed.{function_from}
 use Rattle.wit_arena.proofs.Places.{all_at_untaken}
 use Rattle.wit_arena.proofs.Shape.{key_of}
 use Rattle.wit_parser.proofs.TypeIds.{parts_within, names_within, functions_within, required_within}
-use Rattle.wit_parser.proofs.SideIds.{none_within, both_within, type_imports_within, side_within}
-use Rattle.wit_parser.specs.Ids.{IsOwnerWithin, IsTypeWithin, AreItemsWithin, IsInterfaceWithin, IsWorldWithin, IsForeignWithin, AreIdsWithin}
+use Rattle.wit_parser.proofs.SideIds.{none_within, both_within, settled_within, type_imports_within, side_within}
+use Rattle.wit_parser.specs.Ids.{IsOwnerWithin, IsTypeWithin, IsInterfaceWithin, IsWorldWithin, IsForeignWithin, AreIdsWithin}
 
 -- what is found among addresses stands among them
 place_within : (ss : List Address) (s : Address) (k : ℕ) → place_at ss s ≡ Some k → k < length ss
@@ -121,8 +121,8 @@ module _ (p : UnresolvedPackage) (ks : List Key) (types : length p.types ≡ len
       let each = functions_within p ks types (address item) (functions item) has.functions has.are in
       let names = names_within p ks types (turned o.0.own) (world_types w) (are.types k o.0 w o.1 at) in
       record {
-        imports = subst (AreItemsWithin p) (sym has.imports) (both_within p (type_imports (ordered_names o.0.own) (world_types w)) has.imported (type_imports_within p (ordered_names o.0.own) (world_types w) names) (side_within p is interfaces item.top Imported (side_items item) has.functions (addresses o.0.inside) has.imported each has.are_imported));
-        exports = side_within p is interfaces item.top Exported (side_items item) has.functions (addresses o.0.inside) w.exports each has.are_exported;
+        imports = settled_within p (includes item) (type_imports (ordered_names o.0.own) (world_types w) ++ has.imported) w.imports has.imports (both_within p (type_imports (ordered_names o.0.own) (world_types w)) has.imported (type_imports_within p (ordered_names o.0.own) (world_types w) names) (side_within p is interfaces item.top Imported (side_items item) has.functions (addresses o.0.inside) has.imported each has.are_imported));
+        exports = settled_within p (includes item) has.exported w.exports has.exports (side_within p is interfaces item.top Exported (side_items item) has.functions (addresses o.0.inside) has.exported each has.are_exported);
         includes = include_within item w.includes (are.includes k o.0 w o.1 at);
         no_package = (are.says k o.0 w o.1 at).no_package;
       }

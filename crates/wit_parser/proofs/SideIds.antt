@@ -4,6 +4,7 @@ use Rattle.std.specs.Prelude.{slice_get}
 use Rattle.std.proofs.lemmas.Bool.{cases_Bool, cond-true, cond-false}
 use Rattle.std.proofs.lemmas.Option.{slice_get_within}
 use Rattle.wit_tree.specs.declared.tree.Id.{Id}
+use Rattle.wit_tree.specs.declared.tree.Include.{Include}
 use Rattle.wit_tree.specs.declared.tree.WorldSide.{WorldSide}
 use Rattle.wit_model.specs.declared.function.Function.{Function}
 use Rattle.wit_model.specs.declared.world.WorldItem.{WorldItem}
@@ -16,7 +17,8 @@ use Rattle.wit_syntax.specs.Crossing.{same_side}
 use Rattle.wit_syntax.specs.Sides.{role_side, SideItem, SideFunction, SideLink, SideInline}
 use Rattle.wit_syntax.specs.Source.{TopName, ScopeName, local_name, local_id, path_scope}
 use Rattle.wit_arena.specs.Functions.{function_item}
-use Rattle.wit_arena.specs.SideItems.{link_key, link_item, inline_entry, put_on, AreSideItems}
+use Rattle.wit_arena.specs.SideItems.{link_key, link_item, inline_entry, put_on, settled, AreSideItems}
+use Rattle.wit_arena.proofs.Settled.{settled_at}
 use Rattle.wit_arena.specs.Whole.{type_imports}
 use Rattle.wit_syntax.proofs.Kept.{behind_one}
 use Rattle.wit_syntax.proofs.Lists.{at_split}
@@ -50,6 +52,10 @@ module _ (p : UnresolvedPackage) where
     | inl front ↦ first k x front
     | inr back ↦ second back.0 x back.2
   ]
+
+  -- and the same where setters were placed
+  pub settled_within : (is : List Include) (xs ys : List Entry) → ys ≡ settled is xs → AreItemsWithin p xs → AreItemsWithin p ys
+  settled_within is xs ys are within = subst (AreItemsWithin p) (sym are) (λ k x at. (let it = settled_at is xs k x at in within it.0 x it.1))
 
   -- names as imports
   pub type_imports_within : (xs : List ScopeName) (types : List (List ℕ × ℕ)) → AreNamesWithin p types → AreItemsWithin p (type_imports xs types)

@@ -1,7 +1,7 @@
 -- The interfaces that are written in an item: where they stand there, their addresses and their uses.
 use Rattle.std.proofs.Common.{◌≡◌, ℕ, zero, suc, ◌+◌, ◌≤◌, Bool, true, false, List, [], ◌∷◌, ◌++◌, length, take, Some, inl, inr, refl, sym, ap, ◌∙◌, subst, arith, length-append}
 use Rattle.std.specs.Prelude.{slice_get, map, Contains}
-use Rattle.std.specs.List.{flat_map}
+use Rattle.std.specs.List.{filter, flat_map}
 use Rattle.std.proofs.lemmas.Bool.{cond-true}
 use Rattle.std.proofs.lemmas.List.{append-nil, append_assoc}
 use Rattle.std.proofs.lemmas.List.Elements.{filter-append}
@@ -19,7 +19,7 @@ use Rattle.wit_syntax.specs.Function.{SourceFunction, functions, definition_func
 use Rattle.wit_syntax.specs.Repeats.{AllDiffer}
 use Rattle.wit_syntax.specs.Source.{TheInline, interface_part, Part, Defining, Using, Including, Doing, Crossing, parts, Item, address, item_name, is_world}
 use Rattle.wit_syntax.specs.Scope.{part_uses, uses}
-use Rattle.wit_syntax.specs.Sides.{SideItem, SideFunction, SideLink, SideInline, extern_items, part_items, item_inline, item_side, items_on, side_items, inline_item, inline_behind, inline_items, with_inline}
+use Rattle.wit_syntax.specs.Sides.{SideItem, SideFunction, SideLink, SideInline, extern_items, part_items, item_inline, item_side, items_on, is_interface, interfaces_on, side_items, inline_item, inline_behind, inline_items, with_inline}
 use Rattle.wit_syntax.proofs.Lists.{at_split, map_at, flat_map_at, flat_map_has}
 use Rattle.wit_syntax.proofs.Addresses.{side_itself}
 use Rattle.wit_syntax.proofs.Kept.{differ_cons}
@@ -38,7 +38,7 @@ pub record IsWritten (w : Item) (before xs : List SideItem) (k : ℕ) (i : Item)
   pub name : Id
   pub items : List InterfaceItem
   pub at : slice_get xs place ≡ Some (SideInline x name items)
-  pub is : inlined w (length (items_on x.side (before ++ take place xs))) x name items ≡ i
+  pub is : inlined w (length (interfaces_on x.side (before ++ take place xs))) x name items ≡ i
   pub behind : k ≡ length (flat_map item_inline (take place xs))
 
 one_inline : (w : Item) (place : ℕ) (x : SideItem) → length (inline_item w place x) ≡ length (item_inline x)
@@ -53,11 +53,11 @@ written_later w before xs x j k i count it = record {
   name = it.name;
   items = it.items;
   at = it.at;
-  is = ap (λ (l : List SideItem). inlined w (length (items_on it.x.side l)) it.x it.name it.items) (sym (append_assoc before (x ∷ []) (take it.place xs))) ∙ it.is;
+  is = ap (λ (l : List SideItem). inlined w (length (interfaces_on it.x.side l)) it.x it.name it.items) (sym (append_assoc before (x ∷ []) (take it.place xs))) ∙ it.is;
   behind = count ∙ ap (λ n. length (item_inline x) + n) it.behind ∙ sym (length-append (item_inline x) (flat_map item_inline (take it.place xs)));
 }
 
-written_here : (w : Item) (before xs : List SideItem) (x : SideItem) (k : ℕ) (i : Item) → slice_get (inline_item w (length (items_on (item_side x) before)) x) k ≡ Some i → IsWritten w before (x ∷ xs) k i
+written_here : (w : Item) (before xs : List SideItem) (x : SideItem) (k : ℕ) (i : Item) → slice_get (inline_item w (length (interfaces_on (item_side x) before)) x) k ≡ Some i → IsWritten w before (x ∷ xs) k i
 written_here w before xs (SideFunction fn) k i at = absurd (let f : ⊥ = cc in f)
 written_here w before xs (SideLink link) k i at = absurd (let f : ⊥ = cc in f)
 written_here w before xs (SideInline x name items) (suc k) i at = absurd (let f : ⊥ = cc in f)
@@ -67,7 +67,7 @@ written_here w before xs (SideInline x name items) zero i at = record {
   name = name;
   items = items;
   at = refl;
-  is = ap (λ (l : List SideItem). inlined w (length (items_on x.side l)) x name items) (append-nil before) ∙ (let same : inlined w (length (items_on x.side before)) x name items ≡ i = cc in same);
+  is = ap (λ (l : List SideItem). inlined w (length (interfaces_on x.side l)) x name items) (append-nil before) ∙ (let same : inlined w (length (interfaces_on x.side before)) x name items ≡ i = cc in same);
   behind = refl;
 }
 
@@ -75,7 +75,7 @@ written_here w before xs (SideInline x name items) zero i at = record {
 pub inline_behind_at : (w : Item) (before xs : List SideItem) (k : ℕ) (i : Item) → slice_get (inline_behind w before xs) k ≡ Some i → IsWritten w before xs k i
 inline_behind_at w before [] k i at = absurd (let f : ⊥ = cc in f)
 inline_behind_at w before (x ∷ xs) k i at =
-    let place = length (items_on (item_side x) before) in
+    let place = length (interfaces_on (item_side x) before) in
     elim (at_split (inline_item w place x) (inline_behind w (before ++ x ∷ []) xs) k i at) [
       | inl here ↦ written_here w before xs x k i here
       | inr later ↦ written_later w before xs x later.0 k i (later.1 ∙ ap (λ n. n + later.0) (one_inline w place x)) (inline_behind_at w (before ++ x ∷ []) xs later.0 i later.2)
@@ -85,7 +85,7 @@ inline_behind_at w before (x ∷ xs) k i at =
 pub inline_behind-append : (w : Item) (before xs ys : List SideItem) → inline_behind w before (xs ++ ys) ≡ inline_behind w before xs ++ inline_behind w (before ++ xs) ys
 inline_behind-append w before [] ys = ap (λ (l : List SideItem). inline_behind w l ys) (sym (append-nil before))
 inline_behind-append w before (x ∷ xs) ys =
-    let own = inline_item w (length (items_on (item_side x) before)) x in
+    let own = inline_item w (length (interfaces_on (item_side x) before)) x in
     let rest = inline_behind-append w (before ++ x ∷ []) xs ys in
     let front = inline_behind w (before ++ x ∷ []) xs in
     ap (λ (l : List Item). own ++ l) rest ∙ ap (λ (l : List SideItem). own ++ (front ++ inline_behind w l ys)) (append_assoc before (x ∷ []) xs) ∙ sym (append_assoc own front (inline_behind w (before ++ (x ∷ xs)) ys))
@@ -94,7 +94,7 @@ inline_behind-append w before (x ∷ xs) ys =
 pub length-inline_behind : (w : Item) (before xs : List SideItem) → length (inline_behind w before xs) ≡ length (flat_map item_inline xs)
 length-inline_behind w before [] = refl
 length-inline_behind w before (x ∷ xs) =
-    let place = length (items_on (item_side x) before) in
+    let place = length (interfaces_on (item_side x) before) in
     let rest = length-inline_behind w (before ++ x ∷ []) xs in
     length-append (inline_item w place x) (inline_behind w (before ++ x ∷ []) xs) ∙ ap (λ n. n + length (inline_behind w (before ++ x ∷ []) xs)) (one_inline w place x) ∙ ap (λ n. length (item_inline x) + n) rest ∙ sym (length-append (item_inline x) (flat_map item_inline xs))
 
@@ -102,12 +102,16 @@ length-inline_behind w before (x ∷ xs) =
 pub inline_items_at : (w : Item) (k : ℕ) (i : Item) → slice_get (inline_items w) k ≡ Some i → IsWritten w [] (side_items w) k i
 inline_items_at w k i at = inline_behind_at w [] (side_items w) k i at
 
+-- the interfaces of two lists on a side, one behind the other
+pub interfaces_on-append : (side : WorldSide) (xs ys : List SideItem) → interfaces_on side (xs ++ ys) ≡ interfaces_on side xs ++ interfaces_on side ys
+interfaces_on-append side xs ys = ap (filter is_interface) (filter-append (λ y. same_side side (item_side y)) xs ys) ∙ filter-append is_interface (items_on side xs) (items_on side ys)
+
 -- its place is not before those of what stands in front of it on its side
-later_place : (side : WorldSide) (before front xs : List SideItem) → length (items_on side before) + length (items_on side front) ≤ length (items_on side ((before ++ front) ++ xs))
+later_place : (side : WorldSide) (before front xs : List SideItem) → length (interfaces_on side before) + length (interfaces_on side front) ≤ length (interfaces_on side ((before ++ front) ++ xs))
 later_place side before front xs =
-    let on = items_on side in
-    let all : length (on ((before ++ front) ++ xs)) ≡ length (on (before ++ front)) + length (on xs) = ap length (filter-append (λ y. same_side side (item_side y)) (before ++ front) xs) ∙ length-append (on (before ++ front)) (on xs) in
-    let two : length (on (before ++ front)) ≡ length (on before) + length (on front) = ap length (filter-append (λ y. same_side side (item_side y)) before front) ∙ length-append (on before) (on front) in
+    let on = interfaces_on side in
+    let all : length (on ((before ++ front) ++ xs)) ≡ length (on (before ++ front)) + length (on xs) = ap length (interfaces_on-append side (before ++ front) xs) ∙ length-append (on (before ++ front)) (on xs) in
+    let two : length (on (before ++ front)) ≡ length (on before) + length (on front) = ap length (interfaces_on-append side before front) ∙ length-append (on before) (on front) in
     omega (arith, all, two)
 
 -- where a scope is written: the name of the item
@@ -142,15 +146,15 @@ inline_behind_differ w before [] = differ_none
 inline_behind_differ w before (SideFunction fn ∷ xs) = inline_behind_differ w (before ++ SideFunction fn ∷ []) xs
 inline_behind_differ w before (SideLink link ∷ xs) = inline_behind_differ w (before ++ SideLink link ∷ []) xs
 inline_behind_differ w before (SideInline x name items ∷ xs) =
-    let own = length (items_on x.side before) in
+    let own = length (interfaces_on x.side before) in
     let front = SideInline x name items ∷ [] in
     differ_cons address (inlined w own x name items) (inline_behind w (before ++ front) xs) (λ j i at same. (
     let it = inline_behind_at w (before ++ front) xs j i at in
-    let there : address i ≡ InlineAt (item_name w) it.x.side (length (items_on it.x.side ((before ++ front) ++ take it.place xs))) = ap address (sym it.is) in
-    let both : InlineAt (item_name w) it.x.side (length (items_on it.x.side ((before ++ front) ++ take it.place xs))) ≡ InlineAt (item_name w) x.side own = sym there ∙ same in
+    let there : address i ≡ InlineAt (item_name w) it.x.side (length (interfaces_on it.x.side ((before ++ front) ++ take it.place xs))) = ap address (sym it.is) in
+    let both : InlineAt (item_name w) it.x.side (length (interfaces_on it.x.side ((before ++ front) ++ take it.place xs))) ≡ InlineAt (item_name w) x.side own = sym there ∙ same in
     let side : it.x.side ≡ x.side = ap (inline_side x.side) both in
-    let place : length (items_on x.side ((before ++ front) ++ take it.place xs)) ≡ own = ap (λ s. length (items_on s ((before ++ front) ++ take it.place xs))) (sym side) ∙ ap inline_place both in
-    let one : length (items_on x.side front) ≡ 1 = ap length (cond-true (same_side x.side x.side) front [] (side_itself x.side)) in
+    let place : length (interfaces_on x.side ((before ++ front) ++ take it.place xs)) ≡ own = ap (λ s. length (interfaces_on s ((before ++ front) ++ take it.place xs))) (sym side) ∙ ap inline_place both in
+    let one : length (interfaces_on x.side front) ≡ 1 = ap (λ (l : List SideItem). length (filter is_interface l)) (cond-true (same_side x.side x.side) front [] (side_itself x.side)) in
     let later = later_place x.side before front (take it.place xs) in
     let f : ⊥ = omega (arith, place, one, later) in
     f)) (inline_behind_differ w (before ++ front) xs)

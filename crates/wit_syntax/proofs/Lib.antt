@@ -17,3 +17,4 @@ pub mod Headers
 pub mod Externs
 pub mod Inline
 pub mod Scopes
+pub mod Setters

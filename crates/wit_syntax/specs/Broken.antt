@@ -7,6 +7,7 @@ use Rattle.wit_tree.specs.declared.error.ParseError.{ParseError}
 use Rattle.wit_tree.specs.Refusal.{IsWantOfMemory}
 use Rattle.wit_tree.specs.declared.tree.Id.{Id}
 use Rattle.wit_tree.specs.declared.tree.Attribute.{Attribute}
+use Rattle.wit_tree.specs.declared.tree.WorldSide.{WorldSide}
 use Rattle.wit_tree.specs.declared.tree.Use.{Use as WrittenUse}
 use Rattle.wit_tree.specs.declared.tree.Include.{Include}
 use Rattle.wit_tree.specs.declared.tree.TypeDef.{TypeDef}
@@ -25,7 +26,7 @@ use Rattle.wit_syntax.specs.Address.{Address, ForeignNamed}
 use Rattle.wit_syntax.specs.Source.{path_id, Target, Local, Foreign, path_target, leads, TopName, top_names, top_text, Item, item_id, item_name, declared_attributes, is_world, all_items, item_named, item_at, ScopeName, Used, Defined, local_id, local_name, scope_names, meaning, address}
 use Rattle.wit_syntax.specs.Foreign.{ForeignVisit, foreign_visits, is_foreign_world, foreign_at}
 use Rattle.wit_syntax.specs.Function.{SourceFunction, functions, free_names, item_types}
-use Rattle.wit_syntax.specs.Sides.{all_scopes, IsBrokenSides}
+use Rattle.wit_syntax.specs.Sides.{on_side, all_scopes, IsBrokenSides}
 use Rattle.wit_syntax.specs.Signature.{IsBrokenFunction, IsUnpairedSetter}
 use Rattle.wit_syntax.specs.Ends.{IsNoResource}
 use Rattle.wit_syntax.specs.Scope.{use_paths, include_paths, uses, includes, item_rows, rows_of, used, defined}
@@ -237,10 +238,11 @@ pub data IsBrokenUse (files : List PackageFile) (i : Item) (f : Fault) : Type 0 
 abbrev pub IsHandleBroken : List PackageFile → Item → Fault → Type 0
 IsHandleBroken files i f = IsNoResource files (address i) (item_types i) f
 
--- a setter of an interface has no getter
+-- a setter has no getter on its side of an item that includes nothing: where a world is included, the getter may come with it
 pub record IsSetterAlone (i : Item) (f : Fault) : Type 0 where
-  pub interface : is_world i ≡ false
-  pub alone : IsUnpairedSetter (functions i) f
+  pub closed : includes i ≡ []
+  pub side : WorldSide
+  pub alone : IsUnpairedSetter (on_side side (functions i)) f
 
 -- what is wrong with files
 pub data IsBroken (files : List PackageFile) (f : Fault) : Type 0 where

@@ -1,5 +1,5 @@
 -- What stands on a side of a world, and what must not stand there twice. The names of an interface stand as those that a world imports.
-use Rattle.std.specs.Prelude.{◌≡◌, ℕ, List, [], ◌∷◌, ◌++◌, length, Option, Some, None, ⊤, map, take, Contains, slice_get}
+use Rattle.std.specs.Prelude.{◌≡◌, ℕ, Bool, true, false, List, [], ◌∷◌, ◌++◌, length, Option, Some, None, ⊤, map, take, Contains, slice_get}
 use Rattle.std.specs.List.{filter, flat_map}
 use Rattle.std.specs.Option.{option_map_or}
 use Rattle.wit_tree.specs.declared.tree.Id.{Id}
@@ -114,16 +114,26 @@ inline_externs i = flat_map item_inline (side_items i)
 abbrev pub items_on : WorldSide → List SideItem → List SideItem
 items_on side items = filter (λ x. same_side side (item_side x)) items
 
--- the item that an interface is which is written in another one, where this is its place on its side
+-- whether it is an interface, by its path or written there
+abbrev pub is_interface : SideItem → Bool
+is_interface (SideFunction fn) = false
+is_interface (SideLink link) = true
+is_interface (SideInline x name items) = true
+
+-- the interfaces on a side, in source order
+abbrev pub interfaces_on : WorldSide → List SideItem → List SideItem
+interfaces_on side items = filter is_interface (items_on side items)
+
+-- the item that an interface is which is written in another one, where this is its place among the interfaces of its side
 abbrev pub inline_item : Item → ℕ → SideItem → List Item
 inline_item i place (SideFunction fn) = []
 inline_item i place (SideLink link) = []
 inline_item i place (SideInline x name items) = record { top = i.top; declared = TheInline (item_name i) place x name items } ∷ []
 
--- the items that are interfaces which are written in an item, behind these: the place of each is how many stand before it on its side
+-- the items that are interfaces which are written in an item, behind these: the place of each is how many interfaces stand before it on its side
 abbrev pub inline_behind : Item → List SideItem → List SideItem → List Item
 inline_behind i before [] = []
-inline_behind i before (x ∷ xs) = inline_item i (length (items_on (item_side x) before)) x ++ inline_behind i (before ++ x ∷ []) xs
+inline_behind i before (x ∷ xs) = inline_item i (length (interfaces_on (item_side x) before)) x ++ inline_behind i (before ++ x ∷ []) xs
 
 -- the interfaces that are written in an item, in source order
 abbrev pub inline_items : Item → List Item

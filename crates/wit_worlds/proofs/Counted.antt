@@ -4,7 +4,7 @@ use Rattle.std.specs.List.{flat_map, filter}
 use Rattle.wit_tree.specs.declared.tree.WorldSide.{WorldSide}
 use Rattle.wit_tree.specs.declared.tree.WorldSide.TheVariants.{Imported, Exported}
 use Rattle.wit_syntax.specs.Crossing.{same_side}
-use Rattle.wit_syntax.specs.Sides.{SideItem, SideFunction, SideLink, SideInline, item_inline, item_side, items_on}
+use Rattle.wit_syntax.specs.Sides.{SideItem, SideFunction, SideLink, SideInline, is_interface, item_inline, item_side, items_on}
 use Rattle.wit_worlds.specs.declared.inside.Counts.{Counts}
 use Rattle.wit_worlds.specs.declared.inside.Met.{Met}
 use Rattle.wit_worlds.specs.Inside.{IsMet, counted, met_on}
@@ -32,10 +32,12 @@ inline_count (SideFunction fn ∷ xs) = let rest = inline_count xs in omega arit
 inline_count (SideLink link ∷ xs) = let rest = inline_count xs in omega arith
 inline_count (SideInline x name items ∷ xs) = let rest = inline_count xs in omega arith
 
-pub met_room : (xs : List SideItem) (m : Met) (n : ℕ) → IsMet xs m → length xs < n → (side : WorldSide) → (met_on side m).all < n
+pub met_room : (xs : List SideItem) (m : Met) (n : ℕ) → IsMet xs m → length xs < n → (side : WorldSide) → (met_on side m).interfaces < n
 met_room xs m n met room side =
-    let is : (met_on side m).all ≡ length (items_on side xs) = ap (λ (c : Counts). c.all) (met.on side) in
-    let few : length (items_on side xs) ≤ length xs = kept_count (λ y. same_side side (item_side y)) xs in
+    let on = items_on side xs in
+    let is : (met_on side m).interfaces ≡ length (filter is_interface on) = ap (λ (c : Counts). c.interfaces) (met.on side) in
+    let few : length on ≤ length xs = kept_count (λ y. same_side side (item_side y)) xs in
+    let fewer : length (filter is_interface on) ≤ length on = kept_count is_interface on in
     omega arith
 
 pub met_room-inline : (xs : List SideItem) (m : Met) (n : ℕ) → IsMet xs m → length xs < n → (side : WorldSide) → (met_on side m).inline < n

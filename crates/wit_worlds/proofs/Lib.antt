@@ -4,6 +4,8 @@ mod Counted
 mod Inlined
 mod Entries
 mod SideKeys
+mod SideCalled
+mod Closing
 mod SideEntries
 pub mod Leading
 mod Linking

@@ -1,9 +1,10 @@
 -- The parts of a world, put together, and the world that has them.
-use Rattle.std.proofs.Common.{◌≡◌, ◌⊎◌, ◌+◌, ℕ, zero, suc, List, ◌∷◌, [], ◌++◌, Some, length, map, inl, inr, refl, sym, ap, ◌∙◌, subst, arith}
+use Rattle.std.proofs.Common.{◌≡◌, ◌⊎◌, ◌+◌, ℕ, zero, suc, Bool, List, ◌∷◌, [], ◌++◌, Some, length, map, inl, inr, refl, sym, ap, ◌∙◌, subst, arith}
 use Rattle.std.specs.Prelude.{slice_get}
 use Rattle.std.specs.List.{flat_map}
 use Rattle.std.proofs.lemmas.List.{length-map}
 use Rattle.wit_tree.specs.declared.tree.Id.{Id}
+use Rattle.wit_tree.specs.declared.tree.Include.{Include}
 use Rattle.wit_tree.specs.declared.tree.WorldSide.{WorldSide}
 use Rattle.wit_tree.specs.declared.tree.WorldSide.TheVariants.{Imported, Exported}
 use Rattle.wit_types.specs.declared.types.TypeDef.{TypeDef}
@@ -14,17 +15,17 @@ use Rattle.wit_model.specs.declared.function.Function.{Function}
 use Rattle.wit_model.specs.declared.interface.Interface.{Interface}
 use Rattle.wit_model.specs.declared.world.World.{World}
 use Rattle.wit_syntax.specs.Address.{Address}
-use Rattle.wit_syntax.specs.Broken.{IsBrokenScope, Refused}
+use Rattle.wit_syntax.specs.Broken.{IsBrokenScope, IsSetterAlone, Refused}
 use Rattle.wit_syntax.specs.Fault.{Fault}
 use Rattle.wit_syntax.specs.Function.{functions}
-use Rattle.wit_syntax.specs.Scope.{in_turn}
+use Rattle.wit_syntax.specs.Scope.{in_turn, includes}
 use Rattle.wit_syntax.specs.Sides.{IsBrokenSides, SideItem, inline_items, item_inline, side_items}
 use Rattle.wit_syntax.specs.Source.{Item, ScopeName, address, item_id, item_notes, local_id, scope_names}
 use Rattle.wit_syntax.proofs.Inline.{length-inline_behind}
 use Rattle.wit_syntax.proofs.Lists.{at_back}
 use Rattle.wit_arena.specs.Resolving.{Cell, Names, Required, cells}
 use Rattle.wit_arena.specs.Resolved.{AddsSides, AddsWorld, AreLegalSides, AreSoundScopes, IsNameless, interfaces_at, worlds_at}
-use Rattle.wit_arena.specs.SideItems.{AreSideItems}
+use Rattle.wit_arena.specs.SideItems.{AreSideItems, settled}
 use Rattle.wit_arena.specs.Whole.{AreIncludes, type_imports}
 use Rattle.wit_externs.specs.Held.{externs_behind}
 use Rattle.wit_externs.specs.Links.{AreLinksPlaced, AreRightLinks}
@@ -35,6 +36,7 @@ use Rattle.wit_item_entries.specs.Body.{IsWrongBody}
 use Rattle.wit_item_entries.proofs.Telling.{world_told}
 use Rattle.wit_worlds.specs.declared.world.WorldParts.{WorldParts}
 use Rattle.wit_worlds.specs.Between.{AreWorldParts, IsAddedWorld, arenas}
+use Rattle.wit_worlds.specs.Settled.{none_of}
 use Rattle.wit_worlds.specs.Sides.{entries_on}
 use Rattle.wit_worlds.specs.Standing.{AreConsecutive}
 use Rattle.wit_worlds.proofs.Leading.{links_wider}
@@ -68,8 +70,8 @@ module _ (foreign : List Address) (is inside : List Interface) (ss : List Addres
       subst (λ (xs : List SideItem). AreSideItems all item.top side xs fs us (entries_on side hs fs ids)) (sym same) (entries_are all item.top side hs fs ids us (links_wider (interfaces_at foreign is) (ss ++ us) item.top hs placed) right made count (inline_places hs ids same count follow))
 
 -- what its names and what stands on its sides add, with what was put there, and its includes
-pub parts_are : (foreign others : List Address) (is : List Interface) (old mid new : List TypeDef) (ws : List World) (inside now : List Interface) (ss : List Address) (item : Item) (p : WorldParts) (types kept : Names) (turn held : List Id) (own : List Required) (fs : List Function) (ids : List ℕ) (hs : List HeldExtern) → length (interfaces_at foreign is) ≡ length is → length ss ≡ length inside → AddsTurn old mid (cells foreign is) (owner.World (length ws)) (scope_names item) types turn own → Emits own p.required.items (λ rs. AddsSides (cells foreign is) (length is) (address item) types mid new inside now fs rs (side_items item) (inline_items item)) → length now ≡ length inside + length (inline_items item) → side_items item ≡ externs_behind hs → AreLinksPlaced (interfaces_at foreign is) item.top hs → AreRightLinks hs → AreMade hs fs → length ids ≡ length (flat_map item_inline (externs_behind hs)) → AreConsecutive (length is + length inside) ids → held ≡ turn → kept ≡ types → ((xs : List ScopeName) → held ≡ map local_id xs → p.sides.imports ≡ type_imports xs kept ++ entries_on Imported hs fs ids) → p.sides.exports ≡ entries_on Exported hs fs ids → AreOf (item_notes item) p.notes → AreIncludes (worlds_at others ws) item p.includes → AreWorldParts foreign others is old new ws inside now ss item p
-parts_are foreign others is old mid new ws inside now ss item p types kept turn held own fs ids hs counted known names emits grown same placed right made count follow lent stored imports exports told includes =
+pub parts_are : (foreign others : List Address) (is : List Interface) (old mid new : List TypeDef) (ws : List World) (inside now : List Interface) (ss : List Address) (item : Item) (p : WorldParts) (types kept : Names) (turn held : List Id) (own : List Required) (fs : List Function) (ids : List ℕ) (hs : List HeldExtern) (closed : Bool) → length (interfaces_at foreign is) ≡ length is → length ss ≡ length inside → AddsTurn old mid (cells foreign is) (owner.World (length ws)) (scope_names item) types turn own → Emits own p.required.items (λ rs. AddsSides (cells foreign is) (length is) (address item) types mid new inside now fs rs (side_items item) (inline_items item)) → length now ≡ length inside + length (inline_items item) → side_items item ≡ externs_behind hs → AreLinksPlaced (interfaces_at foreign is) item.top hs → AreRightLinks hs → AreMade hs fs → length ids ≡ length (flat_map item_inline (externs_behind hs)) → AreConsecutive (length is + length inside) ids → held ≡ turn → kept ≡ types → ((xs : List ScopeName) (is : List Include) → held ≡ map local_id xs → closed ≡ none_of is → p.sides.imports ≡ settled is (type_imports xs kept ++ entries_on Imported hs fs ids)) → ((is : List Include) → closed ≡ none_of is → p.sides.exports ≡ settled is (entries_on Exported hs fs ids)) → closed ≡ none_of (includes item) → ((f : Fault) → IsSetterAlone item f → ⊥) → AreOf (item_notes item) p.notes → AreIncludes (worlds_at others ws) item p.includes → AreWorldParts foreign others is old new ws inside now ss item p
+parts_are foreign others is old mid new ws inside now ss item p types kept turn held own fs ids hs closed counted known names emits grown same placed right made count follow lent stored imports exports shut paired told included =
     let order = names.adds.order in
     let us = map address (inline_items item) in
     let all = interfaces_at foreign is ++ (ss ++ us) in
@@ -86,10 +88,13 @@ parts_are foreign others is old mid new ws inside now ss item p types kept turn 
       sides = emits.holds;
       grown = grown;
       imported = entries_on Imported hs fs ids;
-      imports = imports (in_turn (scope_names item) order) (lent ∙ names.turn) ∙ ap (λ (t : Names). type_imports (in_turn (scope_names item) order) t ++ entries_on Imported hs fs ids) stored;
+      imports = imports (in_turn (scope_names item) order) (includes item) (lent ∙ names.turn) shut ∙ ap (λ (t : Names). settled (includes item) (type_imports (in_turn (scope_names item) order) t ++ entries_on Imported hs fs ids)) stored;
       are_imported = entries_stand foreign is inside ss item counted known Imported hs fs ids same placed right made count follow;
-      are_exported = subst (AreSideItems all item.top Exported (side_items item) fs us) (sym exports) (entries_stand foreign is inside ss item counted known Exported hs fs ids same placed right made count follow);
-      includes = includes;
+      exported = entries_on Exported hs fs ids;
+      are_exported = entries_stand foreign is inside ss item counted known Exported hs fs ids same placed right made count follow;
+      exports = exports (includes item) shut;
+      paired = paired;
+      includes = included;
     }
 
 -- the world that has them is added
@@ -111,7 +116,10 @@ world_adds foreign others is old new ws ws' inside now ss item p parts a = recor
   imported = parts.imported;
   imports = a.imports ∙ parts.imports;
   are_imported = parts.are_imported;
-  are_exported = subst (AreSideItems (interfaces_at foreign is ++ (ss ++ map address (inline_items item))) item.top Exported (side_items item) parts.functions (map address (inline_items item))) (sym a.exports) parts.are_exported;
+  exported = parts.exported;
+  are_exported = parts.are_exported;
+  exports = a.exports ∙ parts.exports;
+  paired = parts.paired;
   includes = subst (AreIncludes (worlds_at others ws) item) (sym a.includes) parts.includes;
 }
 

@@ -10,7 +10,7 @@ use Rattle.wit_syntax.specs.Fault.{Fault}
 use Rattle.wit_syntax.specs.Sides.{FoldedTwice}
 use Rattle.wit_syntax.specs.Source.{Item, scope_names}
 use Rattle.wit_arena.specs.Resolving.{Cell, Names, Required}
-use Rattle.wit_arena.specs.Resolved.{IsWrongWorld, WrongInline, WrongWorldSides}
+use Rattle.wit_arena.specs.Resolved.{IsWrongWorld, WrongInline, WrongWorldSides, UnpairedOnSide}
 use Rattle.wit_externs.specs.declared.held.HeldExtern.{HeldExtern}
 use Rattle.wit_externs.specs.Links.{AreLinksPlaced}
 use Rattle.wit_scopes.specs.declared.scope_name.ScopeName.{ScopeName as HeldName}
@@ -19,7 +19,7 @@ use Rattle.wit_item_entries.specs.Body.{IsStandingBy}
 use Rattle.wit_item_entries.proofs.ScopeFunctions.{turn_added, wrong_among, wrong_function}
 use Rattle.wit_item_entries.proofs.WrongNames.{wrong_world}
 use Rattle.wit_worlds.specs.Links.{AreLed}
-use Rattle.wit_worlds.specs.Standing.{IsWrongStanding, StandingExtern, StandingFunction, StandingInside, StandingNames}
+use Rattle.wit_worlds.specs.Standing.{IsWrongStanding, StandingExtern, StandingFunction, StandingInside, StandingNames, StandingSetter}
 use Rattle.wit_worlds.proofs.Linking.{lost_link}
 
 module _ (files : List PackageFile) (front interfaces : List Address) (old mid : List TypeDef) (cs : List Cell) (count : ℕ) (inside : List Interface) (by_name worlds : Names) (o : TypeOwner) (i : Item) (types : Names) (ids : List Id) (required : List Required) (xs : List HeldName) (hs : List HeldExtern) (own : IsStandingBy i xs hs) (n : AddsTurn old mid cs o (scope_names i) types ids required) (led : AreLed files front by_name i.top hs) (placed : AreLinksPlaced interfaces i.top hs) where
@@ -30,6 +30,7 @@ module _ (files : List PackageFile) (front interfaces : List Address) (old mid :
     | inl body ↦ wrong_world files old cs count inside by_name worlds o i f body
     | inr lost ↦ lost_link files front old cs count inside by_name worlds o i hs f own.sides led lost
   ]
+  wrong_standing f (StandingSetter alone) = UnpairedOnSide alone
   wrong_standing f (StandingInside h) = WrongInline (record {
     types = types;
     middle = mid;

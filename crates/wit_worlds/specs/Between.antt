@@ -14,7 +14,8 @@ use Rattle.wit_model.specs.declared.world.WorldKey.{WorldKey}
 use Rattle.wit_model.specs.declared.world.WorldItem.{WorldItem}
 use Rattle.wit_syntax.specs.Address.{Address}
 use Rattle.wit_syntax.specs.Source.{address, path_id, leads, TopName, Item, is_world, item_notes, scope_names}
-use Rattle.wit_syntax.specs.Scope.{in_order, in_turn, worlds_of}
+use Rattle.wit_syntax.specs.Scope.{in_order, in_turn, includes, worlds_of}
+use Rattle.wit_syntax.specs.Broken.{IsSetterAlone}
 use Rattle.wit_syntax.specs.Fault.{Fault, fault}
 use Rattle.wit_syntax.specs.Function.{name_types}
 use Rattle.wit_syntax.specs.Shape.{all_handles}
@@ -22,7 +23,7 @@ use Rattle.std.specs.List.{flat_map}
 use Rattle.wit_syntax.specs.Notes.{Notes}
 use Rattle.wit_syntax.specs.Sides.{inline_items, side_items}
 use Rattle.wit_arena.specs.Package.{IsWorld}
-use Rattle.wit_arena.specs.SideItems.{AreSideItems}
+use Rattle.wit_arena.specs.SideItems.{AreSideItems, settled}
 use Rattle.wit_arena.specs.Whole.{type_imports, AreIncludes}
 use Rattle.wit_arena.specs.Resolving.{Names, env_of, cells, Required, AreEnded, IsWorldIndex, IsNoWorld}
 use Rattle.wit_arena.specs.Resolved.{interfaces_at, worlds_at, AddsScope, AddsSides, AddsWorlds, WorldArenas, front_worlds, IsNext, IsWrongWorld}
@@ -62,9 +63,12 @@ pub record AreWorldParts (foreign others : List Address) (is : List Interface) (
   pub sides : AddsSides (cells foreign is) (length is) (address item) types middle new inside now functions rest (side_items item) (inline_items item)
   pub grown : length now ≡ length inside + length (inline_items item)
   pub imported : List (WorldKey × WorldItem)
-  pub imports : p.sides.imports ≡ type_imports (in_turn (scope_names item) adds.order) types ++ imported
+  pub imports : p.sides.imports ≡ settled (includes item) (type_imports (in_turn (scope_names item) adds.order) types ++ imported)
   pub are_imported : AreSideItems (interfaces_at foreign is ++ (ss ++ map address (inline_items item))) item.top Imported (side_items item) functions (map address (inline_items item)) imported
-  pub are_exported : AreSideItems (interfaces_at foreign is ++ (ss ++ map address (inline_items item))) item.top Exported (side_items item) functions (map address (inline_items item)) p.sides.exports
+  pub exported : List (WorldKey × WorldItem)
+  pub are_exported : AreSideItems (interfaces_at foreign is ++ (ss ++ map address (inline_items item))) item.top Exported (side_items item) functions (map address (inline_items item)) exported
+  pub exports : p.sides.exports ≡ settled (includes item) exported
+  pub paired : (f : Fault) → IsSetterAlone item f → ⊥
   pub includes : AreIncludes (worlds_at others ws) item p.includes
 
 -- where these are the interfaces, their types were resolved, and these worlds stand in front: once the worlds among some of the items

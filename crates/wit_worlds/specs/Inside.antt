@@ -1,15 +1,15 @@
 -- How many stand on the sides of a world, as they are met.
 use Rattle.std.specs.Prelude.{◌≡◌, List, length}
-use Rattle.std.specs.List.{flat_map}
+use Rattle.std.specs.List.{filter, flat_map}
 use Rattle.wit_tree.specs.declared.tree.WorldSide.{WorldSide}
 use Rattle.wit_tree.specs.declared.tree.WorldSide.TheVariants.{Imported, Exported}
-use Rattle.wit_syntax.specs.Sides.{SideItem, item_inline, items_on}
+use Rattle.wit_syntax.specs.Sides.{SideItem, is_interface, item_inline, items_on}
 use Rattle.wit_worlds.specs.declared.inside.Counts.{Counts}
 use Rattle.wit_worlds.specs.declared.inside.Met.{Met}
 
--- how many these are, and how many of them are interfaces that are written there
+-- how many of these are interfaces, and how many of them are written there
 abbrev pub counted : List SideItem → Counts
-counted xs = record { all = length xs; inline = length (flat_map item_inline xs) }
+counted xs = record { interfaces = length (filter is_interface xs); inline = length (flat_map item_inline xs) }
 
 -- what was met on a side
 abbrev pub met_on : WorldSide → Met → Counts

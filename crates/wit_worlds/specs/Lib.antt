@@ -1,5 +1,6 @@
 pub mod Between
 pub mod Inside
 pub mod Links
+pub mod Settled
 pub mod Sides
 pub mod Standing

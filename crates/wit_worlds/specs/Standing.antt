@@ -7,6 +7,7 @@ use Rattle.wit_types.specs.declared.types.TypeOwner.TheVariants as owner
 use Rattle.wit_model.specs.declared.function.Function.{Function}
 use Rattle.wit_model.specs.declared.interface.Interface.{Interface}
 use Rattle.wit_syntax.specs.Address.{Address}
+use Rattle.wit_syntax.specs.Broken.{IsSetterAlone}
 use Rattle.wit_syntax.specs.Fault.{Fault}
 use Rattle.wit_syntax.specs.Function.{functions}
 use Rattle.wit_syntax.specs.Sides.{SideItem, IsFoldedTwice, inline_item, inline_items, names_on, side_items}
@@ -71,4 +72,5 @@ pub data IsWrongStanding (old : List TypeDef) (cs : List Cell) (count : ℕ) (in
   StandingFunction : (mid : List TypeDef) → IsGrown old mid → IsWrongFunctionAmong (env_of names) mid (scope_names i) (functions i) f → IsWrongStanding old cs count inside by_name names ids i hs f
   StandingNames : IsFoldedTwice (scope_names i) (side_items i) f → IsWrongStanding old cs count inside by_name names ids i hs f
   StandingExtern : (before : WorldSide → List Name) → ((s : WorldSide) → before s ≡ names_on s (map name_of_id ids)) → IsWrongAmong before hs f → IsWrongStanding old cs count inside by_name names ids i hs f
+  StandingSetter : IsSetterAlone i f → IsWrongStanding old cs count inside by_name names ids i hs f
   StandingInside : IsWrongInside old cs count inside by_name names (address i) (side_items i) (inline_items i) f → IsWrongStanding old cs count inside by_name names ids i hs f

@@ -3,7 +3,8 @@ ghost use Rattle.std.specs.Prelude.{◌≡◌, ◌<◌, ◌+◌, ◌++◌, ◌�
 ghost use Rattle.wit_tree.specs.declared.tree.WorldSide.{WorldSide as TheSide};
 ghost use Rattle.wit_syntax.specs.Address.{Address};
 ghost use Rattle.wit_syntax.specs.Source.{declared_id, item_name};
-ghost use Rattle.wit_syntax.specs.Sides.{SideItem, inline_item, item_inline, item_side};
+ghost use Rattle.std.specs.List.{filter};
+ghost use Rattle.wit_syntax.specs.Sides.{SideItem, inline_item, is_interface, item_inline, item_side};
 ghost use Rattle.wit_externs.specs.declared.held.HeldExtern.TheVariants.{Inline as TheHeld};
 ghost use Rattle.wit_externs.specs.Held.{extern_behind};
 ghost use Rattle.wit_scopes.specs.Front.{AreNamesPlaced};
@@ -43,27 +44,30 @@ fn side_of(held: &HeldExtern<'_, '_>) -> WorldSide
 /// What was met on a side of a world.
 #[derive(Clone, Copy)]
 pub(crate) struct Counts {
-    /// How many stand there.
-    pub all: usize,
-    /// How many of these are interfaces that are written there.
+    /// How many interfaces stand there.
+    pub interfaces: usize,
+    /// How many of these are written there.
     pub inline: usize,
 }
 
 impl Counts {
     /// With one more.
     fn with(self, held: &HeldExtern<'_, '_>) -> Counts
-        requires all { self.all < usize.MAX }
+        requires interfaces { self.interfaces < usize.MAX }
         requires inline { self.inline < usize.MAX }
-        ensures all { result.all ≡ self.all + 1 }
+        ensures interfaces { result.interfaces ≡ self.interfaces + length (filter is_interface (extern_behind held.now ∷ [])) }
         ensures inline { result.inline ≡ self.inline + length (item_inline (extern_behind held.now)) }
     {
-        let inline = match held {
-            HeldExtern::Inline(_) => self.inline + 1,
-            HeldExtern::Function(_) | HeldExtern::Link(_) => self.inline,
-        };
-        Counts {
-            all: self.all + 1,
-            inline,
+        match held {
+            HeldExtern::Function(_) => self,
+            HeldExtern::Link(_) => Counts {
+                interfaces: self.interfaces + 1,
+                inline: self.inline,
+            },
+            HeldExtern::Inline(_) => Counts {
+                interfaces: self.interfaces + 1,
+                inline: self.inline + 1,
+            },
         }
     }
 }
@@ -80,7 +84,10 @@ impl Met {
     pub fn none() -> Met
         ensures { IsMet [] result }
     {
-        let none = Counts { all: 0, inline: 0 };
+        let none = Counts {
+            interfaces: 0,
+            inline: 0,
+        };
         Met {
             imports: none,
             exports: none,
@@ -99,7 +106,7 @@ impl Met {
 
     /// With one more.
     pub fn with(self, held: &HeldExtern<'_, '_>) -> Met
-        requires all { (side : TheSide) → (met_on side self).all < usize.MAX }
+        requires interfaces { (side : TheSide) → (met_on side self).interfaces < usize.MAX }
         requires inline { (side : TheSide) → (met_on side self).inline < usize.MAX }
         ensures { (xs : List SideItem) → IsMet xs self → IsMet (xs ++ extern_behind held.now ∷ []) result }
     {
@@ -141,7 +148,7 @@ pub(crate) fn inside_scope<'i, 'f, 'a>(
 ) -> ItemScope<'i, 'f, 'a>
     requires called { item_name (item_behind item.now) ≡ world.now }
     requires within { before.inline < length (inside_behind inline.now.written.now.side item.now) }
-    ensures item { inline_item (item_behind item.now) before.all (extern_behind (TheHeld inline.now)) ≡ scope_item result ∷ [] }
+    ensures item { inline_item (item_behind item.now) before.interfaces (extern_behind (TheHeld inline.now)) ≡ scope_item result ∷ [] }
     ensures named { slice_get (inside_behind inline.now.written.now.side item.now) before.inline ≡ Some (map name_behind result.names.now) }
     ensures placed { (front : List Address) → AreItemsPlaced front (item.now ∷ []) → AreNamesPlaced front result.names.now }
 {
@@ -149,7 +156,7 @@ pub(crate) fn inside_scope<'i, 'f, 'a>(
         file: item.file,
         declared: Declared::Inline(InlineInterface {
             world,
-            place: before.all,
+            place: before.interfaces,
             written: inline.written,
             name: inline.name,
             items: inline.items,

@@ -4,6 +4,7 @@
 mod externs;
 mod includes;
 mod inside;
+mod setters;
 mod sides;
 mod standing;
 pub mod world;

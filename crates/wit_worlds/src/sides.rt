@@ -3,6 +3,7 @@
 ghost use Rattle.std.specs.Prelude.{◌≡◌, ◌<◌, ◌++◌, List, IfOk, OnOk, length, map};
 ghost use Rattle.std.specs.List.{flat_map};
 ghost use Rattle.indexmap.specs.IndexMap.{insert_entry};
+ghost use Rattle.wit_tree.specs.declared.tree.Include.{Include};
 ghost use Rattle.wit_tree.specs.declared.tree.WorldSide.{WorldSide as TheSide};
 ghost use Rattle.wit_tree.specs.declared.tree.WorldSide.TheVariants.{Imported, Exported};
 ghost use Rattle.wit_model.specs.declared.world.WorldKey.TheVariants.{Name};
@@ -12,7 +13,7 @@ ghost use Rattle.wit_syntax.specs.Repeats.{AllDiffer};
 ghost use Rattle.wit_syntax.specs.Sides.{item_function, item_inline};
 ghost use Rattle.wit_syntax.specs.Source.{ScopeName, local_id};
 ghost use Rattle.wit_arena.specs.Functions.{function_item};
-ghost use Rattle.wit_arena.specs.SideItems.{inline_entry, link_item, link_key as the_link_key, link_span as the_link_span};
+ghost use Rattle.wit_arena.specs.SideItems.{settled, inline_entry, link_item, link_key as the_link_key, link_span as the_link_span};
 ghost use Rattle.wit_arena.specs.Whole.{type_imports as the_imports};
 ghost use Rattle.wit_signatures.specs.Taken.{name_of_function, name_of_made};
 ghost use Rattle.wit_externs.specs.Clash.{DifferOnSides};
@@ -20,8 +21,10 @@ ghost use Rattle.wit_externs.specs.Held.{externs_behind, held_on, link_behind};
 ghost use Rattle.wit_externs.specs.Links.{AreRightLinks, bare_places};
 ghost use Rattle.wit_item_entries.specs.Between.{names_in};
 ghost use Rattle.wit_worlds.specs.Links.{AreWithin};
+ghost use Rattle.wit_worlds.specs.Settled.{none_of};
 ghost use Rattle.wit_worlds.specs.Sides.{entries_of, entries_on, inserted_on};
 
+use crate::setters::settle;
 use crate::standing::Standing;
 use std::alloc::{AllocError, Global};
 use wit_externs::held::{HeldExtern, HeldInline, HeldLink, Led};
@@ -218,7 +221,8 @@ fn add_externs(
 }
 
 /// What a world imports, the names of its scope and then what is written, and what it exports;
-/// `standing` is what was made of that.
+/// `standing` is what was made of that. Of a world that includes nothing, which is `closed`, each setter
+/// stands behind its getter.
 pub(crate) fn world_sides(
     alloc: Global,
     turn: &[Id<'_>],
@@ -226,6 +230,7 @@ pub(crate) fn world_sides(
     externs: &[HeldExtern<'_, '_>],
     interfaces: &Interfaces<'_, '_, '_>,
     standing: Standing,
+    closed: bool,
 ) -> Result<WorldSides, AllocError>
     requires distinct { AllDiffer (map (λ id. id.name.now) turn.now) }
     requires listed { names_in types.now ≡ map (λ id. id.name.now) turn.now }
@@ -235,13 +240,13 @@ pub(crate) fn world_sides(
     requires right { AreRightLinks externs.now }
     requires within { AreWithin (length interfaces.now.arena) externs.now }
     requires apart { (s : TheSide) → AllDiffer (bare_places (held_on s externs.now)) }
-    ensures imports { IfOk result (λ sides. (xs : List ScopeName) → turn.now ≡ map local_id xs → sides.imports ≡ the_imports xs types.now ++ entries_on Imported externs.now standing.functions.items standing.inside.items) }
-    ensures exports { IfOk result (λ sides. sides.exports ≡ entries_on Exported externs.now standing.functions.items standing.inside.items) }
+    ensures imports { IfOk result (λ sides. (xs : List ScopeName) (is : List Include) → turn.now ≡ map local_id xs → closed ≡ none_of is → sides.imports ≡ settled is (the_imports xs types.now ++ entries_on Imported externs.now standing.functions.items standing.inside.items)) }
+    ensures exports { IfOk result (λ sides. (is : List Include) → closed ≡ none_of is → sides.exports ≡ settled is (entries_on Exported externs.now standing.functions.items standing.inside.items)) }
 {
     let mut sides = WorldSides {
         imports: type_imports(alloc, turn, types)?,
         exports: Table::new(alloc),
     };
     add_externs(alloc, externs, interfaces, &mut sides, standing)?;
-    Ok(sides)
+    settle(alloc, sides, closed)
 }

@@ -4,11 +4,12 @@ ghost use Rattle.std.specs.List.{flat_map};
 ghost use Rattle.wit_tree.specs.declared.tree.WorldSide.{WorldSide};
 ghost use Rattle.wit_types.specs.declared.types.TypeOwner.TheVariants.{Interface as InterfaceOwner};
 ghost use Rattle.wit_syntax.specs.Address.{Address};
-ghost use Rattle.wit_syntax.specs.Broken.{IsBrokenScope, Refused};
+ghost use Rattle.wit_syntax.specs.Broken.{IsBrokenScope, IsSetterAlone, Refused};
 ghost use Rattle.wit_syntax.specs.Fault.{Fault};
 ghost use Rattle.wit_syntax.specs.Function.{SourceFunction, functions as the_functions};
 ghost use Rattle.wit_syntax.specs.Notes.{IsBrokenStability};
 ghost use Rattle.wit_syntax.specs.Repeats.{AllDiffer};
+ghost use Rattle.wit_syntax.specs.Scope.{includes};
 ghost use Rattle.wit_syntax.specs.Sides.{IsBrokenSides, inline_items, item_function, item_inline, items_on, side_items};
 ghost use Rattle.wit_syntax.specs.Signature.{IsBrokenFunction};
 ghost use Rattle.wit_syntax.specs.Source.{Item as TheItem, ScopeName as TheName, address, declared_attributes, declared_name as the_name, is_world, item_id, item_name, scope_names as the_names};
@@ -29,9 +30,11 @@ ghost use Rattle.wit_item_entries.specs.Behind.{IsTurn};
 ghost use Rattle.wit_item_entries.specs.Between.{Emits, names_in};
 ghost use Rattle.wit_item_entries.specs.Held.{cells_of, front_of};
 ghost use Rattle.wit_scopes.specs.Front.{AreNamesPlaced};
+ghost use Rattle.wit_worlds.specs.Settled.{none_of};
 ghost use Rattle.wit_worlds.specs.Standing.{AddsInside, AreConsecutive, IsInside, IsWrongExtern, IsWrongStanding, lent_names};
 
 use crate::inside::{Counts, Met, declared_name, inside_scope};
+use crate::setters::check_closed;
 use std::alloc::{AllocError, Global};
 use wit_entries::entries::Entries;
 use wit_entries::scope::Required;
@@ -143,16 +146,16 @@ fn resolve_written<'f, 'a>(
 ) -> ParseResult<InterfaceId>
     requires called { item_name (item_behind item.now) ≡ world.now }
     requires within { before.inline < length (inside_behind inline.now.written.now.side item.now) }
-    requires named { (names : List TheName) (u : TheItem) → slice_get (inside_behind inline.now.written.now.side item.now) before.inline ≡ Some names → IsInside (item_behind item.now) before.all inline.now u → names ≡ the_names u }
+    requires named { (names : List TheName) (u : TheItem) → slice_get (inside_behind inline.now.written.now.side item.now) before.inline ≡ Some names → IsInside (item_behind item.now) before.interfaces inline.now u → names ≡ the_names u }
     requires placed { AreItemsPlaced (front_of interfaces.now.foreign.now) (item.now ∷ []) }
     requires front { length interfaces.now.foreign.now ≤ length interfaces.now.arena }
     requires index { IsIndex (cells_of interfaces.now) interfaces.now.by_name }
     ensures id { IfOk result (λ id. id ≡ length interfaces.now.arena + length inside.old) }
-    ensures adds { OnOk result ((u : TheItem) → IsInside (item_behind item.now) before.all inline.now u → AddsInside (cells_of interfaces.now) (length interfaces.now.arena) types.old types.new inside.old inside.new required.old.items required.new.items u) }
+    ensures adds { OnOk result ((u : TheItem) → IsInside (item_behind item.now) before.interfaces inline.now u → AddsInside (cells_of interfaces.now) (length interfaces.now.arena) types.old types.new inside.old inside.new required.old.items required.new.items u) }
     ensures grown { OnOk result (IsGrown types.old types.new) }
-    ensures sound { OnOk result ((u : TheItem) → IsInside (item_behind item.now) before.all inline.now u → (f : Fault) → IsBrokenScope (the_names u) (the_functions u) f → IsNameless (the_names u) (the_functions u)) }
-    ensures sided { OnOk result ((u : TheItem) → IsInside (item_behind item.now) before.all inline.now u → (f : Fault) → IsBrokenSides u f → ⊥) }
-    ensures refused { IfErr result (λ e. (u : TheItem) → IsInside (item_behind item.now) before.all inline.now u → Refused (IsWrongInterface types.old (cells_of interfaces.now) interfaces.now.by_name (InterfaceOwner (length interfaces.now.arena + length inside.old)) u) e) }
+    ensures sound { OnOk result ((u : TheItem) → IsInside (item_behind item.now) before.interfaces inline.now u → (f : Fault) → IsBrokenScope (the_names u) (the_functions u) f → IsNameless (the_names u) (the_functions u)) }
+    ensures sided { OnOk result ((u : TheItem) → IsInside (item_behind item.now) before.interfaces inline.now u → (f : Fault) → IsBrokenSides u f → ⊥) }
+    ensures refused { IfErr result (λ e. (u : TheItem) → IsInside (item_behind item.now) before.interfaces inline.now u → Refused (IsWrongInterface types.old (cells_of interfaces.now) interfaces.now.by_name (InterfaceOwner (length interfaces.now.arena + length inside.old)) u) e) }
 {
     let scope = inside_scope(item, world, inline, before);
     let span = inline.name.span;
@@ -237,7 +240,7 @@ fn resolve_externs<'f, 'a>(
 }
 
 /// What stands on the sides of a world, behind its names, which are resolved, with the interfaces that are
-/// written there.
+/// written there. Where the world includes nothing, it is `closed`, each setter has its getter on its side.
 pub(crate) fn resolve_standing<'f, 'a>(
     alloc: Global,
     item: &Item<'f, 'a>,
@@ -246,7 +249,9 @@ pub(crate) fn resolve_standing<'f, 'a>(
     names: &mut ResolvedNames<'a>,
     interfaces: &Interfaces<'_, '_, '_>,
     inside: &mut Arena<Interface, InterfacePlace>,
+    closed: bool,
 ) -> ParseResult<Standing>
+    requires closed { closed ≡ none_of (includes (item_behind item.now)) }
     requires named { names_behind item.now ≡ the_names (item_behind item.now) }
     requires written { (side : WorldSide) → inside_behind side item.now ≡ names_written side (item_behind item.now) }
     requires placed { AreItemsPlaced (front_of interfaces.now.foreign.now) (item.now ∷ []) }
@@ -269,6 +274,7 @@ pub(crate) fn resolve_standing<'f, 'a>(
     ensures legal { OnOk result ((k : ℕ) (fn : SourceFunction) → slice_get (the_functions (item_behind item.now)) k ≡ Some fn → (f : Fault) → IsBrokenFunction (the_names (item_behind item.now)) (the_functions (item_behind item.now)) k fn f → IsNameless (the_names (item_behind item.now)) (the_functions (item_behind item.now))) }
     ensures sound { OnOk result (AreSoundScopes (inline_items (item_behind item.now))) }
     ensures sided { OnOk result (AreLegalSides (inline_items (item_behind item.now))) }
+    ensures paired { OnOk result ((f : Fault) → IsSetterAlone (item_behind item.now) f → ⊥) }
     ensures refused { IfErr result (Refused (IsWrongStanding types.old (cells_of interfaces.now) (length interfaces.now.arena) inside.old interfaces.now.by_name names.old.types names.old.turn.items (item_behind item.now) externs.now)) }
 {
     let written = written_functions(alloc, externs)?;
@@ -291,5 +297,6 @@ pub(crate) fn resolve_standing<'f, 'a>(
         inside,
         &mut taken,
     )?;
+    check_closed(closed, &taken, &names.turn, externs)?;
     Ok(standing)
 }

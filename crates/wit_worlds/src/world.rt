@@ -30,6 +30,7 @@ ghost use Rattle.wit_worlds.specs.Links.{interfaces_of_others};
 use crate::externs::declared_externs;
 use crate::includes::declared_includes;
 use crate::inside::declared_name;
+use crate::setters::is_closed;
 use crate::sides::{WorldSides, world_sides};
 use crate::standing::resolve_standing;
 use std::alloc::Global;
@@ -165,8 +166,19 @@ fn world_parts<'f, 'a>(
         item.place,
     )?;
     let lent: &mut [HeldExtern<'_, '_>] = &mut externs;
-    let standing = resolve_standing(alloc, item, lent, types, &mut names, interfaces, inside)?;
-    let sides = world_sides(alloc, &names.turn, &names.types, lent, interfaces, standing)?;
+    let closed = is_closed(includes.as_slice());
+    let standing = resolve_standing(
+        alloc, item, lent, types, &mut names, interfaces, inside, closed,
+    )?;
+    let sides = world_sides(
+        alloc,
+        &names.turn,
+        &names.types,
+        lent,
+        interfaces,
+        standing,
+        closed,
+    )?;
     Ok(WorldParts {
         notes: head.notes,
         required: names.required,

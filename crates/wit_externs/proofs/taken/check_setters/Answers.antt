@@ -5,13 +5,19 @@ use Rattle.wit_syntax.specs.Signature.{IsUnpairedSetter}
 use Rattle.wit_syntax.proofs.Refusing.{refused_weaker}
 use Rattle.wit_notes.specs.Names.{IsFirstLoneSetter}
 use Rattle.wit_rules.specs.Held.{function_behind}
+use Rattle.wit_externs.proofs.PairedNames.{all_names, scope_named}
 use Rattle.wit_externs.proofs.Paired.{lone_setter, unpaired_setter}
 use Rattle.wit_externs.proofs.taken.check_setters.Goals as goal
 
 pub returns-clause-paired : goal.returns-clause-paired
 returns-clause-paired c = on_ok_weaker c.check_setters.result (λ paired f broken.
-    let lone = lone_setter c.args.names.now c.args.functions.now f broken in
+    let ids = c.args.names.now in
+    let hs = c.args.functions.now in
+    let lone = lone_setter (all_names ids (map function_behind hs)) (map function_behind hs) (scope_named ids hs) f broken in
     paired lone.0 (rw c.requires lone.1)) c.check_setters.ensures.paired
 
 pub returns-clause-refused : goal.returns-clause-refused
-returns-clause-refused c = IfErr-weaker c.check_setters.result (Refused (IsFirstLoneSetter c.args.taken.now)) (Refused (IsUnpairedSetter (map function_behind c.args.functions.now))) (λ e. refused_weaker (IsFirstLoneSetter c.args.taken.now) (IsUnpairedSetter (map function_behind c.args.functions.now)) e (λ f first. unpaired_setter c.args.names.now c.args.functions.now f (rw c.requires at first))) c.check_setters.ensures.refused
+returns-clause-refused c = IfErr-weaker c.check_setters.result (Refused (IsFirstLoneSetter c.args.taken.now)) (Refused (IsUnpairedSetter (map function_behind c.args.functions.now))) (λ e. refused_weaker (IsFirstLoneSetter c.args.taken.now) (IsUnpairedSetter (map function_behind c.args.functions.now)) e (λ f first.
+    let ids = c.args.names.now in
+    let hs = c.args.functions.now in
+    unpaired_setter (all_names ids (map function_behind hs)) (map function_behind hs) (scope_named ids hs) f (rw c.requires at first))) c.check_setters.ensures.refused

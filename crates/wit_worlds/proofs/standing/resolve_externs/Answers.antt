@@ -54,8 +54,8 @@ loop-place-init c = rw (c.in_ok-functions.ensures.items, c.new-ids.ensures.items
   apart = λ s. subst AllDiffer (sym (c.new-links.ensures s)) differ_none;
 })
 
-pub with-met-requires-clause-all : goal.with-met-requires-clause-all
-with-met-requires-clause-all c =
+pub with-met-requires-clause-interfaces : goal.with-met-requires-clause-interfaces
+with-met-requires-clause-interfaces c =
     let xs = externs_behind c.args.externs.now in
     let k = c.loop-place.place in
     let long : length xs ≡ length c.args.externs.now = length-map c.args.externs.now extern_behind in
@@ -97,7 +97,7 @@ resolve_written-requires-clause-named c = λ names u read is.
     let at : slice_get hs k ≡ Some (held.Inline w) = held_here hs k c.index-externs-place.result (held.Inline w) (omega arith) c.index-externs-place.is c.in-Inline.is in
     let split = c.requires.sides ∙ split_at xs k (extern_behind (held.Inline w)) (behind_at hs k (held.Inline w) at) in
     let count : c.on-counts.result ≡ counted (items_on side (take k xs)) = c.on-counts.ensures ∙ c.loop-place.invariant.met.on side in
-    names_own (inside_behind side c.args.item.now) (item_behind c.args.item.now) u (take k xs) (drop (k + 1) xs) w.written.now w.name w.items.now c.on-counts.result.inline c.on-counts.result.all names (c.requires.written side) split (ap (λ (n : Counts). n.inline) count) is read
+    names_own (inside_behind side c.args.item.now) (item_behind c.args.item.now) u (take k xs) (drop (k + 1) xs) w.written.now w.name w.items.now c.on-counts.result.inline c.on-counts.result.interfaces names (c.requires.written side) split (ap (λ (n : Counts). n.inline) count) is read
 
 pub resolve_function-requires-clause-place : goal.resolve_function-requires-clause-place
 resolve_function-requires-clause-place c =
@@ -176,9 +176,9 @@ returns-in_err-id-in-Inline-clause-refused c =
     let ids = c.loop-place.ids.items in
     let w = c.in-Inline.inline in
     let item = item_behind c.args.item.now in
-    let own = inlined item c.on-counts.result.all w.written.now w.name w.items.now in
-    let all = ap (λ (n : Counts). n.all) (c.on-counts.ensures ∙ c.loop-place.invariant.met.on w.written.now.side) in
-    let next = inside_next item own hs i (length ids) c.on-counts.result.all w c.requires.sides at was.met all refl in
+    let own = inlined item c.on-counts.result.interfaces w.written.now w.name w.items.now in
+    let all = ap (λ (n : Counts). n.interfaces) (c.on-counts.ensures ∙ c.loop-place.invariant.met.on w.written.now.side) in
+    let next = inside_next item own hs i (length ids) c.on-counts.result.interfaces w c.requires.sides at was.met all refl in
     rw (p.1, p.2) (λ s xs scope. refused_weaker (IsWrongInterface c.loop-place.types cs c.args.interfaces.now.by_name (OfInterface (count + length c.loop-place.inside)) own) (IsWrongExtern c.args.types.now cs count c.args.inside.now c.args.interfaces.now.by_name c.args.scope xs (λ t. taken_on t c.args.taken.now) s hs us) _ (λ f wrong. WrongInside (wrong_inside cs count c.args.scope c.args.types.now c.loop-place.types c.args.inside.now c.loop-place.inside c.args.required.now.items c.loop-place.required.items c.loop-place.functions.items ids (externs_behind hs) us i c.args.interfaces.now.by_name s own f was next wrong)) (c.in_err-id-in-Inline.ensures.refused own refl))
 
 pub returns-in_err-define_inline-in-Inline-clause-refused : goal.returns-in_err-define_inline-in-Inline-clause-refused
@@ -263,9 +263,9 @@ loop-place-preserved c =
           let at : slice_get hs i ≡ Some h = held_here hs i c.index-externs-place.result h (omega arith) c.index-externs-place.is w.in-Inline.is in
           let item = behind_at hs i h at in
           let whole = item_behind c.args.item.now in
-          let own = inlined whole w.on-counts.result.all inline.written.now inline.name inline.items.now in
-          let all = ap (λ (n : Counts). n.all) (w.on-counts.ensures ∙ was.met.on inline.written.now.side) in
-          let next = inside_next whole own hs i (length ids) w.on-counts.result.all inline c.requires.sides at was.done.met all refl in
+          let own = inlined whole w.on-counts.result.interfaces inline.written.now inline.name inline.items.now in
+          let all = ap (λ (n : Counts). n.interfaces) (w.on-counts.ensures ∙ was.met.on inline.written.now.side) in
+          let next = inside_next whole own hs i (length ids) w.on-counts.result.interfaces inline c.requires.sides at was.done.met all refl in
           let step = w.in_ok-id-in-Inline.ensures in
           let says = w.in_ok-define_inline-in-Inline.ensures in
           rw (w.types-is, w.required-is, w.taken-is, w.functions-is, w.links-is, w.ids-is, w.inside-is) (record {

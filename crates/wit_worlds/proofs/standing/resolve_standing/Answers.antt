@@ -1,9 +1,13 @@
-use Rattle.std.proofs.Common.{◌≡◌, ◌++◌, ◌+◌, List, length, map, sym, ap, ◌∙◌, subst}
+use Rattle.std.proofs.Common.{◌≡◌, ◌++◌, ◌+◌, true, List, length, map, sym, ap, ◌∙◌, subst}
+use Rattle.std.specs.List.{flat_map}
 use Rattle.std.proofs.lemmas.Result.{err_from_is_err_and}
+use Rattle.wit_tree.specs.declared.tree.Id.{Id}
+use Rattle.wit_tree.specs.declared.tree.WorldSide.{WorldSide}
 use Rattle.wit_tree.specs.declared.tree.WorldSide.TheVariants.{Imported}
 use Rattle.wit_syntax.specs.Function.{functions}
 use Rattle.wit_syntax.specs.Repeats.{AllDiffer}
-use Rattle.wit_syntax.specs.Sides.{items_on, names_on, side_items}
+use Rattle.wit_syntax.specs.Sides.{item_function, items_on, names_on, on_side, side_items}
+use Rattle.wit_syntax.specs.Signature.{IsUnpairedSetter}
 use Rattle.wit_syntax.specs.Source.{address, scope_names}
 use Rattle.wit_syntax.proofs.Refusing.{refused_weaker}
 use Rattle.wit_syntax.proofs.Repeated.{differ_none}
@@ -22,7 +26,8 @@ use Rattle.wit_item_entries.specs.Body.{IsStandingBy}
 use Rattle.wit_item_entries.proofs.Behind.{all_names, front_folded, taken_before}
 use Rattle.wit_item_entries.proofs.ItemSides.{held_functions}
 use Rattle.wit_item_entries.proofs.Owners.{owners, turn_has}
-use Rattle.wit_worlds.specs.Standing.{IsWrongStanding, StandingNames}
+use Rattle.wit_worlds.specs.Standing.{IsWrongStanding, StandingNames, StandingSetter}
+use Rattle.wit_worlds.proofs.Closing.{alone_closed, none_alone}
 use Rattle.wit_worlds.proofs.StandingItem.{standing_adds, standing_count, standing_refused}
 use Rattle.wit_worlds.proofs.standing.resolve_standing.Goals as goal
 
@@ -100,3 +105,21 @@ returns-clause-legal c =
     let results : AreResults c.in_ok-results.results (scope_names i) = subst (AreResults c.in_ok-results.results) (ap (map name_behind) c.deref.ensures.value ∙ sym own.names) c.in_ok-results.ensures in
     let are = all_names (scope_names i) c.args.names.now.turn.items c.args.names.now.types c.requires.turn c.requires.listed in
     rw (sym fns) (c.in_ok-standing.ensures.legal (scope_names i) (record { names = are; results = results }))
+
+pub check_closed-requires : goal.check_closed-requires
+check_closed-requires c = λ side.
+    let ids = c.args.names.now.turn.items in
+    let items = externs_behind c.args.externs.now in
+    let before : taken_on side c.define_names.new.taken ≡ names_on side (map name_of_id ids) = taken_before side c.new-taken.result c.define_names.new.taken c.deref-2.result.now ids c.new-taken.ensures c.in_ok-define_names.ensures.defined c.deref-2.ensures.value in
+    c.in_ok-standing.ensures.defined side ∙ ap (λ (l : List Name). l ++ names_of_items (items_on side items)) before ∙ ap (λ (l : List Id). all_on side l items) (sym c.deref-4.ensures.value)
+
+pub returns-in_err-check_closed-clause-refused : goal.returns-in_err-check_closed-clause-refused
+returns-in_err-check_closed-clause-refused c =
+    let p = err_from_is_err_and c.from_residual-in_err-check_closed.result c.from_residual-in_err-check_closed.ensures.1 in
+    let i = item_behind c.args.item.now in
+    let ids = c.args.names.now.turn.items in
+    let items = externs_behind c.args.externs.now in
+    rw (p.1, p.2) (refused_weaker (λ f. (c.args.closed ≡ true) × ((s : WorldSide) × IsUnpairedSetter (on_side s (flat_map item_function items)) f)) (IsWrongStanding c.args.types.now (cells_of c.args.interfaces.now) (length c.args.interfaces.now.arena) c.args.inside.now c.args.interfaces.now.by_name c.args.names.now.types ids i c.args.externs.now) _ (λ f h. StandingSetter (alone_closed i items c.requires.sides c.args.closed c.requires.closed h.1.0 f h.0 h.1.1)) c.in_err-check_closed.ensures.refused)
+
+pub returns-clause-paired : goal.returns-clause-paired
+returns-clause-paired c = none_alone (item_behind c.args.item.now) (externs_behind c.args.externs.now) c.requires.sides c.args.closed c.requires.closed c.in_ok-check_closed.ensures.paired

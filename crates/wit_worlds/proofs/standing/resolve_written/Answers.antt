@@ -20,21 +20,21 @@ pub resolve_inline-requires-clause-sort : goal.resolve_inline-requires-clause-so
 resolve_inline-requires-clause-sort c =
     let s = scope_item c.inside_scope-scope.result in
     let w = c.args.inline.now in
-    let own : inlined (item_behind c.args.item.now) c.args.before.all w.written.now w.name w.items.now ≡ s = head_same _ s c.inside_scope-scope.ensures.item in
+    let own : inlined (item_behind c.args.item.now) c.args.before.interfaces w.written.now w.name w.items.now ≡ s = head_same _ s c.inside_scope-scope.ensures.item in
     ap is_world (sym own)
 
 pub resolve_inline-requires-clause-called : goal.resolve_inline-requires-clause-called
 resolve_inline-requires-clause-called c =
     let s = scope_item c.inside_scope-scope.result in
     let w = c.args.inline.now in
-    let own : inlined (item_behind c.args.item.now) c.args.before.all w.written.now w.name w.items.now ≡ s = head_same _ s c.inside_scope-scope.ensures.item in
+    let own : inlined (item_behind c.args.item.now) c.args.before.interfaces w.written.now w.name w.items.now ≡ s = head_same _ s c.inside_scope-scope.ensures.item in
     ap (λ (i : Item). declared_name i.declared) (sym own)
 
 pub resolve_inline-requires-clause-stands : goal.resolve_inline-requires-clause-stands
 resolve_inline-requires-clause-stands c =
     let s = scope_item c.inside_scope-scope.result in
     let w = c.args.inline.now in
-    let own : inlined (item_behind c.args.item.now) c.args.before.all w.written.now w.name w.items.now ≡ s = head_same _ s c.inside_scope-scope.ensures.item in
+    let own : inlined (item_behind c.args.item.now) c.args.before.interfaces w.written.now w.name w.items.now ≡ s = head_same _ s c.inside_scope-scope.ensures.item in
     ap (λ (i : Item). (item_id i).span) own
 
 pub resolve_inline-requires-clause-named : goal.resolve_inline-requires-clause-named

@@ -4,6 +4,7 @@ use Rattle.wit_tree.specs.declared.tree.Id.{Id}
 use Rattle.wit_types.specs.declared.types.TypeOwner.TheVariants.{World as OfWorld}
 use Rattle.wit_syntax.specs.Function.{functions}
 use Rattle.wit_syntax.specs.Repeats.{AllDiffer}
+use Rattle.wit_syntax.specs.Scope.{includes as written_includes}
 use Rattle.wit_syntax.specs.Sides.{inline_items, side_items}
 use Rattle.wit_syntax.specs.Source.{scope_names, top_names}
 use Rattle.wit_syntax.proofs.Refusing.{refused_weaker}
@@ -68,6 +69,12 @@ pub returns-in_err-sides-clause-refused : goal.returns-in_err-sides-clause-refus
 returns-in_err-sides-clause-refused c =
     let p = err_from_is_err_and c.from_residual-in_err-sides.result c.from_residual-in_err-sides.ensures.1 in
     rw p.1 (λ fs named. inl p.2)
+
+pub resolve_standing-requires-clause-closed : goal.resolve_standing-requires-clause-closed
+resolve_standing-requires-clause-closed c =
+    let named = c.requires.file in
+    let file = c.args.item.now.file.now in
+    c.is_closed-closed.ensures (written_includes (item_behind c.args.item.now)) (ap length c.as_slice.ensures ∙ (c.in_ok-includes.ensures.are named.files file named.are).count)
 
 pub resolve_standing-requires-clause-listed : goal.resolve_standing-requires-clause-listed
 resolve_standing-requires-clause-listed c =
@@ -180,7 +187,7 @@ returns-clause-parts c =
     let led : AreLed named.files front by_name (top_names file) hs = subst (AreLed named.files front by_name (top_names file)) (sym c.deref_mut-lent.ensures.value) (c.in_ok-externs.ensures.led named.files file named.are) in
     let enough = front_enough c.args.interfaces.now.foreign.now is c.requires.front in
     let placed = links_placed named.files front is by_name (top_names file) hs enough c.requires.index led in
-    λ ss known. parts_are front (others_of c.args.files.now) is old c.world_head.new.types c.resolve_standing.new.types c.args.worlds.now.arena c.args.inside.now c.resolve_standing.new.inside ss item _ names.types c.resolve_standing.new.names.types names.turn.items c.deref.result.now names.required.items standing.functions.items standing.inside.items hs (addresses_count front is enough) known n e.adds e.grown same placed e.right e.named e.counted e.ids turned e.types c.in_ok-sides.ensures.imports c.in_ok-sides.ensures.exports c.in_ok-head.ensures.told (c.in_ok-includes.ensures.are named.files file named.are)
+    λ ss known. parts_are front (others_of c.args.files.now) is old c.world_head.new.types c.resolve_standing.new.types c.args.worlds.now.arena c.args.inside.now c.resolve_standing.new.inside ss item _ names.types c.resolve_standing.new.names.types names.turn.items c.deref.result.now names.required.items standing.functions.items standing.inside.items hs c.is_closed-closed.result (addresses_count front is enough) known n e.adds e.grown same placed e.right e.named e.counted e.ids turned e.types c.in_ok-sides.ensures.imports c.in_ok-sides.ensures.exports (c.is_closed-closed.ensures (written_includes item) (ap length c.as_slice.ensures ∙ (c.in_ok-includes.ensures.are named.files file named.are).count)) e.paired c.in_ok-head.ensures.told (c.in_ok-includes.ensures.are named.files file named.are)
 
 pub returns-clause-stable : goal.returns-clause-stable
 returns-clause-stable c =

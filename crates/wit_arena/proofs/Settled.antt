@@ -1,0 +1,144 @@
+-- A side of a world whose setters were placed has what it had: its types in front, and its interfaces in their order.
+use Rattle.std.proofs.Common.{◌≡◌, ℕ, zero, suc, Bool, true, false, cond, List, [], ◌∷◌, ◌++◌, Some, None, Option, inl, inr, refl, sym, ap, ◌∙◌}
+use Rattle.std.specs.Prelude.{slice_get}
+use Rattle.std.specs.List.{filter, flat_map, list_any}
+use Rattle.std.proofs.lemmas.Bool.{cases_Bool, cond-true, cond-false}
+use Rattle.std.proofs.lemmas.Grind.{flat_map-append}
+use Rattle.std.proofs.lemmas.List.Elements.{filter-append}
+use Rattle.wit_tree.specs.declared.tree.Include.{Include}
+use Rattle.wit_model.specs.Setters.{early, goes_with, others, with_setters, setters_placed, pairs}
+use Rattle.wit_model.specs.Worlds.{function_of}
+use Rattle.wit_model.specs.declared.function.Function.{Function}
+use Rattle.wit_model.specs.declared.world.WorldItem.{WorldItem}
+use Rattle.wit_model.specs.declared.world.WorldItem.TheVariants as item
+use Rattle.wit_model.specs.declared.world.WorldKey.{WorldKey}
+use Rattle.wit_syntax.specs.Source.{ScopeName}
+use Rattle.wit_arena.specs.Package.{is_interface_item, interface_items}
+use Rattle.wit_arena.specs.Resolving.{Names}
+use Rattle.wit_arena.specs.SideItems.{settled}
+use Rattle.wit_arena.specs.Whole.{type_imports}
+use Rattle.wit_syntax.proofs.Kept.{kept_at}
+use Rattle.wit_syntax.proofs.Lists.{flat_map_at, flat_map_has}
+use Rattle.wit_syntax.proofs.Sides.{kept_none}
+use Rattle.wit_arena.proofs.Placed.{any_at, getters_alone, placed_at, placed_has}
+
+abbrev Entry : Type 0
+Entry = WorldKey × WorldItem
+
+-- what stands on a settled side was there, and what was there stands on it
+pub settled_at : (is : List Include) (xs : List Entry) (k : ℕ) (x : Entry) → slice_get (settled is xs) k ≡ Some x → (j : ℕ) × (slice_get xs j ≡ Some x)
+settled_at [] xs k x at = placed_at (pairs function_of) xs k x at
+settled_at (i ∷ is) xs k x at = (k, at)
+
+pub settled_has : (is : List Include) (xs : List Entry) (k : ℕ) (x : Entry) → slice_get xs k ≡ Some x → (j : ℕ) × (slice_get (settled is xs) j ≡ Some x)
+settled_has [] xs k x at = placed_has (pairs function_of) (getters_alone function_of) xs k x at
+settled_has (i ∷ is) xs k x at = (k, at)
+
+-- what the elements of one list become, those of another that has them become too
+pub moved : {X Y : Type 0} (f : X → List Y) (xs zs : List X) → ((k : ℕ) (x : X) → slice_get xs k ≡ Some x → (j : ℕ) × (slice_get zs j ≡ Some x)) → (k : ℕ) (y : Y) → slice_get (flat_map f xs) k ≡ Some y → (j : ℕ) × (slice_get (flat_map f zs) j ≡ Some y)
+moved f xs zs among k y at =
+    let it = flat_map_at f xs k y at in
+    let z = among it.0 it.1 it.2 in
+    flat_map_has f zs z.0 it.3.0 it.1 y z.1 it.3.1
+
+none_at : {Y : Type 0} (ys : List Y) → ((k : ℕ) (y : Y) → slice_get ys k ≡ Some y → ⊥) → ys ≡ []
+none_at [] none = refl
+none_at (y ∷ ys) none = absurd (none 0 y refl)
+
+pub settled_none : {Y : Type 0} (of : Entry → List Y) (is : List Include) (xs : List Entry) → flat_map of xs ≡ [] → flat_map of (settled is xs) ≡ []
+settled_none {Y} of is xs none = none_at (flat_map of (settled is xs)) (λ k y at. (
+    let it = moved of (settled is xs) xs (settled_at is xs) k y at in
+    let empty : List Y = [] in
+    let wrong : slice_get empty it.0 ≡ Some y = ap (λ (l : List Y). slice_get l it.0) (sym none) ∙ it.1 in
+    let f : ⊥ = cc in
+    f))
+
+-- what is no setter and no getter stays in front
+any_none : {X : Type 0} (test : X → Bool) (xs : List X) → ((x : X) → test x ≡ false) → list_any test xs ≡ false
+any_none test [] none = refl
+any_none test (x ∷ xs) none = rw (none x) (any_none test xs none)
+
+module _ {X : Type 0} (goes : X → X → Bool) where
+  -- none of these goes with any
+  abbrev AreApart : List X → Type 0
+  AreApart front = (k : ℕ) (x : X) → slice_get front k ≡ Some x → (y : X) → (goes x y ≡ false) × (goes y x ≡ false)
+
+  early_front : (front ys : List X) → AreApart front → early goes (front ++ ys) ≡ early goes ys
+  early_front [] ys apart = refl
+  early_front (e ∷ front) ys apart =
+      let es = front ++ ys in
+      cond-false (list_any (goes e) es) (e ∷ early goes es) (early goes es) (any_none (goes e) es (λ y. (apart 0 e refl y).0)) ∙ early_front front ys (λ k. apart (suc k))
+
+  others_front : (front ys : List X) → AreApart front → others goes (front ++ ys) ≡ front ++ others goes ys
+  others_front [] ys apart = refl
+  others_front (e ∷ front) ys apart =
+      let es = front ++ ys in
+      cond-false (list_any (goes e) es) (others goes es) (e ∷ others goes es) (any_none (goes e) es (λ y. (apart 0 e refl y).0)) ∙ ap (λ (l : List X). e ∷ l) (others_front front ys (λ k. apart (suc k)))
+
+  each_front : (setters front : List X) → AreApart front → flat_map (with_setters goes setters) front ≡ front
+  each_front setters [] apart = refl
+  each_front setters (e ∷ front) apart =
+      ap (λ (l : List X). (e ∷ l) ++ flat_map (with_setters goes setters) front) (kept_none (λ s. goes s e) setters (λ i s at. (apart 0 e refl s).1))
+      ∙ ap (λ (l : List X). e ∷ l) (each_front setters front (λ k. apart (suc k)))
+
+  placed_front : (front ys : List X) → AreApart front → setters_placed goes (front ++ ys) ≡ front ++ setters_placed goes ys
+  placed_front front ys apart =
+      let set = with_setters goes (early goes ys) in
+      ap (λ (l : List X). flat_map (with_setters goes l) (others goes (front ++ ys))) (early_front front ys apart)
+      ∙ ap (flat_map set) (others_front front ys apart)
+      ∙ flat_map-append set front (others goes ys)
+      ∙ ap (λ (l : List X). l ++ flat_map set (others goes ys)) (each_front (early goes ys) front apart)
+
+  -- a test that no setter passes keeps of what is placed what it keeps of the list
+  module _ (test : X → Bool) (fails : (s g : X) → goes s g ≡ true → test s ≡ false) where
+    others_passed : (es : List X) → filter test (others goes es) ≡ filter test es
+    others_passed [] = refl
+    others_passed (e ∷ es) = elim (cases_Bool (list_any (goes e) es)) [
+      | inl hit ↦ (
+          let g = any_at (goes e) es hit in
+          ap (filter test) (cond-true (list_any (goes e) es) (others goes es) (e ∷ others goes es) hit) ∙ others_passed es ∙ sym (cond-false (test e) (e ∷ filter test es) (filter test es) (fails e g.1 g.3)))
+      | inr miss ↦ ap (filter test) (cond-false (list_any (goes e) es) (others goes es) (e ∷ others goes es) miss) ∙ ap (λ (l : List X). cond (test e) (e ∷ l) l) (others_passed es)
+    ]
+
+    set_passed : (setters es : List X) → filter test (flat_map (with_setters goes setters) es) ≡ filter test es
+    set_passed setters [] = refl
+    set_passed setters (e ∷ es) =
+        let own = filter (λ s. goes s e) setters in
+        let rest = flat_map (with_setters goes setters) es in
+        let none : filter test own ≡ [] = kept_none test own (λ i s at. (let k = kept_at (λ z. goes z e) setters i s at in fails s e k.2)) in
+        ap (λ (l : List X). cond (test e) (e ∷ l) l) (filter-append test own rest ∙ ap (λ (l : List X). l ++ filter test rest) none ∙ set_passed setters es)
+
+    placed_passed : (es : List X) → filter test (setters_placed goes es) ≡ filter test es
+    placed_passed es = set_passed (early goes es) (others goes es) ∙ others_passed es
+
+goes_none : (s : Option Function) → goes_with s None ≡ false
+goes_none None = refl
+goes_none (Some s) = refl
+
+-- names of types are no functions
+pub types_told : (xs : List ScopeName) (types : Names) (k : ℕ) (x : Entry) → slice_get (type_imports xs types) k ≡ Some x → function_of x.1 ≡ None
+types_told [] types k x at = absurd (let f : ⊥ = cc in f)
+types_told (n ∷ xs) [] k x at = absurd (let f : ⊥ = cc in f)
+types_told (n ∷ xs) (t ∷ types) zero x at = ap (λ (o : Option Entry). told o) (sym at)
+  where
+    told : Option Entry → Option Function
+    told None = None
+    told (Some e) = function_of e.1
+types_told (n ∷ xs) (t ∷ types) (suc k) x at = types_told xs types k x at
+
+-- so they stay in front
+pub settled_types : (is : List Include) (xs : List ScopeName) (types : Names) (ys : List Entry) → settled is (type_imports xs types ++ ys) ≡ type_imports xs types ++ settled is ys
+settled_types [] xs types ys = placed_front (pairs function_of) (type_imports xs types) ys (λ k x at y. (
+    let none = types_told xs types k x at in
+    (ap (λ o. goes_with o (function_of y.1)) none, ap (λ o. goes_with (function_of y.1) o) none ∙ goes_none (function_of y.1))))
+settled_types (i ∷ is) xs types ys = refl
+
+-- no setter is an interface
+no_interface : (s g : Entry) → pairs function_of s g ≡ true → is_interface_item s ≡ false
+no_interface (key, item.Type_ id span) g goes = refl
+no_interface (key, item.Interface id stability external_id docs span) g goes = absurd (let f : ⊥ = cc in f)
+no_interface (key, item.Function f) g goes = refl
+
+pub settled_interfaces : (is : List Include) (xs : List Entry) → interface_items (settled is xs) ≡ interface_items xs
+settled_interfaces [] xs = placed_passed (pairs function_of) is_interface_item no_interface xs
+settled_interfaces (i ∷ is) xs = refl
