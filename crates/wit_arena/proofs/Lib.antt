@@ -62,3 +62,10 @@ pub mod Owners
 pub mod Packaged
 pub mod Linked
 pub mod Resolved
+pub mod JoinedTurns
+pub mod JoinedWorlds
+pub mod JoinedOnce
+pub mod JoinedMeetings
+pub mod JoinedSides
+pub mod JoinedOthers
+pub mod JoinedPackage

@@ -9,3 +9,4 @@ pub mod Whole
 pub mod Resolving
 pub mod Resolved
 pub mod Adding
+pub mod Splitting

@@ -1,7 +1,9 @@
-//! Tests of `wit_groups`: packages that are nested in sources.
+//! Tests of `wit_groups`, packages that are nested in sources, and of `wit_parser`, files that are split.
 #![tactic(auto)]
 
 #[cfg(test)]
 mod groups;
 #[cfg(test)]
 mod shown;
+#[cfg(test)]
+mod splitting;

@@ -1,6 +1,8 @@
-//! What holds of all resolved packages.
-ghost use Rattle.std.specs.Prelude.{List};
+//! What holds of all resolved packages, and of the files that make them.
+ghost use Rattle.std.specs.Prelude.{List, [], ◌∷◌};
 ghost use Rattle.wit_tree.specs.declared.tree.PackageFile.{PackageFile as TheFile};
+ghost use Rattle.wit_syntax.specs.Splitting.{IsJoined, IsSplit};
+ghost use Rattle.wit_arena.specs.Splitting.{HaveSameMeetings, HaveSamePackages};
 ghost use Rattle.wit_arena.specs.Whole.{IsPackage};
 ghost use Rattle.wit_parser.specs.Ids.{AreIdsWithin};
 ghost use Rattle.wit_parser.specs.Marks.{HaveMarks};
@@ -16,4 +18,14 @@ pub fn functions_have_marks(package: &UnresolvedPackage)
 /// Each id of a package that files make is the place of an entry: `Arena::get` can be called of it.
 pub fn ids_are_within(package: &UnresolvedPackage)
     ensures { (files : List TheFile) → IsPackage files «package».now → AreIdsWithin «package».now }
+{}
+
+/// Where files have no `use` at the top and exactly one header, it does not matter that they are
+/// split: the one file with that header and all their declarations, in order, has the same visits to
+/// other packages, is legal exactly if they are, and has the same scopes, trees and orders; what is
+/// first met in it is first met in them; and a package that it makes is one that they make.
+pub fn splitting()
+    ensures same { (files : List TheFile) (one : TheFile) → IsJoined files one → IsSplit files (one ∷ []) }
+    ensures meetings { (files : List TheFile) (one : TheFile) → IsJoined files one → HaveSameMeetings files (one ∷ []) }
+    ensures packages { (files : List TheFile) (one : TheFile) → IsJoined files one → HaveSamePackages files (one ∷ []) }
 {}

@@ -18,3 +18,14 @@ pub mod Externs
 pub mod Inline
 pub mod Scopes
 pub mod Setters
+pub mod JoinedLists
+pub mod JoinedTargets
+pub mod JoinedItems
+pub mod JoinedFiles
+pub mod JoinedHeaders
+pub mod JoinedOrders
+pub mod JoinedTrees
+pub mod JoinedNames
+pub mod JoinedUses
+pub mod JoinedLegal
+pub mod Joined

@@ -18,3 +18,4 @@ pub mod Sides
 pub mod Trees
 pub mod Ends
 pub mod Broken
+pub mod Splitting

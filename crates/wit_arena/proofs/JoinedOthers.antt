@@ -1,0 +1,101 @@
+-- Files that declare the same name the same of other packages, require the same of them, and have the same declarations.
+use Rattle.std.proofs.Common.{◌≡◌, ℕ, not, List, [], ◌∷◌, take, inl, inr, ap, ◌∙◌, subst}
+use Rattle.std.specs.Prelude.{if◌then◌else◌, map}
+use Rattle.std.specs.List.{filter}
+use Rattle.wit_values.specs.declared.span.Span.{Span}
+use Rattle.wit_tree.specs.declared.tree.Id.{Id}
+use Rattle.wit_tree.specs.declared.tree.PackageFile.{PackageFile}
+use Rattle.wit_package_names.specs.declared.package_name.PackageName.{PackageName}
+use Rattle.wit_types.specs.declared.stability.Stability.{Stability}
+use Rattle.wit_types.specs.declared.types.TypeDef.{TypeDef}
+use Rattle.wit_model.specs.declared.ast_item.AstItem.{AstItem}
+use Rattle.wit_model.specs.declared.ast_item.AstItem.TheVariants as entry
+use Rattle.wit_model.specs.declared.interface.Interface.{Interface}
+use Rattle.wit_model.specs.declared.unresolved.UnresolvedPackage.{UnresolvedPackage}
+use Rattle.wit_syntax.specs.Address.{Address, same_package, same_address}
+use Rattle.wit_syntax.specs.Foreign.{ForeignVisit, visited_package, visited, same_item, is_foreign_world, foreign_interfaces, foreign_worlds}
+use Rattle.wit_syntax.specs.Notes.{stability_of}
+use Rattle.wit_syntax.specs.Repeats.{firsts}
+use Rattle.wit_syntax.specs.Source.{ScopeName, Taking, same_taking}
+use Rattle.wit_syntax.specs.Trees.{scope}
+use Rattle.wit_syntax.proofs.JoinedFiles.{AreAlike, visits_same}
+use Rattle.wit_syntax.proofs.JoinedTrees.{takings_alike, scope_alike}
+use Rattle.wit_syntax.proofs.JoinedLegal.{ends_onward}
+use Rattle.wit_syntax.specs.Ends.{AtResource, AtForeign}
+use Rattle.wit_arena.specs.Meet.{Key, Decl, Decls, decl_of, IsAmong, Def, Whole, IsEntry, IsMeeting, Meeting, keys}
+use Rattle.wit_arena.specs.Whole.{foreign_place, NamesOthers, AreRequired, owner_at, declarations, AreForeignInterfaces, HasTypes}
+
+-- what is named of other packages, by the visits
+abbrev items_by : List ForeignVisit → List ForeignVisit
+items_by vs = firsts same_item vs
+
+abbrev interfaces_by : List ForeignVisit → List ForeignVisit
+interfaces_by vs = filter (λ v. not (is_foreign_world v)) (items_by vs)
+
+abbrev worlds_by : List ForeignVisit → List ForeignVisit
+worlds_by vs = filter is_foreign_world (items_by vs)
+
+abbrev packages_by : List ForeignVisit → List ForeignVisit
+packages_by vs = firsts (λ a b. same_package (visited_package a) (visited_package b)) vs
+
+abbrev entry_by : List ForeignVisit → ForeignVisit → AstItem
+entry_by vs v = if v.wants_world then entry.World (foreign_place (worlds_by vs) v) else entry.Interface (foreign_place (interfaces_by vs) v)
+
+abbrev item_by : List ForeignVisit → ForeignVisit → List ℕ × (AstItem × List Stability)
+item_by vs v = (v.id.name.now, (entry_by vs v, map (λ u. stability_of u.attributes) (filter (λ u. same_address (visited u) (visited v)) vs)))
+
+abbrev dep_by : List ForeignVisit → ForeignVisit → PackageName × List (List ℕ × (AstItem × List Stability))
+dep_by vs v = (visited_package v, map (item_by vs) (filter (λ u. same_package (visited_package u) (visited_package v)) (items_by vs)))
+
+-- declarations that are the same of each scope make the same meeting
+entry_again : (d e : Decls) → ((s : Address) → d s ≡ e s) → (ks : List Key) (k : Key) (t : TypeDef) → IsEntry d ks k t → IsEntry e ks k t
+entry_again d e same ks (Def s name) t h = record {
+  decl = h.decl;
+  among = subst (λ (ds : List Decl). IsAmong ds h.decl) (same s) h.among;
+  same = h.same;
+  name = h.name;
+  span = h.span;
+  owner = h.owner;
+  form = h.form;
+  parts = h.parts;
+  notes = h.notes;
+}
+entry_again d e same ks (Whole form parts) t h = h
+
+pub meeting_again : (d e : Decls) → ((s : Address) → d s ≡ e s) → (ms : List Meeting) (ts : List TypeDef) → IsMeeting d ms ts → IsMeeting e ms ts
+meeting_again d e same ms ts h = record {
+  keyed = record { count = h.keyed.count; once = h.keyed.once; each = λ i k t at there. entry_again d e same (take i (keys ms)) k t (h.keyed.each i k t at there) };
+  spans = h.spans;
+  settled = h.settled;
+}
+
+module _ (files others : List PackageFile) (a : AreAlike files others) where
+  pub others_onward : (p : UnresolvedPackage) → NamesOthers files p → NamesOthers others p
+  others_onward p h = record {
+    deps = h.deps ∙ ap (λ (vs : List ForeignVisit). map (dep_by vs) (packages_by vs)) (visits_same files others a);
+    spans = h.spans ∙ ap (λ (vs : List ForeignVisit). map (λ v. v.of.span) (packages_by vs)) (visits_same files others a);
+    unknown = h.unknown ∙ ap (λ (ts : List Taking). map (λ t. t.id.span) (firsts same_taking ts)) (takings_alike files others a);
+  }
+
+  pub foreign_interfaces_same : foreign_interfaces files ≡ foreign_interfaces others
+  foreign_interfaces_same = ap interfaces_by (visits_same files others a)
+
+  pub foreign_worlds_same : foreign_worlds files ≡ foreign_worlds others
+  foreign_worlds_same = ap worlds_by (visits_same files others a)
+
+  pub foreign_onward : (ks : List Key) (is : List Interface) → AreForeignInterfaces files ks (foreign_interfaces files) is → AreForeignInterfaces others ks (foreign_interfaces others) is
+  foreign_onward ks is h = subst (λ (vs : List ForeignVisit). AreForeignInterfaces others ks vs is) foreign_interfaces_same (record {
+    count = h.count;
+    says = h.says;
+    types = λ t v i at there. subst (λ (xs : List ScopeName). HasTypes ks (record { address = visited v; names = xs; functions = [] }) i.types) (scope_alike files others a (visited v)) (h.types t v i at there);
+  })
+
+  -- the declarations of scopes are the same, where the interfaces and the worlds have the same addresses
+  pub declarations_same : (is js ws vs : List Address) → is ≡ js → ws ≡ vs → (s : Address) → declarations files is ws s ≡ declarations others js vs s
+  declarations_same is js ws vs same worlds s = ap (λ (xs : List ScopeName). map (decl_of (owner_at is ws s) s) xs) (scope_alike files others a s) ∙ ap (λ (l : List Address). map (decl_of (owner_at l ws s) s) (scope others s)) same ∙ ap (λ (l : List Address). map (decl_of (owner_at js l s) s) (scope others s)) worlds
+
+  -- names in handles end where they did
+  pub required_onward : (ks : List Key) (hs : List (Address × Id)) (rs : List (ℕ × Span)) → AreRequired files ks hs rs → AreRequired others ks hs rs
+  required_onward ks [] rs h = h
+  required_onward ks (x ∷ hs) rs (inl h) = inl (ends_onward files others a x.0 x.1 AtResource h.0, required_onward ks hs rs h.1)
+  required_onward ks (x ∷ hs) rs (inr h) = inr (h.0, h.1, h.2, h.3, ends_onward files others a x.0 x.1 (AtForeign h.0 h.1) h.4, h.5, h.6, required_onward ks hs h.3 h.7)

@@ -1,0 +1,160 @@
+-- A package that files make is one that the file makes which they come to.
+use Rattle.std.proofs.Common.{◌≡◌, ℕ, List, [], ◌∷◌, ◌++◌, length, Some, sym, ap, ◌∙◌, subst}
+use Rattle.std.specs.Prelude.{slice_get, map}
+use Rattle.std.specs.List.{flat_map}
+use Rattle.std.specs.Option.{option_map}
+use Rattle.std.proofs.lemmas.List.{length-map}
+use Rattle.std.proofs.lemmas.Option.{slice_get-map}
+use Rattle.wit_tree.specs.declared.tree.PackageFile.{PackageFile}
+use Rattle.wit_order.proofs.Tables.{matched}
+use Rattle.wit_model.specs.declared.function.Function.{Function}
+use Rattle.wit_model.specs.declared.interface.Interface.{Interface}
+use Rattle.wit_model.specs.declared.world.World.{World}
+use Rattle.wit_model.specs.declared.unresolved.UnresolvedPackage.{UnresolvedPackage}
+use Rattle.wit_syntax.specs.Address.{Address}
+use Rattle.wit_syntax.specs.Foreign.{ForeignVisit, visited, foreign_interfaces, foreign_worlds}
+use Rattle.wit_syntax.specs.Function.{functions}
+use Rattle.wit_syntax.specs.Source.{declared_id, declared_name, declared_notes, declared_address, address}
+use Rattle.wit_syntax.specs.Splitting.{IsJoined}
+use Rattle.wit_syntax.proofs.Lists.{map_map}
+use Rattle.wit_syntax.proofs.JoinedItems.{bare, ArePlain}
+use Rattle.wit_syntax.proofs.JoinedFiles.{AreAlike, alike_back, joined_alike}
+use Rattle.wit_syntax.proofs.JoinedHeaders.{HaveSameHeaders, headers_back, joined_headers}
+use Rattle.wit_arena.specs.Meet.{Key, keys, Meeting, Meets}
+use Rattle.wit_arena.specs.Functions.{AreFunctions, placed_functions}
+use Rattle.wit_arena.specs.Package.{IsInterface, IsWorld, world_types}
+use Rattle.wit_arena.specs.Whole.{Ordered, OrderedWorld, own_item, all_inside, Turned, all_turns, addresses, HasTypes, AreInterfaces, HasSides, AreWorlds, turn_handles, interface_addresses, world_addresses, declarations, AreRequired, AreForeignWorlds, first_docs, IsPackage}
+use Rattle.wit_arena.specs.Splitting.{AreOrdered, HaveSamePackages}
+use Rattle.wit_arena.proofs.JoinedTurns.{Told, told}
+use Rattle.wit_arena.proofs.JoinedWorlds.{ToldWorld, told_world, own_told, turned_of, turns_same, interfaces_told}
+use Rattle.wit_arena.proofs.JoinedMeetings.{HasOrdered, ordered_onward, meetings_same}
+use Rattle.wit_arena.proofs.JoinedSides.{sides_onward, includes_onward}
+use Rattle.wit_arena.proofs.JoinedOthers.{others_onward, foreign_interfaces_same, foreign_worlds_same, foreign_onward, declarations_same, meeting_again, required_onward}
+
+abbrev told_address : Told → Address
+told_address x = declared_address x.0
+
+abbrev world_address : ToldWorld → Address
+world_address w = declared_address w.0.0
+
+addresses_told : (os : List Ordered) → addresses os ≡ map told_address (map told os)
+addresses_told os = sym (map_map told_address told os)
+
+addresses_same : (os qs : List Ordered) → map told os ≡ map told qs → addresses os ≡ addresses qs
+addresses_same os qs same = addresses_told os ∙ ap (map told_address) same ∙ sym (addresses_told qs)
+
+same_long : {X Y : Type 0} (f : X → Y) (xs zs : List X) → map f xs ≡ map f zs → length xs ≡ length zs
+same_long f xs zs same = sym (length-map xs f) ∙ ap length same ∙ length-map zs f
+
+-- the interfaces of scopes are those of scopes that are told alike
+interfaces_onward : (ks : List Key) (os qs : List Ordered) (is : List Interface) → map told os ≡ map told qs → AreInterfaces ks os is → AreInterfaces ks qs is
+interfaces_onward ks os qs is same h = record {
+  count = h.count ∙ same_long told os qs same;
+  says = λ t q i at there. (
+      let it = matched told told os qs same t q at in
+      subst (λ (x : Told). IsInterface (declared_name x.0) (declared_id x.0).span (declared_notes x.0) i) it.2 (h.says t it.0 i it.1 there));
+  types = λ t q i at there. (
+      let it = matched told told os qs same t q at in
+      subst (λ (x : Told). HasTypes ks (turned_of x) i.types) it.2 (h.types t it.0 i it.1 there));
+  functions = λ t q i at there. (
+      let it = matched told told os qs same t q at in
+      subst (λ (x : Told). (fs : List Function) × AreFunctions ks (declared_address x.0) (functions (bare x.0)) fs × (i.functions ≡ placed_functions fs)) it.2 (h.functions t it.0 i it.1 there));
+}
+
+-- and so are worlds
+module _ (ks : List Key) (interfaces worlds : List Address) (ws vs : List OrderedWorld) (same : map told_world ws ≡ map told_world vs) (left : ArePlain (map own_item ws)) (right : ArePlain (map own_item vs)) where
+  -- the like of a world
+  like : (t : ℕ) (v : OrderedWorld) → slice_get vs t ≡ Some v → (u : OrderedWorld) × (slice_get ws t ≡ Some u) × (told_world u ≡ told_world v)
+  like t v at = matched told_world told_world ws vs same t v at
+
+  inside_addresses : (u v : OrderedWorld) → told_world u ≡ told_world v → addresses u.inside ≡ addresses v.inside
+  inside_addresses u v one = addresses_same u.inside v.inside (ap (λ (x : ToldWorld). x.1) one)
+
+  sides_of_like : (u v : OrderedWorld) (w : World) (t : ℕ) → slice_get ws t ≡ Some u → slice_get vs t ≡ Some v → told_world u ≡ told_world v → HasSides ks interfaces (addresses u.inside) u.own w → HasSides ks interfaces (addresses v.inside) v.own w
+  sides_of_like u v w t at_u at_v one h =
+      let inside = subst (λ (l : List Address). HasSides ks interfaces l u.own w) (inside_addresses u v one) h in
+      sides_onward ks interfaces (addresses v.inside) u.own v.own w (left t u.own.item (slice_get-map own_item ws t ∙ ap (option_map own_item) at_u)) (right t v.own.item (slice_get-map own_item vs t ∙ ap (option_map own_item) at_v)) (ap own_told one) inside
+
+  worlds_onward : (all : List World) → AreWorlds ks interfaces worlds ws all → AreWorlds ks interfaces worlds vs all
+  worlds_onward all h = record {
+    count = h.count ∙ same_long told_world ws vs same;
+    says = λ t v w at there. (
+        let it = like t v at in
+        subst (λ (x : Told). IsWorld (declared_id x.0) (declared_notes x.0) w) (ap own_told it.2) (h.says t it.0 w it.1 there));
+    types = λ t v w at there. (
+        let it = like t v at in
+        subst (λ (x : Told). HasTypes ks (turned_of x) (world_types w)) (ap own_told it.2) (h.types t it.0 w it.1 there));
+    sides = λ t v w at there. (
+        let it = like t v at in
+        sides_of_like it.0 v w t it.1 at it.2 (h.sides t it.0 w it.1 there));
+    includes = λ t v w at there. (
+        let it = like t v at in
+        includes_onward worlds it.0.own v.own w.includes (left t it.0.own.item (slice_get-map own_item ws t ∙ ap (option_map own_item) it.1)) (right t v.own.item (slice_get-map own_item vs t ∙ ap (option_map own_item) at)) (ap own_told it.2) (h.includes t it.0 w it.1 there));
+  }
+
+module _ (files others : List PackageFile) (a : AreAlike files others) (hs : HaveSameHeaders files others) where
+  ordered_of : (p : UnresolvedPackage) (h : IsPackage files p) → AreOrdered files h.interfaces h.worlds
+  ordered_of p h = record { places = h.places; item_order = h.item_order; all_interfaces = h.all_interfaces; all_worlds = h.all_worlds; inside = h.inside; least = h.least }
+
+  interface_addresses_same : (os qs : List Ordered) → map told os ≡ map told qs → interface_addresses files os ≡ interface_addresses others qs
+  interface_addresses_same os qs same = ap (λ (vs : List ForeignVisit). map visited vs ++ addresses os) (foreign_interfaces_same files others a) ∙ ap (λ (l : List Address). map visited (foreign_interfaces others) ++ l) (addresses_same os qs same)
+
+  world_addresses_same : (ws vs : List OrderedWorld) → map told_world ws ≡ map told_world vs → world_addresses files ws ≡ world_addresses others vs
+  world_addresses_same ws vs same =
+      let own = sym (map_map world_address told_world ws) ∙ ap (map world_address) same ∙ map_map world_address told_world vs in
+      ap (λ (l : List ForeignVisit). map visited l ++ map (λ (w : OrderedWorld). address w.own.item) ws) (foreign_worlds_same files others a) ∙ ap (λ (l : List Address). map visited (foreign_worlds others) ++ l) own
+
+  package_with : (p : UnresolvedPackage) (h : IsPackage files p) → HasOrdered others h.interfaces h.worlds → IsPackage others p
+  package_with p h it =
+      let is = h.interfaces in
+      let ws = h.worlds in
+      let js = it.interfaces in
+      let vs = it.worlds in
+      let ks = keys h.met in
+      let scopes : map told (is ++ all_inside ws) ≡ map told (js ++ all_inside vs) = interfaces_told is js ws vs it.same.interfaces it.same.worlds in
+      let own = interface_addresses_same (is ++ all_inside ws) (js ++ all_inside vs) scopes in
+      let worlds = world_addresses_same ws vs it.same.worlds in
+      let turns : all_turns is ws ≡ all_turns js vs = turns_same is js ws vs it.same.interfaces it.same.worlds in
+      let placed_worlds = subst (λ (l : List Address). AreWorlds ks l (world_addresses others vs) ws h.own_worlds) own (subst (λ (l : List Address). AreWorlds ks (interface_addresses files (is ++ all_inside ws)) l ws h.own_worlds) worlds h.are_worlds) in
+      record {
+        header = h.header;
+        last = sym hs.last ∙ h.last;
+        namespace = h.namespace;
+        name = h.name;
+        version = h.version;
+        name_span = h.name_span;
+        docs = h.docs ∙ ap first_docs hs.all;
+        others = others_onward files others a p h.others;
+        places = it.ordered.places;
+        item_order = it.ordered.item_order;
+        interfaces = js;
+        worlds = vs;
+        all_interfaces = it.ordered.all_interfaces;
+        all_worlds = it.ordered.all_worlds;
+        inside = it.ordered.inside;
+        least = it.ordered.least;
+        met = h.met;
+        meets = subst (λ (ms : List Meeting). Meets [] ms h.met) (meetings_same files others a is js ws vs it.same) h.meets;
+        meeting = meeting_again (declarations files (interface_addresses files (is ++ all_inside ws)) (world_addresses files ws)) (declarations others (interface_addresses others (js ++ all_inside vs)) (world_addresses others vs)) (declarations_same files others a (interface_addresses files (is ++ all_inside ws)) (interface_addresses others (js ++ all_inside vs)) (world_addresses files ws) (world_addresses others vs) own worlds) h.met p.types h.meeting;
+        foreign_front = h.foreign_front;
+        own_interfaces = h.own_interfaces;
+        interface_arena = h.interface_arena;
+        are_foreign_interfaces = foreign_onward files others a ks h.foreign_front h.are_foreign_interfaces;
+        are_interfaces = interfaces_onward ks (is ++ all_inside ws) (js ++ all_inside vs) h.own_interfaces scopes h.are_interfaces;
+        worlds_front = h.worlds_front;
+        own_worlds = h.own_worlds;
+        world_arena = h.world_arena;
+        are_foreign_worlds = subst (λ (l : List ForeignVisit). AreForeignWorlds l h.worlds_front) (foreign_worlds_same files others a) h.are_foreign_worlds;
+        are_worlds = worlds_onward ks (interface_addresses others (js ++ all_inside vs)) (world_addresses others vs) ws vs it.same.worlds it.left it.right h.own_worlds placed_worlds;
+        required = required_onward files others a ks (flat_map turn_handles (all_turns js vs)) p.required_resource_types (subst (λ (ts : List Turned). AreRequired files ks (flat_map turn_handles ts) p.required_resource_types) turns h.required);
+        one = h.one;
+      }
+
+  pub package_onward : (p : UnresolvedPackage) → IsPackage files p → IsPackage others p
+  package_onward p h = package_with p h (ordered_onward files others a h.interfaces h.worlds (ordered_of p h))
+
+pub joined_packages : (files : List PackageFile) (one : PackageFile) → IsJoined files one → HaveSamePackages files (one ∷ [])
+joined_packages files one j p =
+    let a = joined_alike files one j in
+    let hs = joined_headers files one j in
+    (package_onward files (one ∷ []) a hs p, package_onward (one ∷ []) files (alike_back files (one ∷ []) a) (headers_back files (one ∷ []) hs) p)

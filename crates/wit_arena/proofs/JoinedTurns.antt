@@ -1,0 +1,102 @@
+-- Scopes with orders of their names, over items that are the same but for the names at the top of their files.
+use Rattle.std.proofs.Common.{◌≡◌, ℕ, suc, List, [], ◌∷◌, Bool, not, Option, Some, None, inl, inr, refl, sym, ap, ◌∙◌}
+use Rattle.std.specs.Prelude.{slice_get, map}
+use Rattle.std.specs.List.{filter, cons_option}
+use Rattle.std.specs.Option.{option_map}
+use Rattle.std.proofs.lemmas.Option.{slice_get-map}
+use Rattle.wit_syntax.specs.Source.{Declared, is_declared_world, Item, ScopeName, scope_names}
+use Rattle.wit_syntax.specs.Scope.{in_order, interfaces_of, worlds_of}
+use Rattle.wit_syntax.specs.Splitting.{declared_of}
+use Rattle.wit_syntax.proofs.Kept.{behind_one, kept_at}
+use Rattle.wit_syntax.proofs.JoinedLists.{filter-map}
+use Rattle.wit_syntax.proofs.JoinedTargets.{AreThemselves}
+use Rattle.wit_syntax.proofs.JoinedItems.{bare, AreTwins, names_of_bare}
+use Rattle.wit_arena.specs.Whole.{Ordered, item_of}
+
+-- what stands in an order stands in the list
+abbrev StandsIn : List Item → Item → Type 0
+StandsIn is i = (p : ℕ) × (slice_get is p ≡ Some i)
+
+first_among : (is : List Item) (p : ℕ) (rest : List Item) (k : ℕ) (i : Item) (o : Option Item) → slice_get is p ≡ o → ((j : ℕ) → slice_get rest j ≡ Some i → StandsIn is i) → slice_get (cons_option o rest) k ≡ Some i → StandsIn is i
+first_among is p rest k i None none later at = later k at
+first_among is p rest k i (Some j) some later at = elim (behind_one j rest k i at) [
+  | inl here ↦ (p, some ∙ ap Some here)
+  | inr there ↦ later there.0 there.1
+]
+
+in_order_among : (is : List Item) (places : List ℕ) (k : ℕ) (i : Item) → slice_get (in_order is places) k ≡ Some i → StandsIn is i
+in_order_among is [] k i at = absurd (let f : ⊥ = cc in f)
+in_order_among is (p ∷ places) k i at = first_among is p (in_order is places) k i (slice_get is p) refl (λ j. in_order_among is places j i) at
+
+map-cons_option : {X Y : Type 0} (f : X → Y) (o : Option X) (xs : List X) → map f (cons_option o xs) ≡ cons_option (option_map f o) (map f xs)
+map-cons_option f None xs = refl
+map-cons_option f (Some x) xs = refl
+
+map-in_order : {X Y : Type 0} (f : X → Y) (xs : List X) (places : List ℕ) → map f (in_order xs places) ≡ in_order (map f xs) places
+map-in_order f xs [] = refl
+map-in_order {X} {Y} f xs (p ∷ places) = map-cons_option f (slice_get xs p) (in_order xs places) ∙ ap (λ (o : Option Y). cons_option o (map f (in_order xs places))) (sym (slice_get-map f xs p)) ∙ ap (cons_option (slice_get (map f xs) p)) (map-in_order f xs places)
+
+module _ (is js : List Item) (t : AreTwins is js) where
+  -- twins in an order are twins, and so are those that a test of what they declare keeps
+  pub twins_in_order : (places : List ℕ) → AreTwins (in_order is places) (in_order js places)
+  twins_in_order places = record {
+    left = λ k i at. (let it = in_order_among is places k i at in t.left it.0 i it.1);
+    right = λ k i at. (let it = in_order_among js places k i at in t.right it.0 i it.1);
+    same = map-in_order declared_of is places ∙ ap (λ (ds : List Declared). in_order ds places) t.same ∙ sym (map-in_order declared_of js places);
+  }
+
+  twins_kept : (test : Declared → Bool) → AreTwins (filter (λ (i : Item). test i.declared) is) (filter (λ (i : Item). test i.declared) js)
+  twins_kept test = record {
+    left = λ k i at. (let it = kept_at (λ (v : Item). test v.declared) is k i at in t.left it.0 i it.1);
+    right = λ k i at. (let it = kept_at (λ (v : Item). test v.declared) js k i at in t.right it.0 i it.1);
+    same = filter-map test declared_of is ∙ ap (filter test) t.same ∙ sym (filter-map test declared_of js);
+  }
+
+  pub twin_interfaces : AreTwins (interfaces_of is) (interfaces_of js)
+  twin_interfaces = twins_kept (λ (d : Declared). not (is_declared_world d))
+
+  pub twin_worlds : AreTwins (worlds_of is) (worlds_of js)
+  twin_worlds = twins_kept is_declared_world
+
+-- the same orders over other items
+-- the same orders over other items
+abbrev pub reordered : List Item → List Ordered → List Ordered
+reordered [] os = []
+reordered (j ∷ js) [] = []
+reordered (j ∷ js) (o ∷ os) = record { item = j; order = o.order } ∷ reordered js os
+
+-- what a scope is apart from the names at the top of its file: what it declares, its names and the order of these
+abbrev pub Told : Type 0
+Told = Declared × List ScopeName × List ℕ
+
+abbrev pub told : Ordered → Told
+told o = (o.item.declared, scope_names o.item, o.order)
+
+pub twins_first : (i j : Item) (is js : List Item) → AreTwins (i ∷ is) (j ∷ js) → i.declared ≡ j.declared
+twins_first i j is js t = (let same = t.same in cc)
+
+pub twins_behind : (i j : Item) (is js : List Item) → AreTwins (i ∷ is) (j ∷ js) → AreTwins is js
+twins_behind i j is js t = record { left = λ k. t.left (suc k); right = λ k. t.right (suc k); same = (let same = t.same in cc) }
+
+pub told_same : (i j : Item) (order : List ℕ) → AreThemselves i.top → AreThemselves j.top → i.declared ≡ j.declared → told (record { item = i; order = order }) ≡ told (record { item = j; order = order })
+told_same i j order own other same =
+    let names : scope_names i ≡ scope_names j = names_of_bare i own ∙ ap (λ (d : Declared). scope_names (bare d)) same ∙ sym (names_of_bare j other) in
+    ap (λ (d : Declared). told_by d (scope_names i)) same ∙ ap (told_by j.declared) names
+  where
+    told_by : Declared → List ScopeName → Told
+    told_by d xs = (d, xs, order)
+
+pub reordered_items : (os : List Ordered) (js : List Item) → AreTwins (map item_of os) js → map item_of (reordered js os) ≡ js
+reordered_items [] [] t = refl
+reordered_items [] (j ∷ js) t = (let same = t.same in absurd (let f : ⊥ = cc in f))
+reordered_items (o ∷ os) [] t = (let same = t.same in absurd (let f : ⊥ = cc in f))
+reordered_items (o ∷ os) (j ∷ js) t = ap (λ (l : List Item). j ∷ l) (reordered_items os js (twins_behind o.item j (map item_of os) js t))
+
+pub reordered_told : (os : List Ordered) (js : List Item) → AreTwins (map item_of os) js → map told os ≡ map told (reordered js os)
+reordered_told [] [] t = refl
+reordered_told [] (j ∷ js) t = (let same = t.same in absurd (let f : ⊥ = cc in f))
+reordered_told (o ∷ os) [] t = (let same = t.same in absurd (let f : ⊥ = cc in f))
+reordered_told (o ∷ os) (j ∷ js) t =
+    let rest = reordered_told os js (twins_behind o.item j (map item_of os) js t) in
+    let first = told_same o.item j o.order (t.left 0 o.item refl) (t.right 0 j refl) (twins_first o.item j (map item_of os) js t) in
+    ap (λ (x : Told). x ∷ map told os) first ∙ ap (λ (l : List Told). told (record { item = j; order = o.order }) ∷ l) rest

@@ -1,0 +1,13 @@
+use Rattle.wit_syntax.proofs.Joined.{joined_split}
+use Rattle.wit_arena.proofs.JoinedMeetings.{joined_meetings}
+use Rattle.wit_arena.proofs.JoinedPackage.{joined_packages}
+use Rattle.wit_parser.proofs.laws.splitting.Goals as goal
+
+pub returns-clause-same : goal.returns-clause-same
+returns-clause-same c = joined_split
+
+pub returns-clause-meetings : goal.returns-clause-meetings
+returns-clause-meetings c = joined_meetings
+
+pub returns-clause-packages : goal.returns-clause-packages
+returns-clause-packages c = joined_packages

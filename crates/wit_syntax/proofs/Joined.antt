@@ -1,0 +1,41 @@
+-- Files without a `use` at the top and with one header say the same as the one file that they come to.
+use Rattle.std.proofs.Common.{◌≡◌, List, [], ◌∷◌}
+use Rattle.wit_tree.specs.declared.tree.UsePath.{UsePath}
+use Rattle.wit_tree.specs.declared.tree.PackageFile.{PackageFile}
+use Rattle.wit_syntax.specs.Source.{used_scope, included_scope, leads, Item}
+use Rattle.wit_syntax.specs.Scope.{use_paths, include_paths}
+use Rattle.wit_syntax.specs.Sides.{all_scopes}
+use Rattle.wit_syntax.specs.Splitting.{IsJoined, used_scopes, included_scopes, IsSplit}
+use Rattle.wit_syntax.proofs.JoinedLists.{map_by}
+use Rattle.wit_syntax.proofs.JoinedTargets.{AreThemselves, used_same, included_same}
+use Rattle.wit_syntax.proofs.JoinedItems.{bare, no_names, twins_make}
+use Rattle.wit_syntax.proofs.JoinedFiles.{AreAlike, alike_back, items_twins, visits_same, joined_alike}
+use Rattle.wit_syntax.proofs.JoinedOrders.{order_onward}
+use Rattle.wit_syntax.proofs.JoinedTrees.{scopes_twins, scope_alike, tree_alike}
+use Rattle.wit_syntax.proofs.JoinedLegal.{legal_back}
+
+-- the scopes that the paths of an item lead to are told by what it declares
+used_told : (i : Item) → AreThemselves i.top → used_scopes i ≡ used_scopes (bare i.declared)
+used_told i own = map_by (λ (path : UsePath). used_scope (leads i.top path)) (λ (path : UsePath). used_scope (leads [] path)) (used_same i.top [] own no_names) (use_paths i)
+
+included_told : (i : Item) → AreThemselves i.top → included_scopes i ≡ included_scopes (bare i.declared)
+included_told i own = map_by (λ (path : UsePath). included_scope (leads i.top path)) (λ (path : UsePath). included_scope (leads [] path)) (included_same i.top [] own no_names) (include_paths i)
+
+pub alike_split : (files others : List PackageFile) → AreAlike files others → IsSplit files others
+alike_split files others a =
+    let back = alike_back files others a in
+    let scopes = scopes_twins files others a in
+    record {
+      visits = visits_same files others a;
+      legal = (legal_back others files back, legal_back files others a);
+      items = (items_twins files others a).same;
+      scopes = scopes.same;
+      used = twins_make used_scopes used_told (all_scopes files) (all_scopes others) scopes;
+      included = twins_make included_scopes included_told (all_scopes files) (all_scopes others) scopes;
+      names = scope_alike files others a;
+      trees = tree_alike files others a;
+      orders = λ places. (order_onward files others a places, order_onward others files back places);
+    }
+
+pub joined_split : (files : List PackageFile) (one : PackageFile) → IsJoined files one → IsSplit files (one ∷ [])
+joined_split files one j = alike_split files (one ∷ []) (joined_alike files one j)

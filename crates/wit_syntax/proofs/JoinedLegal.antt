@@ -1,0 +1,125 @@
+-- Files that declare the same break a rule both or neither.
+use Rattle.std.proofs.Common.{◌≡◌, List, [], ◌∷◌, take, Some, None, refl, sym, ap, ◌∙◌, subst}
+use Rattle.std.specs.Prelude.{Contains}
+use Rattle.std.specs.List.{flat_map}
+use Rattle.std.specs.Option.{option_map_or}
+use Rattle.wit_tree.specs.declared.tree.PackageFile.{PackageFile}
+use Rattle.wit_tree.specs.declared.tree.Id.{Id}
+use Rattle.wit_tree.specs.declared.tree.«Type».{«Type» as Written}
+use Rattle.wit_syntax.specs.Address.{Address}
+use Rattle.wit_syntax.specs.Ends.{End, Elsewhere, tree_end, EndsAt, IsNoResource}
+use Rattle.wit_syntax.specs.Fault.{Fault, missing_at, item_word}
+use Rattle.wit_syntax.specs.Foreign.{ForeignVisit}
+use Rattle.wit_syntax.specs.Function.{functions, all_types}
+use Rattle.wit_syntax.specs.Shape.{Word}
+use Rattle.wit_syntax.specs.Source.{TopName, Item, address, all_items, ScopeName, scope_names, parts, path_scope}
+use Rattle.wit_syntax.specs.Sides.{SideItem, SideFunction, SideLink, SideInline, side_items, items_on, bare_scope, IsFoldedTwice, IsCrossedTwice, IsLinkedTwice, IsBrokenSides, FoldedTwice, CrossedTwice, LinkedTwice, LinkNotes, InlineNotes, all_scopes}
+use Rattle.wit_syntax.specs.Broken
+use Rattle.wit_syntax.specs.Broken.{IsHeaderless, IsMissingName, IsFunctionUsed, IsBrokenScope, IsBrokenItems, IsBrokenNames, IsHandleBroken, IsBroken, IsLegal}
+use Rattle.wit_syntax.proofs.JoinedLists.{flat_map_by}
+use Rattle.wit_syntax.proofs.JoinedTargets.{AreThemselves, used_same}
+use Rattle.wit_syntax.proofs.JoinedItems.{retop, names_same, twin_among}
+use Rattle.wit_syntax.proofs.JoinedFiles.{AreAlike, no_use_in_file, items_twins, visits_same}
+use Rattle.wit_syntax.proofs.JoinedOrders.{missing_edge_onward, cyclic_edge_onward}
+use Rattle.wit_syntax.proofs.JoinedTrees.{scopes_twins, tree_alike}
+use Rattle.wit_syntax.proofs.JoinedNames.{top_repeated, repeated_onward}
+use Rattle.wit_syntax.proofs.JoinedUses.{missing_use_onward, world_used_onward, interface_included_onward, missing_name_onward, function_used_onward}
+
+-- what is wrong on the sides of an item is wrong on those of its twin
+module _ (a b : List TopName) (own : AreThemselves a) (other : AreThemselves b) where
+  bare_same : (x : SideItem) → bare_scope a x ≡ bare_scope b x
+  bare_same (SideFunction fn) = refl
+  bare_same (SideLink link) = ap (λ (s : Address). option_map_or (λ (id : Id). []) link.name (s ∷ [])) (used_same a b own other link.path)
+  bare_same (SideInline x name items) = refl
+
+  linked_onward : (items : List SideItem) (f : Fault) → IsLinkedTwice a items f → IsLinkedTwice b items f
+  linked_onward items f h =
+      let front = take h.place (items_on h.side items) in
+      let scopes = flat_map_by (bare_scope a) (bare_scope b) bare_same front in
+      let there : Contains (flat_map (bare_scope b) front) (path_scope a h.link.path) = subst (λ (l : List Address). Contains l (path_scope a h.link.path)) scopes h.among in
+      record { side = h.side; place = h.place; link = h.link; at = h.at; bare = h.bare; among = subst (λ (s : Address). Contains (flat_map (bare_scope b) front) s) (used_same a b own other h.link.path) there; is = h.is }
+
+module _ (i : Item) (top : List TopName) (own : AreThemselves i.top) (other : AreThemselves top) where
+  twin_names : scope_names i ≡ scope_names (retop top i)
+  twin_names = names_same i.top top own other (parts i)
+
+  sides_onward : (f : Fault) → IsBrokenSides i f → IsBrokenSides (retop top i) f
+  sides_onward f (FoldedTwice h) = FoldedTwice (subst (λ (xs : List ScopeName). IsFoldedTwice xs (side_items i) f) twin_names h)
+  sides_onward f (CrossedTwice h) = CrossedTwice (subst (λ (xs : List ScopeName). IsCrossedTwice xs (side_items i) f) twin_names h)
+  sides_onward f (LinkedTwice h) = LinkedTwice (linked_onward i.top top own other (side_items i) f h)
+  sides_onward f (LinkNotes link among broken) = LinkNotes link among broken
+  sides_onward f (InlineNotes x among broken) = InlineNotes x among broken
+
+  scope_onward : (f : Fault) → IsBrokenScope (scope_names i) (functions i) f → IsBrokenScope (scope_names (retop top i)) (functions (retop top i)) f
+  scope_onward f h = subst (λ (xs : List ScopeName). IsBrokenScope xs (functions i) f) twin_names h
+
+module _ (files others : List PackageFile) (a : AreAlike files others) where
+  pub ends_onward : (s : Address) (id : Id) (end : End) → EndsAt files s id end → EndsAt others s id end
+  ends_onward s id end h = record { levels = h.levels; is = sym (ap (tree_end h.levels) (tree_alike files others a h.levels (s, Word id))) ∙ h.is }
+
+  no_resource_onward : (s : Address) (types : List Written) (f : Fault) → IsNoResource files s types f → IsNoResource others s types f
+  no_resource_onward s types f h = record { id = h.id; among = h.among; ends = ends_onward s h.id Elsewhere h.ends; is = h.is }
+
+  handle_onward : (i : Item) (top : List TopName) → AreThemselves i.top → AreThemselves top → (f : Fault) → IsHandleBroken files i f → IsHandleBroken others (retop top i) f
+  handle_onward i top own other f h = subst (λ (xs : List ScopeName). IsNoResource others (address i) (all_types xs (functions i)) f) (twin_names i top own other) (no_resource_onward (address i) (all_types (scope_names i) (functions i)) f h)
+
+  items_onward : (f : Fault) → IsBrokenItems files f → (g : Fault) × IsBrokenItems others g
+  items_onward f (Broken.DuplicateItem h) = (f, Broken.DuplicateItem (repeated_onward (all_items files) (all_items others) f (items_twins files others a) h))
+  items_onward f (Broken.DuplicateTopName file among h) =
+      let it = top_repeated files file f a.left.no_use among h in
+      (it.0, Broken.DuplicateItem (repeated_onward (all_items files) (all_items others) it.0 (items_twins files others a) it.1))
+  items_onward f (Broken.MissingItem h) = (let it = missing_edge_onward files others a (missing_at 7 item_word) f h in (it.0, Broken.MissingItem it.1))
+  items_onward f (Broken.CyclicItem h) = (let it = cyclic_edge_onward files others a 8 item_word f h in (it.0, Broken.CyclicItem it.1))
+
+  names_onward : (f : Fault) → IsBrokenNames files f → (g : Fault) × IsBrokenNames others g
+  names_onward f (Broken.Items h) = (let it = items_onward f h in (it.0, Broken.Items it.1))
+  names_onward f (Broken.ForeignStability v among h) = (f, Broken.ForeignStability v (subst (λ (vs : List ForeignVisit). Contains vs v) (visits_same files others a) among) h)
+  names_onward f (Broken.AttributedTopUse file among h) = absurd (no_use_in_file files a.left.no_use file among h.u h.among)
+  names_onward f (Broken.MissingOriginal file among h) = absurd (no_use_in_file files a.left.no_use file among h.u h.among)
+
+  headerless : (f : Fault) → IsHeaderless files f → ⊥
+  headerless f h = (let none : None ≡ Some a.left.header = sym (h.none a.left.place a.left.file a.left.at) ∙ a.left.headed in let wrong : ⊥ = cc in wrong)
+
+  broken_onward : (f : Fault) → IsBroken files f → (g : Fault) × IsBroken others g
+  broken_onward f (Broken.Headerless h) = absurd (headerless f h)
+  broken_onward f (Broken.Names h) = (let it = names_onward f h in (it.0, Broken.Names it.1))
+  broken_onward f (Broken.ItemStability i is h) =
+      let t = twin_among (all_items files) (all_items others) (items_twins files others a) i is in
+      (f, Broken.ItemStability (retop t.top i) t.among h)
+  broken_onward f (Broken.UseNotes i is u among h) =
+      let t = twin_among (all_items files) (all_items others) (items_twins files others a) i is in
+      (f, Broken.UseNotes (retop t.top i) t.among u among h)
+  broken_onward f (Broken.IncludeStability i is n among h) =
+      let t = twin_among (all_items files) (all_items others) (items_twins files others a) i is in
+      (f, Broken.IncludeStability (retop t.top i) t.among n among h)
+  broken_onward f (Broken.Use i is (Broken.MissingUse h)) =
+      let t = twin_among (all_items files) (all_items others) (items_twins files others a) i is in
+      let it = missing_use_onward files others a i t.top t.own t.other f h in
+      (it.0, Broken.Use (retop t.top i) t.among (Broken.MissingUse it.1))
+  broken_onward f (Broken.Use i is (Broken.WorldUsed h)) =
+      let t = twin_among (all_items files) (all_items others) (items_twins files others a) i is in
+      (f, Broken.Use (retop t.top i) t.among (Broken.WorldUsed (world_used_onward files others a i t.top t.own t.other f h)))
+  broken_onward f (Broken.InterfaceIncluded i is h) =
+      let t = twin_among (all_items files) (all_items others) (items_twins files others a) i is in
+      (f, Broken.InterfaceIncluded (retop t.top i) t.among (interface_included_onward files others a i t.top t.own t.other f h))
+  broken_onward f (Broken.MissingName i is h) =
+      let t = twin_among (all_scopes files) (all_scopes others) (scopes_twins files others a) i is in
+      (f, Broken.MissingName (retop t.top i) t.among (subst (λ (xs : List ScopeName). IsMissingName others xs f) (twin_names i t.top t.own t.other) (missing_name_onward files others a (scope_names i) f h)))
+  broken_onward f (Broken.FunctionUsed i is h) =
+      let t = twin_among (all_scopes files) (all_scopes others) (scopes_twins files others a) i is in
+      (f, Broken.FunctionUsed (retop t.top i) t.among (subst (λ (xs : List ScopeName). IsFunctionUsed others xs f) (twin_names i t.top t.own t.other) (function_used_onward files others a (scope_names i) f h)))
+  broken_onward f (Broken.Scope i is h) =
+      let t = twin_among (all_scopes files) (all_scopes others) (scopes_twins files others a) i is in
+      (f, Broken.Scope (retop t.top i) t.among (scope_onward i t.top t.own t.other f h))
+  broken_onward f (Broken.Sides i is h) =
+      let t = twin_among (all_scopes files) (all_scopes others) (scopes_twins files others a) i is in
+      (f, Broken.Sides (retop t.top i) t.among (sides_onward i t.top t.own t.other f h))
+  broken_onward f (Broken.Handle i is h) =
+      let t = twin_among (all_scopes files) (all_scopes others) (scopes_twins files others a) i is in
+      (f, Broken.Handle (retop t.top i) t.among (handle_onward i t.top t.own t.other f h))
+  broken_onward f (Broken.Setter i is h) =
+      let t = twin_among (all_scopes files) (all_scopes others) (scopes_twins files others a) i is in
+      (f, Broken.Setter (retop t.top i) t.among (record { closed = h.closed; side = h.side; alone = h.alone }))
+
+  pub legal_back : IsLegal others → IsLegal files
+  legal_back legal f h = (let it = broken_onward f h in legal it.0 it.1)

@@ -1,0 +1,68 @@
+-- A name that stands twice at the top of a file without a `use` there is that of two items.
+use Rattle.std.proofs.Common.{◌≡◌, suc, ◌+◌, List, [], ◌∷◌, refl, sym, ap, ◌∙◌, arith}
+use Rattle.std.specs.Prelude.{map, Contains}
+use Rattle.std.specs.List.{flat_map}
+use Rattle.wit_tree.specs.declared.tree.Id.{Id}
+use Rattle.wit_tree.specs.declared.tree.AstItem.{AstItem}
+use Rattle.wit_tree.specs.declared.tree.AstItem.TheVariants as ast
+use Rattle.wit_tree.specs.declared.tree.PackageFile.{PackageFile}
+use Rattle.wit_order.proofs.Tables.{matched}
+use Rattle.wit_syntax.specs.Fault.{Fault, fault}
+use Rattle.wit_syntax.specs.Source.{TopName, top_name, top_names, Item, item_id, declared_items, file_items, all_items}
+use Rattle.wit_syntax.specs.Broken.{IsRepeatedItem, IsDuplicateTopName}
+use Rattle.wit_syntax.specs.Splitting.{file_declarations, declarations}
+use Rattle.wit_syntax.proofs.Found.{contains_at, at_contains}
+use Rattle.wit_syntax.proofs.JoinedLists.{flat_map_from}
+use Rattle.wit_syntax.proofs.JoinedTargets.{id_text}
+use Rattle.wit_syntax.proofs.JoinedItems.{retop, AreTwins, twin_at}
+use Rattle.wit_syntax.proofs.JoinedFiles.{HasNoUse, no_use_in_file}
+
+no_use_behind : (a : AstItem) (ds : List AstItem) → HasNoUse (a ∷ ds) → HasNoUse ds
+no_use_behind a ds none u among = (let it = at_contains ds (ast.Use u) among in none u (contains_at (a ∷ ds) (suc it.0) (ast.Use u) it.1))
+
+-- the names at the top of such a file are those of its items
+abbrev top_id : TopName → Id
+top_id t = t.id
+
+tops_of_items : (top : List TopName) (ds : List AstItem) → HasNoUse ds → map top_id (map top_name ds) ≡ map item_id (flat_map (declared_items top) ds)
+tops_of_items top [] none = refl
+tops_of_items top (ast.Interface i ∷ ds) none = ap (λ (l : List Id). i.name ∷ l) (tops_of_items top ds (no_use_behind (ast.Interface i) ds none))
+tops_of_items top (ast.World w ∷ ds) none = ap (λ (l : List Id). w.name ∷ l) (tops_of_items top ds (no_use_behind (ast.World w) ds none))
+tops_of_items top (ast.Use u ∷ ds) none = absurd (none u (contains_at (ast.Use u ∷ ds) 0 (ast.Use u) refl))
+
+pub top_repeated : (files : List PackageFile) (file : PackageFile) (f : Fault) → HasNoUse (declarations files) → Contains files file → IsDuplicateTopName (top_names file) f → (g : Fault) × IsRepeatedItem (all_items files) g
+top_repeated files file f none is h =
+    let r = h.repeated in
+    let same : map top_id (top_names file) ≡ map item_id (file_items file) = tops_of_items (top_names file) (file_declarations file) (no_use_in_file files none file is) in
+    let x = matched item_id top_id (file_items file) (top_names file) (sym same) r.first r.earlier r.at_first in
+    let y = matched item_id top_id (file_items file) (top_names file) (sym same) r.second h.later r.at_second in
+    let place = at_contains files file is in
+    let from = flat_map_from file_items files place.0 file place.1 in
+    let before = r.before in (
+      fault 5 (item_id y.0).span,
+      record {
+        later = y.0;
+        repeated = record {
+          first = from.0 + r.first;
+          second = from.0 + r.second;
+          earlier = x.0;
+          before = omega (arith, before);
+          at_first = from.1 r.first x.0 x.1;
+          at_second = from.1 r.second y.0 y.1;
+          same = ap id_text x.2 ∙ r.same ∙ sym (ap id_text y.2);
+        };
+        says = refl;
+      },
+    )
+
+-- an item whose name stands twice among items is one whose name does among their twins
+pub repeated_onward : (is js : List Item) (f : Fault) → AreTwins is js → IsRepeatedItem is f → IsRepeatedItem js f
+repeated_onward is js f t h =
+    let r = h.repeated in
+    let x = twin_at is js t r.first r.earlier r.at_first in
+    let y = twin_at is js t r.second h.later r.at_second in
+    record {
+      later = retop y.0 h.later;
+      repeated = record { first = r.first; second = r.second; earlier = retop x.0 r.earlier; before = r.before; at_first = x.2; at_second = y.2; same = r.same };
+      says = h.says;
+    }

@@ -1,0 +1,89 @@
+-- Files that declare the same: a path that leads nowhere, or to the wrong thing, in the one does so in the other, and so does a used name.
+use Rattle.std.proofs.Common.{◌≡◌, ℕ, Bool, List, Option, Some, None, refl, sym, ap, ◌∙◌}
+use Rattle.std.specs.Prelude.{find}
+use Rattle.std.specs.Option.{option_map}
+use Rattle.wit_tree.specs.declared.tree.Id.{Id}
+use Rattle.wit_tree.specs.declared.tree.UsePath.{UsePath}
+use Rattle.wit_tree.specs.declared.tree.PackageFile.{PackageFile}
+use Rattle.wit_package_names.specs.declared.package_name.PackageName.{PackageName}
+use Rattle.wit_syntax.specs.Address.{Address, ForeignNamed, same_address}
+use Rattle.wit_syntax.specs.Fault.{Fault, missing_at, item_word}
+use Rattle.wit_syntax.specs.Foreign.{ForeignVisit, visited, same_item, foreign_visits, is_foreign_world}
+use Rattle.wit_syntax.specs.Repeats.{firsts}
+use Rattle.wit_syntax.specs.Source.{TopName, Target, Local, Foreign, leads, Declared, is_declared_world, Item, is_world, address, parts, all_items, item_named, item_at, ScopeName, scope_names, meaning}
+use Rattle.wit_syntax.specs.Broken.{is_world_at, IsMissingUse, IsWorldUsed, IsInterfaceIncluded, IsMissingName, IsFunctionUsed}
+use Rattle.wit_syntax.specs.Splitting.{declared_of}
+use Rattle.wit_syntax.proofs.Found.{find_at}
+use Rattle.wit_syntax.proofs.JoinedTargets.{AreThemselves, IsSameTarget, leads_same, local_from}
+use Rattle.wit_syntax.proofs.JoinedItems.{retop, AreTwins, names_same}
+use Rattle.wit_syntax.proofs.JoinedFiles.{AreAlike, items_twins, visits_same}
+use Rattle.wit_syntax.proofs.JoinedTrees.{named_same, at_same}
+
+-- what an option holds by what is declared
+none_declared : (o : Option Item) → option_map declared_of o ≡ None → o ≡ None
+none_declared None is = refl
+none_declared (Some i) is = absurd (let f : ⊥ = cc in f)
+
+some_declared : (o : Option Item) (d : Declared) → option_map declared_of o ≡ Some d → (i : Item) × (o ≡ Some i) × (i.declared ≡ d)
+some_declared None d is = absurd (let f : ⊥ = cc in f)
+some_declared (Some i) d is = (i, refl, cc)
+
+world_declared : (o : Option Item) → option_map is_world o ≡ option_map is_declared_world (option_map declared_of o)
+world_declared None = refl
+world_declared (Some i) = refl
+
+module _ (is js : List Item) (t : AreTwins is js) where
+  unnamed_onward : (name : List ℕ) → item_named is name ≡ None → item_named js name ≡ None
+  unnamed_onward name none = none_declared (item_named js name) (sym (named_same is js t name) ∙ ap (option_map declared_of) none)
+
+  -- what stands first at an address has its twin there
+  twin_at_address : (s : Address) (i : Item) → item_at is s ≡ Some i → (top : List TopName) × AreThemselves i.top × AreThemselves top × (item_at js s ≡ Some (retop top i))
+  twin_at_address s i at =
+      let one = find_at (λ (v : Item). same_address (address v) s) is i at in
+      let j = some_declared (item_at js s) i.declared (sym (at_same is js t s) ∙ ap (option_map declared_of) at) in
+      let two = find_at (λ (v : Item). same_address (address v) s) js j.0 j.1 in
+      (j.0.top, t.left one.0 i one.1, t.right two.0 j.0 two.1, j.1 ∙ ap (λ (d : Declared). Some (record { top = j.0.top; declared = d })) j.2)
+
+  world_onward : (name : List ℕ) → option_map is_world (item_named is name) ≡ option_map is_world (item_named js name)
+  world_onward name = world_declared (item_named is name) ∙ ap (option_map is_declared_world) (named_same is js t name) ∙ sym (world_declared (item_named js name))
+
+abbrev foreign_world : List ForeignVisit → PackageName → List ℕ → Option Bool
+foreign_world vs p name = option_map is_foreign_world (find (λ (v : ForeignVisit). same_address (visited v) (ForeignNamed p name)) (firsts same_item vs))
+
+module _ (files others : List PackageFile) (a : AreAlike files others) where
+  -- what stands where paths lead is a world in both or in neither
+  world_at_alike : (t u : Target) → IsSameTarget t u → is_world_at files t ≡ is_world_at others u
+  world_at_alike (Local x) (Local y) same = ap (λ (name : List ℕ). option_map is_world (item_named (all_items files) name)) same ∙ world_onward (all_items files) (all_items others) (items_twins files others a) y.name.now
+  world_at_alike (Foreign p x) (Foreign q y) same = ap (λ (vs : List ForeignVisit). foreign_world vs p x.name.now) (visits_same files others a) ∙ ap (λ (r : PackageName). foreign_world (foreign_visits others) r x.name.now) same.0 ∙ ap (λ (z : Id). foreign_world (foreign_visits others) q z.name.now) same.1
+  world_at_alike (Local x) (Foreign q y) same = absurd same
+  world_at_alike (Foreign p x) (Local y) same = absurd same
+
+  -- of an item and its twin
+  module _ (i : Item) (top : List TopName) (own : AreThemselves i.top) (other : AreThemselves top) where
+    world_led : (from : UsePath) → is_world_at files (leads i.top from) ≡ is_world_at others (leads top from)
+    world_led from = world_at_alike (leads i.top from) (leads top from) (leads_same i.top top own other from)
+
+    pub missing_use_onward : (f : Fault) → IsMissingUse files i f → (g : Fault) × IsMissingUse others (retop top i) g
+    missing_use_onward f h =
+        let to = local_from (leads i.top h.path) (leads top h.path) h.id (leads_same i.top top own other h.path) h.local in
+        let here : item_named (all_items files) to.0.name.now ≡ None = ap (item_named (all_items files)) to.2 ∙ h.missing in
+        (missing_at 7 item_word to.0, record { path = h.path; id = to.0; among = h.among; local = to.1; missing = unnamed_onward (all_items files) (all_items others) (items_twins files others a) to.0.name.now here; is = refl })
+
+    pub world_used_onward : (f : Fault) → IsWorldUsed files i f → IsWorldUsed others (retop top i) f
+    world_used_onward f h = record { path = h.path; among = h.among; other = sym (world_led h.path) ∙ h.other; is = h.is }
+
+    pub interface_included_onward : (f : Fault) → IsInterfaceIncluded files i f → IsInterfaceIncluded others (retop top i) f
+    interface_included_onward f h = record { path = h.path; among = h.among; other = sym (world_led h.path) ∙ h.other; is = h.is }
+
+  -- a name that is used and none of the interface
+  pub missing_name_onward : (xs : List ScopeName) (f : Fault) → IsMissingName files xs f → IsMissingName others xs f
+  missing_name_onward xs f h =
+      let it = twin_at_address (all_items files) (all_items others) (items_twins files others a) h.from h.target h.declared in
+      let names : scope_names h.target ≡ scope_names (retop it.0 h.target) = names_same h.target.top it.0 it.1 it.2 (parts h.target) in
+      record { from = h.from; attributes = h.attributes; n = h.n; among = h.among; target = retop it.0 h.target; declared = it.3; missing = sym (ap (λ (ys : List ScopeName). meaning ys h.n.name.name.now) names) ∙ h.missing; other = h.other; is = h.is }
+
+  pub function_used_onward : (xs : List ScopeName) (f : Fault) → IsFunctionUsed files xs f → IsFunctionUsed others xs f
+  function_used_onward xs f h =
+      let it = twin_at_address (all_items files) (all_items others) (items_twins files others a) h.from h.target h.declared in
+      let names : scope_names h.target ≡ scope_names (retop it.0 h.target) = names_same h.target.top it.0 it.1 it.2 (parts h.target) in
+      record { from = h.from; attributes = h.attributes; n = h.n; among = h.among; target = retop it.0 h.target; declared = it.3; missing = sym (ap (λ (ys : List ScopeName). meaning ys h.n.name.name.now) names) ∙ h.missing; function = h.function; is = h.is }
