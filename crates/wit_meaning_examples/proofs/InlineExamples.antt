@@ -105,9 +105,9 @@ module _ (ptr : Ptr) (alloc : Global) where
   abbrev w_item : Item
   w_item = record { top = top_names file; declared = TheWorld w }
 
-  -- both are items of their own; the imported one stands behind f on its side
+  -- both are items of their own, each the first interface of its side
   abbrev in_item : Item
-  in_item = record { top = top_names file; declared = TheInline (codes "w") 1 in_a in_name items }
+  in_item = record { top = top_names file; declared = TheInline (codes "w") 0 in_a in_name items }
 
   abbrev out_item : Item
   out_item = record { top = top_names file; declared = TheInline (codes "w") 0 out_a out_name [] }
@@ -116,7 +116,7 @@ module _ (ptr : Ptr) (alloc : Global) where
   written_in_w = refl
 
   abbrev in_address : Address
-  in_address = InlineAt (codes "w") Imported 1
+  in_address = InlineAt (codes "w") Imported 0
 
   abbrev out_address : Address
   out_address = InlineAt (codes "w") Exported 0

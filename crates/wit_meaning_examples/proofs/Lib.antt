@@ -1,4 +1,5 @@
 pub mod SmallOrders
+pub mod FirstMet
 pub mod Examples
 pub mod WorldExamples
 pub mod ForeignExamples
@@ -6,7 +7,12 @@ pub mod FunctionExamples
 pub mod HandleExamples
 pub mod SignatureExamples
 pub mod RuleExamples
+pub mod SetterExamples
 pub mod SideExamples
 pub mod LinkExamples
 pub mod InlineExamples
 pub mod NotesExamples
+pub mod ElsewhereExamples
+pub mod AcceptedExamples
+pub mod UsualExamples
+pub mod WholeWorldExamples

@@ -1,7 +1,11 @@
 -- Worked rows with docs and attributes: what they tell, what is met in a definition with a stability, and what breaks the rules of docs and attributes.
-use Rattle.std.proofs.Common.{◌≡◌, ℕ, zero, suc, List, [], ◌∷◌, Some, None, inr, refl, lit<}
+use Rattle.std.proofs.Common.{◌≡◌, ℕ, zero, suc, List, [], ◌∷◌, Some, None, inr, refl, ap, lit<, rules}
 use Rattle.std.specs.Prelude.{codes, Box}
+use Rattle.std.specs.Str.{drop_trailing_whitespace, encode_utf8_all, trim_end}
 use Rattle.std.specs.declared.alloc.Global.{Global}
+use Rattle.std.proofs.Math.Utf8.{encode}
+use Rattle.std.proofs.lemmas.Str.{chars-IsAscii}
+use Rattle.std.proofs.lemmas.Str.Ascii.{IsAscii-from_all}
 use denote.RawPtr.{Ptr}
 use Rattle.semver.specs.declared.Version.{Version}
 use Rattle.wit_values.specs.declared.span.Span.{Span}
@@ -60,6 +64,11 @@ in_i = InterfaceNamed (codes "i")
 
 abbrev list_met : Span → Meeting
 list_met span = record { key = Whole ListForm (one (Prim node.U8)); span = span; given = stable }
+
+-- no white space stands at the end of these docs
+pub trimmed : trim_end (codes " Streams.") ≡ codes " Streams."
+unfolding trim_end encode
+trimmed = ap (λ cs. encode_utf8_all (drop_trailing_whitespace cs)) (chars-IsAscii (codes " Streams.") (IsAscii-from_all (codes " Streams.") (search rules)))
 
 module _ (ptr : Ptr) (alloc : Global) where
   abbrev since : ℕ → Span → Attribute

@@ -1,7 +1,8 @@
 -- Rules of functions that no worked row shows, and a world whose resource has functions, computed by the definitions.
-use Rattle.std.proofs.Common.{◌≡◌, Bool, true, false, List, [], ◌∷◌, ◌++◌, map, Option, Some, None, refl, sym, ap, ◌∙◌, arith, lit<}
+use Rattle.std.proofs.Common.{◌≡◌, ℕ, zero, suc, Bool, true, false, List, [], ◌∷◌, ◌++◌, map, Option, Some, None, refl, sym, ap, ◌∙◌, arith, lit<}
 use Rattle.std.specs.Prelude.{codes, slice_get}
 use Rattle.std.specs.List.{flat_map}
+use Rattle.std.specs.Option.{option_map}
 use Rattle.std.specs.Str.{bytes_eq}
 use Rattle.std.specs.declared.alloc.Global.{Global}
 use denote.RawPtr.{Ptr}
@@ -30,7 +31,7 @@ use Rattle.wit_types.specs.declared.types.TypeOwner.TheVariants as owner
 use Rattle.wit_model.specs.declared.function.Function.{Function as Made}
 use Rattle.wit_model.specs.declared.function.FunctionKind.TheVariants as function_kind
 use Rattle.wit_model.specs.declared.unresolved.UnresolvedPackage.{UnresolvedPackage}
-use Rattle.wit_syntax.specs.Fault.{Fault, fault}
+use Rattle.wit_syntax.specs.Fault.{fault}
 use Rattle.wit_syntax.specs.Address.{WorldNamed}
 use Rattle.wit_syntax.specs.Notes.{no_docs}
 use Rattle.wit_syntax.specs.Source.{top_names, TheWorld, Item, ScopeName, Defined}
@@ -41,6 +42,7 @@ use Rattle.wit_tree.specs.declared.tree.WorldSide.TheVariants.{Imported}
 use Rattle.wit_arena.specs.Functions.{function_item}
 use Rattle.wit_syntax.specs.Signature.{MissingInSignature, GetterGiven, SetterGiven, GetterWithoutResult, SetterWithResult, ConstructorWithoutResult, ConstructorOfOther, IsEntered, result_ok}
 use Rattle.wit_syntax.specs.Broken.{IsBroken, Function, IsSetterAlone}
+use Rattle.wit_syntax.proofs.Found.{at_contains}
 use Rattle.wit_arena.specs.Package.{names_of, functions_of, function_types, package_tree}
 use Rattle.wit_arena.specs.Whole.{Ordered, ordered_names, type_imports}
 use Rattle.wit_meaning_examples.proofs.Examples.{at, id, vec, no_comments, untold, header}
@@ -163,9 +165,33 @@ module _ (ptr : Ptr) (alloc : Global) where
     abbrev ordered : Ordered
     ordered = record { item = item; order = 0 ∷ [] }
 
-    -- a world's setter needs no getter
-    not_alone : (f : Fault) → IsSetterAlone item f → ⊥
-    not_alone f h = let wrong = h.interface in let g : ⊥ = cc in g
+    -- its setter has no getter, and nothing is included with which one could come
+    abbrev getter_of_x : List ℕ
+    getter_of_x = codes "[method][get]r.x"
+
+    no_getter : (k : ℕ) (g : SourceFunction) → slice_get (functions item) k ≡ Some g → g.name ≡ getter_of_x → ⊥
+    no_getter zero g at same =
+        let wrong : Some false ≡ Some true = ap (option_map (λ (h : SourceFunction). bytes_eq h.name getter_of_x)) at ∙ ap (λ (n : List ℕ). Some (bytes_eq n getter_of_x)) same in
+        let f : ⊥ = cc in
+        f
+    no_getter (suc zero) g at same =
+        let wrong : Some false ≡ Some true = ap (option_map (λ (h : SourceFunction). bytes_eq h.name getter_of_x)) at ∙ ap (λ (n : List ℕ). Some (bytes_eq n getter_of_x)) same in
+        let f : ⊥ = cc in
+        f
+    no_getter (suc (suc k)) g at same = let f : ⊥ = cc in f
+
+    alone : IsSetterAlone item (fault 18 (at 55 56))
+    alone = record {
+      closed = refl;
+      side = Imported;
+      alone = record {
+        fn = _;
+        among = (1, lit< tt, refl);
+        setter = refl;
+        none = λ g among same. (let it = at_contains (functions item) g among in no_getter it.0 g it.1 same);
+        is = refl;
+      };
+    }
 
     abbrev types : List TypeDef
     types = record { name = Some (codes "r"); kind = kind.Resource; owner = owner.World 0; docs = no_docs; stability = Unknown; span = at 36 37; external_id = None }

@@ -56,7 +56,7 @@ no_rows = record {
   least = λ other first i lt same. absurd (let f : ⊥ = omega arith in f);
 }
 
-one_differs : {X : Type 0} (x : X) → AllDiffer (x ∷ [])
+pub one_differs : {X : Type 0} (x : X) → AllDiffer (x ∷ [])
 one_differs x = record { differ = differ }
   where
     differ : (i j : ℕ) (y : _) → slice_get (x ∷ []) i ≡ Some y → slice_get (x ∷ []) j ≡ Some y → i ≡ j

@@ -214,7 +214,8 @@ module _ (ptr : Ptr) (alloc : Global) where
 
     unpaired_refused : IsBroken (file_of unpaired ∷ []) (fault 18 (at 60 61))
     unpaired_refused = Setter (item_of unpaired) (0, lit< tt, refl) (record {
-      interface = refl;
+      closed = refl;
+      side = Imported;
       alone = record {
         fn = _;
         among = (1, lit< tt, refl);

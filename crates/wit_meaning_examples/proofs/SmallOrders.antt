@@ -1,4 +1,4 @@
--- The order of two rows and of three, the first of which needs the last.
+-- The orders of two rows and of three, of which at most one needs another one.
 use Rattle.std.proofs.Common.{◌≡◌, ◌≢◌, ℕ, zero, suc, ◌<◌, ◌≤◌, List, [], ◌∷◌, length, Some, IsSome, get_or, refl, sym, ap, ◌∙◌, subst, arith}
 use Rattle.std.specs.Prelude.{slice_get}
 use Rattle.wit_tree.specs.declared.tree.Id.{Id}
@@ -141,4 +141,96 @@ three_order a b c id to = order_of (three a b c id) 3 turned_three refl refl com
     complete zero k x e = complete_of (three a b c id) 2 0 k x (record { name = a; needs = id ∷ [] }) id refl refl to e
     complete (suc zero) k x e = absurd (needs_none (three a b c id) 1 k x (record { name = b; needs = [] }) refl refl e)
     complete (suc (suc zero)) k x e = absurd (needs_none (three a b c id) 2 k x (record { name = c; needs = [] }) refl refl e)
+    complete (suc (suc (suc i))) k x e = absurd (let row = e.1 in cc)
+
+-- of two that need nothing, the first comes first
+abbrev pub apart : List ℕ → List ℕ → List Row
+apart a b = record { name = a; needs = [] } ∷ record { name = b; needs = [] } ∷ []
+
+abbrev pub straight : List ℕ
+straight = 0 ∷ 1 ∷ []
+
+apart_greedy : (leads : ℕ → ℕ → Type 0) → ((p q : ℕ) → leads p q → ⊥) → IsGreedy leads 2 straight
+apart_greedy leads none = record { within = within; once = once; after = λ i p h l. absurd (none (get_or straight i 0) p l); least = least }
+  where
+    within : (i : ℕ) → i < 2 → get_or straight i 0 < 2
+    within zero h = omega arith
+    within (suc zero) h = omega arith
+    within (suc (suc i)) h = absurd (omega arith)
+
+    once : (i j : ℕ) → i < j → j < 2 → get_or straight i 0 ≢ get_or straight j 0
+    once i zero h k = absurd (omega arith)
+    once zero (suc zero) h k = λ same. omega arith
+    once (suc i) (suc zero) h k = absurd (omega arith)
+    once i (suc (suc j)) h k = absurd (omega arith)
+
+    least : (i q : ℕ) → i < 2 → q < 2 → (IsBefore straight i q → ⊥) → ((w : ℕ) → leads q w → IsBefore straight i w) → get_or straight i 0 ≤ q
+    least zero q h k fresh ready = omega arith
+    least (suc zero) zero h k fresh ready = absurd (fresh (record { index = 0; below = omega arith; is = refl }))
+    least (suc zero) (suc q) h k fresh ready = omega arith
+    least (suc (suc i)) q h k fresh ready = absurd (omega arith)
+
+pub apart_order : (a b : List ℕ) → IsOrder (apart a b) straight
+apart_order a b = order_of (apart a b) 2 straight refl refl (λ i k x e. absurd (no_edge i k x e)) (apart_greedy (Leads (apart a b)) (λ p q h. no_edge p h.0 h.1 h.2))
+  where
+    no_edge : (i k : ℕ) (x : Id) → IsEdge (apart a b) i k x → ⊥
+    no_edge zero k x e = needs_none (apart a b) 0 k x (record { name = a; needs = [] }) refl refl e
+    no_edge (suc zero) k x e = needs_none (apart a b) 1 k x (record { name = b; needs = [] }) refl refl e
+    no_edge (suc (suc i)) k x e = let row = e.1 in let f : ⊥ = cc in f
+
+-- of three, the middle one of which needs the last, the first comes first, and then the last
+abbrev pub middle : List ℕ → List ℕ → List ℕ → Id → List Row
+middle a b c id = record { name = a; needs = [] } ∷ record { name = b; needs = id ∷ [] } ∷ record { name = c; needs = [] } ∷ []
+
+abbrev pub turned_end : List ℕ
+turned_end = 0 ∷ 2 ∷ 1 ∷ []
+
+middle_greedy : (leads : ℕ → ℕ → Type 0) → leads 1 2 → ((p : ℕ) → leads 0 p → ⊥) → ((p : ℕ) → leads 1 p → p ≡ 2) → ((p : ℕ) → leads 2 p → ⊥) → IsGreedy leads 3 turned_end
+middle_greedy leads edge first second last = record { within = within; once = once; after = after; least = least }
+  where
+    within : (i : ℕ) → i < 3 → get_or turned_end i 0 < 3
+    within zero h = omega arith
+    within (suc zero) h = omega arith
+    within (suc (suc zero)) h = omega arith
+    within (suc (suc (suc i))) h = absurd (omega arith)
+
+    once : (i j : ℕ) → i < j → j < 3 → get_or turned_end i 0 ≢ get_or turned_end j 0
+    once i zero h k = absurd (omega arith)
+    once zero (suc zero) h k = λ same. omega arith
+    once (suc i) (suc zero) h k = absurd (omega arith)
+    once zero (suc (suc zero)) h k = λ same. omega arith
+    once (suc zero) (suc (suc zero)) h k = λ same. omega arith
+    once (suc (suc i)) (suc (suc zero)) h k = absurd (omega arith)
+    once i (suc (suc (suc j))) h k = absurd (omega arith)
+
+    after : (i p : ℕ) → i < 3 → leads (get_or turned_end i 0) p → IsBefore turned_end i p
+    after zero p h l = absurd (first p l)
+    after (suc zero) p h l = absurd (last p l)
+    after (suc (suc zero)) p h l = record { index = 1; below = omega arith; is = sym (second p l) }
+    after (suc (suc (suc i))) p h l = absurd (omega arith)
+
+    -- before the index 1 stands the place 0 alone
+    only_zero : (i : ℕ) → i < 1 → get_or turned_end i 0 ≡ 0
+    only_zero zero h = refl
+    only_zero (suc i) h = absurd (omega arith)
+
+    least : (i q : ℕ) → i < 3 → q < 3 → (IsBefore turned_end i q → ⊥) → ((w : ℕ) → leads q w → IsBefore turned_end i w) → get_or turned_end i 0 ≤ q
+    least zero q h k fresh ready = omega arith
+    least (suc zero) zero h k fresh ready = absurd (fresh (record { index = 0; below = omega arith; is = refl }))
+    least (suc zero) (suc zero) h k fresh ready = absurd (
+        let b = ready 2 edge in
+        let two : 2 ≡ 0 = sym b.is ∙ only_zero b.index b.below in
+        omega arith)
+    least (suc zero) (suc (suc q)) h k fresh ready = omega arith
+    least (suc (suc zero)) zero h k fresh ready = absurd (fresh (record { index = 0; below = omega arith; is = refl }))
+    least (suc (suc zero)) (suc q) h k fresh ready = omega arith
+    least (suc (suc (suc i))) q h k fresh ready = absurd (omega arith)
+
+pub middle_order : (a b c : List ℕ) (id : Id) → target (middle a b c id) id ≡ Some 2 → IsOrder (middle a b c id) turned_end
+middle_order a b c id to = order_of (middle a b c id) 3 turned_end refl refl complete (middle_greedy (Leads (middle a b c id)) (0, id, (record { name = b; needs = id ∷ [] }, refl, refl), to) (λ p h. leads_none (middle a b c id) 0 p (record { name = a; needs = [] }) refl refl h) (λ p h. leads_one (middle a b c id) 1 2 p (record { name = b; needs = id ∷ [] }) id refl refl to h) (λ p h. leads_none (middle a b c id) 2 p (record { name = c; needs = [] }) refl refl h))
+  where
+    complete : (i k : ℕ) (x : Id) → IsEdge (middle a b c id) i k x → IsSome (target (middle a b c id) x)
+    complete zero k x e = absurd (needs_none (middle a b c id) 0 k x (record { name = a; needs = [] }) refl refl e)
+    complete (suc zero) k x e = complete_of (middle a b c id) 2 1 k x (record { name = b; needs = id ∷ [] }) id refl refl to e
+    complete (suc (suc zero)) k x e = absurd (needs_none (middle a b c id) 2 k x (record { name = c; needs = [] }) refl refl e)
     complete (suc (suc (suc i))) k x e = absurd (let row = e.1 in cc)

@@ -1,0 +1,150 @@
+-- A file breaks no rule where a path has the name of its own package: that the path leads to an item of another package, and not to the interface around it.
+use Rattle.std.proofs.Common.{◌≡◌, ℕ, zero, suc, List, [], ◌∷◌, map, Some, inl, refl, sym, ap, ◌∙◌, subst}
+use Rattle.std.specs.Prelude.{codes, slice_get, Contains}
+use Rattle.std.specs.declared.alloc.Global.{Global}
+use denote.RawPtr.{Ptr}
+use Rattle.wit_tree.specs.declared.tree.AstItem.TheVariants as ast
+use Rattle.wit_tree.specs.declared.tree.PackageFile.{PackageFile}
+use Rattle.wit_tree.specs.declared.tree.TypeDef.{TypeDef}
+use Rattle.wit_tree.specs.declared.tree.Use.{Use as WrittenUse}
+use Rattle.wit_tree.specs.declared.tree.UsePath.{UsePath}
+use Rattle.wit_tree.specs.declared.tree.WorldSide.{WorldSide}
+use Rattle.wit_tree.specs.declared.tree.WorldSide.TheVariants.{Imported, Exported}
+use Rattle.wit_syntax.specs.Address.{Address}
+use Rattle.wit_syntax.specs.Broken.{DuplicateItem, DuplicateTopName, MissingItem, CyclicItem, IsBrokenNames, Items, ForeignStability, AttributedTopUse, MissingOriginal, is_world_at, IsBrokenUse, MissingUse, WorldUsed, IsBrokenScope, DefinedTwice, MissingType, CyclicType, Notes, Body, Function, Headerless, Names, ItemStability, UseNotes, IncludeStability, Use, InterfaceIncluded, MissingName, FunctionUsed, Scope, Sides, Handle, Setter, IsLegal}
+use Rattle.wit_syntax.specs.Fault.{Fault, missing_at, missing_type_at, item_word, type_word}
+use Rattle.wit_syntax.specs.Foreign.{ForeignVisit}
+use Rattle.wit_syntax.specs.Function.{functions, item_types}
+use Rattle.wit_syntax.specs.Notes.{IsBrokenStability, IsBrokenNotes}
+use Rattle.wit_syntax.specs.Repeats.{AllDiffer}
+use Rattle.wit_syntax.specs.Scope.{include_paths, includes, item_rows, rows_of, uses}
+use Rattle.wit_syntax.specs.Shape.{all_handles}
+use Rattle.wit_syntax.specs.Sides.{all_scopes, on_side, side_items, IsBrokenSides, FoldedTwice, CrossedTwice, LinkedTwice, LinkNotes, InlineNotes, side_called}
+use Rattle.wit_syntax.specs.Signature.{called_key}
+use Rattle.wit_syntax.specs.Source.{Item, ScopeName, Used, Defined, Taken, leads, all_items, declared_attributes, item_at, item_name, local_name, scope_names, top_names, top_text}
+use Rattle.wit_syntax.proofs.Found.{at_contains}
+use Rattle.wit_syntax.proofs.Legal.{no_missing_edge, no_cyclic_edge, no_fold, no_crossed}
+use Rattle.wit_syntax.proofs.Repeated.{differ_none, no_repeat}
+use Rattle.wit_meaning_examples.proofs.SideExamples.{none_among, no_notes, one_differs}
+use Rattle.wit_meaning_examples.proofs.SignatureExamples.{one_order}
+use Rattle.wit_meaning_examples.proofs.ElsewhereExamples.{own_file, i_item, use_own, visit, t_used, other}
+
+-- what is among one is that one
+one_among : {X : Type 0} (x y : X) → Contains (x ∷ []) y → x ≡ y
+one_among x y among =
+    let it = at_contains (x ∷ []) y among in
+    only it.0 it.1
+  where
+    only : (i : ℕ) → slice_get (x ∷ []) i ≡ Some y → x ≡ y
+    only zero at = cc
+    only (suc i) at = absurd (let f : ⊥ = cc in f)
+
+no_stability : (f : Fault) → IsBrokenStability [] f → ⊥
+no_stability f h = no_notes f (inl h)
+
+-- whether a name of a scope is defined there, and the scope that it is used from
+abbrev from_of : ScopeName → List Address
+from_of (Used from attributes n) = from ∷ []
+from_of (Defined d) = []
+from_of (Taken attributes id) = []
+
+module _ (ptr : Ptr) (alloc : Global) where
+  abbrev file : PackageFile
+  file = own_file ptr alloc
+
+  abbrev files : List PackageFile
+  files = file ∷ []
+
+  abbrev item : Item
+  item = i_item ptr alloc
+
+  abbrev names : List ScopeName
+  names = scope_names item
+
+  one_file : (g : PackageFile) → Contains files g → file ≡ g
+  one_file g among = one_among file g among
+
+  one_item : (i : Item) → Contains (all_items files) i → item ≡ i
+  one_item i among = one_among item i among
+
+  -- it declares an interface alone
+  no_top_use : (u : _) → Contains file.decl_list.items.items (ast.Use u) → ⊥
+  no_top_use u among = let same = one_among _ (ast.Use u) among in let f : ⊥ = cc in f
+
+  names_pass : (f : Fault) → IsBrokenNames files f → ⊥
+  names_pass f (Items (DuplicateItem h)) = no_repeat item_name (all_items files) h.later (one_differs (codes "i")) h.repeated
+  names_pass f (Items (DuplicateTopName g among h)) = no_repeat top_text (top_names g) h.later (subst (λ (x : PackageFile). AllDiffer (map top_text (top_names x))) (one_file g among) (one_differs (codes "i"))) h.repeated
+  names_pass f (Items (MissingItem h)) = no_missing_edge (missing_at 7 item_word) (item_rows files) (0 ∷ []) f (one_order (codes "i")) h
+  names_pass f (Items (CyclicItem h)) = no_cyclic_edge 8 item_word (item_rows files) (0 ∷ []) f (one_order (codes "i")) h
+  names_pass f (ForeignStability v among h) = no_stability f (subst (λ (x : ForeignVisit). IsBrokenStability x.attributes f) (sym (one_among (visit ptr alloc) v among)) h)
+  names_pass f (AttributedTopUse g among h) = no_top_use h.u (subst (λ (x : PackageFile). Contains x.decl_list.items.items (ast.Use h.u)) (sym (one_file g among)) h.among)
+  names_pass f (MissingOriginal g among h) = no_top_use h.u (subst (λ (x : PackageFile). Contains x.decl_list.items.items (ast.Use h.u)) (sym (one_file g among)) h.among)
+
+  -- its only path leads to another package, and to no world there
+  use_passes : (f : Fault) → IsBrokenUse files item f → ⊥
+  use_passes f (MissingUse h) =
+      let same = one_among (use_own ptr alloc).from h.path h.among in
+      let leads_there = ap (leads item.top) same ∙ h.local in
+      let f : ⊥ = cc in
+      f
+  use_passes f (WorldUsed h) =
+      let same = one_among (use_own ptr alloc).from h.path h.among in
+      let there = ap (λ (path : UsePath). is_world_at files (leads item.top path)) same ∙ h.other in
+      let f : ⊥ = cc in
+      f
+
+  -- its only name is used from there
+  from_other : (from : Address) (attributes : _) (n : _) → Contains names (Used from attributes n) → (target : Item) → item_at (all_items files) from ≡ Some target → ⊥
+  from_other from attributes n among target declared =
+      let same = one_among (Used (other ptr alloc) [] (t_used ptr alloc)) (Used from attributes n) among in
+      let one : other ptr alloc ∷ [] ≡ from ∷ [] = ap from_of same in
+      let here : other ptr alloc ≡ from = cc in
+      let there = ap (item_at (all_items files)) here ∙ declared in
+      let f : ⊥ = cc in
+      f
+
+  none_defined : (d : TypeDef) → Contains names (Defined d) → ⊥
+  none_defined d among =
+      let same = one_among (Used (other ptr alloc) [] (t_used ptr alloc)) (Defined d) among in
+      let wrong = ap from_of same in
+      let f : ⊥ = cc in
+      f
+
+  scope_passes : (f : Fault) → IsBrokenScope names (functions item) f → ⊥
+  scope_passes f (DefinedTwice h) = no_repeat local_name names h.later (one_differs (codes "t")) h.repeated
+  scope_passes f (MissingType h) = no_missing_edge missing_type_at (rows_of names) (0 ∷ []) f (one_order (codes "t")) h
+  scope_passes f (CyclicType h) = no_cyclic_edge 16 type_word (rows_of names) (0 ∷ []) f (one_order (codes "t")) h
+  scope_passes f (Notes d among h) = none_defined d among
+  scope_passes f (Body d among h) = none_defined d among
+  scope_passes f (Function k fn at h) = let f : ⊥ = cc in f
+
+  keys : (side : WorldSide) → AllDiffer (map called_key (side_called side names (side_items item) (0 ∷ [])))
+  keys Imported = one_differs (codes "t")
+  keys Exported = differ_none
+
+  sides_pass : (f : Fault) → IsBrokenSides item f → ⊥
+  sides_pass f (FoldedTwice h) = no_fold names (side_items item) (0 ∷ []) f (one_order (codes "t")) keys h
+  sides_pass f (CrossedTwice h) = no_crossed names (side_items item) (0 ∷ []) f (one_order (codes "t")) keys h
+  sides_pass f (LinkedTwice h) = let there = h.at in let f : ⊥ = cc in f
+  sides_pass f (LinkNotes link among h) = none_among link among
+  sides_pass f (InlineNotes x among h) = none_among x among
+
+  one_scope : (i : Item) → Contains (all_scopes files) i → item ≡ i
+  one_scope i among = one_among item i among
+
+  legal : IsLegal files
+  legal f (Headerless h) = let none = h.none 0 file refl in let f : ⊥ = cc in f
+  legal f (Names h) = names_pass f h
+  legal f (ItemStability i among h) = no_stability f (subst (λ (x : Item). IsBrokenStability (declared_attributes x.declared) f) (sym (one_item i among)) h)
+  legal f (UseNotes i among u used h) =
+      let own = subst (λ (x : Item). Contains (uses x) u) (sym (one_item i among)) used in
+      no_notes f (subst (λ (x : WrittenUse). IsBrokenNotes x.attributes.items f) (sym (one_among (use_own ptr alloc) u own)) h)
+  legal f (IncludeStability i among n included h) = none_among n (subst (λ (x : Item). Contains (includes x) n) (sym (one_item i among)) included)
+  legal f (Use i among h) = use_passes f (subst (λ (x : Item). IsBrokenUse files x f) (sym (one_item i among)) h)
+  legal f (InterfaceIncluded i among h) = none_among h.path (subst (λ (x : Item). Contains (include_paths x) h.path) (sym (one_item i among)) h.among)
+  legal f (MissingName i among h) = from_other h.from h.attributes h.n (subst (λ (x : Item). Contains (scope_names x) (Used h.from h.attributes h.n)) (sym (one_scope i among)) h.among) h.target h.declared
+  legal f (FunctionUsed i among h) = from_other h.from h.attributes h.n (subst (λ (x : Item). Contains (scope_names x) (Used h.from h.attributes h.n)) (sym (one_scope i among)) h.among) h.target h.declared
+  legal f (Scope i among h) = scope_passes f (subst (λ (x : Item). IsBrokenScope (scope_names x) (functions x) f) (sym (one_scope i among)) h)
+  legal f (Sides i among h) = sides_pass f (subst (λ (x : Item). IsBrokenSides x f) (sym (one_scope i among)) h)
+  legal f (Handle i among h) = none_among h.id (subst (λ (x : Item). Contains (all_handles (item_types x)) h.id) (sym (one_scope i among)) h.among)
+  legal f (Setter i among h) = none_among h.alone.fn (subst (λ (x : Item). Contains (on_side h.side (functions x)) h.alone.fn) (sym (one_scope i among)) h.alone.among)

@@ -1,0 +1,89 @@
+-- What is met for the first time, told by marks, and the entries of it, one behind the other.
+use Rattle.std.proofs.Common.{◌≡◌, ℕ, zero, suc, Bool, true, false, not, ◌&&◌, List, [], ◌∷◌, ◌++◌, Some, inr, refl, sym, ap, ◌∙◌, subst, append_assoc}
+use Rattle.std.specs.Prelude.{slice_get}
+use Rattle.std.specs.Str.{bytes_eq}
+use Rattle.std.proofs.lemmas.Bool.{and_parts}
+use Rattle.std.proofs.lemmas.List.{append-nil}
+use Rattle.wit_types.specs.declared.stability.Stability.{Stability}
+use Rattle.wit_types.specs.declared.types.TypeDef.{TypeDef}
+use Rattle.wit_types.specs.declared.types.TypeDefKind.{TypeDefKind}
+use Rattle.wit_values.specs.declared.span.Span.{Span}
+use Rattle.wit_syntax.specs.Address.{Address, InterfaceNamed, WorldNamed, InlineAt, ForeignNamed}
+use Rattle.wit_syntax.specs.Form.{Form, BorrowForm, ListForm, ResultForm}
+use Rattle.wit_syntax.proofs.Names.{name_itself}
+use Rattle.wit_syntax.proofs.Repeated.{differ_none}
+use Rattle.wit_arena.specs.Expr.{Exprs}
+use Rattle.wit_arena.specs.Kind.{kind_of}
+use Rattle.wit_arena.specs.Meet.{Key, Def, Whole, Meeting, keys, IsMet, Meets, AreAt, Decl, Decls, IsNamedEntry, IsUnnamedEntry, IsEntry, IsSettled, IsMeeting}
+use Rattle.wit_arena.specs.Resolving.{named, unnamed}
+use Rattle.wit_arena.proofs.Meeting.{keys-append, meeting_more}
+
+-- a mark of a scope, of a form, and of what is met: it tells some of it
+abbrev scope_mark : Address → List ℕ
+scope_mark (InterfaceNamed name) = 0 ∷ name
+scope_mark (WorldNamed name) = 1 ∷ name
+scope_mark (InlineAt world side place) = 2 ∷ place ∷ world
+scope_mark (ForeignNamed p name) = 3 ∷ name
+
+abbrev bit : Bool → ℕ
+bit true = 1
+bit false = 0
+
+abbrev form_mark : Form → List ℕ
+form_mark BorrowForm = 0 ∷ []
+form_mark ListForm = 1 ∷ []
+form_mark (ResultForm has_ok has_err) = 2 ∷ bit has_ok ∷ bit has_err ∷ []
+form_mark _ = 3 ∷ []
+
+abbrev pub key_mark : Key → List ℕ
+key_mark (Def s name) = 0 ∷ scope_mark s ++ 256 ∷ name
+key_mark (Whole form parts) = 1 ∷ form_mark form
+
+-- whether none of these has the mark
+abbrev pub is_new : List ℕ → List Key → Bool
+is_new mark [] = true
+is_new mark (k ∷ ks) = not (bytes_eq mark (key_mark k)) && is_new mark ks
+
+-- what has another mark than all that was met is new
+pub fresh : (ks : List Key) (k : Key) → is_new (key_mark k) ks ≡ true → IsMet ks k → ⊥
+fresh [] k new (i, at) = let f : ⊥ = cc in f
+fresh (x ∷ ks) k new (zero, at) =
+    let same : x ≡ k = cc in
+    let hit : bytes_eq (key_mark k) (key_mark x) ≡ true = ap (λ y. bytes_eq (key_mark k) (key_mark y)) same ∙ name_itself (key_mark k) in
+    let wrong : false ≡ true = sym (ap not hit) ∙ (and_parts (not (bytes_eq (key_mark k) (key_mark x))) (is_new (key_mark k) ks) new).0 in
+    let f : ⊥ = cc in
+    f
+fresh (x ∷ ks) k new (suc i, at) = fresh ks k (and_parts (not (bytes_eq (key_mark k) (key_mark x))) (is_new (key_mark k) ks) new).1 (i, at)
+
+-- whether none of what is met next has the mark of what was met before
+abbrev pub are_new : List Key → List Meeting → Bool
+are_new ks [] = true
+are_new ks (m ∷ ms) = is_new (key_mark m.key) ks && are_new (ks ++ m.key ∷ []) ms
+
+-- so each of it is a first meeting
+pub meets_each : (ms more : List Meeting) → are_new (keys ms) more ≡ true → Meets ms more (ms ++ more)
+meets_each ms [] new = append-nil ms
+meets_each ms (m ∷ more) new =
+    let both = and_parts (is_new (key_mark m.key) (keys ms)) (are_new (keys ms ++ m.key ∷ []) more) new in
+    let next : are_new (keys (ms ++ m ∷ [])) more ≡ true = ap (λ ks. are_new ks more) (keys-append ms (m ∷ [])) ∙ both.1 in
+    inr (fresh (keys ms) m.key both.0, subst (Meets (ms ++ m ∷ []) more) (append_assoc ms (m ∷ []) more) (meets_each (ms ++ m ∷ []) more next))
+
+-- before anything is met the arena is empty
+pub none_met : (decls : Decls) → IsMeeting decls [] []
+none_met decls = record {
+  keyed = record { count = refl; once = differ_none; each = λ i k e at there. absurd (let f : ⊥ = cc in f) };
+  spans = refl;
+  settled = λ i m e at there. absurd (let f : ⊥ = cc in f);
+}
+
+-- what is met next and is new has the next entry
+pub met_more : {decls : Decls} {ms : List Meeting} {es : List TypeDef} (m : Meeting) (e : TypeDef) → IsMeeting decls ms es → is_new (key_mark m.key) (keys ms) ≡ true → IsEntry decls (keys ms) m.key e → e.span ≡ m.span → IsSettled es m.given m.key e → IsMeeting decls (ms ++ m ∷ []) (es ++ e ∷ [])
+met_more {decls} {ms} {es} m e before new it here settled = meeting_more m e before (fresh (keys ms) m.key new) it here settled
+
+-- the entry of a declaration, over the places of its parts
+pub named_entry : (decls : Decls) (ks : List Key) (s : Address) (k : ℕ) (d : Decl) (kind : TypeDefKind) → slice_get (decls s) k ≡ Some d → (kind_of kind).form ≡ d.form → AreAt ks d.parts (kind_of kind).parts → IsNamedEntry decls ks s d.name (named d.owner d.name kind d.notes d.span)
+named_entry decls ks s k d kind at form parts = record { decl = d; among = (k, at); same = refl; name = refl; span = refl; owner = refl; form = form; parts = parts; notes = record { docs = refl; stability = refl; external_id = refl } }
+
+-- that of an unnamed type
+pub unnamed_entry : (ks : List Key) (form : Form) (parts : Exprs) (kind : TypeDefKind) (known : Stability) (span : Span) → (kind_of kind).form ≡ form → AreAt ks parts (kind_of kind).parts → IsUnnamedEntry ks form parts (unnamed kind known span)
+unnamed_entry ks form parts kind known span of are = record { name = refl; owner = refl; form = of; parts = are; docs = refl; external_id = refl }

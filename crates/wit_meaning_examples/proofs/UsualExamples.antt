@@ -1,0 +1,298 @@
+-- A package as it is usually written, computed by the definitions: a version, docs, a stability, a name of another package, a method, and a world.
+use Rattle.std.proofs.Common.{◌≡◌, ℕ, false, true, List, [], ◌∷◌, map, Some, None, refl, ap, lit<}
+use Rattle.std.specs.Prelude.{codes, take, Box}
+use Rattle.std.specs.List.{flat_map}
+use Rattle.std.specs.declared.alloc.Global.{Global}
+use denote.RawPtr.{Ptr}
+use Rattle.semver.specs.declared.Version.{Version}
+use Rattle.wit_values.specs.declared.span.Span.{Span}
+use Rattle.wit_values.specs.declared.release.Release.{Release}
+use Rattle.wit_tree.specs.declared.tree.Attribute.TheVariants as attribute
+use Rattle.wit_tree.specs.declared.tree.Docs.{Docs as Comments}
+use Rattle.wit_tree.specs.declared.tree.Extern.{Extern}
+use Rattle.wit_tree.specs.declared.tree.ExternKind.{ExternKind}
+use Rattle.wit_tree.specs.declared.tree.ExternKind.TheVariants as extern
+use Rattle.wit_tree.specs.declared.tree.FuncForm.TheVariants as form
+use Rattle.wit_tree.specs.declared.tree.Id.{Id}
+use Rattle.wit_tree.specs.declared.tree.NamedFunc.{NamedFunc}
+use Rattle.wit_tree.specs.declared.tree.ResourceFunc.TheVariants as resource
+use Rattle.wit_tree.specs.declared.tree.«Type».{«Type» as Written, None', Some'}
+use Rattle.wit_tree.specs.declared.tree.«Type».TheVariants as written
+use Rattle.wit_tree.specs.declared.tree.TypeBody.TheVariants.{Resource}
+use Rattle.wit_tree.specs.declared.tree.TypeDef.{TypeDef as Definition}
+use Rattle.wit_tree.specs.declared.tree.Use.{Use as WrittenUse}
+use Rattle.wit_tree.specs.declared.tree.UseName.{UseName}
+use Rattle.wit_tree.specs.declared.tree.UsePath.TheVariants as path
+use Rattle.wit_tree.specs.declared.tree.InterfaceItem.TheVariants as interface_item
+use Rattle.wit_tree.specs.declared.tree.Interface.{Interface as WrittenInterface}
+use Rattle.wit_tree.specs.declared.tree.World.{World as WrittenWorld}
+use Rattle.wit_tree.specs.declared.tree.WorldItem.TheVariants as world_item
+use Rattle.wit_tree.specs.declared.tree.WorldSide.{WorldSide}
+use Rattle.wit_tree.specs.declared.tree.WorldSide.TheVariants.{Imported, Exported}
+use Rattle.wit_tree.specs.declared.tree.AstItem.TheVariants as ast
+use Rattle.wit_tree.specs.declared.tree.PackageName.{PackageName as Header}
+use Rattle.wit_tree.specs.declared.tree.PackageFile.{PackageFile}
+use Rattle.wit_types.specs.declared.stability.Stability.TheVariants.{Unknown, Stable}
+use Rattle.wit_types.specs.declared.types.Handle.TheVariants.{Borrow}
+use Rattle.wit_types.specs.declared.types.«Type».TheVariants as type
+use Rattle.wit_types.specs.declared.types.TypeDef.{TypeDef}
+use Rattle.wit_types.specs.declared.types.TypeDefKind.TheVariants as kind
+use Rattle.wit_types.specs.declared.types.TypeOwner.TheVariants as owner
+use Rattle.wit_package_names.specs.declared.package_name.PackageName.{PackageName}
+use Rattle.wit_model.specs.declared.ast_item.AstItem.TheVariants as entry
+use Rattle.wit_model.specs.declared.function.Function.{Function}
+use Rattle.wit_model.specs.declared.function.FunctionKind.TheVariants as function_kind
+use Rattle.wit_model.specs.declared.interface.Interface.{Interface}
+use Rattle.wit_model.specs.declared.unresolved.UnresolvedPackage.{UnresolvedPackage}
+use Rattle.wit_model.specs.declared.world.WorldItem.{WorldItem}
+use Rattle.wit_model.specs.declared.world.WorldItem.TheVariants as item
+use Rattle.wit_model.specs.declared.world.WorldKey.{WorldKey}
+use Rattle.wit_model.specs.declared.world.WorldKey.TheVariants as key
+use Rattle.wit_order.specs.Table.{IsOrder}
+use Rattle.wit_syntax.specs.Address.{Address, InterfaceNamed, WorldNamed, ForeignNamed, package_of}
+use Rattle.wit_syntax.specs.Foreign.{foreign_items}
+use Rattle.wit_syntax.specs.Form.{BorrowForm, ListForm, ResultForm}
+use Rattle.wit_syntax.specs.Function.{functions, signature}
+use Rattle.wit_syntax.specs.Node.{OfScope}
+use Rattle.wit_syntax.specs.Node as node
+use Rattle.wit_syntax.specs.Notes.{Notes, no_docs, notes}
+use Rattle.wit_syntax.specs.Docs.{joined}
+use Rattle.wit_syntax.specs.Scope.{in_order, item_rows, rows_of}
+use Rattle.wit_syntax.specs.Shape.{Shape, Word}
+use Rattle.wit_syntax.specs.Sides.{side_items}
+use Rattle.wit_syntax.specs.Source.{TheInterface, TheWorld, Item, item_notes, all_items, Used, Defined, scope_names, takings, top_names}
+use Rattle.wit_syntax.specs.Trees.{source_tree}
+use Rattle.wit_arena.specs.Expr.{End, More, Of, Prim, Use, one}
+use Rattle.wit_arena.specs.Functions.{function_item}
+use Rattle.wit_arena.specs.Meet.{Key, Def, Whole, Meeting, Meets, IsMeeting}
+use Rattle.wit_arena.specs.Package.{owner_of, function_types, package_tree}
+use Rattle.wit_arena.specs.Resolving.{named, unnamed}
+use Rattle.wit_arena.specs.SideItems.{AreSideItems}
+use Rattle.wit_arena.specs.Whole.{Turned, all_meetings, all_turns, declarations, turn_handles, interface_addresses, NamesOthers}
+use Rattle.wit_meaning_examples.proofs.Examples.{at, id, vec, no_comments, untold}
+use Rattle.wit_meaning_examples.proofs.NotesExamples.{trimmed}
+use Rattle.wit_meaning_examples.proofs.SmallOrders.{straight, apart_order}
+use Rattle.wit_meaning_examples.proofs.FirstMet.{meets_each, met_more, named_entry, none_met, unnamed_entry}
+
+abbrev version : Version
+version = record { major = 0; minor = 2; patch = 0; pre = record { identifier = None }; build = record { identifier = None } }
+
+abbrev release : Release
+release = record { major = 0; minor = 2; patch = 0; pre = []; build = [] }
+
+abbrev nothing : Notes
+nothing = notes no_docs []
+
+-- error of wasi:io
+abbrev io : PackageName
+io = record { namespace = codes "wasi"; name = codes "io"; version = Some release }
+
+abbrev io_error : Address
+io_error = ForeignNamed io (codes "error")
+
+abbrev in_streams : Address
+in_streams = InterfaceNamed (codes "streams")
+
+abbrev in_w : Address
+in_w = WorldNamed (codes "w")
+
+module _ (ptr : Ptr) (alloc : Global) where
+  abbrev box : Box (Unit {0}) Global
+  box = record { ptr = ptr; alloc = alloc; value = tt }
+
+  abbrev wasi : Span → Span → (name : Id) → Header
+  wasi whole namespace name = record { docs = no_comments ptr alloc; span = whole; namespace = id ptr alloc (codes "wasi") namespace refl; name = name; version = Some version }
+
+  -- package wasi:demo@0.2.0;
+  abbrev demo : Header
+  demo = wasi (at 8 23) (at 8 12) (id ptr alloc (codes "demo") (at 13 17) refl)
+
+  -- use wasi:io/error@0.2.0.{error};
+  abbrev visited : Header
+  visited = wasi (at 89 96) (at 89 93) (id ptr alloc (codes "io") (at 94 96) refl)
+
+  abbrev error_at : Span → Id
+  error_at span = id ptr alloc (codes "error") span refl
+
+  abbrev used_error : UseName
+  used_error = record { name = error_at (at 110 115); as_ = None }
+
+  abbrev use_error : WrittenUse
+  use_error = record { attributes = untold ptr alloc; from = path.Package visited (error_at (at 97 102)); names = vec ptr alloc (used_error ∷ []) (lit< tt) }
+
+  -- read: func(len: u64) -> result<list<u8>, error>;
+  abbrev result_type : Written
+  result_type = written.Result' (at 165 171) (Some' box (written.List' (at 172 176) box (written.U8 (at 177 179)))) (Some' box (written.Name (error_at (at 182 187))))
+
+  abbrev read : NamedFunc
+  read = record {
+    docs = no_comments ptr alloc;
+    attributes = untold ptr alloc;
+    name = id ptr alloc (codes "read") (at 141 145) refl;
+    func = record { span = at 147 151; form = form.Plain; params = vec ptr alloc (record { name = id ptr alloc (codes "len") (at 152 155) refl; ty = written.U64 (at 157 160) } ∷ []) (lit< tt); result = Some result_type };
+  }
+
+  abbrev input : Definition
+  input = record { docs = no_comments ptr alloc; attributes = untold ptr alloc; name = id ptr alloc (codes "input") (at 129 134) refl; body = Resource (vec ptr alloc (resource.Method read ∷ []) (lit< tt)) }
+
+  -- /// Streams.
+  abbrev comments : Comments
+  comments = record { docs = vec ptr alloc (record { ref_ptr = (0, 0); now = codes "/// Streams." } ∷ []) (lit< tt); span = at 26 38 }
+
+  -- @since(version = 0.2.0) interface streams { .. }
+  abbrev streams : WrittenInterface
+  streams = record { docs = comments; attributes = vec ptr alloc (attribute.Since (at 39 62) version ∷ []) (lit< tt); name = id ptr alloc (codes "streams") (at 73 80) refl; items = vec ptr alloc (interface_item.Use use_error ∷ interface_item.TypeDef input ∷ []) (lit< tt) }
+
+  abbrev extern_of : WorldSide → ExternKind → Extern
+  extern_of side kind = record { side = side; docs = no_comments ptr alloc; attributes = untold ptr alloc; kind = kind }
+
+  -- world w { import streams; export run: func() -> result; }
+  abbrev import_streams : Extern
+  import_streams = extern_of Imported (extern.Path (path.Id (id ptr alloc (codes "streams") (at 215 222) refl)))
+
+  abbrev export_run : Extern
+  export_run = extern_of Exported (extern.Func (id ptr alloc (codes "run") (at 233 236) refl) (record { span = at 238 242; form = form.Plain; params = vec ptr alloc [] (lit< tt); result = Some (written.Result' (at 248 254) None' None') }))
+
+  abbrev w : WrittenWorld
+  w = record { docs = no_comments ptr alloc; attributes = untold ptr alloc; name = id ptr alloc (codes "w") (at 202 203) refl; items = vec ptr alloc (world_item.Extern import_streams ∷ world_item.Extern export_run ∷ []) (lit< tt) }
+
+  abbrev file : PackageFile
+  file = record { package_id = Some demo; decl_list = record { items = vec ptr alloc (ast.Interface streams ∷ ast.World w ∷ []) (lit< tt) } }
+
+  abbrev files : List PackageFile
+  files = file ∷ []
+
+  abbrev streams_item : Item
+  streams_item = record { top = top_names file; declared = TheInterface streams }
+
+  abbrev w_item : Item
+  w_item = record { top = top_names file; declared = TheWorld w }
+
+  -- what is used from wasi:io, where it is visited
+  taken : takings files ≡ (record { from = io_error; attributes = []; id = error_at (at 110 115) } ∷ [])
+  taken = refl
+
+  visits : foreign_items files ≡ (record { attributes = []; of = visited; id = error_at (at 97 102); wants_world = false } ∷ [])
+  visits = refl
+
+  -- no item needs another one: neither the use of another package's interface nor the import makes an edge
+  order_of_items : IsOrder (item_rows files) straight
+  order_of_items = apart_order (codes "streams") (codes "w")
+
+  items_in_order : in_order (all_items files) straight ≡ (streams_item ∷ w_item ∷ [])
+  items_in_order = refl
+
+  names_of_streams : scope_names streams_item ≡ (Used io_error [] used_error ∷ Defined input ∷ [])
+  names_of_streams = refl
+
+  -- the method is no part of the resource's body, and needs nothing
+  order_of_names : IsOrder (rows_of (scope_names streams_item)) straight
+  order_of_names = apart_order (codes "error") (codes "input")
+
+  abbrev turns : List Turned
+  turns = all_turns (record { item = streams_item; order = straight } ∷ []) (record { own = record { item = w_item; order = [] }; inside = [] } ∷ [])
+
+  -- the types in the order in which they are met, each for the first time
+  abbrev met_at : Key → Span → Meeting
+  met_at key span = record { key = key; span = span; given = Unknown }
+
+  abbrev met : List Meeting
+  met = met_at (Def io_error (codes "error")) (at 110 115)
+      ∷ met_at (Def in_streams (codes "error")) (at 110 115)
+      ∷ met_at (Def in_streams (codes "input")) (at 129 134)
+      ∷ met_at (Whole BorrowForm (one (Use in_streams (codes "input")))) (at 147 151)
+      ∷ met_at (Whole ListForm (one (Prim node.U8))) (at 172 176)
+      ∷ met_at (Whole (ResultForm true true) (More (Of ListForm (one (Prim node.U8))) (one (Use in_streams (codes "error"))))) (at 165 171)
+      ∷ met_at (Whole (ResultForm false false) End) (at 248 254) ∷ []
+
+  met_once : Meets [] (all_meetings files turns) met
+  met_once = meets_each [] met refl
+
+  no_handles : flat_map turn_handles turns ≡ []
+  no_handles = refl
+
+  -- the arenas: what is written of streams stands behind wasi:io's error
+  abbrev types : List TypeDef
+  types = named (owner.Interface 0) (codes "error") kind.Unknown nothing (at 110 115)
+      ∷ named (owner.Interface 1) (codes "error") (kind.Type_ (type.Id 0)) nothing (at 110 115)
+      ∷ named (owner.Interface 1) (codes "input") kind.Resource nothing (at 129 134)
+      ∷ unnamed (kind.Handle (Borrow 2)) Unknown (at 147 151)
+      ∷ unnamed (kind.List type.U8) Unknown (at 172 176)
+      ∷ unnamed (kind.Result (record { ok = Some (type.Id 4); err = Some (type.Id 1) })) Unknown (at 165 171)
+      ∷ unnamed (kind.Result (record { ok = None; err = None })) Unknown (at 248 254) ∷ []
+
+  abbrev made_read : Function
+  made_read = record { name = codes "[method]input.read"; kind = function_kind.Method 2; params = record { name = codes "self"; ty = type.Id 3; span = at 147 151 } ∷ record { name = codes "len"; ty = type.U64; span = at 152 155 } ∷ []; result = Some (type.Id 5); docs = no_docs; stability = Unknown; span = at 141 145; external_id = None }
+
+  abbrev made_run : Function
+  made_run = record { name = codes "run"; kind = function_kind.Freestanding; params = []; result = Some (type.Id 6); docs = no_docs; stability = Unknown; span = at 233 236; external_id = None }
+
+  abbrev interfaces : List Address
+  interfaces = io_error ∷ in_streams ∷ []
+
+  addresses : interface_addresses files (record { item = streams_item; order = straight } ∷ []) ≡ interfaces
+  addresses = refl
+
+  abbrev so_far : ℕ → Type 0
+  so_far n = IsMeeting (declarations files interfaces (in_w ∷ [])) (take n met) (take n types)
+
+  arena : so_far 7
+  arena =
+      let one : so_far 1 = met_more _ _ (none_met _) refl (named_entry _ _ _ 0 _ _ refl refl tt) refl tt in
+      let two : so_far 2 = met_more _ _ one refl (named_entry _ _ _ 0 _ _ refl refl ((0, refl, refl), tt)) refl tt in
+      let three : so_far 3 = met_more _ _ two refl (named_entry _ _ _ 1 _ _ refl refl tt) refl tt in
+      let four : so_far 4 = met_more _ _ three refl (unnamed_entry _ _ _ _ _ _ refl ((2, refl, refl), tt)) refl refl in
+      let five : so_far 5 = met_more _ _ four refl (unnamed_entry _ _ _ _ _ _ refl (refl, tt)) refl refl in
+      let six : so_far 6 = met_more _ _ five refl (unnamed_entry _ _ _ _ _ _ refl ((4, refl, refl), ((1, refl, refl), tt))) refl refl in
+      met_more _ _ six refl (unnamed_entry _ _ _ _ _ _ refl tt) refl refl
+
+  -- what is told of streams
+  abbrev told : Notes
+  told = record { docs = record { contents = Some (codes "Streams.") }; stability = Stable release None; external_id = None }
+
+  told_of_streams : item_notes streams_item ≡ told
+  told_of_streams = ap (λ (text : List ℕ). notes (record { contents = Some (joined (text ∷ [])) }) streams.attributes.items) trimmed
+
+  -- w has streams at its place, and run
+  abbrev imports : List (WorldKey × WorldItem)
+  imports = (key.Interface 1, item.Interface 1 Unknown None no_docs (at 215 222)) ∷ []
+
+  abbrev exports : List (WorldKey × WorldItem)
+  exports = function_item made_run ∷ []
+
+  imported : AreSideItems interfaces w_item.top Imported (side_items w_item) (made_run ∷ []) [] imports
+  imported = (1, [], refl, refl, ([], refl, refl))
+
+  exported : AreSideItems interfaces w_item.top Exported (side_items w_item) (made_run ∷ []) [] exports
+  exported = (1, exports, refl, refl, ([], refl, refl))
+
+  abbrev whole : UnresolvedPackage
+  whole = record {
+    docs = no_docs;
+    name = package_of demo;
+    worlds = record { name = codes "w"; imports = imports; exports = exports; «package» = None; docs = no_docs; stability = Unknown; includes = []; span = at 202 203 } ∷ [];
+    interfaces = record { name = None; types = (codes "error", 0) ∷ []; functions = []; docs = no_docs; stability = Unknown; «package» = None; span = at 97 102; clone_of = None }
+        ∷ record { name = Some (codes "streams"); types = (codes "error", 1) ∷ (codes "input", 2) ∷ []; functions = (made_read.name, made_read) ∷ []; docs = told.docs; stability = told.stability; «package» = None; span = at 73 80; clone_of = None } ∷ [];
+    types = types;
+    foreign_deps = (io, (codes "error", (entry.Interface 0, Unknown ∷ [])) ∷ []) ∷ [];
+    name_span = at 8 23;
+    unknown_type_spans = at 110 115 ∷ [];
+    foreign_dep_spans = at 89 96 ∷ [];
+    required_resource_types = [];
+  }
+
+  others : NamesOthers files whole
+  others = record { deps = refl; spans = refl; unknown = refl }
+
+  owners : map (owner_of whole) (owner.Interface 0 ∷ owner.Interface 1 ∷ owner.World 0 ∷ []) ≡ (OfScope io_error ∷ OfScope in_streams ∷ OfScope in_w ∷ [])
+  owners = refl
+
+  -- every name and every function is, in the package, the tree that is written
+  trees_of_names : map (λ (x : Id). source_tree files 3 (in_streams, Word x)) (used_error.name ∷ input.name ∷ []) ≡ map (package_tree whole 3) (type.Id 1 ∷ type.Id 2 ∷ [])
+  trees_of_names = refl
+
+  trees_of_read : map (λ (x : Shape). source_tree files 4 (in_streams, x)) (flat_map signature (functions streams_item)) ≡ map (package_tree whole 4) (function_types made_read)
+  trees_of_read = refl
+
+  trees_of_run : map (λ (x : Shape). source_tree files 4 (in_w, x)) (flat_map signature (functions w_item)) ≡ map (package_tree whole 4) (function_types made_run)
+  trees_of_run = refl
