@@ -24,7 +24,7 @@ use std::fs;
 use std::process::ExitCode;
 
 /// The files of rows.
-const FILES: [&str; 24] = [
+const FILES: [&str; 25] = [
     "listings.rows",
     "refusals.rows",
     "files.rows",
@@ -42,6 +42,7 @@ const FILES: [&str; 24] = [
     "model.rows",
     "worked.rows",
     "cuts.rows",
+    "hostile.rows",
     "made.rows",
     "made_parts.rows",
     "edges.rows",

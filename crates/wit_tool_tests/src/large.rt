@@ -8,7 +8,7 @@ use wit_tool::{bundle, run};
 
 /// Texts and what is written of their sources, a line `=>` in each case, and an empty line between two.
 /// `|N*PIECE|` stands for N times the piece. `$` in a piece is the number of the time, from 0 on, `^`
-/// the next number, and `~` how many times come after it.
+/// the next number, `~` how many times come after it, and `&` how many come from it on.
 const LARGE: &str = r#"package foo:foo; interface i { type t = |99*list<|u8|99*>|; }
 =>
 package foo:foo
@@ -61,6 +61,20 @@ i0 i
 |worlds 0
 foreign 0
 
+package foo:foo; interface i { |4999*type t& = t~; |resource t0; f: func(x: borrow<t4999>); }
+=>
+package foo:foo
+types 5001
+#0 i0.t0 = resource
+|4999*#^ i0.t^ = alias #$
+|#5000 - = borrow #4999
+interfaces 1
+i0 i
+|5000*  t$ = type #$
+|  f = func(x:#5000)
+worlds 0
+foreign 0
+
 |10*=== c$.wit
 interface c$ {}
 ||10*=== b$.wit
@@ -87,6 +101,7 @@ fn push_times(text: &mut String, times: u32, piece: &str) -> Result<(), AllocErr
                 '$' => write!(text, "{number}")?,
                 '^' => write!(text, "{}", number + 1)?,
                 '~' => write!(text, "{}", times - number - 1)?,
+                '&' => write!(text, "{}", times - number)?,
                 _ => text.push(letter)?,
             }
         }

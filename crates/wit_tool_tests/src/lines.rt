@@ -82,7 +82,46 @@ impl Write for Narrow {
     }
 }
 
-const LISTING: &str = "package foo:foo\ntypes 0\ninterfaces 0\nworlds 0\nforeign 0\n";
+const FILE: &str = r#"package wasi:demo@0.2.0;
+
+/// Streams.
+@since(version = 0.2.0)
+interface streams {
+  use wasi:io/error@0.2.0.{error};
+  resource input {
+    read: func(len: u64) -> result<list<u8>, error>;
+  }
+}
+world w {
+  import streams;
+  export run: func() -> result;
+}
+"#;
+
+const LISTING: &str = "\
+package wasi:demo@0.2.0
+types 7
+#0 i0.error = unknown
+#1 i1.error = alias #0
+#2 i1.input = resource
+#3 - = borrow #2
+#4 - = list u8
+#5 - = result #4 #1
+#6 - = result _ _
+interfaces 2
+i0 -
+  error = type #0
+i1 streams since 0.2.0
+  error = type #1
+  input = type #2
+  [method]input.read = func(self:#3, len:u64) -> #5
+worlds 1
+w0 w
+  import interface-1 = interface i1
+  export run = func() -> #6
+foreign 1
+wasi:io@0.2.0 error i0 1
+";
 
 /// Checks what a run leaves in a writer of this room, and what it answers.
 fn check_room(
@@ -92,7 +131,7 @@ fn check_room(
     answered: Result<bool, RunFault>,
 ) -> Result<(), Fail> {
     let mut map = SourceMap::new(alloc);
-    map.push(alloc, "stdin.wit", "package foo:foo;")?;
+    map.push(alloc, "stdin.wit", FILE)?;
     let taken = Vec::new(alloc);
     let mut out = Narrow { taken, room };
     assert_eq!(rt; run(alloc, map, &mut out), answered, "room {room}");
@@ -108,8 +147,8 @@ fn check_room(
 #[test]
 fn stops_where_a_write_fails(rt: HostRuntime) -> Result<(), Fail> {
     let alloc = rt.alloc();
-    check_room(&rt, alloc, 0, Err(RunFault::Output))?;
-    check_room(&rt, alloc, 1, Err(RunFault::Output))?;
-    check_room(&rt, alloc, LISTING.len() - 1, Err(RunFault::Output))?;
+    for room in 0..LISTING.len() {
+        check_room(&rt, alloc, room, Err(RunFault::Output))?;
+    }
     check_room(&rt, alloc, LISTING.len(), Ok(true))
 }
