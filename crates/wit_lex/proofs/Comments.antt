@@ -1,9 +1,9 @@
 -- Comments, byte by byte, and docs, comment by comment.
-use Rattle.std.proofs.Common.{◌≡◌, ℕ, ◌+◌, ◌-◌, ◌<◌, ◌≤◌, List, [], ◌∷◌, ◌++◌, arith, subst}
+use Rattle.std.proofs.Common.{◌≡◌, ℕ, ◌+◌, ◌-◌, ◌<◌, ◌≤◌, List, [], ◌∷◌, ◌++◌, length, arith, subst}
 use Rattle.std.specs.Prelude.{slice_index, slice_range}
 use denote.Ref.{Bor}
 use Rattle.wit_values.specs.declared.span.Span.{Span}
-use Rattle.wit_tree.specs.Comments.{IsComment, IsDocs, IsNested, IsPair, Closed, IsStretch, Found, stretched}
+use Rattle.wit_tree.specs.Comments.{IsComment, IsDocs, IsNested, IsPair, Closed, Inside, IsStretch, Found, stretched}
 
 -- one comment more among docs
 pub docs_more : (source : List ℕ) (offset from : ℕ) (docs more : List (Bor (List ℕ))) (span whole found : Span) (comment : Bor (List ℕ)) (at end : ℕ) →
@@ -16,3 +16,11 @@ pub nested_end : (source : List ℕ) (from depth at : ℕ) → IsNested source f
 nested_end source from depth at h some most pair =
     let none : depth - 1 ≡ 0 = omega arith in
     subst (λ d. IsNested source from d (at + 2)) none (Closed depth at h some pair)
+
+-- two places of a comment, the second neither `*` nor `/`
+pub nested_two : (source : List ℕ) (from depth at : ℕ) → IsNested source from depth at → 0 < depth → at + 2 ≤ length source → (slice_index source (at + 1) ≡ 42 → ⊥) → (slice_index source (at + 1) ≡ 47 → ⊥) → IsNested source from depth (at + 2)
+nested_two source from depth at h some room star slash =
+    let one = Inside depth at h some (omega arith) (λ p. star p.second) (λ p. slash p.second) in
+    let two = Inside depth (at + 1) one some (omega arith) (λ p. slash p.first) (λ p. star p.first) in
+    let same : at + 1 + 1 ≡ at + 2 = omega arith in
+    subst (IsNested source from depth) same two

@@ -35,11 +35,26 @@ fn line_end(bytes: &[u8], from: usize) -> usize
             return at;
         }
         at += 1;
+        if len - at < 3 {
+            continue;
+        }
+        if bytes[at] == b'\n' {
+            return at;
+        }
+        if bytes[at + 1] == b'\n' {
+            return at + 1;
+        }
+        if bytes[at + 2] == b'\n' {
+            return at + 2;
+        }
+        at += 3;
     }
     at
 }
 
 /// The end of the block comment whose first two bytes stand at a place. Such comments nest.
+///
+/// A byte that is neither `*` nor `/` is in no `/*` and in no `*/`: with it the one in front of it is passed.
 fn block_end(bytes: &[u8], from: usize) -> Option<usize>
     requires { IsPair bytes.now from 47 42 }
     ensures whole { IfSome result (λ end. IsNested bytes.now from 0 end) }
@@ -50,8 +65,12 @@ fn block_end(bytes: &[u8], from: usize) -> Option<usize>
     let mut depth: usize = 1;
     let mut at = from + 2;
     while len - at >= 2 {
-        let first = bytes[at];
         let second = bytes[at + 1];
+        if second < b'*' || second > b'/' {
+            at += 2;
+            continue;
+        }
+        let first = bytes[at];
         if first == b'*' && second == b'/' {
             at += 2;
             if depth <= 1 {
