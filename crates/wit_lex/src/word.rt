@@ -129,16 +129,43 @@ fn word_of_six(text: &str) -> Option<Word>
     }
 }
 
-/// The word of more than six letters that a text is.
-fn word_of_more(text: &str) -> Option<Word>
+/// The word of seven letters that a text is.
+fn word_of_seven(text: &str) -> Option<Word>
     ensures { IfSome result (λ word. text.now ≡ word_text word) }
 {
     match text {
         "package" => Some(Word::Package),
         "variant" => Some(Word::Variant),
         "include" => Some(Word::Include),
+        _ => None,
+    }
+}
+
+/// The word of eight letters that a text is.
+fn word_of_eight(text: &str) -> Option<Word>
+    ensures { IfSome result (λ word. text.now ≡ word_text word) }
+{
+    match text {
         "resource" => Some(Word::Resource),
+        _ => None,
+    }
+}
+
+/// The word of nine letters that a text is.
+fn word_of_nine(text: &str) -> Option<Word>
+    ensures { IfSome result (λ word. text.now ≡ word_text word) }
+{
+    match text {
         "interface" => Some(Word::Interface),
+        _ => None,
+    }
+}
+
+/// The word of more than nine letters that a text is.
+fn word_of_more(text: &str) -> Option<Word>
+    ensures { IfSome result (λ word. text.now ≡ word_text word) }
+{
+    match text {
         "constructor" => Some(Word::Constructor),
         "error-context" => Some(Word::ErrorContext),
         _ => None,
@@ -155,6 +182,9 @@ pub fn word_of(text: &str) -> Option<Word>
         4 => word_of_four(text),
         5 => word_of_five(text),
         6 => word_of_six(text),
+        7 => word_of_seven(text),
+        8 => word_of_eight(text),
+        9 => word_of_nine(text),
         _ => word_of_more(text),
     }
 }
