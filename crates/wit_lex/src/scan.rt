@@ -18,6 +18,13 @@ pub fn is_digit(c: u8) -> bool
     c >= b'0' && c <= b'9'
 }
 
+/// A letter in lower case, as most are.
+fn is_small_letter(c: u8) -> bool
+    ensures { result ≡ true → c < 128 }
+{
+    c >= b'a' && c <= b'z'
+}
+
 /// A letter, a digit or `-`.
 pub fn is_word_byte(c: u8) -> bool
     ensures ascii { result ≡ true → c < 128 }
@@ -35,7 +42,12 @@ pub fn word_end(bytes: &[u8], from: usize) -> usize
     let len = bytes.len();
     let mut at = from;
     while at < len {
-        if !is_word_byte(bytes[at]) {
+        let c = bytes[at];
+        if is_small_letter(c) {
+            at += 1;
+            continue;
+        }
+        if !is_word_byte(c) {
             return at;
         }
         at += 1;
