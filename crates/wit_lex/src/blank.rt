@@ -17,7 +17,7 @@ pub enum Blank {
 }
 
 /// Space, tab, LF or CR.
-fn is_blank(c: u8) -> bool
+pub(crate) fn is_blank(c: u8) -> bool
     ensures { result ≡ is_blank_byte c }
 {
     c == b' ' || c == b'\n' || c == b'\t' || c == b'\r'
@@ -122,6 +122,14 @@ pub fn skip_blanks(bytes: &[u8], from: usize) -> Result<usize, usize>
     let len = bytes.len();
     let mut at = from;
     while at < len {
+        let first = bytes[at];
+        if is_blank(first) {
+            at += 1;
+            continue;
+        }
+        if first != b'/' {
+            return Ok(at);
+        }
         match blank_at(bytes, at) {
             Blank::Space => at += 1,
             Blank::Comment(end) => at = end,

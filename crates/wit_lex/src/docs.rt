@@ -1,9 +1,9 @@
 //! Docs: comments that document what stands behind them.
 ghost use Rattle.std.specs.Prelude.{◌≡◌, ◌+◌, ◌<◌, ◌≤◌, ◌^◌, ◌++◌, ◌∷◌, [], length, IfOk, IfErr, OnOk, MatchBool};
-ghost use Rattle.wit_tree.specs.Comments.{IsDocs, IsStop, IsStretch, stretched as stretched_span};
+ghost use Rattle.wit_tree.specs.Comments.{IsDocs, IsStop, IsStretch, is_blank as is_blank_byte, stretched as stretched_span};
 ghost use Rattle.wit_lex.specs.Faults.{IsRefusal};
 
-use crate::blank::{Blank, blank_at};
+use crate::blank::{Blank, blank_at, is_blank};
 use crate::fault::{ReadFault, refusal, span_at};
 use crate::scan::cut;
 use std::alloc::{AllocError, Global};
@@ -65,6 +65,10 @@ pub fn docs_behind<'a>(
     let mut docs = Docs::none(alloc);
     let mut at = from;
     while at < len {
+        if is_blank(bytes[at]) {
+            at += 1;
+            continue;
+        }
         match blank_at(bytes, at) {
             Blank::Space => at += 1,
             Blank::Comment(end) => {

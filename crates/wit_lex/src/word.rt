@@ -49,142 +49,151 @@ pub enum Word {
     With,
 }
 
-/// The word of two letters that a text is.
-fn word_of_two(text: &str) -> Option<Word>
+/// The word that is spelled like this, where the text is.
+fn spelled(text: &str, like: &str, word: Word) -> Option<Word>
+    requires { like.now ≡ word_text word }
     ensures { IfSome result (λ word. text.now ≡ word_text word) }
 {
-    match text {
-        "u8" => Some(Word::U8),
-        "s8" => Some(Word::S8),
-        "as" => Some(Word::As),
+    if text == like { Some(word) } else { None }
+}
+
+/// The word of two letters that a text is, told by its first one first.
+fn word_of_two(text: &str, first: u8) -> Option<Word>
+    ensures { IfSome result (λ word. text.now ≡ word_text word) }
+{
+    match first {
+        b'u' => spelled(text, "u8", Word::U8),
+        b's' => spelled(text, "s8", Word::S8),
+        b'a' => spelled(text, "as", Word::As),
         _ => None,
     }
 }
 
 /// The word of three letters that a text is.
-fn word_of_three(text: &str) -> Option<Word>
+fn word_of_three(text: &str, first: u8) -> Option<Word>
     ensures { IfSome result (λ word. text.now ≡ word_text word) }
 {
-    match text {
-        "use" => Some(Word::Use),
-        "u16" => Some(Word::U16),
-        "u32" => Some(Word::U32),
-        "u64" => Some(Word::U64),
-        "s16" => Some(Word::S16),
-        "s32" => Some(Word::S32),
-        "s64" => Some(Word::S64),
-        "f32" => Some(Word::F32),
-        "f64" => Some(Word::F64),
-        "own" => Some(Word::Own),
-        "map" => Some(Word::Map),
+    match first {
+        b'u' => match text {
+            "use" => Some(Word::Use),
+            "u16" => Some(Word::U16),
+            "u32" => Some(Word::U32),
+            "u64" => Some(Word::U64),
+            _ => None,
+        },
+        b's' => match text {
+            "s16" => Some(Word::S16),
+            "s32" => Some(Word::S32),
+            "s64" => Some(Word::S64),
+            _ => None,
+        },
+        b'f' => match text {
+            "f32" => Some(Word::F32),
+            "f64" => Some(Word::F64),
+            _ => None,
+        },
+        b'o' => spelled(text, "own", Word::Own),
+        b'm' => spelled(text, "map", Word::Map),
         _ => None,
     }
 }
 
 /// The word of four letters that a text is.
-fn word_of_four(text: &str) -> Option<Word>
+fn word_of_four(text: &str, first: u8) -> Option<Word>
     ensures { IfSome result (λ word. text.now ≡ word_text word) }
 {
-    match text {
-        "list" => Some(Word::List),
-        "type" => Some(Word::Type),
-        "bool" => Some(Word::Bool),
-        "char" => Some(Word::Char),
-        "func" => Some(Word::Func),
-        "enum" => Some(Word::Enum),
-        "with" => Some(Word::With),
+    match first {
+        b'l' => spelled(text, "list", Word::List),
+        b't' => spelled(text, "type", Word::Type),
+        b'b' => spelled(text, "bool", Word::Bool),
+        b'c' => spelled(text, "char", Word::Char),
+        b'f' => spelled(text, "func", Word::Func),
+        b'e' => spelled(text, "enum", Word::Enum),
+        b'w' => spelled(text, "with", Word::With),
         _ => None,
     }
 }
 
 /// The word of five letters that a text is.
-fn word_of_five(text: &str) -> Option<Word>
+fn word_of_five(text: &str, first: u8) -> Option<Word>
     ensures { IfSome result (λ word. text.now ≡ word_text word) }
 {
-    match text {
-        "flags" => Some(Word::Flags),
-        "tuple" => Some(Word::Tuple),
-        "async" => Some(Word::Async),
-        "world" => Some(Word::World),
+    match first {
+        b'f' => spelled(text, "flags", Word::Flags),
+        b't' => spelled(text, "tuple", Word::Tuple),
+        b'a' => spelled(text, "async", Word::Async),
+        b'w' => spelled(text, "world", Word::World),
         _ => None,
     }
 }
 
 /// The word of six letters that a text is.
-fn word_of_six(text: &str) -> Option<Word>
+fn word_of_six(text: &str, first: u8) -> Option<Word>
     ensures { IfSome result (λ word. text.now ≡ word_text word) }
 {
-    match text {
-        "string" => Some(Word::String),
-        "record" => Some(Word::Record),
-        "option" => Some(Word::Option),
-        "result" => Some(Word::Result),
-        "borrow" => Some(Word::Borrow),
-        "future" => Some(Word::Future),
-        "stream" => Some(Word::Stream),
-        "static" => Some(Word::Static),
-        "import" => Some(Word::Import),
-        "export" => Some(Word::Export),
+    match first {
+        b's' => match text {
+            "string" => Some(Word::String),
+            "stream" => Some(Word::Stream),
+            "static" => Some(Word::Static),
+            _ => None,
+        },
+        b'r' => match text {
+            "record" => Some(Word::Record),
+            "result" => Some(Word::Result),
+            _ => None,
+        },
+        b'o' => spelled(text, "option", Word::Option),
+        b'b' => spelled(text, "borrow", Word::Borrow),
+        b'f' => spelled(text, "future", Word::Future),
+        b'i' => spelled(text, "import", Word::Import),
+        b'e' => spelled(text, "export", Word::Export),
         _ => None,
     }
 }
 
 /// The word of seven letters that a text is.
-fn word_of_seven(text: &str) -> Option<Word>
+fn word_of_seven(text: &str, first: u8) -> Option<Word>
     ensures { IfSome result (λ word. text.now ≡ word_text word) }
 {
-    match text {
-        "package" => Some(Word::Package),
-        "variant" => Some(Word::Variant),
-        "include" => Some(Word::Include),
+    match first {
+        b'p' => spelled(text, "package", Word::Package),
+        b'v' => spelled(text, "variant", Word::Variant),
+        b'i' => spelled(text, "include", Word::Include),
         _ => None,
     }
 }
 
-/// The word of eight letters that a text is.
-fn word_of_eight(text: &str) -> Option<Word>
+/// The word of more than seven letters that a text is.
+fn word_of_more(text: &str, first: u8) -> Option<Word>
     ensures { IfSome result (λ word. text.now ≡ word_text word) }
 {
-    match text {
-        "resource" => Some(Word::Resource),
+    match first {
+        b'r' => spelled(text, "resource", Word::Resource),
+        b'i' => spelled(text, "interface", Word::Interface),
+        b'c' => spelled(text, "constructor", Word::Constructor),
+        b'e' => spelled(text, "error-context", Word::ErrorContext),
         _ => None,
     }
 }
 
-/// The word of nine letters that a text is.
-fn word_of_nine(text: &str) -> Option<Word>
-    ensures { IfSome result (λ word. text.now ≡ word_text word) }
-{
-    match text {
-        "interface" => Some(Word::Interface),
-        _ => None,
-    }
-}
-
-/// The word of more than nine letters that a text is.
-fn word_of_more(text: &str) -> Option<Word>
-    ensures { IfSome result (λ word. text.now ≡ word_text word) }
-{
-    match text {
-        "constructor" => Some(Word::Constructor),
-        "error-context" => Some(Word::ErrorContext),
-        _ => None,
-    }
-}
-
-/// The word that a text is, told by its length first.
+/// The word that a text is, told by its length and its first letter first.
 pub fn word_of(text: &str) -> Option<Word>
     ensures { IfSome result (λ word. text.now ≡ word_text word) }
 {
-    match text.len() {
-        2 => word_of_two(text),
-        3 => word_of_three(text),
-        4 => word_of_four(text),
-        5 => word_of_five(text),
-        6 => word_of_six(text),
-        7 => word_of_seven(text),
-        8 => word_of_eight(text),
-        9 => word_of_nine(text),
-        _ => word_of_more(text),
+    let bytes = text.as_bytes();
+    let len = bytes.len();
+    if len < 2 {
+        return None;
+    }
+    let first = bytes[0];
+    match len {
+        2 => word_of_two(text, first),
+        3 => word_of_three(text, first),
+        4 => word_of_four(text, first),
+        5 => word_of_five(text, first),
+        6 => word_of_six(text, first),
+        7 => word_of_seven(text, first),
+        _ => word_of_more(text, first),
     }
 }

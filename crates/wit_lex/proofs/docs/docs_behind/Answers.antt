@@ -1,10 +1,20 @@
-use Rattle.std.proofs.Common.{arith}
+use Rattle.std.proofs.Common.{sym, ◌∙◌, arith}
 use Rattle.wit_tree.specs.Comments.{Start, Blank, Other}
 use Rattle.wit_lex.proofs.Comments.{docs_more}
 use Rattle.wit_lex.proofs.docs.docs_behind.Goals as goal
 
 pub loop-at-init : goal.loop-at-init
 loop-at-init c = (omega arith, rw c.as_bytes-bytes.ensures.value c.requires.within, rw (c.none-docs.ensures.comments, c.none-docs.ensures.span) Start)
+
+pub loop-at-preserved-then-is_blank : goal.loop-at-preserved-then-is_blank
+loop-at-preserved-then-is_blank c =
+    let i = c.loop-at.invariant in
+    let low = i.0 in
+    let room = c.loop-at-test.true in (
+      omega arith,
+      omega arith,
+      Blank c.loop-at.docs.docs.items c.loop-at.docs.span c.loop-at.at i.2 (rw c.as_bytes-bytes.ensures.value at room) (rw c.as_bytes-bytes.ensures.value at (sym c.is_blank.ensures ∙ c.if-is_blank.true)),
+    )
 
 pub loop-at-preserved-in-Space : goal.loop-at-preserved-in-Space
 loop-at-preserved-in-Space c =
