@@ -7,3 +7,4 @@ pub mod Seconds
 pub mod Scoping
 pub mod Telling
 pub mod NoAttributes
+pub mod Apart

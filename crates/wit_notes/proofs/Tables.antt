@@ -4,25 +4,8 @@ use Rattle.std.specs.Prelude.{slice_get}
 use Rattle.std.specs.Cmp.Lexicographic.{pointwise}
 use Rattle.std.specs.Map.{lookup}
 use Rattle.std.proofs.lemmas.Bool.{cases_Bool}
-use denote.Ref.{Bor}
 use Rattle.indexmap.specs.IndexMap.{insert_entry}
 use Rattle.wit_syntax.proofs.Names.{name_cases, name_itself}
-use Rattle.wit_notes.specs.Lent.{lent_entries}
-
--- lent texts
-pub lookup-lent_entries : {V : Type 0} (bs : List ℕ) (es : List (Bor (List ℕ) × V)) → lookup (λ k. pointwise nat_eq bs k.now) es ≡ lookup (pointwise nat_eq bs) (lent_entries es)
-lookup-lent_entries bs [] = refl
-lookup-lent_entries bs (e ∷ es) = elim (cases_Bool (pointwise nat_eq bs e.0.now)) [
-  | inl hit ↦ rw hit refl
-  | inr miss ↦ rw miss (lookup-lent_entries bs es)
-]
-
-pub lent_entries-insert_entry : {V : Type 0} (es : List (Bor (List ℕ) × V)) (k : Bor (List ℕ)) (v : V) → lent_entries (insert_entry (λ a b. pointwise nat_eq a.now b.now) es k v) ≡ insert_entry (pointwise nat_eq) (lent_entries es) k.now v
-lent_entries-insert_entry [] k v = refl
-lent_entries-insert_entry (e ∷ es) k v = elim (cases_Bool (pointwise nat_eq k.now e.0.now)) [
-  | inl hit ↦ rw hit refl
-  | inr miss ↦ rw miss (ap (λ l. (e.0.now, e.1) ∷ l) (lent_entries-insert_entry es k v))
-]
 
 -- where a value that is found stands
 pub lookup-at : {V : Type 0} (es : List (List ℕ × V)) (key : List ℕ) (v : V) → lookup (pointwise nat_eq key) es ≡ Some v → (i : ℕ) × (slice_get es i ≡ Some (key, v))

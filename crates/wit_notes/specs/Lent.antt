@@ -1,7 +1,10 @@
--- The entries of a map from lent texts.
-use Rattle.std.specs.Prelude.{ℕ, List, [], ◌∷◌}
+-- Maps from lent texts to places.
+use Rattle.std.specs.Prelude.{ℕ, List, Option}
+use Rattle.std.specs.BTreeMap.{BTreeMap, get_by}
+use Rattle.std.specs.Cmp.Lexicographic.{slice_cmp}
+use Rattle.std.specs.Ordering.{nat_cmp}
 use denote.Ref.{Bor}
 
-abbrev pub lent_entries : {V : Type 0} → List (Bor (List ℕ) × V) → List (List ℕ × V)
-lent_entries [] = []
-lent_entries (e ∷ es) = (e.0.now, e.1) ∷ lent_entries es
+-- the place at a text, if it has one
+abbrev pub place_of : BTreeMap (Bor (List ℕ)) ℕ → List ℕ → Option ℕ
+place_of seen text = get_by (λ k. slice_cmp nat_cmp text k.now) seen

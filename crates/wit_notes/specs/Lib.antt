@@ -1,3 +1,4 @@
+pub mod Digests
 pub mod Kinds
 pub mod Lent
 pub mod Names

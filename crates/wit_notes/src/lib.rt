@@ -3,6 +3,7 @@
 
 pub mod attributes;
 pub mod comments;
+mod digests;
 pub mod name_scope;
 pub mod notes;
 pub mod package;

@@ -1,29 +1,29 @@
 //! Texts that stand twice in a list.
-ghost use Rattle.std.specs.Prelude.{◌≡◌, ◌<◌, ℕ, IfOk, IfSome, IfNone, OnOk, length, map, nat_eq, take};
+ghost use Rattle.std.specs.Prelude.{◌≡◌, ◌<◌, ℕ, List, Some, IfOk, IfSome, IfNone, OnOk, length, map, take};
 ghost use Rattle.std.specs.Char.{is_ascii_uppercase};
-ghost use Rattle.std.specs.Cmp.Lexicographic.{pointwise};
 ghost use Rattle.std.specs.List.{list_any};
-ghost use Rattle.std.specs.Map.{lookup};
-ghost use Rattle.indexmap.specs.IndexMap.{insert_entry};
-ghost use Rattle.wit_notes.specs.Lent.{lent_entries};
+ghost use Rattle.std.specs.Map.{update};
+ghost use Rattle.std.specs.Str.{bytes_eq};
+ghost use Rattle.wit_notes.specs.Lent.{place_of};
 ghost use Rattle.wit_syntax.specs.Bodies.{folded};
 ghost use Rattle.wit_syntax.specs.Repeats.{IsRepeatAt, AllDiffer};
 
-use indexmap::IndexMap;
+use crate::digests::have_own_digests;
 use std::alloc::{AllocError, Global};
+use std::collections::BTreeMap;
 use wit_values::Text;
 
-/// As many texts are compared in pairs; for more a map costs less.
+/// As many texts are compared in pairs; for more their digests cost less.
 const FEW: usize = 8;
 
 /// Notes that a text stands at a place, and gives the earlier place where it stands already.
 fn note<'t>(
-    seen: &mut IndexMap<&'t str, usize>,
+    seen: &mut BTreeMap<&'t str, usize>,
     text: &'t str,
     place: usize,
 ) -> Result<Option<usize>, AllocError>
-    ensures found { IfOk result (λ earlier. earlier ≡ lookup (pointwise nat_eq text.now) (lent_entries seen.old.entries)) }
-    ensures noted { OnOk result (lent_entries seen.new.entries ≡ insert_entry (pointwise nat_eq) (lent_entries seen.old.entries) text.now place) }
+    ensures found { IfOk result (λ earlier. earlier ≡ place_of seen.old text.now) }
+    ensures noted { OnOk result ((t : List ℕ) → place_of seen.new t ≡ update bytes_eq (place_of seen.old) text.now (Some place) t) }
 {
     match seen.insert(text, place) {
         Ok(earlier) => Ok(earlier),
@@ -31,13 +31,13 @@ fn note<'t>(
     }
 }
 
-/// [`first_repeat`] by a map from the texts to their places.
+/// [`first_repeat`] by a map from the texts to their places, in which no texts cost more than others.
 fn first_repeat_by_map(alloc: Global, texts: &[&str]) -> Result<Option<(usize, usize)>, AllocError>
     ensures some { IfOk result (λ found. IfSome found (λ p. IsRepeatAt (map (λ t. t.now) texts.now) p.0 p.1)) }
     ensures first { IfOk result (λ found. IfSome found (λ p. AllDiffer (take p.1 (map (λ t. t.now) texts.now)))) }
     ensures none { IfOk result (λ found. IfNone found (AllDiffer (map (λ t. t.now) texts.now))) }
 {
-    let mut seen = IndexMap::with_capacity(alloc, texts.len())?;
+    let mut seen = BTreeMap::new(alloc);
     for place in 0..texts.len() {
         if let Some(earlier) = note(&mut seen, texts[place], place)? {
             return Ok(Some((earlier, place)));
@@ -85,6 +85,9 @@ pub fn first_repeat(alloc: Global, texts: &[&str]) -> Result<Option<(usize, usiz
 {
     if texts.len() <= FEW {
         return Ok(first_repeat_by_pairs(texts));
+    }
+    if have_own_digests(alloc, texts)? {
+        return Ok(None);
     }
     first_repeat_by_map(alloc, texts)
 }
