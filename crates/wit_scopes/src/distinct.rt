@@ -17,7 +17,7 @@ use wit_tree::tree::Id;
 pub fn used_ids<'a>(alloc: Global, uses: &[UsedName<'_, 'a>]) -> Result<Vec<Id<'a>>, AllocError>
     ensures { IfOk result (λ ids. ids.items ≡ map the_local_id (map use_behind uses.now)) }
 {
-    let mut ids = Vec::new(alloc);
+    let mut ids = Vec::with_capacity(alloc, uses.len())?;
     for used in uses {
         ids.push(local_of(used.name))?;
     }
@@ -31,6 +31,7 @@ pub fn add_definition_ids<'a>(
 ) -> Result<(), AllocError>
     ensures { OnOk result (ids.new.items ≡ ids.old.items ++ map the_local_id (map definition_behind definitions.now)) }
 {
+    ids.reserve_exact(definitions.len())?;
     for defined in definitions {
         ids.push(defined.definition.name)?;
     }

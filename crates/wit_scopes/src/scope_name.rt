@@ -91,7 +91,7 @@ pub fn definitions<'t, 'a>(
 ) -> Result<Vec<DefinedName<'t, 'a>>, AllocError>
     ensures { IfOk result (λ definitions. map definition_behind definitions.items ≡ defined (map name_behind names.now)) }
 {
-    let mut definitions = Vec::new(alloc);
+    let mut definitions = Vec::with_capacity(alloc, names.len())?;
     for name in names {
         if let ScopeName::Defined(name) = name {
             definitions.push(*name)?;
