@@ -30,14 +30,7 @@ fn line_end(bytes: &[u8], from: usize) -> usize
 {
     let len = bytes.len();
     let mut at = from + 2;
-    while at < len {
-        if bytes[at] == b'\n' {
-            return at;
-        }
-        at += 1;
-        if len - at < 3 {
-            continue;
-        }
+    'four: while len - at >= 4 {
         if bytes[at] == b'\n' {
             return at;
         }
@@ -47,7 +40,16 @@ fn line_end(bytes: &[u8], from: usize) -> usize
         if bytes[at + 2] == b'\n' {
             return at + 2;
         }
-        at += 3;
+        if bytes[at + 3] == b'\n' {
+            return at + 3;
+        }
+        at += 4;
+    }
+    'rest: while at < len {
+        if bytes[at] == b'\n' {
+            return at;
+        }
+        at += 1;
     }
     at
 }
