@@ -1,4 +1,5 @@
 pub mod Reading
+mod Digested
 mod Known
 pub mod FormKinds
 mod Told

@@ -1,16 +1,24 @@
 -- Tables that know the unnamed entries of an arena.
-use Rattle.std.specs.Prelude.{◌≡◌, ℕ, List, Option, Some, None}
+use Rattle.std.specs.Prelude.{◌≡◌, ◌⊎◌, ℕ, List, Option, Some, None}
+use Rattle.std.specs.Hash.FoldHasher.{initial, write, finish}
+use Rattle.std.specs.List.{fold}
 use Rattle.wit_types.specs.declared.types.TypeDef.{TypeDef}
 use Rattle.wit_arena.specs.Package.{At}
+use Rattle.wit_intern.specs.contracts.key.InternKeyHash.TheImpl.{hash_input-value as key_writes}
 use Rattle.wit_intern.specs.declared.key.InternKey.{InternKey}
 use Rattle.wit_intern.specs.Keys.{key_of}
 use Rattle.wit_intern.specs.FiniteMap.{FiniteMap, set_at}
 
--- each unnamed entry stands in the table, at its place under the key of its kind
-abbrev pub AreKnown : FiniteMap → List TypeDef → Type 0
-AreKnown table es = (j : ℕ) (e : TypeDef) (k : InternKey) → At es j e → e.name ≡ None → key_of e.kind ≡ Some k → table k ≡ Some j
+-- the hash of a key
+abbrev pub digest_of : InternKey → ℕ
+digest_of key = finish (fold write initial (key_writes.it key))
 
--- with a place at a key, if there is a key
-abbrev pub with_key : Option InternKey → ℕ → FiniteMap → FiniteMap
-with_key None i table = table
-with_key (Some k) i table = set_at k i table
+-- each unnamed entry has its place at the digest of the key of its kind, or at the key
+abbrev pub AreKnown : (ℕ → Option ℕ) → FiniteMap → List TypeDef → Type 0
+AreKnown digests keys es = (j : ℕ) (e : TypeDef) (k : InternKey) → At es j e → e.name ≡ None → key_of e.kind ≡ Some k → (digests (digest_of k) ≡ Some j) ⊎ (keys k ≡ Some j)
+
+-- with a place at a key, if there is a key: at its digest, or at itself
+pub data IsSet (key : Option InternKey) (i : ℕ) (digests : ℕ → Option ℕ) (keys : FiniteMap) (new_digests : ℕ → Option ℕ) (new_keys : FiniteMap) : Type 0 where
+  Keyless : key ≡ None → new_digests ≡ digests → new_keys ≡ keys → IsSet key i digests keys new_digests new_keys
+  AtDigest : (k : InternKey) → key ≡ Some k → ((n j : ℕ) → digests n ≡ Some j → new_digests n ≡ Some j) → new_digests (digest_of k) ≡ Some i → new_keys ≡ keys → IsSet key i digests keys new_digests new_keys
+  AtKey : (k : InternKey) → key ≡ Some k → new_digests ≡ digests → new_keys ≡ set_at k i keys → IsSet key i digests keys new_digests new_keys

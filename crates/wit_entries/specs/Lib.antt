@@ -1,4 +1,5 @@
 pub mod Known
+pub mod Places
 pub mod Reading
 pub mod Settled
 pub mod Told

@@ -1,5 +1,5 @@
 //! The types of a package, while they are made: each unnamed one once.
-ghost use Rattle.std.specs.Prelude.{◌≡◌, ℕ, [], ◌∷◌, ◌++◌, ◌↔◌, length, IsTrue, IfOk, OnOk, OnErr, IfErr, IfSome, IfNone};
+ghost use Rattle.std.specs.Prelude.{◌≡◌, ℕ, Some, [], ◌∷◌, ◌++◌, ◌↔◌, length, IsTrue, IfOk, OnOk, OnErr, IfErr, IfSome, IfNone};
 ghost use Rattle.wit_tree.specs.Refusal.{IsWantOfMemory};
 ghost use Rattle.wit_types.specs.declared.types.TypeDef.{TypeDef};
 ghost use Rattle.wit_arena.specs.Meet.{settled as the_settled};
@@ -7,24 +7,23 @@ ghost use Rattle.wit_arena.specs.Package.{At};
 ghost use Rattle.wit_arena.specs.Resolving.{IsUnnamedOf, IsInterned, named, unnamed};
 ghost use Rattle.wit_intern.specs.Keys.{key_of};
 ghost use Rattle.wit_notes.specs.Notes.{notes_behind};
-ghost use Rattle.wit_entries.specs.Known.{AreKnown, with_key};
+ghost use Rattle.wit_entries.specs.Known.{AreKnown, IsSet};
+ghost use Rattle.wit_entries.specs.Places.{digests_at, keys_at};
 ghost use Rattle.wit_entries.specs.Told.{EndsAt};
 ghost use Rattle.wit_entries.specs.Requiring.{IsGrown};
 
 use crate::ends::{End, add_entry, end_at};
 use crate::settling::settled;
-use std::alloc::{AllocFailed, Global};
-use std::collections::HashMap;
+use crate::table::KeyTable;
+use std::alloc::{AllocError, Global};
 use std::marker::Model;
-use wit_intern::{InternKey, InternTable};
+use wit_intern::InternKey;
 use wit_notes::Notes;
 use wit_tree::{ParseResult, Span};
 use wit_types::{
     Arena, Docs, Stability, TypeDef, TypeDefKind, TypeId, TypeOwner, TypePlace, is_same_kind,
 };
 use wit_values::Text;
-
-type Table = HashMap<InternKey, TypeId>;
 
 /// The entries of the arena of types, and a table that knows the unnamed ones by what they are.
 ///
@@ -33,7 +32,7 @@ type Table = HashMap<InternKey, TypeId>;
 pub struct Entries {
     arena: Arena<TypeDef, TypePlace>,
     // Each unnamed entry stands here; a place that was meant for a refused one may stand here too.
-    table: Table,
+    table: KeyTable,
     // Where each entry ends.
     ends: Vec<End>,
 }
@@ -42,13 +41,14 @@ impl Model for Entries {
     ghost use Rattle.std.specs.Prelude.{List};
     ghost use Rattle.wit_types.specs.declared.types.TypeDef.{TypeDef};
     ghost use Rattle.wit_entries.specs.Known.{AreKnown};
+    ghost use Rattle.wit_entries.specs.Places.{digests_at, keys_at};
     ghost use Rattle.wit_entries.specs.Told.{AreTold};
 
     ghost Value = { List TypeDef };
 
     ghost view = { λ e. e.arena };
 
-    ghost invariant = { λ e. AreKnown (⟦<HashMap<InternKey, TypeId> as InternTable>⟧.content e.table) e.arena × AreTold e.ends.items e.arena };
+    ghost invariant = { λ e. AreKnown (digests_at e.table) (keys_at e.table) e.arena × AreTold e.ends.items e.arena };
 }
 
 /// Whether an entry is the unnamed type of a kind.
@@ -86,12 +86,13 @@ fn confirmed(types: &Arena<TypeDef, TypePlace>, id: TypeId, kind: &TypeDefKind) 
 }
 
 /// Sets a place at a key, if there is a key.
-fn set(table: &mut Table, key: Option<InternKey>, id: TypeId) -> Result<(), AllocFailed<InternKey>>
-    ensures set { OnOk result (⟦<HashMap<InternKey, TypeId> as InternTable>⟧.content table.new ≡ with_key key id (⟦<HashMap<InternKey, TypeId> as InternTable>⟧.content table.old)) }
-    ensures refused { OnErr result (⟦<HashMap<InternKey, TypeId> as InternTable>⟧.content table.new ≡ ⟦<HashMap<InternKey, TypeId> as InternTable>⟧.content table.old) }
+fn set(table: &mut KeyTable, key: Option<InternKey>, id: TypeId) -> Result<(), AllocError>
+    ensures set { OnOk result (IsSet key id (digests_at table.old) (keys_at table.old) (digests_at table.new) (keys_at table.new)) }
+    ensures digests_stay { OnErr result (digests_at table.new ≡ digests_at table.old) }
+    ensures keys_stay { OnErr result (keys_at table.new ≡ keys_at table.old) }
 {
     match key {
-        Some(key) => InternTable::insert(table, key, id),
+        Some(key) => table.insert(key, id),
         None => Ok(()),
     }
 }
@@ -103,7 +104,7 @@ impl Entries {
     {
         Entries {
             arena: Arena::new(alloc),
-            table: HashMap::new(alloc),
+            table: KeyTable::new(alloc),
             ends: Vec::new(alloc),
         }
     }
@@ -151,6 +152,23 @@ impl Entries {
         end_at(&self.ends, id)
     }
 
+    /// The unnamed type of a kind with this key, where there is one.
+    fn find_keyed(&self, key: &InternKey, kind: &TypeDefKind) -> Option<TypeId>
+        requires { Some key.now ≡ key_of kind.now }
+        ensures found { IfSome result (λ i. (e : TypeDef) × At self.now i e × IsUnnamedOf kind.now e) }
+        ensures none { IfNone result ((j : ℕ) (e : TypeDef) → At self.now j e → IsUnnamedOf kind.now e → ⊥) }
+    {
+        if let Some(id) = self.table.at_digest(key) {
+            if let Some(found) = confirmed(&self.arena, id, kind) {
+                return Some(found);
+            }
+        }
+        match self.table.at_key(key) {
+            Some(id) => confirmed(&self.arena, id, kind),
+            None => None,
+        }
+    }
+
     /// The unnamed type of a kind, where there is one. A kind without a key is looked for in each entry.
     fn find(&self, key: &Option<InternKey>, kind: &TypeDefKind) -> Option<TypeId>
         requires { key.now ≡ key_of kind.now }
@@ -158,10 +176,7 @@ impl Entries {
         ensures none { IfNone result ((j : ℕ) (e : TypeDef) → At self.now j e → IsUnnamedOf kind.now e → ⊥) }
     {
         match key {
-            Some(key) => match InternTable::find(&self.table, key) {
-                Some(id) => confirmed(&self.arena, id, kind),
-                None => None,
-            },
+            Some(key) => self.find_keyed(key, kind),
             None => find_unnamed(&self.arena, kind),
         }
     }
