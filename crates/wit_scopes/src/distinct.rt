@@ -17,7 +17,7 @@ use wit_tree::tree::Id;
 pub fn used_ids<'a>(alloc: Global, uses: &[UsedName<'_, 'a>]) -> Result<Vec<Id<'a>>, AllocError>
     ensures { IfOk result (λ ids. ids.items ≡ map the_local_id (map use_behind uses.now)) }
 {
-    let mut ids = Vec::with_capacity(alloc, uses.len())?;
+    let mut ids = Vec::new(alloc);
     for used in uses {
         ids.push(local_of(used.name))?;
     }
