@@ -6,3 +6,4 @@ mod Parting
 mod Serving
 pub mod Keys
 mod OneSide
+mod Pairing

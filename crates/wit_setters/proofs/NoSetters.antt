@@ -12,7 +12,7 @@ none_of false b h = (refl, h)
 none_of true b h = absurd (let f : ⊥ = cc in f)
 
 -- with no setter behind it, each stands alone
-each_alone : {X : Type 0} (test : X → X → Bool) (es : List X) → flat_map (with_setters test []) es ≡ es
+pub each_alone : {X : Type 0} (test : X → X → Bool) (es : List X) → flat_map (with_setters test []) es ≡ es
 each_alone test [] = refl
 each_alone test (e ∷ es) = ap (λ l. e ∷ l) (each_alone test es)
 

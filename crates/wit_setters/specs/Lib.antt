@@ -1,2 +1,3 @@
+pub mod Paired
 pub mod Told
 pub mod Parted

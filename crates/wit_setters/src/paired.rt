@@ -1,0 +1,70 @@
+//! Whether each setter stands directly behind its getter already.
+ghost use Rattle.std.specs.Prelude.{◌≡◌, ◌<◌, length, IsTrue};
+ghost use Rattle.std.specs.Option.{option_copied};
+ghost use Rattle.wit_model.specs.Setters.{fronts as the_fronts, goes_on_alike, is_getter_of, is_same_text};
+ghost use Rattle.wit_setters.specs.Paired.{ArePaired, IsPaired};
+
+use crate::told::is_setter;
+use wit_model::Function;
+use wit_model::setters::{fronts, is_getter};
+use wit_names::front::behind;
+
+fn is_same_text(a: Option<&str>, b: Option<&str>) -> bool
+    ensures { result ≡ is_same_text (option_copied a.entry) (option_copied b.entry) }
+{
+    match a {
+        Some(a) => match b {
+            Some(b) => a == b,
+            None => false,
+        },
+        None => false,
+    }
+}
+
+/// Whether the name of a setter goes on behind its front as another name does behind that of the
+/// setter's getter.
+fn goes_on_alike(setter: &Function, getter: &Function) -> bool
+    ensures { result ≡ goes_on_alike (the_fronts setter.now.kind) setter.now.name getter.now.name }
+{
+    match fronts(setter.kind) {
+        Some((set, get)) => is_same_text(
+            behind(setter.name.as_str(), set),
+            behind(getter.name.as_str(), get),
+        ),
+        None => false,
+    }
+}
+
+/// Whether one is a setter, and the other its getter.
+fn is_getter_of(setter: &Function, getter: &Function) -> bool
+    ensures { result ≡ is_getter_of setter.now getter.now }
+{
+    is_getter(getter.kind) && goes_on_alike(setter, getter)
+}
+
+/// Whether the function at a place is no setter, or stands directly behind its getter.
+fn is_paired(functions: &[Function], place: usize) -> bool
+    requires { place < length functions.now }
+    ensures { IsTrue result → IsPaired functions.now place }
+{
+    let function = &functions[place];
+    if !is_setter(Some(function)) {
+        return true;
+    }
+    if place == 0 {
+        return false;
+    }
+    is_getter_of(function, &functions[place - 1])
+}
+
+/// Whether each setter stands directly behind its getter.
+pub(crate) fn are_paired(functions: &[Function]) -> bool
+    ensures { IsTrue result → ArePaired functions.now }
+{
+    for place in 0..functions.len() {
+        if !is_paired(functions, place) {
+            return false;
+        }
+    }
+    true
+}
