@@ -80,7 +80,7 @@ pub none-has : (es : List Entry) (name k : List ℕ) → IsKeyed es → k ≡ fo
 none-has es name k is fits none has = free-none es name k is fits none (record { place = has.place; earlier = (name, has.span); at = has.at; same = refl })
 
 -- the text behind a front stands behind it
-behind-some : (front text rest : List ℕ) → behind front text ≡ Some rest → text ≡ front ++ rest
+pub behind-some : (front text rest : List ℕ) → behind front text ≡ Some rest → text ≡ front ++ rest
 behind-some front text rest h = by (starts_with nat_eq text front) refl
   where
     by : (b : Bool) → starts_with nat_eq text front ≡ b → text ≡ front ++ rest

@@ -4,6 +4,7 @@
 pub mod attributes;
 pub mod comments;
 mod digests;
+mod getters;
 pub mod name_scope;
 pub mod notes;
 pub mod package;

@@ -7,6 +7,7 @@ ghost use Rattle.wit_syntax.specs.Fault.{fault};
 ghost use Rattle.wit_notes.specs.Names.{IsDefinedAgain, IsFirstLoneSetter, IsLoneSetter, IsTaken};
 ghost use Rattle.wit_notes.specs.Scope.{HasName, IsKeyed, names_of};
 
+use crate::getters::is_getter_name;
 use crate::refusal::refuse_in;
 use std::alloc::{AllocError, Global};
 use std::marker::Model;
@@ -69,10 +70,21 @@ fn has_name(
     }
 }
 
-/// Refuses a setter without the getter of its spelling.
+/// Whether the name at a place is that of a setter's getter.
+fn is_getter_at(names: &Table<Folded, DefinedName>, place: usize, setter: &str) -> bool
+    ensures { IsTrue result → HasName (names_of names.now) (getter_of setter.now) }
+{
+    match names.get_index(place) {
+        Some((_, found)) => is_getter_name(found.name.as_str(), setter),
+        None => false,
+    }
+}
+
+/// Refuses a setter at a place without the getter of its spelling, which mostly stands before it.
 fn check_setter(
     alloc: Global,
     names: &Table<Folded, DefinedName>,
+    place: usize,
     name: &str,
     span: Span,
 ) -> ParseResult<()>
@@ -81,6 +93,9 @@ fn check_setter(
     ensures refused { IfErr result (Refused (λ f. IsTrue (is_setter name.now) × (HasName (names_of names.now) (getter_of name.now) → ⊥) × (f ≡ fault 18 span))) }
 {
     if !is_setter(name) {
+        return Ok(());
+    }
+    if is_getter_at(names, place.saturating_sub(1), name) {
         return Ok(());
     }
     let getter = getter_for_setter(alloc, name)?;
@@ -142,7 +157,13 @@ impl NameScope {
     {
         for place in 0..self.names.len() {
             if let Some((_, name)) = self.names.get_index(place) {
-                check_setter(self.alloc, &self.names, name.name.as_str(), name.span)?;
+                check_setter(
+                    self.alloc,
+                    &self.names,
+                    place,
+                    name.name.as_str(),
+                    name.span,
+                )?;
             }
         }
         Ok(())
