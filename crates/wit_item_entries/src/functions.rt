@@ -13,6 +13,7 @@ ghost use Rattle.wit_rules.specs.Signatures.{told_ok, AreResults};
 ghost use Rattle.wit_items.specs.Items.{declared_behind};
 ghost use Rattle.wit_scopes.specs.Held.{name_behind};
 
+use indexmap::IndexMap;
 use std::alloc::{AllocError, Global};
 use wit_items::items::Declared;
 use wit_model::Function;
@@ -124,7 +125,8 @@ pub fn function_table(
     requires { AllDiffer (map (λ f. f.name) functions.items) }
     ensures { IfOk result (λ table. table ≡ placed_functions functions.items) }
 {
-    let mut table = TextTable::new(alloc);
+    let map = IndexMap::with_capacity(alloc, functions.len())?;
+    let mut table = TextTable::from(map);
     for function in setters_behind_getters(alloc, functions)? {
         add_function(alloc, &mut table, function)?;
     }
