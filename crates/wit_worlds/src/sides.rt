@@ -26,6 +26,7 @@ ghost use Rattle.wit_worlds.specs.Sides.{entries_of, entries_on, inserted_on};
 
 use crate::setters::settle;
 use crate::standing::Standing;
+use indexmap::IndexMap;
 use std::alloc::{AllocError, Global};
 use wit_externs::held::{HeldExtern, HeldInline, HeldLink, Led};
 use wit_files::path_id;
@@ -64,7 +65,8 @@ fn type_imports(
     requires distinct { AllDiffer (map (λ id. id.name.now) turn.now) }
     ensures { IfOk result (λ imports. (xs : List ScopeName) → turn.now ≡ map local_id xs → imports ≡ the_imports xs types.now) }
 {
-    let mut imports = Table::new(alloc);
+    let map = IndexMap::with_capacity(alloc, turn.len())?;
+    let mut imports = Table::from(map);
     for (place, id) in turn.iter().enumerate() {
         if let Some((_, ty)) = types.get_index(place) {
             add_import(alloc, &mut imports, *id, *ty)?;
