@@ -31,7 +31,7 @@ use crate::externs::declared_externs;
 use crate::includes::declared_includes;
 use crate::inside::declared_name;
 use crate::setters::is_closed;
-use crate::sides::{WorldSides, world_sides};
+use crate::sides::{WorldSides, fitted, world_sides};
 use crate::standing::resolve_standing;
 use std::alloc::Global;
 use wit_entries::entries::Entries;
@@ -85,8 +85,8 @@ fn add_world(
 {
     let place = worlds.arena.alloc(World {
         name: Text::from_str(alloc, id.name)?,
-        imports: sides.imports,
-        exports: sides.exports,
+        imports: fitted(sides.imports),
+        exports: fitted(sides.exports),
         package: None,
         docs: notes.docs,
         stability: notes.stability,
