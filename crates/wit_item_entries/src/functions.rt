@@ -116,12 +116,8 @@ fn add_function(
     Ok(())
 }
 
-/// The functions of an interface under their names, where each setter that is written before its
-/// getter stands directly behind it.
-pub fn function_table(
-    alloc: Global,
-    functions: Vec<Function>,
-) -> Result<TextTable<Function>, AllocError>
+/// [`function_table`], with more room than it takes.
+fn placed_table(alloc: Global, functions: Vec<Function>) -> Result<TextTable<Function>, AllocError>
     requires { AllDiffer (map (λ f. f.name) functions.items) }
     ensures { IfOk result (λ table. table ≡ placed_functions functions.items) }
 {
@@ -131,4 +127,26 @@ pub fn function_table(
         add_function(alloc, &mut table, function)?;
     }
     Ok(table)
+}
+
+/// A table with no more room than it takes.
+fn fitted(table: TextTable<Function>) -> TextTable<Function>
+    ensures { result ≡ table }
+{
+    let mut map = table.into_map();
+    map.shrink_to_fit();
+    TextTable::from(map)
+}
+
+/// The functions of an interface under their names, where each setter that is written before its
+/// getter stands directly behind it.
+pub fn function_table(
+    alloc: Global,
+    functions: Vec<Function>,
+) -> Result<TextTable<Function>, AllocError>
+    requires { AllDiffer (map (λ f. f.name) functions.items) }
+    ensures { IfOk result (λ table. table ≡ placed_functions functions.items) }
+{
+    let table = placed_table(alloc, functions)?;
+    Ok(fitted(table))
 }

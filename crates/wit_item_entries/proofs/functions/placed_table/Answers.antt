@@ -8,7 +8,7 @@ use Rattle.wit_syntax.specs.Repeats.{AllDiffer}
 use Rattle.wit_arena.proofs.FunctionNames.{made_name}
 use Rattle.wit_item_entries.proofs.FunctionTables.{function_next}
 use Rattle.wit_item_entries.proofs.PlacedNames.{placed_differ, table_placed}
-use Rattle.wit_item_entries.proofs.functions.function_table.Goals as goal
+use Rattle.wit_item_entries.proofs.functions.placed_table.Goals as goal
 
 pub loop-function-preserved : goal.loop-function-preserved
 loop-function-preserved c =
