@@ -113,6 +113,15 @@ fn resolve_include<'f, 'a>(
     })
 }
 
+/// Includes, with no more room than they take.
+fn fitted(includes: Vec<WorldInclude>) -> Row<WorldInclude>
+    ensures { result ≡ includes.items }
+{
+    let mut includes = includes;
+    includes.shrink_to_fit();
+    Row::from(includes)
+}
+
 /// The includes of a world.
 fn resolve_includes<'f, 'a>(
     alloc: Global,
@@ -136,7 +145,7 @@ fn resolve_includes<'f, 'a>(
             includes.push(include)?;
         }
     }
-    Ok(Row::from(includes))
+    Ok(fitted(includes))
 }
 
 /// The includes of a declared world.

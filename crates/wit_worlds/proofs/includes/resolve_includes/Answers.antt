@@ -81,7 +81,7 @@ returns-clause-are c = λ fs file named.
     let xs = c.world_items-part-items.result.now in
     let k = c.loop-part.part-index in
     let all : take k w.items.items ≡ w.items.items = ap (take k) (sym c.world_items-part-items.ensures) ∙ take_all k xs (omega arith) ∙ c.world_items-part-items.ensures in
-    rw c.from.ensures (includes_are worlds (top_names file) w c.loop-part.includes.items (subst (λ (l : List WorldItem). AreIncluded worlds (top_names file) (included l) c.loop-part.includes.items) all (c.loop-part.invariant.are fs file named)))
+    rw c.fitted.ensures (includes_are worlds (top_names file) w c.loop-part.includes.items (subst (λ (l : List WorldItem). AreIncluded worlds (top_names file) (included l) c.loop-part.includes.items) all (c.loop-part.invariant.are fs file named)))
 
 pub returns-clause-stable : goal.returns-clause-stable
 returns-clause-stable c =
