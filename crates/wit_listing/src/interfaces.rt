@@ -6,7 +6,7 @@ ghost use Rattle.wit_listing.specs.Words.{Adds};
 ghost use Rattle.wit_listing.specs.Interfaces.{function_line, interface_lines, named_type_line, name_text};
 
 use crate::functions::push_signature;
-use crate::words::push_stability;
+use crate::words::{push_numbered, push_stability};
 use std::alloc::AllocError;
 use wit_model::{Function, Interface};
 use wit_types::{Arena, InterfacePlace, TypeId};
@@ -28,7 +28,8 @@ fn push_named_type(text: &mut String, name: &str, id: TypeId) -> Result<(), Allo
 {
     text.push_str("  ")?;
     text.push_str(name)?;
-    write!(text, " = type #{}\n", id.index())
+    push_numbered(text, " = type #", id.index())?;
+    text.push_str("\n")
 }
 
 fn push_named_types(text: &mut String, types: &TextTable<TypeId>) -> Result<(), AllocError>
@@ -71,7 +72,8 @@ fn push_functions(text: &mut String, functions: &TextTable<Function>) -> Result<
 fn push_interface(text: &mut String, place: usize, interface: &Interface) -> Result<(), AllocError>
     ensures { OnOk result (Adds text.old text.new (interface_lines place interface.now)) }
 {
-    write!(text, "i{place} ")?;
+    push_numbered(text, "i", place)?;
+    text.push_str(" ")?;
     push_name(text, &interface.name)?;
     push_stability(text, &interface.stability)?;
     text.push_str("\n")?;

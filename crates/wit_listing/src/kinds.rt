@@ -4,7 +4,7 @@ ghost use Rattle.std.specs.List.{flat_map};
 ghost use Rattle.wit_listing.specs.Words.{Adds};
 ghost use Rattle.wit_listing.specs.Kinds.{case_text, enum_case_text, field_text, flag_text, handle_text, item_text, kind_text};
 
-use crate::words::{push_optional, push_type};
+use crate::words::{push_numbered, push_optional, push_type};
 use std::alloc::AllocError;
 use wit_types::{Case, EnumCase, Field, Flag, Handle, Type, TypeDefKind};
 
@@ -77,8 +77,8 @@ fn push_handle(text: &mut String, handle: Handle) -> Result<(), AllocError>
     ensures { OnOk result (Adds text.old text.new (handle_text handle)) }
 {
     match handle {
-        Handle::Own(resource) => write!(text, "own #{}", resource.index()),
-        Handle::Borrow(resource) => write!(text, "borrow #{}", resource.index()),
+        Handle::Own(resource) => push_numbered(text, "own #", resource.index()),
+        Handle::Borrow(resource) => push_numbered(text, "borrow #", resource.index()),
     }
 }
 

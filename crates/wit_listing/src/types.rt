@@ -2,13 +2,24 @@
 ghost use Rattle.std.specs.Prelude.{◌≡◌, ◌++◌, OnOk, string_bytes};
 ghost use Rattle.wit_listing.specs.Lists.{numbered};
 ghost use Rattle.wit_listing.specs.Words.{Adds};
-ghost use Rattle.wit_listing.specs.Types.{owner_text, type_line};
+ghost use Rattle.wit_listing.specs.Types.{owner_place, owner_text, type_line};
 
 use crate::kinds::push_kind;
-use crate::words::push_stability;
+use crate::words::{push_numbered, push_stability};
 use std::alloc::AllocError;
 use wit_types::{Arena, TypeDef, TypeOwner, TypePlace};
 use wit_values::Text;
+
+/// The place of a world or an interface, or `-`.
+fn push_owner_place(text: &mut String, owner: TypeOwner) -> Result<(), AllocError>
+    ensures { OnOk result (Adds text.old text.new (owner_place owner)) }
+{
+    match owner {
+        TypeOwner::World(world) => push_numbered(text, "w", world.index()),
+        TypeOwner::Interface(interface) => push_numbered(text, "i", interface.index()),
+        TypeOwner::None => text.push_str("-"),
+    }
+}
 
 /// The name of a type behind that of its owner, or `-`.
 fn push_owner(text: &mut String, owner: TypeOwner, name: &Option<Text>) -> Result<(), AllocError>
@@ -16,11 +27,8 @@ fn push_owner(text: &mut String, owner: TypeOwner, name: &Option<Text>) -> Resul
 {
     match name {
         Some(name) => {
-            match owner {
-                TypeOwner::World(world) => write!(text, "w{}.", world.index())?,
-                TypeOwner::Interface(interface) => write!(text, "i{}.", interface.index())?,
-                TypeOwner::None => text.push_str("-.")?,
-            }
+            push_owner_place(text, owner)?;
+            text.push_str(".")?;
             text.push_str(name.as_str())
         }
         None => text.push_str("-"),
@@ -31,7 +39,8 @@ fn push_owner(text: &mut String, owner: TypeOwner, name: &Option<Text>) -> Resul
 fn push_type_line(text: &mut String, place: usize, def: &TypeDef) -> Result<(), AllocError>
     ensures { OnOk result (Adds text.old text.new (type_line place def.now)) }
 {
-    write!(text, "#{place} ")?;
+    push_numbered(text, "#", place)?;
+    text.push_str(" ")?;
     push_owner(text, def.owner, &def.name)?;
     text.push_str(" = ")?;
     push_kind(text, &def.kind)?;

@@ -1,10 +1,20 @@
 //! Small texts of a listing, each put behind a text.
-ghost use Rattle.std.specs.Prelude.{◌≡◌, ◌++◌, OnOk, string_bytes};
+ghost use Rattle.std.specs.Prelude.{◌≡◌, ◌++◌, OnOk, decimal, string_bytes};
 ghost use Rattle.wit_listing.specs.Words.{Adds, deprecated_text, optional_text, stability_text, type_text};
 
+use itoa::Buffer;
 use std::alloc::AllocError;
 use wit_types::{Stability, Type};
 use wit_values::Release;
+
+/// A text, and a number in decimal digits behind it.
+pub fn push_numbered(text: &mut String, front: &str, number: usize) -> Result<(), AllocError>
+    ensures { OnOk result (Adds text.old text.new (front.now ++ decimal number)) }
+{
+    let mut digits = Buffer::new();
+    text.push_str(front)?;
+    text.push_str(digits.format(number))
+}
 
 /// The word of a primitive type, or `#` and the place of an entry.
 pub fn push_type(text: &mut String, ty: Type) -> Result<(), AllocError>
@@ -25,7 +35,7 @@ pub fn push_type(text: &mut String, ty: Type) -> Result<(), AllocError>
         Type::Char => text.push_str("char"),
         Type::String => text.push_str("string"),
         Type::ErrorContext => text.push_str("error-context"),
-        Type::Id(id) => write!(text, "#{}", id.index()),
+        Type::Id(id) => push_numbered(text, "#", id.index()),
     }
 }
 

@@ -6,7 +6,7 @@ ghost use Rattle.wit_listing.specs.Words.{Adds};
 ghost use Rattle.wit_listing.specs.Worlds.{extern_line, extern_text, has_own_line, include_line, included_text, is_inline, key_text, rename_text, world_line, world_lines, world_name};
 
 use crate::functions::push_signature;
-use crate::words::push_stability;
+use crate::words::{push_numbered, push_stability};
 use std::alloc::AllocError;
 use wit_model::{IncludeName, Interface, World, WorldInclude, WorldItem, WorldKey};
 use wit_types::{Arena, InterfaceId, InterfacePlace, Stability, WorldId, WorldPlace};
@@ -70,7 +70,7 @@ fn push_extern(
             push_signature(text, function)?;
             push_stability(text, &function.stability)
         }
-        WorldItem::Type_ { id, .. } => write!(text, "type #{}", id.index()),
+        WorldItem::Type_ { id, .. } => push_numbered(text, "type #", id.index()),
     }
 }
 
@@ -170,7 +170,8 @@ fn push_world_name(text: &mut String, name: &str) -> Result<(), AllocError>
 fn push_world_line(text: &mut String, place: usize, world: &World) -> Result<(), AllocError>
     ensures { OnOk result (Adds text.old text.new (world_line place world.now)) }
 {
-    write!(text, "w{place} ")?;
+    push_numbered(text, "w", place)?;
+    text.push_str(" ")?;
     push_world_name(text, world.name.as_str())?;
     push_stability(text, &world.stability)?;
     text.push_str("\n")
