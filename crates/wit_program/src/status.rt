@@ -33,7 +33,8 @@ fn answer_whole<W: Write>(alloc: Global, text: &str, out: &mut W) -> io::Result<
 fn answer_input<R: Read + Drop, W: Write>(alloc: Global, input: R, out: &mut W) -> io::Result<bool>
     ensures { IfSome (R.remaining input) (λ text. IsEnded text (W.contents out.old) (W.contents out.new) (status_of result)) }
 {
-    let text = io::read_to_string(alloc, input)?;
+    let mut text = io::read_to_string(alloc, input)?;
+    text.shrink_to_fit();
     answer_whole(alloc, text.as_str(), out)
 }
 
