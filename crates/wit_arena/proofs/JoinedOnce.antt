@@ -8,18 +8,13 @@ use Rattle.wit_syntax.specs.Source.{Item, all_items, scope_names}
 use Rattle.wit_syntax.specs.Scope.{item_rows, interfaces_of, worlds_of, in_order, rows_of}
 use Rattle.wit_syntax.specs.Sides.{inline_items}
 use Rattle.wit_syntax.proofs.Lists.{at_front, at_back}
-use Rattle.wit_arena.specs.Meet.{Meeting, Meets}
+use Rattle.wit_arena.specs.Meet.{Meeting}
 use Rattle.wit_arena.specs.Whole.{Ordered, OrderedWorld, item_of, own_item, all_inside, all_turns, all_meetings}
-use Rattle.wit_arena.specs.Splitting.{AreOrdered, AreFirstMeetings}
+use Rattle.wit_arena.specs.FirstMeetings.{AreFirst, AreOrdered}
+use Rattle.wit_arena.specs.Splitting.{AreFirstMeetings}
 use Rattle.wit_arena.proofs.JoinedWorlds.{HasInside}
-
--- what is met anew is one list
-pub meets_once : (ms ks a b : List Meeting) → Meets ms ks a → Meets ms ks b → a ≡ b
-meets_once ms [] a b x y = x ∙ sym y
-meets_once ms (k ∷ ks) a b (inl x) (inl y) = meets_once ms ks a b x.1 y.1
-meets_once ms (k ∷ ks) a b (inr x) (inr y) = meets_once (ms ++ k ∷ []) ks a b x.1 y.1
-meets_once ms (k ∷ ks) a b (inl x) (inr y) = absurd (y.0 x.0)
-meets_once ms (k ∷ ks) a b (inr x) (inl y) = absurd (x.0 y.0)
+use Rattle.wit_arena.proofs.Meeting.{meets_one}
+use Rattle.wit_arena.proofs.FirstMeetings.{meets_of_first}
 
 -- each of these scopes has the order of the table of its names
 abbrev HaveOrders : List Ordered → Type 0
@@ -95,5 +90,6 @@ pub first_once : (files : List PackageFile) (met more : List Meeting) → AreFir
 first_once files met more a b =
     let is = interfaces_once files a.interfaces b.interfaces a.worlds b.worlds a.ordered b.ordered in
     let ws = worlds_once files a.interfaces b.interfaces a.worlds b.worlds a.ordered b.ordered in
-    let same : all_meetings files (all_turns a.interfaces a.worlds) ≡ all_meetings files (all_turns b.interfaces b.worlds) = ap (λ (l : List Ordered). all_meetings files (all_turns l a.worlds)) is ∙ ap (λ (l : List OrderedWorld). all_meetings files (all_turns b.interfaces l)) ws in
-    meets_once [] (all_meetings files (all_turns b.interfaces b.worlds)) met more (subst (λ (ms : List Meeting). Meets [] ms met) same a.meets) b.meets
+    let all = all_meetings files (all_turns b.interfaces b.worlds) in
+    let same : all_meetings files (all_turns a.interfaces a.worlds) ≡ all = ap (λ (l : List Ordered). all_meetings files (all_turns l a.worlds)) is ∙ ap (λ (l : List OrderedWorld). all_meetings files (all_turns b.interfaces l)) ws in
+    meets_one all [] met more (meets_of_first all met (subst (λ (ms : List Meeting). AreFirst ms met) same a.first)) (meets_of_first all more b.first)

@@ -24,7 +24,8 @@ use Rattle.wit_arena.specs.Meet.{Key, keys, Meeting, Meets}
 use Rattle.wit_arena.specs.Functions.{AreFunctions, placed_functions}
 use Rattle.wit_arena.specs.Package.{IsInterface, IsWorld, world_types}
 use Rattle.wit_arena.specs.Whole.{Ordered, OrderedWorld, own_item, all_inside, Turned, all_turns, addresses, HasTypes, AreInterfaces, HasSides, AreWorlds, turn_handles, interface_addresses, world_addresses, declarations, AreRequired, AreForeignWorlds, first_docs, IsPackage}
-use Rattle.wit_arena.specs.Splitting.{AreOrdered, HaveSamePackages}
+use Rattle.wit_arena.specs.Splitting.{HaveSamePackages}
+use Rattle.wit_arena.proofs.FirstMeetings.{ordered_of}
 use Rattle.wit_arena.proofs.JoinedTurns.{Told, told}
 use Rattle.wit_arena.proofs.JoinedWorlds.{ToldWorld, told_world, own_told, turned_of, turns_same, interfaces_told}
 use Rattle.wit_arena.proofs.JoinedMeetings.{HasOrdered, ordered_onward, meetings_same}
@@ -93,9 +94,6 @@ module _ (ks : List Key) (interfaces worlds : List Address) (ws vs : List Ordere
   }
 
 module _ (files others : List PackageFile) (a : AreAlike files others) (hs : HaveSameHeaders files others) where
-  ordered_of : (p : UnresolvedPackage) (h : IsPackage files p) → AreOrdered files h.interfaces h.worlds
-  ordered_of p h = record { places = h.places; item_order = h.item_order; all_interfaces = h.all_interfaces; all_worlds = h.all_worlds; inside = h.inside; least = h.least }
-
   interface_addresses_same : (os qs : List Ordered) → map told os ≡ map told qs → interface_addresses files os ≡ interface_addresses others qs
   interface_addresses_same os qs same = ap (λ (vs : List ForeignVisit). map visited vs ++ addresses os) (foreign_interfaces_same files others a) ∙ ap (λ (l : List Address). map visited (foreign_interfaces others) ++ l) (addresses_same os qs same)
 
@@ -151,7 +149,7 @@ module _ (files others : List PackageFile) (a : AreAlike files others) (hs : Hav
       }
 
   pub package_onward : (p : UnresolvedPackage) → IsPackage files p → IsPackage others p
-  package_onward p h = package_with p h (ordered_onward files others a h.interfaces h.worlds (ordered_of p h))
+  package_onward p h = package_with p h (ordered_onward files others a h.interfaces h.worlds (ordered_of files p h))
 
 pub joined_packages : (files : List PackageFile) (one : PackageFile) → IsJoined files one → HaveSamePackages files (one ∷ [])
 joined_packages files one j p =

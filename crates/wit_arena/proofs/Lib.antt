@@ -62,6 +62,7 @@ pub mod Owners
 pub mod Packaged
 pub mod Linked
 pub mod Resolved
+pub mod FirstMeetings
 pub mod JoinedTurns
 pub mod JoinedWorlds
 pub mod JoinedOnce

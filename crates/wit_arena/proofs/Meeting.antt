@@ -43,7 +43,7 @@ has_either [] ys k h = inr h
 has_either (x ∷ xs) ys k h = elim h [ inl here ↦ inl (inl here) | inr rest ↦ elim (has_either xs ys k rest) [ inl a ↦ inl (inr a) | inr b ↦ inr b ] ]
 
 -- a key that stands where one meeting was added
-key_either : (a : List Meeting) (x : Meeting) (i : ℕ) (k : Key) → slice_get (keys (a ++ x ∷ [])) i ≡ Some k → (slice_get (keys a) i ≡ Some k) ⊎ ((i ≡ length (keys a)) × (k ≡ x.key))
+pub key_either : (a : List Meeting) (x : Meeting) (i : ℕ) (k : Key) → slice_get (keys (a ++ x ∷ [])) i ≡ Some k → (slice_get (keys a) i ≡ Some k) ⊎ ((i ≡ length (keys a)) × (k ≡ x.key))
 key_either a x i k h = at_either (keys a) x.key i k (sym (ap (λ l. slice_get l i) (keys-append a (x ∷ []))) ∙ h)
 
 -- what stands in the end stood there before or was met

@@ -9,4 +9,5 @@ pub mod Whole
 pub mod Resolving
 pub mod Resolved
 pub mod Adding
+pub mod FirstMeetings
 pub mod Splitting

@@ -30,7 +30,7 @@ use Rattle.wit_meaning_examples.proofs.SignatureExamples.{one_order}
 use Rattle.wit_meaning_examples.proofs.ElsewhereExamples.{own_file, i_item, use_own, visit, t_used, other}
 
 -- what is among one is that one
-one_among : {X : Type 0} (x y : X) → Contains (x ∷ []) y → x ≡ y
+pub one_among : {X : Type 0} (x y : X) → Contains (x ∷ []) y → x ≡ y
 one_among x y among =
     let it = at_contains (x ∷ []) y among in
     only it.0 it.1
@@ -39,11 +39,11 @@ one_among x y among =
     only zero at = cc
     only (suc i) at = absurd (let f : ⊥ = cc in f)
 
-no_stability : (f : Fault) → IsBrokenStability [] f → ⊥
+pub no_stability : (f : Fault) → IsBrokenStability [] f → ⊥
 no_stability f h = no_notes f (inl h)
 
 -- whether a name of a scope is defined there, and the scope that it is used from
-abbrev from_of : ScopeName → List Address
+abbrev pub from_of : ScopeName → List Address
 from_of (Used from attributes n) = from ∷ []
 from_of (Defined d) = []
 from_of (Taken attributes id) = []

@@ -16,3 +16,4 @@ pub mod ElsewhereExamples
 pub mod AcceptedExamples
 pub mod UsualExamples
 pub mod WholeWorldExamples
+pub mod SplitExamples

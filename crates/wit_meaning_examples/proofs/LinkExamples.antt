@@ -35,7 +35,7 @@ use Rattle.wit_meaning_examples.proofs.Examples.{at, id, vec, no_comments, untol
 use Rattle.wit_meaning_examples.proofs.SideExamples.{no_rows, none_among, no_notes}
 
 -- two that differ
-two_differ : {X : Type 0} (x y : X) → (x ≡ y → ⊥) → AllDiffer (x ∷ y ∷ [])
+pub two_differ : {X : Type 0} (x y : X) → (x ≡ y → ⊥) → AllDiffer (x ∷ y ∷ [])
 two_differ x y apart = record { differ = differ }
   where
     differ : (i j : ℕ) (z : _) → slice_get (x ∷ y ∷ []) i ≡ Some z → slice_get (x ∷ y ∷ []) j ≡ Some z → i ≡ j

@@ -15,6 +15,7 @@ ghost use Rattle.wit_types.specs.Types.{IsBackward};
 ghost use Rattle.wit_tree.specs.declared.tree.PackageFile.{PackageFile as TheFile};
 ghost use Rattle.wit_syntax.specs.Foreign.{foreign_packages};
 ghost use Rattle.wit_arena.specs.Whole.{dep, IsPackage, IsFaithful};
+ghost use Rattle.wit_arena.specs.FirstMeetings.{HasArena};
 
 use std::alloc::{AllocError, Global};
 use wit_entries::entries::Entries;
@@ -297,6 +298,7 @@ impl<'a> Resolver<'a> {
     pub fn resolve(self, alloc: Global) -> ParseResult<UnresolvedPackage>
         ensures legal { OnOk result (IsLegal self.entry.files.items) }
         ensures package { IfOk result (IsPackage self.entry.files.items) }
+        ensures arena { IfOk result (HasArena self.entry.files.items) }
         ensures faithful { IfOk result (IsFaithful self.entry.files.items) }
         ensures backward { IfOk result (λ p. IsBackward p.types) }
         ensures refused { IfErr result (Refused (IsBroken self.entry.files.items)) }

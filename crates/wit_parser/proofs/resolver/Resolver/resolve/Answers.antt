@@ -12,6 +12,7 @@ use Rattle.wit_syntax.specs.Fault.{fault}
 use Rattle.wit_syntax.specs.Broken.{IsBrokenNames, IsBroken, Headerless, Names, last_header}
 use Rattle.wit_syntax.proofs.Refusing.{refused_weaker}
 use Rattle.wit_syntax.proofs.Headers.{no_header, span_of_ends}
+use Rattle.wit_arena.proofs.FirstMeetings.{arena_of}
 use Rattle.wit_parser.proofs.Files.{files_legal, files_package, files_faithful}
 use Rattle.wit_parser.proofs.resolver.Resolver.resolve.Goals as goal
 
@@ -52,6 +53,9 @@ returns-clause-package c =
     (ap (λ (p : PackageName). option_map release_parts p.version) e.name ∙ n.version)
     e.name_span
     (e.docs ∙ (rw c.pushed-files.ensures at c.in_ok-package_docs.ensures))
+
+pub returns-clause-arena : goal.returns-clause-arena
+returns-clause-arena c = arena_of c.args.self.files.items c.new.result (returns-clause-package c)
 
 pub returns-clause-faithful : goal.returns-clause-faithful
 returns-clause-faithful c =

@@ -1,0 +1,47 @@
+-- The arena of types is what is first met in files, in that order.
+use Rattle.std.specs.Prelude.{◌≡◌, ℕ, suc, ◌≤◌, List, [], ◌∷◌, ◌++◌, map, Some, slice_get}
+use Rattle.wit_tree.specs.declared.tree.PackageFile.{PackageFile}
+use Rattle.wit_model.specs.declared.unresolved.UnresolvedPackage.{UnresolvedPackage}
+use Rattle.wit_order.specs.Table.{IsOrder}
+use Rattle.wit_syntax.specs.Source.{all_items, scope_names}
+use Rattle.wit_syntax.specs.Scope.{item_rows, interfaces_of, worlds_of, rows_of, in_order}
+use Rattle.wit_syntax.specs.Sides.{inline_items}
+use Rattle.wit_arena.specs.Meet.{Key, Meeting, keys, IsMet, IsMeeting}
+use Rattle.wit_arena.specs.Whole.{Ordered, OrderedWorld, item_of, own_item, all_inside, all_turns, all_meetings, interface_addresses, world_addresses, declarations}
+
+-- places that rise, none of them before this one
+abbrev pub IsRising : ℕ → List ℕ → Type 0
+IsRising n [] = Unit {0}
+IsRising n (p ∷ ps) = (n ≤ p) × IsRising (suc p) ps
+
+-- the key at a place stands at no earlier one
+abbrev pub IsNewAt : List Key → ℕ → Type 0
+IsNewAt ks p = (i : ℕ) (k : Key) → slice_get ks p ≡ Some k → slice_get ks i ≡ Some k → p ≤ i
+
+-- these are the first meetings of all: those at places that rise, where each key is new, and all keys are among theirs
+pub record AreFirst (all met : List Meeting) : Type 0 where
+  pub places : List ℕ
+  pub rising : IsRising 0 places
+  pub are : map (slice_get all) places ≡ map Some met
+  pub new : (i p : ℕ) → slice_get places i ≡ Some p → IsNewAt (keys all) p
+  pub whole : (k : Key) → IsMet (keys all) k → IsMet (keys met) k
+
+-- These are the interfaces and the worlds of files in the order of their table, each world with the interfaces that are written in it, and
+-- each with the order of the table of its names.
+pub record AreOrdered (files : List PackageFile) (interfaces : List Ordered) (worlds : List OrderedWorld) : Type 0 where
+  pub places : List ℕ
+  pub item_order : IsOrder (item_rows files) places
+  pub all_interfaces : map item_of interfaces ≡ interfaces_of (in_order (all_items files) places)
+  pub all_worlds : map own_item worlds ≡ worlds_of (in_order (all_items files) places)
+  pub inside : (t : ℕ) (w : OrderedWorld) → slice_get worlds t ≡ Some w → map item_of w.inside ≡ inline_items w.own.item
+  pub least : (t : ℕ) (o : Ordered) → slice_get (interfaces ++ (map (λ w. w.own) worlds ++ all_inside worlds)) t ≡ Some o → IsOrder (rows_of (scope_names o.item)) o.order
+
+-- The arena of types is what is first met in files, where their scopes are resolved in these orders, in the order in which it is met: an
+-- entry is that of its key, and has the span of its first meeting, and an unnamed one the stability that follows from it.
+pub record HasArena (files : List PackageFile) (p : UnresolvedPackage) : Type 0 where
+  pub interfaces : List Ordered
+  pub worlds : List OrderedWorld
+  pub ordered : AreOrdered files interfaces worlds
+  pub met : List Meeting
+  pub first : AreFirst (all_meetings files (all_turns interfaces worlds)) met
+  pub entries : IsMeeting (declarations files (interface_addresses files (interfaces ++ all_inside worlds)) (world_addresses files worlds)) met p.types
