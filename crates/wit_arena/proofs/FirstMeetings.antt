@@ -9,7 +9,7 @@ use Rattle.wit_model.specs.declared.unresolved.UnresolvedPackage.{UnresolvedPack
 use Rattle.wit_syntax.proofs.Lists.{at_seam, at_split}
 use Rattle.wit_arena.specs.Meet.{Key, Meeting, keys, IsMet, Meets}
 use Rattle.wit_arena.specs.Whole.{IsPackage}
-use Rattle.wit_arena.specs.FirstMeetings.{IsRising, IsNewAt, AreFirst, AreOrdered, HasArena}
+use Rattle.wit_arena.specs.FirstMeetings.{IsRising, IsNewAt, AreFirst, HasArena}
 use Rattle.wit_arena.proofs.Places.{key_grown}
 use Rattle.wit_arena.proofs.Meeting.{keys-append, meets_grown, key_either}
 
@@ -203,10 +203,6 @@ module _ (all : List Meeting) where
   pub meets-first : (met : List Meeting) → Meets [] all met ↔ AreFirst all met
   meets-first met = (first_of_meets met, meets_of_first met)
 
--- the orders of a package
-pub ordered_of : (files : List PackageFile) (p : UnresolvedPackage) (h : IsPackage files p) → AreOrdered files h.interfaces h.worlds
-ordered_of files p h = record { places = h.places; item_order = h.item_order; all_interfaces = h.all_interfaces; all_worlds = h.all_worlds; inside = h.inside; least = h.least }
-
 -- the arena of a package is what is first met
 pub arena_of : (files : List PackageFile) (p : UnresolvedPackage) → IsPackage files p → HasArena files p
-arena_of files p h = record { interfaces = h.interfaces; worlds = h.worlds; ordered = ordered_of files p h; met = h.met; first = first_of_meets _ h.met h.meets; entries = h.meeting }
+arena_of files p h = record { interfaces = h.interfaces; worlds = h.worlds; ordered = h.ordered; met = h.met; first = first_of_meets _ h.met h.meets; entries = h.meeting }

@@ -25,7 +25,6 @@ use Rattle.wit_arena.specs.Functions.{AreFunctions, placed_functions}
 use Rattle.wit_arena.specs.Package.{IsInterface, IsWorld, world_types}
 use Rattle.wit_arena.specs.Whole.{Ordered, OrderedWorld, own_item, all_inside, Turned, all_turns, addresses, HasTypes, AreInterfaces, HasSides, AreWorlds, turn_handles, interface_addresses, world_addresses, declarations, AreRequired, AreForeignWorlds, first_docs, IsPackage}
 use Rattle.wit_arena.specs.Splitting.{HaveSamePackages}
-use Rattle.wit_arena.proofs.FirstMeetings.{ordered_of}
 use Rattle.wit_arena.proofs.JoinedTurns.{Told, told}
 use Rattle.wit_arena.proofs.JoinedWorlds.{ToldWorld, told_world, own_told, turned_of, turns_same, interfaces_told}
 use Rattle.wit_arena.proofs.JoinedMeetings.{HasOrdered, ordered_onward, meetings_same}
@@ -123,14 +122,9 @@ module _ (files others : List PackageFile) (a : AreAlike files others) (hs : Hav
         name_span = h.name_span;
         docs = h.docs ∙ ap first_docs hs.all;
         others = others_onward files others a p h.others;
-        places = it.ordered.places;
-        item_order = it.ordered.item_order;
         interfaces = js;
         worlds = vs;
-        all_interfaces = it.ordered.all_interfaces;
-        all_worlds = it.ordered.all_worlds;
-        inside = it.ordered.inside;
-        least = it.ordered.least;
+        ordered = it.ordered;
         met = h.met;
         meets = subst (λ (ms : List Meeting). Meets [] ms h.met) (meetings_same files others a is js ws vs it.same) h.meets;
         meeting = meeting_again (declarations files (interface_addresses files (is ++ all_inside ws)) (world_addresses files ws)) (declarations others (interface_addresses others (js ++ all_inside vs)) (world_addresses others vs)) (declarations_same files others a (interface_addresses files (is ++ all_inside ws)) (interface_addresses others (js ++ all_inside vs)) (world_addresses files ws) (world_addresses others vs) own worlds) h.met p.types h.meeting;
@@ -149,7 +143,7 @@ module _ (files others : List PackageFile) (a : AreAlike files others) (hs : Hav
       }
 
   pub package_onward : (p : UnresolvedPackage) → IsPackage files p → IsPackage others p
-  package_onward p h = package_with p h (ordered_onward files others a h.interfaces h.worlds (ordered_of files p h))
+  package_onward p h = package_with p h (ordered_onward files others a h.interfaces h.worlds h.ordered)
 
 pub joined_packages : (files : List PackageFile) (one : PackageFile) → IsJoined files one → HaveSamePackages files (one ∷ [])
 joined_packages files one j p =

@@ -234,14 +234,9 @@ module _ (files : List PackageFile) (is ws : List Item) (interfaces : AreOfSort 
     name_span = span;
     docs = docs;
     others = others;
-    places = places;
-    item_order = order;
     interfaces = d.ordered;
     worlds = e.ordered;
-    all_interfaces = d.all ∙ in_order_interfaces;
-    all_worlds = e.all ∙ in_order_worlds;
-    inside = e.each_inside;
-    least = least_orders;
+    ordered = record { places = places; item_order = order; all_interfaces = d.all ∙ in_order_interfaces; all_worlds = e.all ∙ in_order_worlds; inside = e.each_inside; least = least_orders };
     met = e.done.met;
     meets = e.done.meets;
     meeting = met_addresses;

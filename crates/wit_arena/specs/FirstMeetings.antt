@@ -2,12 +2,8 @@
 use Rattle.std.specs.Prelude.{◌≡◌, ℕ, suc, ◌≤◌, List, [], ◌∷◌, ◌++◌, map, Some, slice_get}
 use Rattle.wit_tree.specs.declared.tree.PackageFile.{PackageFile}
 use Rattle.wit_model.specs.declared.unresolved.UnresolvedPackage.{UnresolvedPackage}
-use Rattle.wit_order.specs.Table.{IsOrder}
-use Rattle.wit_syntax.specs.Source.{all_items, scope_names}
-use Rattle.wit_syntax.specs.Scope.{item_rows, interfaces_of, worlds_of, rows_of, in_order}
-use Rattle.wit_syntax.specs.Sides.{inline_items}
 use Rattle.wit_arena.specs.Meet.{Key, Meeting, keys, IsMet, IsMeeting}
-use Rattle.wit_arena.specs.Whole.{Ordered, OrderedWorld, item_of, own_item, all_inside, all_turns, all_meetings, interface_addresses, world_addresses, declarations}
+use Rattle.wit_arena.specs.Whole.{Ordered, OrderedWorld, AreOrdered, all_inside, all_turns, all_meetings, interface_addresses, world_addresses, declarations}
 
 -- places that rise, none of them before this one
 abbrev pub IsRising : ℕ → List ℕ → Type 0
@@ -25,16 +21,6 @@ pub record AreFirst (all met : List Meeting) : Type 0 where
   pub are : map (slice_get all) places ≡ map Some met
   pub new : (i p : ℕ) → slice_get places i ≡ Some p → IsNewAt (keys all) p
   pub whole : (k : Key) → IsMet (keys all) k → IsMet (keys met) k
-
--- These are the interfaces and the worlds of files in the order of their table, each world with the interfaces that are written in it, and
--- each with the order of the table of its names.
-pub record AreOrdered (files : List PackageFile) (interfaces : List Ordered) (worlds : List OrderedWorld) : Type 0 where
-  pub places : List ℕ
-  pub item_order : IsOrder (item_rows files) places
-  pub all_interfaces : map item_of interfaces ≡ interfaces_of (in_order (all_items files) places)
-  pub all_worlds : map own_item worlds ≡ worlds_of (in_order (all_items files) places)
-  pub inside : (t : ℕ) (w : OrderedWorld) → slice_get worlds t ≡ Some w → map item_of w.inside ≡ inline_items w.own.item
-  pub least : (t : ℕ) (o : Ordered) → slice_get (interfaces ++ (map (λ w. w.own) worlds ++ all_inside worlds)) t ≡ Some o → IsOrder (rows_of (scope_names o.item)) o.order
 
 -- The arena of types is what is first met in files, where their scopes are resolved in these orders, in the order in which it is met: an
 -- entry is that of its key, and has the span of its first meeting, and an unnamed one the stability that follows from it.

@@ -3,8 +3,8 @@ use Rattle.std.specs.Prelude.{◌≡◌, ◌↔◌, List}
 use Rattle.wit_tree.specs.declared.tree.PackageFile.{PackageFile}
 use Rattle.wit_model.specs.declared.unresolved.UnresolvedPackage.{UnresolvedPackage}
 use Rattle.wit_arena.specs.Meet.{Meeting}
-use Rattle.wit_arena.specs.Whole.{Ordered, OrderedWorld, all_turns, all_meetings, IsPackage}
-use Rattle.wit_arena.specs.FirstMeetings.{AreFirst, AreOrdered}
+use Rattle.wit_arena.specs.Whole.{Ordered, OrderedWorld, AreOrdered, all_turns, all_meetings, IsPackage}
+use Rattle.wit_arena.specs.FirstMeetings.{AreFirst}
 
 -- this is what is first met in files, where their scopes are resolved in these orders
 pub record AreFirstMeetings (files : List PackageFile) (met : List Meeting) : Type 0 where

@@ -109,6 +109,16 @@ all_turns is ws = map turned is ++ flat_map world_turns ws
 abbrev pub all_inside : List OrderedWorld → List Ordered
 all_inside ws = flat_map (λ w. w.inside) ws
 
+-- These are the interfaces and the worlds of files in the order of their table, each world with the interfaces that are written in it, and
+-- each with the order of the table of its names.
+pub record AreOrdered (files : List PackageFile) (interfaces : List Ordered) (worlds : List OrderedWorld) : Type 0 where
+  pub places : List ℕ
+  pub item_order : IsOrder (item_rows files) places
+  pub all_interfaces : map item_of interfaces ≡ interfaces_of (in_order (all_items files) places)
+  pub all_worlds : map own_item worlds ≡ worlds_of (in_order (all_items files) places)
+  pub inside : (t : ℕ) (w : OrderedWorld) → slice_get worlds t ≡ Some w → map item_of w.inside ≡ inline_items w.own.item
+  pub least : (t : ℕ) (o : Ordered) → slice_get (interfaces ++ (map (λ w. w.own) worlds ++ all_inside worlds)) t ≡ Some o → IsOrder (rows_of (scope_names o.item)) o.order
+
 -- what is met in a scope: in its names, and then in its functions
 abbrev pub turn_meetings : Turned → List Meeting
 turn_meetings t = all_name_meetings t.address t.names ++ all_function_meetings t.address t.functions
@@ -271,14 +281,9 @@ pub record IsPackage (files : List PackageFile) (p : UnresolvedPackage) : Type 0
   pub name_span : p.name_span ≡ header.span
   pub docs : p.docs ≡ first_docs (headers files)
   pub others : NamesOthers files p
-  pub places : List ℕ
-  pub item_order : IsOrder (item_rows files) places
   pub interfaces : List Ordered
   pub worlds : List OrderedWorld
-  pub all_interfaces : map item_of interfaces ≡ interfaces_of (in_order (all_items files) places)
-  pub all_worlds : map own_item worlds ≡ worlds_of (in_order (all_items files) places)
-  pub inside : (t : ℕ) (w : OrderedWorld) → slice_get worlds t ≡ Some w → map item_of w.inside ≡ inline_items w.own.item
-  pub least : (t : ℕ) (o : Ordered) → slice_get (interfaces ++ (map (λ w. w.own) worlds ++ all_inside worlds)) t ≡ Some o → IsOrder (rows_of (scope_names o.item)) o.order
+  pub ordered : AreOrdered files interfaces worlds
   pub met : List Meeting
   pub meets : Meets [] (all_meetings files (all_turns interfaces worlds)) met
   pub meeting : IsMeeting (declarations files (interface_addresses files (interfaces ++ all_inside worlds)) (world_addresses files worlds)) met p.types
