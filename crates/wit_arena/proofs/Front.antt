@@ -39,6 +39,7 @@ use Rattle.wit_arena.proofs.FreeNames.{free_keyed, AreStated}
 use Rattle.wit_arena.specs.Package.{interface_functions}
 use Rattle.wit_tree.specs.declared.tree.WorldSide.TheVariants.{Imported}
 use Rattle.wit_syntax.proofs.Turns.{at_part}
+use Rattle.wit_arena.proofs.Required.{required_none}
 use Rattle.wit_arena.proofs.Standing.{DoneScope, done_address, turn_of, cell_of, IsDoneScope, IsNameOf, IsDone}
 use Rattle.wit_arena.proofs.Interfaces.{interface_owner_at}
 use Rattle.wit_arena.proofs.Visits.{visited_addresses, interface_apart}
@@ -164,7 +165,7 @@ no_types_taken [] = refl
 no_types_taken (t ∷ ts) = no_types_taken ts
 
 nothing_required : (files : List PackageFile) (ks : List Key) (s : Address) (ts : List Taking) → AreRequired files ks (turn_handles (record { address = s; names = map taken ts; functions = [] })) []
-nothing_required files ks s ts = subst (λ (types : List Written). AreRequired files ks (map (λ id. (s, id)) (all_handles (types ++ []))) []) (sym (no_types_taken ts)) refl
+nothing_required files ks s ts = subst (λ (types : List Written). AreRequired files ks (map (λ id. (s, id)) (all_handles (types ++ []))) []) (sym (no_types_taken ts)) (required_none files ks)
 
 -- nothing unnamed is taken
 no_whole_taken : (ts : List Taking) (form : Form) (parts : Exprs) → Has (keys (map taking_meeting ts)) (Whole form parts) → ⊥
@@ -342,6 +343,6 @@ module _ (files : List PackageFile) (uses : AreUsableUses files (all_items files
       ];
       required = λ t c at. elim (front_at files front adds.interfaces.count t c at) [
         | FrontInterface i v x v_at x_at is ↦ subst (λ (b : DoneScope). AreRequired files (keys met) (turn_handles (turn_of b)) b.required) (sym is) (nothing_required files (keys met) (visited v) (filter (λ t. same_address t.from (visited v)) (first_takings files)))
-        | FrontWorld i w w_at is ↦ subst (λ (b : DoneScope). AreRequired files (keys met) (turn_handles (turn_of b)) b.required) (sym is) refl
+        | FrontWorld i w w_at is ↦ subst (λ (b : DoneScope). AreRequired files (keys met) (turn_handles (turn_of b)) b.required) (sym is) (required_none files (keys met))
       ];
     }

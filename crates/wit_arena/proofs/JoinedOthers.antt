@@ -1,5 +1,5 @@
 -- Files that declare the same name the same of other packages, require the same of them, and have the same declarations.
-use Rattle.std.proofs.Common.{◌≡◌, ℕ, not, List, [], ◌∷◌, take, inl, inr, ap, ◌∙◌, subst}
+use Rattle.std.proofs.Common.{◌≡◌, ℕ, not, List, [], take, Option, Some, None, ap, ◌∙◌, subst}
 use Rattle.std.specs.Prelude.{if◌then◌else◌, map}
 use Rattle.std.specs.List.{filter}
 use Rattle.wit_values.specs.declared.span.Span.{Span}
@@ -23,7 +23,7 @@ use Rattle.wit_syntax.proofs.JoinedTrees.{takings_alike, scope_alike}
 use Rattle.wit_syntax.proofs.JoinedLegal.{ends_onward}
 use Rattle.wit_syntax.specs.Ends.{AtResource, AtForeign}
 use Rattle.wit_arena.specs.Meet.{Key, Decl, Decls, decl_of, IsAmong, Def, Whole, IsEntry, IsMeeting, Meeting, keys}
-use Rattle.wit_arena.specs.Whole.{foreign_place, NamesOthers, AreRequired, owner_at, declarations, AreForeignInterfaces, HasTypes}
+use Rattle.wit_arena.specs.Whole.{foreign_place, NamesOthers, HandleRequires, AreRequired, owner_at, declarations, AreForeignInterfaces, HasTypes}
 
 -- what is named of other packages, by the visits
 abbrev items_by : List ForeignVisit → List ForeignVisit
@@ -96,6 +96,8 @@ module _ (files others : List PackageFile) (a : AreAlike files others) where
 
   -- names in handles end where they did
   pub required_onward : (ks : List Key) (hs : List (Address × Id)) (rs : List (ℕ × Span)) → AreRequired files ks hs rs → AreRequired others ks hs rs
-  required_onward ks [] rs h = h
-  required_onward ks (x ∷ hs) rs (inl h) = inl (ends_onward files others a x.0 x.1 AtResource h.0, required_onward ks hs rs h.1)
-  required_onward ks (x ∷ hs) rs (inr h) = inr (h.0, h.1, h.2, h.3, ends_onward files others a x.0 x.1 (AtForeign h.0 h.1) h.4, h.5, h.6, required_onward ks hs h.3 h.7)
+  required_onward ks hs rs h = record { each = h.each; count = h.count; says = λ k x r at there. onward x r (h.says k x r at there); all = h.all }
+    where
+      onward : (x : Address × Id) (r : Option (ℕ × Span)) → HandleRequires files ks x r → HandleRequires others ks x r
+      onward x None own = ends_onward files others a x.0 x.1 AtResource own
+      onward x (Some r) far = (far.0, far.1, ends_onward files others a x.0 x.1 (AtForeign far.0 far.1) far.2, far.3, far.4)

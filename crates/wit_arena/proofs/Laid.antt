@@ -26,7 +26,7 @@ use Rattle.wit_syntax.proofs.Lists.{at_either, at_seam, at_within, map_at, map_m
 use Rattle.wit_syntax.proofs.Repeated.{differ_at}
 use Rattle.wit_syntax.proofs.Turns.{at_part, in_turn_among, in_turn_has, in_turn_distinct}
 use Rattle.wit_arena.proofs.Standing.{DoneScope, turn_of, cell_of, IsTurn, IsDone}
-use Rattle.wit_arena.proofs.Required.{required_append}
+use Rattle.wit_arena.proofs.Required.{required_none, required_append}
 use Rattle.wit_arena.proofs.Done.{AddsDone, done_more}
 use Rattle.wit_arena.proofs.FreeNames.{free_of, AreStated}
 use Rattle.wit_arena.proofs.Interfaces.{AreScopes, scope_of, functions_of}
@@ -297,7 +297,7 @@ module _ {X : Type 0} (Owner : ℕ → TypeOwner) (Says : Ordered → X → Type
 
 -- what is required in scopes that are those of items in their orders
 required_each : (files : List PackageFile) (ks : List Key) (cs : List DoneScope) → ((t : ℕ) (c : DoneScope) → slice_get cs t ≡ Some c → AreRequired files ks (turn_handles (turn_of c)) c.required) → AreRequired files ks (flat_map turn_handles (map turn_of cs)) (flat_map done_required cs)
-required_each files ks [] each = refl
+required_each files ks [] each = required_none files ks
 required_each files ks (c ∷ cs) each = required_append files ks (turn_handles (turn_of c)) (flat_map turn_handles (map turn_of cs)) c.required (flat_map done_required cs) (each 0 c refl) (required_each files ks cs (λ t b at. each (suc t) b at))
 
 pub required_in_turn : (files : List PackageFile) (ks : List Key) (cs : List DoneScope) (os : List Ordered) → map turn_of cs ≡ map turned os → ((t : ℕ) (c : DoneScope) → slice_get cs t ≡ Some c → AreRequired files ks (turn_handles (turn_of c)) c.required) → AreRequired files ks (flat_map turn_handles (map turned os)) (flat_map done_required cs)

@@ -1,5 +1,5 @@
 -- What follows for a package once all interfaces and all worlds are done.
-use Rattle.std.proofs.Common.{◌≡◌, ℕ, ◌+◌, true, false, List, ◌++◌, length, Some, ◌⊎◌, inl, inr, refl, sym, ap, ◌∙◌, subst, arith, append_assoc, length-append}
+use Rattle.std.proofs.Common.{◌≡◌, ℕ, ◌+◌, true, false, List, ◌++◌, length, Some, ◌⊎◌, inl, inr, refl, sym, ap, ◌∙◌, subst, append_assoc, length-append}
 use Rattle.std.specs.Prelude.{slice_get, map}
 use Rattle.std.specs.List.{flat_map}
 use Rattle.std.specs.Option.{option_map}
@@ -33,7 +33,7 @@ use Rattle.wit_arena.specs.Package.{world_types}
 use Rattle.wit_arena.specs.Whole.{Ordered, OrderedWorld, own_item, Turned, item_of, ordered_names, turned, world_turns, all_turns, all_inside, turn_handles, AreRequired, meetings, all_meetings, type_imports, addresses, interface_addresses, world_addresses, declarations, HasTypes, AreIncludes, HasSides, foreign_turned, AreForeignInterfaces, AreInterfaces, AreWorlds, IsFaithful, NamesOthers, first_docs, IsPackage}
 use Rattle.wit_arena.specs.Resolving.{Names, Required, cell}
 use Rattle.wit_arena.specs.Resolved.{WorldArenas, AddsForeign}
-use Rattle.wit_syntax.proofs.Lists.{at_front, at_back, at_split, map_map}
+use Rattle.wit_syntax.proofs.Lists.{at_front, at_back, map_map}
 use Rattle.wit_syntax.proofs.Turns.{at_part}
 use Rattle.wit_arena.proofs.Standing.{DoneScope, turn_of}
 use Rattle.wit_arena.proofs.Front.{interface_scope, front_scopes}
@@ -42,24 +42,11 @@ use Rattle.wit_arena.proofs.Added.{inside_of, interface_list, world_list, decls,
 use Rattle.wit_arena.proofs.Inside.{IsInside, inside_at, inside_count}
 use Rattle.wit_arena.proofs.Interfaces.{AreItems, AreOfSort}
 use Rattle.wit_arena.proofs.DoneWorlds.{world_cell, AreWorldsDone, own_order, scopes_of, all_within}
-use Rattle.wit_arena.proofs.Required.{required_append}
+use Rattle.wit_arena.proofs.Required.{both_parts, required_append}
 use Rattle.wit_arena.proofs.Stated.{has_types}
 use Rattle.wit_arena.proofs.Faithful.{one_type, faithful}
 use Rattle.wit_arena.proofs.Unknowns.{takings_front}
 use Rattle.wit_arena.proofs.Owners.{types_of_cell, worlds_are_all, front_interface_at, world_scope_among, inside_scope_among, inside_entry, owners}
-
--- what stands at one place of two lists, each behind another, where the first ones are as long
-both_parts : {X Y : Type 0} (us vs : List X) (xs ys : List Y) → length xs ≡ length us → (t : ℕ) (a : X) (x : Y) → slice_get (us ++ vs) t ≡ Some a → slice_get (xs ++ ys) t ≡ Some x → ((slice_get us t ≡ Some a) × (slice_get xs t ≡ Some x)) ⊎ ((j : ℕ) × (slice_get vs j ≡ Some a) × (slice_get ys j ≡ Some x))
-both_parts us vs xs ys count t a x at there = elim (at_split us vs t a at) [
-  | inl h ↦ elim (at_split xs ys t x there) [
-    | inl g ↦ inl (h, g)
-    | inr g ↦ absurd (let lt = slice_get_within us t a h in let spot = g.1 in let f : ⊥ = omega (arith, lt, spot, count) in f)
-  ]
-  | inr h ↦ elim (at_split xs ys t x there) [
-    | inl g ↦ absurd (let lt = slice_get_within xs t x g in let spot = h.1 in let f : ⊥ = omega (arith, lt, spot, count) in f)
-    | inr g ↦ (let p = h.1 in let q = g.1 in let same : h.0 ≡ g.0 = omega (arith, p, q, count) in inr (h.0, h.2, ap (slice_get ys) same ∙ g.2))
-  ]
-]
 
 -- what the package is, over these owners
 module _ (files : List PackageFile) (is ws : List Item) (interfaces : AreOfSort false is) (worlds : AreOfSort true ws) (is_items : AreItems files is) (ws_items : AreItems files ws) (start middle : List TypeDef) (front xs : List Interface) (wfront : List World) (foreign : AddsForeign files start front wfront) (irs wrs : List Required) (p : UnresolvedPackage) (a : WorldArenas) (d : InterfacesDone files is ws front is middle xs irs) (e : AreWorldsDone files is ws wfront d.ordered (front_scopes files front ++ d.scopes) ws p.types a wrs) (interface_arena : p.interfaces ≡ (front ++ xs) ++ a.inside) (world_arena : p.worlds ≡ a.worlds) (others : NamesOthers files p) where

@@ -1,8 +1,9 @@
 -- What handles require of other packages: what is told by the arena is what the files say.
-use Rattle.std.proofs.Common.{◌≡◌, ℕ, zero, suc, ◌+◌, List, [], ◌∷◌, ◌++◌, length, map, Some, inl, inr, refl, sym, ap, subst, Contains, arith}
+use Rattle.std.proofs.Common.{◌≡◌, ℕ, zero, suc, ◌+◌, List, [], ◌∷◌, ◌++◌, length, map, Option, Some, None, ◌⊎◌, inl, inr, refl, sym, ap, ◌∙◌, subst, Contains, arith, length-append}
 use Rattle.std.specs.Prelude.{slice_get}
-use Rattle.std.specs.List.{flat_map}
-use Rattle.std.proofs.lemmas.List.Elements.{Contains-append_cases}
+use Rattle.std.specs.List.{cons_option, filter_map, flat_map}
+use Rattle.std.proofs.lemmas.List.Elements.{Contains-append_cases, filter_map-append}
+use Rattle.std.proofs.lemmas.Option.{slice_get_within}
 use Rattle.wit_tree.specs.declared.tree.Id.{Id}
 use Rattle.wit_tree.specs.declared.tree.«Type».{«Type» as Written}
 use Rattle.wit_tree.specs.declared.tree.PackageFile.{PackageFile}
@@ -17,7 +18,7 @@ use Rattle.wit_arena.specs.EntryEnds.{EntryEnd, IsResource, IsOther, entry_end}
 use Rattle.wit_arena.specs.EntryEnds as ends
 use Rattle.wit_arena.specs.Meet.{Key, Def, Meeting, keys, Decls, IsKeyed}
 use Rattle.wit_syntax.specs.Ends.{IsNoResource}
-use Rattle.wit_arena.specs.Whole.{AreRequired}
+use Rattle.wit_arena.specs.Whole.{HandleRequires, AreRequired}
 use Rattle.wit_arena.specs.Resolving.{Env, Names, env_of, AreNames, Required, AreEnded, IsWrongHandle, IsDefined}
 use Rattle.wit_arena.proofs.Places.{Grown, key_grown}
 use Rattle.wit_syntax.proofs.Lists.{at_front, at_back, at_split, flat_map_at, flat_map_has}
@@ -31,10 +32,44 @@ ended_append env es [] more rs new h k = subst (λ (x : List Required). AreEnded
 ended_append env es (id ∷ ids) more rs new (place, steps, stands, inl own) k = (place, steps, stands, inl (own.0, ended_append env es ids more rs new own.1 k))
 ended_append env es (id ∷ ids) more rs new (place, steps, stands, inr far) k = (place, steps, stands, inr (far.0, far.1 ++ new, far.2, ap (λ (x : List Required). x ++ new) far.3, ended_append env es ids more far.1 new far.4 k))
 
+-- what stands at one place of two lists, each behind another, where the first ones are as long
+pub both_parts : {X Y : Type 0} (us vs : List X) (xs ys : List Y) → length xs ≡ length us → (t : ℕ) (a : X) (x : Y) → slice_get (us ++ vs) t ≡ Some a → slice_get (xs ++ ys) t ≡ Some x → ((slice_get us t ≡ Some a) × (slice_get xs t ≡ Some x)) ⊎ ((j : ℕ) × (slice_get vs j ≡ Some a) × (slice_get ys j ≡ Some x))
+both_parts us vs xs ys count t a x at there = elim (at_split us vs t a at) [
+  | inl h ↦ elim (at_split xs ys t x there) [
+    | inl g ↦ inl (h, g)
+    | inr g ↦ absurd (let lt = slice_get_within us t a h in let spot = g.1 in let f : ⊥ = omega (arith, lt, spot, count) in f)
+  ]
+  | inr h ↦ elim (at_split xs ys t x there) [
+    | inl g ↦ absurd (let lt = slice_get_within xs t x g in let spot = h.1 in let f : ⊥ = omega (arith, lt, spot, count) in f)
+    | inr g ↦ (let p = h.1 in let q = g.1 in let same : h.0 ≡ g.0 = omega (arith, p, q, count) in inr (h.0, h.2, ap (slice_get ys) same ∙ g.2))
+  ]
+]
+
+-- of no names nothing is required
+pub required_none : (files : List PackageFile) (ks : List Key) → AreRequired files ks [] []
+required_none files ks = record { each = []; count = refl; says = λ k h r at there. absurd (let f : ⊥ = cc in f); all = refl }
+
+-- what one name more requires stands in front
+pub required_more : (files : List PackageFile) (ks : List Key) (h : Address × Id) (r : Option Required) (hs : List (Address × Id)) (rs : List Required) → HandleRequires files ks h r → AreRequired files ks hs rs → AreRequired files ks (h ∷ hs) (cons_option r rs)
+required_more files ks h r hs rs own rest = record { each = r ∷ rest.each; count = ap suc rest.count; says = says; all = ap (cons_option r) rest.all }
+  where
+    says : (k : ℕ) (x : Address × Id) (q : Option Required) → slice_get (h ∷ hs) k ≡ Some x → slice_get (r ∷ rest.each) k ≡ Some q → HandleRequires files ks x q
+    says zero x q at there =
+        let name : h ≡ x = cc in
+        let same : r ≡ q = cc in
+        subst (λ (y : Address × Id). HandleRequires files ks y q) name (subst (HandleRequires files ks h) same own)
+    says (suc k) x q at there = rest.says k x q at there
+
 pub required_append : (files : List PackageFile) (ks : List Key) (hs more : List (Address × Id)) (rs new : List Required) → AreRequired files ks hs rs → AreRequired files ks more new → AreRequired files ks (hs ++ more) (rs ++ new)
-required_append files ks [] more rs new h k = subst (λ (x : List Required). AreRequired files ks more (x ++ new)) (sym h) k
-required_append files ks (x ∷ hs) more rs new (inl own) k = inl (own.0, required_append files ks hs more rs new own.1 k)
-required_append files ks (x ∷ hs) more rs new (inr far) k = inr (far.0, far.1, far.2, far.3 ++ new, far.4, far.5, ap (λ (y : List Required). y ++ new) far.6, required_append files ks hs more far.3 new far.7 k)
+required_append files ks hs more rs new h k = record {
+  each = h.each ++ k.each;
+  count = length-append h.each k.each ∙ ap (λ n. n + length k.each) h.count ∙ ap (λ n. length hs + n) k.count ∙ sym (length-append hs more);
+  says = λ i x r at there. elim (both_parts hs more h.each k.each h.count i x r at there) [
+    | inl front ↦ h.says i x r front.0 front.1
+    | inr behind ↦ k.says behind.0 x r behind.1 behind.2
+  ];
+  all = ap (λ (l : List Required). l ++ new) h.all ∙ ap (λ (l : List Required). filter_map (λ r. r) h.each ++ l) k.all ∙ sym (filter_map-append (λ (r : Option Required). r) h.each k.each);
+}
 
 -- in a grown arena, and with more names, they are what they were
 pub ended_more : (env env' : Env) (es more : List TypeDef) (ids : List Id) (rs : List Required) → ((name : List ℕ) (i : ℕ) → env name ≡ Some i → env' name ≡ Some i) → AreEnded env es ids rs → AreEnded env' (es ++ more) ids rs
@@ -44,9 +79,11 @@ ended_more env env' es more (id ∷ ids) rs keep (place, steps, stands, inr far)
 
 -- where more was met, too
 pub required_grown : (files : List PackageFile) {a b : List Key} → Grown a b → (hs : List (Address × Id)) (rs : List Required) → AreRequired files a hs rs → AreRequired files b hs rs
-required_grown files g [] rs h = h
-required_grown files g (x ∷ hs) rs (inl own) = inl (own.0, required_grown files g hs rs own.1)
-required_grown files g (x ∷ hs) rs (inr far) = inr (far.0, far.1, far.2, far.3, far.4, key_grown g far.2 (Def far.0 far.1) far.5, far.6, required_grown files g hs far.3 far.7)
+required_grown files {a} {b} g hs rs h = record { each = h.each; count = h.count; says = λ k x r at there. grown x r (h.says k x r at there); all = h.all }
+  where
+    grown : (x : Address × Id) (r : Option Required) → HandleRequires files a x r → HandleRequires files b x r
+    grown x None own = own
+    grown x (Some r) far = (far.0, far.1, far.2, key_grown g r.0 (Def far.0 far.1) far.3, far.4)
 
 -- a name in a handle, with its scope
 abbrev pub in_scope : Address → Id → Address × Id
@@ -59,11 +96,11 @@ module _ (files : List PackageFile) (decls : Decls) (ks : List Key) (es : List T
 
   -- what is required is what the files say
   pub ended_required : (ids : List Id) (rs : List Required) → AreEnded env es ids rs → AreRequired files ks (map (in_scope s) ids) rs
-  ended_required [] rs h = h
-  ended_required (id ∷ ids) rs (place, steps, stands, inl own) = inl (told place steps id IsResource stands own.0, ended_required ids rs own.1)
+  ended_required [] rs h = subst (AreRequired files ks []) (sym h) (required_none files ks)
+  ended_required (id ∷ ids) rs (place, steps, stands, inl own) = required_more files ks (s, id) None (map (in_scope s) ids) rs (told place steps id IsResource stands own.0) (ended_required ids rs own.1)
   ended_required (id ∷ ids) rs (place, steps, stands, inr far) =
       let it = told place steps id (ends.IsUnknown far.0) stands far.2 in
-      inr (it.0, it.1, far.0, far.1, it.3, it.2, far.3, ended_required ids far.1 far.4)
+      subst (AreRequired files ks (map (in_scope s) (id ∷ ids))) (sym far.3) (required_more files ks (s, id) (Some (far.0, id.span)) (map (in_scope s) ids) far.1 (it.0, it.1, it.3, it.2, refl) (ended_required ids far.1 far.4))
 
   -- none of these ends elsewhere
   none_elsewhere : (ids : List Id) (rs : List Required) (j : ℕ) (id : Id) → AreEnded env es ids rs → slice_get ids j ≡ Some id → EndsAt files s id Elsewhere → ⊥

@@ -41,7 +41,7 @@ use Rattle.wit_arena.proofs.FreeNames.{AreStated}
 use Rattle.wit_arena.proofs.Inside.{IsInside, AreInside}
 use Rattle.wit_arena.proofs.Laid.{laid_scope, in_turn_is}
 use Rattle.wit_arena.proofs.Meeting.{Has, has_either, keys-append, meets_append, meets_from, meets_grown, meets_longer}
-use Rattle.wit_arena.proofs.Required.{in_scope, ended_required, required_append, required_grown}
+use Rattle.wit_arena.proofs.Required.{in_scope, ended_required, required_none, required_append, required_grown}
 use Rattle.wit_arena.proofs.Signatures.{IsInFunctions, function_grown, names_beside, no_name_in_functions, whole_in_functions}
 use Rattle.wit_arena.proofs.Standing.{DoneScope, turn_of, cell_of, IsTurn, IsWholeOf}
 use Rattle.wit_arena.proofs.Stating.{stated_placed}
@@ -172,7 +172,7 @@ sided_none files decls written cs gs place s es is inside d = record {
   each = λ j g at. absurd (let f : ⊥ = cc in f);
   whole = λ t c at. absurd (let f : ⊥ = cc in f);
   own_required = [];
-  told = λ met meets. record { each = λ t c at. absurd (let f : ⊥ = cc in f); by_functions = refl; in_all = refl };
+  told = λ met meets. record { each = λ t c at. absurd (let f : ⊥ = cc in f); by_functions = required_none files (keys met); in_all = required_none files (keys met) };
 }
 
 -- a function, and what stands behind it

@@ -1,5 +1,5 @@
 -- Rules that hold once all scopes are done.
-use Rattle.std.proofs.Common.{◌≡◌, ℕ, zero, suc, ◌+◌, List, [], ◌∷◌, ◌++◌, length, map, Some, None, ◌⊎◌, inl, inr, sym, ap, ◌∙◌, subst, arith, Contains}
+use Rattle.std.proofs.Common.{◌≡◌, ℕ, ◌+◌, List, ◌++◌, length, map, Option, Some, None, ◌⊎◌, inl, inr, sym, ap, ◌∙◌, subst, arith, Contains}
 use Rattle.std.specs.Prelude.{slice_get}
 use Rattle.std.specs.List.{flat_map}
 use Rattle.std.specs.Option.{option_map}
@@ -22,10 +22,10 @@ use Rattle.wit_arena.specs.Meet.{Key, Meeting, keys, Decls}
 use Rattle.wit_syntax.specs.Fault.{Fault}
 use Rattle.wit_syntax.specs.Signature.{IsUnpairedSetter}
 use Rattle.wit_syntax.specs.Broken.{IsMissingName, IsFunctionUsed, IsHandleBroken, IsSetterAlone}
-use Rattle.wit_arena.specs.Whole.{Ordered, own_item, Turned, item_of, turned, all_turns, all_inside, all_meetings, turn_handles, AreRequired}
+use Rattle.wit_arena.specs.Whole.{Ordered, own_item, Turned, item_of, turned, all_turns, all_inside, all_meetings, turn_handles, HandleRequires, AreRequired}
 use Rattle.wit_arena.specs.Resolving.{Required}
 use Rattle.wit_arena.specs.Resolved.{WorldArenas}
-use Rattle.wit_syntax.proofs.Lists.{at_front, at_back, map_at, flat_map_at, flat_map_has}
+use Rattle.wit_syntax.proofs.Lists.{at_front, at_back, at_within, map_at, flat_map_at, flat_map_has}
 use Rattle.wit_syntax.proofs.Found.{at_contains}
 use Rattle.wit_syntax.proofs.Kept.{behind_one}
 use Rattle.wit_syntax.proofs.Turns.{in_turn_has}
@@ -44,19 +44,16 @@ use Rattle.wit_arena.proofs.SignatureNames.{signature_meant}
 
 -- what is required ends at resources or in other packages, and none of it elsewhere
 required_ends : (files : List PackageFile) (ks : List Key) (s : Address) (ids : List Id) (rs : List Required) (j : ℕ) (id : Id) → AreRequired files ks (map (in_scope s) ids) rs → slice_get ids j ≡ Some id → EndsAt files s id Elsewhere → ⊥
-required_ends files ks s [] rs j id h at wrong = let f : ⊥ = cc in f
-required_ends files ks s (x ∷ ids) rs zero id (inl own) at wrong =
-    let here : x ≡ id = cc in
-    let two = ends_one files s id AtResource Elsewhere (subst (λ (y : Id). EndsAt files s y AtResource) here own.0) wrong in
-    let f : ⊥ = cc in
-    f
-required_ends files ks s (x ∷ ids) rs zero id (inr far) at wrong =
-    let here : x ≡ id = cc in
-    let two = ends_one files s id (AtForeign far.0 far.1) Elsewhere (subst (λ (y : Id). EndsAt files s y (AtForeign far.0 far.1)) here far.4) wrong in
-    let f : ⊥ = cc in
-    f
-required_ends files ks s (x ∷ ids) rs (suc j) id (inl own) at wrong = required_ends files ks s ids rs j id own.1 at wrong
-required_ends files ks s (x ∷ ids) rs (suc j) id (inr far) at wrong = required_ends files ks s ids far.3 j id far.7 at wrong
+required_ends files ks s ids rs j id h at wrong =
+    let named : slice_get (map (in_scope s) ids) j ≡ Some (s, id) = slice_get-map (in_scope s) ids j ∙ ap (option_map (in_scope s)) at in
+    let lt = slice_get_within (map (in_scope s) ids) j (s, id) named in
+    let as_many = h.count in
+    let r = at_within h.each j (omega (arith, lt, as_many)) in
+    ends_elsewhere r.0 (h.says j (s, id) r.0 named r.1)
+  where
+    ends_elsewhere : (r : Option Required) → HandleRequires files ks (s, id) r → ⊥
+    ends_elsewhere None own = let two = ends_one files s id AtResource Elsewhere own wrong in let f : ⊥ = cc in f
+    ends_elsewhere (Some r) far = let two = ends_one files s id (AtForeign far.0 far.1) Elsewhere far.2 wrong in let f : ⊥ = cc in f
 
 abbrev pub in_an_order : Item → List ℕ → Ordered
 in_an_order w order = record { item = w; order = order }

@@ -40,7 +40,7 @@ use Rattle.wit_arena.proofs.Interfaces.{AreItems, AreOfSort, item_scopes, functi
 use Rattle.wit_arena.proofs.Laid.{AreLaid, laid_none, laid_more}
 use Rattle.wit_arena.proofs.Meeting.{meets_one, meets_longer}
 use Rattle.wit_arena.proofs.Places.{Grown, grown_trans}
-use Rattle.wit_arena.proofs.Required.{in_scope, ended_required, required_append, required_grown}
+use Rattle.wit_arena.proofs.Required.{in_scope, ended_required, required_none, required_append, required_grown}
 use Rattle.wit_arena.proofs.SideItems.{side_types, side_items_wider}
 use Rattle.wit_arena.proofs.Standing.{DoneScope, turn_of, cell_of, IsDone}
 use Rattle.wit_arena.proofs.Settled.{settled_none, settled_types}
@@ -301,7 +301,7 @@ module _ (files : List PackageFile) (is ws : List Item) (interfaces : AreOfSort 
     laid_inside = tt;
     addresses = refl;
     done = subst (λ (l : List DoneScope). IsDone files (decls files is ws) (all_meetings files (all_turns d.ordered [])) l middle) (sym (append-nil before)) (subst (λ (ts : List Turned). IsDone files (decls files is ws) (all_meetings files ts) before middle) (sym (append-nil (map turned d.ordered))) d.done);
-    required = λ met meets. refl;
+    required = λ met meets. required_none files (keys met);
   }
 
   -- all that are left

@@ -29,7 +29,7 @@ use Rattle.wit_order.specs.Table.{IsOrder}
 use Rattle.wit_model.specs.declared.unresolved.UnresolvedPackage.{UnresolvedPackage}
 use Rattle.wit_syntax.specs.Form.{Form, OwnForm, AliasForm, ResourceForm, UnknownForm, RecordForm, FlagsForm, VariantForm, EnumForm}
 use Rattle.wit_arena.specs.Kind.{kind_of}
-use Rattle.std.specs.List.{flat_map, prefix_len}
+use Rattle.std.specs.List.{flat_map, filter_map, prefix_len}
 use Rattle.wit_syntax.specs.Shape.{Shape, Word, Of, Shapes, all_handles}
 use Rattle.wit_syntax.specs.Address.{Address, same_address}
 use Rattle.wit_syntax.specs.Node.{OfScope}
@@ -202,11 +202,18 @@ pub record AreWorlds (ks : List Key) (interfaces worlds : List Address) (os : Li
 abbrev pub turn_handles : Turned → List (Address × Id)
 turn_handles t = map (λ id. (t.address, id)) (all_handles (all_types t.names t.functions))
 
--- These names end at resources or at names of other packages, and these are the latter, at the places of their meetings, each where its
--- name is written.
-abbrev pub AreRequired : List PackageFile → List Key → List (Address × Id) → List (ℕ × Span) → Type 0
-AreRequired files ks [] rs = rs ≡ []
-AreRequired files ks (h ∷ hs) rs = (EndsAt files h.0 h.1 AtResource × AreRequired files ks hs rs) ⊎ ((s : Address) × (name : List ℕ) × (place : ℕ) × (rest : List (ℕ × Span)) × EndsAt files h.0 h.1 (AtForeign s name) × (slice_get ks place ≡ Some (Def s name)) × (rs ≡ (place, h.1.span) ∷ rest) × AreRequired files ks hs rest)
+-- What a name in a handle requires: nothing, where it ends at a resource; where it ends at a name of another package, that type, by the place
+-- of its meeting, and where the name in the handle is written.
+abbrev pub HandleRequires : List PackageFile → List Key → Address × Id → Option (ℕ × Span) → Type 0
+HandleRequires files ks h None = EndsAt files h.0 h.1 AtResource
+HandleRequires files ks h (Some r) = (s : Address) × (name : List ℕ) × EndsAt files h.0 h.1 (AtForeign s name) × (slice_get ks r.0 ≡ Some (Def s name)) × (r.1 ≡ h.1.span)
+
+-- these are what the names in handles require, in order
+pub record AreRequired (files : List PackageFile) (ks : List Key) (hs : List (Address × Id)) (rs : List (ℕ × Span)) : Type 0 where
+  pub each : List (Option (ℕ × Span))
+  pub count : length each ≡ length hs
+  pub says : (k : ℕ) (h : Address × Id) (r : Option (ℕ × Span)) → slice_get hs k ≡ Some h → slice_get each k ≡ Some r → HandleRequires files ks h r
+  pub all : rs ≡ filter_map (λ r. r) each
 
 -- a name that is taken from another package, where it is used
 abbrev pub taking_meeting : Taking → Meeting

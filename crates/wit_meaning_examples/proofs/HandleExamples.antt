@@ -1,5 +1,5 @@
 -- Worked rows with handles: of a resource, of another word for it, of a name of another package, and of no resource.
-use Rattle.std.proofs.Common.{◌≡◌, ℕ, ◌<◌, ◌^◌, zero, suc, Bool, true, false, List, [], ◌∷◌, length, map, Option, Some, None, inl, inr, refl, ap, lit<}
+use Rattle.std.proofs.Common.{◌≡◌, ℕ, ◌<◌, ◌^◌, zero, suc, Bool, true, false, List, [], ◌∷◌, length, map, Option, Some, None, inr, refl, ap, lit<}
 use Rattle.std.specs.Prelude.{codes}
 use Rattle.std.specs.Str.{bytes_eq}
 use Rattle.std.specs.declared.alloc.Global.{Global}
@@ -40,6 +40,7 @@ use Rattle.wit_syntax.specs.Ends.{AtResource, AtForeign, Elsewhere, EndsAt}
 use Rattle.wit_arena.specs.EntryEnds.{IsResource, IsUnknown, IsOther, entry_end}
 use Rattle.wit_syntax.specs.Broken.{IsBroken, Handle}
 use Rattle.wit_arena.specs.Whole.{Ordered, turned, turn_handles, all_meetings, AreRequired}
+use Rattle.wit_arena.proofs.Required.{required_none, required_more}
 use Rattle.wit_meaning_examples.proofs.Examples.{at, id, vec, no_comments, untold, header}
 
 none_is_met : {k : Key} → IsMet [] k → ⊥
@@ -173,7 +174,7 @@ module _ (ptr : Ptr) (alloc : Global) where
 
     -- nothing is required of other packages
     required : AreRequired files ks (turn_handles (turned ordered)) []
-    required = inl (record { levels = 1; is = refl }, inl (record { levels = 2; is = refl }, inl (record { levels = 2; is = refl }, refl)))
+    required = required_more files ks _ None _ [] (record { levels = 1; is = refl }) (required_more files ks _ None _ [] (record { levels = 2; is = refl }) (required_more files ks _ None _ [] (record { levels = 2; is = refl }) (required_none files ks)))
 
   -- use a:b/c.{r}; f: func(x: borrow<r>);
   module _ where
@@ -219,7 +220,7 @@ module _ (ptr : Ptr) (alloc : Global) where
 
     -- so that entry is required to be a resource, where the name is written in the handle
     user_required : AreRequired user_files user_keys (turn_handles (turned user_ordered)) ((0, at 64 65) ∷ [])
-    user_required = inr (in_c, codes "r", 0, [], used_ends, refl, refl, refl)
+    user_required = required_more user_files user_keys (in_i, r_id (at 64 65)) (Some (0, at 64 65)) [] [] (in_c, codes "r", used_ends, refl, refl) (required_none user_files user_keys)
 
   -- type t = u8; f: func(x: borrow<t>);
   module _ where

@@ -1,6 +1,7 @@
 -- Types, functions and names over the keys that were met: their ids are places of types.
-use Rattle.std.proofs.Common.{◌≡◌, ◌<◌, ℕ, zero, suc, List, [], ◌∷◌, length, Some, refl, sym, ap, ◌∙◌, subst, arith, inl, inr}
+use Rattle.std.proofs.Common.{◌≡◌, ◌<◌, ℕ, zero, suc, List, [], ◌∷◌, length, Option, Some, None, refl, sym, ap, ◌∙◌, subst, arith}
 use Rattle.std.specs.Prelude.{slice_get}
+use Rattle.std.specs.List.{filter_map}
 use Rattle.std.proofs.lemmas.Option.{slice_get_within}
 use Rattle.wit_values.specs.declared.span.Span.{Span}
 use Rattle.wit_tree.specs.declared.tree.FuncForm.{FuncForm}
@@ -19,7 +20,6 @@ use Rattle.wit_arena.specs.Functions.{freestanding_kind, method_kind, static_kin
 use Rattle.wit_arena.specs.Meet.{Key, Def, Whole, IsAt, AreAt}
 use Rattle.wit_arena.specs.Package.{IsBelow, function_types}
 use Rattle.wit_arena.specs.Whole.{Turned, HasTypes, AreRequired}
-use Rattle.wit_syntax.proofs.Kept.{behind_one}
 use Rattle.wit_syntax.proofs.Lists.{at_within}
 use Rattle.wit_arena.proofs.Primitives.{primitive_below}
 use Rattle.wit_arena.proofs.Signatures.{function_typed}
@@ -43,6 +43,13 @@ static_resource form.Plain r = refl
 static_resource form.Async r = refl
 static_resource form.Getter r = refl
 static_resource form.Setter r = refl
+
+-- what is kept of options stands among them
+kept_from : {X : Type 0} (each : List (Option X)) (k : ℕ) (x : X) → slice_get (filter_map (λ r. r) each) k ≡ Some x → (i : ℕ) × (slice_get each i ≡ Some (Some x))
+kept_from [] k x at = absurd (let f : ⊥ = cc in f)
+kept_from (None ∷ each) k x at = (let it = kept_from each k x at in (suc it.0, it.1))
+kept_from (Some y ∷ each) zero x at = (0, ap Some at)
+kept_from (Some y ∷ each) (suc k) x at = (let it = kept_from each k x at in (suc it.0, it.1))
 
 -- each key that was met is that of a type
 module _ (p : UnresolvedPackage) (ks : List Key) (count : length p.types ≡ length ks) where
@@ -96,9 +103,10 @@ module _ (p : UnresolvedPackage) (ks : List Key) (count : length p.types ≡ len
 
   -- what handles require
   pub required_within : (files : List PackageFile) (hs : List (Address × Id)) (rs : List (ℕ × Span)) → AreRequired files ks hs rs → (k : ℕ) (r : ℕ × Span) → slice_get rs k ≡ Some r → r.0 < length p.types
-  required_within files [] rs none k r at = absurd (let f : ⊥ = cc in f)
-  required_within files (h ∷ hs) rs (inl own) k r at = required_within files hs rs own.1 k r at
-  required_within files (h ∷ hs) rs (inr far) k r at = elim (behind_one (far.2, h.1.span) far.3 k r (ap (λ (l : List (ℕ × Span)). slice_get l k) (sym far.6) ∙ at)) [
-    | inl here ↦ subst (λ (x : ℕ × Span). x.0 < length p.types) here (key_within far.2 (Def far.0 far.1) far.5)
-    | inr behind ↦ required_within files hs far.3 far.7 behind.0 r behind.1
-  ]
+  required_within files hs rs h k r at =
+      let it = kept_from h.each k r (ap (λ (l : List (ℕ × Span)). slice_get l k) (sym h.all) ∙ at) in
+      let lt = slice_get_within h.each it.0 (Some r) it.1 in
+      let as_many = h.count in
+      let x = at_within hs it.0 (omega (arith, lt, as_many)) in
+      let far = h.says it.0 x.0 (Some r) x.1 it.1 in
+      key_within r.0 (Def far.0 far.1) far.3
