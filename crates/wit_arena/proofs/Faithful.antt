@@ -38,7 +38,7 @@ use Rattle.wit_arena.proofs.Parts.{part_type}
 use Rattle.wit_syntax.specs.Sides.{role_side, FunctionKey, function_key}
 use Rattle.wit_arena.proofs.FreeNames.{made_key}
 use Rattle.wit_arena.proofs.Standing.{DoneScope, IsWholeOf, IsInSignatureOf, IsDone}
-use Rattle.wit_arena.proofs.Stated.{function_at, named_at, entry_of, owner_at_name, parts_at, part_in}
+use Rattle.wit_arena.proofs.Stated.{has_types, function_at, named_at, entry_of, owner_at_name, parts_at, part_in}
 use Rattle.wit_arena.proofs.Takings.{taking_key}
 use Rattle.wit_arena.proofs.Unknowns.{unknown_front}
 
@@ -231,6 +231,14 @@ module _ (files : List PackageFile) (decls : Decls) (written : List Meeting) (cs
       let place = ap (λ (z : Address). slice_get (name_parts z h.x) h.part) w.scope ∙ h.place in
       part_in files decls written cs p.types d w.place w.cell h.k h.x h.index h.id h.e h.part x ty w.at among stands h.entry place h.is
 
+  -- a name of an owner stands for the place where it was met
+  pub name_at : (o : TypeOwner) (s : Address) (k : ℕ) (name : List ℕ) (id : ℕ) → owner_of p o ≡ OfScope s → slice_get (names_of p o) k ≡ Some (name, id) → slice_get ks id ≡ Some (Def s name)
+  name_at o s k name id called at =
+      let w = owners.all o s called in
+      let types : names_of p o ≡ w.cell.types = ap (names_of p) (sym w.whose) ∙ owners.names w.place w.cell w.at in
+      let there = (has_types files decls written cs p.types d w.place w.cell w.at).places k name id (ap (λ (l : Names). slice_get l k) (sym types) ∙ at) in
+      subst (λ (z : Address). slice_get ks id ≡ Some (Def z name)) w.scope there
+
   -- two written types are one type exactly where they are one expression
   pub one_type : (x y : Expr) (t u : Ty) → IsAt ks x t → IsAt ks y u → (t ≡ u) ↔ (x ≡ y)
   one_type x y t u h k = (λ same. at_injective ks x y u (subst (IsAt ks x) same h) k, λ same. at_functional ks (once_of d.meeting.keyed) y t u (subst (λ (z : Expr). IsAt ks z t) same h) k)
@@ -255,7 +263,7 @@ module _ (files : List PackageFile) (decls : Decls) (written : List Meeting) (cs
         let is : IsFunction ks c.address h.fn h.f = subst (λ (g : SourceFunction). IsFunction ks c.address g h.f) one index.4 in
         subst (λ (z : Address). IsAt ks (expr_of z x.1) ty) w.scope ((function_typed ks c.address h.fn h.f is).each h.index x.1 ty h.shape h.is)
 
-    type_at : (n : ℕ) (x : Place) (ty : Ty) → HasType files p n x ty → IsAt ks (expr_of x.0 x.1) ty
+    pub type_at : (n : ℕ) (x : Place) (ty : Ty) → HasType files p n x ty → IsAt ks (expr_of x.0 x.1) ty
     type_at zero x ty (inl h) = part_at x ty h
     type_at zero x ty (inr h) = in_signature x ty h
     type_at (suc n) x ty h =

@@ -1,15 +1,12 @@
--- What is met anew, one after another, is what is met first; and the arena of a package is that.
+-- What is met anew, one after another, is what is met first.
 use Rattle.std.proofs.Common.{◌≡◌, ◌↔◌, ℕ, zero, suc, ◌+◌, ◌-◌, ◌<◌, ◌≤◌, List, [], ◌∷◌, ◌++◌, length, Some, inl, inr, refl, sym, ap, ◌∙◌, subst, arith, append_assoc, append-nil, zero-add, add-zero, le_refl}
 use Rattle.std.specs.Prelude.{slice_get, map}
 use Rattle.std.specs.Option.{option_map}
 use Rattle.std.proofs.lemmas.Bool.Decides.{leb_tells}
 use Rattle.std.proofs.lemmas.Option.{slice_get-map}
-use Rattle.wit_tree.specs.declared.tree.PackageFile.{PackageFile}
-use Rattle.wit_model.specs.declared.unresolved.UnresolvedPackage.{UnresolvedPackage}
 use Rattle.wit_syntax.proofs.Lists.{at_seam, at_split}
 use Rattle.wit_arena.specs.Meet.{Key, Meeting, keys, IsMet, Meets}
-use Rattle.wit_arena.specs.Whole.{IsPackage}
-use Rattle.wit_arena.specs.FirstMeetings.{IsRising, IsNewAt, AreFirst, HasArena}
+use Rattle.wit_arena.specs.FirstMeetings.{IsRising, IsNewAt, AreFirst}
 use Rattle.wit_arena.proofs.Places.{key_grown}
 use Rattle.wit_arena.proofs.Meeting.{keys-append, meets_grown, key_either}
 
@@ -202,7 +199,3 @@ module _ (all : List Meeting) where
 
   pub meets-first : (met : List Meeting) → Meets [] all met ↔ AreFirst all met
   meets-first met = (first_of_meets met, meets_of_first met)
-
--- the arena of a package is what is first met
-pub arena_of : (files : List PackageFile) (p : UnresolvedPackage) → IsPackage files p → HasArena files p
-arena_of files p h = record { interfaces = h.interfaces; worlds = h.worlds; ordered = h.ordered; met = h.met; first = first_of_meets _ h.met h.meets; entries = h.meeting }

@@ -30,7 +30,8 @@ use Rattle.wit_arena.specs.SideItems.{AreSideItems, settled}
 use Rattle.wit_syntax.specs.Scope.{includes, item_rows, rows_of, in_order, interfaces_of, worlds_of}
 use Rattle.wit_syntax.specs.Broken.{headers, last_header}
 use Rattle.wit_arena.specs.Package.{world_types}
-use Rattle.wit_arena.specs.Whole.{Ordered, OrderedWorld, own_item, Turned, item_of, ordered_names, turned, world_turns, all_turns, all_inside, turn_handles, AreRequired, meetings, all_meetings, type_imports, addresses, interface_addresses, world_addresses, declarations, HasTypes, AreIncludes, HasSides, foreign_turned, AreForeignInterfaces, AreInterfaces, AreWorlds, IsFaithful, NamesOthers, first_docs, IsPackage}
+use Rattle.wit_arena.specs.Whole.{Ordered, OrderedWorld, AreOrdered, own_item, Turned, item_of, ordered_names, turned, world_turns, all_turns, all_inside, turn_handles, AreRequired, meetings, all_meetings, type_imports, addresses, interface_addresses, world_addresses, declarations, HasTypes, AreIncludes, HasSides, foreign_turned, AreForeignInterfaces, AreInterfaces, AreWorlds, IsFaithful, NamesOthers, first_docs, IsPackage}
+use Rattle.wit_arena.specs.FirstMeetings.{HasArena}
 use Rattle.wit_arena.specs.Resolving.{Names, Required, cell}
 use Rattle.wit_arena.specs.Resolved.{WorldArenas, AddsForeign}
 use Rattle.wit_syntax.proofs.Lists.{at_front, at_back, map_map}
@@ -44,7 +45,8 @@ use Rattle.wit_arena.proofs.Interfaces.{AreItems, AreOfSort}
 use Rattle.wit_arena.proofs.DoneWorlds.{world_cell, AreWorldsDone, own_order, scopes_of, all_within}
 use Rattle.wit_arena.proofs.Required.{both_parts, required_append}
 use Rattle.wit_arena.proofs.Stated.{has_types}
-use Rattle.wit_arena.proofs.Faithful.{one_type, faithful}
+use Rattle.wit_arena.proofs.Faithful.{name_at, one_type, type_at, faithful}
+use Rattle.wit_arena.proofs.FirstMeetings.{first_of_meets}
 use Rattle.wit_arena.proofs.Unknowns.{takings_front}
 use Rattle.wit_arena.proofs.Owners.{types_of_cell, worlds_are_all, front_interface_at, world_scope_among, inside_scope_among, inside_entry, owners}
 
@@ -211,6 +213,21 @@ module _ (files : List PackageFile) (is ws : List Item) (interfaces : AreOfSort 
   met_addresses : IsMeeting (declarations files (interface_addresses files (d.ordered ++ all_inside e.ordered)) (world_addresses files e.ordered)) e.done.met p.types
   met_addresses = subst (λ (y : List Address). IsMeeting (declarations files (interface_addresses files (d.ordered ++ all_inside e.ordered)) y) e.done.met p.types) same_worlds (subst (λ (y : List Address). IsMeeting (declarations files y (world_list files ws)) e.done.met p.types) same_interfaces e.done.meeting)
 
+  orders : (places : List ℕ) → IsOrder (item_rows files) places → is ≡ interfaces_of (in_order (all_items files) places) → ws ≡ worlds_of (in_order (all_items files) places) → AreOrdered files d.ordered e.ordered
+  orders places order in_order_interfaces in_order_worlds = record { places = places; item_order = order; all_interfaces = d.all ∙ in_order_interfaces; all_worlds = e.all ∙ in_order_worlds; inside = e.each_inside; least = least_orders }
+
+  pub arena_package : ((t : ℕ) (c : DoneScope) → slice_get scopes t ≡ Some c → AllDiffer (map function_key c.functions)) → (places : List ℕ) → IsOrder (item_rows files) places → is ≡ interfaces_of (in_order (all_items files) places) → ws ≡ worlds_of (in_order (all_items files) places) → HasArena files p
+  arena_package apart places order in_order_interfaces in_order_worlds = record {
+    interfaces = d.ordered;
+    worlds = e.ordered;
+    ordered = orders places order in_order_interfaces in_order_worlds;
+    met = e.done.met;
+    first = first_of_meets written e.done.met e.done.meets;
+    entries = met_addresses;
+    names = name_at files (decls files is ws) written scopes p e.done (owners files is ws interfaces worlds is_items ws_items start middle front xs wfront foreign irs wrs p a d e interface_arena world_arena others);
+    positions = type_at files (decls files is ws) written scopes p e.done (owners files is ws interfaces worlds is_items ws_items start middle front xs wfront foreign irs wrs p a d e interface_arena world_arena others) apart;
+  }
+
   pub package_of : p.required_resource_types ≡ irs ++ wrs → (header : Header) (places : List ℕ) → IsOrder (item_rows files) places → is ≡ interfaces_of (in_order (all_items files) places) → ws ≡ worlds_of (in_order (all_items files) places) → last_header files ≡ Some header → p.name.namespace ≡ header.namespace.name.now → p.name.name ≡ header.name.name.now → option_map release_parts p.name.version ≡ option_map parts_of header.version → p.name_span ≡ header.span → p.docs ≡ first_docs (headers files) → IsPackage files p
   package_of requires header places order in_order_interfaces in_order_worlds last namespace name version span docs = record {
     header = header;
@@ -223,7 +240,7 @@ module _ (files : List PackageFile) (is ws : List Item) (interfaces : AreOfSort 
     others = others;
     interfaces = d.ordered;
     worlds = e.ordered;
-    ordered = record { places = places; item_order = order; all_interfaces = d.all ∙ in_order_interfaces; all_worlds = e.all ∙ in_order_worlds; inside = e.each_inside; least = least_orders };
+    ordered = orders places order in_order_interfaces in_order_worlds;
     met = e.done.met;
     meets = e.done.meets;
     meeting = met_addresses;

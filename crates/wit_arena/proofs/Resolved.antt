@@ -28,6 +28,7 @@ use Rattle.wit_syntax.specs.Notes.{IsBrokenNotes}
 use Rattle.wit_syntax.specs.Broken.{IsDuplicateItem, is_world_at, IsInterfaceIncluded, IsBrokenNames, DuplicateItem, Items, Headerless, Names, ItemStability, UseNotes, IncludeStability, Use, InterfaceIncluded, MissingName, FunctionUsed, Scope, Sides, Handle, Setter, IsSetterAlone, IsLegal, headers, last_header}
 use Rattle.wit_syntax.specs.Repeats.{AllDiffer}
 use Rattle.wit_arena.specs.Whole.{own_item, Turned, turn_handles, all_turns, all_meetings, AreRequired, AreIncludes, NamesOthers, first_docs, IsPackage, IsFaithful}
+use Rattle.wit_arena.specs.FirstMeetings.{HasArena}
 use Rattle.wit_arena.specs.Resolved.{WorldArenas, front_worlds, AddsInterfaces, AddsWorlds, AddsForeign, AreLegalScopes, AreLegalSides, AreUsableUses, AreUsableLinks, AreSoundScopes, IsBrokenItemStability, OwnStability, OfInclude, HaveLegalStability}
 use Rattle.wit_syntax.proofs.Lists.{at_within, flat_map_at, flat_map_has, map_at}
 use Rattle.wit_syntax.proofs.Headers.{some_header}
@@ -56,7 +57,7 @@ use Rattle.wit_arena.proofs.Added.{inside_of, world_list, decls, InterfacesDone,
 use Rattle.wit_arena.proofs.DoneWorlds.{scopes_of, own_order, AreWorldsDone}
 use Rattle.wit_arena.proofs.Worlds.{worlds_done}
 use Rattle.wit_arena.proofs.Finished.{are_interfaces, are_worlds, interface_at, world_at}
-use Rattle.wit_arena.proofs.Packaged.{faithful_package, required_of, package_of}
+use Rattle.wit_arena.proofs.Packaged.{arena_package, faithful_package, required_of, package_of}
 
 -- an item whose name an earlier one has is declared twice
 twice : (files : List PackageFile) (i j : ℕ) (x y : Item) → i < j → slice_get (all_items files) i ≡ Some x → slice_get (all_items files) j ≡ Some y → item_name x ≡ item_name y → IsDuplicateItem files (fault 5 (item_id y).span)
@@ -317,3 +318,6 @@ module _ (files : List PackageFile) (places : List ℕ) (order : IsOrder (item_r
 
     pub files_faithful : AreLegalSides scopes_in_order → IsFaithful files p
     files_faithful sides = faithful_package files is_items ws_items is_sort ws_sort (are_interfaces files places order differ) (are_worlds files places order differ) es middle front is_done.0 wfront foreign irs wrs p a is_done.2 package_worlds interface_arena worlds others (functions_apart sides)
+
+    pub files_arena : AreLegalSides scopes_in_order → HasArena files p
+    files_arena sides = arena_package files is_items ws_items is_sort ws_sort (are_interfaces files places order differ) (are_worlds files places order differ) es middle front is_done.0 wfront foreign irs wrs p a is_done.2 package_worlds interface_arena worlds others (functions_apart sides) places order refl refl

@@ -27,10 +27,11 @@ use Rattle.wit_syntax.specs.Foreign.{visited, foreign_interfaces, foreign_worlds
 use Rattle.wit_arena.specs.Resolved.{AddsForeign, AddsInterfaces, AreLegalScopes, AreLegalSides, AreSoundScopes, AreUsableUses, IsWrongAmong, IsWrongWorldAmong}
 use Rattle.wit_arena.specs.Resolving.{Names, Required, cells, IsIndex}
 use Rattle.wit_arena.specs.Whole.{NamesOthers, first_docs, IsPackage, IsFaithful}
+use Rattle.wit_arena.specs.FirstMeetings.{HasArena}
 use Rattle.wit_syntax.proofs.Inline.{inline_items_none}
 use Rattle.wit_syntax.proofs.Kept.{behind_one, kept_has}
 use Rattle.wit_syntax.proofs.Lists.{flat_map_at, flat_map_has}
-use Rattle.wit_arena.proofs.Resolved.{scopes_legal as legal_scopes, files_legal as legal_by, files_package as package_by, files_faithful as faithful_by}
+use Rattle.wit_arena.proofs.Resolved.{scopes_legal as legal_scopes, files_legal as legal_by, files_package as package_by, files_faithful as faithful_by, files_arena as arena_by}
 use Rattle.wit_interfaces.specs.Between.{IsWrongNow}
 use Rattle.wit_worlds.specs.Between.{IsWrongWorldNow}
 use Rattle.wit_parser.specs.Between.{AddsFiles}
@@ -99,3 +100,6 @@ module _ (files : List PackageFile) (es : List TypeDef) (all : List Interface) (
 
     pub files_faithful : IsFaithful files p
     files_faithful = faithful_by files a.places a.order a.names a.uses a.first a.middle es a.front a.is a.worlds_front a.arenas a.irs a.wrs a.foreign a.interfaces a.worlds p types (interfaces ∙ a.interface_arena) (worlds ∙ a.world_arena) others a.sided
+
+    pub files_arena : HasArena files p
+    files_arena = arena_by files a.places a.order a.names a.uses a.first a.middle es a.front a.is a.worlds_front a.arenas a.irs a.wrs a.foreign a.interfaces a.worlds p types (interfaces ∙ a.interface_arena) (worlds ∙ a.world_arena) others a.sided

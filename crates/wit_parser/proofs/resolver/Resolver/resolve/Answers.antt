@@ -12,8 +12,7 @@ use Rattle.wit_syntax.specs.Fault.{fault}
 use Rattle.wit_syntax.specs.Broken.{IsBrokenNames, IsBroken, Headerless, Names, last_header}
 use Rattle.wit_syntax.proofs.Refusing.{refused_weaker}
 use Rattle.wit_syntax.proofs.Headers.{no_header, span_of_ends}
-use Rattle.wit_arena.proofs.FirstMeetings.{arena_of}
-use Rattle.wit_parser.proofs.Files.{files_legal, files_package, files_faithful}
+use Rattle.wit_parser.proofs.Files.{files_legal, files_package, files_faithful, files_arena}
 use Rattle.wit_parser.proofs.resolver.Resolver.resolve.Goals as goal
 
 pub returns-in-None-clause-refused : goal.returns-in-None-clause-refused
@@ -55,7 +54,16 @@ returns-clause-package c =
     (e.docs ∙ (rw c.pushed-files.ensures at c.in_ok-package_docs.ensures))
 
 pub returns-clause-arena : goal.returns-clause-arena
-returns-clause-arena c = arena_of c.args.self.files.items c.new.result (returns-clause-package c)
+returns-clause-arena c =
+    let files : List PackageFile = c.args.self.files.items in
+    let resolved = c.in_ok-resolved.resolved in
+    let added : AddsFiles files c.resolve_files.new.types resolved.interfaces resolved.worlds resolved.required.items = rw c.pushed-files.ensures at c.in_ok-resolved.ensures.added in
+    let are : AreNamesOf files c.in_ok-names.names = rw c.pushed-files.ensures at c.in_ok-names.ensures.names in
+    let spans : resolved.unknown_type_spans.items ≡ map (λ (t : Taking). t.id.span) (first_takings files) = rw c.pushed-files.ensures at c.in_ok-resolved.ensures.unknown in
+    let e = c.new.ensures in
+    let o = c.in_ok-foreign.ensures in
+    files_arena files _ _ _ _ added c.new.result (e.types ∙ c.into_arena.ensures) e.interfaces e.worlds
+    (record { deps = e.foreign_deps ∙ o.deps files are; spans = e.foreign_dep_spans ∙ o.spans files are; unknown = e.unknown_type_spans ∙ o.unknown ∙ spans })
 
 pub returns-clause-faithful : goal.returns-clause-faithful
 returns-clause-faithful c =
