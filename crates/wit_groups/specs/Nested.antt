@@ -10,6 +10,7 @@ use Rattle.wit_model.specs.declared.unresolved.UnresolvedPackage.{UnresolvedPack
 use Rattle.wit_syntax.specs.Fault.{Fault, fault}
 use Rattle.wit_syntax.specs.Broken.{IsBroken, IsDocumentedTwice, IsLegal, IsOtherPackage}
 use Rattle.wit_arena.specs.Whole.{IsPackage, IsFaithful}
+use Rattle.wit_arena.specs.FirstMeetings.{HasArena}
 
 -- a nested package as a file of its own: its name is the header
 abbrev pub file_of : NestedPackage → PackageFile
@@ -19,6 +20,7 @@ file_of n = record { package_id = Some n.name; decl_list = n.decl_list }
 pub record IsMadeOf (files : List PackageFile) (p : UnresolvedPackage) : Type 0 where
   pub legal : IsLegal files
   pub whole : IsPackage files p
+  pub arena : HasArena files p
   pub faithful : IsFaithful files p
   pub backward : IsBackward p.types
 
