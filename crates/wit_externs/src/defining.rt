@@ -14,6 +14,7 @@ ghost use Rattle.wit_externs.specs.Clash.{IsClash, names_of_items, IsCrossed};
 use crate::held::HeldExtern;
 use std::alloc::{AllocError, Global};
 use wit_model::Function;
+use wit_notes::is_same_side;
 use wit_notes::refusal::refuse_in;
 use wit_rules::held::HeldFunction;
 use wit_sides::Sides;
@@ -21,20 +22,6 @@ use wit_tree::tree::WorldSide;
 use wit_tree::{ParseResult, Span};
 use wit_types::TypeId;
 use wit_values::TextTable;
-
-/// Whether two sides are one.
-fn is_same_side(a: WorldSide, b: WorldSide) -> bool {
-    match a {
-        WorldSide::Imported => match b {
-            WorldSide::Imported => true,
-            WorldSide::Exported => false,
-        },
-        WorldSide::Exported => match b {
-            WorldSide::Imported => false,
-            WorldSide::Exported => true,
-        },
-    }
-}
 
 /// Whether it is an interface on a side, under this name.
 fn is_interface_named(held: &HeldExtern<'_, '_>, side: WorldSide, name: &str) -> bool {

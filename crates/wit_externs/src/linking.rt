@@ -6,7 +6,6 @@ ghost use Rattle.wit_syntax.specs.Fault.{Fault};
 ghost use Rattle.wit_syntax.specs.Notes.{IsBrokenNotes};
 ghost use Rattle.wit_syntax.specs.Repeats.{AllDiffer};
 ghost use Rattle.wit_syntax.specs.Sides.{SideLink, items_on};
-ghost use Rattle.wit_syntax.specs.Source.{path_id as the_path};
 ghost use Rattle.wit_sides.specs.Sides.{taken_on};
 ghost use Rattle.wit_signatures.specs.Taken.{name_key};
 ghost use Rattle.wit_externs.specs.declared.held.Led.TheVariants.{Interface};
@@ -19,29 +18,13 @@ ghost use Rattle.wit_externs.specs.Next.{IsWrongNext, linked_on};
 use crate::defining::define_extern;
 use crate::held::{HeldExtern, HeldLink, Led};
 use crate::links::Links;
-use std::alloc::{AllocError, Global};
-use wit_notes::check_notes;
-use wit_notes::refusal::{refuse_in, refuse_missing};
+use std::alloc::Global;
+use wit_notes::refusal::{refuse_missing, refuse_world};
+use wit_notes::{check_notes, path_id};
 use wit_sides::Sides;
 use wit_tree::ParseResult;
-use wit_tree::tree::{Id, UsePath};
 use wit_types::TypeId;
 use wit_values::TextTable;
-
-/// The name that a path ends in.
-fn path_id<'a>(path: &UsePath<'a>) -> Id<'a>
-    ensures { result ≡ the_path path.now }
-{
-    match path {
-        UsePath::Id(id) => *id,
-        UsePath::Package { name, .. } => *name,
-    }
-}
-
-/// The words for a path that leads to a world.
-fn world_not_interface(alloc: Global, name: &str) -> Result<String, AllocError> {
-    format!(in alloc; "name `{name}` is defined as a world, not an interface")
-}
 
 /// The place of the interface that a link leads to.
 ///
@@ -55,10 +38,7 @@ fn check_link(alloc: Global, link: &HeldLink<'_, '_>) -> ParseResult<usize>
     check_notes(alloc, link.attributes)?;
     match link.led {
         Led::Interface(interface) => Ok(interface),
-        Led::World => {
-            let id = path_id(link.path);
-            Err(refuse_in(10, id.span, world_not_interface(alloc, id.name)))
-        }
+        Led::World => Err(refuse_world(alloc, path_id(link.path))),
         Led::Nothing(id) => Err(refuse_missing(alloc, 7, "interface or world", id)),
     }
 }

@@ -12,5 +12,5 @@ pub mod visit;
 pub use declaration::declarations;
 pub use file_names::{FileNames, Found};
 pub use foreign::ForeignVisit;
-pub use top_name::{Target, path_id};
+pub use top_name::Target;
 pub use visit::{Visit, Wanted, visits};

@@ -1,6 +1,6 @@
 //! Names at the top of files, and what paths lead to.
 ghost use Rattle.std.specs.Prelude.{◌≡◌, ◌++◌, List, IsSome, map, IfOk, IfErr, OnOk};
-ghost use Rattle.wit_syntax.specs.Source.{TopName as Top, Item, itself as the_itself, top_name as the_name, top_names as the_names, top_text, path_id as the_path, path_target as the_target, leads as the_leads, file_items, all_items, item_name, item_named};
+ghost use Rattle.wit_syntax.specs.Source.{TopName as Top, Item, itself as the_itself, top_name as the_name, top_names as the_names, top_text, path_target as the_target, leads as the_leads, file_items, all_items, item_name, item_named};
 ghost use Rattle.wit_syntax.specs.Scope.{local_target};
 ghost use Rattle.wit_syntax.specs.Broken.{IsDuplicateTopName, IsBrokenItems, Refused};
 ghost use Rattle.wit_syntax.specs.Repeats.{AllDiffer};
@@ -10,6 +10,7 @@ ghost use Rattle.wit_files.specs.Checks.{AreRightUses, IsDeclaredTarget, IsRepea
 use crate::declaration::declarations;
 use indexmap::IndexMap;
 use std::alloc::{AllocError, Global};
+use wit_notes::path_id;
 use wit_notes::refusal::{refuse, refuse_missing};
 use wit_tree::ParseResult;
 use wit_tree::tree::{AstItem, Id, PackageFile, PackageName, ToplevelUse, UsePath};
@@ -38,16 +39,6 @@ pub struct TopName<'f, 'a> {
 pub struct Paths<'n, 'f, 'a> {
     pub top: &'n IndexMap<&'a str, Target<'f, 'a>>,
     pub declared: &'n IndexMap<&'a str, Target<'f, 'a>>,
-}
-
-/// The name that a path ends in.
-pub fn path_id<'a>(path: &UsePath<'a>) -> Id<'a>
-    ensures { result ≡ the_path path.now }
-{
-    match path {
-        UsePath::Id(id) => *id,
-        UsePath::Package { name, .. } => *name,
-    }
 }
 
 /// What a path says by itself.

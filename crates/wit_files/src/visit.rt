@@ -1,11 +1,11 @@
 //! The paths of a file, in the order in which they are met.
 ghost use Rattle.std.specs.Prelude.{◌≡◌, [], ◌∷◌, ◌++◌, map, None, IfOk, OnOk};
 ghost use Rattle.std.specs.List.{flat_map};
-ghost use Rattle.wit_syntax.specs.Crossing.{same_side as are_one_side};
 ghost use Rattle.wit_files.specs.Visits.{visit_behind, use_visit, part_visits, interface_visits, world_part_visits, extern_visit, extern_visits, side_part_visits, world_visits, item_visits, visits as the_visits};
 
 use crate::declaration::world_items;
 use std::alloc::{AllocError, Global};
+use wit_notes::is_same_side;
 use wit_tree::tree::{
     AstItem, Attribute, DeclList, Extern, ExternKind, Id, Interface, InterfaceItem, Use, UseName,
     UsePath, World, WorldItem, WorldSide,
@@ -102,16 +102,6 @@ fn add_world_parts<'f, 'a>(
         add_world_part(world.name, item, visits)?;
     }
     Ok(())
-}
-
-/// Whether two sides are one.
-fn is_same_side(a: WorldSide, b: WorldSide) -> bool
-    ensures { result ≡ are_one_side a b }
-{
-    match a {
-        WorldSide::Imported => matches!(b, WorldSide::Imported),
-        WorldSide::Exported => matches!(b, WorldSide::Exported),
-    }
 }
 
 /// Adds the visits of an interface that is written in a world: one for each `use`.

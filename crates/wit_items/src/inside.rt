@@ -3,7 +3,6 @@ ghost use Rattle.std.specs.Prelude.{◌≡◌, All, List, map, IfOk, IfErr, OnOk
 ghost use Rattle.std.specs.List.{flat_map};
 ghost use Rattle.std.specs.Option.{option_copied, option_to_list};
 ghost use Rattle.wit_tree.specs.declared.tree.PackageFile.{PackageFile as TheFile};
-ghost use Rattle.wit_syntax.specs.Crossing.{same_side};
 ghost use Rattle.wit_syntax.specs.Source.{TheWorld, world_part as the_world_part, top_names};
 ghost use Rattle.wit_syntax.specs.Sides.{items_on, part_items};
 ghost use Rattle.wit_syntax.specs.Foreign.{visited, foreign_interfaces};
@@ -18,19 +17,10 @@ use std::alloc::Global;
 use wit_files::FileNames;
 use wit_files::declaration::world_items;
 use wit_model::AstItem as Entry;
+use wit_notes::is_same_side;
 use wit_scopes::scope_name::ScopeName;
 use wit_tree::ParseResult;
 use wit_tree::tree::{ExternKind, InterfaceItem, World, WorldItem, WorldSide};
-
-/// Whether two sides are one.
-fn is_same_side(a: WorldSide, b: WorldSide) -> bool
-    ensures { result ≡ same_side a b }
-{
-    match a {
-        WorldSide::Imported => matches!(b, WorldSide::Imported),
-        WorldSide::Exported => matches!(b, WorldSide::Exported),
-    }
-}
 
 /// The items of the interface that a world imports or exports, if it is written there.
 fn written_there<'f, 'a>(kind: &'f ExternKind<'a>) -> Option<&'f [InterfaceItem<'a>]>

@@ -2,20 +2,20 @@
 ghost use Rattle.std.specs.Prelude.{◌≡◌, List, map, IfOk, IfErr, OnOk};
 ghost use Rattle.std.specs.Option.{option_copied};
 ghost use Rattle.wit_tree.specs.declared.tree.PackageFile.{PackageFile as TheFile};
-ghost use Rattle.wit_syntax.specs.Source.{top_names, path_id as the_path, Local, leads, path_scope};
+ghost use Rattle.wit_syntax.specs.Source.{top_names, Local, leads, path_scope};
 ghost use Rattle.wit_syntax.specs.Foreign.{visited, foreign_interfaces};
-ghost use Rattle.wit_syntax.specs.Fault.{fault};
 ghost use Rattle.wit_syntax.specs.Broken.{Refused};
 ghost use Rattle.wit_scopes.specs.Held.{source_behind, IsPlaced};
 ghost use Rattle.wit_items.specs.Items.{AreNamesAt, HasFile, HasPath, AreEntriesOf, item_place as the_item_place, other_place as the_other_place, entry_at, interface_entry, IsReached, IsUsable, IsUnusable};
 
-use std::alloc::{AllocError, Global};
-use wit_files::{FileNames, Found, Target, path_id};
+use std::alloc::Global;
+use wit_files::{FileNames, Found, Target};
 use wit_model::AstItem as Entry;
-use wit_notes::refusal::{refuse, refuse_missing};
+use wit_notes::path_id;
+use wit_notes::refusal::{refuse_missing, refuse_world};
 use wit_scopes::scope_name::Source;
+use wit_tree::ParseResult;
 use wit_tree::tree::{Id, UsePath};
-use wit_tree::{ParseError, ParseResult};
 
 /// What a path of an item leads to that wants an interface.
 #[derive(Clone, Copy)]
@@ -125,22 +125,6 @@ pub fn reach<'f, 'a>(
     }
 }
 
-/// The words for a path that wants an interface and leads to a world.
-fn not_an_interface(alloc: Global, name: &str) -> Result<String, AllocError> {
-    format!(in alloc; "name `{name}` is defined as a world, not an interface")
-}
-
-/// The refusal of a path that wants an interface and leads to a world.
-fn world_used(alloc: Global, path: &UsePath<'_>) -> ParseError
-    ensures { Refused (λ f. f ≡ fault 10 (the_path path.now).span) result }
-{
-    let id = path_id(path);
-    match not_an_interface(alloc, id.name) {
-        Ok(message) => refuse(alloc, 10, id.span, message.as_str()),
-        Err(error) => ParseError::from(error),
-    }
-}
-
 /// The interface that a path of an item of the file at a place leads to; refuses one that leads to
 /// no item (7), or to a world (10). `entries` are those of other packages' items.
 pub fn path_source<'f, 'a>(
@@ -159,7 +143,7 @@ pub fn path_source<'f, 'a>(
 {
     match reach(files, entries, place, path) {
         Reached::Interface(source) => Ok(source),
-        Reached::World => Err(world_used(alloc, path)),
+        Reached::World => Err(refuse_world(alloc, path_id(path))),
         Reached::Nothing(name) => Err(refuse_missing(alloc, 7, "interface or world", name)),
     }
 }

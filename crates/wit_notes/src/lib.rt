@@ -1,4 +1,4 @@
-//! Docs and attributes, names of packages and of a scope, repeats, and refusals of a rule.
+//! Docs and attributes, names of packages and of a scope, what paths end in, repeats, and refusals of a rule.
 #![tactic(auto)]
 
 pub mod attributes;
@@ -8,6 +8,7 @@ mod getters;
 pub mod name_scope;
 pub mod notes;
 pub mod package;
+pub mod paths;
 pub mod refusal;
 pub mod repeats;
 pub mod unique_names;
@@ -17,4 +18,5 @@ pub use comments::docs;
 pub use name_scope::NameScope;
 pub use notes::{Notes, check_notes, notes_of, told_notes, use_notes};
 pub use package::package_name;
+pub use paths::{is_same_side, path_id};
 pub use unique_names::check_unique_names;

@@ -60,6 +60,17 @@ pub fn refuse_missing(alloc: Global, rule: u8, sort: &str, id: Id<'_>) -> ParseE
     }
 }
 
+/// A name that leads to a world where an interface is wanted.
+#[cold]
+#[inline(never)]
+pub fn refuse_world(alloc: Global, id: Id<'_>) -> ParseError
+    ensures { IsWantOfMemory result ⊎ (fault_of result ≡ fault 10 id.entry.span) }
+{
+    let name = id.name;
+    let words = format!(in alloc; "name `{name}` is defined as a world, not an interface");
+    refuse_in(10, id.span, words)
+}
+
 /// The words for a type that has another name now.
 fn renamed(alloc: Global, old: &str, new: &str) -> Result<Option<String>, AllocError>
     ensures { IfOk result (λ hint. option_map string_bytes hint ≡ Some (renamed old.now new.now)) }

@@ -1,4 +1,6 @@
-use Rattle.std.proofs.Common.{inl, inr}
+use Rattle.std.proofs.Common.{inl, inr, ap, ◌∙◌}
+use Rattle.wit_tree.specs.declared.tree.Id.{Id}
+use Rattle.wit_syntax.specs.Fault.{fault}
 use Rattle.wit_items.specs.Items.{Nowhere, AtWorld}
 use Rattle.wit_items.proofs.reached.path_source.Goals as goal
 
@@ -12,9 +14,9 @@ pub returns-in-Interface-clause-usable : goal.returns-in-Interface-clause-usable
 returns-in-Interface-clause-usable c = λ fs file at. (rw c.in-Interface.is at (c.reach.ensures fs file at)).2
 
 pub returns-in-World-clause-refused : goal.returns-in-World-clause-refused
-returns-in-World-clause-refused c = λ fs file at. elim c.world_used.ensures [
+returns-in-World-clause-refused c = λ fs file at. elim c.refuse_world.ensures [
   | inl memory ↦ inl memory
-  | inr says ↦ inr (AtWorld (record { other = rw c.in-World.is at (c.reach.ensures fs file at); is = says }))
+  | inr says ↦ inr (AtWorld (record { other = rw c.in-World.is at (c.reach.ensures fs file at); is = says ∙ ap (λ (id : Id). fault 10 id.span) c.path_id.ensures }))
 ]
 
 pub returns-in-Nothing-clause-refused : goal.returns-in-Nothing-clause-refused
