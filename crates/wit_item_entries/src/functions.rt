@@ -121,9 +121,10 @@ fn placed_table(alloc: Global, functions: Vec<Function>) -> Result<TextTable<Fun
     requires { AllDiffer (map (λ f. f.name) functions.items) }
     ensures { IfOk result (λ table. table ≡ placed_functions functions.items) }
 {
-    let map = IndexMap::with_capacity(alloc, functions.len())?;
+    let placed = setters_behind_getters(alloc, functions)?;
+    let map = IndexMap::with_capacity(alloc, placed.len())?;
     let mut table = TextTable::from(map);
-    for function in setters_behind_getters(alloc, functions)? {
+    for function in placed {
         add_function(alloc, &mut table, function)?;
     }
     Ok(table)
