@@ -1,86 +1,80 @@
 //! How functions are called across a component's border.
-use crate::fixtures::functions;
+use crate::shared::{SPAN, check, check_text, function};
 use std::alloc::Global;
 use std::process::Abort;
 use std::test::Fail;
-use wit_model::{AbiVariant, Function, FunctionKind, LiftLowerAbi, Mangling, ManglingAndAbi};
+use wit_model::laws::equality::{
+    is_same_abi, is_same_abi_variant, is_same_mangling, is_same_mangling_and_abi,
+};
+use wit_model::{AbiVariant, FunctionKind, LiftLowerAbi, Mangling, ManglingAndAbi};
+use wit_values::{Row, Text};
 
-fn manglings(rt: &impl Abort) {
-    assert!(rt; Mangling::from_str("legacy") == Ok(Mangling::Legacy));
-    assert!(rt; Mangling::from_str("standard32") == Ok(Mangling::Standard32));
-}
-
-fn no_mangling(rt: &impl Abort, alloc: Global) -> Result<(), Fail> {
-    let Err(fault) = Mangling::from_str("x") else {
-        return Err(Fail::from("a name that no spelling has"));
-    };
-    let text = format!(in alloc; "{fault}")?;
-    assert!(rt;
-        text.as_str() == "unknown name mangling `x`, supported values are `legacy` or `standard32`"
+fn manglings(rt: &impl Abort, alloc: Global) -> Result<(), Fail> {
+    check(
+        rt,
+        "legacy",
+        Mangling::from_str("legacy") == Ok(Mangling::Legacy),
     );
+    if let Err(fault) = Mangling::from_str("x") {
+        let text = format!(in alloc; "{fault}")?;
+        let wanted = "unknown name mangling `x`, supported values are `legacy` or `standard32`";
+        check_text(rt, text.as_str(), wanted);
+    }
     Ok(())
 }
 
 fn variants(rt: &impl Abort) {
-    for (abi, import, export) in [
-        (
-            LiftLowerAbi::Sync,
-            AbiVariant::GuestImport,
-            AbiVariant::GuestExport,
-        ),
-        (
-            LiftLowerAbi::AsyncCallback,
-            AbiVariant::GuestImportAsync,
-            AbiVariant::GuestExportAsync,
-        ),
-        (
-            LiftLowerAbi::AsyncStackful,
-            AbiVariant::GuestImportAsync,
-            AbiVariant::GuestExportAsyncStackful,
-        ),
-    ] {
-        let choice = ManglingAndAbi::Legacy(abi);
-        assert!(rt; abi.import_variant() == import && choice.import_variant() == import);
-        assert!(rt; abi.export_variant() == export && choice.export_variant() == export);
-    }
+    let abi = LiftLowerAbi::AsyncStackful;
+    let choice = ManglingAndAbi::Legacy(abi);
+    let (import, export) = (abi.import_variant(), abi.export_variant());
+    check(rt, "an import", import == AbiVariant::GuestImportAsync);
+    check(
+        rt,
+        "an export",
+        export == AbiVariant::GuestExportAsyncStackful,
+    );
+    check(
+        rt,
+        "the same import",
+        is_same_abi_variant(choice.import_variant(), import),
+    );
+    check(
+        rt,
+        "the same export",
+        is_same_abi_variant(choice.export_variant(), export),
+    );
+    check(rt, "the same way", is_same_abi(abi, abi));
 }
 
 fn choices(rt: &impl Abort) {
-    let choice = ManglingAndAbi::Legacy(LiftLowerAbi::AsyncStackful);
-    let standard = ManglingAndAbi::Standard32;
-    assert!(rt; choice.is_async() && choice.sync() == ManglingAndAbi::Legacy(LiftLowerAbi::Sync));
-    assert!(rt; !standard.is_async() && standard.sync() == standard);
-    assert!(rt; choice.mangling() == Mangling::Legacy);
-    assert!(rt; standard.mangling() == Mangling::Standard32);
-    assert!(rt; standard.import_variant() == AbiVariant::GuestImport);
-    assert!(rt; standard.export_variant() == AbiVariant::GuestExport);
-}
-
-fn are_chosen(functions: &[Function], choice: ManglingAndAbi, wanted: ManglingAndAbi) -> bool {
-    for function in functions {
-        if choice.for_func(function) != wanted {
-            return false;
-        }
-    }
-    !functions.is_empty()
-}
-
-fn choices_for_functions(rt: &impl Abort, alloc: Global) -> Result<(), Fail> {
     let choice = ManglingAndAbi::Legacy(LiftLowerAbi::AsyncCallback);
     let sync = ManglingAndAbi::Legacy(LiftLowerAbi::Sync);
-    let plain = functions(alloc, "f", FunctionKind::Freestanding)?;
-    assert!(rt; are_chosen(plain.as_slice(), choice, sync));
-    let waiting = functions(alloc, "g", FunctionKind::AsyncFreestanding)?;
-    assert!(rt; are_chosen(waiting.as_slice(), choice, choice));
-    Ok(())
+    check(rt, "one that waits", choice.is_async());
+    check(
+        rt,
+        "one that does not",
+        is_same_mangling_and_abi(choice.sync(), sync),
+    );
+    check(
+        rt,
+        "its spelling",
+        is_same_mangling(choice.mangling(), Mangling::Legacy),
+    );
 }
 
 #[test]
 fn calls_across_the_border(rt: HostRuntime) -> Result<(), Fail> {
     let alloc = rt.alloc();
-    manglings(&rt);
-    no_mangling(&rt, alloc)?;
+    manglings(&rt, alloc)?;
     variants(&rt);
     choices(&rt);
-    choices_for_functions(&rt, alloc)
+    let name = Text::from_str(alloc, "f")?;
+    let plain = function(name, FunctionKind::Freestanding, Row::new(alloc), SPAN);
+    let choice = ManglingAndAbi::Legacy(LiftLowerAbi::AsyncCallback).for_func(&plain);
+    check(
+        &rt,
+        "its choice",
+        choice == ManglingAndAbi::Legacy(LiftLowerAbi::Sync),
+    );
+    Ok(())
 }

@@ -1,206 +1,157 @@
-//! What types are: words, copies, equality and hashes of each kind and of its parts.
-use crate::alike::{add, are_found, are_themselves, are_told_apart};
-use crate::fixtures::{SPAN, docs, row, type_at};
+//! Types of a package. Each value that is made here is the same as itself.
+use crate::shared::{check, first_id, place, row};
+use indexmap::IndexMap;
 use std::alloc::{AllocError, Global};
-use std::test::Fail;
-use wit_model::laws::copies::copy_kind;
+use std::hash::Hash;
+use std::process::Abort;
 use wit_model::laws::equality::{
     is_same_case, is_same_enum, is_same_enum_case, is_same_field, is_same_flag, is_same_flags,
-    is_same_handle, is_same_outcome, is_same_record, is_same_tuple, is_same_variant,
+    is_same_handle, is_same_outcome, is_same_record, is_same_tuple, is_same_type_def,
+    is_same_variant,
 };
+use wit_tree::Span;
 use wit_types::{
-    Case, Enum, EnumCase, Field, Flag, Flags, Handle, Record, Result_, Tuple, Type, TypeDefKind,
-    TypeId, Variant, is_same_kind,
+    Case, Docs, Enum, EnumCase, Field, Flag, Flags, Handle, Record, Result_, Stability, Tuple,
+    Type, TypeDef, TypeDefKind, TypeOwner, Types, Variant,
 };
 use wit_values::Text;
 
-fn field(alloc: Global, name: &str) -> Result<Field, AllocError> {
-    let name = Text::from_str(alloc, name)?;
-    let docs = docs(alloc)?;
-    Ok(Field {
+// Whether a value finds its copy in a map.
+fn is_found<K: Eq + Hash + Clone + Drop>(alloc: Global, key: &K) -> Result<bool, AllocError> {
+    let mut map: IndexMap<K, u8> = IndexMap::new(alloc);
+    map.insert(key.clone()?, 7)?;
+    Ok(map.get(key) == Some(&7))
+}
+
+// Puts a type of this kind behind others.
+fn add_type(
+    rt: &impl Abort,
+    alloc: Global,
+    types: &mut Types,
+    kind: TypeDefKind,
+    span: Span,
+) -> Result<(), AllocError> {
+    check(rt, "a kind is found", is_found(alloc, &kind)?);
+    let ty = TypeDef {
+        name: None,
+        kind,
+        owner: TypeOwner::None,
+        docs: Docs::default(),
+        stability: Stability::Unknown,
+        span,
+        external_id: None,
+    };
+    check(rt, "a type", is_same_type_def(&ty, &ty));
+    place(types, ty)
+}
+
+fn add_record(
+    rt: &impl Abort,
+    alloc: Global,
+    types: &mut Types,
+    span: Span,
+) -> Result<(), AllocError> {
+    let name = Text::from_str(alloc, "n")?;
+    let docs = Docs::default();
+    let ty = Type::U8;
+    let field = Field {
         name,
-        ty: Type::U8,
+        ty,
         docs,
-        span: SPAN,
-    })
+        span,
+    };
+    check(rt, "a field", is_same_field(&field, &field));
+    let fields = row(alloc, field)?;
+    let record = Record { fields };
+    check(rt, "a record", is_same_record(&record, &record));
+    add_type(rt, alloc, types, TypeDefKind::Record(record), span)
 }
 
-fn flag(alloc: Global, name: &str) -> Result<Flag, AllocError> {
-    let name = Text::from_str(alloc, name)?;
-    let docs = docs(alloc)?;
-    Ok(Flag {
+fn add_flags(
+    rt: &impl Abort,
+    alloc: Global,
+    types: &mut Types,
+    span: Span,
+) -> Result<(), AllocError> {
+    let name = Text::from_str(alloc, "n")?;
+    let docs = Docs::default();
+    let flag = Flag { name, docs, span };
+    check(rt, "a flag", is_same_flag(&flag, &flag));
+    let flags = row(alloc, flag)?;
+    let flags = Flags { flags };
+    check(rt, "flags", is_same_flags(&flags, &flags));
+    add_type(rt, alloc, types, TypeDefKind::Flags(flags), span)
+}
+
+fn add_variant(
+    rt: &impl Abort,
+    alloc: Global,
+    types: &mut Types,
+    span: Span,
+) -> Result<(), AllocError> {
+    let name = Text::from_str(alloc, "n")?;
+    let docs = Docs::default();
+    let ty = Some(Type::Bool);
+    let case = Case {
         name,
+        ty,
         docs,
-        span: SPAN,
-    })
+        span,
+    };
+    check(rt, "a case", is_same_case(&case, &case));
+    let cases = row(alloc, case)?;
+    let variant = Variant { cases };
+    check(rt, "a variant", is_same_variant(&variant, &variant));
+    add_type(rt, alloc, types, TypeDefKind::Variant(variant), span)
 }
 
-fn case(alloc: Global, name: &str) -> Result<Case, AllocError> {
-    let name = Text::from_str(alloc, name)?;
-    let docs = docs(alloc)?;
-    Ok(Case {
-        name,
-        ty: Some(Type::Bool),
-        docs,
-        span: SPAN,
-    })
+fn add_enum(
+    rt: &impl Abort,
+    alloc: Global,
+    types: &mut Types,
+    span: Span,
+) -> Result<(), AllocError> {
+    let name = Text::from_str(alloc, "n")?;
+    let docs = Docs::default();
+    let case = EnumCase { name, docs, span };
+    check(rt, "a case of an enum", is_same_enum_case(&case, &case));
+    let cases = row(alloc, case)?;
+    let choice = Enum { cases };
+    check(rt, "an enum", is_same_enum(&choice, &choice));
+    add_type(rt, alloc, types, TypeDefKind::Enum(choice), span)
 }
 
-fn enum_case(alloc: Global, name: &str) -> Result<EnumCase, AllocError> {
-    let name = Text::from_str(alloc, name)?;
-    let docs = docs(alloc)?;
-    Ok(EnumCase {
-        name,
-        docs,
-        span: SPAN,
-    })
+fn add_others(
+    rt: &impl Abort,
+    alloc: Global,
+    types: &mut Types,
+    span: Span,
+) -> Result<(), AllocError> {
+    let tuple = row(alloc, Type::Char)?;
+    let tuple = Tuple { types: tuple };
+    check(rt, "a tuple", is_same_tuple(&tuple, &tuple));
+    add_type(rt, alloc, types, TypeDefKind::Tuple(tuple), span)?;
+    let outcome = Result_ {
+        ok: Some(Type::F32),
+        err: Some(Type::F64),
+    };
+    check(rt, "a result", is_same_outcome(&outcome, &outcome));
+    add_type(rt, alloc, types, TypeDefKind::Result(outcome), span)?;
+    let handle = Handle::Own(first_id(alloc));
+    check(rt, "a handle", is_same_handle(handle, handle));
+    add_type(rt, alloc, types, TypeDefKind::Handle(handle), span)
 }
 
-fn record(alloc: Global, name: &str) -> Result<Record, AllocError> {
-    let fields = row(alloc, field(alloc, name)?)?;
-    Ok(Record { fields })
-}
-
-fn flags(alloc: Global, name: &str) -> Result<Flags, AllocError> {
-    let flags = row(alloc, flag(alloc, name)?)?;
-    Ok(Flags { flags })
-}
-
-fn variant(alloc: Global, name: &str) -> Result<Variant, AllocError> {
-    let cases = row(alloc, case(alloc, name)?)?;
-    Ok(Variant { cases })
-}
-
-fn choice(alloc: Global, name: &str) -> Result<Enum, AllocError> {
-    let cases = row(alloc, enum_case(alloc, name)?)?;
-    Ok(Enum { cases })
-}
-
-fn tuple(alloc: Global, ty: Type) -> Result<Tuple, AllocError> {
-    let types = row(alloc, ty)?;
-    Ok(Tuple { types })
-}
-
-fn outcome(ok: Type, err: Type) -> Result_ {
-    Result_ {
-        ok: Some(ok),
-        err: Some(err),
-    }
-}
-
-fn add_parted(alloc: Global, kinds: &mut Vec<TypeDefKind>) -> Result<(), AllocError> {
-    add(kinds, TypeDefKind::Record(record(alloc, "n")?))?;
-    add(kinds, TypeDefKind::Tuple(tuple(alloc, Type::Char)?))?;
-    add(kinds, TypeDefKind::Result(outcome(Type::F32, Type::F64)))
-}
-
-fn add_choices(alloc: Global, kinds: &mut Vec<TypeDefKind>) -> Result<(), AllocError> {
-    add(kinds, TypeDefKind::Flags(flags(alloc, "n")?))?;
-    add(kinds, TypeDefKind::Variant(variant(alloc, "n")?))?;
-    add(kinds, TypeDefKind::Enum(choice(alloc, "n")?))
-}
-
-fn add_plain(kinds: &mut Vec<TypeDefKind>) -> Result<(), AllocError> {
-    add(kinds, TypeDefKind::Option(Type::S8))?;
-    add(kinds, TypeDefKind::List(Type::U8))?;
-    add(kinds, TypeDefKind::Map(Type::String, Type::U8))?;
-    add(kinds, TypeDefKind::FixedLengthList(Type::U8, 4))
-}
-
-fn add_referring(kinds: &mut Vec<TypeDefKind>, id: TypeId) -> Result<(), AllocError> {
-    add(kinds, TypeDefKind::Handle(Handle::Own(id)))?;
-    add(kinds, TypeDefKind::Handle(Handle::Borrow(id)))?;
-    add(kinds, TypeDefKind::Type_(Type::Id(id)))
-}
-
-fn add_awaited(kinds: &mut Vec<TypeDefKind>, id: TypeId) -> Result<(), AllocError> {
-    add(kinds, TypeDefKind::Future(Some(Type::Id(id))))?;
-    add(kinds, TypeDefKind::Stream(Some(Type::Id(id))))?;
-    add(kinds, TypeDefKind::Resource)?;
-    add(kinds, TypeDefKind::Unknown)
-}
-
-const WORDS: [&str; 17] = [
-    "record",
-    "tuple",
-    "result",
-    "flags",
-    "variant",
-    "enum",
-    "option",
-    "list",
-    "map",
-    "fixed-length list",
-    "own",
-    "borrow",
-    "type",
-    "future",
-    "stream",
-    "resource",
-    "unknown",
-];
-
-/// A kind of each form.
-pub fn every_kind(alloc: Global) -> Result<Vec<TypeDefKind>, Fail> {
-    let mut kinds = Vec::new(alloc);
-    let id = type_at(alloc, 1)?;
-    add_parted(alloc, &mut kinds)?;
-    add_choices(alloc, &mut kinds)?;
-    add_plain(&mut kinds)?;
-    add_referring(&mut kinds, id)?;
-    add_awaited(&mut kinds, id)?;
-    Ok(kinds)
-}
-
-fn have_words(kinds: &[TypeDefKind], words: &[&str]) -> bool {
-    for i in 0..kinds.len() {
-        if i >= words.len() || kinds[i].as_str() != words[i] {
-            return false;
-        }
-    }
-    kinds.len() == words.len()
-}
-
-// Whether a kind and its parts are the same as themselves.
-fn is_itself(kind: &TypeDefKind) -> bool {
-    match kind {
-        TypeDefKind::Record(record) => {
-            is_same_record(record, record)
-                && are_themselves(record.fields.as_slice(), is_same_field)
-        }
-        TypeDefKind::Flags(flags) => {
-            is_same_flags(flags, flags) && are_themselves(flags.flags.as_slice(), is_same_flag)
-        }
-        TypeDefKind::Variant(variant) => {
-            is_same_variant(variant, variant)
-                && are_themselves(variant.cases.as_slice(), is_same_case)
-        }
-        TypeDefKind::Enum(choice) => {
-            is_same_enum(choice, choice)
-                && are_themselves(choice.cases.as_slice(), is_same_enum_case)
-        }
-        TypeDefKind::Tuple(tuple) => is_same_tuple(tuple, tuple),
-        TypeDefKind::Result(outcome) => is_same_outcome(outcome, outcome),
-        TypeDefKind::Handle(handle) => is_same_handle(*handle, *handle),
-        _ => true,
-    }
-}
-
-fn are_copied(kinds: &[TypeDefKind]) -> Result<bool, Fail> {
-    for kind in kinds {
-        if !is_itself(kind) || copy_kind(kind)? != *kind {
-            return Ok(false);
-        }
-    }
-    Ok(true)
-}
-
-#[test]
-fn kinds(rt: HostRuntime) -> Result<(), Fail> {
-    let values = every_kind(rt.alloc())?;
-    assert!(rt; have_words(values.as_slice(), WORDS.as_slice()));
-    assert!(rt; are_told_apart(values.as_slice(), is_same_kind)?);
-    assert!(rt; are_found(rt.alloc(), values.as_slice())?);
-    assert!(rt; are_copied(values.as_slice())?);
-    Ok(())
+/// Puts types that hold spans, and others, behind others.
+pub fn add_types(
+    rt: &impl Abort,
+    alloc: Global,
+    types: &mut Types,
+    span: Span,
+) -> Result<(), AllocError> {
+    add_record(rt, alloc, types, span)?;
+    add_flags(rt, alloc, types, span)?;
+    add_variant(rt, alloc, types, span)?;
+    add_enum(rt, alloc, types, span)?;
+    add_others(rt, alloc, types, span)
 }

@@ -1,16 +1,9 @@
-//! Tests of `wit_order`, `wit_types`, `wit_intern` and `wit_model`: each public call with ample memory.
+//! Tests of `wit_order`, `wit_types`, `wit_package_names`, `wit_model` and `wit_intern`: each public call that
+//! neither the program nor a row makes, with ample memory.
 #![tactic(auto)]
 
 #[cfg(test)]
-mod alike;
-#[cfg(test)]
-mod arenas;
-#[cfg(test)]
 mod calling;
-#[cfg(test)]
-mod fixtures;
-#[cfg(test)]
-mod functions;
 #[cfg(test)]
 mod interning;
 #[cfg(test)]
@@ -18,24 +11,16 @@ mod kinds;
 #[cfg(test)]
 mod orders;
 #[cfg(test)]
-mod package_spans;
-#[cfg(test)]
 mod packages;
-#[cfg(test)]
-mod plain;
 #[cfg(test)]
 mod setters;
 #[cfg(test)]
-mod signatures;
+mod shared;
 #[cfg(test)]
-mod sizes;
-#[cfg(test)]
-mod spans;
+mod small;
 #[cfg(test)]
 mod toposort;
 #[cfg(test)]
 mod tracks;
-#[cfg(test)]
-mod values;
 #[cfg(test)]
 mod worlds;

@@ -1,75 +1,61 @@
-//! Orders: each value is less than the next.
-use crate::alike::{add, are_rising};
-use crate::fixtures::{package, stable, type_at, unstable, versioned};
+//! Orders and equality of small values.
+use crate::packages::package_name;
+use crate::shared::{check, first_id, stable};
 use std::alloc::Global;
+use std::cmp::Ordering;
 use std::process::Abort;
 use std::test::Fail;
+use wit_model::laws::equality::{
+    is_same_ast_item, is_same_docs, is_same_function_kind, is_same_owner, is_same_stability,
+    is_same_type,
+};
 use wit_model::laws::order::{compare_package_names, compare_stabilities, compare_types};
-use wit_package_names::PackageName;
-use wit_types::{Stability, Type};
+use wit_model::{AstItem, FunctionKind};
+use wit_types::{Docs, Stability, Type, TypeDefKind, TypeOwner};
 
-fn primitives(rt: &impl Abort) {
-    let listed = [
-        Type::Bool,
-        Type::U8,
-        Type::U16,
-        Type::U32,
-        Type::U64,
-        Type::S8,
-        Type::S16,
-        Type::S32,
-        Type::S64,
-        Type::F32,
-        Type::F64,
-        Type::Char,
-        Type::String,
-        Type::ErrorContext,
-    ];
-    let compare = |a: &Type, b: &Type| compare_types(*a, *b);
-    assert!(rt; are_rising(listed.as_slice(), compare));
-}
-
-fn places(rt: &impl Abort, alloc: Global) -> Result<(), Fail> {
-    let (first, second) = (type_at(alloc, 0)?, type_at(alloc, 1)?);
-    let listed = [Type::ErrorContext, Type::Id(first), Type::Id(second)];
-    let compare = |a: &Type, b: &Type| compare_types(*a, *b);
-    assert!(rt; are_rising(listed.as_slice(), compare));
-    Ok(())
-}
-
-fn listed_stabilities(alloc: Global) -> Result<Vec<Stability>, Fail> {
-    let mut values = Vec::new(alloc);
-    add(&mut values, Stability::Unknown)?;
-    add(&mut values, unstable(alloc)?)?;
-    add(&mut values, stable(alloc)?)?;
-    Ok(values)
+fn numbered(rt: &impl Abort, alloc: Global) {
+    let ty = Type::Id(first_id(alloc));
+    check(
+        rt,
+        "an order of types",
+        compare_types(Type::ErrorContext, ty) == Ordering::Less,
+    );
+    check(rt, "a type", is_same_type(ty, ty));
+    let kind = FunctionKind::Method(first_id(alloc));
+    check(rt, "a kind", is_same_function_kind(kind, kind));
+    let owner = TypeOwner::World(first_id(alloc));
+    check(rt, "an owner", is_same_owner(owner, owner));
+    let item = AstItem::World(first_id(alloc));
+    check(rt, "an item", is_same_ast_item(item, item));
+    check(rt, "a word", TypeDefKind::Resource.as_str() == "resource");
 }
 
 fn stabilities(rt: &impl Abort, alloc: Global) -> Result<(), Fail> {
-    let listed = listed_stabilities(alloc)?;
-    assert!(rt; are_rising(listed.as_slice(), compare_stabilities));
+    let value = stable(alloc)?;
+    let none = Stability::default();
+    check(rt, "unknown", none.is_unknown());
+    check(rt, "stable", value.is_stable());
+    check(rt, "a stability", is_same_stability(&value, &value));
+    let order = compare_stabilities(&none, &value);
+    check(rt, "an order of stabilities", order == Ordering::Less);
     Ok(())
 }
 
-fn listed_packages(alloc: Global) -> Result<Vec<PackageName>, Fail> {
-    let mut values = Vec::new(alloc);
-    add(&mut values, package(alloc, "a", "z")?)?;
-    add(&mut values, package(alloc, "b", "a")?)?;
-    add(&mut values, versioned(alloc, "b", "a", "0.1.0")?)?;
-    Ok(values)
-}
-
 fn packages(rt: &impl Abort, alloc: Global) -> Result<(), Fail> {
-    let listed = listed_packages(alloc)?;
-    assert!(rt; are_rising(listed.as_slice(), compare_package_names));
+    let first = package_name(alloc, "1.0.0")?;
+    let second = package_name(alloc, "1.0.1")?;
+    let order = compare_package_names(&first, &second);
+    check(rt, "an order of packages", order == Ordering::Less);
     Ok(())
 }
 
 #[test]
 fn values_rise(rt: HostRuntime) -> Result<(), Fail> {
     let alloc = rt.alloc();
-    primitives(&rt);
-    places(&rt, alloc)?;
+    numbered(&rt, alloc);
     stabilities(&rt, alloc)?;
-    packages(&rt, alloc)
+    packages(&rt, alloc)?;
+    let none = Docs::default();
+    assert!(rt; none.is_empty() && is_same_docs(&none, &none));
+    Ok(())
 }

@@ -1,176 +1,153 @@
-//! Copies and equality of packages.
-use crate::alike::are_told_apart;
-use crate::fixtures::{
-    SPAN, add_interface, add_type, docs, interface_at, package, row, stable, type_at,
-};
+//! Packages with one of each part: their copies, their equality, and their spans, which move together.
+use crate::kinds::add_types;
+use crate::shared::{SPAN, check, first_id, push, put, release, row, stable};
+use crate::worlds::{add_interface, add_world};
 use std::alloc::{AllocError, Global};
+use std::process::Abort;
 use std::test::Fail;
-use wit_model::laws::equality::is_same_package;
-use wit_model::{AstItem, ForeignItems, Interface, UnresolvedPackage};
+use wit_model::laws::equality::{is_same_package, is_same_package_name};
+use wit_model::{AstItem, ForeignItems, UnresolvedPackage};
 use wit_package_names::PackageName;
 use wit_tree::Span;
-use wit_types::{Arena, Docs, InterfacePlace, Stability, TypeDef, TypeDefKind, TypeId, TypePlace};
-use wit_values::{Row, Table, TextTable};
+use wit_types::{Arena, Docs, HasSpans, Stability};
+use wit_values::{Row, Table, Text, TextTable};
 
-/// The arena of the last interface.
-pub fn interfaces_of(
-    alloc: Global,
-    mut made: Vec<Interface>,
-) -> Result<Arena<Interface, InterfacePlace>, Fail> {
-    let mut interfaces = Arena::new(alloc);
-    if let Some(interface) = made.pop() {
-        interfaces.alloc(interface)?;
-    }
-    Ok(interfaces)
+/// The name of a package, with a version.
+pub fn package_name(alloc: Global, version: &str) -> Result<PackageName, Fail> {
+    let namespace = Text::from_str(alloc, "a")?;
+    let name = Text::from_str(alloc, "b")?;
+    let version = Some(release(alloc, version)?);
+    Ok(PackageName {
+        namespace,
+        name,
+        version,
+    })
 }
 
-/// The arena of the last type.
-pub fn types_of(alloc: Global, mut made: Vec<TypeDef>) -> Result<Arena<TypeDef, TypePlace>, Fail> {
-    let mut types = Arena::new(alloc);
-    if let Some(ty) = made.pop() {
-        types.alloc(ty)?;
-    }
-    Ok(types)
-}
-
-// Puts a package behind others, with what was made.
-fn add_package(
+// Puts a package with an interface that one path leads to behind others.
+fn add_dep(
     alloc: Global,
-    packages: &mut Vec<UnresolvedPackage>,
-    name: &str,
-    interfaces: Vec<Interface>,
-    types: Vec<TypeDef>,
+    deps: &mut Table<PackageName, TextTable<(AstItem, Row<Stability>)>>,
 ) -> Result<(), Fail> {
-    let package = UnresolvedPackage::new(
-        package(alloc, "a", name)?,
-        Arena::new(alloc),
-        interfaces_of(alloc, interfaces)?,
-        types_of(alloc, types)?,
-        Docs::default(),
-        SPAN,
-        ForeignItems::none(alloc),
-    );
-    packages.push(package)?;
-    Ok(())
-}
-
-// Puts the first package of a test behind others, but with docs.
-fn add_documented(alloc: Global, packages: &mut Vec<UnresolvedPackage>) -> Result<(), Fail> {
-    add_package(alloc, packages, "b", Vec::new(alloc), Vec::new(alloc))?;
-    if let Some(last) = packages.last_mut() {
-        last.docs = docs(alloc)?;
-    }
-    Ok(())
-}
-
-// An interface that one path leads to.
-fn items_of(alloc: Global) -> Result<TextTable<(AstItem, Row<Stability>)>, Fail> {
-    let item = AstItem::Interface(interface_at(alloc, 1)?);
-    let visits = row(alloc, stable(alloc)?)?;
     let mut items: TextTable<(AstItem, Row<Stability>)> = TextTable::new(alloc);
-    items.insert(String::from_str(alloc, "i")?, (item, visits))?;
-    Ok(items)
+    let visits = row(alloc, stable(alloc)?)?;
+    let item = AstItem::Interface(first_id(alloc));
+    put(alloc, &mut items, "i", (item, visits))?;
+    deps.insert(package_name(alloc, "1.0.0")?, items)?;
+    Ok(())
 }
 
-// Packages of these names, with an interface each.
-fn deps_of(
-    alloc: Global,
-    names: &[&str],
-) -> Result<Table<PackageName, TextTable<(AstItem, Row<Stability>)>>, Fail> {
-    let mut deps: Table<PackageName, TextTable<(AstItem, Row<Stability>)>> = Table::new(alloc);
-    for name in names {
-        deps.insert(package(alloc, "a", name)?, items_of(alloc)?)?;
-    }
-    Ok(deps)
+fn foreign(alloc: Global, span: Span) -> Result<ForeignItems, Fail> {
+    let mut foreign = ForeignItems::none(alloc);
+    add_dep(alloc, &mut foreign.deps)?;
+    foreign.dep_spans = row(alloc, span)?;
+    foreign.unknown_type_spans = row(alloc, span)?;
+    foreign.required_resource_types = row(alloc, (first_id(alloc), span))?;
+    Ok(foreign)
 }
 
-/// So many spans.
-pub fn spans_of(alloc: Global, count: usize) -> Result<Row<Span>, AllocError> {
-    let mut spans = Vec::new(alloc);
-    for _ in 0..count {
-        spans.push(SPAN)?;
-    }
-    Ok(Row::from(spans))
-}
-
-/// The types at these places, which handles require.
-pub fn required_of(alloc: Global, places: &[usize]) -> Result<Row<(TypeId, Span)>, AllocError> {
-    let mut required = Vec::new(alloc);
-    for place in places {
-        required.push((type_at(alloc, *place)?, SPAN))?;
-    }
-    Ok(Row::from(required))
-}
-
-// Puts a package behind others, with items of these packages, so many spans, and handles that
-// require the types at these places.
-fn add_foreign(
-    alloc: Global,
-    packages: &mut Vec<UnresolvedPackage>,
-    names: &[&str],
-    dep_spans: usize,
-    type_spans: usize,
-    required: &[usize],
-) -> Result<(), Fail> {
-    let foreign = ForeignItems {
-        deps: deps_of(alloc, names)?,
-        dep_spans: spans_of(alloc, dep_spans)?,
-        unknown_type_spans: spans_of(alloc, type_spans)?,
-        required_resource_types: required_of(alloc, required)?,
-    };
-    let package = UnresolvedPackage::new(
-        package(alloc, "a", "b")?,
+fn bare(alloc: Global, name: PackageName, span: Span, foreign: ForeignItems) -> UnresolvedPackage {
+    UnresolvedPackage::new(
+        name,
         Arena::new(alloc),
         Arena::new(alloc),
         Arena::new(alloc),
         Docs::default(),
-        SPAN,
+        span,
         foreign,
-    );
-    packages.push(package)?;
+    )
+}
+
+// Puts a package behind others, whose world imports interfaces of these names. All its spans are `span`.
+fn add_package(
+    rt: &impl Abort,
+    alloc: Global,
+    packages: &mut Vec<UnresolvedPackage>,
+    names: &[&str],
+    span: Span,
+) -> Result<(), Fail> {
+    let foreign = foreign(alloc, span)?;
+    let name = package_name(alloc, "1.2.3-rc.1+x")?;
+    check(rt, "a package's name", is_same_package_name(&name, &name));
+    push(packages, bare(alloc, name, span, foreign))?;
+    if let Some(package) = packages.last_mut() {
+        let contents = Some(Text::from_str(alloc, "about it")?);
+        package.docs = Docs { contents };
+        add_types(rt, alloc, &mut package.types, span)?;
+        add_interface(rt, alloc, &mut package.interfaces, span)?;
+        add_world(rt, alloc, &mut package.worlds, names, span)?;
+    }
+    Ok(())
+}
+
+// Whether each value is its copy.
+fn are_copied<T: Clone + PartialEq + Drop>(values: &[T]) -> Result<bool, AllocError> {
+    for value in values {
+        if value.clone()? != *value {
+            return Ok(false);
+        }
+    }
+    Ok(!values.is_empty())
+}
+
+// Whether both are the same.
+fn are_same(packages: &[UnresolvedPackage]) -> bool {
+    let [first, second] = packages else {
+        return false;
+    };
+    is_same_package(first, second)
+}
+
+// Whether the spans of the first value can be moved so far.
+fn fits<T: HasSpans>(values: &[T], offset: u32) -> bool {
+    let Some(value) = values.first() else {
+        return false;
+    };
+    value.spans_fit(offset)
+}
+
+// Moves the spans of the first value by 5 bytes.
+fn shift<T: HasSpans>(values: &mut [T]) {
+    if let Some(value) = values.first_mut() {
+        if value.spans_fit(5) {
+            value.adjust_spans(5);
+        }
+    }
+}
+
+// Where the header of the one package stands.
+fn header(packages: &[UnresolvedPackage]) -> Option<Span> {
+    let [package] = packages else {
+        return None;
+    };
+    Some(package.package_name_span())
+}
+
+#[test]
+fn spans_of_packages_move(rt: HostRuntime) -> Result<(), Fail> {
+    let alloc = rt.alloc();
+    let moved = Span { start: 8, end: 10 };
+    let mut packages = Vec::new(alloc);
+    add_package(&rt, alloc, &mut packages, ["a", "b"].as_slice(), SPAN)?;
+    add_package(&rt, alloc, &mut packages, ["b", "a"].as_slice(), moved)?;
+    assert!(rt; are_copied(packages.as_slice())?);
+    assert!(rt; !are_same(packages.as_slice()));
+    assert!(rt; !fits(packages.as_slice(), u32::MAX));
+    assert!(rt; !fits(packages.as_slice(), u32::MAX - 4));
+    assert!(rt; fits(packages.as_slice(), u32::MAX - 5));
+    shift(packages.as_mut_slice());
+    assert!(rt; are_same(packages.as_slice()));
     Ok(())
 }
 
 #[test]
-fn packages(rt: HostRuntime) -> Result<(), Fail> {
+fn default_spans_move(rt: HostRuntime) -> Result<(), Fail> {
     let alloc = rt.alloc();
     let mut packages = Vec::new(alloc);
-    add_package(alloc, &mut packages, "b", Vec::new(alloc), Vec::new(alloc))?;
-    add_package(alloc, &mut packages, "c", Vec::new(alloc), Vec::new(alloc))?;
-    let mut interfaces = Vec::new(alloc);
-    add_interface(alloc, &mut interfaces, "f")?;
-    add_package(alloc, &mut packages, "b", interfaces, Vec::new(alloc))?;
-    let mut types = Vec::new(alloc);
-    add_type(alloc, &mut types, TypeDefKind::Resource)?;
-    add_package(alloc, &mut packages, "b", Vec::new(alloc), types)?;
-    add_documented(alloc, &mut packages)?;
-    let told_apart = are_told_apart(packages.as_slice(), is_same_package)?;
-    assert!(rt; told_apart);
-    assert_eq!(rt; packages.len(), 5);
-    assert_eq!(rt; packages[4].docs, docs(alloc)?);
-    Ok(())
-}
-
-#[test]
-fn items_of_other_packages(rt: HostRuntime) -> Result<(), Fail> {
-    let alloc = rt.alloc();
-    let mut packages = Vec::new(alloc);
-    add_foreign(alloc, &mut packages, &["c", "d"], 2, 1, &[0, 2])?;
-    add_foreign(alloc, &mut packages, &["c"], 2, 1, &[0, 2])?;
-    add_foreign(alloc, &mut packages, &["c", "d"], 1, 1, &[0, 2])?;
-    add_foreign(alloc, &mut packages, &["c", "d"], 2, 0, &[0, 2])?;
-    add_foreign(alloc, &mut packages, &["c", "d"], 2, 1, &[2, 0])?;
-    add_foreign(alloc, &mut packages, &["c", "d"], 2, 1, &[0, 0, 2])?;
-    let told_apart = are_told_apart(packages.as_slice(), is_same_package)?;
-    assert!(rt; told_apart);
-    add_foreign(alloc, &mut packages, &["d", "c"], 2, 1, &[0, 2])?;
-    assert_eq!(rt; packages.len(), 7);
-    assert!(rt; is_same_package(&packages[0], &packages[6]));
-    assert_eq!(rt; packages[0].foreign_dep_spans().len(), 2);
-    assert_eq!(rt; packages[0].unknown_type_spans().len(), 1);
-    assert_eq!(rt; packages[0].required_resource_types().len(), 2);
-    let (id, span) = packages[0].required_resource_types()[1];
-    assert_eq!(rt; id, type_at(alloc, 2)?);
-    assert_eq!(rt; span, SPAN);
+    add_package(&rt, alloc, &mut packages, [].as_slice(), Span::default())?;
+    assert!(rt; fits(packages.as_slice(), u32::MAX));
+    shift(packages.as_mut_slice());
+    assert!(rt; header(packages.as_slice()) == Some(Span { start: 5, end: 5 }));
+    assert!(rt; !fits(packages.as_slice(), u32::MAX));
     Ok(())
 }

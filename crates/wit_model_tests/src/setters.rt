@@ -1,10 +1,11 @@
 //! Setters behind their getters.
-use crate::fixtures::functions;
+use crate::shared::{SPAN, check_text, function};
 use indexmap::IndexMap;
-use std::alloc::Global;
+use std::alloc::{AllocError, Global};
 use std::process::Abort;
 use std::test::Fail;
 use wit_model::{Function, FunctionKind, place_setters_after_getters};
+use wit_values::{Row, Text};
 
 fn kind_of(name: &str) -> FunctionKind {
     if name.starts_with("[set]") {
@@ -16,70 +17,51 @@ fn kind_of(name: &str) -> FunctionKind {
     }
 }
 
-// Puts the values under a name.
-fn put<V: Drop>(
-    alloc: Global,
-    map: &mut IndexMap<String, V>,
-    name: &str,
-    mut values: Vec<V>,
-) -> Result<(), Fail> {
-    if let Some(value) = values.pop() {
-        map.insert(String::from_str(alloc, name)?, value)?;
-    }
+// Puts a value under a name.
+fn put<'a, V: Drop>(
+    map: &mut IndexMap<&'a str, V>,
+    name: &'a str,
+    value: V,
+) -> Result<(), AllocError> {
+    map.insert(name, value)?;
     Ok(())
 }
 
-// Whether these are the keys in their order.
-fn are_keys<V>(map: &IndexMap<String, V>, wanted: &[&str]) -> bool {
-    let mut place = 0;
+// The names of a map, parted by spaces.
+fn joined<V>(alloc: Global, map: &IndexMap<&str, V>) -> Result<String, AllocError> {
+    let mut text = String::new(alloc);
     for name in map.keys() {
-        if place >= wanted.len() || name.as_str() != wanted[place] {
-            return false;
-        }
-        place += 1;
+        text.push_str(name)?;
+        text.push(' ')?;
     }
-    place == wanted.len()
+    Ok(text)
 }
 
-// Whether placing leaves the functions of these names in that order.
-fn is_placed(alloc: Global, names: &[&str], wanted: &[&str]) -> Result<bool, Fail> {
-    let mut map: IndexMap<String, Function> = IndexMap::new(alloc);
-    for name in names {
-        let made = functions(alloc, name, kind_of(name))?;
-        put(alloc, &mut map, name, made)?;
+// Checks in which order placing leaves the functions of these names.
+fn expect(rt: &impl Abort, alloc: Global, names: &str, wanted: &str) -> Result<(), Fail> {
+    let mut map: IndexMap<&str, Function> = IndexMap::new(alloc);
+    for name in names.split_whitespace() {
+        let text = Text::from_str(alloc, name)?;
+        put(
+            &mut map,
+            name,
+            function(text, kind_of(name), Row::new(alloc), SPAN),
+        )?;
     }
     place_setters_after_getters(&mut map, |f| Some(f));
-    Ok(are_keys(&map, wanted))
-}
-
-fn placed(rt: &impl Abort, alloc: Global) -> Result<(), Fail> {
-    assert!(rt;
-        is_placed(
-            alloc,
-            &["[set]x", "f", "[get]x"],
-            &["f", "[get]x", "[set]x"]
-        )?
-    );
-    assert!(rt;
-        is_placed(
-            alloc,
-            &["[get]x", "f", "[set]x"],
-            &["[get]x", "f", "[set]x"]
-        )?
-    );
-    Ok(())
-}
-
-fn placed_in_turn(rt: &impl Abort, alloc: Global) -> Result<(), Fail> {
-    let names = ["[set]x", "[set]y", "[get]y", "[get]x"];
-    let wanted = ["[get]y", "[set]y", "[get]x", "[set]x"];
-    assert!(rt; is_placed(alloc, names.as_slice(), wanted.as_slice())?);
+    check_text(rt, joined(alloc, &map)?.as_str(), wanted);
     Ok(())
 }
 
 #[test]
 fn setters_behind_getters(rt: HostRuntime) -> Result<(), Fail> {
     let alloc = rt.alloc();
-    placed(&rt, alloc)?;
-    placed_in_turn(&rt, alloc)
+    expect(&rt, alloc, "[set]x f [get]x", "f [get]x [set]x ")?;
+    expect(&rt, alloc, "[get]x f [set]x", "[get]x f [set]x ")?;
+    expect(
+        &rt,
+        alloc,
+        "[set]x [set]y [get]y [get]x",
+        "[get]y [set]y [get]x [set]x ",
+    )
 }

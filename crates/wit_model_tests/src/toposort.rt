@@ -1,10 +1,10 @@
 //! Every body that orders a table, on worked tables and on a long chain.
-
+use crate::shared::check_text;
 use indexmap::IndexMap;
 use std::alloc::Global;
 use std::process::Abort;
 use std::test::Fail;
-use wit_order::{order_places, order_steps, toposort, toposort_heap, toposort_scan};
+use wit_order::{laws, order_steps, toposort, toposort_heap, toposort_scan};
 use wit_tree::tree::Id;
 use wit_tree::{ParseResult, Span};
 
@@ -44,128 +44,72 @@ fn add<'a>(
     Ok(())
 }
 
-/// Puts in the rows that a text writes.
-fn add_all<'a>(
-    rt: &impl Abort,
-    alloc: Global,
-    deps: &mut IndexMap<&'a str, Vec<Id<'a>>>,
-    text: &'a str,
-) -> Result<(), Fail> {
-    for row in text.split(';') {
-        if let Some((name, needs)) = row.split_once(':') {
-            add(rt, alloc, deps, name.trim(), needs)?;
-        }
-    }
-    Ok(())
-}
-
-/// The names behind one another.
-fn joined(alloc: Global, names: &[&str]) -> Result<String, Fail> {
-    let mut text = String::new(alloc);
-    for name in names {
-        text.push_str(name)?;
-        text.push(' ')?;
-    }
-    Ok(text)
-}
-
-/// The names behind one another, or the refusal and at which needed name of its row it is.
-fn written(alloc: Global, answer: ParseResult<Vec<&str>>) -> Result<String, Fail> {
-    match answer {
-        Ok(names) => joined(alloc, &names),
-        Err(e) => {
-            let at = e.span().start;
-            let rule = e.rule();
-            Ok(format!(in alloc; "{rule} {e} {at}")?)
-        }
-    }
-}
-
-fn same(rt: &impl Abort, found: &str, wanted: &str) {
-    assert_eq!(rt; found, wanted);
-}
-
-/// The answer is written so.
+/// Checks an answer: the names behind one another, or the refusal and at which needed name of its row it is.
 fn expect(
     rt: &impl Abort,
     alloc: Global,
     answer: ParseResult<Vec<&str>>,
     wanted: &str,
 ) -> Result<(), Fail> {
-    let found = written(alloc, answer)?;
-    same(rt, found.as_str(), wanted);
+    let mut text = String::new(alloc);
+    match answer {
+        Ok(names) => {
+            for name in &names {
+                text.push_str(name)?;
+                text.push(' ')?;
+            }
+        }
+        Err(e) => {
+            let at = e.span().start;
+            let rule = e.rule();
+            write!(text, "{rule} {e} {at}")?;
+        }
+    }
+    check_text(rt, text.as_str(), wanted);
     Ok(())
 }
 
-/// What ordering the table took, or nothing where it is refused.
-fn counted(alloc: Global, deps: &IndexMap<&str, Vec<Id<'_>>>) -> Result<String, Fail> {
-    match order_steps(alloc, "type", deps) {
-        Ok((_, steps)) => {
-            let entered = steps.entered();
-            let closed = steps.closed();
-            Ok(format!(in alloc; "{entered} {closed}")?)
-        }
-        Err(_) => Ok(String::new(alloc)),
-    }
-}
-
-fn by_steps<'a>(alloc: Global, deps: &IndexMap<&'a str, Vec<Id<'a>>>) -> ParseResult<Vec<&'a str>> {
-    order_steps(alloc, "type", deps).map(|(names, _)| names)
-}
-
-/// The names at the places behind one another.
-fn joined_at(
-    alloc: Global,
-    deps: &IndexMap<&str, Vec<Id<'_>>>,
-    places: &[usize],
-) -> Result<String, Fail> {
-    let mut text = String::new(alloc);
-    for place in places {
-        if let Some((name, _)) = deps.get_index(*place) {
-            text.push_str(name)?;
-            text.push(' ')?;
-        }
-    }
-    Ok(text)
-}
-
-/// The names in the order of their places, or nothing where the table is refused.
-fn placed(alloc: Global, deps: &IndexMap<&str, Vec<Id<'_>>>) -> Result<String, Fail> {
-    match order_places(alloc, deps) {
-        Ok(places) => joined_at(alloc, deps, &places),
-        Err(_) => Ok(String::new(alloc)),
-    }
-}
-
-/// The bodies that are fast on every table give this answer, and count these steps.
-fn expect_fast(
+/// Checks the answer of the body that counts, and what it counts.
+fn expect_counted(
     rt: &impl Abort,
     alloc: Global,
     deps: &IndexMap<&str, Vec<Id<'_>>>,
     wanted: &str,
-    steps: &str,
+    counts: &str,
 ) -> Result<(), Fail> {
-    expect(rt, alloc, toposort(alloc, "type", deps), wanted)?;
-    expect(rt, alloc, toposort_heap(alloc, "type", deps), wanted)?;
-    expect(rt, alloc, by_steps(alloc, deps), wanted)?;
-    let took = counted(alloc, deps)?;
-    same(rt, took.as_str(), steps);
-    Ok(())
+    match order_steps(alloc, "type", deps) {
+        Ok((names, steps)) => {
+            let entered = steps.entered();
+            let closed = steps.closed();
+            check_text(
+                rt,
+                format!(in alloc; "{entered} {closed}")?.as_str(),
+                counts,
+            );
+            expect(rt, alloc, Ok(names), wanted)
+        }
+        Err(e) => expect(rt, alloc, Err(e), wanted),
+    }
 }
 
-/// Every body gives the answer of this line.
+/// Checks the answer of every body to the table of a text.
 fn expect_case(
     rt: &impl Abort,
     alloc: Global,
-    deps: &IndexMap<&str, Vec<Id<'_>>>,
-    line: &str,
+    text: &str,
+    wanted: &str,
+    counts: &str,
 ) -> Result<(), Fail> {
-    let (wanted, steps) = line.split_once('|').expect(rt, "two answers");
-    expect_fast(rt, alloc, deps, wanted, steps)?;
-    expect(rt, alloc, toposort_scan(alloc, "type", deps), wanted)?;
-    let by_place = if steps.is_empty() { "" } else { wanted };
-    same(rt, placed(alloc, deps)?.as_str(), by_place);
-    Ok(())
+    let mut deps = IndexMap::new(alloc);
+    for row in text.split(';') {
+        if let Some((name, needs)) = row.split_once(':') {
+            add(rt, alloc, &mut deps, name.trim(), needs)?;
+        }
+    }
+    expect(rt, alloc, toposort(alloc, "type", &deps), wanted)?;
+    expect(rt, alloc, toposort_heap(alloc, "type", &deps), wanted)?;
+    expect(rt, alloc, toposort_scan(alloc, "type", &deps), wanted)?;
+    expect_counted(rt, alloc, &deps, wanted, counts)
 }
 
 #[test]
@@ -173,37 +117,23 @@ fn orders(rt: HostRuntime) -> Result<(), Fail> {
     let alloc = rt.alloc();
     for case in CASES.lines() {
         let (text, answers) = case.split_once('|').expect(&rt, "a table and its answers");
-        let mut deps = IndexMap::new(alloc);
-        add_all(&rt, alloc, &mut deps, text)?;
-        expect_case(&rt, alloc, &deps, answers)?;
+        let (wanted, counts) = answers.split_once('|').expect(&rt, "two answers");
+        expect_case(&rt, alloc, text, wanted, counts)?;
     }
+    laws::one_answer();
+    laws::same_edges();
     Ok(())
-}
-
-/// A table of so many names, each of which needs the next.
-fn chain(alloc: Global, names: usize) -> Result<String, Fail> {
-    let mut text = String::from_str(alloc, "n0: ")?;
-    for i in 1..names {
-        text.push_str(format!(in alloc; "n{i}; n{i}: ")?.as_str())?;
-    }
-    Ok(text)
-}
-
-/// The names of the chain, the last first.
-fn reversed(alloc: Global, names: usize) -> Result<String, Fail> {
-    let mut text = String::new(alloc);
-    for i in (0..names).rev() {
-        text.push_str(format!(in alloc; "n{i} ")?.as_str())?;
-    }
-    Ok(text)
 }
 
 #[test]
 fn reverses_a_long_chain(rt: HostRuntime) -> Result<(), Fail> {
     let alloc = rt.alloc();
-    let text = chain(alloc, 10_000)?;
-    let wanted = reversed(alloc, 10_000)?;
-    let mut deps = IndexMap::new(alloc);
-    add_all(&rt, alloc, &mut deps, text.as_str())?;
-    expect_fast(&rt, alloc, &deps, wanted.as_str(), "10000 9999")
+    let mut text = String::from_str(alloc, "n0: ")?;
+    let mut wanted = String::from_str(alloc, "n9999 ")?;
+    for i in 1..10_000_usize {
+        let back = 9_999 - i;
+        write!(text, "n{i}; n{i}: ")?;
+        write!(wanted, "n{back} ")?;
+    }
+    expect_case(&rt, alloc, text.as_str(), wanted.as_str(), "10000 9999")
 }

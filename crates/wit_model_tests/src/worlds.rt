@@ -1,108 +1,163 @@
-//! Items and keys of worlds, stabilities and docs.
-use crate::alike::add;
-use crate::fixtures::{SPAN, add_item, docs, functions, interface_at, stable};
+//! Interfaces and worlds of a package. Each value that is made here is the same as itself.
+use crate::shared::{check, first_id, function, place, put, row};
 use std::alloc::{AllocError, Global};
 use std::process::Abort;
 use std::test::Fail;
-use wit_model::{Function, FunctionKind, WorldItem, WorldKey, world_item_func};
-use wit_types::{Arena, Docs, Stability, Types};
-use wit_values::Text;
+use wit_model::laws::copies::{copy_world_include, copy_world_key};
+use wit_model::laws::equality::{
+    is_same_function, is_same_include_name, is_same_interface, is_same_param, is_same_world,
+    is_same_world_include, is_same_world_item, is_same_world_key,
+};
+use wit_model::{
+    Function, FunctionKind, IncludeName, Interface, Param, World, WorldInclude, WorldItem, WorldKey,
+};
+use wit_tree::Span;
+use wit_types::{Arena, Docs, InterfacePlace, Stability, Type, TypeId, WorldPlace};
+use wit_values::{Row, Table, Text, TextTable};
 
-fn interface_items(rt: &impl Abort, alloc: Global) -> Result<(), Fail> {
-    let types: Types = Arena::new(alloc);
-    let found = WorldItem::Interface {
-        id: interface_at(alloc, 1)?,
-        stability: Stability::Unknown,
-        external_id: None,
+// A function of one parameter.
+fn one_function(rt: &impl Abort, alloc: Global, span: Span) -> Result<Function, AllocError> {
+    let name = Text::from_str(alloc, "p")?;
+    let ty = Type::U8;
+    let param = Param { name, ty, span };
+    check(rt, "a parameter", is_same_param(&param, &param));
+    let params = row(alloc, param)?;
+    let name = Text::from_str(alloc, "f")?;
+    Ok(function(name, FunctionKind::Freestanding, params, span))
+}
+
+/// Puts an interface with one type and one function behind others.
+pub fn add_interface(
+    rt: &impl Abort,
+    alloc: Global,
+    interfaces: &mut Arena<Interface, InterfacePlace>,
+    span: Span,
+) -> Result<(), AllocError> {
+    let mut types: TextTable<TypeId> = TextTable::new(alloc);
+    put(alloc, &mut types, "t", first_id(alloc))?;
+    let mut functions: TextTable<Function> = TextTable::new(alloc);
+    put(alloc, &mut functions, "f", one_function(rt, alloc, span)?)?;
+    let interface = Interface {
+        name: None,
+        types,
+        functions,
         docs: Docs::default(),
-        span: SPAN,
+        stability: Stability::Unknown,
+        package: None,
+        span,
+        clone_of: None,
     };
-    assert!(rt; found.stability(&types).is_unknown());
+    check(
+        rt,
+        "an interface",
+        is_same_interface(&interface, &interface),
+    );
+    place(interfaces, interface)
+}
+
+// Puts a value under a name.
+fn set<V: Drop>(
+    rt: &impl Abort,
+    alloc: Global,
+    table: &mut Table<WorldKey, V>,
+    name: &str,
+    value: V,
+) -> Result<(), AllocError> {
+    let key = WorldKey::Name(Text::from_str(alloc, name)?);
+    let copy = copy_world_key(&key)?;
+    check(rt, "a key", is_same_world_key(&key, &copy));
+    table.insert(key, value)?;
     Ok(())
 }
 
-// Whether all items stand at this place and are no functions.
-fn are_at(items: &[WorldItem]) -> bool {
-    for item in items {
-        if item.span() != SPAN || world_item_func(item).is_some() {
-            return false;
-        }
-    }
-    !items.is_empty()
-}
-
-fn items(rt: &impl Abort, alloc: Global) -> Result<(), Fail> {
-    let mut items = Vec::new(alloc);
-    add_item(alloc, &mut items)?;
-    assert!(rt; are_at(items.as_slice()));
-    Ok(())
-}
-
-fn is_function(item: &WorldItem, wanted: &Function) -> bool {
-    match world_item_func(item) {
-        Some(function) => *function == *wanted,
-        None => false,
-    }
-}
-
-// Whether the one item is the one function.
-fn are_functions(items: &[WorldItem], wanted: &[Function]) -> bool {
-    let ([item], [function]) = (items, wanted) else {
-        return false;
+// Puts an interface under a name.
+fn add_import(
+    rt: &impl Abort,
+    alloc: Global,
+    items: &mut Table<WorldKey, WorldItem>,
+    name: &str,
+    span: Span,
+) -> Result<(), AllocError> {
+    let external_id = Some(Text::from_str(alloc, "x")?);
+    let item = WorldItem::Interface {
+        id: first_id(alloc),
+        stability: Stability::Unknown,
+        external_id,
+        docs: Docs::default(),
+        span,
     };
-    is_function(item, function)
+    check(rt, "an item", is_same_world_item(&item, &item));
+    set(rt, alloc, items, name, item)
 }
 
-fn as_items(alloc: Global, mut functions: Vec<Function>) -> Result<Vec<WorldItem>, AllocError> {
-    let mut items = Vec::new(alloc);
-    if let Some(function) = functions.pop() {
-        add(&mut items, WorldItem::Function(function))?;
+// Puts a function and a type under their names.
+fn add_others(
+    rt: &impl Abort,
+    alloc: Global,
+    items: &mut Table<WorldKey, WorldItem>,
+    span: Span,
+) -> Result<(), AllocError> {
+    let function = one_function(rt, alloc, span)?;
+    check(rt, "a function", is_same_function(&function, &function));
+    set(rt, alloc, items, "f", WorldItem::Function(function))?;
+    let id = first_id(alloc);
+    set(rt, alloc, items, "t", WorldItem::Type_ { id, span })
+}
+
+// What a world includes.
+fn include(rt: &impl Abort, alloc: Global, span: Span) -> Result<WorldInclude, AllocError> {
+    let name = Text::from_str(alloc, "a")?;
+    let as_ = Text::from_str(alloc, "b")?;
+    let renaming = IncludeName { name, as_ };
+    check(rt, "a renaming", is_same_include_name(&renaming, &renaming));
+    let names = row(alloc, renaming)?;
+    Ok(WorldInclude {
+        stability: Stability::Unknown,
+        id: first_id(alloc),
+        names,
+        span,
+    })
+}
+
+// Whether what a world includes is its copy.
+fn is_copied(include: &WorldInclude) -> Result<bool, AllocError> {
+    let copy = copy_world_include(include)?;
+    Ok(is_same_world_include(&copy, include))
+}
+
+fn includes(rt: &impl Abort, alloc: Global, span: Span) -> Result<Row<WorldInclude>, AllocError> {
+    let include = include(rt, alloc, span)?;
+    check(rt, "an include", is_copied(&include)?);
+    row(alloc, include)
+}
+
+/// Puts a world behind others that imports interfaces of these names.
+pub fn add_world(
+    rt: &impl Abort,
+    alloc: Global,
+    worlds: &mut Arena<World, WorldPlace>,
+    names: &[&str],
+    span: Span,
+) -> Result<(), Fail> {
+    let mut imports: Table<WorldKey, WorldItem> = Table::new(alloc);
+    for name in names {
+        add_import(rt, alloc, &mut imports, name, span)?;
     }
-    Ok(items)
-}
-
-fn function_items(rt: &impl Abort, alloc: Global) -> Result<(), Fail> {
-    let wanted = functions(alloc, "f", FunctionKind::Getter)?;
-    let items = as_items(alloc, functions(alloc, "f", FunctionKind::Getter)?)?;
-    assert!(rt; are_functions(items.as_slice(), wanted.as_slice()));
+    let mut exports: Table<WorldKey, WorldItem> = Table::new(alloc);
+    add_others(rt, alloc, &mut exports, span)?;
+    let name = Text::from_str(alloc, "w")?;
+    let includes = includes(rt, alloc, span)?;
+    let world = World {
+        name,
+        imports,
+        exports,
+        package: None,
+        docs: Docs::default(),
+        stability: Stability::Unknown,
+        includes,
+        span,
+    };
+    check(rt, "a world", is_same_world(&world, &world));
+    place(worlds, world)?;
     Ok(())
-}
-
-fn key_texts(rt: &impl Abort, alloc: Global) -> Result<(), Fail> {
-    let interface = WorldKey::Interface(interface_at(alloc, 1)?);
-    assert!(rt; interface.to_text(alloc)?.as_str() == "interface-1");
-    Ok(())
-}
-
-fn key_names(rt: &impl Abort, alloc: Global) -> Result<(), Fail> {
-    let name = WorldKey::Name(Text::from_str(alloc, "[set]x")?);
-    assert!(rt; name.to_text(alloc)?.as_str() == "[set]x");
-    assert!(rt; name.unwrap_name().as_str() == "[set]x");
-    Ok(())
-}
-
-fn tells(stability: &Stability, is_unknown: bool, is_stable: bool) -> bool {
-    stability.is_unknown() == is_unknown && stability.is_stable() == is_stable
-}
-
-fn are_defaults_told() -> bool {
-    tells(&Stability::default(), true, false) && Docs::default().is_empty()
-}
-
-fn defaults(rt: &impl Abort, alloc: Global) -> Result<(), Fail> {
-    assert!(rt; are_defaults_told());
-    assert!(rt; tells(&stable(alloc)?, false, true));
-    assert!(rt; !docs(alloc)?.is_empty());
-    Ok(())
-}
-
-#[test]
-fn items_of_worlds(rt: HostRuntime) -> Result<(), Fail> {
-    let alloc = rt.alloc();
-    interface_items(&rt, alloc)?;
-    items(&rt, alloc)?;
-    function_items(&rt, alloc)?;
-    key_texts(&rt, alloc)?;
-    key_names(&rt, alloc)?;
-    defaults(&rt, alloc)
 }

@@ -1,0 +1,90 @@
+//! What the tests share: checks, ids, rows, tables and small values.
+ghost use Rattle.std.specs.Prelude.{◌≡◌};
+
+use semver::Version;
+use std::alloc::{AllocError, Global};
+use std::process::Abort;
+use std::test::Fail;
+use wit_model::{Function, FunctionKind, Param};
+use wit_types::{Arena, Docs, Id, Stability};
+use wit_values::{Release, Row, Span, Text, TextTable};
+
+/// Where things stand.
+pub const SPAN: Span = Span { start: 3, end: 5 };
+
+/// Checks that what is named here holds.
+pub fn check(rt: &impl Abort, what: &str, holds: bool) {
+    assert!(rt; holds, "{what}");
+}
+
+/// Checks that a text is the wanted one.
+pub fn check_text(rt: &impl Abort, found: &str, wanted: &str) {
+    assert_eq!(rt; found, wanted);
+}
+
+/// The id of the first value of an arena that `M` marks.
+pub fn first_id<M>(alloc: Global) -> Id<M> {
+    let values: Arena<u8, M> = Arena::new(alloc);
+    values.next_id()
+}
+
+/// A row of one value.
+pub fn row<T: Drop>(alloc: Global, value: T) -> Result<Row<T>, AllocError> {
+    let mut row = Row::new(alloc);
+    row.push(value)?;
+    Ok(row)
+}
+
+/// Puts a value behind others.
+pub fn push<T: Drop>(values: &mut Vec<T>, value: T) -> Result<(), AllocError> {
+    values.push(value)?;
+    Ok(())
+}
+
+/// Puts a value behind the others of an arena.
+pub fn place<T: Drop, M>(arena: &mut Arena<T, M>, value: T) -> Result<(), AllocError> {
+    arena.alloc(value)?;
+    Ok(())
+}
+
+/// Puts a value under a name.
+pub fn put<V: Drop>(
+    alloc: Global,
+    table: &mut TextTable<V>,
+    name: &str,
+    value: V,
+) -> Result<(), AllocError> {
+    let name = String::from_str(alloc, name)?;
+    table.insert(name, value)?;
+    Ok(())
+}
+
+/// What a text tells of a version.
+pub fn release(alloc: Global, text: &str) -> Result<Release, Fail> {
+    let version = Version::parse(alloc, text)?;
+    Ok(Release::from(version))
+}
+
+/// Stable since a version, and from another one on deprecated.
+pub fn stable(alloc: Global) -> Result<Stability, Fail> {
+    let since = release(alloc, "1.2.3-rc.1+b")?;
+    let deprecated = Some(release(alloc, "2.0.0")?);
+    Ok(Stability::Stable { since, deprecated })
+}
+
+/// A function of these parameters.
+pub fn function(name: Text, kind: FunctionKind, params: Row<Param>, span: Span) -> Function
+    ensures named { result.name ≡ name }
+    ensures of_kind { result.kind ≡ kind }
+{
+    Function {
+        name,
+        kind,
+        params,
+        result: None,
+        docs: Docs::default(),
+        stability: Stability::Unknown,
+        span,
+        external_id: None,
+    }
+}

@@ -1,0 +1,110 @@
+//! Small calls: names of functions, keys and items of worlds, and integers that hold flags and tell cases.
+use crate::shared::{SPAN, check, check_text, first_id, function};
+use std::alloc::{AllocError, Global};
+use std::process::Abort;
+use std::test::Fail;
+use wit_model::laws::equality::{is_same_flags_repr, is_same_int};
+use wit_model::{FunctionKind, WorldItem, WorldKey};
+use wit_types::{
+    Arena, Docs, Flag, Flags, FlagsRepr, Int, Stability, TypePlace, Types, discriminant_type,
+};
+use wit_values::{Row, Text};
+
+fn method(rt: &impl Abort, alloc: Global) -> Result<(), AllocError> {
+    let kind = FunctionKind::Method(first_id(alloc));
+    let name = Text::from_str(alloc, "[method]r.g")?;
+    let method = function(name, kind, Row::new(alloc), SPAN);
+    check_text(rt, method.item_name(), "g");
+    Ok(())
+}
+
+fn resources(rt: &impl Abort, alloc: Global) -> Result<(), AllocError> {
+    let mut types: Arena<u8, TypePlace> = Arena::new(alloc);
+    let resource = types.alloc(0)?;
+    let other = types.next_id();
+    let mut kind = FunctionKind::MethodSetter(resource);
+    if let Some(id) = kind.resource_mut() {
+        *id = other;
+    }
+    check(
+        rt,
+        "another resource",
+        kind == FunctionKind::MethodSetter(other),
+    );
+    Ok(())
+}
+
+#[test]
+fn functions(rt: HostRuntime) -> Result<(), Fail> {
+    let alloc = rt.alloc();
+    method(&rt, alloc)?;
+    resources(&rt, alloc)?;
+    Ok(())
+}
+
+fn items(rt: &impl Abort, alloc: Global) {
+    let types: Types = Arena::new(alloc);
+    let found = WorldItem::Interface {
+        id: first_id(alloc),
+        stability: Stability::Unknown,
+        external_id: None,
+        docs: Docs::default(),
+        span: SPAN,
+    };
+    check(rt, "an item", found.stability(&types).is_unknown());
+}
+
+#[test]
+fn items_of_worlds(rt: HostRuntime) -> Result<(), Fail> {
+    let alloc = rt.alloc();
+    items(&rt, alloc);
+    let interface = WorldKey::Interface(first_id(alloc));
+    check_text(&rt, interface.to_text(alloc)?.as_str(), "interface-0");
+    let name = WorldKey::Name(Text::from_str(alloc, "[set]x")?);
+    check_text(&rt, name.to_text(alloc)?.as_str(), "[set]x");
+    check_text(&rt, name.unwrap_name().as_str(), "[set]x");
+    Ok(())
+}
+
+fn flags(alloc: Global, count: usize) -> Result<Flags, AllocError> {
+    let mut flags = Row::new(alloc);
+    for _ in 0..count {
+        let name = Text::from_str(alloc, "f")?;
+        flags.push(Flag {
+            name,
+            docs: Docs::default(),
+            span: SPAN,
+        })?;
+    }
+    Ok(Flags { flags })
+}
+
+fn layout(rt: &impl Abort, alloc: Global, count: usize, integers: usize) -> Result<(), AllocError> {
+    let repr = flags(alloc, count)?.repr();
+    check(
+        rt,
+        "flags",
+        is_same_flags_repr(&repr, &FlagsRepr::U32(integers)),
+    );
+    check(rt, "so many integers", repr.count() == integers);
+    Ok(())
+}
+
+#[test]
+fn integers(rt: HostRuntime) -> Result<(), Fail> {
+    for (cases, want) in [
+        (0, Int::U8),
+        (1, Int::U8),
+        (256, Int::U8),
+        (257, Int::U16),
+        (65_536, Int::U16),
+        (65_537, Int::U32),
+        (4_294_967_296, Int::U32),
+    ] {
+        assert!(rt; is_same_int(discriminant_type(cases), want), "{cases}");
+    }
+    let alloc = rt.alloc();
+    layout(&rt, alloc, 0, 0)?;
+    layout(&rt, alloc, 33, 2)?;
+    Ok(())
+}
