@@ -1,22 +1,27 @@
 //! Packages with one of each part: their copies, their equality, and their spans, which move together.
-use crate::kinds::add_types;
-use crate::shared::{SPAN, check, first_id, push, put, release, row, stable};
-use crate::worlds::{add_interface, add_world};
+use crate::kinds::{add_types, are_types_themselves};
+use crate::shared::{SPAN, add, check, first, first_id, push, put, row};
+use crate::worlds::{add_interface, add_world, check_interface, check_world};
+use semver::Version;
 use std::alloc::{AllocError, Global};
+use std::cmp::Ordering;
 use std::process::Abort;
 use std::test::Fail;
-use wit_model::laws::equality::{is_same_package, is_same_package_name};
+use wit_model::laws::equality::{
+    is_same_docs, is_same_package, is_same_package_name, is_same_stability,
+};
+use wit_model::laws::order::{compare_package_names, compare_stabilities};
 use wit_model::{AstItem, ForeignItems, UnresolvedPackage};
 use wit_package_names::PackageName;
 use wit_tree::Span;
 use wit_types::{Arena, Docs, HasSpans, Stability};
-use wit_values::{Row, Table, Text, TextTable};
+use wit_values::{Release, Row, Table, Text, TextTable};
 
-/// The name of a package, with a version.
-pub fn package_name(alloc: Global, version: &str) -> Result<PackageName, Fail> {
+// The name of a package, with a version.
+fn package_name(alloc: Global, name: &str) -> Result<PackageName, AllocError> {
     let namespace = Text::from_str(alloc, "a")?;
-    let name = Text::from_str(alloc, "b")?;
-    let version = Some(release(alloc, version)?);
+    let name = Text::from_str(alloc, name)?;
+    let version = Some(Release::from(Version::new(1, 2, 3)));
     Ok(PackageName {
         namespace,
         name,
@@ -24,26 +29,47 @@ pub fn package_name(alloc: Global, version: &str) -> Result<PackageName, Fail> {
     })
 }
 
-// Puts a package with an interface that one path leads to behind others.
-fn add_dep(
+fn stable() -> Stability {
+    Stability::Stable {
+        since: Release::from(Version::new(1, 0, 0)),
+        deprecated: Some(Release::from(Version::new(2, 0, 0))),
+    }
+}
+
+// Puts an interface that one path leads to behind others.
+fn add_visited(
     alloc: Global,
-    deps: &mut Table<PackageName, TextTable<(AstItem, Row<Stability>)>>,
-) -> Result<(), Fail> {
-    let mut items: TextTable<(AstItem, Row<Stability>)> = TextTable::new(alloc);
-    let visits = row(alloc, stable(alloc)?)?;
-    let item = AstItem::Interface(first_id(alloc));
-    put(alloc, &mut items, "i", (item, visits))?;
-    deps.insert(package_name(alloc, "1.0.0")?, items)?;
+    items: &mut TextTable<(AstItem, Row<Stability>)>,
+) -> Result<(), AllocError> {
+    let visits = row(alloc, stable())?;
+    put(
+        alloc,
+        items,
+        "i",
+        (AstItem::Interface(first_id(alloc)), visits),
+    )
+}
+
+// Puts a value under the name of a package.
+fn set<V: Drop>(
+    alloc: Global,
+    table: &mut Table<PackageName, V>,
+    value: V,
+) -> Result<(), AllocError> {
+    table.insert(package_name(alloc, "c")?, value)?;
     Ok(())
 }
 
-fn foreign(alloc: Global, span: Span) -> Result<ForeignItems, Fail> {
-    let mut foreign = ForeignItems::none(alloc);
-    add_dep(alloc, &mut foreign.deps)?;
-    foreign.dep_spans = row(alloc, span)?;
-    foreign.unknown_type_spans = row(alloc, span)?;
-    foreign.required_resource_types = row(alloc, (first_id(alloc), span))?;
-    Ok(foreign)
+fn fill_foreign(alloc: Global, foreign: &mut ForeignItems, span: Span) -> Result<(), AllocError> {
+    let mut items: TextTable<(AstItem, Row<Stability>)> = TextTable::new(alloc);
+    add_visited(alloc, &mut items)?;
+    set(alloc, &mut foreign.deps, items)?;
+    add(&mut foreign.dep_spans, span)?;
+    add(&mut foreign.unknown_type_spans, span)?;
+    add(
+        &mut foreign.required_resource_types,
+        (first_id(alloc), span),
+    )
 }
 
 fn bare(alloc: Global, name: PackageName, span: Span, foreign: ForeignItems) -> UnresolvedPackage {
@@ -58,24 +84,31 @@ fn bare(alloc: Global, name: PackageName, span: Span, foreign: ForeignItems) -> 
     )
 }
 
+fn add_bare(
+    alloc: Global,
+    packages: &mut Vec<UnresolvedPackage>,
+    name: &str,
+    span: Span,
+) -> Result<(), AllocError> {
+    let mut foreign = ForeignItems::none(alloc);
+    fill_foreign(alloc, &mut foreign, span)?;
+    let name = package_name(alloc, name)?;
+    push(packages, bare(alloc, name, span, foreign))
+}
+
 // Puts a package behind others, whose world imports interfaces of these names. All its spans are `span`.
 fn add_package(
-    rt: &impl Abort,
     alloc: Global,
     packages: &mut Vec<UnresolvedPackage>,
     names: &[&str],
     span: Span,
-) -> Result<(), Fail> {
-    let foreign = foreign(alloc, span)?;
-    let name = package_name(alloc, "1.2.3-rc.1+x")?;
-    check(rt, "a package's name", is_same_package_name(&name, &name));
-    push(packages, bare(alloc, name, span, foreign))?;
+) -> Result<(), AllocError> {
+    add_bare(alloc, packages, "b", span)?;
     if let Some(package) = packages.last_mut() {
-        let contents = Some(Text::from_str(alloc, "about it")?);
-        package.docs = Docs { contents };
-        add_types(rt, alloc, &mut package.types, span)?;
-        add_interface(rt, alloc, &mut package.interfaces, span)?;
-        add_world(rt, alloc, &mut package.worlds, names, span)?;
+        add_types(alloc, &mut package.types, span)?;
+        add_interface(alloc, &mut package.interfaces, span)?;
+        add_world(alloc, &mut package.worlds, names, span)?;
+        package.docs.contents = Some(Text::from_str(alloc, "about it")?);
     }
     Ok(())
 }
@@ -115,39 +148,68 @@ fn shift<T: HasSpans>(values: &mut [T]) {
     }
 }
 
-// Where the header of the one package stands.
-fn header(packages: &[UnresolvedPackage]) -> Option<Span> {
-    let [package] = packages else {
-        return None;
-    };
-    Some(package.package_name_span())
+fn check_docs(rt: &impl Abort, docs: &Docs, stability: &Stability) {
+    check(rt, "docs", is_same_docs(docs, docs) && !docs.is_empty());
+    check(rt, "a stability", is_same_stability(stability, stability));
+    let is_default = stability.is_unknown() && !stability.is_stable();
+    check(rt, "the default", is_default);
+    let order = compare_stabilities(stability, stability);
+    check(rt, "an order of stabilities", order == Ordering::Equal);
+}
+
+fn check_name(rt: &impl Abort, name: &PackageName) {
+    check(rt, "a name", is_same_package_name(name, name));
+    let order = compare_package_names(name, name);
+    check(rt, "an order of names", order == Ordering::Equal);
+}
+
+// Checks that the parts of the first package are the same as themselves.
+fn check_parts(rt: &impl Abort, packages: &[UnresolvedPackage]) -> Result<(), AllocError> {
+    let package = packages.first().expect(rt, "one");
+    check_name(rt, &package.name);
+    check(rt, "types", are_types_themselves(&package.types));
+    let interface = first(&package.interfaces).expect(rt, "one");
+    check_interface(rt, interface);
+    check_docs(rt, &package.docs, &interface.stability);
+    check_world(rt, first(&package.worlds).expect(rt, "one"))
+}
+
+fn check_spans(rt: &impl Abort, packages: &mut [UnresolvedPackage]) {
+    check(rt, "spans differ", !are_same(packages));
+    check(rt, "far too far", !fits(packages, u32::MAX));
+    check(rt, "too far", !fits(packages, u32::MAX - 4));
+    check(rt, "so far", fits(packages, u32::MAX - 5));
+    shift(packages);
+    check(rt, "spans are the same", are_same(packages));
 }
 
 #[test]
-fn spans_of_packages_move(rt: HostRuntime) -> Result<(), Fail> {
+fn packages_are_copied_and_move(rt: HostRuntime) -> Result<(), Fail> {
     let alloc = rt.alloc();
     let moved = Span { start: 8, end: 10 };
     let mut packages = Vec::new(alloc);
-    add_package(&rt, alloc, &mut packages, ["a", "b"].as_slice(), SPAN)?;
-    add_package(&rt, alloc, &mut packages, ["b", "a"].as_slice(), moved)?;
-    assert!(rt; are_copied(packages.as_slice())?);
-    assert!(rt; !are_same(packages.as_slice()));
-    assert!(rt; !fits(packages.as_slice(), u32::MAX));
-    assert!(rt; !fits(packages.as_slice(), u32::MAX - 4));
-    assert!(rt; fits(packages.as_slice(), u32::MAX - 5));
-    shift(packages.as_mut_slice());
-    assert!(rt; are_same(packages.as_slice()));
+    add_package(alloc, &mut packages, ["a", "b"].as_slice(), SPAN)?;
+    add_package(alloc, &mut packages, ["b", "a"].as_slice(), moved)?;
+    check(&rt, "copies", are_copied(packages.as_slice())?);
+    check_parts(&rt, packages.as_slice())?;
+    check_spans(&rt, packages.as_mut_slice());
     Ok(())
+}
+
+fn check_default(rt: &impl Abort, packages: &mut [UnresolvedPackage]) {
+    check(rt, "so far", fits(packages, u32::MAX));
+    shift(packages);
+    let package = packages.first().expect(rt, "one");
+    let moved = Span { start: 5, end: 5 };
+    check(rt, "a header", package.package_name_span() == moved);
+    check(rt, "too far", !fits(packages, u32::MAX));
 }
 
 #[test]
 fn default_spans_move(rt: HostRuntime) -> Result<(), Fail> {
     let alloc = rt.alloc();
     let mut packages = Vec::new(alloc);
-    add_package(&rt, alloc, &mut packages, [].as_slice(), Span::default())?;
-    assert!(rt; fits(packages.as_slice(), u32::MAX));
-    shift(packages.as_mut_slice());
-    assert!(rt; header(packages.as_slice()) == Some(Span { start: 5, end: 5 }));
-    assert!(rt; !fits(packages.as_slice(), u32::MAX));
+    add_bare(alloc, &mut packages, "b", Span::default())?;
+    check_default(&rt, packages.as_mut_slice());
     Ok(())
 }

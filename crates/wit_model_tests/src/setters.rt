@@ -37,19 +37,27 @@ fn joined<V>(alloc: Global, map: &IndexMap<&str, V>) -> Result<String, AllocErro
     Ok(text)
 }
 
-// Checks in which order placing leaves the functions of these names.
-fn expect(rt: &impl Abort, alloc: Global, names: &str, wanted: &str) -> Result<(), Fail> {
-    let mut map: IndexMap<&str, Function> = IndexMap::new(alloc);
+// Puts functions under their names, which a space parts.
+fn put_all<'a>(
+    alloc: Global,
+    map: &mut IndexMap<&'a str, Function>,
+    names: &'a str,
+) -> Result<(), AllocError> {
     for name in names.split_whitespace() {
         let text = Text::from_str(alloc, name)?;
-        put(
-            &mut map,
-            name,
-            function(text, kind_of(name), Row::new(alloc), SPAN),
-        )?;
+        let params = Row::new(alloc);
+        put(map, name, function(text, kind_of(name), params, SPAN))?;
     }
+    Ok(())
+}
+
+// Checks in which order placing leaves the functions of these names.
+fn expect(rt: &impl Abort, alloc: Global, names: &str, wanted: &str) -> Result<(), AllocError> {
+    let mut map: IndexMap<&str, Function> = IndexMap::new(alloc);
+    put_all(alloc, &mut map, names)?;
     place_setters_after_getters(&mut map, |f| Some(f));
-    check_text(rt, joined(alloc, &map)?.as_str(), wanted);
+    let found = joined(alloc, &map)?;
+    check_text(rt, found.as_str(), wanted);
     Ok(())
 }
 
@@ -63,5 +71,6 @@ fn setters_behind_getters(rt: HostRuntime) -> Result<(), Fail> {
         alloc,
         "[set]x [set]y [get]y [get]x",
         "[get]y [set]y [get]x [set]x ",
-    )
+    )?;
+    Ok(())
 }

@@ -1,13 +1,11 @@
-//! What the tests share: checks, ids, rows, tables and small values.
+//! What the tests share: checks, ids, rows, arenas, tables and a function.
 ghost use Rattle.std.specs.Prelude.{◌≡◌};
 
-use semver::Version;
 use std::alloc::{AllocError, Global};
 use std::process::Abort;
-use std::test::Fail;
 use wit_model::{Function, FunctionKind, Param};
 use wit_types::{Arena, Docs, Id, Stability};
-use wit_values::{Release, Row, Span, Text, TextTable};
+use wit_values::{Row, Span, Text, TextTable};
 
 /// Where things stand.
 pub const SPAN: Span = Span { start: 3, end: 5 };
@@ -28,6 +26,14 @@ pub fn first_id<M>(alloc: Global) -> Id<M> {
     values.next_id()
 }
 
+/// The first value of an arena.
+pub fn first<T, M>(arena: &Arena<T, M>) -> Option<&T> {
+    if arena.len() == 0 {
+        return None;
+    }
+    Some(arena.get(arena.id_at(0)))
+}
+
 /// A row of one value.
 pub fn row<T: Drop>(alloc: Global, value: T) -> Result<Row<T>, AllocError> {
     let mut row = Row::new(alloc);
@@ -38,6 +44,12 @@ pub fn row<T: Drop>(alloc: Global, value: T) -> Result<Row<T>, AllocError> {
 /// Puts a value behind others.
 pub fn push<T: Drop>(values: &mut Vec<T>, value: T) -> Result<(), AllocError> {
     values.push(value)?;
+    Ok(())
+}
+
+/// Puts a value behind the others of a row.
+pub fn add<T: Drop>(row: &mut Row<T>, value: T) -> Result<(), AllocError> {
+    row.push(value)?;
     Ok(())
 }
 
@@ -57,19 +69,6 @@ pub fn put<V: Drop>(
     let name = String::from_str(alloc, name)?;
     table.insert(name, value)?;
     Ok(())
-}
-
-/// What a text tells of a version.
-pub fn release(alloc: Global, text: &str) -> Result<Release, Fail> {
-    let version = Version::parse(alloc, text)?;
-    Ok(Release::from(version))
-}
-
-/// Stable since a version, and from another one on deprecated.
-pub fn stable(alloc: Global) -> Result<Stability, Fail> {
-    let since = release(alloc, "1.2.3-rc.1+b")?;
-    let deprecated = Some(release(alloc, "2.0.0")?);
-    Ok(Stability::Stable { since, deprecated })
 }
 
 /// A function of these parameters.

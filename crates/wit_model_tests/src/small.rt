@@ -11,8 +11,8 @@ use wit_types::{
 use wit_values::{Row, Text};
 
 fn method(rt: &impl Abort, alloc: Global) -> Result<(), AllocError> {
-    let kind = FunctionKind::Method(first_id(alloc));
     let name = Text::from_str(alloc, "[method]r.g")?;
+    let kind = FunctionKind::Method(first_id(alloc));
     let method = function(name, kind, Row::new(alloc), SPAN);
     check_text(rt, method.item_name(), "g");
     Ok(())

@@ -1,163 +1,207 @@
-//! Interfaces and worlds of a package. Each value that is made here is the same as itself.
-use crate::shared::{check, first_id, function, place, put, row};
+//! Interfaces and worlds of a package, and their equality.
+use crate::shared::{add, check, first_id, function, place, put, row};
 use std::alloc::{AllocError, Global};
 use std::process::Abort;
-use std::test::Fail;
 use wit_model::laws::copies::{copy_world_include, copy_world_key};
 use wit_model::laws::equality::{
     is_same_function, is_same_include_name, is_same_interface, is_same_param, is_same_world,
     is_same_world_include, is_same_world_item, is_same_world_key,
 };
 use wit_model::{
-    Function, FunctionKind, IncludeName, Interface, Param, World, WorldInclude, WorldItem, WorldKey,
+    Function, FunctionKind, IncludeName, Interface, LiftLowerAbi, ManglingAndAbi, Param, World,
+    WorldInclude, WorldItem, WorldKey,
 };
 use wit_tree::Span;
-use wit_types::{Arena, Docs, InterfacePlace, Stability, Type, TypeId, WorldPlace};
+use wit_types::{Arena, Docs, InterfacePlace, Stability, Type, WorldPlace};
 use wit_values::{Row, Table, Text, TextTable};
 
-// A function of one parameter.
-fn one_function(rt: &impl Abort, alloc: Global, span: Span) -> Result<Function, AllocError> {
+fn params(alloc: Global, span: Span) -> Result<Row<Param>, AllocError> {
     let name = Text::from_str(alloc, "p")?;
     let ty = Type::U8;
-    let param = Param { name, ty, span };
-    check(rt, "a parameter", is_same_param(&param, &param));
-    let params = row(alloc, param)?;
-    let name = Text::from_str(alloc, "f")?;
-    Ok(function(name, FunctionKind::Freestanding, params, span))
+    row(alloc, Param { name, ty, span })
 }
 
-/// Puts an interface with one type and one function behind others.
-pub fn add_interface(
-    rt: &impl Abort,
-    alloc: Global,
-    interfaces: &mut Arena<Interface, InterfacePlace>,
-    span: Span,
-) -> Result<(), AllocError> {
-    let mut types: TextTable<TypeId> = TextTable::new(alloc);
-    put(alloc, &mut types, "t", first_id(alloc))?;
-    let mut functions: TextTable<Function> = TextTable::new(alloc);
-    put(alloc, &mut functions, "f", one_function(rt, alloc, span)?)?;
-    let interface = Interface {
+fn bare_interface(alloc: Global, span: Span) -> Interface {
+    Interface {
         name: None,
-        types,
-        functions,
+        types: TextTable::new(alloc),
+        functions: TextTable::new(alloc),
         docs: Docs::default(),
         stability: Stability::Unknown,
         package: None,
         span,
         clone_of: None,
-    };
-    check(
-        rt,
-        "an interface",
-        is_same_interface(&interface, &interface),
-    );
-    place(interfaces, interface)
+    }
+}
+
+fn add_function(
+    alloc: Global,
+    functions: &mut TextTable<Function>,
+    span: Span,
+) -> Result<(), AllocError> {
+    let params = params(alloc, span)?;
+    let name = Text::from_str(alloc, "f")?;
+    let kind = FunctionKind::Freestanding;
+    put(alloc, functions, "f", function(name, kind, params, span))
+}
+
+/// Puts the first interface into an arena, with one type and one function.
+pub fn add_interface(
+    alloc: Global,
+    interfaces: &mut Arena<Interface, InterfacePlace>,
+    span: Span,
+) -> Result<(), AllocError> {
+    place(interfaces, bare_interface(alloc, span))?;
+    if interfaces.len() > 0 {
+        let first = interfaces.get_mut(interfaces.id_at(0));
+        put(alloc, &mut first.types, "t", first_id(alloc))?;
+        add_function(alloc, &mut first.functions, span)?;
+    }
+    Ok(())
 }
 
 // Puts a value under a name.
 fn set<V: Drop>(
-    rt: &impl Abort,
     alloc: Global,
     table: &mut Table<WorldKey, V>,
     name: &str,
     value: V,
 ) -> Result<(), AllocError> {
     let key = WorldKey::Name(Text::from_str(alloc, name)?);
-    let copy = copy_world_key(&key)?;
-    check(rt, "a key", is_same_world_key(&key, &copy));
     table.insert(key, value)?;
     Ok(())
 }
 
 // Puts an interface under a name.
 fn add_import(
-    rt: &impl Abort,
     alloc: Global,
     items: &mut Table<WorldKey, WorldItem>,
     name: &str,
     span: Span,
 ) -> Result<(), AllocError> {
     let external_id = Some(Text::from_str(alloc, "x")?);
-    let item = WorldItem::Interface {
-        id: first_id(alloc),
-        stability: Stability::Unknown,
-        external_id,
-        docs: Docs::default(),
-        span,
-    };
-    check(rt, "an item", is_same_world_item(&item, &item));
-    set(rt, alloc, items, name, item)
+    let id = first_id(alloc);
+    let stability = Stability::Unknown;
+    let docs = Docs::default();
+    set(
+        alloc,
+        items,
+        name,
+        WorldItem::Interface {
+            id,
+            stability,
+            external_id,
+            docs,
+            span,
+        },
+    )
 }
 
 // Puts a function and a type under their names.
-fn add_others(
-    rt: &impl Abort,
+fn add_exports(
     alloc: Global,
     items: &mut Table<WorldKey, WorldItem>,
     span: Span,
 ) -> Result<(), AllocError> {
-    let function = one_function(rt, alloc, span)?;
-    check(rt, "a function", is_same_function(&function, &function));
-    set(rt, alloc, items, "f", WorldItem::Function(function))?;
     let id = first_id(alloc);
-    set(rt, alloc, items, "t", WorldItem::Type_ { id, span })
+    set(alloc, items, "t", WorldItem::Type_ { id, span })?;
+    let params = params(alloc, span)?;
+    let name = Text::from_str(alloc, "f")?;
+    let function = function(name, FunctionKind::Freestanding, params, span);
+    set(alloc, items, "f", WorldItem::Function(function))
 }
 
-// What a world includes.
-fn include(rt: &impl Abort, alloc: Global, span: Span) -> Result<WorldInclude, AllocError> {
+// Puts what a world includes behind others.
+fn add_include(
+    alloc: Global,
+    includes: &mut Row<WorldInclude>,
+    span: Span,
+) -> Result<(), AllocError> {
     let name = Text::from_str(alloc, "a")?;
     let as_ = Text::from_str(alloc, "b")?;
-    let renaming = IncludeName { name, as_ };
-    check(rt, "a renaming", is_same_include_name(&renaming, &renaming));
-    let names = row(alloc, renaming)?;
-    Ok(WorldInclude {
+    let names = row(alloc, IncludeName { name, as_ })?;
+    let stability = Stability::Unknown;
+    let id = first_id(alloc);
+    add(
+        includes,
+        WorldInclude {
+            stability,
+            id,
+            names,
+            span,
+        },
+    )
+}
+
+fn bare_world(alloc: Global, name: Text, span: Span) -> World {
+    World {
+        name,
+        imports: Table::new(alloc),
+        exports: Table::new(alloc),
+        package: None,
+        docs: Docs::default(),
         stability: Stability::Unknown,
-        id: first_id(alloc),
-        names,
+        includes: Row::new(alloc),
         span,
-    })
+    }
 }
 
-// Whether what a world includes is its copy.
-fn is_copied(include: &WorldInclude) -> Result<bool, AllocError> {
-    let copy = copy_world_include(include)?;
-    Ok(is_same_world_include(&copy, include))
-}
-
-fn includes(rt: &impl Abort, alloc: Global, span: Span) -> Result<Row<WorldInclude>, AllocError> {
-    let include = include(rt, alloc, span)?;
-    check(rt, "an include", is_copied(&include)?);
-    row(alloc, include)
-}
-
-/// Puts a world behind others that imports interfaces of these names.
+/// Puts the first world into an arena, which imports interfaces of these names.
 pub fn add_world(
-    rt: &impl Abort,
     alloc: Global,
     worlds: &mut Arena<World, WorldPlace>,
     names: &[&str],
     span: Span,
-) -> Result<(), Fail> {
-    let mut imports: Table<WorldKey, WorldItem> = Table::new(alloc);
-    for name in names {
-        add_import(rt, alloc, &mut imports, name, span)?;
-    }
-    let mut exports: Table<WorldKey, WorldItem> = Table::new(alloc);
-    add_others(rt, alloc, &mut exports, span)?;
+) -> Result<(), AllocError> {
     let name = Text::from_str(alloc, "w")?;
-    let includes = includes(rt, alloc, span)?;
-    let world = World {
-        name,
-        imports,
-        exports,
-        package: None,
-        docs: Docs::default(),
-        stability: Stability::Unknown,
-        includes,
-        span,
-    };
-    check(rt, "a world", is_same_world(&world, &world));
-    place(worlds, world)?;
+    place(worlds, bare_world(alloc, name, span))?;
+    if worlds.len() > 0 {
+        let first = worlds.get_mut(worlds.id_at(0));
+        for name in names {
+            add_import(alloc, &mut first.imports, name, span)?;
+        }
+        add_exports(alloc, &mut first.exports, span)?;
+        add_include(alloc, &mut first.includes, span)?;
+    }
     Ok(())
+}
+
+fn check_function(rt: &impl Abort, function: &Function) {
+    check(rt, "a function", is_same_function(function, function));
+    let param = function.params.as_slice().first().expect(rt, "one");
+    check(rt, "a parameter", is_same_param(param, param));
+    let choice = ManglingAndAbi::Legacy(LiftLowerAbi::AsyncCallback).for_func(function);
+    let sync = ManglingAndAbi::Legacy(LiftLowerAbi::Sync);
+    check(rt, "a choice", choice == sync);
+}
+
+/// Checks that an interface and its function are the same as themselves.
+pub fn check_interface(rt: &impl Abort, interface: &Interface) {
+    check(rt, "an interface", is_same_interface(interface, interface));
+    let function = interface.functions.get("f").expect(rt, "one");
+    check_function(rt, function);
+}
+
+fn check_include(rt: &impl Abort, include: &WorldInclude) -> Result<(), AllocError> {
+    let name = include.names.as_slice().first().expect(rt, "one");
+    check(rt, "a renaming", is_same_include_name(name, name));
+    let copy = copy_world_include(include)?;
+    check(rt, "an include", is_same_world_include(include, &copy));
+    Ok(())
+}
+
+fn check_item(rt: &impl Abort, key: &WorldKey, item: &WorldItem) -> Result<(), AllocError> {
+    check(rt, "an item", is_same_world_item(item, item));
+    let copy = copy_world_key(key)?;
+    check(rt, "a key", is_same_world_key(key, &copy));
+    Ok(())
+}
+
+/// Checks that a world and its parts are the same as themselves, or as their copies.
+pub fn check_world(rt: &impl Abort, world: &World) -> Result<(), AllocError> {
+    check(rt, "a world", is_same_world(world, world));
+    let include = world.includes.as_slice().first().expect(rt, "one");
+    check_include(rt, include)?;
+    let (key, item) = world.imports.get_index(0).expect(rt, "one");
+    check_item(rt, key, item)
 }
