@@ -27,14 +27,24 @@ fn put<'a, V: Drop>(
     Ok(())
 }
 
-// The names of a map, parted by spaces.
-fn joined<V>(alloc: Global, map: &IndexMap<&str, V>) -> Result<String, AllocError> {
+// Checks in which order placing leaves the names of a map.
+fn expect_placed<V, F: Fn(&V) -> Option<&Function>>(
+    rt: &impl Abort,
+    alloc: Global,
+    map: &mut IndexMap<&str, V>,
+    func: F,
+    wanted: &str,
+) -> Result<(), AllocError>
+    requires { F.IsAlwaysCallable func }
+{
+    place_setters_after_getters(map, func);
     let mut text = String::new(alloc);
     for name in map.keys() {
         text.push_str(name)?;
         text.push(' ')?;
     }
-    Ok(text)
+    check_text(rt, text.as_str(), wanted);
+    Ok(())
 }
 
 // Puts functions under their names, which a space parts.
@@ -55,10 +65,7 @@ fn put_all<'a>(
 fn expect(rt: &impl Abort, alloc: Global, names: &str, wanted: &str) -> Result<(), AllocError> {
     let mut map: IndexMap<&str, Function> = IndexMap::new(alloc);
     put_all(alloc, &mut map, names)?;
-    place_setters_after_getters(&mut map, |f| Some(f));
-    let found = joined(alloc, &map)?;
-    check_text(rt, found.as_str(), wanted);
-    Ok(())
+    expect_placed(rt, alloc, &mut map, |f| Some(f), wanted)
 }
 
 #[test]

@@ -1,6 +1,4 @@
 //! What the tests share: checks, ids, rows, arenas, tables and a function.
-ghost use Rattle.std.specs.Prelude.{◌≡◌};
-
 use std::alloc::{AllocError, Global};
 use std::process::Abort;
 use wit_model::{Function, FunctionKind, Param};
@@ -72,10 +70,7 @@ pub fn put<V: Drop>(
 }
 
 /// A function of these parameters.
-pub fn function(name: Text, kind: FunctionKind, params: Row<Param>, span: Span) -> Function
-    ensures named { result.name ≡ name }
-    ensures of_kind { result.kind ≡ kind }
-{
+pub fn function(name: Text, kind: FunctionKind, params: Row<Param>, span: Span) -> Function {
     Function {
         name,
         kind,

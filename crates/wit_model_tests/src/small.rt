@@ -1,5 +1,5 @@
-//! Small calls: names of functions, keys and items of worlds, and integers that hold flags and tell cases.
-use crate::shared::{SPAN, check, check_text, first_id, function};
+//! Small calls: resources of kinds, items and keys of worlds, and integers that hold flags and tell cases.
+use crate::shared::{SPAN, check, check_text, first_id};
 use std::alloc::{AllocError, Global};
 use std::process::Abort;
 use std::test::Fail;
@@ -10,35 +10,16 @@ use wit_types::{
 };
 use wit_values::{Row, Text};
 
-fn method(rt: &impl Abort, alloc: Global) -> Result<(), AllocError> {
-    let name = Text::from_str(alloc, "[method]r.g")?;
-    let kind = FunctionKind::Method(first_id(alloc));
-    let method = function(name, kind, Row::new(alloc), SPAN);
-    check_text(rt, method.item_name(), "g");
-    Ok(())
-}
-
-fn resources(rt: &impl Abort, alloc: Global) -> Result<(), AllocError> {
-    let mut types: Arena<u8, TypePlace> = Arena::new(alloc);
+#[test]
+fn resources_of_kinds(rt: HostRuntime) -> Result<(), Fail> {
+    let mut types: Arena<u8, TypePlace> = Arena::new(rt.alloc());
     let resource = types.alloc(0)?;
     let other = types.next_id();
     let mut kind = FunctionKind::MethodSetter(resource);
     if let Some(id) = kind.resource_mut() {
         *id = other;
     }
-    check(
-        rt,
-        "another resource",
-        kind == FunctionKind::MethodSetter(other),
-    );
-    Ok(())
-}
-
-#[test]
-fn functions(rt: HostRuntime) -> Result<(), Fail> {
-    let alloc = rt.alloc();
-    method(&rt, alloc)?;
-    resources(&rt, alloc)?;
+    assert!(rt; kind == FunctionKind::MethodSetter(other));
     Ok(())
 }
 

@@ -1,5 +1,5 @@
 //! Interfaces and worlds of a package, and their equality.
-use crate::shared::{add, check, first_id, function, place, put, row};
+use crate::shared::{add, check, check_text, first_id, function, place, put, row};
 use std::alloc::{AllocError, Global};
 use std::process::Abort;
 use wit_model::laws::copies::{copy_world_include, copy_world_key};
@@ -173,6 +173,9 @@ fn check_function(rt: &impl Abort, function: &Function) {
     let choice = ManglingAndAbi::Legacy(LiftLowerAbi::AsyncCallback).for_func(function);
     let sync = ManglingAndAbi::Legacy(LiftLowerAbi::Sync);
     check(rt, "a choice", choice == sync);
+    if let FunctionKind::Freestanding = function.kind {
+        check_text(rt, function.item_name(), "f");
+    }
 }
 
 /// Checks that an interface and its function are the same as themselves.
