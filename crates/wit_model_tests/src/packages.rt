@@ -171,7 +171,8 @@ fn check_parts(rt: &impl Abort, packages: &[UnresolvedPackage]) -> Result<(), Al
     let interface = first(&package.interfaces).expect(rt, "one");
     check_interface(rt, interface);
     check_docs(rt, &package.docs, &interface.stability);
-    check_world(rt, first(&package.worlds).expect(rt, "one"))
+    let world = first(&package.worlds).expect(rt, "one");
+    check_world(rt, &package.types, world)
 }
 
 fn check_spans(rt: &impl Abort, packages: &mut [UnresolvedPackage]) {

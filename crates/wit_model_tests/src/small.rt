@@ -1,13 +1,11 @@
-//! Small calls: resources of kinds, items and keys of worlds, and integers that hold flags and tell cases.
+//! Small calls: resources of kinds, keys of worlds, and integers that hold flags and tell cases.
 use crate::shared::{SPAN, check, check_text, first_id};
 use std::alloc::{AllocError, Global};
 use std::process::Abort;
 use std::test::Fail;
 use wit_model::laws::equality::{is_same_flags_repr, is_same_int};
-use wit_model::{FunctionKind, WorldItem, WorldKey};
-use wit_types::{
-    Arena, Docs, Flag, Flags, FlagsRepr, Int, Stability, TypePlace, Types, discriminant_type,
-};
+use wit_model::{FunctionKind, WorldKey};
+use wit_types::{Arena, Docs, Flag, Flags, FlagsRepr, Int, TypePlace, discriminant_type};
 use wit_values::{Row, Text};
 
 #[test]
@@ -23,22 +21,9 @@ fn resources_of_kinds(rt: HostRuntime) -> Result<(), Fail> {
     Ok(())
 }
 
-fn items(rt: &impl Abort, alloc: Global) {
-    let types: Types = Arena::new(alloc);
-    let found = WorldItem::Interface {
-        id: first_id(alloc),
-        stability: Stability::Unknown,
-        external_id: None,
-        docs: Docs::default(),
-        span: SPAN,
-    };
-    check(rt, "an item", found.stability(&types).is_unknown());
-}
-
 #[test]
-fn items_of_worlds(rt: HostRuntime) -> Result<(), Fail> {
+fn keys_of_worlds(rt: HostRuntime) -> Result<(), Fail> {
     let alloc = rt.alloc();
-    items(&rt, alloc);
     let interface = WorldKey::Interface(first_id(alloc));
     check_text(&rt, interface.to_text(alloc)?.as_str(), "interface-0");
     let name = WorldKey::Name(Text::from_str(alloc, "[set]x")?);

@@ -12,7 +12,7 @@ use wit_model::{
     WorldInclude, WorldItem, WorldKey,
 };
 use wit_tree::Span;
-use wit_types::{Arena, Docs, InterfacePlace, Stability, Type, WorldPlace};
+use wit_types::{Arena, Docs, InterfacePlace, Stability, Type, Types, WorldPlace};
 use wit_values::{Row, Table, Text, TextTable};
 
 fn params(alloc: Global, span: Span) -> Result<Row<Param>, AllocError> {
@@ -185,26 +185,40 @@ pub fn check_interface(rt: &impl Abort, interface: &Interface) {
     check_function(rt, function);
 }
 
+// Whether a copy is equal to its source.
+fn is_equal<T: PartialEq + Drop>(copy: T, source: &T) -> bool {
+    copy == *source
+}
+
 fn check_include(rt: &impl Abort, include: &WorldInclude) -> Result<(), AllocError> {
     let name = include.names.as_slice().first().expect(rt, "one");
     check(rt, "a renaming", is_same_include_name(name, name));
-    let copy = copy_world_include(include)?;
-    check(rt, "an include", is_same_world_include(include, &copy));
+    check(rt, "an include", is_same_world_include(include, include));
+    let is_copied = is_equal(copy_world_include(include)?, include);
+    check(rt, "its copy", is_copied);
     Ok(())
 }
 
-fn check_item(rt: &impl Abort, key: &WorldKey, item: &WorldItem) -> Result<(), AllocError> {
+fn check_key(rt: &impl Abort, key: &WorldKey) -> Result<(), AllocError> {
+    check(rt, "a key", is_same_world_key(key, key));
+    let is_copied = is_equal(copy_world_key(key)?, key);
+    check(rt, "its copy", is_copied);
+    Ok(())
+}
+
+fn check_item(rt: &impl Abort, types: &Types, item: &WorldItem) {
     check(rt, "an item", is_same_world_item(item, item));
-    let copy = copy_world_key(key)?;
-    check(rt, "a key", is_same_world_key(key, &copy));
-    Ok(())
+    if let WorldItem::Interface { .. } = item {
+        check(rt, "its stability", item.stability(types).is_unknown());
+    }
 }
 
-/// Checks that a world and its parts are the same as themselves, or as their copies.
-pub fn check_world(rt: &impl Abort, world: &World) -> Result<(), AllocError> {
+/// Checks that a world and its parts are the same as themselves, and as their copies.
+pub fn check_world(rt: &impl Abort, types: &Types, world: &World) -> Result<(), AllocError> {
     check(rt, "a world", is_same_world(world, world));
     let include = world.includes.as_slice().first().expect(rt, "one");
     check_include(rt, include)?;
     let (key, item) = world.imports.get_index(0).expect(rt, "one");
-    check_item(rt, key, item)
+    check_item(rt, types, item);
+    check_key(rt, key)
 }
