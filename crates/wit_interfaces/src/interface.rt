@@ -1,6 +1,9 @@
 //! An interface, whether it is declared or written in a world.
-ghost use Rattle.std.specs.Prelude.{◌≡◌, ◌<◌, ◌≤◌, ◌++◌, false, length, IfErr, IfOk, OnOk, map};
+ghost use Rattle.std.specs.Prelude.{◌≡◌, ◌<◌, ◌≤◌, ◌++◌, List, false, length, IfErr, IfOk, OnOk, map};
+ghost use Rattle.wit_types.specs.declared.types.TypeDef.{TypeDef};
+ghost use Rattle.wit_types.specs.declared.types.TypeOwner.{TypeOwner as Owner};
 ghost use Rattle.wit_types.specs.declared.types.TypeOwner.TheVariants.{Interface as InterfaceOwner};
+ghost use Rattle.wit_model.specs.declared.function.Function.{Function as TheFunction};
 ghost use Rattle.wit_syntax.specs.Source.{declared_attributes, declared_name, is_world, item_id, scope_names as the_names};
 ghost use Rattle.wit_syntax.specs.Notes.{IsBrokenStability};
 ghost use Rattle.wit_syntax.specs.Function.{functions as the_functions};
@@ -12,10 +15,13 @@ ghost use Rattle.wit_entries.specs.Requiring.{IsGrown};
 ghost use Rattle.wit_rules.specs.Held.{function_behind};
 ghost use Rattle.wit_signatures.specs.Taken.{name_of_function, name_of_id};
 ghost use Rattle.wit_items.specs.Items.{scope_item};
-ghost use Rattle.wit_arena.specs.Resolving.{IsIndex};
+ghost use Rattle.wit_arena.specs.Functions.{placed_functions};
+ghost use Rattle.wit_arena.specs.Resolving.{Cell, IsIndex, Names};
 ghost use Rattle.wit_arena.specs.Resolved.{AddsInterface, IsNameless, IsWrongInterface};
 ghost use Rattle.wit_item_entries.specs.Held.{front_of, cells_of};
-ghost use Rattle.wit_item_entries.specs.Between.{Emits};
+ghost use Rattle.wit_item_entries.specs.Between.{AddsTurn, Emits};
+ghost use Rattle.wit_item_entries.specs.Body.{AddsBody};
+ghost use Rattle.wit_scopes.specs.Between.{IsOfFunctions};
 ghost use Rattle.wit_scopes.specs.Front.{AreNamesPlaced};
 ghost use Rattle.wit_scopes.specs.Held.{name_behind};
 
@@ -25,16 +31,17 @@ use wit_entries::scope::Required;
 use wit_externs::taken::check_setters;
 use wit_item_entries::body::{resolve_head, resolve_item_functions};
 use wit_item_entries::functions::function_table;
+use wit_item_entries::names::ResolvedNames;
 use wit_item_entries::required::add_required;
 use wit_item_entries::uses::Interfaces;
 use wit_items::items::ItemScope;
-use wit_model::Interface;
+use wit_model::{Function, Interface};
 use wit_notes::NameScope;
 use wit_rules::held::HeldFunction;
 use wit_tree::tree::Id;
 use wit_tree::{ParseResult, Span};
 use wit_types::{InterfaceId, TypeOwner};
-use wit_values::Text;
+use wit_values::{Text, TextTable};
 
 /// Refuses a setter that has no getter of its spelling, where these are the names and the functions,
 /// and they are taken if there is a function.
@@ -51,6 +58,30 @@ fn check_pairs(
         return Ok(());
     }
     check_setters(taken, names, functions)
+}
+
+/// The functions of an interface under their names, behind its names, which are resolved.
+fn functions_of<'a>(
+    alloc: Global,
+    item: &ItemScope<'_, '_, 'a>,
+    types: &mut Entries,
+    names: &mut ResolvedNames<'a>,
+) -> ParseResult<TextTable<Function>>
+    requires sort { is_world (scope_item item.now) ≡ false }
+    requires named { map name_behind item.now.names.now ≡ the_names (scope_item item.now) }
+    requires added { (old : List TypeDef) × (cs : List Cell) × (o : Owner) × AddsTurn old types.old cs o (the_names (scope_item item.now)) names.old.types names.old.turn.items names.old.required.items }
+    ensures types { OnOk result (names.new.types ≡ names.old.types) }
+    ensures adds { IfOk result (λ table. (old : List TypeDef) (cs : List Cell) (o : Owner) → AddsTurn old types.old cs o (the_names (scope_item item.now)) names.old.types names.old.turn.items names.old.required.items → (fs : List TheFunction) × AddsBody old types.new cs o (scope_item item.now) names.old.types names.old.turn.items fs names.new.required.items × (table ≡ placed_functions fs)) }
+    ensures paired { OnOk result ((f : Fault) → IsUnpairedSetter (the_functions (scope_item item.now)) f → ⊥) }
+    ensures sound { OnOk result (((f : Fault) → IsBrokenScope (the_names (scope_item item.now)) (the_functions (scope_item item.now)) f → IsOfFunctions (the_names (scope_item item.now)) (the_functions (scope_item item.now)) f) → (f : Fault) → IsBrokenScope (the_names (scope_item item.now)) (the_functions (scope_item item.now)) f → IsNameless (the_names (scope_item item.now)) (the_functions (scope_item item.now))) }
+    ensures sided { OnOk result ((f : Fault) → IsBrokenSides (scope_item item.now) f → ⊥) }
+    ensures grown { OnOk result (IsGrown types.old types.new) }
+    ensures refused { IfErr result (λ e. (old : List TypeDef) (cs : List Cell) (by_name : Names) (o : Owner) → AddsTurn old types.old cs o (the_names (scope_item item.now)) names.old.types names.old.turn.items names.old.required.items → Refused (IsWrongInterface old cs by_name o (scope_item item.now)) e) }
+{
+    let own = resolve_item_functions(alloc, item.declared, item.names, types, names)?;
+    check_pairs(&own.taken.imports, &names.turn, &own.written)?;
+    let functions = function_table(alloc, own.functions)?;
+    Ok(functions)
 }
 
 /// The interface at a place, with what is told of it, its names, and what is in them, and then its
@@ -82,9 +113,7 @@ pub fn interface_of<'a>(
     let owner = TypeOwner::Interface(place);
     let head = resolve_head(alloc, item, types, interfaces, owner)?;
     let mut names = head.names;
-    let own = resolve_item_functions(alloc, item.declared, item.names, types, &mut names)?;
-    check_pairs(&own.taken.imports, &names.turn, &own.written)?;
-    let functions = function_table(alloc, own.functions)?;
+    let functions = functions_of(alloc, item, types, &mut names)?;
     add_required(required, &names.required)?;
     Ok(Interface {
         name,

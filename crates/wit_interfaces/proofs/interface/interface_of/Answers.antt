@@ -1,27 +1,17 @@
-use Rattle.std.proofs.Common.{◌≡◌, List, ◌++◌, map, inl, refl, sym, ap, ◌∙◌, subst}
+use Rattle.std.proofs.Common.{◌≡◌, List, ◌++◌, inl, refl, sym, ap, ◌∙◌, subst}
 use Rattle.std.proofs.lemmas.Result.{err_from_is_err_and}
-use Rattle.wit_tree.specs.declared.tree.WorldSide.TheVariants.{Imported}
 use Rattle.wit_types.specs.declared.types.TypeOwner.TheVariants.{Interface as OfInterface}
-use Rattle.wit_syntax.specs.Source.{ScopeName, declared_name, item_id, item_notes}
-use Rattle.wit_syntax.specs.Function.{SourceFunction, functions}
-use Rattle.wit_syntax.specs.Sides.{SideFunction}
-use Rattle.wit_syntax.specs.Signature.{IsUnpairedSetter}
+use Rattle.wit_syntax.specs.Source.{declared_name, item_id, item_notes}
+use Rattle.wit_syntax.specs.Function.{functions}
 use Rattle.wit_syntax.proofs.Refusing.{refused_weaker}
-use Rattle.wit_syntax.proofs.Sides.{side_items_functions}
 use Rattle.wit_arena.specs.Resolving.{Names, Required}
-use Rattle.wit_arena.specs.Resolved.{IsWrongInterface, Unpaired}
-use Rattle.wit_rules.specs.Held.{function_behind}
-use Rattle.wit_signatures.specs.Taken.{name_of_id, name_of_function}
+use Rattle.wit_arena.specs.Resolved.{IsWrongInterface}
 use Rattle.wit_entries.proofs.Requiring.{grown_then}
-use Rattle.wit_externs.specs.Clash.{all_on}
-use Rattle.wit_items.specs.Items.{scope_item, declared_behind}
+use Rattle.wit_items.specs.Items.{scope_item}
 use Rattle.wit_item_entries.specs.Held.{cells_of}
-use Rattle.wit_item_entries.specs.Behind.{IsTurn}
-use Rattle.wit_item_entries.specs.Body.{AddsBody, IsHeldBy, IsWrongBody}
-use Rattle.wit_item_entries.proofs.InterfaceSides.{all_imported, names_imported}
+use Rattle.wit_item_entries.specs.Body.{AddsBody, IsWrongBody}
 use Rattle.wit_item_entries.proofs.Telling.{interface_told}
 use Rattle.wit_item_entries.proofs.WrongNames.{wrong_interface}
-use Rattle.wit_item_entries.proofs.ScopeFunctions.{turn_added, turn_listed, made_differ}
 use Rattle.wit_interfaces.proofs.interface.interface_of.Goals as goal
 
 pub returns-in_err-head-clause-refused : goal.returns-in_err-head-clause-refused
@@ -33,75 +23,24 @@ returns-in_err-head-clause-refused c =
     let item = scope_item c.args.item.now in
     rw (p.1, p.2) (refused_weaker (IsWrongBody c.args.types.now cs by_name o item) (IsWrongInterface c.args.types.now cs by_name o item) _ (wrong_interface c.args.types.now cs by_name o item) c.in_err-head.ensures.refused)
 
-pub resolve_item_functions-requires-clause-of : goal.resolve_item_functions-requires-clause-of
-resolve_item_functions-requires-clause-of c = (scope_item c.args.item.now, record { declared = refl; names = sym c.requires.named })
-
-pub resolve_item_functions-requires-clause-listed : goal.resolve_item_functions-requires-clause-listed
-resolve_item_functions-requires-clause-listed c = turn_listed _ _ _ _ _ _ _ _ c.in_ok-head.ensures.adds
-
-pub resolve_item_functions-requires-clause-turn : goal.resolve_item_functions-requires-clause-turn
-resolve_item_functions-requires-clause-turn c =
-    let ids = c.in_ok-head.head.names.turn.items in
-    subst (λ (xs : List ScopeName). IsTurn xs ids) (sym c.requires.named) (turn_added _ _ _ _ _ _ _ _ c.in_ok-head.ensures.adds)
-
-pub returns-in_err-own-clause-refused : goal.returns-in_err-own-clause-refused
-returns-in_err-own-clause-refused c =
-    let p = err_from_is_err_and c.from_residual-in_err-own.result c.from_residual-in_err-own.ensures.1 in
-    let old = c.args.types.now in
-    let cs = cells_of c.args.interfaces.now in
-    let by_name = c.args.interfaces.now.by_name in
-    let o = OfInterface c.args.place in
-    let item = scope_item c.args.item.now in
-    let own : IsHeldBy item (declared_behind c.args.item.now.declared) c.args.item.now.names.now = record { declared = refl; names = sym c.requires.named } in
-    rw (p.1, p.2) (refused_weaker (IsWrongBody old cs by_name o item) (IsWrongInterface old cs by_name o item) _ (wrong_interface old cs by_name o item) (c.in_err-own.ensures.refused item own old cs by_name o c.in_ok-head.ensures.adds))
-
-pub check_pairs-requires : goal.check_pairs-requires
-check_pairs-requires c = λ some.
-    let item = scope_item c.args.item.now in
-    let ids = c.in_ok-head.head.names.turn.items in
-    let e = c.in_ok-own.ensures in
-    let turned : c.deref.result.now ≡ ids = c.deref.ensures.value ∙ ap (λ t. t.items) e.turn in
-    let fns : map function_behind c.deref-2.result.now ≡ functions item = ap (map function_behind) c.deref-2.ensures.value ∙ e.written in
-    let taken : c.in_ok-own.own.taken.imports ≡ map name_of_id ids ++ map name_of_function (functions item) = e.taken (rw c.deref-2.ensures.value at some) Imported ∙ ap (λ (fns : List SourceFunction). all_on Imported ids (map SideFunction fns)) e.written ∙ names_imported item c.requires.sort ids in
-    rw (turned, fns) taken
-
-pub returns-in_err-check_pairs-clause-refused : goal.returns-in_err-check_pairs-clause-refused
-returns-in_err-check_pairs-clause-refused c =
-    let p = err_from_is_err_and c.from_residual-in_err-check_pairs.result c.from_residual-in_err-check_pairs.ensures.1 in
-    let is = c.args.interfaces.now in
-    let item = scope_item c.args.item.now in
-    let fns : map function_behind c.deref-2.result.now ≡ functions item = ap (map function_behind) c.deref-2.ensures.value ∙ c.in_ok-own.ensures.written in
-    rw (p.1, p.2) (refused_weaker (IsUnpairedSetter (functions item)) (IsWrongInterface c.args.types.now (cells_of is) is.by_name (OfInterface c.args.place) item) _ (λ f h. Unpaired h) (rw fns at c.in_err-check_pairs.ensures.refused))
+pub functions_of-requires-clause-added : goal.functions_of-requires-clause-added
+functions_of-requires-clause-added c = (c.args.types.now, cells_of c.args.interfaces.now, OfInterface c.args.place, c.in_ok-head.ensures.adds)
 
 pub returns-in_err-functions-clause-refused : goal.returns-in_err-functions-clause-refused
 returns-in_err-functions-clause-refused c =
     let p = err_from_is_err_and c.from_residual-in_err-functions.result c.from_residual-in_err-functions.ensures.1 in
-    rw p.1 (inl p.2)
+    rw (p.1, p.2) (c.in_err-functions.ensures.refused c.args.types.now (cells_of c.args.interfaces.now) c.args.interfaces.now.by_name (OfInterface c.args.place) c.in_ok-head.ensures.adds)
 
 pub returns-in_err-add_required-clause-refused : goal.returns-in_err-add_required-clause-refused
 returns-in_err-add_required-clause-refused c =
     let p = err_from_is_err_and c.from_residual-in_err-add_required.result c.from_residual-in_err-add_required.ensures.1 in
     rw p.1 (inl p.2)
 
-pub function_table-requires : goal.function_table-requires
-function_table-requires c =
-    let item = scope_item c.args.item.now in
-    let own : IsHeldBy item (declared_behind c.args.item.now.declared) c.args.item.now.names.now = record { declared = refl; names = sym c.requires.named } in
-    made_differ _ _ _ _ item _ _ _ _ (all_imported item c.requires.sort) (side_items_functions item c.requires.sort) (c.in_ok-own.ensures.adds item own _ _ _ c.in_ok-head.ensures.adds)
-
 pub returns-clause-sound : goal.returns-clause-sound
-returns-clause-sound c =
-    let item = scope_item c.args.item.now in
-    let own : IsHeldBy item (declared_behind c.args.item.now.declared) c.args.item.now.names.now = record { declared = refl; names = sym c.requires.named } in
-    c.in_ok-own.ensures.sound item own (c.in_ok-head.ensures.legal (functions item))
-
-pub returns-clause-sided : goal.returns-clause-sided
-returns-clause-sided c =
-    let item = scope_item c.args.item.now in
-    c.in_ok-own.ensures.sided item (record { declared = refl; names = sym c.requires.named })
+returns-clause-sound c = c.in_ok-functions.ensures.sound (c.in_ok-head.ensures.legal (functions (scope_item c.args.item.now)))
 
 pub returns-clause-grown : goal.returns-clause-grown
-returns-clause-grown c = grown_then c.args.types.now c.resolve_head.new.types c.resolve_item_functions.new.types c.in_ok-head.ensures.grown c.in_ok-own.ensures.grown
+returns-clause-grown c = grown_then c.args.types.now c.resolve_head.new.types c.functions_of.new.types c.in_ok-head.ensures.grown c.in_ok-functions.ensures.grown
 
 pub returns-clause-adds : goal.returns-clause-adds
 returns-clause-adds c =
@@ -109,24 +48,22 @@ returns-clause-adds c =
     let cs = cells_of c.args.interfaces.now in
     let o = OfInterface c.args.place in
     let item = scope_item c.args.item.now in
-    let own : IsHeldBy item (declared_behind c.args.item.now.declared) c.args.item.now.names.now = record { declared = refl; names = sym c.requires.named } in
     let ids = c.in_ok-head.head.names.turn.items in
-    let e = c.in_ok-own.ensures in
-    let new = c.resolve_item_functions.new.types in
-    let all = c.resolve_item_functions.new.names.required.items in
-    let fs = c.in_ok-own.own.functions.items in
-    let fns : map function_behind c.deref-2.result.now ≡ functions item = ap (map function_behind) c.deref-2.ensures.value ∙ e.written in
-    let b : AddsBody old new cs o item c.resolve_item_functions.new.names.types ids fs all = subst (λ (t : Names). AddsBody old new cs o item t ids fs all) (sym e.types) (e.adds item own old cs o c.in_ok-head.ensures.adds) in
+    let e = c.in_ok-functions.ensures in
+    let made = e.adds old cs o c.in_ok-head.ensures.adds in
+    let new = c.functions_of.new.types in
+    let all = c.functions_of.new.names.required.items in
+    let b : AddsBody old new cs o item c.functions_of.new.names.types ids made.0 all = subst (λ (t : Names). AddsBody old new cs o item t ids made.0 all) (sym e.types) made.1 in
     record {
       own = all;
-      list = c.in_ok-add_required.ensures ∙ ap (λ (l : List Required). c.args.required.now.items ++ l) c.deref-3.ensures.value;
+      list = c.in_ok-add_required.ensures ∙ ap (λ (l : List Required). c.args.required.now.items ++ l) c.deref.ensures.value;
       holds = record {
         says = interface_told (declared_name item.declared) (item_id item).span (item_notes item) c.in_ok-head.head.notes _ c.in_ok-head.ensures.told (record { called = c.requires.called; stands = c.requires.stands; docs = refl; stability = refl; no_package = refl; no_source = refl });
         middle = b.middle;
         adds = b.adds;
-        functions = fs;
+        functions = made.0;
         behind = b.behind;
-        stand = c.in_ok-functions.ensures;
-        paired = rw fns at c.in_ok-check_pairs.ensures.paired;
+        stand = made.2;
+        paired = e.paired;
       };
     }
