@@ -6,6 +6,7 @@ ghost use Rattle.std.specs.Option.{is_some};
 ghost use Rattle.indexmap.specs.IndexMap.{insert_entry};
 ghost use Rattle.wit_foreign.specs.Kept.{item_more, row_more};
 
+use crate::putting::put_at;
 use std::alloc::{AllocError, Global};
 use wit_model::AstItem;
 use wit_types::Stability;
@@ -46,10 +47,7 @@ fn add_item(
     ensures { OnOk result (items.new ≡ insert_entry (pointwise nat_eq) items.old name.now (entry, stability ∷ [])) }
 {
     let item = visited_once(alloc, entry, stability)?;
-    match items.insert(String::from_str(alloc, name)?, item) {
-        Ok(_) => Ok(()),
-        Err(_) => Err(AllocError),
-    }
+    put_at(alloc, items, name, item)
 }
 
 /// The place of the item of a name.

@@ -8,6 +8,7 @@ ghost use Rattle.wit_syntax.specs.Address.{same_package};
 ghost use Rattle.wit_foreign.specs.Kept.{row_more, table_more};
 
 use crate::items::{Items, add_visit_of};
+use crate::putting::put;
 use std::alloc::{AllocError, Global};
 use wit_model::AstItem;
 use wit_package_names::PackageName;
@@ -24,6 +25,20 @@ fn place_of(packages: &Packages, key: &PackageName) -> Option<usize>
     packages.as_map().get_index_of(key)
 }
 
+/// The items of a package, of which the first visit is told.
+fn first_items(
+    alloc: Global,
+    name: &str,
+    entry: AstItem,
+    stability: Stability,
+) -> Result<Items, AllocError>
+    ensures { IfOk result (λ items. items ≡ row_more [] name.now entry stability) }
+{
+    let mut items = TextTable::new(alloc);
+    add_visit_of(alloc, &mut items, name, entry, stability)?;
+    Ok(items)
+}
+
 /// Adds a package, with the item of its first visit.
 fn add_package(
     alloc: Global,
@@ -35,12 +50,8 @@ fn add_package(
 ) -> Result<(), AllocError>
     ensures { OnOk result (packages.new ≡ insert_entry same_package packages.old key (row_more [] name.now entry stability)) }
 {
-    let mut items = TextTable::new(alloc);
-    add_visit_of(alloc, &mut items, name, entry, stability)?;
-    match packages.insert(key, items) {
-        Ok(_) => Ok(()),
-        Err(_) => Err(AllocError),
-    }
+    let items = first_items(alloc, name, entry, stability)?;
+    put(packages, key, items)
 }
 
 /// Adds a visit of an item of a package, of a stability; the item gets the entry if nothing has
