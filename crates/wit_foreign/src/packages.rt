@@ -69,6 +69,7 @@ pub(crate) fn add_visit_in(
 {
     match place_of(packages, &key) {
         Some(place) => {
+            drop(key);
             let items = packages.value_mut(place);
             Ok(add_visit_of(alloc, items, name, entry, stability)?)
         }
