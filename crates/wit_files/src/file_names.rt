@@ -137,6 +137,7 @@ impl<'f, 'a> FileNames<'f, 'a> {
         let mut names = FileNames::of_others(alloc, files)?;
         let declared = item_names(alloc, files)?;
         FileNames::add_files(alloc, files, &declared, &mut names)?;
+        drop(declared);
         names.order = table_order(alloc, &names.items)?;
         Ok(names)
     }

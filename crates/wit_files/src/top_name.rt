@@ -143,6 +143,7 @@ fn unique_names<'f, 'a>(
     for name in names {
         let id = name.id;
         if found.get(id.name).is_some() {
+            drop(found);
             let message = repeated(alloc, front, id.name, back)?;
             return Err(refuse(alloc, rule, id.span, message.as_str()));
         }
