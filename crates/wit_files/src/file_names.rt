@@ -91,13 +91,13 @@ impl<'f, 'a> FileNames<'f, 'a> {
         ensures foreign { OnOk result (names.new.foreign ≡ names.old.foreign) }
         ensures refused { IfErr result (λ e. (is : List TheItem) → AreDeclared is declared.now → Refused (IsWrongFile is file.now) e) }
     {
+        add_kinds(file, &mut names.kinds)?;
         let top = file_names(alloc, file)?;
         let paths = Paths {
             top: &top,
             declared,
         };
         add_items(alloc, file, paths, &mut names.items)?;
-        add_kinds(file, &mut names.kinds)?;
         names.tops.push(top)?;
         Ok(())
     }
