@@ -10,7 +10,7 @@ ghost use Rattle.wit_syntax.specs.Broken.{IsBrokenItems, IsBrokenNames, Refused}
 ghost use Rattle.wit_syntax.specs.Repeats.{AllDiffer};
 ghost use Rattle.wit_syntax.specs.Foreign.{foreign_visits as the_visits, foreign_items};
 ghost use Rattle.wit_files.specs.Tops.{target_behind, AreDeclared};
-ghost use Rattle.wit_files.specs.Checks.{AreDistinctTops, AreLegalVisits, IsBrokenVisit, IsWrongFile, IsWrongTop};
+ghost use Rattle.wit_files.specs.Checks.{AreDistinctTops, AreLegalVisits, AreRightTops, IsBrokenVisit, IsWrongFile, IsWrongTop};
 ghost use Rattle.wit_files.specs.Foreign.{foreign_behind, AreItemsOf};
 ghost use Rattle.wit_files.specs.FileNames.{AddsTop, AreNamesOf, AreDeclarationsOf, found_at};
 
@@ -150,6 +150,18 @@ impl<'f, 'a> FileNames<'f, 'a> {
         Ok(check_top_uses(alloc, &self.items, file)?)
     }
 
+    /// Refuses, file by file, a `use` at its top that has attributes, or whose path is the name of no item.
+    fn check_tops(&self, alloc: Global, files: &[PackageFile<'_>]) -> ParseResult<()>
+        requires { AreNamesOf files.now self.now }
+        ensures right { OnOk result (AreRightTops (all_items files.now) files.now) }
+        ensures refused { IfErr result (Refused (IsBrokenNames files.now)) }
+    {
+        for file in files {
+            self.check_top(alloc, file)?;
+        }
+        Ok(())
+    }
+
     /// The names of files.
     ///
     /// What stands in other packages is not known: a path with a package leads to an item there, and
@@ -183,9 +195,7 @@ impl<'f, 'a> FileNames<'f, 'a> {
         ensures refused { IfErr result (Refused (IsBrokenNames files.now)) }
     {
         let names = FileNames::gather_items(alloc, files)?;
-        for file in files {
-            names.check_top(alloc, file)?;
-        }
+        names.check_tops(alloc, files)?;
         Ok(names)
     }
 
