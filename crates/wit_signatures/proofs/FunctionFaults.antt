@@ -24,7 +24,6 @@ use Rattle.wit_arena.proofs.Written.{AreLegal, legal_more}
 use Rattle.wit_rules.specs.declared.held.HeldFunction.{HeldFunction}
 use Rattle.wit_rules.specs.Held.{function_behind}
 use Rattle.wit_rules.specs.Signatures.{AreAllNames, AtFunction, AtNothing, IsWrongInSignature, WrongForm, LostName, WrongHandle, IsLostAt, IsWrongInSignatures, IsRepeatedAt, IsRefusedParam, IsBrokenReturn, IsWrongFunction}
-use Rattle.wit_signatures.proofs.FunctionParts.{given_few}
 use Rattle.wit_signatures.proofs.SignatureTypes.{word_in_signature, handle_among}
 
 -- what is wrong with one of its types
@@ -44,10 +43,10 @@ wrong_type env es xs fns k h t f names among (LostName name) = by_case name.lost
     by_case (AtNothing other is) = inl (MissingInSignature (record { id = name.id; among = word; missing = missing; other = other; is = is }))
 
 -- with one of those of its parameters
-wrong_param_type : (env : Env) (es : List TypeDef) (xs : List ScopeName) (fns : List SourceFunction) (k : ℕ) (h : HeldFunction) (ts : List Written) (f : Fault) → AreAllNames env xs → ts ≡ (function_behind h).param_types → IsWrongInSignatures env es fns k ts f → IsWrongFunction env es xs fns k (function_behind h) f
-wrong_param_type env es xs fns k h ts f names same wrong =
+wrong_param_type : (env : Env) (es : List TypeDef) (xs : List ScopeName) (fns : List SourceFunction) (k : ℕ) (h : HeldFunction) (f : Fault) → AreAllNames env xs → IsWrongInSignatures env es fns k (function_behind h).param_types f → IsWrongFunction env es xs fns k (function_behind h) f
+wrong_param_type env es xs fns k h f names wrong =
     let fn = function_behind h in
-    wrong_type env es xs fns k h wrong.0 f names (Contains-append_left fn.param_types (option_to_list fn.result_type) wrong.0 (subst (λ (l : List Written). Contains l wrong.0) same wrong.1)) wrong.2
+    wrong_type env es xs fns k h wrong.0 f names (Contains-append_left fn.param_types (option_to_list fn.result_type) wrong.0 wrong.1) wrong.2
 
 -- with that of its result
 wrong_result_type : (env : Env) (es : List TypeDef) (xs : List ScopeName) (fns : List SourceFunction) (k : ℕ) (h : HeldFunction) (f : Fault) → AreAllNames env xs → IsWrongInSignatures env es fns k (option_to_list (function_behind h).result_type) f → IsWrongFunction env es xs fns k (function_behind h) f
@@ -85,9 +84,17 @@ refused_duplicate fn (Some place) front ws f long same told h =
     }
 
 -- what is wrong with one of the written parameters
-wrong_params : (env : Env) (es : List TypeDef) (xs : List ScopeName) (fns : List SourceFunction) (k : ℕ) (h : HeldFunction) (found : Option ℕ) (front : ℕ) (ws : List SourceParam) (ts : List Written) (f : Fault) → AreAllNames env xs → front ≡ length (function_behind h).given → ws ≡ (function_behind h).params → ts ≡ (function_behind h).param_types → IsRepeatTold (function_behind h) found → IsRefusedParam found front ws f ⊎ IsWrongInSignatures env es fns k ts f → IsWrongFunction env es xs fns k (function_behind h) f
-wrong_params env es xs fns k h found front ws ts f names long same types told (inl refused) = inl (DuplicateParam (refused_duplicate (function_behind h) found front ws f long same told refused))
-wrong_params env es xs fns k h found front ws ts f names long same types told (inr wrong) = wrong_param_type env es xs fns k h ts f names types wrong
+wrong_written : (env : Env) (es : List TypeDef) (fns : List SourceFunction) (k : ℕ) (fn : SourceFunction) (found : Option ℕ) (front : ℕ) (ws : List SourceParam) (ts : List Written) (f : Fault) → front ≡ length fn.given → ws ≡ fn.params → ts ≡ fn.param_types → IsRepeatTold fn found → IsRefusedParam found front ws f ⊎ IsWrongInSignatures env es fns k ts f → IsDuplicateParam fn f ⊎ IsWrongInSignatures env es fns k fn.param_types f
+wrong_written env es fns k fn found front ws ts f long same types told (inl refused) = inl (refused_duplicate fn found front ws f long same told refused)
+wrong_written env es fns k fn found front ws ts f long same types told (inr wrong) = inr (subst (λ (l : List Written). IsWrongInSignatures env es fns k l f) types wrong)
+
+pub refused_written : (env : Env) (es : List TypeDef) (fns : List SourceFunction) (k : ℕ) (fn : SourceFunction) (found : Option ℕ) (front : ℕ) (ws : List SourceParam) (ts : List Written) (e : ParseError) → front ≡ length fn.given → ws ≡ fn.params → ts ≡ fn.param_types → IsRepeatTold fn found → Refused (λ f. IsRefusedParam found front ws f ⊎ IsWrongInSignatures env es fns k ts f) e → Refused (λ f. IsDuplicateParam fn f ⊎ IsWrongInSignatures env es fns k fn.param_types f) e
+refused_written env es fns k fn found front ws ts e long same types told refused = refused_weaker (λ (f : Fault). IsRefusedParam found front ws f ⊎ IsWrongInSignatures env es fns k ts f) (λ (f : Fault). IsDuplicateParam fn f ⊎ IsWrongInSignatures env es fns k fn.param_types f) e (λ f wrong. wrong_written env es fns k fn found front ws ts f long same types told wrong) refused
+
+-- what is wrong with the parameters
+wrong_params : (env : Env) (es : List TypeDef) (xs : List ScopeName) (fns : List SourceFunction) (k : ℕ) (h : HeldFunction) (f : Fault) → AreAllNames env xs → IsDuplicateParam (function_behind h) f ⊎ IsWrongInSignatures env es fns k (function_behind h).param_types f → IsWrongFunction env es xs fns k (function_behind h) f
+wrong_params env es xs fns k h f names (inl twice) = inl (DuplicateParam twice)
+wrong_params env es xs fns k h f names (inr wrong) = wrong_param_type env es xs fns k h f names wrong
 
 -- what is wrong with the result
 wrong_result : (env : Env) (es : List TypeDef) (xs : List ScopeName) (fns : List SourceFunction) (k : ℕ) (h : HeldFunction) (f : Fault) → AreAllNames env xs → IsBrokenReturn xs (function_behind h) f ⊎ IsWrongInSignatures env es fns k (option_to_list (function_behind h).result_type) f → IsWrongFunction env es xs fns k (function_behind h) f
@@ -104,14 +111,14 @@ refused_notes env es xs fns k h fn attributes e same written refused = held_refu
 pub refused_given : (env : Env) (es : List TypeDef) (xs : List ScopeName) (fns : List SourceFunction) (k : ℕ) (h : HeldFunction) (fn : SourceFunction) (e : ParseError) → function_behind h ≡ fn → Refused (λ f. IsGetterGiven (function_behind h) f ⊎ IsSetterGiven (function_behind h) f) e → Refused (IsWrongFunction env es xs fns k fn) e
 refused_given env es xs fns k h fn e same refused = held_refused env es xs fns k h fn (λ (f : Fault). IsGetterGiven (function_behind h) f ⊎ IsSetterGiven (function_behind h) f) e same (wrong_given env es xs fns k (function_behind h)) refused
 
-pub refused_params : (env : Env) (es : List TypeDef) (xs : List ScopeName) (fns : List SourceFunction) (k : ℕ) (h : HeldFunction) (fn : SourceFunction) (found : Option ℕ) (front : ℕ) (ws : List SourceParam) (ts : List Written) (e : ParseError) → function_behind h ≡ fn → AreAllNames env xs → front ≡ length (function_behind h).given → ws ≡ (function_behind h).params → ts ≡ (function_behind h).param_types → IsRepeatTold (function_behind h) found → Refused (λ f. IsRefusedParam found front ws f ⊎ IsWrongInSignatures env es fns k ts f) e → Refused (IsWrongFunction env es xs fns k fn) e
-refused_params env es xs fns k h fn found front ws ts e same names long written types told refused = held_refused env es xs fns k h fn (λ (f : Fault). IsRefusedParam found front ws f ⊎ IsWrongInSignatures env es fns k ts f) e same (λ f wrong. wrong_params env es xs fns k h found front ws ts f names long written types told wrong) refused
+pub refused_params : (env : Env) (es : List TypeDef) (xs : List ScopeName) (fns : List SourceFunction) (k : ℕ) (h : HeldFunction) (fn : SourceFunction) (e : ParseError) → function_behind h ≡ fn → AreAllNames env xs → Refused (λ f. IsDuplicateParam (function_behind h) f ⊎ IsWrongInSignatures env es fns k (function_behind h).param_types f) e → Refused (IsWrongFunction env es xs fns k fn) e
+refused_params env es xs fns k h fn e same names refused = held_refused env es xs fns k h fn (λ (f : Fault). IsDuplicateParam (function_behind h) f ⊎ IsWrongInSignatures env es fns k (function_behind h).param_types f) e same (λ f wrong. wrong_params env es xs fns k h f names wrong) refused
 
 pub refused_result : (env : Env) (es : List TypeDef) (xs : List ScopeName) (fns : List SourceFunction) (k : ℕ) (h : HeldFunction) (fn : SourceFunction) (e : ParseError) → function_behind h ≡ fn → AreAllNames env xs → Refused (λ f. IsBrokenReturn xs (function_behind h) f ⊎ IsWrongInSignatures env es fns k (option_to_list (function_behind h).result_type) f) e → Refused (IsWrongFunction env es xs fns k fn) e
 refused_result env es xs fns k h fn e same names refused = held_refused env es xs fns k h fn (λ (f : Fault). IsBrokenReturn xs (function_behind h) f ⊎ IsWrongInSignatures env es fns k (option_to_list (function_behind h).result_type) f) e same (λ f wrong. wrong_result env es xs fns k h f names wrong) refused
 
 -- where none of the written ones is refused, none is repeated
-no_duplicate : (fn : SourceFunction) (found : Option ℕ) (front count : ℕ) → length fn.given ≤ 1 → front ≡ length fn.given → count ≡ length fn.params → IsRepeatTold fn found → IfNone found ((f : Fault) → IsDuplicateParam fn f → ⊥) → ((k : ℕ) → found ≡ Some k → front ≤ k → front + count ≤ k) → (f : Fault) → IsDuplicateParam fn f → ⊥
+pub no_duplicate : (fn : SourceFunction) (found : Option ℕ) (front count : ℕ) → length fn.given ≤ 1 → front ≡ length fn.given → count ≡ length fn.params → IsRepeatTold fn found → IfNone found ((f : Fault) → IsDuplicateParam fn f → ⊥) → ((k : ℕ) → found ≡ Some k → front ≤ k → front + count ≤ k) → (f : Fault) → IsDuplicateParam fn f → ⊥
 no_duplicate fn None front count few long written told none distinct f h = none f h
 no_duplicate fn (Some k) front count few long written told none distinct f h =
     let within = slice_get_within (all_params fn) k told.later told.at in
@@ -135,9 +142,8 @@ legal_function xs fns k fn at notes types getter setter duplicate return f (Cons
 legal_function xs fns k fn at notes types getter setter duplicate return f (ConstructorOfOther h) = absurd (return f (inr (inr (inr h))))
 
 -- the same of one that is held
-pub held_legal : (xs : List ScopeName) (fns : List SourceFunction) (k : ℕ) (h : HeldFunction) (fn : SourceFunction) (found : Option ℕ) (front count : ℕ) (ts : List Written) (attributes : List Attribute) → function_behind h ≡ fn → slice_get fns k ≡ Some fn → attributes ≡ (function_behind h).attributes → ((f : Fault) → IsBrokenNotes attributes f → ⊥) → front ≡ length (function_behind h).given → count ≡ length (function_behind h).params → ts ≡ (function_behind h).param_types → IsRepeatTold (function_behind h) found → IfNone found ((f : Fault) → IsDuplicateParam (function_behind h) f → ⊥) → ((n : ℕ) → found ≡ Some n → front ≤ n → front + count ≤ n) → ((f : Fault) → IsGetterGiven (function_behind h) f → ⊥) → ((f : Fault) → IsSetterGiven (function_behind h) f → ⊥) → AreLegal ts → AreLegal (option_to_list (function_behind h).result_type) → ((f : Fault) → IsBrokenReturn xs (function_behind h) f → ⊥) → (f : Fault) → IsBrokenFunction xs fns k fn f → IsNameless xs fns
-held_legal xs fns k h fn found front count ts attributes same at stood notes long written types told none distinct getter setter params result return f broken =
+pub held_legal : (xs : List ScopeName) (fns : List SourceFunction) (k : ℕ) (h : HeldFunction) (fn : SourceFunction) (attributes : List Attribute) → function_behind h ≡ fn → slice_get fns k ≡ Some fn → attributes ≡ (function_behind h).attributes → ((f : Fault) → IsBrokenNotes attributes f → ⊥) → ((f : Fault) → IsGetterGiven (function_behind h) f → ⊥) → ((f : Fault) → IsSetterGiven (function_behind h) f → ⊥) → ((f : Fault) → IsDuplicateParam (function_behind h) f → ⊥) → AreLegal (function_behind h).param_types → AreLegal (option_to_list (function_behind h).result_type) → ((f : Fault) → IsBrokenReturn xs (function_behind h) f → ⊥) → (f : Fault) → IsBrokenFunction xs fns k fn f → IsNameless xs fns
+held_legal xs fns k h fn attributes same at stood notes getter setter duplicate params result return f broken =
     let g = function_behind h in
-    let legal = legal_more g.param_types (option_to_list g.result_type) (subst AreLegal types params) result in
-    let duplicate = no_duplicate g found front count (given_few h) long written told none distinct in
+    let legal = legal_more g.param_types (option_to_list g.result_type) params result in
     legal_function xs fns k g (at ∙ ap (λ (x : SourceFunction). Some x) (sym same)) (subst (λ (l : List Attribute). (f : Fault) → IsBrokenNotes l f → ⊥) stood notes) legal getter setter duplicate return f (subst (λ (x : SourceFunction). IsBrokenFunction xs fns k x f) (sym same) broken)

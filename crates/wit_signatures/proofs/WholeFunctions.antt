@@ -34,12 +34,11 @@ function_adds old mid new s names fn f params result name kind span noted =
     (shapes_append old mid new s (env_of names) (map (λ (p : SourceParam). p.shape) (all_params fn)) (option_to_list fn.result) (map (λ (p : Param). p.ty) f.params) (option_to_list f.result) (params.types s) (result.types s))
 
 -- the same of one that is held
-pub held_adds : (old mid new : List TypeDef) (s : Address) (names : Names) (h : HeldFunction) (fn : SourceFunction) (f : Function) (ws : List SourceParam) (ps : List Param) → function_behind h ≡ fn → ws ≡ (function_behind h).params → f.params ≡ ps → AreParamsOver old mid (env_of names) ((function_behind h).given ++ ws) ps → IsResultOver mid new (env_of names) (function_behind h).result f.result → f.name ≡ (function_behind h).name → IsKindIn (env_of names) (function_behind h).role f.kind → f.span ≡ (function_behind h).span → IsNoted (function_behind h) f → AddsFunctions old new s names (fn ∷ []) (f ∷ [])
-held_adds old mid new s names h fn f ws ps same written made params result name kind span noted =
-    let whole = subst (λ (l : List SourceParam). AreParamsOver old mid (env_of names) ((function_behind h).given ++ l) ps) written params in
-    subst (λ (g : SourceFunction). AddsFunctions old new s names (g ∷ []) (f ∷ [])) same (function_adds old mid new s names (function_behind h) f (subst (AreParamsOver old mid (env_of names) (all_params (function_behind h))) (sym made) whole) result name kind span noted)
+pub held_adds : (old mid new : List TypeDef) (s : Address) (names : Names) (h : HeldFunction) (fn : SourceFunction) (f : Function) (ps : List Param) → function_behind h ≡ fn → f.params ≡ ps → AreParamsOver old mid (env_of names) (all_params (function_behind h)) ps → IsResultOver mid new (env_of names) (function_behind h).result f.result → f.name ≡ (function_behind h).name → IsKindIn (env_of names) (function_behind h).role f.kind → f.span ≡ (function_behind h).span → IsNoted (function_behind h) f → AddsFunctions old new s names (fn ∷ []) (f ∷ [])
+held_adds old mid new s names h fn f ps same made params result name kind span noted =
+    subst (λ (g : SourceFunction). AddsFunctions old new s names (g ∷ []) (f ∷ [])) same (function_adds old mid new s names (function_behind h) f (subst (AreParamsOver old mid (env_of names) (all_params (function_behind h))) (sym made) params) result name kind span noted)
 
 -- what handles in it require: those of its parameters, and then that of its result
-pub held_requires : (mid new : List TypeDef) (env : Env) (h : HeldFunction) (fn : SourceFunction) (ts : List Written) (a b c : List Required) → function_behind h ≡ fn → ts ≡ (function_behind h).param_types → IsGrown mid new → Requires env mid (all_handles ts) a b → Requires env new (all_handles (option_to_list (function_behind h).result_type)) b c → Requires env new (all_handles (written_types fn)) a c
-held_requires mid new env h fn ts a b c same written grown params result =
-    subst (λ (g : SourceFunction). Requires env new (all_handles (written_types g)) a c) same (requires_types env mid new (function_behind h).param_types (option_to_list (function_behind h).result_type) a b c grown (subst (λ (l : List Written). Requires env mid (all_handles l) a b) written params) result)
+pub held_requires : (mid new : List TypeDef) (env : Env) (h : HeldFunction) (fn : SourceFunction) (a b c : List Required) → function_behind h ≡ fn → IsGrown mid new → Requires env mid (all_handles (function_behind h).param_types) a b → Requires env new (all_handles (option_to_list (function_behind h).result_type)) b c → Requires env new (all_handles (written_types fn)) a c
+held_requires mid new env h fn a b c same grown params result =
+    subst (λ (g : SourceFunction). Requires env new (all_handles (written_types g)) a c) same (requires_types env mid new (function_behind h).param_types (option_to_list (function_behind h).result_type) a b c grown params result)

@@ -11,9 +11,9 @@ ghost use Rattle.wit_syntax.specs.Source.{ScopeName};
 ghost use Rattle.wit_syntax.specs.Fault.{Fault};
 ghost use Rattle.wit_syntax.specs.Bodies.{IsBrokenPart};
 ghost use Rattle.wit_syntax.specs.Broken.{Refused};
-ghost use Rattle.wit_syntax.specs.Function.{SourceParam, SourceFunction, self_param as the_self, written_param, written_types};
+ghost use Rattle.wit_syntax.specs.Function.{SourceParam, SourceFunction, all_params as the_params, self_param as the_self, written_param, written_types};
 ghost use Rattle.wit_arena.specs.Functions.{freestanding_kind, method_kind, static_kind};
-ghost use Rattle.wit_syntax.specs.Signature.{IsBrokenFunction, IsGetterWithoutResult};
+ghost use Rattle.wit_syntax.specs.Signature.{IsBrokenFunction, IsDuplicateParam, IsGetterWithoutResult};
 ghost use Rattle.wit_arena.specs.Resolving.{env_of, AddsFunctions};
 ghost use Rattle.wit_arena.specs.Resolved.{IsNameless};
 ghost use Rattle.wit_arena.specs.Adding.{IsKindIn, SaysParam};
@@ -190,6 +190,41 @@ fn resolve_params(
     Ok(())
 }
 
+/// The parameters of the function at a place: those that it is given, and then the written ones. One
+/// that an earlier one is, once case is folded, is refused (E38).
+fn all_params<'t, 'a>(
+    alloc: Global,
+    types: &mut Entries,
+    required: &mut Vec<Required>,
+    scope: FunctionScope<'_, 't, 'a>,
+    place: usize,
+    function: HeldFunction<'t, 'a>,
+) -> ParseResult<Vec<Param>>
+    requires place { place < length scope.functions.now }
+    requires owner { HasOwner (env_of scope.names.now) (owner_of (function_behind function).role) }
+    ensures params { IfOk result (λ ps. AreParamsOver types.old types.new (env_of scope.entry.names.now) (the_params (function_behind function.entry)) ps.items) }
+    ensures distinct { OnOk result ((f : Fault) → IsDuplicateParam (function_behind function.entry) f → ⊥) }
+    ensures legal { OnOk result ((f : Fault) → IsBrokenPart (function_behind function.entry).param_types f → ⊥) }
+    ensures handled { OnOk result (Requires (env_of scope.entry.names.now) types.new (all_handles (function_behind function.entry).param_types) required.old.items required.new.items) }
+    ensures grown { IsGrown types.old types.new }
+    ensures refused { IfErr result (Refused (λ f. IsDuplicateParam (function_behind function.entry) f ⊎ IsWrongInSignatures (env_of scope.entry.names.now) types.new (functions_behind scope.entry) place (function_behind function.entry).param_types f)) }
+{
+    let repeated = repeated_param(alloc, function)?;
+    let mut params = given_params(alloc, types, scope.names, function)?;
+    let written = function.params();
+    resolve_params(
+        alloc,
+        types,
+        required,
+        scope,
+        place,
+        &mut params,
+        written,
+        repeated,
+    )?;
+    Ok(params)
+}
+
 /// The type of the result of a function without a written one: the resource that a constructor makes.
 /// A getter is refused (E39).
 fn made_result(
@@ -264,19 +299,7 @@ pub fn resolve_function(
     let function = scope.functions[place];
     let notes = notes_of(alloc, function.docs(), function.attributes())?;
     check_given(alloc, function)?;
-    let repeated = repeated_param(alloc, function)?;
-    let mut params = given_params(alloc, types, scope.names, function)?;
-    let written = function.params();
-    resolve_params(
-        alloc,
-        types,
-        required,
-        scope,
-        place,
-        &mut params,
-        written,
-        repeated,
-    )?;
+    let params = all_params(alloc, types, required, scope, place, function)?;
     let result = resolve_result(alloc, types, required, scope, place, function)?;
     Ok(Function {
         name: function.name(alloc)?,

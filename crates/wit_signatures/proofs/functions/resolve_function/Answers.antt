@@ -1,9 +1,7 @@
-use Rattle.std.proofs.Common.{List, map, length, refl, sym, ap, ◌∙◌, subst, IsTrue, get_or}
-use Rattle.std.proofs.lemmas.List.{length-map}
+use Rattle.std.proofs.Common.{refl, sym, ap, ◌∙◌, subst, IsTrue, get_or}
 use Rattle.std.proofs.lemmas.Result.{err_from_is_err_and}
 use Rattle.wit_names.specs.Mangled.{is_mangled}
-use Rattle.wit_tree.specs.declared.tree.Param.{Param}
-use Rattle.wit_syntax.specs.Function.{SourceFunction, SourceParam, written_param}
+use Rattle.wit_syntax.specs.Function.{SourceFunction}
 use Rattle.wit_arena.specs.Resolving.{env_of}
 use Rattle.wit_rules.specs.Held.{function_behind}
 use Rattle.wit_rules.specs.Signatures.{functions_behind}
@@ -27,8 +25,8 @@ returns-in_err-check_given-clause-refused c =
     let d = c.index-scope-place.result in
     rw (p.1, p.2) (λ xs scope fn at. refused_given (env_of c.args.scope.names.now) c.args.types.now xs (functions_behind c.args.scope) c.args.place (get_or hs c.args.place d) fn _ (held_at hs c.args.place d fn c.requires.place at) c.in_err-check_given.ensures.refused)
 
-pub given_params-requires : goal.given_params-requires
-given_params-requires c = c.requires.owners.each c.args.place _ (held_here c.args.scope.functions.now c.args.place c.index-scope-place.result c.requires.place)
+pub all_params-requires-clause-owner : goal.all_params-requires-clause-owner
+all_params-requires-clause-owner c = c.requires.owners.each c.args.place _ (held_here c.args.scope.functions.now c.args.place c.index-scope-place.result c.requires.place)
 
 pub resolve_result-requires-clause-owner : goal.resolve_result-requires-clause-owner
 resolve_result-requires-clause-owner c = c.requires.owners.each c.args.place _ (held_here c.args.scope.functions.now c.args.place c.index-scope-place.result c.requires.place)
@@ -36,13 +34,12 @@ resolve_result-requires-clause-owner c = c.requires.owners.each c.args.place _ (
 pub kind_of-requires : goal.kind_of-requires
 kind_of-requires c = c.requires.owners.each c.args.place _ (held_here c.args.scope.functions.now c.args.place c.index-scope-place.result c.requires.place)
 
-pub returns-in_err-resolve_params-clause-refused : goal.returns-in_err-resolve_params-clause-refused
-returns-in_err-resolve_params-clause-refused c =
-    let p = err_from_is_err_and c.from_residual-in_err-resolve_params.result c.from_residual-in_err-resolve_params.ensures.1 in
+pub returns-in_err-params-clause-refused : goal.returns-in_err-params-clause-refused
+returns-in_err-params-clause-refused c =
+    let p = err_from_is_err_and c.from_residual-in_err-params.result c.from_residual-in_err-params.ensures.1 in
     let hs = c.args.scope.functions.now in
     let d = c.index-scope-place.result in
-    let ws = c.params-written.result.now in
-    rw (p.1, p.2) (λ xs scope fn at. refused_params (env_of c.args.scope.names.now) c.resolve_params.new.types xs (functions_behind c.args.scope) c.args.place (get_or hs c.args.place d) fn c.in_ok-repeated.repeated (length c.in_ok-params.params.items) (map written_param ws) (map (λ (w : Param). w.ty) ws) _ (held_at hs c.args.place d fn c.requires.place at) scope.names c.in_ok-params.ensures.params.count c.params-written.ensures.params c.params-written.ensures.types c.in_ok-repeated.ensures.some c.in_err-resolve_params.ensures.refused)
+    rw (p.1, p.2) (λ xs scope fn at. refused_params (env_of c.args.scope.names.now) c.all_params.new.types xs (functions_behind c.args.scope) c.args.place (get_or hs c.args.place d) fn _ (held_at hs c.args.place d fn c.requires.place at) scope.names c.in_err-params.ensures.refused)
 
 pub returns-in_err-result-clause-refused : goal.returns-in_err-result-clause-refused
 returns-in_err-result-clause-refused c =
@@ -57,7 +54,7 @@ returns-clause-adds c = λ fn at s. (
     let d = c.index-scope-place.result in
     let h = get_or hs c.args.place d in
     let noted = noted_as (function_behind h) _ c.in_ok-notes.notes c.docs.result.now c.attributes.result.now c.in_ok-notes.ensures.told c.docs.ensures c.attributes.ensures refl refl refl in
-    held_adds c.args.types.now c.resolve_params.new.types c.resolve_result.new.types s c.args.scope.names.now h fn _ (map written_param c.params-written.result.now) c.resolve_params.new.params.items (held_at hs c.args.place d fn c.requires.place at) c.params-written.ensures.params c.from.ensures (c.in_ok-resolve_params.ensures.params (function_behind h).given c.args.types.now c.in_ok-params.ensures.params) c.in_ok-result.ensures.result c.in_ok-name.ensures c.kind_of.ensures c.span.ensures noted)
+    held_adds c.args.types.now c.all_params.new.types c.resolve_result.new.types s c.args.scope.names.now h fn _ c.in_ok-params.params.items (held_at hs c.args.place d fn c.requires.place at) c.from.ensures c.in_ok-params.ensures.params c.in_ok-result.ensures.result c.in_ok-name.ensures c.kind_of.ensures c.span.ensures noted)
 
 pub returns-clause-named : goal.returns-clause-named
 returns-clause-named c = λ fn at. (
@@ -72,12 +69,10 @@ returns-clause-legal c = λ xs scope fn at. (
     let hs = c.args.scope.functions.now in
     let d = c.index-scope-place.result in
     let h = get_or hs c.args.place d in
-    let ws = c.params-written.result.now in
-    let count = sym (length-map ws written_param) ∙ ap (λ (l : List SourceParam). length l) c.params-written.ensures.params in
-    held_legal xs (functions_behind c.args.scope) c.args.place h fn c.in_ok-repeated.repeated (length c.in_ok-params.params.items) (length ws) (map (λ (w : Param). w.ty) ws) c.attributes.result.now (held_at hs c.args.place d fn c.requires.place at) at c.attributes.ensures c.in_ok-notes.ensures.legal c.in_ok-params.ensures.params.count count c.params-written.ensures.types c.in_ok-repeated.ensures.some c.in_ok-repeated.ensures.none c.in_ok-resolve_params.ensures.distinct c.in_ok-check_given.ensures.getter c.in_ok-check_given.ensures.setter c.in_ok-resolve_params.ensures.legal c.in_ok-result.ensures.legal (c.in_ok-result.ensures.returns xs scope))
+    held_legal xs (functions_behind c.args.scope) c.args.place h fn c.attributes.result.now (held_at hs c.args.place d fn c.requires.place at) at c.attributes.ensures c.in_ok-notes.ensures.legal c.in_ok-check_given.ensures.getter c.in_ok-check_given.ensures.setter c.in_ok-params.ensures.distinct c.in_ok-params.ensures.legal c.in_ok-result.ensures.legal (c.in_ok-result.ensures.returns xs scope))
 
 pub returns-clause-handled : goal.returns-clause-handled
 returns-clause-handled c = λ fn at. (
     let hs = c.args.scope.functions.now in
     let d = c.index-scope-place.result in
-    held_requires c.resolve_params.new.types c.resolve_result.new.types (env_of c.args.scope.names.now) (get_or hs c.args.place d) fn (map (λ (w : Param). w.ty) c.params-written.result.now) c.args.required.now.items c.resolve_params.new.required.items c.resolve_result.new.required.items (held_at hs c.args.place d fn c.requires.place at) c.params-written.ensures.types c.in_ok-result.ensures.grown c.in_ok-resolve_params.ensures.handled c.in_ok-result.ensures.handled)
+    held_requires c.all_params.new.types c.resolve_result.new.types (env_of c.args.scope.names.now) (get_or hs c.args.place d) fn c.args.required.now.items c.all_params.new.required.items c.resolve_result.new.required.items (held_at hs c.args.place d fn c.requires.place at) c.in_ok-result.ensures.grown c.in_ok-params.ensures.handled c.in_ok-result.ensures.handled)
