@@ -20,7 +20,7 @@ use Rattle.wit_arena.specs.Resolving.{Env}
 use Rattle.wit_arena.specs.Resolved.{IsNameless}
 use Rattle.wit_syntax.proofs.Lists.{at_back}
 use Rattle.wit_syntax.proofs.Refusing.{refused_weaker}
-use Rattle.wit_arena.proofs.Written.{AreLegal, legal_more}
+use Rattle.wit_signatures.specs.Over.{IsLegalSignature}
 use Rattle.wit_rules.specs.declared.held.HeldFunction.{HeldFunction}
 use Rattle.wit_rules.specs.Held.{function_behind}
 use Rattle.wit_rules.specs.Signatures.{AreAllNames, AtFunction, AtNothing, IsWrongInSignature, WrongForm, LostName, WrongHandle, IsLostAt, IsWrongInSignatures, IsRepeatedAt, IsRefusedParam, IsBrokenReturn, IsWrongFunction}
@@ -101,21 +101,22 @@ wrong_result : (env : Env) (es : List TypeDef) (xs : List ScopeName) (fns : List
 wrong_result env es xs fns k h f names (inl broken) = wrong_return env es xs fns k (function_behind h) f broken
 wrong_result env es xs fns k h f names (inr wrong) = wrong_result_type env es xs fns k h f names wrong
 
--- refusals of these, of the function that is held
-held_refused : (env : Env) (es : List TypeDef) (xs : List ScopeName) (fns : List SourceFunction) (k : ℕ) (h : HeldFunction) (fn : SourceFunction) (P : Fault → Type 0) (e : ParseError) → function_behind h ≡ fn → ((f : Fault) → P f → IsWrongFunction env es xs fns k (function_behind h) f) → Refused P e → Refused (IsWrongFunction env es xs fns k fn) e
-held_refused env es xs fns k h fn P e same wrong refused = refused_weaker P (IsWrongFunction env es xs fns k fn) e (λ f p. subst (λ (g : SourceFunction). IsWrongFunction env es xs fns k g f) same (wrong f p)) refused
+-- refusals of these
+pub refused_given : (env : Env) (es : List TypeDef) (xs : List ScopeName) (fns : List SourceFunction) (k : ℕ) (fn : SourceFunction) (e : ParseError) → Refused (λ f. IsGetterGiven fn f ⊎ IsSetterGiven fn f) e → Refused (IsWrongFunction env es xs fns k fn) e
+refused_given env es xs fns k fn e refused = refused_weaker (λ (f : Fault). IsGetterGiven fn f ⊎ IsSetterGiven fn f) (IsWrongFunction env es xs fns k fn) e (wrong_given env es xs fns k fn) refused
 
-pub refused_notes : (env : Env) (es : List TypeDef) (xs : List ScopeName) (fns : List SourceFunction) (k : ℕ) (h : HeldFunction) (fn : SourceFunction) (attributes : List Attribute) (e : ParseError) → function_behind h ≡ fn → attributes ≡ (function_behind h).attributes → Refused (IsBrokenNotes attributes) e → Refused (IsWrongFunction env es xs fns k fn) e
-refused_notes env es xs fns k h fn attributes e same written refused = held_refused env es xs fns k h fn (IsBrokenNotes attributes) e same (λ f broken. inl (BrokenNotes (subst (λ (l : List Attribute). IsBrokenNotes l f) written broken))) refused
+pub refused_params : (env : Env) (es : List TypeDef) (xs : List ScopeName) (fns : List SourceFunction) (k : ℕ) (h : HeldFunction) (e : ParseError) → AreAllNames env xs → Refused (λ f. IsDuplicateParam (function_behind h) f ⊎ IsWrongInSignatures env es fns k (function_behind h).param_types f) e → Refused (IsWrongFunction env es xs fns k (function_behind h)) e
+refused_params env es xs fns k h e names refused = refused_weaker (λ (f : Fault). IsDuplicateParam (function_behind h) f ⊎ IsWrongInSignatures env es fns k (function_behind h).param_types f) (IsWrongFunction env es xs fns k (function_behind h)) e (λ f wrong. wrong_params env es xs fns k h f names wrong) refused
 
-pub refused_given : (env : Env) (es : List TypeDef) (xs : List ScopeName) (fns : List SourceFunction) (k : ℕ) (h : HeldFunction) (fn : SourceFunction) (e : ParseError) → function_behind h ≡ fn → Refused (λ f. IsGetterGiven (function_behind h) f ⊎ IsSetterGiven (function_behind h) f) e → Refused (IsWrongFunction env es xs fns k fn) e
-refused_given env es xs fns k h fn e same refused = held_refused env es xs fns k h fn (λ (f : Fault). IsGetterGiven (function_behind h) f ⊎ IsSetterGiven (function_behind h) f) e same (wrong_given env es xs fns k (function_behind h)) refused
+pub refused_result : (env : Env) (es : List TypeDef) (xs : List ScopeName) (fns : List SourceFunction) (k : ℕ) (h : HeldFunction) (e : ParseError) → AreAllNames env xs → Refused (λ f. IsBrokenReturn xs (function_behind h) f ⊎ IsWrongInSignatures env es fns k (option_to_list (function_behind h).result_type) f) e → Refused (IsWrongFunction env es xs fns k (function_behind h)) e
+refused_result env es xs fns k h e names refused = refused_weaker (λ (f : Fault). IsBrokenReturn xs (function_behind h) f ⊎ IsWrongInSignatures env es fns k (option_to_list (function_behind h).result_type) f) (IsWrongFunction env es xs fns k (function_behind h)) e (λ f wrong. wrong_result env es xs fns k h f names wrong) refused
 
-pub refused_params : (env : Env) (es : List TypeDef) (xs : List ScopeName) (fns : List SourceFunction) (k : ℕ) (h : HeldFunction) (fn : SourceFunction) (e : ParseError) → function_behind h ≡ fn → AreAllNames env xs → Refused (λ f. IsDuplicateParam (function_behind h) f ⊎ IsWrongInSignatures env es fns k (function_behind h).param_types f) e → Refused (IsWrongFunction env es xs fns k fn) e
-refused_params env es xs fns k h fn e same names refused = held_refused env es xs fns k h fn (λ (f : Fault). IsDuplicateParam (function_behind h) f ⊎ IsWrongInSignatures env es fns k (function_behind h).param_types f) e same (λ f wrong. wrong_params env es xs fns k h f names wrong) refused
+pub refused_notes : (env : Env) (es : List TypeDef) (xs : List ScopeName) (fns : List SourceFunction) (k : ℕ) (fn : SourceFunction) (attributes : List Attribute) (e : ParseError) → attributes ≡ fn.attributes → Refused (IsBrokenNotes attributes) e → Refused (IsWrongFunction env es xs fns k fn) e
+refused_notes env es xs fns k fn attributes e written refused = refused_weaker (IsBrokenNotes attributes) (IsWrongFunction env es xs fns k fn) e (λ f broken. inl (BrokenNotes (subst (λ (l : List Attribute). IsBrokenNotes l f) written broken))) refused
 
-pub refused_result : (env : Env) (es : List TypeDef) (xs : List ScopeName) (fns : List SourceFunction) (k : ℕ) (h : HeldFunction) (fn : SourceFunction) (e : ParseError) → function_behind h ≡ fn → AreAllNames env xs → Refused (λ f. IsBrokenReturn xs (function_behind h) f ⊎ IsWrongInSignatures env es fns k (option_to_list (function_behind h).result_type) f) e → Refused (IsWrongFunction env es xs fns k fn) e
-refused_result env es xs fns k h fn e same names refused = held_refused env es xs fns k h fn (λ (f : Fault). IsBrokenReturn xs (function_behind h) f ⊎ IsWrongInSignatures env es fns k (option_to_list (function_behind h).result_type) f) e same (λ f wrong. wrong_result env es xs fns k h f names wrong) refused
+-- and of the function that stands there
+pub refused_there : (env : Env) (es : List TypeDef) (xs : List ScopeName) (fns : List SourceFunction) (k : ℕ) (here fn : SourceFunction) (e : ParseError) → here ≡ fn → Refused (IsWrongFunction env es xs fns k here) e → Refused (IsWrongFunction env es xs fns k fn) e
+refused_there env es xs fns k here fn e same refused = subst (λ (g : SourceFunction). Refused (IsWrongFunction env es xs fns k g) e) same refused
 
 -- where none of the written ones is refused, none is repeated
 pub no_duplicate : (fn : SourceFunction) (found : Option ℕ) (front count : ℕ) → length fn.given ≤ 1 → front ≡ length fn.given → count ≡ length fn.params → IsRepeatTold fn found → IfNone found ((f : Fault) → IsDuplicateParam fn f → ⊥) → ((k : ℕ) → found ≡ Some k → front ≤ k → front + count ≤ k) → (f : Fault) → IsDuplicateParam fn f → ⊥
@@ -128,22 +129,22 @@ no_duplicate fn (Some k) front count few long written told none distinct f h =
     omega arith
 
 -- a function is legal, but where a name in its signature means nothing
-legal_function : (xs : List ScopeName) (fns : List SourceFunction) (k : ℕ) (fn : SourceFunction) → slice_get fns k ≡ Some fn → ((f : Fault) → IsBrokenNotes fn.attributes f → ⊥) → AreLegal (written_types fn) → ((f : Fault) → IsGetterGiven fn f → ⊥) → ((f : Fault) → IsSetterGiven fn f → ⊥) → ((f : Fault) → IsDuplicateParam fn f → ⊥) → ((f : Fault) → IsBrokenReturn xs fn f → ⊥) → (f : Fault) → IsBrokenFunction xs fns k fn f → IsNameless xs fns
-legal_function xs fns k fn at notes types getter setter duplicate return f (BrokenNotes h) = absurd (notes f h)
-legal_function xs fns k fn at notes types getter setter duplicate return f (BrokenTypes h) = absurd (types f h)
-legal_function xs fns k fn at notes types getter setter duplicate return f (FunctionAsType h) = record { k = k; fn = fn; at = at; id = h.id; among = h.among; missing = h.missing }
-legal_function xs fns k fn at notes types getter setter duplicate return f (MissingInSignature h) = record { k = k; fn = fn; at = at; id = h.id; among = h.among; missing = h.missing }
-legal_function xs fns k fn at notes types getter setter duplicate return f (GetterGiven h) = absurd (getter f h)
-legal_function xs fns k fn at notes types getter setter duplicate return f (SetterGiven h) = absurd (setter f h)
-legal_function xs fns k fn at notes types getter setter duplicate return f (DuplicateParam h) = absurd (duplicate f h)
-legal_function xs fns k fn at notes types getter setter duplicate return f (GetterWithoutResult h) = absurd (return f (inl h))
-legal_function xs fns k fn at notes types getter setter duplicate return f (SetterWithResult h) = absurd (return f (inr (inl h)))
-legal_function xs fns k fn at notes types getter setter duplicate return f (ConstructorWithoutResult h) = absurd (return f (inr (inr (inl h))))
-legal_function xs fns k fn at notes types getter setter duplicate return f (ConstructorOfOther h) = absurd (return f (inr (inr (inr h))))
+pub legal_function : (xs : List ScopeName) (fns : List SourceFunction) (k : ℕ) (fn : SourceFunction) → slice_get fns k ≡ Some fn → ((f : Fault) → IsBrokenNotes fn.attributes f → ⊥) → IsLegalSignature xs fn → (f : Fault) → IsBrokenFunction xs fns k fn f → IsNameless xs fns
+legal_function xs fns k fn at notes legal f (BrokenNotes h) = absurd (notes f h)
+legal_function xs fns k fn at notes legal f (BrokenTypes h) = absurd (legal.types f h)
+legal_function xs fns k fn at notes legal f (FunctionAsType h) = record { k = k; fn = fn; at = at; id = h.id; among = h.among; missing = h.missing }
+legal_function xs fns k fn at notes legal f (MissingInSignature h) = record { k = k; fn = fn; at = at; id = h.id; among = h.among; missing = h.missing }
+legal_function xs fns k fn at notes legal f (GetterGiven h) = absurd (legal.getter f h)
+legal_function xs fns k fn at notes legal f (SetterGiven h) = absurd (legal.setter f h)
+legal_function xs fns k fn at notes legal f (DuplicateParam h) = absurd (legal.distinct f h)
+legal_function xs fns k fn at notes legal f (GetterWithoutResult h) = absurd (legal.returns f (inl h))
+legal_function xs fns k fn at notes legal f (SetterWithResult h) = absurd (legal.returns f (inr (inl h)))
+legal_function xs fns k fn at notes legal f (ConstructorWithoutResult h) = absurd (legal.returns f (inr (inr (inl h))))
+legal_function xs fns k fn at notes legal f (ConstructorOfOther h) = absurd (legal.returns f (inr (inr (inr h))))
 
--- the same of one that is held
-pub held_legal : (xs : List ScopeName) (fns : List SourceFunction) (k : ℕ) (h : HeldFunction) (fn : SourceFunction) (attributes : List Attribute) → function_behind h ≡ fn → slice_get fns k ≡ Some fn → attributes ≡ (function_behind h).attributes → ((f : Fault) → IsBrokenNotes attributes f → ⊥) → ((f : Fault) → IsGetterGiven (function_behind h) f → ⊥) → ((f : Fault) → IsSetterGiven (function_behind h) f → ⊥) → ((f : Fault) → IsDuplicateParam (function_behind h) f → ⊥) → AreLegal (function_behind h).param_types → AreLegal (option_to_list (function_behind h).result_type) → ((f : Fault) → IsBrokenReturn xs (function_behind h) f → ⊥) → (f : Fault) → IsBrokenFunction xs fns k fn f → IsNameless xs fns
-held_legal xs fns k h fn attributes same at stood notes getter setter duplicate params result return f broken =
-    let g = function_behind h in
-    let legal = legal_more g.param_types (option_to_list g.result_type) params result in
-    legal_function xs fns k g (at ∙ ap (λ (x : SourceFunction). Some x) (sym same)) (subst (λ (l : List Attribute). (f : Fault) → IsBrokenNotes l f → ⊥) stood notes) legal getter setter duplicate return f (subst (λ (x : SourceFunction). IsBrokenFunction xs fns k x f) (sym same) broken)
+-- the same of one that is held there
+pub held_legal : (xs : List ScopeName) (fns : List SourceFunction) (k : ℕ) (fn here : SourceFunction) (attributes : List Attribute) → here ≡ fn → slice_get fns k ≡ Some fn → attributes ≡ here.attributes → ((f : Fault) → IsBrokenNotes attributes f → ⊥) → IsLegalSignature xs here → (f : Fault) → IsBrokenFunction xs fns k fn f → IsNameless xs fns
+held_legal xs fns k fn here attributes same at written notes legal =
+    legal_function xs fns k fn at
+    (subst (λ (l : List Attribute). (f : Fault) → IsBrokenNotes l f → ⊥) (written ∙ ap (λ (g : SourceFunction). g.attributes) same) notes)
+    (subst (IsLegalSignature xs) same legal)

@@ -1,24 +1,21 @@
 -- A function over its types, from its parameters and its result.
-use Rattle.std.proofs.Common.{◌≡◌, ◌<◌, ℕ, List, [], ◌∷◌, ◌++◌, length, map, Some, sym, ap, ◌∙◌, subst}
+use Rattle.std.proofs.Common.{◌≡◌, ◌<◌, ℕ, List, [], ◌∷◌, length, map, Some, sym, ap, ◌∙◌, subst}
 use Rattle.std.specs.Prelude.{slice_get, get_or}
 use Rattle.std.specs.Option.{option_map, option_to_list}
 use Rattle.std.proofs.lemmas.Option.{same_Some, slice_get-map, slice_get-get_or}
 use Rattle.wit_types.specs.declared.types.TypeDef.{TypeDef}
 use Rattle.wit_model.specs.declared.function.Function.{Function}
 use Rattle.wit_model.specs.declared.function.Param.{Param}
-use Rattle.wit_tree.specs.declared.tree.«Type».{«Type» as Written}
 use Rattle.wit_syntax.specs.Address.{Address}
-use Rattle.wit_syntax.specs.Shape.{all_handles}
-use Rattle.wit_syntax.specs.Function.{SourceParam, SourceFunction, all_params, written_types}
+use Rattle.wit_syntax.specs.Function.{SourceParam, SourceFunction, all_params}
 use Rattle.wit_arena.specs.Functions.{IsNoted}
 use Rattle.wit_arena.specs.Adding.{IsKindIn}
-use Rattle.wit_arena.specs.Resolving.{Env, Names, Required, env_of, AddsFunctions}
+use Rattle.wit_arena.specs.Resolving.{Names, env_of, AddsFunctions}
 use Rattle.wit_arena.proofs.AddingFunctions.{function_one, shapes_append}
+use Rattle.wit_signatures.specs.Over.{IsSignatureOver}
 use Rattle.wit_rules.specs.declared.held.HeldFunction.{HeldFunction}
 use Rattle.wit_rules.specs.Held.{function_behind}
-use Rattle.wit_entries.specs.Requiring.{IsGrown, Requires}
 use Rattle.wit_rules.specs.Signatures.{AreParamsOver, IsResultOver}
-use Rattle.wit_entries.proofs.Requiring.{requires_types}
 
 -- the function at a place is the one that is held there
 pub held_here : (hs : List HeldFunction) (place : ℕ) (d : HeldFunction) → place < length hs → slice_get (map function_behind hs) place ≡ Some (function_behind (get_or hs place d))
@@ -34,11 +31,6 @@ function_adds old mid new s names fn f params result name kind span noted =
     (shapes_append old mid new s (env_of names) (map (λ (p : SourceParam). p.shape) (all_params fn)) (option_to_list fn.result) (map (λ (p : Param). p.ty) f.params) (option_to_list f.result) (params.types s) (result.types s))
 
 -- the same of one that is held
-pub held_adds : (old mid new : List TypeDef) (s : Address) (names : Names) (h : HeldFunction) (fn : SourceFunction) (f : Function) (ps : List Param) → function_behind h ≡ fn → f.params ≡ ps → AreParamsOver old mid (env_of names) (all_params (function_behind h)) ps → IsResultOver mid new (env_of names) (function_behind h).result f.result → f.name ≡ (function_behind h).name → IsKindIn (env_of names) (function_behind h).role f.kind → f.span ≡ (function_behind h).span → IsNoted (function_behind h) f → AddsFunctions old new s names (fn ∷ []) (f ∷ [])
-held_adds old mid new s names h fn f ps same made params result name kind span noted =
-    subst (λ (g : SourceFunction). AddsFunctions old new s names (g ∷ []) (f ∷ [])) same (function_adds old mid new s names (function_behind h) f (subst (AreParamsOver old mid (env_of names) (all_params (function_behind h))) (sym made) params) result name kind span noted)
-
--- what handles in it require: those of its parameters, and then that of its result
-pub held_requires : (mid new : List TypeDef) (env : Env) (h : HeldFunction) (fn : SourceFunction) (a b c : List Required) → function_behind h ≡ fn → IsGrown mid new → Requires env mid (all_handles (function_behind h).param_types) a b → Requires env new (all_handles (option_to_list (function_behind h).result_type)) b c → Requires env new (all_handles (written_types fn)) a c
-held_requires mid new env h fn a b c same grown params result =
-    subst (λ (g : SourceFunction). Requires env new (all_handles (written_types g)) a c) same (requires_types env mid new (function_behind h).param_types (option_to_list (function_behind h).result_type) a b c grown params result)
+pub held_adds : (old new : List TypeDef) (s : Address) (names : Names) (here fn : SourceFunction) (f : Function) → here ≡ fn → IsSignatureOver old new (env_of names) here f.params f.result → f.name ≡ here.name → IsKindIn (env_of names) here.role f.kind → f.span ≡ here.span → IsNoted here f → AddsFunctions old new s names (fn ∷ []) (f ∷ [])
+held_adds old new s names here fn f same over name kind span noted =
+    subst (λ (g : SourceFunction). AddsFunctions old new s names (g ∷ []) (f ∷ [])) same (function_adds old over.mid new s names here f over.params over.result name kind span noted)

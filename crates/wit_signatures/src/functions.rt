@@ -17,6 +17,7 @@ ghost use Rattle.wit_syntax.specs.Signature.{IsBrokenFunction, IsDuplicateParam,
 ghost use Rattle.wit_arena.specs.Resolving.{env_of, AddsFunctions};
 ghost use Rattle.wit_arena.specs.Resolved.{IsNameless};
 ghost use Rattle.wit_arena.specs.Adding.{IsKindIn, SaysParam};
+ghost use Rattle.wit_signatures.specs.Over.{IsSignatureOver, IsLegalSignature};
 ghost use Rattle.wit_entries.specs.Reading.{IsResolved};
 ghost use Rattle.wit_entries.specs.Requiring.{IsGrown, Requires};
 ghost use Rattle.wit_rules.specs.Held.{function_behind, owner_of};
@@ -273,6 +274,40 @@ fn resolve_result<'t, 'a>(
     }
 }
 
+/// What a function takes and gives.
+#[derive(Drop)]
+struct Signature {
+    params: Row<Param>,
+    result: Option<Type>,
+}
+
+/// What the function at a place takes and gives, over its types: those of its parameters and then
+/// that of its result.
+fn resolve_signature<'t, 'a>(
+    alloc: Global,
+    types: &mut Entries,
+    required: &mut Vec<Required>,
+    scope: FunctionScope<'_, 't, 'a>,
+    place: usize,
+    function: HeldFunction<'t, 'a>,
+) -> ParseResult<Signature>
+    requires place { place < length scope.functions.now }
+    requires owner { HasOwner (env_of scope.names.now) (owner_of (function_behind function).role) }
+    ensures over { IfOk result (λ s. IsSignatureOver types.old types.new (env_of scope.entry.names.now) (function_behind function.entry) s.params s.result) }
+    ensures legal { OnOk result ((xs : List ScopeName) → IsScopeOf scope.entry xs → IsLegalSignature xs (function_behind function.entry)) }
+    ensures handled { OnOk result (Requires (env_of scope.entry.names.now) types.new (all_handles (written_types (function_behind function.entry))) required.old.items required.new.items) }
+    ensures grown { IsGrown types.old types.new }
+    ensures refused { IfErr result (λ e. (xs : List ScopeName) → IsScopeOf scope.entry xs → Refused (IsWrongFunction (env_of scope.entry.names.now) types.new xs (functions_behind scope.entry) place (function_behind function.entry)) e) }
+{
+    check_given(alloc, function)?;
+    let params = all_params(alloc, types, required, scope, place, function)?;
+    let result = resolve_result(alloc, types, required, scope, place, function)?;
+    Ok(Signature {
+        params: Row::from(params),
+        result,
+    })
+}
+
 /// The function at a place of a scope, with its notes, over its types, which are added to the arena:
 /// those of its parameters and then that of its result.
 ///
@@ -298,14 +333,12 @@ pub fn resolve_function(
 {
     let function = scope.functions[place];
     let notes = notes_of(alloc, function.docs(), function.attributes())?;
-    check_given(alloc, function)?;
-    let params = all_params(alloc, types, required, scope, place, function)?;
-    let result = resolve_result(alloc, types, required, scope, place, function)?;
+    let signature = resolve_signature(alloc, types, required, scope, place, function)?;
     Ok(Function {
         name: function.name(alloc)?,
         kind: kind_of(scope.names, function),
-        params: Row::from(params),
-        result,
+        params: signature.params,
+        result: signature.result,
         docs: notes.docs,
         stability: notes.stability,
         span: function.span(),
