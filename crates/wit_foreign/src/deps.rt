@@ -8,6 +8,7 @@ ghost use Rattle.wit_files.specs.Foreign.{foreign_behind};
 ghost use Rattle.wit_foreign.specs.Growing.{AreDeps};
 
 use crate::packages::{Packages, add_visit_in};
+use crate::putting::beside;
 use std::alloc::{AllocError, Global};
 use wit_files::ForeignVisit;
 use wit_model::AstItem;
@@ -84,10 +85,11 @@ impl Deps {
         ensures { OnOk result ((vs : List Visit) → AreDeps vs self.old → AreDeps (vs ++ foreign_behind visit.now ∷ []) self.new) }
     {
         let key = package_name(alloc, visit.package)?;
-        let stability = told_stability(alloc, visit.attributes)?;
+        let told = told_stability(alloc, visit.attributes);
+        let (package, stability) = beside(key, told)?;
         let entry = self.next_entry(visit.wants_world);
         let name = visit.name.name;
-        let fresh = add_visit_in(alloc, &mut self.packages, key, name, entry, stability)?;
+        let fresh = add_visit_in(alloc, &mut self.packages, package, name, entry, stability)?;
         self.note_span(visit.package.span)?;
         if fresh {
             self.count(visit.wants_world)?;
