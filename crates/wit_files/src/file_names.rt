@@ -126,6 +126,27 @@ impl<'f, 'a> FileNames<'f, 'a> {
         Ok(())
     }
 
+    /// Adds all files; refuses an item that is declared twice.
+    fn add_all(
+        alloc: Global,
+        files: &'f [PackageFile<'a>],
+        names: &mut FileNames<'f, 'a>,
+    ) -> ParseResult<()>
+        requires empty { rows names.old.items ≡ [] }
+        requires kindless { names.old.kinds.items ≡ [] }
+        requires none { names.old.tops.items ≡ [] }
+        ensures items { OnOk result (AllDiffer (map item_name (all_items files.now))) }
+        ensures names { OnOk result (AreDeclarationsOf files.now names.new) }
+        ensures distinct { OnOk result (AreDistinctTops files.now) }
+        ensures visits { OnOk result (names.new.visits ≡ names.old.visits) }
+        ensures foreign { OnOk result (names.new.foreign ≡ names.old.foreign) }
+        ensures refused { IfErr result (Refused (IsBrokenItems files.now)) }
+    {
+        let declared = item_names(alloc, files)?;
+        FileNames::add_files(alloc, files, &declared, names)?;
+        Ok(())
+    }
+
     /// The names of files, whatever the `use`s at the top of files name.
     fn gather_items(alloc: Global, files: &'f [PackageFile<'a>]) -> ParseResult<FileNames<'f, 'a>>
         ensures visits { OnOk result (AreLegalVisits (the_visits files.now)) }
@@ -135,9 +156,7 @@ impl<'f, 'a> FileNames<'f, 'a> {
         ensures refused { IfErr result (Refused (IsBrokenNames files.now)) }
     {
         let mut names = FileNames::of_others(alloc, files)?;
-        let declared = item_names(alloc, files)?;
-        FileNames::add_files(alloc, files, &declared, &mut names)?;
-        drop(declared);
+        FileNames::add_all(alloc, files, &mut names)?;
         names.order = table_order(alloc, &names.items)?;
         Ok(names)
     }

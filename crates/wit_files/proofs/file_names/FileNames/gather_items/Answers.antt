@@ -14,15 +14,15 @@ pub returns-in_err-names-2-clause-refused : goal.returns-in_err-names-2-clause-r
 returns-in_err-names-2-clause-refused c =
     let p = err_from_is_err_and c.from_residual-in_err-names-2.result c.from_residual-in_err-names-2.ensures.1 in
     let files = c.args.files.now in
-    let rs = rows c.add_files.new.names.items in
-    rw (p.1, p.2) (refused_weaker (λ f. IsMissingEdge (missing_at 7 item_word) rs f ⊎ IsCyclicEdge 8 item_word rs f) (IsBrokenNames files) _ (λ f h. Items (broken_order files rs c.in_ok-add_files.ensures.names.items f h)) c.in_err-names-2.ensures.refused)
+    let rs = rows c.add_all.new.names.items in
+    rw (p.1, p.2) (refused_weaker (λ f. IsMissingEdge (missing_at 7 item_word) rs f ⊎ IsCyclicEdge 8 item_word rs f) (IsBrokenNames files) _ (λ f h. Items (broken_order files rs c.in_ok-add_all.ensures.names.items f h)) c.in_err-names-2.ensures.refused)
 
 pub returns-clause-legal : goal.returns-clause-legal
 returns-clause-legal c =
     let files = c.args.files.now in
     let places = c.in_ok-names-2.field-0.items in
-    let order : IsOrder (item_rows files) places = subst (λ rs. IsOrder rs places) c.in_ok-add_files.ensures.names.items c.in_ok-names-2.ensures.order in
-    legal_items files places c.in_ok-declared.ensures.distinct c.in_ok-add_files.ensures.distinct order
+    let order : IsOrder (item_rows files) places = subst (λ rs. IsOrder rs places) c.in_ok-add_all.ensures.names.items c.in_ok-names-2.ensures.order in
+    legal_items files places c.in_ok-add_all.ensures.items c.in_ok-add_all.ensures.distinct order
 
 pub returns-in_err-names-clause-refused : goal.returns-in_err-names-clause-refused
 returns-in_err-names-clause-refused c =
@@ -30,14 +30,8 @@ returns-in_err-names-clause-refused c =
     let files = c.args.files.now in
     rw (p.1, p.2) (refused_weaker (IsBrokenVisit (foreign_visits files)) (IsBrokenNames files) _ (λ f h. broken_visit files f h) c.in_err-names.ensures.refused)
 
-pub returns-in_err-declared-clause-refused : goal.returns-in_err-declared-clause-refused
-returns-in_err-declared-clause-refused c =
-    let p = err_from_is_err_and c.from_residual-in_err-declared.result c.from_residual-in_err-declared.ensures.1 in
+pub returns-in_err-add_all-clause-refused : goal.returns-in_err-add_all-clause-refused
+returns-in_err-add_all-clause-refused c =
+    let p = err_from_is_err_and c.from_residual-in_err-add_all.result c.from_residual-in_err-add_all.ensures.1 in
     let files = c.args.files.now in
-    rw (p.1, p.2) (refused_weaker (IsBrokenItems files) (IsBrokenNames files) _ (λ f h. Items h) c.in_err-declared.ensures.refused)
-
-pub returns-in_err-add_files-clause-refused : goal.returns-in_err-add_files-clause-refused
-returns-in_err-add_files-clause-refused c =
-    let p = err_from_is_err_and c.from_residual-in_err-add_files.result c.from_residual-in_err-add_files.ensures.1 in
-    let files = c.args.files.now in
-    rw (p.1, p.2) (refused_weaker (IsBrokenItems files) (IsBrokenNames files) _ (λ f h. Items h) c.in_err-add_files.ensures.refused)
+    rw (p.1, p.2) (refused_weaker (IsBrokenItems files) (IsBrokenNames files) _ (λ f h. Items h) c.in_err-add_all.ensures.refused)
