@@ -1,7 +1,8 @@
 //! What a type is, in one line of a listing.
 ghost use Rattle.std.specs.Prelude.{◌≡◌, ◌++◌, OnOk, string_bytes};
 ghost use Rattle.std.specs.List.{flat_map};
-ghost use Rattle.wit_listing.specs.Words.{Adds};
+ghost use Rattle.wit_types.specs.declared.types.TypeDefKind.TheVariants as kind;
+ghost use Rattle.wit_listing.specs.Words.{Adds, optional_text};
 ghost use Rattle.wit_listing.specs.Kinds.{case_text, enum_case_text, field_text, flag_text, handle_text, item_text, kind_text};
 
 use crate::words::{push_numbered, push_optional, push_type};
@@ -91,6 +92,39 @@ fn push_one(text: &mut String, word: &str, ty: Type) -> Result<(), AllocError>
     push_type(text, ty)
 }
 
+/// A word with a blank, and a type, or `_` where there is none.
+fn push_perhaps(text: &mut String, word: &str, ty: Option<Type>) -> Result<(), AllocError>
+    ensures { OnOk result (Adds text.old text.new (word.now ++ optional_text ty)) }
+{
+    text.push_str(word)?;
+    push_optional(text, ty)
+}
+
+/// What a result is.
+fn push_outcome(text: &mut String, ok: Option<Type>, err: Option<Type>) -> Result<(), AllocError>
+    ensures { OnOk result (Adds text.old text.new (kind_text (kind.Result (record { ok = ok; err = err })))) }
+{
+    push_perhaps(text, "result ", ok)?;
+    push_perhaps(text, " ", err)
+}
+
+/// What a map is.
+fn push_map(text: &mut String, key: Type, value: Type) -> Result<(), AllocError>
+    ensures { OnOk result (Adds text.old text.new (kind_text (kind.Map key value))) }
+{
+    push_one(text, "map", key)?;
+    text.push_str(" ")?;
+    push_type(text, value)
+}
+
+/// What a list of fixed length is.
+fn push_fixed(text: &mut String, ty: Type, count: u32) -> Result<(), AllocError>
+    ensures { OnOk result (Adds text.old text.new (kind_text (kind.FixedLengthList ty count))) }
+{
+    push_one(text, "fixed", ty)?;
+    write!(text, " {count}")
+}
+
 /// What a type is, its parts behind single blanks.
 pub fn push_kind(text: &mut String, kind: &TypeDefKind) -> Result<(), AllocError>
     ensures { OnOk result (Adds text.old text.new (kind_text kind.now)) }
@@ -119,30 +153,12 @@ pub fn push_kind(text: &mut String, kind: &TypeDefKind) -> Result<(), AllocError
             push_enum_cases(text, enumeration.cases.as_slice())
         }
         TypeDefKind::Option(ty) => push_one(text, "option", *ty),
-        TypeDefKind::Result(outcome) => {
-            text.push_str("result ")?;
-            push_optional(text, outcome.ok)?;
-            text.push_str(" ")?;
-            push_optional(text, outcome.err)
-        }
+        TypeDefKind::Result(outcome) => push_outcome(text, outcome.ok, outcome.err),
         TypeDefKind::List(ty) => push_one(text, "list", *ty),
-        TypeDefKind::Map(key, value) => {
-            push_one(text, "map", *key)?;
-            text.push_str(" ")?;
-            push_type(text, *value)
-        }
-        TypeDefKind::FixedLengthList(ty, count) => {
-            push_one(text, "fixed", *ty)?;
-            write!(text, " {count}")
-        }
-        TypeDefKind::Future(ty) => {
-            text.push_str("future ")?;
-            push_optional(text, *ty)
-        }
-        TypeDefKind::Stream(ty) => {
-            text.push_str("stream ")?;
-            push_optional(text, *ty)
-        }
+        TypeDefKind::Map(key, value) => push_map(text, *key, *value),
+        TypeDefKind::FixedLengthList(ty, count) => push_fixed(text, *ty, *count),
+        TypeDefKind::Future(ty) => push_perhaps(text, "future ", *ty),
+        TypeDefKind::Stream(ty) => push_perhaps(text, "stream ", *ty),
         TypeDefKind::Type_(ty) => push_one(text, "alias", *ty),
         TypeDefKind::Unknown => text.push_str("unknown"),
     }
