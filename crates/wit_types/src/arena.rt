@@ -1,5 +1,5 @@
 //! Ids and arenas: an arena is a list, an id a place in it.
-ghost use Rattle.std.specs.Prelude.{◌≡◌, ◌+◌, ◌<◌, ◌^◌, List, [], ◌∷◌, ◌++◌, ℕ, length, slice_get, slice_set, IfOk, OnErr, IfErr, IfSome, OnOk, IsTrue};
+ghost use Rattle.std.specs.Prelude.{◌≡◌, ◌+◌, ◌<◌, ◌^◌, List, [], ◌∷◌, ◌++◌, ℕ, length, slice_get, slice_set, IfOk, OnErr, IfErr, SomeIff, OnOk, IsTrue};
 ghost use Rattle.std.specs.List.{AllZip};
 ghost use Rattle.std.specs.Cmp.Lexicographic.{pointwise};
 ghost use Rattle.std.specs.Cmp.Rules.{comparing};
@@ -99,9 +99,9 @@ impl<T, M> Arena<T, M> {
         }
     }
 
-    /// The id of a value that stands so many places behind the last one; none where no place is so far.
+    /// The id of a value that stands so many places behind the last one; none exactly where no place is so far.
     pub fn id_behind(&self, places: usize) -> Option<Id<M>>
-        ensures { IfSome result (λ i. i ≡ length self.now + places) }
+        ensures { SomeIff result (length self.now + places < 2 ^ 64) (length self.now + places) }
     {
         let place = self.items.len().checked_add(places)?;
         Some(Id {
