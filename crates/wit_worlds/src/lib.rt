@@ -4,6 +4,7 @@
 mod externs;
 mod includes;
 mod inside;
+mod putting;
 mod setters;
 mod sides;
 mod standing;

@@ -7,8 +7,9 @@ ghost use Rattle.wit_tree.specs.declared.tree.Include.{Include};
 ghost use Rattle.wit_tree.specs.declared.tree.WorldSide.{WorldSide as TheSide};
 ghost use Rattle.wit_tree.specs.declared.tree.WorldSide.TheVariants.{Imported, Exported};
 ghost use Rattle.wit_model.specs.declared.world.WorldKey.TheVariants.{Name};
-ghost use Rattle.wit_model.specs.declared.world.WorldItem.TheVariants.{Type_ as TypeItem};
+ghost use Rattle.wit_model.specs.declared.world.WorldItem.TheVariants.{Interface as InterfaceItem, Type_ as TypeItem};
 ghost use Rattle.wit_model.specs.contracts.world.WorldKeyPartialEq.TheImpl.{eq-value as key_test};
+ghost use Rattle.wit_syntax.specs.Notes.{external_id_of, stability_of};
 ghost use Rattle.wit_syntax.specs.Repeats.{AllDiffer};
 ghost use Rattle.wit_syntax.specs.Sides.{item_function, item_inline};
 ghost use Rattle.wit_syntax.specs.Source.{ScopeName, local_id};
@@ -24,6 +25,7 @@ ghost use Rattle.wit_worlds.specs.Links.{AreWithin};
 ghost use Rattle.wit_worlds.specs.Settled.{none_of};
 ghost use Rattle.wit_worlds.specs.Sides.{entries_of, entries_on, inserted_on};
 
+use crate::putting::{beside, put};
 use crate::setters::settle;
 use crate::standing::Standing;
 use indexmap::IndexMap;
@@ -33,7 +35,7 @@ use wit_item_entries::uses::Interfaces;
 use wit_model::{Function, WorldItem, WorldKey};
 use wit_notes::{docs, path_id, told_notes};
 use wit_tree::Span;
-use wit_tree::tree::{Id, UsePath, WorldSide};
+use wit_tree::tree::{Attribute, Id, UsePath, WorldSide};
 use wit_types::{Docs, InterfaceId, TypeId};
 use wit_values::{Table, Text, TextTable};
 
@@ -51,7 +53,7 @@ fn add_import(
         id: ty,
         span: id.span,
     };
-    imports.insert(key, item)?;
+    put(imports, key, item)?;
     Ok(())
 }
 
@@ -101,10 +103,10 @@ fn add_item(
 {
     match side {
         WorldSide::Imported => {
-            sides.imports.insert(key, item)?;
+            put(&mut sides.imports, key, item)?;
         }
         WorldSide::Exported => {
-            sides.exports.insert(key, item)?;
+            put(&mut sides.exports, key, item)?;
         }
     }
     Ok(())
@@ -118,7 +120,9 @@ fn add_function(
 ) -> Result<(), AllocError>
     ensures { OnOk result ((s : TheSide) → entries_of s sides.new ≡ inserted_on s side (function_item function) (entries_of s sides.old)) }
 {
-    let key = WorldKey::Name(function.name.clone()?);
+    let name: Result<Text, AllocError> = function.name.clone();
+    let (function, name) = beside(function, name)?;
+    let key = WorldKey::Name(name);
     add_item(sides, side, key, WorldItem::Function(function))?;
     Ok(())
 }
@@ -143,6 +147,26 @@ fn link_span(name: Option<Id<'_>>, path: &UsePath<'_>) -> Span
     }
 }
 
+/// An interface on a side, with these docs and what attributes tell of it there.
+fn interface_item(
+    alloc: Global,
+    id: InterfaceId,
+    attributes: &[Attribute<'_>],
+    docs: Docs,
+    span: Span,
+) -> Result<WorldItem, AllocError>
+    ensures { IfOk result (λ item. item ≡ InterfaceItem id (stability_of attributes.now) (external_id_of attributes.now) docs span) }
+{
+    let told = told_notes(alloc, attributes)?;
+    Ok(WorldItem::Interface {
+        id,
+        stability: told.stability,
+        external_id: told.external_id,
+        docs,
+        span,
+    })
+}
+
 /// Puts an interface on its side, with what is told of it there. Its attributes were checked.
 fn add_link(
     alloc: Global,
@@ -155,16 +179,10 @@ fn add_link(
     ensures { OnOk result ((s : TheSide) → entries_of s sides.new ≡ inserted_on s link.now.side (link_item (link_behind link.now) place) (entries_of s sides.old)) }
 {
     let id = interfaces.arena.id_at(place);
-    let docs = docs(alloc, link.docs)?;
-    let told = told_notes(alloc, link.attributes)?;
     let key = link_key(alloc, link.name, id)?;
-    let item = WorldItem::Interface {
-        id,
-        stability: told.stability,
-        external_id: told.external_id,
-        docs,
-        span: link_span(link.name, link.path),
-    };
+    let docs = docs(alloc, link.docs)?;
+    let span = link_span(link.name, link.path);
+    let item = interface_item(alloc, id, link.attributes, docs, span)?;
     add_item(sides, link.side, key, item)?;
     Ok(())
 }
@@ -179,15 +197,9 @@ fn add_inline(
 ) -> Result<(), AllocError>
     ensures { OnOk result ((s : TheSide) → entries_of s sides.new ≡ inserted_on s inline.now.written.now.side (inline_entry inline.now.written.now inline.now.name id) (entries_of s sides.old)) }
 {
-    let told = told_notes(alloc, &inline.written.attributes)?;
     let key = WorldKey::Name(Text::from_str(alloc, inline.name.name)?);
-    let item = WorldItem::Interface {
-        id,
-        stability: told.stability,
-        external_id: told.external_id,
-        docs: Docs::default(),
-        span: inline.name.span,
-    };
+    let attributes = &inline.written.attributes;
+    let item = interface_item(alloc, id, attributes, Docs::default(), inline.name.span)?;
     add_item(sides, inline.written.side, key, item)?;
     Ok(())
 }
