@@ -22,8 +22,9 @@ use wit_files::{FileNames, Target};
 use wit_items::items::Declared;
 use wit_items::reached::entry_of;
 use wit_model::{AstItem as Entry, IncludeName, WorldInclude};
+use wit_notes::attributes::check_stability;
 use wit_notes::refusal::refuse;
-use wit_notes::{path_id, stability};
+use wit_notes::{path_id, told_stability};
 use wit_tree::ParseResult;
 use wit_tree::tree::{self, UsePath};
 use wit_types::WorldId;
@@ -96,7 +97,7 @@ fn resolve_include<'f, 'a>(
     ensures stable { OnOk result ((f : Fault) → IsBrokenStability include.now.attributes.items f → ⊥) }
     ensures refused { IfErr result (λ e. (fs : List TheFile) (file : TheFile) → AreNamesAt fs files.now place file → Refused (λ f. IsBrokenStability include.now.attributes.items f ⊎ IsLost fs worlds.now.by_name (top_names file) include.now f) e) }
 {
-    let stability = stability(alloc, &include.attributes)?;
+    check_stability(alloc, &include.attributes)?;
     let path = path_id(&include.from);
     let id = match included_world(files, worlds, place, &include.from) {
         Some(id) => id,
@@ -105,10 +106,12 @@ fn resolve_include<'f, 'a>(
             return Err(refuse(alloc, 11, path.span, message.as_str()));
         }
     };
+    let names = renames(alloc, &include.names)?;
+    let stability = told_stability(alloc, &include.attributes)?;
     Ok(WorldInclude {
         stability,
         id,
-        names: renames(alloc, &include.names)?,
+        names,
         span: path.span,
     })
 }

@@ -38,17 +38,17 @@ returns-clause-is c = λ fs file at.
     let same = others_are c.args.files.now c.args.place fs file at in
     let found = sym (c.included_world.ensures fs file at) ∙ c.in-Some.is in
     record {
-      stability = rw c.deref.ensures.value at c.in_ok-stability.ensures.told;
+      stability = rw c.deref-3.ensures.value at c.in_ok-stability.ensures;
       place = subst (λ ss. slice_get (worlds_at ss ws) c.in-Some.id ≡ Some (included_scope to)) (sym same) (world_found fs by_name ws to c.in-Some.id (subst (λ ss. IsWorldIndex (worlds_at ss ws) by_name) same c.requires.index) (subst (λ ss. length ss ≤ length ws) same c.requires.front) found);
-      names = c.in_ok-renames.ensures ∙ ap (map renamed) c.deref-2.ensures.value;
+      names = c.in_ok-names.ensures ∙ ap (map renamed) c.deref-2.ensures.value;
       span = ap (λ (id : Id). id.span) c.path_id-path.ensures;
     }
 
 pub returns-clause-stable : goal.returns-clause-stable
-returns-clause-stable c = rw c.deref.ensures.value at c.in_ok-stability.ensures.legal
+returns-clause-stable c = rw c.deref.ensures.value at c.in_ok-check_stability.ensures.legal
 
-pub returns-in_err-stability-clause-refused : goal.returns-in_err-stability-clause-refused
-returns-in_err-stability-clause-refused c =
+pub returns-in_err-check_stability-clause-refused : goal.returns-in_err-check_stability-clause-refused
+returns-in_err-check_stability-clause-refused c =
     let p = err_from_is_err_and c.from_residual.result c.from_residual.ensures.1 in
     let i = c.args.include.now in
-    rw (p.1, p.2) (λ fs file at. refused_weaker (IsBrokenStability i.attributes.items) (λ f. IsBrokenStability i.attributes.items f ⊎ IsLost fs c.args.worlds.now.by_name (top_names file) i f) _ (λ f h. inl h) (rw c.deref.ensures.value at c.in_err-stability.ensures.refused))
+    rw (p.1, p.2) (λ fs file at. refused_weaker (IsBrokenStability i.attributes.items) (λ f. IsBrokenStability i.attributes.items f ⊎ IsLost fs c.args.worlds.now.by_name (top_names file) i f) _ (λ f h. inl h) (rw c.deref.ensures.value at c.in_err-check_stability.ensures.refused))
