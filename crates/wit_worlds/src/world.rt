@@ -3,16 +3,18 @@ ghost use Rattle.std.specs.Prelude.{◌≡◌, ◌<◌, ◌≤◌, ◌+◌, ◌+
 ghost use Rattle.wit_tree.specs.declared.tree.PackageFile.{PackageFile as TheFile};
 ghost use Rattle.wit_tree.specs.Refusal.{IsWantOfMemory};
 ghost use Rattle.wit_syntax.specs.Address.{Address};
-ghost use Rattle.wit_syntax.specs.Source.{address, declared_attributes, is_world, item_notes as the_notes, leads, scope_names as the_names};
+ghost use Rattle.wit_syntax.specs.Source.{address, declared_attributes, declared_parts, is_world, item_notes as the_notes, leads, scope_names as the_names};
 ghost use Rattle.wit_syntax.specs.Function.{SourceFunction};
 ghost use Rattle.wit_syntax.specs.Notes.{IsBrokenStability};
-ghost use Rattle.wit_syntax.specs.Scope.{in_order, worlds_of};
+ghost use Rattle.wit_syntax.specs.Scope.{in_order, part_includes, worlds_of};
 ghost use Rattle.wit_syntax.specs.Fault.{Fault};
 ghost use Rattle.wit_syntax.specs.Sides.{Link, links, inline_items, with_inline};
 ghost use Rattle.wit_syntax.specs.Broken.{is_world_at, IsBrokenScope, Refused};
+ghost use Rattle.wit_types.specs.declared.types.TypeDef.{TypeDef as TheType};
 ghost use Rattle.wit_types.specs.declared.types.TypeOwner.TheVariants.{World as WorldOwner};
 ghost use Rattle.wit_arena.specs.Resolving.{IsIndex, IsWorldIndex};
 ghost use Rattle.wit_arena.specs.Resolved.{worlds_at, AddsWorld, AddsWorlds, AreLegalSides, AreSoundScopes, AreUsableLinks, IsBrokenItemStability, HaveLegalStability, IsWrongWorld, front_worlds};
+ghost use Rattle.wit_items.specs.declared.notes.ItemNotes.{ItemNotes as TheNotes};
 ghost use Rattle.wit_items.specs.Items.{declared_behind, item_behind, names_behind, AreNamesAt, HasItem, IsNamedAt, AreFiled, HasFiles, AreEntriesOf, others_of};
 ghost use Rattle.wit_items.specs.Front.{AreItemsPlaced};
 ghost use Rattle.wit_items.specs.Inside.{inside_behind, names_written};
@@ -20,7 +22,8 @@ ghost use Rattle.wit_items.specs.Told.{notes_behind, AreOf};
 ghost use Rattle.wit_scopes.specs.Between.{IsOfFunctions};
 ghost use Rattle.wit_scopes.specs.Front.{AreNamesPlaced};
 ghost use Rattle.wit_item_entries.specs.Held.{front_of, cells_of};
-ghost use Rattle.wit_item_entries.specs.Between.{AddsTurn, Emits};
+ghost use Rattle.wit_item_entries.specs.Behind.{IsTurn};
+ghost use Rattle.wit_item_entries.specs.Between.{AddsTurn, AreStable, Emits, names_in};
 ghost use Rattle.wit_item_entries.specs.Body.{IsWrongBody};
 ghost use Rattle.std.specs.List.{flat_map};
 ghost use Rattle.wit_tree.specs.declared.tree.WorldSide.{WorldSide as TheSide};
@@ -30,6 +33,7 @@ ghost use Rattle.wit_worlds.specs.Links.{interfaces_of_others};
 use crate::externs::declared_externs;
 use crate::includes::declared_includes;
 use crate::inside::declared_name;
+use crate::putting::beside;
 use crate::setters::is_closed;
 use crate::sides::{WorldSides, fitted, world_sides};
 use crate::standing::resolve_standing;
@@ -39,7 +43,7 @@ use wit_entries::scope::Required;
 use wit_externs::held::HeldExtern;
 use wit_files::FileNames;
 use wit_item_entries::body::Head;
-use wit_item_entries::names::resolve_names;
+use wit_item_entries::names::{ResolvedNames, resolve_names};
 use wit_item_entries::required::add_required;
 use wit_item_entries::uses::Interfaces;
 use wit_items::items::{Declared, Item};
@@ -69,33 +73,44 @@ pub(crate) struct WorldParts {
     pub includes: Row<WorldInclude>,
 }
 
-/// Adds a world of this name with what it has.
+/// What stands in a world behind its names: on its sides, and its includes.
+#[derive(Drop)]
+pub(crate) struct WorldContent {
+    pub sides: WorldSides,
+    pub includes: Row<WorldInclude>,
+}
+
+/// Adds a world of this name with its parts, and what its handles require.
 fn add_world(
     alloc: Global,
     worlds: &mut Worlds<'_>,
+    required: &mut Vec<Required>,
     id: Id<'_>,
-    notes: ItemNotes,
-    sides: WorldSides,
-    includes: Row<WorldInclude>,
+    parts: WorldParts,
 ) -> ParseResult<()>
     ensures entries { OnOk result (worlds.new.entries ≡ worlds.old.entries) }
-    ensures added { OnOk result (IsAddedWorld worlds.old.arena worlds.new.arena id.entry (notes_behind notes) sides.imports sides.exports includes) }
+    ensures required { OnOk result (required.new.items ≡ required.old.items ++ parts.required.items) }
+    ensures added { OnOk result (IsAddedWorld worlds.old.arena worlds.new.arena id.entry (notes_behind parts.notes) parts.sides.imports parts.sides.exports parts.includes) }
     ensures index { OnOk result ((others : List Address) → length others ≤ length worlds.old.arena → IsWorldIndex (worlds_at others worlds.old.arena) worlds.old.by_name → IsWorldIndex (worlds_at others worlds.new.arena) worlds.new.by_name) }
     ensures refused { IfErr result IsWantOfMemory }
 {
-    let place = worlds.arena.alloc(World {
-        name: Text::from_str(alloc, id.name)?,
-        imports: fitted(sides.imports),
-        exports: fitted(sides.exports),
+    let name = Text::from_str(alloc, id.name);
+    let (parts, name) = beside(parts, name)?;
+    let world = World {
+        name,
+        imports: fitted(parts.sides.imports),
+        exports: fitted(parts.sides.exports),
         package: None,
-        docs: notes.docs,
-        stability: notes.stability,
-        includes,
+        docs: parts.notes.docs,
+        stability: parts.notes.stability,
+        includes: parts.includes,
         span: id.span,
-    })?;
+    };
+    let place = worlds.arena.alloc(world)?;
     worlds
         .by_name
         .insert(String::from_str(alloc, id.name)?, place)?;
+    add_required(required, &parts.required)?;
     Ok(())
 }
 
@@ -122,8 +137,64 @@ fn world_head<'a>(
     Ok(Head { notes, names })
 }
 
-/// What a world has, behind its names, and what is in them: its includes, the functions of its
+/// What stands in a world behind its names, which are resolved: its includes, the functions of its
 /// resources, and what it imports and exports.
+fn world_content<'f, 'a>(
+    alloc: Global,
+    item: &Item<'f, 'a>,
+    types: &mut Entries,
+    names: &mut ResolvedNames<'a>,
+    files: &FileNames<'f, 'a>,
+    interfaces: &Interfaces<'_, '_, '_>,
+    inside: &mut Arena<Interface, InterfacePlace>,
+    worlds: &Worlds<'_>,
+) -> ParseResult<WorldContent>
+    requires sort { is_world (item_behind item.now) ≡ true }
+    requires item { HasItem files.now item.now.place (declared_behind item.now.declared) }
+    requires file { IsNamedAt files.now item.now.place item.now.file.now }
+    requires named { names_behind item.now ≡ the_names (item_behind item.now) }
+    requires listed { names_in names.old.types ≡ map (λ id. id.name.now) names.old.turn.items }
+    requires turn { IsTurn (the_names (item_behind item.now)) names.old.turn.items }
+    requires written { (side : TheSide) → inside_behind side item.now ≡ names_written side (item_behind item.now) }
+    requires placed_inside { AreItemsPlaced (front_of interfaces.now.foreign.now) (item.now ∷ []) }
+    requires front { length interfaces.now.foreign.now ≤ length interfaces.now.arena }
+    requires others { front_of interfaces.now.foreign.now ≡ interfaces_of_others files.now }
+    requires index { IsIndex (cells_of interfaces.now) interfaces.now.by_name }
+    requires entries { AreEntriesOf files.now worlds.now.entries.now }
+    requires worlds_front { length (others_of files.now) ≤ length worlds.now.arena }
+    requires worlds_index { IsWorldIndex (worlds_at (others_of files.now) worlds.now.arena) worlds.now.by_name }
+    ensures parts { IfOk result (λ content. (ss : List Address) (before : List TheType) (notes : TheNotes) → length ss ≡ length inside.old → AddsTurn before types.old (cells_of interfaces.now) (WorldOwner (length worlds.now.arena)) (the_names (item_behind item.now)) names.old.types names.old.turn.items names.old.required.items → AreOf (the_notes (item_behind item.now)) notes → AreWorldParts (front_of interfaces.now.foreign.now) (others_of files.now) interfaces.now.arena before types.new worlds.now.arena inside.old inside.new ss (item_behind item.now) (record { notes = notes; required = names.new.required; sides = content.sides; includes = content.includes })) }
+    ensures stable { OnOk result (AreStable (flat_map part_includes (declared_parts (declared_behind item.now.declared)))) }
+    ensures sound { OnOk result (((fns : List SourceFunction) (f : Fault) → IsBrokenScope (the_names (item_behind item.now)) fns f → IsOfFunctions (the_names (item_behind item.now)) fns f) → AreSoundScopes (with_inline (item_behind item.now))) }
+    ensures sided { OnOk result (AreLegalSides (with_inline (item_behind item.now))) }
+    ensures linked { OnOk result ((fs : List TheFile) → AreNamesAt fs files.now item.now.place item.now.file.now → (link : Link) → Contains (links (item_behind item.now)) link → is_world_at fs (leads (item_behind item.now).top link.path) ≡ Some false) }
+    ensures refused { IfErr result (λ e. (fs : List TheFile) (before : List TheType) → AreNamesAt fs files.now item.now.place item.now.file.now → AddsTurn before types.old (cells_of interfaces.now) (WorldOwner (length worlds.now.arena)) (the_names (item_behind item.now)) names.old.types names.old.turn.items names.old.required.items → Refused (IsWrongWorld fs before (cells_of interfaces.now) (length interfaces.now.arena) inside.old interfaces.now.by_name worlds.now.by_name (WorldOwner (length worlds.now.arena)) (item_behind item.now)) e) }
+{
+    let includes = declared_includes(alloc, &item.declared, files, worlds, item.place)?;
+    let mut externs = declared_externs(
+        alloc,
+        &item.declared,
+        files,
+        worlds.entries,
+        interfaces,
+        item.place,
+    )?;
+    let lent: &mut [HeldExtern<'_, '_>] = &mut externs;
+    let closed = is_closed(includes.as_slice());
+    let standing = resolve_standing(alloc, item, lent, types, names, interfaces, inside, closed)?;
+    let sides = world_sides(
+        alloc,
+        &names.turn,
+        &names.types,
+        lent,
+        interfaces,
+        standing,
+        closed,
+    )?;
+    Ok(WorldContent { sides, includes })
+}
+
+/// What a world has, behind its names, and what is in them.
 fn world_parts<'f, 'a>(
     alloc: Global,
     item: &Item<'f, 'a>,
@@ -156,34 +227,15 @@ fn world_parts<'f, 'a>(
     let owner = TypeOwner::World(worlds.arena.next_id());
     let head = world_head(alloc, item, types, interfaces, owner)?;
     let mut names = head.names;
-    let includes = declared_includes(alloc, &item.declared, files, worlds, item.place)?;
-    let mut externs = declared_externs(
-        alloc,
-        &item.declared,
-        files,
-        worlds.entries,
-        interfaces,
-        item.place,
-    )?;
-    let lent: &mut [HeldExtern<'_, '_>] = &mut externs;
-    let closed = is_closed(includes.as_slice());
-    let standing = resolve_standing(
-        alloc, item, lent, types, &mut names, interfaces, inside, closed,
-    )?;
-    let sides = world_sides(
-        alloc,
-        &names.turn,
-        &names.types,
-        lent,
-        interfaces,
-        standing,
-        closed,
-    )?;
+    let content = world_content(
+        alloc, item, types, &mut names, files, interfaces, inside, worlds,
+    );
+    let (notes, content) = beside(head.notes, content)?;
     Ok(WorldParts {
-        notes: head.notes,
+        notes,
         required: names.required,
-        sides,
-        includes,
+        sides: content.sides,
+        includes: content.includes,
     })
 }
 
@@ -222,15 +274,7 @@ fn resolve_world<'f, 'a>(
 {
     let parts = world_parts(alloc, item, types, files, interfaces, inside, worlds)?;
     let name = declared_name(&item.declared);
-    add_required(required, &parts.required)?;
-    add_world(
-        alloc,
-        worlds,
-        name,
-        parts.notes,
-        parts.sides,
-        parts.includes,
-    )?;
+    add_world(alloc, worlds, required, name, parts)?;
     Ok(())
 }
 

@@ -1,10 +1,9 @@
-use Rattle.std.proofs.Common.{◌≡◌, List, [], ◌++◌, inl, length, map, refl, sym, ap, ◌∙◌, subst}
+use Rattle.std.proofs.Common.{List, [], map, refl, subst}
 use Rattle.std.proofs.lemmas.List.{length-map}
 use Rattle.std.proofs.lemmas.Result.{err_from_is_err_and}
 use Rattle.wit_tree.specs.declared.tree.Id.{Id}
 use Rattle.wit_model.specs.declared.interface.Interface.{Interface}
 use Rattle.wit_syntax.specs.Address.{WorldNamed}
-use Rattle.wit_arena.specs.Resolving.{Required}
 use Rattle.wit_items.specs.Items.{item_behind, others_of}
 use Rattle.wit_items.specs.Told.{notes_behind}
 use Rattle.wit_item_entries.specs.Held.{front_of}
@@ -20,11 +19,6 @@ returns-in_err-parts-clause-refused c =
     let p = err_from_is_err_and c.from_residual.result c.from_residual.ensures.1 in
     rw (p.1, p.2) c.in_err-parts.ensures.refused
 
-pub returns-in_err-add_required-clause-refused : goal.returns-in_err-add_required-clause-refused
-returns-in_err-add_required-clause-refused c =
-    let p = err_from_is_err_and c.from_residual-in_err-add_required.result c.from_residual-in_err-add_required.ensures.1 in
-    rw p.1 (λ fs named. inl p.2)
-
 pub returns-clause-added : goal.returns-clause-added
 returns-clause-added c = λ ss known.
     let p = c.in_ok-parts.parts in
@@ -32,7 +26,7 @@ returns-clause-added c = λ ss known.
     let new = c.add_world.new.worlds.arena in
     record {
       own = p.required.items;
-      list = c.in_ok-add_required.ensures ∙ ap (λ (l : List Required). c.args.required.now.items ++ l) c.deref.ensures.value;
+      list = c.in_ok-add_world.ensures.required;
       holds = world_adds (front_of c.args.interfaces.now.foreign.now) (others_of c.args.files.now) c.args.interfaces.now.arena c.args.types.now c.world_parts.new.types old new c.args.inside.now c.world_parts.new.inside ss (item_behind c.args.item.now) p (c.in_ok-parts.ensures.parts ss known) (subst (λ (id : Id). IsAddedWorld old new id (notes_behind p.notes) p.sides.imports p.sides.exports p.includes) c.declared_name-name.ensures c.in_ok-add_world.ensures.added);
     }
 

@@ -1,33 +1,17 @@
-use Rattle.std.proofs.Common.{◌≡◌, ◌⊎◌, List, length, map, inl, inr, refl, sym, ap, ◌∙◌, subst}
+use Rattle.std.proofs.Common.{◌≡◌, length, refl, ap}
 use Rattle.std.proofs.lemmas.Result.{err_from_is_err_and}
-use Rattle.wit_tree.specs.declared.tree.Id.{Id}
 use Rattle.wit_types.specs.declared.types.TypeOwner.TheVariants.{World as OfWorld}
-use Rattle.wit_syntax.specs.Function.{functions}
-use Rattle.wit_syntax.specs.Repeats.{AllDiffer}
-use Rattle.wit_syntax.specs.Scope.{includes as written_includes}
-use Rattle.wit_syntax.specs.Sides.{inline_items, side_items}
-use Rattle.wit_syntax.specs.Source.{scope_names, top_names}
+use Rattle.wit_syntax.specs.Source.{scope_names}
 use Rattle.wit_syntax.proofs.Refusing.{refused_weaker}
-use Rattle.wit_syntax.proofs.Turns.{in_turn_distinct}
-use Rattle.wit_arena.specs.Resolved.{IsBrokenItemStability, IsWrongWorld, WrongWorldStability, LostInclude, interfaces_at}
-use Rattle.wit_arena.specs.Resolving.{IsLostInclude}
-use Rattle.wit_externs.specs.Clash.{DifferOnSides}
-use Rattle.wit_externs.specs.Held.{externs_behind}
-use Rattle.wit_items.specs.Items.{item_behind, others_of}
-use Rattle.wit_item_entries.specs.Between.{names_in, AddsTurn}
-use Rattle.wit_item_entries.specs.Body.{IsStandingBy, IsWrongBody}
-use Rattle.wit_item_entries.specs.Held.{cells_of, front_of}
-use Rattle.wit_item_entries.proofs.Behind.{turn_texts}
-use Rattle.wit_item_entries.proofs.ItemSides.{sides_legal}
-use Rattle.wit_item_entries.proofs.ScopeFunctions.{scope_sound, turn_added, turn_listed}
+use Rattle.wit_arena.specs.Resolved.{IsWrongWorld}
+use Rattle.wit_items.specs.Items.{item_behind}
+use Rattle.wit_item_entries.specs.Between.{AddsTurn}
+use Rattle.wit_item_entries.specs.Body.{IsWrongBody}
+use Rattle.wit_item_entries.specs.Held.{cells_of}
+use Rattle.wit_item_entries.proofs.ScopeFunctions.{turn_added, turn_listed}
 use Rattle.wit_item_entries.proofs.Telling.{world_stable}
 use Rattle.wit_item_entries.proofs.WrongNames.{wrong_world}
-use Rattle.wit_worlds.specs.Links.{AreLed}
-use Rattle.wit_worlds.specs.Standing.{IsWrongStanding}
-use Rattle.wit_worlds.proofs.Leading.{addresses_count, front_enough, links_placed, links_within}
-use Rattle.wit_worlds.proofs.Linking.{links_lead}
-use Rattle.wit_worlds.proofs.Parts.{body_item, parts_are, sides_all, sounds_all, turn_item}
-use Rattle.wit_worlds.proofs.WrongStanding.{wrong_standing}
+use Rattle.wit_worlds.proofs.Parts.{body_item, turn_item}
 use Rattle.wit_worlds.proofs.world.world_parts.Goals as goal
 
 pub returns-in_err-head-clause-refused : goal.returns-in_err-head-clause-refused
@@ -43,128 +27,23 @@ returns-in_err-head-clause-refused c =
     let item = item_behind c.args.item.now in
     rw (p.1, p.2) (λ fs named. refused_weaker (IsWrongBody old cs by_name o item) (IsWrongWorld fs old cs count inside by_name worlds o item) _ (wrong_world fs old cs count inside by_name worlds o item) (body_item old cs by_name (OfWorld c.next_id.result) o item item _ (ap OfWorld c.next_id.ensures) refl c.in_err-head.ensures.refused))
 
-pub returns-in_err-includes-clause-refused : goal.returns-in_err-includes-clause-refused
-returns-in_err-includes-clause-refused c =
-    let p = err_from_is_err_and c.from_residual-in_err-includes.result c.from_residual-in_err-includes.ensures.1 in
-    let old = c.args.types.now in
-    let cs = cells_of c.args.interfaces.now in
-    let count = length c.args.interfaces.now.arena in
-    let inside = c.args.inside.now in
-    let by_name = c.args.interfaces.now.by_name in
-    let worlds = c.args.worlds.now.by_name in
-    let o = OfWorld (length c.args.worlds.now.arena) in
-    let item = item_behind c.args.item.now in
-    let file = c.args.item.now.file.now in
-    rw (p.1, p.2) (λ fs named. refused_weaker (λ f. IsBrokenItemStability item f ⊎ IsLostInclude fs worlds item f) (IsWrongWorld fs old cs count inside by_name worlds o item) _ (λ f h. elim h [
-      | inl unstable ↦ WrongWorldStability unstable
-      | inr lost ↦ LostInclude lost
-    ]) (c.in_err-includes.ensures.refused fs file named))
+pub world_content-content-requires-clause-listed : goal.world_content-content-requires-clause-listed
+world_content-content-requires-clause-listed c = turn_listed _ _ _ _ _ _ _ _ c.in_ok-head.ensures.adds
 
-pub returns-in_err-externs-clause-refused : goal.returns-in_err-externs-clause-refused
-returns-in_err-externs-clause-refused c =
-    let p = err_from_is_err_and c.from_residual-in_err-externs.result c.from_residual-in_err-externs.ensures.1 in
-    rw p.1 (λ fs named. inl p.2)
+pub world_content-content-requires-clause-turn : goal.world_content-content-requires-clause-turn
+world_content-content-requires-clause-turn c = turn_added _ _ _ _ _ _ _ _ c.in_ok-head.ensures.adds
 
-pub returns-in_err-sides-clause-refused : goal.returns-in_err-sides-clause-refused
-returns-in_err-sides-clause-refused c =
-    let p = err_from_is_err_and c.from_residual-in_err-sides.result c.from_residual-in_err-sides.ensures.1 in
-    rw p.1 (λ fs named. inl p.2)
-
-pub resolve_standing-requires-clause-closed : goal.resolve_standing-requires-clause-closed
-resolve_standing-requires-clause-closed c =
-    let named = c.requires.file in
-    let file = c.args.item.now.file.now in
-    c.is_closed-closed.ensures (written_includes (item_behind c.args.item.now)) (ap length c.as_slice.ensures ∙ (c.in_ok-includes.ensures.are named.files file named.are).count)
-
-pub resolve_standing-requires-clause-listed : goal.resolve_standing-requires-clause-listed
-resolve_standing-requires-clause-listed c =
+pub returns-in_err-notes-clause-refused : goal.returns-in_err-notes-clause-refused
+returns-in_err-notes-clause-refused c =
+    let p = err_from_is_err_and c.from_residual-in_err-notes.result c.from_residual-in_err-notes.ensures.1 in
     let old = c.args.types.now in
     let cs = cells_of c.args.interfaces.now in
     let o = OfWorld (length c.args.worlds.now.arena) in
     let item = item_behind c.args.item.now in
     let names = c.in_ok-head.head.names in
     let n : AddsTurn old c.world_head.new.types cs o (scope_names item) names.types names.turn.items names.required.items = turn_item old c.world_head.new.types cs (OfWorld c.next_id.result) o item item names.types names.turn.items names.required.items (ap OfWorld c.next_id.ensures) refl c.in_ok-head.ensures.adds in
-    turn_listed _ _ _ _ _ _ _ _ n
-
-pub resolve_standing-requires-clause-turn : goal.resolve_standing-requires-clause-turn
-resolve_standing-requires-clause-turn c =
-    let old = c.args.types.now in
-    let cs = cells_of c.args.interfaces.now in
-    let o = OfWorld (length c.args.worlds.now.arena) in
-    let item = item_behind c.args.item.now in
-    let names = c.in_ok-head.head.names in
-    let n : AddsTurn old c.world_head.new.types cs o (scope_names item) names.types names.turn.items names.required.items = turn_item old c.world_head.new.types cs (OfWorld c.next_id.result) o item item names.types names.turn.items names.required.items (ap OfWorld c.next_id.ensures) refl c.in_ok-head.ensures.adds in
-    turn_added _ _ _ _ _ _ _ _ n
-
-pub resolve_standing-requires-clause-sides : goal.resolve_standing-requires-clause-sides
-resolve_standing-requires-clause-sides c =
-    sym (ap externs_behind c.deref_mut-lent.ensures.value ∙ c.in_ok-externs.ensures.behind)
-
-pub returns-in_err-standing-clause-refused : goal.returns-in_err-standing-clause-refused
-returns-in_err-standing-clause-refused c =
-    let p = err_from_is_err_and c.from_residual-in_err-standing.result c.from_residual-in_err-standing.ensures.1 in
-    let old = c.args.types.now in
-    let cs = cells_of c.args.interfaces.now in
-    let count = length c.args.interfaces.now.arena in
-    let inside = c.args.inside.now in
-    let by_name = c.args.interfaces.now.by_name in
-    let worlds = c.args.worlds.now.by_name in
-    let o = OfWorld (length c.args.worlds.now.arena) in
-    let item = item_behind c.args.item.now in
-    let names = c.in_ok-head.head.names in
-    let n : AddsTurn old c.world_head.new.types cs o (scope_names item) names.types names.turn.items names.required.items = turn_item old c.world_head.new.types cs (OfWorld c.next_id.result) o item item names.types names.turn.items names.required.items (ap OfWorld c.next_id.ensures) refl c.in_ok-head.ensures.adds in
-    let hs = c.deref_mut-lent.result.now in
-    let xs = c.args.item.now.names.items in
-    let own : IsStandingBy item xs hs = record { names = sym c.requires.named; sides = sym (ap externs_behind c.deref_mut-lent.ensures.value ∙ c.in_ok-externs.ensures.behind) } in
-    let file = c.args.item.now.file.now in
-    let front = front_of c.args.interfaces.now.foreign.now in
-    let is = c.args.interfaces.now.arena in
-    let mid = c.world_head.new.types in
-    rw (p.1, p.2) (λ fs named. (
-    let led : AreLed fs front by_name (top_names file) hs = subst (AreLed fs front by_name (top_names file)) (sym c.deref_mut-lent.ensures.value) (c.in_ok-externs.ensures.led fs file named) in
-    let placed = links_placed fs front is by_name (top_names file) hs (front_enough c.args.interfaces.now.foreign.now is c.requires.front) c.requires.index led in
-    refused_weaker (IsWrongStanding mid cs count inside by_name names.types names.turn.items item hs) (IsWrongWorld fs old cs count inside by_name worlds o item) _ (wrong_standing fs front (interfaces_at front is) old mid cs count inside by_name worlds o item names.types names.turn.items names.required.items xs hs own n led placed) c.in_err-standing.ensures.refused))
-
-pub world_sides-requires-clause-distinct : goal.world_sides-requires-clause-distinct
-world_sides-requires-clause-distinct c =
-    let old = c.args.types.now in
-    let cs = cells_of c.args.interfaces.now in
-    let o = OfWorld (length c.args.worlds.now.arena) in
-    let item = item_behind c.args.item.now in
-    let names = c.in_ok-head.head.names in
-    let n : AddsTurn old c.world_head.new.types cs o (scope_names item) names.types names.turn.items names.required.items = turn_item old c.world_head.new.types cs (OfWorld c.next_id.result) o item item names.types names.turn.items names.required.items (ap OfWorld c.next_id.ensures) refl c.in_ok-head.ensures.adds in
-    let turned : c.deref.result.now ≡ names.turn.items = c.deref.ensures.value ∙ ap (λ t. t.items) c.in_ok-standing.ensures.turn in
-    let xs = scope_names item in
-    subst AllDiffer (sym (turn_texts xs n.adds.order c.deref.result.now (turned ∙ n.turn))) (in_turn_distinct xs n.adds.order n.adds.least n.adds.distinct)
-
-pub world_sides-requires-clause-listed : goal.world_sides-requires-clause-listed
-world_sides-requires-clause-listed c =
-    let old = c.args.types.now in
-    let cs = cells_of c.args.interfaces.now in
-    let o = OfWorld (length c.args.worlds.now.arena) in
-    let item = item_behind c.args.item.now in
-    let names = c.in_ok-head.head.names in
-    let n : AddsTurn old c.world_head.new.types cs o (scope_names item) names.types names.turn.items names.required.items = turn_item old c.world_head.new.types cs (OfWorld c.next_id.result) o item item names.types names.turn.items names.required.items (ap OfWorld c.next_id.ensures) refl c.in_ok-head.ensures.adds in
-    let turned : c.deref.result.now ≡ names.turn.items = c.deref.ensures.value ∙ ap (λ t. t.items) c.in_ok-standing.ensures.turn in
-    ap names_in c.in_ok-standing.ensures.types ∙ turn_listed _ _ _ _ _ _ _ _ n ∙ ap (map (λ (id : Id). id.name.now)) (sym turned)
-
-pub world_sides-requires-clause-differ : goal.world_sides-requires-clause-differ
-world_sides-requires-clause-differ c =
-    let names = c.in_ok-head.head.names in
-    let turned : c.deref.result.now ≡ names.turn.items = c.deref.ensures.value ∙ ap (λ t. t.items) c.in_ok-standing.ensures.turn in
-    subst (λ (l : List Id). DifferOnSides l (externs_behind c.deref_mut-lent.result.now)) (sym turned) c.in_ok-standing.ensures.differ
-
-pub world_sides-requires-clause-within : goal.world_sides-requires-clause-within
-world_sides-requires-clause-within c =
-    let front = front_of c.args.interfaces.now.foreign.now in
-    let is = c.args.interfaces.now.arena in
-    let by_name = c.args.interfaces.now.by_name in
-    let file = c.args.item.now.file.now in
-    let hs = c.deref_mut-lent.result.now in
-    let named = c.requires.file in
-    let led : AreLed named.files front by_name (top_names file) hs = subst (AreLed named.files front by_name (top_names file)) (sym c.deref_mut-lent.ensures.value) (c.in_ok-externs.ensures.led named.files file named.are) in
-    let enough = front_enough c.args.interfaces.now.foreign.now is c.requires.front in
-    links_within front is (top_names file) hs enough (links_placed named.files front is by_name (top_names file) hs enough c.requires.index led)
+    let refused = rw c.in_err-notes.ensures.refused at c.world_content-content.ensures.refused in
+    rw (p.1, p.2) (λ fs named. refused fs old named n)
 
 pub returns-clause-parts : goal.returns-clause-parts
 returns-clause-parts c =
@@ -174,59 +53,21 @@ returns-clause-parts c =
     let item = item_behind c.args.item.now in
     let names = c.in_ok-head.head.names in
     let n : AddsTurn old c.world_head.new.types cs o (scope_names item) names.types names.turn.items names.required.items = turn_item old c.world_head.new.types cs (OfWorld c.next_id.result) o item item names.types names.turn.items names.required.items (ap OfWorld c.next_id.ensures) refl c.in_ok-head.ensures.adds in
-    let file = c.args.item.now.file.now in
-    let front = front_of c.args.interfaces.now.foreign.now in
-    let is = c.args.interfaces.now.arena in
-    let by_name = c.args.interfaces.now.by_name in
-    let named = c.requires.file in
-    let hs = c.deref_mut-lent.result.now in
-    let e = c.in_ok-standing.ensures in
-    let standing = c.in_ok-standing.standing in
-    let turned : c.deref.result.now ≡ names.turn.items = c.deref.ensures.value ∙ ap (λ t. t.items) c.in_ok-standing.ensures.turn in
-    let same : side_items item ≡ externs_behind hs = sym (ap externs_behind c.deref_mut-lent.ensures.value ∙ c.in_ok-externs.ensures.behind) in
-    let led : AreLed named.files front by_name (top_names file) hs = subst (AreLed named.files front by_name (top_names file)) (sym c.deref_mut-lent.ensures.value) (c.in_ok-externs.ensures.led named.files file named.are) in
-    let enough = front_enough c.args.interfaces.now.foreign.now is c.requires.front in
-    let placed = links_placed named.files front is by_name (top_names file) hs enough c.requires.index led in
-    λ ss known. parts_are front (others_of c.args.files.now) is old c.world_head.new.types c.resolve_standing.new.types c.args.worlds.now.arena c.args.inside.now c.resolve_standing.new.inside ss item _ names.types c.resolve_standing.new.names.types names.turn.items c.deref.result.now names.required.items standing.functions.items standing.inside.items hs c.is_closed-closed.result (addresses_count front is enough) known n e.adds e.grown same placed e.right e.named e.counted e.ids turned e.types c.in_ok-sides.ensures.imports c.in_ok-sides.ensures.exports (c.is_closed-closed.ensures (written_includes item) (ap length c.as_slice.ensures ∙ (c.in_ok-includes.ensures.are named.files file named.are).count)) e.paired c.in_ok-head.ensures.told (c.in_ok-includes.ensures.are named.files file named.are)
+    let parts = rw c.in_ok-notes.ensures.both.1 at c.world_content-content.ensures.parts in
+    rw c.in_ok-notes.ensures.both.0 (λ ss known. parts ss old c.in_ok-head.head.notes known n c.in_ok-head.ensures.told)
 
 pub returns-clause-stable : goal.returns-clause-stable
 returns-clause-stable c =
-    let item = item_behind c.args.item.now in
-    world_stable item c.in_ok-head.ensures.stable c.in_ok-includes.ensures.stable
+    let stable = rw c.in_ok-notes.ensures.both.1 at c.world_content-content.ensures.stable in
+    world_stable (item_behind c.args.item.now) c.in_ok-head.ensures.stable stable
 
 pub returns-clause-sound : goal.returns-clause-sound
 returns-clause-sound c =
-    let item = item_behind c.args.item.now in
-    let e = c.in_ok-standing.ensures in
-    sounds_all item (inline_items item) (scope_sound (scope_names item) (functions item) (c.in_ok-head.ensures.legal (functions item)) e.legal) e.sound
+    let sound = rw c.in_ok-notes.ensures.both.1 at c.world_content-content.ensures.sound in
+    sound c.in_ok-head.ensures.legal
 
 pub returns-clause-sided : goal.returns-clause-sided
-returns-clause-sided c =
-    let old = c.args.types.now in
-    let cs = cells_of c.args.interfaces.now in
-    let o = OfWorld (length c.args.worlds.now.arena) in
-    let item = item_behind c.args.item.now in
-    let names = c.in_ok-head.head.names in
-    let n : AddsTurn old c.world_head.new.types cs o (scope_names item) names.types names.turn.items names.required.items = turn_item old c.world_head.new.types cs (OfWorld c.next_id.result) o item item names.types names.turn.items names.required.items (ap OfWorld c.next_id.ensures) refl c.in_ok-head.ensures.adds in
-    let hs = c.deref_mut-lent.result.now in
-    let xs = c.args.item.now.names.items in
-    let own : IsStandingBy item xs hs = record { names = sym c.requires.named; sides = sym (ap externs_behind c.deref_mut-lent.ensures.value ∙ c.in_ok-externs.ensures.behind) } in
-    let front = front_of c.args.interfaces.now.foreign.now in
-    let is = c.args.interfaces.now.arena in
-    let by_name = c.args.interfaces.now.by_name in
-    let file = c.args.item.now.file.now in
-    let at = c.requires.file in
-    let e = c.in_ok-standing.ensures in
-    let led : AreLed at.files front by_name (top_names file) hs = subst (AreLed at.files front by_name (top_names file)) (sym c.deref_mut-lent.ensures.value) (c.in_ok-externs.ensures.led at.files file at.are) in
-    let placed = links_placed at.files front is by_name (top_names file) hs (front_enough c.args.interfaces.now.foreign.now is c.requires.front) c.requires.index led in
-    sides_all item (inline_items item) (sides_legal item xs hs names.turn.items (interfaces_at front is) own (turn_added _ _ _ _ _ _ _ _ n) e.differ e.right e.noted e.apart placed) e.sided
+returns-clause-sided c = rw c.in_ok-notes.ensures.both.1 at c.world_content-content.ensures.sided
 
 pub returns-clause-linked : goal.returns-clause-linked
-returns-clause-linked c =
-    λ fs named.
-    let front = front_of c.args.interfaces.now.foreign.now in
-    let by_name = c.args.interfaces.now.by_name in
-    let file = c.args.item.now.file.now in
-    let hs = c.deref_mut-lent.result.now in
-    let led : AreLed fs front by_name (top_names file) hs = subst (AreLed fs front by_name (top_names file)) (sym c.deref_mut-lent.ensures.value) (c.in_ok-externs.ensures.led fs file named) in
-    links_lead fs front by_name (item_behind c.args.item.now) hs (sym (ap externs_behind c.deref_mut-lent.ensures.value ∙ c.in_ok-externs.ensures.behind)) led c.in_ok-standing.ensures.right
+returns-clause-linked c = rw c.in_ok-notes.ensures.both.1 at c.world_content-content.ensures.linked
