@@ -142,6 +142,10 @@ perhaps_then {a} {b} {c} {xs} {ys} p q =
       rise = both.rise;
     }
 
+-- with a part behind it that has no marks
+pub perhaps_close : {a b c : Reader} {xs : List Mark} → IsReadOn a xs b → IsRead b [] c → IsRead a xs c
+perhaps_close {a} {b} {c} {xs} p q = subst (λ marks. IsRead a marks c) (append-nil xs) (perhaps_then p q)
+
 -- an item behind its front
 pub fronted : {a b c : Reader} {front whole : List Mark} → IsReadOn a front b → IsReadBehind b front whole c → IsRead a whole c
 fronted p q = same_marks q.item (perhaps_then p q.read)

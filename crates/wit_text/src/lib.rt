@@ -9,6 +9,8 @@ mod file;
 mod front;
 mod function;
 mod handle;
+mod holding;
+mod list;
 mod members;
 mod package;
 mod primitive;
