@@ -4,6 +4,7 @@ ghost use Rattle.std.specs.List.{flat_map};
 ghost use Rattle.wit_values.specs.declared.span.Span.{Span as TheSpan};
 ghost use Rattle.wit_tree.specs.Marks.{spelled, counted, type_marks, boxed_marks, size_marks};
 
+use crate::holding::beside;
 use crate::primitive::primitive;
 use crate::reader::Reader;
 use wit_lex::fault::ReadFault;
@@ -15,11 +16,25 @@ use wit_tree::{ParseError, ParseResult, Span};
 /// How many levels of types are read.
 pub const MOST_NESTED: u8 = 100;
 
-/// Whether a word begins a type that is no primitive.
-fn is_form(word: Word) -> bool {
+/// Whether a word begins a type.
+fn begins_type(word: Word) -> bool {
     matches!(
         word,
-        Word::List
+        Word::Bool
+            | Word::U8
+            | Word::U16
+            | Word::U32
+            | Word::U64
+            | Word::S8
+            | Word::S16
+            | Word::S32
+            | Word::S64
+            | Word::F32
+            | Word::F64
+            | Word::Char
+            | Word::String
+            | Word::ErrorContext
+            | Word::List
             | Word::Map
             | Word::Option
             | Word::Result
@@ -48,7 +63,7 @@ impl<'a> Reader<'a> {
     fn begins_type(&self) -> bool {
         match self.token.kind {
             Kind::Name => true,
-            Kind::Word(word) => is_form(word) || primitive(word, self.span()).is_some(),
+            Kind::Word(word) => begins_type(word),
             _ => false,
         }
     }
@@ -82,7 +97,7 @@ impl<'a> Reader<'a> {
     {
         match self.primitive() {
             Some(ty) => {
-                self.bump()?;
+                let (ty, _) = beside(ty, self.bump())?;
                 Ok(ty)
             }
             None => Err(self.refuse(ReadFault::Token)),
@@ -106,17 +121,29 @@ impl<'a> Reader<'a> {
         }
     }
 
-    /// Reads `,` and a number, where there is one.
+    /// Reads `>`, perhaps with `,` and a number in front of it.
     fn read_size(&mut self) -> ParseResult<Option<u32>>
-        ensures read { IfOk result (λ size. IsReadOn self.old (size_marks size) self.new) }
+        ensures read { IfOk result (λ size. IsRead self.old (size_marks size) self.new) }
         ensures refused { IfErr result (λ e. IsRefused self.old e) }
     {
         if !self.at(Kind::Comma) {
+            self.expect(Kind::CloseAngle)?;
             return Ok(None);
         }
         self.bump()?;
         let size = self.read_number()?;
+        self.expect(Kind::CloseAngle)?;
         Ok(Some(size))
+    }
+
+    /// Reads a type and the token of a kind behind it.
+    pub fn read_closed_type(&mut self, close: Kind) -> ParseResult<Type<'a>>
+        ensures read { IfOk result (λ t. IsRead self.old (type_marks t) self.new) }
+        ensures refused { IfErr result (λ e. IsRefused self.old e) }
+    {
+        let ty = self.read_type(MOST_NESTED)?;
+        let closed = self.closed(ty, close)?;
+        Ok(closed)
     }
 
     /// Reads a type of at most `left` levels.
@@ -154,9 +181,8 @@ impl<'a> Reader<'a> {
     {
         let span = self.read_word(Word::List)?;
         self.expect(Kind::OpenAngle)?;
-        let item = self.read_boxed(left)?;
-        let size = self.read_size()?;
-        self.expect(Kind::CloseAngle)?;
+        let boxed = self.read_boxed(left)?;
+        let (item, size) = beside(boxed, self.read_size())?;
         Ok(list(span, item, size))
     }
 
@@ -168,10 +194,8 @@ impl<'a> Reader<'a> {
     {
         let span = self.read_word(Word::Map)?;
         self.expect(Kind::OpenAngle)?;
-        let key = self.read_boxed(left)?;
-        self.expect(Kind::Comma)?;
-        let value = self.read_boxed(left)?;
-        self.expect(Kind::CloseAngle)?;
+        let first = self.read_boxed_before(left, Kind::Comma)?;
+        let (key, value) = beside(first, self.read_boxed_before(left, Kind::CloseAngle))?;
         Ok(Type::Map(span, key, value))
     }
 
@@ -183,8 +207,7 @@ impl<'a> Reader<'a> {
     {
         let span = self.read_word(Word::Option)?;
         self.expect(Kind::OpenAngle)?;
-        let value = self.read_boxed(left)?;
-        self.expect(Kind::CloseAngle)?;
+        let value = self.read_boxed_before(left, Kind::CloseAngle)?;
         Ok(Type::Option(span, value))
     }
 
@@ -199,9 +222,9 @@ impl<'a> Reader<'a> {
             return Ok(Type::Result(span, None, None));
         }
         self.bump()?;
-        let ok = self.read_ok(left)?;
-        let err = self.read_err(left, ok.is_none())?;
-        self.expect(Kind::CloseAngle)?;
+        let first = self.read_ok(left)?;
+        let needed = first.is_none();
+        let (ok, err) = beside(first, self.read_err(left, needed))?;
         Ok(Type::Result(span, ok, err))
     }
 
@@ -219,17 +242,19 @@ impl<'a> Reader<'a> {
         Ok(Some(ok))
     }
 
-    /// Reads `,` and the type of the error of a result, where there is one or has to be.
+    /// Reads `>`, with `,` and the type of the error of a result in front of it, where there is one
+    /// or has to be.
     #[cycle(types)]
     fn read_err(&mut self, left: u8, needed: bool) -> ParseResult<Option<Box<Type<'a>>>>
-        ensures read { IfOk result (λ t. IsReadOn self.old (boxed_marks t) self.new) }
+        ensures read { IfOk result (λ t. IsRead self.old (boxed_marks t) self.new) }
         ensures refused { IfErr result (λ e. IsRefused self.old e) }
     {
         if !needed && !self.at(Kind::Comma) {
+            self.expect(Kind::CloseAngle)?;
             return Ok(None);
         }
         self.expect(Kind::Comma)?;
-        let err = self.read_boxed(left)?;
+        let err = self.read_boxed_before(left, Kind::CloseAngle)?;
         Ok(Some(err))
     }
 
@@ -250,18 +275,13 @@ impl<'a> Reader<'a> {
         ensures read { IfOk result (λ ts. IsRead self.old (flat_map type_marks ts.items) self.new) }
         ensures refused { IfErr result (λ e. IsRefused self.old e) }
     {
-        self.expect(Kind::OpenAngle)?;
+        let mut more = self.open_list(Kind::OpenAngle, Kind::CloseAngle)?;
         let mut types = Vec::new(self.alloc);
-        'types: while !self.at(Kind::CloseAngle) {
+        'types: while more {
             let ty = self.read_type(left)?;
             types.push(ty)?;
-            if !self.at(Kind::Comma) {
-                self.expect(Kind::CloseAngle)?;
-                return Ok(types);
-            }
-            self.bump()?;
+            more = self.next_in_list(Kind::CloseAngle)?;
         }
-        self.bump()?;
         Ok(types)
     }
 
@@ -297,9 +317,19 @@ impl<'a> Reader<'a> {
             return Ok(None);
         }
         self.bump()?;
-        let payload = self.read_boxed(left)?;
-        self.expect(Kind::CloseAngle)?;
+        let payload = self.read_boxed_before(left, Kind::CloseAngle)?;
         Ok(Some(payload))
+    }
+
+    /// Reads a type and the token of a kind behind it, and boxes the type.
+    #[cycle(types)]
+    fn read_boxed_before(&mut self, left: u8, close: Kind) -> ParseResult<Box<Type<'a>>>
+        ensures read { IfOk result (λ t. IsRead self.old (type_marks t.value) self.new) }
+        ensures refused { IfErr result (λ e. IsRefused self.old e) }
+    {
+        let boxed = self.read_boxed(left)?;
+        let closed = self.closed(boxed, close)?;
+        Ok(closed)
     }
 
     /// Reads a type, and boxes it.
