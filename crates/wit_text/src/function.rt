@@ -1,5 +1,5 @@
 //! Reading functions.
-ghost use Rattle.std.specs.Prelude.{◌≡◌, ◌+◌, [], ◌∷◌, IfOk, IfErr, IfSome};
+ghost use Rattle.std.specs.Prelude.{◌≡◌, ◌+◌, [], ◌∷◌, ◌++◌, IfOk, IfErr, IfSome};
 ghost use Rattle.std.specs.List.{flat_map};
 ghost use Rattle.wit_text.specs.Fronts.{IsReadBehind};
 ghost use Rattle.wit_tree.specs.Marks.{spelled, front_marks, param_marks, payload_marks, form_word, func_marks, named_func_marks};
@@ -31,34 +31,28 @@ impl<'a> Reader<'a> {
         ensures read { IfOk result (λ p. IsRead self.old (param_marks p) self.new) }
         ensures refused { IfErr result (λ e. IsRefused self.old e) }
     {
-        let name = self.read_id()?;
-        self.expect(Kind::Colon)?;
+        let name = self.read_label()?;
         let ty = self.read_type(MOST_NESTED)?;
         Ok(Param { name, ty })
     }
 
     /// Reads parameters in parentheses.
-    pub fn read_params(&mut self) -> ParseResult<Vec<Param<'a>>>
+    fn read_params(&mut self) -> ParseResult<Vec<Param<'a>>>
         ensures read { IfOk result (λ ps. IsRead self.old (flat_map param_marks ps.items) self.new) }
         ensures refused { IfErr result (λ e. IsRefused self.old e) }
     {
-        self.expect(Kind::OpenParen)?;
+        let mut more = self.open_list(Kind::OpenParen, Kind::CloseParen)?;
         let mut params = Vec::new(self.alloc);
-        'params: while !self.at(Kind::CloseParen) {
+        'params: while more {
             let param = self.read_param()?;
             params.push(param)?;
-            if !self.at(Kind::Comma) {
-                self.expect(Kind::CloseParen)?;
-                return Ok(params);
-            }
-            self.bump()?;
+            more = self.next_in_list(Kind::CloseParen)?;
         }
-        self.bump()?;
         Ok(params)
     }
 
     /// Reads `->` and the type of what a function returns, where there is one.
-    pub fn read_returned(&mut self) -> ParseResult<Option<Type<'a>>>
+    fn read_returned(&mut self) -> ParseResult<Option<Type<'a>>>
         ensures read { IfOk result (λ ty. IsReadOn self.old (payload_marks ty) self.new) }
         ensures refused { IfErr result (λ e. IsRefused self.old e) }
     {
@@ -68,6 +62,16 @@ impl<'a> Reader<'a> {
         self.bump()?;
         let ty = self.read_type(MOST_NESTED)?;
         Ok(Some(ty))
+    }
+
+    /// Reads parameters in parentheses, and the type of what a function returns, where there is one.
+    pub fn read_signature(&mut self) -> ParseResult<(Vec<Param<'a>>, Option<Type<'a>>)>
+        ensures read { IfOk result (λ r. IsRead self.old (flat_map param_marks r.0.items ++ payload_marks r.1) self.new) }
+        ensures refused { IfErr result (λ e. IsRefused self.old e) }
+    {
+        let params = self.read_params()?;
+        let returned = self.read_returned()?;
+        Ok((params, returned))
     }
 
     /// Reads `func`, `async func`, `get` or `set`, and tells where the word of these stands that is
@@ -115,8 +119,7 @@ impl<'a> Reader<'a> {
         ensures refused { IfErr result (λ e. IsRefused self.old e) }
     {
         let form = self.read_form()?;
-        let params = self.read_params()?;
-        let returned = self.read_returned()?;
+        let (params, returned) = self.read_signature()?;
         Ok(Func {
             span: form.0,
             form: form.1,
@@ -125,15 +128,23 @@ impl<'a> Reader<'a> {
         })
     }
 
+    /// Reads a function without its name, and the `;` behind it.
+    pub fn read_closed_func(&mut self) -> ParseResult<Func<'a>>
+        ensures read { IfOk result (λ f. IsRead self.old (func_marks f) self.new) }
+        ensures refused { IfErr result (λ e. IsRefused self.old e) }
+    {
+        let func = self.read_func()?;
+        let closed = self.closed(func, Kind::Semicolon)?;
+        Ok(closed)
+    }
+
     /// Reads `name: function;`.
     pub fn read_named_func(&mut self, front: Front<'a>) -> ParseResult<NamedFunc<'a>>
         ensures read { IfOk result (λ f. IsReadBehind self.old (front_marks front.entry.docs front.entry.attributes.items) (named_func_marks f) self.new) }
         ensures refused { IfErr result (λ e. IsRefused self.old e) }
     {
-        let name = self.read_id()?;
-        self.expect(Kind::Colon)?;
-        let func = self.read_func()?;
-        self.expect(Kind::Semicolon)?;
+        let name = self.read_label()?;
+        let func = self.read_closed_func()?;
         Ok(NamedFunc {
             docs: front.docs,
             attributes: front.attributes,

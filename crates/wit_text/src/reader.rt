@@ -163,4 +163,14 @@ impl<'a> Reader<'a> {
             None => Err(self.refuse(ReadFault::Token)),
         }
     }
+
+    /// Reads a name and the `:` behind it.
+    pub fn read_label(&mut self) -> ParseResult<Id<'a>>
+        ensures read { IfOk result (λ id. IsRead self.old (named id ∷ []) self.new) }
+        ensures refused { IfErr result (λ e. IsRefused self.old e) }
+    {
+        let id = self.read_id()?;
+        self.expect(Kind::Colon)?;
+        Ok(id)
+    }
 }

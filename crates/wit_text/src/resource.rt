@@ -42,15 +42,14 @@ impl<'a> Reader<'a> {
         ensures refused { IfErr result (λ e. IsRefused self.old e) }
     {
         let span = self.read_word(Word::Constructor)?;
-        let params = self.read_params()?;
-        let returned = self.read_returned()?;
-        self.expect(Kind::Semicolon)?;
+        let signature = self.read_signature()?;
+        let closed = self.closed(signature, Kind::Semicolon)?;
         Ok(ResourceFunc::Constructor {
             docs: front.docs,
             attributes: front.attributes,
             span,
-            params,
-            result: returned,
+            params: closed.0,
+            result: closed.1,
         })
     }
 
@@ -71,11 +70,9 @@ impl<'a> Reader<'a> {
         ensures read { IfOk result (λ f. IsReadBehind self.old (front_marks front.entry.docs front.entry.attributes.items) (resource_func_marks f) self.new) }
         ensures refused { IfErr result (λ e. IsRefused self.old e) }
     {
-        let name = self.read_id()?;
-        self.expect(Kind::Colon)?;
+        let name = self.read_label()?;
         let is_static = self.skip_static()?;
-        let func = self.read_func()?;
-        self.expect(Kind::Semicolon)?;
+        let func = self.read_closed_func()?;
         Ok(resource_func(is_static, front, name, func))
     }
 
