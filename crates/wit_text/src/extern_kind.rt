@@ -23,13 +23,12 @@ impl<'a> Reader<'a> {
         Ok(ExternKind::Interface(name, items))
     }
 
-    /// Reads the rest of a function with its `;`, behind its name and `:`.
+    /// Reads the rest of a function, behind its name and `:`.
     fn read_extern_func(&mut self, name: Id<'a>) -> ParseResult<ExternKind<'a>>
         ensures read { IfOk result (λ kind. Completes self.old (named name.entry ∷ []) (extern_marks kind) self.new) }
         ensures refused { IfErr result (λ e. IsRefused self.old e) }
     {
-        let func = self.read_func()?;
-        self.expect(Kind::Semicolon)?;
+        let func = self.read_closed_func()?;
         Ok(ExternKind::Func(name, func))
     }
 
@@ -42,12 +41,12 @@ impl<'a> Reader<'a> {
         let second = self.read_id()?;
         if self.at(Kind::Slash) {
             let path = self.read_item_path(first, second)?;
-            self.expect(Kind::Semicolon)?;
-            return Ok(ExternKind::Path(path));
+            let closed = self.closed(path, Kind::Semicolon)?;
+            return Ok(ExternKind::Path(closed));
         }
         let path = self.read_rest_of_path(second)?;
-        self.expect(Kind::Semicolon)?;
-        Ok(ExternKind::NamedPath(first, path))
+        let closed = self.closed(path, Kind::Semicolon)?;
+        Ok(ExternKind::NamedPath(first, closed))
     }
 
     /// Reads what stands behind a name and `:`.
