@@ -6,7 +6,6 @@ ghost use Rattle.wit_tree.specs.Marks.{front_marks, defined_marks, definition_ma
 
 use crate::front::Front;
 use crate::reader::Reader;
-use crate::types::MOST_NESTED;
 use wit_lex::fault::ReadFault;
 use wit_lex::kind::Kind;
 use wit_lex::word::Word;
@@ -24,8 +23,7 @@ impl<'a> Reader<'a> {
         self.expect_word(Word::Type)?;
         let name = self.read_id()?;
         self.expect(Kind::Equals)?;
-        let ty = self.read_type(MOST_NESTED)?;
-        self.expect(Kind::Semicolon)?;
+        let ty = self.read_closed_type(Kind::Semicolon)?;
         Ok((name, TypeBody::Plain(ty)))
     }
 

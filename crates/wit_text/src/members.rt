@@ -17,8 +17,7 @@ impl<'a> Reader<'a> {
         ensures refused { IfErr result (λ e. IsRefused self.old e) }
     {
         let docs = self.read_docs()?;
-        let name = self.read_id()?;
-        self.expect(Kind::Colon)?;
+        let name = self.read_label()?;
         let ty = self.read_type(MOST_NESTED)?;
         Ok(Field { docs, name, ty })
     }
@@ -28,18 +27,13 @@ impl<'a> Reader<'a> {
         ensures read { IfOk result (λ fs. IsRead self.old (flat_map field_marks fs.items) self.new) }
         ensures refused { IfErr result (λ e. IsRefused self.old e) }
     {
-        self.expect(Kind::OpenBrace)?;
+        let mut more = self.open_list(Kind::OpenBrace, Kind::CloseBrace)?;
         let mut fields = Vec::new(self.alloc);
-        'fields: while !self.at(Kind::CloseBrace) {
+        'fields: while more {
             let field = self.read_field()?;
             fields.push(field)?;
-            if !self.at(Kind::Comma) {
-                self.expect(Kind::CloseBrace)?;
-                return Ok(fields);
-            }
-            self.bump()?;
+            more = self.next_in_list(Kind::CloseBrace)?;
         }
-        self.bump()?;
         Ok(fields)
     }
 
@@ -57,18 +51,13 @@ impl<'a> Reader<'a> {
         ensures read { IfOk result (λ f. IsRead self.old (flat_map flag_marks f.items) self.new) }
         ensures refused { IfErr result (λ e. IsRefused self.old e) }
     {
-        self.expect(Kind::OpenBrace)?;
+        let mut more = self.open_list(Kind::OpenBrace, Kind::CloseBrace)?;
         let mut flags = Vec::new(self.alloc);
-        'flags: while !self.at(Kind::CloseBrace) {
+        'flags: while more {
             let flag = self.read_flag()?;
             flags.push(flag)?;
-            if !self.at(Kind::Comma) {
-                self.expect(Kind::CloseBrace)?;
-                return Ok(flags);
-            }
-            self.bump()?;
+            more = self.next_in_list(Kind::CloseBrace)?;
         }
-        self.bump()?;
         Ok(flags)
     }
 
@@ -81,8 +70,7 @@ impl<'a> Reader<'a> {
             return Ok(None);
         }
         self.bump()?;
-        let ty = self.read_type(MOST_NESTED)?;
-        self.expect(Kind::CloseParen)?;
+        let ty = self.read_closed_type(Kind::CloseParen)?;
         Ok(Some(ty))
     }
 
@@ -101,18 +89,13 @@ impl<'a> Reader<'a> {
         ensures read { IfOk result (λ c. IsRead self.old (flat_map case_marks c.items) self.new) }
         ensures refused { IfErr result (λ e. IsRefused self.old e) }
     {
-        self.expect(Kind::OpenBrace)?;
+        let mut more = self.open_list(Kind::OpenBrace, Kind::CloseBrace)?;
         let mut cases = Vec::new(self.alloc);
-        'cases: while !self.at(Kind::CloseBrace) {
+        'cases: while more {
             let case = self.read_case()?;
             cases.push(case)?;
-            if !self.at(Kind::Comma) {
-                self.expect(Kind::CloseBrace)?;
-                return Ok(cases);
-            }
-            self.bump()?;
+            more = self.next_in_list(Kind::CloseBrace)?;
         }
-        self.bump()?;
         Ok(cases)
     }
 
@@ -130,18 +113,13 @@ impl<'a> Reader<'a> {
         ensures read { IfOk result (λ c. IsRead self.old (flat_map enum_case_marks c.items) self.new) }
         ensures refused { IfErr result (λ e. IsRefused self.old e) }
     {
-        self.expect(Kind::OpenBrace)?;
+        let mut more = self.open_list(Kind::OpenBrace, Kind::CloseBrace)?;
         let mut cases = Vec::new(self.alloc);
-        'cases: while !self.at(Kind::CloseBrace) {
+        'cases: while more {
             let case = self.read_enum_case()?;
             cases.push(case)?;
-            if !self.at(Kind::Comma) {
-                self.expect(Kind::CloseBrace)?;
-                return Ok(cases);
-            }
-            self.bump()?;
+            more = self.next_in_list(Kind::CloseBrace)?;
         }
-        self.bump()?;
         Ok(cases)
     }
 }

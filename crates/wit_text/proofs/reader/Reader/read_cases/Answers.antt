@@ -4,11 +4,4 @@ use Rattle.wit_text.proofs.reader.Reader.read_cases.Goals as goal
 
 pub cases-preserved : goal.cases-preserved
 cases-preserved c =
-    close (more case_marks c.cases.cases.items c.push.new.self.items c.in_ok-case.case c.in_ok-push.ensures.items c.cases.invariant c.in_ok-case.ensures.read) c.in_ok-bump.ensures.read
-
-pub returns-clause-read : goal.returns-clause-read
-returns-clause-read c = close c.cases.invariant c.in_ok-bump-2.ensures.read
-
-pub returns-then-not-at-clause-read : goal.returns-then-not-at-clause-read
-returns-then-not-at-clause-read c =
-    close (more case_marks c.cases.cases.items c.push.new.self.items c.in_ok-case.case c.in_ok-push.ensures.items c.cases.invariant c.in_ok-case.ensures.read) c.in_ok-expect-2.ensures.read
+    close (more case_marks c.cases.cases.items c.push.new.self.items c.in_ok-case.case c.in_ok-push.ensures.items c.cases.invariant c.in_ok-case.ensures.read) c.in_ok-more-2.ensures.read

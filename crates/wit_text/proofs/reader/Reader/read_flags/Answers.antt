@@ -4,11 +4,4 @@ use Rattle.wit_text.proofs.reader.Reader.read_flags.Goals as goal
 
 pub flags-preserved : goal.flags-preserved
 flags-preserved c =
-    close (more flag_marks c.flags.flags.items c.push.new.self.items c.in_ok-flag.flag c.in_ok-push.ensures.items c.flags.invariant c.in_ok-flag.ensures.read) c.in_ok-bump.ensures.read
-
-pub returns-clause-read : goal.returns-clause-read
-returns-clause-read c = close c.flags.invariant c.in_ok-bump-2.ensures.read
-
-pub returns-then-not-at-clause-read : goal.returns-then-not-at-clause-read
-returns-then-not-at-clause-read c =
-    close (more flag_marks c.flags.flags.items c.push.new.self.items c.in_ok-flag.flag c.in_ok-push.ensures.items c.flags.invariant c.in_ok-flag.ensures.read) c.in_ok-expect-2.ensures.read
+    close (more flag_marks c.flags.flags.items c.push.new.self.items c.in_ok-flag.flag c.in_ok-push.ensures.items c.flags.invariant c.in_ok-flag.ensures.read) c.in_ok-more-2.ensures.read
