@@ -6,6 +6,7 @@ ghost use Rattle.wit_tree.specs.Slices.{IsJoined};
 ghost use Rattle.wit_text.specs.Fronts.{Completes, IsReadBehind};
 ghost use Rattle.wit_text.specs.Headers.{found_version};
 
+use crate::holding::beside;
 use crate::reader::Reader;
 use semver::Version;
 use wit_lex::kind::Kind;
@@ -120,18 +121,24 @@ impl<'a> Reader<'a> {
         ensures read { IfOk result (λ names. IsRead self.old (flat_map used_marks names.items) self.new) }
         ensures refused { IfErr result (λ e. IsRefused self.old e) }
     {
-        self.expect(Kind::OpenBrace)?;
+        let mut more = self.open_list(Kind::OpenBrace, Kind::CloseBrace)?;
         let mut names = Vec::new(self.alloc);
-        'names: while !self.at(Kind::CloseBrace) {
+        'names: while more {
             let used = self.read_used()?;
             names.push(used)?;
-            if !self.at(Kind::Comma) {
-                self.expect(Kind::CloseBrace)?;
-                return Ok(names);
-            }
-            self.bump()?;
+            more = self.next_in_list(Kind::CloseBrace)?;
         }
-        self.bump()?;
+        Ok(names)
+    }
+
+    /// Reads what stands behind the path of a `use`: `.{name, name as name, ..};`.
+    fn read_behind_path(&mut self) -> ParseResult<Vec<UseName<'a>>>
+        ensures read { IfOk result (λ names. IsRead self.old (flat_map used_marks names.items) self.new) }
+        ensures refused { IfErr result (λ e. IsRefused self.old e) }
+    {
+        self.expect(Kind::Dot)?;
+        let names = self.read_used_names()?;
+        self.expect(Kind::Semicolon)?;
         Ok(names)
     }
 
@@ -141,15 +148,23 @@ impl<'a> Reader<'a> {
         ensures refused { IfErr result (λ e. IsRefused self.old e) }
     {
         self.expect_word(Word::Use)?;
-        let from = self.read_path()?;
-        self.expect(Kind::Dot)?;
-        let names = self.read_used_names()?;
-        self.expect(Kind::Semicolon)?;
+        let path = self.read_path()?;
+        let (from, names) = beside(path, self.read_behind_path())?;
         Ok(Use {
             attributes,
             from,
             names,
         })
+    }
+
+    /// Reads `;`, perhaps with `as` and the local name in front of it.
+    fn read_local_and_close(&mut self) -> ParseResult<Option<Id<'a>>>
+        ensures read { IfOk result (λ local. IsRead self.old (local_marks local) self.new) }
+        ensures refused { IfErr result (λ e. IsRefused self.old e) }
+    {
+        let local = self.read_local()?;
+        self.expect(Kind::Semicolon)?;
+        Ok(local)
     }
 
     /// Reads `use path;` or `use path as name;`.
@@ -161,9 +176,8 @@ impl<'a> Reader<'a> {
         ensures refused { IfErr result (λ e. IsRefused self.old e) }
     {
         let span = self.read_word(Word::Use)?;
-        let item = self.read_path()?;
-        let local = self.read_local()?;
-        self.expect(Kind::Semicolon)?;
+        let path = self.read_path()?;
+        let (item, local) = beside(path, self.read_local_and_close())?;
         Ok(ToplevelUse {
             span,
             attributes,

@@ -5,6 +5,7 @@ ghost use Rattle.wit_text.specs.Fronts.{IsReadBehind};
 ghost use Rattle.wit_tree.specs.Marks.{attributes_marks, front_marks, renamed_marks, include_marks, world_item_marks, world_marks};
 
 use crate::front::Front;
+use crate::holding::beside;
 use crate::reader::Reader;
 use wit_lex::kind::Kind;
 use wit_lex::word::Word;
@@ -30,18 +31,13 @@ impl<'a> Reader<'a> {
         ensures read { IfOk result (λ names. IsRead self.old (flat_map renamed_marks names.items) self.new) }
         ensures refused { IfErr result (λ e. IsRefused self.old e) }
     {
-        self.expect(Kind::OpenBrace)?;
+        let mut more = self.open_list(Kind::OpenBrace, Kind::CloseBrace)?;
         let mut names = Vec::new(self.alloc);
-        'names: while !self.at(Kind::CloseBrace) {
+        'names: while more {
             let renamed = self.read_renamed()?;
             names.push(renamed)?;
-            if !self.at(Kind::Comma) {
-                self.expect(Kind::CloseBrace)?;
-                return Ok(names);
-            }
-            self.bump()?;
+            more = self.next_in_list(Kind::CloseBrace)?;
         }
-        self.bump()?;
         Ok(names)
     }
 
@@ -77,8 +73,8 @@ impl<'a> Reader<'a> {
         ensures refused { IfErr result (λ e. IsRefused self.old e) }
     {
         self.expect_word(Word::Include)?;
-        let from = self.read_path()?;
-        let names = self.read_renames()?;
+        let path = self.read_path()?;
+        let (from, names) = beside(path, self.read_renames())?;
         Ok(Include {
             attributes,
             from,

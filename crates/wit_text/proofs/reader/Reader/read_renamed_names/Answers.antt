@@ -4,11 +4,4 @@ use Rattle.wit_text.proofs.reader.Reader.read_renamed_names.Goals as goal
 
 pub names-preserved : goal.names-preserved
 names-preserved c =
-    close (more renamed_marks c.names.names.items c.push.new.self.items c.in_ok-renamed.renamed c.in_ok-push.ensures.items c.names.invariant c.in_ok-renamed.ensures.read) c.in_ok-bump.ensures.read
-
-pub returns-clause-read : goal.returns-clause-read
-returns-clause-read c = close c.names.invariant c.in_ok-bump-2.ensures.read
-
-pub returns-then-not-at-clause-read : goal.returns-then-not-at-clause-read
-returns-then-not-at-clause-read c =
-    close (more renamed_marks c.names.names.items c.push.new.self.items c.in_ok-renamed.renamed c.in_ok-push.ensures.items c.names.invariant c.in_ok-renamed.ensures.read) c.in_ok-expect-2.ensures.read
+    close (more renamed_marks c.names.names.items c.push.new.self.items c.in_ok-renamed.renamed c.in_ok-push.ensures.items c.names.invariant c.in_ok-renamed.ensures.read) c.in_ok-more-2.ensures.read

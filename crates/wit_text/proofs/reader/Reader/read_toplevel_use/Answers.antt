@@ -1,12 +1,10 @@
-use Rattle.std.proofs.Common.{◌++◌, ◌∷◌, refl}
-use Rattle.std.specs.Prelude.{codes}
-use Rattle.wit_tree.specs.Marks.{spelled, path_marks, local_marks}
-use Rattle.wit_text.proofs.Parts.{then, close_on}
+use Rattle.std.proofs.Common.{refl}
+use Rattle.wit_text.proofs.Parts.{then}
 use Rattle.wit_text.proofs.reader.Reader.read_toplevel_use.Goals as goal
 
 pub returns-clause-read : goal.returns-clause-read
 returns-clause-read c = record {
-  marks = spelled c.in_ok-span.span (codes "use") ∷ path_marks c.in_ok-item.item ++ local_marks c.in_ok-local.local;
-  item = refl;
-  read = then c.in_ok-span.ensures.read (close_on c.in_ok-item.ensures.read c.in_ok-local.ensures.read c.in_ok-expect.ensures.read);
+  marks = _;
+  item = rw c.in_ok-item.ensures.read.0 refl;
+  read = then c.in_ok-span.ensures.read (then c.in_ok-path.ensures.read (rw c.in_ok-item.ensures.read.1 at c.read_local_and_close.ensures.read));
 }

@@ -4,11 +4,4 @@ use Rattle.wit_text.proofs.reader.Reader.read_used_names.Goals as goal
 
 pub names-preserved : goal.names-preserved
 names-preserved c =
-    close (more used_marks c.names.names.items c.push.new.self.items c.in_ok-used.used c.in_ok-push.ensures.items c.names.invariant c.in_ok-used.ensures.read) c.in_ok-bump.ensures.read
-
-pub returns-clause-read : goal.returns-clause-read
-returns-clause-read c = close c.names.invariant c.in_ok-bump-2.ensures.read
-
-pub returns-then-not-at-clause-read : goal.returns-then-not-at-clause-read
-returns-then-not-at-clause-read c =
-    close (more used_marks c.names.names.items c.push.new.self.items c.in_ok-used.used c.in_ok-push.ensures.items c.names.invariant c.in_ok-used.ensures.read) c.in_ok-expect-2.ensures.read
+    close (more used_marks c.names.names.items c.push.new.self.items c.in_ok-used.used c.in_ok-push.ensures.items c.names.invariant c.in_ok-used.ensures.read) c.in_ok-more-2.ensures.read
