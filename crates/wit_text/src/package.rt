@@ -1,11 +1,12 @@
 //! Reading names of packages, and packages that are nested in a file or in one another.
 ghost use Rattle.std.specs.Prelude.{◌≡◌, ◌+◌, [], ◌∷◌, IfOk, OnOk, IfErr};
 ghost use Rattle.std.specs.List.{flat_map};
-ghost use Rattle.wit_tree.specs.Marks.{documented, declaration_marks, header_marks, nested_marks, inner_marks};
+ghost use Rattle.wit_tree.specs.Marks.{named, documented, declaration_marks, header_marks, nested_marks, inner_marks};
 ghost use Rattle.wit_text.specs.Fronts.{IsReadBehind};
 ghost use Rattle.wit_text.specs.Headers.{IsWhole};
 
 use crate::declaration::PackageItem;
+use crate::holding::beside;
 use crate::reader::Reader;
 use crate::types::MOST_NESTED;
 use semver::Version;
@@ -47,16 +48,24 @@ fn package_name<'a>(
 impl<'a> Reader<'a> {
     ghost use Rattle.wit_text.specs.Reading.{IsRead, IsRefused};
 
+    /// Reads `package name:name`.
+    fn read_names_of_package(&mut self) -> ParseResult<(Id<'a>, Id<'a>)>
+        ensures read { IfOk result (λ r. IsRead self.old (named r.0 ∷ named r.1 ∷ []) self.new) }
+        ensures refused { IfErr result (λ e. IsRefused self.old e) }
+    {
+        self.expect_word(Word::Package)?;
+        let namespace = self.read_label()?;
+        let name = self.read_id()?;
+        Ok((namespace, name))
+    }
+
     /// Reads `package name:name`, perhaps with a version behind the name: what stands in front of the
     /// `;` of a header, or of the `{` of a nested package.
     pub fn read_package_name(&mut self, docs: Docs<'a>) -> ParseResult<PackageName<'a>>
         ensures read { IfOk result (λ p. IsReadBehind self.old (documented docs.entry ∷ []) (header_marks p) self.new) }
         ensures refused { IfErr result (λ e. IsRefused self.old e) }
     {
-        self.expect_word(Word::Package)?;
-        let namespace = self.read_id()?;
-        self.expect(Kind::Colon)?;
-        let name = self.read_id()?;
+        let (namespace, name) = self.read_names_of_package()?;
         let found = self.read_at_version()?;
         Ok(package_name(docs, namespace, name, found))
     }
@@ -83,9 +92,12 @@ impl<'a> Reader<'a> {
     {
         let item = self.read_package_item()?;
         match item {
-            PackageItem::Declaration(_) => Ok(()),
+            PackageItem::Declaration(declaration) => {
+                drop(declaration);
+                Ok(())
+            }
             PackageItem::Package(docs) => {
-                self.read_inner(docs, left)?;
+                drop(self.read_inner(docs, left)?);
                 Ok(())
             }
         }
@@ -100,8 +112,8 @@ impl<'a> Reader<'a> {
         if left == 0 {
             return Err(self.refuse(ReadFault::Nesting));
         }
-        let name = self.read_package_name(docs)?;
-        self.pass_items(left - 1)?;
+        let header = self.read_package_name(docs)?;
+        let (name, _) = beside(header, self.pass_items(left - 1))?;
         Ok(name)
     }
 
@@ -135,11 +147,11 @@ impl<'a> Reader<'a> {
         ensures inner { IfOk result (λ p. IsRead self.old (inner_marks p) self.new) }
         ensures refused { IfErr result (λ e. IsRefused self.old e) }
     {
-        let (decl_list, nested) = self.read_nested_items()?;
+        let (header, items) = beside(name, self.read_nested_items())?;
         Ok(NestedPackage {
-            name,
-            decl_list,
-            nested,
+            name: header,
+            decl_list: items.0,
+            nested: items.1,
         })
     }
 }
