@@ -2,7 +2,7 @@
 use Rattle.std.specs.Prelude.{◌≡◌, List, ◌++◌}
 use Rattle.wit_tree.specs.Marks.{Mark}
 use Rattle.wit_text.specs.declared.reader.Reader.{Reader}
-use Rattle.wit_text.specs.Reading.{IsRead}
+use Rattle.wit_text.specs.Reading.{IsRead, IsReadOn}
 
 -- an item that has these marks was read behind its front
 pub record IsReadBehind (old : Reader) (front whole : List Mark) (new : Reader) : Type 0 where
@@ -15,3 +15,7 @@ pub record Completes (old : Reader) (begun whole : List Mark) (new : Reader) : T
   pub source : new.source ≡ old.source
   pub offset : new.offset ≡ old.offset
   pub read : (reader : Reader) → IsRead reader begun old → IsRead reader whole new
+
+-- the same where perhaps no token was read
+pub record CompletesOn (old : Reader) (begun whole : List Mark) (new : Reader) : Type 0 where
+  pub read : (reader : Reader) → IsReadOn reader begun old → IsReadOn reader whole new

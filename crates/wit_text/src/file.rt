@@ -1,7 +1,7 @@
 //! Reading a file.
-ghost use Rattle.std.specs.Prelude.{◌≡◌, ◌+◌, ◌<◌, ◌^◌, [], ◌∷◌, length, IfOk, IfErr};
+ghost use Rattle.std.specs.Prelude.{◌≡◌, ◌+◌, ◌<◌, ◌^◌, [], ◌∷◌, length, IfOk, OnOk, IfErr};
 ghost use Rattle.std.specs.List.{flat_map};
-ghost use Rattle.wit_tree.specs.Marks.{package_marks, file_marks, nested_marks, inner_marks};
+ghost use Rattle.wit_tree.specs.Marks.{declaration_marks, package_marks, file_marks, nested_marks, inner_marks};
 ghost use Rattle.wit_tree.specs.Slices.{Rise};
 ghost use Rattle.wit_lex.specs.Faults.{IsRefusal};
 
@@ -12,10 +12,11 @@ use wit_lex::kind::Kind;
 use wit_lex::token::next_token;
 use wit_lex::word::Word;
 use wit_tree::ParseResult;
-use wit_tree::tree::{DeclList, NestedPackage, PackageFile, PackageName, SourceFile};
+use wit_tree::tree::{AstItem, DeclList, NestedPackage, PackageFile, PackageName, SourceFile};
 
 impl<'a> Reader<'a> {
     ghost use Rattle.wit_text.specs.Reading.{IsReadOn, IsRefused};
+    ghost use Rattle.wit_text.specs.Fronts.{CompletesOn};
 
     /// Reads what stands at `package` where a file begins with that: a header, or a nested package.
     fn read_beginning(&mut self) -> ParseResult<(Option<PackageName<'a>>, Vec<NestedPackage<'a>>)>
@@ -24,29 +25,32 @@ impl<'a> Reader<'a> {
         ensures inner { IfOk result (λ r. IsReadOn self.old (flat_map inner_marks r.1.items) self.new) }
         ensures refused { IfErr result (λ e. IsRefused self.old e) }
     {
-        let mut nested = Vec::new(self.alloc);
         if !self.at_word(Word::Package) {
-            return Ok((None, nested));
+            return Ok((None, Vec::new(self.alloc)));
         }
         let docs = self.read_docs()?;
         let name = self.read_package_name(docs)?;
         if self.at(Kind::OpenBrace) {
             let first = self.read_nested(name)?;
+            let mut nested = Vec::new(self.alloc);
             nested.push(first)?;
             return Ok((None, nested));
         }
-        self.expect(Kind::Semicolon)?;
-        Ok((Some(name), nested))
+        let header = self.closed(name, Kind::Semicolon)?;
+        Ok((Some(header), Vec::new(self.alloc)))
     }
 
-    /// Reads up to the end of the source.
-    fn read_whole(&mut self) -> ParseResult<SourceFile<'a>>
-        ensures read { IfOk result (λ source. IsReadOn self.old (file_marks source.file) self.new) }
-        ensures nested { IfOk result (λ source. IsReadOn self.old (flat_map nested_marks source.nested.items) self.new) }
-        ensures inner { IfOk result (λ source. IsReadOn self.old (flat_map inner_marks source.nested.items) self.new) }
+    /// Reads the declarations of a file up to the end of the source, and adds the packages that are
+    /// nested between them.
+    fn read_declarations(
+        &mut self,
+        nested: &mut Vec<NestedPackage<'a>>,
+    ) -> ParseResult<Vec<AstItem<'a>>>
+        ensures read { IfOk result (λ items. IsReadOn self.old (flat_map declaration_marks items.items) self.new) }
+        ensures nested { OnOk result (CompletesOn self.old (flat_map nested_marks nested.old.items) (flat_map nested_marks nested.new.items) self.new) }
+        ensures inner { OnOk result (CompletesOn self.old (flat_map inner_marks nested.old.items) (flat_map inner_marks nested.new.items) self.new) }
         ensures refused { IfErr result (λ e. IsRefused self.old e) }
     {
-        let (package_id, mut nested) = self.read_beginning()?;
         let mut items = Vec::new(self.alloc);
         'items: while !self.at(Kind::End) {
             let item = self.read_package_item()?;
@@ -59,6 +63,18 @@ impl<'a> Reader<'a> {
                 }
             }
         }
+        Ok(items)
+    }
+
+    /// Reads up to the end of the source.
+    fn read_whole(&mut self) -> ParseResult<SourceFile<'a>>
+        ensures read { IfOk result (λ source. IsReadOn self.old (file_marks source.file) self.new) }
+        ensures nested { IfOk result (λ source. IsReadOn self.old (flat_map nested_marks source.nested.items) self.new) }
+        ensures inner { IfOk result (λ source. IsReadOn self.old (flat_map inner_marks source.nested.items) self.new) }
+        ensures refused { IfErr result (λ e. IsRefused self.old e) }
+    {
+        let (package_id, mut nested) = self.read_beginning()?;
+        let items = self.read_declarations(&mut nested)?;
         Ok(SourceFile {
             file: PackageFile {
                 package_id,

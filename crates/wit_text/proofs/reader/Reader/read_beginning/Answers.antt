@@ -16,4 +16,5 @@ returns-then-at-clause-inner c =
     alone inner_marks c.push.new.self.items _ first (then (passed header) c.in_ok-first.ensures.inner)
 
 pub returns-clause-read : goal.returns-clause-read
-returns-clause-read c = on (close (fronted c.in_ok-docs.ensures.read c.in_ok-name.ensures.read) c.in_ok-expect.ensures.read)
+returns-clause-read c =
+    rw c.in_ok-header.ensures.value (on (close (fronted c.in_ok-docs.ensures.read c.in_ok-name.ensures.read) c.in_ok-header.ensures.read))
