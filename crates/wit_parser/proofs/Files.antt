@@ -1,6 +1,6 @@
 -- What holds of files whose interfaces and worlds were added.
 use Rattle.std.proofs.Common.{◌≡◌, ◌⊎◌, ◌<◌, ℕ, All, List, [], length, map, get_or, Some, inl, inr, sym, ap, ◌∙◌, subst}
-use Rattle.std.specs.Prelude.{not, slice_get}
+use Rattle.std.specs.Prelude.{Result, Ok, Err, IfOk, OnOk, not, slice_get}
 use Rattle.std.specs.List.{flat_map}
 use Rattle.std.proofs.lemmas.List.{length-map}
 use Rattle.std.proofs.lemmas.Option.{slice_get-get_or}
@@ -34,7 +34,8 @@ use Rattle.wit_syntax.proofs.Lists.{flat_map_at, flat_map_has}
 use Rattle.wit_arena.proofs.Resolved.{scopes_legal as legal_scopes, files_legal as legal_by, files_package as package_by, files_faithful as faithful_by, files_arena as arena_by}
 use Rattle.wit_interfaces.specs.Between.{IsWrongNow}
 use Rattle.wit_worlds.specs.Between.{IsWrongWorldNow}
-use Rattle.wit_parser.specs.Between.{AddsFiles}
+use Rattle.wit_tree.specs.declared.error.ParseError.{ParseError}
+use Rattle.wit_parser.specs.Between.{AddsFiles, IsMade}
 
 -- a scope of some items is an interface among them, or stands with their worlds: in an interface none is written
 pub scope_sorted : (items : List Item) (k : ℕ) (w : Item) → slice_get (flat_map with_inline items) k ≡ Some w → ((i : ℕ) × (slice_get (interfaces_of items) i ≡ Some w)) ⊎ ((i : ℕ) × (slice_get (flat_map with_inline (worlds_of items)) i ≡ Some w))
@@ -103,3 +104,8 @@ module _ (files : List PackageFile) (es : List TypeDef) (all : List Interface) (
 
     pub files_arena : HasArena files p
     files_arena = arena_by files a.places a.order a.names a.uses a.first a.middle es a.front a.is a.worlds_front a.arenas a.irs a.wrs a.foreign a.interfaces a.worlds p types (interfaces ∙ a.interface_arena) (worlds ∙ a.world_arena) others a.sided
+
+-- files that make a package break no rule
+pub made_legal : (files : List PackageFile) (r : Result UnresolvedPackage ParseError) → IfOk r (IsMade files) → OnOk r (IsLegal files)
+made_legal files (Ok p) made = made.legal
+made_legal files (Err e) made = tt

@@ -1,20 +1,25 @@
--- What is said between the functions of the resolver: what stands in the arenas once the items of files were added.
+-- What is said between the functions of the resolver: what stands in the arenas once the items of files were added, and what they make.
 use Rattle.std.specs.Prelude.{◌≡◌, ℕ, List, ◌++◌, map, Contains}
 use Rattle.std.specs.List.{flat_map}
 use Rattle.wit_tree.specs.declared.tree.Use.{Use}
 use Rattle.wit_tree.specs.declared.tree.PackageFile.{PackageFile}
 use Rattle.wit_order.specs.Table.{IsOrder}
 use Rattle.wit_types.specs.declared.types.TypeDef.{TypeDef}
+use Rattle.wit_types.specs.Types.{IsBackward}
+use Rattle.wit_model.specs.declared.foreign.ForeignItems.{ForeignItems}
+use Rattle.wit_model.specs.declared.unresolved.UnresolvedPackage.{UnresolvedPackage}
 use Rattle.wit_model.specs.declared.interface.Interface.{Interface}
 use Rattle.wit_model.specs.declared.world.World.{World}
-use Rattle.wit_syntax.specs.Source.{Item, all_items}
+use Rattle.wit_syntax.specs.Source.{Item, all_items, first_takings}
 use Rattle.wit_syntax.specs.Scope.{in_order, item_rows, interfaces_of, worlds_of, uses as uses_of}
 use Rattle.wit_syntax.specs.Sides.{with_inline}
 use Rattle.wit_syntax.specs.Fault.{Fault}
 use Rattle.wit_syntax.specs.Notes.{IsBrokenNotes}
-use Rattle.wit_syntax.specs.Broken.{IsBrokenNames}
-use Rattle.wit_syntax.specs.Foreign.{visited, foreign_interfaces, foreign_worlds}
+use Rattle.wit_syntax.specs.Broken.{IsBrokenNames, IsLegal}
+use Rattle.wit_syntax.specs.Foreign.{visited, foreign_interfaces, foreign_packages, foreign_worlds}
 use Rattle.wit_arena.specs.Resolving.{Required}
+use Rattle.wit_arena.specs.Whole.{dep, IsPackage, IsFaithful}
+use Rattle.wit_arena.specs.FirstMeetings.{HasArena}
 use Rattle.wit_arena.specs.Resolved.{WorldArenas, front_worlds, AddsForeign, AddsInterfaces, AddsWorlds, AreLegalSides, AreSoundScopes, AreUsableLinks, AreUsableUses, HaveLegalStability}
 
 -- behind what stands in front, the items of files were added in the least dependency-first order of their table, all interfaces before all
@@ -45,3 +50,18 @@ pub record AddsFiles (files : List PackageFile) (es : List TypeDef) (all : List 
   pub linked : AreUsableLinks files (worlds_of (in_order (all_items files) places))
   pub sound : AreSoundScopes (flat_map with_inline (in_order (all_items files) places))
   pub stable : HaveLegalStability (in_order (all_items files) places)
+
+-- files make these types, interfaces and worlds, and name this of other packages
+pub record MakeContents (files : List PackageFile) (es : List TypeDef) (is : List Interface) (ws : List World) (foreign : ForeignItems) : Type 0 where
+  pub added : AddsFiles files es is ws foreign.required_resource_types
+  pub deps : foreign.deps ≡ map (dep files) (foreign_packages files)
+  pub spans : foreign.dep_spans ≡ map (λ v. v.of.span) (foreign_packages files)
+  pub unknown : foreign.unknown_type_spans ≡ map (λ t. t.id.span) (first_takings files)
+
+-- files break no rule, and this is the package that they make
+pub record IsMade (files : List PackageFile) (p : UnresolvedPackage) : Type 0 where
+  pub legal : IsLegal files
+  pub whole : IsPackage files p
+  pub arena : HasArena files p
+  pub faithful : IsFaithful files p
+  pub backward : IsBackward p.types

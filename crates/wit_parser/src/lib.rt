@@ -3,6 +3,7 @@
 //! What a caller meets on the way, trees, names, orders and the data of a package, is given again here.
 #![tactic(auto)]
 
+mod contents;
 pub mod laws;
 pub mod resolver;
 

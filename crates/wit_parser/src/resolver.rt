@@ -1,40 +1,32 @@
 //! From parsed files to a package.
-ghost use Rattle.std.specs.Prelude.{◌≡◌, ◌++◌, ◌∷◌, List, [], map, IfOk, IfErr, OnOk, OnErr};
-ghost use Rattle.std.specs.Option.{option_copied};
+ghost use Rattle.std.specs.Prelude.{◌≡◌, ◌++◌, ◌∷◌, [], Some, IfOk, IfErr, OnOk, OnErr};
+ghost use Rattle.std.specs.Option.{option_copied, option_map};
+ghost use Rattle.semver.specs.Identifiers.{parts_of};
+ghost use Rattle.wit_values.specs.ReleaseText.{release_parts};
 ghost use Rattle.wit_syntax.specs.Fault.{Fault};
-ghost use Rattle.wit_order.specs.Table.{IsOrder};
-ghost use Rattle.wit_syntax.specs.Source.{first_takings};
-ghost use Rattle.wit_syntax.specs.Scope.{item_rows};
-ghost use Rattle.wit_files.specs.FileNames.{AreNamesOf};
-ghost use Rattle.wit_syntax.specs.Broken.{IsMismatch, IsBrokenNames, IsBroken, IsLegal, Refused, headers, last_header};
+ghost use Rattle.wit_syntax.specs.Broken.{IsMismatch, IsBroken, IsBrokenNames, IsLegal, Refused, headers, last_header};
 ghost use Rattle.wit_items.specs.Headers.{header_at, have_docs as the_docs};
 ghost use Rattle.wit_tree.specs.Refusal.{IsWantOfMemory};
-ghost use Rattle.wit_parser.specs.Between.{AddsFiles};
+ghost use Rattle.wit_order.specs.Table.{IsOrder};
+ghost use Rattle.wit_syntax.specs.Scope.{item_rows};
+ghost use Rattle.wit_files.specs.FileNames.{AreNamesOf};
+ghost use Rattle.wit_parser.specs.Between.{IsMade};
 ghost use Rattle.wit_parser.specs.Stray.{IsNesting, IsStray};
 ghost use Rattle.wit_types.specs.Types.{IsBackward};
-ghost use Rattle.wit_tree.specs.declared.tree.PackageFile.{PackageFile as TheFile};
-ghost use Rattle.wit_syntax.specs.Foreign.{foreign_packages};
-ghost use Rattle.wit_arena.specs.Whole.{dep, IsPackage, IsFaithful};
+ghost use Rattle.wit_arena.specs.Whole.{first_docs, IsPackage, IsFaithful};
 ghost use Rattle.wit_arena.specs.FirstMeetings.{HasArena};
 
+use crate::contents::{beside, resolve_contents};
 use std::alloc::{AllocError, Global};
-use wit_entries::entries::Entries;
-use wit_entries::scope::Required;
 use wit_files::FileNames;
-use wit_foreign::foreign_deps;
-use wit_front::foreign::ForeignArenas;
-use wit_interfaces::declared::resolve_interfaces;
-use wit_item_entries::uses::Interfaces;
 use wit_items::header::{check_docs, have_docs, is_same, mismatch, package_docs};
-use wit_items::items::{Item, declared_items};
-use wit_model::{ForeignItems, Interface, UnresolvedPackage, World};
+use wit_model::UnresolvedPackage;
 use wit_notes::package_name;
 use wit_notes::refusal::refuse;
+use wit_package_names::PackageName;
 use wit_tree::tree::{self, NestedPackage, PackageFile, SourceFile};
 use wit_tree::{ParseResult, Span};
-use wit_types::{Arena, InterfacePlace, WorldPlace};
-use wit_values::{Row, TextTable};
-use wit_worlds::world::{Worlds, resolve_worlds};
+use wit_types::Docs;
 
 /// The words for files without a header.
 const NO_HEADER: &str = "no `package` header was found in any WIT file for this package";
@@ -85,101 +77,47 @@ fn check_nested(alloc: Global, nested: &[NestedPackage<'_>]) -> ParseResult<()>
     }
 }
 
-/// The interfaces and the worlds of files, where types of other packages are first used, and which of
-/// these have to be resources.
-#[derive(Drop)]
-struct Resolved {
-    interfaces: Arena<Interface, InterfacePlace>,
-    worlds: Arena<World, WorldPlace>,
-    unknown_type_spans: Vec<Span>,
-    required: Vec<Required>,
+/// The name and the docs of a package, by its last header and its files.
+fn package_heading(
+    alloc: Global,
+    header: &tree::PackageName<'_>,
+    files: &[PackageFile<'_>],
+) -> Result<(PackageName, Docs), AllocError>
+    ensures namespace { IfOk result (λ heading. heading.0.namespace ≡ header.now.namespace.name.now) }
+    ensures name { IfOk result (λ heading. heading.0.name ≡ header.now.name.name.now) }
+    ensures version { IfOk result (λ heading. option_map release_parts heading.0.version ≡ option_map parts_of header.now.version) }
+    ensures docs { IfOk result (λ heading. heading.1 ≡ first_docs (headers files.now)) }
+{
+    let name = package_name(alloc, header)?;
+    let docs = package_docs(alloc, files)?;
+    Ok((name, docs))
 }
 
-/// Adds the interfaces and worlds of files with these names, and their types, to nothing.
-fn resolve_files<'f, 'a>(
+/// The package that files with these names make, whose last header this is.
+fn resolve_named<'f, 'a>(
     alloc: Global,
-    types: &mut Entries,
+    header: &tree::PackageName<'_>,
     names: &FileNames<'f, 'a>,
     files: &'f [PackageFile<'a>],
-) -> ParseResult<Resolved>
-    requires empty { types.old ≡ [] }
+) -> ParseResult<UnresolvedPackage>
+    requires header { last_header files.now ≡ Some header.now }
     requires names { AreNamesOf files.now names.now }
     requires order { IsOrder (item_rows files.now) names.now.order.items }
     requires legal { (f : Fault) → IsBrokenNames files.now f → ⊥ }
-    ensures added { IfOk result (λ r. AddsFiles files.now types.new r.interfaces r.worlds r.required.items) }
-    ensures unknown { IfOk result (λ r. r.unknown_type_spans.items ≡ map (λ t. t.id.span) (first_takings files.now)) }
+    ensures made { IfOk result (IsMade files.now) }
     ensures refused { IfErr result (Refused (IsBroken files.now)) }
 {
-    let mut front = ForeignArenas::of_items(alloc, names.foreign())?;
-    let mut items = declared_items(alloc, files, names, &front.entries)?;
-    let lent: &mut [Item<'_, '_>] = &mut items;
-    front.take_all(alloc, types, lent)?;
-    let ForeignArenas {
-        visits,
-        interfaces,
-        worlds,
-        entries,
-        spans,
-    } = front;
-    let mut interfaces = Interfaces {
-        foreign: &visits,
-        arena: interfaces,
-        by_name: TextTable::new(alloc),
-    };
-    let mut required = Vec::new(alloc);
-    resolve_interfaces(
-        alloc,
-        types,
-        &mut required,
-        &mut interfaces,
-        lent,
-        names.item_order(),
-    )?;
-    let mut worlds = Worlds {
-        entries: &entries,
-        arena: worlds,
-        by_name: TextTable::new(alloc),
-    };
-    let mut inside = Arena::new(alloc);
-    resolve_worlds(
-        alloc,
-        types,
-        &mut required,
-        names,
-        &interfaces,
-        &mut inside,
-        &mut worlds,
-        lent,
-    )?;
-    interfaces.arena.append(&mut inside)?;
-    Ok(Resolved {
-        interfaces: interfaces.arena,
-        worlds: worlds.arena,
-        unknown_type_spans: spans,
-        required,
-    })
-}
-
-/// What files with these names name of other packages, whose types are first used at these spans, and
-/// these have to be resources.
-fn foreign_items(
-    alloc: Global,
-    names: &FileNames<'_, '_>,
-    unknown_type_spans: Vec<Span>,
-    required: Vec<Required>,
-) -> Result<ForeignItems, AllocError>
-    ensures deps { IfOk result (λ foreign. (files : List TheFile) → AreNamesOf files names.now → foreign.deps ≡ map (dep files) (foreign_packages files)) }
-    ensures spans { IfOk result (λ foreign. (files : List TheFile) → AreNamesOf files names.now → foreign.dep_spans ≡ map (λ v. v.of.span) (foreign_packages files)) }
-    ensures unknown { IfOk result (λ foreign. foreign.unknown_type_spans ≡ unknown_type_spans.items) }
-    ensures required { IfOk result (λ foreign. foreign.required_resource_types ≡ required.items) }
-{
-    let (deps, dep_spans) = foreign_deps(alloc, names.foreign_visits())?;
-    Ok(ForeignItems {
-        deps,
-        dep_spans,
-        unknown_type_spans: Row::from(unknown_type_spans),
-        required_resource_types: Row::from(required),
-    })
+    let made = resolve_contents(alloc, names, files)?;
+    let (contents, heading) = beside(made, package_heading(alloc, header, files))?;
+    Ok(UnresolvedPackage::new(
+        heading.0,
+        contents.arenas.worlds,
+        contents.arenas.interfaces,
+        contents.arenas.types,
+        heading.1,
+        header.span,
+        contents.foreign,
+    ))
 }
 
 impl<'a> Resolver<'a> {
@@ -207,6 +145,20 @@ impl<'a> Resolver<'a> {
     {
         let file = self.files.get(self.last)?;
         file.package_id.as_ref()
+    }
+
+    /// The package that the files make.
+    fn resolve_pushed(&self, alloc: Global) -> ParseResult<UnresolvedPackage>
+        ensures made { IfOk result (IsMade self.now.files.items) }
+        ensures refused { IfErr result (Refused (IsBroken self.now.files.items)) }
+    {
+        let header = match self.last_header() {
+            Some(header) => header,
+            None => return Err(refuse(alloc, 4, Span::default(), NO_HEADER)),
+        };
+        let files = self.pushed();
+        let names = FileNames::gather(alloc, files)?;
+        resolve_named(alloc, header, &names, files)
     }
 
     /// Keeps a file behind the others.
@@ -303,28 +255,6 @@ impl<'a> Resolver<'a> {
         ensures backward { IfOk result (λ p. IsBackward p.types) }
         ensures refused { IfErr result (Refused (IsBroken self.entry.files.items)) }
     {
-        let header = match self.last_header() {
-            Some(header) => header,
-            None => return Err(refuse(alloc, 4, Span::default(), NO_HEADER)),
-        };
-        let mut types = Entries::new(alloc);
-        let files = self.pushed();
-        let names = FileNames::gather(alloc, files)?;
-        let resolved = resolve_files(alloc, &mut types, &names, files)?;
-        let foreign = foreign_items(
-            alloc,
-            &names,
-            resolved.unknown_type_spans,
-            resolved.required,
-        )?;
-        Ok(UnresolvedPackage::new(
-            package_name(alloc, header)?,
-            resolved.worlds,
-            resolved.interfaces,
-            types.into_arena(),
-            package_docs(alloc, files)?,
-            header.span,
-            foreign,
-        ))
+        self.resolve_pushed(alloc)
     }
 }

@@ -24,7 +24,7 @@ use Rattle.wit_worlds.proofs.Leading.{interfaces_are}
 use Rattle.wit_item_entries.proofs.Telling.{stability_both}
 use Rattle.wit_parser.proofs.Files.{sided_both, sound_both, uses_usable, held_within, wrong_interface, wrong_world}
 use Rattle.wit_parser.proofs.Fronting.{front_started, front_taken, lent_front, lent_placed, lent_enough, lent_index, worlds_enough, worlds_index, others_names}
-use Rattle.wit_parser.proofs.resolver.resolve_files.Goals as goal
+use Rattle.wit_parser.proofs.contents.resolve_files.Goals as goal
 
 pub take_all-requires : goal.take_all-requires
 take_all-requires c =

@@ -1,0 +1,39 @@
+use Rattle.std.proofs.Common.{inl, ap, ◌∙◌}
+use Rattle.std.specs.Option.{option_map}
+use Rattle.std.proofs.lemmas.Result.{err_from_is_err_and}
+use Rattle.wit_values.specs.ReleaseText.{release_parts}
+use Rattle.wit_package_names.specs.declared.package_name.PackageName.{PackageName}
+use Rattle.wit_arena.specs.Whole.{NamesOthers, IsFaithful}
+use Rattle.wit_parser.specs.Between.{MakeContents}
+use Rattle.wit_parser.proofs.Backward.{kind_below}
+use Rattle.wit_parser.proofs.Files.{files_legal, files_package, files_faithful, files_arena}
+use Rattle.wit_parser.proofs.resolver.resolve_named.Goals as goal
+
+pub returns-clause-made : goal.returns-clause-made
+returns-clause-made c =
+    let files = c.args.files.now in
+    let header = c.args.header.now in
+    let p = c.new.result in
+    let of = c.in_ok-contents.contents in
+    let made : MakeContents files of.arenas.types of.arenas.interfaces of.arenas.worlds of.foreign = rw c.in_ok-contents.ensures.both.0 c.in_ok-made.ensures.made in
+    let e = c.new.ensures in
+    let n = rw c.in_ok-contents.ensures.both.1 at c.package_heading.ensures in
+    let others : NamesOthers files p = record { deps = e.foreign_deps ∙ made.deps; spans = e.foreign_dep_spans ∙ made.spans; unknown = e.unknown_type_spans ∙ made.unknown } in
+    let faithful : IsFaithful files p = files_faithful files _ _ _ _ made.added p e.types e.interfaces e.worlds others in
+    record {
+      legal = files_legal files _ _ _ _ made.added header c.requires.header;
+      whole = files_package files _ _ _ _ made.added p e.types e.interfaces e.worlds others e.required_resource_types header c.requires.header
+          (ap (λ (m : PackageName). m.namespace) e.name ∙ n.namespace)
+          (ap (λ (m : PackageName). m.name) e.name ∙ n.name)
+          (ap (λ (m : PackageName). option_map release_parts m.version) e.name ∙ n.version)
+          e.name_span
+          (e.docs ∙ n.docs);
+      arena = files_arena files _ _ _ _ made.added p e.types e.interfaces e.worlds others;
+      faithful = faithful;
+      backward = λ i t at. kind_below i t.kind (λ part has. faithful.backward i t part (record { is = at }) has);
+    }
+
+pub returns-in_err-contents-clause-refused : goal.returns-in_err-contents-clause-refused
+returns-in_err-contents-clause-refused c =
+    let p = err_from_is_err_and c.from_residual-in_err-contents.result c.from_residual-in_err-contents.ensures.1 in
+    rw p.1 (inl p.2)

@@ -1,0 +1,177 @@
+//! What the files of a package make: its arenas, and what it names of other packages.
+ghost use Rattle.std.specs.Prelude.{◌≡◌, List, [], Ok, Err, map, IfOk, IfErr};
+ghost use Rattle.wit_syntax.specs.Fault.{Fault};
+ghost use Rattle.wit_order.specs.Table.{IsOrder};
+ghost use Rattle.wit_syntax.specs.Source.{first_takings};
+ghost use Rattle.wit_syntax.specs.Scope.{item_rows};
+ghost use Rattle.wit_files.specs.FileNames.{AreNamesOf};
+ghost use Rattle.wit_syntax.specs.Broken.{IsBrokenNames, IsBroken, Refused};
+ghost use Rattle.wit_parser.specs.Between.{AddsFiles, MakeContents};
+ghost use Rattle.wit_tree.specs.declared.tree.PackageFile.{PackageFile as TheFile};
+ghost use Rattle.wit_syntax.specs.Foreign.{foreign_packages};
+ghost use Rattle.wit_arena.specs.Whole.{dep};
+
+use std::alloc::{AllocError, Global};
+use wit_entries::entries::Entries;
+use wit_entries::scope::Required;
+use wit_files::FileNames;
+use wit_foreign::foreign_deps;
+use wit_front::foreign::ForeignArenas;
+use wit_interfaces::declared::resolve_interfaces;
+use wit_item_entries::uses::Interfaces;
+use wit_items::items::{Item, declared_items};
+use wit_model::{ForeignItems, Interface, World};
+use wit_tree::tree::PackageFile;
+use wit_tree::{ParseResult, Span};
+use wit_types::{Arena, InterfacePlace, TypeDef, TypePlace, WorldPlace};
+use wit_values::{Row, TextTable};
+use wit_worlds::world::{Worlds, resolve_worlds};
+
+/// The interfaces and the worlds of files, where types of other packages are first used, and which of
+/// these have to be resources.
+#[derive(Drop)]
+struct Resolved {
+    interfaces: Arena<Interface, InterfacePlace>,
+    worlds: Arena<World, WorldPlace>,
+    unknown_type_spans: Vec<Span>,
+    required: Vec<Required>,
+}
+
+/// Adds the interfaces and worlds of files with these names, and their types, to nothing.
+fn resolve_files<'f, 'a>(
+    alloc: Global,
+    types: &mut Entries,
+    names: &FileNames<'f, 'a>,
+    files: &'f [PackageFile<'a>],
+) -> ParseResult<Resolved>
+    requires empty { types.old ≡ [] }
+    requires names { AreNamesOf files.now names.now }
+    requires order { IsOrder (item_rows files.now) names.now.order.items }
+    requires legal { (f : Fault) → IsBrokenNames files.now f → ⊥ }
+    ensures added { IfOk result (λ r. AddsFiles files.now types.new r.interfaces r.worlds r.required.items) }
+    ensures unknown { IfOk result (λ r. r.unknown_type_spans.items ≡ map (λ t. t.id.span) (first_takings files.now)) }
+    ensures refused { IfErr result (Refused (IsBroken files.now)) }
+{
+    let mut front = ForeignArenas::of_items(alloc, names.foreign())?;
+    let mut items = declared_items(alloc, files, names, &front.entries)?;
+    let lent: &mut [Item<'_, '_>] = &mut items;
+    front.take_all(alloc, types, lent)?;
+    let ForeignArenas {
+        visits,
+        interfaces,
+        worlds,
+        entries,
+        spans,
+    } = front;
+    let mut interfaces = Interfaces {
+        foreign: &visits,
+        arena: interfaces,
+        by_name: TextTable::new(alloc),
+    };
+    let mut required = Vec::new(alloc);
+    resolve_interfaces(
+        alloc,
+        types,
+        &mut required,
+        &mut interfaces,
+        lent,
+        names.item_order(),
+    )?;
+    let mut worlds = Worlds {
+        entries: &entries,
+        arena: worlds,
+        by_name: TextTable::new(alloc),
+    };
+    let mut inside = Arena::new(alloc);
+    resolve_worlds(
+        alloc,
+        types,
+        &mut required,
+        names,
+        &interfaces,
+        &mut inside,
+        &mut worlds,
+        lent,
+    )?;
+    interfaces.arena.append(&mut inside)?;
+    Ok(Resolved {
+        interfaces: interfaces.arena,
+        worlds: worlds.arena,
+        unknown_type_spans: spans,
+        required,
+    })
+}
+
+/// What files with these names name of other packages, whose types are first used at these spans, and
+/// these have to be resources.
+fn foreign_items(
+    alloc: Global,
+    names: &FileNames<'_, '_>,
+    unknown_type_spans: Vec<Span>,
+    required: Vec<Required>,
+) -> Result<ForeignItems, AllocError>
+    ensures deps { IfOk result (λ foreign. (files : List TheFile) → AreNamesOf files names.now → foreign.deps ≡ map (dep files) (foreign_packages files)) }
+    ensures spans { IfOk result (λ foreign. (files : List TheFile) → AreNamesOf files names.now → foreign.dep_spans ≡ map (λ v. v.of.span) (foreign_packages files)) }
+    ensures unknown { IfOk result (λ foreign. foreign.unknown_type_spans ≡ unknown_type_spans.items) }
+    ensures required { IfOk result (λ foreign. foreign.required_resource_types ≡ required.items) }
+{
+    let (deps, dep_spans) = foreign_deps(alloc, names.foreign_visits())?;
+    Ok(ForeignItems {
+        deps,
+        dep_spans,
+        unknown_type_spans: Row::from(unknown_type_spans),
+        required_resource_types: Row::from(required),
+    })
+}
+
+/// What files make in the arenas.
+#[derive(Drop)]
+pub(crate) struct Arenas {
+    pub types: Arena<TypeDef, TypePlace>,
+    pub interfaces: Arena<Interface, InterfacePlace>,
+    pub worlds: Arena<World, WorldPlace>,
+}
+
+/// What files make in the arenas, and what they name of other packages.
+#[derive(Drop)]
+pub(crate) struct Contents {
+    pub arenas: Arenas,
+    pub foreign: ForeignItems,
+}
+
+/// What files with these names make, and what they name of other packages.
+pub(crate) fn resolve_contents<'f, 'a>(
+    alloc: Global,
+    names: &FileNames<'f, 'a>,
+    files: &'f [PackageFile<'a>],
+) -> ParseResult<Contents>
+    requires names { AreNamesOf files.now names.now }
+    requires order { IsOrder (item_rows files.now) names.now.order.items }
+    requires legal { (f : Fault) → IsBrokenNames files.now f → ⊥ }
+    ensures made { IfOk result (λ c. MakeContents files.now c.arenas.types c.arenas.interfaces c.arenas.worlds c.foreign) }
+    ensures refused { IfErr result (Refused (IsBroken files.now)) }
+{
+    let mut begun = Entries::new(alloc);
+    let added = resolve_files(alloc, &mut begun, names, files);
+    let (types, resolved) = beside(begun, added)?;
+    let named = foreign_items(alloc, names, resolved.unknown_type_spans, resolved.required);
+    let made = Arenas {
+        types: types.into_arena(),
+        interfaces: resolved.interfaces,
+        worlds: resolved.worlds,
+    };
+    let (arenas, foreign) = beside(made, named)?;
+    Ok(Contents { arenas, foreign })
+}
+
+/// A value and another one, or why that was not made: the value is let go here, where nothing is known
+/// of it.
+pub(crate) fn beside<T: Drop, U, E>(value: T, other: Result<U, E>) -> Result<(T, U), E>
+    ensures both { IfOk result (λ both. (both.0 ≡ value) × (other ≡ Ok both.1)) }
+    ensures refused { IfErr result (λ e. other ≡ Err e) }
+{
+    match other {
+        Ok(other) => Ok((value, other)),
+        Err(refusal) => Err(refusal),
+    }
+}
