@@ -13,6 +13,7 @@ ghost use Rattle.wit_rules.specs.Signatures.{told_ok, AreResults};
 ghost use Rattle.wit_items.specs.Items.{declared_behind};
 ghost use Rattle.wit_scopes.specs.Held.{name_behind};
 
+use crate::putting::{beside, put};
 use indexmap::IndexMap;
 use std::alloc::{AllocError, Global};
 use wit_items::items::Declared;
@@ -111,9 +112,9 @@ fn add_function(
 ) -> Result<(), AllocError>
     ensures { OnOk result (table.new ≡ insert_entry (pointwise nat_eq) table.old function.name function) }
 {
-    let name = String::from_str(alloc, function.name.as_str())?;
-    table.insert(name, function)?;
-    Ok(())
+    let text = String::from_str(alloc, function.name.as_str());
+    let (function, name) = beside(function, text)?;
+    put(table, name, function)
 }
 
 /// [`function_table`], with more room than it takes.

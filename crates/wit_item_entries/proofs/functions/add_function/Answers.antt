@@ -1,5 +1,6 @@
-use Rattle.std.proofs.Common.{refl}
 use Rattle.wit_item_entries.proofs.functions.add_function.Goals as goal
 
 pub returns : goal.returns
-returns c = rw (c.in_ok-insert.ensures.ok, c.in_ok-name.ensures.ok, c.as_str.ensures) refl
+returns c =
+    let text = rw c.in_ok-function.ensures.other at c.from_str-text.ensures.ok in
+    rw (c.in_ok-function.ensures.value, text, c.as_str.ensures) at c.put.ensures
