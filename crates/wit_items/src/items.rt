@@ -69,11 +69,7 @@ pub struct ItemScope<'i, 'f, 'a> {
 fn copied<'f, 'a>(declared: &Declared<'f, 'a>) -> Declared<'f, 'a>
     ensures { result ≡ declared.now }
 {
-    match declared {
-        Declared::Interface(interface) => Declared::Interface(interface),
-        Declared::World(world) => Declared::World(world),
-        Declared::Inline(inline) => Declared::Inline(*inline),
-    }
+    *declared
 }
 
 impl<'f, 'a> Item<'f, 'a> {
