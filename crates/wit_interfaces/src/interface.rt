@@ -80,6 +80,8 @@ fn functions_of<'a>(
 {
     let own = resolve_item_functions(alloc, item.declared, item.names, types, names)?;
     check_pairs(&own.taken.imports, &names.turn, &own.written)?;
+    drop(own.taken);
+    drop(own.written);
     let functions = function_table(alloc, own.functions)?;
     Ok(functions)
 }
