@@ -126,7 +126,7 @@ impl<'f, 'a> FileNames<'f, 'a> {
         Ok(())
     }
 
-    /// Adds all files; refuses an item that is declared twice.
+    /// Adds all files, and puts their items in order; refuses an item that is declared twice.
     fn add_all(
         alloc: Global,
         files: &'f [PackageFile<'a>],
@@ -135,15 +135,17 @@ impl<'f, 'a> FileNames<'f, 'a> {
         requires empty { rows names.old.items ≡ [] }
         requires kindless { names.old.kinds.items ≡ [] }
         requires none { names.old.tops.items ≡ [] }
-        ensures items { OnOk result (AllDiffer (map item_name (all_items files.now))) }
+        ensures legal { OnOk result ((f : Fault) → IsBrokenItems files.now f → ⊥) }
         ensures names { OnOk result (AreDeclarationsOf files.now names.new) }
-        ensures distinct { OnOk result (AreDistinctTops files.now) }
+        ensures order { OnOk result (IsOrder (item_rows files.now) names.new.order.items) }
         ensures visits { OnOk result (names.new.visits ≡ names.old.visits) }
         ensures foreign { OnOk result (names.new.foreign ≡ names.old.foreign) }
         ensures refused { IfErr result (Refused (IsBrokenItems files.now)) }
     {
         let declared = item_names(alloc, files)?;
         FileNames::add_files(alloc, files, &declared, names)?;
+        drop(declared);
+        names.order = table_order(alloc, &names.items)?;
         Ok(())
     }
 
@@ -157,7 +159,6 @@ impl<'f, 'a> FileNames<'f, 'a> {
     {
         let mut names = FileNames::of_others(alloc, files)?;
         FileNames::add_all(alloc, files, &mut names)?;
-        names.order = table_order(alloc, &names.items)?;
         Ok(names)
     }
 
