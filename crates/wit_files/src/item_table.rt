@@ -10,7 +10,7 @@ ghost use Rattle.wit_syntax.specs.Repeats.{AllDiffer};
 ghost use Rattle.wit_files.specs.Tops.{AreNamed, AreDeclared};
 ghost use Rattle.wit_files.specs.Checks.{edges_of, IsLostAmong, IsWrongFile};
 
-use crate::declaration::{declarations, world_items};
+use crate::declaration::{declarations, interface_items, world_items};
 use crate::order_refusal::refuse_item_order;
 use crate::top_name::{Paths, add_edge};
 use indexmap::IndexMap;
@@ -48,7 +48,7 @@ fn interface_edges<'a>(
     ensures refused { IfErr result (λ e. (top : List Top) (is : List Item) → AreNamed top paths.entry.top.now → AreDeclared is paths.entry.declared.now → Refused (IsLostAmong is top (flat_map use_path (map interface_part interface.now.items.items))) e) }
 {
     let mut edges = Vec::new(alloc);
-    for part in &interface.items {
+    for part in interface_items(interface) {
         add_use(alloc, paths, &mut edges, part)?;
     }
     Ok(edges)

@@ -3,7 +3,7 @@ ghost use Rattle.std.specs.Prelude.{◌≡◌, [], ◌∷◌, ◌++◌, map, Non
 ghost use Rattle.std.specs.List.{flat_map};
 ghost use Rattle.wit_files.specs.Visits.{visit_behind, use_visit, part_visits, interface_visits, world_part_visits, extern_visit, extern_visits, side_part_visits, world_visits, item_visits, visits as the_visits};
 
-use crate::declaration::world_items;
+use crate::declaration::{interface_items, world_items};
 use std::alloc::{AllocError, Global};
 use wit_notes::is_same_side;
 use wit_tree::tree::{
@@ -61,7 +61,7 @@ fn add_interface_visits<'f, 'a>(
 ) -> Result<(), AllocError>
     ensures { OnOk result (map visit_behind visits.new.items ≡ map visit_behind visits.old.items ++ interface_visits interface.now) }
 {
-    for item in &interface.items {
+    for item in interface_items(interface) {
         if let InterfaceItem::Use(used) = item {
             add_use(Some(interface.name), used, visits)?;
         }

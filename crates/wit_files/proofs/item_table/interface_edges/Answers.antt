@@ -15,8 +15,8 @@ pub returns-in_err-add_use-clause-refused : goal.returns-in_err-add_use-clause-r
 returns-in_err-add_use-clause-refused c =
     let p = err_from_is_err_and c.from_residual.result c.from_residual.ensures.1 in
     let parts = c.args.interface.now.items.items in
-    let xs = c.deref-part-items.result.now in
+    let xs = c.interface_items-part-items.result.now in
     let i = c.loop-part.part-index in
     let x = c.part-item.result in
-    let at : slice_get parts i ≡ Some x = ap (λ (l : List InterfaceItem). slice_get l i) (sym c.deref-part-items.ensures.value) ∙ slice_get-get_or xs i x c.loop-part-test.true ∙ ap Some (sym c.part-item.is) in
+    let at : slice_get parts i ≡ Some x = ap (λ (l : List InterfaceItem). slice_get l i) (sym c.interface_items-part-items.ensures) ∙ slice_get-get_or xs i x c.loop-part-test.true ∙ ap Some (sym c.part-item.is) in
     rw (p.1, p.2) (λ top is named all. refused_weaker (IsLostAmong is top (use_path (interface_part x))) (IsLostAmong is top (flat_map use_path (map interface_part parts))) _ (λ f h. lost_part use_path interface_part is top parts i x f at h) (c.in_err-add_use.ensures.refused top is named all))
