@@ -277,9 +277,9 @@ fn check_top_use<V>(
 
 /// Refuses a `use` among those at the top of a file that has attributes, or whose path is a name, but
 /// no declared item's.
-pub fn check_top_uses(
+pub fn check_top_uses<V>(
     alloc: Global,
-    declared: &IndexMap<&str, Vec<Id<'_>>>,
+    declared: &IndexMap<&str, V>,
     file: &PackageFile<'_>,
 ) -> ParseResult<()>
     ensures right { OnOk result ((is : List Item) → AreDeclared is declared.now → AreRightUses is file.now.decl_list.items.items) }

@@ -13,7 +13,7 @@ use Rattle.wit_files.proofs.top_name.check_top_uses.Goals.{in-Use+in_ok-check_to
 use Rattle.wit_files.proofs.top_name.check_top_uses.Goals as goal
 
 pub returns-in_err-check_top_use-clause-refused : goal.returns-in_err-check_top_use-clause-refused
-returns-in_err-check_top_use-clause-refused c =
+returns-in_err-check_top_use-clause-refused g c =
     let q = err_from_is_err_and c.from_residual.result c.from_residual.ensures.1 in
     let items = c.args.file.now.decl_list.items.items in
     let xs = c.declarations-items.result.now in
@@ -22,7 +22,7 @@ returns-in_err-check_top_use-clause-refused c =
     rw (q.1, q.2) (λ is named. refused_weaker (IsWrongUse is c.in-Use.used) (IsWrongTop is items) _ (λ f h. wrong_top is items i c.in-Use.used f at h) (c.in_err-check_top_use.ensures.refused is named))
 
 pub loop-item-preserved : goal.loop-item-preserved
-loop-item-preserved c = λ is named. (
+loop-item-preserved g c = λ is named. (
     let xs = c.declarations-items.result.now in
     let i = c.loop-item.item-index in
     let x = c.item-item.result in

@@ -5,4 +5,4 @@ use Rattle.wit_files.specs.Tops.{AreDeclared}
 use Rattle.wit_files.proofs.top_name.check_top_uses.Given as goal
 
 abbrev pub invariant-loop-item : goal.invariant-loop-item
-invariant-loop-item l = (is : List Item) → AreDeclared is l.declared → AreRightUses is (take l.item-index l.items)
+invariant-loop-item g l = (is : List Item) → AreDeclared is l.declared → AreRightUses is (take l.item-index l.items)
