@@ -11,7 +11,7 @@ use crate::declaration::declarations;
 use indexmap::IndexMap;
 use std::alloc::{AllocError, Global};
 use wit_notes::path_id;
-use wit_notes::refusal::{refuse, refuse_missing};
+use wit_notes::refusal::{refuse, refuse_in, refuse_missing};
 use wit_tree::ParseResult;
 use wit_tree::tree::{AstItem, Id, PackageFile, PackageName, ToplevelUse, UsePath};
 
@@ -144,8 +144,8 @@ fn unique_names<'f, 'a>(
         let id = name.id;
         if found.get(id.name).is_some() {
             drop(found);
-            let message = repeated(alloc, front, id.name, back)?;
-            return Err(refuse(alloc, rule, id.span, message.as_str()));
+            let words = repeated(alloc, front, id.name, back);
+            return Err(refuse_in(rule, id.span, words));
         }
         found.insert(id.name, name.target)?;
     }
