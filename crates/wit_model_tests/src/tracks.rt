@@ -13,7 +13,8 @@ const CASES: &str = "1.2.3|1.0.0|1|.2.3
 0.10.4|0.10.0|0.10|.4
 0.0.1-alpha+build.1|0.0.1-alpha|0.0.1-alpha|+build.1
 0.0.0|0.0.0|0.0.0|
-0.0.100+build.1|0.0.100|0.0.100|+build.1";
+0.0.100+build.1|0.0.100|0.0.100|+build.1
+1.0.0-beta.1|1.0.0-beta.1|1.0.0-beta.1|";
 
 // Whether a text is this suffix, where an empty one stands for none.
 fn is_suffix(told: &Option<String>, suffix: &str) -> bool {

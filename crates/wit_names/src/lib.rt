@@ -9,8 +9,6 @@ pub mod label;
 pub mod laws;
 pub mod mangled;
 pub mod setter;
-#[cfg(test)]
-mod tests;
 pub mod track;
 
 pub use folded::Folded;

@@ -3,7 +3,5 @@
 
 pub mod program;
 pub mod status;
-#[cfg(test)]
-mod tests;
 
 pub use program::run;

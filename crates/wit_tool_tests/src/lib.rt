@@ -1,4 +1,4 @@
-//! Tests of `wit_lex`, `wit_parser`, `wit_groups` and `wit_tool`: what no row of `wit_rows` asks.
+//! Tests of `wit_lex`, `wit_parser`, `wit_groups`, `wit_tool` and `wit_program`: what no row of `wit_rows` asks.
 #![tactic(auto)]
 
 #[cfg(test)]
@@ -9,3 +9,5 @@ mod lines;
 mod refused;
 #[cfg(test)]
 mod sources;
+#[cfg(test)]
+mod statuses;

@@ -12,8 +12,6 @@ mod release_text;
 pub mod row;
 pub mod span;
 pub mod table;
-#[cfg(test)]
-mod tests;
 pub mod text;
 pub mod text_table;
 

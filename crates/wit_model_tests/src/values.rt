@@ -1,10 +1,10 @@
-//! What is put in comes out again.
+//! What is put into rows, texts, releases and tables comes out again.
 
-use crate::{Release, Row, Table, Text, TextTable, laws};
 use semver::Version;
 use std::alloc::Global;
 use std::cmp::Ordering;
 use std::test::Fail;
+use wit_values::{Release, Row, Table, Text, TextTable, laws};
 
 fn row(alloc: Global) -> Result<Row<u8>, Fail> {
     let mut items = Vec::new(alloc);

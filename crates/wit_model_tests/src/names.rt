@@ -1,7 +1,6 @@
-//! Worked rows.
-use crate::{getter_for_setter, is_mangled, is_setter, laws, split_canonical, validate_id};
-use semver::Version;
+//! Labels, mangled and folded names, and the getters of setters.
 use std::test::Fail;
+use wit_names::{getter_for_setter, is_mangled, is_setter, laws, validate_id};
 
 #[test]
 fn labels(rt: HostRuntime) -> Result<(), Fail> {
@@ -94,27 +93,5 @@ fn getters(rt: HostRuntime) -> Result<(), Fail> {
         );
     }
     assert!(rt; !is_setter("[get]x"));
-    Ok(())
-}
-
-#[test]
-fn tracks(rt: HostRuntime) -> Result<(), Fail> {
-    for (text, track, suffix) in [
-        ("1.2.3", "1", ".2.3"),
-        ("101.201.301", "101", ".201.301"),
-        ("0.2.6-rc.1", "0.2.6-rc.1", ""),
-        ("0.10.0+build.1", "0.10", ".0+build.1"),
-        ("0.0.1-alpha+build.1", "0.0.1-alpha", "+build.1"),
-        ("0.0.0", "0.0.0", ""),
-        ("0.0.100+build.1", "0.0.100", "+build.1"),
-        ("1.0.0-beta.1", "1.0.0-beta.1", ""),
-    ] {
-        let version = Version::parse(rt.alloc(), text)?;
-        let (told_track, told_suffix) = split_canonical(rt.alloc(), &version)?;
-        assert_eq!(rt; told_track.as_str(), track, "{text}");
-        assert_eq!(rt; told_suffix.is_none(), suffix.is_empty(), "{text}");
-        let told_suffix = told_suffix.unwrap_or(String::new(rt.alloc()));
-        assert_eq!(rt; told_suffix.as_str(), suffix, "{text}");
-    }
     Ok(())
 }

@@ -1,12 +1,12 @@
 //! The statuses, and what is written with them.
 
-use crate::status::run_program;
 use std::alloc::Global;
 use std::fs::File;
 use std::io::BufWriter;
 use std::process::{Abort, ExitCode};
 use std::str;
 use std::test::Fail;
+use wit_program::status::run_program;
 
 /// Checks the status after an input, and what is written.
 fn check(
