@@ -8,13 +8,12 @@ ghost use Rattle.wit_files.specs.Foreign.{foreign_behind};
 ghost use Rattle.wit_foreign.specs.Growing.{AreDeps};
 
 use crate::packages::{Packages, add_visit_in};
-use crate::putting::beside;
 use std::alloc::{AllocError, Global};
 use wit_files::ForeignVisit;
 use wit_model::AstItem;
 use wit_notes::{package_name, told_stability};
 use wit_types::{Arena, InterfacePlace, WorldPlace};
-use wit_values::{Row, Span, Table};
+use wit_values::{Row, Span, Table, beside};
 
 /// The items of the visits so far.
 #[derive(Drop)]

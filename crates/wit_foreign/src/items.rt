@@ -6,7 +6,6 @@ ghost use Rattle.std.specs.Option.{is_some};
 ghost use Rattle.indexmap.specs.IndexMap.{insert_entry};
 ghost use Rattle.wit_foreign.specs.Kept.{item_more, row_more};
 
-use crate::putting::put_at;
 use std::alloc::{AllocError, Global};
 use wit_model::AstItem;
 use wit_types::Stability;
@@ -34,6 +33,19 @@ fn visited_once(
     let mut stabilities = Row::new(alloc);
     stabilities.push(stability)?;
     Ok((entry, stabilities))
+}
+
+/// Puts a value at a text, whatever it is: where this is refused, it is let go here, where nothing is known of it.
+fn put_at<V: Drop>(
+    alloc: Global,
+    table: &mut TextTable<V>,
+    text: &str,
+    value: V,
+) -> Result<(), AllocError>
+    ensures { OnOk result (table.new ≡ insert_entry (pointwise nat_eq) table.old text.now value) }
+{
+    let text = String::from_str(alloc, text)?;
+    table.put(text, value)
 }
 
 /// Adds an item that is visited for the first time.

@@ -4,7 +4,6 @@
 pub mod deps;
 pub mod items;
 pub mod packages;
-mod putting;
 
 pub use deps::foreign_deps;
 pub use items::Items;

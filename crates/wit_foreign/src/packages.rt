@@ -8,7 +8,6 @@ ghost use Rattle.wit_syntax.specs.Address.{same_package};
 ghost use Rattle.wit_foreign.specs.Kept.{row_more, table_more};
 
 use crate::items::{Items, add_visit_of};
-use crate::putting::put;
 use std::alloc::{AllocError, Global};
 use wit_model::AstItem;
 use wit_package_names::PackageName;
@@ -51,7 +50,7 @@ fn add_package(
     ensures { OnOk result (packages.new ≡ insert_entry same_package packages.old key (row_more [] name.now entry stability)) }
 {
     let items = first_items(alloc, name, entry, stability)?;
-    put(packages, key, items)
+    packages.put(key, items)
 }
 
 /// Adds a visit of an item of a package, of a stability; the item gets the entry if nothing has

@@ -13,7 +13,6 @@ ghost use Rattle.wit_rules.specs.Signatures.{told_ok, AreResults};
 ghost use Rattle.wit_items.specs.Items.{declared_behind};
 ghost use Rattle.wit_scopes.specs.Held.{name_behind};
 
-use crate::putting::{beside, put};
 use indexmap::IndexMap;
 use std::alloc::{AllocError, Global};
 use wit_items::items::Declared;
@@ -22,7 +21,7 @@ use wit_rules::held::HeldFunction;
 use wit_scopes::scope_name::ScopeName;
 use wit_setters::setters::setters_behind_getters;
 use wit_tree::tree::{InterfaceItem, Type, TypeBody, TypeDef};
-use wit_values::TextTable;
+use wit_values::{TextTable, beside};
 
 /// Adds the functions of a definition: those of a resource.
 fn add_definition<'t, 'a>(
@@ -114,7 +113,7 @@ fn add_function(
 {
     let text = String::from_str(alloc, function.name.as_str());
     let (function, name) = beside(function, text)?;
-    put(table, name, function)
+    table.put(name, function)
 }
 
 /// [`function_table`], with more room than it takes.

@@ -5,7 +5,6 @@ pub mod body;
 pub mod functions;
 pub mod names;
 mod own_keys;
-mod putting;
 pub mod required;
 pub mod signatures;
 pub mod uses;

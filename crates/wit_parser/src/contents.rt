@@ -1,5 +1,5 @@
 //! What the files of a package make: its arenas, and what it names of other packages.
-ghost use Rattle.std.specs.Prelude.{◌≡◌, List, [], Ok, Err, map, IfOk, IfErr};
+ghost use Rattle.std.specs.Prelude.{◌≡◌, List, [], map, IfOk, IfErr};
 ghost use Rattle.wit_syntax.specs.Fault.{Fault};
 ghost use Rattle.wit_order.specs.Table.{IsOrder};
 ghost use Rattle.wit_syntax.specs.Source.{first_takings};
@@ -24,7 +24,7 @@ use wit_model::{ForeignItems, Interface, World};
 use wit_tree::tree::PackageFile;
 use wit_tree::{ParseResult, Span};
 use wit_types::{Arena, InterfacePlace, TypeDef, TypePlace, WorldPlace};
-use wit_values::{Row, TextTable};
+use wit_values::{Row, TextTable, beside};
 use wit_worlds::world::{Worlds, resolve_worlds};
 
 /// The interfaces and the worlds of files, where types of other packages are first used, and which of
@@ -162,16 +162,4 @@ pub(crate) fn resolve_contents<'f, 'a>(
     };
     let (arenas, foreign) = beside(made, named)?;
     Ok(Contents { arenas, foreign })
-}
-
-/// A value and another one, or why that was not made: the value is let go here, where nothing is known
-/// of it.
-pub(crate) fn beside<T: Drop, U, E>(value: T, other: Result<U, E>) -> Result<(T, U), E>
-    ensures both { IfOk result (λ both. (both.0 ≡ value) × (other ≡ Ok both.1)) }
-    ensures refused { IfErr result (λ e. other ≡ Err e) }
-{
-    match other {
-        Ok(other) => Ok((value, other)),
-        Err(refusal) => Err(refusal),
-    }
 }

@@ -16,7 +16,7 @@ ghost use Rattle.wit_types.specs.Types.{IsBackward};
 ghost use Rattle.wit_arena.specs.Whole.{first_docs, IsPackage, IsFaithful};
 ghost use Rattle.wit_arena.specs.FirstMeetings.{HasArena};
 
-use crate::contents::{beside, resolve_contents};
+use crate::contents::resolve_contents;
 use std::alloc::{AllocError, Global};
 use wit_files::FileNames;
 use wit_items::header::{check_docs, have_docs, is_same, mismatch, package_docs};
@@ -27,6 +27,7 @@ use wit_package_names::PackageName;
 use wit_tree::tree::{self, NestedPackage, PackageFile, SourceFile};
 use wit_tree::{ParseResult, Span};
 use wit_types::Docs;
+use wit_values::beside;
 
 /// The words for files without a header.
 const NO_HEADER: &str = "no `package` header was found in any WIT file for this package";

@@ -1,21 +1,10 @@
 //! Values held while something is read behind them, whatever they are: where that is refused, they
 //! are let go here, where nothing is known of them.
-ghost use Rattle.std.specs.Prelude.{◌≡◌, ◌+◌, [], Ok, Err, IfOk, OnOk, IfErr};
+ghost use Rattle.std.specs.Prelude.{◌≡◌, ◌+◌, [], IfOk, OnOk, IfErr};
 
 use crate::reader::Reader;
 use wit_lex::kind::Kind;
 use wit_tree::ParseResult;
-
-/// A value and what was read behind it, or why that was not read.
-pub fn beside<T: Drop, U>(value: T, other: ParseResult<U>) -> ParseResult<(T, U)>
-    ensures read { IfOk result (λ both. (both.0 ≡ value) × (other ≡ Ok both.1)) }
-    ensures refused { IfErr result (λ e. other ≡ Err e) }
-{
-    match other {
-        Ok(other) => Ok((value, other)),
-        Err(refusal) => Err(refusal),
-    }
-}
 
 impl<'a> Reader<'a> {
     ghost use Rattle.wit_text.specs.Reading.{IsRead, IsRefused};

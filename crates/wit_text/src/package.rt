@@ -6,7 +6,6 @@ ghost use Rattle.wit_text.specs.Fronts.{IsReadBehind};
 ghost use Rattle.wit_text.specs.Headers.{IsWhole};
 
 use crate::declaration::PackageItem;
-use crate::holding::beside;
 use crate::reader::Reader;
 use crate::types::MOST_NESTED;
 use semver::Version;
@@ -15,6 +14,7 @@ use wit_lex::kind::Kind;
 use wit_lex::word::Word;
 use wit_tree::tree::{DeclList, Docs, Id, NestedPackage, PackageName};
 use wit_tree::{ParseResult, Span};
+use wit_values::beside;
 
 /// The name that these make, with the version that was found.
 fn package_name<'a>(

@@ -5,12 +5,12 @@ ghost use Rattle.wit_text.specs.Fronts.{IsReadBehind};
 ghost use Rattle.wit_tree.specs.Marks.{attributes_marks, front_marks, renamed_marks, include_marks, world_item_marks, world_marks};
 
 use crate::front::Front;
-use crate::holding::beside;
 use crate::reader::Reader;
 use wit_lex::kind::Kind;
 use wit_lex::word::Word;
 use wit_tree::ParseResult;
 use wit_tree::tree::{Attribute, Include, IncludeName, World, WorldItem};
+use wit_values::beside;
 
 impl<'a> Reader<'a> {
     ghost use Rattle.wit_text.specs.Reading.{IsRead, IsReadOn, IsRefused};

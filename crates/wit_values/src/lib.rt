@@ -6,6 +6,7 @@
 #![tactic(auto)]
 
 pub mod accessor;
+pub mod holding;
 pub mod laws;
 pub mod release;
 mod release_text;
@@ -16,6 +17,7 @@ pub mod text;
 pub mod text_table;
 
 pub use accessor::AccessorKind;
+pub use holding::beside;
 pub use release::{BuildText, PreText, Release};
 pub use row::Row;
 pub use span::{Span, compare_spans, is_same_span};

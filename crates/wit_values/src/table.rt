@@ -99,6 +99,22 @@ impl<K: Eq + Hash, V> Table<K, V> {
         self.map.insert(key, value)
     }
 
+    /// Puts a value at a key and lets go of the one that was there.
+    ///
+    /// If a growth is refused, the map stays as it was.
+    pub fn put(&mut self, key: K, value: V) -> Result<(), AllocError>
+    where
+        K: Drop,
+        V: Drop,
+        ensures ok { OnOk result (self.new ≡ insert_entry K.eq self.old key value) }
+        ensures err { OnErr result (self.new ≡ self.old) }
+    {
+        match self.insert(key, value) {
+            Ok(_) => Ok(()),
+            Err(_) => Err(AllocError),
+        }
+    }
+
     /// The map of `indexmap`.
     pub fn as_map(&self) -> &IndexMap<K, V>
         ensures { result.now.entries ≡ self.now }

@@ -101,6 +101,21 @@ impl<V> TextTable<V> {
         self.map.insert(key, value)
     }
 
+    /// Puts a value at a text and lets go of the one that was there.
+    ///
+    /// If a growth is refused, the map stays as it was.
+    pub fn put(&mut self, key: String, value: V) -> Result<(), AllocError>
+    where
+        V: Drop,
+        ensures ok { OnOk result (self.new ≡ insert_entry (pointwise nat_eq) self.old (string_bytes key) value) }
+        ensures err { OnErr result (self.new ≡ self.old) }
+    {
+        match self.insert(key, value) {
+            Ok(_) => Ok(()),
+            Err(_) => Err(AllocError),
+        }
+    }
+
     /// The map of `indexmap`.
     pub fn as_map(&self) -> &IndexMap<String, V>
         ensures { text_entries result.now.entries ≡ self.now }

@@ -4,7 +4,6 @@
 mod externs;
 mod includes;
 mod inside;
-mod putting;
 mod setters;
 mod sides;
 mod standing;

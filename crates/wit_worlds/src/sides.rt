@@ -25,7 +25,6 @@ ghost use Rattle.wit_worlds.specs.Links.{AreWithin};
 ghost use Rattle.wit_worlds.specs.Settled.{none_of};
 ghost use Rattle.wit_worlds.specs.Sides.{entries_of, entries_on, inserted_on};
 
-use crate::putting::{beside, put};
 use crate::setters::settle;
 use crate::standing::Standing;
 use indexmap::IndexMap;
@@ -37,7 +36,7 @@ use wit_notes::{docs, path_id, told_notes};
 use wit_tree::Span;
 use wit_tree::tree::{Attribute, Id, UsePath, WorldSide};
 use wit_types::{Docs, InterfaceId, TypeId};
-use wit_values::{Table, Text, TextTable};
+use wit_values::{Table, Text, TextTable, beside};
 
 /// Puts a type at a name of a world, as an import.
 fn add_import(
@@ -53,7 +52,7 @@ fn add_import(
         id: ty,
         span: id.span,
     };
-    put(imports, key, item)?;
+    imports.put(key, item)?;
     Ok(())
 }
 
@@ -103,10 +102,10 @@ fn add_item(
 {
     match side {
         WorldSide::Imported => {
-            put(&mut sides.imports, key, item)?;
+            sides.imports.put(key, item)?;
         }
         WorldSide::Exported => {
-            put(&mut sides.exports, key, item)?;
+            sides.exports.put(key, item)?;
         }
     }
     Ok(())

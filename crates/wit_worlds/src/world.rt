@@ -33,7 +33,6 @@ ghost use Rattle.wit_worlds.specs.Links.{interfaces_of_others};
 use crate::externs::declared_externs;
 use crate::includes::declared_includes;
 use crate::inside::declared_name;
-use crate::putting::beside;
 use crate::setters::is_closed;
 use crate::sides::{WorldSides, fitted, world_sides};
 use crate::standing::resolve_standing;
@@ -52,7 +51,7 @@ use wit_model::{AstItem as Entry, Interface, World, WorldInclude};
 use wit_tree::ParseResult;
 use wit_tree::tree::Id;
 use wit_types::{Arena, InterfacePlace, TypeOwner, WorldId, WorldPlace};
-use wit_values::{Row, Text, TextTable};
+use wit_values::{Row, Text, TextTable, beside};
 
 /// The worlds that are resolved, and the places of the declared ones by their names.
 #[derive(Drop)]

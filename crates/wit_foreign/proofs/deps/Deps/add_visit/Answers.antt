@@ -12,8 +12,8 @@ use Rattle.wit_foreign.proofs.deps.Deps.add_visit.Goals as goal
 
 pub returns-in_ok-count : goal.returns-in_ok-count
 returns-in_ok-count c vs are =
-    let whole = c.in_ok-package.ensures.0 ∙ c.in_ok-key.ensures.whole in
-    let told = rw c.in_ok-package.ensures.1 at c.told_stability-told.ensures in
+    let whole = c.in_ok-package.ensures.both.0 ∙ c.in_ok-key.ensures.whole in
+    let told = rw c.in_ok-package.ensures.both.1 at c.told_stability-told.ensures in
     deps_more vs (foreign_behind c.args.visit.now) true c.next_entry-entry.result c.args.self.now c.count.new.self (record {
       entry_is = c.next_entry-entry.ensures;
       fresh_is = sym c.if-fresh.true ∙ (c.in_ok-fresh.ensures.fresh ∙ ap (λ p. not (is_some (lookup (pointwise nat_eq c.args.visit.now.name.name.now) (unwrap_or (lookup (same_package p) c.args.self.now.packages) [])))) whole);
@@ -25,8 +25,8 @@ returns-in_ok-count c vs are =
 
 pub returns-else-fresh : goal.returns-else-fresh
 returns-else-fresh c vs are =
-    let whole = c.in_ok-package.ensures.0 ∙ c.in_ok-key.ensures.whole in
-    let told = rw c.in_ok-package.ensures.1 at c.told_stability-told.ensures in
+    let whole = c.in_ok-package.ensures.both.0 ∙ c.in_ok-key.ensures.whole in
+    let told = rw c.in_ok-package.ensures.both.1 at c.told_stability-told.ensures in
     deps_more vs (foreign_behind c.args.visit.now) false c.next_entry-entry.result c.args.self.now c.note_span.new.self (record {
       entry_is = c.next_entry-entry.ensures;
       fresh_is = sym c.if-fresh.false ∙ (c.in_ok-fresh.ensures.fresh ∙ ap (λ p. not (is_some (lookup (pointwise nat_eq c.args.visit.now.name.name.now) (unwrap_or (lookup (same_package p) c.args.self.now.packages) [])))) whole);

@@ -9,4 +9,4 @@ pass_items-returns-clause-read t c = then c.items.invariant c.in_ok-bump.ensures
 
 pub read_inner-returns-clause-read : goal.read_inner-returns-clause-read
 read_inner-returns-clause-read t c =
-    rw c.in_ok-name.ensures.read.0 (closed_behind c.in_ok-header.ensures.read (rw c.in_ok-name.ensures.read.1 at c.pass_items.ensures.read))
+    rw c.in_ok-name.ensures.both.0 (closed_behind c.in_ok-header.ensures.read (rw c.in_ok-name.ensures.both.1 at c.pass_items.ensures.read))

@@ -5,21 +5,21 @@ use Rattle.wit_text.proofs.reader.Reader.+types.Goals as goal
 
 pub read_list-returns-clause-read : goal.read_list-returns-clause-read
 read_list-returns-clause-read t c =
-    same_marks (rw c.in_ok-item.ensures.read.0 at c.list.ensures)
-    (then c.in_ok-span.ensures.read (skip c.in_ok-expect.ensures.read (then c.in_ok-boxed.ensures.read (rw c.in_ok-item.ensures.read.1 at c.read_size.ensures.read))))
+    same_marks (rw c.in_ok-item.ensures.both.0 at c.list.ensures)
+    (then c.in_ok-span.ensures.read (skip c.in_ok-expect.ensures.read (then c.in_ok-boxed.ensures.read (rw c.in_ok-item.ensures.both.1 at c.read_size.ensures.read))))
 
 pub read_map-returns-clause-read : goal.read_map-returns-clause-read
 read_map-returns-clause-read t c =
-    rw c.in_ok-key.ensures.read.0
-    (then c.in_ok-span.ensures.read (skip c.in_ok-expect.ensures.read (then c.in_ok-first.ensures.read (rw c.in_ok-key.ensures.read.1 at c.read_boxed_before-2.ensures.read))))
+    rw c.in_ok-key.ensures.both.0
+    (then c.in_ok-span.ensures.read (skip c.in_ok-expect.ensures.read (then c.in_ok-first.ensures.read (rw c.in_ok-key.ensures.both.1 at c.read_boxed_before-2.ensures.read))))
 
 pub read_option-returns-clause-read : goal.read_option-returns-clause-read
 read_option-returns-clause-read t c = then c.in_ok-span.ensures.read (skip c.in_ok-expect.ensures.read c.in_ok-value.ensures.read)
 
 pub read_result-returns-clause-read : goal.read_result-returns-clause-read
 read_result-returns-clause-read t c =
-    rw c.in_ok-ok.ensures.read.0
-    (same_marks (result_marks c.in_ok-span.span c.in_ok-first.first c.in_ok-ok.err) (then c.in_ok-span.ensures.read (skip c.in_ok-bump.ensures.read (then c.in_ok-first.ensures.read (rw c.in_ok-ok.ensures.read.1 at c.read_err.ensures.read)))))
+    rw c.in_ok-ok.ensures.both.0
+    (same_marks (result_marks c.in_ok-span.span c.in_ok-first.first c.in_ok-ok.err) (then c.in_ok-span.ensures.read (skip c.in_ok-bump.ensures.read (then c.in_ok-first.ensures.read (rw c.in_ok-ok.ensures.both.1 at c.read_err.ensures.read)))))
 
 pub read_err-returns-clause-read : goal.read_err-returns-clause-read
 read_err-returns-clause-read t c = skip c.in_ok-expect-2.ensures.read c.in_ok-err.ensures.read

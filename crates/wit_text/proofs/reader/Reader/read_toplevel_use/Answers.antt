@@ -5,6 +5,6 @@ use Rattle.wit_text.proofs.reader.Reader.read_toplevel_use.Goals as goal
 pub returns-clause-read : goal.returns-clause-read
 returns-clause-read c = record {
   marks = _;
-  item = rw c.in_ok-item.ensures.read.0 refl;
-  read = then c.in_ok-span.ensures.read (then c.in_ok-path.ensures.read (rw c.in_ok-item.ensures.read.1 at c.read_local_and_close.ensures.read));
+  item = rw c.in_ok-item.ensures.both.0 refl;
+  read = then c.in_ok-span.ensures.read (then c.in_ok-path.ensures.read (rw c.in_ok-item.ensures.both.1 at c.read_local_and_close.ensures.read));
 }

@@ -5,6 +5,6 @@ use Rattle.wit_text.proofs.reader.Reader.read_use.Goals as goal
 pub returns-clause-read : goal.returns-clause-read
 returns-clause-read c = record {
   marks = _;
-  item = rw c.in_ok-from.ensures.read.0 refl;
-  read = skip c.in_ok-expect_word.ensures.read (then c.in_ok-path.ensures.read (rw c.in_ok-from.ensures.read.1 at c.read_behind_path.ensures.read));
+  item = rw c.in_ok-from.ensures.both.0 refl;
+  read = skip c.in_ok-expect_word.ensures.read (then c.in_ok-path.ensures.read (rw c.in_ok-from.ensures.both.1 at c.read_behind_path.ensures.read));
 }

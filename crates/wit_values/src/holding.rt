@@ -1,0 +1,16 @@
+//! Values held while something behind them may be refused, whatever they are.
+ghost use Rattle.std.specs.Prelude.{◌≡◌, Err, IfErr, IfOk, Ok};
+
+/// A value and another one, or why that was not made: then the value is let go.
+///
+/// Where nothing is known of a value, letting it go costs no proof, so a function that holds a large one
+/// over what may be refused hands both to this.
+pub fn beside<T: Drop, U, E>(value: T, other: Result<U, E>) -> Result<(T, U), E>
+    ensures both { IfOk result (λ both. (both.0 ≡ value) × (other ≡ Ok both.1)) }
+    ensures refused { IfErr result (λ e. other ≡ Err e) }
+{
+    match other {
+        Ok(other) => Ok((value, other)),
+        Err(refusal) => Err(refusal),
+    }
+}
