@@ -1,9 +1,10 @@
 #!/usr/bin/env python3
-"""Instructions of a program on the shapes at growing sizes, and the exponent of growth. Needs valgrind.
+"""Instructions and peak memory of a program on the shapes at growing sizes, and the exponent of growth. Needs valgrind and GNU time.
 
-measure.py PROGRAM SHAPE:N,N,.. [SHAPE:N,N,..]..
+measure.py PROGRAM [--beside OTHER] SHAPE:N,N,.. [SHAPE:N,N,..]..
 
-A shape of `collide.py` is written `colliding-SHAPE`, and `plain-SHAPE` where its names are ordinary ones.
+Beside another program, which reads the same, each number is told as a part of the other's too. A shape of `collide.py` is
+written `colliding-SHAPE`, and `plain-SHAPE` where its names are ordinary ones.
 """
 import math
 import os
@@ -16,10 +17,19 @@ HERE = os.path.dirname(os.path.abspath(__file__))
 
 
 def instructions(program, path):
+    """The instructions of a run, reading and writing included."""
     with open(path) as source:
         run = subprocess.run(['valgrind', '--tool=callgrind', '--callgrind-out-file=/dev/null', program],
                              stdin=source, stdout=subprocess.DEVNULL, stderr=subprocess.PIPE)
     return int(re.search(rb'Collected : (\d+)', run.stderr).group(1))
+
+
+def peak(program, path):
+    """The most memory that a run holds at once, in bytes; through time, since a child's peak begins with its parent's."""
+    with open(path) as source, tempfile.NamedTemporaryFile('r') as told:
+        subprocess.run(['time', '-q', '-o', told.name, '-f', '%M', program], stdin=source, stdout=subprocess.DEVNULL,
+                       stderr=subprocess.DEVNULL)
+        return int(told.read()) * 1024
 
 
 def written(shape, size):
@@ -31,20 +41,24 @@ def written(shape, size):
 
 
 def main():
-    program = os.path.abspath(sys.argv[1])
-    print('%-23s %9s %9s %10s %8s' % ('shape', 'N', 'KB', 'Mi', 'exponent'))
+    program, *words = sys.argv[1:]
+    other = os.path.abspath(words[1]) if words[:1] == ['--beside'] else None
+    program = os.path.abspath(program)
+    print('%-23s %9s %9s %10s %8s %9s %8s %9s' % ('shape', 'N', 'KB', 'Mi', 'exponent', 'of other', 'peak MB', 'of other'))
     with tempfile.TemporaryDirectory() as folder:
-        for word in sys.argv[2:]:
+        for word in words[2 if other else 0:]:
             shape, _, sizes = word.partition(':')
             last = None
             for size in map(int, sizes.split(',')):
                 path = os.path.join(folder, 'input.wit')
                 with open(path, 'w') as out:
-                    script, *words = written(shape, size)
-                    subprocess.run([sys.executable, os.path.join(HERE, script), *words], stdout=out, check=True)
-                count = instructions(program, path)
+                    script, *rest = written(shape, size)
+                    subprocess.run([sys.executable, os.path.join(HERE, script), *rest], stdout=out, check=True)
+                count, most = instructions(program, path), peak(program, path)
                 growth = '%.2f' % (math.log(count / last[1]) / math.log(size / last[0])) if last else ''
-                print('%-23s %9d %9.1f %10.1f %8s' % (shape, size, os.path.getsize(path) / 1e3, count / 1e6, growth))
+                parts = ['%.2f' % (count / instructions(other, path)), '%.2f' % (most / peak(other, path))] if other else ['', '']
+                print('%-23s %9d %9.1f %10.1f %8s %9s %8.1f %9s' % (shape, size, os.path.getsize(path) / 1e3, count / 1e6, growth, parts[0],
+                                                                  most / 1e6, parts[1]), flush=True)
                 last = (size, count)
 
 

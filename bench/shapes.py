@@ -114,6 +114,25 @@ def worlds(n):
     return HEADER + 'world w0 { type t = u8; }\n' + ''.join('world w%d { type t = u8; include w%d with { a as b } }\n' % (k, k - 1) for k in range(1, n))
 
 
+def sides(n):
+    """n worlds, each with an interface and a function imported, one exported, and one interface written in it."""
+    declared = 'interface types { type t = u8; }\n'
+    world = 'world w%d {\n  import types;\n  import log: func(a: string) -> u8;\n  export other: types;\n  export inside: interface { use types.{t}; f: func(a: t); }\n  export run: func();\n}\n'
+    return HEADER + declared + ''.join(world % k for k in range(n))
+
+
+def imports(n):
+    """A world that imports n interfaces, and exports half of them."""
+    declared = ''.join('interface i%d { type t = u8; f: func(a: t); }\n' % k for k in range(n))
+    return HEADER + declared + 'world w {\n' + ''.join('  import i%d;\n' % k for k in range(n)) + ''.join('  export i%d;\n' % k for k in range(0, n, 2)) + '}\n'
+
+
+def packages(n):
+    """n packages in one file, each with a name of the one before it."""
+    first = 'package a:p0 { interface i { type t = u8; } }\n'
+    return HEADER + first + ''.join('package a:p%d { interface i { use a:p%d/i.{t}; } }\n' % (k, k - 1) for k in range(1, n))
+
+
 def aliases(n):
     """n interfaces, each under another name of the file, by which a world uses it."""
     declared = ''.join('interface i%d { type t = u8; }\nuse i%d as j%d;\n' % (k, k, k) for k in range(n))
@@ -191,7 +210,7 @@ def stable(n):
 
 
 SHAPES = [platform, chain, turned_chain, interfaces, apart, shared, uses, one_use, lists, same_list, fields, nested, worlds,
-          aliases, foreign, foreign_uses, foreign_names, functions, methods, resources, handles, handle_ends, accessors, early_setters,
+          sides, imports, packages, aliases, foreign, foreign_uses, foreign_names, functions, methods, resources, handles, handle_ends, accessors, early_setters,
           parameters, docs, long_docs, stable, comment]
 
 if __name__ == '__main__':
