@@ -18,7 +18,7 @@ use Rattle.wit_arena.specs.Expr.{Expr, Exprs, expr_of, exprs_of, name_exprs}
 use Rattle.wit_arena.specs.Meet.{Key, Def, Whole, Meeting, keys, IsAt, Decls, IsEntry}
 use Rattle.wit_arena.specs.Package.{At, owner_of, names_of, functions_of, function_types}
 use Rattle.std.proofs.lemmas.Option.{slice_get_within}
-use Rattle.wit_model.specs.declared.function.Function.{Function}
+use Rattle.wit_functions.specs.declared.function.Function.{Function}
 use Rattle.wit_syntax.specs.Function.{SourceFunction}
 use Rattle.wit_arena.specs.Functions.{IsFunction}
 use Rattle.wit_syntax.specs.Repeats.{AllDiffer}

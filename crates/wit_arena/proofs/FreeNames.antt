@@ -10,8 +10,8 @@ use Rattle.wit_tree.specs.declared.tree.TypeBody.{TypeBody}
 use Rattle.wit_tree.specs.declared.tree.TypeBody.TheVariants as body
 use Rattle.wit_tree.specs.declared.tree.ResourceFunc.{ResourceFunc}
 use Rattle.wit_tree.specs.declared.tree.ResourceFunc.TheVariants as resource
-use Rattle.wit_model.specs.declared.function.Function.{Function}
-use Rattle.wit_model.specs.declared.function.FunctionKind.{FunctionKind}
+use Rattle.wit_functions.specs.declared.function.Function.{Function}
+use Rattle.wit_functions.specs.declared.function.FunctionKind.{FunctionKind}
 use Rattle.wit_syntax.specs.Address.{Address}
 use Rattle.wit_syntax.specs.Source.{Item, Part, Defining, Using, Including, Doing, Crossing, parts}
 use Rattle.wit_syntax.specs.Function.{Role, Freestanding, Method, Static, Constructor, OnSide, SourceFunction, accessor, free_function, resource_function, definition_functions, part_functions, functions, role_names, free_names}

@@ -6,8 +6,8 @@ use Rattle.std.specs.List.{flat_map, AllByRecursion, IsDistinct}
 use Rattle.std.specs.Option.{option_map}
 use Rattle.std.proofs.lemmas.Option.{slice_get-map}
 use Rattle.wit_names.specs.Folded.{folded_key}
-use Rattle.wit_model.specs.declared.function.Function.{Function}
-use Rattle.wit_model.specs.Setters.{name_in, HaveDistinctNames}
+use Rattle.wit_functions.specs.declared.function.Function.{Function}
+use Rattle.wit_functions.specs.Setters.{name_in, HaveDistinctNames}
 use Rattle.wit_syntax.specs.Source.{ScopeName}
 use Rattle.wit_syntax.specs.Function.{SourceFunction}
 use Rattle.wit_arena.specs.Functions.{by_name}

@@ -2,7 +2,7 @@
 use Rattle.std.proofs.Common.{◌≡◌, List, [], ◌∷◌, ◌++◌, Some, ap, ◌∙◌, subst}
 use Rattle.wit_tree.specs.declared.tree.WorldSide.{WorldSide}
 use Rattle.wit_tree.specs.declared.tree.WorldSide.TheVariants.{Imported, Exported}
-use Rattle.wit_model.specs.declared.function.Function.{Function}
+use Rattle.wit_functions.specs.declared.function.Function.{Function}
 use Rattle.wit_model.specs.declared.world.World.{World}
 use Rattle.wit_model.specs.declared.world.WorldInclude.{WorldInclude}
 use Rattle.wit_model.specs.declared.world.WorldItem.{WorldItem}

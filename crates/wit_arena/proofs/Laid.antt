@@ -16,7 +16,7 @@ use Rattle.wit_syntax.specs.Repeats.{AllDiffer}
 use Rattle.wit_syntax.specs.Scope.{rows_of, in_turn, local_names, AreDistinct}
 use Rattle.wit_arena.specs.Meet.{Key, Meeting, Decls}
 use Rattle.wit_arena.specs.Whole.{Ordered, Turned, item_of, ordered_names, turned, turn_meetings, addresses, meetings, taking_meeting, all_meetings, turn_handles, AreRequired}
-use Rattle.wit_model.specs.declared.function.Function.{Function}
+use Rattle.wit_functions.specs.declared.function.Function.{Function}
 use Rattle.wit_syntax.specs.Function.{functions}
 use Rattle.wit_syntax.specs.Sides.{FunctionKey}
 use Rattle.std.specs.List.{flat_map}

@@ -21,7 +21,7 @@ use Rattle.wit_syntax.specs.Source.{address, Item, ScopeName, all_items, first_t
 use Rattle.wit_syntax.specs.Foreign.{visited, foreign_interfaces, foreign_worlds}
 use Rattle.wit_arena.specs.Meet.{Meeting, Key, keys, IsMeeting}
 use Rattle.wit_syntax.specs.Repeats.{AllDiffer}
-use Rattle.wit_model.specs.declared.function.Function.{Function}
+use Rattle.wit_functions.specs.declared.function.Function.{Function}
 use Rattle.wit_syntax.specs.Function.{functions}
 use Rattle.wit_tree.specs.declared.tree.WorldSide.TheVariants.{Imported, Exported}
 use Rattle.wit_syntax.specs.Sides.{function_key, side_items, inline_items}

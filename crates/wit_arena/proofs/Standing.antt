@@ -11,7 +11,7 @@ use Rattle.wit_syntax.specs.Trees.{scope}
 use Rattle.wit_arena.specs.Expr.{Exprs, name_exprs}
 use Rattle.wit_arena.specs.Meet.{Def, Whole, Meeting, keys, Meets, Decls, IsMeeting}
 use Rattle.wit_syntax.specs.Repeats.{AllDiffer}
-use Rattle.wit_model.specs.declared.function.Function.{Function}
+use Rattle.wit_functions.specs.declared.function.Function.{Function}
 use Rattle.wit_syntax.specs.Function.{SourceFunction}
 use Rattle.wit_syntax.specs.Sides.{FunctionKey}
 use Rattle.wit_arena.specs.Functions.{AreFunctions}

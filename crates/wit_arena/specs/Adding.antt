@@ -4,10 +4,10 @@ use Rattle.std.specs.List.{flat_map}
 use Rattle.wit_types.specs.declared.stability.Stability.TheVariants.{Unknown}
 use Rattle.wit_types.specs.declared.types.«Type».{«Type» as Ty}
 use Rattle.wit_types.specs.declared.types.TypeDef.{TypeDef}
-use Rattle.wit_model.specs.declared.function.Function.{Function}
-use Rattle.wit_model.specs.declared.function.FunctionKind.{FunctionKind}
-use Rattle.wit_model.specs.declared.function.FunctionKind.TheVariants as kind
-use Rattle.wit_model.specs.declared.function.Param.{Param}
+use Rattle.wit_functions.specs.declared.function.Function.{Function}
+use Rattle.wit_functions.specs.declared.function.FunctionKind.{FunctionKind}
+use Rattle.wit_functions.specs.declared.function.FunctionKind.TheVariants as kind
+use Rattle.wit_functions.specs.declared.function.Param.{Param}
 use Rattle.wit_syntax.specs.Shape.{Shape, Shapes, End, More}
 use Rattle.wit_syntax.specs.Address.{Address}
 use Rattle.wit_syntax.specs.Function.{Role, Freestanding, Method, Static, Constructor, OnSide, SourceParam, SourceFunction, all_params}

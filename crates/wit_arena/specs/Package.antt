@@ -2,8 +2,8 @@
 use Rattle.std.specs.Prelude.{◌≡◌, ℕ, zero, suc, ◌<◌, Bool, true, false, nat_eq, List, [], ◌∷◌, ◌++◌, Option, Some, None, ◌⊎◌, map, find, slice_get}
 use Rattle.std.specs.List.{flat_map, filter}
 use Rattle.std.specs.Option.{option_map_or, option_to_list}
-use Rattle.wit_model.specs.declared.function.Function.{Function}
-use Rattle.wit_model.specs.declared.function.Param.{Param}
+use Rattle.wit_functions.specs.declared.function.Function.{Function}
+use Rattle.wit_functions.specs.declared.function.Param.{Param}
 use Rattle.wit_tree.specs.declared.tree.Id.{Id}
 use Rattle.wit_model.specs.declared.ast_item.AstItem.{AstItem}
 use Rattle.wit_model.specs.declared.ast_item.AstItem.TheVariants as entry

@@ -22,7 +22,7 @@ use Rattle.wit_arena.specs.Meet.{keys}
 use Rattle.wit_syntax.specs.Fault.{Fault}
 use Rattle.wit_arena.specs.Package.{IsInterfaceOf, IsWorld}
 use Rattle.wit_syntax.specs.Scope.{uses, includes, interfaces_of, worlds_of, rows_of, in_order, defined, in_turn, AreDistinct}
-use Rattle.wit_model.specs.declared.function.Function.{Function}
+use Rattle.wit_functions.specs.declared.function.Function.{Function}
 use Rattle.wit_syntax.specs.Function.{SourceFunction, functions as item_functions, signature, name_types, written_types, all_types, item_types}
 use Rattle.wit_syntax.specs.Signature.{IsUnpairedSetter}
 use Rattle.wit_tree.specs.declared.tree.WorldSide.TheVariants.{Imported, Exported}

@@ -36,7 +36,7 @@ use Rattle.wit_syntax.specs.Fault.{Fault, fault, missing_at, missing_type_at, it
 use Rattle.wit_arena.specs.Package.{At}
 use Rattle.wit_syntax.specs.Bodies.{IsBrokenType, IsBrokenPart, IsBrokenBody}
 use Rattle.wit_syntax.specs.Function.{SourceFunction}
-use Rattle.wit_model.specs.declared.function.Function.{Function}
+use Rattle.wit_functions.specs.declared.function.Function.{Function}
 use Rattle.wit_arena.specs.Functions.{AreFunctions, freestanding_names}
 use Rattle.wit_arena.specs.EntryEnds.{IsResource, IsUnknown as IsUnknownEntry, IsOther, entry_end}
 use Rattle.wit_syntax.specs.Sides.{Link, links}

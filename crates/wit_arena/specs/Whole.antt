@@ -37,7 +37,7 @@ use Rattle.wit_syntax.specs.Source.{path_id, leads, TopName, Item, item_id, item
 use Rattle.wit_syntax.specs.Trees.{scope, source_tree}
 use Rattle.wit_syntax.specs.Foreign.{ForeignVisit, visited_package, visited, same_item, foreign_interfaces, foreign_worlds, foreign_packages, items_of_package, visits_of}
 use Rattle.wit_arena.specs.Expr.{Expr, expr_of}
-use Rattle.wit_model.specs.declared.function.Function.{Function}
+use Rattle.wit_functions.specs.declared.function.Function.{Function}
 use Rattle.wit_syntax.specs.Function.{SourceFunction, signature, functions as item_functions, all_types}
 use Rattle.wit_syntax.specs.Ends.{AtResource, AtForeign, EndsAt}
 use Rattle.wit_tree.specs.declared.tree.Id.{Id}

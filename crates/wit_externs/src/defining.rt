@@ -13,7 +13,7 @@ ghost use Rattle.wit_externs.specs.Clash.{IsClash, names_of_items, IsCrossed};
 
 use crate::held::HeldExtern;
 use std::alloc::{AllocError, Global};
-use wit_model::Function;
+use wit_functions::Function;
 use wit_notes::is_same_side;
 use wit_notes::refusal::refuse_in;
 use wit_rules::held::HeldFunction;

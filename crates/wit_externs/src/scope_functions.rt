@@ -23,7 +23,7 @@ use crate::defining::define_alone;
 use std::alloc::Global;
 use wit_entries::entries::Entries;
 use wit_entries::scope::Required;
-use wit_model::Function;
+use wit_functions::Function;
 use wit_rules::function_scope::FunctionScope;
 use wit_sides::Sides;
 use wit_signatures::functions::resolve_function;

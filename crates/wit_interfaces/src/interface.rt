@@ -3,7 +3,7 @@ ghost use Rattle.std.specs.Prelude.{◌≡◌, ◌<◌, ◌≤◌, ◌++◌, Lis
 ghost use Rattle.wit_types.specs.declared.types.TypeDef.{TypeDef};
 ghost use Rattle.wit_types.specs.declared.types.TypeOwner.{TypeOwner as Owner};
 ghost use Rattle.wit_types.specs.declared.types.TypeOwner.TheVariants.{Interface as InterfaceOwner};
-ghost use Rattle.wit_model.specs.declared.function.Function.{Function as TheFunction};
+ghost use Rattle.wit_functions.specs.declared.function.Function.{Function as TheFunction};
 ghost use Rattle.wit_syntax.specs.Source.{declared_attributes, declared_name, is_world, item_id, scope_names as the_names};
 ghost use Rattle.wit_syntax.specs.Notes.{IsBrokenStability};
 ghost use Rattle.wit_syntax.specs.Function.{functions as the_functions};

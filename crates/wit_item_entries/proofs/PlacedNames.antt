@@ -1,10 +1,10 @@
 -- Functions whose names differ still do once setters are placed.
 use Rattle.std.proofs.Common.{◌≡◌, ℕ, List, [], ◌∷◌, Some, refl, sym, ap, ◌∙◌, subst}
 use Rattle.std.specs.Prelude.{map}
-use Rattle.wit_model.specs.declared.function.Function.{Function}
-use Rattle.wit_model.specs.Setters.{is_getter_of, pairs, placed, setters_placed}
-use Rattle.wit_model.proofs.InTurn.{in_turn}
-use Rattle.wit_model.proofs.Pairs.{in_turn-placed}
+use Rattle.wit_functions.specs.declared.function.Function.{Function}
+use Rattle.wit_functions.specs.Setters.{is_getter_of, pairs, placed, setters_placed}
+use Rattle.wit_functions.proofs.InTurn.{in_turn}
+use Rattle.wit_functions.proofs.Pairs.{in_turn-placed}
 use Rattle.wit_arena.specs.Functions.{by_name}
 use Rattle.wit_syntax.specs.Repeats.{AllDiffer}
 use Rattle.wit_arena.proofs.FunctionNames.{made_name, names_distinct}

@@ -3,7 +3,7 @@ use Rattle.std.specs.Prelude.{◌≡◌, List, map, Contains}
 use Rattle.wit_tree.specs.declared.tree.Id.{Id}
 use Rattle.wit_types.specs.declared.types.TypeDef.{TypeDef}
 use Rattle.wit_types.specs.declared.types.TypeOwner.{TypeOwner}
-use Rattle.wit_model.specs.declared.function.Function.{Function}
+use Rattle.wit_functions.specs.declared.function.Function.{Function}
 use Rattle.wit_syntax.specs.Fault.{Fault, fault, missing_at, item_word}
 use Rattle.wit_syntax.specs.Notes.{IsBrokenStability}
 use Rattle.wit_syntax.specs.Source.{Declared, Item, declared_attributes, local_id, path_id, scope_names}

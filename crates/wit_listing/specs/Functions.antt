@@ -1,9 +1,9 @@
 -- Functions in a listing: what they take and give.
 use Rattle.std.specs.Prelude.{ℕ, ◌==◌, List, [], ◌∷◌, ◌++◌, Option, Some, None, codes, if◌then◌else◌}
 use Rattle.wit_types.specs.declared.types.«Type».{«Type» as Ty}
-use Rattle.wit_model.specs.declared.function.Param.{Param}
-use Rattle.wit_model.specs.declared.function.Function.{Function}
-use Rattle.wit_model.specs.FunctionKinds.{is_async}
+use Rattle.wit_functions.specs.declared.function.Param.{Param}
+use Rattle.wit_functions.specs.declared.function.Function.{Function}
+use Rattle.wit_functions.specs.FunctionKinds.{is_async}
 use Rattle.wit_listing.specs.Words.{type_text}
 use Rattle.wit_listing.specs.Lists.{numbered}
 

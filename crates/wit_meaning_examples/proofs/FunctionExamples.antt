@@ -27,10 +27,10 @@ use Rattle.wit_types.specs.declared.types.TypeDef.{TypeDef}
 use Rattle.wit_types.specs.declared.types.TypeDefKind.{TypeDefKind}
 use Rattle.wit_types.specs.declared.types.TypeDefKind.TheVariants as kind
 use Rattle.wit_types.specs.declared.types.TypeOwner.TheVariants as owner
-use Rattle.wit_model.specs.declared.function.Function.{Function}
-use Rattle.wit_model.specs.declared.function.FunctionKind.{FunctionKind}
-use Rattle.wit_model.specs.declared.function.FunctionKind.TheVariants as function_kind
-use Rattle.wit_model.specs.declared.function.Param.{Param}
+use Rattle.wit_functions.specs.declared.function.Function.{Function}
+use Rattle.wit_functions.specs.declared.function.FunctionKind.{FunctionKind}
+use Rattle.wit_functions.specs.declared.function.FunctionKind.TheVariants as function_kind
+use Rattle.wit_functions.specs.declared.function.Param.{Param}
 use Rattle.wit_model.specs.declared.interface.Interface.{Interface}
 use Rattle.wit_model.specs.declared.unresolved.UnresolvedPackage.{UnresolvedPackage}
 use Rattle.wit_syntax.specs.Form.{BorrowForm, FutureForm, FixedLengthListForm, MapForm, StreamForm, OptionForm}

@@ -28,8 +28,8 @@ use Rattle.wit_types.specs.declared.types.Handle.TheVariants.{Borrow}
 use Rattle.wit_types.specs.declared.types.TypeDef.{TypeDef}
 use Rattle.wit_types.specs.declared.types.TypeDefKind.TheVariants as kind
 use Rattle.wit_types.specs.declared.types.TypeOwner.TheVariants as owner
-use Rattle.wit_model.specs.declared.function.Function.{Function as Made}
-use Rattle.wit_model.specs.declared.function.FunctionKind.TheVariants as function_kind
+use Rattle.wit_functions.specs.declared.function.Function.{Function as Made}
+use Rattle.wit_functions.specs.declared.function.FunctionKind.TheVariants as function_kind
 use Rattle.wit_model.specs.declared.unresolved.UnresolvedPackage.{UnresolvedPackage}
 use Rattle.wit_syntax.specs.Fault.{fault}
 use Rattle.wit_syntax.specs.Address.{WorldNamed}

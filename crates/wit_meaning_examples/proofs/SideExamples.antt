@@ -23,8 +23,8 @@ use Rattle.wit_tree.specs.declared.tree.AstItem.TheVariants as ast
 use Rattle.wit_tree.specs.declared.tree.PackageFile.{PackageFile}
 use Rattle.wit_types.specs.declared.stability.Stability.TheVariants.{Unknown}
 use Rattle.wit_types.specs.declared.types.TypeOwner.TheVariants as owner
-use Rattle.wit_model.specs.declared.function.Function.{Function as Made}
-use Rattle.wit_model.specs.declared.function.FunctionKind.TheVariants as function_kind
+use Rattle.wit_functions.specs.declared.function.Function.{Function as Made}
+use Rattle.wit_functions.specs.declared.function.FunctionKind.TheVariants as function_kind
 use Rattle.wit_model.specs.declared.unresolved.UnresolvedPackage.{UnresolvedPackage}
 use Rattle.wit_order.specs.Table.{IsOrder}
 use Rattle.wit_syntax.specs.Fault.{Fault, fault}

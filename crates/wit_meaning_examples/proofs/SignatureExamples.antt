@@ -24,9 +24,9 @@ use Rattle.wit_tree.specs.declared.tree.Interface.{Interface}
 use Rattle.wit_tree.specs.declared.tree.AstItem.TheVariants.{Interface as InterfaceItem}
 use Rattle.wit_tree.specs.declared.tree.PackageFile.{PackageFile}
 use Rattle.wit_types.specs.declared.stability.Stability.TheVariants.{Unknown}
-use Rattle.wit_model.specs.declared.function.Function.{Function as Made}
-use Rattle.wit_model.specs.declared.function.FunctionKind.{FunctionKind}
-use Rattle.wit_model.specs.declared.function.FunctionKind.TheVariants as kind
+use Rattle.wit_functions.specs.declared.function.Function.{Function as Made}
+use Rattle.wit_functions.specs.declared.function.FunctionKind.{FunctionKind}
+use Rattle.wit_functions.specs.declared.function.FunctionKind.TheVariants as kind
 use Rattle.wit_tree.specs.Refusal.{Missing}
 use Rattle.wit_order.specs.Order.{IsDependencyFirst}
 use Rattle.wit_order.specs.Table.{Row, IsEdge, Leads, IsOrder}

@@ -1,9 +1,4 @@
 pub mod Copies
-pub mod InTurn
-pub mod Marks
-pub mod Walk
-pub mod Placing
-pub mod Pairs
 pub mod Same
 pub mod SameMaps
 pub mod WorldSpans

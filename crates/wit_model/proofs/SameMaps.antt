@@ -12,7 +12,8 @@ use Rattle.indexmap.specs.Layout.{hash_map}
 use Rattle.wit_types.proofs.Same.{Decides-docs, Decides-option, Decides-optional_text, Decides-row, Decides-span, Decides-stability, Decides-text, Decides-type_def}
 use Rattle.wit_values.specs.contracts.span.SpanPartialEq.TheImpl.{eq-value as span_test}
 use Rattle.wit_values.specs.declared.span.Span.{Span}
-use Rattle.wit_model.proofs.Same.{Decides-function, Decides-include, Decides-world_item}
+use Rattle.wit_functions.proofs.Same.{Decides-function}
+use Rattle.wit_model.proofs.Same.{Decides-include, Decides-world_item}
 use Rattle.wit_types.specs.contracts.stability.StabilityPartialEq.TheImpl.{eq-value as stability_test}
 use Rattle.wit_types.specs.declared.stability.Stability.{Stability}
 use Rattle.wit_model.specs.Same.{AreBothSame, AreSame, HoldSamePairs, HoldSameValues, IsSameInterface, IsSamePackage, IsSameWorld, is_same_key, is_same_name, is_same_package_name}

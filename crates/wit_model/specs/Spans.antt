@@ -1,30 +1,16 @@
--- The spans that functions, interfaces, worlds and packages hold, and these with each span shifted and nothing else changed.
+-- The spans that interfaces, worlds and packages hold, and these with each span shifted and nothing else changed.
 use Rattle.std.specs.Prelude.{ℕ, List, [], ◌∷◌, ◌++◌, map}
 use Rattle.std.specs.List.{flat_map}
 use Rattle.std.specs.Map.{values_of}
 use Rattle.wit_values.specs.declared.span.Span.{Span}
 use Rattle.wit_types.specs.Spans.{on_value, required_spans, shifted, shifted_required, shifted_type, type_spans}
-use Rattle.wit_model.specs.declared.function.Function.{Function}
-use Rattle.wit_model.specs.declared.function.Param.{Param}
+use Rattle.wit_functions.specs.Spans.{function_spans, shifted_function}
 use Rattle.wit_model.specs.declared.interface.Interface.{Interface}
 use Rattle.wit_model.specs.declared.unresolved.UnresolvedPackage.{UnresolvedPackage}
 use Rattle.wit_model.specs.declared.world.World.{World}
 use Rattle.wit_model.specs.declared.world.WorldInclude.{WorldInclude}
 use Rattle.wit_model.specs.declared.world.WorldItem.{WorldItem}
 use Rattle.wit_model.specs.declared.world.WorldItem.TheVariants as item
-
-abbrev pub param_spans : Param → List Span
-param_spans p = p.span ∷ []
-
-abbrev pub shifted_param : ℕ → Param → Param
-shifted_param offset p = record p { span = shifted offset p.span }
-
--- its own, and those of its parameters
-abbrev pub function_spans : Function → List Span
-function_spans f = f.span ∷ flat_map param_spans f.params
-
-abbrev pub shifted_function : ℕ → Function → Function
-shifted_function offset f = record f { span = shifted offset f.span; params = map (shifted_param offset) f.params }
 
 -- its own, and those of its functions
 abbrev pub interface_spans : Interface → List Span

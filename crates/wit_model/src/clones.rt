@@ -1,19 +1,13 @@
 //! Clones: each is equal to its source, the order of maps included.
 ghost use Rattle.std.specs.Prelude.{◌≡◌, IfOk};
 
-use crate::function::{Function, Param};
 use crate::interface::Interface;
 use crate::world::{World, WorldInclude, WorldItem, WorldKey};
 use std::alloc::AllocError;
+use wit_functions::Function;
 use wit_types::TypeId;
 use wit_types::laws::copies::{copy_docs, copy_stability, copy_text};
 use wit_values::{Row, Table, TextTable};
-
-fn copy_params(params: &Row<Param>) -> Result<Row<Param>, AllocError>
-    ensures { IfOk result (λ copy. copy ≡ params.now) }
-{
-    params.clone()
-}
 
 fn copy_types(types: &TextTable<TypeId>) -> Result<TextTable<TypeId>, AllocError>
     ensures { IfOk result (λ copy. copy ≡ types.now) }
@@ -37,23 +31,6 @@ fn copy_includes(includes: &Row<WorldInclude>) -> Result<Row<WorldInclude>, Allo
     ensures { IfOk result (λ copy. copy ≡ includes.now) }
 {
     includes.clone()
-}
-
-impl Clone for Function {
-    ghost is_clone = { λ function copy. copy ≡ function };
-
-    fn clone(&self) -> Result<Function, AllocError> {
-        Ok(Function {
-            name: self.name.clone()?,
-            kind: self.kind,
-            params: copy_params(&self.params)?,
-            result: self.result,
-            docs: copy_docs(&self.docs)?,
-            stability: copy_stability(&self.stability)?,
-            span: self.span,
-            external_id: copy_text(&self.external_id)?,
-        })
-    }
 }
 
 impl Clone for Interface {

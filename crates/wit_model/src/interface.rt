@@ -1,6 +1,6 @@
 //! Interfaces.
 
-use crate::function::Function;
+use wit_functions::Function;
 use wit_types::{Docs, InterfaceId, PackageId, Stability, TypeId};
 use wit_values::{Span, Text, TextTable};
 

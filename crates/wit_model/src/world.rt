@@ -3,8 +3,8 @@ ghost use Rattle.std.specs.Prelude.{◌≡◌, IfOk, IsSome, Some, string_bytes}
 ghost use Rattle.std.specs.Option.{option_copied};
 ghost use Rattle.wit_model.specs.Worlds.{IsWithin, function_of, key_text, name_of, span_of, stability_of};
 
-use crate::function::Function;
 use std::alloc::{AllocError, Global};
+use wit_functions::Function;
 use wit_types::{Docs, InterfaceId, PackageId, Stability, TypeId, Types, WorldId};
 use wit_values::{Row, Span, Table, Text};
 

@@ -1,5 +1,6 @@
-//! Tests of `wit_names`, `wit_values`, `wit_order`, `wit_types`, `wit_package_names`, `wit_model` and `wit_intern`: each
-//! public call that neither the program nor a row makes, with ample memory.
+//! Tests of `wit_names`, `wit_values`, `wit_order`, `wit_types`, `wit_package_names`, `wit_functions`,
+//! `wit_model` and `wit_intern`: each public call that neither the program nor a row makes, with ample
+//! memory.
 #![tactic(auto)]
 
 #[cfg(test)]

@@ -10,7 +10,7 @@ use Rattle.wit_tree.specs.declared.tree.Id.{Id}
 use Rattle.wit_tree.specs.declared.tree.«Type».{«Type» as Written}
 use Rattle.wit_types.specs.declared.types.«Type».{«Type» as Ty}
 use Rattle.wit_types.specs.declared.types.TypeDef.{TypeDef}
-use Rattle.wit_model.specs.declared.function.Param.{Param}
+use Rattle.wit_functions.specs.declared.function.Param.{Param}
 use Rattle.wit_syntax.specs.Address.{Address}
 use Rattle.wit_arena.specs.Adding.{AreShapes, SaysParam}
 use Rattle.wit_syntax.specs.Fault.{Fault, fault, name_word}

@@ -8,10 +8,10 @@ use Rattle.std.specs.Option.{is_some, option_map}
 use Rattle.std.proofs.lemmas.Bool.{cases_Bool}
 use Rattle.std.proofs.lemmas.List.{take-append-drop}
 use Rattle.wit_names.specs.Front.{behind}
-use Rattle.wit_model.specs.declared.function.Function.{Function}
-use Rattle.wit_model.specs.declared.function.FunctionKind.{FunctionKind}
-use Rattle.wit_model.specs.declared.function.FunctionKind.TheVariants as kind
-use Rattle.wit_model.specs.Setters.{fronts, goes_on_alike, goes_with, is_getter, is_same_text}
+use Rattle.wit_functions.specs.declared.function.Function.{Function}
+use Rattle.wit_functions.specs.declared.function.FunctionKind.{FunctionKind}
+use Rattle.wit_functions.specs.declared.function.FunctionKind.TheVariants as kind
+use Rattle.wit_functions.specs.Setters.{fronts, goes_on_alike, goes_with, is_getter, is_same_text}
 use Rattle.wit_syntax.proofs.Names.{name_equal}
 use Rattle.wit_setters.specs.Told.{is_setter, offered, turned, wanted}
 

@@ -3,7 +3,7 @@ use Rattle.std.specs.Prelude.{⊤}
 use Rattle.std.proofs.Common.{◌≡◌, ℕ, zero, suc, Bool, List, [], ◌∷◌, Option, Some, None, insert, refl, sym, ap, ◌∙◌}
 use Rattle.std.specs.Prelude.{map}
 use Rattle.std.specs.List.{position_from}
-use Rattle.wit_model.proofs.InTurn.{in_turn, put_at}
+use Rattle.wit_functions.proofs.InTurn.{in_turn, put_at}
 use Rattle.wit_syntax.specs.Repeats.{AllDiffer}
 use Rattle.wit_syntax.proofs.Kept.{HasNot, differ_cons, differ_head, differ_tail}
 use Rattle.wit_syntax.proofs.Repeated.{differ_none}

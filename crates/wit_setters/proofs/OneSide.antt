@@ -3,14 +3,14 @@ use Rattle.std.proofs.Common.{◌≡◌, ◌+◌, ◌++◌, true, List, [], ◌�
 use Rattle.std.specs.Prelude.{map}
 use Rattle.std.proofs.lemmas.Bool.{cases_Bool}
 use Rattle.indexmap.specs.IndexMap.{insert_entry}
-use Rattle.wit_model.specs.declared.function.Function.{Function}
+use Rattle.wit_functions.specs.declared.function.Function.{Function}
 use Rattle.wit_model.specs.declared.world.WorldItem.{WorldItem}
 use Rattle.wit_model.specs.declared.world.WorldKey.{WorldKey}
 use Rattle.wit_model.specs.declared.world.WorldKey.TheVariants as key
 use Rattle.wit_model.specs.contracts.world.WorldKeyPartialEq.TheImpl.{eq-value as key_test}
-use Rattle.wit_model.specs.Setters.{pairs, placed}
+use Rattle.wit_functions.specs.Setters.{pairs, placed}
 use Rattle.wit_model.specs.Worlds.{function_of}
-use Rattle.wit_model.proofs.Pairs.{in_turn-placed}
+use Rattle.wit_functions.proofs.Pairs.{in_turn-placed}
 use Rattle.wit_syntax.specs.Repeats.{AllDiffer}
 use Rattle.wit_syntax.proofs.Kept.{differ_head, differ_tail}
 use Rattle.wit_syntax.proofs.Lists.{at_back}

@@ -3,8 +3,8 @@ use Rattle.std.proofs.Common.{◌≡◌, ℕ, zero, suc, ◌++◌, ◌∷◌, fa
 use Rattle.std.specs.Prelude.{map, slice_get}
 use Rattle.std.specs.Cmp.Lexicographic.{pointwise}
 use Rattle.std.specs.List.{AllByRecursion, IsDistinct, flat_map}
-use Rattle.wit_model.specs.declared.function.Function.{Function}
-use Rattle.wit_model.specs.Setters.{name_in}
+use Rattle.wit_functions.specs.declared.function.Function.{Function}
+use Rattle.wit_functions.specs.Setters.{name_in}
 use Rattle.wit_syntax.specs.Repeats.{AllDiffer}
 use Rattle.wit_syntax.proofs.Kept.{HasNot, differ_head, differ_tail}
 use Rattle.wit_syntax.proofs.Names.{name_cases}

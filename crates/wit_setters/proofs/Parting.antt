@@ -7,8 +7,8 @@ use Rattle.std.specs.Option.{is_some, option_to_list}
 use Rattle.std.specs.Str.{bytes_eq}
 use Rattle.std.proofs.lemmas.Bool.{cases_Bool}
 use Rattle.std.proofs.lemmas.List.{reverse-append}
-use Rattle.wit_model.specs.declared.function.Function.{Function}
-use Rattle.wit_model.specs.Setters.{early, is_same_text, name_in, others}
+use Rattle.wit_functions.specs.declared.function.Function.{Function}
+use Rattle.wit_functions.specs.Setters.{early, is_same_text, name_in, others}
 use Rattle.wit_syntax.proofs.Names.{name_cases, name_equal, name_itself}
 use Rattle.wit_setters.specs.Told.{goes, offered, wanted, HaveOwnNames}
 use Rattle.wit_setters.specs.Parted.{known, IsParted}

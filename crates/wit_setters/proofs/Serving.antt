@@ -4,8 +4,8 @@ use Rattle.std.specs.Prelude.{if◌then◌else◌, slice_get}
 use Rattle.std.specs.List.{filter, flat_map, list_any}
 use Rattle.std.specs.Option.{option_and_then, option_to_list}
 use Rattle.std.proofs.lemmas.Bool.{cases_Bool}
-use Rattle.wit_model.specs.declared.function.Function.{Function}
-use Rattle.wit_model.specs.Setters.{early, is_getter, is_same_text, others, setters_placed, with_setters}
+use Rattle.wit_functions.specs.declared.function.Function.{Function}
+use Rattle.wit_functions.specs.Setters.{early, is_getter, is_same_text, others, setters_placed, with_setters}
 use Rattle.wit_setters.specs.Told.{goes, offered, wanted, HaveOwnNames}
 use Rattle.wit_setters.specs.Parted.{served, waiting_for, without, IsParted}
 use Rattle.wit_setters.proofs.GetterNames.{goes_wanted, same_as_none}

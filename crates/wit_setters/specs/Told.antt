@@ -4,8 +4,8 @@ use Rattle.std.specs.Cmp.Lexicographic.{pointwise}
 use Rattle.std.specs.List.{IsDistinct, flat_map}
 use Rattle.std.specs.Option.{is_some, option_map}
 use Rattle.wit_names.specs.Front.{behind}
-use Rattle.wit_model.specs.Setters.{fronts, goes_with, is_getter, name_in}
-use Rattle.wit_model.specs.declared.function.Function.{Function}
+use Rattle.wit_functions.specs.Setters.{fronts, goes_with, is_getter, name_in}
+use Rattle.wit_functions.specs.declared.function.Function.{Function}
 
 -- it is a function, and a setter
 abbrev pub is_setter : Option Function → Bool

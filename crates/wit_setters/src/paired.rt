@@ -1,7 +1,7 @@
 //! Whether each setter stands directly behind its getter already.
 ghost use Rattle.std.specs.Prelude.{◌≡◌, ◌<◌, length, IsTrue};
 ghost use Rattle.std.specs.Option.{option_copied};
-ghost use Rattle.wit_model.specs.Setters.{fronts as the_fronts, goes_on_alike, is_getter_of, is_same_text};
+ghost use Rattle.wit_functions.specs.Setters.{fronts as the_fronts, goes_on_alike, is_getter_of, is_same_text};
 ghost use Rattle.wit_setters.specs.Paired.{ArePaired, IsPaired};
 
 use crate::told::is_setter;

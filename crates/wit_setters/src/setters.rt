@@ -1,6 +1,6 @@
 //! Setters of an interface that are written before their getters, put directly behind them.
 ghost use Rattle.std.specs.Prelude.{◌≡◌, IfOk, map};
-ghost use Rattle.wit_model.specs.Setters.{is_getter_of, setters_placed};
+ghost use Rattle.wit_functions.specs.Setters.{is_getter_of, setters_placed};
 ghost use Rattle.wit_syntax.specs.Repeats.{AllDiffer};
 
 use crate::paired::are_paired;

@@ -2,9 +2,9 @@
 ghost use Rattle.std.specs.Prelude.{◌≡◌, ℕ, Some, IfOk, OnOk, map, slice_get};
 ghost use Rattle.std.specs.List.{list_any};
 ghost use Rattle.indexmap.specs.IndexMap.{insert_entry};
-ghost use Rattle.wit_model.specs.Setters.{placed};
+ghost use Rattle.wit_functions.specs.Setters.{placed};
 ghost use Rattle.wit_model.specs.Worlds.{function_of};
-ghost use Rattle.wit_model.specs.declared.function.Function.{Function};
+ghost use Rattle.wit_functions.specs.declared.function.Function.{Function};
 ghost use Rattle.wit_model.specs.declared.world.WorldItem.{WorldItem as TheItem};
 ghost use Rattle.wit_model.specs.declared.world.WorldKey.{WorldKey as TheKey};
 ghost use Rattle.wit_model.specs.declared.world.WorldKey.TheVariants.{Name};

@@ -1,7 +1,7 @@
 //! Items of which some are functions, and the names by which a setter finds its getter.
 ghost use Rattle.std.specs.Prelude.{◌≡◌, IfOk, Some, string_bytes};
 ghost use Rattle.std.specs.Option.{option_copied, option_map};
-ghost use Rattle.wit_model.specs.declared.function.Function.{Function as TheFunction};
+ghost use Rattle.wit_functions.specs.declared.function.Function.{Function as TheFunction};
 ghost use Rattle.wit_model.specs.Worlds.{function_of};
 ghost use Rattle.wit_setters.specs.Told.{is_setter, offered, wanted};
 

@@ -27,7 +27,7 @@ use crate::signatures::resolve_in_signature;
 use std::alloc::{AllocError, Global};
 use wit_entries::entries::Entries;
 use wit_entries::scope::Required;
-use wit_model::{Function, FunctionKind, Param};
+use wit_functions::{Function, FunctionKind, Param};
 use wit_notes::notes_of;
 use wit_rules::function_rules::{
     check_given, check_result, check_returns, refuse_param, repeated_param,

@@ -1,23 +1,8 @@
-//! The spans of parameters and includes: each has its own alone.
-ghost use Rattle.wit_model.specs.Spans.{include_spans, param_spans, shifted_include, shifted_param};
+//! The spans of includes: each has its own alone.
+ghost use Rattle.wit_model.specs.Spans.{include_spans, shifted_include};
 
-use crate::function::Param;
 use crate::world::WorldInclude;
 use wit_types::HasSpans;
-
-impl HasSpans for Param {
-    ghost spans = { param_spans };
-
-    ghost moved = { shifted_param };
-
-    fn spans_fit(&self, offset: u32) -> bool {
-        self.span.spans_fit(offset)
-    }
-
-    fn adjust_spans(&mut self, offset: u32) {
-        self.span.adjust_spans(offset);
-    }
-}
 
 impl HasSpans for WorldInclude {
     ghost spans = { include_spans };

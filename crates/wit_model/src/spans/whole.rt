@@ -1,25 +1,9 @@
-//! The spans of functions, interfaces and worlds: their own and those of what they hold.
-ghost use Rattle.wit_model.specs.Spans.{function_spans, interface_spans, item_spans, shifted_function, shifted_interface, shifted_item, shifted_world, world_spans};
+//! The spans of interfaces and worlds: their own and those of what they hold.
+ghost use Rattle.wit_model.specs.Spans.{interface_spans, item_spans, shifted_interface, shifted_item, shifted_world, world_spans};
 
-use crate::function::Function;
 use crate::interface::Interface;
 use crate::world::{World, WorldItem};
 use wit_types::HasSpans;
-
-impl HasSpans for Function {
-    ghost spans = { function_spans };
-
-    ghost moved = { shifted_function };
-
-    fn spans_fit(&self, offset: u32) -> bool {
-        self.span.spans_fit(offset) && self.params.spans_fit(offset)
-    }
-
-    fn adjust_spans(&mut self, offset: u32) {
-        self.span.adjust_spans(offset);
-        self.params.adjust_spans(offset);
-    }
-}
 
 impl HasSpans for Interface {
     ghost spans = { interface_spans };

@@ -1,5 +1,5 @@
 use Rattle.std.proofs.Common.{◌≡◌, Some, sym, ap, subst}
-use Rattle.wit_model.specs.declared.function.Function.{Function}
+use Rattle.wit_functions.specs.declared.function.Function.{Function}
 use Rattle.wit_setters.specs.Paired.{ArePaired}
 use Rattle.wit_setters.proofs.OwnNames.{own_names}
 use Rattle.wit_setters.proofs.Pairing.{paired_stay}

@@ -1,6 +1,6 @@
 use Rattle.std.proofs.Common.{List, sym, ap, ◌∙◌, subst}
 use Rattle.std.specs.Prelude.{map}
-use Rattle.wit_model.specs.Setters.{placed}
+use Rattle.wit_functions.specs.Setters.{placed}
 use Rattle.wit_model.specs.Worlds.{function_of}
 use Rattle.wit_syntax.specs.Repeats.{AllDiffer}
 use Rattle.wit_setters.specs.Told.{HaveOwnNames}

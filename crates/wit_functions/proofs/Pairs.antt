@@ -1,0 +1,130 @@
+-- A getter is no setter, and among distinct names a setter has one getter.
+use Rattle.std.proofs.Common.{◌≡◌, ℕ, ◌&&◌, ◌++◌, Bool, true, false, List, [], ◌∷◌, Option, Some, None, take, drop, length, nat_eq, refl, sym, ap, ◌∙◌, inl, inr}
+use Rattle.std.proofs.lemmas.Bool.{cases_Bool}
+use Rattle.std.proofs.lemmas.List.{take-append-drop}
+use Rattle.std.proofs.lemmas.Slice.Eq.{bytes_eq-Decides}
+use Rattle.std.specs.Cmp.Lexicographic.{pointwise}
+use Rattle.std.specs.List.{AllByRecursion, IsDistinct, list_any, starts_with}
+use Rattle.wit_names.specs.Front.{behind}
+use Rattle.wit_functions.specs.Setters.{HaveDistinctNames, fronts, goes_on_alike, goes_with, is_getter, is_same_text, name_in, pairs, placed, told_names}
+use Rattle.wit_functions.specs.declared.function.Function.{Function}
+use Rattle.wit_functions.specs.declared.function.FunctionKind.{FunctionKind}
+use Rattle.wit_functions.specs.declared.function.FunctionKind.TheVariants as kind
+use Rattle.wit_functions.proofs.InTurn.{AtMostOne, in_turn, in_turn-setters_placed}
+
+and_left : (a b : Bool) → (a && b) ≡ true → a ≡ true
+and_left true b h = refl
+and_left false b h = h
+
+and_right : (a b : Bool) → (a && b) ≡ true → b ≡ true
+and_right true b h = h
+and_right false b h = cc
+
+and_false : (a : Bool) → (a && false) ≡ false
+and_false true = refl
+and_false false = refl
+
+fronts-of_getter : (k : FunctionKind) → is_getter k ≡ true → fronts k ≡ None
+fronts-of_getter kind.Getter h = refl
+fronts-of_getter (kind.MethodGetter r) h = refl
+fronts-of_getter (kind.StaticGetter r) h = refl
+fronts-of_getter kind.Freestanding h = refl
+fronts-of_getter kind.AsyncFreestanding h = refl
+fronts-of_getter kind.Setter h = cc
+fronts-of_getter (kind.Method r) h = refl
+fronts-of_getter (kind.AsyncMethod r) h = refl
+fronts-of_getter (kind.MethodSetter r) h = cc
+fronts-of_getter (kind.Static r) h = refl
+fronts-of_getter (kind.AsyncStatic r) h = refl
+fronts-of_getter (kind.StaticSetter r) h = cc
+fronts-of_getter (kind.Constructor r) h = refl
+
+getter_no_setter : (o p q : Option Function) → goes_with o p ≡ true → goes_with p q ≡ false
+getter_no_setter None p q h = cc
+getter_no_setter (Some s) None q h = cc
+getter_no_setter (Some s) (Some g) None h = refl
+getter_no_setter (Some s) (Some g) (Some x) h =
+    let none = fronts-of_getter g.kind (and_left (is_getter g.kind) (goes_on_alike (fronts s.kind) s.name g.name) h) in
+    rw none (and_false (is_getter x.kind))
+
+behind-text : (front text rest : List ℕ) → behind front text ≡ Some rest → text ≡ front ++ rest
+behind-text front text rest h = elim (cases_Bool (starts_with nat_eq text front)) [
+  | inl hit ↦
+      let found : Some (drop (length front) text) ≡ Some rest = rw hit at h in
+      let tail : drop (length front) text ≡ rest = cc in
+      let head = (bytes_eq-Decides front (take (length front) text)).0 hit in
+      sym (take-append-drop (length front) text) ∙ (λ i. sym head i ++ tail i)
+  | inr miss ↦ let none : None ≡ Some rest = rw miss at h in cc
+]
+
+same_text-first : (p q : Option (List ℕ)) → is_same_text p q ≡ true → (x : List ℕ) × (p ≡ Some x) × (q ≡ Some x)
+same_text-first None q h = cc
+same_text-first (Some a) None h = cc
+same_text-first (Some a) (Some b) h = (a, refl, ap (λ (l : List ℕ). Some l) (sym ((bytes_eq-Decides a b).0 h)))
+
+some_injective : (a b : List ℕ) (p : Option (List ℕ)) → p ≡ Some a → p ≡ Some b → a ≡ b
+some_injective a b p x y = cc
+
+alike-name : (f : Option (List ℕ × List ℕ)) (s g h : List ℕ) → goes_on_alike f s g ≡ true → goes_on_alike f s h ≡ true → g ≡ h
+alike-name None s g h a b = cc
+alike-name (Some f) s g h a b =
+    let x = same_text-first (behind f.0 s) (behind f.1 g) a in
+    let y = same_text-first (behind f.0 s) (behind f.1 h) b in
+    let same = some_injective x.0 y.0 (behind f.0 s) x.1 y.1 in
+    behind-text f.1 g x.0 x.2 ∙ ap (λ l. f.1 ++ l) same ∙ sym (behind-text f.1 h y.0 y.2)
+
+-- two getters of one setter have one name
+getter_name : (s : Option Function) (g h : Function) → goes_with s (Some g) ≡ true → goes_with s (Some h) ≡ true → g.name ≡ h.name
+getter_name None g h a b = cc
+getter_name (Some s) g h a b =
+    alike-name (fronts s.kind) s.name g.name h.name
+    (and_right (is_getter g.kind) (goes_on_alike (fronts s.kind) s.name g.name) a)
+    (and_right (is_getter h.kind) (goes_on_alike (fronts s.kind) s.name h.name) b)
+
+abbrev Differs : List ℕ → List (List ℕ) → Type 0
+Differs n ns = AllByRecursion (λ y. pointwise nat_eq n y ≡ false) ns
+
+-- another function is no getter of the setter, where its name differs
+apart-one : (s : Option Function) (g : Function) (o : Option Function) (ns : List (List ℕ)) → goes_with s (Some g) ≡ true → Differs g.name (name_in o ++ ns) → goes_with s o ≡ false
+apart-one None g o ns pair differs = cc
+apart-one (Some s) g None ns pair differs = refl
+apart-one (Some s) g (Some h) ns pair differs = elim (cases_Bool (goes_with (Some s) (Some h))) [
+  | inl hit ↦ let same = (bytes_eq-Decides g.name h.name).1 (getter_name (Some s) g h pair hit) in let not_same = differs.0 in cc
+  | inr miss ↦ miss
+]
+
+differs-rest : (n : List ℕ) (o : Option Function) (ns : List (List ℕ)) → Differs n (name_in o ++ ns) → Differs n ns
+differs-rest n None ns d = d
+differs-rest n (Some h) ns d = d.1
+
+distinct-rest : (o : Option Function) (ns : List (List ℕ)) → IsDistinct (pointwise nat_eq) (name_in o ++ ns) → IsDistinct (pointwise nat_eq) ns
+unfolding IsDistinct
+distinct-rest None ns d = d
+distinct-rest (Some h) ns d = d.1
+
+distinct-first : (g : Function) (ns : List (List ℕ)) → IsDistinct (pointwise nat_eq) (name_in (Some g) ++ ns) → Differs g.name ns
+unfolding IsDistinct
+distinct-first g ns d = d.0
+
+module _ {K V : Type 0} (tells : V → Option Function) where
+  apart : (s : Option Function) (g : Function) (es : List (K × V)) → goes_with s (Some g) ≡ true → Differs g.name (told_names tells es) → list_any (λ x. goes_with s (tells x.1)) es ≡ false
+  apart s g [] pair differs = refl
+  apart s g (e ∷ es) pair differs =
+      let one = apart-one s g (tells e.1) (told_names tells es) pair differs in
+      rw one (apart s g es pair (differs-rest g.name (tells e.1) (told_names tells es) differs))
+
+  apart-told : (s o : Option Function) (es : List (K × V)) → goes_with s o ≡ true → IsDistinct (pointwise nat_eq) (name_in o ++ told_names tells es) → list_any (λ x. goes_with s (tells x.1)) es ≡ false
+  apart-told None None es pair d = cc
+  apart-told (Some s) None es pair d = cc
+  apart-told s (Some g) es pair d = apart s g es pair (distinct-first g (told_names tells es) d)
+
+  one_getter : (es : List (K × V)) → HaveDistinctNames tells es → (e : K × V) → AtMostOne (pairs tells e) es
+  one_getter [] d e = tt
+  one_getter (x ∷ es) d e = (
+    λ hit. apart-told (tells e.1) (tells x.1) es hit d,
+    one_getter es (distinct-rest (tells x.1) (told_names tells es) d) e,
+  )
+
+  -- under distinct names the setters placed in turn stand directly behind their getters
+  pub in_turn-placed : (es : List (K × V)) → HaveDistinctNames tells es → in_turn (pairs tells) es ≡ placed tells es
+  in_turn-placed es d = in_turn-setters_placed (pairs tells) (λ e g x h. getter_no_setter (tells e.1) (tells g.1) (tells x.1) h) es (one_getter es d)
