@@ -3,20 +3,10 @@
 
 mod cases;
 mod cuts;
-mod docs;
 mod escapes;
-mod external_ids;
-mod foreign;
-mod functions;
-mod layouts;
 mod listing;
-mod parts;
-mod reading;
 mod replay;
-mod slices;
 mod sources;
-mod spans;
-mod trees;
 mod views;
 
 use crate::replay::replay;

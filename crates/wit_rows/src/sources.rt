@@ -1,13 +1,12 @@
-//! The sources of a case, and the packages that they make; and the view `sources`, which tells of each
+//! The sources of a case, and how their trees are pushed; and the view `sources`, which tells of each
 //! source its place, its path and its text, with `|` behind it.
 
-use crate::external_ids::mark_source;
 use std::alloc::{AllocError, Global};
 use wit_groups::GroupResolver;
-use wit_model::UnresolvedPackage;
-use wit_text::{SourceMap, read_file};
+use wit_text::SourceMap;
 use wit_tool::bundle;
 use wit_tree::ParseResult;
+use wit_views::read_marked;
 
 /// The path of a source that has none.
 const PATH: &str = "stdin.wit";
@@ -35,19 +34,17 @@ pub fn map_of(alloc: Global, sources: &str) -> ParseResult<SourceMap> {
     Ok(map)
 }
 
-/// What the sources of a map come to, in their order: the package that they make, and those that are
-/// nested in it.
-pub fn resolved(
+/// Pushes the tree of each source of a map, in their order.
+pub fn push_all<'a>(
     alloc: Global,
-    map: &SourceMap,
-) -> ParseResult<(UnresolvedPackage, Vec<UnresolvedPackage>)> {
-    let mut resolver = GroupResolver::new(alloc);
+    resolver: &mut GroupResolver<'a>,
+    map: &'a SourceMap,
+) -> ParseResult<()> {
     for source in map.sources() {
-        let mut read = read_file(alloc, source.contents.as_str(), source.offset)?;
-        mark_source(&mut read);
-        resolver.push(alloc, read)?;
+        let file = read_marked(alloc, source)?;
+        resolver.push(alloc, file)?;
     }
-    resolver.resolve(alloc)
+    Ok(())
 }
 
 /// The place, the path and the text of each source of a map.

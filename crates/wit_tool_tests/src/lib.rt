@@ -2,12 +2,20 @@
 #![tactic(auto)]
 
 #[cfg(test)]
+mod groups;
+#[cfg(test)]
 mod large;
 #[cfg(test)]
 mod lines;
 #[cfg(test)]
+mod maps;
+#[cfg(test)]
 mod refused;
 #[cfg(test)]
+mod shown;
+#[cfg(test)]
 mod sources;
+#[cfg(test)]
+mod splitting;
 #[cfg(test)]
 mod statuses;

@@ -1,5 +1,6 @@
 //! What refused files leave behind.
 
+use crate::maps::map_of;
 use std::alloc::{AllocError, Global};
 use std::process::Abort;
 use std::test::Fail;
@@ -9,15 +10,6 @@ use wit_parser::Resolver;
 use wit_text::{SourceMap, read_file};
 use wit_tree::ParseResult;
 use wit_types::Docs;
-
-/// The map of some sources, a line each.
-fn map_of(alloc: Global, sources: &str) -> Result<SourceMap, Fail> {
-    let mut map = SourceMap::new(alloc);
-    for source in sources.split('\n') {
-        map.push(alloc, "", source)?;
-    }
-    Ok(map)
-}
 
 /// The number of a refusal, or 0.
 fn rule_of(answer: &ParseResult<()>) -> u8 {

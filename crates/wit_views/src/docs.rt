@@ -2,7 +2,8 @@
 
 use std::alloc::AllocError;
 use wit_model::{Interface, UnresolvedPackage, World, WorldItem, WorldKey};
-use wit_types::{Docs, TypeDefKind};
+use wit_types::{Arena, Docs, InterfacePlace, TypeDefKind, Types, WorldPlace};
+use wit_values::Table;
 
 /// Puts a name and its docs behind a text, as a line; an LF is written `|`.
 fn push_docs(text: &mut String, name: &str, docs: &Docs) -> Result<(), AllocError> {
@@ -90,18 +91,49 @@ fn push_item(text: &mut String, key: &WorldKey, item: &WorldItem) -> Result<(), 
     }
 }
 
-/// Puts the docs of a world, of its functions, and of interfaces that it imports and exports behind a text.
-fn push_world(text: &mut String, world: &World) -> Result<(), AllocError> {
-    push_docs(text, world.name.as_str(), &world.docs)?;
-    for place in 0..world.imports.len() {
-        if let Some((key, item)) = world.imports.get_index(place) {
+/// Puts the docs of functions and of interfaces on a side of a world behind a text.
+fn push_side(text: &mut String, items: &Table<WorldKey, WorldItem>) -> Result<(), AllocError> {
+    for place in 0..items.len() {
+        if let Some((key, item)) = items.get_index(place) {
             push_item(text, key, item)?;
         }
     }
-    for place in 0..world.exports.len() {
-        if let Some((key, item)) = world.exports.get_index(place) {
-            push_item(text, key, item)?;
+    Ok(())
+}
+
+/// Puts the docs of a world, of its functions, and of interfaces that it imports and exports behind a text.
+fn push_world(text: &mut String, world: &World) -> Result<(), AllocError> {
+    push_docs(text, world.name.as_str(), &world.docs)?;
+    push_side(text, &world.imports)?;
+    push_side(text, &world.exports)
+}
+
+/// Puts the docs of types and of their parts behind a text.
+fn push_types(text: &mut String, types: &Types) -> Result<(), AllocError> {
+    for ty in types.iter() {
+        if let Some(name) = &ty.name {
+            push_docs(text, name.as_str(), &ty.docs)?;
         }
+        push_members(text, &ty.kind)?;
+    }
+    Ok(())
+}
+
+/// Puts the docs of interfaces and of their functions behind a text.
+fn push_interfaces(
+    text: &mut String,
+    interfaces: &Arena<Interface, InterfacePlace>,
+) -> Result<(), AllocError> {
+    for interface in interfaces.iter() {
+        push_interface(text, interface)?;
+    }
+    Ok(())
+}
+
+/// Puts the docs of worlds and of what they have behind a text.
+fn push_worlds(text: &mut String, worlds: &Arena<World, WorldPlace>) -> Result<(), AllocError> {
+    for world in worlds.iter() {
+        push_world(text, world)?;
     }
     Ok(())
 }
@@ -110,17 +142,8 @@ fn push_world(text: &mut String, world: &World) -> Result<(), AllocError> {
 pub fn push_docs_of(text: &mut String, package: &UnresolvedPackage) -> Result<(), AllocError> {
     text.push_str("docs")?;
     push_docs(text, "package", &package.docs)?;
-    for ty in package.types.iter() {
-        if let Some(name) = &ty.name {
-            push_docs(text, name.as_str(), &ty.docs)?;
-        }
-        push_members(text, &ty.kind)?;
-    }
-    for interface in package.interfaces.iter() {
-        push_interface(text, interface)?;
-    }
-    for world in package.worlds.iter() {
-        push_world(text, world)?;
-    }
+    push_types(text, &package.types)?;
+    push_interfaces(text, &package.interfaces)?;
+    push_worlds(text, &package.worlds)?;
     text.push_str("\n")
 }

@@ -1,6 +1,7 @@
 //! Files that are split, and the one file with the header and all their declarations: they make one
 //! package, to every span.
 
+use crate::maps::map_of;
 use std::alloc::{AllocError, Global};
 use std::process::Abort;
 use std::test::Fail;
@@ -14,15 +15,6 @@ use wit_tree::tree::{AstItem, DeclList, PackageFile, PackageName, SourceFile};
 struct Declared<'a> {
     header: Option<PackageName<'a>>,
     items: Vec<AstItem<'a>>,
-}
-
-/// The map of some sources, a line each.
-fn map_of(alloc: Global, sources: &str) -> Result<SourceMap, Fail> {
-    let mut map = SourceMap::new(alloc);
-    for source in sources.split('\n') {
-        map.push(alloc, "", source)?;
-    }
-    Ok(map)
 }
 
 /// What the sources of a map declare, and the header that one of them has.

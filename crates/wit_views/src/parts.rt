@@ -3,9 +3,10 @@
 
 use crate::slices::push_slice;
 use std::alloc::AllocError;
-use wit_model::{Function, UnresolvedPackage, World, WorldItem};
+use wit_model::{Function, Interface, UnresolvedPackage, World, WorldItem, WorldKey};
 use wit_text::SourceMap;
-use wit_types::TypeDefKind;
+use wit_types::{Arena, InterfacePlace, TypeDefKind, Types};
+use wit_values::Table;
 
 /// Puts what stands where fields, flags or cases are behind a text.
 fn push_members(text: &mut String, map: &SourceMap, kind: &TypeDefKind) -> Result<(), AllocError> {
@@ -56,23 +57,52 @@ fn push_item(text: &mut String, map: &SourceMap, item: &WorldItem) -> Result<(),
     }
 }
 
+/// Puts what stands where the items on a side of a world are behind a text.
+fn push_side(
+    text: &mut String,
+    map: &SourceMap,
+    items: &Table<WorldKey, WorldItem>,
+) -> Result<(), AllocError> {
+    for place in 0..items.len() {
+        if let Some((_, item)) = items.get_index(place) {
+            push_item(text, map, item)?;
+        }
+    }
+    Ok(())
+}
+
 /// Puts what stands where what a world imports, exports and includes is behind a text.
 fn push_world(text: &mut String, map: &SourceMap, world: &World) -> Result<(), AllocError> {
     text.push_str("\nimports")?;
-    for place in 0..world.imports.len() {
-        if let Some((_, item)) = world.imports.get_index(place) {
-            push_item(text, map, item)?;
-        }
-    }
+    push_side(text, map, &world.imports)?;
     text.push_str("\nexports")?;
-    for place in 0..world.exports.len() {
-        if let Some((_, item)) = world.exports.get_index(place) {
-            push_item(text, map, item)?;
-        }
-    }
+    push_side(text, map, &world.exports)?;
     text.push_str("\nincludes")?;
     for include in world.includes.as_slice() {
         push_slice(text, map, include.span)?;
+    }
+    Ok(())
+}
+
+/// Puts what stands where the parts of types are behind a text.
+fn push_types(text: &mut String, map: &SourceMap, types: &Types) -> Result<(), AllocError> {
+    for ty in types.iter() {
+        push_members(text, map, &ty.kind)?;
+    }
+    Ok(())
+}
+
+/// Puts what stands where the functions of interfaces are behind a text.
+fn push_interfaces(
+    text: &mut String,
+    map: &SourceMap,
+    interfaces: &Arena<Interface, InterfacePlace>,
+) -> Result<(), AllocError> {
+    for interface in interfaces.iter() {
+        text.push_str("\nfunctions")?;
+        for (_, function) in interface.functions.as_map() {
+            push_function(text, map, function)?;
+        }
     }
     Ok(())
 }
@@ -84,15 +114,8 @@ pub fn push_parts(
     package: &UnresolvedPackage,
 ) -> Result<(), AllocError> {
     text.push_str("members")?;
-    for ty in package.types.iter() {
-        push_members(text, map, &ty.kind)?;
-    }
-    for interface in package.interfaces.iter() {
-        text.push_str("\nfunctions")?;
-        for (_, function) in interface.functions.as_map() {
-            push_function(text, map, function)?;
-        }
-    }
+    push_types(text, map, &package.types)?;
+    push_interfaces(text, map, &package.interfaces)?;
     for world in package.worlds.iter() {
         push_world(text, map, world)?;
     }

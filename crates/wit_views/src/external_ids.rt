@@ -3,13 +3,16 @@
 //! but `listing`.
 
 use crate::docs::push_key;
-use std::alloc::AllocError;
-use wit_model::{UnresolvedPackage, World, WorldItem, WorldKey};
+use std::alloc::{AllocError, Global};
+use wit_model::{Interface, UnresolvedPackage, World, WorldItem, WorldKey};
+use wit_text::{Source, read_file};
+use wit_tree::ParseResult;
 use wit_tree::tree::{
     self, AstItem, Attribute, DeclList, Extern, ExternKind, InterfaceItem, ResourceFunc,
     SourceFile, TypeBody, TypeDef,
 };
-use wit_values::Text;
+use wit_types::{Arena, InterfacePlace, Types, WorldPlace};
+use wit_values::{Table, Text};
 
 /// The external id that a feature is made, where it begins with `id-`.
 fn id_of<'a>(attribute: &Attribute<'a>) -> Option<Attribute<'a>> {
@@ -100,11 +103,18 @@ fn mark_declarations(declarations: &mut DeclList<'_>) {
 }
 
 /// Makes external ids of the features of a source that begin with `id-`.
-pub fn mark_source(source: &mut SourceFile<'_>) {
+fn mark_source(source: &mut SourceFile<'_>) {
     mark_declarations(&mut source.file.decl_list);
     for inner in source.nested.iter_mut() {
         mark_declarations(&mut inner.decl_list);
     }
+}
+
+/// The tree of a source, in which the features that begin with `id-` are external ids.
+pub fn read_marked<'a>(alloc: Global, source: &'a Source) -> ParseResult<SourceFile<'a>> {
+    let mut read = read_file(alloc, source.contents.as_str(), source.offset)?;
+    mark_source(&mut read);
+    Ok(read)
 }
 
 /// Puts a name and its external id behind a text, as a line.
@@ -137,16 +147,44 @@ fn push_item_id(text: &mut String, key: &WorldKey, item: &WorldItem) -> Result<(
     }
 }
 
-/// Puts the external ids of what a world imports and exports behind a text.
-fn push_world_ids(text: &mut String, world: &World) -> Result<(), AllocError> {
-    for place in 0..world.imports.len() {
-        if let Some((key, item)) = world.imports.get_index(place) {
+/// Puts the external ids of what stands on a side of a world behind a text.
+fn push_side_ids(text: &mut String, items: &Table<WorldKey, WorldItem>) -> Result<(), AllocError> {
+    for place in 0..items.len() {
+        if let Some((key, item)) = items.get_index(place) {
             push_item_id(text, key, item)?;
         }
     }
-    for place in 0..world.exports.len() {
-        if let Some((key, item)) = world.exports.get_index(place) {
-            push_item_id(text, key, item)?;
+    Ok(())
+}
+
+/// Puts the external ids of what worlds import and export behind a text.
+fn push_world_ids(text: &mut String, worlds: &Arena<World, WorldPlace>) -> Result<(), AllocError> {
+    for world in worlds.iter() {
+        push_side_ids(text, &world.imports)?;
+        push_side_ids(text, &world.exports)?;
+    }
+    Ok(())
+}
+
+/// Puts the external ids of types behind a text.
+fn push_type_ids(text: &mut String, types: &Types) -> Result<(), AllocError> {
+    for ty in types.iter() {
+        match &ty.name {
+            Some(name) => push_id(text, name.as_str(), &ty.external_id)?,
+            None => push_id(text, "-", &ty.external_id)?,
+        }
+    }
+    Ok(())
+}
+
+/// Puts the external ids of the functions of interfaces behind a text.
+fn push_function_ids(
+    text: &mut String,
+    interfaces: &Arena<Interface, InterfacePlace>,
+) -> Result<(), AllocError> {
+    for interface in interfaces.iter() {
+        for (name, function) in interface.functions.as_map() {
+            push_id(text, name.as_str(), &function.external_id)?;
         }
     }
     Ok(())
@@ -155,19 +193,8 @@ fn push_world_ids(text: &mut String, world: &World) -> Result<(), AllocError> {
 /// Puts the external ids of a package behind a text, those of types and then those of functions.
 pub fn push_ids(text: &mut String, package: &UnresolvedPackage) -> Result<(), AllocError> {
     text.push_str("ids")?;
-    for ty in package.types.iter() {
-        match &ty.name {
-            Some(name) => push_id(text, name.as_str(), &ty.external_id)?,
-            None => push_id(text, "-", &ty.external_id)?,
-        }
-    }
-    for interface in package.interfaces.iter() {
-        for (name, function) in interface.functions.as_map() {
-            push_id(text, name.as_str(), &function.external_id)?;
-        }
-    }
-    for world in package.worlds.iter() {
-        push_world_ids(text, world)?;
-    }
+    push_type_ids(text, &package.types)?;
+    push_function_ids(text, &package.interfaces)?;
+    push_world_ids(text, &package.worlds)?;
     text.push_str("\n")
 }

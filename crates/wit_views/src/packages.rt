@@ -1,0 +1,114 @@
+//! The views of packages, and `marked`, their listing: each writes something of a package and of those
+//! that are nested in it, or the line of their refusal.
+
+use crate::docs::push_docs_of;
+use crate::external_ids::push_ids;
+use crate::foreign::push_foreign;
+use crate::functions::push_functions;
+use crate::layouts::push_layouts;
+use crate::parts::push_parts;
+use crate::spans::{push_required, push_spans};
+use std::alloc::{AllocError, Global};
+use wit_listing::{RunFault, error_line, listing};
+use wit_model::UnresolvedPackage;
+use wit_text::SourceMap;
+use wit_tree::ParseResult;
+
+/// What sources come to: the package that they make and those that are nested in it, or a refusal.
+pub type Found = ParseResult<(UnresolvedPackage, Vec<UnresolvedPackage>)>;
+
+/// What sources come to that were pushed before: the refusal of a push, or else what was found.
+pub fn behind(pushed: ParseResult<()>, found: Found) -> Found {
+    match pushed {
+        Ok(()) => found,
+        Err(fault) => Err(fault),
+    }
+}
+
+/// Puts the docs of a package behind a text, where it and its parts are, and what handles require.
+fn push_whole(
+    text: &mut String,
+    map: &SourceMap,
+    package: &UnresolvedPackage,
+) -> Result<(), AllocError> {
+    push_docs_of(text, package)?;
+    push_spans(text, map, package)?;
+    push_parts(text, map, package)?;
+    push_required(text, map, package)
+}
+
+/// Puts what the view of this name writes of a package behind a text, or that there is no such view.
+fn push_view(
+    alloc: Global,
+    text: &mut String,
+    name: &str,
+    map: &SourceMap,
+    package: &UnresolvedPackage,
+) -> Result<(), AllocError> {
+    match name {
+        "spans" => push_spans(text, map, package),
+        "parts" => push_parts(text, map, package),
+        "required" => push_required(text, map, package),
+        "docs" => push_docs_of(text, package),
+        "external-ids" => push_ids(text, package),
+        "foreign" => push_foreign(text, package),
+        "functions" => push_functions(alloc, text, package),
+        "layouts" => push_layouts(text, package),
+        "whole" => push_whole(text, map, package),
+        _ => write!(text, "no view `{name}`\n"),
+    }
+}
+
+/// What the view of this name writes of a package and of those that are nested in it.
+fn view_of(
+    alloc: Global,
+    name: &str,
+    map: &SourceMap,
+    main: &UnresolvedPackage,
+    nested: &[UnresolvedPackage],
+) -> Result<String, AllocError> {
+    let mut text = String::new(alloc);
+    push_view(alloc, &mut text, name, map, main)?;
+    for inner in nested {
+        push_view(alloc, &mut text, name, map, inner)?;
+    }
+    Ok(text)
+}
+
+/// Writes what the view of this name writes of a package and of those that are nested in it.
+fn write_view(
+    alloc: Global,
+    name: &str,
+    map: &SourceMap,
+    main: &UnresolvedPackage,
+    nested: &[UnresolvedPackage],
+    out: &mut Vec<u8>,
+) -> Result<(), RunFault> {
+    if name == "marked" {
+        return listing(alloc, main, nested, out);
+    }
+    let text = view_of(alloc, name, map, main, nested)?;
+    out.extend_from_slice(text.as_bytes())?;
+    Ok(())
+}
+
+/// Writes what the view of this name writes of what sources come to, or the line of their refusal, and
+/// answers whether they are not refused.
+pub fn write_packages(
+    alloc: Global,
+    name: &str,
+    map: &SourceMap,
+    found: Found,
+    out: &mut Vec<u8>,
+) -> Result<bool, RunFault> {
+    match found {
+        Ok((main, nested)) => {
+            write_view(alloc, name, map, &main, &nested, out)?;
+            Ok(true)
+        }
+        Err(fault) => {
+            error_line(alloc, map, &fault, out)?;
+            Ok(false)
+        }
+    }
+}
