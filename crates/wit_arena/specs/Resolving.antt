@@ -53,6 +53,10 @@ Names = List (List ℕ × ℕ)
 abbrev pub env_of : Names → Env
 env_of names name = lookup (pointwise nat_eq name) names
 
+-- the names of a table
+abbrev pub names_in : Names → List (List ℕ)
+names_in names = map (λ p. p.0) names
+
 -- the names of a scope stand for their places
 pub record AreNames (ks : List Key) (s : Address) (env : Env) : Type 0 where
   pub stands : (name : List ℕ) (i : ℕ) → env name ≡ Some i → slice_get ks i ≡ Some (Def s name)

@@ -27,8 +27,8 @@ use Rattle.wit_syntax.proofs.Found.{at_contains, contains_at}
 use Rattle.wit_syntax.proofs.Legal.{no_missing_edge, no_cyclic_edge}
 use Rattle.wit_files.specs.Tops.{Named, AreNamed, AreDeclared}
 use Rattle.wit_files.specs.Checks.{AreDistinctTops, AreRightTops, IsWrongTop, AttributedUse, MissingUse, IsBrokenVisit, AreLegalVisits}
-use Rattle.wit_files.specs.FileNames.{AreTopsOf, AreNamesOf, AddsTop}
-use Rattle.wit_files.specs.declared.file_names.FileNames.{FileNames}
+use Rattle.wit_files.specs.FileNames.{AreTopsOf, AreTablesOf, AddsTop}
+use Rattle.wit_files.specs.declared.tables.Tables.{Tables}
 use Rattle.wit_files.proofs.FirstNames.{rows_items}
 use Rattle.wit_files.proofs.Lost.{flat_more}
 
@@ -138,7 +138,7 @@ legal_items files places differ tops order f (MissingItem h) = no_missing_edge (
 legal_items files places differ tops order f (CyclicItem h) = no_cyclic_edge 8 item_word (item_rows files) places f order h
 
 -- the table of the items of files finds them
-pub names_declared : (files : List PackageFile) (names : FileNames) → AreNamesOf files names → AreDeclared (all_items files) names.items
+pub names_declared : (files : List PackageFile) (names : Tables) → AreTablesOf files names → AreDeclared (all_items files) names.items
 names_declared files names are = record { finds = λ name. rows_items (all_items files) names.items.entries name are.items }
 
 -- what is wrong with attributes in front of a path to another package, and at the top of a file, is wrong with names

@@ -6,6 +6,7 @@ pub mod file_names;
 pub mod foreign;
 mod item_table;
 pub mod order_refusal;
+mod tables;
 pub mod top_name;
 pub mod visit;
 

@@ -18,7 +18,7 @@ use Rattle.wit_syntax.specs.Signature.{Called, called_key, name_called}
 use Rattle.wit_tree.specs.declared.tree.WorldSide.{WorldSide}
 use Rattle.wit_tree.specs.declared.tree.WorldSide.TheVariants.{Imported, Exported}
 use Rattle.wit_syntax.specs.Sides.{SideItem, SideFunction, SideLink, SideInline, id_called, item_called, items_on, names_on, side_called, IsFoldedTwice, IsCrossedTwice}
-use Rattle.wit_arena.specs.Resolving.{Env, Names, env_of, IsWrongHandle}
+use Rattle.wit_arena.specs.Resolving.{Env, Names, env_of, IsWrongHandle, names_in}
 use Rattle.wit_syntax.proofs.Lists.{at_front, map_map, flat_map_has}
 use Rattle.wit_syntax.proofs.Found.{contains_at}
 use Rattle.wit_arena.proofs.Meant.{free_unmeant}
@@ -30,7 +30,6 @@ use Rattle.wit_sides.specs.declared.sides.Sides.{Sides}
 use Rattle.wit_rules.specs.Signatures.{AreAllNames, IsWrongFunctionAmong}
 use Rattle.wit_signatures.specs.Taken.{name_of_id, name_key, IsTwiceAmong}
 use Rattle.wit_externs.specs.Clash.{item_names, names_of_items, all_on, IsCrossedAmong, IsClash, Folded, Crossed}
-use Rattle.wit_item_entries.specs.Between.{names_in}
 use Rattle.wit_item_entries.specs.Behind.{IsTurn, IsWrongFunctions, BrokenFunction, BrokenNames, CrossedNames, HandleOfOther}
 use Rattle.wit_item_entries.proofs.Handled.{handle_wider}
 

@@ -10,7 +10,7 @@ use Rattle.wit_syntax.specs.Address.{Address, InterfaceNamed}
 use Rattle.wit_syntax.specs.Foreign.{visited}
 use Rattle.wit_arena.specs.Resolving.{Names, Cell, cell_at, cell, cells, env_of, IsIndex, IsFound}
 use Rattle.wit_syntax.proofs.Lists.{map_at}
-use Rattle.wit_item_entries.specs.Held.{front_of}
+use Rattle.wit_items.specs.Interfaces.{front_of}
 
 -- the interface of a cell
 cell_is : (ss : List Address) (is : List Interface) (t : ℕ) (c : Cell) → slice_get (cells ss is) t ≡ Some c → (i : Interface) × (slice_get is t ≡ Some i) × (c ≡ cell_at c.address i)

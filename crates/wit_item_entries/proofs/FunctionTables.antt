@@ -13,7 +13,7 @@ use Rattle.wit_arena.specs.Functions.{by_name, function_item}
 use Rattle.wit_syntax.specs.Repeats.{AllDiffer}
 use Rattle.wit_arena.proofs.FunctionNames.{made_name}
 use Rattle.wit_syntax.proofs.Names.{name_cases}
-use Rattle.wit_item_entries.proofs.Inserting.{inserted_next}
+use Rattle.wit_syntax.proofs.Inserting.{inserted_next}
 
 -- a function more stands at its name, where names differ
 pub function_next : (fs rest : List Function) (f : Function) → AllDiffer (map made_name (fs ++ f ∷ rest)) → insert_entry (pointwise nat_eq) (map by_name fs) f.name f ≡ map by_name (fs ++ f ∷ [])

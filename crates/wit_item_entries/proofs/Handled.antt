@@ -19,7 +19,7 @@ use Rattle.wit_syntax.specs.Shape.{all_handles}
 use Rattle.wit_syntax.specs.Function.{name_types}
 use Rattle.wit_syntax.specs.Fault.{Fault}
 use Rattle.wit_syntax.specs.Repeats.{AllDiffer}
-use Rattle.wit_arena.specs.Resolving.{Env, Names, Cell, env_of, Defines, IsStored, Required, AreEnded, IsWrongHandle}
+use Rattle.wit_arena.specs.Resolving.{Env, Names, Cell, env_of, Defines, IsStored, Required, AreEnded, IsWrongHandle, names_in}
 use Rattle.wit_syntax.proofs.Lists.{at_front, at_back, at_split, at_take, map_at, flat_map_at, flat_map_has}
 use Rattle.wit_syntax.proofs.Names.{name_cases, lookup-insert_entry, names-insert_entry, lookup-place}
 use Rattle.wit_arena.proofs.Written.{all_handles-append, handles_at}
@@ -27,7 +27,7 @@ use Rattle.wit_arena.proofs.Required.{ended_append, ended_more, handle_of}
 use Rattle.wit_arena.proofs.Defining.{defines_more}
 use Rattle.wit_syntax.proofs.Turns.{defined_at, in_order_among}
 use Rattle.wit_entries.specs.Requiring.{IsGrown, Requires}
-use Rattle.wit_item_entries.specs.Between.{names_in, IsWrongHandleIn, IsWrongHandleTurn, IsWrongHandleOf}
+use Rattle.wit_item_entries.specs.Between.{IsWrongHandleIn, IsWrongHandleTurn, IsWrongHandleOf}
 
 -- where texts differ, and those of a table are some of them, the next one is free
 pub next_free : (names : Names) (front : List (List ℕ)) (ds : List ScopeName) (i : ℕ) (x : ScopeName) → names_in names ≡ front ++ local_names (take i ds) → AllDiffer (front ++ local_names ds) → slice_get ds i ≡ Some x → env_of names (local_name x) ≡ None

@@ -6,7 +6,6 @@ pub mod Telling
 pub mod Emitting
 mod Results
 mod SettersPlaced
-pub mod Inserting
 mod FunctionTables
 pub mod Behind
 mod Linked

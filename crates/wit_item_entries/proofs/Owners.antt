@@ -11,13 +11,12 @@ use Rattle.wit_tree.specs.declared.tree.ResourceFunc.TheVariants as resource
 use Rattle.wit_syntax.specs.Source.{Item, Part, Defining, Using, Including, Doing, Crossing, parts, ScopeName, Defined, part_names, scope_names, local_name}
 use Rattle.wit_syntax.specs.Scope.{in_turn, local_names}
 use Rattle.wit_syntax.specs.Function.{SourceFunction, definition_functions, free_function, resource_function, part_functions, functions}
-use Rattle.wit_arena.specs.Resolving.{Env, Names, env_of}
+use Rattle.wit_arena.specs.Resolving.{Env, Names, env_of, names_in}
 use Rattle.wit_syntax.proofs.Lists.{map_at, flat_map_at, flat_map_has}
 use Rattle.wit_syntax.proofs.Turns.{in_turn_has}
 use Rattle.wit_arena.proofs.Using.{lookup-listed}
 use Rattle.wit_rules.specs.Held.{owner_of}
 use Rattle.wit_rules.specs.Signatures.{HasOwner, HaveOwners}
-use Rattle.wit_item_entries.specs.Between.{names_in}
 use Rattle.wit_item_entries.specs.Behind.{IsTurn}
 use Rattle.wit_item_entries.proofs.Behind.{turn_texts}
 use Rattle.wit_syntax.proofs.Externs.{extern_at}

@@ -20,7 +20,7 @@ use Rattle.wit_tree.specs.declared.tree.WorldSide.{WorldSide}
 use Rattle.wit_tree.specs.declared.tree.WorldSide.TheVariants.{Imported}
 use Rattle.wit_syntax.specs.Sides.{SideItem, SideFunction, names_on, on_side, side_items, IsFoldedTwice, IsCrossedTwice, FoldedTwice, CrossedTwice}
 use Rattle.wit_syntax.specs.Broken.{IsBrokenScope, Function as FunctionBroken}
-use Rattle.wit_arena.specs.Resolving.{Env, Names, env_of, Cell, Required, AreEnded, AddsFunctions, IsWrongHandle, WrongItself}
+use Rattle.wit_arena.specs.Resolving.{Env, Names, env_of, Cell, Required, AreEnded, AddsFunctions, IsWrongHandle, WrongItself, names_in}
 use Rattle.wit_arena.specs.Resolved.{AddsBehind, IsNameless, IsWrongHandleNow}
 use Rattle.wit_syntax.proofs.Legal.{function_name}
 use Rattle.wit_arena.proofs.FunctionNames.{names_differ, made_name}
@@ -39,7 +39,7 @@ use Rattle.wit_externs.specs.declared.held.HeldExtern.{HeldExtern}
 use Rattle.wit_externs.specs.declared.held.HeldExtern.TheVariants as held
 use Rattle.wit_scopes.specs.declared.scope_name.ScopeName.{ScopeName as HeldName}
 use Rattle.wit_scopes.specs.Between.{IsOfFunctions, OfFunction}
-use Rattle.wit_item_entries.specs.Between.{names_in, AddsTurn}
+use Rattle.wit_item_entries.specs.Between.{AddsTurn}
 use Rattle.wit_item_entries.specs.Behind.{IsTurn, IsWrongFunctions, BrokenFunction, BrokenNames, CrossedNames, HandleOfOther}
 use Rattle.wit_item_entries.specs.Body.{IsStandingBy, AddsBody, IsWrongBody, WrongNames, WrongHandles, WrongSides, IsLinkLost, LostAtWorld, LostAtNothing}
 use Rattle.wit_item_entries.proofs.Handled.{handle_wider}

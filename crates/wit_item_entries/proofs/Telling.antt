@@ -13,7 +13,7 @@ use Rattle.wit_model.specs.declared.world.World.{World}
 use Rattle.wit_syntax.specs.Fault.{Fault}
 use Rattle.wit_syntax.specs.Notes.{Notes, IsBrokenStability}
 use Rattle.wit_syntax.specs.Source.{Declared, TheInterface, TheWorld, TheInline, declared_parts, declared_attributes, is_declared_world, interface_part, Item, is_world}
-use Rattle.wit_syntax.specs.Scope.{part_includes, includes, interfaces_of, worlds_of}
+use Rattle.wit_syntax.specs.Scope.{part_includes, interfaces_of, worlds_of}
 use Rattle.wit_syntax.specs.Sides.{IsBrokenSides}
 use Rattle.wit_arena.specs.Package.{IsInterface, IsWorld}
 use Rattle.wit_arena.specs.Resolved.{IsBrokenItemStability, OwnStability, OfInclude, HaveLegalStability, AreLegalSides}
@@ -21,7 +21,6 @@ use Rattle.wit_syntax.proofs.Kept.{kept_has}
 use Rattle.wit_syntax.proofs.Lists.{at_either}
 use Rattle.wit_items.specs.declared.notes.ItemNotes.{ItemNotes}
 use Rattle.wit_items.specs.Told.{notes_behind, AreOf}
-use Rattle.wit_item_entries.specs.Between.{AreStable}
 
 -- an item is what is told of it
 pub interface_told : (name : Option (List ℕ)) (span : Span) (n : Notes) (held : ItemNotes) (i : Interface) → AreOf n held → IsInterface name span (notes_behind held) i → IsInterface name span n i
@@ -46,11 +45,6 @@ interface_includes (TheInline world place x name items) i sort among = no_includ
 pub interface_stable : (w : Item) → is_world w ≡ false → ((f : Fault) → IsBrokenStability (declared_attributes w.declared) f → ⊥) → (f : Fault) → IsBrokenItemStability w f → ⊥
 interface_stable w sort own f (OwnStability h) = own f h
 interface_stable w sort own f (OfInclude i among h) = interface_includes w.declared i sort among
-
--- nor with a world, where nothing is wrong with its includes either
-pub world_stable : (w : Item) → ((f : Fault) → IsBrokenStability (declared_attributes w.declared) f → ⊥) → AreStable (includes w) → (f : Fault) → IsBrokenItemStability w f → ⊥
-world_stable w own stable f (OwnStability h) = own f h
-world_stable w own stable f (OfInclude i among h) = stable.each i among f h
 
 pub stability_more : (ws : List Item) (w : Item) → HaveLegalStability ws → ((f : Fault) → IsBrokenItemStability w f → ⊥) → HaveLegalStability (ws ++ w ∷ [])
 stability_more ws w legal one = record {

@@ -1,8 +1,7 @@
--- What the resolver's functions tell one another: orders that were found, names that stand twice, and what was resolved so far.
-use Rattle.std.specs.Prelude.{◌≡◌, ℕ, List, [], ◌++◌, map, take, Contains}
+-- What the names of a scope add to the arena, one after another, and what is wrong with them.
+use Rattle.std.specs.Prelude.{◌≡◌, ℕ, List, [], ◌++◌, map, take}
 use Rattle.std.specs.List.{flat_map}
 use Rattle.wit_tree.specs.declared.tree.Id.{Id}
-use Rattle.wit_tree.specs.declared.tree.Include.{Include}
 use Rattle.wit_order.specs.Table.{IsOrder}
 use Rattle.wit_types.specs.declared.types.TypeDef.{TypeDef}
 use Rattle.wit_types.specs.declared.types.TypeOwner.{TypeOwner}
@@ -10,16 +9,11 @@ use Rattle.wit_syntax.specs.Address.{Address}
 use Rattle.wit_syntax.specs.Source.{ScopeName, local_id}
 use Rattle.wit_syntax.specs.Scope.{rows_of, in_order, defined, in_turn, local_names, AreDistinct}
 use Rattle.wit_syntax.specs.Fault.{Fault}
-use Rattle.wit_syntax.specs.Notes.{IsBrokenStability}
 use Rattle.wit_syntax.specs.Shape.{all_handles}
 use Rattle.wit_syntax.specs.Function.{SourceFunction, name_types}
 use Rattle.wit_arena.specs.Resolving.{Names, env_of, Cell, Defines, Required, IsWrongHandle, IsWrongScope}
 use Rattle.wit_arena.specs.Resolved.{DefinesAll, AddsScope}
 use Rattle.wit_entries.specs.Requiring.{Requires}
-
--- the names of a table
-abbrev pub names_in : Names → List (List ℕ)
-names_in names = map (λ p. p.0) names
 
 -- once some of these definitions were added, and some types behind them, a name in a handle of one of them ends at something else than
 -- a resource
@@ -75,7 +69,3 @@ pub record Emits (old new : List Required) (P : List Required → Type 0) : Type
   pub own : List Required
   pub list : new ≡ old ++ own
   pub holds : P own
-
--- no attributes of these includes break a rule of stability
-pub record AreStable (is : List Include) : Type 0 where
-  pub each : (i : Include) → Contains is i → (f : Fault) → IsBrokenStability i.attributes.items f → ⊥

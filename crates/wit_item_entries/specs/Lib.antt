@@ -1,4 +1,3 @@
-pub mod Held
 pub mod Between
 pub mod Behind
 pub mod Body

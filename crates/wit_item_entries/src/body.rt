@@ -11,7 +11,7 @@ ghost use Rattle.wit_syntax.specs.Function.{SourceFunction, functions as the_fun
 ghost use Rattle.wit_syntax.specs.Notes.{IsBrokenStability};
 ghost use Rattle.wit_syntax.specs.Sides.{IsBrokenSides, SideFunction};
 ghost use Rattle.wit_syntax.specs.Source.{Item as TheItem, declared_attributes, declared_parts, is_declared_world, item_notes as the_notes, scope_names as the_names};
-ghost use Rattle.wit_arena.specs.Resolving.{Cell, IsIndex, Names};
+ghost use Rattle.wit_arena.specs.Resolving.{Cell, IsIndex, Names, names_in};
 ghost use Rattle.wit_arena.specs.Resolved.{IsNameless};
 ghost use Rattle.wit_entries.specs.Requiring.{IsGrown};
 ghost use Rattle.wit_sides.specs.Sides.{taken_on};
@@ -23,16 +23,16 @@ ghost use Rattle.wit_scopes.specs.Front.{AreNamesPlaced};
 ghost use Rattle.wit_items.specs.Items.{declared_behind, scope_item};
 ghost use Rattle.wit_items.specs.Told.{AreOf};
 ghost use Rattle.wit_item_entries.specs.Behind.{IsTurn};
-ghost use Rattle.wit_item_entries.specs.Between.{AddsTurn, names_in};
+ghost use Rattle.wit_item_entries.specs.Between.{AddsTurn};
 ghost use Rattle.wit_item_entries.specs.Body.{AddsBody, IsHeldBy, IsWrongBody};
-ghost use Rattle.wit_item_entries.specs.Held.{cells_of, front_of};
+ghost use Rattle.wit_items.specs.Interfaces.{cells_of, front_of};
 
 use crate::functions::interface_functions;
 use crate::names::{ResolvedNames, resolve_names};
 use crate::signatures::resolve_signatures;
-use crate::uses::Interfaces;
 use std::alloc::Global;
 use wit_entries::entries::Entries;
+use wit_items::interfaces::Interfaces;
 use wit_items::items::{Declared, ItemScope};
 use wit_items::notes::{ItemNotes, item_notes};
 use wit_model::Function;

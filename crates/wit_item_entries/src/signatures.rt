@@ -10,14 +10,13 @@ ghost use Rattle.wit_syntax.specs.Fault.{Fault};
 ghost use Rattle.wit_syntax.specs.Broken.{Refused};
 ghost use Rattle.wit_syntax.specs.Function.{SourceFunction, written_types};
 ghost use Rattle.wit_syntax.specs.Signature.{IsBrokenFunction};
-ghost use Rattle.wit_arena.specs.Resolving.{env_of, AddsFunctions};
+ghost use Rattle.wit_arena.specs.Resolving.{env_of, AddsFunctions, names_in};
 ghost use Rattle.wit_arena.specs.Resolved.{IsNameless};
 ghost use Rattle.wit_rules.specs.Held.{function_behind};
 ghost use Rattle.wit_entries.specs.Requiring.{IsGrown, Requires};
 ghost use Rattle.wit_rules.specs.Signatures.{HaveOwners};
 ghost use Rattle.wit_signatures.specs.Taken.{name_of_function, name_of_made};
 ghost use Rattle.wit_externs.specs.Clash.{DifferOnSides, all_on};
-ghost use Rattle.wit_item_entries.specs.Between.{names_in};
 ghost use Rattle.wit_item_entries.specs.Behind.{IsTurn, IsWrongFunctions};
 ghost use Rattle.wit_scopes.specs.Held.{name_behind};
 

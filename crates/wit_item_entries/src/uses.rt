@@ -11,16 +11,15 @@ ghost use Rattle.wit_syntax.specs.Broken.{Refused};
 ghost use Rattle.wit_syntax.specs.Function.{SourceFunction};
 ghost use Rattle.wit_arena.specs.Functions.{freestanding_names};
 ghost use Rattle.wit_scopes.specs.Between.{IsUnstated};
-ghost use Rattle.wit_item_entries.specs.Between.{names_in};
 ghost use Rattle.wit_entries.specs.Requiring.{IsGrown};
 ghost use Rattle.wit_scopes.specs.Held.{source_behind, use_behind, IsPlaced, ArePlaced};
-ghost use Rattle.wit_item_entries.specs.Held.{front_of, cells_of};
-ghost use Rattle.wit_arena.specs.Resolving.{cell_at, env_of, free_functions, Defines, HasNames, IsIndex, IsFound, IsUnresolved, IsUsed, IsWrongUse, IsWrongScope};
+ghost use Rattle.wit_items.specs.Interfaces.{front_of, cells_of};
+ghost use Rattle.wit_arena.specs.Resolving.{cell_at, env_of, free_functions, Defines, HasNames, IsIndex, IsFound, IsUnresolved, IsUsed, IsWrongUse, IsWrongScope, names_in};
 
 use std::alloc::{AllocError, Global};
 use wit_entries::entries::Entries;
 use wit_entries::scope::Scope;
-use wit_files::ForeignVisit;
+use wit_items::interfaces::Interfaces;
 use wit_model::{Function, FunctionKind, Interface};
 use wit_names::front::behind;
 use wit_notes::refusal::{refuse, refuse_in, refuse_missing};
@@ -29,17 +28,8 @@ use wit_scopes::distinct::defined_twice;
 use wit_scopes::scope_name::{Source, UsedName, local_of};
 use wit_tree::tree::Id;
 use wit_tree::{ParseError, ParseResult};
-use wit_types::{Arena, InterfaceId, InterfacePlace, Type, TypeDefKind};
+use wit_types::{Type, TypeDefKind};
 use wit_values::TextTable;
-
-/// The interfaces that are resolved, and the places of the declared ones by their names.
-#[derive(Drop)]
-pub struct Interfaces<'n, 'f, 'a> {
-    /// The first visits of those of other packages, which are the front of the arena.
-    pub foreign: &'n [ForeignVisit<'f, 'a>],
-    pub arena: Arena<Interface, InterfacePlace>,
-    pub by_name: TextTable<InterfaceId>,
-}
 
 /// The interface that a name comes from.
 fn used_interface<'i>(

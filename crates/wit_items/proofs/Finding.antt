@@ -9,7 +9,7 @@ use Rattle.std.proofs.lemmas.Bool.{cases_Bool, ltb-true, ltb-false}
 use Rattle.std.proofs.lemmas.List.{length-map}
 use Rattle.std.proofs.lemmas.List.Folds.{find_at}
 use Rattle.std.proofs.lemmas.List.Quantifiers.{position-Some}
-use Rattle.std.proofs.lemmas.Option.{slice_get_past, slice_get_read, slice_get_within}
+use Rattle.std.proofs.lemmas.Option.{slice_get_past, slice_get_read}
 use Rattle.wit_tree.specs.declared.tree.Id.{Id}
 use Rattle.wit_tree.specs.declared.tree.PackageFile.{PackageFile}
 use Rattle.wit_order.specs.Table.{Row, place_of, target}
@@ -19,10 +19,9 @@ use Rattle.wit_syntax.specs.Broken.{is_world_at}
 use Rattle.wit_syntax.proofs.Names.{name_cases}
 use Rattle.wit_syntax.proofs.Lists.{map_at}
 use Rattle.wit_files.specs.FileNames.{found_at}
-use Rattle.wit_files.specs.declared.file_names.FileNames.{FileNames}
 use Rattle.wit_files.specs.declared.file_names.Found.{Found}
 use Rattle.wit_files.specs.declared.file_names.Found.TheVariants.{Item as ItemAt, Foreign as ForeignAt}
-use Rattle.wit_items.specs.Items.{item_place, other_place, HasFile}
+use Rattle.wit_items.specs.Items.{item_place, other_place}
 
 -- whether two names are one does not hang on which is first
 bytes_swap : (a b : List ℕ) → bytes_eq a b ≡ bytes_eq b a
@@ -105,15 +104,9 @@ leads_to files to id r p world local found some kind =
     ap (is_world_at files) local ∙ ap (option_map is_world) it ∙ ap Some w.2
 
 -- a place that a path leads to is one of an item
-pub leads_within : (names : FileNames) (files : List PackageFile) (to : Target) (id : Id) (r : Option Found) (p : ℕ) → to ≡ Local id → r ≡ found_at files to → r ≡ Some (ItemAt p) → names.kinds.items ≡ map is_world (all_items files) → p < length names.kinds.items
-leads_within names files to id r p local found some kinds =
+pub leads_within : (files : List PackageFile) (to : Target) (id : Id) (r : Option Found) (p : ℕ) → to ≡ Local id → r ≡ found_at files to → r ≡ Some (ItemAt p) → p < length (all_items files)
+leads_within files to id r p local found some =
     let at = found_some (target (item_rows files) id) p (sym (found ∙ ap (found_at files) local) ∙ some) in
     let it = position-Some (λ (row : Row). bytes_eq id.name.now row.name) (item_rows files) p (record { name = []; needs = [] }) at in
     let lt : p < length (item_rows files) = it.0 in
-    omega (arith, length-map (all_items files) item_row, length-map (all_items files) is_world, ap length kinds)
-
--- a file's place is one of the names at the top of files
-pub file_within : (names : FileNames) (place : ℕ) → HasFile names place → place < length names.tops.items
-file_within names place h =
-    let lt = slice_get_within h.files place h.file h.are.at in
-    omega (arith, h.are.are.tops.long)
+    omega (arith, lt, length-map (all_items files) item_row)

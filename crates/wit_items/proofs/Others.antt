@@ -1,10 +1,10 @@
 -- Paths to items of other packages, and the entries of those items.
-use Rattle.std.proofs.Common.{◌≡◌, ℕ, zero, suc, ◌+◌, ◌≤◌, Bool, true, false, not, cond, List, [], ◌∷◌, ◌++◌, length, Option, Some, None, inl, inr, refl, sym, ap, ◌∙◌, subst, arith}
+use Rattle.std.proofs.Common.{◌≡◌, ℕ, zero, suc, ◌+◌, ◌≤◌, Bool, true, false, not, cond, List, [], ◌∷◌, length, Option, Some, None, inl, inr, refl, sym, ap, ◌∙◌, arith}
 use Rattle.std.specs.Prelude.{slice_get, map, find}
-use Rattle.std.specs.List.{filter, flat_map}
-use Rattle.std.specs.Option.{option_map, option_map_or}
+use Rattle.std.specs.List.{flat_map}
+use Rattle.std.specs.Option.{option_map}
 use Rattle.std.proofs.lemmas.Bool.{cases_Bool}
-use Rattle.std.proofs.lemmas.Option.{slice_get-map, slice_get_within}
+use Rattle.std.proofs.lemmas.Option.{slice_get-map}
 use Rattle.wit_tree.specs.declared.tree.Id.{Id}
 use Rattle.wit_tree.specs.declared.tree.Attribute.{Attribute}
 use Rattle.wit_tree.specs.declared.tree.UsePath.{UsePath}
@@ -16,8 +16,8 @@ use Rattle.wit_package_names.specs.declared.package_name.PackageName.{PackageNam
 use Rattle.wit_model.specs.declared.ast_item.AstItem.{AstItem}
 use Rattle.wit_model.specs.declared.ast_item.AstItem.TheVariants as entry
 use Rattle.wit_model.specs.declared.world.World.{World}
-use Rattle.wit_syntax.specs.Address.{Address, ForeignNamed, package_of, same_address}
-use Rattle.wit_syntax.specs.Source.{Target, Local, Foreign, top_named, top_names, top_target, leads, included_scope, Item, Part, Defining, Using, Including, Doing, Crossing, parts, all_items}
+use Rattle.wit_syntax.specs.Address.{Address, ForeignNamed, same_address}
+use Rattle.wit_syntax.specs.Source.{Target, Local, Foreign, leads, included_scope, Item, Part, Defining, Using, Including, Doing, Crossing, parts, all_items}
 use Rattle.wit_syntax.specs.Foreign.{ForeignVisit, visited, path_visits, part_visits, extern_visits, side_visits, visits_in, same_item, foreign_at, foreign_items, foreign_interfaces, foreign_worlds, is_foreign_world}
 use Rattle.wit_syntax.specs.Crossing.{extern_paths, inline_uses}
 use Rattle.wit_syntax.specs.Scope.{use_path}
@@ -28,13 +28,12 @@ use Rattle.wit_arena.specs.Resolved.{worlds_at}
 use Rattle.wit_syntax.proofs.Addresses.{side_itself, same_address-equal, same_address-from}
 use Rattle.wit_syntax.proofs.Found.{find_passes, find_some, find_at, at_contains}
 use Rattle.wit_syntax.proofs.Kept.{kept_has}
-use Rattle.wit_syntax.proofs.Lists.{at_within, at_back, at_split, map_at, flat_map_at, flat_map_has}
+use Rattle.wit_syntax.proofs.Lists.{at_back, at_split, map_at, flat_map_at, flat_map_has}
 use Rattle.wit_arena.proofs.Visits.{IsVisited, visit_listed, path_among, path_visited, side_has, leads_visited, part_use_at}
-use Rattle.wit_files.specs.FileNames.{found_at}
-use Rattle.wit_files.specs.declared.file_names.FileNames.{FileNames}
+use Rattle.wit_files.specs.FileNames.{found_at, top_at}
 use Rattle.wit_files.specs.declared.file_names.Found.{Found}
 use Rattle.wit_files.specs.declared.file_names.Found.TheVariants.{Item as ItemAt, Foreign as ForeignAt}
-use Rattle.wit_items.specs.Items.{AreNamesAt, HasPart, HasPath, others_of, entry_at, interface_entry, world_entry, world_at}
+use Rattle.wit_items.specs.Items.{HasPart, HasPath, entry_at, interface_entry, world_entry, world_at}
 use Rattle.wit_items.proofs.Finding.{find_position, find_no_position}
 
 abbrev named : PackageName → Id → Address
@@ -180,47 +179,20 @@ world_missing files by_name (Foreign p id) found h =
       | inr sort ↦ ap (option_map is_foreign_world) v.1 ∙ ap Some sort
     ]
 
--- the names at the top of a file tell where its paths lead
-mapped : {X Y : Type 0} (f : X → Y) (o : Option X) (q : Option X) (y : Y) → option_map f o ≡ option_map f q → option_map_or f o y ≡ option_map_or f q y
-mapped f None None y h = refl
-mapped f None (Some b) y h = absurd (let g : ⊥ = cc in g)
-mapped f (Some a) None y h = absurd (let g : ⊥ = cc in g)
-mapped f (Some a) (Some b) y h = cc
-
-pub leads_same : (names : FileNames) (place : ℕ) (files others : List PackageFile) (file other : PackageFile) (from : UsePath) → AreNamesAt files names place file → AreNamesAt others names place other → leads (top_names file) from ≡ leads (top_names other) from
-leads_same names place files others file other (path.Package p id) are were = refl
-leads_same names place files others file other (path.Id id) are were =
-    let lt = slice_get_within files place file are.at in
-    let top = at_within names.tops.items place (omega (arith, are.are.tops.long)) in
-    let here = (are.are.tops.each place file top.0 are.at top.1).finds id.name.now in
-    let there = (were.are.tops.each place other top.0 were.at top.1).finds id.name.now in
-    mapped top_target (top_named (top_names file) id.name.now) (top_named (top_names other) id.name.now) (Local id) (sym here ∙ there)
-
--- the items of other packages, by the names of files
-pub items_same : (names : FileNames) (place : ℕ) (files others : List PackageFile) (file other : PackageFile) → AreNamesAt files names place file → AreNamesAt others names place other → foreign_items files ≡ foreign_items others
-items_same names place files others file other are were = sym are.are.foreign.items ∙ were.are.foreign.items
-
--- the addresses of the worlds among them
-pub others_are : (names : FileNames) (place : ℕ) (files : List PackageFile) (file : PackageFile) → AreNamesAt files names place file → others_of names ≡ map visited (foreign_worlds files)
-others_are names place files file are = ap (λ (l : List ForeignVisit). map visited (filter is_foreign_world l)) are.are.foreign.items
-
--- what is visited by the files that these are the names of is an item of the package that it is of
-visited_here : (names : FileNames) (place : ℕ) (files others : List PackageFile) (file other : PackageFile) → AreNamesAt files names place file → AreNamesAt others names place other → (p : PackageName) (id : Id) → IsVisited files p id → (v : ForeignVisit) × (foreign_at others (ForeignNamed p id.name.now) ≡ Some v)
-visited_here names place files others file other are were p id here =
+-- what files visit is an item of the package that it is of
+visited_here : (files : List PackageFile) (p : PackageName) (id : Id) → IsVisited files p id → (v : ForeignVisit) × (foreign_at files (ForeignNamed p id.name.now) ≡ Some v)
+visited_here files p id here =
     let s = named p id in
     let it = visit_listed files here.place here.v here.at in
-    let at : slice_get (foreign_items others) it.0 ≡ Some it.1 = ap (λ (l : List ForeignVisit). slice_get l it.0) (sym (items_same names place files others file other are were)) ∙ it.2 in
-    find_some (is_at s) (foreign_items others) it.0 it.1 at (same_address-from (visited it.1) s (it.3 ∙ here.is))
+    find_some (is_at s) (foreign_items files) it.0 it.1 it.2 (same_address-from (visited it.1) s (it.3 ∙ here.is))
 
 -- the item of another package where a path of a part leads is visited
-pub part_visited : (names : FileNames) (place : ℕ) (part : Part) (attributes : List Attribute) (world : Bool) (from : UsePath) → HasPart names place part → part_visits part ≡ path_visits attributes world from → (files : List PackageFile) (file : PackageFile) → AreNamesAt files names place file → (p : PackageName) (id : Id) → leads (top_names file) from ≡ Foreign p id → (v : ForeignVisit) × (foreign_at files (ForeignNamed p id.name.now) ≡ Some v)
-part_visited names place part attributes world from h visits files file are p id lead =
-    let was = h.item.declared.are in
-    let item : Item = record { top = top_names h.item.file; declared = h.declared } in
-    let q = at_contains (all_items h.item.files) item h.item.declared.among in
+pub part_visited : (files : List PackageFile) (place : ℕ) (part : Part) (attributes : List Attribute) (world : Bool) (from : UsePath) → HasPart files place part → part_visits part ≡ path_visits attributes world from → (p : PackageName) (id : Id) → leads (top_at files place) from ≡ Foreign p id → (v : ForeignVisit) × (foreign_at files (ForeignNamed p id.name.now) ≡ Some v)
+part_visited files place part attributes world from h visits p id lead =
+    let item : Item = record { top = top_at files place; declared = h.declared } in
+    let q = at_contains (all_items files) item h.item.among in
     let m = at_contains _ part h.among in
-    let here = path_visited h.item.files q.0 item m.0 part attributes world from p id q.1 m.1 visits (leads_same names place h.item.files files h.item.file file from was are ∙ lead) in
-    visited_here names place h.item.files files h.item.file file was are p id here
+    visited_here files p id (path_visited files q.0 item m.0 part attributes world from p id q.1 m.1 visits lead)
 
 -- the visit of an import or an export by its path is one of its item's
 crossing_visited : (ps : List Part) (m : ℕ) (x : Extern) (j : ℕ) (from : UsePath) (v : ForeignVisit) → slice_get ps m ≡ Some (Crossing x) → slice_get (extern_paths x.kind) j ≡ Some from → slice_get (path_visits x.attributes.items false from) 0 ≡ Some v → (n : ℕ) × (slice_get (visits_in ps) n ≡ Some v)
@@ -252,12 +224,10 @@ wanted_in files q w m (Crossing x) j from p id at part here lead =
       | inr own ↦ path_among files q w x.attributes.items false from p id at (λ v first. crossing_visited (parts w) m x own.0 from v part own.2 first) lead
     ]
 
-pub wanted_visited : (names : FileNames) (place : ℕ) (from : UsePath) → HasPath names place from → (files : List PackageFile) (file : PackageFile) → AreNamesAt files names place file → (p : PackageName) (id : Id) → leads (top_names file) from ≡ Foreign p id → (v : ForeignVisit) × (foreign_at files (ForeignNamed p id.name.now) ≡ Some v)
-wanted_visited names place from h files file are p id lead =
-    let was = h.item.declared.are in
-    let item : Item = record { top = top_names h.item.file; declared = h.declared } in
-    let q = at_contains (all_items h.item.files) item h.item.declared.among in
+pub wanted_visited : (files : List PackageFile) (place : ℕ) (from : UsePath) → HasPath files place from → (p : PackageName) (id : Id) → leads (top_at files place) from ≡ Foreign p id → (v : ForeignVisit) × (foreign_at files (ForeignNamed p id.name.now) ≡ Some v)
+wanted_visited files place from h p id lead =
+    let item : Item = record { top = top_at files place; declared = h.declared } in
+    let q = at_contains (all_items files) item h.item.among in
     let k = at_contains _ from h.among in
     let m = flat_map_at use_path (parts item) k.0 from k.1 in
-    let here = wanted_in h.item.files q.0 item m.0 m.1 m.3.0 from p id q.1 m.2 m.3.1 (leads_same names place h.item.files files h.item.file file from was are ∙ lead) in
-    visited_here names place h.item.files files h.item.file file was are p id here
+    visited_here files p id (wanted_in files q.0 item m.0 m.1 m.3.0 from p id q.1 m.2 m.3.1 lead)

@@ -4,12 +4,12 @@ use Rattle.std.specs.Prelude.{slice_get, map}
 use Rattle.std.specs.List.{flat_map}
 use Rattle.std.specs.Option.{option_map}
 use Rattle.std.proofs.lemmas.List.{map-append}
-use Rattle.std.proofs.lemmas.Option.{slice_get-map}
+use Rattle.std.proofs.lemmas.Option.{slice_get-map, slice_get_within}
 use Rattle.std.proofs.lemmas.List.Elements.{Contains-append_cases}
 use Rattle.wit_tree.specs.declared.tree.Use.{Use as WrittenUse}
 use Rattle.wit_tree.specs.declared.tree.UsePath.{UsePath}
 use Rattle.wit_tree.specs.declared.tree.PackageFile.{PackageFile}
-use Rattle.wit_syntax.specs.Source.{TopName, Declared, declared_parts, Part, Defining, Using, Including, Doing, Crossing, Item, parts, file_items, all_items}
+use Rattle.wit_syntax.specs.Source.{TopName, top_names, Declared, declared_parts, Part, Defining, Using, Including, Doing, Crossing, Item, parts, file_items, all_items}
 use Rattle.wit_syntax.specs.Scope.{use_path, use_paths, part_uses, uses}
 use Rattle.wit_syntax.specs.Crossing.{extern_paths, inline_uses}
 use Rattle.wit_syntax.specs.Fault.{Fault}
@@ -17,9 +17,9 @@ use Rattle.wit_syntax.specs.Broken.{IsBrokenUse, MissingUse, WorldUsed, IsBroken
 use Rattle.wit_syntax.proofs.Lists.{at_either, at_front, flat_map_at, flat_map_has}
 use Rattle.wit_syntax.proofs.Found.{at_contains, contains_at}
 use Rattle.wit_files.proofs.Lost.{at_flat, flat_more}
-use Rattle.wit_files.specs.declared.file_names.FileNames.{FileNames}
+use Rattle.wit_files.specs.FileNames.{names_at_top}
 use Rattle.wit_items.specs.declared.items.Item.{Item as Held}
-use Rattle.wit_items.specs.Items.{declared_behind, HasItem, HasPart, HasPath, IsDeclaredIn, AreFiled, IsUnusable, Nowhere, AtWorld, IsSound, IsUnsound, BrokenNotes, Unusable, AreSound, IsUnsoundAmong, HaveSoundUses, HasUnsoundUse}
+use Rattle.wit_items.specs.Items.{declared_behind, HasItem, HasPart, HasPath, IsFiled, AreFiled, IsUnusable, Nowhere, AtWorld, IsSound, IsUnsound, BrokenNotes, Unusable, AreSound, IsUnsoundAmong, HaveSoundUses, HasUnsoundUse}
 
 -- what stands in a list of one is that one
 pub contains_one : {X : Type 0} (x y : X) → Contains (x ∷ []) y → x ≡ y
@@ -76,16 +76,23 @@ sound_items_more files own all w whole sound one = rw whole (record {
 })
 
 -- items of files, one more
-pub filed_more : (files : List PackageFile) (names : FileNames) (items new : List Held) (x : Held) → new ≡ items ++ x ∷ [] → AreFiled files names items → IsDeclaredIn files names x.place x.file.now (declared_behind x.declared) → AreFiled files names new
-filed_more files names items new x grown filed one = rw grown (record {
+pub filed_more : (files : List PackageFile) (items new : List Held) (x : Held) → new ≡ items ++ x ∷ [] → AreFiled files items → IsFiled files x → AreFiled files new
+filed_more files items new x grown filed one = rw grown (record {
   each = λ k i at. elim (at_either items x k i at) [
     | inl early ↦ filed.each k i early
-    | inr last ↦ subst (λ (y : Held). IsDeclaredIn files names y.place y.file.now (declared_behind y.declared)) (sym last.1) one
+    | inr last ↦ subst (IsFiled files) (sym last.1) one
   ];
 })
 
-pub filed_none : (files : List PackageFile) (names : FileNames) → AreFiled files names []
-filed_none files names = record { each = λ k i at. absurd (let f : ⊥ = cc in f) }
+pub filed_none : (files : List PackageFile) → AreFiled files []
+filed_none files = record { each = λ k i at. absurd (let f : ⊥ = cc in f) }
+
+-- so each is an item that the file at its place declares
+pub filed_item : (files : List PackageFile) (i : Held) → IsFiled files i → HasItem files i.place (declared_behind i.declared)
+filed_item files i filed = record {
+  within = slice_get_within files i.place i.file.now filed.file;
+  among = rw (ap names_at_top filed.file) filed.among;
+}
 
 -- the path of a `use` is one of its part, and so of its item
 use_path_of : (p : Part) (j : ℕ) (u : WrittenUse) → slice_get (part_uses p) j ≡ Some u → slice_get (use_path p) j ≡ Some u.from
@@ -105,12 +112,12 @@ path_of_use ps u among =
     let it = flat_map_has use_path ps p.0 p.3.0 p.1 u.from p.2 (use_path_of p.1 p.3.0 u p.3.1) in
     contains_at (flat_map use_path ps) it.0 u.from it.1
 
-pub use_has_path : (names : FileNames) (place : ℕ) (d : Declared) (u : WrittenUse) → HasItem names place d → Contains (flat_map part_uses (declared_parts d)) u → HasPath names place u.from
-use_has_path names place d u item among = record { declared = d; item = item; among = path_of_use (declared_parts d) u among }
+pub use_has_path : (files : List PackageFile) (place : ℕ) (d : Declared) (u : WrittenUse) → HasItem files place d → Contains (flat_map part_uses (declared_parts d)) u → HasPath files place u.from
+use_has_path files place d u item among = record { declared = d; item = item; among = path_of_use (declared_parts d) u among }
 
 -- a path of a part of an item that wants an interface is one of the item
-pub part_path : (names : FileNames) (place : ℕ) (part : Part) (path : UsePath) → use_path part ≡ path ∷ [] → HasPart names place part → HasPath names place path
-part_path names place part path wants h =
+pub part_path : (files : List PackageFile) (place : ℕ) (part : Part) (path : UsePath) → use_path part ≡ path ∷ [] → HasPart files place part → HasPath files place path
+part_path files place part path wants h =
     let ps = declared_parts h.declared in
     let m = at_contains ps part h.among in
     let it = flat_map_has use_path ps m.0 0 part path m.1 (ap (λ (l : List UsePath). slice_get l 0) wants) in
@@ -140,6 +147,12 @@ item_among files k file i at among =
     let j = at_contains (file_items file) i among in
     let it = at_flat file_items files k j.0 file i at j.1 in
     contains_at (all_items files) it.0 i it.1
+
+pub item_here : (files : List PackageFile) (place : ℕ) (file : PackageFile) (d : Declared) → slice_get files place ≡ Some file → Contains (file_items file) (record { top = top_names file; declared = d }) → HasItem files place d
+item_here files place file d at among = record {
+  within = slice_get_within files place file at;
+  among = rw (ap names_at_top at) (item_among files place file (record { top = top_names file; declared = d }) at among);
+}
 
 -- a use that is not sound breaks a rule of the files
 unsound_use : (files : List PackageFile) (i : Item) (u : WrittenUse) (f : Fault) → Contains (all_items files) i → Contains (uses i) u → IsUnsound files i.top u f → IsBroken files f

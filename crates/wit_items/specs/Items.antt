@@ -1,6 +1,6 @@
 -- Declared items that are held, and where their paths to interfaces lead.
-use Rattle.std.specs.Prelude.{◌≡◌, ℕ, true, false, List, [], ◌∷◌, Option, Some, None, Contains, map, slice_get}
-use Rattle.std.specs.List.{filter, flat_map}
+use Rattle.std.specs.Prelude.{◌≡◌, ℕ, ◌<◌, length, true, false, List, [], ◌∷◌, Option, Some, None, Contains, map, slice_get}
+use Rattle.std.specs.List.{flat_map}
 use Rattle.std.specs.Option.{option_map}
 use Rattle.wit_tree.specs.declared.tree.Id.{Id}
 use Rattle.wit_tree.specs.declared.tree.Use.{Use}
@@ -11,17 +11,15 @@ use Rattle.wit_model.specs.declared.ast_item.AstItem.TheVariants as entry
 use Rattle.wit_syntax.specs.Address.{Address, ForeignNamed}
 use Rattle.wit_syntax.specs.Source.{Target, Local, Foreign, leads, path_id, path_scope, TopName, top_names, Declared, TheInterface, TheWorld, TheInline, declared_parts, Part, Defining, Using, Including, Doing, Crossing, Item, item_named, all_items, ScopeName}
 use Rattle.wit_syntax.specs.Scope.{use_path, uses}
-use Rattle.wit_syntax.specs.Foreign.{visited, is_foreign_world, foreign_at, foreign_items, foreign_interfaces}
+use Rattle.wit_syntax.specs.Foreign.{visited, foreign_at, foreign_items, foreign_interfaces, foreign_worlds}
 use Rattle.wit_arena.specs.Whole.{foreign_entry}
 use Rattle.wit_syntax.specs.Fault.{Fault, fault, missing_at, item_word}
 use Rattle.wit_syntax.specs.Notes.{IsBrokenNotes}
 use Rattle.wit_arena.specs.Resolving.{Names, env_of}
 use Rattle.wit_syntax.specs.Broken.{is_world_at}
-use Rattle.wit_files.specs.Foreign.{foreign_behind}
-use Rattle.wit_files.specs.declared.file_names.FileNames.{FileNames}
 use Rattle.wit_files.specs.declared.file_names.Found.{Found}
 use Rattle.wit_files.specs.declared.file_names.Found.TheVariants.{Item as ItemAt, Foreign as ForeignAt}
-use Rattle.wit_files.specs.FileNames.{AreNamesOf}
+use Rattle.wit_files.specs.FileNames.{top_at}
 use Rattle.wit_items.specs.declared.items.Declared.{Declared as HeldDeclared}
 use Rattle.wit_items.specs.declared.items.Declared.TheVariants as held
 use Rattle.wit_items.specs.declared.parts.Part.{Part as HeldPart}
@@ -66,52 +64,31 @@ own_uses (Crossing x) = []
 abbrev pub names_behind : Held → List ScopeName
 names_behind i = map name_behind i.names.items
 
--- these are the names of these files, and this is the one at a place among them
-pub record AreNamesAt (files : List PackageFile) (names : FileNames) (place : ℕ) (file : PackageFile) : Type 0 where
-  pub are : AreNamesOf files names
-  pub at : slice_get files place ≡ Some file
-
--- these are the names of files, and one of those is at a place
-pub record HasFile (names : FileNames) (place : ℕ) : Type 0 where
-  pub files : List PackageFile
-  pub file : PackageFile
-  pub are : AreNamesAt files names place file
-
--- these are the names of these files, and this is an item that the one at a place declares
-pub record IsDeclaredIn (files : List PackageFile) (names : FileNames) (place : ℕ) (file : PackageFile) (d : Declared) : Type 0 where
-  pub are : AreNamesAt files names place file
-  pub among : Contains (all_items files) (record { top = top_names file; declared = d })
-
--- these are the names of files, and this is an item that one of those declares
-pub record HasItem (names : FileNames) (place : ℕ) (d : Declared) : Type 0 where
-  pub files : List PackageFile
-  pub file : PackageFile
-  pub declared : IsDeclaredIn files names place file d
+-- this is an item that the file at a place declares
+pub record HasItem (files : List PackageFile) (place : ℕ) (d : Declared) : Type 0 where
+  pub within : place < length files
+  pub among : Contains (all_items files) (record { top = top_at files place; declared = d })
 
 -- this is a part of such an item
-pub record HasPart (names : FileNames) (place : ℕ) (part : Part) : Type 0 where
+pub record HasPart (files : List PackageFile) (place : ℕ) (part : Part) : Type 0 where
   pub declared : Declared
-  pub item : HasItem names place declared
+  pub item : HasItem files place declared
   pub among : Contains (declared_parts declared) part
 
 -- this is a path of such an item that wants an interface
-pub record HasPath (names : FileNames) (place : ℕ) (path : UsePath) : Type 0 where
+pub record HasPath (files : List PackageFile) (place : ℕ) (path : UsePath) : Type 0 where
   pub declared : Declared
-  pub item : HasItem names place declared
+  pub item : HasItem files place declared
   pub among : Contains (flat_map use_path (declared_parts declared)) path
 
--- these are the names of files, and this is the file at a place among those
-pub record IsNamedAt (names : FileNames) (place : ℕ) (file : PackageFile) : Type 0 where
-  pub files : List PackageFile
-  pub are : AreNamesAt files names place file
+-- this is an item that the file at its place declares
+pub record IsFiled (files : List PackageFile) (i : Held) : Type 0 where
+  pub file : slice_get files i.place ≡ Some i.file.now
+  pub among : Contains (all_items files) (item_behind i)
 
--- each of these is an item that the file at its place declares
-pub record AreFiled (files : List PackageFile) (names : FileNames) (items : List Held) : Type 0 where
-  pub each : (k : ℕ) (i : Held) → slice_get items k ≡ Some i → IsDeclaredIn files names i.place i.file.now (declared_behind i.declared)
-
-pub record HasFiles (names : FileNames) (items : List Held) : Type 0 where
-  pub files : List PackageFile
-  pub filed : AreFiled files names items
+-- each of these is one
+pub record AreFiled (files : List PackageFile) (items : List Held) : Type 0 where
+  pub each : (k : ℕ) (i : Held) → slice_get items k ≡ Some i → IsFiled files i
 
 -- the place of a declared item that is found, and that of one of another package
 abbrev pub item_place : Option Found → Option ℕ
@@ -125,12 +102,12 @@ other_place (Some (ItemAt p)) = None
 other_place (Some (ForeignAt p)) = Some p
 
 -- these are the entries of other packages' items
-abbrev pub AreEntriesOf : FileNames → List AstItem → Type 0
-AreEntriesOf names entries = (files : List PackageFile) → AreNamesOf files names → entries ≡ map (foreign_entry files) (foreign_items files)
+abbrev pub AreEntriesOf : List PackageFile → List AstItem → Type 0
+AreEntriesOf files entries = entries ≡ map (foreign_entry files) (foreign_items files)
 
 -- the addresses of other packages' worlds
-abbrev pub others_of : FileNames → List Address
-others_of names = map visited (filter is_foreign_world (map foreign_behind names.foreign.items.items))
+abbrev pub others_of : List PackageFile → List Address
+others_of files = map visited (foreign_worlds files)
 
 -- the entry of the item of another package that stands where a path leads
 abbrev pub entry_at : List PackageFile → Target → Option AstItem

@@ -3,3 +3,4 @@ pub mod Items
 pub mod Inside
 pub mod Front
 pub mod Told
+pub mod Interfaces

@@ -1,13 +1,13 @@
 //! The names of the interfaces that are written in a world.
-ghost use Rattle.std.specs.Prelude.{◌≡◌, All, List, map, IfOk, IfErr, OnOk};
+ghost use Rattle.std.specs.Prelude.{◌≡◌, All, map, IfOk, IfErr, OnOk};
 ghost use Rattle.std.specs.List.{flat_map};
 ghost use Rattle.std.specs.Option.{option_copied, option_to_list};
-ghost use Rattle.wit_tree.specs.declared.tree.PackageFile.{PackageFile as TheFile};
-ghost use Rattle.wit_syntax.specs.Source.{TheWorld, world_part as the_world_part, top_names};
+ghost use Rattle.wit_syntax.specs.Source.{TheWorld, world_part as the_world_part};
 ghost use Rattle.wit_syntax.specs.Sides.{items_on, part_items};
 ghost use Rattle.wit_syntax.specs.Foreign.{visited, foreign_interfaces};
 ghost use Rattle.wit_syntax.specs.Broken.{Refused};
-ghost use Rattle.wit_items.specs.Items.{AreNamesAt, HasItem, AreEntriesOf, AreSound, IsUnsoundAmong};
+ghost use Rattle.wit_files.specs.FileNames.{top_at};
+ghost use Rattle.wit_items.specs.Items.{HasItem, AreEntriesOf, AreSound, IsUnsoundAmong};
 ghost use Rattle.wit_items.specs.Inside.{inline_names, kind_items, side_uses, written_items};
 ghost use Rattle.wit_scopes.specs.Held.{name_behind};
 ghost use Rattle.wit_scopes.specs.Front.{AreNamesPlaced};
@@ -60,10 +60,10 @@ pub(crate) fn names_inside<'f, 'a>(
 ) -> ParseResult<Vec<Vec<ScopeName<'f, 'a>>>>
     requires item { HasItem files.now place (TheWorld world.now) }
     requires entries { AreEntriesOf files.now entries.now }
-    ensures names { IfOk result (λ inside. (fs : List TheFile) (file : TheFile) → AreNamesAt fs files.now place file → map (λ ns. map name_behind ns.items) inside.items ≡ flat_map (inline_names (top_names file)) (items_on side (flat_map part_items (map the_world_part world.now.items.items)))) }
-    ensures placed { IfOk result (λ inside. (fs : List TheFile) (file : TheFile) → AreNamesAt fs files.now place file → All (λ ns. AreNamesPlaced (map visited (foreign_interfaces fs)) ns.items) inside.items) }
-    ensures sound { OnOk result ((fs : List TheFile) (file : TheFile) → AreNamesAt fs files.now place file → AreSound fs (top_names file) (flat_map (side_uses side) (map the_world_part world.now.items.items))) }
-    ensures refused { IfErr result (λ e. (fs : List TheFile) (file : TheFile) → AreNamesAt fs files.now place file → Refused (IsUnsoundAmong fs (top_names file) (flat_map (side_uses side) (map the_world_part world.now.items.items))) e) }
+    ensures names { IfOk result (λ inside. map (λ ns. map name_behind ns.items) inside.items ≡ flat_map (inline_names (top_at files.now place)) (items_on side (flat_map part_items (map the_world_part world.now.items.items)))) }
+    ensures placed { IfOk result (λ inside. All (λ ns. AreNamesPlaced (map visited (foreign_interfaces files.now)) ns.items) inside.items) }
+    ensures sound { OnOk result (AreSound files.now (top_at files.now place) (flat_map (side_uses side) (map the_world_part world.now.items.items))) }
+    ensures refused { IfErr result (Refused (IsUnsoundAmong files.now (top_at files.now place) (flat_map (side_uses side) (map the_world_part world.now.items.items)))) }
 {
     let mut inside = Vec::new(alloc);
     for part in world_items(world) {

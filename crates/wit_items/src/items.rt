@@ -1,13 +1,11 @@
 //! The declared items of all files, each with the names of its scope.
-ghost use Rattle.std.specs.Prelude.{◌≡◌, ◌++◌, List, map, IfOk, IfErr, OnOk};
-ghost use Rattle.wit_tree.specs.declared.tree.PackageFile.{PackageFile as TheFile};
+ghost use Rattle.std.specs.Prelude.{◌≡◌, ◌++◌, Some, map, slice_get, IfOk, IfErr, OnOk};
 ghost use Rattle.wit_tree.specs.declared.tree.WorldSide.{WorldSide as TheSide};
 ghost use Rattle.wit_syntax.specs.Source.{scope_names, file_items, all_items};
 ghost use Rattle.wit_syntax.specs.Foreign.{visited, foreign_interfaces};
 ghost use Rattle.wit_syntax.specs.Broken.{IsBroken, Refused};
-ghost use Rattle.wit_files.specs.FileNames.{AreNamesOf};
 ghost use Rattle.wit_scopes.specs.Held.{name_behind};
-ghost use Rattle.wit_items.specs.Items.{item_behind, names_behind, scope_item, AreNamesAt, IsNamedAt, AreFiled, AreEntriesOf, HaveSoundUses, HasUnsoundUse};
+ghost use Rattle.wit_items.specs.Items.{item_behind, names_behind, scope_item, AreFiled, AreEntriesOf, HaveSoundUses, HasUnsoundUse};
 ghost use Rattle.wit_items.specs.Inside.{inside_behind, names_written};
 ghost use Rattle.wit_items.specs.Front.{AreItemsPlaced};
 
@@ -96,15 +94,15 @@ fn add_items<'f, 'a>(
     items: &mut Vec<Item<'f, 'a>>,
     place: usize,
 ) -> ParseResult<()>
-    requires named { IsNamedAt files.now place file.now }
+    requires file { slice_get files.now place ≡ Some file.now }
     requires entries { AreEntriesOf files.now entries.now }
     ensures items { OnOk result (map item_behind items.new.items ≡ map item_behind items.old.items ++ file_items file.now) }
     ensures names { OnOk result (map names_behind items.new.items ≡ map names_behind items.old.items ++ map scope_names (file_items file.now)) }
     ensures inside { OnOk result ((side : TheSide) → map (inside_behind side) items.new.items ≡ map (inside_behind side) items.old.items ++ map (names_written side) (file_items file.now)) }
-    ensures filed { OnOk result ((fs : List TheFile) → AreNamesAt fs files.now place file.now → AreFiled fs files.now items.old.items → AreFiled fs files.now items.new.items) }
-    ensures placed { OnOk result ((fs : List TheFile) → AreNamesAt fs files.now place file.now → AreItemsPlaced (map visited (foreign_interfaces fs)) items.old.items → AreItemsPlaced (map visited (foreign_interfaces fs)) items.new.items) }
-    ensures sound { OnOk result ((fs : List TheFile) → AreNamesAt fs files.now place file.now → HaveSoundUses fs (file_items file.now)) }
-    ensures refused { IfErr result (λ e. (fs : List TheFile) → AreNamesAt fs files.now place file.now → Refused (HasUnsoundUse fs (file_items file.now)) e) }
+    ensures filed { OnOk result (AreFiled files.now items.old.items → AreFiled files.now items.new.items) }
+    ensures placed { OnOk result (AreItemsPlaced (map visited (foreign_interfaces files.now)) items.old.items → AreItemsPlaced (map visited (foreign_interfaces files.now)) items.new.items) }
+    ensures sound { OnOk result (HaveSoundUses files.now (file_items file.now)) }
+    ensures refused { IfErr result (Refused (HasUnsoundUse files.now (file_items file.now))) }
 {
     let declared = declarations(file);
     for item in declared {
@@ -142,15 +140,15 @@ pub fn declared_items<'f, 'a>(
     names: &FileNames<'f, 'a>,
     entries: &[Entry],
 ) -> ParseResult<Vec<Item<'f, 'a>>>
-    requires named { AreNamesOf files.now names.now }
+    requires files { names.now ≡ files.now }
     requires entries { AreEntriesOf names.now entries.now }
-    ensures items { IfOk result (λ items. map item_behind items.items ≡ all_items files.now) }
-    ensures names { IfOk result (λ items. map names_behind items.items ≡ map scope_names (all_items files.now)) }
-    ensures inside { IfOk result (λ items. (side : TheSide) → map (inside_behind side) items.items ≡ map (names_written side) (all_items files.now)) }
-    ensures filed { IfOk result (λ items. AreFiled files.now names.now items.items) }
-    ensures placed { IfOk result (λ items. AreItemsPlaced (map visited (foreign_interfaces files.now)) items.items) }
-    ensures sound { OnOk result (HaveSoundUses files.now (all_items files.now)) }
-    ensures refused { IfErr result (Refused (IsBroken files.now)) }
+    ensures items { IfOk result (λ items. map item_behind items.items ≡ all_items names.now) }
+    ensures names { IfOk result (λ items. map names_behind items.items ≡ map scope_names (all_items names.now)) }
+    ensures inside { IfOk result (λ items. (side : TheSide) → map (inside_behind side) items.items ≡ map (names_written side) (all_items names.now)) }
+    ensures filed { IfOk result (λ items. AreFiled names.now items.items) }
+    ensures placed { IfOk result (λ items. AreItemsPlaced (map visited (foreign_interfaces names.now)) items.items) }
+    ensures sound { OnOk result (HaveSoundUses names.now (all_items names.now)) }
+    ensures refused { IfErr result (Refused (IsBroken names.now)) }
 {
     let mut items = Vec::with_capacity(alloc, names.item_order().len())?;
     for (place, file) in files.iter().enumerate() {

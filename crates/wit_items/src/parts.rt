@@ -1,14 +1,14 @@
 //! The names that the parts of an item bring.
-ghost use Rattle.std.specs.Prelude.{◌≡◌, ◌++◌, List, Contains, map, IfOk, IfErr, OnOk};
+ghost use Rattle.std.specs.Prelude.{◌≡◌, ◌++◌, Contains, map, IfOk, IfErr, OnOk};
 ghost use Rattle.std.specs.List.{flat_map};
-ghost use Rattle.wit_tree.specs.declared.tree.PackageFile.{PackageFile as TheFile};
 ghost use Rattle.wit_tree.specs.declared.tree.Use.{Use as TheUse};
 ghost use Rattle.wit_syntax.specs.Crossing.{item_uses};
-ghost use Rattle.wit_syntax.specs.Source.{TheWorld, interface_part as the_interface_part, world_part as the_world_part, part_names, top_names, path_scope};
+ghost use Rattle.wit_syntax.specs.Source.{TheWorld, interface_part as the_interface_part, world_part as the_world_part, part_names, path_scope};
 ghost use Rattle.wit_syntax.specs.Foreign.{visited, foreign_interfaces};
 ghost use Rattle.wit_syntax.specs.Broken.{Refused};
+ghost use Rattle.wit_files.specs.FileNames.{top_at};
 ghost use Rattle.wit_scopes.specs.Held.{source_behind, name_behind, IsPlaced};
-ghost use Rattle.wit_items.specs.Items.{part_behind, own_uses, AreNamesAt, HasItem, HasPath, AreEntriesOf, IsSound, IsUnsound, AreSound, IsUnsoundAmong};
+ghost use Rattle.wit_items.specs.Items.{part_behind, own_uses, HasItem, HasPath, AreEntriesOf, IsSound, IsUnsound, AreSound, IsUnsoundAmong};
 ghost use Rattle.wit_scopes.specs.Front.{AreNamesPlaced};
 
 use crate::reached::path_source;
@@ -65,10 +65,10 @@ fn sound_source<'f, 'a>(
 ) -> ParseResult<Source<'f, 'a>>
     requires path { HasPath files.now place used.now.from }
     requires entries { AreEntriesOf files.now entries.now }
-    ensures source { IfOk result (λ source. (fs : List TheFile) (file : TheFile) → AreNamesAt fs files.now place file → source_behind source ≡ path_scope (top_names file) used.now.from) }
-    ensures placed { IfOk result (λ source. (fs : List TheFile) (file : TheFile) → AreNamesAt fs files.now place file → IsPlaced (map visited (foreign_interfaces fs)) source) }
-    ensures sound { OnOk result ((fs : List TheFile) (file : TheFile) → AreNamesAt fs files.now place file → IsSound fs (top_names file) used.now) }
-    ensures refused { IfErr result (λ e. (fs : List TheFile) (file : TheFile) → AreNamesAt fs files.now place file → Refused (IsUnsound fs (top_names file) used.now) e) }
+    ensures source { IfOk result (λ source. source_behind source ≡ path_scope (top_at files.now place) used.now.from) }
+    ensures placed { IfOk result (λ source. IsPlaced (map visited (foreign_interfaces files.now)) source) }
+    ensures sound { OnOk result (IsSound files.now (top_at files.now place) used.now) }
+    ensures refused { IfErr result (Refused (IsUnsound files.now (top_at files.now place) used.now)) }
 {
     check_notes(alloc, &used.attributes)?;
     let source = path_source(alloc, files, entries, place, &used.from)?;
@@ -86,10 +86,10 @@ fn add_part<'f, 'a>(
 ) -> ParseResult<()>
     requires paths { (u : TheUse) → Contains (own_uses (part_behind part)) u → HasPath files.now place u.from }
     requires entries { AreEntriesOf files.now entries.now }
-    ensures names { OnOk result ((fs : List TheFile) (file : TheFile) → AreNamesAt fs files.now place file → map name_behind names.new.items ≡ map name_behind names.old.items ++ part_names (top_names file) (part_behind part.entry)) }
-    ensures placed { OnOk result ((fs : List TheFile) (file : TheFile) → AreNamesAt fs files.now place file → AreNamesPlaced (map visited (foreign_interfaces fs)) names.old.items → AreNamesPlaced (map visited (foreign_interfaces fs)) names.new.items) }
-    ensures sound { OnOk result ((fs : List TheFile) (file : TheFile) → AreNamesAt fs files.now place file → AreSound fs (top_names file) (own_uses (part_behind part.entry))) }
-    ensures refused { IfErr result (λ e. (fs : List TheFile) (file : TheFile) → AreNamesAt fs files.now place file → Refused (IsUnsoundAmong fs (top_names file) (own_uses (part_behind part.entry))) e) }
+    ensures names { OnOk result (map name_behind names.new.items ≡ map name_behind names.old.items ++ part_names (top_at files.now place) (part_behind part.entry)) }
+    ensures placed { OnOk result (AreNamesPlaced (map visited (foreign_interfaces files.now)) names.old.items → AreNamesPlaced (map visited (foreign_interfaces files.now)) names.new.items) }
+    ensures sound { OnOk result (AreSound files.now (top_at files.now place) (own_uses (part_behind part.entry))) }
+    ensures refused { IfErr result (Refused (IsUnsoundAmong files.now (top_at files.now place) (own_uses (part_behind part.entry)))) }
 {
     match part {
         Part::Defining(definition) => {
@@ -116,10 +116,10 @@ pub(crate) fn interface_names<'f, 'a>(
 ) -> ParseResult<Vec<ScopeName<'f, 'a>>>
     requires paths { (u : TheUse) → Contains (flat_map item_uses items.now) u → HasPath files.now place u.from }
     requires entries { AreEntriesOf files.now entries.now }
-    ensures names { IfOk result (λ names. (fs : List TheFile) (file : TheFile) → AreNamesAt fs files.now place file → map name_behind names.items ≡ flat_map (part_names (top_names file)) (map the_interface_part items.now)) }
-    ensures placed { IfOk result (λ names. (fs : List TheFile) (file : TheFile) → AreNamesAt fs files.now place file → AreNamesPlaced (map visited (foreign_interfaces fs)) names.items) }
-    ensures sound { OnOk result ((fs : List TheFile) (file : TheFile) → AreNamesAt fs files.now place file → AreSound fs (top_names file) (flat_map item_uses items.now)) }
-    ensures refused { IfErr result (λ e. (fs : List TheFile) (file : TheFile) → AreNamesAt fs files.now place file → Refused (IsUnsoundAmong fs (top_names file) (flat_map item_uses items.now)) e) }
+    ensures names { IfOk result (λ names. map name_behind names.items ≡ flat_map (part_names (top_at files.now place)) (map the_interface_part items.now)) }
+    ensures placed { IfOk result (λ names. AreNamesPlaced (map visited (foreign_interfaces files.now)) names.items) }
+    ensures sound { OnOk result (AreSound files.now (top_at files.now place) (flat_map item_uses items.now)) }
+    ensures refused { IfErr result (Refused (IsUnsoundAmong files.now (top_at files.now place) (flat_map item_uses items.now))) }
 {
     let mut names = Vec::new(alloc);
     for part in items {
@@ -145,10 +145,10 @@ pub(crate) fn world_names<'f, 'a>(
 ) -> ParseResult<Vec<ScopeName<'f, 'a>>>
     requires item { HasItem files.now place (TheWorld world.now) }
     requires entries { AreEntriesOf files.now entries.now }
-    ensures names { IfOk result (λ names. (fs : List TheFile) (file : TheFile) → AreNamesAt fs files.now place file → map name_behind names.items ≡ flat_map (part_names (top_names file)) (map the_world_part world.now.items.items)) }
-    ensures placed { IfOk result (λ names. (fs : List TheFile) (file : TheFile) → AreNamesAt fs files.now place file → AreNamesPlaced (map visited (foreign_interfaces fs)) names.items) }
-    ensures sound { OnOk result ((fs : List TheFile) (file : TheFile) → AreNamesAt fs files.now place file → AreSound fs (top_names file) (flat_map own_uses (map the_world_part world.now.items.items))) }
-    ensures refused { IfErr result (λ e. (fs : List TheFile) (file : TheFile) → AreNamesAt fs files.now place file → Refused (IsUnsoundAmong fs (top_names file) (flat_map own_uses (map the_world_part world.now.items.items))) e) }
+    ensures names { IfOk result (λ names. map name_behind names.items ≡ flat_map (part_names (top_at files.now place)) (map the_world_part world.now.items.items)) }
+    ensures placed { IfOk result (λ names. AreNamesPlaced (map visited (foreign_interfaces files.now)) names.items) }
+    ensures sound { OnOk result (AreSound files.now (top_at files.now place) (flat_map own_uses (map the_world_part world.now.items.items))) }
+    ensures refused { IfErr result (Refused (IsUnsoundAmong files.now (top_at files.now place) (flat_map own_uses (map the_world_part world.now.items.items)))) }
 {
     let mut names = Vec::new(alloc);
     for part in world_items(world) {

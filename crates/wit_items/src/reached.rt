@@ -1,12 +1,12 @@
 //! What a path of an item leads to that wants an interface.
-ghost use Rattle.std.specs.Prelude.{◌≡◌, List, map, IfOk, IfErr, OnOk};
+ghost use Rattle.std.specs.Prelude.{◌≡◌, ◌<◌, length, map, IfOk, IfErr, OnOk};
 ghost use Rattle.std.specs.Option.{option_copied};
-ghost use Rattle.wit_tree.specs.declared.tree.PackageFile.{PackageFile as TheFile};
-ghost use Rattle.wit_syntax.specs.Source.{top_names, Local, leads, path_scope};
+ghost use Rattle.wit_syntax.specs.Source.{Local, leads, path_scope};
 ghost use Rattle.wit_syntax.specs.Foreign.{visited, foreign_interfaces};
 ghost use Rattle.wit_syntax.specs.Broken.{Refused};
+ghost use Rattle.wit_files.specs.FileNames.{top_at};
 ghost use Rattle.wit_scopes.specs.Held.{source_behind, IsPlaced};
-ghost use Rattle.wit_items.specs.Items.{AreNamesAt, HasFile, HasPath, AreEntriesOf, item_place as the_item_place, other_place as the_other_place, entry_at, interface_entry, IsReached, IsUsable, IsUnusable};
+ghost use Rattle.wit_items.specs.Items.{HasPath, AreEntriesOf, item_place as the_item_place, other_place as the_other_place, entry_at, interface_entry, IsReached, IsUsable, IsUnusable};
 
 use std::alloc::Global;
 use wit_files::{FileNames, Found, Target};
@@ -58,9 +58,9 @@ pub fn entry_of<'e, 'f, 'a>(
     place: usize,
     path: &'f UsePath<'a>,
 ) -> Option<&'e Entry>
-    requires named { HasFile files.now place }
+    requires within { place < length files.now }
     requires entries { AreEntriesOf files.now entries.now }
-    ensures { (fs : List TheFile) (file : TheFile) → AreNamesAt fs files.now place file → option_copied result ≡ entry_at fs (leads (top_names file) path.now) }
+    ensures { option_copied result ≡ entry_at files.now (leads (top_at files.now place) path.now) }
 {
     let found = other_place(files.lookup(place, path))?;
     entries.get(found)
@@ -84,9 +84,9 @@ fn reach_name<'f, 'a>(
     path: &'f UsePath<'a>,
     name: Id<'a>,
 ) -> Reached<'f, 'a>
-    requires named { HasFile files.now place }
-    requires local { (fs : List TheFile) (file : TheFile) → AreNamesAt fs files.now place file → leads (top_names file) path.now ≡ Local name }
-    ensures { (fs : List TheFile) (file : TheFile) → AreNamesAt fs files.now place file → IsReached fs (top_names file) path.now result }
+    requires within { place < length files.now }
+    requires local { leads (top_at files.now place) path.now ≡ Local name }
+    ensures { IsReached files.now (top_at files.now place) path.now result }
 {
     let found = match item_place(files.lookup(place, path)) {
         Some(found) => found,
@@ -108,7 +108,7 @@ pub fn reach<'f, 'a>(
 ) -> Reached<'f, 'a>
     requires path { HasPath files.now place path.now }
     requires entries { AreEntriesOf files.now entries.now }
-    ensures { (fs : List TheFile) (file : TheFile) → AreNamesAt fs files.now place file → IsReached fs (top_names file) path.now result }
+    ensures { IsReached files.now (top_at files.now place) path.now result }
 {
     match files.target(place, path) {
         Target::Local(name) => reach_name(files, place, path, name),
@@ -136,10 +136,10 @@ pub fn path_source<'f, 'a>(
 ) -> ParseResult<Source<'f, 'a>>
     requires path { HasPath files.now place path.now }
     requires entries { AreEntriesOf files.now entries.now }
-    ensures source { IfOk result (λ source. (fs : List TheFile) (file : TheFile) → AreNamesAt fs files.now place file → source_behind source ≡ path_scope (top_names file) path.now) }
-    ensures placed { IfOk result (λ source. (fs : List TheFile) (file : TheFile) → AreNamesAt fs files.now place file → IsPlaced (map visited (foreign_interfaces fs)) source) }
-    ensures usable { OnOk result ((fs : List TheFile) (file : TheFile) → AreNamesAt fs files.now place file → IsUsable fs (top_names file) path.now) }
-    ensures refused { IfErr result (λ e. (fs : List TheFile) (file : TheFile) → AreNamesAt fs files.now place file → Refused (IsUnusable fs (top_names file) path.now) e) }
+    ensures source { IfOk result (λ source. source_behind source ≡ path_scope (top_at files.now place) path.now) }
+    ensures placed { IfOk result (λ source. IsPlaced (map visited (foreign_interfaces files.now)) source) }
+    ensures usable { OnOk result (IsUsable files.now (top_at files.now place) path.now) }
+    ensures refused { IfErr result (Refused (IsUnusable files.now (top_at files.now place) path.now)) }
 {
     match reach(files, entries, place, path) {
         Reached::Interface(source) => Ok(source),

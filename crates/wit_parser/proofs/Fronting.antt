@@ -12,7 +12,6 @@ use Rattle.wit_model.specs.declared.interface.Interface.{Interface}
 use Rattle.wit_model.specs.declared.world.World.{World}
 use Rattle.wit_syntax.specs.Foreign.{ForeignVisit, visited, is_foreign_world, foreign_items, foreign_interfaces, foreign_worlds}
 use Rattle.wit_arena.specs.Whole.{foreign_place}
-use Rattle.wit_syntax.specs.Address.{Address}
 use Rattle.wit_arena.specs.Resolving.{Names, cells, IsIndex, IsWorldIndex}
 use Rattle.wit_arena.specs.Resolved.{AddsForeign, worlds_at}
 use Rattle.wit_syntax.proofs.Lists.{map_map}
@@ -20,12 +19,10 @@ use Rattle.wit_arena.proofs.Indexing.{index_front, world_index_front, worlds_at-
 use Rattle.wit_syntax.specs.Source.{all_items, scope_names}
 use Rattle.wit_arena.proofs.Visits.{visited_foreign, interfaces_differ}
 use Rattle.wit_files.specs.Foreign.{foreign_behind}
-use Rattle.wit_files.specs.FileNames.{AreNamesOf}
-use Rattle.wit_files.specs.declared.file_names.FileNames.{FileNames}
 use Rattle.wit_files.specs.declared.foreign.ForeignVisit.{ForeignVisit as Held}
 use Rattle.wit_front.specs.declared.foreign.ForeignArenas.{ForeignArenas}
 use Rattle.wit_items.specs.declared.items.Item.{Item as HeldItem}
-use Rattle.wit_item_entries.specs.Held.{front_of}
+use Rattle.wit_items.specs.Interfaces.{front_of}
 use Rattle.wit_items.specs.Items.{others_of, names_behind}
 use Rattle.wit_items.specs.Inside.{inside_behind, names_written}
 use Rattle.wit_items.specs.Front.{AreItemsPlaced}
@@ -34,10 +31,6 @@ use Rattle.wit_front.specs.Front.{addresses_among, IsTaken, HasTaken, IsFront}
 -- the addresses of the interfaces that are held
 pub front_visits : (files : List PackageFile) (vs : List Held) → map foreign_behind vs ≡ foreign_interfaces files → front_of vs ≡ map visited (foreign_interfaces files)
 front_visits files vs h = sym (map_map visited foreign_behind vs) ∙ ap (map visited) h
-
--- and of the worlds
-pub others_names : (files : List PackageFile) (names : FileNames) → AreNamesOf files names → others_of names ≡ map visited (foreign_worlds files)
-others_names files names are = ap (λ (l : List ForeignVisit). map visited (filter is_foreign_world l)) are.foreign.items
 
 abbrev entry_by : List ForeignVisit → ForeignVisit → AstItem
 entry_by vs v = if v.wants_world then entry.World (foreign_place (filter is_foreign_world vs) v) else entry.Interface (foreign_place (filter (λ u. not (is_foreign_world u)) vs) v)
@@ -97,9 +90,9 @@ module _ (files : List PackageFile) (types : List TypeDef) (a : ForeignArenas) (
   pub lent_index : (by_name : Names) → by_name ≡ [] → IsIndex (cells (front_of vs) a.interfaces) by_name
   lent_index by_name none = subst (IsIndex (cells (front_of vs) a.interfaces)) (sym none) (subst (λ ss. IsIndex (cells ss a.interfaces) []) (sym lent_front) (front_index files types a.interfaces a.worlds front.adds))
 
-module _ (files : List PackageFile) (types : List TypeDef) (a : ForeignArenas) (front : IsFront files types a) (names : FileNames) (are : AreNamesOf files names) where
-  pub worlds_enough : length (others_of names) ≤ length a.worlds
-  worlds_enough = subst (λ (ss : List Address). length ss ≤ length a.worlds) (sym (others_names files names are)) (others_enough files types a.interfaces a.worlds front.adds)
+module _ (files : List PackageFile) (types : List TypeDef) (a : ForeignArenas) (front : IsFront files types a) where
+  pub worlds_enough : length (others_of files) ≤ length a.worlds
+  worlds_enough = others_enough files types a.interfaces a.worlds front.adds
 
-  pub worlds_index : (by_name : Names) → by_name ≡ [] → IsWorldIndex (worlds_at (others_of names) a.worlds) by_name
-  worlds_index by_name none = subst (IsWorldIndex (worlds_at (others_of names) a.worlds)) (sym none) (subst (λ ss. IsWorldIndex (worlds_at ss a.worlds) []) (sym (others_names files names are)) (front_worlds_index files types a.interfaces a.worlds front.adds))
+  pub worlds_index : (by_name : Names) → by_name ≡ [] → IsWorldIndex (worlds_at (others_of files) a.worlds) by_name
+  worlds_index by_name none = subst (IsWorldIndex (worlds_at (others_of files) a.worlds)) (sym none) (front_worlds_index files types a.interfaces a.worlds front.adds)

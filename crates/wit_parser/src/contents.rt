@@ -1,13 +1,9 @@
 //! What the files of a package make: its arenas, and what it names of other packages.
-ghost use Rattle.std.specs.Prelude.{◌≡◌, List, [], map, IfOk, IfErr};
+ghost use Rattle.std.specs.Prelude.{◌≡◌, [], map, IfOk, IfErr};
 ghost use Rattle.wit_syntax.specs.Fault.{Fault};
-ghost use Rattle.wit_order.specs.Table.{IsOrder};
 ghost use Rattle.wit_syntax.specs.Source.{first_takings};
-ghost use Rattle.wit_syntax.specs.Scope.{item_rows};
-ghost use Rattle.wit_files.specs.FileNames.{AreNamesOf};
 ghost use Rattle.wit_syntax.specs.Broken.{IsBrokenNames, IsBroken, Refused};
 ghost use Rattle.wit_parser.specs.Between.{AddsFiles, MakeContents};
-ghost use Rattle.wit_tree.specs.declared.tree.PackageFile.{PackageFile as TheFile};
 ghost use Rattle.wit_syntax.specs.Foreign.{foreign_packages};
 ghost use Rattle.wit_arena.specs.Whole.{dep};
 
@@ -18,14 +14,15 @@ use wit_files::FileNames;
 use wit_foreign::foreign_deps;
 use wit_front::foreign::ForeignArenas;
 use wit_interfaces::declared::resolve_interfaces;
-use wit_item_entries::uses::Interfaces;
+use wit_items::interfaces::Interfaces;
 use wit_items::items::{Item, declared_items};
+use wit_links::includes::Worlds;
 use wit_model::{ForeignItems, Interface, World};
 use wit_tree::tree::PackageFile;
 use wit_tree::{ParseResult, Span};
 use wit_types::{Arena, InterfacePlace, TypeDef, TypePlace, WorldPlace};
 use wit_values::{Row, TextTable, beside};
-use wit_worlds::world::{Worlds, resolve_worlds};
+use wit_worlds::world::resolve_worlds;
 
 /// The interfaces and the worlds of files, where types of other packages are first used, and which of
 /// these have to be resources.
@@ -45,13 +42,13 @@ fn resolve_files<'f, 'a>(
     files: &'f [PackageFile<'a>],
 ) -> ParseResult<Resolved>
     requires empty { types.old ≡ [] }
-    requires names { AreNamesOf files.now names.now }
-    requires order { IsOrder (item_rows files.now) names.now.order.items }
-    requires legal { (f : Fault) → IsBrokenNames files.now f → ⊥ }
-    ensures added { IfOk result (λ r. AddsFiles files.now types.new r.interfaces r.worlds r.required.items) }
-    ensures unknown { IfOk result (λ r. r.unknown_type_spans.items ≡ map (λ t. t.id.span) (first_takings files.now)) }
-    ensures refused { IfErr result (Refused (IsBroken files.now)) }
+    requires files { names.now ≡ files.now }
+    requires legal { (f : Fault) → IsBrokenNames names.now f → ⊥ }
+    ensures added { IfOk result (λ r. AddsFiles names.now types.new r.interfaces r.worlds r.required.items) }
+    ensures unknown { IfOk result (λ r. r.unknown_type_spans.items ≡ map (λ t. t.id.span) (first_takings names.now)) }
+    ensures refused { IfErr result (Refused (IsBroken names.now)) }
 {
+    let order = names.item_order();
     let mut front = ForeignArenas::of_items(alloc, names.foreign())?;
     let mut items = declared_items(alloc, files, names, &front.entries)?;
     let lent: &mut [Item<'_, '_>] = &mut items;
@@ -69,14 +66,7 @@ fn resolve_files<'f, 'a>(
         by_name: TextTable::new(alloc),
     };
     let mut required = Vec::new(alloc);
-    resolve_interfaces(
-        alloc,
-        types,
-        &mut required,
-        &mut interfaces,
-        lent,
-        names.item_order(),
-    )?;
+    resolve_interfaces(alloc, types, &mut required, &mut interfaces, lent, order)?;
     let mut worlds = Worlds {
         entries: &entries,
         arena: worlds,
@@ -92,6 +82,7 @@ fn resolve_files<'f, 'a>(
         &mut inside,
         &mut worlds,
         lent,
+        order,
     )?;
     interfaces.arena.append(&mut inside)?;
     Ok(Resolved {
@@ -110,8 +101,8 @@ fn foreign_items(
     unknown_type_spans: Vec<Span>,
     required: Vec<Required>,
 ) -> Result<ForeignItems, AllocError>
-    ensures deps { IfOk result (λ foreign. (files : List TheFile) → AreNamesOf files names.now → foreign.deps ≡ map (dep files) (foreign_packages files)) }
-    ensures spans { IfOk result (λ foreign. (files : List TheFile) → AreNamesOf files names.now → foreign.dep_spans ≡ map (λ v. v.of.span) (foreign_packages files)) }
+    ensures deps { IfOk result (λ foreign. foreign.deps ≡ map (dep names.now) (foreign_packages names.now)) }
+    ensures spans { IfOk result (λ foreign. foreign.dep_spans ≡ map (λ v. v.of.span) (foreign_packages names.now)) }
     ensures unknown { IfOk result (λ foreign. foreign.unknown_type_spans ≡ unknown_type_spans.items) }
     ensures required { IfOk result (λ foreign. foreign.required_resource_types ≡ required.items) }
 {
@@ -145,11 +136,10 @@ pub(crate) fn resolve_contents<'f, 'a>(
     names: &FileNames<'f, 'a>,
     files: &'f [PackageFile<'a>],
 ) -> ParseResult<Contents>
-    requires names { AreNamesOf files.now names.now }
-    requires order { IsOrder (item_rows files.now) names.now.order.items }
-    requires legal { (f : Fault) → IsBrokenNames files.now f → ⊥ }
-    ensures made { IfOk result (λ c. MakeContents files.now c.arenas.types c.arenas.interfaces c.arenas.worlds c.foreign) }
-    ensures refused { IfErr result (Refused (IsBroken files.now)) }
+    requires files { names.now ≡ files.now }
+    requires legal { (f : Fault) → IsBrokenNames names.now f → ⊥ }
+    ensures made { IfOk result (λ c. MakeContents names.now c.arenas.types c.arenas.interfaces c.arenas.worlds c.foreign) }
+    ensures refused { IfErr result (Refused (IsBroken names.now)) }
 {
     let mut begun = Entries::new(alloc);
     let added = resolve_files(alloc, &mut begun, names, files);

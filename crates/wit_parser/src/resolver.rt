@@ -7,9 +7,6 @@ ghost use Rattle.wit_syntax.specs.Fault.{Fault};
 ghost use Rattle.wit_syntax.specs.Broken.{IsMismatch, IsBroken, IsBrokenNames, IsLegal, Refused, headers, last_header};
 ghost use Rattle.wit_items.specs.Headers.{header_at, have_docs as the_docs};
 ghost use Rattle.wit_tree.specs.Refusal.{IsWantOfMemory};
-ghost use Rattle.wit_order.specs.Table.{IsOrder};
-ghost use Rattle.wit_syntax.specs.Scope.{item_rows};
-ghost use Rattle.wit_files.specs.FileNames.{AreNamesOf};
 ghost use Rattle.wit_parser.specs.Between.{IsMade};
 ghost use Rattle.wit_parser.specs.Stray.{IsNesting, IsStray};
 ghost use Rattle.wit_types.specs.Types.{IsBackward};
@@ -101,12 +98,11 @@ fn resolve_named<'f, 'a>(
     names: &FileNames<'f, 'a>,
     files: &'f [PackageFile<'a>],
 ) -> ParseResult<UnresolvedPackage>
-    requires header { last_header files.now ≡ Some header.now }
-    requires names { AreNamesOf files.now names.now }
-    requires order { IsOrder (item_rows files.now) names.now.order.items }
-    requires legal { (f : Fault) → IsBrokenNames files.now f → ⊥ }
-    ensures made { IfOk result (IsMade files.now) }
-    ensures refused { IfErr result (Refused (IsBroken files.now)) }
+    requires header { last_header names.now ≡ Some header.now }
+    requires files { names.now ≡ files.now }
+    requires legal { (f : Fault) → IsBrokenNames names.now f → ⊥ }
+    ensures made { IfOk result (IsMade names.now) }
+    ensures refused { IfErr result (Refused (IsBroken names.now)) }
 {
     let made = resolve_contents(alloc, names, files)?;
     let (contents, heading) = beside(made, package_heading(alloc, header, files))?;

@@ -7,6 +7,7 @@ pub mod Repeated
 pub mod Kept
 pub mod Firsts
 pub mod Tables
+pub mod Inserting
 pub mod Orders
 pub mod Rows
 pub mod Turns

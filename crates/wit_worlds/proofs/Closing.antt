@@ -11,7 +11,7 @@ use Rattle.wit_syntax.specs.Sides.{SideItem, item_function, on_side, side_items}
 use Rattle.wit_syntax.specs.Signature.{IsUnpairedSetter}
 use Rattle.wit_syntax.specs.Source.{Item}
 use Rattle.wit_syntax.proofs.Legal.{functions_items}
-use Rattle.wit_worlds.specs.Settled.{none_of}
+use Rattle.wit_links.specs.Settled.{none_of}
 
 pub none_is : (is : List Include) → none_of is ≡ true → is ≡ []
 none_is [] h = refl

@@ -5,9 +5,9 @@ use Rattle.wit_tree.specs.declared.tree.WorldSide.{WorldSide}
 use Rattle.wit_tree.specs.declared.tree.WorldSide.TheVariants.{Imported, Exported}
 use Rattle.wit_syntax.specs.Crossing.{same_side}
 use Rattle.wit_syntax.specs.Sides.{SideItem, SideFunction, SideLink, SideInline, is_interface, item_inline, item_side, items_on}
-use Rattle.wit_worlds.specs.declared.inside.Counts.{Counts}
-use Rattle.wit_worlds.specs.declared.inside.Met.{Met}
-use Rattle.wit_worlds.specs.Inside.{IsMet, counted, met_on}
+use Rattle.wit_links.specs.declared.inside.Counts.{Counts}
+use Rattle.wit_links.specs.declared.inside.Met.{Met}
+use Rattle.wit_links.specs.Inside.{IsMet, counted, met_on}
 
 -- nothing was met at first
 pub met_none : (m : Met) → m.imports ≡ counted [] → m.exports ≡ counted [] → IsMet [] m

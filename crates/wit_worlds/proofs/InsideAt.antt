@@ -15,7 +15,7 @@ use Rattle.wit_externs.specs.Held.{externs_behind}
 use Rattle.wit_externs.proofs.HeldAt.{behind_at}
 use Rattle.wit_externs.proofs.Steps.{at_middle, split_at}
 use Rattle.wit_worlds.specs.Standing.{IsInside}
-use Rattle.wit_worlds.proofs.Inlined.{head_same}
+use Rattle.wit_links.proofs.Inlined.{head_same}
 
 -- an interface that is written at a place is one of those of the item, behind as many as are written before it
 pub inline_here : (w : Item) (p : ℕ) (x : Extern) (name : Id) (items : List InterfaceItem) → slice_get (side_items w) p ≡ Some (SideInline x name items) → slice_get (inline_items w) (length (flat_map item_inline (take p (side_items w)))) ≡ Some (inlined w (length (interfaces_on x.side (take p (side_items w)))) x name items)

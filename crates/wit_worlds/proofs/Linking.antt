@@ -32,7 +32,7 @@ use Rattle.wit_externs.specs.declared.held.HeldLink.{HeldLink}
 use Rattle.wit_externs.specs.declared.held.HeldExtern.{HeldExtern}
 use Rattle.wit_externs.specs.declared.held.HeldExtern.TheVariants as held
 use Rattle.wit_item_entries.specs.Body.{IsLinkLost, LostAtWorld, LostAtNothing}
-use Rattle.wit_worlds.specs.Links.{AreLed, IsLed, IsLostAt}
+use Rattle.wit_links.specs.Links.{AreLed, IsLed, IsLostAt}
 
 -- a function among parts is no link
 no_link : (fns : List SourceFunction) (k : ℕ) (link : Link) → slice_get (map SideFunction fns) k ≡ Some (SideLink link) → ⊥

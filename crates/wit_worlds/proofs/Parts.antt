@@ -20,11 +20,12 @@ use Rattle.wit_syntax.specs.Fault.{Fault}
 use Rattle.wit_syntax.specs.Function.{functions}
 use Rattle.wit_syntax.specs.Scope.{in_turn, includes}
 use Rattle.wit_syntax.specs.Sides.{IsBrokenSides, SideItem, inline_items, item_inline, side_items}
-use Rattle.wit_syntax.specs.Source.{Item, ScopeName, address, item_id, item_notes, local_id, scope_names}
+use Rattle.wit_syntax.specs.Notes.{IsBrokenStability}
+use Rattle.wit_syntax.specs.Source.{Item, ScopeName, address, declared_attributes, item_id, item_notes, local_id, scope_names}
 use Rattle.wit_syntax.proofs.Inline.{length-inline_behind}
 use Rattle.wit_syntax.proofs.Lists.{at_back}
 use Rattle.wit_arena.specs.Resolving.{Cell, Names, Required, cells}
-use Rattle.wit_arena.specs.Resolved.{AddsSides, AddsWorld, AreLegalSides, AreSoundScopes, IsNameless, interfaces_at, worlds_at}
+use Rattle.wit_arena.specs.Resolved.{AddsSides, AddsWorld, AreLegalSides, AreSoundScopes, IsBrokenItemStability, IsNameless, OfInclude, OwnStability, interfaces_at, worlds_at}
 use Rattle.wit_arena.specs.SideItems.{AreSideItems, settled}
 use Rattle.wit_arena.specs.Whole.{AreIncludes, type_imports}
 use Rattle.wit_externs.specs.Held.{externs_behind}
@@ -36,12 +37,13 @@ use Rattle.wit_item_entries.specs.Body.{IsWrongBody}
 use Rattle.wit_item_entries.proofs.Telling.{world_told}
 use Rattle.wit_worlds.specs.declared.world.WorldParts.{WorldParts}
 use Rattle.wit_worlds.specs.Between.{AreWorldParts, IsAddedWorld, arenas}
-use Rattle.wit_worlds.specs.Settled.{none_of}
-use Rattle.wit_worlds.specs.Sides.{entries_on}
+use Rattle.wit_links.specs.Includes.{AreStable}
+use Rattle.wit_links.specs.Settled.{none_of}
+use Rattle.wit_links.specs.Sides.{entries_on}
 use Rattle.wit_worlds.specs.Standing.{AreConsecutive}
-use Rattle.wit_worlds.proofs.Leading.{links_wider}
-use Rattle.wit_worlds.proofs.SideKeys.{AreMade}
-use Rattle.wit_worlds.proofs.SideEntries.{AreAt, at_from, entries_are}
+use Rattle.wit_links.proofs.Leading.{links_wider}
+use Rattle.wit_links.proofs.SideKeys.{AreMade}
+use Rattle.wit_links.proofs.SideEntries.{AreAt, at_from, entries_are}
 
 -- an element is the first, or one of those behind it
 at_cons : {X : Type 0} (x : X) (xs : List X) (k : ℕ) (y : X) → slice_get (x ∷ xs) k ≡ Some y → (x ≡ y) ⊎ ((j : ℕ) × (slice_get xs j ≡ Some y))
@@ -146,3 +148,8 @@ turn_item old mid cs o p i j types ids rs whose same h = subst (λ (x : TypeOwne
 
 pub body_item : (old : List TypeDef) (cs : List Cell) (by_name : Names) (o p : TypeOwner) (i j : Item) (e : ParseError) → o ≡ p → i ≡ j → Refused (IsWrongBody old cs by_name o i) e → Refused (IsWrongBody old cs by_name p j) e
 body_item old cs by_name o p i j e whose same h = subst (λ (x : TypeOwner). Refused (IsWrongBody old cs by_name x j) e) whose (subst (λ (x : Item). Refused (IsWrongBody old cs by_name o x) e) same h)
+
+-- nothing is wrong with the stability of a world, where nothing is with its own attributes nor with its includes
+pub world_stable : (w : Item) → ((f : Fault) → IsBrokenStability (declared_attributes w.declared) f → ⊥) → AreStable (includes w) → (f : Fault) → IsBrokenItemStability w f → ⊥
+world_stable w own stable f (OwnStability h) = own f h
+world_stable w own stable f (OfInclude i among h) = stable.each i among f h

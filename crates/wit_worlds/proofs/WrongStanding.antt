@@ -18,7 +18,7 @@ use Rattle.wit_item_entries.specs.Between.{AddsTurn}
 use Rattle.wit_item_entries.specs.Body.{IsStandingBy}
 use Rattle.wit_item_entries.proofs.ScopeFunctions.{turn_added, wrong_among, wrong_function}
 use Rattle.wit_item_entries.proofs.WrongNames.{wrong_world}
-use Rattle.wit_worlds.specs.Links.{AreLed}
+use Rattle.wit_links.specs.Links.{AreLed}
 use Rattle.wit_worlds.specs.Standing.{IsWrongStanding, StandingExtern, StandingFunction, StandingInside, StandingNames, StandingSetter}
 use Rattle.wit_worlds.proofs.Linking.{lost_link}
 

@@ -1,7 +1,6 @@
--- What the resolver's functions tell one another: orders that were found, names that stand twice, and what was resolved so far.
+-- What a world adds to the arenas, part by part, and which world is wrong.
 use Rattle.std.specs.Prelude.{◌≡◌, ℕ, ◌+◌, true, List, [], ◌∷◌, ◌++◌, length, map, take}
 use Rattle.wit_tree.specs.declared.tree.Id.{Id}
-use Rattle.wit_tree.specs.declared.tree.Include.{Include}
 use Rattle.wit_tree.specs.declared.tree.PackageFile.{PackageFile}
 use Rattle.wit_types.specs.declared.types.TypeDef.{TypeDef}
 use Rattle.wit_types.specs.declared.types.TypeOwner.TheVariants as owner
@@ -13,10 +12,10 @@ use Rattle.wit_model.specs.declared.world.WorldInclude.{WorldInclude}
 use Rattle.wit_model.specs.declared.world.WorldKey.{WorldKey}
 use Rattle.wit_model.specs.declared.world.WorldItem.{WorldItem}
 use Rattle.wit_syntax.specs.Address.{Address}
-use Rattle.wit_syntax.specs.Source.{address, path_id, leads, TopName, Item, is_world, item_notes, scope_names}
+use Rattle.wit_syntax.specs.Source.{address, Item, is_world, item_notes, scope_names}
 use Rattle.wit_syntax.specs.Scope.{in_order, in_turn, includes, worlds_of}
 use Rattle.wit_syntax.specs.Broken.{IsSetterAlone}
-use Rattle.wit_syntax.specs.Fault.{Fault, fault}
+use Rattle.wit_syntax.specs.Fault.{Fault}
 use Rattle.wit_syntax.specs.Function.{name_types}
 use Rattle.wit_syntax.specs.Shape.{all_handles}
 use Rattle.std.specs.List.{flat_map}
@@ -25,15 +24,10 @@ use Rattle.wit_syntax.specs.Sides.{inline_items, side_items}
 use Rattle.wit_arena.specs.Package.{IsWorld}
 use Rattle.wit_arena.specs.SideItems.{AreSideItems, settled}
 use Rattle.wit_arena.specs.Whole.{type_imports, AreIncludes}
-use Rattle.wit_arena.specs.Resolving.{Names, env_of, cells, Required, AreEnded, IsWorldIndex, IsNoWorld}
+use Rattle.wit_arena.specs.Resolving.{Names, env_of, cells, Required, AreEnded, IsWorldIndex}
 use Rattle.wit_arena.specs.Resolved.{interfaces_at, worlds_at, AddsScope, AddsSides, AddsWorlds, WorldArenas, front_worlds, IsNext, IsWrongWorld}
 use Rattle.wit_items.specs.Told.{AreOf}
 use Rattle.wit_worlds.specs.declared.world.WorldParts.{WorldParts}
-
--- an include leads to no world
-pub record IsLost (files : List PackageFile) (by_name : Names) (top : List TopName) (i : Include) (f : Fault) : Type 0 where
-  pub lost : IsNoWorld files by_name (leads top i.from)
-  pub is : f ≡ fault 11 (path_id i.from).span
 
 -- a world was added, with these notes, imports, exports and includes
 pub record IsAddedWorld (ws ws' : List World) (id : Id) (n : Notes) (imported exported : List (WorldKey × WorldItem)) (included : List WorldInclude) : Type 0 where

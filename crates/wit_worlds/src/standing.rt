@@ -13,7 +13,7 @@ ghost use Rattle.wit_syntax.specs.Scope.{includes};
 ghost use Rattle.wit_syntax.specs.Sides.{IsBrokenSides, inline_items, item_function, item_inline, items_on, side_items};
 ghost use Rattle.wit_syntax.specs.Signature.{IsBrokenFunction};
 ghost use Rattle.wit_syntax.specs.Source.{Item as TheItem, ScopeName as TheName, address, declared_attributes, declared_name as the_name, is_world, item_id, item_name, scope_names as the_names};
-ghost use Rattle.wit_arena.specs.Resolving.{IsIndex, env_of};
+ghost use Rattle.wit_arena.specs.Resolving.{IsIndex, env_of, names_in};
 ghost use Rattle.wit_arena.specs.Resolved.{AddsSides, AreLegalSides, AreSoundScopes, IsNameless, IsWrongInterface};
 ghost use Rattle.wit_entries.specs.Requiring.{IsGrown};
 ghost use Rattle.wit_sides.specs.Sides.{taken_on};
@@ -27,14 +27,12 @@ ghost use Rattle.wit_items.specs.Front.{AreItemsPlaced};
 ghost use Rattle.wit_items.specs.Inside.{inside_behind, names_written};
 ghost use Rattle.wit_items.specs.Items.{item_behind, names_behind, scope_item};
 ghost use Rattle.wit_item_entries.specs.Behind.{IsTurn};
-ghost use Rattle.wit_item_entries.specs.Between.{Emits, names_in};
-ghost use Rattle.wit_item_entries.specs.Held.{cells_of, front_of};
+ghost use Rattle.wit_item_entries.specs.Between.{Emits};
+ghost use Rattle.wit_items.specs.Interfaces.{cells_of, front_of};
 ghost use Rattle.wit_scopes.specs.Front.{AreNamesPlaced};
-ghost use Rattle.wit_worlds.specs.Settled.{none_of};
+ghost use Rattle.wit_links.specs.Settled.{none_of};
 ghost use Rattle.wit_worlds.specs.Standing.{AddsInside, AreConsecutive, IsInside, IsWrongExtern, IsWrongStanding, lent_names};
 
-use crate::inside::{Counts, Met, declared_name, inside_scope};
-use crate::setters::check_closed;
 use std::alloc::{AllocError, Global};
 use wit_entries::entries::Entries;
 use wit_entries::scope::Required;
@@ -47,24 +45,18 @@ use wit_externs::taken::define_names;
 use wit_interfaces::interface::interface_of;
 use wit_item_entries::functions::written_results;
 use wit_item_entries::names::ResolvedNames;
-use wit_item_entries::uses::Interfaces;
+use wit_items::interfaces::Interfaces;
 use wit_items::items::{Item, ItemScope};
-use wit_model::{Function, Interface};
+use wit_links::inside::{Counts, Met, declared_name, inside_scope};
+use wit_links::setters::check_closed;
+use wit_links::sides::Standing;
+use wit_model::Interface;
 use wit_rules::function_scope::FunctionScope;
 use wit_rules::held::HeldFunction;
 use wit_sides::Sides;
 use wit_signatures::functions::resolve_function;
 use wit_tree::{ParseResult, Span};
 use wit_types::{Arena, InterfaceId, InterfacePlace};
-
-/// What stands on the sides of a world, over its types.
-#[derive(Drop)]
-pub(crate) struct Standing {
-    /// The functions, in source order.
-    pub functions: Vec<Function>,
-    /// The interfaces that are written there, in source order.
-    pub inside: Vec<InterfaceId>,
-}
 
 /// The functions among what stands on the sides of a world, in source order.
 fn written_functions<'t, 'a>(

@@ -1,6 +1,5 @@
 //! Declared worlds.
 ghost use Rattle.std.specs.Prelude.{◌≡◌, ◌<◌, ◌≤◌, ◌+◌, ◌++◌, ◌∷◌, [], List, All, Contains, Some, false, true, length, IfOk, IfErr, OnOk, map};
-ghost use Rattle.wit_tree.specs.declared.tree.PackageFile.{PackageFile as TheFile};
 ghost use Rattle.wit_tree.specs.Refusal.{IsWantOfMemory};
 ghost use Rattle.wit_syntax.specs.Address.{Address};
 ghost use Rattle.wit_syntax.specs.Source.{address, declared_attributes, declared_parts, is_world, item_notes as the_notes, leads, scope_names as the_names};
@@ -12,29 +11,25 @@ ghost use Rattle.wit_syntax.specs.Sides.{Link, links, inline_items, with_inline}
 ghost use Rattle.wit_syntax.specs.Broken.{is_world_at, IsBrokenScope, Refused};
 ghost use Rattle.wit_types.specs.declared.types.TypeDef.{TypeDef as TheType};
 ghost use Rattle.wit_types.specs.declared.types.TypeOwner.TheVariants.{World as WorldOwner};
-ghost use Rattle.wit_arena.specs.Resolving.{IsIndex, IsWorldIndex};
+ghost use Rattle.wit_arena.specs.Resolving.{IsIndex, IsWorldIndex, names_in};
 ghost use Rattle.wit_arena.specs.Resolved.{worlds_at, AddsWorld, AddsWorlds, AreLegalSides, AreSoundScopes, AreUsableLinks, IsBrokenItemStability, HaveLegalStability, IsWrongWorld, front_worlds};
 ghost use Rattle.wit_items.specs.declared.notes.ItemNotes.{ItemNotes as TheNotes};
-ghost use Rattle.wit_items.specs.Items.{declared_behind, item_behind, names_behind, AreNamesAt, HasItem, IsNamedAt, AreFiled, HasFiles, AreEntriesOf, others_of};
+ghost use Rattle.wit_items.specs.Items.{declared_behind, item_behind, names_behind, IsFiled, AreFiled, AreEntriesOf, others_of};
 ghost use Rattle.wit_items.specs.Front.{AreItemsPlaced};
 ghost use Rattle.wit_items.specs.Inside.{inside_behind, names_written};
 ghost use Rattle.wit_items.specs.Told.{notes_behind, AreOf};
 ghost use Rattle.wit_scopes.specs.Between.{IsOfFunctions};
 ghost use Rattle.wit_scopes.specs.Front.{AreNamesPlaced};
-ghost use Rattle.wit_item_entries.specs.Held.{front_of, cells_of};
+ghost use Rattle.wit_items.specs.Interfaces.{front_of, cells_of};
 ghost use Rattle.wit_item_entries.specs.Behind.{IsTurn};
-ghost use Rattle.wit_item_entries.specs.Between.{AddsTurn, AreStable, Emits, names_in};
+ghost use Rattle.wit_item_entries.specs.Between.{AddsTurn, Emits};
+ghost use Rattle.wit_links.specs.Includes.{AreStable};
 ghost use Rattle.wit_item_entries.specs.Body.{IsWrongBody};
 ghost use Rattle.std.specs.List.{flat_map};
 ghost use Rattle.wit_tree.specs.declared.tree.WorldSide.{WorldSide as TheSide};
 ghost use Rattle.wit_worlds.specs.Between.{arenas, AreWorldParts, IsAddedWorld, IsWrongWorldNow};
-ghost use Rattle.wit_worlds.specs.Links.{interfaces_of_others};
+ghost use Rattle.wit_links.specs.Links.{interfaces_of_others};
 
-use crate::externs::declared_externs;
-use crate::includes::declared_includes;
-use crate::inside::declared_name;
-use crate::setters::is_closed;
-use crate::sides::{WorldSides, fitted, world_sides};
 use crate::standing::resolve_standing;
 use std::alloc::Global;
 use wit_entries::entries::Entries;
@@ -44,23 +39,19 @@ use wit_files::FileNames;
 use wit_item_entries::body::Head;
 use wit_item_entries::names::{ResolvedNames, resolve_names};
 use wit_item_entries::required::add_required;
-use wit_item_entries::uses::Interfaces;
+use wit_items::interfaces::Interfaces;
 use wit_items::items::{Declared, Item};
 use wit_items::notes::{ItemNotes, item_notes};
-use wit_model::{AstItem as Entry, Interface, World, WorldInclude};
+use wit_links::externs::declared_externs;
+use wit_links::includes::{Worlds, declared_includes};
+use wit_links::inside::declared_name;
+use wit_links::setters::is_closed;
+use wit_links::sides::{WorldSides, fitted, world_sides};
+use wit_model::{Interface, World, WorldInclude};
 use wit_tree::ParseResult;
 use wit_tree::tree::Id;
-use wit_types::{Arena, InterfacePlace, TypeOwner, WorldId, WorldPlace};
-use wit_values::{Row, Text, TextTable, beside};
-
-/// The worlds that are resolved, and the places of the declared ones by their names.
-#[derive(Drop)]
-pub struct Worlds<'n> {
-    /// The entries of other packages' items, the worlds of which are the front of the arena.
-    pub entries: &'n [Entry],
-    pub arena: Arena<World, WorldPlace>,
-    pub by_name: TextTable<WorldId>,
-}
+use wit_types::{Arena, InterfacePlace, TypeOwner};
+use wit_values::{Row, Text, beside};
 
 /// What a world has but its name: what is told of it, what its handles require of types of other
 /// packages, what it has on its sides, and its includes.
@@ -149,8 +140,7 @@ fn world_content<'f, 'a>(
     worlds: &Worlds<'_>,
 ) -> ParseResult<WorldContent>
     requires sort { is_world (item_behind item.now) ≡ true }
-    requires item { HasItem files.now item.now.place (declared_behind item.now.declared) }
-    requires file { IsNamedAt files.now item.now.place item.now.file.now }
+    requires filed { IsFiled files.now item.now }
     requires named { names_behind item.now ≡ the_names (item_behind item.now) }
     requires listed { names_in names.old.types ≡ map (λ id. id.name.now) names.old.turn.items }
     requires turn { IsTurn (the_names (item_behind item.now)) names.old.turn.items }
@@ -166,8 +156,8 @@ fn world_content<'f, 'a>(
     ensures stable { OnOk result (AreStable (flat_map part_includes (declared_parts (declared_behind item.now.declared)))) }
     ensures sound { OnOk result (((fns : List SourceFunction) (f : Fault) → IsBrokenScope (the_names (item_behind item.now)) fns f → IsOfFunctions (the_names (item_behind item.now)) fns f) → AreSoundScopes (with_inline (item_behind item.now))) }
     ensures sided { OnOk result (AreLegalSides (with_inline (item_behind item.now))) }
-    ensures linked { OnOk result ((fs : List TheFile) → AreNamesAt fs files.now item.now.place item.now.file.now → (link : Link) → Contains (links (item_behind item.now)) link → is_world_at fs (leads (item_behind item.now).top link.path) ≡ Some false) }
-    ensures refused { IfErr result (λ e. (fs : List TheFile) (before : List TheType) → AreNamesAt fs files.now item.now.place item.now.file.now → AddsTurn before types.old (cells_of interfaces.now) (WorldOwner (length worlds.now.arena)) (the_names (item_behind item.now)) names.old.types names.old.turn.items names.old.required.items → Refused (IsWrongWorld fs before (cells_of interfaces.now) (length interfaces.now.arena) inside.old interfaces.now.by_name worlds.now.by_name (WorldOwner (length worlds.now.arena)) (item_behind item.now)) e) }
+    ensures linked { OnOk result ((link : Link) → Contains (links (item_behind item.now)) link → is_world_at files.now (leads (item_behind item.now).top link.path) ≡ Some false) }
+    ensures refused { IfErr result (λ e. (before : List TheType) → AddsTurn before types.old (cells_of interfaces.now) (WorldOwner (length worlds.now.arena)) (the_names (item_behind item.now)) names.old.types names.old.turn.items names.old.required.items → Refused (IsWrongWorld files.now before (cells_of interfaces.now) (length interfaces.now.arena) inside.old interfaces.now.by_name worlds.now.by_name (WorldOwner (length worlds.now.arena)) (item_behind item.now)) e) }
 {
     let includes = declared_includes(alloc, &item.declared, files, worlds, item.place)?;
     let mut externs = declared_externs(
@@ -204,8 +194,7 @@ fn world_parts<'f, 'a>(
     worlds: &Worlds<'_>,
 ) -> ParseResult<WorldParts>
     requires sort { is_world (item_behind item.now) ≡ true }
-    requires item { HasItem files.now item.now.place (declared_behind item.now.declared) }
-    requires file { IsNamedAt files.now item.now.place item.now.file.now }
+    requires filed { IsFiled files.now item.now }
     requires named { names_behind item.now ≡ the_names (item_behind item.now) }
     requires placed { AreNamesPlaced (front_of interfaces.now.foreign.now) item.now.names.items }
     requires written { (side : TheSide) → inside_behind side item.now ≡ names_written side (item_behind item.now) }
@@ -220,8 +209,8 @@ fn world_parts<'f, 'a>(
     ensures stable { OnOk result ((f : Fault) → IsBrokenItemStability (item_behind item.now) f → ⊥) }
     ensures sound { OnOk result (AreSoundScopes (with_inline (item_behind item.now))) }
     ensures sided { OnOk result (AreLegalSides (with_inline (item_behind item.now))) }
-    ensures linked { OnOk result ((fs : List TheFile) → AreNamesAt fs files.now item.now.place item.now.file.now → (link : Link) → Contains (links (item_behind item.now)) link → is_world_at fs (leads (item_behind item.now).top link.path) ≡ Some false) }
-    ensures refused { IfErr result (λ e. (fs : List TheFile) → AreNamesAt fs files.now item.now.place item.now.file.now → Refused (IsWrongWorld fs types.old (cells_of interfaces.now) (length interfaces.now.arena) inside.old interfaces.now.by_name worlds.now.by_name (WorldOwner (length worlds.now.arena)) (item_behind item.now)) e) }
+    ensures linked { OnOk result ((link : Link) → Contains (links (item_behind item.now)) link → is_world_at files.now (leads (item_behind item.now).top link.path) ≡ Some false) }
+    ensures refused { IfErr result (Refused (IsWrongWorld files.now types.old (cells_of interfaces.now) (length interfaces.now.arena) inside.old interfaces.now.by_name worlds.now.by_name (WorldOwner (length worlds.now.arena)) (item_behind item.now))) }
 {
     let owner = TypeOwner::World(worlds.arena.next_id());
     let head = world_head(alloc, item, types, interfaces, owner)?;
@@ -250,8 +239,7 @@ fn resolve_world<'f, 'a>(
     worlds: &mut Worlds<'_>,
 ) -> ParseResult<()>
     requires sort { is_world (item_behind item.now) ≡ true }
-    requires item { HasItem files.now item.now.place (declared_behind item.now.declared) }
-    requires file { IsNamedAt files.now item.now.place item.now.file.now }
+    requires filed { IsFiled files.now item.now }
     requires named { names_behind item.now ≡ the_names (item_behind item.now) }
     requires written { (side : TheSide) → inside_behind side item.now ≡ names_written side (item_behind item.now) }
     requires placed { AreItemsPlaced (front_of interfaces.now.foreign.now) (item.now ∷ []) }
@@ -268,8 +256,8 @@ fn resolve_world<'f, 'a>(
     ensures stable { OnOk result ((f : Fault) → IsBrokenItemStability (item_behind item.now) f → ⊥) }
     ensures sound { OnOk result (AreSoundScopes (with_inline (item_behind item.now))) }
     ensures sided { OnOk result (AreLegalSides (with_inline (item_behind item.now))) }
-    ensures linked { OnOk result ((fs : List TheFile) → AreNamesAt fs files.now item.now.place item.now.file.now → (link : Link) → Contains (links (item_behind item.now)) link → is_world_at fs (leads (item_behind item.now).top link.path) ≡ Some false) }
-    ensures refused { IfErr result (λ e. (fs : List TheFile) → AreNamesAt fs files.now item.now.place item.now.file.now → Refused (IsWrongWorld fs types.old (cells_of interfaces.now) (length interfaces.now.arena) inside.old interfaces.now.by_name worlds.old.by_name (WorldOwner (length worlds.old.arena)) (item_behind item.now)) e) }
+    ensures linked { OnOk result ((link : Link) → Contains (links (item_behind item.now)) link → is_world_at files.now (leads (item_behind item.now).top link.path) ≡ Some false) }
+    ensures refused { IfErr result (Refused (IsWrongWorld files.now types.old (cells_of interfaces.now) (length interfaces.now.arena) inside.old interfaces.now.by_name worlds.old.by_name (WorldOwner (length worlds.old.arena)) (item_behind item.now))) }
 {
     let parts = world_parts(alloc, item, types, files, interfaces, inside, worlds)?;
     let name = declared_name(&item.declared);
@@ -288,9 +276,10 @@ pub fn resolve_worlds<'f, 'a>(
     inside: &mut Arena<Interface, InterfacePlace>,
     worlds: &mut Worlds<'_>,
     items: &[Item<'f, 'a>],
+    places: &[usize],
 ) -> ParseResult<()>
-    requires within { All (λ place. place < length items.now) files.now.order.items }
-    requires filed { HasFiles files.now items.now }
+    requires within { All (λ place. place < length items.now) places.now }
+    requires filed { AreFiled files.now items.now }
     requires named { map names_behind items.now ≡ map the_names (map item_behind items.now) }
     requires written { (side : TheSide) → map (inside_behind side) items.now ≡ map (names_written side) (map item_behind items.now) }
     requires bare { inside.old ≡ [] }
@@ -301,14 +290,14 @@ pub fn resolve_worlds<'f, 'a>(
     requires entries { AreEntriesOf files.now worlds.old.entries.now }
     requires worlds_front { length (others_of files.now) ≤ length worlds.old.arena }
     requires worlds_index { IsWorldIndex (worlds_at (others_of files.now) worlds.old.arena) worlds.old.by_name }
-    ensures added { OnOk result (Emits required.old.items required.new.items (λ rs. (ss : List Address) × AddsWorlds (front_of interfaces.now.foreign.now) (others_of files.now) interfaces.now.arena types.old types.new (front_worlds worlds.old.arena) (arenas worlds.new.arena inside.new ss) rs (worlds_of (in_order (map item_behind items.now) files.now.order.items)))) }
-    ensures stable { OnOk result (HaveLegalStability (worlds_of (in_order (map item_behind items.now) files.now.order.items))) }
-    ensures sound { OnOk result (AreSoundScopes (flat_map with_inline (worlds_of (in_order (map item_behind items.now) files.now.order.items)))) }
-    ensures sided { OnOk result (AreLegalSides (flat_map with_inline (worlds_of (in_order (map item_behind items.now) files.now.order.items)))) }
-    ensures linked { OnOk result ((fs : List TheFile) → AreFiled fs files.now items.now → AreUsableLinks fs (worlds_of (in_order (map item_behind items.now) files.now.order.items))) }
-    ensures refused { IfErr result (λ e. (fs : List TheFile) → AreFiled fs files.now items.now → Refused (IsWrongWorldNow fs (front_of interfaces.now.foreign.now) (others_of files.now) types.old interfaces.now.arena interfaces.now.by_name worlds.old.arena (map item_behind items.now) files.now.order.items) e) }
+    ensures added { OnOk result (Emits required.old.items required.new.items (λ rs. (ss : List Address) × AddsWorlds (front_of interfaces.now.foreign.now) (others_of files.now) interfaces.now.arena types.old types.new (front_worlds worlds.old.arena) (arenas worlds.new.arena inside.new ss) rs (worlds_of (in_order (map item_behind items.now) places.now)))) }
+    ensures stable { OnOk result (HaveLegalStability (worlds_of (in_order (map item_behind items.now) places.now))) }
+    ensures sound { OnOk result (AreSoundScopes (flat_map with_inline (worlds_of (in_order (map item_behind items.now) places.now)))) }
+    ensures sided { OnOk result (AreLegalSides (flat_map with_inline (worlds_of (in_order (map item_behind items.now) places.now)))) }
+    ensures linked { OnOk result (AreUsableLinks files.now (worlds_of (in_order (map item_behind items.now) places.now))) }
+    ensures refused { IfErr result (Refused (IsWrongWorldNow files.now (front_of interfaces.now.foreign.now) (others_of files.now) types.old interfaces.now.arena interfaces.now.by_name worlds.old.arena (map item_behind items.now) places.now)) }
 {
-    for place in files.item_order() {
+    for place in places {
         let item = &items[*place];
         match item.declared {
             Declared::World(_) => {

@@ -11,7 +11,7 @@ use Rattle.wit_syntax.specs.Scope.{in_order, interfaces_of}
 use Rattle.wit_arena.specs.Resolving.{Required, cells}
 use Rattle.wit_arena.specs.Resolved.{AddsDeclared, IsWrongInterface}
 use Rattle.wit_types.specs.declared.types.TypeOwner.TheVariants.{Interface as OfInterface}
-use Rattle.wit_item_entries.specs.Held.{front_of}
+use Rattle.wit_items.specs.Interfaces.{front_of}
 use Rattle.wit_item_entries.specs.Between.{Emits}
 use Rattle.wit_interfaces.specs.Between.{IsWrongNow}
 use Rattle.wit_items.specs.declared.items.Item.{Item as HeldItem}

@@ -2,7 +2,7 @@ use Rattle.std.proofs.Common.{◌≡◌, ◌≤◌, length, map, take}
 use Rattle.wit_syntax.specs.Scope.{in_order, interfaces_of}
 use Rattle.wit_arena.specs.Resolving.{cells, IsIndex}
 use Rattle.wit_arena.specs.Resolved.{AddsInterfaces, AreLegalSides, AreSoundScopes, HaveLegalStability}
-use Rattle.wit_item_entries.specs.Held.{front_of}
+use Rattle.wit_items.specs.Interfaces.{front_of}
 use Rattle.wit_items.specs.Items.{item_behind}
 use Rattle.wit_item_entries.specs.Between.{Emits}
 use Rattle.wit_interfaces.proofs.declared.resolve_interfaces.Given as goal

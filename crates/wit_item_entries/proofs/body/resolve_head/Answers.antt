@@ -5,7 +5,7 @@ use Rattle.wit_syntax.proofs.Refusing.{refused_weaker}
 use Rattle.wit_items.specs.Items.{scope_item}
 use Rattle.wit_item_entries.specs.Between.{IsWrongNames}
 use Rattle.wit_item_entries.specs.Body.{IsWrongBody, WrongNotes}
-use Rattle.wit_item_entries.specs.Held.{cells_of}
+use Rattle.wit_items.specs.Interfaces.{cells_of}
 use Rattle.wit_item_entries.proofs.WrongNames.{wrong_names}
 use Rattle.wit_item_entries.proofs.body.resolve_head.Goals as goal
 

@@ -5,7 +5,7 @@ use Rattle.std.proofs.lemmas.Result.{err_from_is_err_and}
 use Rattle.wit_types.specs.declared.types.TypeOwner.{TypeOwner}
 use Rattle.wit_syntax.specs.Source.{Defined}
 use Rattle.wit_syntax.specs.Notes.{IsBrokenNotes}
-use Rattle.wit_arena.specs.Resolving.{env_of, Defines, IsWrongBody}
+use Rattle.wit_arena.specs.Resolving.{env_of, Defines, IsWrongBody, names_in}
 use Rattle.wit_syntax.proofs.Lists.{read_map}
 use Rattle.wit_syntax.proofs.Orders.{take_next}
 use Rattle.wit_syntax.proofs.Refusing.{refused_weaker}
@@ -15,7 +15,7 @@ use Rattle.wit_syntax.proofs.Found.{contains_at}
 use Rattle.wit_entries.proofs.Requiring.{grown_then}
 use Rattle.wit_scopes.specs.Held.{definition_behind}
 use Rattle.wit_scopes.specs.Between.{IsBrokenAmong}
-use Rattle.wit_item_entries.specs.Between.{names_in, IsWrongHandleIn}
+use Rattle.wit_item_entries.specs.Between.{IsWrongHandleIn}
 use Rattle.wit_scopes.proofs.Turning.{none_unknown}
 use Rattle.wit_item_entries.proofs.Handled.{requires_none, next_free, listed_next, requires_next, wrong_handle_next}
 use Rattle.wit_item_entries.proofs.names.define_all.Goals as goal

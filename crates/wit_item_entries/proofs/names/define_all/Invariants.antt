@@ -4,11 +4,10 @@ use Rattle.wit_syntax.specs.Address.{Address}
 use Rattle.wit_syntax.specs.Source.{ScopeName}
 use Rattle.wit_syntax.specs.Shape.{all_handles}
 use Rattle.wit_syntax.specs.Function.{name_types}
-use Rattle.wit_arena.specs.Resolving.{Cell, env_of, Defines, AreLegalBodies, AreLegalNotes, HasNames}
+use Rattle.wit_arena.specs.Resolving.{Cell, env_of, Defines, AreLegalBodies, AreLegalNotes, HasNames, names_in}
 use Rattle.wit_syntax.specs.Scope.{local_names}
 use Rattle.wit_entries.specs.Requiring.{IsGrown, Requires}
 use Rattle.wit_scopes.specs.Held.{definition_behind}
-use Rattle.wit_item_entries.specs.Between.{names_in}
 use Rattle.wit_item_entries.proofs.names.define_all.Given as goal
 
 abbrev pub invariant-loop-definition : goal.invariant-loop-definition

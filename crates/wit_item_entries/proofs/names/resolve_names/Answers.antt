@@ -9,14 +9,14 @@ use Rattle.wit_syntax.specs.Shape.{all_handles}
 use Rattle.wit_syntax.specs.Source.{local_name}
 use Rattle.wit_syntax.specs.Function.{SourceFunction, name_types}
 use Rattle.wit_syntax.specs.Broken.{IsBrokenScope}
-use Rattle.wit_arena.specs.Resolving.{Required, env_of, Defines, IsWrongScope, WrongItself}
+use Rattle.wit_arena.specs.Resolving.{Required, env_of, Defines, IsWrongScope, WrongItself, names_in}
 use Rattle.wit_syntax.proofs.Refusing.{refused_weaker}
 use Rattle.wit_arena.proofs.Defining.{defines_more}
 use Rattle.wit_entries.specs.Requiring.{Requires}
 use Rattle.wit_entries.proofs.Requiring.{grown_then}
 use Rattle.wit_scopes.specs.Held.{name_behind, use_behind}
-use Rattle.wit_item_entries.specs.Held.{cells_of}
-use Rattle.wit_item_entries.specs.Between.{names_in, DefinesTurn, IsWrongHandleTurn, IsWrongNames, WrongScopeNames, WrongHandleNames}
+use Rattle.wit_items.specs.Interfaces.{cells_of}
+use Rattle.wit_item_entries.specs.Between.{DefinesTurn, IsWrongHandleTurn, IsWrongNames, WrongScopeNames, WrongHandleNames}
 use Rattle.wit_item_entries.proofs.Handled.{types-in_turn, wrong_handle_turn}
 use Rattle.wit_item_entries.proofs.names.resolve_names.Goals as goal
 

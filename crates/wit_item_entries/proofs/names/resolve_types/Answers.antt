@@ -5,12 +5,12 @@ use Rattle.wit_syntax.specs.Source.{local_id}
 use Rattle.wit_syntax.specs.Scope.{in_order, used, defined, AreDistinct}
 use Rattle.wit_syntax.specs.Function.{SourceFunction}
 use Rattle.wit_syntax.specs.Broken.{IsBrokenScope}
-use Rattle.wit_arena.specs.Resolving.{env_of, AreLegalBodies, AreLegalNotes}
+use Rattle.wit_arena.specs.Resolving.{env_of, AreLegalBodies, AreLegalNotes, names_in}
 use Rattle.wit_syntax.proofs.Refusing.{refused_weaker}
 use Rattle.wit_syntax.proofs.Turns.{distinct_names}
 use Rattle.wit_scopes.specs.Held.{name_behind, use_behind, definition_behind}
 use Rattle.wit_scopes.specs.Between.{AreOrdered, IsBrokenAmong, IsRepeatedId}
-use Rattle.wit_item_entries.specs.Between.{names_in, IsWrongHandleIn, IsWrongHandleTurn}
+use Rattle.wit_item_entries.specs.Between.{IsWrongHandleIn, IsWrongHandleTurn}
 use Rattle.wit_scopes.proofs.Turning.{in_their_turn, own_held, ids_are, broken_twice, broken_definition, differ_names, turn_differs, legal_unfolded}
 use Rattle.wit_item_entries.proofs.names.resolve_types.Goals as goal
 

@@ -5,7 +5,7 @@ use Rattle.wit_syntax.proofs.Refusing.{refused_weaker}
 use Rattle.wit_syntax.specs.Address.{InterfaceNamed}
 use Rattle.wit_arena.specs.Resolving.{cell_at, env_of, IsUnresolved, IsWrongUse, Unresolved, Wrong}
 use Rattle.wit_scopes.specs.Held.{source_behind}
-use Rattle.wit_item_entries.specs.Held.{cells_of}
+use Rattle.wit_items.specs.Interfaces.{cells_of}
 use Rattle.wit_scopes.specs.Between.{IsUnstated}
 use Rattle.wit_scopes.proofs.UsedNames.{unstated_name}
 use Rattle.wit_item_entries.proofs.uses.resolve_use.Goals as goal

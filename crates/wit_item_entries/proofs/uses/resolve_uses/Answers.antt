@@ -15,7 +15,7 @@ use Rattle.wit_syntax.proofs.Refusing.{refused_weaker}
 use Rattle.wit_arena.proofs.Using.{listed_has, listed_more}
 use Rattle.wit_entries.proofs.Requiring.{grown_then}
 use Rattle.wit_scopes.specs.Held.{source_behind, use_behind}
-use Rattle.wit_item_entries.specs.Held.{cells_of}
+use Rattle.wit_items.specs.Interfaces.{cells_of}
 use Rattle.wit_scopes.proofs.UsedNames.{wrong_used}
 use Rattle.wit_item_entries.proofs.uses.resolve_uses.Goals as goal
 

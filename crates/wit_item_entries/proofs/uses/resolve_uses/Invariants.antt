@@ -4,7 +4,7 @@ use Rattle.wit_arena.specs.Resolving.{Defines}
 use Rattle.wit_syntax.specs.Scope.{local_names}
 use Rattle.wit_entries.specs.Requiring.{IsGrown}
 use Rattle.wit_scopes.specs.Held.{use_behind}
-use Rattle.wit_item_entries.specs.Held.{cells_of}
+use Rattle.wit_items.specs.Interfaces.{cells_of}
 use Rattle.wit_item_entries.proofs.uses.resolve_uses.Given as goal
 
 abbrev pub invariant-loop-name : goal.invariant-loop-name

@@ -1,7 +1,7 @@
 use Rattle.std.proofs.Common.{rules, ◌≡◌, Some, None, inl, inr, ap, subst}
 use Rattle.wit_arena.specs.Resolving.{env_of}
 use Rattle.wit_scopes.specs.Held.{source_behind, IsPlaced}
-use Rattle.wit_item_entries.specs.Held.{front_of}
+use Rattle.wit_items.specs.Interfaces.{front_of}
 use Rattle.wit_item_entries.proofs.Cells.{named_within, named_found, front_within, front_found}
 use Rattle.wit_item_entries.proofs.uses.used_interface.Goals as goal
 

@@ -6,10 +6,9 @@ use Rattle.std.proofs.lemmas.List.{map-append, append-nil, take_more, take_all}
 use Rattle.std.proofs.lemmas.Option.{slice_get_read, slice_get-map}
 use Rattle.std.proofs.lemmas.Result.{err_from_is_err_and}
 use Rattle.wit_tree.specs.declared.tree.InterfaceItem.{InterfaceItem}
-use Rattle.wit_syntax.specs.Crossing.{item_uses}
 use Rattle.wit_syntax.specs.Foreign.{visited, foreign_interfaces}
 use Rattle.wit_syntax.specs.Scope.{part_uses}
-use Rattle.wit_syntax.specs.Source.{TheWorld, world_part, top_names}
+use Rattle.wit_syntax.specs.Source.{TheWorld, world_part}
 use Rattle.wit_syntax.proofs.Refusing.{refused_weaker}
 use Rattle.wit_scopes.specs.Held.{name_behind}
 use Rattle.wit_scopes.specs.Front.{AreNamesPlaced}
@@ -20,6 +19,7 @@ use Rattle.wit_items.proofs.Placed.{all_more}
 use Rattle.wit_items.proofs.Usable.{sound_append, among_flat, parts_more, unsound_among, use_has_path}
 use Rattle.wit_items.proofs.Written.{items_names, side_among, written_uses, unwritten_uses, names_written_in}
 use Rattle.wit_items.proofs.inside.names_inside.Goals.{in-Some+in_ok-interface_names+in_ok-push, in_default}
+use Rattle.wit_files.specs.FileNames.{top_at}
 use Rattle.wit_items.proofs.inside.names_inside.Goals as goal
 
 -- the items that are lent
@@ -37,6 +37,8 @@ interface_names-requires-clause-paths c = λ u among. (
 
 pub returns-in_err-interface_names-clause-refused : goal.returns-in_err-interface_names-clause-refused
 returns-in_err-interface_names-clause-refused c =
+    let files = c.args.files.now in
+    let top = top_at files c.args.place in
     let e = err_from_is_err_and c.from_residual.result c.from_residual.ensures.1 in
     let side = c.args.side in
     let xs = c.world_items-part-items.result.now in
@@ -45,10 +47,12 @@ returns-in_err-interface_names-clause-refused c =
     let items = c.in-Some.items.now in
     let at : slice_get (map world_part xs) i ≡ Some p = slice_get-map world_part xs i ∙ ap (option_map world_part) (slice_get_read xs _ i c.part-item.result refl c.loop-part-test.true c.part-item.is) in
     let uses = written_uses side p items (sym (ap lent c.in-Some.is) ∙ c.written_on.ensures) in
-    rw (e.1, e.2, sym c.world_items-part-items.ensures) (λ fs file named. refused_weaker (IsUnsoundAmong fs (top_names file) (side_uses side p)) (IsUnsoundAmong fs (top_names file) (flat_map (side_uses side) (map world_part xs))) _ (λ f h. unsound_among fs (top_names file) (side_uses side) (map world_part xs) i p f at h) (rw uses at (c.in_err-interface_names.ensures.refused fs file named)))
+    rw (e.1, e.2, sym c.world_items-part-items.ensures) (refused_weaker (IsUnsoundAmong files top (side_uses side p)) (IsUnsoundAmong files top (flat_map (side_uses side) (map world_part xs))) _ (λ f h. unsound_among files top (side_uses side) (map world_part xs) i p f at h) (rw uses at c.in_err-interface_names.ensures.refused))
 
 pub loop-part-preserved : goal.loop-part-preserved
 loop-part-preserved c =
+    let files = c.args.files.now in
+    let top = top_at files c.args.place in
     let side = c.args.side in
     let xs = c.world_items-part-items.result.now in
     let i = c.loop-part.part-index in
@@ -69,9 +73,9 @@ loop-part-preserved c =
           let e = w.in_ok-interface_names.ensures in
           let new = w.in_ok-push.ensures.items in
           rw w.inside-is (record {
-            names = λ fs file named. one_more (λ ns. map name_behind ns.items) [] out _ _ (map (items_names (top_names file)) before) (map (items_names (top_names file)) after) (items_names (top_names file) items) new (was.names fs file named) (e.names fs file named) (ap (map (items_names (top_names file))) one ∙ map-append (items_names (top_names file)) before (items ∷ []));
-            placed = λ fs file named. all_more (λ ns. AreNamesPlaced (map visited (foreign_interfaces fs)) ns.items) out _ _ new (was.placed fs file named) (e.placed fs file named);
-            sound = λ fs file named. sound_append fs (top_names file) (flat_map (side_uses side) (map world_part (take i xs))) (side_uses side p) (flat_map (side_uses side) (map world_part (take (i + 1) xs))) uses (was.sound fs file named) (rw (written_uses side p items written) at (e.sound fs file named));
+            names = one_more (λ ns. map name_behind ns.items) [] out _ _ (map (items_names top) before) (map (items_names top) after) (items_names top items) new was.names e.names (ap (map (items_names top)) one ∙ map-append (items_names top) before (items ∷ []));
+            placed = all_more (λ ns. AreNamesPlaced (map visited (foreign_interfaces files)) ns.items) out _ _ new was.placed e.placed;
+            sound = sound_append files top (flat_map (side_uses side) (map world_part (take i xs))) (side_uses side p) (flat_map (side_uses side) (map world_part (take (i + 1) xs))) uses was.sound (rw (written_uses side p items written) at e.sound);
           }))
       | in_default w ↦ (
           let none = sym (ap lent w.in_default.is) ∙ c.written_on.ensures in
@@ -81,10 +85,10 @@ loop-part-preserved c =
     ]
 
 pub returns-clause-names : goal.returns-clause-names
-returns-clause-names c = λ fs file named. (
-    let top = top_names file in
+returns-clause-names c = (
+    let top = top_at c.args.files.now c.args.place in
     let whole = take_all c.loop-part.part-index c.world_items-part-items.result.now c.loop-part-test.false in
-    rw (sym c.world_items-part-items.ensures) (c.loop-part.invariant.names fs file named ∙ ap (λ l. map (items_names top) (flat_map (written_items c.args.side) (map world_part l))) whole ∙ sym (names_written_in top c.args.side (map world_part c.world_items-part-items.result.now))))
+    rw (sym c.world_items-part-items.ensures) (c.loop-part.invariant.names ∙ ap (λ l. map (items_names top) (flat_map (written_items c.args.side) (map world_part l))) whole ∙ sym (names_written_in top c.args.side (map world_part c.world_items-part-items.result.now))))
 
 pub returns-clause-sound : goal.returns-clause-sound
-returns-clause-sound c = λ fs file named. rw (sym c.world_items-part-items.ensures) (subst (λ l. AreSound fs (top_names file) (flat_map (side_uses c.args.side) (map world_part l))) (take_all c.loop-part.part-index c.world_items-part-items.result.now c.loop-part-test.false) (c.loop-part.invariant.sound fs file named))
+returns-clause-sound c = rw (sym c.world_items-part-items.ensures) (subst (λ l. AreSound c.args.files.now (top_at c.args.files.now c.args.place) (flat_map (side_uses c.args.side) (map world_part l))) (take_all c.loop-part.part-index c.world_items-part-items.result.now c.loop-part-test.false) c.loop-part.invariant.sound)

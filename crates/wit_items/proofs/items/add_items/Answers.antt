@@ -12,13 +12,14 @@ use Rattle.wit_syntax.specs.Source.{TheInterface, TheWorld, Item, parts, top_nam
 use Rattle.wit_syntax.specs.Scope.{part_uses, uses}
 use Rattle.wit_syntax.specs.Foreign.{visited, foreign_interfaces}
 use Rattle.wit_syntax.proofs.Refusing.{refused_weaker}
+use Rattle.wit_files.specs.FileNames.{names_at_top, top_at}
 use Rattle.wit_files.proofs.Lost.{flat_more}
 use Rattle.wit_scopes.specs.Front.{AreNamesPlaced}
 use Rattle.wit_scopes.proofs.Declaring.{one_more}
-use Rattle.wit_items.specs.Items.{item_behind, names_behind, own_uses, HasItem, IsUnsoundAmong, HasUnsoundUse}
+use Rattle.wit_items.specs.Items.{item_behind, names_behind, own_uses, IsUnsoundAmong, HasUnsoundUse}
 use Rattle.wit_items.specs.Inside.{inside_behind, names_written, side_uses}
 use Rattle.wit_items.proofs.Placed.{item_placed, none_all, items_more}
-use Rattle.wit_items.proofs.Usable.{declared_among, item_among, sound_items_more, sound_same, filed_more, unsound_wider, use_has_path}
+use Rattle.wit_items.proofs.Usable.{declared_among, item_among, item_here, sound_items_more, sound_same, filed_more, unsound_wider, use_has_path}
 use Rattle.wit_items.proofs.Written.{own_among, side_among, among_wider, items_uses, sound_uses, interface_inside, inside_is}
 use Rattle.wit_items.proofs.items.add_items.Goals.{in-Interface+in_ok-interface_names-in-Interface+in_ok-push-in-Interface, in-World+in_ok-world_names-in-World+in_ok-names_inside-in-World+in_ok-names_inside-in-World-2+in_ok-push-in-World, in-Use}
 use Rattle.wit_items.proofs.items.add_items.Goals as goal
@@ -31,7 +32,9 @@ returns-in_err-interface_names-in-Interface-clause-refused c =
     let w : Item = record { top = top_names file; declared = TheInterface c.in-Interface.interface } in
     let at : slice_get xs c.loop-item.item-index ≡ Some (ast.Interface c.in-Interface.interface) = slice_get_read xs _ c.loop-item.item-index c.item-item.result refl c.loop-item-test.true c.item-item.is ∙ ap Some c.in-Interface.is in
     let among : Contains (file_items file) w = rw c.declarations-declared.ensures at (declared_among (declared_items (top_names file)) xs c.loop-item.item-index _ w at refl) in
-    rw (p.1, p.2) (λ fs named. refused_weaker (IsUnsoundAmong fs w.top (flat_map item_uses c.deref.result.now)) (HasUnsoundUse fs (file_items file)) _ (λ f h. record { i = w; among = among; broken = subst (λ us. IsUnsoundAmong fs w.top us f) (ap (flat_map item_uses) c.deref.ensures.value ∙ sym (items_uses c.in-Interface.interface.items.items)) h }) (c.in_err-interface_names-in-Interface.ensures.refused fs file named))
+    let files = c.args.files.now in
+    let top_is : top_at files c.args.place ≡ top_names file = ap names_at_top c.requires.file in
+    rw (p.1, p.2) (refused_weaker (IsUnsoundAmong files w.top (flat_map item_uses c.deref.result.now)) (HasUnsoundUse files (file_items file)) _ (λ f h. record { i = w; among = among; broken = subst (λ us. IsUnsoundAmong files w.top us f) (ap (flat_map item_uses) c.deref.ensures.value ∙ sym (items_uses c.in-Interface.interface.items.items)) h }) (rw top_is at c.in_err-interface_names-in-Interface.ensures.refused))
 
 pub returns-in_err-world_names-in-World-clause-refused : goal.returns-in_err-world_names-in-World-clause-refused
 returns-in_err-world_names-in-World-clause-refused c =
@@ -41,7 +44,9 @@ returns-in_err-world_names-in-World-clause-refused c =
     let w : Item = record { top = top_names file; declared = TheWorld c.in-World.world } in
     let at : slice_get xs c.loop-item.item-index ≡ Some (ast.World c.in-World.world) = slice_get_read xs _ c.loop-item.item-index c.item-item.result refl c.loop-item-test.true c.item-item.is ∙ ap Some c.in-World.is in
     let among : Contains (file_items file) w = rw c.declarations-declared.ensures at (declared_among (declared_items (top_names file)) xs c.loop-item.item-index _ w at refl) in
-    rw (p.1, p.2) (λ fs named. refused_weaker (IsUnsoundAmong fs w.top (flat_map own_uses (parts w))) (HasUnsoundUse fs (file_items file)) _ (λ f h. record { i = w; among = among; broken = unsound_wider fs w.top (flat_map own_uses (parts w)) (uses w) f (λ u. among_wider own_uses part_uses (parts w) u (λ q. own_among q u)) h }) (c.in_err-world_names-in-World.ensures.refused fs file named))
+    let files = c.args.files.now in
+    let top_is : top_at files c.args.place ≡ top_names file = ap names_at_top c.requires.file in
+    rw (p.1, p.2) (refused_weaker (IsUnsoundAmong files w.top (flat_map own_uses (parts w))) (HasUnsoundUse files (file_items file)) _ (λ f h. record { i = w; among = among; broken = unsound_wider files w.top (flat_map own_uses (parts w)) (uses w) f (λ u. among_wider own_uses part_uses (parts w) u (λ q. own_among q u)) h }) (rw top_is at c.in_err-world_names-in-World.ensures.refused))
 
 pub returns-in_err-names_inside-in-World-clause-refused : goal.returns-in_err-names_inside-in-World-clause-refused
 returns-in_err-names_inside-in-World-clause-refused c =
@@ -51,7 +56,9 @@ returns-in_err-names_inside-in-World-clause-refused c =
     let w : Item = record { top = top_names file; declared = TheWorld c.in-World.world } in
     let at : slice_get xs c.loop-item.item-index ≡ Some (ast.World c.in-World.world) = slice_get_read xs _ c.loop-item.item-index c.item-item.result refl c.loop-item-test.true c.item-item.is ∙ ap Some c.in-World.is in
     let among : Contains (file_items file) w = rw c.declarations-declared.ensures at (declared_among (declared_items (top_names file)) xs c.loop-item.item-index _ w at refl) in
-    rw (p.1, p.2) (λ fs named. refused_weaker (IsUnsoundAmong fs w.top (flat_map (side_uses Imported) (parts w))) (HasUnsoundUse fs (file_items file)) _ (λ f h. record { i = w; among = among; broken = unsound_wider fs w.top (flat_map (side_uses Imported) (parts w)) (uses w) f (λ u. among_wider (side_uses Imported) part_uses (parts w) u (λ q. side_among Imported q u)) h }) (c.in_err-names_inside-in-World.ensures.refused fs file named))
+    let files = c.args.files.now in
+    let top_is : top_at files c.args.place ≡ top_names file = ap names_at_top c.requires.file in
+    rw (p.1, p.2) (refused_weaker (IsUnsoundAmong files w.top (flat_map (side_uses Imported) (parts w))) (HasUnsoundUse files (file_items file)) _ (λ f h. record { i = w; among = among; broken = unsound_wider files w.top (flat_map (side_uses Imported) (parts w)) (uses w) f (λ u. among_wider (side_uses Imported) part_uses (parts w) u (λ q. side_among Imported q u)) h }) (rw top_is at c.in_err-names_inside-in-World.ensures.refused))
 
 pub returns-in_err-names_inside-in-World-2-clause-refused : goal.returns-in_err-names_inside-in-World-2-clause-refused
 returns-in_err-names_inside-in-World-2-clause-refused c =
@@ -61,7 +68,9 @@ returns-in_err-names_inside-in-World-2-clause-refused c =
     let w : Item = record { top = top_names file; declared = TheWorld c.in-World.world } in
     let at : slice_get xs c.loop-item.item-index ≡ Some (ast.World c.in-World.world) = slice_get_read xs _ c.loop-item.item-index c.item-item.result refl c.loop-item-test.true c.item-item.is ∙ ap Some c.in-World.is in
     let among : Contains (file_items file) w = rw c.declarations-declared.ensures at (declared_among (declared_items (top_names file)) xs c.loop-item.item-index _ w at refl) in
-    rw (p.1, p.2) (λ fs named. refused_weaker (IsUnsoundAmong fs w.top (flat_map (side_uses Exported) (parts w))) (HasUnsoundUse fs (file_items file)) _ (λ f h. record { i = w; among = among; broken = unsound_wider fs w.top (flat_map (side_uses Exported) (parts w)) (uses w) f (λ u. among_wider (side_uses Exported) part_uses (parts w) u (λ q. side_among Exported q u)) h }) (c.in_err-names_inside-in-World-2.ensures.refused fs file named))
+    let files = c.args.files.now in
+    let top_is : top_at files c.args.place ≡ top_names file = ap names_at_top c.requires.file in
+    rw (p.1, p.2) (refused_weaker (IsUnsoundAmong files w.top (flat_map (side_uses Exported) (parts w))) (HasUnsoundUse files (file_items file)) _ (λ f h. record { i = w; among = among; broken = unsound_wider files w.top (flat_map (side_uses Exported) (parts w)) (uses w) f (λ u. among_wider (side_uses Exported) part_uses (parts w) u (λ q. side_among Exported q u)) h }) (rw top_is at c.in_err-names_inside-in-World-2.ensures.refused))
 
 pub interface_names-requires-clause-paths : goal.interface_names-requires-clause-paths
 interface_names-requires-clause-paths c = λ u has. (
@@ -70,8 +79,7 @@ interface_names-requires-clause-paths c = λ u has. (
     let w : Item = record { top = top_names file; declared = TheInterface c.in-Interface.interface } in
     let at : slice_get xs c.loop-item.item-index ≡ Some (ast.Interface c.in-Interface.interface) = slice_get_read xs _ c.loop-item.item-index c.item-item.result refl c.loop-item-test.true c.item-item.is ∙ ap Some c.in-Interface.is in
     let among : Contains (file_items file) w = rw c.declarations-declared.ensures at (declared_among (declared_items (top_names file)) xs c.loop-item.item-index _ w at refl) in
-    let own = c.requires.named in
-    let here : HasItem c.args.files.now c.args.place w.declared = record { files = own.files; file = file; declared = record { are = own.are; among = item_among own.files c.args.place file w own.are.at among } } in
+    let here = item_here c.args.files.now c.args.place file w.declared c.requires.file among in
     use_has_path c.args.files.now c.args.place w.declared u here (rw (items_uses c.in-Interface.interface.items.items) (rw c.deref.ensures.value at has)))
 
 pub world_names-requires-clause-item : goal.world_names-requires-clause-item
@@ -81,8 +89,7 @@ world_names-requires-clause-item c =
     let w : Item = record { top = top_names file; declared = TheWorld c.in-World.world } in
     let at : slice_get xs c.loop-item.item-index ≡ Some (ast.World c.in-World.world) = slice_get_read xs _ c.loop-item.item-index c.item-item.result refl c.loop-item-test.true c.item-item.is ∙ ap Some c.in-World.is in
     let among : Contains (file_items file) w = rw c.declarations-declared.ensures at (declared_among (declared_items (top_names file)) xs c.loop-item.item-index _ w at refl) in
-    let own = c.requires.named in
-    record { files = own.files; file = file; declared = record { are = own.are; among = item_among own.files c.args.place file w own.are.at among } }
+    item_here c.args.files.now c.args.place file w.declared c.requires.file among
 
 pub names_inside-requires-clause-item : goal.names_inside-requires-clause-item
 names_inside-requires-clause-item c =
@@ -91,8 +98,7 @@ names_inside-requires-clause-item c =
     let w : Item = record { top = top_names file; declared = TheWorld c.in-World.world } in
     let at : slice_get xs c.loop-item.item-index ≡ Some (ast.World c.in-World.world) = slice_get_read xs _ c.loop-item.item-index c.item-item.result refl c.loop-item-test.true c.item-item.is ∙ ap Some c.in-World.is in
     let among : Contains (file_items file) w = rw c.declarations-declared.ensures at (declared_among (declared_items (top_names file)) xs c.loop-item.item-index _ w at refl) in
-    let own = c.requires.named in
-    record { files = own.files; file = file; declared = record { are = own.are; among = item_among own.files c.args.place file w own.are.at among } }
+    item_here c.args.files.now c.args.place file w.declared c.requires.file among
 
 pub names_inside-requires-in-World-clause-item : goal.names_inside-requires-in-World-clause-item
 names_inside-requires-in-World-clause-item c =
@@ -101,8 +107,7 @@ names_inside-requires-in-World-clause-item c =
     let w : Item = record { top = top_names file; declared = TheWorld c.in-World.world } in
     let at : slice_get xs c.loop-item.item-index ≡ Some (ast.World c.in-World.world) = slice_get_read xs _ c.loop-item.item-index c.item-item.result refl c.loop-item-test.true c.item-item.is ∙ ap Some c.in-World.is in
     let among : Contains (file_items file) w = rw c.declarations-declared.ensures at (declared_among (declared_items (top_names file)) xs c.loop-item.item-index _ w at refl) in
-    let own = c.requires.named in
-    record { files = own.files; file = file; declared = record { are = own.are; among = item_among own.files c.args.place file w own.are.at among } }
+    item_here c.args.files.now c.args.place file w.declared c.requires.file among
 
 pub loop-item-preserved : goal.loop-item-preserved
 loop-item-preserved c =
@@ -116,7 +121,9 @@ loop-item-preserved c =
     let old = c.args.items.now.items in
     let out = c.loop-item.items.items in
     let was = c.loop-item.invariant in
-    let own = c.requires.named in
+    let files = c.args.files.now in
+    let top_is : top_at files c.args.place ≡ top = ap names_at_top c.requires.file in
+    let front = map visited (foreign_interfaces files) in
     let more : take (i + 1) xs ≡ take i xs ++ x ∷ [] = take_more xs i x c.loop-item-test.true ∙ ap (λ y. take i xs ++ y ∷ []) (sym c.item-item.is) in
     let grown : all ≡ before ++ declared_items top x = flat_more (declared_items top) (take i xs) (take (i + 1) xs) x more in
     elim c.match-item.branch [
@@ -126,15 +133,14 @@ loop-item-preserved c =
           let at : slice_get xs i ≡ Some (ast.Interface b.in-Interface.interface) = slice_get_read xs _ i x refl c.loop-item-test.true c.item-item.is ∙ ap Some b.in-Interface.is in
           let among : Contains (file_items file) w = rw c.declarations-declared.ensures at (declared_among (declared_items top) xs i _ w at refl) in
           let new = b.in_ok-push-in-Interface.ensures.items in
-          let e = rw b.deref.ensures.value at b.in_ok-interface_names-in-Interface.ensures in
-          let named_by = e.names own.files file own.are in
+          let e = rw (b.deref.ensures.value, top_is) at b.in_ok-interface_names-in-Interface.ensures in
           rw b.items-is (record {
             items = one_more item_behind (map item_behind old) out _ _ before all w new was.items refl one;
-            names = one_more names_behind (map names_behind old) out _ _ (map scope_names before) (map scope_names all) (scope_names w) new was.names named_by (ap (map scope_names) one ∙ map-append scope_names before (w ∷ []));
+            names = one_more names_behind (map names_behind old) out _ _ (map scope_names before) (map scope_names all) (scope_names w) new was.names e.names (ap (map scope_names) one ∙ map-append scope_names before (w ∷ []));
             inside = λ side. one_more (inside_behind side) (map (inside_behind side) old) out _ _ (map (names_written side) before) (map (names_written side) all) (names_written side w) new (was.inside side) (inside_is _ w (ap (map _) b.new.ensures.items ∙ sym (interface_inside Imported top b.in-Interface.interface)) (ap (map _) b.new-in-Interface.ensures.items ∙ sym (interface_inside Exported top b.in-Interface.interface)) side) (ap (map (names_written side)) one ∙ map-append (names_written side) before (w ∷ []));
-            filed = λ fs named before. filed_more fs c.args.files.now out _ _ new (was.filed fs named before) (record { are = named; among = item_among fs c.args.place file w named.at among });
-            placed = λ fs named before. items_more (map visited (foreign_interfaces fs)) out _ _ new (was.placed fs named before) (item_placed (map visited (foreign_interfaces fs)) _ (e.placed fs file named) (none_all (λ ns. AreNamesPlaced (map visited (foreign_interfaces fs)) ns.items) _ b.new.ensures.items) (none_all (λ ns. AreNamesPlaced (map visited (foreign_interfaces fs)) ns.items) _ b.new-in-Interface.ensures.items));
-            sound = λ fs named. sound_items_more fs before all w one (was.sound fs named) (sound_same fs top (flat_map item_uses b.in-Interface.interface.items.items) (uses w) (sym (items_uses b.in-Interface.interface.items.items)) (e.sound fs file named));
+            filed = λ before. filed_more files out _ _ new (was.filed before) (record { file = c.requires.file; among = item_among files c.args.place file w c.requires.file among });
+            placed = λ before. items_more front out _ _ new (was.placed before) (item_placed front _ e.placed (none_all (λ ns. AreNamesPlaced front ns.items) _ b.new.ensures.items) (none_all (λ ns. AreNamesPlaced front ns.items) _ b.new-in-Interface.ensures.items));
+            sound = sound_items_more files before all w one was.sound (sound_same files top (flat_map item_uses b.in-Interface.interface.items.items) (uses w) (sym (items_uses b.in-Interface.interface.items.items)) e.sound);
           }))
       | in-World+in_ok-world_names-in-World+in_ok-names_inside-in-World+in_ok-names_inside-in-World-2+in_ok-push-in-World b ↦ (
           let w : Item = record { top = top; declared = TheWorld b.in-World.world } in
@@ -142,17 +148,16 @@ loop-item-preserved c =
           let at : slice_get xs i ≡ Some (ast.World b.in-World.world) = slice_get_read xs _ i x refl c.loop-item-test.true c.item-item.is ∙ ap Some b.in-World.is in
           let among : Contains (file_items file) w = rw c.declarations-declared.ensures at (declared_among (declared_items top) xs i _ w at refl) in
           let new = b.in_ok-push-in-World.ensures.items in
-          let e = b.in_ok-world_names-in-World.ensures in
-          let imported = b.in_ok-names_inside-in-World.ensures in
-          let exported = b.in_ok-names_inside-in-World-2.ensures in
-          let named_by = e.names own.files file own.are in
+          let e = rw top_is at b.in_ok-world_names-in-World.ensures in
+          let imported = rw top_is at b.in_ok-names_inside-in-World.ensures in
+          let exported = rw top_is at b.in_ok-names_inside-in-World-2.ensures in
           rw b.items-is (record {
             items = one_more item_behind (map item_behind old) out _ _ before all w new was.items refl one;
-            names = one_more names_behind (map names_behind old) out _ _ (map scope_names before) (map scope_names all) (scope_names w) new was.names named_by (ap (map scope_names) one ∙ map-append scope_names before (w ∷ []));
-            inside = λ side. one_more (inside_behind side) (map (inside_behind side) old) out _ _ (map (names_written side) before) (map (names_written side) all) (names_written side w) new (was.inside side) (inside_is _ w (imported.names own.files file own.are) (exported.names own.files file own.are) side) (ap (map (names_written side)) one ∙ map-append (names_written side) before (w ∷ []));
-            filed = λ fs named before. filed_more fs c.args.files.now out _ _ new (was.filed fs named before) (record { are = named; among = item_among fs c.args.place file w named.at among });
-            placed = λ fs named before. items_more (map visited (foreign_interfaces fs)) out _ _ new (was.placed fs named before) (item_placed (map visited (foreign_interfaces fs)) _ (e.placed fs file named) (imported.placed fs file named) (exported.placed fs file named));
-            sound = λ fs named. sound_items_more fs before all w one (was.sound fs named) (sound_uses fs top (parts w) (e.sound fs file named) (imported.sound fs file named) (exported.sound fs file named));
+            names = one_more names_behind (map names_behind old) out _ _ (map scope_names before) (map scope_names all) (scope_names w) new was.names e.names (ap (map scope_names) one ∙ map-append scope_names before (w ∷ []));
+            inside = λ side. one_more (inside_behind side) (map (inside_behind side) old) out _ _ (map (names_written side) before) (map (names_written side) all) (names_written side w) new (was.inside side) (inside_is _ w imported.names exported.names side) (ap (map (names_written side)) one ∙ map-append (names_written side) before (w ∷ []));
+            filed = λ before. filed_more files out _ _ new (was.filed before) (record { file = c.requires.file; among = item_among files c.args.place file w c.requires.file among });
+            placed = λ before. items_more front out _ _ new (was.placed before) (item_placed front _ e.placed imported.placed exported.placed);
+            sound = sound_items_more files before all w one was.sound (sound_uses files top (parts w) e.sound imported.sound exported.sound);
           }))
       | in-Use b ↦ (
           let none : all ≡ before = grown ∙ ap (λ (d : AstItem). before ++ declared_items top d) b.in-Use.is ∙ append-nil before in

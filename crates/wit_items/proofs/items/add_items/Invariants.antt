@@ -1,11 +1,10 @@
-use Rattle.std.proofs.Common.{◌≡◌, ◌++◌, List, map, take}
+use Rattle.std.proofs.Common.{◌≡◌, ◌++◌, map, take}
 use Rattle.std.specs.List.{flat_map}
-use Rattle.wit_tree.specs.declared.tree.PackageFile.{PackageFile}
 use Rattle.wit_tree.specs.declared.tree.WorldSide.{WorldSide}
 use Rattle.wit_syntax.specs.Source.{top_names, declared_items, scope_names}
 use Rattle.wit_syntax.specs.Foreign.{visited, foreign_interfaces}
 use Rattle.wit_items.specs.Front.{AreItemsPlaced}
-use Rattle.wit_items.specs.Items.{item_behind, names_behind, AreNamesAt, AreFiled, HaveSoundUses}
+use Rattle.wit_items.specs.Items.{item_behind, names_behind, AreFiled, HaveSoundUses}
 use Rattle.wit_items.specs.Inside.{inside_behind, names_written}
 use Rattle.wit_items.proofs.items.add_items.Given as goal
 
@@ -14,7 +13,7 @@ invariant-loop-item l = record {
   items : map item_behind l.items.items ≡ map item_behind l.fn.items.items ++ flat_map (declared_items (top_names l.file)) (take l.item-index l.declared);
   names : map names_behind l.items.items ≡ map names_behind l.fn.items.items ++ map scope_names (flat_map (declared_items (top_names l.file)) (take l.item-index l.declared));
   inside : (side : WorldSide) → map (inside_behind side) l.items.items ≡ map (inside_behind side) l.fn.items.items ++ map (names_written side) (flat_map (declared_items (top_names l.file)) (take l.item-index l.declared));
-  filed : (fs : List PackageFile) → AreNamesAt fs l.files l.place l.file → AreFiled fs l.files l.fn.items.items → AreFiled fs l.files l.items.items;
-  placed : (fs : List PackageFile) → AreNamesAt fs l.files l.place l.file → AreItemsPlaced (map visited (foreign_interfaces fs)) l.fn.items.items → AreItemsPlaced (map visited (foreign_interfaces fs)) l.items.items;
-  sound : (fs : List PackageFile) → AreNamesAt fs l.files l.place l.file → HaveSoundUses fs (flat_map (declared_items (top_names l.file)) (take l.item-index l.declared));
+  filed : AreFiled l.files l.fn.items.items → AreFiled l.files l.items.items;
+  placed : AreItemsPlaced (map visited (foreign_interfaces l.files)) l.fn.items.items → AreItemsPlaced (map visited (foreign_interfaces l.files)) l.items.items;
+  sound : HaveSoundUses l.files (flat_map (declared_items (top_names l.file)) (take l.item-index l.declared));
 }

@@ -1,15 +1,16 @@
-use Rattle.std.proofs.Common.{◌≡◌, ◌+◌, ◌++◌, ◌∷◌, [], Some, arith, map, take, refl, sym, ap, ◌∙◌}
+use Rattle.std.proofs.Common.{◌≡◌, ℕ, ◌+◌, ◌≤◌, List, length, ◌++◌, ◌∷◌, [], Some, arith, map, take, refl, sym, ap, ◌∙◌, subst}
 use Rattle.std.specs.Prelude.{slice_get}
 use Rattle.std.proofs.lemmas.List.{map-append, take_all}
 use Rattle.std.proofs.lemmas.Option.{slice_get_read}
 use Rattle.std.proofs.lemmas.Result.{err_from_is_err_and}
+use Rattle.wit_tree.specs.declared.tree.PackageFile.{PackageFile}
 use Rattle.wit_syntax.specs.Source.{Item, file_items, all_items, scope_names}
 use Rattle.wit_syntax.specs.Scope.{uses}
 use Rattle.wit_syntax.specs.Broken.{IsBroken}
 use Rattle.wit_syntax.proofs.Refusing.{refused_weaker}
 use Rattle.wit_syntax.proofs.Orders.{take_next}
 use Rattle.wit_files.proofs.Lost.{flat_more}
-use Rattle.wit_items.specs.Items.{AreNamesAt, AreSound, HasUnsoundUse}
+use Rattle.wit_items.specs.Items.{AreSound, HaveSoundUses, HasUnsoundUse}
 use Rattle.wit_syntax.specs.Foreign.{visited, foreign_interfaces}
 use Rattle.wit_items.specs.Inside.{names_written}
 use Rattle.wit_items.proofs.Placed.{items_none}
@@ -22,23 +23,21 @@ loop-place-init c = rw c.in_ok-items.ensures.items (record {
   items = refl;
   names = refl;
   inside = λ side. inside_none side;
-  filed = filed_none c.args.files.now c.args.names.now;
-  placed = items_none (map visited (foreign_interfaces c.args.files.now));
+  filed = filed_none c.args.names.now;
+  placed = items_none (map visited (foreign_interfaces c.args.names.now));
   sound = record { each = λ i among. absurd (let lt = among.1 in let f : ⊥ = omega arith in f) };
 })
 
-pub add_items-requires-clause-named : goal.add_items-requires-clause-named
-add_items-requires-clause-named c =
-    let files = c.args.files.now in
-    record { files = files; are = record { are = c.requires.named; at = slice_get_read files _ c.loop-place.place c.index-files-place.result refl c.loop-place-test.true c.index-files-place.is } }
+pub add_items-requires-clause-file : goal.add_items-requires-clause-file
+add_items-requires-clause-file c =
+    rw c.requires.files (slice_get_read c.args.files.now _ c.loop-place.place c.index-files-place.result refl c.loop-place-test.true c.index-files-place.is)
 
 pub loop-place-preserved : goal.loop-place-preserved
 loop-place-preserved c =
-    let files = c.args.files.now in
+    let files = c.args.names.now in
     let i = c.loop-place.place in
     let file = c.index-files-place.result in
-    let at : slice_get files i ≡ Some file = slice_get_read files _ i file refl c.loop-place-test.true c.index-files-place.is in
-    let named : AreNamesAt files c.args.names.now i file = record { are = c.requires.named; at = at } in
+    let at : slice_get files i ≡ Some file = rw c.requires.files (slice_get_read c.args.files.now _ i file refl c.loop-place-test.true c.index-files-place.is) in
     let before = all_items (take i files) in
     let own = file_items file in
     let was = c.loop-place.invariant in
@@ -49,27 +48,31 @@ loop-place-preserved c =
       items = e.items ∙ ap (λ l. l ++ own) was.items ∙ sym grown;
       names = e.names ∙ ap (λ l. l ++ map scope_names own) was.names ∙ sym (map-append scope_names before own) ∙ ap (map scope_names) (sym grown);
       inside = λ side. e.inside side ∙ ap (λ l. l ++ map (names_written side) own) (was.inside side) ∙ sym (map-append (names_written side) before own) ∙ ap (map (names_written side)) (sym grown);
-      filed = e.filed files named was.filed;
-      placed = e.placed files named was.placed;
-      sound = record { each = items_held (λ (w : Item). AreSound files w.top (uses w)) (take i files) (take (i + 1) files) file more was.sound.each (e.sound files named).each };
+      filed = e.filed was.filed;
+      placed = e.placed was.placed;
+      sound = record { each = items_held (λ (w : Item). AreSound files w.top (uses w)) (take i files) (take (i + 1) files) file more was.sound.each e.sound.each };
     }
 
 pub returns-in_err-add_items-clause-refused : goal.returns-in_err-add_items-clause-refused
 returns-in_err-add_items-clause-refused c =
     let p = err_from_is_err_and c.from_residual-in_err-add_items.result c.from_residual-in_err-add_items.ensures.1 in
-    let files = c.args.files.now in
+    let files = c.args.names.now in
     let file = c.index-files-place.result in
-    let at : slice_get files c.loop-place.place ≡ Some file = slice_get_read files _ c.loop-place.place file refl c.loop-place-test.true c.index-files-place.is in
-    rw (p.1, p.2) (refused_weaker (HasUnsoundUse files (file_items file)) (IsBroken files) _ (λ f h. unsound_broken files c.loop-place.place file at f h) (c.in_err-add_items.ensures.refused files (record { are = c.requires.named; at = at })))
+    let at : slice_get files c.loop-place.place ≡ Some file = rw c.requires.files (slice_get_read c.args.files.now _ c.loop-place.place file refl c.loop-place-test.true c.index-files-place.is) in
+    rw (p.1, p.2) (refused_weaker (HasUnsoundUse files (file_items file)) (IsBroken files) _ (λ f h. unsound_broken files c.loop-place.place file at f h) c.in_err-add_items.ensures.refused)
+
+-- the files up to the place at which the loop ends
+all_taken : (files lent : List PackageFile) (place : ℕ) → lent ≡ files → length lent ≤ place → take place files ≡ files
+all_taken files lent place same past = take_all place files (subst (λ (l : List PackageFile). length l ≤ place) same past)
 
 pub returns-clause-items : goal.returns-clause-items
-returns-clause-items c = c.loop-place.invariant.items ∙ ap all_items (take_all c.loop-place.place c.args.files.now c.loop-place-test.false)
+returns-clause-items c = c.loop-place.invariant.items ∙ ap all_items (all_taken c.args.names.now c.args.files.now c.loop-place.place (sym c.requires.files) c.loop-place-test.false)
 
 pub returns-clause-names : goal.returns-clause-names
-returns-clause-names c = c.loop-place.invariant.names ∙ ap (λ l. map scope_names (all_items l)) (take_all c.loop-place.place c.args.files.now c.loop-place-test.false)
+returns-clause-names c = c.loop-place.invariant.names ∙ ap (λ l. map scope_names (all_items l)) (all_taken c.args.names.now c.args.files.now c.loop-place.place (sym c.requires.files) c.loop-place-test.false)
 
 pub returns-clause-inside : goal.returns-clause-inside
-returns-clause-inside c = λ side. c.loop-place.invariant.inside side ∙ ap (λ l. map (names_written side) (all_items l)) (take_all c.loop-place.place c.args.files.now c.loop-place-test.false)
+returns-clause-inside c = λ side. c.loop-place.invariant.inside side ∙ ap (λ l. map (names_written side) (all_items l)) (all_taken c.args.names.now c.args.files.now c.loop-place.place (sym c.requires.files) c.loop-place-test.false)
 
 pub returns-clause-sound : goal.returns-clause-sound
-returns-clause-sound c = rw (take_all c.loop-place.place c.args.files.now c.loop-place-test.false) at c.loop-place.invariant.sound
+returns-clause-sound c = subst (λ (l : List PackageFile). HaveSoundUses c.args.names.now (all_items l)) (all_taken c.args.names.now c.args.files.now c.loop-place.place (sym c.requires.files) c.loop-place-test.false) c.loop-place.invariant.sound

@@ -9,10 +9,10 @@ use Rattle.wit_items.proofs.items.declared_items.Given as goal
 
 abbrev pub invariant-loop-place : goal.invariant-loop-place
 invariant-loop-place l = record {
-  items : map item_behind l.items.items ≡ all_items (take l.place l.files);
-  names : map names_behind l.items.items ≡ map scope_names (all_items (take l.place l.files));
-  inside : (side : WorldSide) → map (inside_behind side) l.items.items ≡ map (names_written side) (all_items (take l.place l.files));
-  filed : AreFiled l.files l.names l.items.items;
-  placed : AreItemsPlaced (map visited (foreign_interfaces l.files)) l.items.items;
-  sound : HaveSoundUses l.files (all_items (take l.place l.files));
+  items : map item_behind l.items.items ≡ all_items (take l.place l.names);
+  names : map names_behind l.items.items ≡ map scope_names (all_items (take l.place l.names));
+  inside : (side : WorldSide) → map (inside_behind side) l.items.items ≡ map (names_written side) (all_items (take l.place l.names));
+  filed : AreFiled l.names l.items.items;
+  placed : AreItemsPlaced (map visited (foreign_interfaces l.names)) l.items.items;
+  sound : HaveSoundUses l.names (all_items (take l.place l.names));
 }

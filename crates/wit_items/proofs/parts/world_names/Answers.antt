@@ -5,7 +5,7 @@ use Rattle.std.proofs.lemmas.List.{take_more, take_all}
 use Rattle.std.proofs.lemmas.Option.{slice_get_read, slice_get-map}
 use Rattle.std.proofs.lemmas.Result.{err_from_is_err_and}
 use Rattle.std.specs.Option.{option_map}
-use Rattle.wit_syntax.specs.Source.{TheWorld, world_part, part_names, top_names}
+use Rattle.wit_syntax.specs.Source.{TheWorld, world_part, part_names}
 use Rattle.wit_syntax.specs.Scope.{part_uses}
 use Rattle.wit_syntax.proofs.Refusing.{refused_weaker}
 use Rattle.wit_items.specs.Items.{part_behind, own_uses, AreSound, IsUnsoundAmong}
@@ -13,14 +13,18 @@ use Rattle.wit_syntax.specs.Foreign.{visited, foreign_interfaces}
 use Rattle.wit_items.proofs.Placed.{names_none}
 use Rattle.wit_items.proofs.Written.{own_among}
 use Rattle.wit_items.proofs.Usable.{sound_none, sound_append, among_flat, parts_more, unsound_among, use_has_path}
+use Rattle.wit_files.specs.FileNames.{top_at}
 use Rattle.wit_items.proofs.parts.world_names.Goals as goal
 
 pub loop-part-init : goal.loop-part-init
-loop-part-init c = rw c.new-names.ensures.items (record {
-  names = λ fs file named. refl;
-  placed = λ fs file named. names_none (map visited (foreign_interfaces fs));
-  sound = λ fs file named. sound_none fs (top_names file);
-})
+loop-part-init c =
+    let files = c.args.files.now in
+    let top = top_at files c.args.place in
+    rw c.new-names.ensures.items (record {
+      names = refl;
+      placed = names_none (map visited (foreign_interfaces files));
+      sound = sound_none files top;
+    })
 
 pub add_part-requires-clause-paths : goal.add_part-requires-clause-paths
 add_part-requires-clause-paths c = λ u among. (
@@ -32,16 +36,20 @@ add_part-requires-clause-paths c = λ u among. (
 
 pub returns-in_err-add_part-clause-refused : goal.returns-in_err-add_part-clause-refused
 returns-in_err-add_part-clause-refused c =
+    let files = c.args.files.now in
+    let top = top_at files c.args.place in
     let p = err_from_is_err_and c.from_residual.result c.from_residual.ensures.1 in
     let xs = c.world_items-part-items.result.now in
     let i = c.loop-part.part-index in
     let x = c.part-item.result in
     let q = part_behind c.world_part.result in
     let at : slice_get (map world_part xs) i ≡ Some q = slice_get-map world_part xs i ∙ ap (option_map world_part) (slice_get_read xs _ i x refl c.loop-part-test.true c.part-item.is) ∙ ap Some (sym c.world_part.ensures) in
-    rw (p.1, p.2, sym c.world_items-part-items.ensures) (λ fs file named. refused_weaker (IsUnsoundAmong fs (top_names file) (own_uses q)) (IsUnsoundAmong fs (top_names file) (flat_map own_uses (map world_part xs))) _ (λ f h. unsound_among fs (top_names file) own_uses (map world_part xs) i q f at h) (c.in_err-add_part.ensures.refused fs file named))
+    rw (p.1, p.2, sym c.world_items-part-items.ensures) (refused_weaker (IsUnsoundAmong files top (own_uses q)) (IsUnsoundAmong files top (flat_map own_uses (map world_part xs))) _ (λ f h. unsound_among files top own_uses (map world_part xs) i q f at h) c.in_err-add_part.ensures.refused)
 
 pub loop-part-preserved : goal.loop-part-preserved
 loop-part-preserved c =
+    let files = c.args.files.now in
+    let top = top_at files c.args.place in
     let xs = c.world_items-part-items.result.now in
     let i = c.loop-part.part-index in
     let x = c.part-item.result in
@@ -50,13 +58,13 @@ loop-part-preserved c =
     let e = c.in_ok-add_part.ensures in
     let more : take (i + 1) xs ≡ take i xs ++ x ∷ [] = take_more xs i x c.loop-part-test.true ∙ ap (λ y. take i xs ++ y ∷ []) (sym c.part-item.is) in
     record {
-      names = λ fs file named. e.names fs file named ∙ ap (λ l. l ++ part_names (top_names file) q) (was.names fs file named) ∙ sym (parts_more (part_names (top_names file)) world_part (take i xs) (take (i + 1) xs) x q more c.world_part.ensures);
-      placed = λ fs file named. e.placed fs file named (was.placed fs file named);
-      sound = λ fs file named. sound_append fs (top_names file) (flat_map own_uses (map world_part (take i xs))) (own_uses q) (flat_map own_uses (map world_part (take (i + 1) xs))) (parts_more own_uses world_part (take i xs) (take (i + 1) xs) x q more c.world_part.ensures) (was.sound fs file named) (e.sound fs file named);
+      names = e.names ∙ ap (λ l. l ++ part_names top q) was.names ∙ sym (parts_more (part_names top) world_part (take i xs) (take (i + 1) xs) x q more c.world_part.ensures);
+      placed = e.placed was.placed;
+      sound = sound_append files top (flat_map own_uses (map world_part (take i xs))) (own_uses q) (flat_map own_uses (map world_part (take (i + 1) xs))) (parts_more own_uses world_part (take i xs) (take (i + 1) xs) x q more c.world_part.ensures) was.sound e.sound;
     }
 
 pub returns-clause-names : goal.returns-clause-names
-returns-clause-names c = λ fs file named. rw (sym c.world_items-part-items.ensures) (c.loop-part.invariant.names fs file named ∙ ap (λ l. flat_map (part_names (top_names file)) (map world_part l)) (take_all c.loop-part.part-index c.world_items-part-items.result.now c.loop-part-test.false))
+returns-clause-names c = rw (sym c.world_items-part-items.ensures) (c.loop-part.invariant.names ∙ ap (λ l. flat_map (part_names (top_at c.args.files.now c.args.place)) (map world_part l)) (take_all c.loop-part.part-index c.world_items-part-items.result.now c.loop-part-test.false))
 
 pub returns-clause-sound : goal.returns-clause-sound
-returns-clause-sound c = λ fs file named. rw (sym c.world_items-part-items.ensures) (subst (λ l. AreSound fs (top_names file) (flat_map own_uses (map world_part l))) (take_all c.loop-part.part-index c.world_items-part-items.result.now c.loop-part-test.false) (c.loop-part.invariant.sound fs file named))
+returns-clause-sound c = rw (sym c.world_items-part-items.ensures) (subst (λ l. AreSound c.args.files.now (top_at c.args.files.now c.args.place) (flat_map own_uses (map world_part l))) (take_all c.loop-part.part-index c.world_items-part-items.result.now c.loop-part-test.false) c.loop-part.invariant.sound)

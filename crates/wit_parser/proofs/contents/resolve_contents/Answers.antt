@@ -5,7 +5,7 @@ use Rattle.wit_parser.proofs.contents.resolve_contents.Goals as goal
 
 pub returns-clause-made : goal.returns-clause-made
 returns-clause-made c =
-    let files = c.args.files.now in
+    let files = c.args.names.now in
     let resolved = c.in_ok-types.resolved in
     let is = c.in_ok-types.ensures.both.0 in
     let r = rw c.in_ok-types.ensures.both.1 at c.resolve_files-added.ensures in
@@ -13,8 +13,8 @@ returns-clause-made c =
     let added : AddsFiles files c.in_ok-types.types resolved.interfaces resolved.worlds resolved.required.items = rw is r.added in
     rw c.in_ok-arenas.ensures.both.0 (record {
       added = rw (c.into_arena.ensures, o.required) added;
-      deps = o.deps files c.requires.names;
-      spans = o.spans files c.requires.names;
+      deps = o.deps;
+      spans = o.spans;
       unknown = o.unknown ∙ r.unknown;
     })
 

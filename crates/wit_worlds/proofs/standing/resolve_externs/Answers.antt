@@ -31,13 +31,13 @@ use Rattle.wit_externs.proofs.Linked.{nothing_on, places_more, right_more, noted
 use Rattle.wit_externs.proofs.Steps.{split_at, taken_next}
 use Rattle.wit_items.specs.Inside.{inside_behind}
 use Rattle.wit_items.specs.Items.{item_behind}
-use Rattle.wit_item_entries.specs.Held.{cells_of}
-use Rattle.wit_worlds.specs.declared.inside.Counts.{Counts}
-use Rattle.wit_worlds.specs.Inside.{IsMet, counted}
+use Rattle.wit_items.specs.Interfaces.{cells_of}
+use Rattle.wit_links.specs.declared.inside.Counts.{Counts}
+use Rattle.wit_links.specs.Inside.{IsMet, counted}
 use Rattle.wit_worlds.specs.Standing.{IsWrongExtern, WrongFunction, WrongExtern, WrongInside}
 use Rattle.wit_worlds.proofs.DoneSides.{all_done, done_function, done_inline, done_link, none_done, wrong_inside}
 use Rattle.wit_worlds.proofs.Counted.{met_room, met_room-inline}
-use Rattle.wit_worlds.proofs.Inlined.{names_own, names_within}
+use Rattle.wit_links.proofs.Inlined.{names_own, names_within}
 use Rattle.wit_worlds.proofs.InsideAt.{inside_count, inside_next}
 use Rattle.wit_worlds.proofs.standing.resolve_externs.Goals.{in-Function+in_ok-function-in-Function+in_ok-define_function-in-Function+in_ok-push-in-Function, in-Link+in_ok-define_link-in-Link, in-Inline+in_ok-id-in-Inline+in_ok-define_inline-in-Inline+in_ok-push-in-Inline}
 use Rattle.wit_worlds.proofs.standing.resolve_externs.Goals as goal

@@ -9,8 +9,8 @@ use Rattle.wit_externs.specs.Clash.{names_of_items}
 use Rattle.wit_externs.specs.Links.{AreNotedInside, AreRightLinks, bare_places}
 use Rattle.wit_externs.specs.Next.{linked_on}
 use Rattle.wit_items.specs.Items.{item_behind}
-use Rattle.wit_item_entries.specs.Held.{cells_of}
-use Rattle.wit_worlds.specs.Inside.{IsMet}
+use Rattle.wit_items.specs.Interfaces.{cells_of}
+use Rattle.wit_links.specs.Inside.{IsMet}
 use Rattle.wit_worlds.proofs.DoneSides.{AreDoneTo}
 use Rattle.wit_worlds.proofs.standing.resolve_externs.Given as goal
 

@@ -4,7 +4,7 @@ use Rattle.wit_arena.specs.Resolving.{Required}
 use Rattle.wit_arena.specs.Resolved.{AddsInterface}
 use Rattle.wit_items.specs.Items.{scope_item}
 use Rattle.wit_item_entries.specs.Between.{Emits}
-use Rattle.wit_item_entries.specs.Held.{cells_of}
+use Rattle.wit_items.specs.Interfaces.{cells_of}
 use Rattle.wit_worlds.proofs.standing.resolve_inline.Goals as goal
 
 pub returns-in_err-interface-clause-refused : goal.returns-in_err-interface-clause-refused

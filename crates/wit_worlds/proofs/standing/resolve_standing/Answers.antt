@@ -21,7 +21,7 @@ use Rattle.wit_externs.specs.Clash.{all_on, names_of_items}
 use Rattle.wit_externs.specs.Held.{externs_behind}
 use Rattle.wit_scopes.specs.Held.{name_behind}
 use Rattle.wit_items.specs.Items.{item_behind}
-use Rattle.wit_item_entries.specs.Held.{cells_of}
+use Rattle.wit_items.specs.Interfaces.{cells_of}
 use Rattle.wit_item_entries.specs.Body.{IsStandingBy}
 use Rattle.wit_item_entries.proofs.Behind.{all_names, front_folded, taken_before}
 use Rattle.wit_item_entries.proofs.ItemSides.{held_functions}

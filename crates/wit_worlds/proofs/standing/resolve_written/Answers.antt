@@ -11,9 +11,9 @@ use Rattle.wit_syntax.proofs.Refusing.{refused_weaker}
 use Rattle.wit_arena.specs.Resolved.{IsNameless, IsWrongInterface}
 use Rattle.wit_scopes.specs.Held.{name_behind}
 use Rattle.wit_items.specs.Items.{item_behind, scope_item}
-use Rattle.wit_item_entries.specs.Held.{cells_of, front_of}
+use Rattle.wit_items.specs.Interfaces.{cells_of, front_of}
 use Rattle.wit_worlds.specs.Standing.{AddsInside}
-use Rattle.wit_worlds.proofs.Inlined.{head_same}
+use Rattle.wit_links.proofs.Inlined.{head_same}
 use Rattle.wit_worlds.proofs.standing.resolve_written.Goals as goal
 
 pub resolve_inline-requires-clause-sort : goal.resolve_inline-requires-clause-sort

@@ -1,12 +1,12 @@
-use Rattle.std.proofs.Common.{◌≡◌, arith, ◌≤◌, ◌<◌, ◌+◌, ◌++◌, ◌∷◌, ℕ, List, [], All, take, length, get_or, true, false, Some, refl, ap, sym, ◌∙◌, subst}
+use Rattle.std.proofs.Common.{◌≡◌, ◌<◌, ◌+◌, ◌++◌, ◌∷◌, ℕ, List, [], All, take, length, get_or, true, false, Some, refl, ap, sym, ◌∙◌, subst}
 use Rattle.std.specs.Prelude.{slice_get, map}
 use Rattle.std.specs.List.{flat_map}
 use Rattle.std.proofs.lemmas.List.{take_all}
 use Rattle.std.proofs.lemmas.Option.{slice_get-get_or}
 use Rattle.std.proofs.lemmas.Result.{err_from_is_err_and}
 use Rattle.wit_items.specs.declared.items.Item.{Item as HeldItem}
-use Rattle.wit_item_entries.specs.Held.{front_of, cells_of}
-use Rattle.wit_syntax.specs.Source.{Item, is_declared_world, is_world, scope_names}
+use Rattle.wit_items.specs.Interfaces.{front_of, cells_of}
+use Rattle.wit_syntax.specs.Source.{is_declared_world, is_world, scope_names}
 use Rattle.wit_syntax.specs.Scope.{in_order, worlds_of}
 use Rattle.wit_syntax.specs.Sides.{with_inline}
 use Rattle.wit_items.specs.Inside.{inside_behind, names_written}
@@ -26,10 +26,8 @@ use Rattle.wit_worlds.proofs.world.resolve_worlds.Goals.{in-World+in_ok-resolve_
 use Rattle.wit_worlds.proofs.world.resolve_worlds.Goals as goal
 
 -- the item at hand
-item_at : (items : List HeldItem) (listed places : List ℕ) (k : ℕ) (x : HeldItem) → listed ≡ places → All (λ (place : ℕ). place < length items) places → k < length listed → x ≡ get_or items (get_or listed k 0) x → slice_get items (get_or listed k 0) ≡ Some x
-item_at items listed places k x same within lt is =
-    let inside = (subst (λ (l : List ℕ). All (λ (place : ℕ). place < length items) l) (sym same) within) k 0 lt in
-    slice_get-get_or items (get_or listed k 0) x inside ∙ ap Some (sym is)
+item_at : (items : List HeldItem) (places : List ℕ) (k : ℕ) (x : HeldItem) → All (λ (place : ℕ). place < length items) places → k < length places → x ≡ get_or items (get_or places k 0) x → slice_get items (get_or places k 0) ≡ Some x
+item_at items places k x within lt is = slice_get-get_or items (get_or places k 0) x (within k 0 lt) ∙ ap Some (sym is)
 
 pub loop-place-init : goal.loop-place-init
 loop-place-init c = record {
@@ -40,32 +38,25 @@ loop-place-init c = record {
   sound = record { sound = λ k u f at broken. absurd (let wrong : ⊥ = cc in wrong) };
   stable = record { legal = λ k u f at broken. absurd (let wrong : ⊥ = cc in wrong) };
   sided = record { legal = λ k u f at broken. absurd (let wrong : ⊥ = cc in wrong) };
-  linked = λ fs filed. record { usable = λ k u link at among. absurd (let wrong : ⊥ = cc in wrong) };
+  linked = record { usable = λ k u link at among. absurd (let wrong : ⊥ = cc in wrong) };
 }
 
 pub resolve_world-requires-clause-sort : goal.resolve_world-requires-clause-sort
 resolve_world-requires-clause-sort c = ap (λ (d : HeldDeclared). is_declared_world (declared_behind d)) c.in-World.is
 
-pub resolve_world-requires-clause-item : goal.resolve_world-requires-clause-item
-resolve_world-requires-clause-item c =
-    let there = item_at c.args.items.now c.item_order-place-items.result.now c.args.files.now.order.items c.loop-place.place-index c.index-items-place.result c.item_order-place-items.ensures c.requires.within c.loop-place-test.true c.index-items-place.is in
-    record { files = c.requires.filed.files; file = c.index-items-place.result.file.now; declared = c.requires.filed.filed.each _ c.index-items-place.result there }
-
-pub resolve_world-requires-clause-file : goal.resolve_world-requires-clause-file
-resolve_world-requires-clause-file c =
-    let there = item_at c.args.items.now c.item_order-place-items.result.now c.args.files.now.order.items c.loop-place.place-index c.index-items-place.result c.item_order-place-items.ensures c.requires.within c.loop-place-test.true c.index-items-place.is in
-    record { files = c.requires.filed.files; are = (c.requires.filed.filed.each _ c.index-items-place.result there).are }
+pub resolve_world-requires-clause-filed : goal.resolve_world-requires-clause-filed
+resolve_world-requires-clause-filed c = c.requires.filed.each _ c.index-items-place.result (item_at c.args.items.now c.args.places.now c.loop-place.place-index c.index-items-place.result c.requires.within c.loop-place-test.true c.index-items-place.is)
 
 pub resolve_world-requires-clause-placed : goal.resolve_world-requires-clause-placed
 resolve_world-requires-clause-placed c =
-    let there = item_at c.args.items.now c.item_order-place-items.result.now c.args.files.now.order.items c.loop-place.place-index c.index-items-place.result c.item_order-place-items.ensures c.requires.within c.loop-place-test.true c.index-items-place.is in
+    let there = item_at c.args.items.now c.args.places.now c.loop-place.place-index c.index-items-place.result c.requires.within c.loop-place-test.true c.index-items-place.is in
     placed_one (front_of c.args.interfaces.now.foreign.now) c.args.items.now _ c.index-items-place.result there c.requires.placed
 
 pub resolve_world-requires-clause-written : goal.resolve_world-requires-clause-written
 resolve_world-requires-clause-written c = λ side.
     let items = c.args.items.now in
     let x = c.index-items-place.result in
-    let there = item_at items c.item_order-place-items.result.now c.args.files.now.order.items c.loop-place.place-index x c.item_order-place-items.ensures c.requires.within c.loop-place-test.true c.index-items-place.is in
+    let there = item_at items c.args.places.now c.loop-place.place-index x c.requires.within c.loop-place-test.true c.index-items-place.is in
     alike (inside_behind side) (λ i. names_written side (item_behind i)) items (c.requires.written side ∙ map_map (names_written side) item_behind items) _ x there
 
 pub resolve_world-requires-clause-entries : goal.resolve_world-requires-clause-entries
@@ -74,9 +65,9 @@ resolve_world-requires-clause-entries c = rw c.loop-place.invariant.entries c.re
 pub resolve_world-requires-clause-named : goal.resolve_world-requires-clause-named
 resolve_world-requires-clause-named c =
     let items = c.args.items.now in
-    let p = get_or c.item_order-place-items.result.now c.loop-place.place-index 0 in
+    let p = get_or c.args.places.now c.loop-place.place-index 0 in
     let x = c.index-items-place.result in
-    let within : p < length items = (subst (λ (l : List ℕ). All (λ place. place < length items) l) (sym c.item_order-place-items.ensures) c.requires.within) c.loop-place.place-index 0 c.loop-place-test.true in
+    let within : p < length items = c.requires.within c.loop-place.place-index 0 c.loop-place-test.true in
     let there : slice_get items p ≡ Some x = slice_get-get_or items p x within ∙ ap Some (sym c.index-items-place.is) in
     alike names_behind (λ i. scope_names (item_behind i)) items (c.requires.named ∙ map_map scope_names item_behind items) p x there
 
@@ -86,21 +77,20 @@ returns-in_err-resolve_world-in-World-clause-refused c =
     let cs = cells_of c.args.interfaces.now in
     let by_name = c.args.interfaces.now.by_name in
     let ws = map item_behind c.args.items.now in
-    let places = c.args.files.now.order.items in
-    let listed = c.item_order-place-items.result.now in
+    let places = c.args.places.now in
     let i = c.loop-place.place-index in
-    let p = get_or listed i 0 in
+    let p = get_or places i 0 in
     let x = c.index-items-place.result in
     let w = item_behind x in
     let now = c.loop-place.worlds in
-    let at : slice_get places i ≡ Some p = ap (λ (l : List ℕ). slice_get l i) (sym c.item_order-place-items.ensures) ∙ slice_get-get_or listed i 0 c.loop-place-test.true in
-    let within : p < length c.args.items.now = (subst (λ (l : List ℕ). All (λ place. place < length c.args.items.now) l) (sym c.item_order-place-items.ensures) c.requires.within) i 0 c.loop-place-test.true in
+    let at : slice_get places i ≡ Some p = slice_get-get_or places i 0 c.loop-place-test.true in
+    let within : p < length c.args.items.now = c.requires.within i 0 c.loop-place-test.true in
     let there : slice_get ws p ≡ Some w = read_map item_behind c.args.items.now p x within c.index-items-place.is in
     let sort : is_world w ≡ true = ap (λ (d : HeldDeclared). is_declared_world (declared_behind d)) c.in-World.is in
-    let held : slice_get c.args.items.now p ≡ Some x = slice_get-get_or c.args.items.now p x within ∙ ap Some (sym c.index-items-place.is) in
     let foreign = front_of c.args.interfaces.now.foreign.now in
-    let others = others_of c.args.files.now in
-    rw (q.1, q.2) (λ fs filed. refused_weaker (IsWrongWorld fs c.loop-place.types cs (length c.args.interfaces.now.arena) c.loop-place.inside by_name now.by_name (OfWorld (length now.arena)) w) (IsWrongWorldNow fs foreign others c.args.types.now c.args.interfaces.now.arena by_name c.args.worlds.now.arena ws places) _ (λ f h. record {
+    let files = c.args.files.now in
+    let others = others_of files in
+    rw (q.1, q.2) (refused_weaker (IsWrongWorld files c.loop-place.types cs (length c.args.interfaces.now.arena) c.loop-place.inside by_name now.by_name (OfWorld (length now.arena)) w) (IsWrongWorldNow files foreign others c.args.types.now c.args.interfaces.now.arena by_name c.args.worlds.now.arena ws places) _ (λ f h. record {
       count = i;
       item = w;
       next = record { place = p; next = at; at = there };
@@ -112,24 +102,22 @@ returns-in_err-resolve_world-in-World-clause-refused c =
       worlds_by_name = now.by_name;
       worlds_index = c.loop-place.invariant.index;
       wrong = h;
-    }) (c.in_err-resolve_world-in-World.ensures.refused fs (filed.each p x held).are))
+    }) c.in_err-resolve_world-in-World.ensures.refused)
 
 pub loop-place-preserved : goal.loop-place-preserved
 loop-place-preserved c =
     let is = c.args.interfaces.now.arena in
     let ws = map item_behind c.args.items.now in
-    let places = c.args.files.now.order.items in
-    let listed = c.item_order-place-items.result.now in
+    let places = c.args.places.now in
     let i = c.loop-place.place-index in
-    let p = get_or listed i 0 in
+    let p = get_or places i 0 in
     let x = c.index-items-place.result in
     let w = item_behind x in
     let front = worlds_of (in_order ws (take i places)) in
     let was = c.loop-place.invariant in
-    let at : slice_get places i ≡ Some p = ap (λ (l : List ℕ). slice_get l i) (sym c.item_order-place-items.ensures) ∙ slice_get-get_or listed i 0 c.loop-place-test.true in
-    let within : p < length c.args.items.now = (subst (λ (l : List ℕ). All (λ place. place < length c.args.items.now) l) (sym c.item_order-place-items.ensures) c.requires.within) i 0 c.loop-place-test.true in
+    let at : slice_get places i ≡ Some p = slice_get-get_or places i 0 c.loop-place-test.true in
+    let within : p < length c.args.items.now = c.requires.within i 0 c.loop-place-test.true in
     let there : slice_get ws p ≡ Some w = read_map item_behind c.args.items.now p x within c.index-items-place.is in
-    let held : slice_get c.args.items.now p ≡ Some x = slice_get-get_or c.args.items.now p x within ∙ ap Some (sym c.index-items-place.is) in
     let before = c.loop-place.worlds.arena in
     elim c.match-item.branch [
       | in-World+in_ok-resolve_world-in-World b ↦ (
@@ -151,24 +139,23 @@ loop-place-preserved c =
             sound = rw all (sounds_both (flat_map with_inline front) (with_inline w) was.sound e.sound);
             stable = rw more (stability_more front w was.stable e.stable);
             sided = rw all (sides_both (flat_map with_inline front) (with_inline w) was.sided e.sided);
-            linked = λ fs filed. rw more (links_more fs front w (was.linked fs filed) (e.linked fs (filed.each p x held).are));
+            linked = rw more (links_more c.args.files.now front w was.linked e.linked);
           }))
       | in-Interface b ↦ (
           let sort : is_world w ≡ false = ap (λ (d : HeldDeclared). is_declared_world (declared_behind d)) b.in-Interface.is in
           let past : worlds_of (in_order ws (take (i + 1) places)) ≡ front = kept_past is_world ws places i p w at there sort in
-          rw (b.worlds-is, b.types-is, b.required-is, b.inside-is) (record { entries = was.entries; front = was.front; added = rw past was.added; index = was.index; sound = rw past was.sound; stable = rw past was.stable; sided = rw past was.sided; linked = λ fs filed. rw past (was.linked fs filed) }))
+          rw (b.worlds-is, b.types-is, b.required-is, b.inside-is) (record { entries = was.entries; front = was.front; added = rw past was.added; index = was.index; sound = rw past was.sound; stable = rw past was.stable; sided = rw past was.sided; linked = rw past was.linked }))
       | in-Inline b ↦ (
           let sort : is_world w ≡ false = ap (λ (d : HeldDeclared). is_declared_world (declared_behind d)) b.in-Inline.is in
           let past : worlds_of (in_order ws (take (i + 1) places)) ≡ front = kept_past is_world ws places i p w at there sort in
-          rw (b.worlds-is, b.types-is, b.required-is, b.inside-is) (record { entries = was.entries; front = was.front; added = rw past was.added; index = was.index; sound = rw past was.sound; stable = rw past was.stable; sided = rw past was.sided; linked = λ fs filed. rw past (was.linked fs filed) }))
+          rw (b.worlds-is, b.types-is, b.required-is, b.inside-is) (record { entries = was.entries; front = was.front; added = rw past was.added; index = was.index; sound = rw past was.sound; stable = rw past was.stable; sided = rw past was.sided; linked = rw past was.linked }))
     ]
 
 pub returns-clause-added : goal.returns-clause-added
 returns-clause-added c =
     let ws = map item_behind c.args.items.now in
-    let places = c.args.files.now.order.items in
+    let places = c.args.places.now in
     let i = c.loop-place.place-index in
     let now = c.loop-place.worlds in
-    let le : length places ≤ i = subst (λ (l : List ℕ). length l ≤ i) c.item_order-place-items.ensures c.loop-place-test.false in
-    let p = subst (λ (l : List ℕ). AreWorldsTo (front_of c.args.interfaces.now.foreign.now) (others_of c.args.files.now) c.args.interfaces.now.arena c.args.types.now c.loop-place.types c.args.worlds.now.arena now.arena c.loop-place.inside c.args.required.now.items c.loop-place.required.items (worlds_of (in_order ws l))) (take_all i places le) c.loop-place.invariant.added in
+    let p = subst (λ (l : List ℕ). AreWorldsTo (front_of c.args.interfaces.now.foreign.now) (others_of c.args.files.now) c.args.interfaces.now.arena c.args.types.now c.loop-place.types c.args.worlds.now.arena now.arena c.loop-place.inside c.args.required.now.items c.loop-place.required.items (worlds_of (in_order ws l))) (take_all i places c.loop-place-test.false) c.loop-place.invariant.added in
     record { own = p.emits.own; list = p.emits.list; holds = (addresses_in (worlds_of (in_order ws places)), p.emits.holds) }

@@ -1,4 +1,4 @@
-use Rattle.std.proofs.Common.{◌≡◌, length, refl, ap}
+use Rattle.std.proofs.Common.{length, refl, ap}
 use Rattle.std.proofs.lemmas.Result.{err_from_is_err_and}
 use Rattle.wit_types.specs.declared.types.TypeOwner.TheVariants.{World as OfWorld}
 use Rattle.wit_syntax.specs.Source.{scope_names}
@@ -7,11 +7,10 @@ use Rattle.wit_arena.specs.Resolved.{IsWrongWorld}
 use Rattle.wit_items.specs.Items.{item_behind}
 use Rattle.wit_item_entries.specs.Between.{AddsTurn}
 use Rattle.wit_item_entries.specs.Body.{IsWrongBody}
-use Rattle.wit_item_entries.specs.Held.{cells_of}
+use Rattle.wit_items.specs.Interfaces.{cells_of}
 use Rattle.wit_item_entries.proofs.ScopeFunctions.{turn_added, turn_listed}
-use Rattle.wit_item_entries.proofs.Telling.{world_stable}
 use Rattle.wit_item_entries.proofs.WrongNames.{wrong_world}
-use Rattle.wit_worlds.proofs.Parts.{body_item, turn_item}
+use Rattle.wit_worlds.proofs.Parts.{body_item, turn_item, world_stable}
 use Rattle.wit_worlds.proofs.world.world_parts.Goals as goal
 
 pub returns-in_err-head-clause-refused : goal.returns-in_err-head-clause-refused
@@ -25,7 +24,7 @@ returns-in_err-head-clause-refused c =
     let worlds = c.args.worlds.now.by_name in
     let o = OfWorld (length c.args.worlds.now.arena) in
     let item = item_behind c.args.item.now in
-    rw (p.1, p.2) (λ fs named. refused_weaker (IsWrongBody old cs by_name o item) (IsWrongWorld fs old cs count inside by_name worlds o item) _ (wrong_world fs old cs count inside by_name worlds o item) (body_item old cs by_name (OfWorld c.next_id.result) o item item _ (ap OfWorld c.next_id.ensures) refl c.in_err-head.ensures.refused))
+    rw (p.1, p.2) (refused_weaker (IsWrongBody old cs by_name o item) (IsWrongWorld c.args.files.now old cs count inside by_name worlds o item) _ (wrong_world c.args.files.now old cs count inside by_name worlds o item) (body_item old cs by_name (OfWorld c.next_id.result) o item item _ (ap OfWorld c.next_id.ensures) refl c.in_err-head.ensures.refused))
 
 pub world_content-content-requires-clause-listed : goal.world_content-content-requires-clause-listed
 world_content-content-requires-clause-listed c = turn_listed _ _ _ _ _ _ _ _ c.in_ok-head.ensures.adds
@@ -43,7 +42,7 @@ returns-in_err-notes-clause-refused c =
     let names = c.in_ok-head.head.names in
     let n : AddsTurn old c.world_head.new.types cs o (scope_names item) names.types names.turn.items names.required.items = turn_item old c.world_head.new.types cs (OfWorld c.next_id.result) o item item names.types names.turn.items names.required.items (ap OfWorld c.next_id.ensures) refl c.in_ok-head.ensures.adds in
     let refused = rw c.in_err-notes.ensures.refused at c.world_content-content.ensures.refused in
-    rw (p.1, p.2) (λ fs named. refused fs old named n)
+    rw (p.1, p.2) (refused old n)
 
 pub returns-clause-parts : goal.returns-clause-parts
 returns-clause-parts c =

@@ -19,10 +19,10 @@ returns-in-None-clause-refused c =
     ]
 
 pub resolve_named-requires-clause-header : goal.resolve_named-requires-clause-header
-resolve_named-requires-clause-header c = ap last_header c.pushed-files.ensures ∙ (sym c.last_header.ensures ∙ ap option_copied c.in-Some.is)
+resolve_named-requires-clause-header c = ap last_header (c.in_ok-names.ensures.files ∙ c.pushed-files.ensures) ∙ (sym c.last_header.ensures ∙ ap option_copied c.in-Some.is)
 
 pub resolve_named-requires-clause-legal : goal.resolve_named-requires-clause-legal
-resolve_named-requires-clause-legal c = c.in_ok-names.ensures.legal
+resolve_named-requires-clause-legal c = rw c.in_ok-names.ensures.files c.in_ok-names.ensures.legal
 
 pub returns-in_err-names-clause-refused : goal.returns-in_err-names-clause-refused
 returns-in_err-names-clause-refused c =
@@ -31,7 +31,7 @@ returns-in_err-names-clause-refused c =
     rw (p.1, p.2) (refused_weaker (IsBrokenNames files) (IsBroken files) _ (λ f h. Names h) (rw c.pushed-files.ensures at c.in_err-names.ensures.refused))
 
 pub returns-clause-made : goal.returns-clause-made
-returns-clause-made c = rw c.pushed-files.ensures at c.resolve_named.ensures.made
+returns-clause-made c = rw (c.in_ok-names.ensures.files, c.pushed-files.ensures) at c.resolve_named.ensures.made
 
 pub returns-clause-refused : goal.returns-clause-refused
-returns-clause-refused c = rw c.pushed-files.ensures at c.resolve_named.ensures.refused
+returns-clause-refused c = rw (c.in_ok-names.ensures.files, c.pushed-files.ensures) at c.resolve_named.ensures.refused

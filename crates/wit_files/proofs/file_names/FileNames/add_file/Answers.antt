@@ -1,4 +1,0 @@
-use Rattle.wit_files.proofs.file_names.FileNames.add_file.Goals as goal
-
-pub returns-clause-tops : goal.returns-clause-tops
-returns-clause-tops c = record { top = c.in_ok-top.top; last = c.in_ok-push.ensures.items; named = c.in_ok-top.ensures.named }

@@ -1,0 +1,51 @@
+use Rattle.std.proofs.Common.{◌≡◌, ◌+◌, ◌++◌, ◌∷◌, [], Some, map, take, sym, ap, ◌∙◌}
+use Rattle.std.specs.Prelude.{slice_get}
+use Rattle.std.proofs.lemmas.List.{map-append, take_more}
+use Rattle.std.proofs.lemmas.Option.{slice_get-get_or}
+use Rattle.std.proofs.lemmas.Result.{err_from_is_err_and}
+use Rattle.wit_order.specs.Table.{rows}
+use Rattle.wit_syntax.specs.Source.{file_items, all_items, is_world}
+use Rattle.wit_syntax.specs.Scope.{item_row}
+use Rattle.wit_syntax.specs.Broken.{IsBrokenItems}
+use Rattle.wit_syntax.proofs.Refusing.{refused_weaker}
+use Rattle.wit_files.specs.Checks.{IsWrongFile}
+use Rattle.wit_files.proofs.Lost.{broken_file, tops_more, flat_more}
+use Rattle.wit_files.proofs.Gathering.{fresh_file, tops_added}
+use Rattle.wit_files.proofs.tables.Tables.add_files.Goals as goal
+
+pub returns-in_err-add_file-clause-refused : goal.returns-in_err-add_file-clause-refused
+returns-in_err-add_file-clause-refused c =
+    let p = err_from_is_err_and c.from_residual.result c.from_residual.ensures.1 in
+    let files = c.args.files.now in
+    let i = c.loop-file.file-index in
+    let file = c.file-item.result in
+    let at : slice_get files i ≡ Some file = slice_get-get_or files i file c.loop-file-test.true ∙ ap Some (sym c.file-item.is) in
+    rw (p.1, p.2) (refused_weaker (IsWrongFile (all_items files) file) (IsBrokenItems files) _ (λ f h. broken_file files i file f at h) (c.in_err-add_file.ensures.refused (all_items files) c.requires.declared))
+
+pub add_file-requires : goal.add_file-requires
+add_file-requires c =
+    let files = c.args.files.now in
+    let i = c.loop-file.file-index in
+    let file = c.file-item.result in
+    let at : slice_get files i ≡ Some file = slice_get-get_or files i file c.loop-file-test.true ∙ ap Some (sym c.file-item.is) in
+    record { distinct = fresh_file (rows c.loop-file.names.items) files i file c.loop-file.invariant.items c.requires.distinct at }
+
+pub loop-file-preserved : goal.loop-file-preserved
+loop-file-preserved c =
+    let files = c.args.files.now in
+    let i = c.loop-file.file-index in
+    let file = c.file-item.result in
+    let before = all_items (take i files) in
+    let own = file_items file in
+    let was = c.loop-file.invariant in
+    let e = c.in_ok-add_file.ensures in
+    let more : take (i + 1) files ≡ take i files ++ file ∷ [] = take_more files i file c.loop-file-test.true ∙ ap (λ y. take i files ++ y ∷ []) (sym c.file-item.is) in
+    let grown : all_items (take (i + 1) files) ≡ before ++ own = flat_more file_items (take i files) (take (i + 1) files) file more in
+    record {
+      items = e.items ∙ ap (λ l. l ++ map item_row own) was.items ∙ sym (map-append item_row before own) ∙ ap (map item_row) (sym grown);
+      kinds = e.kinds ∙ ap (λ l. l ++ map is_world own) was.kinds ∙ sym (map-append is_world before own) ∙ ap (map is_world) (sym grown);
+      tops = rw more (tops_added (take i files) file c.loop-file.names.tops.items c.add_file.new.names.tops.items was.tops e.tops);
+      distinct = rw more (tops_more (take i files) file was.distinct e.distinct);
+      visits = e.visits ∙ was.visits;
+      foreign = e.foreign ∙ was.foreign;
+    }

@@ -1,0 +1,17 @@
+use Rattle.std.proofs.Common.{◌≡◌, map, take}
+use Rattle.wit_syntax.specs.Source.{all_items, is_world}
+use Rattle.wit_order.specs.Table.{rows}
+use Rattle.wit_syntax.specs.Scope.{item_rows}
+use Rattle.wit_files.specs.Checks.{AreDistinctTops}
+use Rattle.wit_files.specs.FileNames.{AreTopsOf}
+use Rattle.wit_files.proofs.tables.Tables.add_files.Given as goal
+
+abbrev pub invariant-loop-file : goal.invariant-loop-file
+invariant-loop-file l = record {
+  items : rows l.names.items ≡ item_rows (take l.file-index l.files);
+  kinds : l.names.kinds.items ≡ map is_world (all_items (take l.file-index l.files));
+  tops : AreTopsOf (take l.file-index l.files) l.names.tops.items;
+  distinct : AreDistinctTops (take l.file-index l.files);
+  visits : l.names.visits ≡ l.fn.names.visits;
+  foreign : l.names.foreign ≡ l.fn.names.foreign;
+}

@@ -1,0 +1,184 @@
+//! The tables of the names of files: of the items that they declare, and those at the top of each.
+ghost use Rattle.std.specs.Prelude.{◌≡◌, ◌++◌, [], List, map, IfOk, IfErr, OnOk};
+ghost use Rattle.wit_tree.specs.declared.tree.PackageFile.{PackageFile as TheFile};
+ghost use Rattle.wit_order.specs.Table.{rows, IsOrder};
+ghost use Rattle.wit_syntax.specs.Source.{Item as TheItem, top_names, top_text, file_items, all_items, item_name, is_world as is_the_world};
+ghost use Rattle.wit_syntax.specs.Scope.{item_row, item_rows};
+ghost use Rattle.wit_syntax.specs.Fault.{Fault};
+ghost use Rattle.wit_syntax.specs.Broken.{IsBrokenItems, IsBrokenNames, Refused};
+ghost use Rattle.wit_syntax.specs.Repeats.{AllDiffer};
+ghost use Rattle.wit_syntax.specs.Foreign.{foreign_visits as the_visits};
+ghost use Rattle.wit_files.specs.Tops.{AreDeclared};
+ghost use Rattle.wit_files.specs.Checks.{AreDistinctTops, AreLegalVisits, AreRightTops, IsBrokenVisit, IsWrongFile, IsWrongTop};
+ghost use Rattle.wit_files.specs.Foreign.{foreign_behind, AreItemsOf};
+ghost use Rattle.wit_files.specs.FileNames.{AddsTop, AreTablesOf, AreDeclarationsOf};
+
+use crate::foreign::{ForeignItems, ForeignVisit, check_visits, foreign_visits};
+use crate::item_table::{add_items, add_kinds, table_order};
+use crate::top_name::{Paths, Target, check_top_uses, file_names, item_names};
+use indexmap::IndexMap;
+use std::alloc::Global;
+use wit_tree::ParseResult;
+use wit_tree::tree::{Id, PackageFile};
+
+/// The items that files declare, each with the items that have to come before it, the names at the
+/// top of each file, and the items of other packages. An interface comes after those of the package
+/// that it uses, and a world after those that it includes.
+#[derive(Drop)]
+pub(crate) struct Tables<'f, 'a> {
+    /// The paths with a package of all files.
+    pub visits: Vec<ForeignVisit<'f, 'a>>,
+    /// The items of other packages.
+    pub foreign: ForeignItems<'f, 'a>,
+    /// The items by name, each with the names of the items that have to come before it.
+    pub items: IndexMap<&'a str, Vec<Id<'a>>>,
+    /// Of each item whether it is a world.
+    pub kinds: Vec<bool>,
+    /// Of each file the names at its top, with what each stands for.
+    pub tops: Vec<IndexMap<&'a str, Target<'f, 'a>>>,
+    /// The places of the items in their order.
+    pub order: Vec<usize>,
+}
+
+impl<'f, 'a> Tables<'f, 'a> {
+    /// The items of other packages that files name, and no name of theirs yet; refuses attributes in
+    /// front of a path to one that break a rule of stability.
+    fn of_others(alloc: Global, files: &'f [PackageFile<'a>]) -> ParseResult<Self>
+        ensures visits { IfOk result (λ names. map foreign_behind names.visits.items ≡ the_visits files.now) }
+        ensures foreign { IfOk result (λ names. AreItemsOf (the_visits files.now) names.foreign) }
+        ensures items { IfOk result (λ names. rows names.items ≡ []) }
+        ensures kinds { IfOk result (λ names. names.kinds.items ≡ []) }
+        ensures tops { IfOk result (λ names. names.tops.items ≡ []) }
+        ensures legal { OnOk result (AreLegalVisits (the_visits files.now)) }
+        ensures refused { IfErr result (Refused (IsBrokenVisit (the_visits files.now))) }
+    {
+        let visits = foreign_visits(alloc, files)?;
+        check_visits(alloc, &visits)?;
+        let foreign = ForeignItems::of(alloc, &visits)?;
+        Ok(Tables {
+            visits,
+            foreign,
+            items: IndexMap::new(alloc),
+            kinds: Vec::new(alloc),
+            tops: Vec::new(alloc),
+            order: Vec::new(alloc),
+        })
+    }
+
+    /// Adds a file; refuses a name that stands twice at its top, and then a path that leads nowhere.
+    fn add_file(
+        alloc: Global,
+        file: &'f PackageFile<'a>,
+        declared: &IndexMap<&'a str, Target<'f, 'a>>,
+        names: &mut Tables<'f, 'a>,
+    ) -> ParseResult<()>
+        requires distinct { AllDiffer (map (λ row. row.name) (rows names.old.items) ++ map item_name (file_items file.now)) }
+        ensures items { OnOk result (rows names.new.items ≡ rows names.old.items ++ map item_row (file_items file.now)) }
+        ensures kinds { OnOk result (names.new.kinds.items ≡ names.old.kinds.items ++ map is_the_world (file_items file.now)) }
+        ensures tops { OnOk result (AddsTop file.now names.old.tops.items names.new.tops.items) }
+        ensures distinct { OnOk result (AllDiffer (map top_text (top_names file.now))) }
+        ensures visits { OnOk result (names.new.visits ≡ names.old.visits) }
+        ensures foreign { OnOk result (names.new.foreign ≡ names.old.foreign) }
+        ensures refused { IfErr result (λ e. (is : List TheItem) → AreDeclared is declared.now → Refused (IsWrongFile is file.now) e) }
+    {
+        add_kinds(file, &mut names.kinds)?;
+        let top = file_names(alloc, file)?;
+        let paths = Paths {
+            top: &top,
+            declared,
+        };
+        add_items(alloc, file, paths, &mut names.items)?;
+        names.tops.push(top)?;
+        Ok(())
+    }
+
+    /// Adds files.
+    fn add_files(
+        alloc: Global,
+        files: &'f [PackageFile<'a>],
+        declared: &IndexMap<&'a str, Target<'f, 'a>>,
+        names: &mut Tables<'f, 'a>,
+    ) -> ParseResult<()>
+        requires empty { rows names.old.items ≡ [] }
+        requires kindless { names.old.kinds.items ≡ [] }
+        requires none { names.old.tops.items ≡ [] }
+        requires declared { AreDeclared (all_items files.now) declared.now }
+        requires distinct { AllDiffer (map item_name (all_items files.now)) }
+        ensures names { OnOk result (AreDeclarationsOf files.now names.new) }
+        ensures distinct { OnOk result (AreDistinctTops files.now) }
+        ensures visits { OnOk result (names.new.visits ≡ names.old.visits) }
+        ensures foreign { OnOk result (names.new.foreign ≡ names.old.foreign) }
+        ensures refused { IfErr result (Refused (IsBrokenItems files.now)) }
+    {
+        for file in files {
+            Tables::add_file(alloc, file, declared, names)?;
+        }
+        Ok(())
+    }
+
+    /// Adds all files, and puts their items in order; refuses an item that is declared twice.
+    fn add_all(
+        alloc: Global,
+        files: &'f [PackageFile<'a>],
+        names: &mut Tables<'f, 'a>,
+    ) -> ParseResult<()>
+        requires empty { rows names.old.items ≡ [] }
+        requires kindless { names.old.kinds.items ≡ [] }
+        requires none { names.old.tops.items ≡ [] }
+        ensures legal { OnOk result ((f : Fault) → IsBrokenItems files.now f → ⊥) }
+        ensures names { OnOk result (AreDeclarationsOf files.now names.new) }
+        ensures order { OnOk result (IsOrder (item_rows files.now) names.new.order.items) }
+        ensures visits { OnOk result (names.new.visits ≡ names.old.visits) }
+        ensures foreign { OnOk result (names.new.foreign ≡ names.old.foreign) }
+        ensures refused { IfErr result (Refused (IsBrokenItems files.now)) }
+    {
+        let declared = item_names(alloc, files)?;
+        Tables::add_files(alloc, files, &declared, names)?;
+        drop(declared);
+        names.order = table_order(alloc, &names.items)?;
+        Ok(())
+    }
+
+    /// The tables of files, whatever the `use`s at the top of files name.
+    fn gather_items(alloc: Global, files: &'f [PackageFile<'a>]) -> ParseResult<Tables<'f, 'a>>
+        ensures visits { OnOk result (AreLegalVisits (the_visits files.now)) }
+        ensures legal { OnOk result ((f : Fault) → IsBrokenItems files.now f → ⊥) }
+        ensures tables { IfOk result (AreTablesOf files.now) }
+        ensures refused { IfErr result (Refused (IsBrokenNames files.now)) }
+    {
+        let mut names = Tables::of_others(alloc, files)?;
+        Tables::add_all(alloc, files, &mut names)?;
+        Ok(names)
+    }
+
+    /// Refuses a `use` at the top of a file that has attributes, or whose path is the name of no item.
+    fn check_top(&self, alloc: Global, file: &PackageFile<'_>) -> ParseResult<()>
+        ensures legal { OnOk result ((files : List TheFile) → AreTablesOf files self.now → (f : Fault) → IsWrongTop (all_items files) file.now.decl_list.items.items f → ⊥) }
+        ensures refused { IfErr result (λ e. (files : List TheFile) → AreTablesOf files self.now → Refused (IsWrongTop (all_items files) file.now.decl_list.items.items) e) }
+    {
+        Ok(check_top_uses(alloc, &self.items, file)?)
+    }
+
+    /// Refuses, file by file, a `use` at its top that has attributes, or whose path is the name of no item.
+    fn check_tops(&self, alloc: Global, files: &[PackageFile<'_>]) -> ParseResult<()>
+        requires { AreTablesOf files.now self.now }
+        ensures right { OnOk result (AreRightTops (all_items files.now) files.now) }
+        ensures refused { IfErr result (Refused (IsBrokenNames files.now)) }
+    {
+        for file in files {
+            self.check_top(alloc, file)?;
+        }
+        Ok(())
+    }
+
+    /// The tables of files, which break no rule about names.
+    pub fn gather(alloc: Global, files: &'f [PackageFile<'a>]) -> ParseResult<Tables<'f, 'a>>
+        ensures legal { OnOk result ((f : Fault) → IsBrokenNames files.now f → ⊥) }
+        ensures tables { IfOk result (AreTablesOf files.now) }
+        ensures refused { IfErr result (Refused (IsBrokenNames files.now)) }
+    {
+        let names = Tables::gather_items(alloc, files)?;
+        names.check_tops(alloc, files)?;
+        Ok(names)
+    }
+}

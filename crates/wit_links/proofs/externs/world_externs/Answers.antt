@@ -1,0 +1,57 @@
+use Rattle.std.proofs.Common.{◌≡◌, ◌+◌, ◌++◌, ◌∷◌, [], List, Some, map, take, refl, sym, ap, ◌∙◌}
+use Rattle.std.specs.Prelude.{slice_get}
+use Rattle.std.specs.List.{flat_map}
+use Rattle.std.specs.Option.{option_map}
+use Rattle.std.proofs.lemmas.List.{take_more, append-nil}
+use Rattle.std.proofs.lemmas.Option.{slice_get-map, slice_get_read}
+use Rattle.wit_tree.specs.declared.tree.WorldItem.{WorldItem}
+use Rattle.wit_syntax.specs.Function.{definition_functions}
+use Rattle.wit_syntax.specs.Sides.{SideItem, SideFunction, extern_items, part_items}
+use Rattle.wit_syntax.specs.Source.{Crossing, TheWorld, world_part}
+use Rattle.wit_syntax.proofs.Found.{contains_at}
+use Rattle.wit_items.proofs.Usable.{parts_more}
+use Rattle.wit_items.specs.Interfaces.{front_of}
+use Rattle.wit_links.proofs.Leading.{led_kept}
+use Rattle.wit_links.proofs.externs.world_externs.Goals.{in-TypeDef+in_ok-add_definition-in-TypeDef, in-Use, in-Include, in-Extern+in_ok-add_extern-in-Extern}
+use Rattle.wit_files.specs.FileNames.{top_at}
+use Rattle.wit_links.proofs.externs.world_externs.Goals as goal
+
+pub add_extern-requires-clause-part : goal.add_extern-requires-clause-part
+add_extern-requires-clause-part c =
+    let w = c.args.world.now in
+    let xs = c.world_items-part-items.result.now in
+    let k = c.loop-part.part-index in
+    let x = c.in-Extern.written in
+    let at : slice_get w.items.items k ≡ Some c.part-item.result = ap (λ (l : List WorldItem). slice_get l k) (sym c.world_items-part-items.ensures) ∙ slice_get_read xs _ k c.part-item.result refl c.loop-part-test.true c.part-item.is in
+    let there : slice_get (map world_part w.items.items) k ≡ Some (Crossing x) = slice_get-map world_part w.items.items k ∙ ap (option_map world_part) at ∙ ap (λ (y : WorldItem). Some (world_part y)) c.in-Extern.is in
+    record { declared = TheWorld w; item = c.requires.item; among = contains_at (map world_part w.items.items) k (Crossing x) there }
+
+pub loop-part-preserved : goal.loop-part-preserved
+loop-part-preserved c =
+    let xs = c.world_items-part-items.result.now in
+    let i = c.loop-part.part-index in
+    let x = c.part-item.result in
+    let was = c.loop-part.invariant in
+    let old = c.loop-part.externs.items in
+    let others = front_of c.args.interfaces.now.foreign.now in
+    let by_name = c.args.interfaces.now.by_name in
+    let front = flat_map part_items (map world_part (take i xs)) in
+    let more : take (i + 1) xs ≡ take i xs ++ x ∷ [] = take_more xs i x c.loop-part-test.true ∙ ap (λ (y : WorldItem). take i xs ++ y ∷ []) (sym c.part-item.is) in
+    let grown : flat_map part_items (map world_part (take (i + 1) xs)) ≡ front ++ part_items (world_part x) = parts_more part_items world_part (take i xs) (take (i + 1) xs) x (world_part x) more refl in
+    let part = λ (y : WorldItem). front ++ part_items (world_part y) in
+    elim c.match-part.branch [
+      | in-TypeDef+in_ok-add_definition-in-TypeDef b ↦ (
+          let d = b.in-TypeDef.definition in
+          rw b.externs-is (record {
+            behind = b.in_ok-add_definition-in-TypeDef.ensures.behind ∙ ap (λ (l : List SideItem). l ++ map SideFunction (definition_functions d.name d.body)) was.behind ∙ sym (grown ∙ ap part b.in-TypeDef.is);
+            led = led_kept c.args.files.now others by_name (top_at c.args.files.now c.args.place) old _ b.in_ok-add_definition-in-TypeDef.ensures.links was.led;
+          }))
+      | in-Use b ↦ rw b.externs-is (record { behind = was.behind ∙ sym (grown ∙ ap part b.in-Use.is ∙ append-nil front); led = was.led })
+      | in-Include b ↦ rw b.externs-is (record { behind = was.behind ∙ sym (grown ∙ ap part b.in-Include.is ∙ append-nil front); led = was.led })
+      | in-Extern+in_ok-add_extern-in-Extern b ↦ (
+          let x = b.in-Extern.written in
+          rw b.externs-is (record {
+            behind = b.in_ok-add_extern-in-Extern.ensures.behind ∙ ap (λ (l : List SideItem). l ++ extern_items x x.kind) was.behind ∙ sym (grown ∙ ap part b.in-Extern.is);
+            led = b.in_ok-add_extern-in-Extern.ensures.led was.led;
+          }))
+    ]

@@ -1,0 +1,95 @@
+use Rattle.std.proofs.Common.{◌≡◌, ◌⊎◌, ◌+◌, ℕ, List, [], ◌∷◌, ◌++◌, ◌<◌, length, get_or, take, Some, inl, inr, refl, sym, ap, ◌∙◌, subst, arith}
+use Rattle.std.specs.Prelude.{slice_get, map}
+use Rattle.std.specs.Option.{option_map}
+use Rattle.std.proofs.lemmas.List.{take_all}
+use Rattle.std.proofs.lemmas.Option.{slice_get-get_or, slice_get-map}
+use Rattle.std.proofs.lemmas.Result.{err_from_is_err_and}
+use Rattle.wit_tree.specs.declared.tree.WorldItem.{WorldItem}
+use Rattle.wit_tree.specs.declared.tree.WorldItem.TheVariants as world_item
+use Rattle.wit_syntax.specs.Notes.{IsBrokenStability}
+use Rattle.wit_syntax.specs.Source.{Item, TheWorld, Including, world_part}
+use Rattle.wit_arena.specs.Resolving.{IsLostInclude}
+use Rattle.wit_arena.specs.Resolved.{worlds_at, IsBrokenItemStability, OfInclude}
+use Rattle.wit_syntax.proofs.Refusing.{refused_weaker}
+use Rattle.wit_syntax.proofs.Found.{contains_at}
+use Rattle.wit_items.specs.Items.{others_of}
+use Rattle.wit_links.specs.Includes.{IsLost, AreStable}
+use Rattle.wit_links.proofs.Including.{included, AreIncluded, included_none, included_next, no_include, included_past, included_more, includes_are, included_among, lost_among, stable_none, stable_more}
+use Rattle.wit_links.proofs.includes.resolve_includes.Goals.{in-Include+in_ok-include+in_ok-push, in_default}
+use Rattle.wit_files.specs.FileNames.{top_at}
+use Rattle.wit_links.proofs.includes.resolve_includes.Goals as goal
+
+-- the part at hand
+part_at : (items xs : List WorldItem) (k : ℕ) (x y : WorldItem) → xs ≡ items → k < length xs → x ≡ get_or xs k x → x ≡ y → slice_get items k ≡ Some y
+part_at items xs k x y all lt is same = ap (λ (l : List WorldItem). slice_get l k) (sym all) ∙ slice_get-get_or xs k x lt ∙ ap Some (sym is ∙ same)
+
+pub loop-part-init : goal.loop-part-init
+loop-part-init c = record {
+  are = rw c.new-includes.ensures.items (included_none (worlds_at (others_of c.args.files.now) c.args.worlds.now.arena) (top_at c.args.files.now c.args.place));
+  stable = stable_none;
+}
+
+pub resolve_include-requires-clause-part : goal.resolve_include-requires-clause-part
+resolve_include-requires-clause-part c =
+    let w = c.args.world.now in
+    let k = c.loop-part.part-index in
+    let i = c.in-Include.include in
+    let at = part_at w.items.items c.world_items-part-items.result.now k c.part-item.result (world_item.Include i) c.world_items-part-items.ensures c.loop-part-test.true c.part-item.is c.in-Include.is in
+    let there = slice_get-map world_part w.items.items k ∙ ap (option_map world_part) at in
+    record { declared = TheWorld w; item = c.requires.item; among = contains_at (map world_part w.items.items) k (Including i) there }
+
+pub returns-in_err-include-clause-refused : goal.returns-in_err-include-clause-refused
+returns-in_err-include-clause-refused c =
+    let files = c.args.files.now in
+    let top = top_at files c.args.place in
+    let p = err_from_is_err_and c.from_residual.result c.from_residual.ensures.1 in
+    let by_name = c.args.worlds.now.by_name in
+    let w = c.args.world.now in
+    let k = c.loop-part.part-index in
+    let i = c.in-Include.include in
+    let at = part_at w.items.items c.world_items-part-items.result.now k c.part-item.result (world_item.Include i) c.world_items-part-items.ensures c.loop-part-test.true c.part-item.is c.in-Include.is in
+    let item : Item = record { top = top; declared = TheWorld w } in
+    rw (p.1, p.2) (refused_weaker (λ f. IsBrokenStability i.attributes.items f ⊎ IsLost files by_name top i f) (λ f. IsBrokenItemStability item f ⊎ IsLostInclude files by_name item f) _ (λ f h. elim h [
+      | inl unstable ↦ inl (OfInclude i (included_among w k i at) unstable)
+      | inr lost ↦ inr (lost_among files by_name top w k i f at lost)
+    ]) c.in_err-include.ensures.refused)
+
+pub loop-part-preserved : goal.loop-part-preserved
+loop-part-preserved c =
+    let worlds = worlds_at (others_of c.args.files.now) c.args.worlds.now.arena in
+    let items = c.args.world.now.items.items in
+    let k = c.loop-part.part-index in
+    let x = c.part-item.result in
+    let at : slice_get items k ≡ Some x = part_at items c.world_items-part-items.result.now k x x c.world_items-part-items.ensures c.loop-part-test.true c.part-item.is refl in
+    let was = c.loop-part.invariant in
+    elim c.match-part.branch [
+      | in-Include+in_ok-include+in_ok-push b ↦ (
+          let i = b.in-Include.include in
+          let next : included (take (k + 1) items) ≡ included (take k items) ++ i ∷ [] = included_next items k i (at ∙ ap Some b.in-Include.is) in
+          rw (b.includes-is, next, b.in_ok-push.ensures.items) (record {
+            are = included_more worlds (top_at c.args.files.now c.args.place) (included (take k items)) c.loop-part.includes.items i _ was.are b.in_ok-include.ensures.is;
+            stable = stable_more (included (take k items)) i was.stable b.in_ok-include.ensures.stable;
+          }))
+      | in_default b ↦ (
+          let past : included (take (k + 1) items) ≡ included (take k items) = included_past items k x at (no_include x b.in_default.not-Include) in
+          rw (b.includes-is, past) was)
+    ]
+
+pub returns-clause-are : goal.returns-clause-are
+returns-clause-are c =
+    let files = c.args.files.now in
+    let top = top_at files c.args.place in
+    let worlds = worlds_at (others_of files) c.args.worlds.now.arena in
+    let w = c.args.world.now in
+    let xs = c.world_items-part-items.result.now in
+    let k = c.loop-part.part-index in
+    let all : take k w.items.items ≡ w.items.items = ap (take k) (sym c.world_items-part-items.ensures) ∙ take_all k xs (omega arith) ∙ c.world_items-part-items.ensures in
+    rw c.fitted.ensures (includes_are worlds top w c.loop-part.includes.items (subst (λ (l : List WorldItem). AreIncluded worlds top (included l) c.loop-part.includes.items) all c.loop-part.invariant.are))
+
+pub returns-clause-stable : goal.returns-clause-stable
+returns-clause-stable c =
+    let w = c.args.world.now in
+    let xs = c.world_items-part-items.result.now in
+    let k = c.loop-part.part-index in
+    let all : take k w.items.items ≡ w.items.items = ap (take k) (sym c.world_items-part-items.ensures) ∙ take_all k xs (omega arith) ∙ c.world_items-part-items.ensures in
+    subst (λ (l : List WorldItem). AreStable (included l)) all c.loop-part.invariant.stable

@@ -1,0 +1,13 @@
+use Rattle.std.proofs.Common.{take}
+use Rattle.wit_arena.specs.Resolved.{worlds_at}
+use Rattle.wit_items.specs.Items.{others_of}
+use Rattle.wit_links.specs.Includes.{AreStable}
+use Rattle.wit_links.proofs.Including.{included, AreIncluded}
+use Rattle.wit_files.specs.FileNames.{top_at}
+use Rattle.wit_links.proofs.includes.resolve_includes.Given as goal
+
+abbrev pub invariant-loop-part : goal.invariant-loop-part
+invariant-loop-part l = record {
+  are : AreIncluded (worlds_at (others_of l.files) l.worlds.arena) (top_at l.files l.place) (included (take l.part-index l.world.items.items)) l.includes.items;
+  stable : AreStable (included (take l.part-index l.world.items.items));
+}

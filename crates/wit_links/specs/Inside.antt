@@ -1,0 +1,21 @@
+-- How many stand on the sides of a world, as they are met.
+use Rattle.std.specs.Prelude.{◌≡◌, List, length}
+use Rattle.std.specs.List.{filter, flat_map}
+use Rattle.wit_tree.specs.declared.tree.WorldSide.{WorldSide}
+use Rattle.wit_tree.specs.declared.tree.WorldSide.TheVariants.{Imported, Exported}
+use Rattle.wit_syntax.specs.Sides.{SideItem, is_interface, item_inline, items_on}
+use Rattle.wit_links.specs.declared.inside.Counts.{Counts}
+use Rattle.wit_links.specs.declared.inside.Met.{Met}
+
+-- how many of these are interfaces, and how many of them are written there
+abbrev pub counted : List SideItem → Counts
+counted xs = record { interfaces = length (filter is_interface xs); inline = length (flat_map item_inline xs) }
+
+-- what was met on a side
+abbrev pub met_on : WorldSide → Met → Counts
+met_on Imported m = m.imports
+met_on Exported m = m.exports
+
+-- what was met of these
+pub record IsMet (xs : List SideItem) (m : Met) : Type 0 where
+  pub on : (side : WorldSide) → met_on side m ≡ counted (items_on side xs)

@@ -1,0 +1,205 @@
+//! What stands on the sides of a world as it is written, with the interfaces that its paths lead to.
+ghost use Rattle.std.specs.Prelude.{◌≡◌, ◌<◌, ◌++◌, Contains, IfOk, OnOk, length, map, false, true};
+ghost use Rattle.std.specs.List.{flat_map};
+ghost use Rattle.wit_syntax.specs.Address.{is_foreign};
+ghost use Rattle.wit_syntax.specs.Function.{definition_functions};
+ghost use Rattle.wit_syntax.specs.Sides.{SideFunction, extern_items, extern_link, part_items};
+ghost use Rattle.wit_syntax.specs.Source.{TheWorld, Crossing, Local, declared_parts, is_declared_world, leads, path_scope, world_part};
+ghost use Rattle.wit_externs.specs.Held.{externs_behind, link_behind};
+ghost use Rattle.wit_externs.specs.declared.held.HeldLink.{HeldLink as TheLink};
+ghost use Rattle.wit_externs.specs.declared.held.HeldExtern.TheVariants.{Link as TheHeld};
+ghost use Rattle.wit_files.specs.FileNames.{top_at};
+ghost use Rattle.wit_items.specs.Items.{declared_behind, AreEntriesOf, HasItem, HasPart, HasPath};
+ghost use Rattle.wit_items.specs.Interfaces.{front_of};
+ghost use Rattle.wit_links.specs.Links.{AreLed, IsLed, interfaces_of_others, source_place};
+
+use std::alloc::{AllocError, Global};
+use wit_externs::held::{HeldExtern, HeldInline, HeldLink, Led};
+use wit_files::declaration::world_items;
+use wit_files::{FileNames, Target};
+use wit_items::interfaces::Interfaces;
+use wit_items::items::Declared;
+use wit_items::reached::{Reached, reach};
+use wit_model::AstItem as Entry;
+use wit_rules::held::HeldFunction;
+use wit_scopes::scope_name::Source;
+use wit_tree::tree::{Extern, ExternKind, Id, TypeBody, TypeDef, UsePath, World, WorldItem};
+
+/// The place of the interface that is held, where it is resolved.
+fn resolved(interfaces: &Interfaces<'_, '_, '_>, source: Source<'_, '_>) -> Option<usize>
+    ensures { result ≡ source_place interfaces.now.by_name source.entry }
+{
+    match source {
+        Source::Declared(id) => match interfaces.by_name.get(id.name) {
+            Some(id) => Some(id.index()),
+            None => None,
+        },
+        Source::Foreign { place, .. } => Some(place),
+    }
+}
+
+/// The name that a path in the file at a place leads to, where it leads to no other package.
+fn local_name<'f, 'a>(files: &FileNames<'f, 'a>, place: usize, path: &'f UsePath<'a>) -> Id<'a>
+    requires within { place < length files.now }
+    requires local { is_foreign (path_scope (top_at files.now place) path.now) ≡ false }
+    ensures { leads (top_at files.now place) path.now ≡ Local result }
+{
+    match files.target(place, path) {
+        Target::Local(id) => id,
+        Target::Foreign { .. } => unreachable!(),
+    }
+}
+
+/// What a path of a world in the file at a place leads to, among the interfaces that are resolved.
+/// `entries` are those of other packages' items.
+fn led<'f, 'a>(
+    files: &FileNames<'f, 'a>,
+    entries: &[Entry],
+    interfaces: &Interfaces<'_, '_, '_>,
+    place: usize,
+    path: &'f UsePath<'a>,
+) -> Led<'a>
+    requires path { HasPath files.now place path.now }
+    requires entries { AreEntriesOf files.now entries.now }
+    requires others { front_of interfaces.now.foreign.now ≡ interfaces_of_others files.now }
+    ensures { IsLed files.now (front_of interfaces.now.foreign.now) interfaces.now.by_name (top_at files.now place) path.now result }
+{
+    match reach(files, entries, place, path) {
+        Reached::Interface(source) => match resolved(interfaces, source) {
+            Some(place) => Led::Interface(place),
+            None => Led::Nothing(local_name(files, place, path)),
+        },
+        Reached::World => Led::World,
+        Reached::Nothing(id) => Led::Nothing(id),
+    }
+}
+
+/// Adds the functions of a definition: those of a resource.
+fn add_definition<'f, 'a>(
+    externs: &mut Vec<HeldExtern<'f, 'a>>,
+    definition: &'f TypeDef<'a>,
+) -> Result<(), AllocError>
+    ensures behind { OnOk result (externs_behind externs.new.items ≡ externs_behind externs.old.items ++ map SideFunction (definition_functions definition.now.name definition.now.body)) }
+    ensures links { OnOk result ((l : TheLink) → Contains externs.new.items (TheHeld l) → Contains externs.old.items (TheHeld l)) }
+{
+    if let TypeBody::Resource { funcs } = &definition.body {
+        for function in funcs {
+            externs.push(HeldExtern::Function(HeldFunction::Of(definition.name, function)))?;
+        }
+    }
+    Ok(())
+}
+
+/// An interface that is imported or exported by its path, perhaps under a name.
+fn held_link<'f, 'a>(
+    written: &'f Extern<'a>,
+    name: Option<Id<'a>>,
+    path: &'f UsePath<'a>,
+    led: Led<'a>,
+) -> HeldLink<'f, 'a>
+    ensures behind { link_behind result ≡ extern_link written.now name.entry path.now }
+    ensures led { result.led ≡ led.entry }
+{
+    HeldLink {
+        side: written.side,
+        docs: &written.docs,
+        attributes: &written.attributes,
+        name,
+        path,
+        led,
+    }
+}
+
+/// Adds what a world in the file at a place imports or exports.
+fn add_extern<'f, 'a>(
+    written: &'f Extern<'a>,
+    externs: &mut Vec<HeldExtern<'f, 'a>>,
+    files: &FileNames<'f, 'a>,
+    entries: &[Entry],
+    interfaces: &Interfaces<'_, '_, '_>,
+    place: usize,
+) -> Result<(), AllocError>
+    requires part { HasPart files.now place (Crossing written.now) }
+    requires entries { AreEntriesOf files.now entries.now }
+    requires others { front_of interfaces.now.foreign.now ≡ interfaces_of_others files.now }
+    ensures behind { OnOk result (externs_behind externs.new.items ≡ externs_behind externs.old.items ++ extern_items written.now written.now.kind) }
+    ensures led { OnOk result (AreLed files.now (front_of interfaces.now.foreign.now) interfaces.now.by_name (top_at files.now place) externs.old.items → AreLed files.now (front_of interfaces.now.foreign.now) interfaces.now.by_name (top_at files.now place) externs.new.items) }
+{
+    match &written.kind {
+        ExternKind::Interface(name, items) => externs.push(HeldExtern::Inline(HeldInline {
+            written,
+            name: *name,
+            items,
+        }))?,
+        ExternKind::Func(name, func) => externs.push(HeldExtern::Function(HeldFunction::Across(
+            written.side,
+            &written.docs,
+            &written.attributes,
+            *name,
+            func,
+        )))?,
+        ExternKind::Path(path) => {
+            let led = led(files, entries, interfaces, place, path);
+            externs.push(HeldExtern::Link(held_link(written, None, path, led)))?
+        }
+        ExternKind::NamedPath(name, path) => {
+            let led = led(files, entries, interfaces, place, path);
+            let link = held_link(written, Some(*name), path, led);
+            externs.push(HeldExtern::Link(link))?
+        }
+    }
+    Ok(())
+}
+
+/// What stands on the sides of a world in the file at a place. `entries` are those of other packages'
+/// items.
+fn world_externs<'f, 'a>(
+    alloc: Global,
+    world: &'f World<'a>,
+    files: &FileNames<'f, 'a>,
+    entries: &[Entry],
+    interfaces: &Interfaces<'_, '_, '_>,
+    place: usize,
+) -> Result<Vec<HeldExtern<'f, 'a>>, AllocError>
+    requires item { HasItem files.now place (TheWorld world.now) }
+    requires entries { AreEntriesOf files.now entries.now }
+    requires others { front_of interfaces.now.foreign.now ≡ interfaces_of_others files.now }
+    ensures behind { IfOk result (λ externs. externs_behind externs.items ≡ flat_map part_items (map world_part world.now.items.items)) }
+    ensures led { IfOk result (λ externs. AreLed files.now (front_of interfaces.now.foreign.now) interfaces.now.by_name (top_at files.now place) externs.items) }
+{
+    let mut externs = Vec::new(alloc);
+    for part in world_items(world) {
+        match part {
+            WorldItem::TypeDef(definition) => add_definition(&mut externs, definition)?,
+            WorldItem::Use(_) => {}
+            WorldItem::Include(_) => {}
+            WorldItem::Extern(written) => {
+                add_extern(written, &mut externs, files, entries, interfaces, place)?
+            }
+        }
+    }
+    Ok(externs)
+}
+
+/// What stands on the sides of a declared world in the file at a place. `entries` are those of other
+/// packages' items.
+pub fn declared_externs<'f, 'a>(
+    alloc: Global,
+    declared: &Declared<'f, 'a>,
+    files: &FileNames<'f, 'a>,
+    entries: &[Entry],
+    interfaces: &Interfaces<'_, '_, '_>,
+    place: usize,
+) -> Result<Vec<HeldExtern<'f, 'a>>, AllocError>
+    requires sort { is_declared_world (declared_behind declared.now) ≡ true }
+    requires item { HasItem files.now place (declared_behind declared.now) }
+    requires entries { AreEntriesOf files.now entries.now }
+    requires others { front_of interfaces.now.foreign.now ≡ interfaces_of_others files.now }
+    ensures behind { IfOk result (λ externs. externs_behind externs.items ≡ flat_map part_items (declared_parts (declared_behind declared.now))) }
+    ensures led { IfOk result (λ externs. AreLed files.now (front_of interfaces.now.foreign.now) interfaces.now.by_name (top_at files.now place) externs.items) }
+{
+    match declared {
+        Declared::World(world) => world_externs(alloc, *world, files, entries, interfaces, place),
+        Declared::Interface(_) | Declared::Inline(_) => unreachable!(),
+    }
+}

@@ -1,0 +1,182 @@
+//! Includes of worlds.
+ghost use Rattle.std.specs.Prelude.{◌≡◌, ◌<◌, ◌≤◌, ◌⊎◌, IfErr, IfOk, OnOk, length, map, true};
+ghost use Rattle.std.specs.List.{flat_map};
+ghost use Rattle.std.specs.Option.{option_copied};
+ghost use Rattle.wit_syntax.specs.Source.{leads, TheWorld, Including, world_part, declared_parts, is_declared_world};
+ghost use Rattle.wit_syntax.specs.Scope.{part_includes};
+ghost use Rattle.wit_syntax.specs.Notes.{IsBrokenStability};
+ghost use Rattle.wit_syntax.specs.Fault.{Fault};
+ghost use Rattle.wit_syntax.specs.Broken.{Refused};
+ghost use Rattle.wit_arena.specs.Whole.{renamed, IsInclude, AreIncludes};
+ghost use Rattle.wit_arena.specs.Resolving.{IsWorldIndex, IsLostInclude};
+ghost use Rattle.wit_arena.specs.Resolved.{worlds_at, IsBrokenItemStability};
+ghost use Rattle.wit_files.specs.FileNames.{top_at};
+ghost use Rattle.wit_items.specs.Items.{declared_behind, HasItem, HasPart, AreEntriesOf, others_of, world_entry, world_at};
+ghost use Rattle.wit_links.specs.Includes.{IsLost, AreStable};
+
+use std::alloc::{AllocError, Global};
+use wit_files::declaration::world_items;
+use wit_files::{FileNames, Target};
+use wit_items::items::Declared;
+use wit_items::reached::entry_of;
+use wit_model::{AstItem as Entry, IncludeName, World, WorldInclude};
+use wit_notes::attributes::check_stability;
+use wit_notes::refusal::refuse;
+use wit_notes::{path_id, told_stability};
+use wit_tree::ParseResult;
+use wit_tree::tree::{self, UsePath};
+use wit_types::{Arena, WorldId, WorldPlace};
+use wit_values::{Row, Text, TextTable};
+
+/// The worlds that are resolved, and the places of the declared ones by their names.
+#[derive(Drop)]
+pub struct Worlds<'n> {
+    /// The entries of other packages' items, the worlds of which are the front of the arena.
+    pub entries: &'n [Entry],
+    pub arena: Arena<World, WorldPlace>,
+    pub by_name: TextTable<WorldId>,
+}
+
+/// What an include renames.
+fn renames(alloc: Global, names: &[tree::IncludeName<'_>]) -> Result<Row<IncludeName>, AllocError>
+    ensures { IfOk result (λ renames. renames ≡ map renamed names.now) }
+{
+    let mut renames = Vec::with_capacity(alloc, names.len())?;
+    for name in names {
+        renames.push(IncludeName {
+            name: Text::from_str(alloc, name.name.name)?,
+            as_: Text::from_str(alloc, name.as_.name)?,
+        })?;
+    }
+    Ok(Row::from(renames))
+}
+
+/// The words for an include of an interface.
+fn not_a_world(alloc: Global, name: &str) -> Result<String, AllocError> {
+    format!(in alloc; "name `{name}` is defined as an interface, not a world")
+}
+
+/// The world that an entry is; none where there is no entry, or an interface's.
+fn world_of(entry: Option<&Entry>) -> Option<WorldId>
+    ensures { result ≡ world_entry (option_copied entry.entry) }
+{
+    match entry {
+        Some(Entry::World(id)) => Some(*id),
+        Some(Entry::Interface(_)) => None,
+        None => None,
+    }
+}
+
+/// The world that a path in the file at a place leads to; none where that is no world.
+fn included_world<'f, 'a>(
+    files: &FileNames<'f, 'a>,
+    worlds: &Worlds<'_>,
+    place: usize,
+    path: &'f UsePath<'a>,
+) -> Option<WorldId>
+    requires within { place < length files.now }
+    requires entries { AreEntriesOf files.now worlds.now.entries.now }
+    ensures { result ≡ world_at files.now worlds.now.by_name (leads (top_at files.now place) path.now) }
+{
+    match files.target(place, path) {
+        Target::Local(id) => match worlds.by_name.get(id.name) {
+            Some(id) => Some(*id),
+            None => None,
+        },
+        Target::Foreign { .. } => world_of(entry_of(files, worlds.entries, place, path)),
+    }
+}
+
+/// An include in the file at a place; refuses attributes that break a rule of stability, and then an
+/// include of an interface.
+fn resolve_include<'f, 'a>(
+    alloc: Global,
+    files: &FileNames<'f, 'a>,
+    place: usize,
+    worlds: &Worlds<'_>,
+    include: &'f tree::Include<'a>,
+) -> ParseResult<WorldInclude>
+    requires part { HasPart files.now place (Including include.now) }
+    requires entries { AreEntriesOf files.now worlds.now.entries.now }
+    requires front { length (others_of files.now) ≤ length worlds.now.arena }
+    requires index { IsWorldIndex (worlds_at (others_of files.now) worlds.now.arena) worlds.now.by_name }
+    ensures is { IfOk result (λ i. IsInclude (worlds_at (others_of files.now) worlds.now.arena) (top_at files.now place) include.now i) }
+    ensures stable { OnOk result ((f : Fault) → IsBrokenStability include.now.attributes.items f → ⊥) }
+    ensures refused { IfErr result (Refused (λ f. IsBrokenStability include.now.attributes.items f ⊎ IsLost files.now worlds.now.by_name (top_at files.now place) include.now f)) }
+{
+    check_stability(alloc, &include.attributes)?;
+    let path = path_id(&include.from);
+    let id = match included_world(files, worlds, place, &include.from) {
+        Some(id) => id,
+        None => {
+            let message = not_a_world(alloc, path.name)?;
+            return Err(refuse(alloc, 11, path.span, message.as_str()));
+        }
+    };
+    let names = renames(alloc, &include.names)?;
+    let stability = told_stability(alloc, &include.attributes)?;
+    Ok(WorldInclude {
+        stability,
+        id,
+        names,
+        span: path.span,
+    })
+}
+
+/// Includes, with no more room than they take.
+fn fitted(includes: Vec<WorldInclude>) -> Row<WorldInclude>
+    ensures { result ≡ includes.items }
+{
+    let mut includes = includes;
+    includes.shrink_to_fit();
+    Row::from(includes)
+}
+
+/// The includes of a world.
+fn resolve_includes<'f, 'a>(
+    alloc: Global,
+    world: &'f tree::World<'a>,
+    files: &FileNames<'f, 'a>,
+    worlds: &Worlds<'_>,
+    place: usize,
+) -> ParseResult<Row<WorldInclude>>
+    requires item { HasItem files.now place (TheWorld world.now) }
+    requires entries { AreEntriesOf files.now worlds.now.entries.now }
+    requires front { length (others_of files.now) ≤ length worlds.now.arena }
+    requires index { IsWorldIndex (worlds_at (others_of files.now) worlds.now.arena) worlds.now.by_name }
+    ensures are { IfOk result (λ includes. AreIncludes (worlds_at (others_of files.now) worlds.now.arena) (record { top = top_at files.now place; declared = TheWorld world.now }) includes) }
+    ensures stable { OnOk result (AreStable (flat_map part_includes (map world_part world.now.items.items))) }
+    ensures refused { IfErr result (Refused (λ f. IsBrokenItemStability (record { top = top_at files.now place; declared = TheWorld world.now }) f ⊎ IsLostInclude files.now worlds.now.by_name (record { top = top_at files.now place; declared = TheWorld world.now }) f)) }
+{
+    let mut includes = Vec::new(alloc);
+    for part in world_items(world) {
+        if let tree::WorldItem::Include(include) = part {
+            let include = resolve_include(alloc, files, place, worlds, include)?;
+            includes.push(include)?;
+        }
+    }
+    Ok(fitted(includes))
+}
+
+/// The includes of a declared world.
+pub fn declared_includes<'f, 'a>(
+    alloc: Global,
+    declared: &Declared<'f, 'a>,
+    files: &FileNames<'f, 'a>,
+    worlds: &Worlds<'_>,
+    place: usize,
+) -> ParseResult<Row<WorldInclude>>
+    requires sort { is_declared_world (declared_behind declared.now) ≡ true }
+    requires item { HasItem files.now place (declared_behind declared.now) }
+    requires entries { AreEntriesOf files.now worlds.now.entries.now }
+    requires front { length (others_of files.now) ≤ length worlds.now.arena }
+    requires index { IsWorldIndex (worlds_at (others_of files.now) worlds.now.arena) worlds.now.by_name }
+    ensures are { IfOk result (λ includes. AreIncludes (worlds_at (others_of files.now) worlds.now.arena) (record { top = top_at files.now place; declared = declared_behind declared.now }) includes) }
+    ensures stable { OnOk result (AreStable (flat_map part_includes (declared_parts (declared_behind declared.now)))) }
+    ensures refused { IfErr result (Refused (λ f. IsBrokenItemStability (record { top = top_at files.now place; declared = declared_behind declared.now }) f ⊎ IsLostInclude files.now worlds.now.by_name (record { top = top_at files.now place; declared = declared_behind declared.now }) f)) }
+{
+    match declared {
+        Declared::World(world) => resolve_includes(alloc, *world, files, worlds, place),
+        Declared::Interface(_) | Declared::Inline(_) => unreachable!(),
+    }
+}

@@ -1,0 +1,8 @@
+//! What declared worlds include, import and export.
+#![tactic(auto)]
+
+pub mod externs;
+pub mod includes;
+pub mod inside;
+pub mod setters;
+pub mod sides;

@@ -1,6 +1,0 @@
-use Rattle.std.proofs.Common.{◌≡◌, map, take}
-use Rattle.wit_arena.specs.Whole.{renamed}
-use Rattle.wit_worlds.proofs.includes.renames.Given as goal
-
-abbrev pub invariant-loop-name : goal.invariant-loop-name
-invariant-loop-name l = l.renames.items ≡ map renamed (take l.name-index l.names)
