@@ -139,7 +139,7 @@ legal_items files places differ tops order f (CyclicItem h) = no_cyclic_edge 8 i
 
 -- the table of the items of files finds them
 pub names_declared : (files : List PackageFile) (names : Tables) → AreTablesOf files names → AreDeclared (all_items files) names.items
-names_declared files names are = record { finds = λ name. rows_items (all_items files) names.items.entries name are.items }
+names_declared files names are = record { finds = λ name. rows_items (all_items files) names.items.entries name are.declared.items }
 
 -- what is wrong with attributes in front of a path to another package, and at the top of a file, is wrong with names
 pub broken_visit : (files : List PackageFile) (f : Fault) → IsBrokenVisit (foreign_visits files) f → IsBrokenNames files f

@@ -24,11 +24,9 @@ pub record AreDeclarationsOf (files : List PackageFile) (tables : Tables) : Type
   pub kinds : tables.kinds.items ≡ map is_world (all_items files)
   pub tops : AreTopsOf files tables.tops.items
 
--- these are those, the least order of the items, and the paths with a package, with the items of other packages that those lead to
+-- these are those, the paths with a package, the items of other packages that those lead to, and the least order of the items
 pub record AreTablesOf (files : List PackageFile) (tables : Tables) : Type 0 where
-  pub items : rows tables.items ≡ item_rows files
-  pub kinds : tables.kinds.items ≡ map is_world (all_items files)
-  pub tops : AreTopsOf files tables.tops.items
+  pub declared : AreDeclarationsOf files tables
   pub visits : map foreign_behind tables.visits.items ≡ foreign_visits files
   pub foreign : AreItemsOf (foreign_visits files) tables.foreign
   pub order : IsOrder (item_rows files) tables.order.items

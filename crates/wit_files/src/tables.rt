@@ -21,9 +21,7 @@ use std::alloc::Global;
 use wit_tree::ParseResult;
 use wit_tree::tree::{Id, PackageFile};
 
-/// The items that files declare, each with the items that have to come before it, the names at the
-/// top of each file, and the items of other packages. An interface comes after those of the package
-/// that it uses, and a world after those that it includes.
+/// What the names of files are kept in.
 #[derive(Drop)]
 pub(crate) struct Tables<'f, 'a> {
     /// The paths with a package of all files.

@@ -37,9 +37,9 @@ struct Resolved {
 /// Adds the interfaces and worlds of files with these names, and their types, to nothing.
 fn resolve_files<'f, 'a>(
     alloc: Global,
-    types: &mut Entries,
     names: &FileNames<'f, 'a>,
     files: &'f [PackageFile<'a>],
+    types: &mut Entries,
 ) -> ParseResult<Resolved>
     requires empty { types.old ≡ [] }
     requires files { names.now ≡ files.now }
@@ -75,13 +75,13 @@ fn resolve_files<'f, 'a>(
     let mut inside = Arena::new(alloc);
     resolve_worlds(
         alloc,
+        lent,
         types,
         &mut required,
         names,
         &interfaces,
         &mut inside,
         &mut worlds,
-        lent,
         order,
     )?;
     interfaces.arena.append(&mut inside)?;
@@ -142,7 +142,7 @@ pub(crate) fn resolve_contents<'f, 'a>(
     ensures refused { IfErr result (Refused (IsBroken names.now)) }
 {
     let mut begun = Entries::new(alloc);
-    let added = resolve_files(alloc, &mut begun, names, files);
+    let added = resolve_files(alloc, names, files, &mut begun);
     let (types, resolved) = beside(begun, added)?;
     let named = foreign_items(alloc, names, resolved.unknown_type_spans, resolved.required);
     let made = Arenas {

@@ -269,13 +269,13 @@ fn resolve_world<'f, 'a>(
 /// interfaces that are written in them are put `inside`, in the order in which they are met.
 pub fn resolve_worlds<'f, 'a>(
     alloc: Global,
+    items: &[Item<'f, 'a>],
     types: &mut Entries,
     required: &mut Vec<Required>,
     files: &FileNames<'f, 'a>,
     interfaces: &Interfaces<'_, '_, '_>,
     inside: &mut Arena<Interface, InterfacePlace>,
     worlds: &mut Worlds<'_>,
-    items: &[Item<'f, 'a>],
     places: &[usize],
 ) -> ParseResult<()>
     requires within { All (λ place. place < length items.now) places.now }

@@ -12,7 +12,7 @@ use Rattle.wit_syntax.specs.Source.{TheInterface, TheWorld, Item, parts, top_nam
 use Rattle.wit_syntax.specs.Scope.{part_uses, uses}
 use Rattle.wit_syntax.specs.Foreign.{visited, foreign_interfaces}
 use Rattle.wit_syntax.proofs.Refusing.{refused_weaker}
-use Rattle.wit_files.specs.FileNames.{names_at_top, top_at}
+use Rattle.wit_files.specs.FileNames.{names_at_top}
 use Rattle.wit_files.proofs.Lost.{flat_more}
 use Rattle.wit_scopes.specs.Front.{AreNamesPlaced}
 use Rattle.wit_scopes.proofs.Declaring.{one_more}
@@ -33,8 +33,7 @@ returns-in_err-interface_names-in-Interface-clause-refused c =
     let at : slice_get xs c.loop-item.item-index ≡ Some (ast.Interface c.in-Interface.interface) = slice_get_read xs _ c.loop-item.item-index c.item-item.result refl c.loop-item-test.true c.item-item.is ∙ ap Some c.in-Interface.is in
     let among : Contains (file_items file) w = rw c.declarations-declared.ensures at (declared_among (declared_items (top_names file)) xs c.loop-item.item-index _ w at refl) in
     let files = c.args.files.now in
-    let top_is : top_at files c.args.place ≡ top_names file = ap names_at_top c.requires.file in
-    rw (p.1, p.2) (refused_weaker (IsUnsoundAmong files w.top (flat_map item_uses c.deref.result.now)) (HasUnsoundUse files (file_items file)) _ (λ f h. record { i = w; among = among; broken = subst (λ us. IsUnsoundAmong files w.top us f) (ap (flat_map item_uses) c.deref.ensures.value ∙ sym (items_uses c.in-Interface.interface.items.items)) h }) (rw top_is at c.in_err-interface_names-in-Interface.ensures.refused))
+    rw (p.1, p.2) (refused_weaker (IsUnsoundAmong files w.top (flat_map item_uses c.deref.result.now)) (HasUnsoundUse files (file_items file)) _ (λ f h. record { i = w; among = among; broken = subst (λ us. IsUnsoundAmong files w.top us f) (ap (flat_map item_uses) c.deref.ensures.value ∙ sym (items_uses c.in-Interface.interface.items.items)) h }) (rw (ap names_at_top c.requires.file) at c.in_err-interface_names-in-Interface.ensures.refused))
 
 pub returns-in_err-world_names-in-World-clause-refused : goal.returns-in_err-world_names-in-World-clause-refused
 returns-in_err-world_names-in-World-clause-refused c =
@@ -45,8 +44,7 @@ returns-in_err-world_names-in-World-clause-refused c =
     let at : slice_get xs c.loop-item.item-index ≡ Some (ast.World c.in-World.world) = slice_get_read xs _ c.loop-item.item-index c.item-item.result refl c.loop-item-test.true c.item-item.is ∙ ap Some c.in-World.is in
     let among : Contains (file_items file) w = rw c.declarations-declared.ensures at (declared_among (declared_items (top_names file)) xs c.loop-item.item-index _ w at refl) in
     let files = c.args.files.now in
-    let top_is : top_at files c.args.place ≡ top_names file = ap names_at_top c.requires.file in
-    rw (p.1, p.2) (refused_weaker (IsUnsoundAmong files w.top (flat_map own_uses (parts w))) (HasUnsoundUse files (file_items file)) _ (λ f h. record { i = w; among = among; broken = unsound_wider files w.top (flat_map own_uses (parts w)) (uses w) f (λ u. among_wider own_uses part_uses (parts w) u (λ q. own_among q u)) h }) (rw top_is at c.in_err-world_names-in-World.ensures.refused))
+    rw (p.1, p.2) (refused_weaker (IsUnsoundAmong files w.top (flat_map own_uses (parts w))) (HasUnsoundUse files (file_items file)) _ (λ f h. record { i = w; among = among; broken = unsound_wider files w.top (flat_map own_uses (parts w)) (uses w) f (λ u. among_wider own_uses part_uses (parts w) u (λ q. own_among q u)) h }) (rw (ap names_at_top c.requires.file) at c.in_err-world_names-in-World.ensures.refused))
 
 pub returns-in_err-names_inside-in-World-clause-refused : goal.returns-in_err-names_inside-in-World-clause-refused
 returns-in_err-names_inside-in-World-clause-refused c =
@@ -57,8 +55,7 @@ returns-in_err-names_inside-in-World-clause-refused c =
     let at : slice_get xs c.loop-item.item-index ≡ Some (ast.World c.in-World.world) = slice_get_read xs _ c.loop-item.item-index c.item-item.result refl c.loop-item-test.true c.item-item.is ∙ ap Some c.in-World.is in
     let among : Contains (file_items file) w = rw c.declarations-declared.ensures at (declared_among (declared_items (top_names file)) xs c.loop-item.item-index _ w at refl) in
     let files = c.args.files.now in
-    let top_is : top_at files c.args.place ≡ top_names file = ap names_at_top c.requires.file in
-    rw (p.1, p.2) (refused_weaker (IsUnsoundAmong files w.top (flat_map (side_uses Imported) (parts w))) (HasUnsoundUse files (file_items file)) _ (λ f h. record { i = w; among = among; broken = unsound_wider files w.top (flat_map (side_uses Imported) (parts w)) (uses w) f (λ u. among_wider (side_uses Imported) part_uses (parts w) u (λ q. side_among Imported q u)) h }) (rw top_is at c.in_err-names_inside-in-World.ensures.refused))
+    rw (p.1, p.2) (refused_weaker (IsUnsoundAmong files w.top (flat_map (side_uses Imported) (parts w))) (HasUnsoundUse files (file_items file)) _ (λ f h. record { i = w; among = among; broken = unsound_wider files w.top (flat_map (side_uses Imported) (parts w)) (uses w) f (λ u. among_wider (side_uses Imported) part_uses (parts w) u (λ q. side_among Imported q u)) h }) (rw (ap names_at_top c.requires.file) at c.in_err-names_inside-in-World.ensures.refused))
 
 pub returns-in_err-names_inside-in-World-2-clause-refused : goal.returns-in_err-names_inside-in-World-2-clause-refused
 returns-in_err-names_inside-in-World-2-clause-refused c =
@@ -69,8 +66,7 @@ returns-in_err-names_inside-in-World-2-clause-refused c =
     let at : slice_get xs c.loop-item.item-index ≡ Some (ast.World c.in-World.world) = slice_get_read xs _ c.loop-item.item-index c.item-item.result refl c.loop-item-test.true c.item-item.is ∙ ap Some c.in-World.is in
     let among : Contains (file_items file) w = rw c.declarations-declared.ensures at (declared_among (declared_items (top_names file)) xs c.loop-item.item-index _ w at refl) in
     let files = c.args.files.now in
-    let top_is : top_at files c.args.place ≡ top_names file = ap names_at_top c.requires.file in
-    rw (p.1, p.2) (refused_weaker (IsUnsoundAmong files w.top (flat_map (side_uses Exported) (parts w))) (HasUnsoundUse files (file_items file)) _ (λ f h. record { i = w; among = among; broken = unsound_wider files w.top (flat_map (side_uses Exported) (parts w)) (uses w) f (λ u. among_wider (side_uses Exported) part_uses (parts w) u (λ q. side_among Exported q u)) h }) (rw top_is at c.in_err-names_inside-in-World-2.ensures.refused))
+    rw (p.1, p.2) (refused_weaker (IsUnsoundAmong files w.top (flat_map (side_uses Exported) (parts w))) (HasUnsoundUse files (file_items file)) _ (λ f h. record { i = w; among = among; broken = unsound_wider files w.top (flat_map (side_uses Exported) (parts w)) (uses w) f (λ u. among_wider (side_uses Exported) part_uses (parts w) u (λ q. side_among Exported q u)) h }) (rw (ap names_at_top c.requires.file) at c.in_err-names_inside-in-World-2.ensures.refused))
 
 pub interface_names-requires-clause-paths : goal.interface_names-requires-clause-paths
 interface_names-requires-clause-paths c = λ u has. (
@@ -122,7 +118,7 @@ loop-item-preserved c =
     let out = c.loop-item.items.items in
     let was = c.loop-item.invariant in
     let files = c.args.files.now in
-    let top_is : top_at files c.args.place ≡ top = ap names_at_top c.requires.file in
+    let top_is = ap names_at_top c.requires.file in
     let front = map visited (foreign_interfaces files) in
     let more : take (i + 1) xs ≡ take i xs ++ x ∷ [] = take_more xs i x c.loop-item-test.true ∙ ap (λ y. take i xs ++ y ∷ []) (sym c.item-item.is) in
     let grown : all ≡ before ++ declared_items top x = flat_more (declared_items top) (take i xs) (take (i + 1) xs) x more in

@@ -39,16 +39,13 @@ returns-clause-names c = elim c.match-part.branch [
 ]
 
 pub returns-clause-sound : goal.returns-clause-sound
-returns-clause-sound c =
-    let files = c.args.files.now in
-    let top = top_at files c.args.place in
-    elim c.match-part.branch [
-      | in-Defining+in_ok-push-in-Defining b ↦ rw b.in-Defining.is (sound_none files top)
-      | in-Using+in_ok-from-in-Using+in_ok-add_used_names-in-Using b ↦ rw b.in-Using.is (sound_one files top b.in-Using.used.now b.in_ok-from-in-Using.ensures.sound)
-      | in-Including b ↦ rw b.in-Including.is (sound_none files top)
-      | in-Doing b ↦ rw b.in-Doing.is (sound_none files top)
-      | in-Crossing b ↦ rw b.in-Crossing.is (sound_none files top)
-    ]
+returns-clause-sound c = elim c.match-part.branch [
+  | in-Defining+in_ok-push-in-Defining b ↦ rw b.in-Defining.is (sound_none _ _)
+  | in-Using+in_ok-from-in-Using+in_ok-add_used_names-in-Using b ↦ rw b.in-Using.is (sound_one _ _ b.in-Using.used.now b.in_ok-from-in-Using.ensures.sound)
+  | in-Including b ↦ rw b.in-Including.is (sound_none _ _)
+  | in-Doing b ↦ rw b.in-Doing.is (sound_none _ _)
+  | in-Crossing b ↦ rw b.in-Crossing.is (sound_none _ _)
+]
 
 pub returns-clause-placed : goal.returns-clause-placed
 returns-clause-placed c = elim c.match-part.branch [

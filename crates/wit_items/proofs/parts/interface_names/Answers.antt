@@ -17,14 +17,11 @@ use Rattle.wit_files.specs.FileNames.{top_at}
 use Rattle.wit_items.proofs.parts.interface_names.Goals as goal
 
 pub loop-part-init : goal.loop-part-init
-loop-part-init c =
-    let files = c.args.files.now in
-    let top = top_at files c.args.place in
-    rw c.new-names.ensures.items (record {
-      names = refl;
-      placed = names_none (map visited (foreign_interfaces files));
-      sound = sound_none files top;
-    })
+loop-part-init c = rw c.new-names.ensures.items (record {
+  names = refl;
+  placed = names_none (map visited (foreign_interfaces c.args.files.now));
+  sound = sound_none _ _;
+})
 
 pub add_part-requires-clause-paths : goal.add_part-requires-clause-paths
 add_part-requires-clause-paths c = λ u among. (

@@ -30,16 +30,10 @@ take_all-requires c =
     front_started files c.foreign.result.now c.args.types.now c.in_ok-front.front c.in_ok-items.items.items c.deref_mut-lent.result.now c.foreign.ensures c.requires.empty c.in_ok-front.ensures.bare c.deref_mut-lent.ensures.value c.in_ok-items.ensures.placed
 
 pub resolve_interfaces-requires-clause-within : goal.resolve_interfaces-requires-clause-within
-resolve_interfaces-requires-clause-within c =
-    let files = c.args.names.now in
-    let places = c.item_order-order.result.now in
-    let order = c.item_order-order.ensures in
-    held_within files places c.deref_mut-lent.result.now order (ap (map item_behind) c.deref_mut-lent.ensures.value ∙ c.in_ok-items.ensures.items)
+resolve_interfaces-requires-clause-within c = held_within c.args.names.now c.item_order-order.result.now c.deref_mut-lent.result.now c.item_order-order.ensures (ap (map item_behind) c.deref_mut-lent.ensures.value ∙ c.in_ok-items.ensures.items)
 
 pub resolve_interfaces-requires-clause-outer : goal.resolve_interfaces-requires-clause-outer
-resolve_interfaces-requires-clause-outer c =
-    let files = c.args.names.now in
-    subst AreOuter (sym (ap (map item_behind) c.deref_mut-lent.ensures.value ∙ c.in_ok-items.ensures.items)) (all_outer files)
+resolve_interfaces-requires-clause-outer c = subst AreOuter (sym (ap (map item_behind) c.deref_mut-lent.ensures.value ∙ c.in_ok-items.ensures.items)) (all_outer c.args.names.now)
 
 pub resolve_interfaces-requires-clause-placed : goal.resolve_interfaces-requires-clause-placed
 resolve_interfaces-requires-clause-placed c =
@@ -122,7 +116,6 @@ returns-in_err-resolve_worlds-clause-refused c =
     let now = c.resolve_interfaces.new.interfaces in
     let middle = c.resolve_interfaces.new.types in
     let all : map item_behind c.deref_mut-lent.result.now ≡ all_items files = ap (map item_behind) c.deref_mut-lent.ensures.value ∙ e.items in
-    let again : map item_behind c.deref_mut-lent.result.now ≡ all_items files = ap (map item_behind) c.deref_mut-lent.ensures.value ∙ e.items in
     let held : front_of c.deref-2.result.now ≡ map visited (foreign_interfaces files) = lent_front files types a front c.deref-2.result.now c.deref-2.ensures.value in
     let kept : front_of now.foreign.now ≡ map visited (foreign_interfaces files) = lent_front files types a front now.foreign.now (ap (λ r. r.now) c.in_ok-resolve_interfaces.ensures.foreign ∙ c.deref-2.ensures.value) in
     let irs = c.resolve_interfaces.new.required.items in
@@ -132,7 +125,7 @@ returns-in_err-resolve_worlds-clause-refused c =
     let index : IsIndex (cells (map visited (foreign_interfaces files)) now.arena) now.by_name = subst (λ (ss : List Address). IsIndex (cells ss now.arena) now.by_name) kept c.in_ok-resolve_interfaces.ensures.index in
     let differ = distinct_items files c.requires.legal in
     rw (p.1, p.2) (refused_weaker (IsWrongWorldNow files (front_of now.foreign.now) (others_of files) middle now.arena now.by_name a.worlds (map item_behind items) places) (IsBroken files) _ (λ f h. broken_world_among files places c.item_order-order.ensures differ (uses_usable files e.sound) f (wrong_world files types a.interfaces a.worlds middle now.arena now.by_name from.own (all_items files) places f front.adds added index (
-    subst (λ (l : List Item). IsWrongWorldNow files (map visited (foreign_interfaces files)) (map visited (foreign_worlds files)) middle now.arena now.by_name a.worlds l places f) again (
+    subst (λ (l : List Item). IsWrongWorldNow files (map visited (foreign_interfaces files)) (map visited (foreign_worlds files)) middle now.arena now.by_name a.worlds l places f) all (
     subst (λ (ss : List Address). IsWrongWorldNow files ss (others_of files) middle now.arena now.by_name a.worlds (map item_behind items) places f) kept h)))) c.in_err-resolve_worlds.ensures.refused)
 
 pub returns-clause-added : goal.returns-clause-added
@@ -146,7 +139,6 @@ returns-clause-added c =
     let now = c.resolve_interfaces.new.interfaces in
     let middle = c.resolve_interfaces.new.types in
     let all : map item_behind c.deref_mut-lent.result.now ≡ all_items files = ap (map item_behind) c.deref_mut-lent.ensures.value ∙ e.items in
-    let again : map item_behind c.deref_mut-lent.result.now ≡ all_items files = ap (map item_behind) c.deref_mut-lent.ensures.value ∙ e.items in
     let held : front_of c.deref-2.result.now ≡ map visited (foreign_interfaces files) = lent_front files types a front c.deref-2.result.now c.deref-2.ensures.value in
     let kept : front_of now.foreign.now ≡ map visited (foreign_interfaces files) = lent_front files types a front now.foreign.now (ap (λ r. r.now) c.in_ok-resolve_interfaces.ensures.foreign ∙ c.deref-2.ensures.value) in
     let irs = c.resolve_interfaces.new.required.items in
@@ -155,13 +147,13 @@ returns-clause-added c =
     let ws = c.in_ok-resolve_worlds.ensures in
     let new = c.resolve_worlds.new in
     let sound : AreSoundScopes (interfaces_of (in_order (all_items files) places)) = rw all at c.in_ok-resolve_interfaces.ensures.sound in
-    let sound' : AreSoundScopes (flat_map with_inline (worlds_of (in_order (all_items files) places))) = rw again at ws.sound in
+    let sound' : AreSoundScopes (flat_map with_inline (worlds_of (in_order (all_items files) places))) = rw all at ws.sound in
     let sided : AreLegalSides (interfaces_of (in_order (all_items files) places)) = rw all at c.in_ok-resolve_interfaces.ensures.sided in
-    let sided' : AreLegalSides (flat_map with_inline (worlds_of (in_order (all_items files) places))) = rw again at ws.sided in
-    let linked : AreUsableLinks files (worlds_of (in_order (all_items files) places)) = rw again at ws.linked in
+    let sided' : AreLegalSides (flat_map with_inline (worlds_of (in_order (all_items files) places))) = rw all at ws.sided in
+    let linked : AreUsableLinks files (worlds_of (in_order (all_items files) places)) = rw all at ws.linked in
     let stable : HaveLegalStability (interfaces_of (in_order (all_items files) places)) = rw all at c.in_ok-resolve_interfaces.ensures.stable in
-    let stable' : HaveLegalStability (worlds_of (in_order (all_items files) places)) = rw again at ws.stable in
-    let said : Emits irs new.required.items (λ rs. (ss : List Address) × AddsWorlds (front_of now.foreign.now) (others_of files) now.arena middle new.types (front_worlds a.worlds) (arenas new.worlds.arena new.inside ss) rs (worlds_of (in_order (all_items files) places))) = rw again at ws.added in
+    let stable' : HaveLegalStability (worlds_of (in_order (all_items files) places)) = rw all at ws.stable in
+    let said : Emits irs new.required.items (λ rs. (ss : List Address) × AddsWorlds (front_of now.foreign.now) (others_of files) now.arena middle new.types (front_worlds a.worlds) (arenas new.worlds.arena new.inside ss) rs (worlds_of (in_order (all_items files) places))) = rw all at ws.added in
     let behind : WorldArenas = arenas new.worlds.arena new.inside said.holds.0 in
     record {
       places = places;
