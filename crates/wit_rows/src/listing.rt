@@ -1,14 +1,13 @@
 //! The views `listing` and `input`, of sources as they are run, and those of packages: the listing of
 //! the packages, or another view of them, or the line of their refusal.
 
-use crate::sources::push_all;
+use crate::sources::resolved;
 use anyhow::Result;
 use std::alloc::Global;
 use std::{io, str};
-use wit_groups::GroupResolver;
 use wit_text::SourceMap;
 use wit_tool::run;
-use wit_views::{behind, write_packages};
+use wit_views::{Found, write_packages};
 
 /// What was written, once it is told whether that is a line of a refusal.
 fn told(alloc: Global, listed: bool, out: &[u8]) -> Result<String> {
@@ -26,13 +25,15 @@ pub fn listing(alloc: Global, map: SourceMap) -> Result<String> {
     told(alloc, listed, out.as_slice())
 }
 
+/// What the view of this name writes of what sources come to, or the line of their refusal.
+pub fn shown(alloc: Global, name: &str, map: &SourceMap, found: Found) -> Result<String> {
+    let mut out: Vec<u8> = Vec::new(alloc);
+    let listed = write_packages(alloc, name, map, found, &mut out).map_err(io::Error::from)?;
+    told(alloc, listed, out.as_slice())
+}
+
 /// What the view of this name writes of the packages of a map, of which features are made external ids, or
 /// the line of their refusal.
 pub fn packages_view(alloc: Global, name: &str, map: &SourceMap) -> Result<String> {
-    let mut out: Vec<u8> = Vec::new(alloc);
-    let mut resolver = GroupResolver::new(alloc);
-    let pushed = push_all(alloc, &mut resolver, map);
-    let found = behind(pushed, resolver.resolve(alloc));
-    let listed = write_packages(alloc, name, map, found, &mut out).map_err(io::Error::from)?;
-    told(alloc, listed, out.as_slice())
+    shown(alloc, name, map, resolved(alloc, map))
 }

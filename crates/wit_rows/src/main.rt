@@ -5,6 +5,7 @@ mod cases;
 mod cuts;
 mod escapes;
 mod listing;
+mod pushed;
 mod replay;
 mod sources;
 mod views;
@@ -14,7 +15,7 @@ use std::fs;
 use std::process::ExitCode;
 
 /// The files of rows.
-const FILES: [&str; 25] = [
+const FILES: [&str; 26] = [
     "listings.rows",
     "refusals.rows",
     "files.rows",
@@ -40,6 +41,7 @@ const FILES: [&str; 25] = [
     "paths.rows",
     "groups.rows",
     "inline.rows",
+    "pushed.rows",
 ];
 
 /// Replays each file, and tells how many cases it has; ends with 0 if each is answered as it says.

@@ -1,4 +1,4 @@
-//! The sources of a case, and how their trees are pushed; and the view `sources`, which tells of each
+//! The sources of a case, and what they come to; and the view `sources`, which tells of each
 //! source its place, its path and its text, with `|` behind it.
 
 use std::alloc::{AllocError, Global};
@@ -6,7 +6,7 @@ use wit_groups::GroupResolver;
 use wit_text::SourceMap;
 use wit_tool::bundle;
 use wit_tree::ParseResult;
-use wit_views::read_marked;
+use wit_views::{Found, behind, read_marked};
 
 /// The path of a source that has none.
 const PATH: &str = "stdin.wit";
@@ -35,7 +35,7 @@ pub fn map_of(alloc: Global, sources: &str) -> ParseResult<SourceMap> {
 }
 
 /// Pushes the tree of each source of a map, in their order.
-pub fn push_all<'a>(
+fn push_all<'a>(
     alloc: Global,
     resolver: &mut GroupResolver<'a>,
     map: &'a SourceMap,
@@ -45,6 +45,13 @@ pub fn push_all<'a>(
         resolver.push(alloc, file)?;
     }
     Ok(())
+}
+
+/// What the sources of a map come to, in their order.
+pub fn resolved(alloc: Global, map: &SourceMap) -> Found {
+    let mut resolver = GroupResolver::new(alloc);
+    let pushed = push_all(alloc, &mut resolver, map);
+    behind(pushed, resolver.resolve(alloc))
 }
 
 /// The place, the path and the text of each source of a map.

@@ -2,6 +2,7 @@
 
 use crate::cuts::cuts_view;
 use crate::listing::{listing, packages_view};
+use crate::pushed::{alone_view, pushed_view};
 use crate::sources::sources_view;
 use anyhow::Result;
 use std::alloc::Global;
@@ -16,6 +17,8 @@ pub fn view(alloc: Global, name: &str, map: SourceMap) -> Result<String> {
         "cuts" => cuts_view(alloc, &map),
         "read" => Ok(read_view(alloc, &map)?),
         "tree" => Ok(tree_view(alloc, &map)?),
+        "pushed" => pushed_view(alloc, &map),
+        "alone" => alone_view(alloc, &map),
         _ => packages_view(alloc, name, &map),
     }
 }

@@ -1,4 +1,4 @@
-//! Tests of `wit_lex`, `wit_parser`, `wit_groups`, `wit_tool` and `wit_program`: what no row of `wit_rows` asks.
+//! Tests of `wit_lex`, `wit_groups`, `wit_tool` and `wit_program`: what no row of `wit_rows` asks.
 #![tactic(auto)]
 
 #[cfg(test)]
@@ -8,14 +8,6 @@ mod large;
 #[cfg(test)]
 mod lines;
 #[cfg(test)]
-mod maps;
-#[cfg(test)]
-mod refused;
-#[cfg(test)]
-mod shown;
-#[cfg(test)]
 mod sources;
-#[cfg(test)]
-mod splitting;
 #[cfg(test)]
 mod statuses;

@@ -14,6 +14,6 @@ mod spans;
 mod trees;
 
 pub use external_ids::read_marked;
-pub use packages::{Found, behind, write_packages};
+pub use packages::{Found, behind, without_nested, write_packages};
 pub use reading::read_view;
 pub use trees::tree_view;

@@ -17,6 +17,14 @@ use wit_tree::ParseResult;
 /// What sources come to: the package that they make and those that are nested in it, or a refusal.
 pub type Found = ParseResult<(UnresolvedPackage, Vec<UnresolvedPackage>)>;
 
+/// What files of one package come to, in which none is nested.
+pub fn without_nested(alloc: Global, found: ParseResult<UnresolvedPackage>) -> Found {
+    match found {
+        Ok(package) => Ok((package, Vec::new(alloc))),
+        Err(fault) => Err(fault),
+    }
+}
+
 /// What sources come to that were pushed before: the refusal of a push, or else what was found.
 pub fn behind(pushed: ParseResult<()>, found: Found) -> Found {
     match pushed {
@@ -55,6 +63,7 @@ fn push_view(
         "functions" => push_functions(alloc, text, package),
         "layouts" => push_layouts(text, package),
         "whole" => push_whole(text, map, package),
+        "debug" => write!(text, "{package:?}\n"),
         _ => write!(text, "no view `{name}`\n"),
     }
 }
