@@ -1,11 +1,11 @@
 -- What is gathered from files, one file and one item at a time.
-use Rattle.std.proofs.Common.{◌≡◌, ℕ, zero, suc, ◌+◌, List, [], ◌∷◌, ◌++◌, ◌⊎◌, length, map, take, Some, None, inl, inr, refl, sym, ap, ◌∙◌, subst, arith, append_assoc, length-append, Vec, Global, Bor}
+use Rattle.std.proofs.Common.{◌≡◌, ◌<◌, ℕ, zero, suc, ◌+◌, List, [], ◌∷◌, ◌++◌, ◌⊎◌, length, map, take, Some, None, inl, inr, refl, sym, ap, ◌∙◌, subst, arith, append_assoc, length-append, Vec, Global, Bor}
 use Rattle.std.specs.Prelude.{slice_get, position}
 use Rattle.std.specs.List.{flat_map}
 use Rattle.std.specs.Option.{option_map}
 use Rattle.std.specs.Str.{bytes_eq}
 use Rattle.std.proofs.lemmas.List.{map-append}
-use Rattle.std.proofs.lemmas.Option.{slice_get-map, slice_get_within}
+use Rattle.std.proofs.lemmas.Option.{slice_get-map, slice_get_within, slice_get_cases}
 use Rattle.indexmap.specs.IndexMap.{insert_entry, keys}
 use Rattle.wit_tree.specs.declared.tree.Id.{Id}
 use Rattle.wit_tree.specs.declared.tree.AstItem.{AstItem}
@@ -27,7 +27,7 @@ use Rattle.wit_syntax.proofs.Found.{at_contains, contains_at}
 use Rattle.wit_syntax.proofs.Legal.{no_missing_edge, no_cyclic_edge}
 use Rattle.wit_files.specs.Tops.{Named, AreNamed, AreDeclared}
 use Rattle.wit_files.specs.Checks.{AreDistinctTops, AreRightTops, IsWrongTop, AttributedUse, MissingUse, IsBrokenVisit, AreLegalVisits}
-use Rattle.wit_files.specs.FileNames.{AreTopsOf, AreTablesOf, AddsTop}
+use Rattle.wit_files.specs.FileNames.{AreTopsOf, AreTablesOf, AddsTop, names_at_top, top_at}
 use Rattle.wit_files.specs.declared.tables.Tables.{Tables}
 use Rattle.wit_files.proofs.FirstNames.{rows_items}
 use Rattle.wit_files.proofs.Lost.{flat_more}
@@ -159,3 +159,8 @@ legal_names files legal visits tops f (MissingOriginal file among h) = (let p = 
 -- the place of a name among the keys is that of the item which an edge of this name leads to
 pub item_place : (files : List PackageFile) (table : Table) (name : List ℕ) (edge : Id) → rows table ≡ item_rows files → name ≡ edge.name.now → position (λ (k : Bor (List ℕ)). bytes_eq name k.now) (keys table) ≡ target (item_rows files) edge
 item_place files table name edge same named = sym (place_by_key table name) ∙ ap (place_of (rows table)) named ∙ ap (λ rs. place_of rs edge.name.now) same
+
+-- the names at the top of the file at a place are those that stand there
+pub top_at_place : (files : List PackageFile) (tops : List Named) (i : ℕ) (top : Named) → AreTopsOf files tops → i < length files → slice_get tops i ≡ Some top → AreNamed (top_at files i) top
+top_at_place files tops i top are within at =
+    elim (slice_get_cases files i).1 [ inl w ↦ subst (λ o. AreNamed (names_at_top o) top) (sym w.2) (are.each i w.0 top w.2 at) | inr w ↦ absurd (omega (arith, w.0)) ]

@@ -1,6 +1,7 @@
 //! Groups, and their copies.
 
 use std::alloc::Global;
+use std::process::Abort;
 use std::str;
 use std::test::Fail;
 use wit_groups::UnresolvedPackageGroup;
@@ -45,10 +46,15 @@ fn is_listed(alloc: Global, group: &UnresolvedPackageGroup, wanted: &str) -> Res
     Ok(str::from_utf8(out.as_slice())? == wanted)
 }
 
+/// Checks what is written of a group, and that its copy is equal to it.
+fn check(rt: &impl Abort, alloc: Global, group: &UnresolvedPackageGroup) -> Result<(), Fail> {
+    assert!(rt; is_listed(alloc, group, LISTING)?);
+    assert!(rt; is_copied(group)?);
+    Ok(())
+}
+
 #[test]
 fn parses_and_copies_groups(rt: HostRuntime) -> Result<(), Fail> {
     let group = group(rt.alloc())?;
-    assert!(rt; is_listed(rt.alloc(), &group, LISTING)?);
-    assert!(rt; is_copied(&group)?);
-    Ok(())
+    check(&rt, rt.alloc(), &group)
 }

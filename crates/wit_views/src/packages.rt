@@ -12,7 +12,7 @@ use std::alloc::{AllocError, Global};
 use wit_listing::{RunFault, error_line, listing};
 use wit_model::UnresolvedPackage;
 use wit_text::SourceMap;
-use wit_tree::ParseResult;
+use wit_tree::{ParseError, ParseResult};
 
 /// What sources come to: the package that they make and those that are nested in it, or a refusal.
 pub type Found = ParseResult<(UnresolvedPackage, Vec<UnresolvedPackage>)>;
@@ -84,7 +84,8 @@ fn view_of(
     Ok(text)
 }
 
-/// Writes what the view of this name writes of a package and of those that are nested in it.
+/// Writes what the view of this name writes of a package and of those that are nested in it, and answers
+/// that they are not refused.
 fn write_view(
     alloc: Global,
     name: &str,
@@ -92,13 +93,25 @@ fn write_view(
     main: &UnresolvedPackage,
     nested: &[UnresolvedPackage],
     out: &mut Vec<u8>,
-) -> Result<(), RunFault> {
+) -> Result<bool, RunFault> {
     if name == "marked" {
-        return listing(alloc, main, nested, out);
+        listing(alloc, main, nested, out)?;
+        return Ok(true);
     }
     let text = view_of(alloc, name, map, main, nested)?;
     out.extend_from_slice(text.as_bytes())?;
-    Ok(())
+    Ok(true)
+}
+
+/// Writes the line of a refusal, and answers that it is one.
+fn refuse(
+    alloc: Global,
+    map: &SourceMap,
+    fault: &ParseError,
+    out: &mut Vec<u8>,
+) -> Result<bool, RunFault> {
+    error_line(alloc, map, fault, out)?;
+    Ok(false)
 }
 
 /// Writes what the view of this name writes of what sources come to, or the line of their refusal, and
@@ -111,13 +124,7 @@ pub fn write_packages(
     out: &mut Vec<u8>,
 ) -> Result<bool, RunFault> {
     match found {
-        Ok((main, nested)) => {
-            write_view(alloc, name, map, &main, &nested, out)?;
-            Ok(true)
-        }
-        Err(fault) => {
-            error_line(alloc, map, &fault, out)?;
-            Ok(false)
-        }
+        Ok((main, nested)) => write_view(alloc, name, map, &main, &nested, out),
+        Err(fault) => refuse(alloc, map, &fault, out),
     }
 }
