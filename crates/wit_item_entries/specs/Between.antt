@@ -11,7 +11,7 @@ use Rattle.wit_syntax.specs.Scope.{rows_of, in_order, defined, in_turn, local_na
 use Rattle.wit_syntax.specs.Fault.{Fault}
 use Rattle.wit_syntax.specs.Shape.{all_handles}
 use Rattle.wit_syntax.specs.Function.{SourceFunction, name_types}
-use Rattle.wit_arena.specs.Resolving.{Names, env_of, Cell, Defines, Required, IsWrongHandle, IsWrongScope}
+use Rattle.wit_arena.specs.Resolving.{Names, env_of, names_in, Cell, Defines, Required, IsWrongHandle, IsWrongScope}
 use Rattle.wit_arena.specs.Resolved.{DefinesAll, AddsScope}
 use Rattle.wit_entries.specs.Requiring.{Requires}
 

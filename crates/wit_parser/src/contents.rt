@@ -133,8 +133,8 @@ pub(crate) struct Contents {
 /// What files with these names make, and what they name of other packages.
 pub(crate) fn resolve_contents<'f, 'a>(
     alloc: Global,
-    names: &FileNames<'f, 'a>,
     files: &'f [PackageFile<'a>],
+    names: &FileNames<'f, 'a>,
 ) -> ParseResult<Contents>
     requires files { names.now ≡ files.now }
     requires legal { (f : Fault) → IsBrokenNames names.now f → ⊥ }

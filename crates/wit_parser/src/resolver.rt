@@ -94,9 +94,9 @@ fn package_heading(
 /// The package that files with these names make, whose last header this is.
 fn resolve_named<'f, 'a>(
     alloc: Global,
-    header: &tree::PackageName<'_>,
-    names: &FileNames<'f, 'a>,
     files: &'f [PackageFile<'a>],
+    names: &FileNames<'f, 'a>,
+    header: &tree::PackageName<'_>,
 ) -> ParseResult<UnresolvedPackage>
     requires header { last_header names.now ≡ Some header.now }
     requires files { names.now ≡ files.now }
@@ -104,7 +104,7 @@ fn resolve_named<'f, 'a>(
     ensures made { IfOk result (IsMade names.now) }
     ensures refused { IfErr result (Refused (IsBroken names.now)) }
 {
-    let made = resolve_contents(alloc, names, files)?;
+    let made = resolve_contents(alloc, files, names)?;
     let (contents, heading) = beside(made, package_heading(alloc, header, files))?;
     Ok(UnresolvedPackage::new(
         heading.0,
@@ -155,7 +155,7 @@ impl<'a> Resolver<'a> {
         };
         let files = self.pushed();
         let names = FileNames::gather(alloc, files)?;
-        resolve_named(alloc, header, &names, files)
+        resolve_named(alloc, files, &names, header)
     }
 
     /// Keeps a file behind the others.
