@@ -28,13 +28,22 @@ use wit_values::Text;
 /// The entries of the arena of types, and a table that knows the unnamed ones by what they are.
 ///
 /// Contracts see the list of the entries.
-#[derive(Drop)]
 pub struct Entries {
     arena: Arena<TypeDef, TypePlace>,
     // Each unnamed entry stands here; a place that was meant for a refused one may stand here too.
     table: KeyTable,
     // Where each entry ends.
     ends: Vec<End>,
+}
+
+impl Drop for Entries {
+    fn drop(self) {
+        let Entries {
+            arena: _,
+            table: _,
+            ends: _,
+        } = self;
+    }
 }
 
 impl Model for Entries {
@@ -113,7 +122,12 @@ impl Entries {
     pub fn into_arena(self) -> Arena<TypeDef, TypePlace>
         ensures { result ≡ self }
     {
-        self.arena
+        let Entries {
+            arena,
+            table: _,
+            ends: _,
+        } = self;
+        arena
     }
 
     /// Adds a named entry, with its notes, behind the others.

@@ -14,10 +14,18 @@ use wit_types::TypeId;
 ///
 /// Both maps are ordered, so that no types cost more than others, and keys are compared only where
 /// digests are equal.
-#[derive(Drop)]
 pub(crate) struct KeyTable {
     digests: BTreeMap<u64, TypeId>,
     keys: BTreeMap<InternKey, TypeId>,
+}
+
+impl Drop for KeyTable {
+    fn drop(self) {
+        let KeyTable {
+            digests: _,
+            keys: _,
+        } = self;
+    }
 }
 
 /// A number made of a key, which two keys seldom share.

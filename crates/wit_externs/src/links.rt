@@ -11,10 +11,18 @@ use wit_tree::{ParseResult, Span};
 
 /// The places of the interfaces that a world imports and exports by their paths, without names of
 /// their own, each in source order.
-#[derive(Drop)]
 pub struct Links {
     imports: IndexSet<usize>,
     exports: IndexSet<usize>,
+}
+
+impl Drop for Links {
+    fn drop(self) {
+        let Links {
+            imports: _,
+            exports: _,
+        } = self;
+    }
 }
 
 /// Puts an interface behind these, where it is none of them; tells whether it was new.

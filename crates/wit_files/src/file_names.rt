@@ -32,10 +32,18 @@ pub enum Found {
 /// that it uses, and a world after those that it includes.
 ///
 /// Contracts see the list of the files.
-#[derive(Drop)]
 pub struct FileNames<'f, 'a> {
     files: &'f [PackageFile<'a>],
     tables: Tables<'f, 'a>,
+}
+
+impl Drop for FileNames<'_, '_> {
+    fn drop(self) {
+        let FileNames {
+            files: _,
+            tables: _,
+        } = self;
+    }
 }
 
 impl<'f, 'a> Model for FileNames<'f, 'a> {

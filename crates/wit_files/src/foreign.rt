@@ -50,12 +50,17 @@ pub struct ForeignKey<'k> {
 }
 
 /// The items of other packages.
-#[derive(Drop)]
 pub struct ForeignItems<'f, 'a> {
     /// Each item at its first visit.
     pub items: Vec<ForeignVisit<'f, 'a>>,
     /// The keys of the items.
     keys: IndexSet<ForeignKey<'f>>,
+}
+
+impl Drop for ForeignItems<'_, '_> {
+    fn drop(self) {
+        let ForeignItems { items: _, keys: _ } = self;
+    }
 }
 
 /// The parts of a version.

@@ -4,15 +4,25 @@ use wit_types::{Docs, Stability, Type, TypeId};
 use wit_values::{Row, Span, Text};
 
 /// A parameter. Its span is the name's; that of `self` is the function's.
-#[derive(Debug, Clone, PartialEq, Eq, Drop)]
+#[derive(Debug, Clone, PartialEq, Eq)]
 pub struct Param {
     pub name: Text,
     pub ty: Type,
     pub span: Span,
 }
 
+impl Drop for Param {
+    fn drop(self) {
+        let Param {
+            name: _,
+            ty: _,
+            span: _,
+        } = self;
+    }
+}
+
 /// A function of an interface, a world or a resource.
-#[derive(Debug, PartialEq, Eq, Drop)]
+#[derive(Debug, PartialEq, Eq)]
 pub struct Function {
     /// The name with the marks of its kind, as `[method]r.f`.
     pub name: Text,
@@ -25,6 +35,21 @@ pub struct Function {
     /// The name's place.
     pub span: Span,
     pub external_id: Option<Text>,
+}
+
+impl Drop for Function {
+    fn drop(self) {
+        let Function {
+            name: _,
+            kind: _,
+            params: _,
+            result: _,
+            docs: _,
+            stability: _,
+            span: _,
+            external_id: _,
+        } = self;
+    }
 }
 
 /// What a function is, and of which resource.

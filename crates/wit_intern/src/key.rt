@@ -9,7 +9,7 @@ use wit_values::Row;
 /// What an unnamed type is: its form and its parts.
 ///
 /// Keys are ordered as the variants stand here, and then by their parts.
-#[derive(Debug, Clone, PartialEq, Eq, PartialOrd, Ord, Hash, Drop)]
+#[derive(Debug, Clone, PartialEq, Eq, PartialOrd, Ord, Hash)]
 pub enum InternKey {
     /// A borrowed handle of a resource.
     Borrow(TypeId),
@@ -24,6 +24,22 @@ pub enum InternKey {
     Result(Option<Type>, Option<Type>),
     Future(Option<Type>),
     Stream(Option<Type>),
+}
+
+impl Drop for InternKey {
+    fn drop(self) {
+        match self {
+            InternKey::Borrow(_) => {}
+            InternKey::Tuple(_) => {}
+            InternKey::List(_) => {}
+            InternKey::Map(_, _) => {}
+            InternKey::FixedLengthList(_, _) => {}
+            InternKey::Option(_) => {}
+            InternKey::Result(_, _) => {}
+            InternKey::Future(_) => {}
+            InternKey::Stream(_) => {}
+        }
+    }
 }
 
 impl InternKey {

@@ -42,7 +42,6 @@ pub enum Declared<'f, 'a> {
 }
 
 /// A declared item with the names of its scope, and of each that is written in it.
-#[derive(Drop)]
 pub struct Item<'f, 'a> {
     /// The place of the file that declares it.
     pub place: usize,
@@ -53,6 +52,19 @@ pub struct Item<'f, 'a> {
     pub imported: Vec<Vec<ScopeName<'f, 'a>>>,
     /// Those of each that is written where it exports it.
     pub exported: Vec<Vec<ScopeName<'f, 'a>>>,
+}
+
+impl Drop for Item<'_, '_> {
+    fn drop(self) {
+        let Item {
+            place: _,
+            file: _,
+            declared: _,
+            names: _,
+            imported: _,
+            exported: _,
+        } = self;
+    }
 }
 
 /// An item with the names of its scope, which are lent.

@@ -5,7 +5,7 @@ use wit_types::{Docs, InterfaceId, PackageId, Stability, TypeId};
 use wit_values::{Span, Text, TextTable};
 
 /// An interface: its types and functions by their names.
-#[derive(Debug, PartialEq, Eq, Drop)]
+#[derive(Debug, PartialEq, Eq)]
 pub struct Interface {
     /// The name, unless the interface is written inside a world or in another package.
     pub name: Option<Text>,
@@ -21,4 +21,19 @@ pub struct Interface {
     pub span: Span,
     /// The interface that this one is a copy of; `None` here.
     pub clone_of: Option<InterfaceId>,
+}
+
+impl Drop for Interface {
+    fn drop(self) {
+        let Interface {
+            name: _,
+            types: _,
+            functions: _,
+            docs: _,
+            stability: _,
+            package: _,
+            span: _,
+            clone_of: _,
+        } = self;
+    }
 }

@@ -9,7 +9,7 @@ use wit_types::{Docs, InterfaceId, PackageId, Stability, TypeId, Types, WorldId}
 use wit_values::{Row, Span, Table, Text};
 
 /// A world: what a component imports and exports.
-#[derive(Debug, PartialEq, Eq, Drop)]
+#[derive(Debug, PartialEq, Eq)]
 pub struct World {
     pub name: Text,
     pub imports: Table<WorldKey, WorldItem>,
@@ -23,14 +23,40 @@ pub struct World {
     pub span: Span,
 }
 
+impl Drop for World {
+    fn drop(self) {
+        let World {
+            name: _,
+            imports: _,
+            exports: _,
+            package: _,
+            docs: _,
+            stability: _,
+            includes: _,
+            span: _,
+        } = self;
+    }
+}
+
 /// Another world whose imports and exports belong to this one. Its span is the path's.
-#[derive(Debug, Clone, PartialEq, Eq, Drop)]
+#[derive(Debug, Clone, PartialEq, Eq)]
 pub struct WorldInclude {
     pub stability: Stability,
     pub id: WorldId,
     /// What is renamed.
     pub names: Row<IncludeName>,
     pub span: Span,
+}
+
+impl Drop for WorldInclude {
+    fn drop(self) {
+        let WorldInclude {
+            stability: _,
+            id: _,
+            names: _,
+            span: _,
+        } = self;
+    }
 }
 
 /// A name of an included world, and the name that it gets.
@@ -41,7 +67,7 @@ pub struct IncludeName {
 }
 
 /// What an import or export is found by.
-#[derive(Debug, Clone, PartialEq, Eq, Hash, Drop)]
+#[derive(Debug, Clone, PartialEq, Eq, Hash)]
 pub enum WorldKey {
     /// A name, a function's with the marks of its kind.
     Name(Text),
@@ -49,8 +75,17 @@ pub enum WorldKey {
     Interface(InterfaceId),
 }
 
+impl Drop for WorldKey {
+    fn drop(self) {
+        match self {
+            WorldKey::Name(_) => {}
+            WorldKey::Interface(_) => {}
+        }
+    }
+}
+
 /// An import or export.
-#[derive(Debug, PartialEq, Eq, Drop)]
+#[derive(Debug, PartialEq, Eq)]
 pub enum WorldItem {
     Interface {
         id: InterfaceId,
@@ -66,6 +101,22 @@ pub enum WorldItem {
         /// The place of the name in this world.
         span: Span,
     },
+}
+
+impl Drop for WorldItem {
+    fn drop(self) {
+        match self {
+            WorldItem::Interface {
+                id: _,
+                stability: _,
+                external_id: _,
+                docs: _,
+                span: _,
+            } => {}
+            WorldItem::Function(_) => {}
+            WorldItem::Type_ { id: _, span: _ } => {}
+        }
+    }
 }
 
 impl WorldKey {

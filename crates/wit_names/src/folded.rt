@@ -49,9 +49,15 @@ fn single_if_bare(text: &str) -> &str
 /// The key is the name in ASCII lower case without `[method]` or `[static]` in front;
 /// `[constructor]`, `[get]` and `[set]` stay. What is then `l.l` with no accessor in front is `l`.
 /// Two folded names are equal, and are fed to a hasher alike, exactly if their keys are equal.
-#[derive(Debug, Drop)]
+#[derive(Debug)]
 pub struct Folded {
     key: String,
+}
+
+impl Drop for Folded {
+    fn drop(self) {
+        let Folded { key: _ } = self;
+    }
 }
 
 impl Model for Folded {

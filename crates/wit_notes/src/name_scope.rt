@@ -26,10 +26,15 @@ struct DefinedName {
 /// names with their spans, in the order in which they were defined.
 ///
 /// No two of them have one folded key.
-#[derive(Drop)]
 pub struct NameScope {
     alloc: Global,
     names: Table<Folded, DefinedName>,
+}
+
+impl Drop for NameScope {
+    fn drop(self) {
+        let NameScope { alloc: _, names: _ } = self;
+    }
 }
 
 impl Model for NameScope {

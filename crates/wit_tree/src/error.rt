@@ -32,10 +32,16 @@ pub enum ParseErrorKind {
 }
 
 /// Why something was refused: the number of the rule, and what it says.
-#[derive(Debug, Drop)]
+#[derive(Debug)]
 pub struct ParseError {
     kind: ParseErrorKind,
     rule: u8,
+}
+
+impl Drop for ParseError {
+    fn drop(self) {
+        let ParseError { kind: _, rule: _ } = self;
+    }
 }
 
 /// A value, or why there is none.
@@ -73,10 +79,8 @@ impl ParseError {
         ensures kind { result.kind ≡ self.kind }
         ensures rule { result.rule ≡ rule }
     {
-        ParseError {
-            kind: self.kind,
-            rule,
-        }
+        let ParseError { kind, rule: _ } = self;
+        ParseError { kind, rule }
     }
 
     /// What it says.

@@ -57,7 +57,7 @@ impl<'a> Docs<'a> {
 
 /// What is written in front of an item and tells since when it is there, or how it is named
 /// elsewhere. The span goes from the `@` to the `)`.
-#[derive(Debug, Drop)]
+#[derive(Debug)]
 pub enum Attribute<'a> {
     /// There since a version.
     Since { span: Span, version: Version },
@@ -69,11 +69,40 @@ pub enum Attribute<'a> {
     ExternalId { span: Span, id: &'a str },
 }
 
+impl Drop for Attribute<'_> {
+    fn drop(self) {
+        match self {
+            Attribute::Since {
+                span: _,
+                version: _,
+            } => {}
+            Attribute::Unstable {
+                span: _,
+                feature: _,
+            } => {}
+            Attribute::Deprecated {
+                span: _,
+                version: _,
+            } => {}
+            Attribute::ExternalId { span: _, id: _ } => {}
+        }
+    }
+}
+
 /// A file of a package: its header, if it has one, and its declarations.
-#[derive(Debug, Drop)]
+#[derive(Debug)]
 pub struct PackageFile<'a> {
     pub package_id: Option<PackageName<'a>>,
     pub decl_list: DeclList<'a>,
+}
+
+impl Drop for PackageFile<'_> {
+    fn drop(self) {
+        let PackageFile {
+            package_id: _,
+            decl_list: _,
+        } = self;
+    }
 }
 
 /// A source as it is read: a file of a package, and the packages that are nested in it.
@@ -122,7 +151,7 @@ pub struct NestedPackage<'a> {
 }
 
 /// The name of a package, as a header, a nested package or a path writes it.
-#[derive(Debug, Drop)]
+#[derive(Debug)]
 pub struct PackageName<'a> {
     /// Those of a header or a nested package; a package in a path has none.
     pub docs: Docs<'a>,
@@ -135,6 +164,18 @@ pub struct PackageName<'a> {
     pub version: Option<Version>,
 }
 
+impl Drop for PackageName<'_> {
+    fn drop(self) {
+        let PackageName {
+            docs: _,
+            span: _,
+            namespace: _,
+            name: _,
+            version: _,
+        } = self;
+    }
+}
+
 /// Declarations in source order.
 #[derive(Debug, Drop)]
 pub struct DeclList<'a> {
@@ -142,11 +183,21 @@ pub struct DeclList<'a> {
 }
 
 /// A declaration.
-#[derive(Debug, Drop)]
+#[derive(Debug)]
 pub enum AstItem<'a> {
     Interface(Interface<'a>),
     World(World<'a>),
     Use(ToplevelUse<'a>),
+}
+
+impl Drop for AstItem<'_> {
+    fn drop(self) {
+        match self {
+            AstItem::Interface(_) => {}
+            AstItem::World(_) => {}
+            AstItem::Use(_) => {}
+        }
+    }
 }
 
 /// Another name for an item of the package, which holds in one file. Docs in front of it are no part
@@ -171,11 +222,21 @@ pub struct Interface<'a> {
 }
 
 /// What an interface holds.
-#[derive(Debug, Drop)]
+#[derive(Debug)]
 pub enum InterfaceItem<'a> {
     TypeDef(TypeDef<'a>),
     Use(Use<'a>),
     Func(NamedFunc<'a>),
+}
+
+impl Drop for InterfaceItem<'_> {
+    fn drop(self) {
+        match self {
+            InterfaceItem::TypeDef(_) => {}
+            InterfaceItem::Use(_) => {}
+            InterfaceItem::Func(_) => {}
+        }
+    }
 }
 
 /// A declared world.
@@ -188,13 +249,24 @@ pub struct World<'a> {
 }
 
 /// What a world holds.
-#[derive(Debug, Drop)]
+#[derive(Debug)]
 pub enum WorldItem<'a> {
     /// What it imports or exports.
     Extern(Extern<'a>),
     Use(Use<'a>),
     TypeDef(TypeDef<'a>),
     Include(Include<'a>),
+}
+
+impl Drop for WorldItem<'_> {
+    fn drop(self) {
+        match self {
+            WorldItem::Extern(_) => {}
+            WorldItem::Use(_) => {}
+            WorldItem::TypeDef(_) => {}
+            WorldItem::Include(_) => {}
+        }
+    }
 }
 
 /// A side of a world: what it imports, or what it exports.
@@ -214,7 +286,7 @@ pub struct Extern<'a> {
 }
 
 /// What is imported or exported.
-#[derive(Debug, Drop)]
+#[derive(Debug)]
 pub enum ExternKind<'a> {
     /// An interface that is written in the world, under a name.
     Interface(Id<'a>, Vec<InterfaceItem<'a>>),
@@ -224,6 +296,17 @@ pub enum ExternKind<'a> {
     Func(Id<'a>, Func<'a>),
     /// An interface elsewhere, under a name of this world.
     NamedPath(Id<'a>, UsePath<'a>),
+}
+
+impl Drop for ExternKind<'_> {
+    fn drop(self) {
+        match self {
+            ExternKind::Interface(_, _) => {}
+            ExternKind::Path(_) => {}
+            ExternKind::Func(_, _) => {}
+            ExternKind::NamedPath(_, _) => {}
+        }
+    }
 }
 
 impl<'a> ExternKind<'a> {
@@ -266,12 +349,21 @@ pub struct Use<'a> {
 }
 
 /// What is used, or used from.
-#[derive(Debug, Drop)]
+#[derive(Debug)]
 pub enum UsePath<'a> {
     /// A name of the package.
     Id(Id<'a>),
     /// An item of a package, also where that is this one's own name.
     Package { id: PackageName<'a>, name: Id<'a> },
+}
+
+impl Drop for UsePath<'_> {
+    fn drop(self) {
+        match self {
+            UsePath::Id(_) => {}
+            UsePath::Package { id: _, name: _ } => {}
+        }
+    }
 }
 
 impl<'a> UsePath<'a> {
@@ -305,7 +397,7 @@ pub struct TypeDef<'a> {
 }
 
 /// What a definition says. A span is that of the definition's name.
-#[derive(Debug, Drop)]
+#[derive(Debug)]
 pub enum TypeBody<'a> {
     Record {
         span: Span,
@@ -329,6 +421,19 @@ pub enum TypeBody<'a> {
     },
     /// Another word for a type.
     Plain(Type<'a>),
+}
+
+impl Drop for TypeBody<'_> {
+    fn drop(self) {
+        match self {
+            TypeBody::Record { span: _, fields: _ } => {}
+            TypeBody::Flags { span: _, flags: _ } => {}
+            TypeBody::Variant { span: _, cases: _ } => {}
+            TypeBody::Enum { span: _, cases: _ } => {}
+            TypeBody::Resource { funcs: _ } => {}
+            TypeBody::Plain(_) => {}
+        }
+    }
 }
 
 /// A field of a record.
@@ -362,7 +467,7 @@ pub struct EnumCase<'a> {
 }
 
 /// A function that belongs to a resource.
-#[derive(Debug, Drop)]
+#[derive(Debug)]
 pub enum ResourceFunc<'a> {
     /// Of one value of the resource.
     Method(NamedFunc<'a>),
@@ -378,8 +483,24 @@ pub enum ResourceFunc<'a> {
     },
 }
 
+impl Drop for ResourceFunc<'_> {
+    fn drop(self) {
+        match self {
+            ResourceFunc::Method(_) => {}
+            ResourceFunc::Static(_) => {}
+            ResourceFunc::Constructor {
+                docs: _,
+                attributes: _,
+                span: _,
+                params: _,
+                result: _,
+            } => {}
+        }
+    }
+}
+
 /// A function and its name.
-#[derive(Debug, Drop)]
+#[derive(Debug)]
 pub struct NamedFunc<'a> {
     pub docs: Docs<'a>,
     pub attributes: Vec<Attribute<'a>>,
@@ -387,14 +508,36 @@ pub struct NamedFunc<'a> {
     pub func: Func<'a>,
 }
 
+impl Drop for NamedFunc<'_> {
+    fn drop(self) {
+        let NamedFunc {
+            docs: _,
+            attributes: _,
+            name: _,
+            func: _,
+        } = self;
+    }
+}
+
 /// A function: its form, its parameters, and the type of its result, where there is one.
-#[derive(Debug, Drop)]
+#[derive(Debug)]
 pub struct Func<'a> {
     /// That of the word `func`, `get` or `set`.
     pub span: Span,
     pub form: FuncForm,
     pub params: Vec<Param<'a>>,
     pub result: Option<Type<'a>>,
+}
+
+impl Drop for Func<'_> {
+    fn drop(self) {
+        let Func {
+            span: _,
+            form: _,
+            params: _,
+            result: _,
+        } = self;
+    }
 }
 
 /// The form of a function.

@@ -43,10 +43,15 @@ impl<T> Id<T> {
 /// Values, each at the place that its id names. `M` marks the ids.
 ///
 /// Contracts see the list of the values; two arenas are equal if they are equal lists.
-#[derive(Drop)]
 pub struct Arena<T, M = T> {
     items: Vec<T>,
     of: PhantomData<M>,
+}
+
+impl<T: Drop, M> Drop for Arena<T, M> {
+    fn drop(self) {
+        let Arena { items: _, of: _ } = self;
+    }
 }
 
 impl<T, M> Model for Arena<T, M> {

@@ -7,7 +7,7 @@ use wit_values::{Release, Text};
 /// How stable an item is, by its attributes; the default is `Unknown`.
 ///
 /// The variants are ordered as they stand here, and then by their fields.
-#[derive(Debug, Clone, PartialEq, Eq, PartialOrd, Ord, Default, Drop)]
+#[derive(Debug, Clone, PartialEq, Eq, PartialOrd, Ord, Default)]
 pub enum Stability {
     /// No attribute tells.
     #[default]
@@ -22,6 +22,22 @@ pub enum Stability {
         since: Release,
         deprecated: Option<Release>,
     },
+}
+
+impl Drop for Stability {
+    fn drop(self) {
+        match self {
+            Stability::Unknown => {}
+            Stability::Unstable {
+                feature: _,
+                deprecated: _,
+            } => {}
+            Stability::Stable {
+                since: _,
+                deprecated: _,
+            } => {}
+        }
+    }
 }
 
 impl Stability {

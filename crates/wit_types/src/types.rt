@@ -29,7 +29,7 @@ pub enum Type {
 }
 
 /// An entry of the arena of types.
-#[derive(Debug, PartialEq, Eq, Drop)]
+#[derive(Debug, PartialEq, Eq)]
 pub struct TypeDef {
     /// The name, unless the type stands inside another.
     pub name: Option<Text>,
@@ -42,11 +42,25 @@ pub struct TypeDef {
     pub external_id: Option<Text>,
 }
 
+impl Drop for TypeDef {
+    fn drop(self) {
+        let TypeDef {
+            name: _,
+            kind: _,
+            owner: _,
+            docs: _,
+            stability: _,
+            span: _,
+            external_id: _,
+        } = self;
+    }
+}
+
 /// The arena of types.
 pub type Types = Arena<TypeDef, TypePlace>;
 
 /// What a type is.
-#[derive(Debug, Clone, PartialEq, Eq, Hash, Drop)]
+#[derive(Debug, Clone, PartialEq, Eq, Hash)]
 pub enum TypeDefKind {
     Record(Record),
     Resource,
@@ -68,6 +82,29 @@ pub enum TypeDefKind {
     Type_(Type),
     /// A type of another package, which is not known here.
     Unknown,
+}
+
+impl Drop for TypeDefKind {
+    fn drop(self) {
+        match self {
+            TypeDefKind::Record(_) => {}
+            TypeDefKind::Resource => {}
+            TypeDefKind::Handle(_) => {}
+            TypeDefKind::Flags(_) => {}
+            TypeDefKind::Tuple(_) => {}
+            TypeDefKind::Variant(_) => {}
+            TypeDefKind::Enum(_) => {}
+            TypeDefKind::Option(_) => {}
+            TypeDefKind::Result(_) => {}
+            TypeDefKind::List(_) => {}
+            TypeDefKind::Map(_, _) => {}
+            TypeDefKind::FixedLengthList(_, _) => {}
+            TypeDefKind::Future(_) => {}
+            TypeDefKind::Stream(_) => {}
+            TypeDefKind::Type_(_) => {}
+            TypeDefKind::Unknown => {}
+        }
+    }
 }
 
 /// Where a type's name stands.
@@ -93,12 +130,23 @@ pub struct Record {
 }
 
 /// A field of a record. Its span is the name's.
-#[derive(Debug, Clone, PartialEq, Eq, Hash, Drop)]
+#[derive(Debug, Clone, PartialEq, Eq, Hash)]
 pub struct Field {
     pub name: Text,
     pub ty: Type,
     pub docs: Docs,
     pub span: Span,
+}
+
+impl Drop for Field {
+    fn drop(self) {
+        let Field {
+            name: _,
+            ty: _,
+            docs: _,
+            span: _,
+        } = self;
+    }
 }
 
 /// Switches, each with a name.
@@ -128,12 +176,23 @@ pub struct Variant {
 }
 
 /// A case of a variant. Its span is the name's.
-#[derive(Debug, Clone, PartialEq, Eq, Hash, Drop)]
+#[derive(Debug, Clone, PartialEq, Eq, Hash)]
 pub struct Case {
     pub name: Text,
     pub ty: Option<Type>,
     pub docs: Docs,
     pub span: Span,
+}
+
+impl Drop for Case {
+    fn drop(self) {
+        let Case {
+            name: _,
+            ty: _,
+            docs: _,
+            span: _,
+        } = self;
+    }
 }
 
 /// One of several names.

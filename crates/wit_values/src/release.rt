@@ -19,7 +19,7 @@ use std::marker::Model;
 /// A version by SemVer 2.0.0: three numbers, a pre-release and build metadata.
 ///
 /// The order is SemVer's, and among versions that differ in build metadata alone that of `semver`.
-#[derive(Debug, Clone, PartialEq, Eq, PartialOrd, Ord, Hash, Drop)]
+#[derive(Debug, Clone, PartialEq, Eq, PartialOrd, Ord, Hash)]
 pub struct Release {
     pub major: u64,
     pub minor: u64,
@@ -28,6 +28,18 @@ pub struct Release {
     pub pre: PreText,
     /// The text behind `+`, without it; empty where there is none.
     pub build: BuildText,
+}
+
+impl Drop for Release {
+    fn drop(self) {
+        let Release {
+            major: _,
+            minor: _,
+            patch: _,
+            pre: _,
+            build: _,
+        } = self;
+    }
 }
 
 impl From<Version> for Release {
@@ -56,20 +68,32 @@ impl Release {
     pub fn into_version(self) -> Version
         ensures { parts_of result ≡ (self.major, self.minor, self.patch, self.pre, self.build) }
     {
+        let Release {
+            major,
+            minor,
+            patch,
+            pre,
+            build,
+        } = self;
         Version {
-            major: self.major,
-            minor: self.minor,
-            patch: self.patch,
-            pre: self.pre.part,
-            build: self.build.part,
+            major,
+            minor,
+            patch,
+            pre: pre.into_part(),
+            build: build.into_part(),
         }
     }
 }
 
 /// The text of a pre-release, which contracts see as its bytes.
-#[derive(Drop)]
 pub struct PreText {
     part: Prerelease,
+}
+
+impl Drop for PreText {
+    fn drop(self) {
+        let PreText { part: _ } = self;
+    }
 }
 
 impl Model for PreText {
@@ -82,11 +106,21 @@ impl Model for PreText {
 }
 
 impl PreText {
+    ghost use Rattle.semver.specs.Identifiers.{pre_text};
+
     /// The text.
     pub fn as_str(&self) -> &str
         ensures { result.now ≡ self.now }
     {
         self.part.as_str()
+    }
+
+    /// The pre-release, given back.
+    fn into_part(self) -> Prerelease
+        ensures { pre_text result ≡ self }
+    {
+        let PreText { part } = self;
+        part
     }
 }
 
@@ -155,9 +189,14 @@ impl Ord for PreText {
 }
 
 /// The text of build metadata, which contracts see as its bytes.
-#[derive(Drop)]
 pub struct BuildText {
     part: BuildMetadata,
+}
+
+impl Drop for BuildText {
+    fn drop(self) {
+        let BuildText { part: _ } = self;
+    }
 }
 
 impl Model for BuildText {
@@ -170,11 +209,21 @@ impl Model for BuildText {
 }
 
 impl BuildText {
+    ghost use Rattle.semver.specs.Identifiers.{build_text};
+
     /// The text.
     pub fn as_str(&self) -> &str
         ensures { result.now ≡ self.now }
     {
         self.part.as_str()
+    }
+
+    /// The metadata, given back.
+    fn into_part(self) -> BuildMetadata
+        ensures { build_text result ≡ self }
+    {
+        let BuildText { part } = self;
+        part
     }
 }
 

@@ -18,9 +18,14 @@ use std::marker::Model;
 ///
 /// It is made from a `Vec` and gives it back. Rows are compared value by value, and where one is
 /// the other's front the shorter comes first.
-#[derive(Drop)]
 pub struct Row<T> {
     items: Vec<T>,
+}
+
+impl<T: Drop> Drop for Row<T> {
+    fn drop(self) {
+        let Row { items: _ } = self;
+    }
 }
 
 impl<T> Model for Row<T> {
@@ -88,7 +93,8 @@ impl<T> Row<T> {
     pub fn into_vec(self) -> Vec<T>
         ensures { result.items ≡ self }
     {
-        self.items
+        let Row { items } = self;
+        items
     }
 }
 

@@ -19,9 +19,14 @@ use std::marker::Model;
 /// A map in insertion order, which contracts see as its entries.
 ///
 /// Two are equal if they hold the same pairs, in any order; a copy has its source's order too.
-#[derive(Drop)]
 pub struct Table<K: Eq + Hash, V> {
     map: IndexMap<K, V>,
+}
+
+impl<K: Eq + Hash + Drop, V: Drop> Drop for Table<K, V> {
+    fn drop(self) {
+        let Table { map: _ } = self;
+    }
 }
 
 impl<K: Eq + Hash, V> Model for Table<K, V> {
@@ -126,7 +131,8 @@ impl<K: Eq + Hash, V> Table<K, V> {
     pub fn into_map(self) -> IndexMap<K, V>
         ensures { result.entries ≡ self }
     {
-        self.map
+        let Table { map } = self;
+        map
     }
 }
 

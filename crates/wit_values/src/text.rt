@@ -17,9 +17,14 @@ use std::marker::Model;
 /// A text, which contracts see as its bytes.
 ///
 /// Texts are compared byte by byte.
-#[derive(Drop)]
 pub struct Text {
     text: String,
+}
+
+impl Drop for Text {
+    fn drop(self) {
+        let Text { text: _ } = self;
+    }
 }
 
 impl Model for Text {
@@ -59,7 +64,8 @@ impl Text {
     pub fn into_string(self) -> String
         ensures { string_bytes result ≡ self }
     {
-        self.text
+        let Text { text } = self;
+        text
     }
 }
 

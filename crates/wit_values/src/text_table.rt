@@ -19,9 +19,14 @@ use std::marker::Model;
 /// A map from texts in insertion order, which contracts see as its entries.
 ///
 /// Two are equal if they hold the same pairs, in any order; a copy has its source's order too.
-#[derive(Drop)]
 pub struct TextTable<V> {
     map: IndexMap<String, V>,
+}
+
+impl<V: Drop> Drop for TextTable<V> {
+    fn drop(self) {
+        let TextTable { map: _ } = self;
+    }
 }
 
 impl<V> Model for TextTable<V> {
@@ -127,7 +132,8 @@ impl<V> TextTable<V> {
     pub fn into_map(self) -> IndexMap<String, V>
         ensures { text_entries result.entries ≡ self }
     {
-        self.map
+        let TextTable { map } = self;
+        map
     }
 }
 
