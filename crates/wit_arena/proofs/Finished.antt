@@ -13,7 +13,7 @@ use Rattle.wit_tree.specs.declared.tree.PackageFile.{PackageFile}
 use Rattle.wit_types.specs.declared.types.TypeDef.{TypeDef}
 use Rattle.wit_model.specs.declared.interface.Interface.{Interface}
 use Rattle.wit_model.specs.declared.world.World.{World}
-use Rattle.wit_order.specs.Table.{IsOrder}
+use Rattle.wit_graph.specs.Table.{IsOrder}
 use Rattle.wit_syntax.specs.Fault.{Fault, fault, missing_at, name_word}
 use Rattle.wit_syntax.specs.Address.{Address, InterfaceNamed, WorldNamed, is_foreign}
 use Rattle.wit_syntax.specs.Source.{address, Target, Local, Foreign, leads, Item, ScopeName, Used, all_items, item_name, is_world, item_named, item_at, scope_names, meaning, taking, takings, same_taking}

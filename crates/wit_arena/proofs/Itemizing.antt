@@ -8,7 +8,7 @@ use Rattle.wit_tree.specs.declared.tree.Attribute.{Attribute}
 use Rattle.wit_tree.specs.declared.tree.UseName.{UseName}
 use Rattle.wit_tree.specs.declared.tree.Use.{Use}
 use Rattle.wit_tree.specs.declared.tree.PackageFile.{PackageFile}
-use Rattle.wit_order.specs.Table.{IsOrder}
+use Rattle.wit_graph.specs.Table.{IsOrder}
 use Rattle.wit_syntax.specs.Address.{Address}
 use Rattle.wit_syntax.specs.Source.{TopName, Item, Part, Defining, Using, Including, Doing, Crossing, Used, Taken, path_scope, part_names, parts, item_name, item_named, all_items, scope_names}
 use Rattle.wit_syntax.specs.Scope.{in_order, item_row, item_rows}

@@ -2,8 +2,8 @@
 use Rattle.std.proofs.Common.{◌≡◌, ℕ, List, [], ◌∷◌, ◌++◌, Some, sym, ap, ◌∙◌, subst}
 use Rattle.std.specs.Prelude.{slice_get, map}
 use Rattle.wit_tree.specs.declared.tree.PackageFile.{PackageFile}
-use Rattle.wit_order.specs.Table.{IsOrder}
-use Rattle.wit_order.proofs.Tables.{matched}
+use Rattle.wit_graph.specs.Table.{IsOrder}
+use Rattle.wit_graph.proofs.Tables.{matched}
 use Rattle.wit_syntax.specs.Source.{Item, all_items, scope_names, Taking, takings}
 use Rattle.wit_syntax.specs.Scope.{interfaces_of, worlds_of, in_order, rows_of}
 use Rattle.wit_syntax.specs.Splitting.{IsJoined}

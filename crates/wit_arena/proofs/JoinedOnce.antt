@@ -2,8 +2,8 @@
 use Rattle.std.proofs.Common.{◌≡◌, ℕ, zero, suc, ◌+◌, List, [], ◌∷◌, ◌++◌, length, Some, refl, sym, ap, ◌∙◌, subst}
 use Rattle.std.specs.Prelude.{slice_get, map}
 use Rattle.wit_tree.specs.declared.tree.PackageFile.{PackageFile}
-use Rattle.wit_order.specs.Table.{IsOrder}
-use Rattle.wit_order.proofs.SameEdges.{one_answer}
+use Rattle.wit_graph.specs.Table.{IsOrder}
+use Rattle.wit_graph.proofs.SameEdges.{one_answer}
 use Rattle.wit_syntax.specs.Source.{Item, all_items, scope_names}
 use Rattle.wit_syntax.specs.Scope.{item_rows, interfaces_of, worlds_of, in_order, rows_of}
 use Rattle.wit_syntax.specs.Sides.{inline_items}

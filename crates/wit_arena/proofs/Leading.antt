@@ -17,8 +17,8 @@ use Rattle.wit_tree.specs.declared.tree.InterfaceItem.{InterfaceItem}
 use Rattle.wit_tree.specs.declared.tree.InterfaceItem.TheVariants as interface_item
 use Rattle.wit_tree.specs.declared.tree.PackageFile.{PackageFile}
 use Rattle.wit_package_names.specs.declared.package_name.PackageName.{PackageName}
-use Rattle.wit_order.specs.Table.{Row, target, IsEdge, Leads, IsOrder}
-use Rattle.wit_order.proofs.Tables.{slice_get-take}
+use Rattle.wit_graph.specs.Table.{Row, target, IsEdge, Leads, IsOrder}
+use Rattle.wit_graph.proofs.Tables.{slice_get-take}
 use Rattle.wit_syntax.specs.Address.{Address, InterfaceNamed, ForeignNamed, is_foreign}
 use Rattle.wit_syntax.specs.Source.{TopName, Declared, TheInterface, TheWorld, TheInline, is_declared_world, Part, Defining, Using, Including, Doing, Crossing, interface_part, declared_parts, Target, Local, Foreign, leads, used_scope, path_scope, Item, Used, all_items, item_name, is_world, parts, item_named, scope_names, taking, takings}
 use Rattle.wit_syntax.specs.Foreign.{ForeignVisit, visited, foreign_interfaces}

@@ -13,7 +13,7 @@ use Rattle.wit_model.specs.declared.interface.Interface.{Interface}
 use Rattle.wit_model.specs.declared.world.World.{World}
 use Rattle.wit_model.specs.declared.unresolved.UnresolvedPackage.{UnresolvedPackage}
 use Rattle.wit_types.specs.declared.types.TypeDef.{TypeDef}
-use Rattle.wit_order.specs.Table.{IsOrder}
+use Rattle.wit_graph.specs.Table.{IsOrder}
 use Rattle.semver.specs.Identifiers.{parts_of}
 use Rattle.wit_values.specs.ReleaseText.{release_parts}
 use Rattle.wit_syntax.specs.Address.{Address}

@@ -15,7 +15,7 @@ use Rattle.wit_model.specs.declared.world.World.{World}
 use Rattle.wit_model.specs.declared.world.WorldInclude.{WorldInclude}
 use Rattle.wit_types.specs.declared.types.TypeDef.{TypeDef}
 use Rattle.wit_model.specs.declared.unresolved.UnresolvedPackage.{UnresolvedPackage}
-use Rattle.wit_order.specs.Table.{IsOrder}
+use Rattle.wit_graph.specs.Table.{IsOrder}
 use Rattle.wit_syntax.specs.Address.{Address, WorldNamed, ForeignNamed}
 use Rattle.wit_syntax.specs.Source.{address, Target, Local, Foreign, leads, item_id, item_named, included_scope, is_world, Item, all_items, item_name, scope_names}
 use Rattle.wit_syntax.specs.Foreign.{visited, is_foreign_world, foreign_interfaces, foreign_worlds, foreign_at}

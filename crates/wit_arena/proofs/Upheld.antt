@@ -12,7 +12,7 @@ use Rattle.wit_types.specs.declared.types.TypeDef.{TypeDef}
 use Rattle.wit_syntax.specs.Address.{Address}
 use Rattle.wit_syntax.specs.Source.{address, Item, ScopeName, meaning, scope_names}
 use Rattle.wit_syntax.specs.Trees as source
-use Rattle.wit_order.specs.Table.{IsOrder}
+use Rattle.wit_graph.specs.Table.{IsOrder}
 use Rattle.wit_syntax.specs.Shape.{words, all_handles}
 use Rattle.wit_syntax.specs.Function.{SourceFunction, functions, signature, all_types}
 use Rattle.wit_syntax.specs.Scope.{rows_of, in_turn}

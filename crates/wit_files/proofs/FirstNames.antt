@@ -10,7 +10,7 @@ use Rattle.std.proofs.lemmas.List.Folds.{find-append}
 use Rattle.std.proofs.lemmas.List.{map-append}
 use Rattle.std.proofs.lemmas.Option.{none-some}
 use Rattle.indexmap.specs.IndexMap.{insert_entry}
-use Rattle.wit_order.proofs.Rows.{key_eq}
+use Rattle.wit_graph.proofs.Rows.{key_eq}
 use Rattle.wit_tree.specs.declared.tree.Id.{Id}
 use Rattle.wit_tree.specs.declared.tree.UsePath.TheVariants as path
 use Rattle.wit_syntax.specs.Source.{TopName, Local, top_text, top_target, top_named, leads, Item, item_name, item_named}
@@ -19,7 +19,7 @@ use Rattle.wit_syntax.proofs.Lists.{map_at, map_map}
 use Rattle.wit_syntax.proofs.Names.{name_equal, name_cases, name_itself}
 use Rattle.wit_syntax.proofs.Repeated.{differ_more}
 use Rattle.wit_syntax.proofs.Found.{find_passes, find_at}
-use Rattle.wit_order.specs.Table.{Row, entry_row}
+use Rattle.wit_graph.specs.Table.{Row, entry_row}
 use Rattle.wit_syntax.specs.Scope.{item_row}
 use Rattle.wit_files.specs.declared.top_name.Target.{Target as Held}
 use Rattle.wit_files.specs.Tops.{target_behind, item_top}

@@ -10,9 +10,9 @@ use Rattle.indexmap.specs.IndexMap.{insert_entry, keys}
 use Rattle.wit_tree.specs.declared.tree.Id.{Id}
 use Rattle.wit_tree.specs.declared.tree.AstItem.{AstItem}
 use Rattle.wit_tree.specs.declared.tree.PackageFile.{PackageFile}
-use Rattle.wit_order.specs.Table.{Row, Table, entry_row, rows, place_of, target, IsOrder}
-use Rattle.wit_order.proofs.Rows.{key_eq, rows-insert}
-use Rattle.wit_order.proofs.Tables.{place_by_key}
+use Rattle.wit_graph.specs.Table.{Row, Table, entry_row, rows, place_of, target, IsOrder}
+use Rattle.wit_graph.proofs.Rows.{key_eq, rows-insert}
+use Rattle.wit_graph.proofs.Tables.{place_by_key}
 use Rattle.wit_syntax.specs.Source.{TopName, top_names, top_text, declared_items, Item, file_items, all_items, item_name}
 use Rattle.wit_syntax.specs.Scope.{item_row, item_rows}
 use Rattle.wit_syntax.specs.Fault.{Fault, missing_at, item_word}

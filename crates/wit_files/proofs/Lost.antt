@@ -13,7 +13,7 @@ use Rattle.wit_tree.specs.declared.tree.AstItem.TheVariants.{Use as ToplevelItem
 use Rattle.wit_tree.specs.declared.tree.Id.{Id}
 use Rattle.wit_tree.specs.declared.tree.UsePath.{UsePath}
 use Rattle.wit_tree.specs.declared.tree.PackageFile.{PackageFile}
-use Rattle.wit_order.specs.Table.{place_of}
+use Rattle.wit_graph.specs.Table.{place_of}
 use Rattle.wit_syntax.specs.Source.{TopName, Target, path_target, leads, declared_items, top_names, top_text, Item, file_items, all_items, item_name, item_named}
 use Rattle.wit_syntax.specs.Scope.{local_target, item_row}
 use Rattle.wit_syntax.specs.Fault.{Fault, fault}

@@ -2,7 +2,7 @@
 use Rattle.std.specs.Prelude.{◌≡◌, ℕ, List, [], ◌∷◌, ◌++◌, length, map, position, Option, Some, None, slice_get}
 use Rattle.std.specs.Option.{option_map}
 use Rattle.wit_tree.specs.declared.tree.PackageFile.{PackageFile}
-use Rattle.wit_order.specs.Table.{rows, target, IsOrder}
+use Rattle.wit_graph.specs.Table.{rows, target, IsOrder}
 use Rattle.wit_syntax.specs.Address.{ForeignNamed, same_address}
 use Rattle.wit_syntax.specs.Source.{Target, Local, Foreign, TopName, top_names, all_items, is_world}
 use Rattle.wit_syntax.specs.Scope.{item_rows}

@@ -1,6 +1,6 @@
 //! The names of files: of the items that they declare, and those at the top of each.
 ghost use Rattle.std.specs.Prelude.{◌≡◌, ◌<◌, Some, length, map, slice_get, IfOk, IfErr, OnOk};
-ghost use Rattle.wit_order.specs.Table.{IsOrder};
+ghost use Rattle.wit_graph.specs.Table.{IsOrder};
 ghost use Rattle.wit_syntax.specs.Source.{leads as the_leads, all_items, is_world as is_the_world};
 ghost use Rattle.wit_syntax.specs.Scope.{item_rows};
 ghost use Rattle.wit_syntax.specs.Fault.{Fault};

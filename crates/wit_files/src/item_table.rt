@@ -1,7 +1,7 @@
 //! The table of the items that files declare, and its order.
 ghost use Rattle.std.specs.Prelude.{◌≡◌, ◌++◌, ◌⊎◌, List, map, IfOk, IfErr, OnOk};
 ghost use Rattle.std.specs.List.{flat_map};
-ghost use Rattle.wit_order.specs.Table.{rows, IsOrder};
+ghost use Rattle.wit_graph.specs.Table.{rows, IsOrder};
 ghost use Rattle.wit_syntax.specs.Source.{TopName as Top, Item, interface_part, world_part, top_names, file_items, item_name, is_world};
 ghost use Rattle.wit_syntax.specs.Scope.{use_path, include_path, item_row};
 ghost use Rattle.wit_syntax.specs.Fault.{missing_at, item_word};

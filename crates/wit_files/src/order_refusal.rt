@@ -1,8 +1,8 @@
 //! Refusals of tables that have no order.
 ghost use Rattle.std.specs.Prelude.{◌⊎◌};
 ghost use Rattle.wit_tree.specs.declared.tree.Id.{Id as TheId};
-ghost use Rattle.wit_order.specs.Table.{rows, IsEdge};
-ghost use Rattle.wit_order.specs.Faults.{IsFaultOf};
+ghost use Rattle.wit_graph.specs.Table.{rows, IsEdge};
+ghost use Rattle.wit_graph.specs.Faults.{IsFaultOf};
 ghost use Rattle.wit_syntax.specs.Fault.{missing_at, missing_type_at, item_word, type_word};
 ghost use Rattle.wit_syntax.specs.Broken.{IsMissingEdge, IsCyclicEdge, Refused};
 

@@ -1,7 +1,7 @@
 //! The tables of the names of files: of the items that they declare, and those at the top of each.
 ghost use Rattle.std.specs.Prelude.{◌≡◌, ◌++◌, [], List, map, IfOk, IfErr, OnOk};
 ghost use Rattle.wit_tree.specs.declared.tree.PackageFile.{PackageFile as TheFile};
-ghost use Rattle.wit_order.specs.Table.{rows, IsOrder};
+ghost use Rattle.wit_graph.specs.Table.{rows, IsOrder};
 ghost use Rattle.wit_syntax.specs.Source.{Item as TheItem, top_names, top_text, file_items, all_items, item_name, is_world as is_the_world};
 ghost use Rattle.wit_syntax.specs.Scope.{item_row, item_rows};
 ghost use Rattle.wit_syntax.specs.Fault.{Fault};

@@ -3,7 +3,7 @@ use Rattle.std.specs.Prelude.{◌≡◌, ℕ, List, map, Some, slice_get}
 use Rattle.std.specs.List.{flat_map}
 use Rattle.wit_tree.specs.declared.tree.Id.{Id}
 use Rattle.wit_types.specs.declared.types.TypeDef.{TypeDef}
-use Rattle.wit_order.specs.Table.{IsOrder}
+use Rattle.wit_graph.specs.Table.{IsOrder}
 use Rattle.wit_syntax.specs.Fault.{Fault}
 use Rattle.wit_syntax.specs.Shape.{all_handles}
 use Rattle.wit_syntax.specs.Source.{ScopeName, local_id}

@@ -2,7 +2,7 @@
 use Rattle.std.specs.Prelude.{◌≡◌, ℕ, List, [], ◌++◌, map, take}
 use Rattle.std.specs.List.{flat_map}
 use Rattle.wit_tree.specs.declared.tree.Id.{Id}
-use Rattle.wit_order.specs.Table.{IsOrder}
+use Rattle.wit_graph.specs.Table.{IsOrder}
 use Rattle.wit_types.specs.declared.types.TypeDef.{TypeDef}
 use Rattle.wit_types.specs.declared.types.TypeOwner.{TypeOwner}
 use Rattle.wit_syntax.specs.Address.{Address}

@@ -31,8 +31,8 @@ use Rattle.wit_types.specs.declared.types.TypeDefKind.TheVariants as kind
 use Rattle.wit_types.specs.declared.types.TypeOwner.TheVariants as owner
 use Rattle.wit_model.specs.declared.interface.Interface.{Interface}
 use Rattle.wit_model.specs.declared.unresolved.UnresolvedPackage.{UnresolvedPackage}
-use Rattle.wit_order.specs.Table.{Row, Leads, IsMissing, IsCyclic, IsOrder}
-use Rattle.wit_order.specs.Order.{ReachesCycle}
+use Rattle.wit_graph.specs.Table.{Row, Leads, IsMissing, IsCyclic, IsOrder}
+use Rattle.wit_graph.specs.Order.{ReachesCycle}
 use Rattle.wit_syntax.specs.Form.{Member, RecordForm, ListForm, AliasForm}
 use Rattle.wit_arena.specs.Kind.{kind_of}
 use Rattle.wit_syntax.specs.Node.{OfScope, Head, Leaf, Named, Unnamed, Tree}

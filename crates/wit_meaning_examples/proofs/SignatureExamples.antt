@@ -28,8 +28,8 @@ use Rattle.wit_functions.specs.declared.function.Function.{Function as Made}
 use Rattle.wit_functions.specs.declared.function.FunctionKind.{FunctionKind}
 use Rattle.wit_functions.specs.declared.function.FunctionKind.TheVariants as kind
 use Rattle.wit_tree.specs.Refusal.{Missing}
-use Rattle.wit_order.specs.Order.{IsDependencyFirst}
-use Rattle.wit_order.specs.Table.{Row, IsEdge, Leads, IsOrder}
+use Rattle.wit_graph.specs.Order.{IsDependencyFirst}
+use Rattle.wit_graph.specs.Table.{Row, IsEdge, Leads, IsOrder}
 use Rattle.wit_syntax.specs.Form.{ResultForm}
 use Rattle.wit_syntax.specs.Address.{InterfaceNamed}
 use Rattle.wit_syntax.specs.Notes.{no_docs}

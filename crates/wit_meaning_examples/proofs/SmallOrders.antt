@@ -2,9 +2,9 @@
 use Rattle.std.proofs.Common.{◌≡◌, ◌≢◌, ℕ, zero, suc, ◌<◌, ◌≤◌, List, [], ◌∷◌, length, Some, IsSome, get_or, refl, sym, ap, ◌∙◌, subst, arith}
 use Rattle.std.specs.Prelude.{slice_get}
 use Rattle.wit_tree.specs.declared.tree.Id.{Id}
-use Rattle.wit_order.specs.Order.{IsBefore}
-use Rattle.wit_order.specs.Table.{Row, target, IsEdge, Leads, IsOrder}
-use Rattle.wit_order.proofs.Greedy.{IsGreedy, greedy_least, greedy_sorted}
+use Rattle.wit_graph.specs.Order.{IsBefore}
+use Rattle.wit_graph.specs.Table.{Row, target, IsEdge, Leads, IsOrder}
+use Rattle.wit_graph.proofs.Greedy.{IsGreedy, greedy_least, greedy_sorted}
 
 abbrev pub two : List ℕ → List ℕ → Id → List Row
 two a b id = record { name = a; needs = id ∷ [] } ∷ record { name = b; needs = [] } ∷ []

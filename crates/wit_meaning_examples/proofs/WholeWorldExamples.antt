@@ -45,7 +45,7 @@ use Rattle.wit_model.specs.declared.world.WorldItem.{WorldItem}
 use Rattle.wit_model.specs.declared.world.WorldItem.TheVariants as item
 use Rattle.wit_model.specs.declared.world.WorldKey.{WorldKey}
 use Rattle.wit_model.specs.declared.world.WorldKey.TheVariants as key
-use Rattle.wit_order.specs.Table.{IsOrder}
+use Rattle.wit_graph.specs.Table.{IsOrder}
 use Rattle.wit_syntax.specs.Address.{Address, InterfaceNamed, WorldNamed, InlineAt}
 use Rattle.wit_syntax.specs.Function.{functions, signature}
 use Rattle.wit_syntax.specs.Node.{OfScope}

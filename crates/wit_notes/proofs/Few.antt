@@ -8,7 +8,7 @@ use denote.Ref.{Bor}
 use Rattle.wit_syntax.specs.Repeats.{IsRepeatAt, AllDiffer}
 use Rattle.wit_syntax.proofs.Lists.{at_take}
 use Rattle.wit_syntax.proofs.Names.{name_equal, name_itself}
-use Rattle.wit_order.proofs.Tables.{slice_get-take}
+use Rattle.wit_graph.proofs.Tables.{slice_get-take}
 use Rattle.wit_notes.proofs.Seeing.{texts_of, text-at}
 
 -- two places with one text

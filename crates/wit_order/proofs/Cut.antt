@@ -5,7 +5,7 @@ use Rattle.std.proofs.lemmas.List.{length_push, length-drop, length-take-le, tak
 use Rattle.std.proofs.Math.Seq.{take-length, drop-append_seam}
 use Rattle.std.proofs.lemmas.List.Sums.{sum_by-cons}
 use Rattle.wit_order.specs.Cut.{between, cut_from, cut, IsCut}
-use Rattle.wit_order.specs.Graph.{edge_count}
+use Rattle.wit_graph.specs.Graph.{edge_count}
 
 from_long : (start : ℕ) (starts xs : List ℕ) → length (cut_from start starts xs) ≡ length starts
 from_long start [] xs = refl

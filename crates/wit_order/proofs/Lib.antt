@@ -1,16 +1,6 @@
-pub mod Greedy
-pub mod Cycle
-pub mod Sorting
-pub mod Tables
 pub mod StuckEdges
-pub mod Outcome
 pub mod Counts
 pub mod HeapState
-pub mod Forward
-pub mod Rows
-pub mod SameEdges
-pub mod Decided
-pub mod Faults
 pub mod ReadySet
 pub mod Cut
 pub mod Filling

@@ -5,7 +5,7 @@ use Rattle.std.proofs.lemmas.List.{length-replicate, take_all}
 use Rattle.std.proofs.lemmas.List.Sums.{sum_by_more, sum_by_more_le, sum_by-take-le}
 use Rattle.std.proofs.lemmas.Option.{get_or_from_slice_get, slice_get_within}
 use Rattle.wit_order.specs.Cut.{between, cut, IsCut}
-use Rattle.wit_order.specs.Graph.{Graph, IsClosed}
+use Rattle.wit_graph.specs.Graph.{Graph, IsClosed}
 use Rattle.wit_order.specs.Heap.{times, row_at}
 use Rattle.wit_order.specs.Turned.{edges_to, IsTurned, IsFilling, HasRoom}
 use Rattle.wit_order.proofs.Counts.{times-cons, one_other, noted_step, noted_all, row_at-past}

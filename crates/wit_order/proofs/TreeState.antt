@@ -2,15 +2,15 @@
 use Rattle.std.proofs.Common.{◌≡◌, ◌≢◌, ℕ, suc, ◌+◌, ◌<◌, ◌≤◌, ◌^◌, List, [], ◌∷◌, ◌++◌, length, get_or, set, arith, sym, ◌∙◌, ap, refl, subst, inl, inr, Bool, true, cond, nat_eq, Vec, Global, All, sum}
 use Rattle.std.proofs.lemmas.Bool.{cases_Bool}
 use Rattle.std.proofs.lemmas.List.Sums.{sum_by-cons}
-use Rattle.wit_order.specs.Order.{IsBefore}
-use Rattle.wit_order.specs.Graph.{Graph, HasEdge, IsClosed}
+use Rattle.wit_graph.specs.Order.{IsBefore}
+use Rattle.wit_graph.specs.Graph.{Graph, HasEdge, IsClosed}
 use Rattle.wit_order.specs.declared.ready.Ready.{Ready}
 use Rattle.wit_order.specs.declared.ready.Steps.{Steps}
 use Rattle.wit_order.specs.Heap.{times, zeros, row_at}
 use Rattle.wit_order.specs.Released.{times_in, MayRelease, IsReleased}
 use Rattle.wit_order.proofs.Counts.{one, one_same, one_other}
-use Rattle.wit_order.proofs.Greedy.{greedy_sorted}
-use Rattle.wit_order.proofs.Sorting.{true_from_before}
+use Rattle.wit_graph.proofs.Greedy.{greedy_sorted}
+use Rattle.wit_graph.proofs.Sorting.{true_from_before}
 use Rattle.wit_order.proofs.HeapState.{HeapState, due, due_off, due_on, users_enough, users_within, heap_pop, done_waits}
 
 due_some : (done : List Bool) (counts : List ℕ) (q : ℕ) → get_or counts q 0 ≢ 0 → due done counts q ≡ 0

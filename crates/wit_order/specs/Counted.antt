@@ -1,7 +1,7 @@
 -- What it took to order a table.
 use Rattle.std.specs.Prelude.{◌≡◌, List, length, sum_by}
 use Rattle.wit_order.specs.declared.ready.Steps.{Steps}
-use Rattle.wit_order.specs.Table.{Row}
+use Rattle.wit_graph.specs.Table.{Row}
 
 -- each name was put in once, and each needed name counted down once, repeats too
 pub record IsCounted (rs : List Row) (steps : Steps) : Type 0 where

@@ -1,12 +1,4 @@
-pub mod Edges
-pub mod Faults
-pub mod Graph
 pub mod Heap
-pub mod Order
-pub mod Refused
-pub mod Resolved
-pub mod Table
-pub mod Laws
 pub mod Released
 pub mod Counted
 pub mod Cut

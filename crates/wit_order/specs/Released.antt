@@ -1,11 +1,11 @@
 -- Edges of places counted down, and the places that then wait for none.
 use Rattle.std.specs.Prelude.{◌≡◌, ℕ, ◌+◌, ◌<◌, ◌≤◌, ◌^◌, ⊤, List, length, All, cond, nat_eq, nat_lt, slice_index, sum}
-use Rattle.wit_order.specs.Graph.{Graph, edge_count}
+use Rattle.wit_graph.specs.Graph.{Graph, edge_count}
 use Rattle.wit_order.specs.Heap.{times, zeros, came_free}
 use Rattle.wit_order.specs.declared.ready.Ready.{Ready}
 use Rattle.wit_order.specs.declared.ready.Steps.{Steps}
-use Rattle.wit_order.specs.declared.places.Sorted.{Sorted}
-use Rattle.wit_order.specs.declared.places.Sorted.TheVariants.{Order, Stuck}
+use Rattle.wit_graph.specs.declared.sorted.Sorted.{Sorted}
+use Rattle.wit_graph.specs.declared.sorted.Sorted.TheVariants.{Order, Stuck}
 
 -- how often q is among the places that wait for none: those passed, and of those from next on each whose count is 0
 abbrev pub times_in : ℕ → Ready → ℕ

@@ -1,7 +1,7 @@
 -- The edges of a graph turned round: for each place, whose edges lead to it.
 use Rattle.std.specs.Prelude.{◌≡◌, ℕ, ◌+◌, ◌<◌, ◌≤◌, List, length, slice_index, sum_by}
 use Rattle.wit_order.specs.Cut.{between}
-use Rattle.wit_order.specs.Graph.{Graph}
+use Rattle.wit_graph.specs.Graph.{Graph}
 use Rattle.wit_order.specs.Heap.{times, row_at}
 
 -- how many edges lead to w

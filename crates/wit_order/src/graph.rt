@@ -1,7 +1,7 @@
 //! A graph of places, its rows one behind the other in one list.
 ghost use Rattle.std.specs.Prelude.{◌≡◌, ℕ, ◌<◌, ◌≤◌, ◌^◌, Some, List, length, slice_get};
 ghost use Rattle.wit_order.specs.Cut.{between, cut, IsCut};
-ghost use Rattle.wit_order.specs.Graph.{edge_count};
+ghost use Rattle.wit_graph.specs.Graph.{edge_count};
 
 use std::marker::Model;
 

@@ -1,5 +1,5 @@
 //! What holds of every table.
-ghost use Rattle.wit_order.specs.Laws.{OneAnswerLaw, SameEdgesLaw};
+ghost use Rattle.wit_graph.specs.Laws.{OneAnswerLaw, SameEdgesLaw};
 
 /// Every table is ordered, in one order, or refused, and none is both.
 pub fn one_answer()

@@ -5,7 +5,6 @@
 //! or names the edge that forbids one. [`laws`] says what holds of every table.
 #![tactic(auto)]
 
-pub mod fault;
 mod graph;
 mod heap;
 pub mod laws;
@@ -13,9 +12,10 @@ mod names;
 pub mod order;
 mod places;
 mod ready;
+mod refusal;
 mod tree;
 mod turned;
 
-pub use fault::OrderFault;
 pub use order::{order_places, order_steps, toposort, toposort_heap, toposort_scan};
 pub use ready::Steps;
+pub use wit_graph::OrderFault;

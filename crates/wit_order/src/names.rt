@@ -1,14 +1,14 @@
 //! Names and their places.
 ghost use Rattle.std.specs.Prelude.{◌≡◌, ◌⊎◌, ℕ, ◌<◌, All, IfOk, OnOk, IfErr};
-ghost use Rattle.wit_order.specs.declared.fault.OrderFault.TheVariants.{OutOfMemory};
+ghost use Rattle.wit_graph.specs.declared.fault.OrderFault.TheVariants.{OutOfMemory};
 ghost use Rattle.indexmap.specs.IndexMap.{index_map_len};
-ghost use Rattle.wit_order.specs.Table.{rows, AreKeysAt};
-ghost use Rattle.wit_order.specs.Resolved.{AddsRow, MissesFirst, Misses, IsGraphOf};
+ghost use Rattle.wit_graph.specs.Table.{rows, AreKeysAt};
+ghost use Rattle.wit_graph.specs.Resolved.{AddsRow, MissesFirst, Misses, IsGraphOf};
 
-use crate::fault::OrderFault;
 use crate::graph::Graph;
 use indexmap::IndexMap;
 use std::alloc::{AllocError, Global};
+use wit_graph::OrderFault;
 use wit_tree::tree::Id;
 
 /// Puts the places of what the ids of a place name behind the targets.

@@ -1,21 +1,23 @@
 //! The least order of a table's names in which each comes after those that it needs.
 ghost use Rattle.std.specs.Prelude.{◌≡◌, ℕ, List, IfOk, IfErr};
-ghost use Rattle.wit_order.specs.declared.places.Sorted.TheVariants.{Order};
-ghost use Rattle.wit_order.specs.Graph.{IsClosed, IsSortOf};
-ghost use Rattle.wit_order.specs.Table.{Row, rows, IsOrder, IsOrdered};
-ghost use Rattle.wit_order.specs.Faults.{IsFaultOf, FaultsMissing, FaultsCycle};
+ghost use Rattle.wit_graph.specs.declared.sorted.Sorted.TheVariants.{Order};
+ghost use Rattle.wit_graph.specs.Graph.{IsClosed, IsSortOf};
+ghost use Rattle.wit_graph.specs.Table.{Row, rows, IsOrder, IsOrdered};
+ghost use Rattle.wit_graph.specs.Faults.{IsFaultOf, FaultsMissing, FaultsCycle};
 ghost use Rattle.wit_order.specs.Counted.{IsCounted};
-ghost use Rattle.wit_order.specs.Refused.{IsRefused, FailsAtMissing, FailsAtCycle};
-ghost use Rattle.wit_order.specs.Resolved.{IsGraphOf, Cycles};
+ghost use Rattle.wit_graph.specs.Refused.{IsRefused, FailsAtMissing, FailsAtCycle};
+ghost use Rattle.wit_graph.specs.Resolved.{IsGraphOf, Cycles};
 
-use crate::fault::{OrderFault, refusal};
 use crate::graph::Graph;
 use crate::names::{graph_of, names_at};
-use crate::places::{self, Sorted, first_stuck_edge};
+use crate::places::{self, first_stuck_edge};
 use crate::ready::Steps;
+use crate::refusal::refusal;
 use crate::{heap, tree};
 use indexmap::IndexMap;
 use std::alloc::Global;
+use wit_graph::OrderFault;
+use wit_graph::sorted::Sorted;
 use wit_tree::tree::Id;
 use wit_tree::{ParseError, ParseErrorKind, ParseResult};
 

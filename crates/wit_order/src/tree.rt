@@ -1,15 +1,15 @@
 //! The order of places, by counts and a set of the places that wait for none.
 ghost use Rattle.std.specs.Prelude.{◌<◌, All, IfOk, OnOk};
 ghost use Rattle.std.specs.Bool.{MatchBool};
-ghost use Rattle.wit_order.specs.Graph.{IsBackward, IsClosed, IsSortOf};
+ghost use Rattle.wit_graph.specs.Graph.{IsBackward, IsClosed, IsSortOf};
 ghost use Rattle.wit_order.specs.Released.{MayRelease, IsReleased, AreStepsOf};
 
 use crate::graph::Graph;
 use crate::heap::counts_of;
-use crate::places::Sorted;
 use crate::ready::{Ready, Steps};
 use crate::turned::turned;
 use std::alloc::{AllocError, Global};
+use wit_graph::sorted::Sorted;
 
 /// Whether the row leads only to places before this one.
 fn is_row_backward(row: &[usize], place: usize) -> bool

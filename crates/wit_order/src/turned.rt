@@ -1,6 +1,6 @@
 //! A graph with its edges turned round.
 ghost use Rattle.std.specs.Prelude.{◌≡◌, ℕ, ◌+◌, ◌<◌, ◌≤◌, ◌^◌, List, length, take, All, IfOk, cond, nat_eq, slice_index, sum};
-ghost use Rattle.wit_order.specs.Graph.{IsClosed, edge_count};
+ghost use Rattle.wit_graph.specs.Graph.{IsClosed, edge_count};
 ghost use Rattle.wit_order.specs.Heap.{times};
 ghost use Rattle.wit_order.specs.Turned.{edges_to, IsTurned, IsFilling, HasRoom};
 

@@ -3,7 +3,7 @@ use Rattle.std.specs.Prelude.{◌≡◌, ℕ, List, ◌++◌, map, Contains}
 use Rattle.std.specs.List.{flat_map}
 use Rattle.wit_tree.specs.declared.tree.Use.{Use}
 use Rattle.wit_tree.specs.declared.tree.PackageFile.{PackageFile}
-use Rattle.wit_order.specs.Table.{IsOrder}
+use Rattle.wit_graph.specs.Table.{IsOrder}
 use Rattle.wit_types.specs.declared.types.TypeDef.{TypeDef}
 use Rattle.wit_types.specs.Types.{IsBackward}
 use Rattle.wit_model.specs.declared.foreign.ForeignItems.{ForeignItems}

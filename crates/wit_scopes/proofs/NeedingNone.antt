@@ -6,9 +6,9 @@ use Rattle.std.proofs.lemmas.List.{length-map, take_all}
 use Rattle.std.proofs.lemmas.Bool.{cases_lt}
 use Rattle.std.proofs.lemmas.Option.{same_Some, get_or_from_slice_get}
 use Rattle.wit_tree.specs.declared.tree.Id.{Id}
-use Rattle.wit_order.specs.Table.{Row, IsEdge, Leads, IsOrder}
-use Rattle.wit_order.proofs.Greedy.{own_greedy, greedy_sorted, greedy_least}
-use Rattle.wit_order.proofs.Tables.{slice_get-take}
+use Rattle.wit_graph.specs.Table.{Row, IsEdge, Leads, IsOrder}
+use Rattle.wit_graph.proofs.Greedy.{own_greedy, greedy_sorted, greedy_least}
+use Rattle.wit_graph.proofs.Tables.{slice_get-take}
 use Rattle.wit_syntax.specs.Source.{ScopeName}
 use Rattle.wit_syntax.specs.Scope.{needed_ids, row_of, rows_of, in_order, defined}
 use Rattle.wit_syntax.proofs.Lists.{at_front, at_seam, at_take, at_within, map_at}

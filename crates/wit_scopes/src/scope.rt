@@ -1,7 +1,7 @@
 //! The order in which the definitions of a scope are resolved.
 ghost use Rattle.std.specs.Prelude.{◌≡◌, List, map, IfOk, IfErr};
 ghost use Rattle.std.specs.Bool.{MatchBool};
-ghost use Rattle.wit_order.specs.Table.{rows, IsOrder};
+ghost use Rattle.wit_graph.specs.Table.{rows, IsOrder};
 ghost use Rattle.wit_syntax.specs.Scope.{needed_ids as the_needed, rows_of, AreDistinct};
 ghost use Rattle.wit_syntax.specs.Function.{SourceFunction};
 ghost use Rattle.wit_syntax.specs.Broken.{IsBrokenScope, Refused};

@@ -5,7 +5,7 @@ use Rattle.std.specs.List.{flat_map, filter}
 use Rattle.wit_tree.specs.declared.tree.WorldSide.{WorldSide}
 use Rattle.wit_tree.specs.declared.tree.WorldSide.TheVariants.{Imported, Exported}
 use Rattle.wit_tree.specs.declared.tree.Use.{Use}
-use Rattle.wit_order.proofs.Tables.{matched}
+use Rattle.wit_graph.proofs.Tables.{matched}
 use Rattle.wit_syntax.specs.Address.{Address, is_foreign}
 use Rattle.wit_syntax.specs.Crossing.{same_side, inline_uses}
 use Rattle.wit_syntax.specs.Source.{TopName, Declared, TheInline, Part, Defining, Using, Including, Doing, Crossing, Item, item_name, parts, Used, part_names, scope_names, Taking, taking, use_takings, part_takings, side_takings, takings_in, item_takings}

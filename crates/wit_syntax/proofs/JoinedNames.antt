@@ -6,7 +6,7 @@ use Rattle.wit_tree.specs.declared.tree.Id.{Id}
 use Rattle.wit_tree.specs.declared.tree.AstItem.{AstItem}
 use Rattle.wit_tree.specs.declared.tree.AstItem.TheVariants as ast
 use Rattle.wit_tree.specs.declared.tree.PackageFile.{PackageFile}
-use Rattle.wit_order.proofs.Tables.{matched}
+use Rattle.wit_graph.proofs.Tables.{matched}
 use Rattle.wit_syntax.specs.Fault.{Fault, fault}
 use Rattle.wit_syntax.specs.Source.{TopName, top_name, top_names, Item, item_id, declared_items, file_items, all_items}
 use Rattle.wit_syntax.specs.Broken.{IsRepeatedItem, IsDuplicateTopName}

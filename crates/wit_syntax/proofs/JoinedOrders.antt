@@ -7,10 +7,10 @@ use Rattle.std.proofs.lemmas.Option.{slice_get-map}
 use Rattle.wit_tree.specs.declared.tree.Id.{Id}
 use Rattle.wit_tree.specs.declared.tree.UsePath.{UsePath}
 use Rattle.wit_tree.specs.declared.tree.PackageFile.{PackageFile}
-use Rattle.wit_order.specs.Table.{Row, IsOrder}
-use Rattle.wit_order.specs.Laws.{NeedsAll, HaveSameEdges}
-use Rattle.wit_order.proofs.Tables.{matched}
-use Rattle.wit_order.proofs.SameEdges.{one_answer, same_edges, missing_onward, cyclic_onward}
+use Rattle.wit_graph.specs.Table.{Row, IsOrder}
+use Rattle.wit_graph.specs.Laws.{NeedsAll, HaveSameEdges}
+use Rattle.wit_graph.proofs.Tables.{matched}
+use Rattle.wit_graph.proofs.SameEdges.{one_answer, same_edges, missing_onward, cyclic_onward}
 use Rattle.wit_syntax.specs.Fault.{Fault, cyclic_at}
 use Rattle.wit_syntax.specs.Source.{TopName, Item, item_name, parts, leads, all_items}
 use Rattle.wit_syntax.specs.Scope.{needed_path, local_target, needed_items, item_row, item_rows}

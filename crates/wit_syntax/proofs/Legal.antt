@@ -11,10 +11,10 @@ use Rattle.wit_tree.specs.declared.tree.Id.{Id}
 use Rattle.wit_tree.specs.declared.tree.Extern.{Extern}
 use Rattle.wit_tree.specs.declared.tree.ExternKind.{ExternKind}
 use Rattle.wit_tree.specs.declared.tree.ExternKind.TheVariants as extern
-use Rattle.wit_order.specs.Table.{Row, target, Leads, IsOrder}
-use Rattle.wit_order.proofs.Tables.{not_missing}
-use Rattle.wit_order.proofs.Forward.{no_cycle}
-use Rattle.wit_order.proofs.SameEdges.{one_answer}
+use Rattle.wit_graph.specs.Table.{Row, target, Leads, IsOrder}
+use Rattle.wit_graph.proofs.Tables.{not_missing}
+use Rattle.wit_graph.proofs.Forward.{no_cycle}
+use Rattle.wit_graph.proofs.SameEdges.{one_answer}
 use Rattle.wit_syntax.specs.Source.{Part, Defining, Using, Including, Doing, Crossing, Item, parts, ScopeName}
 use Rattle.wit_syntax.specs.Fault.{Fault, fault}
 use Rattle.wit_syntax.specs.Scope.{rows_of, in_turn}

@@ -5,7 +5,7 @@ use Rattle.std.specs.List.{cons_option}
 use Rattle.std.proofs.lemmas.List.{take_more}
 use Rattle.std.proofs.lemmas.List.Elements.{filter_map-append}
 use Rattle.std.proofs.lemmas.Option.{slice_get-get_or, slice_get_within, get_or_from_slice_get}
-use Rattle.wit_order.specs.Table.{Row, IsOrder}
+use Rattle.wit_graph.specs.Table.{Row, IsOrder}
 use Rattle.wit_syntax.specs.Scope.{in_order}
 use Rattle.wit_syntax.proofs.Lists.{at_within}
 

@@ -4,7 +4,7 @@ use Rattle.std.specs.Prelude.{slice_get}
 use Rattle.std.specs.Str.{bytes_eq}
 use Rattle.std.proofs.lemmas.List.Quantifiers.{position-Some}
 use Rattle.std.proofs.lemmas.Option.{slice_get-get_or}
-use Rattle.wit_order.specs.Table.{Row, place_of}
+use Rattle.wit_graph.specs.Table.{Row, place_of}
 use Rattle.wit_syntax.proofs.Names.{name_equal}
 
 -- the row at the place of a name has the name

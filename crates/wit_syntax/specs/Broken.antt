@@ -18,7 +18,7 @@ use Rattle.wit_tree.specs.declared.tree.AstItem.{AstItem}
 use Rattle.wit_tree.specs.declared.tree.AstItem.TheVariants.{Use as ToplevelItem}
 use Rattle.wit_tree.specs.declared.tree.PackageName.{PackageName as Header}
 use Rattle.wit_tree.specs.declared.tree.PackageFile.{PackageFile}
-use Rattle.wit_order.specs.Table.{Row, IsEdge, IsMissing, IsCyclic}
+use Rattle.wit_graph.specs.Table.{Row, IsEdge, IsMissing, IsCyclic}
 use Rattle.wit_syntax.specs.Notes.{IsBrokenStability, IsBrokenNotes}
 use Rattle.wit_syntax.specs.Bodies.{IsRepeated, IsBrokenBody}
 use Rattle.wit_syntax.specs.Fault.{Fault, fault_of, fault, missing_at, missing_type_at, cyclic_at, item_word, type_word, name_word}

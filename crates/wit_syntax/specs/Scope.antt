@@ -6,7 +6,7 @@ use Rattle.wit_tree.specs.declared.tree.Include.{Include}
 use Rattle.wit_tree.specs.declared.tree.Use.{Use}
 use Rattle.wit_tree.specs.declared.tree.UsePath.{UsePath}
 use Rattle.wit_tree.specs.declared.tree.PackageFile.{PackageFile}
-use Rattle.wit_order.specs.Table.{Row}
+use Rattle.wit_graph.specs.Table.{Row}
 use Rattle.wit_syntax.specs.Crossing.{extern_paths, inline_uses}
 use Rattle.wit_syntax.specs.Shape.{all_words, body_of}
 use Rattle.wit_syntax.specs.Source.{Target, Local, Foreign, leads, ScopeName, Used, Defined, Taken, local_name, Declared, TheInterface, TheWorld, TheInline, Part, Defining, Using, Including, Doing, Crossing, Item, item_name, is_world, parts, all_items}

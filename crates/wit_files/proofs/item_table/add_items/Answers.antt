@@ -6,7 +6,7 @@ use Rattle.std.proofs.lemmas.Result.{err_from_is_err_and}
 use Rattle.wit_tree.specs.declared.tree.Id.{Id}
 use Rattle.wit_tree.specs.declared.tree.AstItem.{AstItem}
 use Rattle.wit_tree.specs.declared.tree.AstItem.TheVariants.{Interface as InterfaceItem', World as WorldItem'}
-use Rattle.wit_order.specs.Table.{rows}
+use Rattle.wit_graph.specs.Table.{rows}
 use Rattle.wit_syntax.specs.Source.{Item, TheInterface, TheWorld, top_names, declared_items, item_name}
 use Rattle.wit_syntax.specs.Repeats.{AllDiffer}
 use Rattle.wit_syntax.proofs.Refusing.{refused_weaker}

@@ -1,6 +1,6 @@
 use Rattle.std.proofs.Common.{◌≡◌, ◌++◌, map, take}
 use Rattle.std.specs.List.{flat_map}
-use Rattle.wit_order.specs.Table.{rows}
+use Rattle.wit_graph.specs.Table.{rows}
 use Rattle.wit_syntax.specs.Source.{top_names, declared_items}
 use Rattle.wit_syntax.specs.Scope.{item_row}
 use Rattle.wit_files.proofs.item_table.add_items.Given as goal

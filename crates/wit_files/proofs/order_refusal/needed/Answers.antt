@@ -1,8 +1,8 @@
 use Rattle.std.proofs.Common.{◌<◌, length, refl, arith}
 use Rattle.std.proofs.lemmas.Option.{slice_get_read}
-use Rattle.wit_order.specs.Table.{rows}
-use Rattle.wit_order.proofs.Tables.{row_at_place}
-use Rattle.wit_order.proofs.Faults.{edge_index}
+use Rattle.wit_graph.specs.Table.{rows}
+use Rattle.wit_graph.proofs.Tables.{row_at_place}
+use Rattle.wit_graph.proofs.Faults.{edge_index}
 use Rattle.wit_files.proofs.order_refusal.needed.Goals as goal
 
 pub index-requires : goal.index-requires

@@ -1,4 +1,4 @@
-use Rattle.wit_order.proofs.SameEdges.{same_edges}
+use Rattle.wit_graph.proofs.SameEdges.{same_edges}
 use Rattle.wit_order.proofs.laws.same_edges.Goals as goal
 
 pub returns : goal.returns

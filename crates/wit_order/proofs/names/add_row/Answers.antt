@@ -1,8 +1,8 @@
 use Rattle.std.proofs.Common.{◌++◌, [], ◌∷◌, Some, sym, ap, inr, ◌∙◌, refl}
 use Rattle.std.proofs.lemmas.Option.{slice_get_read}
 use Rattle.std.proofs.lemmas.List.{append_assoc}
-use Rattle.wit_order.specs.Table.{rows, target}
-use Rattle.wit_order.proofs.Tables.{map_step, miss_first, place_by_key}
+use Rattle.wit_graph.specs.Table.{rows, target}
+use Rattle.wit_graph.proofs.Tables.{map_step, miss_first, place_by_key}
 use Rattle.wit_order.proofs.names.add_row.Goals as goal
 
 pub returns-in-None-clause-err : goal.returns-in-None-clause-err

@@ -1,6 +1,6 @@
 use Rattle.std.proofs.Common.{take}
-use Rattle.wit_order.specs.Table.{rows}
-use Rattle.wit_order.specs.Resolved.{AddsRow}
+use Rattle.wit_graph.specs.Table.{rows}
+use Rattle.wit_graph.specs.Resolved.{AddsRow}
 use Rattle.wit_order.proofs.names.add_row.Given as goal
 
 abbrev pub invariant-loop-index : goal.invariant-loop-index

@@ -1,9 +1,9 @@
 use Rattle.std.proofs.Common.{arith, ap, ◌∙◌, map, inl, inr}
 use Rattle.std.proofs.lemmas.Result.{err_from_is_err_and}
 use Rattle.wit_order.specs.Cut.{cut}
-use Rattle.wit_order.specs.Table.{rows}
+use Rattle.wit_graph.specs.Table.{rows}
 use Rattle.wit_order.proofs.Cut.{row_added}
-use Rattle.wit_order.proofs.Tables.{map_step, miss_edge, row_at_place, has, wants}
+use Rattle.wit_graph.proofs.Tables.{map_step, miss_edge, row_at_place, has, wants}
 use Rattle.wit_order.proofs.names.graph_of.Goals as goal
 
 pub loop-place-preserved : goal.loop-place-preserved

@@ -1,7 +1,7 @@
 use Rattle.std.proofs.Common.{◌≡◌, ◌-◌, map, take, length, slice_index}
 use Rattle.wit_order.specs.Cut.{cut, IsCut}
-use Rattle.wit_order.specs.Table.{rows}
-use Rattle.wit_order.proofs.Tables.{has, wants}
+use Rattle.wit_graph.specs.Table.{rows}
+use Rattle.wit_graph.proofs.Tables.{has, wants}
 use Rattle.wit_order.proofs.names.graph_of.Given as goal
 
 abbrev pub invariant-loop-place : goal.invariant-loop-place

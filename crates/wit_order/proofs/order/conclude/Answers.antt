@@ -1,4 +1,4 @@
-use Rattle.wit_order.proofs.Outcome.{in_order, cycle_fault, some_stuck}
+use Rattle.wit_graph.proofs.Outcome.{in_order, cycle_fault, some_stuck}
 use Rattle.wit_order.proofs.order.conclude.Goals as goal
 
 pub returns-in-Order-clause-ok : goal.returns-in-Order-clause-ok

@@ -1,6 +1,6 @@
 use Rattle.std.proofs.Common.{List, ℕ, Bor, Vec, Global, Ok, Err}
-use Rattle.wit_order.specs.Table.{rows}
-use Rattle.wit_order.proofs.Forward.{fails_missing, fails_cycle}
+use Rattle.wit_graph.specs.Table.{rows}
+use Rattle.wit_graph.proofs.Forward.{fails_missing, fails_cycle}
 use Rattle.wit_order.proofs.order.keys_of.Goals as goal
 
 pub returns-in-Ok-names_at-clause-missing : goal.returns-in-Ok-names_at-clause-missing

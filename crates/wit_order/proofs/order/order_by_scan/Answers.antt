@@ -1,5 +1,5 @@
-use Rattle.wit_order.specs.Table.{rows}
-use Rattle.wit_order.proofs.Outcome.{graph_closed}
+use Rattle.wit_graph.specs.Table.{rows}
+use Rattle.wit_graph.proofs.Outcome.{graph_closed}
 use Rattle.wit_order.proofs.order.order_by_scan.Goals as goal
 
 pub sort_places-requires : goal.sort_places-requires

@@ -1,6 +1,6 @@
 use Rattle.std.proofs.Common.{◌∙◌}
-use Rattle.wit_order.specs.Table.{rows}
-use Rattle.wit_order.proofs.Outcome.{graph_closed, graph_long, edges_counted}
+use Rattle.wit_graph.specs.Table.{rows}
+use Rattle.wit_graph.proofs.Outcome.{graph_closed, graph_long, edges_counted}
 use Rattle.wit_order.proofs.order.order_counted.Goals as goal
 
 pub sort_places-requires : goal.sort_places-requires

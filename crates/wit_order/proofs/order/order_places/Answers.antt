@@ -1,6 +1,6 @@
 use Rattle.std.proofs.Common.{ℕ, Vec, Global, Ok, Err}
-use Rattle.wit_order.specs.Table.{rows}
-use Rattle.wit_order.proofs.Forward.{faults_missing, faults_cycle}
+use Rattle.wit_graph.specs.Table.{rows}
+use Rattle.wit_graph.proofs.Forward.{faults_missing, faults_cycle}
 use Rattle.wit_order.proofs.order.order_places.Goals as goal
 
 pub returns-in-Ok-clause-missing : goal.returns-in-Ok-clause-missing

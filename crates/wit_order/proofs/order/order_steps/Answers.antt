@@ -1,6 +1,6 @@
 use Rattle.std.proofs.lemmas.Result.{IfOk-weaker}
-use Rattle.wit_order.specs.Table.{rows}
-use Rattle.wit_order.proofs.Forward.{fails_missing, fails_cycle}
+use Rattle.wit_graph.specs.Table.{rows}
+use Rattle.wit_graph.proofs.Forward.{fails_missing, fails_cycle}
 use Rattle.wit_order.proofs.order.order_steps.Goals as goal
 
 pub returns-clause-missing : goal.returns-clause-missing

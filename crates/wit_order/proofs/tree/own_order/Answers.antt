@@ -1,7 +1,7 @@
 use Rattle.std.proofs.Common.{◌≡◌, arith, length}
-use Rattle.wit_order.specs.Graph.{HasEdge}
-use Rattle.wit_order.proofs.Greedy.{own_greedy, greedy_sorted, greedy_least}
-use Rattle.wit_order.proofs.Sorting.{edge_back}
+use Rattle.wit_graph.specs.Graph.{HasEdge}
+use Rattle.wit_graph.proofs.Greedy.{own_greedy, greedy_sorted, greedy_least}
+use Rattle.wit_graph.proofs.Sorting.{edge_back}
 use Rattle.wit_order.proofs.tree.own_order.Goals as goal
 
 pub returns : goal.returns

@@ -5,7 +5,7 @@ use Rattle.std.proofs.lemmas.Option.{get_or_from_slice_get}
 use Rattle.wit_order.specs.Heap.{times}
 use Rattle.wit_order.specs.Released.{times_in}
 use Rattle.wit_order.proofs.Counts.{one_same}
-use Rattle.wit_order.proofs.Sorting.{state_done, state_stuck}
+use Rattle.wit_graph.proofs.Sorting.{state_done, state_stuck}
 use Rattle.wit_order.proofs.HeapState.{heap_start, held, blocked_all}
 use Rattle.wit_order.proofs.TreeState.{may_release, tree_pop, all_closed}
 use Rattle.wit_order.proofs.tree.sort_places.Goals as goal

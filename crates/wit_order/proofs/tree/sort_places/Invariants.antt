@@ -1,6 +1,6 @@
 use Rattle.std.proofs.Common.{◌≡◌, ◌+◌, length, sum}
 use Rattle.wit_order.specs.Heap.{zeros}
-use Rattle.wit_order.specs.Graph.{edge_count}
+use Rattle.wit_graph.specs.Graph.{edge_count}
 use Rattle.wit_order.specs.Released.{times_in}
 use Rattle.wit_order.proofs.HeapState.{HeapState}
 use Rattle.wit_order.proofs.tree.sort_places.Given as goal

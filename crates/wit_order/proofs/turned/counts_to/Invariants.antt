@@ -1,5 +1,5 @@
 use Rattle.std.proofs.Common.{◌≡◌, ℕ, length, take, slice_index, sum}
-use Rattle.wit_order.specs.Graph.{edge_count}
+use Rattle.wit_graph.specs.Graph.{edge_count}
 use Rattle.wit_order.specs.Turned.{edges_to}
 use Rattle.wit_order.proofs.turned.counts_to.Given as goal
 

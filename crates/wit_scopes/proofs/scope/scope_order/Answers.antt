@@ -1,5 +1,5 @@
 use Rattle.std.proofs.Common.{◌⊎◌, List, inl, inr, map, subst}
-use Rattle.wit_order.specs.Table.{Row}
+use Rattle.wit_graph.specs.Table.{Row}
 use Rattle.wit_syntax.specs.Scope.{rows_of}
 use Rattle.wit_syntax.specs.Fault.{missing_type_at, type_word}
 use Rattle.wit_syntax.specs.Function.{SourceFunction}

@@ -1,5 +1,5 @@
 use Rattle.std.proofs.Common.{◌≡◌, map, take}
-use Rattle.wit_order.specs.Table.{rows}
+use Rattle.wit_graph.specs.Table.{rows}
 use Rattle.wit_syntax.specs.Scope.{rows_of}
 use Rattle.wit_scopes.specs.Held.{name_behind}
 use Rattle.wit_scopes.proofs.scope.scope_table.Given as goal

@@ -2,7 +2,7 @@ use Rattle.std.proofs.Common.{◌≡◌, get_or, map, ap, sym, ◌∙◌, subst,
 use Rattle.std.proofs.lemmas.List.{length-map}
 use Rattle.std.proofs.lemmas.Option.{slice_get-get_or}
 use Rattle.std.proofs.lemmas.Result.{err_from_is_err_and}
-use Rattle.wit_order.specs.Table.{IsOrder}
+use Rattle.wit_graph.specs.Table.{IsOrder}
 use Rattle.wit_syntax.specs.Scope.{rows_of, in_order, defined}
 use Rattle.wit_syntax.proofs.Turns.{names_within}
 use Rattle.wit_scopes.specs.Held.{name_behind}

@@ -1,6 +1,6 @@
 use Rattle.std.proofs.Common.{subst, ◌⊎◌}
 use Rattle.std.proofs.lemmas.Result.{err_from_is_err_and}
-use Rattle.wit_order.specs.Table.{rows, IsOrder}
+use Rattle.wit_graph.specs.Table.{rows, IsOrder}
 use Rattle.wit_syntax.specs.Scope.{item_rows}
 use Rattle.wit_syntax.specs.Fault.{missing_at, item_word}
 use Rattle.wit_syntax.specs.Broken.{IsMissingEdge, IsCyclicEdge, IsBrokenItems}

@@ -3,7 +3,7 @@ use Rattle.std.specs.Prelude.{slice_get}
 use Rattle.std.proofs.lemmas.List.{map-append, take_more}
 use Rattle.std.proofs.lemmas.Option.{slice_get-get_or}
 use Rattle.std.proofs.lemmas.Result.{err_from_is_err_and}
-use Rattle.wit_order.specs.Table.{rows}
+use Rattle.wit_graph.specs.Table.{rows}
 use Rattle.wit_syntax.specs.Source.{file_items, all_items, is_world}
 use Rattle.wit_syntax.specs.Scope.{item_row}
 use Rattle.wit_syntax.specs.Broken.{IsBrokenItems}

@@ -1,6 +1,6 @@
 use Rattle.std.proofs.Common.{◌≡◌, map, take}
 use Rattle.wit_syntax.specs.Source.{all_items, is_world}
-use Rattle.wit_order.specs.Table.{rows}
+use Rattle.wit_graph.specs.Table.{rows}
 use Rattle.wit_syntax.specs.Scope.{item_rows}
 use Rattle.wit_files.specs.Checks.{AreDistinctTops}
 use Rattle.wit_files.specs.FileNames.{AreTopsOf}

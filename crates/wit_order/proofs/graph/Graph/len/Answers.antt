@@ -1,5 +1,5 @@
 use Rattle.std.proofs.Common.{arith, ap, length}
-use Rattle.wit_order.specs.Graph.{edge_count}
+use Rattle.wit_graph.specs.Graph.{edge_count}
 use Rattle.wit_order.proofs.Cut.{cut_long, cut_count}
 use Rattle.wit_order.proofs.graph.Graph.len.Goals as goal
 

@@ -6,14 +6,14 @@ use Rattle.std.proofs.lemmas.Option.{same_Some, slice_get_within}
 use Rattle.wit_tree.specs.declared.tree.Id.{Id}
 use Rattle.wit_tree.specs.declared.error.ParseError.{ParseError}
 use Rattle.wit_tree.specs.Refusal.{IsTypeCycle}
-use Rattle.wit_order.specs.Edges.{IsEarlier, IsFirstEdge}
-use Rattle.wit_order.specs.Table.{Row, target, IsEdge, IsMissing, IsCyclic, IsComplete, Leads, IsOrder}
-use Rattle.wit_order.specs.Refused.{IsNotFound, IsRefused, FailsAtMissing, FailsAtCycle}
-use Rattle.wit_order.specs.Faults.{IsFaultOf, FaultsMissing, FaultsCycle}
-use Rattle.wit_order.specs.declared.fault.OrderFault.{OrderFault}
-use Rattle.wit_order.specs.declared.fault.OrderFault.TheVariants.{Missing, Cyclic, OutOfMemory}
-use Rattle.wit_order.specs.Order.{Walk, ReachesCycle, IsDependencyFirst}
-use Rattle.wit_order.proofs.Tables.{not_missing}
+use Rattle.wit_graph.specs.Edges.{IsEarlier, IsFirstEdge}
+use Rattle.wit_graph.specs.Table.{Row, target, IsEdge, IsMissing, IsCyclic, IsComplete, Leads, IsOrder}
+use Rattle.wit_graph.specs.Refused.{IsNotFound, IsRefused, FailsAtMissing, FailsAtCycle}
+use Rattle.wit_graph.specs.Faults.{IsFaultOf, FaultsMissing, FaultsCycle}
+use Rattle.wit_graph.specs.declared.fault.OrderFault.{OrderFault}
+use Rattle.wit_graph.specs.declared.fault.OrderFault.TheVariants.{Missing, Cyclic, OutOfMemory}
+use Rattle.wit_graph.specs.Order.{Walk, ReachesCycle, IsDependencyFirst}
+use Rattle.wit_graph.proofs.Tables.{not_missing}
 
 -- two first edges are one
 first_cases : (i k j l : ℕ) → ((i ≡ j) × (k ≡ l)) ⊎ (IsEarlier i k j l ⊎ IsEarlier j l i k)

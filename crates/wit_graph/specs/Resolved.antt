@@ -1,11 +1,11 @@
 -- The graph of places that the rows of a table make.
 use Rattle.std.specs.Prelude.{◌≡◌, ℕ, ◌<◌, ◌++◌, List, Some, None, IsSome, map, slice_get}
 use Rattle.wit_tree.specs.declared.tree.Id.{Id}
-use Rattle.wit_order.specs.declared.fault.OrderFault.{OrderFault}
-use Rattle.wit_order.specs.declared.fault.OrderFault.TheVariants.{Missing, Cyclic}
-use Rattle.wit_order.specs.Faults.{IsFirstMissing, IsFirstCyclic}
-use Rattle.wit_order.specs.Graph.{Graph}
-use Rattle.wit_order.specs.Table.{Row, target}
+use Rattle.wit_graph.specs.declared.fault.OrderFault.{OrderFault}
+use Rattle.wit_graph.specs.declared.fault.OrderFault.TheVariants.{Missing, Cyclic}
+use Rattle.wit_graph.specs.Faults.{IsFirstMissing, IsFirstCyclic}
+use Rattle.wit_graph.specs.Graph.{Graph}
+use Rattle.wit_graph.specs.Table.{Row, target}
 
 -- the row of a place holds the places of what its edges name
 abbrev pub Resolves : List Row → List Id → List ℕ → Type 0

@@ -10,11 +10,11 @@ use Rattle.indexmap.specs.IndexMap.{IndexMap, keys}
 use Rattle.std.specs.Map.Iter.{deref_pair}
 use Rattle.std.proofs.lemmas.Bool.{false≢true}
 use Rattle.wit_tree.specs.declared.tree.Id.{Id}
-use Rattle.wit_order.specs.declared.fault.OrderFault.{OrderFault}
-use Rattle.wit_order.specs.declared.fault.OrderFault.TheVariants.{Missing}
-use Rattle.wit_order.specs.Graph.{Graph}
-use Rattle.wit_order.specs.Table.{Row, Table, entry_row, rows, target, place_of}
-use Rattle.wit_order.specs.Resolved.{MissesFirst, Misses, Resolves}
+use Rattle.wit_graph.specs.declared.fault.OrderFault.{OrderFault}
+use Rattle.wit_graph.specs.declared.fault.OrderFault.TheVariants.{Missing}
+use Rattle.wit_graph.specs.Graph.{Graph}
+use Rattle.wit_graph.specs.Table.{Row, Table, entry_row, rows, target, place_of}
+use Rattle.wit_graph.specs.Resolved.{MissesFirst, Misses, Resolves}
 
 -- the step of a loop that maps a list
 pub map_step : {A B C : Type 0} (f : A → C) (g : B → C) (xs : List A) (ys : List B) (i : ℕ) (x : A) (y : B) → map f xs ≡ map g (take i ys) → slice_get ys i ≡ Some y → f x ≡ g y

@@ -4,11 +4,11 @@ use Rattle.std.specs.Prelude.{nat_lt}
 use Rattle.std.specs.List.{prefix_len, position_or_len}
 use Rattle.std.specs.Str.{bytes_eq}
 use Rattle.std.proofs.lemmas.List.{take_more, take_all, length-map}
-use Rattle.wit_order.specs.Order.{IsDependencyFirst, IsLeast}
-use Rattle.wit_order.specs.Table.{Row, place_of, IsMissing, IsCyclic, IsComplete, Leads, IsOrder}
-use Rattle.wit_order.specs.Laws.{NeedsAll, HaveSameEdges, HasEdgeThat, AreRefused, OneAnswerLaw, SameEdgesLaw}
-use Rattle.wit_order.proofs.Outcome.{cycle_to, order_from, least_to}
-use Rattle.wit_order.proofs.Decided.{accepted_or_refused, never_both}
+use Rattle.wit_graph.specs.Order.{IsDependencyFirst, IsLeast}
+use Rattle.wit_graph.specs.Table.{Row, place_of, IsMissing, IsCyclic, IsComplete, Leads, IsOrder}
+use Rattle.wit_graph.specs.Laws.{NeedsAll, HaveSameEdges, HasEdgeThat, AreRefused, OneAnswerLaw, SameEdgesLaw}
+use Rattle.wit_graph.proofs.Outcome.{cycle_to, order_from, least_to}
+use Rattle.wit_graph.proofs.Decided.{accepted_or_refused, never_both}
 
 -- two least orders are one
 same_front : (leads : ℕ → ℕ → Type 0) (n : ℕ) (p q : List ℕ) → IsDependencyFirst leads n p → IsLeast leads n p → IsDependencyFirst leads n q → IsLeast leads n q

@@ -1,7 +1,7 @@
 -- Which tables have an order, and which have the same one.
 use Rattle.std.specs.Prelude.{◌≡◌, ◌⊎◌, ℕ, List, map}
 use Rattle.wit_tree.specs.declared.tree.Id.{Id}
-use Rattle.wit_order.specs.Table.{Row, IsEdge, IsMissing, IsCyclic, IsComplete, IsOrder}
+use Rattle.wit_graph.specs.Table.{Row, IsEdge, IsMissing, IsCyclic, IsComplete, IsOrder}
 
 -- what the rows of rs need, the same rows of ss need too
 abbrev pub NeedsAll : List Row → List Row → Type 0

@@ -1,10 +1,10 @@
 -- Why a table has no order, by the places of the edge that forbids one.
 use Rattle.std.specs.Prelude.{Result, MatchResult, ◌≡◌, ℕ, ◌⊎◌, List, ⊤}
 use Rattle.wit_tree.specs.declared.tree.Id.{Id}
-use Rattle.wit_order.specs.declared.fault.OrderFault.{OrderFault}
-use Rattle.wit_order.specs.declared.fault.OrderFault.TheVariants.{Missing, Cyclic, OutOfMemory}
-use Rattle.wit_order.specs.Edges.{IsFirstEdge}
-use Rattle.wit_order.specs.Table.{Row, IsEdge, IsMissing, IsCyclic, IsComplete}
+use Rattle.wit_graph.specs.declared.fault.OrderFault.{OrderFault}
+use Rattle.wit_graph.specs.declared.fault.OrderFault.TheVariants.{Missing, Cyclic, OutOfMemory}
+use Rattle.wit_graph.specs.Edges.{IsFirstEdge}
+use Rattle.wit_graph.specs.Table.{Row, IsEdge, IsMissing, IsCyclic, IsComplete}
 
 -- the first edge to a name that is missing
 pub record IsFirstMissing (rs : List Row) (place index : ℕ) : Type 0 where

@@ -4,9 +4,9 @@ use Rattle.std.proofs.lemmas.Option.{slice_get_within, same_Some}
 use Rattle.wit_tree.specs.declared.tree.Id.{Id}
 use Rattle.wit_tree.specs.declared.error.ParseErrorKind.{ParseErrorKind}
 use Rattle.wit_tree.specs.Refusal.{IsTypeCycle}
-use Rattle.wit_order.specs.Table.{Row, IsEdge}
-use Rattle.wit_order.specs.Faults.{IsFirstMissing, IsFirstCyclic}
-use Rattle.wit_order.specs.Refused.{IsNotFound, RefusesMissing, RefusesCycle}
+use Rattle.wit_graph.specs.Table.{Row, IsEdge}
+use Rattle.wit_graph.specs.Faults.{IsFirstMissing, IsFirstCyclic}
+use Rattle.wit_graph.specs.Refused.{IsNotFound, RefusesMissing, RefusesCycle}
 
 -- an edge's name stands at its index in the row
 pub edge_need : (rs : List Row) (i k : ℕ) (id : Id) (row : Row) → IsEdge rs i k id → slice_get rs i ≡ Some row → slice_get row.needs k ≡ Some id

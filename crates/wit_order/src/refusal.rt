@@ -1,47 +1,16 @@
-//! Why a table has no order, and the refusal that says so.
+//! The refusal that says why a table has no order.
 ghost use Rattle.std.specs.Prelude.{◌≡◌, IfOk, IfErr};
 ghost use Rattle.wit_tree.specs.Refusal.{IsTypeCycle};
 ghost use Rattle.wit_tree.specs.declared.error.ParseErrorKind.TheVariants.{OutOfMemory};
-ghost use Rattle.wit_order.specs.Table.{rows};
-ghost use Rattle.wit_order.specs.Faults.{IsFaultOf};
-ghost use Rattle.wit_order.specs.Refused.{IsNotFound, IsRefused};
+ghost use Rattle.wit_graph.specs.Table.{rows};
+ghost use Rattle.wit_graph.specs.Faults.{IsFaultOf};
+ghost use Rattle.wit_graph.specs.Refused.{IsNotFound, IsRefused};
 
 use indexmap::IndexMap;
-use std::alloc::{AllocError, AllocFailed, Global};
+use std::alloc::Global;
+use wit_graph::OrderFault;
 use wit_tree::tree::Id;
 use wit_tree::{ParseError, ParseErrorKind, ParseResult};
-
-/// Why a table has no order.
-#[derive(Debug, Drop)]
-pub enum OrderFault {
-    /// The needed name `index` of the key at `place` is no key. None before it is missing.
-    Missing { place: usize, index: usize },
-    /// Every needed name is a key, and the needed name `index` of the key at `place` is the first
-    /// that reaches a cycle, as that key does.
-    Cyclic { place: usize, index: usize },
-    /// A growth was refused.
-    OutOfMemory,
-}
-
-impl From<AllocError> for OrderFault {
-    ghost use Rattle.wit_order.specs.declared.fault.OrderFault.TheVariants.{OutOfMemory as WantsMemory};
-
-    ghost from_gives = { λ _ f. f ≡ WantsMemory };
-
-    fn from(_e: AllocError) -> OrderFault {
-        OrderFault::OutOfMemory
-    }
-}
-
-impl<T: Drop> From<AllocFailed<T>> for OrderFault {
-    ghost use Rattle.wit_order.specs.declared.fault.OrderFault.TheVariants.{OutOfMemory as WantsMemory};
-
-    ghost from_gives = { λ _ f. f ≡ WantsMemory };
-
-    fn from(_e: AllocFailed<T>) -> OrderFault {
-        OrderFault::OutOfMemory
-    }
-}
 
 fn not_found(alloc: Global, kind: &str, id: &Id<'_>) -> ParseResult<ParseErrorKind>
     ensures ok { IfOk result (IsNotFound id.now.span id.now.name.now kind.now) }

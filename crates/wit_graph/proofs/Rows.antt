@@ -8,7 +8,7 @@ use Rattle.std.proofs.lemmas.Option.{none-some}
 use Rattle.std.proofs.lemmas.Bool.{cases_Bool, cases_lt, cond-true, cond-false, lt-ltb}
 use Rattle.indexmap.specs.IndexMap.{insert_entry}
 use Rattle.wit_tree.specs.declared.tree.Id.{Id}
-use Rattle.wit_order.specs.Table.{Row, entry_row, place_of}
+use Rattle.wit_graph.specs.Table.{Row, entry_row, place_of}
 
 -- equality of keys
 abbrev pub key_eq : Bor (List ℕ) → Bor (List ℕ) → Bool

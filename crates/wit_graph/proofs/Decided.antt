@@ -4,14 +4,14 @@ use Rattle.std.proofs.lemmas.List.{length_push}
 use Rattle.std.proofs.lemmas.Bool.{cases_lt}
 use Rattle.std.proofs.lemmas.Option.{same_Some, none-some, slice_get_within}
 use Rattle.wit_tree.specs.declared.tree.Id.{Id}
-use Rattle.wit_order.specs.Order.{ReachesCycle, IsBefore, IsDependencyFirst, IsLeast}
-use Rattle.wit_order.specs.Table.{Row, target, IsMissing, IsCyclic, IsComplete, Leads}
-use Rattle.wit_order.specs.Laws.{HasEdgeThat, AreAccepted, AreRefused}
-use Rattle.wit_order.proofs.Greedy.{IsGreedy, greedy_nil, greedy_push, greedy_least, greedy_sorted}
-use Rattle.wit_order.proofs.Cycle.{before_or_not, missing, stuck_cycle}
-use Rattle.wit_order.proofs.Tables.{known, not_missing}
-use Rattle.wit_order.proofs.Outcome.{cycle_edge, place_below}
-use Rattle.wit_order.proofs.Forward.{no_cycle}
+use Rattle.wit_graph.specs.Order.{ReachesCycle, IsBefore, IsDependencyFirst, IsLeast}
+use Rattle.wit_graph.specs.Table.{Row, target, IsMissing, IsCyclic, IsComplete, Leads}
+use Rattle.wit_graph.specs.Laws.{HasEdgeThat, AreAccepted, AreRefused}
+use Rattle.wit_graph.proofs.Greedy.{IsGreedy, greedy_nil, greedy_push, greedy_least, greedy_sorted}
+use Rattle.wit_graph.proofs.Cycle.{before_or_not, missing, stuck_cycle}
+use Rattle.wit_graph.proofs.Tables.{known, not_missing}
+use Rattle.wit_graph.proofs.Outcome.{cycle_edge, place_below}
+use Rattle.wit_graph.proofs.Forward.{no_cycle}
 
 -- a fact of the first element and of the others
 each_more : {A : Type 0} (P : A → Type 0) (y : A) (ys : List A) → P y → ((k : ℕ) (x : A) → slice_get ys k ≡ Some x → P x) → (k : ℕ) (x : A) → slice_get (y ∷ ys) k ≡ Some x → P x

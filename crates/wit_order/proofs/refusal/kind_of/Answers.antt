@@ -1,10 +1,10 @@
 use Rattle.std.proofs.Common.{arith, ◌<◌, length, refl, inl, inr}
 use Rattle.std.proofs.lemmas.Option.{slice_get_read}
 use Rattle.std.proofs.lemmas.Result.{IfOk-weaker}
-use Rattle.wit_order.specs.Table.{rows}
-use Rattle.wit_order.proofs.Tables.{row_at_place}
-use Rattle.wit_order.proofs.Faults.{edge_index, refuses_missing, refuses_cycle}
-use Rattle.wit_order.proofs.fault.kind_of.Goals as goal
+use Rattle.wit_graph.specs.Table.{rows}
+use Rattle.wit_graph.proofs.Tables.{row_at_place}
+use Rattle.wit_graph.proofs.Faults.{edge_index, refuses_missing, refuses_cycle}
+use Rattle.wit_order.proofs.refusal.kind_of.Goals as goal
 
 pub index-requires-in-Cyclic : goal.index-requires-in-Cyclic
 index-requires-in-Cyclic c =

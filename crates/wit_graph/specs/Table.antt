@@ -7,7 +7,7 @@ use Rattle.std.specs.declared.hash.FoldHasher.{FoldHasher}
 use Rattle.std.specs.declared.hash.BuildHasherDefault.{BuildHasherDefault}
 use Rattle.indexmap.specs.IndexMap.{IndexMap, keys}
 use Rattle.wit_tree.specs.declared.tree.Id.{Id}
-use Rattle.wit_order.specs.Order.{ReachesCycle, IsDependencyFirst, IsLeast}
+use Rattle.wit_graph.specs.Order.{ReachesCycle, IsDependencyFirst, IsLeast}
 
 -- a name, and the names that it needs, as written
 pub record Row : Type 0 where

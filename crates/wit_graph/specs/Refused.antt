@@ -6,8 +6,8 @@ use Rattle.wit_tree.specs.declared.error.ParseError.{ParseError}
 use Rattle.wit_tree.specs.declared.error.ParseErrorKind.{ParseErrorKind}
 use Rattle.wit_tree.specs.declared.error.ParseErrorKind.TheVariants.{Syntax, ItemNotFound, TypeCycle, OutOfMemory}
 use Rattle.wit_tree.specs.Refusal.{IsTypeCycle}
-use Rattle.wit_order.specs.Edges.{IsFirstEdge}
-use Rattle.wit_order.specs.Table.{Row, IsEdge, IsMissing, IsCyclic, IsComplete}
+use Rattle.wit_graph.specs.Edges.{IsFirstEdge}
+use Rattle.wit_graph.specs.Table.{Row, IsEdge, IsMissing, IsCyclic, IsComplete}
 
 -- nothing of this sort has the name written at the span, and no hint is given
 abbrev pub IsNotFound : Span → List ℕ → List ℕ → ParseErrorKind → Type 0

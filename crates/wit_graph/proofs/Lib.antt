@@ -1,0 +1,10 @@
+pub mod Greedy
+pub mod Cycle
+pub mod Sorting
+pub mod Tables
+pub mod Outcome
+pub mod Forward
+pub mod Rows
+pub mod SameEdges
+pub mod Decided
+pub mod Faults
