@@ -104,10 +104,10 @@ pub fn define_extern(
 ///
 /// Refused under E44, where it is an import or an export and an earlier name of the side is spelled
 /// like its own, under E17 where one has its folded key, and for want of memory.
-pub fn define_function(
+pub fn define_function<'t, 'a>(
     alloc: Global,
-    held: HeldFunction<'_, '_>,
-    before: &[HeldExtern<'_, '_>],
+    before: &[HeldExtern<'t, 'a>],
+    held: HeldFunction<'t, 'a>,
     types: &TextTable<TypeId>,
     taken: &mut Sides,
     function: &Function,
@@ -130,8 +130,8 @@ pub fn define_function(
 /// Refused like `define_function`.
 pub fn define_alone(
     alloc: Global,
-    held: HeldFunction<'_, '_>,
     types: &TextTable<TypeId>,
+    held: HeldFunction<'_, '_>,
     taken: &mut Sides,
     function: &Function,
 ) -> ParseResult<()>
@@ -141,5 +141,5 @@ pub fn define_alone(
     ensures differ { OnOk result ((s : WorldSide) → AllDiffer (map name_key (taken_on s taken.old)) → AllDiffer (map name_key (taken_on s taken.new))) }
     ensures refused { IfErr result (Refused (IsClash (λ s. taken_on s taken.old) (SideFunction (function_behind held.entry) ∷ []))) }
 {
-    define_function(alloc, held, &[], types, taken, function)
+    define_function(alloc, &[], held, types, taken, function)
 }

@@ -27,10 +27,10 @@ use wit_values::TextTable;
 ///
 /// A refusal is E30 to E35, where its attributes break a rule; E44 or E17 at its name, where the side
 /// has that already; or want of memory.
-pub fn define_inline(
+pub fn define_inline<'t, 'a>(
     alloc: Global,
-    inline: &HeldInline<'_, '_>,
-    before: &[HeldExtern<'_, '_>],
+    inline: &HeldInline<'t, 'a>,
+    before: &[HeldExtern<'t, 'a>],
     types: &TextTable<TypeId>,
     taken: &mut Sides,
 ) -> ParseResult<()>

@@ -48,10 +48,10 @@ fn check_link(alloc: Global, link: &HeldLink<'_, '_>) -> ParseResult<usize>
 ///
 /// A refusal is E30 to E35, E7 or E10 at the link; E44 or E17 at its name, or E43 at its path, where
 /// the side has that already; or want of memory.
-pub fn define_link(
+pub fn define_link<'t, 'a>(
     alloc: Global,
-    link: &HeldLink<'_, '_>,
-    before: &[HeldExtern<'_, '_>],
+    link: &HeldLink<'t, 'a>,
+    before: &[HeldExtern<'t, 'a>],
     types: &TextTable<TypeId>,
     taken: &mut Sides,
     links: &mut Links,

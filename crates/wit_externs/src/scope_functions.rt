@@ -36,9 +36,9 @@ use wit_tree::ParseResult;
 /// an import or an export, E17 where an earlier one has the folded key; or want of memory.
 pub fn resolve_functions(
     alloc: Global,
+    scope: FunctionScope<'_, '_, '_>,
     types: &mut Entries,
     required: &mut Vec<Required>,
-    scope: FunctionScope<'_, '_, '_>,
     taken: &mut Sides,
 ) -> ParseResult<Vec<Function>>
     requires owners { HaveOwners (env_of scope.names.now) (functions_behind scope) }
@@ -53,8 +53,8 @@ pub fn resolve_functions(
 {
     let mut functions = Vec::with_capacity(alloc, scope.functions.len())?;
     for held in scope.functions {
-        let function = resolve_function(alloc, types, required, scope, functions.len())?;
-        define_alone(alloc, *held, scope.names, taken, &function)?;
+        let function = resolve_function(alloc, scope, types, required, functions.len())?;
+        define_alone(alloc, scope.names, *held, taken, &function)?;
         functions.push(function)?;
     }
     Ok(functions)

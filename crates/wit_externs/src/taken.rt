@@ -39,9 +39,9 @@ pub fn define_names(taken: &mut Sides, names: &[Id<'_>]) -> ParseResult<()>
 ///
 /// The refusal is E18 at such a setter, or want of memory.
 pub fn check_setters(
+    functions: &[HeldFunction<'_, '_>],
     taken: &NameScope,
     names: &[Id<'_>],
-    functions: &[HeldFunction<'_, '_>],
 ) -> ParseResult<()>
     requires { taken.now ≡ map name_of_id names.now ++ map name_of_function (map function_behind functions.now) }
     ensures paired { OnOk result ((f : Fault) → IsUnpairedSetter (map function_behind functions.now) f → ⊥) }
@@ -55,9 +55,9 @@ pub fn check_setters(
 ///
 /// The refusal is E18 at such a setter, or want of memory.
 pub fn check_sides(
+    externs: &[HeldExtern<'_, '_>],
     taken: &Sides,
     names: &[Id<'_>],
-    externs: &[HeldExtern<'_, '_>],
 ) -> ParseResult<()>
     requires { (s : WorldSide) → taken_on s taken.now ≡ all_on s names.now (externs_behind externs.now) }
     ensures paired { OnOk result ((s : WorldSide) (f : Fault) → IsUnpairedSetter (on_side s (flat_map item_function (externs_behind externs.now))) f → ⊥) }

@@ -150,21 +150,29 @@ impl<'f, 'a> Tables<'f, 'a> {
     }
 
     /// Refuses a `use` at the top of a file that has attributes, or whose path is the name of no item.
-    fn check_top(&self, alloc: Global, file: &PackageFile<'_>) -> ParseResult<()>
-        ensures legal { OnOk result ((files : List TheFile) → AreTablesOf files self.now → (f : Fault) → IsWrongTop (all_items files) file.now.decl_list.items.items f → ⊥) }
-        ensures refused { IfErr result (λ e. (files : List TheFile) → AreTablesOf files self.now → Refused (IsWrongTop (all_items files) file.now.decl_list.items.items) e) }
+    fn check_top(
+        alloc: Global,
+        file: &'f PackageFile<'a>,
+        names: &Tables<'f, 'a>,
+    ) -> ParseResult<()>
+        ensures legal { OnOk result ((files : List TheFile) → AreTablesOf files names.now → (f : Fault) → IsWrongTop (all_items files) file.now.decl_list.items.items f → ⊥) }
+        ensures refused { IfErr result (λ e. (files : List TheFile) → AreTablesOf files names.now → Refused (IsWrongTop (all_items files) file.now.decl_list.items.items) e) }
     {
-        Ok(check_top_uses(alloc, &self.items, file)?)
+        Ok(check_top_uses(alloc, file, &names.items)?)
     }
 
     /// Refuses, file by file, a `use` at its top that has attributes, or whose path is the name of no item.
-    fn check_tops(&self, alloc: Global, files: &[PackageFile<'_>]) -> ParseResult<()>
-        requires { AreTablesOf files.now self.now }
+    fn check_tops(
+        alloc: Global,
+        files: &'f [PackageFile<'a>],
+        names: &Tables<'f, 'a>,
+    ) -> ParseResult<()>
+        requires { AreTablesOf files.now names.now }
         ensures right { OnOk result (AreRightTops (all_items files.now) files.now) }
         ensures refused { IfErr result (Refused (IsBrokenNames files.now)) }
     {
         for file in files {
-            self.check_top(alloc, file)?;
+            Tables::check_top(alloc, file, names)?;
         }
         Ok(())
     }
@@ -176,7 +184,7 @@ impl<'f, 'a> Tables<'f, 'a> {
         ensures refused { IfErr result (Refused (IsBrokenNames files.now)) }
     {
         let names = Tables::gather_items(alloc, files)?;
-        names.check_tops(alloc, files)?;
+        Tables::check_tops(alloc, files, &names)?;
         Ok(names)
     }
 }

@@ -279,8 +279,8 @@ fn check_top_use<V>(
 /// no declared item's.
 pub fn check_top_uses<V>(
     alloc: Global,
-    declared: &IndexMap<&str, V>,
     file: &PackageFile<'_>,
+    declared: &IndexMap<&str, V>,
 ) -> ParseResult<()>
     ensures right { OnOk result ((is : List Item) → AreDeclared is declared.now → AreRightUses is file.now.decl_list.items.items) }
     ensures refused { IfErr result (λ e. (is : List Item) → AreDeclared is declared.now → Refused (IsWrongTop is file.now.decl_list.items.items) e) }

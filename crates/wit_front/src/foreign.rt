@@ -190,7 +190,7 @@ impl<'f, 'a> ForeignArenas<'f, 'a> {
         &mut self,
         alloc: Global,
         types: &mut Entries,
-        name: &ScopeName<'_, '_>,
+        name: &ScopeName<'f, 'a>,
     ) -> ParseResult<()>
         requires { HasTaken types.old self.old (λ front. IsNamePlaced front name.now) }
         ensures taken { OnOk result ((vs : List TheVisit) (ts : List Taking) → AreApart vs → IsNamePlaced (addresses_among vs) name.now → IsTaken vs ts types.old self.old → IsTaken vs (ts ++ name_takings (name_behind name.now)) types.new self.new) }
@@ -211,7 +211,7 @@ impl<'f, 'a> ForeignArenas<'f, 'a> {
         &mut self,
         alloc: Global,
         types: &mut Entries,
-        names: &[ScopeName<'_, '_>],
+        names: &[ScopeName<'f, 'a>],
     ) -> ParseResult<()>
         requires { HasTaken types.old self.old (λ front. AreNamesPlaced front names.now) }
         ensures taken { OnOk result ((vs : List TheVisit) (ts : List Taking) → AreApart vs → AreNamesPlaced (addresses_among vs) names.now → IsTaken vs ts types.old self.old → IsTaken vs (ts ++ names_takings (map name_behind names.now)) types.new self.new) }
@@ -230,7 +230,7 @@ impl<'f, 'a> ForeignArenas<'f, 'a> {
         &mut self,
         alloc: Global,
         types: &mut Entries,
-        inside: &[Vec<ScopeName<'_, '_>>],
+        inside: &[Vec<ScopeName<'f, 'a>>],
     ) -> ParseResult<()>
         requires { HasTaken types.old self.old (λ front. All (λ ns. AreNamesPlaced front ns.items) inside.now) }
         ensures taken { OnOk result ((vs : List TheVisit) (ts : List Taking) → AreApart vs → All (λ ns. AreNamesPlaced (addresses_among vs) ns.items) inside.now → IsTaken vs ts types.old self.old → IsTaken vs (ts ++ flat_map names_takings (map (λ ns. map name_behind ns.items) inside.now)) types.new self.new) }
@@ -250,7 +250,7 @@ impl<'f, 'a> ForeignArenas<'f, 'a> {
         &mut self,
         alloc: Global,
         types: &mut Entries,
-        item: &Item<'_, '_>,
+        item: &Item<'f, 'a>,
     ) -> ParseResult<()>
         requires { HasTaken types.old self.old (λ front. AreItemsPlaced front (item.now ∷ [])) }
         ensures taken { OnOk result ((vs : List TheVisit) (ts : List Taking) → AreApart vs → AreItemsPlaced (addresses_among vs) (item.now ∷ []) → IsTaken vs ts types.old self.old → IsTaken vs (ts ++ held_takings item.now) types.new self.new) }
@@ -269,7 +269,7 @@ impl<'f, 'a> ForeignArenas<'f, 'a> {
         &mut self,
         alloc: Global,
         types: &mut Entries,
-        items: &[Item<'_, '_>],
+        items: &[Item<'f, 'a>],
     ) -> ParseResult<()>
         requires { HasTaken types.old self.old (λ front. AreItemsPlaced front items.now) }
         ensures taken { OnOk result ((files : List TheFile) → IsTaken (foreign_items files) [] types.old self.old → AreItemsPlaced (addresses_among (foreign_items files)) items.now → map names_behind items.now ≡ map scope_names (all_items files) → ((side : TheSide) → map (inside_behind side) items.now ≡ map (names_written side) (all_items files)) → IsFront files types.new self.new) }

@@ -87,10 +87,10 @@ fn resolve_interface<'a>(
 /// Adds the interfaces among items, in the order of their places, behind those of other packages.
 pub fn resolve_interfaces(
     alloc: Global,
+    items: &[Item<'_, '_>],
     types: &mut Entries,
     required: &mut Vec<Required>,
     interfaces: &mut Interfaces<'_, '_, '_>,
-    items: &[Item<'_, '_>],
     places: &[usize],
 ) -> ParseResult<()>
     requires within { All (λ place. place < length items.now) places.now }

@@ -46,9 +46,9 @@ use wit_values::{Text, TextTable};
 /// Refuses a setter that has no getter of its spelling, where these are the names and the functions,
 /// and they are taken if there is a function.
 fn check_pairs(
+    functions: &[HeldFunction<'_, '_>],
     taken: &NameScope,
     names: &[Id<'_>],
-    functions: &[HeldFunction<'_, '_>],
 ) -> ParseResult<()>
     requires { 0 < length functions.now → taken.now ≡ map name_of_id names.now ++ map name_of_function (map function_behind functions.now) }
     ensures paired { OnOk result ((f : Fault) → IsUnpairedSetter (map function_behind functions.now) f → ⊥) }
@@ -57,7 +57,7 @@ fn check_pairs(
     if functions.len() == 0 {
         return Ok(());
     }
-    check_setters(taken, names, functions)
+    check_setters(functions, taken, names)
 }
 
 /// The functions of an interface under their names, behind its names, which are resolved.
@@ -78,8 +78,8 @@ fn functions_of<'a>(
     ensures grown { OnOk result (IsGrown types.old types.new) }
     ensures refused { IfErr result (λ e. (old : List TypeDef) (cs : List Cell) (by_name : Names) (o : Owner) → AddsTurn old types.old cs o (the_names (scope_item item.now)) names.old.types names.old.turn.items names.old.required.items → Refused (IsWrongInterface old cs by_name o (scope_item item.now)) e) }
 {
-    let own = resolve_item_functions(alloc, item.declared, item.names, types, names)?;
-    check_pairs(&own.taken.imports, &names.turn, &own.written)?;
+    let own = resolve_item_functions(alloc, item.names, item.declared, types, names)?;
+    check_pairs(&own.written, &own.taken.imports, &names.turn)?;
     drop(own.taken);
     drop(own.written);
     let functions = function_table(alloc, own.functions)?;

@@ -79,16 +79,16 @@ pub fn resolve_head<'a>(
     ensures grown { OnOk result (IsGrown types.old types.new) }
     ensures refused { IfErr result (Refused (IsWrongBody types.old (cells_of interfaces.now) interfaces.now.by_name owner (scope_item item.now))) }
 {
-    let notes = item_notes(alloc, item.declared)?;
-    let names = resolve_names(alloc, types, interfaces, owner, item.names)?;
+    let notes = item_notes(alloc, &item.declared)?;
+    let names = resolve_names(alloc, item.names, types, interfaces, owner)?;
     Ok(Head { notes, names })
 }
 
 /// The functions of an interface, behind its names `held`, which are resolved.
 pub fn resolve_item_functions<'t, 'a>(
     alloc: Global,
-    declared: Declared<'t, 'a>,
     held: &[ScopeName<'t, 'a>],
+    declared: Declared<'t, 'a>,
     types: &mut Entries,
     names: &mut ResolvedNames<'a>,
 ) -> ParseResult<ItemFunctions<'t, 'a>>
@@ -106,9 +106,9 @@ pub fn resolve_item_functions<'t, 'a>(
     ensures grown { OnOk result (IsGrown types.old types.new) }
     ensures refused { IfErr result (λ e. (i : TheItem) → IsHeldBy i (declared_behind declared.entry) held.now → (old : List TypeDef) (cs : List Cell) (by_name : Names) (o : Owner) → AddsTurn old types.old cs o (the_names i) names.old.types names.old.turn.items names.old.required.items → Refused (IsWrongBody old cs by_name o i) e) }
 {
-    let written = interface_functions(alloc, declared)?;
+    let written = interface_functions(alloc, &declared)?;
     let mut taken = Sides::new(alloc);
-    let functions = resolve_signatures(alloc, types, names, held, &written, &mut taken)?;
+    let functions = resolve_signatures(alloc, held, types, names, &written, &mut taken)?;
     Ok(ItemFunctions {
         written,
         functions,

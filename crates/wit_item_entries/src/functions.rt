@@ -59,9 +59,9 @@ fn items_functions<'t, 'a>(
 /// The functions of an interface, in source order; none of a world.
 pub fn interface_functions<'t, 'a>(
     alloc: Global,
-    declared: Declared<'t, 'a>,
+    declared: &Declared<'t, 'a>,
 ) -> Result<Vec<HeldFunction<'t, 'a>>, AllocError>
-    ensures { IfOk result (λ functions. is_declared_world (declared_behind declared.entry) ≡ false → map function_behind functions.items ≡ flat_map part_functions (declared_parts (declared_behind declared.entry))) }
+    ensures { IfOk result (λ functions. is_declared_world (declared_behind declared.now) ≡ false → map function_behind functions.items ≡ flat_map part_functions (declared_parts (declared_behind declared.now))) }
 {
     match declared {
         Declared::Interface(interface) => items_functions(alloc, &interface.items),

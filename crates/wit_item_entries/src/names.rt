@@ -69,10 +69,10 @@ fn define_all(
 /// names in turn.
 fn resolve_types<'t, 'a>(
     alloc: Global,
-    types: &mut Entries,
-    scope: &mut Scope,
     names: &[ScopeName<'t, 'a>],
     uses: &[UsedName<'t, 'a>],
+    types: &mut Entries,
+    scope: &mut Scope,
 ) -> ParseResult<Vec<Id<'a>>>
     requires uses { map use_behind uses.now ≡ used (map name_behind names.now) }
     requires has { HasNames (env_of scope.old.names) (used (map name_behind names.now)) }
@@ -96,12 +96,12 @@ fn resolve_types<'t, 'a>(
 /// Adds the names of a scope of this owner, and what is in them.
 ///
 /// Its functions, and whether two names are one once case is folded, are left to the caller.
-pub fn resolve_names<'a>(
+pub fn resolve_names<'f, 'a>(
     alloc: Global,
+    names: &[ScopeName<'f, 'a>],
     types: &mut Entries,
     interfaces: &Interfaces<'_, '_, '_>,
     owner: TypeOwner,
-    names: &[ScopeName<'_, 'a>],
 ) -> ParseResult<ResolvedNames<'a>>
     requires index { IsIndex (cells_of interfaces.now) interfaces.now.by_name }
     requires placed { AreNamesPlaced (front_of interfaces.now.foreign.now) names.now }
@@ -117,8 +117,8 @@ pub fn resolve_names<'a>(
         names: TextTable::new(alloc),
         required: Vec::new(alloc),
     };
-    resolve_uses(alloc, types, interfaces, &mut scope, &uses)?;
-    let turn = resolve_types(alloc, types, &mut scope, names, &uses)?;
+    resolve_uses(alloc, &uses, types, interfaces, &mut scope)?;
+    let turn = resolve_types(alloc, names, &uses, types, &mut scope)?;
     Ok(ResolvedNames {
         types: scope.names,
         turn,

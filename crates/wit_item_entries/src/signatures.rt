@@ -38,9 +38,9 @@ use wit_tree::ParseResult;
 /// `written`. Where it has some, its names and then those of the functions are taken.
 pub fn resolve_signatures<'t, 'a>(
     alloc: Global,
+    held: &[ScopeName<'t, 'a>],
     types: &mut Entries,
     names: &mut ResolvedNames<'a>,
-    held: &[ScopeName<'t, 'a>],
     written: &[HeldFunction<'t, 'a>],
     taken: &mut Sides,
 ) -> ParseResult<Vec<Function>>
@@ -71,6 +71,6 @@ pub fn resolve_signatures<'t, 'a>(
         results: &results,
         functions: written,
     };
-    let functions = resolve_functions(alloc, types, &mut names.required, scope, taken)?;
+    let functions = resolve_functions(alloc, scope, types, &mut names.required, taken)?;
     Ok(functions)
 }

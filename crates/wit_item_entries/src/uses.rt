@@ -34,8 +34,8 @@ use wit_values::TextTable;
 /// The interface that a name comes from.
 fn used_interface<'i>(
     alloc: Global,
-    interfaces: &'i Interfaces<'_, '_, '_>,
     from: &Source<'_, '_>,
+    interfaces: &'i Interfaces<'_, '_, '_>,
 ) -> ParseResult<&'i Interface>
     requires index { IsIndex (cells_of interfaces.now) interfaces.now.by_name }
     requires placed { IsPlaced (front_of interfaces.now.foreign.now) from.now }
@@ -111,12 +111,12 @@ fn refuse_used(alloc: Global, interface: &Interface, name: Id<'_>) -> ParseError
 }
 
 /// Adds a name that is used from an interface.
-fn resolve_use(
+fn resolve_use<'f, 'a>(
     alloc: Global,
+    used: &UsedName<'f, 'a>,
     types: &mut Entries,
     interfaces: &Interfaces<'_, '_, '_>,
     scope: &mut Scope,
-    used: &UsedName<'_, '_>,
 ) -> ParseResult<()>
     requires index { IsIndex (cells_of interfaces.now) interfaces.now.by_name }
     requires placed { IsPlaced (front_of interfaces.now.foreign.now) used.now.from }
@@ -128,7 +128,7 @@ fn resolve_use(
     ensures refused { IfErr result (Refused (IsWrongUse (cells_of interfaces.now) interfaces.now.by_name scope.old.names (source_behind used.now.from) used.now.attributes.now used.now.name.now)) }
 {
     let name = used.name;
-    let interface = used_interface(alloc, interfaces, &used.from)?;
+    let interface = used_interface(alloc, &used.from, interfaces)?;
     let original = match interface.types.get(name.name.name) {
         Some(original) => *original,
         None => return Err(refuse_used(alloc, interface, name.name)),
@@ -145,12 +145,12 @@ fn resolve_use(
 }
 
 /// Adds the names that a scope uses, in source order.
-pub fn resolve_uses(
+pub fn resolve_uses<'f, 'a>(
     alloc: Global,
+    uses: &[UsedName<'f, 'a>],
     types: &mut Entries,
     interfaces: &Interfaces<'_, '_, '_>,
     scope: &mut Scope,
-    uses: &[UsedName<'_, '_>],
 ) -> ParseResult<()>
     requires index { IsIndex (cells_of interfaces.now) interfaces.now.by_name }
     requires placed { ArePlaced (front_of interfaces.now.foreign.now) uses.now }
@@ -165,7 +165,7 @@ pub fn resolve_uses(
     ensures refused { IfErr result (λ e. (xs : List ScopeName) → map use_behind uses.now ≡ used xs → Refused (λ f. (fns : List SourceFunction) → IsWrongScope (cells_of interfaces.now) interfaces.now.by_name xs fns f) e) }
 {
     for name in uses {
-        resolve_use(alloc, types, interfaces, scope, name)?;
+        resolve_use(alloc, name, types, interfaces, scope)?;
     }
     Ok(())
 }

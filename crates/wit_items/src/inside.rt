@@ -52,9 +52,9 @@ fn written_on<'f, 'a>(part: &'f WorldItem<'a>, side: WorldSide) -> Option<&'f [I
 /// order.
 pub(crate) fn names_inside<'f, 'a>(
     alloc: Global,
+    files: &FileNames<'f, 'a>,
     world: &'f World<'a>,
     side: WorldSide,
-    files: &FileNames<'f, 'a>,
     entries: &[Entry],
     place: usize,
 ) -> ParseResult<Vec<Vec<ScopeName<'f, 'a>>>>
@@ -68,7 +68,7 @@ pub(crate) fn names_inside<'f, 'a>(
     let mut inside = Vec::new(alloc);
     for part in world_items(world) {
         if let Some(items) = written_on(part, side) {
-            inside.push(interface_names(alloc, items, files, entries, place)?)?;
+            inside.push(interface_names(alloc, files, items, entries, place)?)?;
         }
     }
     Ok(inside)

@@ -100,8 +100,8 @@ impl<'f, 'a> Item<'f, 'a> {
 /// Adds the items of the file at a place.
 fn add_items<'f, 'a>(
     alloc: Global,
-    file: &'f PackageFile<'a>,
     files: &FileNames<'f, 'a>,
+    file: &'f PackageFile<'a>,
     entries: &[Entry],
     items: &mut Vec<Item<'f, 'a>>,
     place: usize,
@@ -123,7 +123,7 @@ fn add_items<'f, 'a>(
                 place,
                 file,
                 declared: Declared::Interface(interface),
-                names: interface_names(alloc, &interface.items, files, entries, place)?,
+                names: interface_names(alloc, files, &interface.items, entries, place)?,
                 imported: Vec::new(alloc),
                 exported: Vec::new(alloc),
             })?,
@@ -131,9 +131,9 @@ fn add_items<'f, 'a>(
                 place,
                 file,
                 declared: Declared::World(world),
-                names: world_names(alloc, world, files, entries, place)?,
-                imported: names_inside(alloc, world, WorldSide::Imported, files, entries, place)?,
-                exported: names_inside(alloc, world, WorldSide::Exported, files, entries, place)?,
+                names: world_names(alloc, files, world, entries, place)?,
+                imported: names_inside(alloc, files, world, WorldSide::Imported, entries, place)?,
+                exported: names_inside(alloc, files, world, WorldSide::Exported, entries, place)?,
             })?,
             AstItem::Use(_) => {}
         }
@@ -148,8 +148,8 @@ fn add_items<'f, 'a>(
 /// `entries` are those of other packages' items.
 pub fn declared_items<'f, 'a>(
     alloc: Global,
-    files: &'f [PackageFile<'a>],
     names: &FileNames<'f, 'a>,
+    files: &'f [PackageFile<'a>],
     entries: &[Entry],
 ) -> ParseResult<Vec<Item<'f, 'a>>>
     requires files { names.now ≡ files.now }
@@ -164,7 +164,7 @@ pub fn declared_items<'f, 'a>(
 {
     let mut items = Vec::with_capacity(alloc, names.item_order().len())?;
     for (place, file) in files.iter().enumerate() {
-        add_items(alloc, file, names, entries, &mut items, place)?;
+        add_items(alloc, names, file, entries, &mut items, place)?;
     }
     Ok(items)
 }

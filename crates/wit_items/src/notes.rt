@@ -38,10 +38,10 @@ fn told(
 }
 
 /// What is told of an item; refuses attributes that break a rule of stability.
-pub fn item_notes(alloc: Global, declared: Declared<'_, '_>) -> ParseResult<ItemNotes>
-    ensures told { IfOk result (AreOf (declared_notes (declared_behind declared.entry))) }
-    ensures legal { OnOk result ((f : Fault) → IsBrokenStability (declared_attributes (declared_behind declared.entry)) f → ⊥) }
-    ensures refused { IfErr result (Refused (IsBrokenStability (declared_attributes (declared_behind declared.entry)))) }
+pub fn item_notes(alloc: Global, declared: &Declared<'_, '_>) -> ParseResult<ItemNotes>
+    ensures told { IfOk result (AreOf (declared_notes (declared_behind declared.now))) }
+    ensures legal { OnOk result ((f : Fault) → IsBrokenStability (declared_attributes (declared_behind declared.now)) f → ⊥) }
+    ensures refused { IfErr result (Refused (IsBrokenStability (declared_attributes (declared_behind declared.now)))) }
 {
     match declared {
         Declared::Interface(interface) => told(alloc, &interface.docs, &interface.attributes),

@@ -109,8 +109,8 @@ fn add_part<'f, 'a>(
 /// The names of an interface of the file at a place, which has these items.
 pub(crate) fn interface_names<'f, 'a>(
     alloc: Global,
-    items: &'f [InterfaceItem<'a>],
     files: &FileNames<'f, 'a>,
+    items: &'f [InterfaceItem<'a>],
     entries: &[Entry],
     place: usize,
 ) -> ParseResult<Vec<ScopeName<'f, 'a>>>
@@ -138,8 +138,8 @@ pub(crate) fn interface_names<'f, 'a>(
 /// The names of a world of the file at a place.
 pub(crate) fn world_names<'f, 'a>(
     alloc: Global,
-    world: &'f World<'a>,
     files: &FileNames<'f, 'a>,
+    world: &'f World<'a>,
     entries: &[Entry],
     place: usize,
 ) -> ParseResult<Vec<ScopeName<'f, 'a>>>

@@ -55,7 +55,7 @@ fn local_name<'f, 'a>(files: &FileNames<'f, 'a>, place: usize, path: &'f UsePath
 fn led<'f, 'a>(
     files: &FileNames<'f, 'a>,
     entries: &[Entry],
-    interfaces: &Interfaces<'_, '_, '_>,
+    interfaces: &Interfaces<'_, 'f, 'a>,
     place: usize,
     path: &'f UsePath<'a>,
 ) -> Led<'a>
@@ -112,11 +112,11 @@ fn held_link<'f, 'a>(
 
 /// Adds what a world in the file at a place imports or exports.
 fn add_extern<'f, 'a>(
+    files: &FileNames<'f, 'a>,
     written: &'f Extern<'a>,
     externs: &mut Vec<HeldExtern<'f, 'a>>,
-    files: &FileNames<'f, 'a>,
     entries: &[Entry],
-    interfaces: &Interfaces<'_, '_, '_>,
+    interfaces: &Interfaces<'_, 'f, 'a>,
     place: usize,
 ) -> Result<(), AllocError>
     requires part { HasPart files.now place (Crossing written.now) }
@@ -155,10 +155,10 @@ fn add_extern<'f, 'a>(
 /// items.
 fn world_externs<'f, 'a>(
     alloc: Global,
-    world: &'f World<'a>,
     files: &FileNames<'f, 'a>,
+    world: &'f World<'a>,
     entries: &[Entry],
-    interfaces: &Interfaces<'_, '_, '_>,
+    interfaces: &Interfaces<'_, 'f, 'a>,
     place: usize,
 ) -> Result<Vec<HeldExtern<'f, 'a>>, AllocError>
     requires item { HasItem files.now place (TheWorld world.now) }
@@ -174,7 +174,7 @@ fn world_externs<'f, 'a>(
             WorldItem::Use(_) => {}
             WorldItem::Include(_) => {}
             WorldItem::Extern(written) => {
-                add_extern(written, &mut externs, files, entries, interfaces, place)?
+                add_extern(files, written, &mut externs, entries, interfaces, place)?
             }
         }
     }
@@ -188,7 +188,7 @@ pub fn declared_externs<'f, 'a>(
     declared: &Declared<'f, 'a>,
     files: &FileNames<'f, 'a>,
     entries: &[Entry],
-    interfaces: &Interfaces<'_, '_, '_>,
+    interfaces: &Interfaces<'_, 'f, 'a>,
     place: usize,
 ) -> Result<Vec<HeldExtern<'f, 'a>>, AllocError>
     requires sort { is_declared_world (declared_behind declared.now) ≡ true }
@@ -199,7 +199,7 @@ pub fn declared_externs<'f, 'a>(
     ensures led { IfOk result (λ externs. AreLed files.now (front_of interfaces.now.foreign.now) interfaces.now.by_name (top_at files.now place) externs.items) }
 {
     match declared {
-        Declared::World(world) => world_externs(alloc, *world, files, entries, interfaces, place),
+        Declared::World(world) => world_externs(alloc, files, *world, entries, interfaces, place),
         Declared::Interface(_) | Declared::Inline(_) => unreachable!(),
     }
 }

@@ -135,8 +135,8 @@ fn fitted(includes: Vec<WorldInclude>) -> Row<WorldInclude>
 /// The includes of a world.
 fn resolve_includes<'f, 'a>(
     alloc: Global,
-    world: &'f tree::World<'a>,
     files: &FileNames<'f, 'a>,
+    world: &'f tree::World<'a>,
     worlds: &Worlds<'_>,
     place: usize,
 ) -> ParseResult<Row<WorldInclude>>
@@ -176,7 +176,7 @@ pub fn declared_includes<'f, 'a>(
     ensures refused { IfErr result (Refused (λ f. IsBrokenItemStability (record { top = top_at files.now place; declared = declared_behind declared.now }) f ⊎ IsLostInclude files.now worlds.now.by_name (record { top = top_at files.now place; declared = declared_behind declared.now }) f)) }
 {
     match declared {
-        Declared::World(world) => resolve_includes(alloc, *world, files, worlds, place),
+        Declared::World(world) => resolve_includes(alloc, files, *world, worlds, place),
         Declared::Interface(_) | Declared::Inline(_) => unreachable!(),
     }
 }

@@ -37,16 +37,16 @@ pub fn is_closed(includes: &[WorldInclude]) -> bool
 /// the names of its types and what stands on its sides.
 pub fn check_closed(
     closed: bool,
+    externs: &[HeldExtern<'_, '_>],
     taken: &Sides,
     names: &[Id<'_>],
-    externs: &[HeldExtern<'_, '_>],
 ) -> ParseResult<()>
     requires { (s : TheSide) → taken_on s taken.now ≡ all_on s names.now (externs_behind externs.now) }
     ensures paired { OnOk result (closed ≡ true → (s : TheSide) (f : Fault) → IsUnpairedSetter (on_side s (flat_map item_function (externs_behind externs.now))) f → ⊥) }
     ensures refused { IfErr result (Refused (λ f. (closed ≡ true) × ((s : TheSide) × IsUnpairedSetter (on_side s (flat_map item_function (externs_behind externs.now))) f))) }
 {
     if closed {
-        check_sides(taken, names, externs)?;
+        check_sides(externs, taken, names)?;
     }
     Ok(())
 }

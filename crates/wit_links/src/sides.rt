@@ -177,10 +177,10 @@ fn interface_item(
 }
 
 /// Puts an interface on its side, with what is told of it there. Its attributes were checked.
-fn add_link(
+fn add_link<'f, 'a>(
     alloc: Global,
-    link: &HeldLink<'_, '_>,
-    interfaces: &Interfaces<'_, '_, '_>,
+    link: &HeldLink<'f, 'a>,
+    interfaces: &Interfaces<'_, 'f, 'a>,
     sides: &mut WorldSides,
     place: usize,
 ) -> Result<(), AllocError>
@@ -215,10 +215,10 @@ fn add_inline(
 
 /// Puts on the sides what is written, where its keys differ from one another and from those that are
 /// there; `standing` is what was made of it.
-fn add_externs(
+fn add_externs<'f, 'a>(
     alloc: Global,
-    externs: &[HeldExtern<'_, '_>],
-    interfaces: &Interfaces<'_, '_, '_>,
+    externs: &[HeldExtern<'f, 'a>],
+    interfaces: &Interfaces<'_, 'f, 'a>,
     sides: &mut WorldSides,
     standing: Standing,
 ) -> Result<(), AllocError>
@@ -254,12 +254,12 @@ fn add_externs(
 /// What a world imports, the names of its scope and then what is written, and what it exports;
 /// `standing` is what was made of that. Of a world that includes nothing, which is `closed`, each setter
 /// stands behind its getter.
-pub fn world_sides(
+pub fn world_sides<'f, 'a>(
     alloc: Global,
+    externs: &[HeldExtern<'f, 'a>],
     turn: &[Id<'_>],
     types: &TextTable<TypeId>,
-    externs: &[HeldExtern<'_, '_>],
-    interfaces: &Interfaces<'_, '_, '_>,
+    interfaces: &Interfaces<'_, 'f, 'a>,
     standing: Standing,
     closed: bool,
 ) -> Result<WorldSides, AllocError>

@@ -50,7 +50,7 @@ fn resolve_files<'f, 'a>(
 {
     let order = names.item_order();
     let mut front = ForeignArenas::of_items(alloc, names.foreign())?;
-    let mut items = declared_items(alloc, files, names, &front.entries)?;
+    let mut items = declared_items(alloc, names, files, &front.entries)?;
     let lent: &mut [Item<'_, '_>] = &mut items;
     front.take_all(alloc, types, lent)?;
     let ForeignArenas {
@@ -66,7 +66,7 @@ fn resolve_files<'f, 'a>(
         by_name: TextTable::new(alloc),
     };
     let mut required = Vec::new(alloc);
-    resolve_interfaces(alloc, types, &mut required, &mut interfaces, lent, order)?;
+    resolve_interfaces(alloc, lent, types, &mut required, &mut interfaces, order)?;
     let mut worlds = Worlds {
         entries: &entries,
         arena: worlds,

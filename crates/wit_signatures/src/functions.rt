@@ -145,9 +145,9 @@ fn self_param(
 /// The parameters that a function is given before its written ones.
 fn given_params(
     alloc: Global,
-    types: &mut Entries,
     names: &TextTable<TypeId>,
     function: HeldFunction<'_, '_>,
+    types: &mut Entries,
 ) -> ParseResult<Vec<Param>>
     requires { HasOwner (env_of names.now) (owner_of (function_behind function).role) }
     ensures params { IfOk result (λ ps. AreParamsOver types.old types.new (env_of names.now) (function_behind function.entry).given ps.items) }
@@ -165,9 +165,9 @@ fn given_params(
 /// the place `repeated` among all is refused (E38).
 fn resolve_params(
     alloc: Global,
+    scope: FunctionScope<'_, '_, '_>,
     types: &mut Entries,
     required: &mut Vec<Required>,
-    scope: FunctionScope<'_, '_, '_>,
     place: usize,
     params: &mut Vec<Param>,
     written: &[tree::Param<'_>],
@@ -185,7 +185,7 @@ fn resolve_params(
         if repeated == Some(params.len()) {
             return Err(refuse_param(alloc, written.name));
         }
-        let ty = resolve_in_signature(alloc, types, required, scope, place, &written.ty)?;
+        let ty = resolve_in_signature(alloc, scope, types, required, place, &written.ty)?;
         params.push(param(alloc, written.name, ty)?)?;
     }
     Ok(())
@@ -195,9 +195,9 @@ fn resolve_params(
 /// that an earlier one is, once case is folded, is refused (E38).
 fn all_params<'t, 'a>(
     alloc: Global,
+    scope: FunctionScope<'_, 't, 'a>,
     types: &mut Entries,
     required: &mut Vec<Required>,
-    scope: FunctionScope<'_, 't, 'a>,
     place: usize,
     function: HeldFunction<'t, 'a>,
 ) -> ParseResult<Vec<Param>>
@@ -211,13 +211,13 @@ fn all_params<'t, 'a>(
     ensures refused { IfErr result (Refused (λ f. IsDuplicateParam (function_behind function.entry) f ⊎ IsWrongInSignatures (env_of scope.entry.names.now) types.new (functions_behind scope.entry) place (function_behind function.entry).param_types f)) }
 {
     let repeated = repeated_param(alloc, function)?;
-    let mut params = given_params(alloc, types, scope.names, function)?;
+    let mut params = given_params(alloc, scope.names, function, types)?;
     let written = function.params();
     resolve_params(
         alloc,
+        scope,
         types,
         required,
-        scope,
         place,
         &mut params,
         written,
@@ -249,9 +249,9 @@ fn made_result(
 /// The type of the result of the function at a place.
 fn resolve_result<'t, 'a>(
     alloc: Global,
+    scope: FunctionScope<'_, 't, 'a>,
     types: &mut Entries,
     required: &mut Vec<Required>,
-    scope: FunctionScope<'_, 't, 'a>,
     place: usize,
     function: HeldFunction<'t, 'a>,
 ) -> ParseResult<Option<Type>>
@@ -266,7 +266,7 @@ fn resolve_result<'t, 'a>(
 {
     match function.result() {
         Some(written) => {
-            let ty = resolve_in_signature(alloc, types, required, scope, place, written)?;
+            let ty = resolve_in_signature(alloc, scope, types, required, place, written)?;
             check_result(alloc, scope.results, function, written)?;
             Ok(Some(ty))
         }
@@ -285,9 +285,9 @@ struct Signature {
 /// that of its result.
 fn resolve_signature<'t, 'a>(
     alloc: Global,
+    scope: FunctionScope<'_, 't, 'a>,
     types: &mut Entries,
     required: &mut Vec<Required>,
-    scope: FunctionScope<'_, 't, 'a>,
     place: usize,
     function: HeldFunction<'t, 'a>,
 ) -> ParseResult<Signature>
@@ -300,8 +300,8 @@ fn resolve_signature<'t, 'a>(
     ensures refused { IfErr result (λ e. (xs : List ScopeName) → IsScopeOf scope.entry xs → Refused (IsWrongFunction (env_of scope.entry.names.now) types.new xs (functions_behind scope.entry) place (function_behind function.entry)) e) }
 {
     check_given(alloc, function)?;
-    let params = all_params(alloc, types, required, scope, place, function)?;
-    let result = resolve_result(alloc, types, required, scope, place, function)?;
+    let params = all_params(alloc, scope, types, required, place, function)?;
+    let result = resolve_result(alloc, scope, types, required, place, function)?;
     Ok(Signature {
         params: Row::from(params),
         result,
@@ -316,9 +316,9 @@ fn resolve_signature<'t, 'a>(
 /// result, or want of memory.
 pub fn resolve_function(
     alloc: Global,
+    scope: FunctionScope<'_, '_, '_>,
     types: &mut Entries,
     required: &mut Vec<Required>,
-    scope: FunctionScope<'_, '_, '_>,
     place: usize,
 ) -> ParseResult<Function>
     requires place { place < length scope.functions.now }
@@ -333,7 +333,7 @@ pub fn resolve_function(
 {
     let function = scope.functions[place];
     let notes = notes_of(alloc, function.docs(), function.attributes())?;
-    let signature = resolve_signature(alloc, types, required, scope, place, function)?;
+    let signature = resolve_signature(alloc, scope, types, required, place, function)?;
     Ok(Function {
         name: function.name(alloc)?,
         kind: kind_of(scope.names, function),

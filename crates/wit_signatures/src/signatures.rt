@@ -123,9 +123,9 @@ fn in_signature(
 /// A refusal is E22, E26, E27, E28 or E29 at a type in it, or want of memory.
 pub(crate) fn resolve_in_signature(
     alloc: Global,
+    scope: FunctionScope<'_, '_, '_>,
     types: &mut Entries,
     required: &mut Vec<Required>,
-    scope: FunctionScope<'_, '_, '_>,
     place: usize,
     ty: &tree::Type<'_>,
 ) -> ParseResult<Type>

@@ -94,12 +94,12 @@ fn next_inside(
 
 /// Adds an interface that is written in a world, where this is the span of its name; `inside` are those
 /// that were written before it, which stand behind all declared ones.
-fn resolve_inline(
+fn resolve_inline<'f, 'a>(
     alloc: Global,
-    scope: &ItemScope<'_, '_, '_>,
+    scope: &ItemScope<'_, 'f, 'a>,
     types: &mut Entries,
     required: &mut Vec<Required>,
-    interfaces: &Interfaces<'_, '_, '_>,
+    interfaces: &Interfaces<'_, 'f, 'a>,
     inside: &mut Arena<Interface, InterfacePlace>,
     span: Span,
 ) -> ParseResult<InterfaceId>
@@ -133,7 +133,7 @@ fn resolve_written<'f, 'a>(
     before: Counts,
     types: &mut Entries,
     required: &mut Vec<Required>,
-    interfaces: &Interfaces<'_, '_, '_>,
+    interfaces: &Interfaces<'_, 'f, 'a>,
     inside: &mut Arena<Interface, InterfacePlace>,
 ) -> ParseResult<InterfaceId>
     requires called { item_name (item_behind item.now) ≡ world.now }
@@ -169,7 +169,7 @@ fn resolve_externs<'f, 'a>(
     scope: FunctionScope<'_, 'f, 'a>,
     types: &mut Entries,
     required: &mut Vec<Required>,
-    interfaces: &Interfaces<'_, '_, '_>,
+    interfaces: &Interfaces<'_, 'f, 'a>,
     inside: &mut Arena<Interface, InterfacePlace>,
     taken: &mut Sides,
 ) -> ParseResult<Standing>
@@ -208,8 +208,8 @@ fn resolve_externs<'f, 'a>(
         match next {
             HeldExtern::Function(held) => {
                 let held = *held;
-                let function = resolve_function(alloc, types, required, scope, functions.len())?;
-                define_function(alloc, held, before, scope.names, taken, &function)?;
+                let function = resolve_function(alloc, scope, types, required, functions.len())?;
+                define_function(alloc, before, held, scope.names, taken, &function)?;
                 functions.push(function)?;
             }
             HeldExtern::Link(link) => {
@@ -239,7 +239,7 @@ pub(crate) fn resolve_standing<'f, 'a>(
     externs: &[HeldExtern<'f, 'a>],
     types: &mut Entries,
     names: &mut ResolvedNames<'a>,
-    interfaces: &Interfaces<'_, '_, '_>,
+    interfaces: &Interfaces<'_, 'f, 'a>,
     inside: &mut Arena<Interface, InterfacePlace>,
     closed: bool,
 ) -> ParseResult<Standing>
@@ -289,6 +289,6 @@ pub(crate) fn resolve_standing<'f, 'a>(
         inside,
         &mut taken,
     )?;
-    check_closed(closed, &taken, &names.turn, externs)?;
+    check_closed(closed, externs, &taken, &names.turn)?;
     Ok(standing)
 }

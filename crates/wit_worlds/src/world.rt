@@ -105,11 +105,11 @@ fn add_world(
 }
 
 /// What is told of a world, and its names.
-fn world_head<'a>(
+fn world_head<'f, 'a>(
     alloc: Global,
-    item: &Item<'_, 'a>,
+    item: &Item<'f, 'a>,
     types: &mut Entries,
-    interfaces: &Interfaces<'_, '_, '_>,
+    interfaces: &Interfaces<'_, 'f, 'a>,
     owner: TypeOwner,
 ) -> ParseResult<Head<'a>>
     requires named { names_behind item.now ≡ the_names (item_behind item.now) }
@@ -122,8 +122,8 @@ fn world_head<'a>(
     ensures legal { OnOk result ((fns : List SourceFunction) (f : Fault) → IsBrokenScope (the_names (item_behind item.now)) fns f → IsOfFunctions (the_names (item_behind item.now)) fns f) }
     ensures refused { IfErr result (Refused (IsWrongBody types.old (cells_of interfaces.now) interfaces.now.by_name owner (item_behind item.now))) }
 {
-    let notes = item_notes(alloc, item.declared)?;
-    let names = resolve_names(alloc, types, interfaces, owner, &item.names)?;
+    let notes = item_notes(alloc, &item.declared)?;
+    let names = resolve_names(alloc, &item.names, types, interfaces, owner)?;
     Ok(Head { notes, names })
 }
 
@@ -135,7 +135,7 @@ fn world_content<'f, 'a>(
     types: &mut Entries,
     names: &mut ResolvedNames<'a>,
     files: &FileNames<'f, 'a>,
-    interfaces: &Interfaces<'_, '_, '_>,
+    interfaces: &Interfaces<'_, 'f, 'a>,
     inside: &mut Arena<Interface, InterfacePlace>,
     worlds: &Worlds<'_>,
 ) -> ParseResult<WorldContent>
@@ -173,9 +173,9 @@ fn world_content<'f, 'a>(
     let standing = resolve_standing(alloc, item, lent, types, names, interfaces, inside, closed)?;
     let sides = world_sides(
         alloc,
+        lent,
         &names.turn,
         &names.types,
-        lent,
         interfaces,
         standing,
         closed,
@@ -189,7 +189,7 @@ fn world_parts<'f, 'a>(
     item: &Item<'f, 'a>,
     types: &mut Entries,
     files: &FileNames<'f, 'a>,
-    interfaces: &Interfaces<'_, '_, '_>,
+    interfaces: &Interfaces<'_, 'f, 'a>,
     inside: &mut Arena<Interface, InterfacePlace>,
     worlds: &Worlds<'_>,
 ) -> ParseResult<WorldParts>
@@ -234,7 +234,7 @@ fn resolve_world<'f, 'a>(
     types: &mut Entries,
     required: &mut Vec<Required>,
     files: &FileNames<'f, 'a>,
-    interfaces: &Interfaces<'_, '_, '_>,
+    interfaces: &Interfaces<'_, 'f, 'a>,
     inside: &mut Arena<Interface, InterfacePlace>,
     worlds: &mut Worlds<'_>,
 ) -> ParseResult<()>
@@ -273,7 +273,7 @@ pub fn resolve_worlds<'f, 'a>(
     types: &mut Entries,
     required: &mut Vec<Required>,
     files: &FileNames<'f, 'a>,
-    interfaces: &Interfaces<'_, '_, '_>,
+    interfaces: &Interfaces<'_, 'f, 'a>,
     inside: &mut Arena<Interface, InterfacePlace>,
     worlds: &mut Worlds<'_>,
     places: &[usize],

@@ -42,16 +42,16 @@ check_pairs-requires c = λ some.
     let item = scope_item c.args.item.now in
     let ids = c.args.names.now.turn.items in
     let e = c.in_ok-own.ensures in
-    let turned : c.deref.result.now ≡ ids = c.deref.ensures.value ∙ ap (λ t. t.items) e.turn in
-    let fns : map function_behind c.deref-2.result.now ≡ functions item = ap (map function_behind) c.deref-2.ensures.value ∙ e.written in
-    let taken : c.in_ok-own.own.taken.imports ≡ map name_of_id ids ++ map name_of_function (functions item) = e.taken (rw c.deref-2.ensures.value at some) Imported ∙ ap (λ (fns : List SourceFunction). all_on Imported ids (map SideFunction fns)) e.written ∙ names_imported item c.requires.sort ids in
+    let turned : c.deref-2.result.now ≡ ids = c.deref-2.ensures.value ∙ ap (λ t. t.items) e.turn in
+    let fns : map function_behind c.deref.result.now ≡ functions item = ap (map function_behind) c.deref.ensures.value ∙ e.written in
+    let taken : c.in_ok-own.own.taken.imports ≡ map name_of_id ids ++ map name_of_function (functions item) = e.taken (rw c.deref.ensures.value at some) Imported ∙ ap (λ (fns : List SourceFunction). all_on Imported ids (map SideFunction fns)) e.written ∙ names_imported item c.requires.sort ids in
     rw (turned, fns) taken
 
 pub returns-in_err-check_pairs-clause-refused : goal.returns-in_err-check_pairs-clause-refused
 returns-in_err-check_pairs-clause-refused c =
     let p = err_from_is_err_and c.from_residual-in_err-check_pairs.result c.from_residual-in_err-check_pairs.ensures.1 in
     let item = scope_item c.args.item.now in
-    let fns : map function_behind c.deref-2.result.now ≡ functions item = ap (map function_behind) c.deref-2.ensures.value ∙ c.in_ok-own.ensures.written in
+    let fns : map function_behind c.deref.result.now ≡ functions item = ap (map function_behind) c.deref.ensures.value ∙ c.in_ok-own.ensures.written in
     rw (p.1, p.2) (λ old cs by_name o added. refused_weaker (IsUnpairedSetter (functions item)) (IsWrongInterface old cs by_name o item) _ (λ f h. Unpaired h) (rw fns at c.in_err-check_pairs.ensures.refused))
 
 pub returns-in_err-functions-clause-refused : goal.returns-in_err-functions-clause-refused
@@ -74,7 +74,7 @@ returns-clause-adds c =
 pub returns-clause-paired : goal.returns-clause-paired
 returns-clause-paired c =
     let item = scope_item c.args.item.now in
-    let fns : map function_behind c.deref-2.result.now ≡ functions item = ap (map function_behind) c.deref-2.ensures.value ∙ c.in_ok-own.ensures.written in
+    let fns : map function_behind c.deref.result.now ≡ functions item = ap (map function_behind) c.deref.ensures.value ∙ c.in_ok-own.ensures.written in
     rw fns at c.in_ok-check_pairs.ensures.paired
 
 pub returns-clause-sound : goal.returns-clause-sound
