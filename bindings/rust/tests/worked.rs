@@ -79,7 +79,7 @@ fn the_examples() {
     let library: String = ["accounts", "books", "desk", "search"]
         .map(|name| format!("=== {name}.wit\n{}", kept(&format!("examples/library/{name}.wit"))))
         .concat();
-    assert_eq!(resolve(&library).expect("library"), kept("crates/wit_several/stdout"));
+    assert_eq!(resolve(&library).expect("library"), kept("examples/library.listing"));
 }
 
 #[test]

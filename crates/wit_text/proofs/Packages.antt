@@ -3,11 +3,11 @@ use Rattle.std.proofs.Common.{◌≡◌, [], ◌∷◌, subst}
 use Rattle.wit_tree.specs.declared.tree.AstItem.{AstItem}
 use Rattle.wit_tree.specs.declared.tree.Docs.{Docs}
 use Rattle.wit_tree.specs.Marks.{documented, declaration_marks}
-use Rattle.wit_text.specs.declared.reader.Reader.{Reader}
+use Rattle.wit_reader.specs.declared.reader.Reader.{Reader}
 use Rattle.wit_text.specs.declared.declaration.PackageItem.{PackageItem}
 use Rattle.wit_text.specs.declared.declaration.PackageItem.TheVariants.{Declaration, Package}
 use Rattle.wit_text.specs.Packages.{IsItemRead}
-use Rattle.wit_text.specs.Reading.{IsRead, IsReadOn}
+use Rattle.wit_reader.specs.Reading.{IsRead, IsReadOn}
 
 pub declaration_read : {a b : Reader} (item : PackageItem) (declaration : AstItem) → item ≡ Declaration declaration → IsItemRead a item b → IsRead a (declaration_marks declaration) b
 declaration_read {a} {b} item declaration is p = subst (λ found. IsItemRead a found b) is p

@@ -1,5 +1,1 @@
-pub mod Attributes
-pub mod Fronts
-pub mod Headers
 pub mod Packages
-pub mod Reading

@@ -1,10 +1,10 @@
 -- What stands among the items of a file or of a nested package.
 use Rattle.std.specs.Prelude.{[], ◌∷◌}
 use Rattle.wit_tree.specs.Marks.{documented, declaration_marks}
-use Rattle.wit_text.specs.declared.reader.Reader.{Reader}
+use Rattle.wit_reader.specs.declared.reader.Reader.{Reader}
 use Rattle.wit_text.specs.declared.declaration.PackageItem.{PackageItem}
 use Rattle.wit_text.specs.declared.declaration.PackageItem.TheVariants.{Declaration, Package}
-use Rattle.wit_text.specs.Reading.{IsRead, IsReadOn}
+use Rattle.wit_reader.specs.Reading.{IsRead, IsReadOn}
 
 -- a declaration was read whole, and of a nested package its docs
 abbrev pub IsItemRead : Reader → PackageItem → Reader → Type 0

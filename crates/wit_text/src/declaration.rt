@@ -1,12 +1,16 @@
 //! Reading declarations, and whether a nested package stands in the place of one.
 ghost use Rattle.std.specs.Prelude.{◌≡◌, ◌+◌, [], ◌∷◌, IfOk, IfErr};
 ghost use Rattle.wit_tree.specs.Marks.{front_marks, interface_marks};
-ghost use Rattle.wit_text.specs.Fronts.{IsReadBehind};
+ghost use Rattle.wit_reader.specs.Fronts.{IsReadBehind};
+ghost use Rattle.wit_reader.specs.Reading.{IsRead, IsRefused};
+ghost use Rattle.wit_text.specs.Packages.{IsItemRead};
 
-use crate::front::Front;
-use crate::reader::Reader;
+use crate::world::read_world;
+use wit_interface_reader::definition::read_interface_items;
 use wit_lex::fault::ReadFault;
 use wit_lex::word::Word;
+use wit_reader::front::Front;
+use wit_reader::reader::Reader;
 use wit_tree::ParseResult;
 use wit_tree::tree::{AstItem, Docs, Interface};
 
@@ -18,48 +22,43 @@ pub enum PackageItem<'a> {
     Package(Docs<'a>),
 }
 
-impl<'a> Reader<'a> {
-    ghost use Rattle.wit_text.specs.Reading.{IsRead, IsRefused};
-    ghost use Rattle.wit_text.specs.Packages.{IsItemRead};
+/// Reads `interface name { .. }`.
+fn read_interface<'a>(reader: &mut Reader<'a>, front: Front<'a>) -> ParseResult<Interface<'a>>
+    ensures read { IfOk result (λ i. IsReadBehind reader.old (front_marks front.entry.docs front.entry.attributes.items) (interface_marks i) reader.new) }
+    ensures refused { IfErr result (λ e. IsRefused reader.old e) }
+{
+    reader.expect_word(Word::Interface)?;
+    let name = reader.read_id()?;
+    let items = read_interface_items(reader)?;
+    Ok(Interface {
+        docs: front.docs,
+        attributes: front.attributes,
+        name,
+        items,
+    })
+}
 
-    /// Reads `interface name { .. }`.
-    fn read_interface(&mut self, front: Front<'a>) -> ParseResult<Interface<'a>>
-        ensures read { IfOk result (λ i. IsReadBehind self.old (front_marks front.entry.docs front.entry.attributes.items) (interface_marks i) self.new) }
-        ensures refused { IfErr result (λ e. IsRefused self.old e) }
-    {
-        self.expect_word(Word::Interface)?;
-        let name = self.read_id()?;
-        let items = self.read_interface_items()?;
-        Ok(Interface {
-            docs: front.docs,
-            attributes: front.attributes,
-            name,
-            items,
-        })
+/// Reads a declaration (an interface, a world, or another name for an item), or the docs of a
+/// nested package, which may have no attributes.
+pub fn read_package_item<'a>(reader: &mut Reader<'a>) -> ParseResult<PackageItem<'a>>
+    ensures read { IfOk result (λ item. IsItemRead reader.old item reader.new) }
+    ensures refused { IfErr result (λ e. IsRefused reader.old e) }
+{
+    let front = reader.read_front()?;
+    if reader.at_word(Word::Use) {
+        let used = reader.read_toplevel_use(front.attributes)?;
+        return Ok(PackageItem::Declaration(AstItem::Use(used)));
     }
-
-    /// Reads a declaration (an interface, a world, or another name for an item), or the docs of a
-    /// nested package, which may have no attributes.
-    pub fn read_package_item(&mut self) -> ParseResult<PackageItem<'a>>
-        ensures read { IfOk result (λ item. IsItemRead self.old item self.new) }
-        ensures refused { IfErr result (λ e. IsRefused self.old e) }
-    {
-        let front = self.read_front()?;
-        if self.at_word(Word::Use) {
-            let used = self.read_toplevel_use(front.attributes)?;
-            return Ok(PackageItem::Declaration(AstItem::Use(used)));
-        }
-        if self.at_word(Word::World) {
-            let world = self.read_world(front)?;
-            return Ok(PackageItem::Declaration(AstItem::World(world)));
-        }
-        if self.at_word(Word::Package) {
-            if !front.attributes.is_empty() {
-                return Err(self.refuse(ReadFault::Token));
-            }
-            return Ok(PackageItem::Package(front.docs));
-        }
-        let interface = self.read_interface(front)?;
-        Ok(PackageItem::Declaration(AstItem::Interface(interface)))
+    if reader.at_word(Word::World) {
+        let world = read_world(reader, front)?;
+        return Ok(PackageItem::Declaration(AstItem::World(world)));
     }
+    if reader.at_word(Word::Package) {
+        if !front.attributes.is_empty() {
+            return Err(reader.refuse(ReadFault::Token));
+        }
+        return Ok(PackageItem::Package(front.docs));
+    }
+    let interface = read_interface(reader, front)?;
+    Ok(PackageItem::Declaration(AstItem::Interface(interface)))
 }

@@ -4,85 +4,86 @@ ghost use Rattle.std.specs.List.{flat_map};
 ghost use Rattle.wit_tree.specs.Marks.{declaration_marks, package_marks, file_marks, nested_marks, inner_marks};
 ghost use Rattle.wit_tree.specs.Slices.{Rise};
 ghost use Rattle.wit_lex.specs.Faults.{IsRefusal};
+ghost use Rattle.wit_reader.specs.Reading.{IsReadOn, IsRefused};
+ghost use Rattle.wit_reader.specs.Fronts.{CompletesOn};
 
-use crate::declaration::PackageItem;
-use crate::reader::Reader;
+use crate::declaration::{PackageItem, read_package_item};
+use crate::package::{read_nested, read_package_name};
 use std::alloc::Global;
 use wit_lex::kind::Kind;
 use wit_lex::token::next_token;
 use wit_lex::word::Word;
+use wit_reader::holding::push;
+use wit_reader::reader::Reader;
 use wit_tree::ParseResult;
 use wit_tree::tree::{AstItem, DeclList, NestedPackage, PackageFile, PackageName, SourceFile};
 
-impl<'a> Reader<'a> {
-    ghost use Rattle.wit_text.specs.Reading.{IsReadOn, IsRefused};
-    ghost use Rattle.wit_text.specs.Fronts.{CompletesOn};
-
-    /// Reads what stands at `package` where a file begins with that: a header, or a nested package.
-    fn read_beginning(&mut self) -> ParseResult<(Option<PackageName<'a>>, Vec<NestedPackage<'a>>)>
-        ensures read { IfOk result (λ r. IsReadOn self.old (package_marks r.0) self.new) }
-        ensures nested { IfOk result (λ r. IsReadOn self.old (flat_map nested_marks r.1.items) self.new) }
-        ensures inner { IfOk result (λ r. IsReadOn self.old (flat_map inner_marks r.1.items) self.new) }
-        ensures refused { IfErr result (λ e. IsRefused self.old e) }
-    {
-        if !self.at_word(Word::Package) {
-            return Ok((None, Vec::new(self.alloc)));
-        }
-        let docs = self.read_docs()?;
-        let name = self.read_package_name(docs)?;
-        if self.at(Kind::OpenBrace) {
-            let first = self.read_nested(name)?;
-            let mut nested = Vec::new(self.alloc);
-            nested.push(first)?;
-            return Ok((None, nested));
-        }
-        let header = self.closed(name, Kind::Semicolon)?;
-        Ok((Some(header), Vec::new(self.alloc)))
+/// Reads what stands at `package` where a file begins with that: a header, or a nested package.
+fn read_beginning<'a>(
+    reader: &mut Reader<'a>,
+) -> ParseResult<(Option<PackageName<'a>>, Vec<NestedPackage<'a>>)>
+    ensures read { IfOk result (λ r. IsReadOn reader.old (package_marks r.0) reader.new) }
+    ensures nested { IfOk result (λ r. IsReadOn reader.old (flat_map nested_marks r.1.items) reader.new) }
+    ensures inner { IfOk result (λ r. IsReadOn reader.old (flat_map inner_marks r.1.items) reader.new) }
+    ensures refused { IfErr result (λ e. IsRefused reader.old e) }
+{
+    if !reader.at_word(Word::Package) {
+        return Ok((None, Vec::new(reader.alloc)));
     }
+    let docs = reader.read_docs()?;
+    let name = read_package_name(reader, docs)?;
+    if reader.at(Kind::OpenBrace) {
+        let first = read_nested(reader, name)?;
+        let mut nested = Vec::new(reader.alloc);
+        push(&mut nested, first)?;
+        return Ok((None, nested));
+    }
+    let header = reader.closed(name, Kind::Semicolon)?;
+    Ok((Some(header), Vec::new(reader.alloc)))
+}
 
-    /// Reads the declarations of a file up to the end of the source, and adds the packages that are
-    /// nested between them.
-    fn read_declarations(
-        &mut self,
-        nested: &mut Vec<NestedPackage<'a>>,
-    ) -> ParseResult<Vec<AstItem<'a>>>
-        ensures read { IfOk result (λ items. IsReadOn self.old (flat_map declaration_marks items.items) self.new) }
-        ensures nested { OnOk result (CompletesOn self.old (flat_map nested_marks nested.old.items) (flat_map nested_marks nested.new.items) self.new) }
-        ensures inner { OnOk result (CompletesOn self.old (flat_map inner_marks nested.old.items) (flat_map inner_marks nested.new.items) self.new) }
-        ensures refused { IfErr result (λ e. IsRefused self.old e) }
-    {
-        let mut items = Vec::new(self.alloc);
-        'items: while !self.at(Kind::End) {
-            let item = self.read_package_item()?;
-            match item {
-                PackageItem::Declaration(declaration) => items.push(declaration)?,
-                PackageItem::Package(docs) => {
-                    let name = self.read_package_name(docs)?;
-                    let package = self.read_nested(name)?;
-                    nested.push(package)?;
-                }
+/// Reads the declarations of a file up to the end of the source, and adds the packages that are
+/// nested between them.
+fn read_declarations<'a>(
+    reader: &mut Reader<'a>,
+    nested: &mut Vec<NestedPackage<'a>>,
+) -> ParseResult<Vec<AstItem<'a>>>
+    ensures read { IfOk result (λ items. IsReadOn reader.old (flat_map declaration_marks items.items) reader.new) }
+    ensures nested { OnOk result (CompletesOn reader.old (flat_map nested_marks nested.old.items) (flat_map nested_marks nested.new.items) reader.new) }
+    ensures inner { OnOk result (CompletesOn reader.old (flat_map inner_marks nested.old.items) (flat_map inner_marks nested.new.items) reader.new) }
+    ensures refused { IfErr result (λ e. IsRefused reader.old e) }
+{
+    let mut items = Vec::new(reader.alloc);
+    'items: while !reader.at(Kind::End) {
+        let item = read_package_item(reader)?;
+        match item {
+            PackageItem::Declaration(declaration) => push(&mut items, declaration)?,
+            PackageItem::Package(docs) => {
+                let name = read_package_name(reader, docs)?;
+                let package = read_nested(reader, name)?;
+                push(nested, package)?;
             }
         }
-        Ok(items)
     }
+    Ok(items)
+}
 
-    /// Reads up to the end of the source.
-    fn read_whole(&mut self) -> ParseResult<SourceFile<'a>>
-        ensures read { IfOk result (λ source. IsReadOn self.old (file_marks source.file) self.new) }
-        ensures nested { IfOk result (λ source. IsReadOn self.old (flat_map nested_marks source.nested.items) self.new) }
-        ensures inner { IfOk result (λ source. IsReadOn self.old (flat_map inner_marks source.nested.items) self.new) }
-        ensures refused { IfErr result (λ e. IsRefused self.old e) }
-    {
-        let (package_id, mut nested) = self.read_beginning()?;
-        let items = self.read_declarations(&mut nested)?;
-        Ok(SourceFile {
-            file: PackageFile {
-                package_id,
-                decl_list: DeclList { items },
-            },
-            nested,
-        })
-    }
+/// Reads up to the end of the source.
+fn read_whole<'a>(reader: &mut Reader<'a>) -> ParseResult<SourceFile<'a>>
+    ensures read { IfOk result (λ source. IsReadOn reader.old (file_marks source.file) reader.new) }
+    ensures nested { IfOk result (λ source. IsReadOn reader.old (flat_map nested_marks source.nested.items) reader.new) }
+    ensures inner { IfOk result (λ source. IsReadOn reader.old (flat_map inner_marks source.nested.items) reader.new) }
+    ensures refused { IfErr result (λ e. IsRefused reader.old e) }
+{
+    let (package_id, mut nested) = read_beginning(reader)?;
+    let items = read_declarations(reader, &mut nested)?;
+    Ok(SourceFile {
+        file: PackageFile {
+            package_id,
+            decl_list: DeclList { items },
+        },
+        nested,
+    })
 }
 
 /// The tree of a file whose first byte has the place `offset`.
@@ -122,6 +123,6 @@ pub fn read_file<'a>(alloc: Global, source: &'a str, offset: u32) -> ParseResult
         before: 0,
         token,
     };
-    let file = reader.read_whole()?;
+    let file = read_whole(&mut reader)?;
     Ok(file)
 }

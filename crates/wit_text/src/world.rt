@@ -1,141 +1,144 @@
 //! Reading worlds.
 ghost use Rattle.std.specs.Prelude.{◌≡◌, ◌+◌, [], ◌∷◌, OnOk, IfOk, IfErr};
 ghost use Rattle.std.specs.List.{flat_map};
-ghost use Rattle.wit_text.specs.Fronts.{IsReadBehind};
+ghost use Rattle.wit_reader.specs.Fronts.{IsReadBehind};
 ghost use Rattle.wit_tree.specs.Marks.{attributes_marks, front_marks, renamed_marks, include_marks, world_item_marks, world_marks};
+ghost use Rattle.wit_reader.specs.Reading.{IsRead, IsReadOn, IsRefused};
 
-use crate::front::Front;
-use crate::reader::Reader;
+use crate::extern_kind::{read_export, read_import};
+use wit_interface_reader::definition::read_definition;
 use wit_lex::kind::Kind;
 use wit_lex::word::Word;
+use wit_reader::front::Front;
+use wit_reader::holding::push;
+use wit_reader::reader::Reader;
 use wit_tree::ParseResult;
 use wit_tree::tree::{Attribute, Include, IncludeName, World, WorldItem};
 use wit_values::beside;
 
-impl<'a> Reader<'a> {
-    ghost use Rattle.wit_text.specs.Reading.{IsRead, IsReadOn, IsRefused};
+/// Reads `name as name`.
+fn read_renamed<'a>(reader: &mut Reader<'a>) -> ParseResult<IncludeName<'a>>
+    ensures read { IfOk result (λ n. IsRead reader.old (renamed_marks n) reader.new) }
+    ensures refused { IfErr result (λ e. IsRefused reader.old e) }
+{
+    let name = reader.read_id()?;
+    reader.expect_word(Word::As)?;
+    let local = reader.read_id()?;
+    Ok(IncludeName { name, as_: local })
+}
 
-    /// Reads `name as name`.
-    fn read_renamed(&mut self) -> ParseResult<IncludeName<'a>>
-        ensures read { IfOk result (λ n. IsRead self.old (renamed_marks n) self.new) }
-        ensures refused { IfErr result (λ e. IsRefused self.old e) }
-    {
-        let name = self.read_id()?;
-        self.expect_word(Word::As)?;
-        let local = self.read_id()?;
-        Ok(IncludeName { name, as_: local })
+/// Reads renamed names in braces.
+fn read_renamed_names<'a>(reader: &mut Reader<'a>) -> ParseResult<Vec<IncludeName<'a>>>
+    ensures read { IfOk result (λ names. IsRead reader.old (flat_map renamed_marks names.items) reader.new) }
+    ensures refused { IfErr result (λ e. IsRefused reader.old e) }
+{
+    let mut more = reader.open_list(Kind::OpenBrace, Kind::CloseBrace)?;
+    let mut names = Vec::new(reader.alloc);
+    'names: while more {
+        let renamed = read_renamed(reader)?;
+        push(&mut names, renamed)?;
+        more = reader.next_in_list(Kind::CloseBrace)?;
     }
+    Ok(names)
+}
 
-    /// Reads renamed names in braces.
-    fn read_renamed_names(&mut self) -> ParseResult<Vec<IncludeName<'a>>>
-        ensures read { IfOk result (λ names. IsRead self.old (flat_map renamed_marks names.items) self.new) }
-        ensures refused { IfErr result (λ e. IsRefused self.old e) }
-    {
-        let mut more = self.open_list(Kind::OpenBrace, Kind::CloseBrace)?;
-        let mut names = Vec::new(self.alloc);
-        'names: while more {
-            let renamed = self.read_renamed()?;
-            names.push(renamed)?;
-            more = self.next_in_list(Kind::CloseBrace)?;
-        }
-        Ok(names)
+/// Goes past a `;`, where there is one.
+fn skip_semicolon(reader: &mut Reader<'_>) -> ParseResult<()>
+    ensures read { OnOk result (IsReadOn reader.old [] reader.new) }
+    ensures refused { IfErr result (λ e. IsRefused reader.old e) }
+{
+    if !reader.at(Kind::Semicolon) {
+        return Ok(());
     }
+    reader.bump()
+}
 
-    /// Goes past a `;`, where there is one.
-    fn skip_semicolon(&mut self) -> ParseResult<()>
-        ensures read { OnOk result (IsReadOn self.old [] self.new) }
-        ensures refused { IfErr result (λ e. IsRefused self.old e) }
-    {
-        if !self.at(Kind::Semicolon) {
-            return Ok(());
-        }
-        self.bump()
+/// Reads `;`, or `with { name as name, .. }` and perhaps a `;` behind it.
+fn read_renames<'a>(reader: &mut Reader<'a>) -> ParseResult<Vec<IncludeName<'a>>>
+    ensures read { IfOk result (λ names. IsRead reader.old (flat_map renamed_marks names.items) reader.new) }
+    ensures refused { IfErr result (λ e. IsRefused reader.old e) }
+{
+    if !reader.at_word(Word::With) {
+        reader.expect(Kind::Semicolon)?;
+        return Ok(Vec::new(reader.alloc));
     }
+    reader.bump()?;
+    let names = read_renamed_names(reader)?;
+    skip_semicolon(reader)?;
+    Ok(names)
+}
 
-    /// Reads `;`, or `with { name as name, .. }` and perhaps a `;` behind it.
-    fn read_renames(&mut self) -> ParseResult<Vec<IncludeName<'a>>>
-        ensures read { IfOk result (λ names. IsRead self.old (flat_map renamed_marks names.items) self.new) }
-        ensures refused { IfErr result (λ e. IsRefused self.old e) }
-    {
-        if !self.at_word(Word::With) {
-            self.expect(Kind::Semicolon)?;
-            return Ok(Vec::new(self.alloc));
-        }
-        self.bump()?;
-        let names = self.read_renamed_names()?;
-        self.skip_semicolon()?;
-        Ok(names)
-    }
+/// Reads `include path;`, perhaps with names that are renamed.
+fn read_include<'a>(
+    reader: &mut Reader<'a>,
+    attributes: Vec<Attribute<'a>>,
+) -> ParseResult<Include<'a>>
+    ensures read { IfOk result (λ i. IsReadBehind reader.old (attributes_marks attributes.entry.items) (include_marks i) reader.new) }
+    ensures refused { IfErr result (λ e. IsRefused reader.old e) }
+{
+    reader.expect_word(Word::Include)?;
+    let path = reader.read_path()?;
+    let (from, names) = beside(path, read_renames(reader))?;
+    Ok(Include {
+        attributes,
+        from,
+        names,
+    })
+}
 
-    /// Reads `include path;`, perhaps with names that are renamed.
-    fn read_include(&mut self, attributes: Vec<Attribute<'a>>) -> ParseResult<Include<'a>>
-        ensures read { IfOk result (λ i. IsReadBehind self.old (attributes_marks attributes.entry.items) (include_marks i) self.new) }
-        ensures refused { IfErr result (λ e. IsRefused self.old e) }
-    {
-        self.expect_word(Word::Include)?;
-        let path = self.read_path()?;
-        let (from, names) = beside(path, self.read_renames())?;
-        Ok(Include {
-            attributes,
-            from,
-            names,
-        })
+/// Reads an item of a world.
+fn read_world_item<'a>(reader: &mut Reader<'a>) -> ParseResult<WorldItem<'a>>
+    ensures read { IfOk result (λ item. IsRead reader.old (world_item_marks item) reader.new) }
+    ensures refused { IfErr result (λ e. IsRefused reader.old e) }
+{
+    let front = reader.read_front()?;
+    if reader.at_word(Word::Use) {
+        let names = reader.read_use(front.attributes)?;
+        return Ok(WorldItem::Use(names));
     }
+    if reader.at_word(Word::Include) {
+        let include = read_include(reader, front.attributes)?;
+        return Ok(WorldItem::Include(include));
+    }
+    if reader.at_word(Word::Import) {
+        let imported = read_import(reader, front)?;
+        return Ok(WorldItem::Extern(imported));
+    }
+    if reader.at_word(Word::Export) {
+        let exported = read_export(reader, front)?;
+        return Ok(WorldItem::Extern(exported));
+    }
+    let definition = read_definition(reader, front)?;
+    Ok(WorldItem::TypeDef(definition))
+}
 
-    /// Reads an item of a world.
-    fn read_world_item(&mut self) -> ParseResult<WorldItem<'a>>
-        ensures read { IfOk result (λ item. IsRead self.old (world_item_marks item) self.new) }
-        ensures refused { IfErr result (λ e. IsRefused self.old e) }
-    {
-        let front = self.read_front()?;
-        if self.at_word(Word::Use) {
-            let names = self.read_use(front.attributes)?;
-            return Ok(WorldItem::Use(names));
-        }
-        if self.at_word(Word::Include) {
-            let include = self.read_include(front.attributes)?;
-            return Ok(WorldItem::Include(include));
-        }
-        if self.at_word(Word::Import) {
-            let imported = self.read_import(front)?;
-            return Ok(WorldItem::Extern(imported));
-        }
-        if self.at_word(Word::Export) {
-            let exported = self.read_export(front)?;
-            return Ok(WorldItem::Extern(exported));
-        }
-        let definition = self.read_definition(front)?;
-        Ok(WorldItem::TypeDef(definition))
+/// Reads the items of a world in braces.
+fn read_world_items<'a>(reader: &mut Reader<'a>) -> ParseResult<Vec<WorldItem<'a>>>
+    ensures read { IfOk result (λ items. IsRead reader.old (flat_map world_item_marks items.items) reader.new) }
+    ensures refused { IfErr result (λ e. IsRefused reader.old e) }
+{
+    reader.expect(Kind::OpenBrace)?;
+    let mut items = Vec::new(reader.alloc);
+    'items: while !reader.at(Kind::CloseBrace) {
+        let item = read_world_item(reader)?;
+        push(&mut items, item)?;
     }
+    reader.bump()?;
+    Ok(items)
+}
 
-    /// Reads the items of a world in braces.
-    fn read_world_items(&mut self) -> ParseResult<Vec<WorldItem<'a>>>
-        ensures read { IfOk result (λ items. IsRead self.old (flat_map world_item_marks items.items) self.new) }
-        ensures refused { IfErr result (λ e. IsRefused self.old e) }
-    {
-        self.expect(Kind::OpenBrace)?;
-        let mut items = Vec::new(self.alloc);
-        'items: while !self.at(Kind::CloseBrace) {
-            let item = self.read_world_item()?;
-            items.push(item)?;
-        }
-        self.bump()?;
-        Ok(items)
-    }
-
-    /// Reads `world name { .. }`.
-    pub fn read_world(&mut self, front: Front<'a>) -> ParseResult<World<'a>>
-        ensures read { IfOk result (λ w. IsReadBehind self.old (front_marks front.entry.docs front.entry.attributes.items) (world_marks w) self.new) }
-        ensures refused { IfErr result (λ e. IsRefused self.old e) }
-    {
-        self.expect_word(Word::World)?;
-        let name = self.read_id()?;
-        let items = self.read_world_items()?;
-        Ok(World {
-            docs: front.docs,
-            attributes: front.attributes,
-            name,
-            items,
-        })
-    }
+/// Reads `world name { .. }`.
+pub fn read_world<'a>(reader: &mut Reader<'a>, front: Front<'a>) -> ParseResult<World<'a>>
+    ensures read { IfOk result (λ w. IsReadBehind reader.old (front_marks front.entry.docs front.entry.attributes.items) (world_marks w) reader.new) }
+    ensures refused { IfErr result (λ e. IsRefused reader.old e) }
+{
+    reader.expect_word(Word::World)?;
+    let name = reader.read_id()?;
+    let items = read_world_items(reader)?;
+    Ok(World {
+        docs: front.docs,
+        attributes: front.attributes,
+        name,
+        items,
+    })
 }

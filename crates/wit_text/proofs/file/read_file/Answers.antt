@@ -1,4 +1,4 @@
-use Rattle.wit_text.proofs.Parts.{whole}
+use Rattle.wit_reader.proofs.Parts.{whole}
 use Rattle.wit_text.proofs.file.read_file.Goals as goal
 
 pub returns-clause-read : goal.returns-clause-read

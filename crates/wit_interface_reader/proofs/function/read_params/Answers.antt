@@ -1,0 +1,7 @@
+use Rattle.wit_tree.specs.Marks.{param_marks}
+use Rattle.wit_reader.proofs.Parts.{close, more}
+use Rattle.wit_interface_reader.proofs.function.read_params.Goals as goal
+
+pub params-preserved : goal.params-preserved
+params-preserved c =
+    close (more param_marks c.params.params.items c.push.new.items.items c.in_ok-param.param c.in_ok-push.ensures c.params.invariant c.in_ok-param.ensures.read) c.in_ok-more-2.ensures.read

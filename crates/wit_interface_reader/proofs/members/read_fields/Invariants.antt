@@ -1,0 +1,11 @@
+use Rattle.std.proofs.Common.{◌-◌, length}
+use Rattle.std.specs.List.{flat_map}
+use Rattle.wit_tree.specs.Marks.{field_marks}
+use Rattle.wit_reader.specs.Reading.{IsRead}
+use Rattle.wit_interface_reader.proofs.members.read_fields.Given as goal
+
+abbrev pub invariant-fields : goal.invariant-fields
+invariant-fields l = IsRead l.fn.reader (flat_map field_marks l.fields.items) l.reader
+
+abbrev pub decreases-fields : goal.decreases-fields
+decreases-fields l = length l.fn.reader.source.now - l.reader.before

@@ -1,0 +1,11 @@
+use Rattle.std.proofs.Common.{◌-◌, length}
+use Rattle.std.specs.List.{flat_map}
+use Rattle.wit_tree.specs.Marks.{flag_marks}
+use Rattle.wit_reader.specs.Reading.{IsRead}
+use Rattle.wit_interface_reader.proofs.members.read_flags.Given as goal
+
+abbrev pub invariant-flags : goal.invariant-flags
+invariant-flags l = IsRead l.fn.reader (flat_map flag_marks l.flags.items) l.reader
+
+abbrev pub decreases-flags : goal.decreases-flags
+decreases-flags l = length l.fn.reader.source.now - l.reader.before

@@ -1,0 +1,141 @@
+//! Reading definitions of types, and the items of an interface.
+ghost use Rattle.std.specs.Prelude.{◌≡◌, ◌+◌, [], ◌∷◌, IfOk, IfErr};
+ghost use Rattle.std.specs.List.{flat_map};
+ghost use Rattle.wit_reader.specs.Fronts.{IsReadBehind};
+ghost use Rattle.wit_tree.specs.Marks.{front_marks, defined_marks, definition_marks, item_marks};
+ghost use Rattle.wit_reader.specs.Reading.{IsRead, IsRefused};
+
+use crate::function::read_named_func;
+use crate::members::{read_cases, read_enum_cases, read_fields, read_flags};
+use crate::resource::read_resource;
+use wit_lex::fault::ReadFault;
+use wit_lex::kind::Kind;
+use wit_lex::word::Word;
+use wit_reader::front::Front;
+use wit_reader::holding::push;
+use wit_reader::reader::Reader;
+use wit_tree::ParseResult;
+use wit_tree::tree::{Id, InterfaceItem, TypeBody, TypeDef};
+
+/// Reads `type name = type;`.
+fn read_alias<'a>(reader: &mut Reader<'a>) -> ParseResult<(Id<'a>, TypeBody<'a>)>
+    ensures read { IfOk result (λ d. IsRead reader.old (defined_marks d.0 d.1) reader.new) }
+    ensures refused { IfErr result (λ e. IsRefused reader.old e) }
+{
+    reader.expect_word(Word::Type)?;
+    let name = reader.read_id()?;
+    reader.expect(Kind::Equals)?;
+    let ty = reader.read_closed_type(Kind::Semicolon)?;
+    Ok((name, TypeBody::Plain(ty)))
+}
+
+/// Reads `record name { name: type, .. }`.
+fn read_record<'a>(reader: &mut Reader<'a>) -> ParseResult<(Id<'a>, TypeBody<'a>)>
+    ensures read { IfOk result (λ d. IsRead reader.old (defined_marks d.0 d.1) reader.new) }
+    ensures refused { IfErr result (λ e. IsRefused reader.old e) }
+{
+    reader.expect_word(Word::Record)?;
+    let name = reader.read_id()?;
+    let fields = read_fields(reader)?;
+    let span = name.span;
+    Ok((name, TypeBody::Record { span, fields }))
+}
+
+/// Reads `flags name { name, .. }`.
+fn read_flags_definition<'a>(reader: &mut Reader<'a>) -> ParseResult<(Id<'a>, TypeBody<'a>)>
+    ensures read { IfOk result (λ d. IsRead reader.old (defined_marks d.0 d.1) reader.new) }
+    ensures refused { IfErr result (λ e. IsRefused reader.old e) }
+{
+    reader.expect_word(Word::Flags)?;
+    let name = reader.read_id()?;
+    let flags = read_flags(reader)?;
+    let span = name.span;
+    Ok((name, TypeBody::Flags { span, flags }))
+}
+
+/// Reads `variant name { name(type), .. }`, where a case may have no type.
+fn read_variant<'a>(reader: &mut Reader<'a>) -> ParseResult<(Id<'a>, TypeBody<'a>)>
+    ensures read { IfOk result (λ d. IsRead reader.old (defined_marks d.0 d.1) reader.new) }
+    ensures refused { IfErr result (λ e. IsRefused reader.old e) }
+{
+    reader.expect_word(Word::Variant)?;
+    let name = reader.read_id()?;
+    let cases = read_cases(reader)?;
+    let span = name.span;
+    Ok((name, TypeBody::Variant { span, cases }))
+}
+
+/// Reads `enum name { name, .. }`.
+fn read_enum<'a>(reader: &mut Reader<'a>) -> ParseResult<(Id<'a>, TypeBody<'a>)>
+    ensures read { IfOk result (λ d. IsRead reader.old (defined_marks d.0 d.1) reader.new) }
+    ensures refused { IfErr result (λ e. IsRefused reader.old e) }
+{
+    reader.expect_word(Word::Enum)?;
+    let name = reader.read_id()?;
+    let cases = read_enum_cases(reader)?;
+    let span = name.span;
+    Ok((name, TypeBody::Enum { span, cases }))
+}
+
+/// Reads the name and the body of a definition.
+fn read_body<'a>(reader: &mut Reader<'a>) -> ParseResult<(Id<'a>, TypeBody<'a>)>
+    ensures read { IfOk result (λ d. IsRead reader.old (defined_marks d.0 d.1) reader.new) }
+    ensures refused { IfErr result (λ e. IsRefused reader.old e) }
+{
+    match reader.token.kind {
+        Kind::Word(Word::Type) => read_alias(reader),
+        Kind::Word(Word::Record) => read_record(reader),
+        Kind::Word(Word::Flags) => read_flags_definition(reader),
+        Kind::Word(Word::Variant) => read_variant(reader),
+        Kind::Word(Word::Enum) => read_enum(reader),
+        Kind::Word(Word::Resource) => read_resource(reader),
+        _ => Err(reader.refuse(ReadFault::Token)),
+    }
+}
+
+/// Reads a definition, of an interface or of a world.
+pub fn read_definition<'a>(reader: &mut Reader<'a>, front: Front<'a>) -> ParseResult<TypeDef<'a>>
+    ensures read { IfOk result (λ d. IsReadBehind reader.old (front_marks front.entry.docs front.entry.attributes.items) (definition_marks d) reader.new) }
+    ensures refused { IfErr result (λ e. IsRefused reader.old e) }
+{
+    let (name, body) = read_body(reader)?;
+    Ok(TypeDef {
+        docs: front.docs,
+        attributes: front.attributes,
+        name,
+        body,
+    })
+}
+
+/// Reads an item of an interface.
+fn read_item<'a>(reader: &mut Reader<'a>) -> ParseResult<InterfaceItem<'a>>
+    ensures read { IfOk result (λ item. IsRead reader.old (item_marks item) reader.new) }
+    ensures refused { IfErr result (λ e. IsRefused reader.old e) }
+{
+    let front = reader.read_front()?;
+    if reader.at_word(Word::Use) {
+        let names = reader.read_use(front.attributes)?;
+        return Ok(InterfaceItem::Use(names));
+    }
+    if reader.at(Kind::Name) {
+        let func = read_named_func(reader, front)?;
+        return Ok(InterfaceItem::Func(func));
+    }
+    let definition = read_definition(reader, front)?;
+    Ok(InterfaceItem::TypeDef(definition))
+}
+
+/// Reads the items of an interface in braces.
+pub fn read_interface_items<'a>(reader: &mut Reader<'a>) -> ParseResult<Vec<InterfaceItem<'a>>>
+    ensures read { IfOk result (λ items. IsRead reader.old (flat_map item_marks items.items) reader.new) }
+    ensures refused { IfErr result (λ e. IsRefused reader.old e) }
+{
+    reader.expect(Kind::OpenBrace)?;
+    let mut items = Vec::new(reader.alloc);
+    'items: while !reader.at(Kind::CloseBrace) {
+        let item = read_item(reader)?;
+        push(&mut items, item)?;
+    }
+    reader.bump()?;
+    Ok(items)
+}

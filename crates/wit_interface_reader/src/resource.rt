@@ -1,0 +1,129 @@
+//! Reading resources.
+ghost use Rattle.std.specs.Prelude.{◌≡◌, ◌+◌, [], ◌∷◌, ◌++◌, IfOk, IfErr};
+ghost use Rattle.std.specs.List.{flat_map};
+ghost use Rattle.wit_reader.specs.Fronts.{IsReadBehind};
+ghost use Rattle.wit_tree.specs.Marks.{named, front_marks, func_marks, resource_func_marks, defined_marks};
+ghost use Rattle.wit_reader.specs.Reading.{IsRead, IsReadOn, IsRefused};
+
+use crate::function::{read_closed_func, read_signature};
+use wit_lex::kind::Kind;
+use wit_lex::word::Word;
+use wit_reader::front::Front;
+use wit_reader::holding::push;
+use wit_reader::reader::Reader;
+use wit_tree::ParseResult;
+use wit_tree::tree::{Func, Id, NamedFunc, ResourceFunc, TypeBody};
+
+/// The function of a resource, with this name.
+fn resource_func<'a>(
+    is_static: bool,
+    front: Front<'a>,
+    name: Id<'a>,
+    func: Func<'a>,
+) -> ResourceFunc<'a>
+    ensures { resource_func_marks result ≡ front_marks front.entry.docs front.entry.attributes.items ++ named name.entry ∷ func_marks func.entry }
+{
+    let named = NamedFunc {
+        docs: front.docs,
+        attributes: front.attributes,
+        name,
+        func,
+    };
+    if is_static {
+        ResourceFunc::Static(named)
+    } else {
+        ResourceFunc::Method(named)
+    }
+}
+
+/// Reads `constructor(..);`, perhaps with the type of what it returns.
+fn read_constructor<'a>(reader: &mut Reader<'a>, front: Front<'a>) -> ParseResult<ResourceFunc<'a>>
+    ensures read { IfOk result (λ f. IsReadBehind reader.old (front_marks front.entry.docs front.entry.attributes.items) (resource_func_marks f) reader.new) }
+    ensures refused { IfErr result (λ e. IsRefused reader.old e) }
+{
+    let span = reader.read_word(Word::Constructor)?;
+    let signature = read_signature(reader)?;
+    let closed = reader.closed(signature, Kind::Semicolon)?;
+    Ok(ResourceFunc::Constructor {
+        docs: front.docs,
+        attributes: front.attributes,
+        span,
+        params: closed.0,
+        result: closed.1,
+    })
+}
+
+/// Goes past `static`, where it stands, and tells whether it does.
+fn skip_static(reader: &mut Reader<'_>) -> ParseResult<bool>
+    ensures read { IfOk result (λ _. IsReadOn reader.old [] reader.new) }
+    ensures refused { IfErr result (λ e. IsRefused reader.old e) }
+{
+    if !reader.at_word(Word::Static) {
+        return Ok(false);
+    }
+    reader.bump()?;
+    Ok(true)
+}
+
+/// Reads `name: function;`, perhaps with `static` in front of the function.
+fn read_member<'a>(reader: &mut Reader<'a>, front: Front<'a>) -> ParseResult<ResourceFunc<'a>>
+    ensures read { IfOk result (λ f. IsReadBehind reader.old (front_marks front.entry.docs front.entry.attributes.items) (resource_func_marks f) reader.new) }
+    ensures refused { IfErr result (λ e. IsRefused reader.old e) }
+{
+    let name = reader.read_label()?;
+    let is_static = skip_static(reader)?;
+    let func = read_closed_func(reader)?;
+    Ok(resource_func(is_static, front, name, func))
+}
+
+/// Reads a function of a resource.
+fn read_resource_func<'a>(reader: &mut Reader<'a>) -> ParseResult<ResourceFunc<'a>>
+    ensures read { IfOk result (λ f. IsRead reader.old (resource_func_marks f) reader.new) }
+    ensures refused { IfErr result (λ e. IsRefused reader.old e) }
+{
+    let front = reader.read_front()?;
+    if reader.at_word(Word::Constructor) {
+        let constructor = read_constructor(reader, front)?;
+        return Ok(constructor);
+    }
+    let member = read_member(reader, front)?;
+    Ok(member)
+}
+
+/// Reads the functions of a resource in braces.
+fn read_resource_funcs<'a>(reader: &mut Reader<'a>) -> ParseResult<Vec<ResourceFunc<'a>>>
+    ensures read { IfOk result (λ fs. IsRead reader.old (flat_map resource_func_marks fs.items) reader.new) }
+    ensures refused { IfErr result (λ e. IsRefused reader.old e) }
+{
+    reader.expect(Kind::OpenBrace)?;
+    let mut funcs = Vec::new(reader.alloc);
+    'funcs: while !reader.at(Kind::CloseBrace) {
+        let func = read_resource_func(reader)?;
+        push(&mut funcs, func)?;
+    }
+    reader.bump()?;
+    Ok(funcs)
+}
+
+/// Reads `;`, or functions in braces.
+fn read_resource_body<'a>(reader: &mut Reader<'a>) -> ParseResult<Vec<ResourceFunc<'a>>>
+    ensures read { IfOk result (λ fs. IsRead reader.old (flat_map resource_func_marks fs.items) reader.new) }
+    ensures refused { IfErr result (λ e. IsRefused reader.old e) }
+{
+    if reader.at(Kind::Semicolon) {
+        reader.bump()?;
+        return Ok(Vec::new(reader.alloc));
+    }
+    read_resource_funcs(reader)
+}
+
+/// Reads `resource name;` or `resource name { .. }`.
+pub fn read_resource<'a>(reader: &mut Reader<'a>) -> ParseResult<(Id<'a>, TypeBody<'a>)>
+    ensures read { IfOk result (λ d. IsRead reader.old (defined_marks d.0 d.1) reader.new) }
+    ensures refused { IfErr result (λ e. IsRefused reader.old e) }
+{
+    reader.expect_word(Word::Resource)?;
+    let name = reader.read_id()?;
+    let funcs = read_resource_body(reader)?;
+    Ok((name, TypeBody::Resource { funcs }))
+}

@@ -1,0 +1,4 @@
+pub mod Fronts
+pub mod Rises
+pub mod Parts
+pub mod Headers

@@ -1,0 +1,10 @@
+use Rattle.std.proofs.Common.{refl}
+use Rattle.wit_reader.proofs.Parts.{then}
+use Rattle.wit_reader.proofs.reader.Reader.read_deprecated.Goals as goal
+
+pub returns-clause-read : goal.returns-clause-read
+returns-clause-read c = record {
+  marks = _;
+  whole = rw (c.joined.ensures.start, c.joined.ensures.end) refl;
+  read = then c.in_ok-expect_text.ensures.read c.in_ok-version.ensures.read;
+}

@@ -1,0 +1,4 @@
+pub mod Attributes
+pub mod Fronts
+pub mod Headers
+pub mod Reading

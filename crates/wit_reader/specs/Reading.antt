@@ -1,0 +1,24 @@
+-- How a reader goes on.
+use Rattle.std.specs.Prelude.{◌≡◌, ◌+◌, ◌<◌, ◌≤◌, List}
+use Rattle.wit_tree.specs.declared.error.ParseError.{ParseError}
+use Rattle.wit_tree.specs.Marks.{Mark}
+use Rattle.wit_tree.specs.Slices.{Rise}
+use Rattle.wit_reader.specs.declared.reader.Reader.{Reader}
+use Rattle.wit_lex.specs.Faults.{IsRefusal}
+
+-- at least one token was read, and what was made of it has these marks
+pub record IsRead (old : Reader) (marks : List Mark) (new : Reader) : Type 0 where
+  pub source : new.source ≡ old.source
+  pub offset : new.offset ≡ old.offset
+  pub onward : old.before < new.before
+  pub rise : Rise old.source.now old.offset (old.offset + old.before) marks (old.offset + new.before)
+
+-- the same where perhaps no token was read
+pub record IsReadOn (old : Reader) (marks : List Mark) (new : Reader) : Type 0 where
+  pub source : new.source ≡ old.source
+  pub offset : new.offset ≡ old.offset
+  pub rise : Rise old.source.now old.offset (old.offset + old.before) marks (old.offset + new.before)
+
+-- the source cannot be read
+abbrev pub IsRefused : Reader → ParseError → Type 0
+IsRefused reader e = IsRefusal reader.source.now reader.offset e

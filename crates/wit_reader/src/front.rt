@@ -1,0 +1,60 @@
+//! Reading what stands in front of items.
+ghost use Rattle.std.specs.Prelude.{◌≡◌, ◌+◌, [], ◌∷◌, IfOk, IfErr};
+ghost use Rattle.wit_tree.specs.Marks.{documented, attributes_marks, front_marks};
+
+use crate::holding::push;
+use crate::reader::Reader;
+use wit_lex::docs::docs_behind;
+use wit_lex::kind::Kind;
+use wit_lex::token::next_token;
+use wit_tree::ParseResult;
+use wit_tree::tree::{Attribute, Docs};
+
+/// What stands in front of an item.
+#[derive(Drop)]
+pub struct Front<'a> {
+    pub docs: Docs<'a>,
+    pub attributes: Vec<Attribute<'a>>,
+}
+
+impl<'a> Reader<'a> {
+    ghost use Rattle.wit_reader.specs.Reading.{IsRead, IsReadOn, IsRefused};
+
+    /// Reads the docs in front of the token, which is taken anew where it does not begin at their end.
+    pub fn read_docs(&mut self) -> ParseResult<Docs<'a>>
+        ensures read { IfOk result (λ docs. IsReadOn self.old (documented docs ∷ []) self.new) }
+        ensures refused { IfErr result (λ e. IsRefused self.old e) }
+    {
+        let (docs, end) = docs_behind(self.alloc, self.source, self.offset, self.before)?;
+        if end == self.token.start {
+            self.before = end;
+            return Ok(docs);
+        }
+        self.token = next_token(self.alloc, self.source, self.offset, end)?;
+        self.before = end;
+        Ok(docs)
+    }
+
+    /// Reads attributes.
+    fn read_attributes(&mut self) -> ParseResult<Vec<Attribute<'a>>>
+        ensures read { IfOk result (λ list. IsReadOn self.old (attributes_marks list.items) self.new) }
+        ensures refused { IfErr result (λ e. IsRefused self.old e) }
+    {
+        let mut attributes = Vec::new(self.alloc);
+        'attributes: while self.at(Kind::At) {
+            let attribute = self.read_attribute()?;
+            push(&mut attributes, attribute)?;
+        }
+        Ok(attributes)
+    }
+
+    /// Reads docs, and attributes behind them.
+    pub fn read_front(&mut self) -> ParseResult<Front<'a>>
+        ensures read { IfOk result (λ front. IsReadOn self.old (front_marks front.docs front.attributes.items) self.new) }
+        ensures refused { IfErr result (λ e. IsRefused self.old e) }
+    {
+        let docs = self.read_docs()?;
+        let attributes = self.read_attributes()?;
+        Ok(Front { docs, attributes })
+    }
+}

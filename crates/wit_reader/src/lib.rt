@@ -1,0 +1,14 @@
+//! The reader: it goes through the tokens of a source, and reads what stands in items of every sort:
+//! types, paths, versions, docs and attributes.
+#![tactic(auto)]
+
+pub mod attribute;
+pub mod front;
+mod handle;
+pub mod holding;
+pub mod list;
+mod primitive;
+pub mod reader;
+pub mod types;
+pub mod uses;
+pub mod version;

@@ -1,0 +1,176 @@
+//! A reader goes through the tokens of a source, one after the other.
+ghost use Rattle.std.specs.Prelude.{◌≡◌, ◌+◌, ◌<◌, ◌≤◌, ◌^◌, [], ◌∷◌, length, IfOk, OnOk, IfErr, IsTrue};
+ghost use Rattle.wit_tree.specs.Marks.{named, spelled, told};
+ghost use Rattle.wit_lex.specs.Tokens.{IsToken};
+ghost use Rattle.wit_lex.specs.Words.{word_text};
+
+use std::alloc::Global;
+use wit_lex::fault::{ReadFault, refusal, span_at};
+use wit_lex::kind::Kind;
+use wit_lex::scan::without_escape;
+use wit_lex::token::{Token, next_token};
+use wit_lex::word::Word;
+use wit_tree::tree::Id;
+use wit_tree::{ParseError, ParseResult, Span};
+
+/// A source whose first byte has the place `offset`, and its first token that is not read yet, with
+/// the blanks and comments in front of it.
+///
+/// What each token goes through is inlined: a result with a refusal in it is large, and would be
+/// passed on from one method to the next.
+#[derive(Drop)]
+pub struct Reader<'a> {
+    pub alloc: Global,
+    pub source: &'a str,
+    pub offset: u32,
+    /// Where the blanks in front of the token begin.
+    pub before: usize,
+    pub token: Token<'a>,
+    pub ghost front: { before ≤ token.start },
+    pub ghost fits: { offset + length source.now < 2 ^ 32 },
+    pub ghost within: { IsToken source.now token },
+}
+
+impl<'a> Reader<'a> {
+    ghost use Rattle.wit_reader.specs.Reading.{IsRead, IsRefused};
+
+    /// The token's span.
+    pub fn span(&self) -> Span
+        ensures start { result.start ≡ self.now.offset + self.now.token.start }
+        ensures end { result.end ≡ self.now.offset + self.now.token.end }
+    {
+        span_at(self.offset, self.token.start, self.token.end)
+    }
+
+    /// The refusal of the token.
+    pub fn refuse(&self, fault: ReadFault) -> ParseError
+        ensures { IsRefused self.now result }
+    {
+        refusal(
+            self.alloc,
+            self.source,
+            self.offset,
+            fault,
+            self.token.start,
+            self.token.end,
+        )
+    }
+
+    /// Whether the token is of this kind.
+    pub fn at(&self, kind: Kind) -> bool {
+        self.token.kind == kind
+    }
+
+    /// Whether the token is this word of the grammar.
+    pub fn at_word(&self, word: Word) -> bool
+        ensures { IsTrue result → self.now.token.text.now ≡ word_text word }
+    {
+        match self.token.kind {
+            Kind::Word(found) => found == word,
+            _ => false,
+        }
+    }
+
+    /// Goes past the token.
+    #[inline(always)]
+    pub fn bump(&mut self) -> ParseResult<()>
+        ensures past { OnOk result (self.old.token.end ≤ self.new.before) }
+        ensures read { OnOk result (IsRead self.old [] self.new) }
+        ensures refused { IfErr result (λ e. IsRefused self.old e) }
+    {
+        if self.token.start == self.token.end {
+            return Err(self.refuse(ReadFault::Token));
+        }
+        let end = self.token.end;
+        self.token = next_token(self.alloc, self.source, self.offset, end)?;
+        self.before = end;
+        Ok(())
+    }
+
+    /// Goes past a token of this kind.
+    #[inline(always)]
+    pub fn expect(&mut self, kind: Kind) -> ParseResult<()>
+        ensures read { OnOk result (IsRead self.old [] self.new) }
+        ensures refused { IfErr result (λ e. IsRefused self.old e) }
+    {
+        if !self.at(kind) {
+            return Err(self.refuse(ReadFault::Token));
+        }
+        self.bump()
+    }
+
+    /// Goes past a word of the grammar.
+    #[inline(always)]
+    pub fn expect_word(&mut self, word: Word) -> ParseResult<()>
+        ensures word { OnOk result (self.old.token.text.now ≡ word_text word) }
+        ensures past { OnOk result (self.old.token.end ≤ self.new.before) }
+        ensures read { OnOk result (IsRead self.old [] self.new) }
+        ensures refused { IfErr result (λ e. IsRefused self.old e) }
+    {
+        if !self.at_word(word) {
+            return Err(self.refuse(ReadFault::Token));
+        }
+        self.bump()
+    }
+
+    /// Goes past a word of the grammar, and tells where it stands.
+    #[inline(always)]
+    pub fn read_word(&mut self, word: Word) -> ParseResult<Span>
+        ensures read { IfOk result (λ span. IsRead self.old (spelled span (word_text word) ∷ []) self.new) }
+        ensures refused { IfErr result (λ e. IsRefused self.old e) }
+    {
+        let span = self.span();
+        self.expect_word(word)?;
+        Ok(span)
+    }
+
+    /// Goes past a token of this text, and tells where it stands.
+    pub fn read_text(&mut self, text: &str) -> ParseResult<Span>
+        ensures read { IfOk result (λ span. IsRead self.old (spelled span text.now ∷ []) self.new) }
+        ensures refused { IfErr result (λ e. IsRefused self.old e) }
+    {
+        if self.token.text != text {
+            return Err(self.refuse(ReadFault::Token));
+        }
+        let span = self.span();
+        self.bump()?;
+        Ok(span)
+    }
+
+    /// Goes past a token of this text.
+    pub fn expect_text(&mut self, text: &str) -> ParseResult<()>
+        ensures read { OnOk result (IsRead self.old (told text.now ∷ []) self.new) }
+        ensures refused { IfErr result (λ e. IsRefused self.old e) }
+    {
+        self.read_text(text)?;
+        Ok(())
+    }
+
+    /// Reads a name.
+    #[inline(always)]
+    pub fn read_id(&mut self) -> ParseResult<Id<'a>>
+        ensures read { IfOk result (λ id. IsRead self.old (named id ∷ []) self.new) }
+        ensures refused { IfErr result (λ e. IsRefused self.old e) }
+    {
+        if !self.at(Kind::Name) {
+            return Err(self.refuse(ReadFault::Token));
+        }
+        match Id::new(without_escape(self.token.text), self.span()) {
+            Some(id) => {
+                self.bump()?;
+                Ok(id)
+            }
+            None => Err(self.refuse(ReadFault::Token)),
+        }
+    }
+
+    /// Reads a name and the `:` behind it.
+    pub fn read_label(&mut self) -> ParseResult<Id<'a>>
+        ensures read { IfOk result (λ id. IsRead self.old (named id ∷ []) self.new) }
+        ensures refused { IfErr result (λ e. IsRefused self.old e) }
+    {
+        let id = self.read_id()?;
+        self.expect(Kind::Colon)?;
+        Ok(id)
+    }
+}

@@ -1,0 +1,345 @@
+//! Reading types.
+ghost use Rattle.std.specs.Prelude.{◌≡◌, ◌+◌, [], ◌∷◌, ◌++◌, IfOk, IfErr, IfSome, codes};
+ghost use Rattle.std.specs.List.{flat_map};
+ghost use Rattle.wit_values.specs.declared.span.Span.{Span as TheSpan};
+ghost use Rattle.wit_tree.specs.Marks.{spelled, counted, type_marks, boxed_marks, size_marks};
+
+use crate::holding::push;
+use crate::primitive::primitive;
+use crate::reader::Reader;
+use wit_lex::fault::ReadFault;
+use wit_lex::kind::Kind;
+use wit_lex::word::Word;
+use wit_tree::tree::Type;
+use wit_tree::{ParseError, ParseResult, Span};
+use wit_values::beside;
+
+/// How many levels of types are read.
+pub const MOST_NESTED: u8 = 100;
+
+/// Whether a word begins a type.
+fn begins_type(word: Word) -> bool {
+    matches!(
+        word,
+        Word::Bool
+            | Word::U8
+            | Word::U16
+            | Word::U32
+            | Word::U64
+            | Word::S8
+            | Word::S16
+            | Word::S32
+            | Word::S64
+            | Word::F32
+            | Word::F64
+            | Word::Char
+            | Word::String
+            | Word::ErrorContext
+            | Word::List
+            | Word::Map
+            | Word::Option
+            | Word::Result
+            | Word::Tuple
+            | Word::Future
+            | Word::Stream
+            | Word::Own
+            | Word::Borrow
+    )
+}
+
+/// The list of these items, of a fixed length where one was found.
+fn list<'a>(span: Span, item: Box<Type<'a>>, size: Option<u32>) -> Type<'a>
+    ensures { type_marks result ≡ spelled span (codes "list") ∷ (type_marks item.entry.value ++ size_marks size) }
+{
+    match size {
+        Some(size) => Type::FixedLengthList(span, item, size),
+        None => Type::List(span, item),
+    }
+}
+
+impl<'a> Reader<'a> {
+    ghost use Rattle.wit_reader.specs.Reading.{IsRead, IsReadOn, IsRefused};
+
+    /// Whether a type begins with the token.
+    fn begins_type(&self) -> bool {
+        match self.token.kind {
+            Kind::Name => true,
+            Kind::Word(word) => begins_type(word),
+            _ => false,
+        }
+    }
+
+    /// The refusal of the token where no further level of types is read.
+    fn refuse_deeper(&self) -> ParseError
+        ensures { IsRefused self.now result }
+    {
+        if self.begins_type() {
+            self.refuse(ReadFault::Nesting)
+        } else {
+            self.refuse(ReadFault::Token)
+        }
+    }
+
+    /// The primitive type that the token is.
+    fn primitive(&self) -> Option<Type<'a>>
+        ensures { IfSome result (λ t. (span : TheSpan) × (type_marks t ≡ spelled span self.now.token.text.now ∷ [])
+            × (span.start ≡ self.now.offset + self.now.token.start) × (span.end ≡ self.now.offset + self.now.token.end)) }
+    {
+        match self.token.kind {
+            Kind::Word(word) => primitive(word, self.span()),
+            _ => None,
+        }
+    }
+
+    /// Reads the word of a primitive type.
+    fn read_primitive(&mut self) -> ParseResult<Type<'a>>
+        ensures read { IfOk result (λ t. IsRead self.old (type_marks t) self.new) }
+        ensures refused { IfErr result (λ e. IsRefused self.old e) }
+    {
+        match self.primitive() {
+            Some(ty) => {
+                let (ty, _) = beside(ty, self.bump())?;
+                Ok(ty)
+            }
+            None => Err(self.refuse(ReadFault::Token)),
+        }
+    }
+
+    /// Reads a number of 32 bits.
+    fn read_number(&mut self) -> ParseResult<u32>
+        ensures read { IfOk result (λ n. IsRead self.old (counted n ∷ []) self.new) }
+        ensures refused { IfErr result (λ e. IsRefused self.old e) }
+    {
+        if !self.at(Kind::Number) {
+            return Err(self.refuse(ReadFault::Token));
+        }
+        match self.token.text.parse::<u32>() {
+            Ok(number) => {
+                self.bump()?;
+                Ok(number)
+            }
+            Err(_) => Err(self.refuse(ReadFault::Number)),
+        }
+    }
+
+    /// Reads `>`, perhaps with `,` and a number in front of it.
+    fn read_size(&mut self) -> ParseResult<Option<u32>>
+        ensures read { IfOk result (λ size. IsRead self.old (size_marks size) self.new) }
+        ensures refused { IfErr result (λ e. IsRefused self.old e) }
+    {
+        if !self.at(Kind::Comma) {
+            self.expect(Kind::CloseAngle)?;
+            return Ok(None);
+        }
+        self.bump()?;
+        let size = self.read_number()?;
+        self.expect(Kind::CloseAngle)?;
+        Ok(Some(size))
+    }
+
+    /// Reads a type and the token of a kind behind it.
+    pub fn read_closed_type(&mut self, close: Kind) -> ParseResult<Type<'a>>
+        ensures read { IfOk result (λ t. IsRead self.old (type_marks t) self.new) }
+        ensures refused { IfErr result (λ e. IsRefused self.old e) }
+    {
+        let ty = self.read_type(MOST_NESTED)?;
+        let closed = self.closed(ty, close)?;
+        Ok(closed)
+    }
+
+    /// Reads a type of at most `left` levels.
+    #[cycle(types)]
+    pub fn read_type(&mut self, left: u8) -> ParseResult<Type<'a>>
+        ensures read { IfOk result (λ t. IsRead self.old (type_marks t) self.new) }
+        ensures refused { IfErr result (λ e. IsRefused self.old e) }
+    {
+        if left == 0 {
+            return Err(self.refuse_deeper());
+        }
+        match self.token.kind {
+            Kind::Word(Word::List) => self.read_list(left - 1),
+            Kind::Word(Word::Map) => self.read_map(left - 1),
+            Kind::Word(Word::Option) => self.read_option(left - 1),
+            Kind::Word(Word::Result) => self.read_result(left - 1),
+            Kind::Word(Word::Tuple) => self.read_tuple(left - 1),
+            Kind::Word(Word::Future) => self.read_future(left - 1),
+            Kind::Word(Word::Stream) => self.read_stream(left - 1),
+            Kind::Word(Word::Own) => self.read_own(),
+            Kind::Word(Word::Borrow) => self.read_borrow(),
+            Kind::Word(_) => self.read_primitive(),
+            _ => {
+                let id = self.read_id()?;
+                Ok(Type::Name(id))
+            }
+        }
+    }
+
+    /// Reads `list<type>`, perhaps with a number of items.
+    #[cycle(types)]
+    fn read_list(&mut self, left: u8) -> ParseResult<Type<'a>>
+        ensures read { IfOk result (λ t. IsRead self.old (type_marks t) self.new) }
+        ensures refused { IfErr result (λ e. IsRefused self.old e) }
+    {
+        let span = self.read_word(Word::List)?;
+        self.expect(Kind::OpenAngle)?;
+        let boxed = self.read_boxed(left)?;
+        let (item, size) = beside(boxed, self.read_size())?;
+        Ok(list(span, item, size))
+    }
+
+    /// Reads `map<type, type>`.
+    #[cycle(types)]
+    fn read_map(&mut self, left: u8) -> ParseResult<Type<'a>>
+        ensures read { IfOk result (λ t. IsRead self.old (type_marks t) self.new) }
+        ensures refused { IfErr result (λ e. IsRefused self.old e) }
+    {
+        let span = self.read_word(Word::Map)?;
+        self.expect(Kind::OpenAngle)?;
+        let first = self.read_boxed_before(left, Kind::Comma)?;
+        let (key, value) = beside(first, self.read_boxed_before(left, Kind::CloseAngle))?;
+        Ok(Type::Map(span, key, value))
+    }
+
+    /// Reads `option<type>`.
+    #[cycle(types)]
+    fn read_option(&mut self, left: u8) -> ParseResult<Type<'a>>
+        ensures read { IfOk result (λ t. IsRead self.old (type_marks t) self.new) }
+        ensures refused { IfErr result (λ e. IsRefused self.old e) }
+    {
+        let span = self.read_word(Word::Option)?;
+        self.expect(Kind::OpenAngle)?;
+        let value = self.read_boxed_before(left, Kind::CloseAngle)?;
+        Ok(Type::Option(span, value))
+    }
+
+    /// Reads `result`, perhaps with the types of the value and of the error.
+    #[cycle(types)]
+    fn read_result(&mut self, left: u8) -> ParseResult<Type<'a>>
+        ensures read { IfOk result (λ t. IsRead self.old (type_marks t) self.new) }
+        ensures refused { IfErr result (λ e. IsRefused self.old e) }
+    {
+        let span = self.read_word(Word::Result)?;
+        if !self.at(Kind::OpenAngle) {
+            return Ok(Type::Result(span, None, None));
+        }
+        self.bump()?;
+        let first = self.read_ok(left)?;
+        let needed = first.is_none();
+        let (ok, err) = beside(first, self.read_err(left, needed))?;
+        Ok(Type::Result(span, ok, err))
+    }
+
+    /// Reads the type of the value of a result, or `_`.
+    #[cycle(types)]
+    fn read_ok(&mut self, left: u8) -> ParseResult<Option<Box<Type<'a>>>>
+        ensures read { IfOk result (λ t. IsRead self.old (boxed_marks t) self.new) }
+        ensures refused { IfErr result (λ e. IsRefused self.old e) }
+    {
+        if self.at(Kind::Underscore) {
+            self.bump()?;
+            return Ok(None);
+        }
+        let ok = self.read_boxed(left)?;
+        Ok(Some(ok))
+    }
+
+    /// Reads `>`, with `,` and the type of the error of a result in front of it, where there is one
+    /// or has to be.
+    #[cycle(types)]
+    fn read_err(&mut self, left: u8, needed: bool) -> ParseResult<Option<Box<Type<'a>>>>
+        ensures read { IfOk result (λ t. IsRead self.old (boxed_marks t) self.new) }
+        ensures refused { IfErr result (λ e. IsRefused self.old e) }
+    {
+        if !needed && !self.at(Kind::Comma) {
+            self.expect(Kind::CloseAngle)?;
+            return Ok(None);
+        }
+        self.expect(Kind::Comma)?;
+        let err = self.read_boxed_before(left, Kind::CloseAngle)?;
+        Ok(Some(err))
+    }
+
+    /// Reads `tuple<type, ..>`.
+    #[cycle(types)]
+    fn read_tuple(&mut self, left: u8) -> ParseResult<Type<'a>>
+        ensures read { IfOk result (λ t. IsRead self.old (type_marks t) self.new) }
+        ensures refused { IfErr result (λ e. IsRefused self.old e) }
+    {
+        let span = self.read_word(Word::Tuple)?;
+        let types = self.read_types(left)?;
+        Ok(Type::Tuple(span, types))
+    }
+
+    /// Reads types in angles.
+    #[cycle(types)]
+    fn read_types(&mut self, left: u8) -> ParseResult<Vec<Type<'a>>>
+        ensures read { IfOk result (λ ts. IsRead self.old (flat_map type_marks ts.items) self.new) }
+        ensures refused { IfErr result (λ e. IsRefused self.old e) }
+    {
+        let mut more = self.open_list(Kind::OpenAngle, Kind::CloseAngle)?;
+        let mut types = Vec::new(self.alloc);
+        'types: while more {
+            let ty = self.read_type(left)?;
+            push(&mut types, ty)?;
+            more = self.next_in_list(Kind::CloseAngle)?;
+        }
+        Ok(types)
+    }
+
+    /// Reads `future`, perhaps with the type of its value.
+    #[cycle(types)]
+    fn read_future(&mut self, left: u8) -> ParseResult<Type<'a>>
+        ensures read { IfOk result (λ t. IsRead self.old (type_marks t) self.new) }
+        ensures refused { IfErr result (λ e. IsRefused self.old e) }
+    {
+        let span = self.read_word(Word::Future)?;
+        let value = self.read_payload(left)?;
+        Ok(Type::Future(span, value))
+    }
+
+    /// Reads `stream`, perhaps with the type of its items.
+    #[cycle(types)]
+    fn read_stream(&mut self, left: u8) -> ParseResult<Type<'a>>
+        ensures read { IfOk result (λ t. IsRead self.old (type_marks t) self.new) }
+        ensures refused { IfErr result (λ e. IsRefused self.old e) }
+    {
+        let span = self.read_word(Word::Stream)?;
+        let item = self.read_payload(left)?;
+        Ok(Type::Stream(span, item))
+    }
+
+    /// Reads a type in angles, where there is one.
+    #[cycle(types)]
+    fn read_payload(&mut self, left: u8) -> ParseResult<Option<Box<Type<'a>>>>
+        ensures read { IfOk result (λ t. IsReadOn self.old (boxed_marks t) self.new) }
+        ensures refused { IfErr result (λ e. IsRefused self.old e) }
+    {
+        if !self.at(Kind::OpenAngle) {
+            return Ok(None);
+        }
+        self.bump()?;
+        let payload = self.read_boxed_before(left, Kind::CloseAngle)?;
+        Ok(Some(payload))
+    }
+
+    /// Reads a type and the token of a kind behind it, and boxes the type.
+    #[cycle(types)]
+    fn read_boxed_before(&mut self, left: u8, close: Kind) -> ParseResult<Box<Type<'a>>>
+        ensures read { IfOk result (λ t. IsRead self.old (type_marks t.value) self.new) }
+        ensures refused { IfErr result (λ e. IsRefused self.old e) }
+    {
+        let boxed = self.read_boxed(left)?;
+        let closed = self.closed(boxed, close)?;
+        Ok(closed)
+    }
+
+    /// Reads a type, and boxes it.
+    #[cycle(types)]
+    fn read_boxed(&mut self, left: u8) -> ParseResult<Box<Type<'a>>>
+        ensures read { IfOk result (λ t. IsRead self.old (type_marks t.value) self.new) }
+        ensures refused { IfErr result (λ e. IsRefused self.old e) }
+    {
+        let ty = self.read_type(left)?;
+        Ok(Box::new(self.alloc, ty)?)
+    }
+}

@@ -1,0 +1,189 @@
+//! Reading paths, what an interface or a world uses, and other names for items.
+ghost use Rattle.std.specs.Prelude.{◌≡◌, ◌+◌, [], ◌∷◌, IfOk, IfErr};
+ghost use Rattle.std.specs.List.{flat_map};
+ghost use Rattle.wit_tree.specs.Marks.{named, attributes_marks, path_marks, local_marks, used_marks, use_marks, toplevel_marks};
+ghost use Rattle.wit_tree.specs.Slices.{IsJoined};
+ghost use Rattle.wit_reader.specs.Fronts.{Completes, IsReadBehind};
+ghost use Rattle.wit_reader.specs.Headers.{found_version};
+
+use crate::holding::push;
+use crate::reader::Reader;
+use semver::Version;
+use wit_lex::kind::Kind;
+use wit_lex::word::Word;
+use wit_tree::tree::{Attribute, Docs, Id, PackageName, ToplevelUse, Use, UseName, UsePath};
+use wit_tree::{ParseResult, Span};
+use wit_values::beside;
+
+/// The package that a path names, with the version that was found behind the item's name.
+fn path_package<'a>(
+    docs: Docs<'a>,
+    namespace: Id<'a>,
+    name: Id<'a>,
+    found: Option<(Span, Version)>,
+) -> PackageName<'a>
+    ensures docs { result.docs ≡ docs.entry }
+    ensures namespace { result.namespace ≡ namespace.entry }
+    ensures name { result.name ≡ name.entry }
+    ensures span { IsJoined result.span namespace.entry.span name.entry.span }
+    ensures version { result.version ≡ found_version found }
+{
+    let version = match found {
+        Some((_, version)) => Some(version),
+        None => None,
+    };
+    let span = Span {
+        start: namespace.span.start,
+        end: name.span.end,
+    };
+    PackageName {
+        docs,
+        span,
+        namespace,
+        name,
+        version,
+    }
+}
+
+/// The used name, with the local name that was found behind it.
+fn used_name<'a>(name: Id<'a>, local: Option<Id<'a>>) -> UseName<'a>
+    ensures { used_marks result ≡ named name.entry ∷ local_marks local.entry }
+{
+    UseName { name, as_: local }
+}
+
+impl<'a> Reader<'a> {
+    ghost use Rattle.wit_reader.specs.Reading.{IsRead, IsReadOn, IsRefused};
+
+    /// Reads the rest of a path with a package behind the two names of that: `/name`, and perhaps a
+    /// version.
+    pub fn read_item_path(&mut self, first: Id<'a>, second: Id<'a>) -> ParseResult<UsePath<'a>>
+        ensures read { IfOk result (λ path. Completes self.old (named first.entry ∷ named second.entry ∷ []) (path_marks path) self.new) }
+        ensures refused { IfErr result (λ e. IsRefused self.old e) }
+    {
+        self.expect(Kind::Slash)?;
+        let name = self.read_id()?;
+        let found = self.read_at_version()?;
+        let docs = Docs::none(self.alloc);
+        let id = path_package(docs, first, second, found);
+        Ok(UsePath::Package { id, name })
+    }
+
+    /// Reads the rest of a path behind its first name: nothing, or `:name/name` with perhaps a
+    /// version.
+    pub fn read_rest_of_path(&mut self, first: Id<'a>) -> ParseResult<UsePath<'a>>
+        ensures read { IfOk result (λ path. Completes self.old (named first.entry ∷ []) (path_marks path) self.new) }
+        ensures refused { IfErr result (λ e. IsRefused self.old e) }
+    {
+        if !self.at(Kind::Colon) {
+            return Ok(UsePath::Id(first));
+        }
+        self.bump()?;
+        let second = self.read_id()?;
+        let path = self.read_item_path(first, second)?;
+        Ok(path)
+    }
+
+    /// Reads a path: a name of the package, or `name:name/name` with perhaps a version behind it.
+    pub fn read_path(&mut self) -> ParseResult<UsePath<'a>>
+        ensures read { IfOk result (λ path. IsRead self.old (path_marks path) self.new) }
+        ensures refused { IfErr result (λ e. IsRefused self.old e) }
+    {
+        let first = self.read_id()?;
+        let path = self.read_rest_of_path(first)?;
+        Ok(path)
+    }
+
+    /// Reads `as` and the local name, where there is one.
+    fn read_local(&mut self) -> ParseResult<Option<Id<'a>>>
+        ensures read { IfOk result (λ local. IsReadOn self.old (local_marks local) self.new) }
+        ensures refused { IfErr result (λ e. IsRefused self.old e) }
+    {
+        if !self.at_word(Word::As) {
+            return Ok(None);
+        }
+        self.bump()?;
+        let local = self.read_id()?;
+        Ok(Some(local))
+    }
+
+    /// Reads a used name, perhaps with a local name behind it.
+    fn read_used(&mut self) -> ParseResult<UseName<'a>>
+        ensures read { IfOk result (λ u. IsRead self.old (used_marks u) self.new) }
+        ensures refused { IfErr result (λ e. IsRefused self.old e) }
+    {
+        let name = self.read_id()?;
+        let local = self.read_local()?;
+        Ok(used_name(name, local))
+    }
+
+    /// Reads used names in braces.
+    fn read_used_names(&mut self) -> ParseResult<Vec<UseName<'a>>>
+        ensures read { IfOk result (λ names. IsRead self.old (flat_map used_marks names.items) self.new) }
+        ensures refused { IfErr result (λ e. IsRefused self.old e) }
+    {
+        let mut more = self.open_list(Kind::OpenBrace, Kind::CloseBrace)?;
+        let mut names = Vec::new(self.alloc);
+        'names: while more {
+            let used = self.read_used()?;
+            push(&mut names, used)?;
+            more = self.next_in_list(Kind::CloseBrace)?;
+        }
+        Ok(names)
+    }
+
+    /// Reads what stands behind the path of a `use`: `.{name, name as name, ..};`.
+    fn read_behind_path(&mut self) -> ParseResult<Vec<UseName<'a>>>
+        ensures read { IfOk result (λ names. IsRead self.old (flat_map used_marks names.items) self.new) }
+        ensures refused { IfErr result (λ e. IsRefused self.old e) }
+    {
+        self.expect(Kind::Dot)?;
+        let names = self.read_used_names()?;
+        self.expect(Kind::Semicolon)?;
+        Ok(names)
+    }
+
+    /// Reads `use path.{name, name as name, ..};`.
+    pub fn read_use(&mut self, attributes: Vec<Attribute<'a>>) -> ParseResult<Use<'a>>
+        ensures read { IfOk result (λ u. IsReadBehind self.old (attributes_marks attributes.entry.items) (use_marks u) self.new) }
+        ensures refused { IfErr result (λ e. IsRefused self.old e) }
+    {
+        self.expect_word(Word::Use)?;
+        let path = self.read_path()?;
+        let (from, names) = beside(path, self.read_behind_path())?;
+        Ok(Use {
+            attributes,
+            from,
+            names,
+        })
+    }
+
+    /// Reads `;`, perhaps with `as` and the local name in front of it.
+    fn read_local_and_close(&mut self) -> ParseResult<Option<Id<'a>>>
+        ensures read { IfOk result (λ local. IsRead self.old (local_marks local) self.new) }
+        ensures refused { IfErr result (λ e. IsRefused self.old e) }
+    {
+        let local = self.read_local()?;
+        self.expect(Kind::Semicolon)?;
+        Ok(local)
+    }
+
+    /// Reads `use path;` or `use path as name;`.
+    pub fn read_toplevel_use(
+        &mut self,
+        attributes: Vec<Attribute<'a>>,
+    ) -> ParseResult<ToplevelUse<'a>>
+        ensures read { IfOk result (λ u. IsReadBehind self.old (attributes_marks attributes.entry.items) (toplevel_marks u) self.new) }
+        ensures refused { IfErr result (λ e. IsRefused self.old e) }
+    {
+        let span = self.read_word(Word::Use)?;
+        let path = self.read_path()?;
+        let (item, local) = beside(path, self.read_local_and_close())?;
+        Ok(ToplevelUse {
+            span,
+            attributes,
+            item,
+            as_: local,
+        })
+    }
+}

@@ -1,5 +1,0 @@
-use Rattle.wit_text.proofs.Fronts.{told_read}
-use Rattle.wit_text.proofs.reader.Reader.expect_text.Goals as goal
-
-pub returns-clause-read : goal.returns-clause-read
-returns-clause-read c = told_read _ _ c.in_ok-read_text.ensures.read

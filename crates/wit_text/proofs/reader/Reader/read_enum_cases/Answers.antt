@@ -1,7 +1,0 @@
-use Rattle.wit_tree.specs.Marks.{enum_case_marks}
-use Rattle.wit_text.proofs.Parts.{close, more}
-use Rattle.wit_text.proofs.reader.Reader.read_enum_cases.Goals as goal
-
-pub cases-preserved : goal.cases-preserved
-cases-preserved c =
-    close (more enum_case_marks c.cases.cases.items c.push.new.self.items c.in_ok-case.case c.in_ok-push.ensures.items c.cases.invariant c.in_ok-case.ensures.read) c.in_ok-more-2.ensures.read

@@ -1,9 +1,0 @@
-use Rattle.wit_tree.specs.Marks.{item_marks}
-use Rattle.wit_text.proofs.Parts.{close, more}
-use Rattle.wit_text.proofs.reader.Reader.read_interface_items.Goals as goal
-
-pub items-preserved : goal.items-preserved
-items-preserved c = more item_marks c.items.items.items c.push.new.self.items _ c.in_ok-push.ensures.items c.items.invariant c.in_ok-item.ensures.read
-
-pub returns-clause-read : goal.returns-clause-read
-returns-clause-read c = close c.items.invariant c.in_ok-bump.ensures.read

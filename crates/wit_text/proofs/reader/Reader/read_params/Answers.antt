@@ -1,7 +1,0 @@
-use Rattle.wit_tree.specs.Marks.{param_marks}
-use Rattle.wit_text.proofs.Parts.{close, more}
-use Rattle.wit_text.proofs.reader.Reader.read_params.Goals as goal
-
-pub params-preserved : goal.params-preserved
-params-preserved c =
-    close (more param_marks c.params.params.items c.push.new.self.items c.in_ok-param.param c.in_ok-push.ensures.items c.params.invariant c.in_ok-param.ensures.read) c.in_ok-more-2.ensures.read

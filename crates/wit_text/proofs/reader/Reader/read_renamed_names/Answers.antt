@@ -1,7 +1,0 @@
-use Rattle.wit_tree.specs.Marks.{renamed_marks}
-use Rattle.wit_text.proofs.Parts.{close, more}
-use Rattle.wit_text.proofs.reader.Reader.read_renamed_names.Goals as goal
-
-pub names-preserved : goal.names-preserved
-names-preserved c =
-    close (more renamed_marks c.names.names.items c.push.new.self.items c.in_ok-renamed.renamed c.in_ok-push.ensures.items c.names.invariant c.in_ok-renamed.ensures.read) c.in_ok-more-2.ensures.read

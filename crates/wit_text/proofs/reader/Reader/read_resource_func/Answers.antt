@@ -1,8 +1,0 @@
-use Rattle.wit_text.proofs.Parts.{fronted}
-use Rattle.wit_text.proofs.reader.Reader.read_resource_func.Goals as goal
-
-pub returns-then-at_word-clause-read : goal.returns-then-at_word-clause-read
-returns-then-at_word-clause-read c = fronted c.in_ok-front.ensures.read c.in_ok-constructor.ensures.read
-
-pub returns-clause-read : goal.returns-clause-read
-returns-clause-read c = fronted c.in_ok-front.ensures.read c.in_ok-member.ensures.read

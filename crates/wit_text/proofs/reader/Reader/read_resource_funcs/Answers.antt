@@ -1,9 +1,0 @@
-use Rattle.wit_tree.specs.Marks.{resource_func_marks}
-use Rattle.wit_text.proofs.Parts.{close, more}
-use Rattle.wit_text.proofs.reader.Reader.read_resource_funcs.Goals as goal
-
-pub funcs-preserved : goal.funcs-preserved
-funcs-preserved c = more resource_func_marks c.funcs.funcs.items c.push.new.self.items _ c.in_ok-push.ensures.items c.funcs.invariant c.in_ok-func.ensures.read
-
-pub returns-clause-read : goal.returns-clause-read
-returns-clause-read c = close c.funcs.invariant c.in_ok-bump.ensures.read

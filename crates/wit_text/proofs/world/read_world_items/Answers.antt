@@ -1,0 +1,9 @@
+use Rattle.wit_tree.specs.Marks.{world_item_marks}
+use Rattle.wit_reader.proofs.Parts.{close, more}
+use Rattle.wit_text.proofs.world.read_world_items.Goals as goal
+
+pub items-preserved : goal.items-preserved
+items-preserved c = more world_item_marks c.items.items.items c.push.new.items.items _ c.in_ok-push.ensures c.items.invariant c.in_ok-item.ensures.read
+
+pub returns-clause-read : goal.returns-clause-read
+returns-clause-read c = close c.items.invariant c.in_ok-bump.ensures.read
