@@ -20,7 +20,7 @@ use Rattle.wit_rules.specs.declared.held.HeldFunction.{HeldFunction}
 use Rattle.wit_rules.specs.Held.{function_behind}
 use Rattle.wit_signatures.specs.Taken.{name_of_function, name_of_id}
 use Rattle.wit_externs.specs.Clash.{DifferOnSides, all_on, names_of_items}
-use Rattle.wit_scopes.specs.declared.scope_name.ScopeName.{ScopeName as HeldName}
+use Rattle.wit_scopes.specs.Held.{Held as HeldName}
 use Rattle.wit_item_entries.specs.Behind.{IsTurn}
 use Rattle.wit_item_entries.specs.Body.{IsHeldBy}
 use Rattle.wit_item_entries.proofs.Behind.{differ_called}

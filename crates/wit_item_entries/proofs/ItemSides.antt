@@ -27,7 +27,7 @@ use Rattle.wit_externs.specs.declared.held.HeldLink.{HeldLink}
 use Rattle.wit_externs.specs.declared.held.HeldInline.{HeldInline}
 use Rattle.wit_externs.specs.declared.held.HeldExtern.{HeldExtern}
 use Rattle.wit_externs.specs.declared.held.HeldExtern.TheVariants as held
-use Rattle.wit_scopes.specs.declared.scope_name.ScopeName.{ScopeName as HeldName}
+use Rattle.wit_scopes.specs.Held.{Held as HeldName}
 use Rattle.wit_item_entries.specs.Behind.{IsTurn}
 use Rattle.wit_item_entries.specs.Body.{IsStandingBy}
 use Rattle.wit_item_entries.proofs.Behind.{differ_called}

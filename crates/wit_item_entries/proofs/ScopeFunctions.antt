@@ -37,7 +37,7 @@ use Rattle.wit_externs.specs.Links.{AreLinksPlaced, IsWrongLink, WrongNotes as N
 use Rattle.wit_externs.specs.declared.held.HeldLink.{HeldLink}
 use Rattle.wit_externs.specs.declared.held.HeldExtern.{HeldExtern}
 use Rattle.wit_externs.specs.declared.held.HeldExtern.TheVariants as held
-use Rattle.wit_scopes.specs.declared.scope_name.ScopeName.{ScopeName as HeldName}
+use Rattle.wit_scopes.specs.Held.{Held as HeldName}
 use Rattle.wit_scopes.specs.Between.{IsOfFunctions, OfFunction}
 use Rattle.wit_item_entries.specs.Between.{AddsTurn}
 use Rattle.wit_item_entries.specs.Behind.{IsTurn, IsWrongFunctions, BrokenFunction, BrokenNames, CrossedNames, HandleOfOther}

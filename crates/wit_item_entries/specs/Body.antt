@@ -19,8 +19,7 @@ use Rattle.wit_externs.specs.declared.held.Led.TheVariants as led
 use Rattle.wit_externs.specs.declared.held.HeldLink.{HeldLink}
 use Rattle.wit_externs.specs.declared.held.HeldExtern.{HeldExtern}
 use Rattle.wit_externs.specs.declared.held.HeldExtern.TheVariants as held
-use Rattle.wit_scopes.specs.Held.{name_behind}
-use Rattle.wit_scopes.specs.declared.scope_name.ScopeName.{ScopeName as HeldName}
+use Rattle.wit_scopes.specs.Held.{name_behind, Held as HeldName}
 
 -- the item is this one, and these are its names
 pub record IsHeldBy (item : Item) (d : Declared) (xs : List HeldName) : Type 0 where

@@ -3,8 +3,7 @@ use Rattle.std.proofs.Common.{◌≡◌, List, [], ◌∷◌, ◌++◌, inl, inr
 use Rattle.wit_syntax.specs.Address.{Address}
 use Rattle.wit_syntax.proofs.Lists.{at_either}
 use Rattle.wit_scopes.specs.declared.scope_name.UsedName.{UsedName}
-use Rattle.wit_scopes.specs.declared.scope_name.ScopeName.{ScopeName as Held}
-use Rattle.wit_scopes.specs.Held.{IsPlaced, ArePlaced}
+use Rattle.wit_scopes.specs.Held.{Held, IsPlaced, ArePlaced}
 use Rattle.wit_scopes.specs.Front.{IsNamePlaced, AreNamesPlaced}
 
 -- one name more

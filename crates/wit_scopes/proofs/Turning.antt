@@ -24,9 +24,8 @@ use Rattle.wit_syntax.proofs.Turns.{AreOwn, used_is, used_has, defined_at, defin
 use Rattle.wit_arena.proofs.Scoping.{needed_earlier}
 use Rattle.wit_syntax.proofs.Found.{at_contains, contains_at}
 use Rattle.wit_syntax.proofs.Legal.{no_missing_edge, no_cyclic_edge}
-use Rattle.wit_scopes.specs.declared.scope_name.ScopeName.{ScopeName as Held}
-use Rattle.wit_scopes.specs.declared.scope_name.ScopeName.TheVariants as held
-use Rattle.wit_scopes.specs.Held.{name_behind}
+use Rattle.wit_scopes.specs.Held.{Held, name_behind}
+use Rattle.wit_scopes.specs.declared.scope_name.Named.TheVariants as held
 use Rattle.wit_scopes.specs.Between.{AreOrdered, AreInTurn, IsBrokenAmong, IsRepeatedId, OfFunction, IsOfFunctions}
 
 -- what stands at the first n places

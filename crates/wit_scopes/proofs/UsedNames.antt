@@ -15,8 +15,7 @@ use Rattle.wit_syntax.specs.Function.{SourceFunction}
 use Rattle.wit_syntax.specs.Bodies.{IsRepeated}
 use Rattle.wit_syntax.specs.Broken.{DefinedTwice}
 use Rattle.wit_arena.specs.Resolving.{Names, Cell, env_of, IsFound, IsWrongName, Unstated, OfFunction, IsWrongUse, Wrong, Taken, IsWrongScope, WrongName, WrongItself}
-use Rattle.wit_scopes.specs.declared.scope_name.ScopeName.{ScopeName as Held}
-use Rattle.wit_scopes.specs.Held.{name_behind}
+use Rattle.wit_scopes.specs.Held.{Held, name_behind}
 use Rattle.wit_scopes.specs.Between.{IsUnstated, AtFunction, AtNothing}
 use Rattle.wit_syntax.proofs.Orders.{take_next}
 use Rattle.wit_syntax.proofs.Lists.{at_front, at_take, map_at}

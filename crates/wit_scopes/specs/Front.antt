@@ -2,9 +2,8 @@
 use Rattle.std.specs.Prelude.{◌≡◌, ℕ, ⊤, List, Some, slice_get}
 use Rattle.wit_syntax.specs.Address.{Address}
 use Rattle.wit_syntax.specs.Source.{Used, Defined}
-use Rattle.wit_scopes.specs.declared.scope_name.ScopeName.{ScopeName as Held}
-use Rattle.wit_scopes.specs.declared.scope_name.ScopeName.TheVariants as held
-use Rattle.wit_scopes.specs.Held.{IsPlaced}
+use Rattle.wit_scopes.specs.Held.{Held, IsPlaced}
+use Rattle.wit_scopes.specs.declared.scope_name.Named.TheVariants as held
 
 -- a used name is from a declared interface, or from that of another package at its place
 abbrev pub IsNamePlaced : List Address → Held → Type 0

@@ -1,9 +1,11 @@
 -- What the resolver holds by reference: names of a scope, used names and definitions, and interfaces of other packages.
 use Rattle.std.specs.Prelude.{◌≡◌, ℕ, List, Some, ⊤, slice_get}
 use Rattle.wit_scopes.specs.declared.scope_name.UsedName.{UsedName}
-use Rattle.wit_scopes.specs.declared.scope_name.DefinedName.{DefinedName}
-use Rattle.wit_scopes.specs.declared.scope_name.ScopeName.{ScopeName as Held}
-use Rattle.wit_scopes.specs.declared.scope_name.ScopeName.TheVariants as held
+use denote.Ref.{Bor}
+use Rattle.wit_tree.specs.declared.tree.TypeDef.{TypeDef}
+use Rattle.wit_scopes.specs.declared.scope_name.Lent.{Lent}
+use Rattle.wit_scopes.specs.declared.scope_name.Named.{Named}
+use Rattle.wit_scopes.specs.declared.scope_name.Named.TheVariants as held
 use Rattle.wit_scopes.specs.declared.scope_name.Source.{Source as HeldSource}
 use Rattle.wit_scopes.specs.declared.scope_name.Source.TheVariants as held_source
 use Rattle.wit_syntax.specs.Address.{Address, InterfaceNamed, ForeignNamed, package_of}
@@ -18,9 +20,17 @@ source_behind (held_source.Foreign id of name) = ForeignNamed (package_of of.now
 abbrev pub use_behind : UsedName → ScopeName
 use_behind u = Used (source_behind u.from) u.attributes.now u.name.now
 
+-- a held definition
+abbrev pub DefinedName : Type 0
+DefinedName = Lent (Bor TypeDef)
+
 -- the definition that is held
 abbrev pub definition_behind : DefinedName → ScopeName
 definition_behind d = Defined d.definition.now
+
+-- a held name of a scope
+abbrev pub Held : Type 0
+Held = Named UsedName DefinedName
 
 -- the name of a scope that is held
 abbrev pub name_behind : Held → ScopeName

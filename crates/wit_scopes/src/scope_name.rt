@@ -31,20 +31,29 @@ pub struct UsedName<'t, 'a> {
     pub name: &'t UseName<'a>,
 }
 
-/// A definition.
+/// What is lent as a definition.
 #[derive(Clone, Copy)]
-pub struct DefinedName<'t, 'a> {
-    pub definition: &'t TypeDef<'a>,
+pub struct Lent<D> {
+    pub definition: D,
+}
+
+/// A definition.
+pub type DefinedName<'t, 'a> = Lent<&'t TypeDef<'a>>;
+
+/// What a name of a scope is.
+#[derive(Clone, Copy)]
+pub enum Named<U, D> {
+    /// One that is used from an interface.
+    Used(U),
+    /// A definition.
+    Defined(D),
 }
 
 /// A name of a scope.
-#[derive(Clone, Copy)]
-pub enum ScopeName<'t, 'a> {
-    /// One that is used from an interface.
-    Used(UsedName<'t, 'a>),
-    /// A definition.
-    Defined(DefinedName<'t, 'a>),
-}
+///
+/// Where a list of them is gone over, the trees that they borrow from are no part of what is proved,
+/// since [`Named`] knows nothing of them.
+pub type ScopeName<'t, 'a> = Named<UsedName<'t, 'a>, DefinedName<'t, 'a>>;
 
 /// Adds the names that are used from an interface, by a `use` with these attributes.
 pub fn add_used_names<'t, 'a>(

@@ -23,7 +23,7 @@ use Rattle.wit_rules.specs.Signatures.{IsWrongFunctionAmong, functions_behind}
 use Rattle.wit_signatures.specs.Taken.{name_of_id}
 use Rattle.wit_externs.specs.declared.held.HeldExtern.{HeldExtern}
 use Rattle.wit_externs.specs.Held.{externs_behind}
-use Rattle.wit_scopes.specs.declared.scope_name.ScopeName.{ScopeName as HeldName}
+use Rattle.wit_scopes.specs.Held.{Held as HeldName}
 use Rattle.wit_item_entries.specs.Between.{Emits}
 use Rattle.wit_item_entries.specs.Body.{IsStandingBy}
 use Rattle.wit_worlds.specs.Standing.{IsWrongExtern, IsWrongInside, IsWrongStanding, StandingExtern, StandingFunction, StandingInside, WrongExtern, WrongFunction, WrongInside}

@@ -13,7 +13,7 @@ use Rattle.wit_arena.specs.Resolving.{Cell, Names, Required}
 use Rattle.wit_arena.specs.Resolved.{IsWrongWorld, WrongInline, WrongWorldSides, UnpairedOnSide}
 use Rattle.wit_externs.specs.declared.held.HeldExtern.{HeldExtern}
 use Rattle.wit_externs.specs.Links.{AreLinksPlaced}
-use Rattle.wit_scopes.specs.declared.scope_name.ScopeName.{ScopeName as HeldName}
+use Rattle.wit_scopes.specs.Held.{Held as HeldName}
 use Rattle.wit_item_entries.specs.Between.{AddsTurn}
 use Rattle.wit_item_entries.specs.Body.{IsStandingBy}
 use Rattle.wit_item_entries.proofs.ScopeFunctions.{turn_added, wrong_among, wrong_function}

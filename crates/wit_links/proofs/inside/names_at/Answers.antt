@@ -5,8 +5,7 @@ use Rattle.std.proofs.lemmas.List.{length-map}
 use Rattle.wit_tree.specs.declared.tree.WorldSide.{WorldSide}
 use Rattle.wit_syntax.specs.Source.{ScopeName}
 use Rattle.wit_scopes.specs.Front.{AreNamesPlaced}
-use Rattle.wit_scopes.specs.Held.{name_behind}
-use Rattle.wit_scopes.specs.declared.scope_name.ScopeName.{ScopeName as HeldName}
+use Rattle.wit_scopes.specs.Held.{name_behind, Held as HeldName}
 use Rattle.wit_items.specs.Inside.{inside_behind}
 use Rattle.wit_links.proofs.Inlined.{read_all, read_map}
 use Rattle.wit_links.proofs.inside.names_at.Goals as goal

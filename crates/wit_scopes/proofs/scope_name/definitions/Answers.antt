@@ -4,8 +4,7 @@ use Rattle.std.proofs.lemmas.List.{map-append, append-nil}
 use Rattle.std.proofs.lemmas.Option.{slice_get_read}
 use Rattle.wit_syntax.specs.Source.{ScopeName}
 use Rattle.wit_syntax.specs.Scope.{defined}
-use Rattle.wit_scopes.specs.declared.scope_name.ScopeName.{ScopeName as Held}
-use Rattle.wit_scopes.specs.Held.{name_behind, definition_behind}
+use Rattle.wit_scopes.specs.Held.{Held, name_behind, definition_behind}
 use Rattle.wit_scopes.proofs.UsedNames.{defined_more}
 use Rattle.wit_scopes.proofs.scope_name.definitions.Goals.{in-Defined+in_ok-push, in_default}
 use Rattle.wit_scopes.proofs.scope_name.definitions.Goals as goal

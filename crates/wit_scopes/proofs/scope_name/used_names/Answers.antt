@@ -4,8 +4,7 @@ use Rattle.std.proofs.lemmas.List.{map-append, append-nil}
 use Rattle.std.proofs.lemmas.Option.{slice_get_read}
 use Rattle.wit_syntax.specs.Source.{ScopeName}
 use Rattle.wit_syntax.specs.Scope.{used}
-use Rattle.wit_scopes.specs.declared.scope_name.ScopeName.{ScopeName as Held}
-use Rattle.wit_scopes.specs.Held.{name_behind, use_behind}
+use Rattle.wit_scopes.specs.Held.{Held, name_behind, use_behind}
 use Rattle.wit_scopes.specs.Front.{IsNamePlaced}
 use Rattle.wit_scopes.proofs.Placed.{uses_none, uses_more}
 use Rattle.wit_scopes.proofs.UsedNames.{used_more}

@@ -2,9 +2,8 @@ use Rattle.std.proofs.Common.{◌≡◌, [], ◌∷◌, ap, ◌∙◌, subst}
 use Rattle.std.proofs.lemmas.List.{append-nil}
 use Rattle.wit_syntax.specs.Address.{ForeignNamed, package_of}
 use Rattle.wit_syntax.specs.Source.{Used, taking}
-use Rattle.wit_scopes.specs.declared.scope_name.ScopeName.{ScopeName}
+use Rattle.wit_scopes.specs.Held.{Held as ScopeName, source_behind, name_behind, IsPlaced}
 use Rattle.wit_scopes.specs.declared.scope_name.Source.{Source}
-use Rattle.wit_scopes.specs.Held.{source_behind, name_behind, IsPlaced}
 use Rattle.wit_scopes.specs.Front.{IsNamePlaced}
 use Rattle.wit_front.specs.Front.{addresses_among, name_takings}
 use Rattle.wit_front.proofs.foreign.ForeignArenas.take_name.Goals.{in-Used+in-Foreign+in_ok-take, in-Used+in_default-from, in_default}

@@ -3,8 +3,7 @@ use Rattle.std.specs.Prelude.{slice_get}
 use Rattle.std.proofs.lemmas.List.{take_more}
 use Rattle.std.proofs.lemmas.Option.{slice_get-get_or}
 use Rattle.wit_syntax.specs.Source.{Taking}
-use Rattle.wit_scopes.specs.declared.scope_name.ScopeName.{ScopeName}
-use Rattle.wit_scopes.specs.Held.{name_behind}
+use Rattle.wit_scopes.specs.Held.{Held as ScopeName, name_behind}
 use Rattle.wit_front.specs.Front.{IsTaken, name_takings, names_takings}
 use Rattle.wit_front.proofs.Taken.{takings-next}
 use Rattle.wit_front.proofs.foreign.ForeignArenas.take_names.Goals as goal
