@@ -11,9 +11,9 @@ use Rattle.wit_tree.specs.declared.tree.Attribute.{Attribute}
 use Rattle.wit_tree.specs.declared.tree.UsePath.{UsePath}
 use Rattle.wit_tree.specs.declared.tree.UseName.{UseName}
 use Rattle.wit_tree.specs.declared.tree.PackageFile.{PackageFile}
-use Rattle.wit_tree.specs.declared.tree.«Type».{«Type» as WrittenType}
-use Rattle.wit_tree.specs.declared.tree.TypeBody.{TypeBody}
-use Rattle.wit_tree.specs.declared.tree.TypeDef.{TypeDef as Definition}
+use Rattle.wit_tree.specs.declared.types.«Type».{«Type» as WrittenType}
+use Rattle.wit_tree.specs.declared.types.TypeBody.{TypeBody}
+use Rattle.wit_tree.specs.declared.types.TypeDef.{TypeDef as Definition}
 use Rattle.wit_tree.specs.Parts.{body_types}
 use Rattle.wit_types.specs.declared.stability.Stability.{Stability}
 use Rattle.wit_types.specs.declared.types.«Type».{«Type» as Ty}

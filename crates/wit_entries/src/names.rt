@@ -10,7 +10,7 @@ use crate::ends::End;
 use crate::entries::Entries;
 use crate::scope::Required;
 use std::alloc::Global;
-use wit_notes::refusal::{refuse_in, refuse_missing_type};
+use wit_refusals::refusal::{refuse_in, refuse_missing_type};
 use wit_tree::tree::Id;
 use wit_tree::{ParseError, ParseResult};
 use wit_types::TypeId;

@@ -8,7 +8,7 @@ use Rattle.std.proofs.lemmas.Option.{slice_get_within}
 use Rattle.std.proofs.Math.Seq.{take-append-add}
 use Rattle.wit_values.specs.declared.span.Span.{Span}
 use Rattle.wit_tree.specs.declared.tree.Id.{Id}
-use Rattle.wit_tree.specs.declared.tree.FuncForm.{FuncForm}
+use Rattle.wit_tree.specs.declared.types.FuncForm.{FuncForm}
 use Rattle.wit_tree.specs.declared.tree.WorldSide.{WorldSide}
 use Rattle.wit_tree.specs.declared.tree.WorldSide.TheVariants.{Imported, Exported}
 use Rattle.wit_syntax.specs.Fault.{Fault}
@@ -18,8 +18,8 @@ use Rattle.wit_syntax.specs.Crossing.{same_side}
 use Rattle.wit_syntax.specs.Sides.{role_side, names_on, SideItem, item_side, items_on, IsCrossing}
 use Rattle.wit_syntax.proofs.Lists.{at_front, at_back}
 use Rattle.wit_syntax.proofs.Addresses.{side_itself}
-use Rattle.wit_notes.specs.Names.{Name, IsTaken, IsDefinedAgain}
-use Rattle.wit_notes.specs.Scope.{HasName}
+use Rattle.wit_refusals.specs.Names.{Name, IsTaken, IsDefinedAgain}
+use Rattle.wit_refusals.specs.Scope.{HasName}
 use Rattle.wit_sides.specs.Sides.{only_on}
 use Rattle.wit_rules.specs.Held.{across_of}
 use Rattle.wit_signatures.specs.Taken.{name_key, IsTwiceAmong}

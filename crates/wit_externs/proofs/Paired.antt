@@ -5,12 +5,12 @@ use Rattle.wit_names.specs.Label.{is_label}
 use Rattle.wit_names.specs.Setter.{getter_of, is_setter}
 use Rattle.wit_values.specs.declared.span.Span.{Span}
 use Rattle.wit_tree.specs.declared.tree.Id.{Id}
-use Rattle.wit_tree.specs.declared.tree.FuncForm.TheVariants as form
+use Rattle.wit_tree.specs.declared.types.FuncForm.TheVariants as form
 use Rattle.wit_syntax.specs.Fault.{Fault, fault}
 use Rattle.wit_syntax.specs.Function.{SourceFunction}
 use Rattle.wit_syntax.specs.Signature.{role_form, IsUnpairedSetter}
 use Rattle.wit_syntax.proofs.Found.{at_contains, contains_at}
-use Rattle.wit_notes.specs.Names.{Name, IsLoneSetter, IsFirstLoneSetter}
+use Rattle.wit_refusals.specs.Names.{Name, IsLoneSetter, IsFirstLoneSetter}
 use Rattle.wit_rules.specs.declared.held.HeldFunction.{HeldFunction}
 use Rattle.wit_rules.specs.Held.{function_behind}
 use Rattle.wit_signatures.specs.Taken.{name_of_function, name_of_id}

@@ -8,8 +8,8 @@ use Rattle.wit_tree.specs.declared.tree.WorldSide.{WorldSide}
 use Rattle.wit_syntax.specs.Fault.{Fault, fault}
 use Rattle.wit_syntax.specs.Repeats.{AllDiffer}
 use Rattle.wit_syntax.specs.Sides.{SideItem, SideFunction, SideLink, SideInline, items_on, names_on, IsCrossing}
-use Rattle.wit_notes.specs.Names.{Name}
-use Rattle.wit_notes.specs.Scope.{HasName}
+use Rattle.wit_refusals.specs.Names.{Name}
+use Rattle.wit_refusals.specs.Scope.{HasName}
 use Rattle.wit_signatures.specs.Taken.{name_key, name_of_id, name_of_function, IsTwiceAmong}
 
 -- the name that it has: an interface may have none of its own

@@ -7,7 +7,7 @@ use Rattle.wit_syntax.specs.Crossing.{same_side}
 use Rattle.wit_syntax.specs.Fault.{Fault, fault}
 use Rattle.wit_syntax.specs.Notes.{IsBrokenNotes}
 use Rattle.wit_syntax.specs.Source.{path_id}
-use Rattle.wit_notes.specs.Names.{Name}
+use Rattle.wit_refusals.specs.Names.{Name}
 use Rattle.wit_externs.specs.declared.held.HeldLink.{HeldLink}
 use Rattle.wit_externs.specs.declared.held.HeldInline.{HeldInline}
 use Rattle.wit_externs.specs.declared.held.HeldExtern.{HeldExtern}

@@ -5,7 +5,7 @@ ghost use Rattle.wit_externs.specs.Next.{IsLinked, linked_on, only_place};
 
 use indexmap::IndexSet;
 use std::alloc::{AllocError, Global};
-use wit_notes::refusal::refuse;
+use wit_refusals::refusal::refuse;
 use wit_tree::tree::WorldSide;
 use wit_tree::{ParseResult, Span};
 

@@ -14,7 +14,7 @@ ghost use Rattle.wit_externs.specs.Clash.{all_on};
 ghost use Rattle.wit_externs.specs.Held.{externs_behind};
 
 use crate::held::HeldExtern;
-use wit_notes::NameScope;
+use wit_refusals::NameScope;
 use wit_rules::held::HeldFunction;
 use wit_sides::Sides;
 use wit_tree::ParseResult;

@@ -25,12 +25,12 @@ use Rattle.wit_syntax.proofs.Repeated.{no_repeat}
 use Rattle.wit_syntax.proofs.Tables.{place_of-Some, none_if}
 use Rattle.wit_syntax.proofs.Found.{at_contains, contains_at}
 use Rattle.wit_syntax.proofs.Legal.{no_missing_edge, no_cyclic_edge}
-use Rattle.wit_files.specs.Tops.{Named, AreNamed, AreDeclared}
-use Rattle.wit_files.specs.Checks.{AreDistinctTops, AreRightTops, IsWrongTop, AttributedUse, MissingUse, IsBrokenVisit, AreLegalVisits}
+use Rattle.wit_top_names.specs.Tops.{Named, AreNamed, AreDeclared}
+use Rattle.wit_top_names.specs.Checks.{AreDistinctTops, AreRightTops, IsWrongTop, AttributedUse, MissingUse, IsBrokenVisit, AreLegalVisits}
 use Rattle.wit_files.specs.FileNames.{AreTopsOf, AreTablesOf, AddsTop, names_at_top, top_at}
 use Rattle.wit_files.specs.declared.tables.Tables.{Tables}
-use Rattle.wit_files.proofs.FirstNames.{rows_items}
-use Rattle.wit_files.proofs.Lost.{flat_more}
+use Rattle.wit_top_names.proofs.FirstNames.{rows_items}
+use Rattle.wit_top_names.proofs.Lost.{flat_more}
 
 -- what one of these gives stands behind what those before it give
 pub flat_split : {X A : Type 0} (f : X → List A) (xs : List X) (i : ℕ) (x : X) → slice_get xs i ≡ Some x → (rest : List A) × (flat_map f xs ≡ flat_map f (take i xs) ++ (f x ++ rest))

@@ -9,7 +9,7 @@ use Rattle.wit_syntax.specs.Foreign.{ForeignVisit}
 use Rattle.wit_syntax.proofs.Lists.{at_either}
 use Rattle.wit_syntax.proofs.Found.{contains_at}
 use Rattle.wit_files.specs.Foreign.{foreign_behind}
-use Rattle.wit_files.specs.Checks.{IsBrokenVisit, AreLegalVisits}
+use Rattle.wit_top_names.specs.Checks.{IsBrokenVisit, AreLegalVisits}
 use Rattle.wit_files.specs.declared.foreign.ForeignVisit.{ForeignVisit as Held}
 
 -- no path, and a path more

@@ -7,7 +7,7 @@ use Rattle.wit_syntax.specs.Address.{ForeignNamed, same_address}
 use Rattle.wit_syntax.specs.Source.{Target, Local, Foreign, TopName, top_names, all_items, is_world}
 use Rattle.wit_syntax.specs.Scope.{item_rows}
 use Rattle.wit_syntax.specs.Foreign.{visited, foreign_visits, foreign_items}
-use Rattle.wit_files.specs.Tops.{Named, AreNamed}
+use Rattle.wit_top_names.specs.Tops.{Named, AreNamed}
 use Rattle.wit_files.specs.Foreign.{foreign_behind, AreItemsOf}
 use Rattle.wit_files.specs.declared.file_names.Found.{Found}
 use Rattle.wit_files.specs.declared.file_names.Found.TheVariants.{Item as ItemAt, Foreign as ForeignAt}

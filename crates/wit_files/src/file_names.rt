@@ -6,15 +6,15 @@ ghost use Rattle.wit_syntax.specs.Scope.{item_rows};
 ghost use Rattle.wit_syntax.specs.Fault.{Fault};
 ghost use Rattle.wit_syntax.specs.Broken.{IsBrokenNames, Refused};
 ghost use Rattle.wit_syntax.specs.Foreign.{foreign_visits as the_visits, foreign_items};
-ghost use Rattle.wit_files.specs.Tops.{target_behind};
+ghost use Rattle.wit_top_names.specs.Tops.{target_behind};
 ghost use Rattle.wit_files.specs.Foreign.{foreign_behind};
 ghost use Rattle.wit_files.specs.FileNames.{AreTablesOf, found_at, top_at};
 
 use crate::foreign::ForeignVisit;
 use crate::tables::Tables;
-use crate::top_name::{Target, leads};
 use std::alloc::Global;
 use std::marker::Model;
+use wit_top_names::top_name::{Target, leads};
 use wit_tree::ParseResult;
 use wit_tree::tree::{PackageFile, UsePath};
 
@@ -50,7 +50,7 @@ impl<'f, 'a> Model for FileNames<'f, 'a> {
     ghost use Rattle.std.specs.Prelude.{List, []};
     ghost use Rattle.wit_tree.specs.declared.tree.PackageFile.{PackageFile};
     ghost use Rattle.wit_files.specs.FileNames.{AreTablesOf};
-    ghost use Rattle.wit_tree.specs.contracts.tree.Type as written;
+    ghost use Rattle.wit_tree.specs.contracts.types.Type as written;
     ghost use Rattle.std.specs.Coded.{codes};
     ghost use mir.Syntax.{named};
 

@@ -4,7 +4,7 @@ ghost use Rattle.wit_syntax.specs.Address.{ForeignNamed, package_of, release_of,
 ghost use Rattle.wit_syntax.specs.Foreign.{ForeignVisit as TheVisit, path_visits, file_visits, foreign_visits as the_visits, visited, same_item};
 ghost use Rattle.wit_syntax.specs.Broken.{Refused};
 ghost use Rattle.wit_syntax.specs.Repeats.{firsts};
-ghost use Rattle.wit_files.specs.Checks.{AreLegalVisits, IsBrokenVisit};
+ghost use Rattle.wit_top_names.specs.Checks.{AreLegalVisits, IsBrokenVisit};
 ghost use Rattle.wit_files.specs.Foreign.{foreign_behind, wants_world, key_release, key_address, AreItemsOf};
 
 use crate::visit::{Visit, Wanted, visits};

@@ -7,15 +7,15 @@ ghost use Rattle.wit_syntax.specs.Scope.{use_path, include_path, item_row};
 ghost use Rattle.wit_syntax.specs.Fault.{missing_at, item_word};
 ghost use Rattle.wit_syntax.specs.Broken.{IsMissingEdge, IsCyclicEdge, Refused};
 ghost use Rattle.wit_syntax.specs.Repeats.{AllDiffer};
-ghost use Rattle.wit_files.specs.Tops.{AreNamed, AreDeclared};
-ghost use Rattle.wit_files.specs.Checks.{edges_of, IsLostAmong, IsWrongFile};
+ghost use Rattle.wit_top_names.specs.Tops.{AreNamed, AreDeclared};
+ghost use Rattle.wit_top_names.specs.Checks.{edges_of, IsLostAmong, IsWrongFile};
 
-use crate::declaration::{declarations, interface_items, world_items};
 use crate::order_refusal::refuse_item_order;
-use crate::top_name::{Paths, add_edge};
 use indexmap::IndexMap;
 use std::alloc::{AllocError, Global};
 use wit_order::order_places;
+use wit_top_names::declaration::{declarations, interface_items, world_items};
+use wit_top_names::top_name::{Paths, add_edge};
 use wit_tree::ParseResult;
 use wit_tree::tree::{AstItem, Id, Interface, InterfaceItem, PackageFile, World, WorldItem};
 

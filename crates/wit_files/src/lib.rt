@@ -1,17 +1,13 @@
 //! The names of files, what their paths lead to, and the order of their items.
 #![tactic(auto)]
 
-pub mod declaration;
 pub mod file_names;
 pub mod foreign;
 mod item_table;
 pub mod order_refusal;
 mod tables;
-pub mod top_name;
 pub mod visit;
 
-pub use declaration::declarations;
 pub use file_names::{FileNames, Found};
 pub use foreign::ForeignVisit;
-pub use top_name::Target;
 pub use visit::{Visit, Wanted, visits};

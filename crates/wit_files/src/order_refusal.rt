@@ -8,8 +8,8 @@ ghost use Rattle.wit_syntax.specs.Broken.{IsMissingEdge, IsCyclicEdge, Refused};
 
 use indexmap::IndexMap;
 use std::alloc::Global;
-use wit_notes::refusal::{refuse_cycle, refuse_missing, refuse_missing_type};
 use wit_order::OrderFault;
+use wit_refusals::refusal::{refuse_cycle, refuse_missing, refuse_missing_type};
 use wit_tree::tree::Id;
 use wit_tree::{OUT_OF_MEMORY, ParseError, ParseErrorKind};
 

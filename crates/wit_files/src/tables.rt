@@ -8,16 +8,16 @@ ghost use Rattle.wit_syntax.specs.Fault.{Fault};
 ghost use Rattle.wit_syntax.specs.Broken.{IsBrokenItems, IsBrokenNames, Refused};
 ghost use Rattle.wit_syntax.specs.Repeats.{AllDiffer};
 ghost use Rattle.wit_syntax.specs.Foreign.{foreign_visits as the_visits};
-ghost use Rattle.wit_files.specs.Tops.{AreDeclared};
-ghost use Rattle.wit_files.specs.Checks.{AreDistinctTops, AreLegalVisits, AreRightTops, IsBrokenVisit, IsWrongFile, IsWrongTop};
+ghost use Rattle.wit_top_names.specs.Tops.{AreDeclared};
+ghost use Rattle.wit_top_names.specs.Checks.{AreDistinctTops, AreLegalVisits, AreRightTops, IsBrokenVisit, IsWrongFile, IsWrongTop};
 ghost use Rattle.wit_files.specs.Foreign.{foreign_behind, AreItemsOf};
 ghost use Rattle.wit_files.specs.FileNames.{AddsTop, AreTablesOf, AreDeclarationsOf};
 
 use crate::foreign::{ForeignItems, ForeignVisit, check_visits, foreign_visits};
 use crate::item_table::{add_items, add_kinds, table_order};
-use crate::top_name::{Paths, Target, check_top_uses, file_names, item_names};
 use indexmap::IndexMap;
 use std::alloc::Global;
+use wit_top_names::top_name::{Paths, Target, check_top_uses, file_names, item_names};
 use wit_tree::ParseResult;
 use wit_tree::tree::{Id, PackageFile};
 

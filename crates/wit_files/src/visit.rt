@@ -3,9 +3,9 @@ ghost use Rattle.std.specs.Prelude.{◌≡◌, [], ◌∷◌, ◌++◌, map, Non
 ghost use Rattle.std.specs.List.{flat_map};
 ghost use Rattle.wit_files.specs.Visits.{visit_behind, use_visit, part_visits, interface_visits, world_part_visits, extern_visit, extern_visits, side_part_visits, world_visits, item_visits, visits as the_visits};
 
-use crate::declaration::{interface_items, world_items};
 use std::alloc::{AllocError, Global};
 use wit_notes::is_same_side;
+use wit_top_names::declaration::{interface_items, world_items};
 use wit_tree::tree::{
     AstItem, Attribute, DeclList, Extern, ExternKind, Id, Interface, InterfaceItem, Use, UseName,
     UsePath, World, WorldItem, WorldSide,

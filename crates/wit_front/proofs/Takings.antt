@@ -20,8 +20,9 @@ use Rattle.wit_scopes.specs.Front.{AreNamesPlaced}
 use Rattle.wit_items.specs.declared.items.Item.{Item as HeldItem}
 use Rattle.wit_items.specs.Front.{AreItemsPlaced}
 use Rattle.wit_items.specs.Items.{names_behind}
-use Rattle.wit_items.specs.Inside.{inside_behind, names_written, written_items, side_uses}
-use Rattle.wit_items.proofs.Written.{items_names, uses_written, names_written_in}
+use Rattle.wit_item_names.specs.Inside.{written_items, side_uses}
+use Rattle.wit_items.specs.Inside.{inside_behind, names_written}
+use Rattle.wit_item_names.proofs.Written.{items_names, uses_written, names_written_in}
 use Rattle.wit_front.specs.Front.{name_takings, names_takings, held_takings}
 
 -- those from other packages

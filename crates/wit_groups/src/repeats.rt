@@ -7,8 +7,8 @@ ghost use Rattle.wit_groups.specs.Names.{AreNamedApart, IsNamedAgain, IsRepeated
 use indexmap::IndexSet;
 use std::alloc::{AllocError, Global};
 use wit_model::UnresolvedPackage;
-use wit_notes::refusal::refuse_in;
 use wit_package_names::PackageName;
+use wit_refusals::refusal::refuse_in;
 use wit_tree::ParseResult;
 
 /// Puts a name behind these, where it is none of them; tells whether it was new.

@@ -13,8 +13,9 @@ ghost use Rattle.wit_items.specs.Items.{item_behind, names_behind};
 ghost use Rattle.wit_items.specs.Front.{AreItemsPlaced};
 ghost use Rattle.wit_arena.specs.Resolving.{IsIndex};
 ghost use Rattle.wit_arena.specs.Resolved.{AddsDeclared, AddsInterfaces, AreLegalSides, AreSoundScopes, HaveLegalStability, IsNameless, IsWrongInterface};
-ghost use Rattle.wit_items.specs.Interfaces.{front_of, cells_of};
-ghost use Rattle.wit_item_entries.specs.Between.{Emits};
+ghost use Rattle.wit_item_names.specs.Interfaces.{front_of};
+ghost use Rattle.wit_items.specs.Interfaces.{cells_of};
+ghost use Rattle.wit_uses.specs.Between.{Emits};
 ghost use Rattle.wit_interfaces.specs.Between.{AreOuter, IsWrongNow};
 ghost use Rattle.wit_scopes.specs.Front.{AreNamesPlaced};
 

@@ -18,8 +18,10 @@ ghost use Rattle.wit_items.specs.Items.{scope_item};
 ghost use Rattle.wit_arena.specs.Functions.{placed_functions};
 ghost use Rattle.wit_arena.specs.Resolving.{Cell, IsIndex, Names};
 ghost use Rattle.wit_arena.specs.Resolved.{AddsInterface, IsNameless, IsWrongInterface};
-ghost use Rattle.wit_items.specs.Interfaces.{front_of, cells_of};
-ghost use Rattle.wit_item_entries.specs.Between.{AddsTurn, Emits};
+ghost use Rattle.wit_item_names.specs.Interfaces.{front_of};
+ghost use Rattle.wit_items.specs.Interfaces.{cells_of};
+ghost use Rattle.wit_uses.specs.Between.{Emits};
+ghost use Rattle.wit_item_entries.specs.Between.{AddsTurn};
 ghost use Rattle.wit_item_entries.specs.Body.{AddsBody};
 ghost use Rattle.wit_scopes.specs.Between.{IsOfFunctions};
 ghost use Rattle.wit_scopes.specs.Front.{AreNamesPlaced};
@@ -36,7 +38,7 @@ use wit_item_entries::required::add_required;
 use wit_items::interfaces::Interfaces;
 use wit_items::items::ItemScope;
 use wit_model::{Function, Interface};
-use wit_notes::NameScope;
+use wit_refusals::NameScope;
 use wit_rules::held::HeldFunction;
 use wit_tree::tree::Id;
 use wit_tree::{ParseResult, Span};
@@ -63,7 +65,7 @@ fn check_pairs(
 /// The functions of an interface under their names, behind its names, which are resolved.
 fn functions_of<'a>(
     alloc: Global,
-    item: &ItemScope<'_, '_, 'a>,
+    item: &ItemScope<'_, 'a, '_>,
     types: &mut Entries,
     names: &mut ResolvedNames<'a>,
 ) -> ParseResult<TextTable<Function>>
@@ -90,7 +92,7 @@ fn functions_of<'a>(
 /// functions; it goes by this name, where it has one.
 pub fn interface_of<'a>(
     alloc: Global,
-    item: &ItemScope<'_, '_, 'a>,
+    item: &ItemScope<'_, 'a, '_>,
     types: &mut Entries,
     required: &mut Vec<Required>,
     interfaces: &Interfaces<'_, '_, '_>,

@@ -1,72 +1,37 @@
 -- What is wrong with the functions of an item, and what holds of the names of both.
-use Rattle.std.proofs.Common.{◌≡◌, ◌⊎◌, ℕ, List, [], ◌∷◌, ◌++◌, map, take, Option, Some, None, inl, inr, refl, sym, ap, ◌∙◌, subst, Contains}
+use Rattle.std.proofs.Common.{◌≡◌, ◌⊎◌, ℕ, List, [], ◌++◌, map, take, Some, inl, inr, refl, sym, ap, ◌∙◌, subst, Contains}
 use Rattle.std.specs.Prelude.{slice_get}
 use Rattle.std.specs.List.{flat_map}
-use Rattle.std.specs.Option.{option_map, option_map_or}
-use Rattle.std.proofs.lemmas.List.{map-append}
+use Rattle.std.specs.Option.{option_map}
 use Rattle.std.proofs.lemmas.Option.{slice_get-map}
 use Rattle.wit_tree.specs.declared.tree.Id.{Id}
 use Rattle.wit_types.specs.declared.types.TypeDef.{TypeDef}
 use Rattle.wit_syntax.specs.Fault.{Fault}
 use Rattle.wit_syntax.specs.Bodies.{IsRepeated}
-use Rattle.wit_syntax.specs.Repeats.{AllDiffer}
 use Rattle.wit_syntax.specs.Shape.{all_handles}
 use Rattle.wit_syntax.specs.Source.{ScopeName, local_id}
 use Rattle.wit_syntax.specs.Scope.{in_turn, local_names}
 use Rattle.wit_syntax.specs.Function.{SourceFunction, written_types}
 use Rattle.wit_syntax.specs.Signature.{Called, called_key, name_called}
 use Rattle.wit_tree.specs.declared.tree.WorldSide.{WorldSide}
-use Rattle.wit_tree.specs.declared.tree.WorldSide.TheVariants.{Imported, Exported}
-use Rattle.wit_syntax.specs.Sides.{SideItem, SideFunction, SideLink, SideInline, id_called, item_called, items_on, names_on, side_called, IsFoldedTwice, IsCrossedTwice}
+use Rattle.wit_tree.specs.declared.tree.WorldSide.TheVariants.{Imported}
+use Rattle.wit_syntax.specs.Sides.{SideItem, SideFunction, item_called, items_on, names_on, IsFoldedTwice, IsCrossedTwice}
 use Rattle.wit_arena.specs.Resolving.{Env, Names, env_of, IsWrongHandle, names_in}
 use Rattle.wit_syntax.proofs.Lists.{at_front, map_map, flat_map_has}
 use Rattle.wit_syntax.proofs.Found.{contains_at}
 use Rattle.wit_arena.proofs.Meant.{free_unmeant}
 use Rattle.wit_arena.proofs.Required.{handle_of}
 use Rattle.wit_arena.proofs.Written.{handles_at}
-use Rattle.wit_notes.specs.Names.{Name}
+use Rattle.wit_refusals.specs.Names.{Name}
 use Rattle.wit_sides.specs.Sides.{taken_on}
 use Rattle.wit_sides.specs.declared.sides.Sides.{Sides}
 use Rattle.wit_rules.specs.Signatures.{AreAllNames, IsWrongFunctionAmong}
 use Rattle.wit_signatures.specs.Taken.{name_of_id, name_key, IsTwiceAmong}
-use Rattle.wit_externs.specs.Clash.{item_names, names_of_items, all_on, IsCrossedAmong, IsClash, Folded, Crossed}
-use Rattle.wit_item_entries.specs.Behind.{IsTurn, IsWrongFunctions, BrokenFunction, BrokenNames, CrossedNames, HandleOfOther}
+use Rattle.wit_externs.specs.Clash.{names_of_items, all_on, IsCrossedAmong, IsClash, Folded, Crossed}
+use Rattle.wit_uses.specs.Behind.{IsTurn}
+use Rattle.wit_item_entries.specs.Behind.{IsWrongFunctions, BrokenFunction, BrokenNames, CrossedNames, HandleOfOther}
 use Rattle.wit_item_entries.proofs.Handled.{handle_wider}
-
--- a name as it is called
-abbrev called : Name → Called
-called n = record { name = n.0; span = n.1 }
-
-called_id : (o : Option Id) → map called (option_map_or (λ id. name_of_id id ∷ []) o []) ≡ id_called o
-called_id None = refl
-called_id (Some id) = refl
-
-called_item : (x : SideItem) → map called (item_names x) ≡ item_called x
-called_item (SideFunction fn) = refl
-called_item (SideLink link) = called_id link.name
-called_item (SideInline x name items) = refl
-
-called_items : (items : List SideItem) → map called (names_of_items items) ≡ flat_map item_called items
-called_items [] = refl
-called_items (x ∷ items) =
-    map-append called (item_names x) (names_of_items items)
-    ∙ ap (λ (l : List Called). l ++ map called (names_of_items items)) (called_item x)
-    ∙ ap (λ (l : List Called). item_called x ++ l) (called_items items)
-
-called_names : (xs : List ScopeName) → map called (map name_of_id (map local_id xs)) ≡ map name_called xs
-called_names [] = refl
-called_names (x ∷ xs) = ap (λ l. name_called x ∷ l) (called_names xs)
-
-called_on : (side : WorldSide) (xs : List ScopeName) (ids : List Id) → ids ≡ map local_id xs → map called (names_on side (map name_of_id ids)) ≡ map name_called (names_on side xs)
-called_on Imported xs ids are = ap (λ (l : List Id). map called (map name_of_id l)) are ∙ called_names xs
-called_on Exported xs ids are = refl
-
--- the names of a scope in turn on a side, and then those of what stands behind them
-pub all_taken : (side : WorldSide) (xs : List ScopeName) (items : List SideItem) (order : List ℕ) (ids : List Id) → ids ≡ map local_id (in_turn xs order) → map called (names_on side (map name_of_id ids) ++ names_of_items items) ≡ map name_called (names_on side (in_turn xs order)) ++ flat_map item_called items
-all_taken side xs items order ids are =
-    map-append called (names_on side (map name_of_id ids)) (names_of_items items)
-    ∙ ap (λ (l : List Called). l ++ map called (names_of_items items)) (called_on side (in_turn xs order) ids are)
-    ∙ ap (λ (l : List Called). map name_called (names_on side (in_turn xs order)) ++ l) (called_items items)
+use Rattle.wit_uses.proofs.Behind.{all_taken, called, called_item}
 
 repeated_called : (names : List Name) (later : Name) → IsRepeated name_key names later → IsRepeated called_key (map called names) (called later)
 repeated_called names later h = record {
@@ -145,15 +110,6 @@ twice_front names more f h = record {
 -- so a name of a scope that stands twice by itself is one once folded
 pub front_folded : (xs : List ScopeName) (items : List SideItem) (ids : List Id) (f : Fault) → IsTurn xs ids → IsTwiceAmong (map name_of_id ids) f → IsFoldedTwice xs items f
 front_folded xs items ids f t h = twice_folded Imported xs items ids f t (twice_front (map name_of_id ids) (names_of_items (items_on Imported items)) f h)
-
--- the keys of names are those of what they are called
-keys_called : (names : List Name) → map called_key (map called names) ≡ map name_key names
-keys_called [] = refl
-keys_called (n ∷ ns) = ap (λ l. name_key n ∷ l) (keys_called ns)
-
--- where the keys of what is taken on a side differ, so do those of all that is called there
-pub differ_called : (side : WorldSide) (xs : List ScopeName) (items : List SideItem) (order : List ℕ) (ids : List Id) → ids ≡ map local_id (in_turn xs order) → AllDiffer (map name_key (all_on side ids items)) → AllDiffer (map called_key (side_called side xs items order))
-differ_called side xs items order ids are h = subst AllDiffer (sym (keys_called (all_on side ids items)) ∙ ap (map called_key) (all_taken side xs (items_on side items) order ids are)) h
 
 -- once the names of a scope are taken where nothing was, they stand on their side
 pub taken_before : (side : WorldSide) (old new : Sides) (held ids : List Id) → ((s : WorldSide) → taken_on s old ≡ []) → ((s : WorldSide) → taken_on s new ≡ taken_on s old ++ names_on s (map name_of_id held)) → held ≡ ids → taken_on side new ≡ names_on side (map name_of_id ids)

@@ -15,15 +15,15 @@ use Rattle.wit_syntax.proofs.Kept.{kept_at}
 use Rattle.wit_syntax.proofs.Legal.{no_fold, no_crossed}
 use Rattle.wit_syntax.proofs.Lists.{map_at}
 use Rattle.wit_syntax.proofs.Sides.{interface_imported, links_none, side_items_functions}
-use Rattle.wit_notes.specs.Names.{Name}
+use Rattle.wit_refusals.specs.Names.{Name}
 use Rattle.wit_rules.specs.declared.held.HeldFunction.{HeldFunction}
 use Rattle.wit_rules.specs.Held.{function_behind}
 use Rattle.wit_signatures.specs.Taken.{name_of_function, name_of_id}
 use Rattle.wit_externs.specs.Clash.{DifferOnSides, all_on, names_of_items}
 use Rattle.wit_scopes.specs.Held.{Held as HeldName}
-use Rattle.wit_item_entries.specs.Behind.{IsTurn}
+use Rattle.wit_uses.specs.Behind.{IsTurn}
 use Rattle.wit_item_entries.specs.Body.{IsHeldBy}
-use Rattle.wit_item_entries.proofs.Behind.{differ_called}
+use Rattle.wit_uses.proofs.Behind.{differ_called}
 
 declared_imported : (d : Declared) → is_declared_world d ≡ false → on_side Imported (flat_map part_functions (declared_parts d)) ≡ flat_map part_functions (declared_parts d)
 declared_imported (TheInterface x) sort = interface_imported x.items.items

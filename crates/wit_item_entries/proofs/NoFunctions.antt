@@ -17,7 +17,7 @@ use Rattle.wit_rules.specs.declared.held.HeldFunction.{HeldFunction}
 use Rattle.wit_rules.specs.Held.{function_behind}
 use Rattle.wit_signatures.specs.Taken.{name_of_id, name_key}
 use Rattle.wit_externs.specs.Clash.{all_on}
-use Rattle.wit_item_entries.specs.Behind.{IsTurn}
+use Rattle.wit_uses.specs.Behind.{IsTurn}
 use Rattle.wit_item_entries.proofs.OwnKeys.{turn_keys}
 
 none_in : (fn : SourceFunction) → Contains [] fn → ⊥

@@ -11,9 +11,9 @@ use Rattle.wit_syntax.specs.Repeats.{AllDiffer}
 use Rattle.wit_syntax.specs.Source.{ScopeName}
 use Rattle.wit_syntax.proofs.Lists.{map_map}
 use Rattle.wit_syntax.proofs.Turns.{in_turn_distinct}
-use Rattle.wit_notes.proofs.Cases.{texts-lower, names-folded}
+use Rattle.wit_refusals.proofs.Cases.{texts-lower, names-folded}
 use Rattle.wit_signatures.specs.Taken.{name_of_id, name_key}
-use Rattle.wit_item_entries.specs.Behind.{IsTurn}
+use Rattle.wit_uses.specs.Behind.{IsTurn}
 use Rattle.wit_item_entries.proofs.Behind.{turn_texts}
 
 -- the key of a label is the label in lower case

@@ -4,10 +4,10 @@ use Rattle.std.specs.Prelude.{slice_get}
 use Rattle.std.specs.Option.{option_map}
 use Rattle.std.proofs.lemmas.Option.{slice_get-map}
 use Rattle.wit_tree.specs.declared.tree.Id.{Id}
-use Rattle.wit_tree.specs.declared.tree.TypeBody.{TypeBody}
-use Rattle.wit_tree.specs.declared.tree.TypeBody.TheVariants as body
-use Rattle.wit_tree.specs.declared.tree.ResourceFunc.{ResourceFunc}
-use Rattle.wit_tree.specs.declared.tree.ResourceFunc.TheVariants as resource
+use Rattle.wit_tree.specs.declared.types.TypeBody.{TypeBody}
+use Rattle.wit_tree.specs.declared.types.TypeBody.TheVariants as body
+use Rattle.wit_tree.specs.declared.types.ResourceFunc.{ResourceFunc}
+use Rattle.wit_tree.specs.declared.types.ResourceFunc.TheVariants as resource
 use Rattle.wit_syntax.specs.Source.{Item, Part, Defining, Using, Including, Doing, Crossing, parts, ScopeName, Defined, part_names, scope_names, local_name}
 use Rattle.wit_syntax.specs.Scope.{in_turn, local_names}
 use Rattle.wit_syntax.specs.Function.{SourceFunction, definition_functions, free_function, resource_function, part_functions, functions}
@@ -17,7 +17,7 @@ use Rattle.wit_syntax.proofs.Turns.{in_turn_has}
 use Rattle.wit_arena.proofs.Using.{lookup-listed}
 use Rattle.wit_rules.specs.Held.{owner_of}
 use Rattle.wit_rules.specs.Signatures.{HasOwner, HaveOwners}
-use Rattle.wit_item_entries.specs.Behind.{IsTurn}
+use Rattle.wit_uses.specs.Behind.{IsTurn}
 use Rattle.wit_item_entries.proofs.Behind.{turn_texts}
 use Rattle.wit_syntax.proofs.Externs.{extern_at}
 

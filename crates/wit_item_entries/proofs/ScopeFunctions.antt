@@ -27,7 +27,7 @@ use Rattle.wit_arena.proofs.FunctionNames.{names_differ, made_name}
 use Rattle.wit_syntax.proofs.Lists.{map_map}
 use Rattle.wit_arena.proofs.Required.{ended_append, ended_more}
 use Rattle.wit_arena.proofs.Written.{all_handles-append}
-use Rattle.wit_notes.specs.Names.{Name}
+use Rattle.wit_refusals.specs.Names.{Name}
 use Rattle.wit_entries.specs.Requiring.{IsGrown, Requires}
 use Rattle.wit_rules.specs.Signatures.{IsWrongFunctionAmong}
 use Rattle.wit_signatures.specs.Taken.{name_of_function, name_of_id, name_of_made, name_key}
@@ -40,11 +40,14 @@ use Rattle.wit_externs.specs.declared.held.HeldExtern.TheVariants as held
 use Rattle.wit_scopes.specs.Held.{Held as HeldName}
 use Rattle.wit_scopes.specs.Between.{IsOfFunctions, OfFunction}
 use Rattle.wit_item_entries.specs.Between.{AddsTurn}
-use Rattle.wit_item_entries.specs.Behind.{IsTurn, IsWrongFunctions, BrokenFunction, BrokenNames, CrossedNames, HandleOfOther}
-use Rattle.wit_item_entries.specs.Body.{IsStandingBy, AddsBody, IsWrongBody, WrongNames, WrongHandles, WrongSides, IsLinkLost, LostAtWorld, LostAtNothing}
+use Rattle.wit_uses.specs.Behind.{IsTurn}
+use Rattle.wit_item_entries.specs.Behind.{IsWrongFunctions, BrokenFunction, BrokenNames, CrossedNames, HandleOfOther}
+use Rattle.wit_uses.specs.Body.{IsStandingBy}
+use Rattle.wit_item_entries.specs.Body.{AddsBody, IsWrongBody, WrongNames, WrongHandles, WrongSides, IsLinkLost, LostAtWorld, LostAtNothing}
 use Rattle.wit_item_entries.proofs.Handled.{handle_wider}
-use Rattle.wit_item_entries.proofs.Behind.{clash_broken, differ_called, function_handle, turn_texts}
-use Rattle.wit_item_entries.proofs.ItemSides.{wrong_folded, wrong_crossed, wrong_linked, wrong_noted, wrong_inside}
+use Rattle.wit_uses.proofs.Behind.{differ_called}
+use Rattle.wit_item_entries.proofs.Behind.{clash_broken, function_handle, turn_texts}
+use Rattle.wit_uses.proofs.ItemSides.{wrong_folded, wrong_crossed, wrong_linked, wrong_noted, wrong_inside}
 
 -- the names of a scope that was added, in turn
 pub turn_added : (old mid : List TypeDef) (cs : List Cell) (o : TypeOwner) (xs : List ScopeName) (types : Names) (ids : List Id) (rs : List Required) → AddsTurn old mid cs o xs types ids rs → IsTurn xs ids

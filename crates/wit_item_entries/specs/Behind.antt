@@ -1,24 +1,14 @@
 -- What the functions of an item add behind its names.
 use Rattle.std.specs.Prelude.{◌≡◌, ℕ, List, map, Some, slice_get}
 use Rattle.std.specs.List.{flat_map}
-use Rattle.wit_tree.specs.declared.tree.Id.{Id}
 use Rattle.wit_types.specs.declared.types.TypeDef.{TypeDef}
-use Rattle.wit_graph.specs.Table.{IsOrder}
 use Rattle.wit_syntax.specs.Fault.{Fault}
 use Rattle.wit_syntax.specs.Shape.{all_handles}
-use Rattle.wit_syntax.specs.Source.{ScopeName, local_id}
-use Rattle.wit_syntax.specs.Scope.{rows_of, in_turn, AreDistinct}
+use Rattle.wit_syntax.specs.Source.{ScopeName}
 use Rattle.wit_syntax.specs.Function.{SourceFunction, written_types}
 use Rattle.wit_syntax.specs.Signature.{IsBrokenFunction}
 use Rattle.wit_syntax.specs.Sides.{SideFunction, IsFoldedTwice, IsCrossedTwice}
 use Rattle.wit_arena.specs.Resolving.{Env, IsWrongHandle}
-
--- these are the names of a scope as they are resolved
-pub record IsTurn (xs : List ScopeName) (ids : List Id) : Type 0 where
-  pub order : List ℕ
-  pub least : IsOrder (rows_of xs) order
-  pub distinct : AreDistinct xs
-  pub are : ids ≡ map local_id (in_turn xs order)
 
 -- what is wrong with the functions of a scope on whose sides nothing else stands, whose names stand for places of an arena
 pub data IsWrongFunctions (env : Env) (es : List TypeDef) (xs : List ScopeName) (fns : List SourceFunction) (f : Fault) : Type 0 where

@@ -63,9 +63,3 @@ pub record IsWrongHandleOf (old : List TypeDef) (cs : List Cell) (o : TypeOwner)
 pub data IsWrongNames (old : List TypeDef) (cs : List Cell) (by_name : Names) (o : TypeOwner) (xs : List ScopeName) (f : Fault) : Type 0 where
   WrongScopeNames : ((fns : List SourceFunction) → IsWrongScope cs by_name xs fns f) → IsWrongNames old cs by_name o xs f
   WrongHandleNames : IsWrongHandleOf old cs o xs f → IsWrongNames old cs by_name o xs f
-
--- what is required stands behind what was required before
-pub record Emits (old new : List Required) (P : List Required → Type 0) : Type 0 where
-  pub own : List Required
-  pub list : new ≡ old ++ own
-  pub holds : P own

@@ -13,7 +13,6 @@ use Rattle.wit_syntax.specs.Sides.{side_items, IsBrokenSides}
 use Rattle.wit_arena.specs.Resolving.{Names, Cell, Required, IsWrongScope}
 use Rattle.wit_arena.specs.Resolved.{AddsScope, AddsBehind, IsWrongHandleNow}
 use Rattle.wit_signatures.specs.Taken.{name_of_function, name_of_made}
-use Rattle.wit_externs.specs.Held.{externs_behind}
 use Rattle.wit_externs.specs.Clash.{DifferOnSides}
 use Rattle.wit_externs.specs.declared.held.Led.TheVariants as led
 use Rattle.wit_externs.specs.declared.held.HeldLink.{HeldLink}
@@ -25,11 +24,6 @@ use Rattle.wit_scopes.specs.Held.{name_behind, Held as HeldName}
 pub record IsHeldBy (item : Item) (d : Declared) (xs : List HeldName) : Type 0 where
   pub declared : item.declared ≡ d
   pub names : scope_names item ≡ map name_behind xs
-
--- these are the names of an item and what it has on its sides
-pub record IsStandingBy (item : Item) (xs : List HeldName) (hs : List HeldExtern) : Type 0 where
-  pub names : scope_names item ≡ map name_behind xs
-  pub sides : side_items item ≡ externs_behind hs
 
 -- the names of an item were added, which are these in turn, and behind them its functions
 pub record AddsBody (old new : List TypeDef) (cs : List Cell) (o : TypeOwner) (item : Item) (types : Names) (ids : List Id) (fs : List Function) (rs : List Required) : Type 0 where

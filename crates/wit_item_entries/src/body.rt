@@ -22,10 +22,11 @@ ghost use Rattle.wit_scopes.specs.Held.{name_behind};
 ghost use Rattle.wit_scopes.specs.Front.{AreNamesPlaced};
 ghost use Rattle.wit_items.specs.Items.{declared_behind, scope_item};
 ghost use Rattle.wit_items.specs.Told.{AreOf};
-ghost use Rattle.wit_item_entries.specs.Behind.{IsTurn};
+ghost use Rattle.wit_uses.specs.Behind.{IsTurn};
 ghost use Rattle.wit_item_entries.specs.Between.{AddsTurn};
 ghost use Rattle.wit_item_entries.specs.Body.{AddsBody, IsHeldBy, IsWrongBody};
-ghost use Rattle.wit_items.specs.Interfaces.{cells_of, front_of};
+ghost use Rattle.wit_item_names.specs.Interfaces.{front_of};
+ghost use Rattle.wit_items.specs.Interfaces.{cells_of};
 
 use crate::functions::interface_functions;
 use crate::names::{ResolvedNames, resolve_names};
@@ -63,7 +64,7 @@ pub struct ItemFunctions<'t, 'a> {
 /// What is told of an item, and its names, with what is in them.
 pub fn resolve_head<'a>(
     alloc: Global,
-    item: &ItemScope<'_, '_, 'a>,
+    item: &ItemScope<'_, 'a, '_>,
     types: &mut Entries,
     interfaces: &Interfaces<'_, '_, '_>,
     owner: TypeOwner,

@@ -7,4 +7,3 @@ pub mod names;
 mod own_keys;
 pub mod required;
 pub mod signatures;
-pub mod uses;

@@ -10,13 +10,13 @@ ghost use Rattle.wit_syntax.specs.Shape.{all_handles};
 ghost use Rattle.wit_syntax.specs.Function.{SourceFunction, name_types};
 ghost use Rattle.wit_entries.specs.Requiring.{IsGrown, Requires};
 ghost use Rattle.wit_scopes.specs.Held.{name_behind, use_behind, definition_behind};
-ghost use Rattle.wit_items.specs.Interfaces.{front_of, cells_of};
+ghost use Rattle.wit_item_names.specs.Interfaces.{front_of};
+ghost use Rattle.wit_items.specs.Interfaces.{cells_of};
 ghost use Rattle.wit_scopes.specs.Front.{AreNamesPlaced};
 ghost use Rattle.wit_scopes.specs.Between.{AreInTurn, IsBrokenAmong, IsOfFunctions};
 ghost use Rattle.wit_item_entries.specs.Between.{IsWrongHandleIn, IsWrongHandleTurn, IsWrongNames, DefinesTurn, AddsTurn};
 ghost use Rattle.wit_arena.specs.Resolving.{Cell, env_of, Defines, AreLegalBodies, AreLegalNotes, HasNames, IsIndex, names_in};
 
-use crate::uses::resolve_uses;
 use std::alloc::Global;
 use wit_definitions::definitions::define;
 use wit_entries::entries::Entries;
@@ -28,6 +28,7 @@ use wit_scopes::scope_name::{DefinedName, ScopeName, UsedName, definitions, used
 use wit_tree::ParseResult;
 use wit_tree::tree::Id;
 use wit_types::{TypeId, TypeOwner};
+use wit_uses::uses::resolve_uses;
 use wit_values::TextTable;
 
 /// The names of a scope that is resolved.

@@ -3,7 +3,7 @@ ghost use Rattle.std.specs.Prelude.{◌≡◌};
 ghost use Rattle.std.specs.Char.{is_ascii_uppercase};
 ghost use Rattle.std.specs.List.{list_any};
 
-use wit_notes::repeats::has_upper_case;
+use wit_refusals::repeats::has_upper_case;
 use wit_tree::tree::Id;
 
 /// Whether a letter of some name is upper case.

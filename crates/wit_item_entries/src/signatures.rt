@@ -17,7 +17,8 @@ ghost use Rattle.wit_entries.specs.Requiring.{IsGrown, Requires};
 ghost use Rattle.wit_rules.specs.Signatures.{HaveOwners};
 ghost use Rattle.wit_signatures.specs.Taken.{name_of_function, name_of_made};
 ghost use Rattle.wit_externs.specs.Clash.{DifferOnSides, all_on};
-ghost use Rattle.wit_item_entries.specs.Behind.{IsTurn, IsWrongFunctions};
+ghost use Rattle.wit_uses.specs.Behind.{IsTurn};
+ghost use Rattle.wit_item_entries.specs.Behind.{IsWrongFunctions};
 ghost use Rattle.wit_scopes.specs.Held.{name_behind};
 
 use crate::functions::written_results;

@@ -1,5 +1,3 @@
-mod Finding
-pub mod Others
 mod Placed
 pub mod Usable
 pub mod Written

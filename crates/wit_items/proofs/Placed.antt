@@ -1,15 +1,12 @@
 -- Names of scopes, and the interfaces of other packages at their places.
 use Rattle.std.proofs.Common.{◌≡◌, ℕ, zero, suc, List, [], ◌∷◌, ◌++◌, Some, inl, inr, refl, sym, subst}
 use Rattle.std.specs.Prelude.{All, slice_get}
-use Rattle.std.proofs.lemmas.List.Elements.{All-nil, All-push}
+use Rattle.std.proofs.lemmas.List.Elements.{All-nil}
 use Rattle.wit_syntax.specs.Address.{Address}
 use Rattle.wit_syntax.proofs.Lists.{at_either}
 use Rattle.wit_items.specs.declared.items.Item.{Item}
 use Rattle.wit_scopes.specs.Front.{AreNamesPlaced}
 use Rattle.wit_items.specs.Front.{AreItemsPlaced}
-
-pub names_none : (front : List Address) → AreNamesPlaced front []
-names_none front = record { each = λ k x at. absurd (let f : ⊥ = cc in f) }
 
 pub items_none : (front : List Address) → AreItemsPlaced front []
 items_none front = record {
@@ -50,7 +47,3 @@ items_more front items new x grown placed one = rw grown (record {
     | inr last ↦ subst (λ (y : Item). All (λ ns. AreNamesPlaced front ns.items) y.exported.items) (sym last.1) (one.exported 0 x refl)
   ];
 })
-
--- what holds of each of a list holds of one more
-pub all_more : {X : Type 0} (P : X → Type 0) (xs ys : List X) (x : X) → ys ≡ xs ++ x ∷ [] → All P xs → P x → All P ys
-all_more P xs ys x grown before one = rw grown (All-push P xs x before one)

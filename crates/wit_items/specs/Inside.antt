@@ -1,23 +1,13 @@
 -- The names of interfaces that are written in worlds.
-use Rattle.std.specs.Prelude.{if◌then◌else◌, List, [], ◌∷◌, map}
+use Rattle.std.specs.Prelude.{List, map}
 use Rattle.std.specs.List.{flat_map}
-use Rattle.wit_tree.specs.declared.tree.ExternKind.{ExternKind}
-use Rattle.wit_tree.specs.declared.tree.ExternKind.TheVariants as extern
-use Rattle.wit_tree.specs.declared.tree.InterfaceItem.{InterfaceItem}
-use Rattle.wit_tree.specs.declared.tree.Use.{Use}
 use Rattle.wit_tree.specs.declared.tree.WorldSide.{WorldSide}
 use Rattle.wit_tree.specs.declared.tree.WorldSide.TheVariants.{Imported, Exported}
-use Rattle.wit_syntax.specs.Crossing.{same_side, inline_uses}
-use Rattle.wit_syntax.specs.Source.{TopName, interface_part, part_names, Part, Defining, Using, Including, Doing, Crossing, Item, ScopeName}
-use Rattle.wit_syntax.specs.Sides.{SideItem, SideFunction, SideLink, SideInline, side_items, items_on}
+use Rattle.wit_syntax.specs.Source.{Item, ScopeName}
+use Rattle.wit_syntax.specs.Sides.{side_items, items_on}
 use Rattle.wit_scopes.specs.Held.{name_behind}
 use Rattle.wit_items.specs.declared.items.Item.{Item as Held}
-
--- the names of the interface that it is, if it is written there
-abbrev pub inline_names : List TopName → SideItem → List (List ScopeName)
-inline_names top (SideFunction fn) = []
-inline_names top (SideLink link) = []
-inline_names top (SideInline x name items) = flat_map (part_names top) (map interface_part items) ∷ []
+use Rattle.wit_item_names.specs.Inside.{inline_names}
 
 -- those of the interfaces that are written on a side of an item
 abbrev pub names_written : WorldSide → Item → List (List ScopeName)
@@ -27,26 +17,3 @@ names_written side i = flat_map (inline_names i.top) (items_on side (side_items 
 abbrev pub inside_behind : WorldSide → Held → List (List ScopeName)
 inside_behind Imported i = map (λ ns. map name_behind ns.items) i.imported.items
 inside_behind Exported i = map (λ ns. map name_behind ns.items) i.exported.items
-
--- the items of the interface that it is, if it is written there
-abbrev pub kind_items : ExternKind → List (List InterfaceItem)
-kind_items (extern.Interface name items) = items.items ∷ []
-kind_items (extern.Path path) = []
-kind_items (extern.Func name f) = []
-kind_items (extern.NamedPath name path) = []
-
--- those of a part, if it stands on a side
-abbrev pub written_items : WorldSide → Part → List (List InterfaceItem)
-written_items side (Defining d) = []
-written_items side (Using u) = []
-written_items side (Including i) = []
-written_items side (Doing f) = []
-written_items side (Crossing x) = if same_side side x.side then kind_items x.kind else []
-
--- the uses of the interface that is written in a part, if it stands on a side
-abbrev pub side_uses : WorldSide → Part → List Use
-side_uses side (Defining d) = []
-side_uses side (Using u) = []
-side_uses side (Including i) = []
-side_uses side (Doing f) = []
-side_uses side (Crossing x) = if same_side side x.side then inline_uses x.kind else []

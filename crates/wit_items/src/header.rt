@@ -10,8 +10,8 @@ ghost use Rattle.wit_items.specs.Headers.{is_documented, have_docs};
 
 use semver::Version;
 use std::alloc::{AllocError, Global};
-use wit_notes::refusal::refuse;
 use wit_notes::{docs, package_name};
+use wit_refusals::refusal::refuse;
 use wit_tree::ParseResult;
 use wit_tree::tree::{self, PackageFile};
 use wit_types::Docs;

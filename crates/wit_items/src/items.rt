@@ -5,16 +5,18 @@ ghost use Rattle.wit_syntax.specs.Source.{scope_names, file_items, all_items};
 ghost use Rattle.wit_syntax.specs.Foreign.{visited, foreign_interfaces};
 ghost use Rattle.wit_syntax.specs.Broken.{IsBroken, Refused};
 ghost use Rattle.wit_scopes.specs.Held.{name_behind};
-ghost use Rattle.wit_items.specs.Items.{item_behind, names_behind, scope_item, AreFiled, AreEntriesOf, HaveSoundUses, HasUnsoundUse};
+ghost use Rattle.wit_item_names.specs.Items.{AreEntriesOf};
+ghost use Rattle.wit_items.specs.Items.{item_behind, names_behind, scope_item, AreFiled, HaveSoundUses, HasUnsoundUse};
 ghost use Rattle.wit_items.specs.Inside.{inside_behind, names_written};
 ghost use Rattle.wit_items.specs.Front.{AreItemsPlaced};
 
-use crate::inside::names_inside;
-use crate::parts::{interface_names, world_names};
 use std::alloc::Global;
-use wit_files::{FileNames, declarations};
+use wit_files::FileNames;
+use wit_item_names::inside::names_inside;
+use wit_item_names::parts::{interface_names, world_names};
 use wit_model::AstItem as Entry;
 use wit_scopes::scope_name::ScopeName;
+use wit_top_names::declarations;
 use wit_tree::ParseResult;
 use wit_tree::tree::{
     AstItem, Extern, Id, Interface, InterfaceItem, PackageFile, World, WorldSide,
@@ -69,7 +71,7 @@ impl Drop for Item<'_, '_> {
 
 /// An item with the names of its scope, which are lent.
 #[derive(Clone, Copy)]
-pub struct ItemScope<'i, 'f, 'a> {
+pub struct ItemScope<'f, 'a, 'i> {
     pub file: &'f PackageFile<'a>,
     pub declared: Declared<'f, 'a>,
     pub names: &'i [ScopeName<'f, 'a>],
@@ -84,7 +86,7 @@ fn copied<'f, 'a>(declared: &Declared<'f, 'a>) -> Declared<'f, 'a>
 
 impl<'f, 'a> Item<'f, 'a> {
     /// The item with its names, but for those of what is written in it.
-    pub fn scope(&self) -> ItemScope<'_, 'f, 'a>
+    pub fn scope(&self) -> ItemScope<'f, 'a, '_>
         ensures item { scope_item result ≡ item_behind self.now }
         ensures names { map name_behind result.names.now ≡ names_behind self.now }
         ensures held { result.names.now ≡ self.now.names.items }

@@ -1,11 +1,8 @@
-//! Declared items, each with the names of its scope, what their paths lead to, what is told of a package and of an item,
+//! Declared items, each with the names of its scope, what is told of a package and of an item,
 //! and the interfaces that are resolved.
 #![tactic(auto)]
 
 pub mod header;
-mod inside;
 pub mod interfaces;
 pub mod items;
 pub mod notes;
-mod parts;
-pub mod reached;

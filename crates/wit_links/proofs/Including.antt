@@ -23,9 +23,9 @@ use Rattle.wit_arena.specs.Resolving.{Names, IsLostInclude}
 use Rattle.wit_syntax.proofs.Lists.{at_either}
 use Rattle.wit_syntax.proofs.Orders.{take_next}
 use Rattle.wit_syntax.proofs.Found.{contains_at}
-use Rattle.wit_files.proofs.Lost.{at_flat}
+use Rattle.wit_top_names.proofs.Lost.{at_flat}
 use Rattle.wit_links.specs.Includes.{IsLost, AreStable}
-use Rattle.wit_items.proofs.Usable.{contains_one}
+use Rattle.wit_item_names.proofs.Usable.{contains_one}
 
 -- the includes among parts of a world
 abbrev pub included : List WorldItem → List Include

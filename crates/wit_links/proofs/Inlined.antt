@@ -14,7 +14,8 @@ use Rattle.wit_syntax.specs.Source.{Item, ScopeName, TopName, interface_part, pa
 use Rattle.wit_syntax.specs.Sides.{SideItem, SideFunction, SideLink, SideInline, inline_item, item_inline, item_side, items_on, side_items}
 use Rattle.wit_syntax.proofs.Addresses.{side_itself}
 use Rattle.wit_syntax.proofs.Lists.{at_back}
-use Rattle.wit_items.specs.Inside.{inline_names, names_written}
+use Rattle.wit_item_names.specs.Inside.{inline_names}
+use Rattle.wit_items.specs.Inside.{names_written}
 
 -- there are as many lists of names as interfaces
 names_count : (top : List TopName) (xs : List SideItem) → length (flat_map (inline_names top) xs) ≡ length (flat_map item_inline xs)

@@ -9,20 +9,22 @@ ghost use Rattle.wit_externs.specs.Held.{externs_behind, link_behind};
 ghost use Rattle.wit_externs.specs.declared.held.HeldLink.{HeldLink as TheLink};
 ghost use Rattle.wit_externs.specs.declared.held.HeldExtern.TheVariants.{Link as TheHeld};
 ghost use Rattle.wit_files.specs.FileNames.{top_at};
-ghost use Rattle.wit_items.specs.Items.{declared_behind, AreEntriesOf, HasItem, HasPart, HasPath};
-ghost use Rattle.wit_items.specs.Interfaces.{front_of};
-ghost use Rattle.wit_links.specs.Links.{AreLed, IsLed, interfaces_of_others, source_place};
+ghost use Rattle.wit_item_names.specs.Items.{AreEntriesOf, HasItem, HasPart, HasPath};
+ghost use Rattle.wit_items.specs.Items.{declared_behind};
+ghost use Rattle.wit_item_names.specs.Interfaces.{front_of};
+ghost use Rattle.wit_world_sides.specs.Links.{AreLed, IsLed, interfaces_of_others, source_place};
 
 use std::alloc::{AllocError, Global};
 use wit_externs::held::{HeldExtern, HeldInline, HeldLink, Led};
-use wit_files::declaration::world_items;
-use wit_files::{FileNames, Target};
+use wit_files::FileNames;
+use wit_item_names::reached::{Reached, reach};
 use wit_items::interfaces::Interfaces;
 use wit_items::items::Declared;
-use wit_items::reached::{Reached, reach};
 use wit_model::AstItem as Entry;
 use wit_rules::held::HeldFunction;
 use wit_scopes::scope_name::Source;
+use wit_top_names::Target;
+use wit_top_names::declaration::world_items;
 use wit_tree::tree::{Extern, ExternKind, Id, TypeBody, TypeDef, UsePath, World, WorldItem};
 
 /// The place of the interface that is held, where it is resolved.

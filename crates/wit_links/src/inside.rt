@@ -147,7 +147,7 @@ pub fn inside_scope<'i, 'f, 'a>(
     world: &'a str,
     inline: &HeldInline<'f, 'a>,
     before: Counts,
-) -> ItemScope<'i, 'f, 'a>
+) -> ItemScope<'f, 'a, 'i>
     requires called { item_name (item_behind item.now) ≡ world.now }
     requires within { before.inline < length (inside_behind inline.now.written.now.side item.now) }
     ensures item { inline_item (item_behind item.now) before.interfaces (extern_behind (TheHeld inline.now)) ≡ scope_item result ∷ [] }

@@ -4,5 +4,3 @@
 pub mod externs;
 pub mod includes;
 pub mod inside;
-pub mod setters;
-pub mod sides;

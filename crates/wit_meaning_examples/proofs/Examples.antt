@@ -8,11 +8,11 @@ use Rattle.wit_values.specs.declared.span.Span.{Span}
 use Rattle.wit_tree.specs.declared.tree.Id.{Id}
 use Rattle.wit_tree.specs.declared.tree.Docs.{Docs as Comments}
 use Rattle.wit_tree.specs.declared.tree.Attribute.{Attribute}
-use Rattle.wit_tree.specs.declared.tree.Field.{Field as WrittenField}
-use Rattle.wit_tree.specs.declared.tree.«Type».{«Type» as Written}
-use Rattle.wit_tree.specs.declared.tree.«Type».TheVariants as written
-use Rattle.wit_tree.specs.declared.tree.TypeBody.TheVariants.{Record, Plain}
-use Rattle.wit_tree.specs.declared.tree.TypeDef.{TypeDef as Definition}
+use Rattle.wit_tree.specs.declared.types.Field.{Field as WrittenField}
+use Rattle.wit_tree.specs.declared.types.«Type».{«Type» as Written}
+use Rattle.wit_tree.specs.declared.types.«Type».TheVariants as written
+use Rattle.wit_tree.specs.declared.types.TypeBody.TheVariants.{Record, Plain}
+use Rattle.wit_tree.specs.declared.types.TypeDef.{TypeDef as Definition}
 use Rattle.wit_tree.specs.declared.tree.UsePath.TheVariants as path
 use Rattle.wit_tree.specs.declared.tree.UseName.{UseName}
 use Rattle.wit_tree.specs.declared.tree.Use.{Use}

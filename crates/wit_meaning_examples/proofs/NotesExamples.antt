@@ -16,9 +16,9 @@ use Rattle.wit_tree.specs.declared.attribute_kind.AttributeKind.TheVariants.{Sin
 use Rattle.wit_tree.specs.Attributes.{StandsAt}
 use Rattle.wit_tree.specs.declared.tree.AstItem.TheVariants.{Use as ToplevelItem}
 use Rattle.wit_tree.specs.declared.tree.Docs.{Docs as Comments}
-use Rattle.wit_tree.specs.declared.tree.«Type».TheVariants as written
-use Rattle.wit_tree.specs.declared.tree.TypeBody.TheVariants.{Plain}
-use Rattle.wit_tree.specs.declared.tree.TypeDef.{TypeDef as Definition}
+use Rattle.wit_tree.specs.declared.types.«Type».TheVariants as written
+use Rattle.wit_tree.specs.declared.types.TypeBody.TheVariants.{Plain}
+use Rattle.wit_tree.specs.declared.types.TypeDef.{TypeDef as Definition}
 use Rattle.wit_tree.specs.declared.tree.UsePath.TheVariants as path
 use Rattle.wit_tree.specs.declared.tree.ToplevelUse.{ToplevelUse}
 use Rattle.wit_tree.specs.declared.tree.PackageName.{PackageName as Header}

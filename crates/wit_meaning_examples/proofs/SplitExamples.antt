@@ -11,10 +11,10 @@ use Rattle.wit_tree.specs.declared.tree.InterfaceItem.TheVariants.{TypeDef as Ty
 use Rattle.wit_tree.specs.declared.tree.PackageFile.{PackageFile}
 use Rattle.wit_tree.specs.declared.tree.PackageName.{PackageName as Header}
 use Rattle.wit_tree.specs.declared.tree.ToplevelUse.{ToplevelUse}
-use Rattle.wit_tree.specs.declared.tree.TypeBody.TheVariants.{Plain}
-use Rattle.wit_tree.specs.declared.tree.TypeDef.{TypeDef}
-use Rattle.wit_tree.specs.declared.tree.«Type».{«Type» as Written}
-use Rattle.wit_tree.specs.declared.tree.«Type».TheVariants as written
+use Rattle.wit_tree.specs.declared.types.TypeBody.TheVariants.{Plain}
+use Rattle.wit_tree.specs.declared.types.TypeDef.{TypeDef}
+use Rattle.wit_tree.specs.declared.types.«Type».{«Type» as Written}
+use Rattle.wit_tree.specs.declared.types.«Type».TheVariants as written
 use Rattle.wit_tree.specs.declared.tree.Use.{Use as WrittenUse}
 use Rattle.wit_tree.specs.declared.tree.UseName.{UseName}
 use Rattle.wit_tree.specs.declared.tree.UsePath.{UsePath}

@@ -12,14 +12,14 @@ use Rattle.wit_tree.specs.declared.tree.Docs.{Docs as Comments}
 use Rattle.wit_tree.specs.declared.tree.Extern.{Extern}
 use Rattle.wit_tree.specs.declared.tree.ExternKind.{ExternKind}
 use Rattle.wit_tree.specs.declared.tree.ExternKind.TheVariants as extern
-use Rattle.wit_tree.specs.declared.tree.FuncForm.TheVariants as form
+use Rattle.wit_tree.specs.declared.types.FuncForm.TheVariants as form
 use Rattle.wit_tree.specs.declared.tree.Id.{Id}
-use Rattle.wit_tree.specs.declared.tree.NamedFunc.{NamedFunc}
-use Rattle.wit_tree.specs.declared.tree.ResourceFunc.TheVariants as resource
-use Rattle.wit_tree.specs.declared.tree.«Type».{«Type» as Written, None', Some'}
-use Rattle.wit_tree.specs.declared.tree.«Type».TheVariants as written
-use Rattle.wit_tree.specs.declared.tree.TypeBody.TheVariants.{Resource}
-use Rattle.wit_tree.specs.declared.tree.TypeDef.{TypeDef as Definition}
+use Rattle.wit_tree.specs.declared.types.NamedFunc.{NamedFunc}
+use Rattle.wit_tree.specs.declared.types.ResourceFunc.TheVariants as resource
+use Rattle.wit_tree.specs.declared.types.«Type».{«Type» as Written, None', Some'}
+use Rattle.wit_tree.specs.declared.types.«Type».TheVariants as written
+use Rattle.wit_tree.specs.declared.types.TypeBody.TheVariants.{Resource}
+use Rattle.wit_tree.specs.declared.types.TypeDef.{TypeDef as Definition}
 use Rattle.wit_tree.specs.declared.tree.Use.{Use as WrittenUse}
 use Rattle.wit_tree.specs.declared.tree.UseName.{UseName}
 use Rattle.wit_tree.specs.declared.tree.UsePath.TheVariants as path

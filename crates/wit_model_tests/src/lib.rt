@@ -1,5 +1,5 @@
-//! Tests of `wit_order`, `wit_types`, `wit_package_names`, `wit_functions`, `wit_model` and `wit_intern`: each
-//! public call that neither the program nor a row makes, with ample memory.
+//! Tests of `wit_names`, `wit_values`, `wit_order`, `wit_types`, `wit_package_names`, `wit_functions`,
+//! `wit_model` and `wit_intern`: each public call that neither the program nor a row makes, with ample memory.
 #![tactic(auto)]
 
 #[cfg(test)]
@@ -8,6 +8,8 @@ mod calling;
 mod interning;
 #[cfg(test)]
 mod kinds;
+#[cfg(test)]
+mod names;
 #[cfg(test)]
 mod orders;
 #[cfg(test)]
@@ -22,5 +24,7 @@ mod small;
 mod toposort;
 #[cfg(test)]
 mod tracks;
+#[cfg(test)]
+mod values;
 #[cfg(test)]
 mod worlds;

@@ -1,10 +1,3 @@
-pub mod Cases
 pub mod Texts
-pub mod Tables
-pub mod Seeing
-pub mod Few
-pub mod Seconds
-pub mod Scoping
 pub mod Telling
 pub mod NoAttributes
-pub mod Apart

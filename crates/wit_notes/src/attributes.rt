@@ -10,9 +10,9 @@ ghost use Rattle.wit_tree.specs.declared.attribute_kind.AttributeKind.TheVariant
 ghost use Rattle.wit_notes.specs.Kinds.{IsEachOnce, IsRepeat, number_of};
 
 use crate::package::release_of;
-use crate::refusal::refuse;
 use semver::Version;
 use std::alloc::{AllocError, Global};
+use wit_refusals::refusal::refuse;
 use wit_tree::attribute_kind::{AttributeKind, first_of, is_of, kind_of, span_of};
 use wit_tree::tree::Attribute;
 use wit_tree::{ParseError, ParseResult, Span};

@@ -1,7 +1,5 @@
-mod Files
 mod LastHeader
 mod Backward
-mod Fronting
 mod WrittenMarks
 mod FunctionMarks
 mod TypeIds

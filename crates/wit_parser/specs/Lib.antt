@@ -1,4 +1,3 @@
-pub mod Between
 pub mod Ids
 pub mod Marks
 pub mod Stray

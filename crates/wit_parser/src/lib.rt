@@ -3,7 +3,6 @@
 //! What a caller meets on the way, trees, names, orders and the data of a package, is given again here.
 #![tactic(auto)]
 
-mod contents;
 pub mod laws;
 pub mod resolver;
 
@@ -20,6 +19,7 @@ pub use wit_model::{
 pub use wit_names::{
     Folded, LabelFault, getter_for_setter, is_mangled, split_canonical, validate_id,
 };
-pub use wit_notes::{NameScope, check_unique_names, docs, external_id, package_name, stability};
+pub use wit_notes::{docs, external_id, package_name, stability};
 pub use wit_order::{Steps, order_steps, toposort, toposort_heap};
+pub use wit_refusals::{NameScope, check_unique_names};
 pub use wit_tree::{AccessorKind, ParseError, ParseErrorKind, ParseResult, Span, tree};

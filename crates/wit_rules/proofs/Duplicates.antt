@@ -3,7 +3,7 @@ use Rattle.std.proofs.Common.{◌≡◌, ℕ, false, List, [], ◌∷◌, length
 use Rattle.wit_tree.specs.declared.tree.Id.{Id}
 use Rattle.wit_syntax.specs.Fault.{Fault}
 use Rattle.wit_syntax.specs.Bodies.{folded, IsDuplicateName}
-use Rattle.wit_notes.specs.Names.{IsSecond, IsFirstSecond}
+use Rattle.wit_refusals.specs.Names.{IsSecond, IsFirstSecond}
 
 pub duplicate : (names : List Id) (f : Fault) → IsFirstSecond names f → IsDuplicateName names f
 duplicate names f h =

@@ -1,7 +1,7 @@
 //! The rules of functions: of their parameters and of their results.
 ghost use Rattle.std.specs.Prelude.{◌≡◌, ◌⊎◌, ◌↔◌, List, Some, None, IfErr, IfNone, IfOk, IfSome, IsTrue, OnOk, map};
 ghost use Rattle.wit_tree.specs.Refusal.{IsWantOfMemory};
-ghost use Rattle.wit_tree.specs.declared.tree.FuncForm.TheVariants.{Getter, Setter};
+ghost use Rattle.wit_tree.specs.declared.types.FuncForm.TheVariants.{Getter, Setter};
 ghost use Rattle.wit_syntax.specs.Fault.{Fault, fault, fault_of};
 ghost use Rattle.wit_syntax.specs.Source.{ScopeName};
 ghost use Rattle.wit_syntax.specs.Broken.{Refused};
@@ -13,8 +13,8 @@ ghost use Rattle.wit_rules.specs.Signatures.{AreResults, IsRepeatedAt, IsBrokenR
 use crate::function_scope::{result_ok, span_of};
 use crate::held::HeldFunction;
 use std::alloc::{AllocError, Global};
-use wit_notes::refusal::{refuse, refuse_in};
-use wit_notes::repeats::first_folded_repeat;
+use wit_refusals::refusal::{refuse, refuse_in};
+use wit_refusals::repeats::first_folded_repeat;
 use wit_tree::tree::{FuncForm, Id, Type};
 use wit_tree::{ParseError, ParseResult, Span};
 use wit_values::TextTable;

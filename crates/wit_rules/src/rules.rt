@@ -5,8 +5,8 @@ ghost use Rattle.wit_syntax.specs.Bodies.{IsKey, IsInvalidKey, IsEmptyTuple, IsF
 ghost use Rattle.wit_syntax.specs.Broken.{Refused};
 
 use std::alloc::{AllocError, Global};
-use wit_notes::check_unique_names;
-use wit_notes::refusal::refuse;
+use wit_refusals::check_unique_names;
+use wit_refusals::refusal::refuse;
 use wit_tree::tree::{Case, EnumCase, Field, Flag, Id, Type};
 use wit_tree::{ParseResult, Span};
 

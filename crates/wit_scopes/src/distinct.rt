@@ -8,8 +8,8 @@ ghost use Rattle.wit_syntax.specs.Repeats.{AllDiffer};
 
 use crate::scope_name::{DefinedName, UsedName, local_of};
 use std::alloc::{AllocError, Global};
-use wit_notes::refusal::refuse;
-use wit_notes::repeats::first_repeat;
+use wit_refusals::refusal::refuse;
+use wit_refusals::repeats::first_repeat;
 use wit_tree::ParseResult;
 use wit_tree::tree::Id;
 

@@ -51,8 +51,8 @@ pub enum Named<U, D> {
 
 /// A name of a scope.
 ///
-/// Where a list of them is gone over, the trees that they borrow from are no part of what is proved,
-/// since [`Named`] knows nothing of them.
+/// A list of them is one of [`Named`]s, which know nothing of the trees that they borrow from: so to go
+/// over it costs no comparison of these trees' types.
 pub type ScopeName<'t, 'a> = Named<UsedName<'t, 'a>, DefinedName<'t, 'a>>;
 
 /// Adds the names that are used from an interface, by a `use` with these attributes.

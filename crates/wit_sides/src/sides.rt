@@ -2,12 +2,12 @@
 ghost use Rattle.std.specs.Prelude.{◌≡◌, ◌++◌, [], ◌↔◌, IfErr, IfOk, IsTrue, OnErr, OnOk};
 ghost use Rattle.wit_names.specs.Mangled.{is_mangled};
 ghost use Rattle.wit_syntax.specs.Broken.{Refused};
-ghost use Rattle.wit_notes.specs.Names.{IsDefinedAgain, IsTaken};
-ghost use Rattle.wit_notes.specs.Scope.{HasName};
+ghost use Rattle.wit_refusals.specs.Names.{IsDefinedAgain, IsTaken};
+ghost use Rattle.wit_refusals.specs.Scope.{HasName};
 ghost use Rattle.wit_sides.specs.Sides.{only_on, taken_on};
 
 use std::alloc::{AllocError, Global};
-use wit_notes::NameScope;
+use wit_refusals::NameScope;
 use wit_tree::tree::WorldSide;
 use wit_tree::{ParseResult, Span};
 

@@ -1,7 +1,7 @@
 //! Types in signatures.
 ghost use Rattle.std.specs.Prelude.{◌≡◌, ◌<◌, ◌↔◌, List, None, IfOk, IfErr, IsTrue, OnOk, length, map};
 ghost use Rattle.wit_tree.specs.Refusal.{IsItemNotFound};
-ghost use Rattle.wit_tree.specs.declared.tree.«Type».{«Type» as Written};
+ghost use Rattle.wit_tree.specs.declared.types.«Type».{«Type» as Written};
 ghost use Rattle.wit_types.specs.declared.types.TypeDef.{TypeDef};
 ghost use Rattle.wit_types.specs.declared.stability.Stability.TheVariants.{Unknown};
 ghost use Rattle.wit_syntax.specs.Shape.{shape_of, handles};
@@ -20,7 +20,7 @@ use std::alloc::{AllocError, Global};
 use wit_entries::entries::Entries;
 use wit_entries::scope::Required;
 use wit_entries::types::resolve_type;
-use wit_notes::refusal::refuse_in;
+use wit_refusals::refusal::refuse_in;
 use wit_rules::function_scope::FunctionScope;
 use wit_rules::held::HeldFunction;
 use wit_tree::{ParseError, ParseErrorKind, ParseResult, Span, tree};

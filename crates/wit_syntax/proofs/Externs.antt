@@ -2,7 +2,7 @@
 use Rattle.std.proofs.Common.{◌≡◌, ℕ, zero, suc, Some}
 use Rattle.std.specs.Prelude.{slice_get}
 use Rattle.wit_tree.specs.declared.tree.Id.{Id}
-use Rattle.wit_tree.specs.declared.tree.Func.{Func}
+use Rattle.wit_tree.specs.declared.types.Func.{Func}
 use Rattle.wit_tree.specs.declared.tree.Extern.{Extern}
 use Rattle.wit_tree.specs.declared.tree.ExternKind.{ExternKind}
 use Rattle.wit_tree.specs.declared.tree.ExternKind.TheVariants as extern

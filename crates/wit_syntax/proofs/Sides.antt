@@ -6,10 +6,10 @@ use Rattle.std.proofs.lemmas.Bool.{cases_Bool, cond-true, cond-false}
 use Rattle.std.proofs.lemmas.List.{map-append}
 use Rattle.std.proofs.lemmas.List.Elements.{filter-append}
 use Rattle.wit_tree.specs.declared.tree.Id.{Id}
-use Rattle.wit_tree.specs.declared.tree.TypeBody.{TypeBody}
-use Rattle.wit_tree.specs.declared.tree.TypeBody.TheVariants as body
-use Rattle.wit_tree.specs.declared.tree.ResourceFunc.{ResourceFunc}
-use Rattle.wit_tree.specs.declared.tree.ResourceFunc.TheVariants as resource
+use Rattle.wit_tree.specs.declared.types.TypeBody.{TypeBody}
+use Rattle.wit_tree.specs.declared.types.TypeBody.TheVariants as body
+use Rattle.wit_tree.specs.declared.types.ResourceFunc.{ResourceFunc}
+use Rattle.wit_tree.specs.declared.types.ResourceFunc.TheVariants as resource
 use Rattle.wit_tree.specs.declared.tree.InterfaceItem.{InterfaceItem}
 use Rattle.wit_tree.specs.declared.tree.InterfaceItem.TheVariants as interface_item
 use Rattle.wit_tree.specs.declared.tree.WorldSide.{WorldSide}

@@ -10,7 +10,7 @@ use Rattle.wit_tree.specs.declared.tree.Attribute.{Attribute}
 use Rattle.wit_tree.specs.declared.tree.WorldSide.{WorldSide}
 use Rattle.wit_tree.specs.declared.tree.Use.{Use as WrittenUse}
 use Rattle.wit_tree.specs.declared.tree.Include.{Include}
-use Rattle.wit_tree.specs.declared.tree.TypeDef.{TypeDef}
+use Rattle.wit_tree.specs.declared.types.TypeDef.{TypeDef}
 use Rattle.wit_tree.specs.declared.tree.UsePath.{UsePath}
 use Rattle.wit_tree.specs.declared.tree.UseName.{UseName}
 use Rattle.wit_tree.specs.declared.tree.ToplevelUse.{ToplevelUse}

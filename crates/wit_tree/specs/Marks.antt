@@ -8,20 +8,20 @@ use Rattle.wit_tree.specs.declared.tree.Id.{Id}
 use Rattle.wit_tree.specs.declared.tree.Docs.{Docs}
 use Rattle.wit_tree.specs.declared.tree.Attribute.{Attribute}
 use Rattle.wit_tree.specs.declared.tree.Attribute.TheVariants.{Since, Unstable, Deprecated, ExternalId}
-use Rattle.wit_tree.specs.declared.tree.Field.{Field}
-use Rattle.wit_tree.specs.declared.tree.TypeBody.{TypeBody}
-use Rattle.wit_tree.specs.declared.tree.Flag.{Flag}
-use Rattle.wit_tree.specs.declared.tree.Case.{Case}
-use Rattle.wit_tree.specs.declared.tree.EnumCase.{EnumCase}
-use Rattle.wit_tree.specs.declared.tree.TypeBody.TheVariants.{Record, Flags, Variant, Enum, Resource, Plain}
-use Rattle.wit_tree.specs.declared.tree.ResourceFunc.{ResourceFunc}
-use Rattle.wit_tree.specs.declared.tree.ResourceFunc.TheVariants.{Method, Static, Constructor}
-use Rattle.wit_tree.specs.declared.tree.NamedFunc.{NamedFunc}
-use Rattle.wit_tree.specs.declared.tree.Func.{Func}
-use Rattle.wit_tree.specs.declared.tree.FuncForm.{FuncForm}
-use Rattle.wit_tree.specs.declared.tree.FuncForm.TheVariants.{Plain as PlainForm, Async, Getter, Setter}
-use Rattle.wit_tree.specs.declared.tree.Param.{Param}
-use Rattle.wit_tree.specs.declared.tree.TypeDef.{TypeDef}
+use Rattle.wit_tree.specs.declared.types.Field.{Field}
+use Rattle.wit_tree.specs.declared.types.TypeBody.{TypeBody}
+use Rattle.wit_tree.specs.declared.types.Flag.{Flag}
+use Rattle.wit_tree.specs.declared.types.Case.{Case}
+use Rattle.wit_tree.specs.declared.types.EnumCase.{EnumCase}
+use Rattle.wit_tree.specs.declared.types.TypeBody.TheVariants.{Record, Flags, Variant, Enum, Resource, Plain}
+use Rattle.wit_tree.specs.declared.types.ResourceFunc.{ResourceFunc}
+use Rattle.wit_tree.specs.declared.types.ResourceFunc.TheVariants.{Method, Static, Constructor}
+use Rattle.wit_tree.specs.declared.types.NamedFunc.{NamedFunc}
+use Rattle.wit_tree.specs.declared.types.Func.{Func}
+use Rattle.wit_tree.specs.declared.types.FuncForm.{FuncForm}
+use Rattle.wit_tree.specs.declared.types.FuncForm.TheVariants.{Plain as PlainForm, Async, Getter, Setter}
+use Rattle.wit_tree.specs.declared.types.Param.{Param}
+use Rattle.wit_tree.specs.declared.types.TypeDef.{TypeDef}
 use Rattle.wit_tree.specs.declared.tree.InterfaceItem.{InterfaceItem}
 use Rattle.wit_tree.specs.declared.tree.InterfaceItem.TheVariants.{TypeDef as TypeDefItem, Use as UseItem, Func as FuncItem}
 use Rattle.wit_tree.specs.declared.tree.Use.{Use}
@@ -45,7 +45,7 @@ use Rattle.wit_tree.specs.declared.tree.ToplevelUse.{ToplevelUse}
 use Rattle.wit_tree.specs.declared.tree.PackageName.{PackageName}
 use Rattle.wit_tree.specs.declared.tree.NestedPackage.{NestedPackage}
 use Rattle.wit_tree.specs.declared.tree.PackageFile.{PackageFile}
-use Rattle.wit_tree.specs.declared.tree.«Type».{«Type» as Written, Bool, U8, U16, U32, U64, S8, S16, S32, S64, F32, F64, Char, String, ErrorContext, Name, List', FixedLengthList', Map', Option', Result', Tuple', Future', Stream', Own, Borrow, Held-Type-Result-1, None', Some', Row_of-Type, end_of-Type, more_of-Type}
+use Rattle.wit_tree.specs.declared.types.«Type».{«Type» as Written, Bool, U8, U16, U32, U64, S8, S16, S32, S64, F32, F64, Char, String, ErrorContext, Name, List', FixedLengthList', Map', Option', Result', Tuple', Future', Stream', Own, Borrow, Held-Type-Result-1, None', Some', Row_of-Type, end_of-Type, more_of-Type}
 
 pub data Mark : Type 0 where
   -- a name of the tree

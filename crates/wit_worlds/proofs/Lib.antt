@@ -1,10 +1,3 @@
-mod Counted
-mod Closing
-mod Linking
-mod Adding
-mod DoneSides
-mod InsideAt
-mod StandingItem
 mod WrongStanding
 mod WorldsMore
 mod Parts

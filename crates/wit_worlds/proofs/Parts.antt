@@ -32,18 +32,19 @@ use Rattle.wit_externs.specs.Held.{externs_behind}
 use Rattle.wit_externs.specs.Links.{AreLinksPlaced, AreRightLinks}
 use Rattle.wit_externs.specs.declared.held.HeldExtern.{HeldExtern}
 use Rattle.wit_items.specs.Told.{AreOf, notes_behind}
-use Rattle.wit_item_entries.specs.Between.{AddsTurn, Emits}
+use Rattle.wit_uses.specs.Between.{Emits}
+use Rattle.wit_item_entries.specs.Between.{AddsTurn}
 use Rattle.wit_item_entries.specs.Body.{IsWrongBody}
-use Rattle.wit_item_entries.proofs.Telling.{world_told}
+use Rattle.wit_uses.proofs.Telling.{world_told}
 use Rattle.wit_worlds.specs.declared.world.WorldParts.{WorldParts}
 use Rattle.wit_worlds.specs.Between.{AreWorldParts, IsAddedWorld, arenas}
 use Rattle.wit_links.specs.Includes.{AreStable}
-use Rattle.wit_links.specs.Settled.{none_of}
-use Rattle.wit_links.specs.Sides.{entries_on}
-use Rattle.wit_worlds.specs.Standing.{AreConsecutive}
+use Rattle.wit_world_sides.specs.Settled.{none_of}
+use Rattle.wit_world_sides.specs.Sides.{entries_on}
+use Rattle.wit_world_items.specs.Standing.{AreConsecutive}
 use Rattle.wit_links.proofs.Leading.{links_wider}
-use Rattle.wit_links.proofs.SideKeys.{AreMade}
-use Rattle.wit_links.proofs.SideEntries.{AreAt, at_from, entries_are}
+use Rattle.wit_world_sides.proofs.SideKeys.{AreMade}
+use Rattle.wit_world_sides.proofs.SideEntries.{AreAt, at_from, entries_are}
 
 -- an element is the first, or one of those behind it
 at_cons : {X : Type 0} (x : X) (xs : List X) (k : ℕ) (y : X) → slice_get (x ∷ xs) k ≡ Some y → (x ≡ y) ⊎ ((j : ℕ) × (slice_get xs j ≡ Some y))

@@ -16,7 +16,7 @@ use Rattle.wit_arena.specs.Resolved.{AddsEach, AddsWorld, AddsWorlds, AreLegalSi
 use Rattle.wit_scopes.specs.Front.{AreNamesPlaced}
 use Rattle.wit_items.specs.declared.items.Item.{Item as HeldItem}
 use Rattle.wit_items.specs.Front.{AreItemsPlaced}
-use Rattle.wit_item_entries.specs.Between.{Emits}
+use Rattle.wit_uses.specs.Between.{Emits}
 use Rattle.wit_worlds.specs.Between.{arenas}
 
 -- what items add, and one behind them

@@ -15,12 +15,12 @@ use Rattle.wit_externs.specs.declared.held.HeldExtern.{HeldExtern}
 use Rattle.wit_externs.specs.Links.{AreLinksPlaced}
 use Rattle.wit_scopes.specs.Held.{Held as HeldName}
 use Rattle.wit_item_entries.specs.Between.{AddsTurn}
-use Rattle.wit_item_entries.specs.Body.{IsStandingBy}
+use Rattle.wit_uses.specs.Body.{IsStandingBy}
 use Rattle.wit_item_entries.proofs.ScopeFunctions.{turn_added, wrong_among, wrong_function}
 use Rattle.wit_item_entries.proofs.WrongNames.{wrong_world}
-use Rattle.wit_links.specs.Links.{AreLed}
-use Rattle.wit_worlds.specs.Standing.{IsWrongStanding, StandingExtern, StandingFunction, StandingInside, StandingNames, StandingSetter}
-use Rattle.wit_worlds.proofs.Linking.{lost_link}
+use Rattle.wit_world_sides.specs.Links.{AreLed}
+use Rattle.wit_world_items.specs.Standing.{IsWrongStanding, StandingExtern, StandingFunction, StandingInside, StandingNames, StandingSetter}
+use Rattle.wit_world_items.proofs.Linking.{lost_link}
 
 module _ (files : List PackageFile) (front interfaces : List Address) (old mid : List TypeDef) (cs : List Cell) (count : ℕ) (inside : List Interface) (by_name worlds : Names) (o : TypeOwner) (i : Item) (types : Names) (ids : List Id) (required : List Required) (xs : List HeldName) (hs : List HeldExtern) (own : IsStandingBy i xs hs) (n : AddsTurn old mid cs o (scope_names i) types ids required) (led : AreLed files front by_name i.top hs) (placed : AreLinksPlaced interfaces i.top hs) where
   pub wrong_standing : (f : Fault) → IsWrongStanding mid cs count inside by_name types ids i hs f → IsWrongWorld files old cs count inside by_name worlds o i f

@@ -1,2 +1,1 @@
 pub mod Between
-pub mod Standing

@@ -1,5 +1,4 @@
 //! Declared worlds, one after another.
 #![tactic(auto)]
 
-mod standing;
 pub mod world;

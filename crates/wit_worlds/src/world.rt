@@ -14,23 +14,25 @@ ghost use Rattle.wit_types.specs.declared.types.TypeOwner.TheVariants.{World as 
 ghost use Rattle.wit_arena.specs.Resolving.{IsIndex, IsWorldIndex, names_in};
 ghost use Rattle.wit_arena.specs.Resolved.{worlds_at, AddsWorld, AddsWorlds, AreLegalSides, AreSoundScopes, AreUsableLinks, IsBrokenItemStability, HaveLegalStability, IsWrongWorld, front_worlds};
 ghost use Rattle.wit_items.specs.declared.notes.ItemNotes.{ItemNotes as TheNotes};
-ghost use Rattle.wit_items.specs.Items.{declared_behind, item_behind, names_behind, IsFiled, AreFiled, AreEntriesOf, others_of};
+ghost use Rattle.wit_item_names.specs.Items.{AreEntriesOf};
+ghost use Rattle.wit_items.specs.Items.{declared_behind, item_behind, names_behind, IsFiled, AreFiled, others_of};
 ghost use Rattle.wit_items.specs.Front.{AreItemsPlaced};
 ghost use Rattle.wit_items.specs.Inside.{inside_behind, names_written};
 ghost use Rattle.wit_items.specs.Told.{notes_behind, AreOf};
 ghost use Rattle.wit_scopes.specs.Between.{IsOfFunctions};
 ghost use Rattle.wit_scopes.specs.Front.{AreNamesPlaced};
-ghost use Rattle.wit_items.specs.Interfaces.{front_of, cells_of};
-ghost use Rattle.wit_item_entries.specs.Behind.{IsTurn};
-ghost use Rattle.wit_item_entries.specs.Between.{AddsTurn, Emits};
+ghost use Rattle.wit_item_names.specs.Interfaces.{front_of};
+ghost use Rattle.wit_items.specs.Interfaces.{cells_of};
+ghost use Rattle.wit_uses.specs.Behind.{IsTurn};
+ghost use Rattle.wit_uses.specs.Between.{Emits};
+ghost use Rattle.wit_item_entries.specs.Between.{AddsTurn};
 ghost use Rattle.wit_links.specs.Includes.{AreStable};
 ghost use Rattle.wit_item_entries.specs.Body.{IsWrongBody};
 ghost use Rattle.std.specs.List.{flat_map};
 ghost use Rattle.wit_tree.specs.declared.tree.WorldSide.{WorldSide as TheSide};
 ghost use Rattle.wit_worlds.specs.Between.{arenas, AreWorldParts, IsAddedWorld, IsWrongWorldNow};
-ghost use Rattle.wit_links.specs.Links.{interfaces_of_others};
+ghost use Rattle.wit_world_sides.specs.Links.{interfaces_of_others};
 
-use crate::standing::resolve_standing;
 use std::alloc::Global;
 use wit_entries::entries::Entries;
 use wit_entries::scope::Required;
@@ -45,18 +47,19 @@ use wit_items::notes::{ItemNotes, item_notes};
 use wit_links::externs::declared_externs;
 use wit_links::includes::{Worlds, declared_includes};
 use wit_links::inside::declared_name;
-use wit_links::setters::is_closed;
-use wit_links::sides::{WorldSides, fitted, world_sides};
 use wit_model::{Interface, World, WorldInclude};
 use wit_tree::ParseResult;
 use wit_tree::tree::Id;
 use wit_types::{Arena, InterfacePlace, TypeOwner};
 use wit_values::{Row, Text, beside};
+use wit_world_items::standing::resolve_standing;
+use wit_world_sides::setters::is_closed;
+use wit_world_sides::sides::{WorldSides, fitted, world_sides};
 
 /// What a world has but its name: what is told of it, what its handles require of types of other
 /// packages, what it has on its sides, and its includes.
 #[derive(Drop)]
-pub(crate) struct WorldParts {
+pub struct WorldParts {
     pub notes: ItemNotes,
     pub required: Vec<Required>,
     pub sides: WorldSides,
@@ -65,7 +68,7 @@ pub(crate) struct WorldParts {
 
 /// What stands in a world behind its names: on its sides, and its includes.
 #[derive(Drop)]
-pub(crate) struct WorldContent {
+pub struct WorldContent {
     pub sides: WorldSides,
     pub includes: Row<WorldInclude>,
 }

@@ -6,7 +6,7 @@ use Rattle.wit_syntax.specs.Fault.{Fault}
 use Rattle.wit_syntax.specs.Notes.{IsBrokenNotes}
 use Rattle.wit_syntax.specs.Sides.{SideItem}
 use Rattle.wit_syntax.proofs.Refusing.{refused_weaker}
-use Rattle.wit_notes.specs.Names.{Name, IsDefinedAgain}
+use Rattle.wit_refusals.specs.Names.{Name, IsDefinedAgain}
 use Rattle.wit_sides.specs.Sides.{taken_on}
 use Rattle.wit_externs.specs.declared.held.HeldExtern.TheVariants.{Inline}
 use Rattle.wit_externs.specs.Held.{extern_behind}

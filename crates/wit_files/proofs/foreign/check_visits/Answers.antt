@@ -6,7 +6,7 @@ use Rattle.std.proofs.lemmas.Result.{err_from_is_err_and}
 use Rattle.wit_syntax.specs.Notes.{IsBrokenStability}
 use Rattle.wit_syntax.proofs.Refusing.{refused_weaker}
 use Rattle.wit_files.specs.Foreign.{foreign_behind}
-use Rattle.wit_files.specs.Checks.{AreLegalVisits, IsBrokenVisit}
+use Rattle.wit_top_names.specs.Checks.{AreLegalVisits, IsBrokenVisit}
 use Rattle.wit_files.proofs.Unbroken.{visits_legal_none, visits_legal_more, visit_broken}
 use Rattle.wit_files.proofs.foreign.check_visits.Goals as goal
 

@@ -4,8 +4,8 @@ use Rattle.wit_tree.specs.declared.tree.UsePath.{UsePath}
 use Rattle.wit_syntax.specs.Source.{world_part, leads}
 use Rattle.wit_syntax.specs.Scope.{include_path}
 use Rattle.wit_syntax.proofs.Refusing.{refused_weaker}
-use Rattle.wit_files.specs.Checks.{IsLostTarget, IsLostAmong}
-use Rattle.wit_files.proofs.Lost.{lost_one}
+use Rattle.wit_top_names.specs.Checks.{IsLostTarget, IsLostAmong}
+use Rattle.wit_top_names.proofs.Lost.{lost_one}
 use Rattle.wit_files.proofs.item_table.add_include.Goals as goal
 
 pub returns-in_err-add_edge-in-Include-clause-refused : goal.returns-in_err-add_edge-in-Include-clause-refused

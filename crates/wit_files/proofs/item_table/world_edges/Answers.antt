@@ -7,8 +7,8 @@ use Rattle.wit_tree.specs.declared.tree.WorldItem.{WorldItem}
 use Rattle.wit_syntax.specs.Source.{world_part}
 use Rattle.wit_syntax.specs.Scope.{include_path}
 use Rattle.wit_syntax.proofs.Refusing.{refused_weaker}
-use Rattle.wit_files.specs.Checks.{IsLostAmong}
-use Rattle.wit_files.proofs.Lost.{lost_part}
+use Rattle.wit_top_names.specs.Checks.{IsLostAmong}
+use Rattle.wit_top_names.proofs.Lost.{lost_part}
 use Rattle.wit_files.proofs.item_table.world_edges.Goals as goal
 
 pub returns-in_err-add_include-clause-refused : goal.returns-in_err-add_include-clause-refused

@@ -3,7 +3,7 @@ use Rattle.std.proofs.lemmas.List.{length-map}
 use Rattle.wit_files.specs.Foreign.{foreign_behind}
 use Rattle.wit_syntax.specs.Foreign.{visited}
 use Rattle.wit_arena.proofs.Indexing.{index_interface}
-use Rattle.wit_items.specs.Interfaces.{front_of}
+use Rattle.wit_item_names.specs.Interfaces.{front_of}
 use Rattle.wit_interfaces.proofs.declared.add_interface.Goals as goal
 
 pub returns-clause-index : goal.returns-clause-index

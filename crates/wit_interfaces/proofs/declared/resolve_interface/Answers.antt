@@ -10,7 +10,7 @@ use Rattle.wit_syntax.specs.Source.{Item, declared_attributes, declared_name, is
 use Rattle.wit_arena.specs.Resolved.{AddsInterface, IsNameless}
 use Rattle.wit_items.specs.Items.{item_behind}
 use Rattle.wit_items.specs.Interfaces.{cells_of}
-use Rattle.wit_item_entries.specs.Between.{Emits}
+use Rattle.wit_uses.specs.Between.{Emits}
 use Rattle.wit_interfaces.proofs.declared.resolve_interface.Goals as goal
 
 pub interface_of-requires-clause-sort : goal.interface_of-requires-clause-sort

@@ -11,16 +11,16 @@ use Rattle.wit_syntax.specs.Scope.{in_order, interfaces_of}
 use Rattle.wit_arena.specs.Resolving.{Required, cells}
 use Rattle.wit_arena.specs.Resolved.{AddsDeclared, IsWrongInterface}
 use Rattle.wit_types.specs.declared.types.TypeOwner.TheVariants.{Interface as OfInterface}
-use Rattle.wit_items.specs.Interfaces.{front_of}
-use Rattle.wit_item_entries.specs.Between.{Emits}
+use Rattle.wit_item_names.specs.Interfaces.{front_of}
+use Rattle.wit_uses.specs.Between.{Emits}
 use Rattle.wit_interfaces.specs.Between.{IsWrongNow}
 use Rattle.wit_items.specs.declared.items.Item.{Item as HeldItem}
 use Rattle.wit_syntax.proofs.Lists.{read_map, map_map}
 use Rattle.wit_syntax.proofs.Kept.{kept_next, kept_past}
 use Rattle.wit_syntax.proofs.Refusing.{refused_weaker}
 use Rattle.wit_arena.proofs.Adding.{sounds_more}
-use Rattle.wit_item_entries.proofs.Emitting.{emits_more}
-use Rattle.wit_item_entries.proofs.Telling.{interface_stable, sides_more, stability_more}
+use Rattle.wit_uses.proofs.Emitting.{emits_more}
+use Rattle.wit_uses.proofs.Telling.{interface_stable, sides_more, stability_more}
 use Rattle.wit_items.specs.declared.items.Declared.{Declared as HeldDeclared}
 use Rattle.wit_items.specs.Items.{declared_behind, item_behind, names_behind}
 use Rattle.wit_scopes.proofs.Declaring.{alike}

@@ -2,9 +2,9 @@ use Rattle.std.proofs.Common.{◌≡◌, ◌≤◌, length, map, take}
 use Rattle.wit_syntax.specs.Scope.{in_order, interfaces_of}
 use Rattle.wit_arena.specs.Resolving.{cells, IsIndex}
 use Rattle.wit_arena.specs.Resolved.{AddsInterfaces, AreLegalSides, AreSoundScopes, HaveLegalStability}
-use Rattle.wit_items.specs.Interfaces.{front_of}
+use Rattle.wit_item_names.specs.Interfaces.{front_of}
 use Rattle.wit_items.specs.Items.{item_behind}
-use Rattle.wit_item_entries.specs.Between.{Emits}
+use Rattle.wit_uses.specs.Between.{Emits}
 use Rattle.wit_interfaces.proofs.declared.resolve_interfaces.Given as goal
 
 abbrev pub invariant-loop-place : goal.invariant-loop-place

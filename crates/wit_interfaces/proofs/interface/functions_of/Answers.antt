@@ -12,7 +12,7 @@ use Rattle.wit_rules.specs.Held.{function_behind}
 use Rattle.wit_signatures.specs.Taken.{name_of_id, name_of_function}
 use Rattle.wit_externs.specs.Clash.{all_on}
 use Rattle.wit_items.specs.Items.{scope_item, declared_behind}
-use Rattle.wit_item_entries.specs.Behind.{IsTurn}
+use Rattle.wit_uses.specs.Behind.{IsTurn}
 use Rattle.wit_item_entries.specs.Body.{IsHeldBy, IsWrongBody}
 use Rattle.wit_item_entries.proofs.InterfaceSides.{all_imported, names_imported}
 use Rattle.wit_item_entries.proofs.WrongNames.{wrong_interface}

@@ -11,7 +11,8 @@ use Rattle.wit_rules.specs.Signatures.{HaveOwners}
 use Rattle.wit_signatures.specs.Taken.{name_of_function}
 use Rattle.wit_externs.specs.Clash.{DifferOnSides}
 use Rattle.wit_items.specs.Items.{declared_behind}
-use Rattle.wit_item_entries.specs.Behind.{IsTurn, IsWrongFunctions}
+use Rattle.wit_uses.specs.Behind.{IsTurn}
+use Rattle.wit_item_entries.specs.Behind.{IsWrongFunctions}
 use Rattle.wit_item_entries.specs.Body.{IsWrongBody}
 use Rattle.wit_item_entries.proofs.InterfaceSides.{declared_functions, declared_interface, sides_sound}
 use Rattle.wit_item_entries.proofs.Owners.{owners, turn_has}

@@ -13,14 +13,18 @@ use Rattle.wit_syntax.specs.Scope.{part_uses, uses}
 use Rattle.wit_syntax.specs.Foreign.{visited, foreign_interfaces}
 use Rattle.wit_syntax.proofs.Refusing.{refused_weaker}
 use Rattle.wit_files.specs.FileNames.{names_at_top}
-use Rattle.wit_files.proofs.Lost.{flat_more}
+use Rattle.wit_top_names.proofs.Lost.{flat_more}
 use Rattle.wit_scopes.specs.Front.{AreNamesPlaced}
 use Rattle.wit_scopes.proofs.Declaring.{one_more}
-use Rattle.wit_items.specs.Items.{item_behind, names_behind, own_uses, IsUnsoundAmong, HasUnsoundUse}
-use Rattle.wit_items.specs.Inside.{inside_behind, names_written, side_uses}
+use Rattle.wit_item_names.specs.Items.{own_uses, IsUnsoundAmong}
+use Rattle.wit_items.specs.Items.{item_behind, names_behind, HasUnsoundUse}
+use Rattle.wit_item_names.specs.Inside.{side_uses}
+use Rattle.wit_items.specs.Inside.{inside_behind, names_written}
 use Rattle.wit_items.proofs.Placed.{item_placed, none_all, items_more}
-use Rattle.wit_items.proofs.Usable.{declared_among, item_among, item_here, sound_items_more, sound_same, filed_more, unsound_wider, use_has_path}
-use Rattle.wit_items.proofs.Written.{own_among, side_among, among_wider, items_uses, sound_uses, interface_inside, inside_is}
+use Rattle.wit_item_names.proofs.Usable.{use_has_path}
+use Rattle.wit_items.proofs.Usable.{declared_among, item_among, item_here, sound_items_more, sound_same, filed_more, unsound_wider}
+use Rattle.wit_item_names.proofs.Written.{own_among, side_among}
+use Rattle.wit_items.proofs.Written.{among_wider, items_uses, sound_uses, interface_inside, inside_is}
 use Rattle.wit_items.proofs.items.add_items.Goals.{in-Interface+in_ok-interface_names-in-Interface+in_ok-push-in-Interface, in-World+in_ok-world_names-in-World+in_ok-names_inside-in-World+in_ok-names_inside-in-World-2+in_ok-push-in-World, in-Use}
 use Rattle.wit_items.proofs.items.add_items.Goals as goal
 

@@ -9,8 +9,9 @@ use Rattle.wit_syntax.specs.Scope.{uses}
 use Rattle.wit_syntax.specs.Broken.{IsBroken}
 use Rattle.wit_syntax.proofs.Refusing.{refused_weaker}
 use Rattle.wit_syntax.proofs.Orders.{take_next}
-use Rattle.wit_files.proofs.Lost.{flat_more}
-use Rattle.wit_items.specs.Items.{AreSound, HaveSoundUses, HasUnsoundUse}
+use Rattle.wit_top_names.proofs.Lost.{flat_more}
+use Rattle.wit_item_names.specs.Items.{AreSound}
+use Rattle.wit_items.specs.Items.{HaveSoundUses, HasUnsoundUse}
 use Rattle.wit_syntax.specs.Foreign.{visited, foreign_interfaces}
 use Rattle.wit_items.specs.Inside.{names_written}
 use Rattle.wit_items.proofs.Placed.{items_none}

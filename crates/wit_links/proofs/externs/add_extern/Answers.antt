@@ -7,9 +7,9 @@ use Rattle.wit_syntax.specs.Sides.{Link}
 use Rattle.wit_syntax.specs.Source.{Crossing}
 use Rattle.wit_externs.specs.declared.held.HeldExtern.{HeldExtern}
 use Rattle.wit_externs.specs.declared.held.HeldExtern.TheVariants as held
-use Rattle.wit_items.proofs.Usable.{part_path}
-use Rattle.wit_items.specs.Interfaces.{front_of}
-use Rattle.wit_links.specs.Links.{AreLed}
+use Rattle.wit_item_names.proofs.Usable.{part_path}
+use Rattle.wit_item_names.specs.Interfaces.{front_of}
+use Rattle.wit_world_sides.specs.Links.{AreLed}
 use Rattle.wit_links.proofs.Leading.{led_kept, led_link, led_more, links_kept, no_function, no_inline}
 use Rattle.wit_files.specs.FileNames.{top_at}
 use Rattle.wit_links.proofs.externs.add_extern.Goals as goal

@@ -1,7 +1,7 @@
 use Rattle.std.proofs.Common.{inl, sym, ap, ◌∙◌}
 use Rattle.wit_syntax.specs.Address.{is_foreign}
-use Rattle.wit_items.specs.Interfaces.{front_of}
-use Rattle.wit_links.specs.Links.{interface_place}
+use Rattle.wit_item_names.specs.Interfaces.{front_of}
+use Rattle.wit_world_sides.specs.Links.{interface_place}
 use Rattle.wit_links.proofs.Leading.{led_lost, source_local, source_placed}
 use Rattle.wit_files.specs.FileNames.{top_at}
 use Rattle.wit_links.proofs.externs.led.Goals as goal

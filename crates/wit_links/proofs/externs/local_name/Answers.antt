@@ -1,7 +1,7 @@
 use Rattle.std.proofs.Common.{◌≡◌, false, true, sym, ap, ◌∙◌}
 use Rattle.wit_syntax.specs.Address.{is_foreign}
 use Rattle.wit_syntax.specs.Source.{Target, used_scope}
-use Rattle.wit_files.specs.Tops.{target_behind}
+use Rattle.wit_top_names.specs.Tops.{target_behind}
 use Rattle.wit_links.proofs.externs.local_name.Goals as goal
 
 pub unreachable-requires : goal.unreachable-requires

@@ -9,8 +9,8 @@ use Rattle.wit_syntax.specs.Function.{definition_functions}
 use Rattle.wit_syntax.specs.Sides.{SideItem, SideFunction, extern_items, part_items}
 use Rattle.wit_syntax.specs.Source.{Crossing, TheWorld, world_part}
 use Rattle.wit_syntax.proofs.Found.{contains_at}
-use Rattle.wit_items.proofs.Usable.{parts_more}
-use Rattle.wit_items.specs.Interfaces.{front_of}
+use Rattle.wit_item_names.proofs.Usable.{parts_more}
+use Rattle.wit_item_names.specs.Interfaces.{front_of}
 use Rattle.wit_links.proofs.Leading.{led_kept}
 use Rattle.wit_links.proofs.externs.world_externs.Goals.{in-TypeDef+in_ok-add_definition-in-TypeDef, in-Use, in-Include, in-Extern+in_ok-add_extern-in-Extern}
 use Rattle.wit_files.specs.FileNames.{top_at}

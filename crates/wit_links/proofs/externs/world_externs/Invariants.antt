@@ -3,8 +3,8 @@ use Rattle.std.specs.List.{flat_map}
 use Rattle.wit_syntax.specs.Sides.{part_items}
 use Rattle.wit_syntax.specs.Source.{world_part}
 use Rattle.wit_externs.specs.Held.{externs_behind}
-use Rattle.wit_items.specs.Interfaces.{front_of}
-use Rattle.wit_links.specs.Links.{AreLed}
+use Rattle.wit_item_names.specs.Interfaces.{front_of}
+use Rattle.wit_world_sides.specs.Links.{AreLed}
 use Rattle.wit_files.specs.FileNames.{top_at}
 use Rattle.wit_links.proofs.externs.world_externs.Given as goal
 

@@ -7,7 +7,7 @@ use Rattle.wit_syntax.specs.Notes.{IsBrokenStability}
 use Rattle.wit_arena.specs.Whole.{renamed}
 use Rattle.wit_syntax.proofs.Refusing.{refused_weaker}
 use Rattle.wit_links.specs.Includes.{IsLost}
-use Rattle.wit_items.proofs.Others.{part_visited, world_missing, world_found}
+use Rattle.wit_item_names.proofs.Others.{part_visited, world_missing, world_found}
 use Rattle.wit_files.specs.FileNames.{top_at}
 use Rattle.wit_links.proofs.includes.resolve_include.Goals as goal
 

@@ -4,9 +4,9 @@ use Rattle.std.proofs.lemmas.Result.{err_from_is_err_and}
 use Rattle.wit_values.specs.ReleaseText.{release_parts}
 use Rattle.wit_package_names.specs.declared.package_name.PackageName.{PackageName}
 use Rattle.wit_arena.specs.Whole.{NamesOthers, IsFaithful}
-use Rattle.wit_parser.specs.Between.{MakeContents}
+use Rattle.wit_contents.specs.Between.{MakeContents}
 use Rattle.wit_parser.proofs.Backward.{kind_below}
-use Rattle.wit_parser.proofs.Files.{files_legal, files_package, files_faithful, files_arena}
+use Rattle.wit_contents.proofs.Files.{files_legal, files_package, files_faithful, files_arena}
 use Rattle.wit_parser.proofs.resolver.resolve_named.Goals as goal
 
 pub returns-clause-made : goal.returns-clause-made

@@ -1,7 +1,7 @@
 use Rattle.std.proofs.lemmas.Result.{err_from_is_err_and}
 use Rattle.wit_syntax.specs.Bodies.{IsDuplicateName}
 use Rattle.wit_syntax.proofs.Refusing.{refused_weaker}
-use Rattle.wit_notes.specs.Names.{IsFirstSecond}
+use Rattle.wit_refusals.specs.Names.{IsFirstSecond}
 use Rattle.wit_rules.proofs.Duplicates.{duplicate, no_duplicate}
 use Rattle.wit_rules.proofs.rules.check_names.Goals as goal
 

@@ -6,7 +6,7 @@ use Rattle.wit_model.specs.declared.interface.Interface.{Interface}
 use Rattle.wit_syntax.specs.Address.{WorldNamed}
 use Rattle.wit_items.specs.Items.{item_behind, others_of}
 use Rattle.wit_items.specs.Told.{notes_behind}
-use Rattle.wit_items.specs.Interfaces.{front_of}
+use Rattle.wit_item_names.specs.Interfaces.{front_of}
 use Rattle.wit_worlds.specs.Between.{IsAddedWorld}
 use Rattle.wit_worlds.proofs.Parts.{world_adds}
 use Rattle.wit_worlds.proofs.world.resolve_world.Goals as goal

@@ -5,7 +5,8 @@ use Rattle.std.proofs.lemmas.List.{take_all}
 use Rattle.std.proofs.lemmas.Option.{slice_get-get_or}
 use Rattle.std.proofs.lemmas.Result.{err_from_is_err_and}
 use Rattle.wit_items.specs.declared.items.Item.{Item as HeldItem}
-use Rattle.wit_items.specs.Interfaces.{front_of, cells_of}
+use Rattle.wit_item_names.specs.Interfaces.{front_of}
+use Rattle.wit_items.specs.Interfaces.{cells_of}
 use Rattle.wit_syntax.specs.Source.{is_declared_world, is_world, scope_names}
 use Rattle.wit_syntax.specs.Scope.{in_order, worlds_of}
 use Rattle.wit_syntax.specs.Sides.{with_inline}
@@ -15,12 +16,12 @@ use Rattle.wit_types.specs.declared.types.TypeOwner.TheVariants.{World as OfWorl
 use Rattle.wit_syntax.proofs.Lists.{read_map, map_map}
 use Rattle.wit_syntax.proofs.Kept.{kept_next, kept_past}
 use Rattle.wit_syntax.proofs.Refusing.{refused_weaker}
-use Rattle.wit_item_entries.proofs.Telling.{stability_more}
+use Rattle.wit_uses.proofs.Telling.{stability_more}
 use Rattle.wit_items.specs.declared.items.Declared.{Declared as HeldDeclared}
 use Rattle.wit_items.specs.Items.{declared_behind, item_behind, names_behind, others_of}
 use Rattle.wit_worlds.specs.Between.{IsWrongWorldNow, arenas}
 use Rattle.wit_scopes.proofs.Declaring.{alike}
-use Rattle.wit_worlds.proofs.Linking.{links_more}
+use Rattle.wit_world_items.proofs.Linking.{links_more}
 use Rattle.wit_worlds.proofs.WorldsMore.{AreWorldsTo, addresses_in, longer, placed_one, sides_both, sounds_both, with_more, worlds_more, worlds_none}
 use Rattle.wit_worlds.proofs.world.resolve_worlds.Goals.{in-World+in_ok-resolve_world-in-World, in-Interface, in-Inline}
 use Rattle.wit_worlds.proofs.world.resolve_worlds.Goals as goal

@@ -4,7 +4,7 @@ use Rattle.wit_syntax.specs.Scope.{in_order, worlds_of}
 use Rattle.wit_syntax.specs.Sides.{with_inline}
 use Rattle.wit_arena.specs.Resolving.{IsWorldIndex}
 use Rattle.wit_arena.specs.Resolved.{worlds_at, AreLegalSides, AreSoundScopes, AreUsableLinks, HaveLegalStability}
-use Rattle.wit_items.specs.Interfaces.{front_of}
+use Rattle.wit_item_names.specs.Interfaces.{front_of}
 use Rattle.wit_items.specs.Items.{item_behind, others_of}
 use Rattle.wit_worlds.proofs.WorldsMore.{AreWorldsTo}
 use Rattle.wit_worlds.proofs.world.resolve_worlds.Given as goal

@@ -16,15 +16,16 @@ use Rattle.wit_externs.specs.Held.{externs_behind}
 use Rattle.wit_files.specs.FileNames.{names_at_top}
 use Rattle.wit_items.specs.Items.{item_behind, others_of}
 use Rattle.wit_items.proofs.Usable.{filed_item}
-use Rattle.wit_item_entries.specs.Body.{IsStandingBy}
-use Rattle.wit_items.specs.Interfaces.{cells_of, front_of}
+use Rattle.wit_uses.specs.Body.{IsStandingBy}
+use Rattle.wit_item_names.specs.Interfaces.{front_of}
+use Rattle.wit_items.specs.Interfaces.{cells_of}
 use Rattle.wit_item_entries.proofs.Behind.{turn_texts}
-use Rattle.wit_item_entries.proofs.ItemSides.{sides_legal}
+use Rattle.wit_uses.proofs.ItemSides.{sides_legal}
 use Rattle.wit_item_entries.proofs.ScopeFunctions.{scope_sound}
-use Rattle.wit_links.specs.Links.{AreLed}
-use Rattle.wit_worlds.specs.Standing.{IsWrongStanding}
+use Rattle.wit_world_sides.specs.Links.{AreLed}
+use Rattle.wit_world_items.specs.Standing.{IsWrongStanding}
 use Rattle.wit_links.proofs.Leading.{addresses_count, front_enough, links_placed, links_within}
-use Rattle.wit_worlds.proofs.Linking.{links_lead}
+use Rattle.wit_world_items.proofs.Linking.{links_lead}
 use Rattle.wit_worlds.proofs.Parts.{parts_are, sides_all, sounds_all}
 use Rattle.wit_worlds.proofs.WrongStanding.{wrong_standing}
 use Rattle.wit_worlds.proofs.world.world_content.Goals as goal

@@ -8,7 +8,8 @@ use Rattle.wit_scopes.specs.Held.{name_behind}
 use Rattle.wit_items.specs.Items.{item_behind}
 use Rattle.wit_item_entries.specs.Between.{IsWrongNames}
 use Rattle.wit_item_entries.specs.Body.{IsWrongBody, WrongNotes}
-use Rattle.wit_items.specs.Interfaces.{cells_of, front_of}
+use Rattle.wit_item_names.specs.Interfaces.{front_of}
+use Rattle.wit_items.specs.Interfaces.{cells_of}
 use Rattle.wit_item_entries.proofs.WrongNames.{wrong_names}
 use Rattle.wit_worlds.proofs.world.world_head.Goals as goal
 

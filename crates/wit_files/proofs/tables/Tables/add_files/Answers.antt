@@ -8,8 +8,8 @@ use Rattle.wit_syntax.specs.Source.{file_items, all_items, is_world}
 use Rattle.wit_syntax.specs.Scope.{item_row}
 use Rattle.wit_syntax.specs.Broken.{IsBrokenItems}
 use Rattle.wit_syntax.proofs.Refusing.{refused_weaker}
-use Rattle.wit_files.specs.Checks.{IsWrongFile}
-use Rattle.wit_files.proofs.Lost.{broken_file, tops_more, flat_more}
+use Rattle.wit_top_names.specs.Checks.{IsWrongFile}
+use Rattle.wit_top_names.proofs.Lost.{broken_file, tops_more, flat_more}
 use Rattle.wit_files.proofs.Gathering.{fresh_file, tops_added}
 use Rattle.wit_files.proofs.tables.Tables.add_files.Goals as goal
 

@@ -1,6 +1,6 @@
 use Rattle.std.proofs.lemmas.Result.{err_from_is_err_and}
 use Rattle.wit_syntax.specs.Source.{all_items}
-use Rattle.wit_files.proofs.Lost.{no_wrong_top}
+use Rattle.wit_top_names.proofs.Lost.{no_wrong_top}
 use Rattle.wit_files.proofs.Gathering.{names_declared}
 use Rattle.wit_files.proofs.tables.Tables.check_top.Goals as goal
 

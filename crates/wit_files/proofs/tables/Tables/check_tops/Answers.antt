@@ -6,8 +6,8 @@ use Rattle.std.proofs.lemmas.Result.{err_from_is_err_and}
 use Rattle.wit_syntax.specs.Source.{all_items}
 use Rattle.wit_syntax.specs.Broken.{IsBrokenNames}
 use Rattle.wit_syntax.proofs.Refusing.{refused_weaker}
-use Rattle.wit_files.specs.Checks.{AreRightTops, IsWrongTop}
-use Rattle.wit_files.proofs.Lost.{tops_right_none, tops_right_more}
+use Rattle.wit_top_names.specs.Checks.{AreRightTops, IsWrongTop}
+use Rattle.wit_top_names.proofs.Lost.{tops_right_none, tops_right_more}
 use Rattle.wit_files.proofs.Gathering.{broken_top}
 use Rattle.wit_files.proofs.tables.Tables.check_tops.Goals as goal
 

@@ -2,7 +2,7 @@ use Rattle.std.proofs.lemmas.Result.{err_from_is_err_and}
 use Rattle.wit_syntax.specs.Broken.{IsBrokenItems, IsBrokenNames, Items}
 use Rattle.wit_syntax.specs.Foreign.{foreign_visits}
 use Rattle.wit_syntax.proofs.Refusing.{refused_weaker}
-use Rattle.wit_files.specs.Checks.{IsBrokenVisit}
+use Rattle.wit_top_names.specs.Checks.{IsBrokenVisit}
 use Rattle.wit_files.proofs.Gathering.{broken_visit}
 use Rattle.wit_files.proofs.tables.Tables.gather_items.Goals as goal
 

@@ -6,7 +6,7 @@ use Rattle.std.proofs.lemmas.Option.{slice_get-get_or}
 use Rattle.wit_syntax.specs.Source.{Taking}
 use Rattle.wit_syntax.specs.Foreign.{foreign_items}
 use Rattle.wit_arena.proofs.Visits.{interfaces_differ}
-use Rattle.wit_files.proofs.Lost.{flat_more}
+use Rattle.wit_top_names.proofs.Lost.{flat_more}
 use Rattle.wit_items.specs.declared.items.Item.{Item}
 use Rattle.wit_front.specs.Front.{IsTaken, addresses_among, held_takings}
 use Rattle.wit_front.proofs.Takings.{all-takings, one_placed}

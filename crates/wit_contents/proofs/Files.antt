@@ -1,0 +1,111 @@
+-- What holds of files whose interfaces and worlds were added.
+use Rattle.std.proofs.Common.{◌≡◌, ◌⊎◌, ◌<◌, ℕ, All, List, [], length, map, get_or, Some, inl, inr, sym, ap, ◌∙◌, subst}
+use Rattle.std.specs.Prelude.{Result, Ok, Err, IfOk, OnOk, not, slice_get}
+use Rattle.std.specs.List.{flat_map}
+use Rattle.std.proofs.lemmas.List.{length-map}
+use Rattle.std.proofs.lemmas.Option.{slice_get-get_or}
+use Rattle.wit_graph.specs.Table.{IsOrder}
+use Rattle.wit_syntax.specs.Fault.{Fault}
+use Rattle.wit_arena.proofs.Itemizing.{items_within}
+use Rattle.wit_items.specs.declared.items.Item.{Item as Held}
+use Rattle.wit_items.specs.Items.{item_behind, HaveSoundUses}
+use Rattle.std.specs.Option.{option_map}
+use Rattle.std.proofs.lemmas.Bool.{cases_Bool}
+use Rattle.semver.specs.Identifiers.{parts_of}
+use Rattle.wit_values.specs.ReleaseText.{release_parts}
+use Rattle.wit_tree.specs.declared.tree.PackageName.{PackageName as Header}
+use Rattle.wit_tree.specs.declared.tree.PackageFile.{PackageFile}
+use Rattle.wit_model.specs.declared.interface.Interface.{Interface}
+use Rattle.wit_model.specs.declared.world.World.{World}
+use Rattle.wit_types.specs.declared.types.TypeDef.{TypeDef}
+use Rattle.wit_model.specs.declared.unresolved.UnresolvedPackage.{UnresolvedPackage}
+use Rattle.wit_syntax.specs.Source.{Item, all_items, is_world}
+use Rattle.wit_syntax.specs.Scope.{in_order, item_rows, interfaces_of, worlds_of}
+use Rattle.wit_syntax.specs.Sides.{inline_items, with_inline}
+use Rattle.wit_syntax.specs.Broken.{IsLegal, headers, last_header}
+use Rattle.wit_syntax.specs.Foreign.{visited, foreign_interfaces, foreign_worlds}
+use Rattle.wit_arena.specs.Resolved.{AddsForeign, AddsInterfaces, AreLegalScopes, AreLegalSides, AreSoundScopes, AreUsableUses, IsWrongAmong, IsWrongWorldAmong}
+use Rattle.wit_arena.specs.Resolving.{Names, Required, cells, IsIndex}
+use Rattle.wit_arena.specs.Whole.{NamesOthers, first_docs, IsPackage, IsFaithful}
+use Rattle.wit_arena.specs.FirstMeetings.{HasArena}
+use Rattle.wit_syntax.proofs.Inline.{inline_items_none}
+use Rattle.wit_syntax.proofs.Kept.{behind_one, kept_has}
+use Rattle.wit_syntax.proofs.Lists.{flat_map_at, flat_map_has}
+use Rattle.wit_arena.proofs.Resolved.{scopes_legal as legal_scopes, files_legal as legal_by, files_package as package_by, files_faithful as faithful_by, files_arena as arena_by}
+use Rattle.wit_interfaces.specs.Between.{IsWrongNow}
+use Rattle.wit_worlds.specs.Between.{IsWrongWorldNow}
+use Rattle.wit_tree.specs.declared.error.ParseError.{ParseError}
+use Rattle.wit_contents.specs.Between.{AddsFiles, IsMade}
+
+-- a scope of some items is an interface among them, or stands with their worlds: in an interface none is written
+pub scope_sorted : (items : List Item) (k : ℕ) (w : Item) → slice_get (flat_map with_inline items) k ≡ Some w → ((i : ℕ) × (slice_get (interfaces_of items) i ≡ Some w)) ⊎ ((i : ℕ) × (slice_get (flat_map with_inline (worlds_of items)) i ≡ Some w))
+scope_sorted items k w at =
+    let it = flat_map_at with_inline items k w at in
+    let x = it.1 in
+    elim (cases_Bool (is_world x)) [
+      | inl world ↦ (let q = kept_has is_world items it.0 x world it.2 in inr (flat_map_has with_inline (worlds_of items) q.0 it.3.0 x w q.1 it.3.1))
+      | inr other ↦ elim (behind_one x (inline_items x) it.3.0 w it.3.1) [
+        | inl same ↦ (let q = kept_has (λ (v : Item). not (is_world v)) items it.0 x (ap not other) it.2 in inl (q.0, q.1 ∙ ap Some same))
+        | inr inside ↦ absurd (let wrong : slice_get [] inside.0 ≡ Some w = ap (λ (l : List Item). slice_get l inside.0) (sym (inline_items_none x other)) ∙ inside.1 in let f : ⊥ = cc in f)
+      ]
+    ]
+
+-- where the scopes of interfaces are sound, and those of worlds and of what is written in them, all are
+pub sound_both : (items : List Item) → AreSoundScopes (interfaces_of items) → AreSoundScopes (flat_map with_inline (worlds_of items)) → AreSoundScopes (flat_map with_inline items)
+sound_both items interfaces worlds = record {
+  sound = λ k w f at. elim (scope_sorted items k w at) [
+    | inl own ↦ interfaces.sound own.0 w f own.1
+    | inr inside ↦ worlds.sound inside.0 w f inside.1
+  ];
+}
+
+-- where nothing is wrong on the sides of interfaces, nor on those of worlds and of what is written in them, nothing is on those of all
+pub sided_both : (items : List Item) → AreLegalSides (interfaces_of items) → AreLegalSides (flat_map with_inline (worlds_of items)) → AreLegalSides (flat_map with_inline items)
+sided_both items interfaces worlds = record {
+  legal = λ k w f at. elim (scope_sorted items k w at) [
+    | inl own ↦ interfaces.legal own.0 w f own.1
+    | inr inside ↦ worlds.legal inside.0 w f inside.1
+  ];
+}
+
+-- where nothing is wrong with uses, they lead to interfaces
+pub uses_usable : (files : List PackageFile) → HaveSoundUses files (all_items files) → AreUsableUses files (all_items files)
+uses_usable files sound = record { usable = λ w u here used. ((sound.each w here).each u used).usable }
+
+-- the places of items are those of the items that are held
+pub held_within : (files : List PackageFile) (places : List ℕ) (items : List Held) → IsOrder (item_rows files) places → map item_behind items ≡ all_items files → All (λ (place : ℕ). place < length items) places
+held_within files places items order all = λ i d lt. (
+    let p = get_or places i d in
+    let long : length (all_items files) ≡ length items = sym (ap length all) ∙ length-map items item_behind in
+    subst (λ (n : ℕ). p < n) long (items_within files places order i p (slice_get-get_or places i d lt)))
+
+-- an interface that is wrong behind what stands in front
+pub wrong_interface : (files : List PackageFile) (es : List TypeDef) (front : List Interface) (ws : List World) (items : List Item) (places : List ℕ) (f : Fault) → AddsForeign files es front ws → IsWrongNow (map visited (foreign_interfaces files)) es front items places f → IsWrongAmong files items places f
+wrong_interface files es front ws items places f foreign h = record { count = h.count; item = h.item; next = h.next; sort = h.sort; es = es; front = front; ws = ws; foreign = foreign; mid = h.mid; before = h.before; rs = h.rs; added = h.added; by_name = h.by_name; index = h.index; wrong = h.wrong }
+
+-- a world that is wrong once all interfaces were added
+pub wrong_world : (files : List PackageFile) (es : List TypeDef) (front : List Interface) (wfront : List World) (middle : List TypeDef) (is : List Interface) (by_name : Names) (rs : List Required) (items : List Item) (places : List ℕ) (f : Fault) → AddsForeign files es front wfront → AddsInterfaces (map visited (foreign_interfaces files)) es middle front is rs (interfaces_of (in_order items places)) → IsIndex (cells (map visited (foreign_interfaces files)) is) by_name → IsWrongWorldNow files (map visited (foreign_interfaces files)) (map visited (foreign_worlds files)) middle is by_name wfront items places f → IsWrongWorldAmong files items places f
+wrong_world files es front wfront middle is by_name rs items places f foreign added index h = record { es = es; front = front; worlds_front = wfront; foreign = foreign; middle = middle; is = is; rs = rs; interfaces = added; count = h.count; item = h.item; next = h.next; sort = h.sort; mid = h.mid; before = h.before; worlds_rs = h.rs; added = h.added; by_name = by_name; index = index; worlds_by_name = h.worlds_by_name; worlds_index = h.worlds_index; wrong = h.wrong }
+
+module _ (files : List PackageFile) (es : List TypeDef) (all : List Interface) (ws : List World) (rs : List Required) (a : AddsFiles files es all ws rs) where
+  -- no scope is broken by itself
+  scopes_legal : AreLegalScopes (flat_map with_inline (in_order (all_items files) a.places))
+  scopes_legal = legal_scopes files a.places a.order a.names a.uses a.first a.middle es a.front a.is a.worlds_front a.arenas a.irs a.wrs a.foreign a.interfaces a.worlds a.sound
+
+  pub files_legal : (header : Header) → last_header files ≡ Some header → IsLegal files
+  files_legal header last = legal_by files a.places a.order a.names a.uses a.first a.middle es a.front a.is a.worlds_front a.arenas a.irs a.wrs a.foreign a.interfaces a.worlds scopes_legal a.sided a.linked a.stable a.noted header last
+
+  module _ (p : UnresolvedPackage) (types : p.types ≡ es) (interfaces : p.interfaces ≡ all) (worlds : p.worlds ≡ ws) (others : NamesOthers files p) where
+    pub files_package : p.required_resource_types ≡ rs → (header : Header) → last_header files ≡ Some header → p.name.namespace ≡ header.namespace.name.now → p.name.name ≡ header.name.name.now → option_map release_parts p.name.version ≡ option_map parts_of header.version → p.name_span ≡ header.span → p.docs ≡ first_docs (headers files) → IsPackage files p
+    files_package required header last namespace name version span docs = package_by files a.places a.order a.names a.uses a.first a.middle es a.front a.is a.worlds_front a.arenas a.irs a.wrs a.foreign a.interfaces a.worlds p types (interfaces ∙ a.interface_arena) (worlds ∙ a.world_arena) others (required ∙ a.requires) header last namespace name version span docs
+
+    pub files_faithful : IsFaithful files p
+    files_faithful = faithful_by files a.places a.order a.names a.uses a.first a.middle es a.front a.is a.worlds_front a.arenas a.irs a.wrs a.foreign a.interfaces a.worlds p types (interfaces ∙ a.interface_arena) (worlds ∙ a.world_arena) others a.sided
+
+    pub files_arena : HasArena files p
+    files_arena = arena_by files a.places a.order a.names a.uses a.first a.middle es a.front a.is a.worlds_front a.arenas a.irs a.wrs a.foreign a.interfaces a.worlds p types (interfaces ∙ a.interface_arena) (worlds ∙ a.world_arena) others a.sided
+
+-- files that make a package break no rule
+pub made_legal : (files : List PackageFile) (r : Result UnresolvedPackage ParseError) → IfOk r (IsMade files) → OnOk r (IsLegal files)
+made_legal files (Ok p) made = made.legal
+made_legal files (Err e) made = tt

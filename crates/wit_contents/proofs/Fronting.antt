@@ -1,0 +1,98 @@
+-- What stands in front of the arenas, once it was made.
+use Rattle.std.proofs.Common.{◌≡◌, ◌≤◌, List, [], length, sym, ap, ◌∙◌, subst, arith}
+use Rattle.std.specs.Prelude.{map, if◌then◌else◌, not}
+use Rattle.std.specs.List.{filter}
+use Rattle.std.proofs.lemmas.List.{length-map, append-nil}
+use Rattle.wit_tree.specs.declared.tree.PackageFile.{PackageFile}
+use Rattle.wit_tree.specs.declared.tree.WorldSide.{WorldSide}
+use Rattle.wit_types.specs.declared.types.TypeDef.{TypeDef}
+use Rattle.wit_model.specs.declared.ast_item.AstItem.{AstItem}
+use Rattle.wit_model.specs.declared.ast_item.AstItem.TheVariants as entry
+use Rattle.wit_model.specs.declared.interface.Interface.{Interface}
+use Rattle.wit_model.specs.declared.world.World.{World}
+use Rattle.wit_syntax.specs.Foreign.{ForeignVisit, visited, is_foreign_world, foreign_items, foreign_interfaces, foreign_worlds}
+use Rattle.wit_arena.specs.Whole.{foreign_place}
+use Rattle.wit_arena.specs.Resolving.{Names, cells, IsIndex, IsWorldIndex}
+use Rattle.wit_arena.specs.Resolved.{AddsForeign, worlds_at}
+use Rattle.wit_syntax.proofs.Lists.{map_map}
+use Rattle.wit_arena.proofs.Indexing.{index_front, world_index_front, worlds_at-append}
+use Rattle.wit_syntax.specs.Source.{all_items, scope_names}
+use Rattle.wit_arena.proofs.Visits.{visited_foreign, interfaces_differ}
+use Rattle.wit_files.specs.Foreign.{foreign_behind}
+use Rattle.wit_files.specs.declared.foreign.ForeignVisit.{ForeignVisit as Held}
+use Rattle.wit_front.specs.declared.foreign.ForeignArenas.{ForeignArenas}
+use Rattle.wit_items.specs.declared.items.Item.{Item as HeldItem}
+use Rattle.wit_item_names.specs.Interfaces.{front_of}
+use Rattle.wit_items.specs.Items.{others_of, names_behind}
+use Rattle.wit_items.specs.Inside.{inside_behind, names_written}
+use Rattle.wit_items.specs.Front.{AreItemsPlaced}
+use Rattle.wit_front.specs.Front.{addresses_among, IsTaken, HasTaken, IsFront}
+
+-- the addresses of the interfaces that are held
+pub front_visits : (files : List PackageFile) (vs : List Held) → map foreign_behind vs ≡ foreign_interfaces files → front_of vs ≡ map visited (foreign_interfaces files)
+front_visits files vs h = sym (map_map visited foreign_behind vs) ∙ ap (map visited) h
+
+abbrev entry_by : List ForeignVisit → ForeignVisit → AstItem
+entry_by vs v = if v.wants_world then entry.World (foreign_place (filter is_foreign_world vs) v) else entry.Interface (foreign_place (filter (λ u. not (is_foreign_world u)) vs) v)
+
+module _ (files : List PackageFile) (es : List TypeDef) (is : List Interface) (ws : List World) (adds : AddsForeign files es is ws) where
+  -- nothing in front goes by a name
+  pub front_index : IsIndex (cells (map visited (foreign_interfaces files)) is) []
+  front_index = index_front (map visited (foreign_interfaces files)) is (adds.interfaces.count ∙ sym (length-map (foreign_interfaces files) visited)) (visited_foreign (foreign_interfaces files))
+
+  pub front_worlds_index : IsWorldIndex (worlds_at (map visited (foreign_worlds files)) ws) []
+  front_worlds_index =
+      let ss = map visited (foreign_worlds files) in
+      let all : worlds_at ss ws ≡ ss = ap (worlds_at ss) (sym (append-nil ws)) ∙ worlds_at-append ss ws [] (adds.worlds.count ∙ sym (length-map (foreign_worlds files) visited)) ∙ append-nil ss in
+      subst (λ l. IsWorldIndex l []) (sym all) (world_index_front ss (visited_foreign (foreign_worlds files)))
+
+  -- the interfaces that are held are as many as those in front
+  pub front_enough : (vs : List Held) → map foreign_behind vs ≡ foreign_interfaces files → length vs ≤ length is
+  front_enough vs h = omega (arith, adds.interfaces.count, ap length h, length-map vs foreign_behind)
+
+  pub others_enough : length (map visited (foreign_worlds files)) ≤ length ws
+  others_enough = omega (arith, adds.worlds.count, length-map (foreign_worlds files) visited)
+
+-- the items of other packages before anything is taken from them
+bare : (files : List PackageFile) (vs : List Held) (types : List TypeDef) (a : ForeignArenas) → map foreign_behind vs ≡ foreign_items files → types ≡ [] → IsTaken (map foreign_behind vs) [] [] a → IsTaken (foreign_items files) [] types a
+bare files vs types a all empty h = subst (λ (ts : List TypeDef). IsTaken (foreign_items files) [] ts a) (sym empty) (subst (λ (l : List ForeignVisit). IsTaken l [] [] a) all h)
+
+module _ (files : List PackageFile) (vs : List Held) (types : List TypeDef) (a : ForeignArenas) (items held : List HeldItem) (all : map foreign_behind vs ≡ foreign_items files) (empty : types ≡ []) (made : IsTaken (map foreign_behind vs) [] [] a) (lent : held ≡ items) (placed : AreItemsPlaced (map visited (foreign_interfaces files)) items) where
+  -- names can be taken from them
+  pub front_started : HasTaken types a (λ front. AreItemsPlaced front held)
+  front_started = record {
+    vs = foreign_items files;
+    ts = [];
+    apart = interfaces_differ files;
+    taken = bare files vs types a all empty made;
+    placed = subst (AreItemsPlaced (map visited (foreign_interfaces files))) (sym lent) placed;
+  }
+
+  -- once all are taken, they are what stands in front
+  pub front_taken : (types' : List TypeDef) (a' : ForeignArenas) → map names_behind items ≡ map scope_names (all_items files) → ((side : WorldSide) → map (inside_behind side) items ≡ map (names_written side) (all_items files)) → ((fs : List PackageFile) → IsTaken (foreign_items fs) [] types a → AreItemsPlaced (addresses_among (foreign_items fs)) held → map names_behind held ≡ map scope_names (all_items fs) → ((side : WorldSide) → map (inside_behind side) held ≡ map (names_written side) (all_items fs)) → IsFront fs types' a') → IsFront files types' a'
+  front_taken types' a' names inside taken = taken files (bare files vs types a all empty made) (subst (AreItemsPlaced (map visited (foreign_interfaces files))) (sym lent) placed) (ap (map names_behind) lent ∙ names) (λ side. ap (map (inside_behind side)) lent ∙ inside side)
+
+-- where what stands in front was made
+module _ (files : List PackageFile) (types : List TypeDef) (a : ForeignArenas) (front : IsFront files types a) (vs : List Held) (lent : vs ≡ a.visits.items) where
+  abbrev is_held : map foreign_behind vs ≡ foreign_interfaces files
+  is_held = ap (map foreign_behind) lent ∙ front.visits
+
+  -- the interfaces that are held have the addresses of those in front
+  pub lent_front : front_of vs ≡ map visited (foreign_interfaces files)
+  lent_front = front_visits files vs is_held
+
+  pub lent_placed : (items held : List HeldItem) → held ≡ items → AreItemsPlaced (map visited (foreign_interfaces files)) items → AreItemsPlaced (front_of vs) held
+  lent_placed items held is placed = subst (λ front. AreItemsPlaced front held) (sym lent_front) (subst (AreItemsPlaced (map visited (foreign_interfaces files))) (sym is) placed)
+
+  pub lent_enough : length vs ≤ length a.interfaces
+  lent_enough = front_enough files types a.interfaces a.worlds front.adds vs is_held
+
+  pub lent_index : (by_name : Names) → by_name ≡ [] → IsIndex (cells (front_of vs) a.interfaces) by_name
+  lent_index by_name none = subst (IsIndex (cells (front_of vs) a.interfaces)) (sym none) (subst (λ ss. IsIndex (cells ss a.interfaces) []) (sym lent_front) (front_index files types a.interfaces a.worlds front.adds))
+
+module _ (files : List PackageFile) (types : List TypeDef) (a : ForeignArenas) (front : IsFront files types a) where
+  pub worlds_enough : length (others_of files) ≤ length a.worlds
+  worlds_enough = others_enough files types a.interfaces a.worlds front.adds
+
+  pub worlds_index : (by_name : Names) → by_name ≡ [] → IsWorldIndex (worlds_at (others_of files) a.worlds) by_name
+  worlds_index by_name none = subst (IsWorldIndex (worlds_at (others_of files) a.worlds)) (sym none) (front_worlds_index files types a.interfaces a.worlds front.adds)

@@ -1,0 +1,182 @@
+use Rattle.std.proofs.Common.{◌≡◌, List, ◌++◌, map, refl, sym, ap, ◌∙◌, subst}
+use Rattle.std.specs.List.{flat_map}
+use Rattle.std.proofs.lemmas.Result.{err_from_is_err_and}
+use Rattle.wit_syntax.specs.Address.{Address}
+use Rattle.wit_syntax.specs.Source.{Item, all_items}
+use Rattle.wit_syntax.specs.Foreign.{visited, foreign_interfaces, foreign_worlds}
+use Rattle.wit_syntax.specs.Scope.{in_order, interfaces_of, worlds_of}
+use Rattle.wit_syntax.specs.Broken.{IsBroken}
+use Rattle.wit_syntax.specs.Sides.{with_inline}
+use Rattle.wit_arena.specs.Resolving.{Required, cells, IsIndex}
+use Rattle.wit_arena.specs.Resolved.{WorldArenas, front_worlds, AddsInterfaces, AddsWorlds, AreLegalSides, AreSoundScopes, AreUsableLinks, HaveLegalStability}
+use Rattle.wit_syntax.proofs.Refusing.{refused_weaker}
+use Rattle.wit_arena.proofs.Resolved.{distinct_items}
+use Rattle.wit_arena.proofs.Finished.{broken_among, broken_world_among}
+use Rattle.wit_items.specs.Items.{item_behind, others_of}
+use Rattle.wit_item_names.specs.Interfaces.{front_of}
+use Rattle.wit_front.specs.Front.{IsFront}
+use Rattle.wit_uses.specs.Between.{Emits}
+use Rattle.wit_interfaces.specs.Between.{AreOuter, IsWrongNow}
+use Rattle.wit_interfaces.proofs.Outer.{all_outer}
+use Rattle.wit_worlds.specs.Between.{arenas, IsWrongWorldNow}
+use Rattle.wit_uses.proofs.Telling.{stability_both}
+use Rattle.wit_contents.proofs.Files.{sided_both, sound_both, uses_usable, held_within, wrong_interface, wrong_world}
+use Rattle.wit_contents.proofs.Fronting.{front_started, front_taken, lent_front, lent_placed, lent_enough, lent_index, worlds_enough, worlds_index}
+use Rattle.wit_contents.proofs.contents.resolve_files.Goals as goal
+
+pub take_all-requires : goal.take_all-requires
+take_all-requires c =
+    let files = c.args.names.now in
+    front_started files c.foreign.result.now c.args.types.now c.in_ok-front.front c.in_ok-items.items.items c.deref_mut-lent.result.now c.foreign.ensures c.requires.empty c.in_ok-front.ensures.bare c.deref_mut-lent.ensures.value c.in_ok-items.ensures.placed
+
+pub resolve_interfaces-requires-clause-within : goal.resolve_interfaces-requires-clause-within
+resolve_interfaces-requires-clause-within c = held_within c.args.names.now c.item_order-order.result.now c.deref_mut-lent.result.now c.item_order-order.ensures (ap (map item_behind) c.deref_mut-lent.ensures.value ∙ c.in_ok-items.ensures.items)
+
+pub resolve_interfaces-requires-clause-outer : goal.resolve_interfaces-requires-clause-outer
+resolve_interfaces-requires-clause-outer c = subst AreOuter (sym (ap (map item_behind) c.deref_mut-lent.ensures.value ∙ c.in_ok-items.ensures.items)) (all_outer c.args.names.now)
+
+pub resolve_interfaces-requires-clause-placed : goal.resolve_interfaces-requires-clause-placed
+resolve_interfaces-requires-clause-placed c =
+    let files = c.args.names.now in
+    let e = c.in_ok-items.ensures in
+    let front : IsFront files c.take_all.new.types c.take_all.new.self = front_taken files c.foreign.result.now c.args.types.now c.in_ok-front.front c.in_ok-items.items.items c.deref_mut-lent.result.now c.foreign.ensures c.requires.empty c.in_ok-front.ensures.bare c.deref_mut-lent.ensures.value e.placed c.take_all.new.types c.take_all.new.self e.names e.inside c.in_ok-take_all.ensures.taken in
+    lent_placed files c.take_all.new.types c.take_all.new.self front c.deref-2.result.now c.deref-2.ensures.value c.in_ok-items.items.items c.deref_mut-lent.result.now c.deref_mut-lent.ensures.value e.placed
+
+pub resolve_interfaces-requires-clause-front : goal.resolve_interfaces-requires-clause-front
+resolve_interfaces-requires-clause-front c =
+    let files = c.args.names.now in
+    let e = c.in_ok-items.ensures in
+    let front : IsFront files c.take_all.new.types c.take_all.new.self = front_taken files c.foreign.result.now c.args.types.now c.in_ok-front.front c.in_ok-items.items.items c.deref_mut-lent.result.now c.foreign.ensures c.requires.empty c.in_ok-front.ensures.bare c.deref_mut-lent.ensures.value e.placed c.take_all.new.types c.take_all.new.self e.names e.inside c.in_ok-take_all.ensures.taken in
+    lent_enough files c.take_all.new.types c.take_all.new.self front c.deref-2.result.now c.deref-2.ensures.value
+
+pub resolve_interfaces-requires-clause-index : goal.resolve_interfaces-requires-clause-index
+resolve_interfaces-requires-clause-index c =
+    let files = c.args.names.now in
+    let e = c.in_ok-items.ensures in
+    let front : IsFront files c.take_all.new.types c.take_all.new.self = front_taken files c.foreign.result.now c.args.types.now c.in_ok-front.front c.in_ok-items.items.items c.deref_mut-lent.result.now c.foreign.ensures c.requires.empty c.in_ok-front.ensures.bare c.deref_mut-lent.ensures.value e.placed c.take_all.new.types c.take_all.new.self e.names e.inside c.in_ok-take_all.ensures.taken in
+    lent_index files c.take_all.new.types c.take_all.new.self front c.deref-2.result.now c.deref-2.ensures.value c.new.result c.new.ensures
+
+pub resolve_worlds-requires-clause-within : goal.resolve_worlds-requires-clause-within
+resolve_worlds-requires-clause-within c = held_within c.args.names.now c.item_order-order.result.now c.deref_mut-lent.result.now c.item_order-order.ensures (ap (map item_behind) c.deref_mut-lent.ensures.value ∙ c.in_ok-items.ensures.items)
+
+pub resolve_worlds-requires-clause-placed : goal.resolve_worlds-requires-clause-placed
+resolve_worlds-requires-clause-placed c =
+    let files = c.args.names.now in
+    let e = c.in_ok-items.ensures in
+    let front : IsFront files c.take_all.new.types c.take_all.new.self = front_taken files c.foreign.result.now c.args.types.now c.in_ok-front.front c.in_ok-items.items.items c.deref_mut-lent.result.now c.foreign.ensures c.requires.empty c.in_ok-front.ensures.bare c.deref_mut-lent.ensures.value e.placed c.take_all.new.types c.take_all.new.self e.names e.inside c.in_ok-take_all.ensures.taken in
+    lent_placed files c.take_all.new.types c.take_all.new.self front c.resolve_interfaces.new.interfaces.foreign.now (ap (λ r. r.now) c.in_ok-resolve_interfaces.ensures.foreign ∙ c.deref-2.ensures.value) c.in_ok-items.items.items c.deref_mut-lent.result.now c.deref_mut-lent.ensures.value e.placed
+
+pub resolve_worlds-requires-clause-others : goal.resolve_worlds-requires-clause-others
+resolve_worlds-requires-clause-others c =
+    let files = c.args.names.now in
+    let e = c.in_ok-items.ensures in
+    let front : IsFront files c.take_all.new.types c.take_all.new.self = front_taken files c.foreign.result.now c.args.types.now c.in_ok-front.front c.in_ok-items.items.items c.deref_mut-lent.result.now c.foreign.ensures c.requires.empty c.in_ok-front.ensures.bare c.deref_mut-lent.ensures.value e.placed c.take_all.new.types c.take_all.new.self e.names e.inside c.in_ok-take_all.ensures.taken in
+    lent_front files c.take_all.new.types c.take_all.new.self front c.resolve_interfaces.new.interfaces.foreign.now (ap (λ r. r.now) c.in_ok-resolve_interfaces.ensures.foreign ∙ c.deref-2.ensures.value)
+
+pub resolve_worlds-requires-clause-worlds_front : goal.resolve_worlds-requires-clause-worlds_front
+resolve_worlds-requires-clause-worlds_front c =
+    let files = c.args.names.now in
+    let e = c.in_ok-items.ensures in
+    let front : IsFront files c.take_all.new.types c.take_all.new.self = front_taken files c.foreign.result.now c.args.types.now c.in_ok-front.front c.in_ok-items.items.items c.deref_mut-lent.result.now c.foreign.ensures c.requires.empty c.in_ok-front.ensures.bare c.deref_mut-lent.ensures.value e.placed c.take_all.new.types c.take_all.new.self e.names e.inside c.in_ok-take_all.ensures.taken in
+    worlds_enough files c.take_all.new.types c.take_all.new.self front
+
+pub resolve_worlds-requires-clause-worlds_index : goal.resolve_worlds-requires-clause-worlds_index
+resolve_worlds-requires-clause-worlds_index c =
+    let files = c.args.names.now in
+    let e = c.in_ok-items.ensures in
+    let front : IsFront files c.take_all.new.types c.take_all.new.self = front_taken files c.foreign.result.now c.args.types.now c.in_ok-front.front c.in_ok-items.items.items c.deref_mut-lent.result.now c.foreign.ensures c.requires.empty c.in_ok-front.ensures.bare c.deref_mut-lent.ensures.value e.placed c.take_all.new.types c.take_all.new.self e.names e.inside c.in_ok-take_all.ensures.taken in
+    worlds_index files c.take_all.new.types c.take_all.new.self front c.new-2.result c.new-2.ensures
+
+pub returns-in_err-resolve_interfaces-clause-refused : goal.returns-in_err-resolve_interfaces-clause-refused
+returns-in_err-resolve_interfaces-clause-refused c =
+    let p = err_from_is_err_and c.from_residual-in_err-resolve_interfaces.result c.from_residual-in_err-resolve_interfaces.ensures.1 in
+    let files = c.args.names.now in
+    let e = c.in_ok-items.ensures in
+    let front : IsFront files c.take_all.new.types c.take_all.new.self = front_taken files c.foreign.result.now c.args.types.now c.in_ok-front.front c.in_ok-items.items.items c.deref_mut-lent.result.now c.foreign.ensures c.requires.empty c.in_ok-front.ensures.bare c.deref_mut-lent.ensures.value e.placed c.take_all.new.types c.take_all.new.self e.names e.inside c.in_ok-take_all.ensures.taken in
+    let held = c.deref-2.result.now in
+    let items = c.deref_mut-lent.result.now in
+    let places = c.item_order-order.result.now in
+    let types = c.take_all.new.types in
+    let a = c.take_all.new.self in
+    let all : map item_behind items ≡ all_items files = ap (map item_behind) c.deref_mut-lent.ensures.value ∙ e.items in
+    let order = c.item_order-order.ensures in
+    let differ = distinct_items files c.requires.legal in
+    let same = lent_front files types a front held c.deref-2.ensures.value in
+    rw (p.1, p.2) (refused_weaker (IsWrongNow (front_of held) types a.interfaces (map item_behind items) places) (IsBroken files) _ (λ f h. broken_among files places order differ (uses_usable files e.sound) f (wrong_interface files types a.interfaces a.worlds (all_items files) places f front.adds (subst (λ (l : List Item). IsWrongNow (map visited (foreign_interfaces files)) types a.interfaces l places f) all (subst (λ (ss : List Address). IsWrongNow ss types a.interfaces (map item_behind items) places f) same h)))) c.in_err-resolve_interfaces.ensures.refused)
+
+pub returns-in_err-resolve_worlds-clause-refused : goal.returns-in_err-resolve_worlds-clause-refused
+returns-in_err-resolve_worlds-clause-refused c =
+    let p = err_from_is_err_and c.from_residual-in_err-resolve_worlds.result c.from_residual-in_err-resolve_worlds.ensures.1 in
+    let files = c.args.names.now in
+    let e = c.in_ok-items.ensures in
+    let types = c.take_all.new.types in
+    let a = c.take_all.new.self in
+    let front : IsFront files types a = front_taken files c.foreign.result.now c.args.types.now c.in_ok-front.front c.in_ok-items.items.items c.deref_mut-lent.result.now c.foreign.ensures c.requires.empty c.in_ok-front.ensures.bare c.deref_mut-lent.ensures.value e.placed types a e.names e.inside c.in_ok-take_all.ensures.taken in
+    let places = c.item_order-order.result.now in
+    let now = c.resolve_interfaces.new.interfaces in
+    let middle = c.resolve_interfaces.new.types in
+    let all : map item_behind c.deref_mut-lent.result.now ≡ all_items files = ap (map item_behind) c.deref_mut-lent.ensures.value ∙ e.items in
+    let held : front_of c.deref-2.result.now ≡ map visited (foreign_interfaces files) = lent_front files types a front c.deref-2.result.now c.deref-2.ensures.value in
+    let kept : front_of now.foreign.now ≡ map visited (foreign_interfaces files) = lent_front files types a front now.foreign.now (ap (λ r. r.now) c.in_ok-resolve_interfaces.ensures.foreign ∙ c.deref-2.ensures.value) in
+    let irs = c.resolve_interfaces.new.required.items in
+    let from : Emits c.new-required.result.items irs (λ rs. AddsInterfaces (front_of c.deref-2.result.now) types middle a.interfaces now.arena rs (interfaces_of (in_order (all_items files) places))) = rw all at c.in_ok-resolve_interfaces.ensures.added in
+    let added : AddsInterfaces (map visited (foreign_interfaces files)) types middle a.interfaces now.arena from.own (interfaces_of (in_order (all_items files) places)) = subst (λ (ss : List Address). AddsInterfaces ss types middle a.interfaces now.arena from.own (interfaces_of (in_order (all_items files) places))) held from.holds in
+    let items = c.deref_mut-lent.result.now in
+    let index : IsIndex (cells (map visited (foreign_interfaces files)) now.arena) now.by_name = subst (λ (ss : List Address). IsIndex (cells ss now.arena) now.by_name) kept c.in_ok-resolve_interfaces.ensures.index in
+    let differ = distinct_items files c.requires.legal in
+    rw (p.1, p.2) (refused_weaker (IsWrongWorldNow files (front_of now.foreign.now) (others_of files) middle now.arena now.by_name a.worlds (map item_behind items) places) (IsBroken files) _ (λ f h. broken_world_among files places c.item_order-order.ensures differ (uses_usable files e.sound) f (wrong_world files types a.interfaces a.worlds middle now.arena now.by_name from.own (all_items files) places f front.adds added index (
+    subst (λ (l : List Item). IsWrongWorldNow files (map visited (foreign_interfaces files)) (map visited (foreign_worlds files)) middle now.arena now.by_name a.worlds l places f) all (
+    subst (λ (ss : List Address). IsWrongWorldNow files ss (others_of files) middle now.arena now.by_name a.worlds (map item_behind items) places f) kept h)))) c.in_err-resolve_worlds.ensures.refused)
+
+pub returns-clause-added : goal.returns-clause-added
+returns-clause-added c =
+    let files = c.args.names.now in
+    let e = c.in_ok-items.ensures in
+    let types = c.take_all.new.types in
+    let a = c.take_all.new.self in
+    let front : IsFront files types a = front_taken files c.foreign.result.now c.args.types.now c.in_ok-front.front c.in_ok-items.items.items c.deref_mut-lent.result.now c.foreign.ensures c.requires.empty c.in_ok-front.ensures.bare c.deref_mut-lent.ensures.value e.placed types a e.names e.inside c.in_ok-take_all.ensures.taken in
+    let places = c.item_order-order.result.now in
+    let now = c.resolve_interfaces.new.interfaces in
+    let middle = c.resolve_interfaces.new.types in
+    let all : map item_behind c.deref_mut-lent.result.now ≡ all_items files = ap (map item_behind) c.deref_mut-lent.ensures.value ∙ e.items in
+    let held : front_of c.deref-2.result.now ≡ map visited (foreign_interfaces files) = lent_front files types a front c.deref-2.result.now c.deref-2.ensures.value in
+    let kept : front_of now.foreign.now ≡ map visited (foreign_interfaces files) = lent_front files types a front now.foreign.now (ap (λ r. r.now) c.in_ok-resolve_interfaces.ensures.foreign ∙ c.deref-2.ensures.value) in
+    let irs = c.resolve_interfaces.new.required.items in
+    let from : Emits c.new-required.result.items irs (λ rs. AddsInterfaces (front_of c.deref-2.result.now) types middle a.interfaces now.arena rs (interfaces_of (in_order (all_items files) places))) = rw all at c.in_ok-resolve_interfaces.ensures.added in
+    let added : AddsInterfaces (map visited (foreign_interfaces files)) types middle a.interfaces now.arena from.own (interfaces_of (in_order (all_items files) places)) = subst (λ (ss : List Address). AddsInterfaces ss types middle a.interfaces now.arena from.own (interfaces_of (in_order (all_items files) places))) held from.holds in
+    let ws = c.in_ok-resolve_worlds.ensures in
+    let new = c.resolve_worlds.new in
+    let sound : AreSoundScopes (interfaces_of (in_order (all_items files) places)) = rw all at c.in_ok-resolve_interfaces.ensures.sound in
+    let sound' : AreSoundScopes (flat_map with_inline (worlds_of (in_order (all_items files) places))) = rw all at ws.sound in
+    let sided : AreLegalSides (interfaces_of (in_order (all_items files) places)) = rw all at c.in_ok-resolve_interfaces.ensures.sided in
+    let sided' : AreLegalSides (flat_map with_inline (worlds_of (in_order (all_items files) places))) = rw all at ws.sided in
+    let linked : AreUsableLinks files (worlds_of (in_order (all_items files) places)) = rw all at ws.linked in
+    let stable : HaveLegalStability (interfaces_of (in_order (all_items files) places)) = rw all at c.in_ok-resolve_interfaces.ensures.stable in
+    let stable' : HaveLegalStability (worlds_of (in_order (all_items files) places)) = rw all at ws.stable in
+    let said : Emits irs new.required.items (λ rs. (ss : List Address) × AddsWorlds (front_of now.foreign.now) (others_of files) now.arena middle new.types (front_worlds a.worlds) (arenas new.worlds.arena new.inside ss) rs (worlds_of (in_order (all_items files) places))) = rw all at ws.added in
+    let behind : WorldArenas = arenas new.worlds.arena new.inside said.holds.0 in
+    record {
+      places = places;
+      order = c.item_order-order.ensures;
+      names = c.requires.legal;
+      uses = uses_usable files e.sound;
+      noted = λ i among u used. ((e.sound.each i among).each u used).noted;
+      first = types;
+      front = a.interfaces;
+      worlds_front = a.worlds;
+      foreign = front.adds;
+      middle = middle;
+      is = now.arena;
+      arenas = behind;
+      interface_arena = c.in_ok-append.ensures.ok;
+      world_arena = refl;
+      irs = from.own;
+      wrs = said.own;
+      requires = said.list ∙ ap (λ (l : List Required). l ++ said.own) (from.list ∙ ap (λ (l : List Required). l ++ from.own) c.new-required.ensures.items);
+      interfaces = added;
+      worlds = subst (λ (ss : List Address). AddsWorlds ss (others_of files) now.arena middle new.types (front_worlds a.worlds) behind said.own (worlds_of (in_order (all_items files) places))) kept said.holds.1;
+      sided = sided_both (in_order (all_items files) places) sided sided';
+      linked = linked;
+      sound = sound_both (in_order (all_items files) places) sound sound';
+      stable = stability_both (in_order (all_items files) places) stable stable';
+    }

@@ -1,8 +1,0 @@
-use Rattle.std.proofs.Common.{List, take}
-use Rattle.wit_syntax.specs.Source.{Item}
-use Rattle.wit_files.specs.Checks.{AreRightUses}
-use Rattle.wit_files.specs.Tops.{AreDeclared}
-use Rattle.wit_files.proofs.top_name.check_top_uses.Given as goal
-
-abbrev pub invariant-loop-item : goal.invariant-loop-item
-invariant-loop-item g l = (is : List Item) → AreDeclared is l.declared → AreRightUses is (take l.item-index l.items)

@@ -1,0 +1,17 @@
+use Rattle.std.proofs.Common.{◌≡◌, map, take}
+use Rattle.std.specs.List.{flat_map}
+use Rattle.wit_syntax.specs.Source.{interface_part, part_names}
+use Rattle.wit_syntax.specs.Crossing.{item_uses}
+use Rattle.wit_syntax.specs.Foreign.{visited, foreign_interfaces}
+use Rattle.wit_scopes.specs.Front.{AreNamesPlaced}
+use Rattle.wit_scopes.specs.Held.{name_behind}
+use Rattle.wit_item_names.specs.Items.{AreSound}
+use Rattle.wit_files.specs.FileNames.{top_at}
+use Rattle.wit_item_names.proofs.parts.interface_names.Given as goal
+
+abbrev pub invariant-loop-part : goal.invariant-loop-part
+invariant-loop-part l = record {
+  names : map name_behind l.names.items ≡ flat_map (part_names (top_at l.files l.place)) (map interface_part (take l.part-index l.items));
+  placed : AreNamesPlaced (map visited (foreign_interfaces l.files)) l.names.items;
+  sound : AreSound l.files (top_at l.files l.place) (flat_map item_uses (take l.part-index l.items));
+}

@@ -1,0 +1,3 @@
+pub mod Items
+pub mod Inside
+pub mod Interfaces

@@ -1,0 +1,6 @@
+//! The names of the scopes of declared items, and what their paths lead to.
+#![tactic(auto)]
+
+pub mod inside;
+pub mod parts;
+pub mod reached;

@@ -1,0 +1,158 @@
+//! The names that the parts of an item bring.
+ghost use Rattle.std.specs.Prelude.{◌≡◌, ◌++◌, Contains, map, IfOk, IfErr, OnOk};
+ghost use Rattle.std.specs.List.{flat_map};
+ghost use Rattle.wit_tree.specs.declared.tree.Use.{Use as TheUse};
+ghost use Rattle.wit_syntax.specs.Crossing.{item_uses};
+ghost use Rattle.wit_syntax.specs.Source.{TheWorld, interface_part as the_interface_part, world_part as the_world_part, part_names, path_scope};
+ghost use Rattle.wit_syntax.specs.Foreign.{visited, foreign_interfaces};
+ghost use Rattle.wit_syntax.specs.Broken.{Refused};
+ghost use Rattle.wit_files.specs.FileNames.{top_at};
+ghost use Rattle.wit_scopes.specs.Held.{source_behind, name_behind, IsPlaced};
+ghost use Rattle.wit_item_names.specs.Items.{part_behind, own_uses, HasItem, HasPath, AreEntriesOf, IsSound, IsUnsound, AreSound, IsUnsoundAmong};
+ghost use Rattle.wit_scopes.specs.Front.{AreNamesPlaced};
+
+use crate::reached::path_source;
+use std::alloc::Global;
+use wit_files::FileNames;
+use wit_model::AstItem as Entry;
+use wit_notes::check_notes;
+use wit_scopes::scope_name::{DefinedName, ScopeName, Source, add_used_names};
+use wit_top_names::declaration::world_items;
+use wit_tree::ParseResult;
+use wit_tree::tree::{Extern, Include, InterfaceItem, NamedFunc, TypeDef, Use, World, WorldItem};
+
+/// A part of an item.
+#[derive(Clone, Copy)]
+pub enum Part<'f, 'a> {
+    Defining(&'f TypeDef<'a>),
+    Using(&'f Use<'a>),
+    Including(&'f Include<'a>),
+    Doing(&'f NamedFunc<'a>),
+    Crossing(&'f Extern<'a>),
+}
+
+/// A part of an interface.
+fn interface_part<'f, 'a>(part: &'f InterfaceItem<'a>) -> Part<'f, 'a>
+    ensures { part_behind result ≡ the_interface_part part.now }
+{
+    match part {
+        InterfaceItem::TypeDef(definition) => Part::Defining(definition),
+        InterfaceItem::Use(used) => Part::Using(used),
+        InterfaceItem::Func(function) => Part::Doing(function),
+    }
+}
+
+/// A part of a world.
+fn world_part<'f, 'a>(part: &'f WorldItem<'a>) -> Part<'f, 'a>
+    ensures { part_behind result ≡ the_world_part part.now }
+{
+    match part {
+        WorldItem::TypeDef(definition) => Part::Defining(definition),
+        WorldItem::Use(used) => Part::Using(used),
+        WorldItem::Include(include) => Part::Including(include),
+        WorldItem::Extern(external) => Part::Crossing(external),
+    }
+}
+
+/// The interface that a `use` in the file at a place leads to; refuses attributes that break a rule, and
+/// then a path that leads to no item, or to a world.
+fn sound_source<'f, 'a>(
+    alloc: Global,
+    files: &FileNames<'f, 'a>,
+    entries: &[Entry],
+    place: usize,
+    used: &'f Use<'a>,
+) -> ParseResult<Source<'f, 'a>>
+    requires path { HasPath files.now place used.now.from }
+    requires entries { AreEntriesOf files.now entries.now }
+    ensures source { IfOk result (λ source. source_behind source ≡ path_scope (top_at files.now place) used.now.from) }
+    ensures placed { IfOk result (λ source. IsPlaced (map visited (foreign_interfaces files.now)) source) }
+    ensures sound { OnOk result (IsSound files.now (top_at files.now place) used.now) }
+    ensures refused { IfErr result (Refused (IsUnsound files.now (top_at files.now place) used.now)) }
+{
+    check_notes(alloc, &used.attributes)?;
+    let source = path_source(alloc, files, entries, place, &used.from)?;
+    Ok(source)
+}
+
+/// Adds the names that a part of an item of the file at a place brings.
+fn add_part<'f, 'a>(
+    alloc: Global,
+    files: &FileNames<'f, 'a>,
+    entries: &[Entry],
+    place: usize,
+    names: &mut Vec<ScopeName<'f, 'a>>,
+    part: Part<'f, 'a>,
+) -> ParseResult<()>
+    requires paths { (u : TheUse) → Contains (own_uses (part_behind part)) u → HasPath files.now place u.from }
+    requires entries { AreEntriesOf files.now entries.now }
+    ensures names { OnOk result (map name_behind names.new.items ≡ map name_behind names.old.items ++ part_names (top_at files.now place) (part_behind part.entry)) }
+    ensures placed { OnOk result (AreNamesPlaced (map visited (foreign_interfaces files.now)) names.old.items → AreNamesPlaced (map visited (foreign_interfaces files.now)) names.new.items) }
+    ensures sound { OnOk result (AreSound files.now (top_at files.now place) (own_uses (part_behind part.entry))) }
+    ensures refused { IfErr result (Refused (IsUnsoundAmong files.now (top_at files.now place) (own_uses (part_behind part.entry)))) }
+{
+    match part {
+        Part::Defining(definition) => {
+            names.push(ScopeName::Defined(DefinedName { definition }))?;
+        }
+        Part::Using(used) => {
+            let from = sound_source(alloc, files, entries, place, used)?;
+            add_used_names(names, &from, &used.attributes, &used.names)?;
+        }
+        Part::Including(_) => {}
+        Part::Doing(_) => {}
+        Part::Crossing(_) => {}
+    }
+    Ok(())
+}
+
+/// The names of an interface of the file at a place, which has these items.
+pub fn interface_names<'f, 'a>(
+    alloc: Global,
+    files: &FileNames<'f, 'a>,
+    items: &'f [InterfaceItem<'a>],
+    entries: &[Entry],
+    place: usize,
+) -> ParseResult<Vec<ScopeName<'f, 'a>>>
+    requires paths { (u : TheUse) → Contains (flat_map item_uses items.now) u → HasPath files.now place u.from }
+    requires entries { AreEntriesOf files.now entries.now }
+    ensures names { IfOk result (λ names. map name_behind names.items ≡ flat_map (part_names (top_at files.now place)) (map the_interface_part items.now)) }
+    ensures placed { IfOk result (λ names. AreNamesPlaced (map visited (foreign_interfaces files.now)) names.items) }
+    ensures sound { OnOk result (AreSound files.now (top_at files.now place) (flat_map item_uses items.now)) }
+    ensures refused { IfErr result (Refused (IsUnsoundAmong files.now (top_at files.now place) (flat_map item_uses items.now))) }
+{
+    let mut names = Vec::new(alloc);
+    for part in items {
+        add_part(
+            alloc,
+            files,
+            entries,
+            place,
+            &mut names,
+            interface_part(part),
+        )?;
+    }
+    Ok(names)
+}
+
+/// The names of a world of the file at a place.
+pub fn world_names<'f, 'a>(
+    alloc: Global,
+    files: &FileNames<'f, 'a>,
+    world: &'f World<'a>,
+    entries: &[Entry],
+    place: usize,
+) -> ParseResult<Vec<ScopeName<'f, 'a>>>
+    requires item { HasItem files.now place (TheWorld world.now) }
+    requires entries { AreEntriesOf files.now entries.now }
+    ensures names { IfOk result (λ names. map name_behind names.items ≡ flat_map (part_names (top_at files.now place)) (map the_world_part world.now.items.items)) }
+    ensures placed { IfOk result (λ names. AreNamesPlaced (map visited (foreign_interfaces files.now)) names.items) }
+    ensures sound { OnOk result (AreSound files.now (top_at files.now place) (flat_map own_uses (map the_world_part world.now.items.items))) }
+    ensures refused { IfErr result (Refused (IsUnsoundAmong files.now (top_at files.now place) (flat_map own_uses (map the_world_part world.now.items.items)))) }
+{
+    let mut names = Vec::new(alloc);
+    for part in world_items(world) {
+        add_part(alloc, files, entries, place, &mut names, world_part(part))?;
+    }
+    Ok(names)
+}

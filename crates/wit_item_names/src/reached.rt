@@ -1,0 +1,150 @@
+//! What a path of an item leads to that wants an interface.
+ghost use Rattle.std.specs.Prelude.{◌≡◌, ◌<◌, length, map, IfOk, IfErr, OnOk};
+ghost use Rattle.std.specs.Option.{option_copied};
+ghost use Rattle.wit_syntax.specs.Source.{Local, leads, path_scope};
+ghost use Rattle.wit_syntax.specs.Foreign.{visited, foreign_interfaces};
+ghost use Rattle.wit_syntax.specs.Broken.{Refused};
+ghost use Rattle.wit_files.specs.FileNames.{top_at};
+ghost use Rattle.wit_scopes.specs.Held.{source_behind, IsPlaced};
+ghost use Rattle.wit_item_names.specs.Items.{HasPath, AreEntriesOf, item_place as the_item_place, other_place as the_other_place, entry_at, interface_entry, IsReached, IsUsable, IsUnusable};
+
+use std::alloc::Global;
+use wit_files::{FileNames, Found};
+use wit_model::AstItem as Entry;
+use wit_notes::path_id;
+use wit_refusals::refusal::{refuse_missing, refuse_world};
+use wit_scopes::scope_name::Source;
+use wit_top_names::Target;
+use wit_tree::ParseResult;
+use wit_tree::tree::{Id, UsePath};
+
+/// What a path of an item leads to that wants an interface.
+#[derive(Clone, Copy)]
+pub enum Reached<'f, 'a> {
+    /// An interface.
+    Interface(Source<'f, 'a>),
+    /// A world.
+    World,
+    /// No item of this name.
+    Nothing(Id<'a>),
+}
+
+/// The place of a declared item that was found.
+fn item_place(found: Option<Found>) -> Option<usize>
+    ensures { result ≡ the_item_place found }
+{
+    match found {
+        Some(Found::Item(place)) => Some(place),
+        Some(Found::Foreign(_)) => None,
+        None => None,
+    }
+}
+
+/// The place of an item of another package that was found.
+fn other_place(found: Option<Found>) -> Option<usize>
+    ensures { result ≡ the_other_place found }
+{
+    match found {
+        Some(Found::Foreign(place)) => Some(place),
+        Some(Found::Item(_)) => None,
+        None => None,
+    }
+}
+
+/// The entry of the item of another package that a path in the file at a place leads to; none where
+/// it leads to none. `entries` are those of other packages' items.
+pub fn entry_of<'e, 'f, 'a>(
+    files: &FileNames<'f, 'a>,
+    entries: &'e [Entry],
+    place: usize,
+    path: &'f UsePath<'a>,
+) -> Option<&'e Entry>
+    requires within { place < length files.now }
+    requires entries { AreEntriesOf files.now entries.now }
+    ensures { option_copied result ≡ entry_at files.now (leads (top_at files.now place) path.now) }
+{
+    let found = other_place(files.lookup(place, path))?;
+    entries.get(found)
+}
+
+/// The place of the interface that an entry is; none where there is no entry, or a world's.
+fn interface_place(entry: Option<&Entry>) -> Option<usize>
+    ensures { result ≡ interface_entry (option_copied entry.entry) }
+{
+    match entry {
+        Some(Entry::Interface(id)) => Some(id.index()),
+        Some(Entry::World(_)) => None,
+        None => None,
+    }
+}
+
+/// What a path in the file at a place leads to, where that is a name.
+fn reach_name<'f, 'a>(
+    files: &FileNames<'f, 'a>,
+    place: usize,
+    path: &'f UsePath<'a>,
+    name: Id<'a>,
+) -> Reached<'f, 'a>
+    requires within { place < length files.now }
+    requires local { leads (top_at files.now place) path.now ≡ Local name }
+    ensures { IsReached files.now (top_at files.now place) path.now result }
+{
+    let found = match item_place(files.lookup(place, path)) {
+        Some(found) => found,
+        None => return Reached::Nothing(name),
+    };
+    if files.is_world(found) {
+        return Reached::World;
+    }
+    Reached::Interface(Source::Declared(name))
+}
+
+/// What a path of an item of the file at a place leads to, which wants an interface. `entries` are
+/// those of other packages' items.
+pub fn reach<'f, 'a>(
+    files: &FileNames<'f, 'a>,
+    entries: &[Entry],
+    place: usize,
+    path: &'f UsePath<'a>,
+) -> Reached<'f, 'a>
+    requires path { HasPath files.now place path.now }
+    requires entries { AreEntriesOf files.now entries.now }
+    ensures { IsReached files.now (top_at files.now place) path.now result }
+{
+    match files.target(place, path) {
+        Target::Local(name) => reach_name(files, place, path, name),
+        Target::Foreign { package, name } => {
+            match interface_place(entry_of(files, entries, place, path)) {
+                Some(place) => Reached::Interface(Source::Foreign {
+                    place,
+                    package,
+                    name,
+                }),
+                None => Reached::World,
+            }
+        }
+    }
+}
+
+/// The interface that a path of an item of the file at a place leads to; refuses one that leads to
+/// no item (7), or to a world (10). `entries` are those of other packages' items.
+pub fn path_source<'f, 'a>(
+    alloc: Global,
+    files: &FileNames<'f, 'a>,
+    entries: &[Entry],
+    place: usize,
+    path: &'f UsePath<'a>,
+) -> ParseResult<Source<'f, 'a>>
+    requires path { HasPath files.now place path.now }
+    requires entries { AreEntriesOf files.now entries.now }
+    ensures source { IfOk result (λ source. source_behind source ≡ path_scope (top_at files.now place) path.now) }
+    ensures placed { IfOk result (λ source. IsPlaced (map visited (foreign_interfaces files.now)) source) }
+    ensures usable { OnOk result (IsUsable files.now (top_at files.now place) path.now) }
+    ensures refused { IfErr result (Refused (IsUnusable files.now (top_at files.now place) path.now)) }
+{
+    match reach(files, entries, place, path) {
+        Reached::Interface(source) => Ok(source),
+        Reached::World => Err(refuse_world(alloc, path_id(path))),
+        Reached::Nothing(name) => Err(refuse_missing(alloc, 7, "interface or world", name)),
+    }
+}

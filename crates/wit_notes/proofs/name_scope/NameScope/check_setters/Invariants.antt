@@ -1,6 +1,0 @@
-use Rattle.std.proofs.Common.{ℕ, ◌<◌}
-use Rattle.wit_notes.specs.Names.{IsLoneSetter}
-use Rattle.wit_notes.proofs.name_scope.NameScope.check_setters.Given as goal
-
-abbrev pub invariant-loop-place : goal.invariant-loop-place
-invariant-loop-place l = (i : ℕ) → i < l.place → IsLoneSetter l.self i → ⊥

@@ -1,6 +1,0 @@
-use Rattle.std.proofs.Common.{map}
-use Rattle.wit_notes.proofs.Few.{differ_more}
-use Rattle.wit_notes.proofs.repeats.first_repeat_by_pairs.Goals as goal
-
-pub loop-place-preserved : goal.loop-place-preserved
-loop-place-preserved c = differ_more (map (λ t. t.now) c.args.texts.now) c.loop-place.place c.loop-place.invariant c.in_default.ensures.none

@@ -1,0 +1,138 @@
+-- Scopes: what a key finds among their names, and setters with their getters.
+use Rattle.std.proofs.Common.{◌≡◌, ℕ, ◌<◌, Bool, true, false, List, [], ◌∷◌, ◌++◌, length, take, drop, Some, None, Option, nat_eq, inl, inr, refl, sym, ap, ◌∙◌}
+use Rattle.std.specs.Prelude.{slice_get, map, codes}
+use Rattle.std.specs.Cmp.Lexicographic.{pointwise}
+use Rattle.std.specs.Map.{lookup}
+use Rattle.std.specs.List.{starts_with}
+use Rattle.std.specs.Option.{option_copied, option_map}
+use denote.Ref.{Bor}
+use Rattle.std.proofs.lemmas.Bool.{cases_Bool}
+use Rattle.std.proofs.lemmas.List.{map-append, take-append-drop}
+use Rattle.std.proofs.lemmas.Option.{slice_get-map}
+use Rattle.wit_names.specs.Folded.{folded_key}
+use Rattle.wit_names.specs.Front.{behind, passes, is_behind}
+use Rattle.wit_names.specs.Label.{is_label}
+use Rattle.wit_names.specs.Mangled.{is_dotted, is_mangled}
+use Rattle.wit_names.specs.Setter.{getter_of, is_setter}
+use Rattle.wit_names.proofs.MadeNames.{is_mangled-get, is_mangled-method_get, is_mangled-static_get}
+use Rattle.wit_syntax.proofs.Lists.{at_either, map_at}
+use Rattle.wit_syntax.proofs.Names.{name_equal}
+use Rattle.wit_syntax.proofs.Repeated.{differ_more}
+use Rattle.wit_refusals.specs.declared.name_scope.DefinedName.{DefinedName}
+use Rattle.wit_tree.specs.declared.error.ParseError.{ParseError}
+use Rattle.wit_syntax.specs.Fault.{fault}
+use Rattle.wit_syntax.specs.Broken.{Refused}
+use Rattle.wit_refusals.specs.Names.{Name, IsTaken, IsLoneSetter, IsFirstLoneSetter}
+use Rattle.wit_refusals.specs.Scope.{Entry, name_of, names_of, IsKeyed, HasName}
+use Rattle.wit_refusals.proofs.Tables.{lookup-at, lookup-none}
+
+abbrev key : Entry → List ℕ
+key e = e.0
+
+-- the entry behind a name
+entry_at : (es : List Entry) (i : ℕ) (n : Name) → slice_get (names_of es) i ≡ Some n → (e : Entry) × (slice_get es i ≡ Some e) × (name_of e ≡ n)
+entry_at es i n h = map_at name_of es i n h
+
+-- a new key more
+pub keyed-more : (es : List Entry) (k : List ℕ) (d : DefinedName) → IsKeyed es → lookup (pointwise nat_eq k) es ≡ None → k ≡ folded_key d.name → IsKeyed (es ++ (k, d) ∷ [])
+keyed-more es k d is none fits = record {
+  keyed = λ i e h. elim (at_either es (k, d) i e h) [
+    | inl old ↦ is.keyed i e old
+    | inr new ↦ (let here = new.1 in ap (λ (x : Entry). x.0) here ∙ fits ∙ ap (λ (x : Entry). folded_key x.1.name) (sym here))
+  ];
+  differ = rw (map-append key es ((k, d) ∷ [])) (differ_more (map key es) k is.differ (λ i h. (
+      let found = map_at key es i k h in
+      lookup-none es k i found.0 none found.1 found.2)));
+}
+
+-- a key that is found is taken, and one that is not found is free
+pub taken-found : (es : List Entry) (name k : List ℕ) (d : DefinedName) → IsKeyed es → k ≡ folded_key name → lookup (pointwise nat_eq k) es ≡ Some d → IsTaken (names_of es) name
+taken-found es name k d is fits h =
+    let found = lookup-at es k d h in
+    record { place = found.0; earlier = (d.name, d.span); at = slice_get-map name_of es found.0 ∙ ap (option_map name_of) found.1; same = sym (is.keyed found.0 (k, d) found.1) ∙ fits }
+
+pub free-none : (es : List Entry) (name k : List ℕ) → IsKeyed es → k ≡ folded_key name → lookup (pointwise nat_eq k) es ≡ None → IsTaken (names_of es) name → ⊥
+free-none es name k is fits none taken =
+    let found = entry_at es taken.place taken.earlier taken.at in
+    let same : folded_key found.0.1.name ≡ folded_key name = ap (λ (n : Name). folded_key n.0) found.2 ∙ taken.same in
+    lookup-none es k taken.place found.0 none found.1 (is.keyed taken.place found.0 found.1 ∙ same ∙ sym fits)
+
+-- what a key finds has the name, where a name of the scope is spelled so
+pub has-found : (es : List Entry) (name k : List ℕ) (d : DefinedName) → IsKeyed es → k ≡ folded_key name → lookup (pointwise nat_eq k) es ≡ Some d → d.name ≡ name → HasName (names_of es) name
+has-found es name k d is fits h same =
+    let found = lookup-at es k d h in
+    record { place = found.0; span = d.span; at = slice_get-map name_of es found.0 ∙ ap (option_map name_of) found.1 ∙ ap (λ (n : List ℕ). Some (n, d.span)) same }
+
+pub found-has : (es : List Entry) (name k : List ℕ) (d : DefinedName) → IsKeyed es → k ≡ folded_key name → lookup (pointwise nat_eq k) es ≡ Some d → HasName (names_of es) name → d.name ≡ name
+found-has es name k d is fits h has =
+    let found = lookup-at es k d h in
+    let other = entry_at es has.place (name, has.span) has.at in
+    let spelled : other.0.1.name ≡ name = ap (λ (n : Name). n.0) other.2 in
+    let keyed : other.0.0 ≡ k = is.keyed has.place other.0 other.1 ∙ ap folded_key spelled ∙ sym fits in
+    let at_found : slice_get (map key es) found.0 ≡ Some k = slice_get-map key es found.0 ∙ ap (option_map key) found.1 in
+    let at_other : slice_get (map key es) has.place ≡ Some k = slice_get-map key es has.place ∙ ap (option_map key) other.1 ∙ ap Some keyed in
+    let place : found.0 ≡ has.place = is.differ.differ found.0 has.place k at_found at_other in
+    let both : Some (k, d) ≡ Some other.0 = sym found.1 ∙ ap (λ i. slice_get es i) place ∙ other.1 in
+    let one : (k, d) ≡ other.0 = cc in
+    ap (λ (e : Entry). e.1.name) one ∙ spelled
+
+pub none-has : (es : List Entry) (name k : List ℕ) → IsKeyed es → k ≡ folded_key name → lookup (pointwise nat_eq k) es ≡ None → HasName (names_of es) name → ⊥
+none-has es name k is fits none has = free-none es name k is fits none (record { place = has.place; earlier = (name, has.span); at = has.at; same = refl })
+
+-- the text behind a front stands behind it
+pub behind-some : (front text rest : List ℕ) → behind front text ≡ Some rest → text ≡ front ++ rest
+behind-some front text rest h = by (starts_with nat_eq text front) refl
+  where
+    by : (b : Bool) → starts_with nat_eq text front ≡ b → text ≡ front ++ rest
+    by true e =
+        let some : Some (drop (length front) text) ≡ Some rest = rw e at h in
+        let is : drop (length front) text ≡ rest = cc in
+        let starts : front ≡ take (length front) text = name_equal front (take (length front) text) e in
+        sym (take-append-drop (length front) text) ∙ ap (λ t. t ++ drop (length front) text) (sym starts) ∙ ap (λ t. front ++ t) is
+    by false e = absurd (let wrong : None ≡ Some rest = rw e at h in let f : ⊥ = cc in f)
+
+-- a text that has a front with what passes behind it
+front-parts : (test : List ℕ → Bool) (front text : List ℕ) → is_behind test front text ≡ true → (rest : List ℕ) × (text ≡ front ++ rest) × (test rest ≡ true)
+front-parts test front text h = by (behind front text) refl
+  where
+    by : (o : Option (List ℕ)) → behind front text ≡ o → (rest : List ℕ) × (text ≡ front ++ rest) × (test rest ≡ true)
+    by None e = absurd (let wrong : false ≡ true = sym (ap (passes test) e) ∙ h in let f : ⊥ = cc in f)
+    by (Some rest) e = (rest, behind-some front text rest e, sym (ap (passes test) e) ∙ h)
+
+-- a setter's getter is a mangled name
+pub is_mangled-getter : (name : List ℕ) → is_setter name ≡ true → is_mangled (getter_of name) ≡ true
+is_mangled-getter name h = elim (cases_Bool (is_behind is_label (codes "[set]") name)) [
+  | inl free ↦ (let p = front-parts is_label (codes "[set]") name free in rw p.1 (is_mangled-get p.0 p.2))
+  | inr other ↦ elim (cases_Bool (is_behind is_dotted (codes "[method][set]") name)) [
+    | inl method ↦ (let p = front-parts is_dotted (codes "[method][set]") name method in rw p.1 (is_mangled-method_get p.0 p.2))
+    | inr neither ↦ (
+        let last : is_behind is_dotted (codes "[static][set]") name ≡ true = rw (other, neither) at h in
+        let p = front-parts is_dotted (codes "[static][set]") name last in
+        rw p.1 (is_mangled-static_get p.0 p.2))
+  ]
+]
+
+-- a setter that stands first without its getter, and setters that have theirs
+pub paired-more : (names : List Name) (place : ℕ) (n : Name) → slice_get names place ≡ Some n → (is_setter n.0 ≡ true → HasName names (getter_of n.0)) → IsLoneSetter names place → ⊥
+paired-more names place n at paired lone =
+    let both : Some n ≡ Some lone.setter = sym at ∙ lone.at in
+    let one : n ≡ lone.setter = cc in
+    let sets : is_setter n.0 ≡ true = ap (λ (m : Name). is_setter m.0) one ∙ lone.sets in
+    let has = paired sets in
+    lone.none has.place has.span (has.at ∙ ap (λ (m : Name). Some (getter_of m.0, has.span)) one)
+
+pub first-lone : (names : List Name) (place : ℕ) (n : Name) (e : ParseError) → slice_get names place ≡ Some n → ((i : ℕ) → i < place → IsLoneSetter names i → ⊥) → Refused (λ f. (is_setter n.0 ≡ true) × (HasName names (getter_of n.0) → ⊥) × (f ≡ fault 18 n.1)) e → Refused (IsFirstLoneSetter names) e
+first-lone names place n e at first r = elim r [
+  | inl memory ↦ inl memory
+  | inr h ↦ inr (record {
+    place = place;
+    lone = record { setter = n; at = at; sets = h.0; none = λ i span there. h.1 (record { place = i; span = span; at = there }) };
+    first = first;
+    is = h.2;
+  })
+]
+
+-- nothing was found
+pub not_some : {X : Type 0} (r : Option (Bor X)) → ((x : Bor X) → r ≡ Some x → ⊥) → option_copied r ≡ None
+not_some None h = refl
+not_some (Some x) h = absurd (h x refl)

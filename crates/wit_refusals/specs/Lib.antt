@@ -1,0 +1,4 @@
+pub mod Digests
+pub mod Lent
+pub mod Names
+pub mod Scope

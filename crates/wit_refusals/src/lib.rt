@@ -1,0 +1,12 @@
+//! Refusals of a broken rule, and names that break one: those that stand twice in a list, in a definition or in a scope.
+#![tactic(auto)]
+
+mod digests;
+mod getters;
+pub mod name_scope;
+pub mod refusal;
+pub mod repeats;
+pub mod unique_names;
+
+pub use name_scope::NameScope;
+pub use unique_names::check_unique_names;

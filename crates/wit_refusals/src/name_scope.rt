@@ -1,0 +1,176 @@
+//! The names of a scope, which differ once folded.
+ghost use Rattle.std.specs.Prelude.{◌≡◌, ◌++◌, ◌∷◌, [], ◌↔◌, ℕ, IfErr, IfOk, IsTrue, OnErr, OnOk};
+ghost use Rattle.wit_names.specs.Mangled.{is_mangled};
+ghost use Rattle.wit_names.specs.Setter.{getter_of, is_setter};
+ghost use Rattle.wit_syntax.specs.Broken.{Refused};
+ghost use Rattle.wit_syntax.specs.Fault.{fault};
+ghost use Rattle.wit_refusals.specs.Names.{IsDefinedAgain, IsFirstLoneSetter, IsLoneSetter, IsTaken};
+ghost use Rattle.wit_refusals.specs.Scope.{HasName, IsKeyed, names_of};
+
+use crate::getters::is_getter_name;
+use crate::refusal::refuse_in;
+use std::alloc::{AllocError, Global};
+use std::marker::Model;
+use wit_names::{Folded, getter_for_setter, is_setter};
+use wit_tree::{ParseResult, Span};
+use wit_values::{Table, Text};
+
+/// A name of a scope, and where it is written.
+#[derive(Debug, Drop)]
+struct DefinedName {
+    name: Text,
+    span: Span,
+}
+
+/// The names of a scope, an interface or one side of a world, which contracts see as a list of
+/// names with their spans, in the order in which they were defined.
+///
+/// No two of them have one folded key.
+pub struct NameScope {
+    alloc: Global,
+    names: Table<Folded, DefinedName>,
+}
+
+impl Drop for NameScope {
+    fn drop(self) {
+        let NameScope { alloc: _, names: _ } = self;
+    }
+}
+
+impl Model for NameScope {
+    ghost use Rattle.std.specs.Prelude.{List};
+    ghost use Rattle.wit_refusals.specs.Names.{Name};
+    ghost use Rattle.wit_refusals.specs.Scope.{IsKeyed, names_of};
+
+    ghost Value = { List Name };
+
+    ghost view = { λ s. names_of s.names };
+
+    ghost invariant = { λ s. IsKeyed s.names };
+}
+
+/// The words for a name that an earlier one has.
+fn conflict(alloc: Global, earlier: &str, name: &str) -> Result<String, AllocError> {
+    if earlier == name {
+        format!(in alloc; "duplicate name `{name}`")
+    } else {
+        format!(in alloc; "name `{name}` conflicts with previous name `{earlier}`")
+    }
+}
+
+/// Whether a name is spelled like this.
+fn has_name(
+    alloc: Global,
+    names: &Table<Folded, DefinedName>,
+    name: &str,
+) -> Result<bool, AllocError>
+    requires keyed { IsKeyed names.now }
+    requires mangled { IsTrue (is_mangled name.now) }
+    ensures { IfOk result (λ found. IsTrue found ↔ HasName (names_of names.now) name.now) }
+{
+    let key = Folded::new(alloc, name)?;
+    match names.get(&key) {
+        Some(found) => Ok(found.name.as_str() == name),
+        None => Ok(false),
+    }
+}
+
+/// Whether the name at a place is that of a setter's getter.
+fn is_getter_at(names: &Table<Folded, DefinedName>, place: usize, setter: &str) -> bool
+    ensures { IsTrue result → HasName (names_of names.now) (getter_of setter.now) }
+{
+    match names.get_index(place) {
+        Some((_, found)) => is_getter_name(found.name.as_str(), setter),
+        None => false,
+    }
+}
+
+/// Refuses a setter at a place without the getter of its spelling, which mostly stands before it.
+fn check_setter(
+    alloc: Global,
+    names: &Table<Folded, DefinedName>,
+    place: usize,
+    name: &str,
+    span: Span,
+) -> ParseResult<()>
+    requires { IsKeyed names.now }
+    ensures paired { OnOk result (IsTrue (is_setter name.now) → HasName (names_of names.now) (getter_of name.now)) }
+    ensures refused { IfErr result (Refused (λ f. IsTrue (is_setter name.now) × (HasName (names_of names.now) (getter_of name.now) → ⊥) × (f ≡ fault 18 span))) }
+{
+    if !is_setter(name) {
+        return Ok(());
+    }
+    if is_getter_at(names, place.saturating_sub(1), name) {
+        return Ok(());
+    }
+    let getter = getter_for_setter(alloc, name)?;
+    if has_name(alloc, names, getter.as_str())? {
+        return Ok(());
+    }
+    let words = format!(in alloc; "setter `{name}` has no corresponding getter `{getter}`");
+    Err(refuse_in(18, span, words))
+}
+
+impl NameScope {
+    /// No name.
+    pub fn new(alloc: Global) -> NameScope
+        ensures { result ≡ [] }
+    {
+        NameScope {
+            alloc,
+            names: Table::new(alloc),
+        }
+    }
+
+    /// Defines a name behind the others.
+    ///
+    /// Refused under E17, at the span, where an earlier name has its folded key, and for want of
+    /// memory. Then the scope is as it was.
+    pub fn define(&mut self, name: &str, span: Span) -> ParseResult<()>
+        requires { IsTrue (is_mangled name.now) }
+        ensures defined { OnOk result (self.new ≡ self.old ++ (name.now, span) ∷ []) }
+        ensures free { OnOk result (IsTaken self.old name.now → ⊥) }
+        ensures refused { IfErr result (Refused (IsDefinedAgain self.old name.now span)) }
+        ensures unchanged { OnErr result (self.new ≡ self.old) }
+    {
+        let key = Folded::new(self.alloc, name)?;
+        if let Some(earlier) = self.names.get(&key) {
+            let words = conflict(self.alloc, earlier.name.as_str(), name);
+            return Err(refuse_in(17, span, words));
+        }
+        let name = Text::from_str(self.alloc, name)?;
+        self.names.insert(key, DefinedName { name, span })?;
+        Ok(())
+    }
+
+    /// Whether a name is spelled like this.
+    ///
+    /// The error is want of memory.
+    pub fn has(&self, name: &str) -> Result<bool, AllocError>
+        requires { IsTrue (is_mangled name.now) }
+        ensures { IfOk result (λ found. IsTrue found ↔ HasName self.now name.now) }
+    {
+        has_name(self.alloc, &self.names, name)
+    }
+
+    /// Refuses the first setter without the getter of its exact spelling.
+    ///
+    /// The error is E18 at the setter, or want of memory.
+    pub fn check_setters(&self) -> ParseResult<()>
+        ensures paired { OnOk result ((i : ℕ) → IsLoneSetter self.now i → ⊥) }
+        ensures refused { IfErr result (Refused (IsFirstLoneSetter self.now)) }
+    {
+        for place in 0..self.names.len() {
+            if let Some((_, name)) = self.names.get_index(place) {
+                check_setter(
+                    self.alloc,
+                    &self.names,
+                    place,
+                    name.name.as_str(),
+                    name.span,
+                )?;
+            }
+        }
+        Ok(())
+    }
+}

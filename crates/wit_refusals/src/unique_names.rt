@@ -1,0 +1,50 @@
+//! Names of parts of a definition, which differ once case is folded.
+ghost use Rattle.std.specs.Prelude.{◌≡◌, ℕ, IfErr, IfOk, OnOk, map};
+ghost use Rattle.wit_syntax.specs.Broken.{Refused};
+ghost use Rattle.wit_refusals.specs.Names.{IsFirstSecond, IsSecond};
+
+use crate::refusal::refuse_in;
+use crate::repeats::first_folded_repeat;
+use std::alloc::{AllocError, Global};
+use wit_tree::ParseResult;
+use wit_tree::tree::Id;
+
+/// The names as they are spelled.
+fn spelled<'a>(alloc: Global, names: &[Id<'a>]) -> Result<Vec<&'a str>, AllocError>
+    ensures { IfOk result (λ texts. map (λ t. t.now) texts.items ≡ map (λ id. id.name.now) names.now) }
+{
+    let mut texts = Vec::with_capacity(alloc, names.len())?;
+    for id in names {
+        texts.push(id.name)?;
+    }
+    Ok(texts)
+}
+
+/// The words for a name that an earlier one has.
+fn conflict(alloc: Global, desc: &str, earlier: &str, later: &str) -> Result<String, AllocError> {
+    if earlier == later {
+        format!(in alloc; "duplicate {desc} `{earlier}`")
+    } else {
+        format!(in alloc; "{desc} `{later}` conflicts with previous {desc} `{earlier}`")
+    }
+}
+
+/// Refuses the first name that is an earlier one once case is folded. `desc` says what the names
+/// are of: `field`, `flag` or `case`.
+///
+/// The error is E25 at the later name, or want of memory.
+pub fn check_unique_names(alloc: Global, desc: &str, names: &[Id<'_>]) -> ParseResult<()>
+    ensures distinct { OnOk result ((i : ℕ) → IsSecond names.now i → ⊥) }
+    ensures refused { IfErr result (Refused (IsFirstSecond names.now)) }
+{
+    let texts = spelled(alloc, names)?;
+    match first_folded_repeat(alloc, &texts)? {
+        Some((first, second)) => {
+            let earlier = &names[first];
+            let later = &names[second];
+            let words = conflict(alloc, desc, earlier.name, later.name);
+            Err(refuse_in(25, later.span, words))
+        }
+        None => Ok(()),
+    }
+}

@@ -1,0 +1,36 @@
+use Rattle.std.proofs.Common.{◌≡◌, refl, List, ◌+◌, ◌++◌, ◌∷◌, [], Some, map, take, inl, inr, sym, ap, ◌∙◌}
+use Rattle.std.specs.Prelude.{slice_get}
+use Rattle.std.proofs.lemmas.List.{map-append, take-map, take_more}
+use Rattle.wit_syntax.specs.Source.{TopName, top_text}
+use Rattle.wit_syntax.proofs.Lists.{read_map, at_take}
+use Rattle.wit_top_names.specs.Tops.{top_behind}
+use Rattle.wit_top_names.proofs.FirstNames.{copied_none, copied_some, present, finds_more, differ_top}
+use Rattle.wit_top_names.proofs.top_name.unique_names.Goals as goal
+
+pub returns-then-is_some-clause-refused : goal.returns-then-is_some-clause-refused
+returns-then-is_some-clause-refused c =
+    let xs = map top_behind c.args.names.now in
+    let i = c.loop-name.name-index in
+    let t = top_behind c.name-item.result in
+    let at : slice_get xs i ≡ Some t = read_map top_behind c.args.names.now i c.name-item.result c.loop-name-test.true c.name-item.is in
+    let v = copied_some c.get.result (sym c.is_some.ensures ∙ c.if-is_some.true) in
+    let p = present (map top_behind (take i c.args.names.now)) c.loop-name.found.entries (top_text t) v.0 c.loop-name.invariant.named.finds (sym c.get.ensures.value ∙ v.1) in
+    let there = at_take xs i p.0 p.1 (ap (λ (l : List TopName). slice_get l p.0) (take-map top_behind i c.args.names.now) ∙ p.2) in
+    elim c.refuse_in.ensures [
+      | inl memory ↦ inl memory
+      | inr says ↦ inr (record { later = t; repeated = record { first = p.0; second = i; earlier = p.1; before = there.1; at_first = there.0; at_second = at; same = p.3 }; is = says })
+    ]
+
+pub loop-name-preserved : goal.loop-name-preserved
+loop-name-preserved c =
+    let xs = c.args.names.now in
+    let i = c.loop-name.name-index in
+    let before = map top_behind (take i xs) in
+    let t = top_behind c.name-item.result in
+    let grown : map top_behind (take (i + 1) xs) ≡ before ++ t ∷ [] = ap (map top_behind) (take_more xs i c.name-item.result c.loop-name-test.true ∙ ap (λ x. take i xs ++ x ∷ []) (sym c.name-item.is)) ∙ map-append top_behind (take i xs) (c.name-item.result ∷ []) in
+    let none = sym c.get.ensures.value ∙ copied_none c.get.result (sym c.is_some.ensures ∙ c.if-is_some.false) in
+    let old = c.loop-name.invariant in
+    record {
+      named = rw grown (record { finds = finds_more before c.loop-name.found.entries c.insert.new.self.entries t _ _ old.named.finds refl refl none c.in_ok-insert.ensures.entries });
+      distinct = rw grown (differ_top before c.loop-name.found.entries t (top_text t) old.named.finds old.distinct refl none);
+    }

@@ -1,0 +1,13 @@
+-- What the functions of an item add behind its names.
+use Rattle.std.specs.Prelude.{◌≡◌, ℕ, List, map}
+use Rattle.wit_tree.specs.declared.tree.Id.{Id}
+use Rattle.wit_graph.specs.Table.{IsOrder}
+use Rattle.wit_syntax.specs.Source.{ScopeName, local_id}
+use Rattle.wit_syntax.specs.Scope.{rows_of, in_turn, AreDistinct}
+
+-- these are the names of a scope as they are resolved
+pub record IsTurn (xs : List ScopeName) (ids : List Id) : Type 0 where
+  pub order : List ℕ
+  pub least : IsOrder (rows_of xs) order
+  pub distinct : AreDistinct xs
+  pub are : ids ≡ map local_id (in_turn xs order)

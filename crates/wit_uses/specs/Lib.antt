@@ -1,0 +1,3 @@
+pub mod Between
+pub mod Behind
+pub mod Body

@@ -1,0 +1,172 @@
+//! Names that a scope uses from interfaces.
+ghost use Rattle.std.specs.Prelude.{◌≡◌, ◌≤◌, ◌↔◌, List, [], Contains, length, map, OnOk, IfOk, IfErr, IsTrue};
+ghost use Rattle.std.specs.List.{flat_map};
+ghost use Rattle.std.specs.Option.{option_copied, option_to_list};
+ghost use Rattle.wit_tree.specs.Refusal.{IsWantOfMemory};
+ghost use Rattle.wit_tree.specs.declared.tree.Id.{Id as TheId};
+ghost use Rattle.wit_syntax.specs.Address.{Address, InterfaceNamed};
+ghost use Rattle.wit_syntax.specs.Source.{ScopeName};
+ghost use Rattle.wit_syntax.specs.Scope.{used, local_names};
+ghost use Rattle.wit_syntax.specs.Broken.{Refused};
+ghost use Rattle.wit_syntax.specs.Function.{SourceFunction};
+ghost use Rattle.wit_arena.specs.Functions.{freestanding_names};
+ghost use Rattle.wit_scopes.specs.Between.{IsUnstated};
+ghost use Rattle.wit_entries.specs.Requiring.{IsGrown};
+ghost use Rattle.wit_scopes.specs.Held.{source_behind, use_behind, IsPlaced, ArePlaced};
+ghost use Rattle.wit_item_names.specs.Interfaces.{front_of};
+ghost use Rattle.wit_items.specs.Interfaces.{cells_of};
+ghost use Rattle.wit_arena.specs.Resolving.{cell_at, env_of, free_functions, Defines, HasNames, IsIndex, IsFound, IsUnresolved, IsUsed, IsWrongUse, IsWrongScope, names_in};
+
+use std::alloc::{AllocError, Global};
+use wit_entries::entries::Entries;
+use wit_entries::scope::Scope;
+use wit_items::interfaces::Interfaces;
+use wit_model::{Function, FunctionKind, Interface};
+use wit_names::front::behind;
+use wit_notes::told_notes;
+use wit_refusals::refusal::{refuse, refuse_in, refuse_missing};
+use wit_scopes::distinct::defined_twice;
+use wit_scopes::scope_name::{Source, UsedName, local_of};
+use wit_tree::tree::Id;
+use wit_tree::{ParseError, ParseResult};
+use wit_types::{Type, TypeDefKind};
+use wit_values::TextTable;
+
+/// The interface that a name comes from.
+fn used_interface<'i>(
+    alloc: Global,
+    from: &Source<'_, '_>,
+    interfaces: &'i Interfaces<'_, '_, '_>,
+) -> ParseResult<&'i Interface>
+    requires index { IsIndex (cells_of interfaces.now) interfaces.now.by_name }
+    requires placed { IsPlaced (front_of interfaces.now.foreign.now) from.now }
+    requires front { length interfaces.now.foreign.now ≤ length interfaces.now.arena }
+    ensures found { IfOk result (λ i. IsFound (cells_of interfaces.now) (source_behind from.now) (cell_at (source_behind from.now) i.now)) }
+    ensures refused { IfErr result (Refused (λ f. (path : TheId) × (source_behind from.now ≡ InterfaceNamed path.name.now) × IsUnresolved interfaces.now.by_name path f)) }
+{
+    match from {
+        Source::Declared(path) => match interfaces.by_name.get(path.name) {
+            Some(id) => Ok(interfaces.arena.get(*id)),
+            None => Err(refuse_missing(alloc, 7, "interface or world", *path)),
+        },
+        Source::Foreign { place, .. } => {
+            let id = interfaces.arena.id_at(*place);
+            Ok(interfaces.arena.get(id))
+        }
+    }
+}
+
+/// The written name of a function that is one by itself.
+fn free_name(function: &Function) -> Option<&str>
+    ensures { option_to_list (option_copied result) ≡ freestanding_names function.now.kind function.now.name }
+{
+    let called = function.name.as_str();
+    match function.kind {
+        FunctionKind::Freestanding | FunctionKind::AsyncFreestanding => Some(called),
+        FunctionKind::Getter => behind(called, "[get]"),
+        FunctionKind::Setter => behind(called, "[set]"),
+        _ => None,
+    }
+}
+
+/// Whether a function is one by itself, of this written name.
+fn is_called(function: &Function, name: &str) -> bool
+    ensures { IsTrue result ↔ Contains (freestanding_names function.now.kind function.now.name) name.now }
+{
+    match free_name(function) {
+        Some(written) => written == name,
+        None => false,
+    }
+}
+
+/// Whether a function of an interface, one by itself, has a name.
+fn has_function(functions: &TextTable<Function>, name: &str) -> bool
+    ensures { IsTrue result ↔ Contains (flat_map (λ f. freestanding_names f.1.kind f.1.name) functions.now) name.now }
+{
+    for place in 0..functions.len() {
+        if let Some((_, function)) = functions.get_index(place) {
+            if is_called(function, name) {
+                return true;
+            }
+        }
+    }
+    false
+}
+
+/// The words for a function that is used as a name.
+fn function_used(alloc: Global, name: &str) -> Result<String, AllocError> {
+    format!(in alloc; "cannot import function `{name}`")
+}
+
+/// The refusal of a used name that is none of the interface's: that of a function (13), or of
+/// nothing (12).
+#[cold]
+#[inline(never)]
+fn refuse_used(alloc: Global, interface: &Interface, name: Id<'_>) -> ParseError
+    ensures { Refused (IsUnstated (free_functions interface.now) name.entry) result }
+{
+    if has_function(&interface.functions, name.name) {
+        return refuse_in(13, name.span, function_used(alloc, name.name));
+    }
+    refuse_missing(alloc, 12, "name", name)
+}
+
+/// Adds a name that is used from an interface.
+fn resolve_use<'f, 'a>(
+    alloc: Global,
+    used: &UsedName<'f, 'a>,
+    types: &mut Entries,
+    interfaces: &Interfaces<'_, '_, '_>,
+    scope: &mut Scope,
+) -> ParseResult<()>
+    requires index { IsIndex (cells_of interfaces.now) interfaces.now.by_name }
+    requires placed { IsPlaced (front_of interfaces.now.foreign.now) used.now.from }
+    requires front { length interfaces.now.foreign.now ≤ length interfaces.now.arena }
+    ensures used { OnOk result (IsUsed types.old types.new (cells_of interfaces.now) scope.old.owner scope.old.names scope.new.names (source_behind used.now.from) used.now.attributes.now used.now.name.now) }
+    ensures owner { OnOk result (scope.new.owner ≡ scope.old.owner) }
+    ensures required { scope.new.required ≡ scope.old.required }
+    ensures grown { OnOk result (IsGrown types.old types.new) }
+    ensures refused { IfErr result (Refused (IsWrongUse (cells_of interfaces.now) interfaces.now.by_name scope.old.names (source_behind used.now.from) used.now.attributes.now used.now.name.now)) }
+{
+    let name = used.name;
+    let interface = used_interface(alloc, &used.from, interfaces)?;
+    let original = match interface.types.get(name.name.name) {
+        Some(original) => *original,
+        None => return Err(refuse_used(alloc, interface, name.name)),
+    };
+    let local = local_of(name);
+    if scope.names.get(local.name).is_some() {
+        let message = defined_twice(alloc, local.name)?;
+        return Err(refuse(alloc, 14, local.span, message.as_str()));
+    }
+    let notes = told_notes(alloc, used.attributes)?;
+    let kind = TypeDefKind::Type_(Type::Id(original));
+    scope.declare(alloc, types, local.name, notes, name.name.span, kind)?;
+    Ok(())
+}
+
+/// Adds the names that a scope uses, in source order.
+pub fn resolve_uses<'f, 'a>(
+    alloc: Global,
+    uses: &[UsedName<'f, 'a>],
+    types: &mut Entries,
+    interfaces: &Interfaces<'_, '_, '_>,
+    scope: &mut Scope,
+) -> ParseResult<()>
+    requires index { IsIndex (cells_of interfaces.now) interfaces.now.by_name }
+    requires placed { ArePlaced (front_of interfaces.now.foreign.now) uses.now }
+    requires front { length interfaces.now.foreign.now ≤ length interfaces.now.arena }
+    requires empty { scope.old.names ≡ [] }
+    ensures defines { OnOk result ((s : Address) → Defines types.old types.new (cells_of interfaces.now) scope.old.owner s scope.old.names scope.new.names (map use_behind uses.now)) }
+    ensures owner { OnOk result (scope.new.owner ≡ scope.old.owner) }
+    ensures listed { OnOk result (names_in scope.new.names ≡ local_names (map use_behind uses.now)) }
+    ensures required { scope.new.required ≡ scope.old.required }
+    ensures has { OnOk result (HasNames (env_of scope.new.names) (map use_behind uses.now)) }
+    ensures grown { OnOk result (IsGrown types.old types.new) }
+    ensures refused { IfErr result (λ e. (xs : List ScopeName) → map use_behind uses.now ≡ used xs → Refused (λ f. (fns : List SourceFunction) → IsWrongScope (cells_of interfaces.now) interfaces.now.by_name xs fns f) e) }
+{
+    for name in uses {
+        resolve_use(alloc, name, types, interfaces, scope)?;
+    }
+    Ok(())
+}

@@ -1,0 +1,7 @@
+mod Counted
+mod Closing
+pub mod Linking
+mod Adding
+mod DoneSides
+mod InsideAt
+mod StandingItem

@@ -1,0 +1,142 @@
+-- The links of a world, as they are held: where they lead, and what is wrong with them.
+use Rattle.std.proofs.Common.{◌≡◌, ℕ, ◌+◌, zero, suc, false, List, [], ◌∷◌, ◌++◌, length, Option, Some, None, inl, inr, refl, sym, ap, ◌∙◌, subst, Contains}
+use Rattle.std.specs.Prelude.{map, slice_get}
+use Rattle.std.specs.List.{flat_map}
+use Rattle.std.specs.Option.{option_map}
+use Rattle.std.proofs.lemmas.Option.{slice_get-map}
+use Rattle.wit_tree.specs.declared.tree.Extern.{Extern}
+use Rattle.wit_tree.specs.declared.tree.ExternKind.{ExternKind}
+use Rattle.wit_tree.specs.declared.tree.ExternKind.TheVariants as extern
+use Rattle.wit_tree.specs.declared.tree.PackageFile.{PackageFile}
+use Rattle.wit_tree.specs.declared.tree.Use.{Use}
+use Rattle.wit_types.specs.declared.types.TypeDef.{TypeDef}
+use Rattle.wit_types.specs.declared.types.TypeOwner.{TypeOwner}
+use Rattle.wit_model.specs.declared.interface.Interface.{Interface}
+use Rattle.wit_syntax.specs.Address.{Address}
+use Rattle.wit_syntax.specs.Broken.{is_world_at, IsBrokenUse, MissingUse, WorldUsed}
+use Rattle.wit_syntax.specs.Crossing.{extern_paths, inline_uses}
+use Rattle.wit_syntax.specs.Fault.{Fault}
+use Rattle.wit_syntax.specs.Function.{SourceFunction}
+use Rattle.wit_syntax.specs.Scope.{use_path, use_paths}
+use Rattle.wit_syntax.specs.Sides.{Link, SideItem, SideFunction, SideLink, extern_items, item_link, links, part_items, side_items, IsBrokenSides}
+use Rattle.wit_syntax.specs.Source.{Item, Part, TopName, Defining, Using, Including, Doing, Crossing, leads, parts}
+use Rattle.wit_syntax.proofs.Found.{at_contains, contains_at}
+use Rattle.wit_syntax.proofs.Lists.{at_back, at_either, flat_map_at, flat_map_has, map_at}
+use Rattle.wit_arena.specs.Resolving.{Cell, Names}
+use Rattle.wit_arena.specs.Resolved.{AreLegalSides, AreUsableLinks, IsWrongWorld, WrongWorldUse, LostLink}
+use Rattle.wit_externs.specs.Held.{externs_behind, extern_behind, link_behind}
+use Rattle.wit_externs.specs.Links.{AreRightLinks}
+use Rattle.wit_externs.specs.declared.held.Led.{Led}
+use Rattle.wit_externs.specs.declared.held.Led.TheVariants as led
+use Rattle.wit_externs.specs.declared.held.HeldLink.{HeldLink}
+use Rattle.wit_externs.specs.declared.held.HeldExtern.{HeldExtern}
+use Rattle.wit_externs.specs.declared.held.HeldExtern.TheVariants as held
+use Rattle.wit_item_entries.specs.Body.{IsLinkLost, LostAtWorld, LostAtNothing}
+use Rattle.wit_world_sides.specs.Links.{AreLed, IsLed, IsLostAt}
+
+-- a function among parts is no link
+no_link : (fns : List SourceFunction) (k : ℕ) (link : Link) → slice_get (map SideFunction fns) k ≡ Some (SideLink link) → ⊥
+no_link fns k link at =
+    let fn = map_at SideFunction fns k (SideLink link) at in
+    let wrong : SideFunction fn.0 ≡ SideLink link = fn.2 in
+    let f : ⊥ = cc in
+    f
+
+-- the path of a link is one of the part that it is
+extern_path : (x : Extern) (kind : ExternKind) (k : ℕ) (link : Link) → slice_get (extern_items x kind) k ≡ Some (SideLink link) → slice_get (extern_paths kind) 0 ≡ Some link.path
+extern_path x (extern.Interface name items) zero link at = absurd (let f : ⊥ = cc in f)
+extern_path x (extern.Interface name items) (suc k) link at = absurd (let f : ⊥ = cc in f)
+extern_path x (extern.Path path) zero link at = (let same : SideLink (record { side = x.side; name = None; path = path; docs = x.docs; attributes = x.attributes.items }) ≡ SideLink link = cc in let one = link_of same in ap (λ (l : Link). Some l.path) one)
+  where
+    link_of : {a b : Link} → SideLink a ≡ SideLink b → a ≡ b
+    link_of h = cc
+extern_path x (extern.Path path) (suc k) link at = absurd (let f : ⊥ = cc in f)
+extern_path x (extern.Func name g) zero link at = absurd (let f : ⊥ = cc in f)
+extern_path x (extern.Func name g) (suc k) link at = absurd (let f : ⊥ = cc in f)
+extern_path x (extern.NamedPath name path) zero link at = (let same : SideLink (record { side = x.side; name = Some name; path = path; docs = x.docs; attributes = x.attributes.items }) ≡ SideLink link = cc in let one = link_of same in ap (λ (l : Link). Some l.path) one)
+  where
+    link_of : {a b : Link} → SideLink a ≡ SideLink b → a ≡ b
+    link_of h = cc
+extern_path x (extern.NamedPath name path) (suc k) link at = absurd (let f : ⊥ = cc in f)
+
+part_path : (p : Part) (k : ℕ) (link : Link) → slice_get (part_items p) k ≡ Some (SideLink link) → (j : ℕ) × (slice_get (use_path p) j ≡ Some link.path)
+part_path (Defining d) k link at = absurd (no_link _ k link at)
+part_path (Using u) k link at = absurd (let f : ⊥ = cc in f)
+part_path (Including i) k link at = absurd (let f : ⊥ = cc in f)
+part_path (Doing g) zero link at = absurd (let f : ⊥ = cc in f)
+part_path (Doing g) (suc k) link at = absurd (let f : ⊥ = cc in f)
+part_path (Crossing x) k link at =
+    let front = map (λ (u : Use). u.from) (inline_uses x.kind) in
+    (length front + 0, at_back front (extern_paths x.kind) 0 link.path (extern_path x x.kind k link at))
+
+-- it is one by which the item uses interfaces
+link_path : (i : Item) (k : ℕ) (link : Link) → slice_get (side_items i) k ≡ Some (SideLink link) → Contains (use_paths i) link.path
+link_path i k link at =
+    let p = flat_map_at part_items (parts i) k (SideLink link) at in
+    let w = part_path p.1 p.3.0 link p.3.1 in
+    let q = flat_map_has use_path (parts i) p.0 w.0 p.1 link.path p.2 w.1 in
+    contains_at (use_paths i) q.0 link.path q.1
+
+-- a link that is held is one of the item
+held_at : (i : Item) (hs : List HeldExtern) (l : HeldLink) → side_items i ≡ externs_behind hs → Contains hs (held.Link l) → (k : ℕ) × (slice_get (side_items i) k ≡ Some (SideLink (link_behind l)))
+held_at i hs l same among =
+    let k = at_contains hs (held.Link l) among in
+    (k.0, ap (λ (xs : List SideItem). slice_get xs k.0) same ∙ slice_get-map extern_behind hs k.0 ∙ ap (option_map extern_behind) k.1)
+
+-- a path that leads to no interface breaks a rule, or is lost
+pub lost_link : (files : List PackageFile) (front : List Address) (old : List TypeDef) (cs : List Cell) (count : ℕ) (inside : List Interface) (by_name worlds : Names) (o : TypeOwner) (i : Item) (hs : List HeldExtern) (f : Fault) → side_items i ≡ externs_behind hs → AreLed files front by_name i.top hs → IsLinkLost hs f → IsWrongWorld files old cs count inside by_name worlds o i f
+lost_link files front old cs count inside by_name worlds o i hs f same are (LostAtWorld l among lead is) =
+    let at = held_at i hs l same among in
+    WrongWorldUse (WorldUsed (record {
+      path = l.path.now;
+      among = link_path i at.0 (link_behind l) at.1;
+      other = subst (λ (d : Led). IsLed files front by_name i.top l.path.now d) lead (are.each l among);
+      is = is;
+    }))
+lost_link files front old cs count inside by_name worlds o i hs f same are (LostAtNothing l id among lead is) =
+    let at = held_at i hs l same among in
+    let lost : IsLostAt files by_name i.top l.path.now id = subst (λ (d : Led). IsLed files front by_name i.top l.path.now d) lead (are.each l among) in
+    elim lost.1 [
+      | inl missing ↦ WrongWorldUse (MissingUse (record { path = l.path.now; id = id; among = link_path i at.0 (link_behind l) at.1; local = lost.0; missing = missing; is = is }))
+      | inr unresolved ↦ (
+          let p = flat_map_has item_link (side_items i) at.0 0 (SideLink (link_behind l)) (link_behind l) at.1 refl in
+          LostLink (record { link = link_behind l; id = id; among = contains_at (links i) p.0 (link_behind l) p.1; local = lost.0; usable = unresolved.0; lost = unresolved.1; is = is }))
+    ]
+
+-- a link of an item is one that is held
+link_held : (h : HeldExtern) (j : ℕ) (link : Link) → slice_get (item_link (extern_behind h)) j ≡ Some link → (l : HeldLink) × (h ≡ held.Link l) × (link_behind l ≡ link)
+link_held (held.Function g) j link at = absurd (let f : ⊥ = cc in f)
+link_held (held.Link l) zero link at = (l, refl, cc)
+link_held (held.Link l) (suc j) link at = absurd (let f : ⊥ = cc in f)
+link_held (held.Inline i) j link at = absurd (let f : ⊥ = cc in f)
+
+-- a right link leads to an interface
+led_usable : (files : List PackageFile) (front : List Address) (by_name : Names) (top : List TopName) (hs : List HeldExtern) (k : ℕ) (l : HeldLink) → AreLed files front by_name top hs → AreRightLinks hs → slice_get hs k ≡ Some (held.Link l) → is_world_at files (leads top l.path.now) ≡ Some false
+led_usable files front by_name top hs k l are right at = (subst (λ (d : Led). IsLed files front by_name top l.path.now d) (right.each k l at).leads (are.each l (contains_at hs k (held.Link l) at))).0
+
+-- where they are right, they lead to interfaces
+pub links_lead : (files : List PackageFile) (front : List Address) (by_name : Names) (i : Item) (hs : List HeldExtern) → side_items i ≡ externs_behind hs → AreLed files front by_name i.top hs → AreRightLinks hs → (link : Link) → Contains (links i) link → is_world_at files (leads i.top link.path) ≡ Some false
+links_lead files front by_name i hs same are right link among =
+    let k = at_contains (links i) link among in
+    let p = flat_map_at item_link (side_items i) k.0 link k.1 in
+    let h = map_at extern_behind hs p.0 p.1 (ap (λ (xs : List SideItem). slice_get xs p.0) (sym same) ∙ p.2) in
+    let l = link_held h.0 p.3.0 link (ap (λ (x : SideItem). slice_get (item_link x) p.3.0) h.2 ∙ p.3.1) in
+    let at : slice_get hs p.0 ≡ Some (held.Link l.0) = h.1 ∙ ap Some l.1 in
+    subst (λ (m : Link). is_world_at files (leads i.top m.path) ≡ Some false) l.2 (led_usable files front by_name i.top hs p.0 l.0 are right at)
+
+-- one world more
+pub sides_more : (ws : List Item) (w : Item) → AreLegalSides ws → ((f : Fault) → IsBrokenSides w f → ⊥) → AreLegalSides (ws ++ w ∷ [])
+sides_more ws w legal one = record {
+  legal = λ i v f at broken. elim (at_either ws w i v at) [
+    | inl old ↦ legal.legal i v f old broken
+    | inr new ↦ one f (subst (λ (x : Item). IsBrokenSides x f) new.1 broken)
+  ];
+}
+
+pub links_more : (files : List PackageFile) (ws : List Item) (w : Item) → AreUsableLinks files ws → ((link : Link) → Contains (links w) link → is_world_at files (leads w.top link.path) ≡ Some false) → AreUsableLinks files (ws ++ w ∷ [])
+links_more files ws w usable one = record {
+  usable = λ i v link at among. elim (at_either ws w i v at) [
+    | inl old ↦ usable.usable i v link old among
+    | inr new ↦ subst (λ (x : Item). is_world_at files (leads x.top link.path) ≡ Some false) (sym new.1) (one link (subst (λ (x : Item). Contains (links x) link) new.1 among))
+  ];
+}

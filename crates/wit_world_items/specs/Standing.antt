@@ -1,0 +1,76 @@
+-- What is added by what stands on the sides of a world, one after another behind its names, and what may be wrong there.
+use Rattle.std.specs.Prelude.{◌≡◌, ◌+◌, ℕ, List, [], ◌∷◌, ◌++◌, Some, length, map, take, slice_get}
+use Rattle.wit_tree.specs.declared.tree.Id.{Id}
+use Rattle.wit_tree.specs.declared.tree.WorldSide.{WorldSide}
+use Rattle.wit_types.specs.declared.types.TypeDef.{TypeDef}
+use Rattle.wit_types.specs.declared.types.TypeOwner.TheVariants as owner
+use Rattle.wit_functions.specs.declared.function.Function.{Function}
+use Rattle.wit_model.specs.declared.interface.Interface.{Interface}
+use Rattle.wit_syntax.specs.Address.{Address}
+use Rattle.wit_syntax.specs.Broken.{IsSetterAlone}
+use Rattle.wit_syntax.specs.Fault.{Fault}
+use Rattle.wit_syntax.specs.Function.{functions}
+use Rattle.wit_syntax.specs.Sides.{SideItem, IsFoldedTwice, inline_item, inline_items, names_on, side_items}
+use Rattle.wit_syntax.specs.Source.{Item, ScopeName, address, scope_names}
+use Rattle.wit_arena.specs.Resolving.{Cell, Names, Required, env_of}
+use Rattle.wit_arena.specs.Resolved.{AddsInterface, AddsSides, IsWrongInterface}
+use Rattle.wit_refusals.specs.Names.{Name}
+use Rattle.wit_entries.specs.Requiring.{IsGrown}
+use Rattle.wit_rules.specs.declared.function_scope.FunctionScope.{FunctionScope}
+use Rattle.wit_rules.specs.Signatures.{IsWrongFunctionAmong, functions_behind}
+use Rattle.wit_signatures.specs.Taken.{name_of_id}
+use Rattle.wit_externs.specs.declared.held.HeldExtern.{HeldExtern}
+use Rattle.wit_externs.specs.declared.held.HeldExtern.TheVariants as held
+use Rattle.wit_externs.specs.declared.held.HeldInline.{HeldInline}
+use Rattle.wit_externs.specs.Held.{extern_behind, externs_behind}
+use Rattle.wit_externs.specs.Links.{IsWrongAmong}
+use Rattle.wit_scopes.specs.Held.{name_behind}
+use Rattle.wit_items.specs.declared.items.ItemScope.{ItemScope}
+use Rattle.wit_uses.specs.Between.{Emits}
+
+-- the names that are lent
+abbrev pub lent_names : ItemScope → List ScopeName
+lent_names s = map name_behind s.names.now
+
+-- an item is the interface that is written in a world, where so many stand before it on its side
+abbrev pub IsInside : Item → ℕ → HeldInline → Item → Type 0
+IsInside w place h i = inline_item w place (extern_behind (held.Inline h)) ≡ i ∷ []
+
+-- an interface that is written in a world was put behind those that were written before it, which stand behind so many others
+pub record AddsInside (cs : List Cell) (count : ℕ) (old new : List TypeDef) (inside now : List Interface) (before after : List Required) (item : Item) : Type 0 where
+  pub added : Interface
+  pub last : now ≡ inside ++ added ∷ []
+  pub emits : Emits before after (λ rs. AddsInterface cs (count + length inside) old new added rs item)
+
+-- these are the places from a first one on
+pub record AreConsecutive (first : ℕ) (ids : List ℕ) : Type 0 where
+  pub each : (k id : ℕ) → slice_get ids k ≡ Some id → id ≡ first + k
+
+-- Once some of what stands on the sides of a world was added behind its names, the next interface that is written there is wrong; there are so
+-- many others, and then those that were written before it.
+pub record IsWrongInside (old : List TypeDef) (cs : List Cell) (count : ℕ) (inside : List Interface) (by_name names : Names) (s : Address) (xs : List SideItem) (us : List Item) (f : Fault) : Type 0 where
+  pub place : ℕ
+  pub done : ℕ
+  pub mid : List TypeDef
+  pub now : List Interface
+  pub functions : List Function
+  pub rs : List Required
+  pub sides : AddsSides cs count s names old mid inside now functions rs (take place xs) (take done us)
+  pub reached : length now ≡ length inside + done
+  pub inner : Item
+  pub next : slice_get us done ≡ Some inner
+  pub wrong : IsWrongInterface mid cs by_name (owner.Interface (count + length now)) inner f
+
+-- what is wrong with what stands on the sides of a world, behind these names of the sides, where its functions are resolved in this scope
+pub data IsWrongExtern (old : List TypeDef) (cs : List Cell) (count : ℕ) (inside : List Interface) (by_name : Names) (scope : FunctionScope) (names : List ScopeName) (before : WorldSide → List Name) (s : Address) (hs : List HeldExtern) (us : List Item) (f : Fault) : Type 0 where
+  WrongFunction : (mid : List TypeDef) → IsGrown old mid → IsWrongFunctionAmong (env_of scope.names.now) mid names (functions_behind scope) f → IsWrongExtern old cs count inside by_name scope names before s hs us f
+  WrongExtern : IsWrongAmong before hs f → IsWrongExtern old cs count inside by_name scope names before s hs us f
+  WrongInside : IsWrongInside old cs count inside by_name scope.names.now s (externs_behind hs) us f → IsWrongExtern old cs count inside by_name scope names before s hs us f
+
+-- what is wrong with what stands on the sides of an item, behind its names, which are these in turn
+pub data IsWrongStanding (old : List TypeDef) (cs : List Cell) (count : ℕ) (inside : List Interface) (by_name names : Names) (ids : List Id) (i : Item) (hs : List HeldExtern) (f : Fault) : Type 0 where
+  StandingFunction : (mid : List TypeDef) → IsGrown old mid → IsWrongFunctionAmong (env_of names) mid (scope_names i) (functions i) f → IsWrongStanding old cs count inside by_name names ids i hs f
+  StandingNames : IsFoldedTwice (scope_names i) (side_items i) f → IsWrongStanding old cs count inside by_name names ids i hs f
+  StandingExtern : (before : WorldSide → List Name) → ((s : WorldSide) → before s ≡ names_on s (map name_of_id ids)) → IsWrongAmong before hs f → IsWrongStanding old cs count inside by_name names ids i hs f
+  StandingSetter : IsSetterAlone i f → IsWrongStanding old cs count inside by_name names ids i hs f
+  StandingInside : IsWrongInside old cs count inside by_name names (address i) (side_items i) (inline_items i) f → IsWrongStanding old cs count inside by_name names ids i hs f

@@ -1,0 +1,5 @@
+mod Importing
+mod Entries
+pub mod SideKeys
+mod SideCalled
+pub mod SideEntries

@@ -1,0 +1,7 @@
+use Rattle.std.proofs.Common.{◌≡◌, List, map, take}
+use Rattle.wit_syntax.specs.Source.{ScopeName, local_id}
+use Rattle.wit_arena.specs.Whole.{type_imports}
+use Rattle.wit_world_sides.proofs.sides.type_imports.Given as goal
+
+abbrev pub invariant-loop-place : goal.invariant-loop-place
+invariant-loop-place l = (xs : List ScopeName) → l.turn ≡ map local_id xs → l.imports ≡ type_imports (take l.place xs) l.types

@@ -1,0 +1,3 @@
+pub mod Links
+pub mod Settled
+pub mod Sides

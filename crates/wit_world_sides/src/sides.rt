@@ -1,0 +1,283 @@
+//! What a world has on its sides: the names of its scope as imports, and then functions, interfaces by
+//! their paths, and interfaces that are written there.
+ghost use Rattle.std.specs.Prelude.{◌≡◌, ◌<◌, ◌++◌, List, IfOk, OnOk, length, map};
+ghost use Rattle.std.specs.List.{flat_map};
+ghost use Rattle.indexmap.specs.IndexMap.{insert_entry};
+ghost use Rattle.wit_tree.specs.declared.tree.Include.{Include};
+ghost use Rattle.wit_tree.specs.declared.tree.WorldSide.{WorldSide as TheSide};
+ghost use Rattle.wit_tree.specs.declared.tree.WorldSide.TheVariants.{Imported, Exported};
+ghost use Rattle.wit_model.specs.declared.world.WorldKey.TheVariants.{Name};
+ghost use Rattle.wit_model.specs.declared.world.WorldItem.TheVariants.{Interface as InterfaceItem, Type_ as TypeItem};
+ghost use Rattle.wit_model.specs.contracts.world.WorldKeyPartialEq.TheImpl.{eq-value as key_test};
+ghost use Rattle.wit_syntax.specs.Notes.{external_id_of, stability_of};
+ghost use Rattle.wit_syntax.specs.Repeats.{AllDiffer};
+ghost use Rattle.wit_syntax.specs.Sides.{item_function, item_inline};
+ghost use Rattle.wit_syntax.specs.Source.{ScopeName, local_id};
+ghost use Rattle.wit_arena.specs.Functions.{function_item};
+ghost use Rattle.wit_arena.specs.SideItems.{settled, inline_entry, link_item, link_key as the_link_key, link_span as the_link_span};
+ghost use Rattle.wit_arena.specs.Whole.{type_imports as the_imports};
+ghost use Rattle.wit_signatures.specs.Taken.{name_of_function, name_of_made};
+ghost use Rattle.wit_externs.specs.Clash.{DifferOnSides};
+ghost use Rattle.wit_externs.specs.Held.{externs_behind, held_on, link_behind};
+ghost use Rattle.wit_externs.specs.Links.{AreRightLinks, bare_places};
+ghost use Rattle.wit_arena.specs.Resolving.{names_in};
+ghost use Rattle.wit_world_sides.specs.Links.{AreWithin};
+ghost use Rattle.wit_world_sides.specs.Settled.{none_of};
+ghost use Rattle.wit_world_sides.specs.Sides.{entries_of, entries_on, inserted_on};
+
+use crate::setters::settle;
+use indexmap::IndexMap;
+use std::alloc::{AllocError, Global};
+use wit_externs::held::{HeldExtern, HeldInline, HeldLink, Led};
+use wit_items::interfaces::Interfaces;
+use wit_model::{Function, WorldItem, WorldKey};
+use wit_notes::{docs, path_id, told_notes};
+use wit_tree::Span;
+use wit_tree::tree::{Attribute, Id, UsePath, WorldSide};
+use wit_types::{Docs, InterfaceId, TypeId};
+use wit_values::{Table, Text, TextTable, beside};
+
+/// Puts a type at a name of a world, as an import.
+fn add_import(
+    alloc: Global,
+    imports: &mut Table<WorldKey, WorldItem>,
+    id: Id<'_>,
+    ty: TypeId,
+) -> Result<(), AllocError>
+    ensures { OnOk result (imports.new ≡ insert_entry key_test.it imports.old (Name id.entry.name.now) (TypeItem ty id.entry.span)) }
+{
+    let key = WorldKey::Name(Text::from_str(alloc, id.name)?);
+    let item = WorldItem::Type_ {
+        id: ty,
+        span: id.span,
+    };
+    imports.put(key, item)?;
+    Ok(())
+}
+
+/// The names of a scope as imports of a world: each with the type that it stands for.
+fn type_imports(
+    alloc: Global,
+    turn: &[Id<'_>],
+    types: &TextTable<TypeId>,
+) -> Result<Table<WorldKey, WorldItem>, AllocError>
+    requires distinct { AllDiffer (map (λ id. id.name.now) turn.now) }
+    ensures { IfOk result (λ imports. (xs : List ScopeName) → turn.now ≡ map local_id xs → imports ≡ the_imports xs types.now) }
+{
+    let map = IndexMap::with_capacity(alloc, turn.len())?;
+    let mut imports = Table::from(map);
+    for (place, id) in turn.iter().enumerate() {
+        if let Some((_, ty)) = types.get_index(place) {
+            add_import(alloc, &mut imports, *id, *ty)?;
+        }
+    }
+    Ok(imports)
+}
+
+/// What stands on the sides of a world, over its types.
+#[derive(Drop)]
+pub struct Standing {
+    /// The functions, in source order.
+    pub functions: Vec<Function>,
+    /// The interfaces that are written there, in source order.
+    pub inside: Vec<InterfaceId>,
+}
+
+/// What a world imports and exports.
+#[derive(Drop)]
+pub struct WorldSides {
+    /// The imports: the names of its scope, and then what is written.
+    pub imports: Table<WorldKey, WorldItem>,
+    /// The exports.
+    pub exports: Table<WorldKey, WorldItem>,
+}
+
+/// A side with no more room than it takes.
+pub fn fitted(side: Table<WorldKey, WorldItem>) -> Table<WorldKey, WorldItem>
+    ensures { result ≡ side }
+{
+    let mut map = side.into_map();
+    map.shrink_to_fit();
+    Table::from(map)
+}
+
+/// Puts an item at a key of a side.
+fn add_item(
+    sides: &mut WorldSides,
+    side: WorldSide,
+    key: WorldKey,
+    item: WorldItem,
+) -> Result<(), AllocError>
+    ensures { OnOk result ((s : TheSide) → entries_of s sides.new ≡ inserted_on s side (key, item) (entries_of s sides.old)) }
+{
+    match side {
+        WorldSide::Imported => {
+            sides.imports.put(key, item)?;
+        }
+        WorldSide::Exported => {
+            sides.exports.put(key, item)?;
+        }
+    }
+    Ok(())
+}
+
+/// Puts a function at its name on a side.
+fn add_function(
+    sides: &mut WorldSides,
+    side: WorldSide,
+    function: Function,
+) -> Result<(), AllocError>
+    ensures { OnOk result ((s : TheSide) → entries_of s sides.new ≡ inserted_on s side (function_item function) (entries_of s sides.old)) }
+{
+    let name: Result<Text, AllocError> = function.name.clone();
+    let (function, name) = beside(function, name)?;
+    let key = WorldKey::Name(name);
+    add_item(sides, side, key, WorldItem::Function(function))?;
+    Ok(())
+}
+
+/// The key of an interface: the name of its own, or else its place.
+fn link_key(alloc: Global, name: Option<Id<'_>>, id: InterfaceId) -> Result<WorldKey, AllocError>
+    ensures { IfOk result (λ key. key ≡ the_link_key name.entry id) }
+{
+    match name {
+        Some(name) => Ok(WorldKey::Name(Text::from_str(alloc, name.name)?)),
+        None => Ok(WorldKey::Interface(id)),
+    }
+}
+
+/// Where an interface stands: where the name of its own does, or else its path.
+fn link_span(name: Option<Id<'_>>, path: &UsePath<'_>) -> Span
+    ensures { result ≡ the_link_span name.entry path.now }
+{
+    match name {
+        Some(name) => name.span,
+        None => path_id(path).span,
+    }
+}
+
+/// An interface on a side, with these docs and what attributes tell of it there.
+fn interface_item(
+    alloc: Global,
+    id: InterfaceId,
+    attributes: &[Attribute<'_>],
+    docs: Docs,
+    span: Span,
+) -> Result<WorldItem, AllocError>
+    ensures { IfOk result (λ item. item ≡ InterfaceItem id (stability_of attributes.now) (external_id_of attributes.now) docs span) }
+{
+    let told = told_notes(alloc, attributes)?;
+    Ok(WorldItem::Interface {
+        id,
+        stability: told.stability,
+        external_id: told.external_id,
+        docs,
+        span,
+    })
+}
+
+/// Puts an interface on its side, with what is told of it there. Its attributes were checked.
+fn add_link<'f, 'a>(
+    alloc: Global,
+    link: &HeldLink<'f, 'a>,
+    interfaces: &Interfaces<'_, 'f, 'a>,
+    sides: &mut WorldSides,
+    place: usize,
+) -> Result<(), AllocError>
+    requires { place < length interfaces.now.arena }
+    ensures { OnOk result ((s : TheSide) → entries_of s sides.new ≡ inserted_on s link.now.side (link_item (link_behind link.now) place) (entries_of s sides.old)) }
+{
+    let id = interfaces.arena.id_at(place);
+    let key = link_key(alloc, link.name, id)?;
+    let docs = docs(alloc, link.docs)?;
+    let span = link_span(link.name, link.path);
+    let item = interface_item(alloc, id, link.attributes, docs, span)?;
+    add_item(sides, link.side, key, item)?;
+    Ok(())
+}
+
+/// Puts an interface that is written in a world on its side, under its name, with what is told of it
+/// there. Its attributes were checked.
+fn add_inline(
+    alloc: Global,
+    inline: &HeldInline<'_, '_>,
+    sides: &mut WorldSides,
+    id: InterfaceId,
+) -> Result<(), AllocError>
+    ensures { OnOk result ((s : TheSide) → entries_of s sides.new ≡ inserted_on s inline.now.written.now.side (inline_entry inline.now.written.now inline.now.name id) (entries_of s sides.old)) }
+{
+    let key = WorldKey::Name(Text::from_str(alloc, inline.name.name)?);
+    let attributes = &inline.written.attributes;
+    let item = interface_item(alloc, id, attributes, Docs::default(), inline.name.span)?;
+    add_item(sides, inline.written.side, key, item)?;
+    Ok(())
+}
+
+/// Puts on the sides what is written, where its keys differ from one another and from those that are
+/// there; `standing` is what was made of it.
+fn add_externs<'f, 'a>(
+    alloc: Global,
+    externs: &[HeldExtern<'f, 'a>],
+    interfaces: &Interfaces<'_, 'f, 'a>,
+    sides: &mut WorldSides,
+    standing: Standing,
+) -> Result<(), AllocError>
+    requires within { AreWithin (length interfaces.now.arena) externs.now }
+    requires differ { (s : TheSide) → AllDiffer (map (λ i. i.0) (entries_of s sides.old ++ entries_on s externs.now standing.functions.items standing.inside.items)) }
+    ensures { OnOk result ((s : TheSide) → entries_of s sides.new ≡ entries_of s sides.old ++ entries_on s externs.now standing.functions.items standing.inside.items) }
+{
+    let Standing { functions, inside } = standing;
+    let mut made = functions.into_iter();
+    let mut ids = inside.into_iter();
+    for held in externs {
+        match held {
+            HeldExtern::Function(written) => {
+                if let Some(function) = made.next() {
+                    add_function(sides, written.side(), function)?;
+                }
+            }
+            HeldExtern::Link(link) => {
+                if let Led::Interface(place) = link.led {
+                    add_link(alloc, link, interfaces, sides, place)?;
+                }
+            }
+            HeldExtern::Inline(inline) => {
+                if let Some(id) = ids.next() {
+                    add_inline(alloc, inline, sides, id)?;
+                }
+            }
+        }
+    }
+    Ok(())
+}
+
+/// What a world imports, the names of its scope and then what is written, and what it exports;
+/// `standing` is what was made of that. Of a world that includes nothing, which is `closed`, each setter
+/// stands behind its getter.
+pub fn world_sides<'f, 'a>(
+    alloc: Global,
+    externs: &[HeldExtern<'f, 'a>],
+    turn: &[Id<'_>],
+    types: &TextTable<TypeId>,
+    interfaces: &Interfaces<'_, 'f, 'a>,
+    standing: Standing,
+    closed: bool,
+) -> Result<WorldSides, AllocError>
+    requires distinct { AllDiffer (map (λ id. id.name.now) turn.now) }
+    requires listed { names_in types.now ≡ map (λ id. id.name.now) turn.now }
+    requires named { map name_of_made standing.functions.items ≡ map name_of_function (flat_map item_function (externs_behind externs.now)) }
+    requires counted { length standing.inside.items ≡ length (flat_map item_inline (externs_behind externs.now)) }
+    requires differ { DifferOnSides turn.now (externs_behind externs.now) }
+    requires right { AreRightLinks externs.now }
+    requires within { AreWithin (length interfaces.now.arena) externs.now }
+    requires apart { (s : TheSide) → AllDiffer (bare_places (held_on s externs.now)) }
+    ensures imports { IfOk result (λ sides. (xs : List ScopeName) (is : List Include) → turn.now ≡ map local_id xs → closed ≡ none_of is → sides.imports ≡ settled is (the_imports xs types.now ++ entries_on Imported externs.now standing.functions.items standing.inside.items)) }
+    ensures exports { IfOk result (λ sides. (is : List Include) → closed ≡ none_of is → sides.exports ≡ settled is (entries_on Exported externs.now standing.functions.items standing.inside.items)) }
+{
+    let mut sides = WorldSides {
+        imports: type_imports(alloc, turn, types)?,
+        exports: Table::new(alloc),
+    };
+    add_externs(alloc, externs, interfaces, &mut sides, standing)?;
+    settle(alloc, sides, closed)
+}
