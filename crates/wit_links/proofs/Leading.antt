@@ -26,7 +26,6 @@ use Rattle.wit_files.specs.declared.foreign.ForeignVisit.{ForeignVisit as HeldVi
 use Rattle.wit_item_names.specs.Interfaces.{front_of}
 use Rattle.wit_externs.specs.declared.held.Led.{Led}
 use Rattle.wit_externs.specs.declared.held.Led.TheVariants as led
-use Rattle.wit_externs.specs.declared.held.HeldInline.{HeldInline}
 use Rattle.wit_externs.specs.declared.held.HeldLink.{HeldLink}
 use Rattle.wit_externs.specs.declared.held.HeldExtern.{HeldExtern}
 use Rattle.wit_externs.specs.declared.held.HeldExtern.TheVariants as held
@@ -110,15 +109,16 @@ led_none files front by_name top = record { each = λ l among. absurd (let lt = 
 pub led_kept : (files : List PackageFile) (front : List Address) (by_name : Names) (top : List TopName) (old new : List HeldExtern) → ((l : HeldLink) → Contains new (held.Link l) → Contains old (held.Link l)) → AreLed files front by_name top old → AreLed files front by_name top new
 led_kept files front by_name top old new kept are = record { each = λ l among. are.each l (kept l among) }
 
-pub led_more : (files : List PackageFile) (front : List Address) (by_name : Names) (top : List TopName) (hs : List HeldExtern) (m : HeldLink) → AreLed files front by_name top hs → IsLed files front by_name top m.path.now m.led → AreLed files front by_name top (hs ++ held.Link m ∷ [])
-led_more files front by_name top hs m are one = record {
-  each = λ l among. elim (Contains-append_cases hs (held.Link m ∷ []) (held.Link l) among) [
+pub led_more : (files : List PackageFile) (front : List Address) (by_name : Names) (top : List TopName) (hs : List HeldExtern) (h : HeldExtern) → AreLed files front by_name top hs → ((l : HeldLink) → h ≡ held.Link l → IsLed files front by_name top l.path.now l.led) → AreLed files front by_name top (hs ++ h ∷ [])
+led_more files front by_name top hs h are one = record {
+  each = λ l among. elim (Contains-append_cases hs (h ∷ []) (held.Link l) among) [
     | inl early ↦ are.each l early
-    | inr last ↦ (
-        let same = link_same m l (contains_one (held.Link m) (held.Link l) last) in
-        subst (λ (x : HeldLink). IsLed files front by_name top x.path.now x.led) same one)
+    | inr last ↦ one l (contains_one h (held.Link l) last)
   ];
 }
+
+pub led_one : (files : List PackageFile) (front : List Address) (by_name : Names) (top : List TopName) (m : HeldLink) → IsLed files front by_name top m.path.now m.led → (l : HeldLink) → held.Link m ≡ held.Link l → IsLed files front by_name top l.path.now l.led
+led_one files front by_name top m one l same = subst (λ (x : HeldLink). IsLed files front by_name top x.path.now x.led) (link_same m l same) one
   where
     link_same : (a b : HeldLink) → held.Link a ≡ held.Link b → a ≡ b
     link_same a b h = cc
@@ -132,9 +132,6 @@ links_kept hs h l other among = elim (Contains-append_cases hs (h ∷ []) (held.
 
 pub no_function : (g : HeldFunction) (m : HeldLink) → held.Function g ≡ held.Link m → ⊥
 no_function g m same = cc
-
-pub no_inline : (i : HeldInline) (m : HeldLink) → held.Inline i ≡ held.Link m → ⊥
-no_inline i m same = cc
 
 -- places among more addresses
 pub links_wider : (is more : List Address) (top : List TopName) (hs : List HeldExtern) → AreLinksPlaced is top hs → AreLinksPlaced (is ++ more) top hs

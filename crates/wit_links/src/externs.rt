@@ -1,11 +1,11 @@
 //! What stands on the sides of a world as it is written, with the interfaces that its paths lead to.
-ghost use Rattle.std.specs.Prelude.{◌≡◌, ◌<◌, ◌++◌, Contains, IfOk, OnOk, length, map, false, true};
+ghost use Rattle.std.specs.Prelude.{◌≡◌, ◌<◌, ◌++◌, ◌∷◌, [], Contains, IfOk, OnOk, length, map, false, true};
 ghost use Rattle.std.specs.List.{flat_map};
 ghost use Rattle.wit_syntax.specs.Address.{is_foreign};
 ghost use Rattle.wit_syntax.specs.Function.{definition_functions};
 ghost use Rattle.wit_syntax.specs.Sides.{SideFunction, extern_items, extern_link, part_items};
 ghost use Rattle.wit_syntax.specs.Source.{TheWorld, Crossing, Local, declared_parts, is_declared_world, leads, path_scope, world_part};
-ghost use Rattle.wit_externs.specs.Held.{externs_behind, link_behind};
+ghost use Rattle.wit_externs.specs.Held.{extern_behind, externs_behind, link_behind};
 ghost use Rattle.wit_externs.specs.declared.held.HeldLink.{HeldLink as TheLink};
 ghost use Rattle.wit_externs.specs.declared.held.HeldExtern.TheVariants.{Link as TheHeld};
 ghost use Rattle.wit_files.specs.FileNames.{top_at};
@@ -14,6 +14,7 @@ ghost use Rattle.wit_items.specs.Items.{declared_behind};
 ghost use Rattle.wit_item_names.specs.Interfaces.{front_of};
 ghost use Rattle.wit_world_sides.specs.Links.{AreLed, IsLed, interfaces_of_others, source_place};
 
+use crate::inside::declared_world;
 use std::alloc::{AllocError, Global};
 use wit_externs::held::{HeldExtern, HeldInline, HeldLink, Led};
 use wit_files::FileNames;
@@ -112,45 +113,42 @@ fn held_link<'f, 'a>(
     }
 }
 
-/// Adds what a world in the file at a place imports or exports.
-fn add_extern<'f, 'a>(
+/// What a world in the file at a place imports or exports.
+fn held_extern<'f, 'a>(
     files: &FileNames<'f, 'a>,
     written: &'f Extern<'a>,
-    externs: &mut Vec<HeldExtern<'f, 'a>>,
     entries: &[Entry],
     interfaces: &Interfaces<'_, 'f, 'a>,
     place: usize,
-) -> Result<(), AllocError>
+) -> HeldExtern<'f, 'a>
     requires part { HasPart files.now place (Crossing written.now) }
     requires entries { AreEntriesOf files.now entries.now }
     requires others { front_of interfaces.now.foreign.now ≡ interfaces_of_others files.now }
-    ensures behind { OnOk result (externs_behind externs.new.items ≡ externs_behind externs.old.items ++ extern_items written.now written.now.kind) }
-    ensures led { OnOk result (AreLed files.now (front_of interfaces.now.foreign.now) interfaces.now.by_name (top_at files.now place) externs.old.items → AreLed files.now (front_of interfaces.now.foreign.now) interfaces.now.by_name (top_at files.now place) externs.new.items) }
+    ensures behind { extern_behind result ∷ [] ≡ extern_items written.now written.now.kind }
+    ensures led { (l : TheLink) → result ≡ TheHeld l → IsLed files.now (front_of interfaces.now.foreign.now) interfaces.now.by_name (top_at files.now place) l.path.now l.led }
 {
     match &written.kind {
-        ExternKind::Interface(name, items) => externs.push(HeldExtern::Inline(HeldInline {
+        ExternKind::Interface(name, items) => HeldExtern::Inline(HeldInline {
             written,
             name: *name,
             items,
-        }))?,
-        ExternKind::Func(name, func) => externs.push(HeldExtern::Function(HeldFunction::Across(
+        }),
+        ExternKind::Func(name, func) => HeldExtern::Function(HeldFunction::Across(
             written.side,
             &written.docs,
             &written.attributes,
             *name,
             func,
-        )))?,
+        )),
         ExternKind::Path(path) => {
             let led = led(files, entries, interfaces, place, path);
-            externs.push(HeldExtern::Link(held_link(written, None, path, led)))?
+            HeldExtern::Link(held_link(written, None, path, led))
         }
         ExternKind::NamedPath(name, path) => {
             let led = led(files, entries, interfaces, place, path);
-            let link = held_link(written, Some(*name), path, led);
-            externs.push(HeldExtern::Link(link))?
+            HeldExtern::Link(held_link(written, Some(*name), path, led))
         }
     }
-    Ok(())
 }
 
 /// What stands on the sides of a world in the file at a place. `entries` are those of other packages'
@@ -176,7 +174,7 @@ fn world_externs<'f, 'a>(
             WorldItem::Use(_) => {}
             WorldItem::Include(_) => {}
             WorldItem::Extern(written) => {
-                add_extern(files, written, &mut externs, entries, interfaces, place)?
+                externs.push(held_extern(files, written, entries, interfaces, place))?
             }
         }
     }
@@ -200,8 +198,6 @@ pub fn declared_externs<'f, 'a>(
     ensures behind { IfOk result (λ externs. externs_behind externs.items ≡ flat_map part_items (declared_parts (declared_behind declared.now))) }
     ensures led { IfOk result (λ externs. AreLed files.now (front_of interfaces.now.foreign.now) interfaces.now.by_name (top_at files.now place) externs.items) }
 {
-    match declared {
-        Declared::World(world) => world_externs(alloc, files, *world, entries, interfaces, place),
-        Declared::Interface(_) | Declared::Inline(_) => unreachable!(),
-    }
+    let world = declared_world(declared);
+    world_externs(alloc, files, world, entries, interfaces, place)
 }

@@ -1,8 +1,8 @@
 //! The interfaces that are written in a world, each as an item of its own.
-ghost use Rattle.std.specs.Prelude.{◌≡◌, ◌<◌, ◌+◌, ◌++◌, ◌∷◌, [], List, Some, length, map, slice_get};
+ghost use Rattle.std.specs.Prelude.{◌≡◌, ◌<◌, ◌+◌, ◌++◌, ◌∷◌, [], List, Some, length, map, slice_get, true};
 ghost use Rattle.wit_tree.specs.declared.tree.WorldSide.{WorldSide as TheSide};
 ghost use Rattle.wit_syntax.specs.Address.{Address};
-ghost use Rattle.wit_syntax.specs.Source.{declared_id, item_name};
+ghost use Rattle.wit_syntax.specs.Source.{TheWorld, declared_id, is_declared_world, item_name};
 ghost use Rattle.std.specs.List.{filter};
 ghost use Rattle.wit_syntax.specs.Sides.{SideItem, inline_item, is_interface, item_inline, item_side};
 ghost use Rattle.wit_externs.specs.declared.held.HeldExtern.TheVariants.{Inline as TheHeld};
@@ -17,7 +17,7 @@ ghost use Rattle.wit_links.specs.Inside.{IsMet, met_on};
 use wit_externs::held::{HeldExtern, HeldInline};
 use wit_items::items::{Declared, InlineInterface, Item, ItemScope};
 use wit_scopes::scope_name::ScopeName;
-use wit_tree::tree::{Id, WorldSide};
+use wit_tree::tree::{Id, World, WorldSide};
 
 /// The name of a declared item.
 pub fn declared_name<'a>(declared: &Declared<'_, 'a>) -> Id<'a>
@@ -27,6 +27,17 @@ pub fn declared_name<'a>(declared: &Declared<'_, 'a>) -> Id<'a>
         Declared::Interface(interface) => interface.name,
         Declared::World(world) => world.name,
         Declared::Inline(inline) => inline.name,
+    }
+}
+
+/// The world that a declared item is.
+pub(crate) fn declared_world<'f, 'a>(declared: &Declared<'f, 'a>) -> &'f World<'a>
+    requires { is_declared_world (declared_behind declared.now) ≡ true }
+    ensures { declared_behind declared.now ≡ TheWorld result.now }
+{
+    match declared {
+        Declared::World(world) => *world,
+        Declared::Interface(_) | Declared::Inline(_) => unreachable!(),
     }
 }
 

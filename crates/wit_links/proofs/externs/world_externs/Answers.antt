@@ -1,8 +1,8 @@
-use Rattle.std.proofs.Common.{◌≡◌, ◌+◌, ◌++◌, ◌∷◌, [], List, Some, map, take, refl, sym, ap, ◌∙◌}
+use Rattle.std.proofs.Common.{◌≡◌, ◌+◌, ◌++◌, ◌∷◌, [], List, Some, map, take, refl, sym, ap, ◌∙◌, subst}
 use Rattle.std.specs.Prelude.{slice_get}
 use Rattle.std.specs.List.{flat_map}
 use Rattle.std.specs.Option.{option_map}
-use Rattle.std.proofs.lemmas.List.{take_more, append-nil}
+use Rattle.std.proofs.lemmas.List.{take_more, append-nil, map-append}
 use Rattle.std.proofs.lemmas.Option.{slice_get-map, slice_get_read}
 use Rattle.wit_tree.specs.declared.tree.WorldItem.{WorldItem}
 use Rattle.wit_syntax.specs.Function.{definition_functions}
@@ -11,13 +11,15 @@ use Rattle.wit_syntax.specs.Source.{Crossing, TheWorld, world_part}
 use Rattle.wit_syntax.proofs.Found.{contains_at}
 use Rattle.wit_item_names.proofs.Usable.{parts_more}
 use Rattle.wit_item_names.specs.Interfaces.{front_of}
-use Rattle.wit_links.proofs.Leading.{led_kept}
-use Rattle.wit_links.proofs.externs.world_externs.Goals.{in-TypeDef+in_ok-add_definition-in-TypeDef, in-Use, in-Include, in-Extern+in_ok-add_extern-in-Extern}
+use Rattle.wit_externs.specs.Held.{extern_behind, externs_behind}
+use Rattle.wit_world_sides.specs.Links.{AreLed}
+use Rattle.wit_links.proofs.Leading.{led_kept, led_more}
+use Rattle.wit_links.proofs.externs.world_externs.Goals.{in-TypeDef+in_ok-add_definition-in-TypeDef, in-Use, in-Include, in-Extern+in_ok-push-in-Extern}
 use Rattle.wit_files.specs.FileNames.{top_at}
 use Rattle.wit_links.proofs.externs.world_externs.Goals as goal
 
-pub add_extern-requires-clause-part : goal.add_extern-requires-clause-part
-add_extern-requires-clause-part c =
+pub held_extern-requires-clause-part : goal.held_extern-requires-clause-part
+held_extern-requires-clause-part c =
     let w = c.args.world.now in
     let xs = c.world_items-part-items.result.now in
     let k = c.loop-part.part-index in
@@ -48,10 +50,15 @@ loop-part-preserved c =
           }))
       | in-Use b ↦ rw b.externs-is (record { behind = was.behind ∙ sym (grown ∙ ap part b.in-Use.is ∙ append-nil front); led = was.led })
       | in-Include b ↦ rw b.externs-is (record { behind = was.behind ∙ sym (grown ∙ ap part b.in-Include.is ∙ append-nil front); led = was.led })
-      | in-Extern+in_ok-add_extern-in-Extern b ↦ (
-          let x = b.in-Extern.written in
+      | in-Extern+in_ok-push-in-Extern b ↦ (
+          let h = b.held_extern.result in
           rw b.externs-is (record {
-            behind = b.in_ok-add_extern-in-Extern.ensures.behind ∙ ap (λ (l : List SideItem). l ++ extern_items x x.kind) was.behind ∙ sym (grown ∙ ap part b.in-Extern.is);
-            led = b.in_ok-add_extern-in-Extern.ensures.led was.led;
+            behind =
+                ap externs_behind b.in_ok-push-in-Extern.ensures.items
+                ∙ map-append extern_behind old (h ∷ [])
+                ∙ ap (λ (l : List SideItem). externs_behind old ++ l) b.held_extern.ensures.behind
+                ∙ ap (λ (l : List SideItem). l ++ extern_items b.in-Extern.written b.in-Extern.written.kind) was.behind
+                ∙ sym (grown ∙ ap part b.in-Extern.is);
+            led = subst (AreLed c.args.files.now others by_name (top_at c.args.files.now c.args.place)) (sym b.in_ok-push-in-Extern.ensures.items) (led_more c.args.files.now others by_name (top_at c.args.files.now c.args.place) old h was.led b.held_extern.ensures.led);
           }))
     ]
