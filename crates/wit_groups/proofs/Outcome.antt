@@ -12,16 +12,16 @@ use Rattle.wit_lex.specs.Faults.{IsRefusal}
 use Rattle.wit_model.specs.declared.unresolved.UnresolvedPackage.{UnresolvedPackage}
 use Rattle.wit_syntax.specs.Fault.{Fault}
 use Rattle.wit_syntax.specs.Broken.{Refused}
-use Rattle.wit_groups.specs.Nested.{GrowByNested, IsUnfit}
-use Rattle.wit_groups.specs.Names.{IsUnjoined}
-use Rattle.wit_groups.specs.Names.IsUnjoined.{Broken, Repeated as RepeatedName}
+use Rattle.wit_nested.specs.Nested.{GrowByNested, IsUnfit}
+use Rattle.wit_nested.specs.Names.{IsUnjoined}
+use Rattle.wit_nested.specs.Names.IsUnjoined.{Broken, Repeated as RepeatedName}
 use Rattle.wit_groups.specs.declared.group.UnresolvedPackageGroup.{UnresolvedPackageGroup}
 use Rattle.wit_groups.specs.Groups.{AreRefused, AreTaken, IsAlone, IsRefused, IsTree, IsUnparsed}
 use Rattle.wit_groups.specs.Groups.AreRefused.{Unread, Unfit, Illegal, Repeated}
 use Rattle.wit_groups.specs.Groups.IsRefused.{InTurn}
 use Rattle.wit_groups.specs.Groups.IsUnparsed.{Alone}
 use Rattle.wit_groups.specs.Groups.AreTaken.{None, More}
-use Rattle.wit_groups.proofs.Fronts.{front_more, front_none, front_split}
+use Rattle.wit_nested.proofs.Fronts.{front_more, front_none, front_split}
 
 -- a source that is lent
 abbrev pub now_of : Bor Source → Source

@@ -1,4 +1,1 @@
-pub mod Nested
-pub mod Names
-pub mod Between
 pub mod Groups

@@ -4,10 +4,10 @@ ghost use Rattle.wit_lex.specs.Faults.{IsRefusal};
 ghost use Rattle.wit_lex.specs.Sources.{told};
 ghost use Rattle.wit_groups.specs.Groups.{AreRefused, AreTaken, IsAlone, IsGroup, IsRefused, IsTree, IsUnparsed};
 
-use crate::resolver::GroupResolver;
 use std::alloc::{AllocError, Global};
 use wit_bundle::by_path;
 use wit_model::UnresolvedPackage;
+use wit_nested::resolver::GroupResolver;
 use wit_text::{Source, SourceMap, read_file};
 use wit_tree::tree::SourceFile;
 use wit_tree::{ParseError, ParseResult};

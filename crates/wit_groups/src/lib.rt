@@ -2,9 +2,6 @@
 #![tactic(auto)]
 
 pub mod group;
-mod nested;
-mod repeats;
-pub mod resolver;
 
 pub use group::UnresolvedPackageGroup;
-pub use resolver::GroupResolver;
+pub use wit_nested::GroupResolver;

@@ -5,11 +5,12 @@
 use crate::listing::shown;
 use anyhow::Result;
 use std::alloc::{AllocError, Global};
-use wit_groups::GroupResolver;
+use wit_nested::GroupResolver;
+use wit_package_views::read_marked;
 use wit_parser::Resolver;
 use wit_text::SourceMap;
 use wit_tree::ParseResult;
-use wit_views::{Found, behind, read_marked, without_nested};
+use wit_views::{Found, behind, without_nested};
 
 /// Puts the number of a refusal behind a text, or 0.
 fn push_rule(text: &mut String, pushed: ParseResult<()>) -> Result<(), AllocError> {

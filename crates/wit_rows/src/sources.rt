@@ -2,11 +2,12 @@
 //! source its place, its path and its text, with `|` behind it.
 
 use std::alloc::{AllocError, Global};
-use wit_groups::GroupResolver;
+use wit_nested::GroupResolver;
+use wit_package_views::read_marked;
 use wit_text::SourceMap;
 use wit_tool::bundle;
 use wit_tree::ParseResult;
-use wit_views::{Found, behind, read_marked};
+use wit_views::{Found, behind};
 
 /// The path of a source that has none.
 const PATH: &str = "stdin.wit";

@@ -1,16 +1,16 @@
 //! The views of packages, and `marked`, their listing: each writes something of a package and of those
 //! that are nested in it, or the line of their refusal.
 
-use crate::docs::push_docs_of;
-use crate::external_ids::push_ids;
-use crate::foreign::push_foreign;
-use crate::functions::push_functions;
-use crate::layouts::push_layouts;
-use crate::parts::push_parts;
-use crate::spans::{push_required, push_spans};
 use std::alloc::{AllocError, Global};
 use wit_listing::{RunFault, error_line, listing};
 use wit_model::UnresolvedPackage;
+use wit_package_views::docs::push_docs_of;
+use wit_package_views::external_ids::push_ids;
+use wit_package_views::foreign::push_foreign;
+use wit_package_views::functions::push_functions;
+use wit_package_views::layouts::push_layouts;
+use wit_package_views::parts::push_parts;
+use wit_package_views::spans::{push_required, push_spans};
 use wit_text::SourceMap;
 use wit_tree::{ParseError, ParseResult};
 

@@ -1,6 +1,0 @@
-use Rattle.std.proofs.Common.{map}
-use Rattle.wit_groups.proofs.Naming.{AreMet}
-use Rattle.wit_groups.proofs.repeats.named_again.Given as goal
-
-abbrev pub invariant-loop-package : goal.invariant-loop-package
-invariant-loop-package l = AreMet l.main l.nested l.package-index (map (λ n. n.now) l.names.keys)

@@ -1,0 +1,6 @@
+pub mod Fitting
+pub mod Fronts
+pub mod Joining
+pub mod Making
+pub mod Names
+pub mod Naming

@@ -1,0 +1,65 @@
+-- Names that are met one by one, and which of them is met again.
+use Rattle.std.proofs.Common.{◌≡◌, ℕ, ◌<◌, ◌+◌, suc, Bool, true, false, not, List, [], ◌∷◌, ◌++◌, length, take, get_or, map, Some, Contains, inl, inr, sym, ap, subst, ◌∙◌, true≢false}
+use Rattle.std.specs.Prelude.{MatchBool}
+use Rattle.std.specs.List.{list_any}
+use Rattle.std.proofs.lemmas.Bool.{cases_Bool, cond-false, not-true, not-false}
+use Rattle.std.proofs.lemmas.List.{map-append}
+use Rattle.std.proofs.lemmas.Map.Keys.{any_passes_from_place}
+use Rattle.indexmap.specs.IndexSet.{insert_key}
+use Rattle.wit_package_names.specs.declared.package_name.PackageName.{PackageName}
+use Rattle.wit_model.specs.declared.unresolved.UnresolvedPackage.{UnresolvedPackage}
+use Rattle.wit_syntax.specs.Repeats.{AllDiffer}
+use Rattle.wit_syntax.proofs.Found.{contains_at, at_contains}
+use Rattle.wit_syntax.proofs.Lists.{map_at}
+use Rattle.wit_syntax.proofs.Repeated.{differ_none, differ_more}
+use Rattle.wit_nested.specs.Names.{package_names}
+use Rattle.wit_nested.proofs.Fronts.{front_more}
+use Rattle.wit_nested.proofs.Names.{none_among}
+
+-- keys are compared by what they lead to
+any_among : {K N : Type 0} (now : K → N) (eq : K → K → Bool) → ((x y : K) → now x ≡ now y → eq x y ≡ true) → (ks : List K) (k : K) → Contains (map now ks) (now k) → list_any (eq k) ks ≡ true
+any_among now eq same ks k among =
+    let named = at_contains (map now ks) (now k) among in
+    let it = map_at now ks named.0 (now k) named.1 in
+    any_passes_from_place (eq k) ks named.0 it.0 it.1 (same k it.0 (sym it.2))
+
+among_any : {K N : Type 0} (now : K → N) (eq : K → K → Bool) → ((x y : K) → eq x y ≡ true → now x ≡ now y) → (ks : List K) (k : K) → list_any (eq k) ks ≡ true → Contains (map now ks) (now k)
+among_any now eq equal [] k h = absurd (true≢false (sym h))
+among_any now eq equal (x ∷ xs) k h = elim (cases_Bool (eq k x)) [
+  | inl hit ↦ contains_at (now x ∷ map now xs) 0 (now k) (ap Some (sym (equal k x hit)))
+  | inr miss ↦ (
+      let rest = at_contains (map now xs) (now k) (among_any now eq equal xs k (rw miss at h)) in
+      contains_at (now x ∷ map now xs) (suc rest.0) (now k) rest.1)
+]
+
+-- a key is put behind these, where it is none of them
+pub inserted : {K N : Type 0} (now : K → N) (eq : K → K → Bool) → ((x y : K) → eq x y ≡ true → now x ≡ now y) → ((x y : K) → now x ≡ now y → eq x y ≡ true) → (ks keys : List K) (k : K) (new : Bool) →
+    new ≡ not (list_any (eq k) ks) → keys ≡ insert_key eq ks k → MatchBool new ((map now keys ≡ map now ks ++ now k ∷ []) × (Contains (map now ks) (now k) → ⊥)) (Contains (map now ks) (now k))
+inserted now eq equal same ks keys k true told is =
+    let none : list_any (eq k) ks ≡ false = not-true (list_any (eq k) ks) (sym told) in
+    (ap (map now) (is ∙ cond-false (list_any (eq k) ks) ks (ks ++ k ∷ []) none) ∙ map-append now ks (k ∷ []), λ among. true≢false (sym (any_among now eq same ks k among) ∙ none))
+inserted now eq equal same ks keys k false told is = among_any now eq equal ks k (not-false (list_any (eq k) ks) (sym told))
+
+-- these are the names of the main package and of the first nested ones, and no two of them are one
+pub record AreMet (main : UnresolvedPackage) (nested : List UnresolvedPackage) (i : ℕ) (names : List PackageName) : Type 0 where
+  pub are : names ≡ package_names (main ∷ take i nested)
+  pub apart : AllDiffer names
+
+-- the main package alone
+pub main_met : (main : UnresolvedPackage) (nested : List UnresolvedPackage) (old new : List PackageName) (fresh : Bool) → old ≡ [] → MatchBool fresh ((new ≡ old ++ main.name ∷ []) × (Contains old main.name → ⊥)) (Contains old main.name) →
+    AreMet main nested 0 new
+main_met main nested old new true none h =
+    let one : new ≡ main.name ∷ [] = h.0 ∙ ap (λ ns. ns ++ main.name ∷ []) none in
+    record {
+      are = one;
+      apart = subst AllDiffer (sym h.0) (differ_more old main.name (subst AllDiffer (sym none) differ_none) (λ i at. h.1 (contains_at old i main.name at)));
+    }
+main_met main nested old new false none h = absurd (none_among main.name (subst (λ ns. Contains ns main.name) none h))
+
+-- a nested one more
+pub more_met : (main : UnresolvedPackage) (nested : List UnresolvedPackage) (i : ℕ) (p : UnresolvedPackage) (old new : List PackageName) → i < length nested → p ≡ get_or nested i p → AreMet main nested i old →
+    (new ≡ old ++ p.name ∷ []) × (Contains old p.name → ⊥) → AreMet main nested (i + 1) new
+more_met main nested i p old new lt is met h = record {
+  are = h.0 ∙ (ap (λ ns. ns ++ p.name ∷ []) met.are ∙ ap (λ ns. main.name ∷ ns) (sym (front_more (λ (q : UnresolvedPackage). q.name) nested i p lt is)));
+  apart = subst AllDiffer (sym h.0) (differ_more old p.name met.apart (λ j at. h.1 (contains_at old j p.name at)));
+}

@@ -1,0 +1,24 @@
+use Rattle.std.proofs.Common.{◌++◌, ◌∷◌, [], ap, refl, ◌∙◌}
+use Rattle.std.proofs.lemmas.Result.{err_from_is_err_and}
+use Rattle.wit_nested.proofs.Fitting.{not_unfit}
+use Rattle.wit_nested.proofs.Making.{among_unfit, nested_grown, rest_unfit}
+use Rattle.wit_nested.proofs.resolver.GroupResolver.push.Goals as goal
+
+pub returns-in_err-made-clause-refused : goal.returns-in_err-made-clause-refused
+returns-in_err-made-clause-refused c =
+    let p = err_from_is_err_and c.from_residual.result c.from_residual.ensures.1 in
+    rw (p.1, p.2) (among_unfit c.args.self.now.main.files.items c.args.source c.args.source.nested.items _ refl c.in_err-made.ensures.refused)
+
+pub returns-in-Ok-clause-files : goal.returns-in-Ok-clause-files
+returns-in-Ok-clause-files c = c.in-Ok.ensures.ok ∙ ap (λ file. c.args.self.now.main.files.items ++ file ∷ []) c.alone.ensures.file
+
+pub returns-in-Ok-clause-nested : goal.returns-in-Ok-clause-nested
+returns-in-Ok-clause-nested c =
+    nested_grown c.args.source.nested.items c.args.source.nested.items c.in_ok-made.made.items c.args.self.now.nested.items _ refl c.in_ok-made.ensures.made c.in_ok-append.ensures.items
+
+pub returns-in-Ok-clause-accepted : goal.returns-in-Ok-clause-accepted
+returns-in-Ok-clause-accepted c =
+    not_unfit c.args.self.now.main.files.items c.args.source c.alone.result c.args.source.nested.items c.in_ok-made.made.items refl c.in_ok-made.ensures.made c.alone.ensures.file c.in-Ok.ensures.accepted
+
+pub returns-clause-refused : goal.returns-clause-refused
+returns-clause-refused c = rest_unfit c.args.self.now.main.files.items c.args.source c.alone.result _ c.alone.ensures.file c.alone.ensures.nested c.in-Err.ensures.refused

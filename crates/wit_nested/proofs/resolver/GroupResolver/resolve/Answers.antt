@@ -1,0 +1,17 @@
+use Rattle.std.proofs.lemmas.Result.{err_from_is_err_and}
+use Rattle.wit_nested.proofs.Joining.{broken_files, repeated_package}
+use Rattle.wit_nested.proofs.resolver.GroupResolver.resolve.Goals as goal
+
+pub returns-in_err-made-clause-refused : goal.returns-in_err-made-clause-refused
+returns-in_err-made-clause-refused c =
+    let p = err_from_is_err_and c.from_residual.result c.from_residual.ensures.1 in
+    rw (p.1, p.2) (broken_files c.args.self.main.files.items c.args.self.nested.items _ c.in_err-made.ensures.refused)
+
+pub returns-in_err-check_names-clause-refused : goal.returns-in_err-check_names-clause-refused
+returns-in_err-check_names-clause-refused c =
+    let p = err_from_is_err_and c.from_residual-in_err-check_names.result c.from_residual-in_err-check_names.ensures.1 in
+    let made = c.in_ok-made.ensures in
+    let again = rw c.deref.ensures.value at c.in_err-check_names.ensures.refused in
+    rw
+    (p.1, p.2)
+    (repeated_package c.args.self.main.files.items c.in_ok-made.made c.args.self.nested.items _ (record { legal = made.legal; whole = made.«package»; arena = made.arena; faithful = made.faithful; backward = made.backward }) again)

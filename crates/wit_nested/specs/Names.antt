@@ -1,0 +1,36 @@
+-- The names of the packages of a group, and when one of them is named again.
+use Rattle.std.specs.Prelude.{◌≡◌, ℕ, List, ◌∷◌, Some, Contains, slice_get, map, take}
+use Rattle.wit_package_names.specs.declared.package_name.PackageName.{PackageName}
+use Rattle.wit_tree.specs.declared.tree.PackageFile.{PackageFile}
+use Rattle.wit_model.specs.declared.unresolved.UnresolvedPackage.{UnresolvedPackage}
+use Rattle.wit_syntax.specs.Fault.{Fault, fault}
+use Rattle.wit_syntax.specs.Broken.{IsBroken}
+use Rattle.wit_syntax.specs.Repeats.{AllDiffer}
+use Rattle.wit_nested.specs.Nested.{IsMadeOf}
+
+-- the names of packages, with their versions
+abbrev pub package_names : List UnresolvedPackage → List PackageName
+package_names ps = map (λ p. p.name) ps
+
+-- no two of a main package and nested ones have one name, in one version or both in none
+abbrev pub AreNamedApart : UnresolvedPackage → List UnresolvedPackage → Type 0
+AreNamedApart main nested = AllDiffer (package_names (main ∷ nested))
+
+-- a nested package has the name of the main one or of a nested one before it, and those before it are named apart
+pub record IsNamedAgain (main : UnresolvedPackage) (nested : List UnresolvedPackage) (later : UnresolvedPackage) : Type 0 where
+  pub place : ℕ
+  pub stands : slice_get nested place ≡ Some later
+  pub again : Contains (package_names (main ∷ take place nested)) later.name
+  pub apart : AreNamedApart main (take place nested)
+
+-- the first nested package that does is refused at its name
+pub record IsRepeatedPackage (main : UnresolvedPackage) (nested : List UnresolvedPackage) (f : Fault) : Type 0 where
+  pub later : UnresolvedPackage
+  pub again : IsNamedAgain main nested later
+  pub is : f ≡ fault 53 later.name_span
+
+-- what is wrong with files and the packages that were nested in them: the files break a rule; or they break none, and with the package that they
+-- make one of the nested ones has a name again
+pub data IsUnjoined (files : List PackageFile) (nested : List UnresolvedPackage) (f : Fault) : Type 0 where
+  Broken : IsBroken files f → IsUnjoined files nested f
+  Repeated : (main : UnresolvedPackage) → IsMadeOf files main → IsRepeatedPackage main nested f → IsUnjoined files nested f

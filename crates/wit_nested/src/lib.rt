@@ -1,0 +1,8 @@
+//! The resolver of a group: of the main package, and of the packages that are nested in its sources.
+#![tactic(auto)]
+
+mod nested;
+mod repeats;
+pub mod resolver;
+
+pub use resolver::GroupResolver;
