@@ -12,10 +12,10 @@ use wit_lex::fault::ReadFault;
 use wit_lex::kind::Kind;
 use wit_lex::word::Word;
 use wit_reader::front::Front;
-use wit_reader::holding::push;
 use wit_reader::reader::Reader;
 use wit_tree::ParseResult;
 use wit_tree::tree::{Id, InterfaceItem, TypeBody, TypeDef};
+use wit_values::push;
 
 /// Reads `type name = type;`.
 fn read_alias<'a>(reader: &mut Reader<'a>) -> ParseResult<(Id<'a>, TypeBody<'a>)>

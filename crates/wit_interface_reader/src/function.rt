@@ -9,11 +9,11 @@ use wit_lex::kind::Kind;
 use wit_lex::token::next_token;
 use wit_lex::word::Word;
 use wit_reader::front::Front;
-use wit_reader::holding::push;
 use wit_reader::reader::Reader;
 use wit_reader::types::MOST_NESTED;
 use wit_tree::tree::{Func, FuncForm, NamedFunc, Param, Type};
 use wit_tree::{ParseResult, Span};
+use wit_values::push;
 
 /// The form of a getter or a setter, where the text is its word.
 fn accessor_form(text: &str) -> Option<FuncForm>

@@ -5,11 +5,11 @@ ghost use Rattle.wit_tree.specs.Marks.{field_marks, flag_marks, payload_marks, c
 ghost use Rattle.wit_reader.specs.Reading.{IsRead, IsReadOn, IsRefused};
 
 use wit_lex::kind::Kind;
-use wit_reader::holding::push;
 use wit_reader::reader::Reader;
 use wit_reader::types::MOST_NESTED;
 use wit_tree::ParseResult;
 use wit_tree::tree::{Case, EnumCase, Field, Flag, Type};
+use wit_values::push;
 
 fn read_field<'a>(reader: &mut Reader<'a>) -> ParseResult<Field<'a>>
     ensures read { IfOk result (λ f. IsRead reader.old (field_marks f) reader.new) }

@@ -9,10 +9,10 @@ use crate::function::{read_closed_func, read_signature};
 use wit_lex::kind::Kind;
 use wit_lex::word::Word;
 use wit_reader::front::Front;
-use wit_reader::holding::push;
 use wit_reader::reader::Reader;
 use wit_tree::ParseResult;
 use wit_tree::tree::{Func, Id, NamedFunc, ResourceFunc, TypeBody};
+use wit_values::push;
 
 /// The function of a resource, with this name.
 fn resource_func<'a>(

@@ -21,7 +21,7 @@ use wit_rules::held::HeldFunction;
 use wit_scopes::scope_name::ScopeName;
 use wit_setters::setters::setters_behind_getters;
 use wit_tree::tree::{InterfaceItem, Type, TypeBody, TypeDef};
-use wit_values::{TextTable, beside};
+use wit_values::{TextTable, beside, push};
 
 /// Adds the functions of a definition: those of a resource.
 fn add_definition<'t, 'a>(
@@ -32,7 +32,7 @@ fn add_definition<'t, 'a>(
 {
     if let TypeBody::Resource { funcs } = &definition.body {
         for function in funcs {
-            functions.push(HeldFunction::Of(definition.name, function))?;
+            push(functions, HeldFunction::Of(definition.name, function))?;
         }
     }
     Ok(())
@@ -49,7 +49,7 @@ fn items_functions<'t, 'a>(
     for part in items {
         match part {
             InterfaceItem::TypeDef(definition) => add_definition(&mut functions, definition)?,
-            InterfaceItem::Func(function) => functions.push(HeldFunction::Free(function))?,
+            InterfaceItem::Func(function) => push(&mut functions, HeldFunction::Free(function))?,
             InterfaceItem::Use(_) => {}
         }
     }

@@ -21,6 +21,7 @@ use wit_tree::ParseResult;
 use wit_tree::tree::{
     AstItem, Extern, Id, Interface, InterfaceItem, PackageFile, World, WorldSide,
 };
+use wit_values::push;
 
 /// An interface that is written where a world imports or exports it.
 #[derive(Clone, Copy)]
@@ -121,22 +122,42 @@ fn add_items<'f, 'a>(
     let declared = declarations(file);
     for item in declared {
         match item {
-            AstItem::Interface(interface) => items.push(Item {
-                place,
-                file,
-                declared: Declared::Interface(interface),
-                names: interface_names(alloc, files, &interface.items, entries, place)?,
-                imported: Vec::new(alloc),
-                exported: Vec::new(alloc),
-            })?,
-            AstItem::World(world) => items.push(Item {
-                place,
-                file,
-                declared: Declared::World(world),
-                names: world_names(alloc, files, world, entries, place)?,
-                imported: names_inside(alloc, files, world, WorldSide::Imported, entries, place)?,
-                exported: names_inside(alloc, files, world, WorldSide::Exported, entries, place)?,
-            })?,
+            AstItem::Interface(interface) => push(
+                items,
+                Item {
+                    place,
+                    file,
+                    declared: Declared::Interface(interface),
+                    names: interface_names(alloc, files, &interface.items, entries, place)?,
+                    imported: Vec::new(alloc),
+                    exported: Vec::new(alloc),
+                },
+            )?,
+            AstItem::World(world) => push(
+                items,
+                Item {
+                    place,
+                    file,
+                    declared: Declared::World(world),
+                    names: world_names(alloc, files, world, entries, place)?,
+                    imported: names_inside(
+                        alloc,
+                        files,
+                        world,
+                        WorldSide::Imported,
+                        entries,
+                        place,
+                    )?,
+                    exported: names_inside(
+                        alloc,
+                        files,
+                        world,
+                        WorldSide::Exported,
+                        entries,
+                        place,
+                    )?,
+                },
+            )?,
             AstItem::Use(_) => {}
         }
     }

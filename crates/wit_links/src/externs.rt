@@ -27,6 +27,7 @@ use wit_scopes::scope_name::Source;
 use wit_top_names::Target;
 use wit_top_names::declaration::world_items;
 use wit_tree::tree::{Extern, ExternKind, Id, TypeBody, TypeDef, UsePath, World, WorldItem};
+use wit_values::push;
 
 /// The place of the interface that is held, where it is resolved.
 fn resolved(interfaces: &Interfaces<'_, '_, '_>, source: Source<'_, '_>) -> Option<usize>
@@ -87,7 +88,10 @@ fn add_definition<'f, 'a>(
 {
     if let TypeBody::Resource { funcs } = &definition.body {
         for function in funcs {
-            externs.push(HeldExtern::Function(HeldFunction::Of(definition.name, function)))?;
+            push(
+                externs,
+                HeldExtern::Function(HeldFunction::Of(definition.name, function)),
+            )?;
         }
     }
     Ok(())
@@ -174,7 +178,10 @@ fn world_externs<'f, 'a>(
             WorldItem::Use(_) => {}
             WorldItem::Include(_) => {}
             WorldItem::Extern(written) => {
-                externs.push(held_extern(files, written, entries, interfaces, place))?
+                push(
+                    &mut externs,
+                    held_extern(files, written, entries, interfaces, place),
+                )?
             }
         }
     }

@@ -2,13 +2,13 @@
 ghost use Rattle.std.specs.Prelude.{◌≡◌, ◌+◌, [], ◌∷◌, IfOk, IfErr};
 ghost use Rattle.wit_tree.specs.Marks.{documented, attributes_marks, front_marks};
 
-use crate::holding::push;
 use crate::reader::Reader;
 use wit_lex::docs::docs_behind;
 use wit_lex::kind::Kind;
 use wit_lex::token::next_token;
 use wit_tree::ParseResult;
 use wit_tree::tree::{Attribute, Docs};
+use wit_values::push;
 
 /// What stands in front of an item.
 #[derive(Drop)]

@@ -1,19 +1,10 @@
 //! Values held while something is read behind them, whatever they are: where that is refused, they
 //! are let go here, where nothing is known of them.
-ghost use Rattle.std.specs.Prelude.{◌≡◌, ◌+◌, ◌++◌, [], ◌∷◌, IfOk, OnOk, IfErr};
+ghost use Rattle.std.specs.Prelude.{◌≡◌, [], IfOk, OnOk, IfErr};
 
 use crate::reader::Reader;
-use std::alloc::AllocError;
 use wit_lex::kind::Kind;
 use wit_tree::ParseResult;
-
-/// Puts an item behind the others; where room for it is refused, it is let go here.
-pub fn push<T: Drop>(items: &mut Vec<T>, item: T) -> Result<(), AllocError>
-    ensures { OnOk result (items.new.items ≡ items.old.items ++ item ∷ []) }
-{
-    items.push(item)?;
-    Ok(())
-}
 
 impl<'a> Reader<'a> {
     ghost use Rattle.wit_reader.specs.Reading.{IsRead, IsRefused};

@@ -4,7 +4,6 @@ ghost use Rattle.std.specs.List.{flat_map};
 ghost use Rattle.wit_values.specs.declared.span.Span.{Span as TheSpan};
 ghost use Rattle.wit_tree.specs.Marks.{spelled, counted, type_marks, boxed_marks, size_marks};
 
-use crate::holding::push;
 use crate::primitive::primitive;
 use crate::reader::Reader;
 use wit_lex::fault::ReadFault;
@@ -12,7 +11,7 @@ use wit_lex::kind::Kind;
 use wit_lex::word::Word;
 use wit_tree::tree::Type;
 use wit_tree::{ParseError, ParseResult, Span};
-use wit_values::beside;
+use wit_values::{beside, push};
 
 /// How many levels of types are read.
 pub const MOST_NESTED: u8 = 100;

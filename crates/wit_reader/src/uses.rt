@@ -6,14 +6,13 @@ ghost use Rattle.wit_tree.specs.Slices.{IsJoined};
 ghost use Rattle.wit_reader.specs.Fronts.{Completes, IsReadBehind};
 ghost use Rattle.wit_reader.specs.Headers.{found_version};
 
-use crate::holding::push;
 use crate::reader::Reader;
 use semver::Version;
 use wit_lex::kind::Kind;
 use wit_lex::word::Word;
 use wit_tree::tree::{Attribute, Docs, Id, PackageName, ToplevelUse, Use, UseName, UsePath};
 use wit_tree::{ParseResult, Span};
-use wit_values::beside;
+use wit_values::{beside, push};
 
 /// The package that a path names, with the version that was found behind the item's name.
 fn path_package<'a>(

@@ -13,10 +13,10 @@ use std::alloc::Global;
 use wit_lex::kind::Kind;
 use wit_lex::token::next_token;
 use wit_lex::word::Word;
-use wit_reader::holding::push;
 use wit_reader::reader::Reader;
 use wit_tree::ParseResult;
 use wit_tree::tree::{AstItem, DeclList, NestedPackage, PackageFile, PackageName, SourceFile};
+use wit_values::push;
 
 /// Reads what stands at `package` where a file begins with that: a header, or a nested package.
 fn read_beginning<'a>(

@@ -11,12 +11,11 @@ use semver::Version;
 use wit_lex::fault::ReadFault;
 use wit_lex::kind::Kind;
 use wit_lex::word::Word;
-use wit_reader::holding::push;
 use wit_reader::reader::Reader;
 use wit_reader::types::MOST_NESTED;
 use wit_tree::tree::{DeclList, Docs, Id, NestedPackage, PackageName};
 use wit_tree::{ParseResult, Span};
-use wit_values::beside;
+use wit_values::{beside, push};
 
 /// The name that these make, with the version that was found.
 fn package_name<'a>(

@@ -10,11 +10,10 @@ use wit_interface_reader::definition::read_definition;
 use wit_lex::kind::Kind;
 use wit_lex::word::Word;
 use wit_reader::front::Front;
-use wit_reader::holding::push;
 use wit_reader::reader::Reader;
 use wit_tree::ParseResult;
 use wit_tree::tree::{Attribute, Include, IncludeName, World, WorldItem};
-use wit_values::beside;
+use wit_values::{beside, push};
 
 /// Reads `name as name`.
 fn read_renamed<'a>(reader: &mut Reader<'a>) -> ParseResult<IncludeName<'a>>

@@ -1,5 +1,7 @@
 //! Values held while something behind them may be refused, whatever they are.
-ghost use Rattle.std.specs.Prelude.{◌≡◌, Err, IfErr, IfOk, Ok};
+ghost use Rattle.std.specs.Prelude.{◌≡◌, ◌++◌, ◌∷◌, [], Err, IfErr, IfOk, Ok, OnOk};
+
+use std::alloc::AllocError;
 
 /// A value and another one, or why that was not made: then the value is let go.
 ///
@@ -13,4 +15,12 @@ pub fn beside<T: Drop, U, E>(value: T, other: Result<U, E>) -> Result<(T, U), E>
         Ok(other) => Ok((value, other)),
         Err(refusal) => Err(refusal),
     }
+}
+
+/// Puts an item behind the others; where room for it is refused, it is let go here.
+pub fn push<T: Drop>(items: &mut Vec<T>, item: T) -> Result<(), AllocError>
+    ensures { OnOk result (items.new.items ≡ items.old.items ++ item ∷ []) }
+{
+    items.push(item)?;
+    Ok(())
 }

@@ -56,6 +56,7 @@ use wit_sides::Sides;
 use wit_signatures::functions::resolve_function;
 use wit_tree::{ParseResult, Span};
 use wit_types::{Arena, InterfaceId, InterfacePlace};
+use wit_values::push;
 use wit_world_sides::setters::check_closed;
 use wit_world_sides::sides::Standing;
 
@@ -70,7 +71,7 @@ fn written_functions<'t, 'a>(
     for held in externs {
         match held {
             HeldExtern::Function(function) => {
-                functions.push(*function)?;
+                push(&mut functions, *function)?;
             }
             HeldExtern::Link(_) => {}
             HeldExtern::Inline(_) => {}

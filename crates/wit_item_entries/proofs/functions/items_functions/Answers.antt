@@ -22,6 +22,6 @@ loop-part-preserved c =
       | in-TypeDef+in_ok-add_definition-in-TypeDef b ↦ (
           let d = b.in-TypeDef.definition in
           rw b.functions-is (b.in_ok-add_definition-in-TypeDef.ensures ∙ ap (λ (l : List SourceFunction). l ++ definition_functions d.name d.body) was ∙ sym (grown ∙ ap (λ (y : InterfaceItem). front ++ part_functions (interface_part y)) b.in-TypeDef.is)))
-      | in-Func+in_ok-push-in-Func b ↦ rw b.functions-is (ap (map function_behind) b.in_ok-push-in-Func.ensures.items ∙ map-append function_behind c.loop-part.functions.items (_ ∷ []) ∙ ap (λ (l : List SourceFunction). l ++ free_function b.in-Func.function ∷ []) was ∙ sym (grown ∙ ap (λ (y : InterfaceItem). front ++ part_functions (interface_part y)) b.in-Func.is))
+      | in-Func+in_ok-push-in-Func b ↦ rw b.functions-is (ap (map function_behind) b.in_ok-push-in-Func.ensures ∙ map-append function_behind c.loop-part.functions.items (_ ∷ []) ∙ ap (λ (l : List SourceFunction). l ++ free_function b.in-Func.function ∷ []) was ∙ sym (grown ∙ ap (λ (y : InterfaceItem). front ++ part_functions (interface_part y)) b.in-Func.is))
       | in-Use b ↦ rw b.functions-is (was ∙ sym (grown ∙ ap (λ (y : InterfaceItem). front ++ part_functions (interface_part y)) b.in-Use.is ∙ append-nil front))
     ]

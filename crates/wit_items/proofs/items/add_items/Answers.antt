@@ -132,7 +132,7 @@ loop-item-preserved c =
           let one : all ≡ before ++ w ∷ [] = grown ∙ ap (λ (d : AstItem). before ++ declared_items top d) b.in-Interface.is in
           let at : slice_get xs i ≡ Some (ast.Interface b.in-Interface.interface) = slice_get_read xs _ i x refl c.loop-item-test.true c.item-item.is ∙ ap Some b.in-Interface.is in
           let among : Contains (file_items file) w = rw c.declarations-declared.ensures at (declared_among (declared_items top) xs i _ w at refl) in
-          let new = b.in_ok-push-in-Interface.ensures.items in
+          let new = b.in_ok-push-in-Interface.ensures in
           let e = rw (b.deref.ensures.value, top_is) at b.in_ok-interface_names-in-Interface.ensures in
           rw b.items-is (record {
             items = one_more item_behind (map item_behind old) out _ _ before all w new was.items refl one;
@@ -147,7 +147,7 @@ loop-item-preserved c =
           let one : all ≡ before ++ w ∷ [] = grown ∙ ap (λ (d : AstItem). before ++ declared_items top d) b.in-World.is in
           let at : slice_get xs i ≡ Some (ast.World b.in-World.world) = slice_get_read xs _ i x refl c.loop-item-test.true c.item-item.is ∙ ap Some b.in-World.is in
           let among : Contains (file_items file) w = rw c.declarations-declared.ensures at (declared_among (declared_items top) xs i _ w at refl) in
-          let new = b.in_ok-push-in-World.ensures.items in
+          let new = b.in_ok-push-in-World.ensures in
           let e = rw top_is at b.in_ok-world_names-in-World.ensures in
           let imported = rw top_is at b.in_ok-names_inside-in-World.ensures in
           let exported = rw top_is at b.in_ok-names_inside-in-World-2.ensures in

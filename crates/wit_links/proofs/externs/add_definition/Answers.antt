@@ -28,9 +28,9 @@ loop-function-preserved c =
     let taken : take (i + 1) fs ≡ take i fs ++ f ∷ [] = take_more fs i f c.loop-function-test.true ∙ ap (λ (y : ResourceFunc). take i fs ++ y ∷ []) (sym c.function-item.is) in
     record {
       behind =
-          ap externs_behind c.in_ok-push.ensures.items
+          ap externs_behind c.in_ok-push.ensures
           ∙ map-append extern_behind old (_ ∷ [])
           ∙ ap (λ (l : List SideItem). l ++ SideFunction (resource_function id f) ∷ []) was.behind
           ∙ functions_more (externs_behind c.args.externs.now.items) id fs i f taken;
-      links = λ m among. was.links m (links_kept old _ m (no_function _) (subst (λ (l : List HeldExtern). Contains l (held.Link m)) c.in_ok-push.ensures.items among));
+      links = λ m among. was.links m (links_kept old _ m (no_function _) (subst (λ (l : List HeldExtern). Contains l (held.Link m)) c.in_ok-push.ensures among));
     }

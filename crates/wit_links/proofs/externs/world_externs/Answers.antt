@@ -54,11 +54,11 @@ loop-part-preserved c =
           let h = b.held_extern.result in
           rw b.externs-is (record {
             behind =
-                ap externs_behind b.in_ok-push-in-Extern.ensures.items
+                ap externs_behind b.in_ok-push-in-Extern.ensures
                 ∙ map-append extern_behind old (h ∷ [])
                 ∙ ap (λ (l : List SideItem). externs_behind old ++ l) b.held_extern.ensures.behind
                 ∙ ap (λ (l : List SideItem). l ++ extern_items b.in-Extern.written b.in-Extern.written.kind) was.behind
                 ∙ sym (grown ∙ ap part b.in-Extern.is);
-            led = subst (AreLed c.args.files.now others by_name (top_at c.args.files.now c.args.place)) (sym b.in_ok-push-in-Extern.ensures.items) (led_more c.args.files.now others by_name (top_at c.args.files.now c.args.place) old h was.led b.held_extern.ensures.led);
+            led = subst (AreLed c.args.files.now others by_name (top_at c.args.files.now c.args.place)) (sym b.in_ok-push-in-Extern.ensures) (led_more c.args.files.now others by_name (top_at c.args.files.now c.args.place) old h was.led b.held_extern.ensures.led);
           }))
     ]

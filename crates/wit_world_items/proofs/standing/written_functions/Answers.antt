@@ -25,7 +25,7 @@ loop-held-preserved c =
           let fn = function_behind f in
           let old = c.loop-held.functions.items in
           let at = behind_at hs i (held.Function f) (read (held.Function f) w.in-Function.is) in
-          rw w.functions-is (ap (map function_behind) w.in_ok-push-in-Function.ensures.items ∙ map-append function_behind old (f ∷ []) ∙ ap (λ (l : List SourceFunction). l ++ fn ∷ []) was ∙ sym (functions_more xs i (SideFunction fn) (fn ∷ []) at refl)))
+          rw w.functions-is (ap (map function_behind) w.in_ok-push-in-Function.ensures ∙ map-append function_behind old (f ∷ []) ∙ ap (λ (l : List SourceFunction). l ++ fn ∷ []) was ∙ sym (functions_more xs i (SideFunction fn) (fn ∷ []) at refl)))
       | in-Link w ↦ rw w.functions-is (was ∙ functions_kept xs i (extern_behind x) (behind_at hs i x (read x refl)) (ap (λ (h : HeldExtern). item_function (extern_behind h)) w.in-Link.is))
       | in-Inline w ↦ rw w.functions-is (was ∙ functions_kept xs i (extern_behind x) (behind_at hs i x (read x refl)) (ap (λ (h : HeldExtern). item_function (extern_behind h)) w.in-Inline.is))
     ]
