@@ -2,3 +2,4 @@ pub mod Laying
 pub mod Lines
 pub mod Splitting
 pub mod Turning
+pub mod Searching

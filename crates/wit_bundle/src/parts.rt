@@ -5,6 +5,8 @@ ghost use Rattle.std.specs.Option.{option_copied};
 ghost use Rattle.wit_bundle.specs.Bundle.{mark, without_end};
 ghost use Rattle.wit_bundle.specs.Parts.{parts, sources_behind};
 
+use memchr::memmem;
+
 /// What a line begins with that starts a source.
 const MARK: &str = "=== ";
 
@@ -27,6 +29,9 @@ pub(crate) fn front_of(text: &str) -> (&str, Option<&str>)
 {
     if let Some(behind) = text.strip_prefix(MARK) {
         return ("", Some(behind));
+    }
+    if memmem::find(text.as_bytes(), NEXT.as_bytes()).is_none() {
+        return (text, None);
     }
     match text.split_once(NEXT) {
         Some((front, behind)) => (through(text, front.len()), Some(behind)),

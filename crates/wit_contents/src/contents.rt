@@ -49,7 +49,7 @@ fn resolve_files<'f, 'a>(
     ensures refused { IfErr result (Refused (IsBroken names.now)) }
 {
     let order = names.item_order();
-    let mut front = ForeignArenas::of_items(alloc, names.foreign())?;
+    let mut front = ForeignArenas::of_items(alloc, names.foreign(), order.len())?;
     let mut items = declared_items(alloc, names, files, &front.entries)?;
     let lent: &mut [Item<'_, '_>] = &mut items;
     front.take_all(alloc, types, lent)?;
@@ -146,9 +146,9 @@ pub fn resolve_contents<'f, 'a>(
     let (types, resolved) = beside(begun, added)?;
     let named = foreign_items(alloc, names, resolved.unknown_type_spans, resolved.required);
     let made = Arenas {
-        types: types.into_arena(),
-        interfaces: resolved.interfaces,
-        worlds: resolved.worlds,
+        types: types.into_arena().fitted(),
+        interfaces: resolved.interfaces.fitted(),
+        worlds: resolved.worlds.fitted(),
     };
     let (arenas, foreign) = beside(made, named)?;
     Ok(Contents { arenas, foreign })

@@ -115,5 +115,5 @@ pub fn foreign_deps(
     for visit in visits {
         deps.add_visit(alloc, visit)?;
     }
-    Ok((deps.packages, deps.spans))
+    Ok((deps.packages.fitted(), deps.spans))
 }

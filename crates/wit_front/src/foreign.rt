@@ -91,17 +91,19 @@ fn add_type(
 }
 
 impl<'f, 'a> ForeignArenas<'f, 'a> {
-    /// Nothing of other packages.
-    fn new(alloc: Global) -> Self
-        ensures { IsTaken [] [] [] result }
+    /// Nothing of other packages, with room for so many interfaces.
+    fn with_room(alloc: Global, room: usize) -> Result<Self, AllocError>
+        ensures { IfOk result (IsTaken [] [] []) }
     {
-        ForeignArenas {
+        let mut interfaces = Arena::new(alloc);
+        interfaces.reserve(room)?;
+        Ok(ForeignArenas {
             visits: Vec::new(alloc),
-            interfaces: Arena::new(alloc),
+            interfaces,
             worlds: Arena::new(alloc),
             entries: Vec::new(alloc),
             spans: Vec::new(alloc),
-        }
+        })
     }
 
     /// Adds a world at its first visit.
@@ -141,12 +143,20 @@ impl<'f, 'a> ForeignArenas<'f, 'a> {
         self.add_interface(alloc, visit)
     }
 
-    /// Items of other packages, of which no type is known yet.
-    pub fn of_items(alloc: Global, items: &[ForeignVisit<'f, 'a>]) -> Result<Self, AllocError>
+    /// Items of other packages, of which no type is known yet, with room for so many interfaces
+    /// behind theirs.
+    ///
+    /// The error is want of memory.
+    pub fn of_items(
+        alloc: Global,
+        items: &[ForeignVisit<'f, 'a>],
+        declared: usize,
+    ) -> Result<Self, AllocError>
         ensures bare { IfOk result (IsTaken (map foreign_behind items.now) [] []) }
         ensures entries { IfOk result (λ arenas. (files : List TheFile) → map foreign_behind items.now ≡ foreign_items files → arenas.entries.items ≡ map (foreign_entry files) (foreign_items files)) }
     {
-        let mut arenas = ForeignArenas::new(alloc);
+        let room = items.len().saturating_add(declared);
+        let mut arenas = ForeignArenas::with_room(alloc, room)?;
         for visit in items {
             arenas.add(alloc, *visit)?;
         }

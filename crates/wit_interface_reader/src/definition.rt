@@ -15,7 +15,7 @@ use wit_reader::front::Front;
 use wit_reader::reader::Reader;
 use wit_tree::ParseResult;
 use wit_tree::tree::{Id, InterfaceItem, TypeBody, TypeDef};
-use wit_values::push;
+use wit_values::{fitted, push};
 
 /// Reads `type name = type;`.
 fn read_alias<'a>(reader: &mut Reader<'a>) -> ParseResult<(Id<'a>, TypeBody<'a>)>
@@ -131,11 +131,11 @@ pub fn read_interface_items<'a>(reader: &mut Reader<'a>) -> ParseResult<Vec<Inte
     ensures refused { IfErr result (λ e. IsRefused reader.old e) }
 {
     reader.expect(Kind::OpenBrace)?;
-    let mut items = Vec::new(reader.alloc);
+    let mut items = Vec::with_capacity(reader.alloc, 1)?;
     'items: while !reader.at(Kind::CloseBrace) {
         let item = read_item(reader)?;
         push(&mut items, item)?;
     }
     reader.bump()?;
-    Ok(items)
+    Ok(fitted(items))
 }

@@ -9,7 +9,7 @@ use wit_reader::reader::Reader;
 use wit_reader::types::MOST_NESTED;
 use wit_tree::ParseResult;
 use wit_tree::tree::{Case, EnumCase, Field, Flag, Type};
-use wit_values::push;
+use wit_values::{fitted, push};
 
 fn read_field<'a>(reader: &mut Reader<'a>) -> ParseResult<Field<'a>>
     ensures read { IfOk result (λ f. IsRead reader.old (field_marks f) reader.new) }
@@ -33,7 +33,7 @@ pub fn read_fields<'a>(reader: &mut Reader<'a>) -> ParseResult<Vec<Field<'a>>>
         push(&mut fields, field)?;
         more = reader.next_in_list(Kind::CloseBrace)?;
     }
-    Ok(fields)
+    Ok(fitted(fields))
 }
 
 fn read_flag<'a>(reader: &mut Reader<'a>) -> ParseResult<Flag<'a>>
@@ -57,7 +57,7 @@ pub fn read_flags<'a>(reader: &mut Reader<'a>) -> ParseResult<Vec<Flag<'a>>>
         push(&mut flags, flag)?;
         more = reader.next_in_list(Kind::CloseBrace)?;
     }
-    Ok(flags)
+    Ok(fitted(flags))
 }
 
 /// Reads the type that a case holds, in parentheses, where there is one.
@@ -95,7 +95,7 @@ pub fn read_cases<'a>(reader: &mut Reader<'a>) -> ParseResult<Vec<Case<'a>>>
         push(&mut cases, case)?;
         more = reader.next_in_list(Kind::CloseBrace)?;
     }
-    Ok(cases)
+    Ok(fitted(cases))
 }
 
 fn read_enum_case<'a>(reader: &mut Reader<'a>) -> ParseResult<EnumCase<'a>>
@@ -119,5 +119,5 @@ pub fn read_enum_cases<'a>(reader: &mut Reader<'a>) -> ParseResult<Vec<EnumCase<
         push(&mut cases, case)?;
         more = reader.next_in_list(Kind::CloseBrace)?;
     }
-    Ok(cases)
+    Ok(fitted(cases))
 }

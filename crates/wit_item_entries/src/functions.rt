@@ -130,15 +130,6 @@ fn placed_table(alloc: Global, functions: Vec<Function>) -> Result<TextTable<Fun
     Ok(table)
 }
 
-/// A table with no more room than it takes.
-fn fitted(table: TextTable<Function>) -> TextTable<Function>
-    ensures { result ≡ table }
-{
-    let mut map = table.into_map();
-    map.shrink_to_fit();
-    TextTable::from(map)
-}
-
 /// The functions of an interface under their names, where each setter that is written before its
 /// getter stands directly behind it.
 pub fn function_table(
@@ -149,5 +140,5 @@ pub fn function_table(
     ensures { IfOk result (λ table. table ≡ placed_functions functions.items) }
 {
     let table = placed_table(alloc, functions)?;
-    Ok(fitted(table))
+    Ok(table.fitted())
 }

@@ -106,6 +106,35 @@ fn add_part<'f, 'a>(
     Ok(())
 }
 
+/// How many names a part brings.
+fn room_of(part: Part<'_, '_>) -> usize {
+    match part {
+        Part::Defining(_) => 1,
+        Part::Using(used) => used.names.len(),
+        Part::Including(_) => 0,
+        Part::Doing(_) => 0,
+        Part::Crossing(_) => 0,
+    }
+}
+
+/// How many names the items of an interface bring.
+fn interface_room(items: &[InterfaceItem<'_>]) -> usize {
+    let mut room: usize = 0;
+    for part in items {
+        room = room.saturating_add(room_of(interface_part(part)));
+    }
+    room
+}
+
+/// How many names the items of a world bring.
+fn world_room(items: &[WorldItem<'_>]) -> usize {
+    let mut room: usize = 0;
+    for part in items {
+        room = room.saturating_add(room_of(world_part(part)));
+    }
+    room
+}
+
 /// The names of an interface of the file at a place, which has these items.
 pub fn interface_names<'f, 'a>(
     alloc: Global,
@@ -121,7 +150,7 @@ pub fn interface_names<'f, 'a>(
     ensures sound { OnOk result (AreSound files.now (top_at files.now place) (flat_map item_uses items.now)) }
     ensures refused { IfErr result (Refused (IsUnsoundAmong files.now (top_at files.now place) (flat_map item_uses items.now))) }
 {
-    let mut names = Vec::new(alloc);
+    let mut names = Vec::with_capacity(alloc, interface_room(items))?;
     for part in items {
         add_part(
             alloc,
@@ -150,8 +179,9 @@ pub fn world_names<'f, 'a>(
     ensures sound { OnOk result (AreSound files.now (top_at files.now place) (flat_map own_uses (map the_world_part world.now.items.items))) }
     ensures refused { IfErr result (Refused (IsUnsoundAmong files.now (top_at files.now place) (flat_map own_uses (map the_world_part world.now.items.items)))) }
 {
-    let mut names = Vec::new(alloc);
-    for part in world_items(world) {
+    let written = world_items(world);
+    let mut names = Vec::with_capacity(alloc, world_room(written))?;
+    for part in written {
         add_part(alloc, files, entries, place, &mut names, world_part(part))?;
     }
     Ok(names)

@@ -1,2 +1,3 @@
 mod Comments
 pub mod Maps
+mod LineEnds

@@ -3,6 +3,8 @@ ghost use Rattle.std.specs.Prelude.{◌≡◌, ◌+◌, ◌-◌, ◌<◌, ◌≤
 ghost use Rattle.wit_tree.specs.Comments.{IsComment, IsLine, IsNested, IsPair, is_blank as is_blank_byte};
 ghost use Rattle.wit_lex.specs.Blanks.{Begins};
 
+use memchr::memchr;
+
 /// What begins at a place.
 #[derive(Clone, Copy)]
 pub enum Blank {
@@ -28,30 +30,10 @@ fn line_end(bytes: &[u8], from: usize) -> usize
     requires { IsPair bytes.now from 47 47 }
     ensures { IsLine bytes.now from result }
 {
-    let len = bytes.len();
-    let mut at = from + 2;
-    'four: while len - at >= 4 {
-        if bytes[at] == b'\n' {
-            return at;
-        }
-        if bytes[at + 1] == b'\n' {
-            return at + 1;
-        }
-        if bytes[at + 2] == b'\n' {
-            return at + 2;
-        }
-        if bytes[at + 3] == b'\n' {
-            return at + 3;
-        }
-        at += 4;
+    match memchr(b'\n', &bytes[from + 2..]) {
+        Some(count) => from + 2 + count,
+        None => bytes.len(),
     }
-    'rest: while at < len {
-        if bytes[at] == b'\n' {
-            return at;
-        }
-        at += 1;
-    }
-    at
 }
 
 /// The end of the block comment whose first two bytes stand at a place. Such comments nest.

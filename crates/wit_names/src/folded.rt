@@ -78,9 +78,21 @@ impl Folded {
     {
         let lower = name.to_ascii_lowercase(alloc)?;
         let key = single_if_bare(without_kind(lower.as_str()));
+        if key == lower.as_str() {
+            return Ok(Folded { key: lower });
+        }
         Ok(Folded {
             key: String::from_str(alloc, key)?,
         })
+    }
+}
+
+impl Folded {
+    /// The key.
+    pub fn as_str(&self) -> &str
+        ensures { result.now ≡ self.now }
+    {
+        self.key.as_str()
     }
 }
 

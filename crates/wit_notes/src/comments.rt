@@ -125,12 +125,21 @@ fn drop_last_lines(text: &mut String)
     text.truncate(end);
 }
 
+/// Room for what comments say, each with an LF.
+fn room(texts: &[&str]) -> usize {
+    let mut room: usize = 0;
+    for text in texts {
+        room = room.saturating_add(text.len()).saturating_add(1);
+    }
+    room
+}
+
 /// What comments say, joined.
 fn joined(alloc: Global, texts: &[&str]) -> Result<String, AllocError>
     ensures { IfOk result (λ text. string_bytes text ≡ joined (map (λ t. t.now) texts.now)) }
 {
     let count = common_indent(texts);
-    let mut text = String::new(alloc);
+    let mut text = String::with_capacity(alloc, room(texts))?;
     for added in texts {
         push_lines(&mut text, without_spaces(added, count))?;
     }

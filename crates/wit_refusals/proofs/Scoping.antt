@@ -23,7 +23,7 @@ use Rattle.wit_tree.specs.declared.error.ParseError.{ParseError}
 use Rattle.wit_syntax.specs.Fault.{fault}
 use Rattle.wit_syntax.specs.Broken.{Refused}
 use Rattle.wit_refusals.specs.Names.{Name, IsTaken, IsLoneSetter, IsFirstLoneSetter}
-use Rattle.wit_refusals.specs.Scope.{Entry, name_of, names_of, IsKeyed, HasName}
+use Rattle.wit_refusals.specs.Scope.{Entry, spelled, name_of, names_of, IsKeyed, HasName}
 use Rattle.wit_refusals.proofs.Tables.{lookup-at, lookup-none}
 
 abbrev key : Entry → List ℕ
@@ -34,11 +34,11 @@ entry_at : (es : List Entry) (i : ℕ) (n : Name) → slice_get (names_of es) i 
 entry_at es i n h = map_at name_of es i n h
 
 -- a new key more
-pub keyed-more : (es : List Entry) (k : List ℕ) (d : DefinedName) → IsKeyed es → lookup (pointwise nat_eq k) es ≡ None → k ≡ folded_key d.name → IsKeyed (es ++ (k, d) ∷ [])
+pub keyed-more : (es : List Entry) (k : List ℕ) (d : DefinedName) → IsKeyed es → lookup (pointwise nat_eq k) es ≡ None → k ≡ folded_key (spelled k d) → IsKeyed (es ++ (k, d) ∷ [])
 keyed-more es k d is none fits = record {
   keyed = λ i e h. elim (at_either es (k, d) i e h) [
     | inl old ↦ is.keyed i e old
-    | inr new ↦ (let here = new.1 in ap (λ (x : Entry). x.0) here ∙ fits ∙ ap (λ (x : Entry). folded_key x.1.name) (sym here))
+    | inr new ↦ (let here = new.1 in ap (λ (x : Entry). x.0) here ∙ fits ∙ ap (λ (x : Entry). folded_key (spelled x.0 x.1)) (sym here))
   ];
   differ = rw (map-append key es ((k, d) ∷ [])) (differ_more (map key es) k is.differ (λ i h. (
       let found = map_at key es i k h in
@@ -49,32 +49,32 @@ keyed-more es k d is none fits = record {
 pub taken-found : (es : List Entry) (name k : List ℕ) (d : DefinedName) → IsKeyed es → k ≡ folded_key name → lookup (pointwise nat_eq k) es ≡ Some d → IsTaken (names_of es) name
 taken-found es name k d is fits h =
     let found = lookup-at es k d h in
-    record { place = found.0; earlier = (d.name, d.span); at = slice_get-map name_of es found.0 ∙ ap (option_map name_of) found.1; same = sym (is.keyed found.0 (k, d) found.1) ∙ fits }
+    record { place = found.0; earlier = (spelled k d, d.span); at = slice_get-map name_of es found.0 ∙ ap (option_map name_of) found.1; same = sym (is.keyed found.0 (k, d) found.1) ∙ fits }
 
 pub free-none : (es : List Entry) (name k : List ℕ) → IsKeyed es → k ≡ folded_key name → lookup (pointwise nat_eq k) es ≡ None → IsTaken (names_of es) name → ⊥
 free-none es name k is fits none taken =
     let found = entry_at es taken.place taken.earlier taken.at in
-    let same : folded_key found.0.1.name ≡ folded_key name = ap (λ (n : Name). folded_key n.0) found.2 ∙ taken.same in
+    let same : folded_key (spelled found.0.0 found.0.1) ≡ folded_key name = ap (λ (n : Name). folded_key n.0) found.2 ∙ taken.same in
     lookup-none es k taken.place found.0 none found.1 (is.keyed taken.place found.0 found.1 ∙ same ∙ sym fits)
 
 -- what a key finds has the name, where a name of the scope is spelled so
-pub has-found : (es : List Entry) (name k : List ℕ) (d : DefinedName) → IsKeyed es → k ≡ folded_key name → lookup (pointwise nat_eq k) es ≡ Some d → d.name ≡ name → HasName (names_of es) name
+pub has-found : (es : List Entry) (name k : List ℕ) (d : DefinedName) → IsKeyed es → k ≡ folded_key name → lookup (pointwise nat_eq k) es ≡ Some d → spelled k d ≡ name → HasName (names_of es) name
 has-found es name k d is fits h same =
     let found = lookup-at es k d h in
     record { place = found.0; span = d.span; at = slice_get-map name_of es found.0 ∙ ap (option_map name_of) found.1 ∙ ap (λ (n : List ℕ). Some (n, d.span)) same }
 
-pub found-has : (es : List Entry) (name k : List ℕ) (d : DefinedName) → IsKeyed es → k ≡ folded_key name → lookup (pointwise nat_eq k) es ≡ Some d → HasName (names_of es) name → d.name ≡ name
+pub found-has : (es : List Entry) (name k : List ℕ) (d : DefinedName) → IsKeyed es → k ≡ folded_key name → lookup (pointwise nat_eq k) es ≡ Some d → HasName (names_of es) name → spelled k d ≡ name
 found-has es name k d is fits h has =
     let found = lookup-at es k d h in
     let other = entry_at es has.place (name, has.span) has.at in
-    let spelled : other.0.1.name ≡ name = ap (λ (n : Name). n.0) other.2 in
-    let keyed : other.0.0 ≡ k = is.keyed has.place other.0 other.1 ∙ ap folded_key spelled ∙ sym fits in
+    let told : spelled other.0.0 other.0.1 ≡ name = ap (λ (n : Name). n.0) other.2 in
+    let keyed : other.0.0 ≡ k = is.keyed has.place other.0 other.1 ∙ ap folded_key told ∙ sym fits in
     let at_found : slice_get (map key es) found.0 ≡ Some k = slice_get-map key es found.0 ∙ ap (option_map key) found.1 in
     let at_other : slice_get (map key es) has.place ≡ Some k = slice_get-map key es has.place ∙ ap (option_map key) other.1 ∙ ap Some keyed in
     let place : found.0 ≡ has.place = is.differ.differ found.0 has.place k at_found at_other in
     let both : Some (k, d) ≡ Some other.0 = sym found.1 ∙ ap (λ i. slice_get es i) place ∙ other.1 in
     let one : (k, d) ≡ other.0 = cc in
-    ap (λ (e : Entry). e.1.name) one ∙ spelled
+    ap (λ (e : Entry). spelled e.0 e.1) one ∙ told
 
 pub none-has : (es : List Entry) (name k : List ℕ) → IsKeyed es → k ≡ folded_key name → lookup (pointwise nat_eq k) es ≡ None → HasName (names_of es) name → ⊥
 none-has es name k is fits none has = free-none es name k is fits none (record { place = has.place; earlier = (name, has.span); at = has.at; same = refl })

@@ -1,5 +1,5 @@
 -- What a scope keeps: its names in order, each by its key.
-use Rattle.std.specs.Prelude.{◌≡◌, ℕ, List, Some, map, slice_get}
+use Rattle.std.specs.Prelude.{◌≡◌, ℕ, List, Option, Some, None, map, slice_get}
 use Rattle.wit_names.specs.Folded.{folded_key}
 use Rattle.wit_values.specs.declared.span.Span.{Span}
 use Rattle.wit_syntax.specs.Repeats.{AllDiffer}
@@ -10,15 +10,23 @@ use Rattle.wit_refusals.specs.Names.{Name}
 abbrev pub Entry : Type 0
 Entry = List ℕ × DefinedName
 
+-- the name at a key: another spelling, or the key itself
+abbrev pub spelling : List ℕ → Option (List ℕ) → List ℕ
+spelling key None = key
+spelling key (Some name) = name
+
+abbrev pub spelled : List ℕ → DefinedName → List ℕ
+spelled key d = spelling key d.name
+
 abbrev pub name_of : Entry → Name
-name_of e = (e.1.name, e.1.span)
+name_of e = (spelled e.0 e.1, e.1.span)
 
 abbrev pub names_of : List Entry → List Name
 names_of es = map name_of es
 
 -- each name stands at its own key, and no key stands twice
 pub record IsKeyed (es : List Entry) : Type 0 where
-  pub keyed : (i : ℕ) (e : Entry) → slice_get es i ≡ Some e → e.0 ≡ folded_key e.1.name
+  pub keyed : (i : ℕ) (e : Entry) → slice_get es i ≡ Some e → e.0 ≡ folded_key (spelled e.0 e.1)
   pub differ : AllDiffer (map (λ (e : Entry). e.0) es)
 
 -- a name of the scope is spelled like this

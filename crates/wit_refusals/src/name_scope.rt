@@ -5,7 +5,7 @@ ghost use Rattle.wit_names.specs.Setter.{getter_of, is_setter};
 ghost use Rattle.wit_syntax.specs.Broken.{Refused};
 ghost use Rattle.wit_syntax.specs.Fault.{fault};
 ghost use Rattle.wit_refusals.specs.Names.{IsDefinedAgain, IsFirstLoneSetter, IsLoneSetter, IsTaken};
-ghost use Rattle.wit_refusals.specs.Scope.{HasName, IsKeyed, names_of};
+ghost use Rattle.wit_refusals.specs.Scope.{HasName, IsKeyed, names_of, spelled, spelling};
 
 use crate::getters::is_getter_name;
 use crate::refusal::refuse_in;
@@ -15,11 +15,23 @@ use wit_names::{Folded, getter_for_setter, is_setter};
 use wit_tree::{ParseResult, Span};
 use wit_values::{Table, Text};
 
-/// A name of a scope, and where it is written.
+/// A name of a scope, where it is not spelled as its key, and where it is written.
 #[derive(Debug, Drop)]
 struct DefinedName {
-    name: Text,
+    name: Option<Text>,
     span: Span,
+}
+
+impl DefinedName {
+    /// The name, which stands at this key.
+    fn spelled<'s>(&'s self, key: &'s Folded) -> &'s str
+        ensures { result.now ≡ spelled key.now self.now }
+    {
+        match &self.name {
+            Some(name) => name.as_str(),
+            None => key.as_str(),
+        }
+    }
 }
 
 /// The names of a scope, an interface or one side of a world, which contracts see as a list of
@@ -49,6 +61,17 @@ impl Model for NameScope {
     ghost invariant = { λ s. IsKeyed s.names };
 }
 
+/// A name, where it is not spelled as its key.
+fn other_spelling(alloc: Global, key: &Folded, name: &str) -> Result<Option<Text>, AllocError>
+    ensures { IfOk result (λ other. spelling key.now other ≡ name.now) }
+{
+    if key.as_str() == name {
+        Ok(None)
+    } else {
+        Ok(Some(Text::from_str(alloc, name)?))
+    }
+}
+
 /// The words for a name that an earlier one has.
 fn conflict(alloc: Global, earlier: &str, name: &str) -> Result<String, AllocError> {
     if earlier == name {
@@ -70,7 +93,7 @@ fn has_name(
 {
     let key = Folded::new(alloc, name)?;
     match names.get(&key) {
-        Some(found) => Ok(found.name.as_str() == name),
+        Some(found) => Ok(found.spelled(&key) == name),
         None => Ok(false),
     }
 }
@@ -80,7 +103,7 @@ fn is_getter_at(names: &Table<Folded, DefinedName>, place: usize, setter: &str) 
     ensures { IsTrue result → HasName (names_of names.now) (getter_of setter.now) }
 {
     match names.get_index(place) {
-        Some((_, found)) => is_getter_name(found.name.as_str(), setter),
+        Some((key, found)) => is_getter_name(found.spelled(key), setter),
         None => false,
     }
 }
@@ -135,10 +158,10 @@ impl NameScope {
     {
         let key = Folded::new(self.alloc, name)?;
         if let Some(earlier) = self.names.get(&key) {
-            let words = conflict(self.alloc, earlier.name.as_str(), name);
+            let words = conflict(self.alloc, earlier.spelled(&key), name);
             return Err(refuse_in(17, span, words));
         }
-        let name = Text::from_str(self.alloc, name)?;
+        let name = other_spelling(self.alloc, &key, name)?;
         self.names.insert(key, DefinedName { name, span })?;
         Ok(())
     }
@@ -161,14 +184,8 @@ impl NameScope {
         ensures refused { IfErr result (Refused (IsFirstLoneSetter self.now)) }
     {
         for place in 0..self.names.len() {
-            if let Some((_, name)) = self.names.get_index(place) {
-                check_setter(
-                    self.alloc,
-                    &self.names,
-                    place,
-                    name.name.as_str(),
-                    name.span,
-                )?;
+            if let Some((key, name)) = self.names.get_index(place) {
+                check_setter(self.alloc, &self.names, place, name.spelled(key), name.span)?;
             }
         }
         Ok(())

@@ -40,9 +40,12 @@ fn mark(form: FuncForm) -> &'static str
 fn free_name(alloc: Global, form: FuncForm, id: Id<'_>) -> Result<String, AllocError>
     ensures { IfOk result (λ name. string_bytes name ≡ accessor form ++ id.entry.name.now) }
 {
-    let mark = mark(form);
     let name = id.name;
-    format!(in alloc; "{mark}{name}")
+    match form {
+        FuncForm::Plain | FuncForm::Async => String::from_str(alloc, name),
+        FuncForm::Getter => format!(in alloc; "[get]{name}"),
+        FuncForm::Setter => format!(in alloc; "[set]{name}"),
+    }
 }
 
 /// The name of a function of a resource, with the marks of what it is.

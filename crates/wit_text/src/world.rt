@@ -13,7 +13,7 @@ use wit_reader::front::Front;
 use wit_reader::reader::Reader;
 use wit_tree::ParseResult;
 use wit_tree::tree::{Attribute, Include, IncludeName, World, WorldItem};
-use wit_values::{beside, push};
+use wit_values::{beside, fitted, push};
 
 /// Reads `name as name`.
 fn read_renamed<'a>(reader: &mut Reader<'a>) -> ParseResult<IncludeName<'a>>
@@ -117,13 +117,13 @@ fn read_world_items<'a>(reader: &mut Reader<'a>) -> ParseResult<Vec<WorldItem<'a
     ensures refused { IfErr result (λ e. IsRefused reader.old e) }
 {
     reader.expect(Kind::OpenBrace)?;
-    let mut items = Vec::new(reader.alloc);
+    let mut items = Vec::with_capacity(reader.alloc, 1)?;
     'items: while !reader.at(Kind::CloseBrace) {
         let item = read_world_item(reader)?;
         push(&mut items, item)?;
     }
     reader.bump()?;
-    Ok(items)
+    Ok(fitted(items))
 }
 
 /// Reads `world name { .. }`.

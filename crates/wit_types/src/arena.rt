@@ -10,6 +10,7 @@ ghost use Rattle.std.specs.Iterator.Adapters.{IterYieldsInOrder};
 use std::alloc::{AllocError, AllocFailed, Global};
 use std::marker::{Model, PhantomData};
 use std::{fmt, slice};
+use wit_values::fitted;
 
 /// The place of a value in an arena, counted from 0. `T` says which arena.
 ///
@@ -132,6 +133,13 @@ impl<T, M> Arena<T, M> {
         })
     }
 
+    /// Makes room for so many more values, which are then added without another growth.
+    pub fn reserve(&mut self, more: usize) -> Result<(), AllocError>
+        ensures { self.new ≡ self.old }
+    {
+        self.items.reserve_exact(more)
+    }
+
     /// Puts the values of another arena behind these, and leaves none there.
     ///
     /// If a growth is refused, both stay as they were.
@@ -142,6 +150,17 @@ impl<T, M> Arena<T, M> {
     {
         self.items.append(&mut behind.items)?;
         Ok(())
+    }
+
+    /// The arena with no more room than it takes.
+    pub fn fitted(self) -> Arena<T, M>
+        ensures { result ≡ self }
+    {
+        let Arena { items, of: _ } = self;
+        Arena {
+            items: fitted(items),
+            of: PhantomData,
+        }
     }
 
     /// The value at an id of this arena.

@@ -17,6 +17,15 @@ pub fn beside<T: Drop, U, E>(value: T, other: Result<U, E>) -> Result<(T, U), E>
     }
 }
 
+/// A list with no more room than it takes.
+pub fn fitted<T>(items: Vec<T>) -> Vec<T>
+    ensures { result.items ≡ items.items }
+{
+    let mut items = items;
+    items.shrink_to_fit();
+    items
+}
+
 /// Puts an item behind the others; where room for it is refused, it is let go here.
 pub fn push<T: Drop>(items: &mut Vec<T>, item: T) -> Result<(), AllocError>
     ensures { OnOk result (items.new.items ≡ items.old.items ++ item ∷ []) }

@@ -17,7 +17,7 @@ pub mod text;
 pub mod text_table;
 
 pub use accessor::AccessorKind;
-pub use holding::{beside, push};
+pub use holding::{beside, fitted, push};
 pub use release::{BuildText, PreText, Release};
 pub use row::Row;
 pub use span::{Span, compare_spans, is_same_span};

@@ -120,6 +120,15 @@ impl<K: Eq + Hash, V> Table<K, V> {
         }
     }
 
+    /// The map with no more room than it takes.
+    pub fn fitted(self) -> Table<K, V>
+        ensures { result ≡ self }
+    {
+        let mut map = self.into_map();
+        map.shrink_to_fit();
+        Table { map }
+    }
+
     /// The map of `indexmap`.
     pub fn as_map(&self) -> &IndexMap<K, V>
         ensures { result.now.entries ≡ self.now }

@@ -121,6 +121,15 @@ impl<V> TextTable<V> {
         }
     }
 
+    /// The map with no more room than it takes.
+    pub fn fitted(self) -> TextTable<V>
+        ensures { result ≡ self }
+    {
+        let mut map = self.into_map();
+        map.shrink_to_fit();
+        TextTable { map }
+    }
+
     /// The map of `indexmap`.
     pub fn as_map(&self) -> &IndexMap<String, V>
         ensures { text_entries result.now.entries ≡ self.now }

@@ -92,15 +92,6 @@ pub struct WorldSides {
     pub exports: Table<WorldKey, WorldItem>,
 }
 
-/// A side with no more room than it takes.
-pub fn fitted(side: Table<WorldKey, WorldItem>) -> Table<WorldKey, WorldItem>
-    ensures { result ≡ side }
-{
-    let mut map = side.into_map();
-    map.shrink_to_fit();
-    Table::from(map)
-}
-
 /// Puts an item at a key of a side.
 fn add_item(
     sides: &mut WorldSides,

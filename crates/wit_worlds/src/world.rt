@@ -54,7 +54,7 @@ use wit_types::{Arena, InterfacePlace, TypeOwner};
 use wit_values::{Row, Text, beside};
 use wit_world_items::standing::resolve_standing;
 use wit_world_sides::setters::is_closed;
-use wit_world_sides::sides::{WorldSides, fitted, world_sides};
+use wit_world_sides::sides::{WorldSides, world_sides};
 
 /// What a world has but its name: what is told of it, what its handles require of types of other
 /// packages, what it has on its sides, and its includes.
@@ -91,8 +91,8 @@ fn add_world(
     let (parts, name) = beside(parts, name)?;
     let world = World {
         name,
-        imports: fitted(parts.sides.imports),
-        exports: fitted(parts.sides.exports),
+        imports: parts.sides.imports.fitted(),
+        exports: parts.sides.exports.fitted(),
         package: None,
         docs: parts.notes.docs,
         stability: parts.notes.stability,

@@ -1,6 +1,14 @@
-use Rattle.std.proofs.Common.{◌<◌, arith}
-use Rattle.wit_bundle.proofs.Splitting.{found_is, found_front, found_none}
+use Rattle.std.proofs.Common.{◌≡◌, ◌<◌, arith, is_none, true, rules}
+use Rattle.memchr.specs.Find.{FindsNeedle}
+use Rattle.wit_bundle.proofs.Searching.{found_nowhere}
+use Rattle.wit_bundle.proofs.Splitting.{next, found_is, found_front, found_none}
 use Rattle.wit_bundle.proofs.parts.front_of.Goals as goal
+
+pub returns-then-is_none-clause-parts : goal.returns-then-is_none-clause-parts
+returns-then-is_none-clause-parts c =
+    let found : FindsNeedle c.args.text.now next 0 c.find.result = rw (c.as_bytes.ensures.value, c.as_bytes-2.ensures.value) at c.find.ensures in
+    let none : is_none c.find.result ≡ true = search rules in
+    found_none c.args.text.now (found_nowhere next c.args.text.now c.find.result (omega arith) found none) c.in_default.ensures.cases
 
 pub returns-in-Some-split_once-clause-parts : goal.returns-in-Some-split_once-clause-parts
 returns-in-Some-split_once-clause-parts c =

@@ -12,7 +12,7 @@ returns-clause-made c =
     let o = rw c.in_ok-arenas.ensures.both.1 at c.foreign_items-named.ensures in
     let added : AddsFiles files c.in_ok-types.types resolved.interfaces resolved.worlds resolved.required.items = rw is r.added in
     rw c.in_ok-arenas.ensures.both.0 (record {
-      added = rw (c.into_arena.ensures, o.required) added;
+      added = rw (c.fitted.ensures, c.fitted-2.ensures, c.fitted-3.ensures, c.into_arena.ensures, o.required) added;
       deps = o.deps;
       spans = o.spans;
       unknown = o.unknown ∙ r.unknown;

@@ -7,4 +7,4 @@ use Rattle.wit_foreign.proofs.deps.foreign_deps.Goals as goal
 pub returns-clause-deps : goal.returns-clause-deps
 returns-clause-deps c files same =
     let whole : map foreign_behind (take c.loop-visit.visit-index c.args.visits.now) ≡ map foreign_behind c.args.visits.now = ap (map foreign_behind) (take_all c.loop-visit.visit-index c.args.visits.now (omega (arith, c.loop-visit-test.false, c.loop-visit.auto))) in
-    c.loop-visit.invariant.packages ∙ ap table_in (whole ∙ same)
+    c.fitted.ensures ∙ c.loop-visit.invariant.packages ∙ ap table_in (whole ∙ same)

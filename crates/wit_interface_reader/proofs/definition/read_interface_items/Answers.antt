@@ -6,4 +6,4 @@ pub items-preserved : goal.items-preserved
 items-preserved c = more item_marks c.items.items.items c.push.new.items.items _ c.in_ok-push.ensures c.items.invariant c.in_ok-item.ensures.read
 
 pub returns-clause-read : goal.returns-clause-read
-returns-clause-read c = close c.items.invariant c.in_ok-bump.ensures.read
+returns-clause-read c = rw c.fitted.ensures (close c.items.invariant c.in_ok-bump.ensures.read)

@@ -17,7 +17,7 @@ use Rattle.wit_files.specs.FileNames.{top_at}
 use Rattle.wit_item_names.proofs.parts.interface_names.Goals as goal
 
 pub loop-part-init : goal.loop-part-init
-loop-part-init c = rw c.new-names.ensures.items (record {
+loop-part-init c = rw c.in_ok-names.ensures.items (record {
   names = refl;
   placed = names_none (map visited (foreign_interfaces c.args.files.now));
   sound = sound_none _ _;
@@ -35,7 +35,7 @@ pub returns-in_err-add_part-clause-refused : goal.returns-in_err-add_part-clause
 returns-in_err-add_part-clause-refused c =
     let files = c.args.files.now in
     let top = top_at files c.args.place in
-    let p = err_from_is_err_and c.from_residual.result c.from_residual.ensures.1 in
+    let p = err_from_is_err_and c.from_residual-in_err-add_part.result c.from_residual-in_err-add_part.ensures.1 in
     let xs = c.args.items.now in
     let i = c.loop-part.part-index in
     let x = c.part-item.result in

@@ -17,7 +17,7 @@ use Rattle.wit_files.specs.FileNames.{top_at}
 use Rattle.wit_item_names.proofs.parts.world_names.Goals as goal
 
 pub loop-part-init : goal.loop-part-init
-loop-part-init c = rw c.new-names.ensures.items (record {
+loop-part-init c = rw c.in_ok-names.ensures.items (record {
   names = refl;
   placed = names_none (map visited (foreign_interfaces c.args.files.now));
   sound = sound_none _ _;
@@ -25,29 +25,29 @@ loop-part-init c = rw c.new-names.ensures.items (record {
 
 pub add_part-requires-clause-paths : goal.add_part-requires-clause-paths
 add_part-requires-clause-paths c = λ u among. (
-    let xs = c.world_items-part-items.result.now in
+    let xs = c.world_items-written.result.now in
     let i = c.loop-part.part-index in
     let q = part_behind c.world_part.result in
     let at : slice_get (map world_part xs) i ≡ Some q = slice_get-map world_part xs i ∙ ap (option_map world_part) (slice_get_read xs _ i c.part-item.result refl c.loop-part-test.true c.part-item.is) ∙ ap Some (sym c.world_part.ensures) in
-    use_has_path c.args.files.now c.args.place (TheWorld c.args.world.now) u c.requires.item (rw c.world_items-part-items.ensures at (among_flat part_uses (map world_part xs) i q u at (own_among q u among))))
+    use_has_path c.args.files.now c.args.place (TheWorld c.args.world.now) u c.requires.item (rw c.world_items-written.ensures at (among_flat part_uses (map world_part xs) i q u at (own_among q u among))))
 
 pub returns-in_err-add_part-clause-refused : goal.returns-in_err-add_part-clause-refused
 returns-in_err-add_part-clause-refused c =
     let files = c.args.files.now in
     let top = top_at files c.args.place in
-    let p = err_from_is_err_and c.from_residual.result c.from_residual.ensures.1 in
-    let xs = c.world_items-part-items.result.now in
+    let p = err_from_is_err_and c.from_residual-in_err-add_part.result c.from_residual-in_err-add_part.ensures.1 in
+    let xs = c.world_items-written.result.now in
     let i = c.loop-part.part-index in
     let x = c.part-item.result in
     let q = part_behind c.world_part.result in
     let at : slice_get (map world_part xs) i ≡ Some q = slice_get-map world_part xs i ∙ ap (option_map world_part) (slice_get_read xs _ i x refl c.loop-part-test.true c.part-item.is) ∙ ap Some (sym c.world_part.ensures) in
-    rw (p.1, p.2, sym c.world_items-part-items.ensures) (refused_weaker (IsUnsoundAmong files top (own_uses q)) (IsUnsoundAmong files top (flat_map own_uses (map world_part xs))) _ (λ f h. unsound_among files top own_uses (map world_part xs) i q f at h) c.in_err-add_part.ensures.refused)
+    rw (p.1, p.2, sym c.world_items-written.ensures) (refused_weaker (IsUnsoundAmong files top (own_uses q)) (IsUnsoundAmong files top (flat_map own_uses (map world_part xs))) _ (λ f h. unsound_among files top own_uses (map world_part xs) i q f at h) c.in_err-add_part.ensures.refused)
 
 pub loop-part-preserved : goal.loop-part-preserved
 loop-part-preserved c =
     let files = c.args.files.now in
     let top = top_at files c.args.place in
-    let xs = c.world_items-part-items.result.now in
+    let xs = c.world_items-written.result.now in
     let i = c.loop-part.part-index in
     let x = c.part-item.result in
     let q = part_behind c.world_part.result in
@@ -61,7 +61,7 @@ loop-part-preserved c =
     }
 
 pub returns-clause-names : goal.returns-clause-names
-returns-clause-names c = rw (sym c.world_items-part-items.ensures) (c.loop-part.invariant.names ∙ ap (λ l. flat_map (part_names (top_at c.args.files.now c.args.place)) (map world_part l)) (take_all c.loop-part.part-index c.world_items-part-items.result.now c.loop-part-test.false))
+returns-clause-names c = rw (sym c.world_items-written.ensures) (c.loop-part.invariant.names ∙ ap (λ l. flat_map (part_names (top_at c.args.files.now c.args.place)) (map world_part l)) (take_all c.loop-part.part-index c.world_items-written.result.now c.loop-part-test.false))
 
 pub returns-clause-sound : goal.returns-clause-sound
-returns-clause-sound c = rw (sym c.world_items-part-items.ensures) (subst (λ l. AreSound c.args.files.now (top_at c.args.files.now c.args.place) (flat_map own_uses (map world_part l))) (take_all c.loop-part.part-index c.world_items-part-items.result.now c.loop-part-test.false) c.loop-part.invariant.sound)
+returns-clause-sound c = rw (sym c.world_items-written.ensures) (subst (λ l. AreSound c.args.files.now (top_at c.args.files.now c.args.place) (flat_map own_uses (map world_part l))) (take_all c.loop-part.part-index c.world_items-written.result.now c.loop-part-test.false) c.loop-part.invariant.sound)

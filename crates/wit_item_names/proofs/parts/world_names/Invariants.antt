@@ -10,7 +10,7 @@ use Rattle.wit_item_names.proofs.parts.world_names.Given as goal
 
 abbrev pub invariant-loop-part : goal.invariant-loop-part
 invariant-loop-part l = record {
-  names : map name_behind l.names.items ≡ flat_map (part_names (top_at l.files l.place)) (map world_part (take l.part-index l.part-items));
+  names : map name_behind l.names.items ≡ flat_map (part_names (top_at l.files l.place)) (map world_part (take l.part-index l.written));
   placed : AreNamesPlaced (map visited (foreign_interfaces l.files)) l.names.items;
-  sound : AreSound l.files (top_at l.files l.place) (flat_map own_uses (map world_part (take l.part-index l.part-items)));
+  sound : AreSound l.files (top_at l.files l.place) (flat_map own_uses (map world_part (take l.part-index l.written)));
 }

@@ -2,6 +2,7 @@ use Rattle.std.proofs.Common.{◌≡◌, rules, nat_eq, Some, None, sym, ap, ◌
 use Rattle.std.specs.Cmp.Lexicographic.{pointwise}
 use Rattle.std.specs.Map.{lookup}
 use Rattle.wit_syntax.proofs.Names.{name_equal, name_itself}
+use Rattle.wit_refusals.specs.Scope.{spelled}
 use Rattle.wit_refusals.proofs.Scoping.{has-found, found-has, none-has}
 use Rattle.wit_refusals.proofs.name_scope.has_name.Goals as goal
 
@@ -12,8 +13,8 @@ returns-in-Some c =
     let key = c.in_ok-key.key in
     let d = c.in-Some.found.now in
     let found : lookup (pointwise nat_eq key) es ≡ Some d = sym (rw c.in-Some.is at c.get.ensures) in
-    let told : c.eq.result ≡ pointwise nat_eq d.name name = search rules in (
-      λ t. has-found es name key d c.requires.keyed c.in_ok-key.ensures found (name_equal d.name name (sym told ∙ t)),
+    let told : c.eq.result ≡ pointwise nat_eq (spelled key d) name = search rules in (
+      λ t. has-found es name key d c.requires.keyed c.in_ok-key.ensures found (name_equal (spelled key d) name (sym told ∙ t)),
       λ has. told ∙ ap (λ n. pointwise nat_eq n name) (found-has es name key d c.requires.keyed c.in_ok-key.ensures found has) ∙ name_itself name,
     )
 

@@ -6,7 +6,7 @@ use Rattle.std.proofs.lemmas.Result.{err_from_is_err_and}
 use Rattle.wit_syntax.specs.Broken.{Refused}
 use Rattle.wit_syntax.proofs.Lists.{at_within, map_at}
 use Rattle.wit_refusals.specs.Names.{IsLoneSetter, IsFirstLoneSetter}
-use Rattle.wit_refusals.specs.Scope.{name_of, names_of}
+use Rattle.wit_refusals.specs.Scope.{spelled, name_of, names_of}
 use Rattle.wit_refusals.proofs.Scoping.{paired-more, first-lone}
 use Rattle.wit_refusals.proofs.name_scope.NameScope.check_setters.Goals as goal
 use Rattle.wit_refusals.proofs.name_scope.NameScope.check_setters.Goals.{in-Some+in_ok-check_setter, in_default}
@@ -17,10 +17,11 @@ returns-in_err-check_setter-clause-refused c =
     let es = c.self.inside.names in
     let i = c.loop-place.place in
     let d = c.in-Some.name.now in
-    let entry : slice_get es i ≡ Some (c.in-Some.field-0-0.now, d) = sym (rw c.in-Some.is at c.get_index.ensures) in
-    let at : slice_get (names_of es) i ≡ Some (d.name, d.span) = slice_get-map name_of es i ∙ ap (option_map name_of) entry in
+    let key = c.in-Some.key.now in
+    let entry : slice_get es i ≡ Some (key, d) = sym (rw c.in-Some.is at c.get_index.ensures) in
+    let at : slice_get (names_of es) i ≡ Some (spelled key d, d.span) = slice_get-map name_of es i ∙ ap (option_map name_of) entry in
     let first : (j : ℕ) → j < i → IsLoneSetter (names_of es) j → ⊥ = λ j lt lone. c.loop-place.invariant j lt (subst (λ ns. IsLoneSetter ns j) c.self.view_is lone) in
-    rw (p.1, p.2) (subst (λ ns. Refused (IsFirstLoneSetter ns) c.in_err-check_setter.field-0.0) c.self.view_is (first-lone (names_of es) i (d.name, d.span) c.in_err-check_setter.field-0.0 at first (rw c.as_str.ensures at c.in_err-check_setter.ensures.refused)))
+    rw (p.1, p.2) (subst (λ ns. Refused (IsFirstLoneSetter ns) c.in_err-check_setter.field-0.0) c.self.view_is (first-lone (names_of es) i (spelled key d, d.span) c.in_err-check_setter.field-0.0 at first (rw c.spelled.ensures at c.in_err-check_setter.ensures.refused)))
 
 pub loop-place-preserved : goal.loop-place-preserved
 loop-place-preserved c = λ j lt lone.
@@ -32,9 +33,10 @@ loop-place-preserved c = λ j lt lone.
       | inr new ↦ elim c.match-get_index.branch [
         | in-Some+in_ok-check_setter w ↦ (
             let d = w.in-Some.name.now in
-            let entry : slice_get es i ≡ Some (w.in-Some.field-0-0.now, d) = sym (rw w.in-Some.is at c.get_index.ensures) in
-            let at : slice_get (names_of es) i ≡ Some (d.name, d.span) = slice_get-map name_of es i ∙ ap (option_map name_of) entry in
-            paired-more (names_of es) i (d.name, d.span) at (rw w.as_str.ensures at w.in_ok-check_setter.ensures.paired) (subst (IsLoneSetter (names_of es)) new (subst (λ ns. IsLoneSetter ns j) (sym c.self.view_is) lone)))
+            let key = w.in-Some.key.now in
+            let entry : slice_get es i ≡ Some (key, d) = sym (rw w.in-Some.is at c.get_index.ensures) in
+            let at : slice_get (names_of es) i ≡ Some (spelled key d, d.span) = slice_get-map name_of es i ∙ ap (option_map name_of) entry in
+            paired-more (names_of es) i (spelled key d, d.span) at (rw w.spelled.ensures at w.in_ok-check_setter.ensures.paired) (subst (IsLoneSetter (names_of es)) new (subst (λ ns. IsLoneSetter ns j) (sym c.self.view_is) lone)))
         | in_default w ↦ (
             let there = at_within es i (omega arith) in
             let none : None ≡ slice_get es i = rw w.in_default.is at c.get_index.ensures in

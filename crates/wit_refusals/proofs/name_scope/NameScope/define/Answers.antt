@@ -4,7 +4,7 @@ use Rattle.std.specs.Map.{lookup}
 use Rattle.std.proofs.lemmas.List.{map-append}
 use Rattle.wit_names.specs.Folded.{folded_key}
 use Rattle.wit_refusals.specs.declared.name_scope.DefinedName.{DefinedName}
-use Rattle.wit_refusals.specs.Scope.{name_of, names_of, IsKeyed}
+use Rattle.wit_refusals.specs.Scope.{spelled, name_of, names_of, IsKeyed}
 use Rattle.wit_refusals.specs.Names.{Name, IsTaken}
 use Rattle.wit_refusals.proofs.Tables.{insert_entry-last}
 use Rattle.wit_refusals.proofs.Scoping.{taken-found, free-none, keyed-more, not_some}
@@ -27,7 +27,7 @@ invariant_of-self-2 c =
     let key = c.in_ok-key.key in
     let none : lookup (pointwise nat_eq key) es ≡ None = sym c.get.ensures ∙ not_some c.get.result c.in_default.not-Some in
     let d : DefinedName = record { name = c.in_ok-name.name; span = c.args.span } in
-    let named : c.in_ok-name.name ≡ c.args.name.now = search rules in
+    let named : spelled key d ≡ c.args.name.now = c.in_ok-name.ensures in
     let grown = keyed-more es key d c.self.invariant none (c.in_ok-key.ensures ∙ ap folded_key (sym named)) in
     subst IsKeyed (sym (insert_entry-last es key d none) ∙ sym c.in_ok-insert.ensures.ok) grown
 
@@ -37,8 +37,8 @@ returns-clause-defined c =
     let key = c.in_ok-key.key in
     let none : lookup (pointwise nat_eq key) es ≡ None = sym c.get.ensures ∙ not_some c.get.result c.in_default.not-Some in
     let d : DefinedName = record { name = c.in_ok-name.name; span = c.args.span } in
-    let named : c.in_ok-name.name ≡ c.args.name.now = search rules in
-    ap names_of (c.in_ok-insert.ensures.ok ∙ insert_entry-last es key d none) ∙ map-append name_of es ((key, d) ∷ []) ∙ ap (λ (ns : List Name). ns ++ (d.name, d.span) ∷ []) c.self.view_is ∙ ap (λ n. c.args.self.now ++ (n, c.args.span) ∷ []) named
+    let named : spelled key d ≡ c.args.name.now = c.in_ok-name.ensures in
+    ap names_of (c.in_ok-insert.ensures.ok ∙ insert_entry-last es key d none) ∙ map-append name_of es ((key, d) ∷ []) ∙ ap (λ (ns : List Name). ns ++ (spelled key d, d.span) ∷ []) c.self.view_is ∙ ap (λ n. c.args.self.now ++ (n, c.args.span) ∷ []) named
 
 pub returns-clause-free : goal.returns-clause-free
 returns-clause-free c = λ taken.
