@@ -8,17 +8,16 @@ ghost use Rattle.wit_reader.specs.Reading.{IsRead, IsRefused};
 use crate::function::read_named_func;
 use crate::members::{read_cases, read_enum_cases, read_fields, read_flags};
 use crate::resource::read_resource;
-use wit_lex::fault::ReadFault;
+use wit_lex::fault::{ReadFault, ReadResult};
 use wit_lex::kind::Kind;
 use wit_lex::word::Word;
 use wit_reader::front::Front;
 use wit_reader::reader::Reader;
-use wit_tree::ParseResult;
 use wit_tree::tree::{Id, InterfaceItem, TypeBody, TypeDef};
 use wit_values::{fitted, push};
 
 /// Reads `type name = type;`.
-fn read_alias<'a>(reader: &mut Reader<'a>) -> ParseResult<(Id<'a>, TypeBody<'a>)>
+fn read_alias<'a>(reader: &mut Reader<'a>) -> ReadResult<(Id<'a>, TypeBody<'a>)>
     ensures read { IfOk result (λ d. IsRead reader.old (defined_marks d.0 d.1) reader.new) }
     ensures refused { IfErr result (λ e. IsRefused reader.old e) }
 {
@@ -30,7 +29,7 @@ fn read_alias<'a>(reader: &mut Reader<'a>) -> ParseResult<(Id<'a>, TypeBody<'a>)
 }
 
 /// Reads `record name { name: type, .. }`.
-fn read_record<'a>(reader: &mut Reader<'a>) -> ParseResult<(Id<'a>, TypeBody<'a>)>
+fn read_record<'a>(reader: &mut Reader<'a>) -> ReadResult<(Id<'a>, TypeBody<'a>)>
     ensures read { IfOk result (λ d. IsRead reader.old (defined_marks d.0 d.1) reader.new) }
     ensures refused { IfErr result (λ e. IsRefused reader.old e) }
 {
@@ -42,7 +41,7 @@ fn read_record<'a>(reader: &mut Reader<'a>) -> ParseResult<(Id<'a>, TypeBody<'a>
 }
 
 /// Reads `flags name { name, .. }`.
-fn read_flags_definition<'a>(reader: &mut Reader<'a>) -> ParseResult<(Id<'a>, TypeBody<'a>)>
+fn read_flags_definition<'a>(reader: &mut Reader<'a>) -> ReadResult<(Id<'a>, TypeBody<'a>)>
     ensures read { IfOk result (λ d. IsRead reader.old (defined_marks d.0 d.1) reader.new) }
     ensures refused { IfErr result (λ e. IsRefused reader.old e) }
 {
@@ -54,7 +53,7 @@ fn read_flags_definition<'a>(reader: &mut Reader<'a>) -> ParseResult<(Id<'a>, Ty
 }
 
 /// Reads `variant name { name(type), .. }`, where a case may have no type.
-fn read_variant<'a>(reader: &mut Reader<'a>) -> ParseResult<(Id<'a>, TypeBody<'a>)>
+fn read_variant<'a>(reader: &mut Reader<'a>) -> ReadResult<(Id<'a>, TypeBody<'a>)>
     ensures read { IfOk result (λ d. IsRead reader.old (defined_marks d.0 d.1) reader.new) }
     ensures refused { IfErr result (λ e. IsRefused reader.old e) }
 {
@@ -66,7 +65,7 @@ fn read_variant<'a>(reader: &mut Reader<'a>) -> ParseResult<(Id<'a>, TypeBody<'a
 }
 
 /// Reads `enum name { name, .. }`.
-fn read_enum<'a>(reader: &mut Reader<'a>) -> ParseResult<(Id<'a>, TypeBody<'a>)>
+fn read_enum<'a>(reader: &mut Reader<'a>) -> ReadResult<(Id<'a>, TypeBody<'a>)>
     ensures read { IfOk result (λ d. IsRead reader.old (defined_marks d.0 d.1) reader.new) }
     ensures refused { IfErr result (λ e. IsRefused reader.old e) }
 {
@@ -78,7 +77,7 @@ fn read_enum<'a>(reader: &mut Reader<'a>) -> ParseResult<(Id<'a>, TypeBody<'a>)>
 }
 
 /// Reads the name and the body of a definition.
-fn read_body<'a>(reader: &mut Reader<'a>) -> ParseResult<(Id<'a>, TypeBody<'a>)>
+fn read_body<'a>(reader: &mut Reader<'a>) -> ReadResult<(Id<'a>, TypeBody<'a>)>
     ensures read { IfOk result (λ d. IsRead reader.old (defined_marks d.0 d.1) reader.new) }
     ensures refused { IfErr result (λ e. IsRefused reader.old e) }
 {
@@ -94,7 +93,7 @@ fn read_body<'a>(reader: &mut Reader<'a>) -> ParseResult<(Id<'a>, TypeBody<'a>)>
 }
 
 /// Reads a definition, of an interface or of a world.
-pub fn read_definition<'a>(reader: &mut Reader<'a>, front: Front<'a>) -> ParseResult<TypeDef<'a>>
+pub fn read_definition<'a>(reader: &mut Reader<'a>, front: Front<'a>) -> ReadResult<TypeDef<'a>>
     ensures read { IfOk result (λ d. IsReadBehind reader.old (front_marks front.entry.docs front.entry.attributes.items) (definition_marks d) reader.new) }
     ensures refused { IfErr result (λ e. IsRefused reader.old e) }
 {
@@ -108,7 +107,7 @@ pub fn read_definition<'a>(reader: &mut Reader<'a>, front: Front<'a>) -> ParseRe
 }
 
 /// Reads an item of an interface.
-fn read_item<'a>(reader: &mut Reader<'a>) -> ParseResult<InterfaceItem<'a>>
+fn read_item<'a>(reader: &mut Reader<'a>) -> ReadResult<InterfaceItem<'a>>
     ensures read { IfOk result (λ item. IsRead reader.old (item_marks item) reader.new) }
     ensures refused { IfErr result (λ e. IsRefused reader.old e) }
 {
@@ -126,7 +125,7 @@ fn read_item<'a>(reader: &mut Reader<'a>) -> ParseResult<InterfaceItem<'a>>
 }
 
 /// Reads the items of an interface in braces.
-pub fn read_interface_items<'a>(reader: &mut Reader<'a>) -> ParseResult<Vec<InterfaceItem<'a>>>
+pub fn read_interface_items<'a>(reader: &mut Reader<'a>) -> ReadResult<Vec<InterfaceItem<'a>>>
     ensures read { IfOk result (λ items. IsRead reader.old (flat_map item_marks items.items) reader.new) }
     ensures refused { IfErr result (λ e. IsRefused reader.old e) }
 {

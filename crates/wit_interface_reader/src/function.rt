@@ -5,14 +5,15 @@ ghost use Rattle.wit_reader.specs.Fronts.{IsReadBehind};
 ghost use Rattle.wit_tree.specs.Marks.{spelled, front_marks, param_marks, payload_marks, form_word, func_marks, named_func_marks};
 ghost use Rattle.wit_reader.specs.Reading.{IsRead, IsReadOn, IsRefused};
 
+use wit_lex::fault::ReadResult;
 use wit_lex::kind::Kind;
 use wit_lex::token::next_token;
 use wit_lex::word::Word;
 use wit_reader::front::Front;
 use wit_reader::reader::Reader;
 use wit_reader::types::MOST_NESTED;
+use wit_tree::Span;
 use wit_tree::tree::{Func, FuncForm, NamedFunc, Param, Type};
-use wit_tree::{ParseResult, Span};
 use wit_values::push;
 
 /// The form of a getter or a setter, where the text is its word.
@@ -26,7 +27,7 @@ fn accessor_form(text: &str) -> Option<FuncForm>
     }
 }
 
-fn read_param<'a>(reader: &mut Reader<'a>) -> ParseResult<Param<'a>>
+fn read_param<'a>(reader: &mut Reader<'a>) -> ReadResult<Param<'a>>
     ensures read { IfOk result (λ p. IsRead reader.old (param_marks p) reader.new) }
     ensures refused { IfErr result (λ e. IsRefused reader.old e) }
 {
@@ -36,7 +37,7 @@ fn read_param<'a>(reader: &mut Reader<'a>) -> ParseResult<Param<'a>>
 }
 
 /// Reads parameters in parentheses.
-fn read_params<'a>(reader: &mut Reader<'a>) -> ParseResult<Vec<Param<'a>>>
+fn read_params<'a>(reader: &mut Reader<'a>) -> ReadResult<Vec<Param<'a>>>
     ensures read { IfOk result (λ ps. IsRead reader.old (flat_map param_marks ps.items) reader.new) }
     ensures refused { IfErr result (λ e. IsRefused reader.old e) }
 {
@@ -51,7 +52,7 @@ fn read_params<'a>(reader: &mut Reader<'a>) -> ParseResult<Vec<Param<'a>>>
 }
 
 /// Reads `->` and the type of what a function returns, where there is one.
-fn read_returned<'a>(reader: &mut Reader<'a>) -> ParseResult<Option<Type<'a>>>
+fn read_returned<'a>(reader: &mut Reader<'a>) -> ReadResult<Option<Type<'a>>>
     ensures read { IfOk result (λ ty. IsReadOn reader.old (payload_marks ty) reader.new) }
     ensures refused { IfErr result (λ e. IsRefused reader.old e) }
 {
@@ -64,9 +65,7 @@ fn read_returned<'a>(reader: &mut Reader<'a>) -> ParseResult<Option<Type<'a>>>
 }
 
 /// Reads parameters in parentheses, and the type of what a function returns, where there is one.
-pub fn read_signature<'a>(
-    reader: &mut Reader<'a>,
-) -> ParseResult<(Vec<Param<'a>>, Option<Type<'a>>)>
+pub fn read_signature<'a>(reader: &mut Reader<'a>) -> ReadResult<(Vec<Param<'a>>, Option<Type<'a>>)>
     ensures read { IfOk result (λ r. IsRead reader.old (flat_map param_marks r.0.items ++ payload_marks r.1) reader.new) }
     ensures refused { IfErr result (λ e. IsRefused reader.old e) }
 {
@@ -77,7 +76,7 @@ pub fn read_signature<'a>(
 
 /// Reads `func`, `async func`, `get` or `set`, and tells where the word of these stands that is
 /// not `async`.
-fn read_form(reader: &mut Reader<'_>) -> ParseResult<(Span, FuncForm)>
+fn read_form(reader: &mut Reader<'_>) -> ReadResult<(Span, FuncForm)>
     ensures read { IfOk result (λ r. IsRead reader.old (spelled r.0 (form_word r.1) ∷ []) reader.new) }
     ensures refused { IfErr result (λ e. IsRefused reader.old e) }
 {
@@ -101,7 +100,7 @@ fn read_form(reader: &mut Reader<'_>) -> ParseResult<(Span, FuncForm)>
 
 /// Whether a function begins with the token: at `func`, `async`, or `get` or `set` with `(`
 /// behind it.
-pub fn begins_func(reader: &Reader<'_>) -> ParseResult<bool>
+pub fn begins_func(reader: &Reader<'_>) -> ReadResult<bool>
     ensures refused { IfErr result (λ e. IsRefused reader.now e) }
 {
     if reader.at_word(Word::Func) || reader.at_word(Word::Async) {
@@ -110,12 +109,12 @@ pub fn begins_func(reader: &Reader<'_>) -> ParseResult<bool>
     if accessor_form(reader.token.text).is_none() {
         return Ok(false);
     }
-    let next = next_token(reader.alloc, reader.source, reader.offset, reader.token.end)?;
+    let next = next_token(reader.source, reader.token.end)?;
     Ok(next.kind == Kind::OpenParen)
 }
 
 /// Reads a function without its name.
-pub fn read_func<'a>(reader: &mut Reader<'a>) -> ParseResult<Func<'a>>
+pub fn read_func<'a>(reader: &mut Reader<'a>) -> ReadResult<Func<'a>>
     ensures read { IfOk result (λ f. IsRead reader.old (func_marks f) reader.new) }
     ensures refused { IfErr result (λ e. IsRefused reader.old e) }
 {
@@ -130,7 +129,7 @@ pub fn read_func<'a>(reader: &mut Reader<'a>) -> ParseResult<Func<'a>>
 }
 
 /// Reads a function without its name, and the `;` behind it.
-pub fn read_closed_func<'a>(reader: &mut Reader<'a>) -> ParseResult<Func<'a>>
+pub fn read_closed_func<'a>(reader: &mut Reader<'a>) -> ReadResult<Func<'a>>
     ensures read { IfOk result (λ f. IsRead reader.old (func_marks f) reader.new) }
     ensures refused { IfErr result (λ e. IsRefused reader.old e) }
 {
@@ -140,7 +139,7 @@ pub fn read_closed_func<'a>(reader: &mut Reader<'a>) -> ParseResult<Func<'a>>
 }
 
 /// Reads `name: function;`.
-pub fn read_named_func<'a>(reader: &mut Reader<'a>, front: Front<'a>) -> ParseResult<NamedFunc<'a>>
+pub fn read_named_func<'a>(reader: &mut Reader<'a>, front: Front<'a>) -> ReadResult<NamedFunc<'a>>
     ensures read { IfOk result (λ f. IsReadBehind reader.old (front_marks front.entry.docs front.entry.attributes.items) (named_func_marks f) reader.new) }
     ensures refused { IfErr result (λ e. IsRefused reader.old e) }
 {

@@ -4,14 +4,14 @@ ghost use Rattle.std.specs.List.{flat_map};
 ghost use Rattle.wit_tree.specs.Marks.{field_marks, flag_marks, payload_marks, case_marks, enum_case_marks};
 ghost use Rattle.wit_reader.specs.Reading.{IsRead, IsReadOn, IsRefused};
 
+use wit_lex::fault::ReadResult;
 use wit_lex::kind::Kind;
 use wit_reader::reader::Reader;
 use wit_reader::types::MOST_NESTED;
-use wit_tree::ParseResult;
 use wit_tree::tree::{Case, EnumCase, Field, Flag, Type};
 use wit_values::{fitted, push};
 
-fn read_field<'a>(reader: &mut Reader<'a>) -> ParseResult<Field<'a>>
+fn read_field<'a>(reader: &mut Reader<'a>) -> ReadResult<Field<'a>>
     ensures read { IfOk result (λ f. IsRead reader.old (field_marks f) reader.new) }
     ensures refused { IfErr result (λ e. IsRefused reader.old e) }
 {
@@ -22,7 +22,7 @@ fn read_field<'a>(reader: &mut Reader<'a>) -> ParseResult<Field<'a>>
 }
 
 /// Reads fields in braces.
-pub fn read_fields<'a>(reader: &mut Reader<'a>) -> ParseResult<Vec<Field<'a>>>
+pub fn read_fields<'a>(reader: &mut Reader<'a>) -> ReadResult<Vec<Field<'a>>>
     ensures read { IfOk result (λ fs. IsRead reader.old (flat_map field_marks fs.items) reader.new) }
     ensures refused { IfErr result (λ e. IsRefused reader.old e) }
 {
@@ -36,7 +36,7 @@ pub fn read_fields<'a>(reader: &mut Reader<'a>) -> ParseResult<Vec<Field<'a>>>
     Ok(fitted(fields))
 }
 
-fn read_flag<'a>(reader: &mut Reader<'a>) -> ParseResult<Flag<'a>>
+fn read_flag<'a>(reader: &mut Reader<'a>) -> ReadResult<Flag<'a>>
     ensures read { IfOk result (λ f. IsRead reader.old (flag_marks f) reader.new) }
     ensures refused { IfErr result (λ e. IsRefused reader.old e) }
 {
@@ -46,7 +46,7 @@ fn read_flag<'a>(reader: &mut Reader<'a>) -> ParseResult<Flag<'a>>
 }
 
 /// Reads flags in braces.
-pub fn read_flags<'a>(reader: &mut Reader<'a>) -> ParseResult<Vec<Flag<'a>>>
+pub fn read_flags<'a>(reader: &mut Reader<'a>) -> ReadResult<Vec<Flag<'a>>>
     ensures read { IfOk result (λ f. IsRead reader.old (flat_map flag_marks f.items) reader.new) }
     ensures refused { IfErr result (λ e. IsRefused reader.old e) }
 {
@@ -61,7 +61,7 @@ pub fn read_flags<'a>(reader: &mut Reader<'a>) -> ParseResult<Vec<Flag<'a>>>
 }
 
 /// Reads the type that a case holds, in parentheses, where there is one.
-fn read_held<'a>(reader: &mut Reader<'a>) -> ParseResult<Option<Type<'a>>>
+fn read_held<'a>(reader: &mut Reader<'a>) -> ReadResult<Option<Type<'a>>>
     ensures read { IfOk result (λ ty. IsReadOn reader.old (payload_marks ty) reader.new) }
     ensures refused { IfErr result (λ e. IsRefused reader.old e) }
 {
@@ -73,7 +73,7 @@ fn read_held<'a>(reader: &mut Reader<'a>) -> ParseResult<Option<Type<'a>>>
     Ok(Some(ty))
 }
 
-fn read_case<'a>(reader: &mut Reader<'a>) -> ParseResult<Case<'a>>
+fn read_case<'a>(reader: &mut Reader<'a>) -> ReadResult<Case<'a>>
     ensures read { IfOk result (λ c. IsRead reader.old (case_marks c) reader.new) }
     ensures refused { IfErr result (λ e. IsRefused reader.old e) }
 {
@@ -84,7 +84,7 @@ fn read_case<'a>(reader: &mut Reader<'a>) -> ParseResult<Case<'a>>
 }
 
 /// Reads the cases of a variant in braces.
-pub fn read_cases<'a>(reader: &mut Reader<'a>) -> ParseResult<Vec<Case<'a>>>
+pub fn read_cases<'a>(reader: &mut Reader<'a>) -> ReadResult<Vec<Case<'a>>>
     ensures read { IfOk result (λ c. IsRead reader.old (flat_map case_marks c.items) reader.new) }
     ensures refused { IfErr result (λ e. IsRefused reader.old e) }
 {
@@ -98,7 +98,7 @@ pub fn read_cases<'a>(reader: &mut Reader<'a>) -> ParseResult<Vec<Case<'a>>>
     Ok(fitted(cases))
 }
 
-fn read_enum_case<'a>(reader: &mut Reader<'a>) -> ParseResult<EnumCase<'a>>
+fn read_enum_case<'a>(reader: &mut Reader<'a>) -> ReadResult<EnumCase<'a>>
     ensures read { IfOk result (λ c. IsRead reader.old (enum_case_marks c) reader.new) }
     ensures refused { IfErr result (λ e. IsRefused reader.old e) }
 {
@@ -108,7 +108,7 @@ fn read_enum_case<'a>(reader: &mut Reader<'a>) -> ParseResult<EnumCase<'a>>
 }
 
 /// Reads the cases of an enum in braces.
-pub fn read_enum_cases<'a>(reader: &mut Reader<'a>) -> ParseResult<Vec<EnumCase<'a>>>
+pub fn read_enum_cases<'a>(reader: &mut Reader<'a>) -> ReadResult<Vec<EnumCase<'a>>>
     ensures read { IfOk result (λ c. IsRead reader.old (flat_map enum_case_marks c.items) reader.new) }
     ensures refused { IfErr result (λ e. IsRefused reader.old e) }
 {

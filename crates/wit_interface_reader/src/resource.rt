@@ -6,11 +6,11 @@ ghost use Rattle.wit_tree.specs.Marks.{named, front_marks, func_marks, resource_
 ghost use Rattle.wit_reader.specs.Reading.{IsRead, IsReadOn, IsRefused};
 
 use crate::function::{read_closed_func, read_signature};
+use wit_lex::fault::ReadResult;
 use wit_lex::kind::Kind;
 use wit_lex::word::Word;
 use wit_reader::front::Front;
 use wit_reader::reader::Reader;
-use wit_tree::ParseResult;
 use wit_tree::tree::{Func, Id, NamedFunc, ResourceFunc, TypeBody};
 use wit_values::push;
 
@@ -37,7 +37,7 @@ fn resource_func<'a>(
 }
 
 /// Reads `constructor(..);`, perhaps with the type of what it returns.
-fn read_constructor<'a>(reader: &mut Reader<'a>, front: Front<'a>) -> ParseResult<ResourceFunc<'a>>
+fn read_constructor<'a>(reader: &mut Reader<'a>, front: Front<'a>) -> ReadResult<ResourceFunc<'a>>
     ensures read { IfOk result (λ f. IsReadBehind reader.old (front_marks front.entry.docs front.entry.attributes.items) (resource_func_marks f) reader.new) }
     ensures refused { IfErr result (λ e. IsRefused reader.old e) }
 {
@@ -54,7 +54,7 @@ fn read_constructor<'a>(reader: &mut Reader<'a>, front: Front<'a>) -> ParseResul
 }
 
 /// Goes past `static`, where it stands, and tells whether it does.
-fn skip_static(reader: &mut Reader<'_>) -> ParseResult<bool>
+fn skip_static(reader: &mut Reader<'_>) -> ReadResult<bool>
     ensures read { IfOk result (λ _. IsReadOn reader.old [] reader.new) }
     ensures refused { IfErr result (λ e. IsRefused reader.old e) }
 {
@@ -66,7 +66,7 @@ fn skip_static(reader: &mut Reader<'_>) -> ParseResult<bool>
 }
 
 /// Reads `name: function;`, perhaps with `static` in front of the function.
-fn read_member<'a>(reader: &mut Reader<'a>, front: Front<'a>) -> ParseResult<ResourceFunc<'a>>
+fn read_member<'a>(reader: &mut Reader<'a>, front: Front<'a>) -> ReadResult<ResourceFunc<'a>>
     ensures read { IfOk result (λ f. IsReadBehind reader.old (front_marks front.entry.docs front.entry.attributes.items) (resource_func_marks f) reader.new) }
     ensures refused { IfErr result (λ e. IsRefused reader.old e) }
 {
@@ -77,7 +77,7 @@ fn read_member<'a>(reader: &mut Reader<'a>, front: Front<'a>) -> ParseResult<Res
 }
 
 /// Reads a function of a resource.
-fn read_resource_func<'a>(reader: &mut Reader<'a>) -> ParseResult<ResourceFunc<'a>>
+fn read_resource_func<'a>(reader: &mut Reader<'a>) -> ReadResult<ResourceFunc<'a>>
     ensures read { IfOk result (λ f. IsRead reader.old (resource_func_marks f) reader.new) }
     ensures refused { IfErr result (λ e. IsRefused reader.old e) }
 {
@@ -91,7 +91,7 @@ fn read_resource_func<'a>(reader: &mut Reader<'a>) -> ParseResult<ResourceFunc<'
 }
 
 /// Reads the functions of a resource in braces.
-fn read_resource_funcs<'a>(reader: &mut Reader<'a>) -> ParseResult<Vec<ResourceFunc<'a>>>
+fn read_resource_funcs<'a>(reader: &mut Reader<'a>) -> ReadResult<Vec<ResourceFunc<'a>>>
     ensures read { IfOk result (λ fs. IsRead reader.old (flat_map resource_func_marks fs.items) reader.new) }
     ensures refused { IfErr result (λ e. IsRefused reader.old e) }
 {
@@ -106,7 +106,7 @@ fn read_resource_funcs<'a>(reader: &mut Reader<'a>) -> ParseResult<Vec<ResourceF
 }
 
 /// Reads `;`, or functions in braces.
-fn read_resource_body<'a>(reader: &mut Reader<'a>) -> ParseResult<Vec<ResourceFunc<'a>>>
+fn read_resource_body<'a>(reader: &mut Reader<'a>) -> ReadResult<Vec<ResourceFunc<'a>>>
     ensures read { IfOk result (λ fs. IsRead reader.old (flat_map resource_func_marks fs.items) reader.new) }
     ensures refused { IfErr result (λ e. IsRefused reader.old e) }
 {
@@ -118,7 +118,7 @@ fn read_resource_body<'a>(reader: &mut Reader<'a>) -> ParseResult<Vec<ResourceFu
 }
 
 /// Reads `resource name;` or `resource name { .. }`.
-pub fn read_resource<'a>(reader: &mut Reader<'a>) -> ParseResult<(Id<'a>, TypeBody<'a>)>
+pub fn read_resource<'a>(reader: &mut Reader<'a>) -> ReadResult<(Id<'a>, TypeBody<'a>)>
     ensures read { IfOk result (λ d. IsRead reader.old (defined_marks d.0 d.1) reader.new) }
     ensures refused { IfErr result (λ e. IsRefused reader.old e) }
 {

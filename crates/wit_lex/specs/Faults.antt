@@ -4,6 +4,8 @@ use Rattle.wit_values.specs.declared.span.Span.{Span}
 use Rattle.wit_tree.specs.declared.error.ParseError.{ParseError}
 use Rattle.wit_tree.specs.declared.error.ParseErrorKind.{ParseErrorKind}
 use Rattle.wit_tree.specs.declared.error.ParseErrorKind.TheVariants.{Syntax, ItemNotFound, TypeCycle, OutOfMemory}
+use Rattle.wit_lex.specs.declared.fault.ReadError.{ReadError}
+use Rattle.wit_lex.specs.declared.fault.ReadError.TheVariants.{Fault, OutOfMemory as Wanting}
 use Rattle.wit_lex.specs.declared.fault.ReadFault.{ReadFault}
 use Rattle.wit_lex.specs.declared.fault.ReadFault.TheVariants.{Character, Token, Comment, Nesting, Version, Number}
 
@@ -42,3 +44,8 @@ Tells source offset number OutOfMemory = number ≡ 45
 
 pub record IsRefusal (source : List ℕ) (offset : ℕ) (e : ParseError) : Type 0 where
   pub tells : Tells source offset e.rule e.kind
+
+-- what is at fault stands in the source
+abbrev pub IsWithin : List ℕ → ReadError → Type 0
+IsWithin source (Fault fault start end) = (start ≤ end) × (end ≤ length source)
+IsWithin source Wanting = Unit {0}

@@ -1,14 +1,14 @@
 //! Docs: comments that document what stands behind them.
 ghost use Rattle.std.specs.Prelude.{◌≡◌, ◌+◌, ◌<◌, ◌≤◌, ◌^◌, ◌++◌, ◌∷◌, [], length, IfOk, IfErr, OnOk, MatchBool};
 ghost use Rattle.wit_tree.specs.Comments.{IsDocs, IsStop, IsStretch, is_blank as is_blank_byte, stretched as stretched_span};
-ghost use Rattle.wit_lex.specs.Faults.{IsRefusal};
+ghost use Rattle.wit_lex.specs.Faults.{IsWithin};
 
 use crate::blank::{Blank, blank_at, is_blank};
-use crate::fault::{ReadFault, refusal, span_at};
+use crate::fault::{ReadError, ReadFault, ReadResult, span_at};
 use crate::scan::cut;
 use std::alloc::{AllocError, Global};
+use wit_tree::Span;
 use wit_tree::tree::Docs;
-use wit_tree::{ParseResult, Span};
 
 /// Whether the comment at a range begins with `///` or `/**`.
 fn is_docs(bytes: &[u8], start: usize, end: usize) -> bool
@@ -52,13 +52,13 @@ pub fn docs_behind<'a>(
     source: &'a str,
     offset: u32,
     from: usize,
-) -> ParseResult<(Docs<'a>, usize)>
+) -> ReadResult<(Docs<'a>, usize)>
     requires within { from ≤ length source.now }
     requires fits { offset + length source.now < 2 ^ 32 }
     ensures range { IfOk result (λ found. (from ≤ found.1) × (found.1 ≤ length source.now)) }
     ensures stretch { IfOk result (λ found. IsStretch source.now offset from found.0.docs.items found.0.span found.1) }
     ensures stop { IfOk result (λ found. IsStop source.now found.1) }
-    ensures refused { IfErr result (λ e. IsRefusal source.now offset e) }
+    ensures refused { IfErr result (IsWithin source.now) }
 {
     let bytes = source.as_bytes();
     let len = bytes.len();
@@ -78,8 +78,7 @@ pub fn docs_behind<'a>(
                 at = end;
             }
             Blank::Endless => {
-                let fault = ReadFault::Comment;
-                return Err(refusal(alloc, source, offset, fault, at, at + 2));
+                return Err(ReadError::Fault(ReadFault::Comment, at, at + 2));
             }
             Blank::Nothing => return Ok((docs, at)),
         }

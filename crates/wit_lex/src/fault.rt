@@ -1,8 +1,9 @@
 //! Why a text cannot be read.
 ghost use Rattle.std.specs.Prelude.{◌≡◌, ◌+◌, ◌<◌, ◌≤◌, ◌^◌, length};
-ghost use Rattle.wit_lex.specs.Faults.{IsRefusal, rule_of, words_of};
+ghost use Rattle.wit_lex.specs.declared.fault.ReadError.TheVariants.{OutOfMemory};
+ghost use Rattle.wit_lex.specs.Faults.{IsRefusal, IsWithin, rule_of, words_of};
 
-use std::alloc::Global;
+use std::alloc::{AllocError, AllocFailed, Global};
 use wit_tree::{ParseError, ParseErrorKind, Span};
 
 /// Why a text cannot be read.
@@ -52,6 +53,53 @@ impl ReadFault {
     }
 }
 
+/// Why reading ends before its text does.
+///
+/// It is small, since every result of the reader has room for one; [`ReadError::refusal`] makes the
+/// refusal of it once nothing more is read.
+#[derive(Clone, Copy, Debug)]
+pub enum ReadError {
+    /// A fault of the text, and where what is at fault starts and ends.
+    Fault(ReadFault, usize, usize),
+    /// A growth was refused.
+    OutOfMemory,
+}
+
+/// What is read, or why it is not.
+pub type ReadResult<T> = Result<T, ReadError>;
+
+impl From<AllocError> for ReadError {
+    ghost from_gives = { λ _ e. e ≡ OutOfMemory };
+
+    fn from(_e: AllocError) -> ReadError {
+        ReadError::OutOfMemory
+    }
+}
+
+impl<T: Drop> From<AllocFailed<T>> for ReadError {
+    ghost from_gives = { λ _ e. e ≡ OutOfMemory };
+
+    fn from(_e: AllocFailed<T>) -> ReadError {
+        ReadError::OutOfMemory
+    }
+}
+
+impl ReadError {
+    /// The refusal of a source whose first byte has the place `offset`.
+    pub fn refusal(self, alloc: Global, source: &str, offset: u32) -> ParseError
+        requires within { IsWithin source.now self }
+        requires fits { offset + length source.now < 2 ^ 32 }
+        ensures { IsRefusal source.now offset result }
+    {
+        match self {
+            ReadError::Fault(fault, start, end) => {
+                refusal(alloc, source, offset, fault, start, end)
+            }
+            ReadError::OutOfMemory => AllocError.into(),
+        }
+    }
+}
+
 /// The span of a range of a source whose first byte has the place `offset`.
 pub fn span_at(offset: u32, start: usize, end: usize) -> Span
     requires order { start ≤ end }
@@ -66,9 +114,7 @@ pub fn span_at(offset: u32, start: usize, end: usize) -> Span
 }
 
 /// The refusal of a source for what stands at a range, or want of memory for its message.
-#[cold]
-#[inline(never)]
-pub fn refusal(
+fn refusal(
     alloc: Global,
     source: &str,
     offset: u32,

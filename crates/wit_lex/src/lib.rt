@@ -13,6 +13,6 @@ pub mod version;
 pub mod version_end;
 pub mod word;
 
-pub use fault::ReadFault;
+pub use fault::{ReadError, ReadFault, ReadResult};
 pub use source::Source;
 pub use source_map::{SourceMap, is_same_map};

@@ -1,14 +1,12 @@
 //! Tokens.
-ghost use Rattle.std.specs.Prelude.{◌≡◌, ◌+◌, ◌<◌, ◌≤◌, ◌^◌, ◌-◌, length, slice_index, IfOk, IfErr};
-ghost use Rattle.wit_lex.specs.Faults.{IsRefusal};
+ghost use Rattle.std.specs.Prelude.{◌≡◌, ◌<◌, ◌≤◌, ◌-◌, length, slice_index, IfOk, IfErr};
+ghost use Rattle.wit_lex.specs.Faults.{IsWithin};
 ghost use Rattle.wit_lex.specs.Tokens.{IsToken};
 
 use crate::blank::skip_blanks;
-use crate::fault::{ReadFault, refusal};
+use crate::fault::{ReadError, ReadFault, ReadResult};
 use crate::kind::{Kind, kind_of, sign};
 use crate::scan::{cut, digits_end, is_digit, is_letter, width, word_end};
-use std::alloc::Global;
-use wit_tree::ParseResult;
 
 /// A token: what it is, its range in the text, which is empty only at the end, and what stands in it.
 #[derive(Clone, Copy, Debug)]
@@ -48,20 +46,12 @@ fn token_end(bytes: &[u8], start: usize) -> usize
     start
 }
 
-/// Why no token is read, and where.
-#[derive(Clone, Copy)]
-struct Stop {
-    fault: ReadFault,
-    start: usize,
-    end: usize,
-}
-
 /// The token at a place.
-fn token_at<'a>(source: &'a str, start: usize) -> Result<Token<'a>, Stop>
+fn token_at<'a>(source: &'a str, start: usize) -> ReadResult<Token<'a>>
     requires within { start < length source.now }
     ensures token { IfOk result (λ t. IsToken source.now t) }
     ensures there { IfOk result (λ t. start ≡ t.start) }
-    ensures stop { IfErr result (λ s. (s.start ≤ s.end) × (s.end ≤ length source.now)) }
+    ensures refused { IfErr result (IsWithin source.now) }
 {
     let bytes = source.as_bytes();
     let first = bytes[start];
@@ -79,9 +69,8 @@ fn token_at<'a>(source: &'a str, start: usize) -> Result<Token<'a>, Stop>
     }
     let end = token_end(bytes, start);
     if end == start {
-        let fault = ReadFault::Character;
         let end = (start + width(first)).min(bytes.len());
-        return Err(Stop { fault, start, end });
+        return Err(ReadError::Fault(ReadFault::Character, start, end));
     }
     let text = cut(source, start, end);
     Ok(Token {
@@ -92,23 +81,18 @@ fn token_at<'a>(source: &'a str, start: usize) -> Result<Token<'a>, Stop>
     })
 }
 
-/// The token behind the blanks from a place on. A `Stop` is small, and a refusal is not: so the
-/// refusal is made by [`next_token`].
+/// The token behind the blanks from a place on.
 #[inline(never)]
-fn token_behind<'a>(source: &'a str, from: usize) -> Result<Token<'a>, Stop>
+pub fn next_token<'a>(source: &'a str, from: usize) -> ReadResult<Token<'a>>
     requires within { from ≤ length source.now }
     ensures token { IfOk result (λ t. IsToken source.now t) }
     ensures onward { IfOk result (λ t. from ≤ t.start) }
-    ensures stop { IfErr result (λ s. (s.start ≤ s.end) × (s.end ≤ length source.now)) }
+    ensures refused { IfErr result (IsWithin source.now) }
 {
     let bytes = source.as_bytes();
     let start = match skip_blanks(bytes, from) {
         Ok(start) => start,
-        Err(start) => {
-            let fault = ReadFault::Comment;
-            let end = start + 2;
-            return Err(Stop { fault, start, end });
-        }
+        Err(start) => return Err(ReadError::Fault(ReadFault::Comment, start, start + 2)),
     };
     if start == bytes.len() {
         return Ok(Token {
@@ -119,24 +103,4 @@ fn token_behind<'a>(source: &'a str, from: usize) -> Result<Token<'a>, Stop>
         });
     }
     token_at(source, start)
-}
-
-/// The token behind the blanks from a place on.
-#[inline(always)]
-pub fn next_token<'a>(
-    alloc: Global,
-    source: &'a str,
-    offset: u32,
-    from: usize,
-) -> ParseResult<Token<'a>>
-    requires within { from ≤ length source.now }
-    requires fits { offset + length source.now < 2 ^ 32 }
-    ensures token { IfOk result (λ t. IsToken source.now t) }
-    ensures onward { IfOk result (λ t. from ≤ t.start) }
-    ensures refused { IfErr result (λ e. IsRefusal source.now offset e) }
-{
-    match token_behind(source, from) {
-        Ok(token) => Ok(token),
-        Err(stop) => Err(refusal(alloc, source, offset, stop.fault, stop.start, stop.end)),
-    }
 }

@@ -1,10 +1,10 @@
 -- How a reader goes on.
 use Rattle.std.specs.Prelude.{◌≡◌, ◌+◌, ◌<◌, ◌≤◌, List}
-use Rattle.wit_tree.specs.declared.error.ParseError.{ParseError}
 use Rattle.wit_tree.specs.Marks.{Mark}
 use Rattle.wit_tree.specs.Slices.{Rise}
 use Rattle.wit_reader.specs.declared.reader.Reader.{Reader}
-use Rattle.wit_lex.specs.Faults.{IsRefusal}
+use Rattle.wit_lex.specs.declared.fault.ReadError.{ReadError}
+use Rattle.wit_lex.specs.Faults.{IsWithin}
 
 -- at least one token was read, and what was made of it has these marks
 pub record IsRead (old : Reader) (marks : List Mark) (new : Reader) : Type 0 where
@@ -20,5 +20,5 @@ pub record IsReadOn (old : Reader) (marks : List Mark) (new : Reader) : Type 0 w
   pub rise : Rise old.source.now old.offset (old.offset + old.before) marks (old.offset + new.before)
 
 -- the source cannot be read
-abbrev pub IsRefused : Reader → ParseError → Type 0
-IsRefused reader e = IsRefusal reader.source.now reader.offset e
+abbrev pub IsRefused : Reader → ReadError → Type 0
+IsRefused reader e = IsWithin reader.source.now e

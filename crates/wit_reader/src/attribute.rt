@@ -5,10 +5,10 @@ ghost use Rattle.wit_reader.specs.Attributes.{IsAttribute, feature_marks, versio
 
 use crate::reader::Reader;
 use semver::Version;
-use wit_lex::fault::ReadFault;
+use wit_lex::fault::{ReadFault, ReadResult};
 use wit_lex::kind::Kind;
+use wit_tree::Span;
 use wit_tree::tree::{Attribute, Id};
-use wit_tree::{ParseResult, Span};
 
 /// From the first span to the end of the last.
 fn joined(first: Span, last: Span) -> Span
@@ -25,7 +25,7 @@ impl<'a> Reader<'a> {
     ghost use Rattle.wit_reader.specs.Reading.{IsRead, IsRefused};
 
     /// Reads `(version = V)`, and tells where the `)` stands.
-    fn read_told_version(&mut self) -> ParseResult<(Version, Span)>
+    fn read_told_version(&mut self) -> ReadResult<(Version, Span)>
         ensures read { IfOk result (λ r. IsRead self.old (version_marks r.0 r.1) self.new) }
         ensures refused { IfErr result (λ e. IsRefused self.old e) }
     {
@@ -38,7 +38,7 @@ impl<'a> Reader<'a> {
     }
 
     /// Reads `(feature = name)`, and tells where the `)` stands.
-    fn read_told_feature(&mut self) -> ParseResult<(Id<'a>, Span)>
+    fn read_told_feature(&mut self) -> ReadResult<(Id<'a>, Span)>
         ensures read { IfOk result (λ r. IsRead self.old (feature_marks r.0 r.1) self.new) }
         ensures refused { IfErr result (λ e. IsRefused self.old e) }
     {
@@ -51,7 +51,7 @@ impl<'a> Reader<'a> {
     }
 
     /// Reads `since(version = V)`, behind the `@` at a span.
-    fn read_since(&mut self, at: Span) -> ParseResult<Attribute<'a>>
+    fn read_since(&mut self, at: Span) -> ReadResult<Attribute<'a>>
         ensures read { IfOk result (λ a. IsAttribute self.old at.start a self.new) }
         ensures refused { IfErr result (λ e. IsRefused self.old e) }
     {
@@ -64,7 +64,7 @@ impl<'a> Reader<'a> {
     }
 
     /// Reads `deprecated(version = V)`, behind the `@` at a span.
-    fn read_deprecated(&mut self, at: Span) -> ParseResult<Attribute<'a>>
+    fn read_deprecated(&mut self, at: Span) -> ReadResult<Attribute<'a>>
         ensures read { IfOk result (λ a. IsAttribute self.old at.start a self.new) }
         ensures refused { IfErr result (λ e. IsRefused self.old e) }
     {
@@ -77,7 +77,7 @@ impl<'a> Reader<'a> {
     }
 
     /// Reads `unstable(feature = name)`, behind the `@` at a span.
-    fn read_unstable(&mut self, at: Span) -> ParseResult<Attribute<'a>>
+    fn read_unstable(&mut self, at: Span) -> ReadResult<Attribute<'a>>
         ensures read { IfOk result (λ a. IsAttribute self.old at.start a self.new) }
         ensures refused { IfErr result (λ e. IsRefused self.old e) }
     {
@@ -90,7 +90,7 @@ impl<'a> Reader<'a> {
     }
 
     /// Reads what stands behind the `@` of an attribute, which is at a span.
-    fn read_behind_at(&mut self, at: Span) -> ParseResult<Attribute<'a>>
+    fn read_behind_at(&mut self, at: Span) -> ReadResult<Attribute<'a>>
         ensures read { IfOk result (λ a. IsAttribute self.old at.start a self.new) }
         ensures refused { IfErr result (λ e. IsRefused self.old e) }
     {
@@ -103,7 +103,7 @@ impl<'a> Reader<'a> {
     }
 
     /// Reads an attribute.
-    pub fn read_attribute(&mut self) -> ParseResult<Attribute<'a>>
+    pub fn read_attribute(&mut self) -> ReadResult<Attribute<'a>>
         ensures read { IfOk result (λ a. IsRead self.old (attribute_marks a) self.new) }
         ensures refused { IfErr result (λ e. IsRefused self.old e) }
     {

@@ -4,9 +4,9 @@ ghost use Rattle.wit_tree.specs.Marks.{documented, attributes_marks, front_marks
 
 use crate::reader::Reader;
 use wit_lex::docs::docs_behind;
+use wit_lex::fault::ReadResult;
 use wit_lex::kind::Kind;
 use wit_lex::token::next_token;
-use wit_tree::ParseResult;
 use wit_tree::tree::{Attribute, Docs};
 use wit_values::push;
 
@@ -21,7 +21,7 @@ impl<'a> Reader<'a> {
     ghost use Rattle.wit_reader.specs.Reading.{IsRead, IsReadOn, IsRefused};
 
     /// Reads the docs in front of the token, which is taken anew where it does not begin at their end.
-    pub fn read_docs(&mut self) -> ParseResult<Docs<'a>>
+    pub fn read_docs(&mut self) -> ReadResult<Docs<'a>>
         ensures read { IfOk result (λ docs. IsReadOn self.old (documented docs ∷ []) self.new) }
         ensures refused { IfErr result (λ e. IsRefused self.old e) }
     {
@@ -30,13 +30,13 @@ impl<'a> Reader<'a> {
             self.before = end;
             return Ok(docs);
         }
-        self.token = next_token(self.alloc, self.source, self.offset, end)?;
+        self.token = next_token(self.source, end)?;
         self.before = end;
         Ok(docs)
     }
 
     /// Reads attributes.
-    fn read_attributes(&mut self) -> ParseResult<Vec<Attribute<'a>>>
+    fn read_attributes(&mut self) -> ReadResult<Vec<Attribute<'a>>>
         ensures read { IfOk result (λ list. IsReadOn self.old (attributes_marks list.items) self.new) }
         ensures refused { IfErr result (λ e. IsRefused self.old e) }
     {
@@ -49,7 +49,7 @@ impl<'a> Reader<'a> {
     }
 
     /// Reads docs, and attributes behind them.
-    pub fn read_front(&mut self) -> ParseResult<Front<'a>>
+    pub fn read_front(&mut self) -> ReadResult<Front<'a>>
         ensures read { IfOk result (λ front. IsReadOn self.old (front_marks front.docs front.attributes.items) self.new) }
         ensures refused { IfErr result (λ e. IsRefused self.old e) }
     {

@@ -3,16 +3,16 @@ ghost use Rattle.std.specs.Prelude.{◌≡◌, ◌+◌, [], ◌∷◌, IfOk, IfE
 ghost use Rattle.wit_tree.specs.Marks.{named, type_marks};
 
 use crate::reader::Reader;
+use wit_lex::fault::ReadResult;
 use wit_lex::kind::Kind;
 use wit_lex::word::Word;
-use wit_tree::ParseResult;
 use wit_tree::tree::{Id, Type};
 
 impl<'a> Reader<'a> {
     ghost use Rattle.wit_reader.specs.Reading.{IsRead, IsRefused};
 
     /// Reads a name in angles.
-    fn read_handled(&mut self) -> ParseResult<Id<'a>>
+    fn read_handled(&mut self) -> ReadResult<Id<'a>>
         ensures read { IfOk result (λ id. IsRead self.old (named id ∷ []) self.new) }
         ensures refused { IfErr result (λ e. IsRefused self.old e) }
     {
@@ -23,7 +23,7 @@ impl<'a> Reader<'a> {
     }
 
     /// Reads `own<name>`.
-    pub fn read_own(&mut self) -> ParseResult<Type<'a>>
+    pub fn read_own(&mut self) -> ReadResult<Type<'a>>
         ensures read { IfOk result (λ t. IsRead self.old (type_marks t) self.new) }
         ensures refused { IfErr result (λ e. IsRefused self.old e) }
     {
@@ -33,7 +33,7 @@ impl<'a> Reader<'a> {
     }
 
     /// Reads `borrow<name>`.
-    pub fn read_borrow(&mut self) -> ParseResult<Type<'a>>
+    pub fn read_borrow(&mut self) -> ReadResult<Type<'a>>
         ensures read { IfOk result (λ t. IsRead self.old (type_marks t) self.new) }
         ensures refused { IfErr result (λ e. IsRefused self.old e) }
     {

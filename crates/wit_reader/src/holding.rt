@@ -3,14 +3,14 @@
 ghost use Rattle.std.specs.Prelude.{◌≡◌, [], IfOk, OnOk, IfErr};
 
 use crate::reader::Reader;
+use wit_lex::fault::ReadResult;
 use wit_lex::kind::Kind;
-use wit_tree::ParseResult;
 
 impl<'a> Reader<'a> {
     ghost use Rattle.wit_reader.specs.Reading.{IsRead, IsRefused};
 
     /// Goes past a token of this kind behind a value, which it gives back.
-    pub fn closed<T: Drop>(&mut self, value: T, close: Kind) -> ParseResult<T>
+    pub fn closed<T: Drop>(&mut self, value: T, close: Kind) -> ReadResult<T>
         ensures value { IfOk result (λ it. it ≡ value) }
         ensures read { OnOk result (IsRead self.old [] self.new) }
         ensures refused { IfErr result (λ e. IsRefused self.old e) }

@@ -5,19 +5,18 @@ ghost use Rattle.wit_lex.specs.Tokens.{IsToken};
 ghost use Rattle.wit_lex.specs.Words.{word_text};
 
 use std::alloc::Global;
-use wit_lex::fault::{ReadFault, refusal, span_at};
+use wit_lex::fault::{ReadError, ReadFault, ReadResult, span_at};
 use wit_lex::kind::Kind;
 use wit_lex::scan::without_escape;
 use wit_lex::token::{Token, next_token};
 use wit_lex::word::Word;
+use wit_tree::Span;
 use wit_tree::tree::Id;
-use wit_tree::{ParseError, ParseResult, Span};
 
 /// A source whose first byte has the place `offset`, and its first token that is not read yet, with
 /// the blanks and comments in front of it.
 ///
-/// What each token goes through is inlined: a result with a refusal in it is large, and would be
-/// passed on from one method to the next.
+/// What each token goes through is inlined.
 #[derive(Drop)]
 pub struct Reader<'a> {
     pub alloc: Global,
@@ -42,18 +41,11 @@ impl<'a> Reader<'a> {
         span_at(self.offset, self.token.start, self.token.end)
     }
 
-    /// The refusal of the token.
-    pub fn refuse(&self, fault: ReadFault) -> ParseError
+    /// The fault of the token.
+    pub fn refuse(&self, fault: ReadFault) -> ReadError
         ensures { IsRefused self.now result }
     {
-        refusal(
-            self.alloc,
-            self.source,
-            self.offset,
-            fault,
-            self.token.start,
-            self.token.end,
-        )
+        ReadError::Fault(fault, self.token.start, self.token.end)
     }
 
     /// Whether the token is of this kind.
@@ -73,7 +65,7 @@ impl<'a> Reader<'a> {
 
     /// Goes past the token.
     #[inline(always)]
-    pub fn bump(&mut self) -> ParseResult<()>
+    pub fn bump(&mut self) -> ReadResult<()>
         ensures past { OnOk result (self.old.token.end ≤ self.new.before) }
         ensures read { OnOk result (IsRead self.old [] self.new) }
         ensures refused { IfErr result (λ e. IsRefused self.old e) }
@@ -82,14 +74,14 @@ impl<'a> Reader<'a> {
             return Err(self.refuse(ReadFault::Token));
         }
         let end = self.token.end;
-        self.token = next_token(self.alloc, self.source, self.offset, end)?;
+        self.token = next_token(self.source, end)?;
         self.before = end;
         Ok(())
     }
 
     /// Goes past a token of this kind.
     #[inline(always)]
-    pub fn expect(&mut self, kind: Kind) -> ParseResult<()>
+    pub fn expect(&mut self, kind: Kind) -> ReadResult<()>
         ensures read { OnOk result (IsRead self.old [] self.new) }
         ensures refused { IfErr result (λ e. IsRefused self.old e) }
     {
@@ -101,7 +93,7 @@ impl<'a> Reader<'a> {
 
     /// Goes past a word of the grammar.
     #[inline(always)]
-    pub fn expect_word(&mut self, word: Word) -> ParseResult<()>
+    pub fn expect_word(&mut self, word: Word) -> ReadResult<()>
         ensures word { OnOk result (self.old.token.text.now ≡ word_text word) }
         ensures past { OnOk result (self.old.token.end ≤ self.new.before) }
         ensures read { OnOk result (IsRead self.old [] self.new) }
@@ -115,7 +107,7 @@ impl<'a> Reader<'a> {
 
     /// Goes past a word of the grammar, and tells where it stands.
     #[inline(always)]
-    pub fn read_word(&mut self, word: Word) -> ParseResult<Span>
+    pub fn read_word(&mut self, word: Word) -> ReadResult<Span>
         ensures read { IfOk result (λ span. IsRead self.old (spelled span (word_text word) ∷ []) self.new) }
         ensures refused { IfErr result (λ e. IsRefused self.old e) }
     {
@@ -125,7 +117,7 @@ impl<'a> Reader<'a> {
     }
 
     /// Goes past a token of this text, and tells where it stands.
-    pub fn read_text(&mut self, text: &str) -> ParseResult<Span>
+    pub fn read_text(&mut self, text: &str) -> ReadResult<Span>
         ensures read { IfOk result (λ span. IsRead self.old (spelled span text.now ∷ []) self.new) }
         ensures refused { IfErr result (λ e. IsRefused self.old e) }
     {
@@ -138,7 +130,7 @@ impl<'a> Reader<'a> {
     }
 
     /// Goes past a token of this text.
-    pub fn expect_text(&mut self, text: &str) -> ParseResult<()>
+    pub fn expect_text(&mut self, text: &str) -> ReadResult<()>
         ensures read { OnOk result (IsRead self.old (told text.now ∷ []) self.new) }
         ensures refused { IfErr result (λ e. IsRefused self.old e) }
     {
@@ -148,7 +140,7 @@ impl<'a> Reader<'a> {
 
     /// Reads a name.
     #[inline(always)]
-    pub fn read_id(&mut self) -> ParseResult<Id<'a>>
+    pub fn read_id(&mut self) -> ReadResult<Id<'a>>
         ensures read { IfOk result (λ id. IsRead self.old (named id ∷ []) self.new) }
         ensures refused { IfErr result (λ e. IsRefused self.old e) }
     {
@@ -165,7 +157,7 @@ impl<'a> Reader<'a> {
     }
 
     /// Reads a name and the `:` behind it.
-    pub fn read_label(&mut self) -> ParseResult<Id<'a>>
+    pub fn read_label(&mut self) -> ReadResult<Id<'a>>
         ensures read { IfOk result (λ id. IsRead self.old (named id ∷ []) self.new) }
         ensures refused { IfErr result (λ e. IsRefused self.old e) }
     {

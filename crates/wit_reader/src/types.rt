@@ -6,11 +6,11 @@ ghost use Rattle.wit_tree.specs.Marks.{spelled, counted, type_marks, boxed_marks
 
 use crate::primitive::primitive;
 use crate::reader::Reader;
-use wit_lex::fault::ReadFault;
+use wit_lex::fault::{ReadError, ReadFault, ReadResult};
 use wit_lex::kind::Kind;
 use wit_lex::word::Word;
+use wit_tree::Span;
 use wit_tree::tree::Type;
-use wit_tree::{ParseError, ParseResult, Span};
 use wit_values::{beside, push};
 
 /// How many levels of types are read.
@@ -69,7 +69,7 @@ impl<'a> Reader<'a> {
     }
 
     /// The refusal of the token where no further level of types is read.
-    fn refuse_deeper(&self) -> ParseError
+    fn refuse_deeper(&self) -> ReadError
         ensures { IsRefused self.now result }
     {
         if self.begins_type() {
@@ -91,7 +91,7 @@ impl<'a> Reader<'a> {
     }
 
     /// Reads the word of a primitive type.
-    fn read_primitive(&mut self) -> ParseResult<Type<'a>>
+    fn read_primitive(&mut self) -> ReadResult<Type<'a>>
         ensures read { IfOk result (λ t. IsRead self.old (type_marks t) self.new) }
         ensures refused { IfErr result (λ e. IsRefused self.old e) }
     {
@@ -105,7 +105,7 @@ impl<'a> Reader<'a> {
     }
 
     /// Reads a number of 32 bits.
-    fn read_number(&mut self) -> ParseResult<u32>
+    fn read_number(&mut self) -> ReadResult<u32>
         ensures read { IfOk result (λ n. IsRead self.old (counted n ∷ []) self.new) }
         ensures refused { IfErr result (λ e. IsRefused self.old e) }
     {
@@ -122,7 +122,7 @@ impl<'a> Reader<'a> {
     }
 
     /// Reads `>`, perhaps with `,` and a number in front of it.
-    fn read_size(&mut self) -> ParseResult<Option<u32>>
+    fn read_size(&mut self) -> ReadResult<Option<u32>>
         ensures read { IfOk result (λ size. IsRead self.old (size_marks size) self.new) }
         ensures refused { IfErr result (λ e. IsRefused self.old e) }
     {
@@ -137,7 +137,7 @@ impl<'a> Reader<'a> {
     }
 
     /// Reads a type and the token of a kind behind it.
-    pub fn read_closed_type(&mut self, close: Kind) -> ParseResult<Type<'a>>
+    pub fn read_closed_type(&mut self, close: Kind) -> ReadResult<Type<'a>>
         ensures read { IfOk result (λ t. IsRead self.old (type_marks t) self.new) }
         ensures refused { IfErr result (λ e. IsRefused self.old e) }
     {
@@ -148,7 +148,7 @@ impl<'a> Reader<'a> {
 
     /// Reads a type of at most `left` levels.
     #[cycle(types)]
-    pub fn read_type(&mut self, left: u8) -> ParseResult<Type<'a>>
+    pub fn read_type(&mut self, left: u8) -> ReadResult<Type<'a>>
         ensures read { IfOk result (λ t. IsRead self.old (type_marks t) self.new) }
         ensures refused { IfErr result (λ e. IsRefused self.old e) }
     {
@@ -175,7 +175,7 @@ impl<'a> Reader<'a> {
 
     /// Reads `list<type>`, perhaps with a number of items.
     #[cycle(types)]
-    fn read_list(&mut self, left: u8) -> ParseResult<Type<'a>>
+    fn read_list(&mut self, left: u8) -> ReadResult<Type<'a>>
         ensures read { IfOk result (λ t. IsRead self.old (type_marks t) self.new) }
         ensures refused { IfErr result (λ e. IsRefused self.old e) }
     {
@@ -188,7 +188,7 @@ impl<'a> Reader<'a> {
 
     /// Reads `map<type, type>`.
     #[cycle(types)]
-    fn read_map(&mut self, left: u8) -> ParseResult<Type<'a>>
+    fn read_map(&mut self, left: u8) -> ReadResult<Type<'a>>
         ensures read { IfOk result (λ t. IsRead self.old (type_marks t) self.new) }
         ensures refused { IfErr result (λ e. IsRefused self.old e) }
     {
@@ -201,7 +201,7 @@ impl<'a> Reader<'a> {
 
     /// Reads `option<type>`.
     #[cycle(types)]
-    fn read_option(&mut self, left: u8) -> ParseResult<Type<'a>>
+    fn read_option(&mut self, left: u8) -> ReadResult<Type<'a>>
         ensures read { IfOk result (λ t. IsRead self.old (type_marks t) self.new) }
         ensures refused { IfErr result (λ e. IsRefused self.old e) }
     {
@@ -213,7 +213,7 @@ impl<'a> Reader<'a> {
 
     /// Reads `result`, perhaps with the types of the value and of the error.
     #[cycle(types)]
-    fn read_result(&mut self, left: u8) -> ParseResult<Type<'a>>
+    fn read_result(&mut self, left: u8) -> ReadResult<Type<'a>>
         ensures read { IfOk result (λ t. IsRead self.old (type_marks t) self.new) }
         ensures refused { IfErr result (λ e. IsRefused self.old e) }
     {
@@ -230,7 +230,7 @@ impl<'a> Reader<'a> {
 
     /// Reads the type of the value of a result, or `_`.
     #[cycle(types)]
-    fn read_ok(&mut self, left: u8) -> ParseResult<Option<Box<Type<'a>>>>
+    fn read_ok(&mut self, left: u8) -> ReadResult<Option<Box<Type<'a>>>>
         ensures read { IfOk result (λ t. IsRead self.old (boxed_marks t) self.new) }
         ensures refused { IfErr result (λ e. IsRefused self.old e) }
     {
@@ -245,7 +245,7 @@ impl<'a> Reader<'a> {
     /// Reads `>`, with `,` and the type of the error of a result in front of it, where there is one
     /// or has to be.
     #[cycle(types)]
-    fn read_err(&mut self, left: u8, needed: bool) -> ParseResult<Option<Box<Type<'a>>>>
+    fn read_err(&mut self, left: u8, needed: bool) -> ReadResult<Option<Box<Type<'a>>>>
         ensures read { IfOk result (λ t. IsRead self.old (boxed_marks t) self.new) }
         ensures refused { IfErr result (λ e. IsRefused self.old e) }
     {
@@ -260,7 +260,7 @@ impl<'a> Reader<'a> {
 
     /// Reads `tuple<type, ..>`.
     #[cycle(types)]
-    fn read_tuple(&mut self, left: u8) -> ParseResult<Type<'a>>
+    fn read_tuple(&mut self, left: u8) -> ReadResult<Type<'a>>
         ensures read { IfOk result (λ t. IsRead self.old (type_marks t) self.new) }
         ensures refused { IfErr result (λ e. IsRefused self.old e) }
     {
@@ -271,7 +271,7 @@ impl<'a> Reader<'a> {
 
     /// Reads types in angles.
     #[cycle(types)]
-    fn read_types(&mut self, left: u8) -> ParseResult<Vec<Type<'a>>>
+    fn read_types(&mut self, left: u8) -> ReadResult<Vec<Type<'a>>>
         ensures read { IfOk result (λ ts. IsRead self.old (flat_map type_marks ts.items) self.new) }
         ensures refused { IfErr result (λ e. IsRefused self.old e) }
     {
@@ -287,7 +287,7 @@ impl<'a> Reader<'a> {
 
     /// Reads `future`, perhaps with the type of its value.
     #[cycle(types)]
-    fn read_future(&mut self, left: u8) -> ParseResult<Type<'a>>
+    fn read_future(&mut self, left: u8) -> ReadResult<Type<'a>>
         ensures read { IfOk result (λ t. IsRead self.old (type_marks t) self.new) }
         ensures refused { IfErr result (λ e. IsRefused self.old e) }
     {
@@ -298,7 +298,7 @@ impl<'a> Reader<'a> {
 
     /// Reads `stream`, perhaps with the type of its items.
     #[cycle(types)]
-    fn read_stream(&mut self, left: u8) -> ParseResult<Type<'a>>
+    fn read_stream(&mut self, left: u8) -> ReadResult<Type<'a>>
         ensures read { IfOk result (λ t. IsRead self.old (type_marks t) self.new) }
         ensures refused { IfErr result (λ e. IsRefused self.old e) }
     {
@@ -309,7 +309,7 @@ impl<'a> Reader<'a> {
 
     /// Reads a type in angles, where there is one.
     #[cycle(types)]
-    fn read_payload(&mut self, left: u8) -> ParseResult<Option<Box<Type<'a>>>>
+    fn read_payload(&mut self, left: u8) -> ReadResult<Option<Box<Type<'a>>>>
         ensures read { IfOk result (λ t. IsReadOn self.old (boxed_marks t) self.new) }
         ensures refused { IfErr result (λ e. IsRefused self.old e) }
     {
@@ -323,7 +323,7 @@ impl<'a> Reader<'a> {
 
     /// Reads a type and the token of a kind behind it, and boxes the type.
     #[cycle(types)]
-    fn read_boxed_before(&mut self, left: u8, close: Kind) -> ParseResult<Box<Type<'a>>>
+    fn read_boxed_before(&mut self, left: u8, close: Kind) -> ReadResult<Box<Type<'a>>>
         ensures read { IfOk result (λ t. IsRead self.old (type_marks t.value) self.new) }
         ensures refused { IfErr result (λ e. IsRefused self.old e) }
     {
@@ -334,7 +334,7 @@ impl<'a> Reader<'a> {
 
     /// Reads a type, and boxes it.
     #[cycle(types)]
-    fn read_boxed(&mut self, left: u8) -> ParseResult<Box<Type<'a>>>
+    fn read_boxed(&mut self, left: u8) -> ReadResult<Box<Type<'a>>>
         ensures read { IfOk result (λ t. IsRead self.old (type_marks t.value) self.new) }
         ensures refused { IfErr result (λ e. IsRefused self.old e) }
     {

@@ -8,10 +8,11 @@ ghost use Rattle.wit_reader.specs.Headers.{found_version};
 
 use crate::reader::Reader;
 use semver::Version;
+use wit_lex::fault::ReadResult;
 use wit_lex::kind::Kind;
 use wit_lex::word::Word;
+use wit_tree::Span;
 use wit_tree::tree::{Attribute, Docs, Id, PackageName, ToplevelUse, Use, UseName, UsePath};
-use wit_tree::{ParseResult, Span};
 use wit_values::{beside, push};
 
 /// The package that a path names, with the version that was found behind the item's name.
@@ -56,7 +57,7 @@ impl<'a> Reader<'a> {
 
     /// Reads the rest of a path with a package behind the two names of that: `/name`, and perhaps a
     /// version.
-    pub fn read_item_path(&mut self, first: Id<'a>, second: Id<'a>) -> ParseResult<UsePath<'a>>
+    pub fn read_item_path(&mut self, first: Id<'a>, second: Id<'a>) -> ReadResult<UsePath<'a>>
         ensures read { IfOk result (λ path. Completes self.old (named first.entry ∷ named second.entry ∷ []) (path_marks path) self.new) }
         ensures refused { IfErr result (λ e. IsRefused self.old e) }
     {
@@ -70,7 +71,7 @@ impl<'a> Reader<'a> {
 
     /// Reads the rest of a path behind its first name: nothing, or `:name/name` with perhaps a
     /// version.
-    pub fn read_rest_of_path(&mut self, first: Id<'a>) -> ParseResult<UsePath<'a>>
+    pub fn read_rest_of_path(&mut self, first: Id<'a>) -> ReadResult<UsePath<'a>>
         ensures read { IfOk result (λ path. Completes self.old (named first.entry ∷ []) (path_marks path) self.new) }
         ensures refused { IfErr result (λ e. IsRefused self.old e) }
     {
@@ -84,7 +85,7 @@ impl<'a> Reader<'a> {
     }
 
     /// Reads a path: a name of the package, or `name:name/name` with perhaps a version behind it.
-    pub fn read_path(&mut self) -> ParseResult<UsePath<'a>>
+    pub fn read_path(&mut self) -> ReadResult<UsePath<'a>>
         ensures read { IfOk result (λ path. IsRead self.old (path_marks path) self.new) }
         ensures refused { IfErr result (λ e. IsRefused self.old e) }
     {
@@ -94,7 +95,7 @@ impl<'a> Reader<'a> {
     }
 
     /// Reads `as` and the local name, where there is one.
-    fn read_local(&mut self) -> ParseResult<Option<Id<'a>>>
+    fn read_local(&mut self) -> ReadResult<Option<Id<'a>>>
         ensures read { IfOk result (λ local. IsReadOn self.old (local_marks local) self.new) }
         ensures refused { IfErr result (λ e. IsRefused self.old e) }
     {
@@ -107,7 +108,7 @@ impl<'a> Reader<'a> {
     }
 
     /// Reads a used name, perhaps with a local name behind it.
-    fn read_used(&mut self) -> ParseResult<UseName<'a>>
+    fn read_used(&mut self) -> ReadResult<UseName<'a>>
         ensures read { IfOk result (λ u. IsRead self.old (used_marks u) self.new) }
         ensures refused { IfErr result (λ e. IsRefused self.old e) }
     {
@@ -117,7 +118,7 @@ impl<'a> Reader<'a> {
     }
 
     /// Reads used names in braces.
-    fn read_used_names(&mut self) -> ParseResult<Vec<UseName<'a>>>
+    fn read_used_names(&mut self) -> ReadResult<Vec<UseName<'a>>>
         ensures read { IfOk result (λ names. IsRead self.old (flat_map used_marks names.items) self.new) }
         ensures refused { IfErr result (λ e. IsRefused self.old e) }
     {
@@ -132,7 +133,7 @@ impl<'a> Reader<'a> {
     }
 
     /// Reads what stands behind the path of a `use`: `.{name, name as name, ..};`.
-    fn read_behind_path(&mut self) -> ParseResult<Vec<UseName<'a>>>
+    fn read_behind_path(&mut self) -> ReadResult<Vec<UseName<'a>>>
         ensures read { IfOk result (λ names. IsRead self.old (flat_map used_marks names.items) self.new) }
         ensures refused { IfErr result (λ e. IsRefused self.old e) }
     {
@@ -143,7 +144,7 @@ impl<'a> Reader<'a> {
     }
 
     /// Reads `use path.{name, name as name, ..};`.
-    pub fn read_use(&mut self, attributes: Vec<Attribute<'a>>) -> ParseResult<Use<'a>>
+    pub fn read_use(&mut self, attributes: Vec<Attribute<'a>>) -> ReadResult<Use<'a>>
         ensures read { IfOk result (λ u. IsReadBehind self.old (attributes_marks attributes.entry.items) (use_marks u) self.new) }
         ensures refused { IfErr result (λ e. IsRefused self.old e) }
     {
@@ -158,7 +159,7 @@ impl<'a> Reader<'a> {
     }
 
     /// Reads `;`, perhaps with `as` and the local name in front of it.
-    fn read_local_and_close(&mut self) -> ParseResult<Option<Id<'a>>>
+    fn read_local_and_close(&mut self) -> ReadResult<Option<Id<'a>>>
         ensures read { IfOk result (λ local. IsRead self.old (local_marks local) self.new) }
         ensures refused { IfErr result (λ e. IsRefused self.old e) }
     {
@@ -171,7 +172,7 @@ impl<'a> Reader<'a> {
     pub fn read_toplevel_use(
         &mut self,
         attributes: Vec<Attribute<'a>>,
-    ) -> ParseResult<ToplevelUse<'a>>
+    ) -> ReadResult<ToplevelUse<'a>>
         ensures read { IfOk result (λ u. IsReadBehind self.old (attributes_marks attributes.entry.items) (toplevel_marks u) self.new) }
         ensures refused { IfErr result (λ e. IsRefused self.old e) }
     {

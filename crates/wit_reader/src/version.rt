@@ -1,35 +1,26 @@
 //! Reading versions.
-ghost use Rattle.std.specs.Prelude.{◌≡◌, ◌+◌, ◌<◌, ◌≤◌, ◌^◌, [], ◌∷◌, ◌-◌, length, slice_index, IfOk, IfErr};
+ghost use Rattle.std.specs.Prelude.{◌≡◌, ◌<◌, ◌≤◌, [], ◌∷◌, ◌-◌, length, slice_index, IfOk, IfErr};
 ghost use Rattle.wit_tree.specs.Marks.{versioned};
 ghost use Rattle.wit_reader.specs.Headers.{found_marks};
-ghost use Rattle.wit_lex.specs.Faults.{IsRefusal};
+ghost use Rattle.wit_lex.specs.Faults.{IsWithin};
 
 use crate::reader::Reader;
 use semver::Version;
-use std::alloc::Global;
-use wit_lex::fault::{ReadFault, refusal, span_at};
+use wit_lex::fault::{ReadError, ReadFault, ReadResult, span_at};
 use wit_lex::kind::Kind;
 use wit_lex::scan::cut;
 use wit_lex::token::next_token;
 use wit_lex::version::parse_version;
 use wit_lex::version_end::version_end;
-use wit_tree::{ParseError, ParseResult, Span};
+use wit_tree::Span;
 
-/// The refusal of the first token from a place on.
-fn refuse_from(alloc: Global, source: &str, offset: u32, from: usize) -> ParseError
+/// The fault of the first token from a place on.
+fn refuse_from(source: &str, from: usize) -> ReadError
     requires within { from ≤ length source.now }
-    requires fits { offset + length source.now < 2 ^ 32 }
-    ensures { IsRefusal source.now offset result }
+    ensures { IsWithin source.now result }
 {
-    match next_token(alloc, source, offset, from) {
-        Ok(token) => refusal(
-            alloc,
-            source,
-            offset,
-            ReadFault::Token,
-            token.start,
-            token.end,
-        ),
+    match next_token(source, from) {
+        Ok(token) => ReadError::Fault(ReadFault::Token, token.start, token.end),
         Err(e) => e,
     }
 }
@@ -38,7 +29,7 @@ impl<'a> Reader<'a> {
     ghost use Rattle.wit_reader.specs.Reading.{IsRead, IsReadOn, IsRefused};
 
     /// The end of the version whose first number is the token.
-    fn find_version_end(&self) -> ParseResult<usize>
+    fn find_version_end(&self) -> ReadResult<usize>
         ensures first { IfOk result (λ end. slice_index self.now.source.now self.now.token.start < 128) }
         ensures last { IfOk result (λ end. slice_index self.now.source.now (end - 1) < 128) }
         ensures range { IfOk result (λ end. (self.now.token.start < end) × (self.now.token.end ≤ end) × (end ≤ length self.now.source.now)) }
@@ -47,7 +38,7 @@ impl<'a> Reader<'a> {
         if let Kind::Number = self.token.kind {
             match version_end(self.source.as_bytes(), self.token.end) {
                 Ok(end) => Ok(end),
-                Err(at) => Err(refuse_from(self.alloc, self.source, self.offset, at)),
+                Err(at) => Err(refuse_from(self.source, at)),
             }
         } else {
             Err(self.refuse(ReadFault::Token))
@@ -55,7 +46,7 @@ impl<'a> Reader<'a> {
     }
 
     /// Reads `@` and a version, where there is one, and tells where it stands.
-    pub fn read_at_version(&mut self) -> ParseResult<Option<(Span, Version)>>
+    pub fn read_at_version(&mut self) -> ReadResult<Option<(Span, Version)>>
         ensures read { IfOk result (λ found. IsReadOn self.old (found_marks found) self.new) }
         ensures refused { IfErr result (λ e. IsRefused self.old e) }
     {
@@ -68,7 +59,7 @@ impl<'a> Reader<'a> {
     }
 
     /// Reads a version, and tells where it stands.
-    pub fn read_version(&mut self) -> ParseResult<(Span, Version)>
+    pub fn read_version(&mut self) -> ReadResult<(Span, Version)>
         ensures read { IfOk result (λ r. IsRead self.old (versioned r.0 r.0 r.1 ∷ []) self.new) }
         ensures refused { IfErr result (λ e. IsRefused self.old e) }
     {
@@ -76,18 +67,11 @@ impl<'a> Reader<'a> {
         let end = self.find_version_end()?;
         match parse_version(self.alloc, cut(self.source, start, end))? {
             Some(version) => {
-                self.token = next_token(self.alloc, self.source, self.offset, end)?;
+                self.token = next_token(self.source, end)?;
                 self.before = end;
                 Ok((span_at(self.offset, start, end), version))
             }
-            None => Err(refusal(
-                self.alloc,
-                self.source,
-                self.offset,
-                ReadFault::Version,
-                start,
-                end,
-            )),
+            None => Err(ReadError::Fault(ReadFault::Version, start, end)),
         }
     }
 }

@@ -7,11 +7,10 @@ ghost use Rattle.wit_text.specs.Packages.{IsItemRead};
 
 use crate::world::read_world;
 use wit_interface_reader::definition::read_interface_items;
-use wit_lex::fault::ReadFault;
+use wit_lex::fault::{ReadFault, ReadResult};
 use wit_lex::word::Word;
 use wit_reader::front::Front;
 use wit_reader::reader::Reader;
-use wit_tree::ParseResult;
 use wit_tree::tree::{AstItem, Docs, Interface};
 
 /// What stands among the items of a file or of a nested package.
@@ -23,7 +22,7 @@ pub enum PackageItem<'a> {
 }
 
 /// Reads `interface name { .. }`.
-fn read_interface<'a>(reader: &mut Reader<'a>, front: Front<'a>) -> ParseResult<Interface<'a>>
+fn read_interface<'a>(reader: &mut Reader<'a>, front: Front<'a>) -> ReadResult<Interface<'a>>
     ensures read { IfOk result (λ i. IsReadBehind reader.old (front_marks front.entry.docs front.entry.attributes.items) (interface_marks i) reader.new) }
     ensures refused { IfErr result (λ e. IsRefused reader.old e) }
 {
@@ -40,7 +39,7 @@ fn read_interface<'a>(reader: &mut Reader<'a>, front: Front<'a>) -> ParseResult<
 
 /// Reads a declaration (an interface, a world, or another name for an item), or the docs of a
 /// nested package, which may have no attributes.
-pub fn read_package_item<'a>(reader: &mut Reader<'a>) -> ParseResult<PackageItem<'a>>
+pub fn read_package_item<'a>(reader: &mut Reader<'a>) -> ReadResult<PackageItem<'a>>
     ensures read { IfOk result (λ item. IsItemRead reader.old item reader.new) }
     ensures refused { IfErr result (λ e. IsRefused reader.old e) }
 {

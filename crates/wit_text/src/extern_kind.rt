@@ -6,15 +6,15 @@ ghost use Rattle.wit_reader.specs.Reading.{IsRead, IsRefused};
 
 use wit_interface_reader::definition::read_interface_items;
 use wit_interface_reader::function::{begins_func, read_closed_func};
+use wit_lex::fault::ReadResult;
 use wit_lex::kind::Kind;
 use wit_lex::word::Word;
 use wit_reader::front::Front;
 use wit_reader::reader::Reader;
-use wit_tree::ParseResult;
 use wit_tree::tree::{Extern, ExternKind, Id, UsePath, WorldSide};
 
 /// Reads the rest of an interface that is written in a world, behind its name and `:`.
-fn read_inline_interface<'a>(reader: &mut Reader<'a>, name: Id<'a>) -> ParseResult<ExternKind<'a>>
+fn read_inline_interface<'a>(reader: &mut Reader<'a>, name: Id<'a>) -> ReadResult<ExternKind<'a>>
     ensures read { IfOk result (λ kind. Completes reader.old (named name.entry ∷ []) (extern_marks kind) reader.new) }
     ensures refused { IfErr result (λ e. IsRefused reader.old e) }
 {
@@ -24,7 +24,7 @@ fn read_inline_interface<'a>(reader: &mut Reader<'a>, name: Id<'a>) -> ParseResu
 }
 
 /// Reads the rest of a function, behind its name and `:`.
-fn read_extern_func<'a>(reader: &mut Reader<'a>, name: Id<'a>) -> ParseResult<ExternKind<'a>>
+fn read_extern_func<'a>(reader: &mut Reader<'a>, name: Id<'a>) -> ReadResult<ExternKind<'a>>
     ensures read { IfOk result (λ kind. Completes reader.old (named name.entry ∷ []) (extern_marks kind) reader.new) }
     ensures refused { IfErr result (λ e. IsRefused reader.old e) }
 {
@@ -34,7 +34,7 @@ fn read_extern_func<'a>(reader: &mut Reader<'a>, name: Id<'a>) -> ParseResult<Ex
 
 /// Reads the rest of a path with its `;`, behind a name and `:`. The name belongs to the path
 /// where a `/` stands behind the next, and else is one that the world gives to a path.
-fn read_extern_path<'a>(reader: &mut Reader<'a>, first: Id<'a>) -> ParseResult<ExternKind<'a>>
+fn read_extern_path<'a>(reader: &mut Reader<'a>, first: Id<'a>) -> ReadResult<ExternKind<'a>>
     ensures read { IfOk result (λ kind. Completes reader.old (named first.entry ∷ []) (extern_marks kind) reader.new) }
     ensures refused { IfErr result (λ e. IsRefused reader.old e) }
 {
@@ -50,7 +50,7 @@ fn read_extern_path<'a>(reader: &mut Reader<'a>, first: Id<'a>) -> ParseResult<E
 }
 
 /// Reads what stands behind a name and `:`.
-fn read_behind_colon<'a>(reader: &mut Reader<'a>, name: Id<'a>) -> ParseResult<ExternKind<'a>>
+fn read_behind_colon<'a>(reader: &mut Reader<'a>, name: Id<'a>) -> ReadResult<ExternKind<'a>>
     ensures read { IfOk result (λ kind. Completes reader.old (named name.entry ∷ []) (extern_marks kind) reader.new) }
     ensures refused { IfErr result (λ e. IsRefused reader.old e) }
 {
@@ -64,7 +64,7 @@ fn read_behind_colon<'a>(reader: &mut Reader<'a>, name: Id<'a>) -> ParseResult<E
 }
 
 /// Reads what is imported or exported.
-fn read_extern<'a>(reader: &mut Reader<'a>) -> ParseResult<ExternKind<'a>>
+fn read_extern<'a>(reader: &mut Reader<'a>) -> ReadResult<ExternKind<'a>>
     ensures read { IfOk result (λ kind. IsRead reader.old (extern_marks kind) reader.new) }
     ensures refused { IfErr result (λ e. IsRefused reader.old e) }
 {
@@ -79,7 +79,7 @@ fn read_extern<'a>(reader: &mut Reader<'a>) -> ParseResult<ExternKind<'a>>
 }
 
 /// Reads `import` and what is imported.
-pub fn read_import<'a>(reader: &mut Reader<'a>, front: Front<'a>) -> ParseResult<Extern<'a>>
+pub fn read_import<'a>(reader: &mut Reader<'a>, front: Front<'a>) -> ReadResult<Extern<'a>>
     ensures read { IfOk result (λ i. IsReadBehind reader.old (front_marks front.entry.docs front.entry.attributes.items) (side_marks i) reader.new) }
     ensures refused { IfErr result (λ e. IsRefused reader.old e) }
 {
@@ -94,7 +94,7 @@ pub fn read_import<'a>(reader: &mut Reader<'a>, front: Front<'a>) -> ParseResult
 }
 
 /// Reads `export` and what is exported.
-pub fn read_export<'a>(reader: &mut Reader<'a>, front: Front<'a>) -> ParseResult<Extern<'a>>
+pub fn read_export<'a>(reader: &mut Reader<'a>, front: Front<'a>) -> ReadResult<Extern<'a>>
     ensures read { IfOk result (λ e. IsReadBehind reader.old (front_marks front.entry.docs front.entry.attributes.items) (side_marks e) reader.new) }
     ensures refused { IfErr result (λ e. IsRefused reader.old e) }
 {

@@ -3,13 +3,14 @@ ghost use Rattle.std.specs.Prelude.{◌≡◌, ◌+◌, ◌<◌, ◌^◌, [], �
 ghost use Rattle.std.specs.List.{flat_map};
 ghost use Rattle.wit_tree.specs.Marks.{declaration_marks, package_marks, file_marks, nested_marks, inner_marks};
 ghost use Rattle.wit_tree.specs.Slices.{Rise};
-ghost use Rattle.wit_lex.specs.Faults.{IsRefusal};
+ghost use Rattle.wit_lex.specs.Faults.{IsRefusal, IsWithin};
 ghost use Rattle.wit_reader.specs.Reading.{IsReadOn, IsRefused};
 ghost use Rattle.wit_reader.specs.Fronts.{CompletesOn};
 
 use crate::declaration::{PackageItem, read_package_item};
 use crate::package::{read_nested, read_package_name};
 use std::alloc::Global;
+use wit_lex::fault::ReadResult;
 use wit_lex::kind::Kind;
 use wit_lex::token::next_token;
 use wit_lex::word::Word;
@@ -21,7 +22,7 @@ use wit_values::push;
 /// Reads what stands at `package` where a file begins with that: a header, or a nested package.
 fn read_beginning<'a>(
     reader: &mut Reader<'a>,
-) -> ParseResult<(Option<PackageName<'a>>, Vec<NestedPackage<'a>>)>
+) -> ReadResult<(Option<PackageName<'a>>, Vec<NestedPackage<'a>>)>
     ensures read { IfOk result (λ r. IsReadOn reader.old (package_marks r.0) reader.new) }
     ensures nested { IfOk result (λ r. IsReadOn reader.old (flat_map nested_marks r.1.items) reader.new) }
     ensures inner { IfOk result (λ r. IsReadOn reader.old (flat_map inner_marks r.1.items) reader.new) }
@@ -47,7 +48,7 @@ fn read_beginning<'a>(
 fn read_declarations<'a>(
     reader: &mut Reader<'a>,
     nested: &mut Vec<NestedPackage<'a>>,
-) -> ParseResult<Vec<AstItem<'a>>>
+) -> ReadResult<Vec<AstItem<'a>>>
     ensures read { IfOk result (λ items. IsReadOn reader.old (flat_map declaration_marks items.items) reader.new) }
     ensures nested { OnOk result (CompletesOn reader.old (flat_map nested_marks nested.old.items) (flat_map nested_marks nested.new.items) reader.new) }
     ensures inner { OnOk result (CompletesOn reader.old (flat_map inner_marks nested.old.items) (flat_map inner_marks nested.new.items) reader.new) }
@@ -69,7 +70,7 @@ fn read_declarations<'a>(
 }
 
 /// Reads up to the end of the source.
-fn read_whole<'a>(reader: &mut Reader<'a>) -> ParseResult<SourceFile<'a>>
+fn read_whole<'a>(reader: &mut Reader<'a>) -> ReadResult<SourceFile<'a>>
     ensures read { IfOk result (λ source. IsReadOn reader.old (file_marks source.file) reader.new) }
     ensures nested { IfOk result (λ source. IsReadOn reader.old (flat_map nested_marks source.nested.items) reader.new) }
     ensures inner { IfOk result (λ source. IsReadOn reader.old (flat_map inner_marks source.nested.items) reader.new) }
@@ -84,6 +85,26 @@ fn read_whole<'a>(reader: &mut Reader<'a>) -> ParseResult<SourceFile<'a>>
         },
         nested,
     })
+}
+
+/// [`read_file`], of which a fault is not told yet.
+fn read_source<'a>(alloc: Global, source: &'a str, offset: u32) -> ReadResult<SourceFile<'a>>
+    requires fits { offset + length source.now < 2 ^ 32 }
+    ensures read { IfOk result (λ read. Rise source.now offset offset (file_marks read.file) (offset + length source.now)) }
+    ensures nested { IfOk result (λ read. Rise source.now offset offset (flat_map nested_marks read.nested.items) (offset + length source.now)) }
+    ensures inner { IfOk result (λ read. Rise source.now offset offset (flat_map inner_marks read.nested.items) (offset + length source.now)) }
+    ensures refused { IfErr result (IsWithin source.now) }
+{
+    let token = next_token(source, 0)?;
+    let mut reader = Reader {
+        alloc,
+        source,
+        offset,
+        before: 0,
+        token,
+    };
+    let file = read_whole(&mut reader)?;
+    Ok(file)
 }
 
 /// The tree of a file whose first byte has the place `offset`.
@@ -115,14 +136,8 @@ pub fn read_file<'a>(alloc: Global, source: &'a str, offset: u32) -> ParseResult
     ensures inner { IfOk result (λ read. Rise source.now offset offset (flat_map inner_marks read.nested.items) (offset + length source.now)) }
     ensures refused { IfErr result (λ e. IsRefusal source.now offset e) }
 {
-    let token = next_token(alloc, source, offset, 0)?;
-    let mut reader = Reader {
-        alloc,
-        source,
-        offset,
-        before: 0,
-        token,
-    };
-    let file = read_whole(&mut reader)?;
-    Ok(file)
+    match read_source(alloc, source, offset) {
+        Ok(file) => Ok(file),
+        Err(e) => Err(e.refusal(alloc, source, offset)),
+    }
 }

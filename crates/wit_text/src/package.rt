@@ -8,13 +8,13 @@ ghost use Rattle.wit_reader.specs.Reading.{IsRead, IsRefused};
 
 use crate::declaration::{PackageItem, read_package_item};
 use semver::Version;
-use wit_lex::fault::ReadFault;
+use wit_lex::fault::{ReadFault, ReadResult};
 use wit_lex::kind::Kind;
 use wit_lex::word::Word;
 use wit_reader::reader::Reader;
 use wit_reader::types::MOST_NESTED;
+use wit_tree::Span;
 use wit_tree::tree::{DeclList, Docs, Id, NestedPackage, PackageName};
-use wit_tree::{ParseResult, Span};
 use wit_values::{beside, push};
 
 /// The name that these make, with the version that was found.
@@ -47,7 +47,7 @@ fn package_name<'a>(
 }
 
 /// Reads `package name:name`.
-fn read_names_of_package<'a>(reader: &mut Reader<'a>) -> ParseResult<(Id<'a>, Id<'a>)>
+fn read_names_of_package<'a>(reader: &mut Reader<'a>) -> ReadResult<(Id<'a>, Id<'a>)>
     ensures read { IfOk result (λ r. IsRead reader.old (named r.0 ∷ named r.1 ∷ []) reader.new) }
     ensures refused { IfErr result (λ e. IsRefused reader.old e) }
 {
@@ -59,10 +59,7 @@ fn read_names_of_package<'a>(reader: &mut Reader<'a>) -> ParseResult<(Id<'a>, Id
 
 /// Reads `package name:name`, perhaps with a version behind the name: what stands in front of the
 /// `;` of a header, or of the `{` of a nested package.
-pub fn read_package_name<'a>(
-    reader: &mut Reader<'a>,
-    docs: Docs<'a>,
-) -> ParseResult<PackageName<'a>>
+pub fn read_package_name<'a>(reader: &mut Reader<'a>, docs: Docs<'a>) -> ReadResult<PackageName<'a>>
     ensures read { IfOk result (λ p. IsReadBehind reader.old (documented docs.entry ∷ []) (header_marks p) reader.new) }
     ensures refused { IfErr result (λ e. IsRefused reader.old e) }
 {
@@ -73,7 +70,7 @@ pub fn read_package_name<'a>(
 
 /// Reads items in braces, of which nothing is kept, and in them packages of at most `left` levels.
 #[cycle(packages)]
-fn pass_items(reader: &mut Reader<'_>, left: u8) -> ParseResult<()>
+fn pass_items(reader: &mut Reader<'_>, left: u8) -> ReadResult<()>
     ensures read { OnOk result (IsRead reader.old [] reader.new) }
     ensures refused { IfErr result (λ e. IsRefused reader.old e) }
 {
@@ -87,7 +84,7 @@ fn pass_items(reader: &mut Reader<'_>, left: u8) -> ParseResult<()>
 
 /// Reads an item, of which nothing is kept: a declaration, or a package of at most `left` levels.
 #[cycle(packages)]
-fn pass_item(reader: &mut Reader<'_>, left: u8) -> ParseResult<()>
+fn pass_item(reader: &mut Reader<'_>, left: u8) -> ReadResult<()>
     ensures read { OnOk result (IsRead reader.old [] reader.new) }
     ensures refused { IfErr result (λ e. IsRefused reader.old e) }
 {
@@ -106,7 +103,7 @@ fn pass_item(reader: &mut Reader<'_>, left: u8) -> ParseResult<()>
 
 /// Reads a package of at most `left` levels, which is nested in a nested one: its name is kept.
 #[cycle(packages)]
-fn read_inner<'a>(reader: &mut Reader<'a>, docs: Docs<'a>, left: u8) -> ParseResult<PackageName<'a>>
+fn read_inner<'a>(reader: &mut Reader<'a>, docs: Docs<'a>, left: u8) -> ReadResult<PackageName<'a>>
     ensures read { IfOk result (λ p. IsReadBehind reader.old (documented docs.entry ∷ []) (header_marks p) reader.new) }
     ensures refused { IfErr result (λ e. IsRefused reader.old e) }
 {
@@ -122,7 +119,7 @@ fn read_inner<'a>(reader: &mut Reader<'a>, docs: Docs<'a>, left: u8) -> ParseRes
 /// that are nested in it in turn.
 fn read_nested_items<'a>(
     reader: &mut Reader<'a>,
-) -> ParseResult<(DeclList<'a>, Vec<PackageName<'a>>)>
+) -> ReadResult<(DeclList<'a>, Vec<PackageName<'a>>)>
     ensures read { IfOk result (λ r. IsRead reader.old (flat_map declaration_marks r.0.items.items) reader.new) }
     ensures inner { IfOk result (λ r. IsRead reader.old (flat_map header_marks r.1.items) reader.new) }
     ensures refused { IfErr result (λ e. IsRefused reader.old e) }
@@ -148,7 +145,7 @@ fn read_nested_items<'a>(
 pub fn read_nested<'a>(
     reader: &mut Reader<'a>,
     name: PackageName<'a>,
-) -> ParseResult<NestedPackage<'a>>
+) -> ReadResult<NestedPackage<'a>>
     ensures read { IfOk result (λ p. IsReadBehind reader.old (header_marks name.entry) (nested_marks p) reader.new) }
     ensures inner { IfOk result (λ p. IsRead reader.old (inner_marks p) reader.new) }
     ensures refused { IfErr result (λ e. IsRefused reader.old e) }

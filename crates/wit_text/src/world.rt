@@ -7,16 +7,16 @@ ghost use Rattle.wit_reader.specs.Reading.{IsRead, IsReadOn, IsRefused};
 
 use crate::extern_kind::{read_export, read_import};
 use wit_interface_reader::definition::read_definition;
+use wit_lex::fault::ReadResult;
 use wit_lex::kind::Kind;
 use wit_lex::word::Word;
 use wit_reader::front::Front;
 use wit_reader::reader::Reader;
-use wit_tree::ParseResult;
 use wit_tree::tree::{Attribute, Include, IncludeName, World, WorldItem};
 use wit_values::{beside, fitted, push};
 
 /// Reads `name as name`.
-fn read_renamed<'a>(reader: &mut Reader<'a>) -> ParseResult<IncludeName<'a>>
+fn read_renamed<'a>(reader: &mut Reader<'a>) -> ReadResult<IncludeName<'a>>
     ensures read { IfOk result (λ n. IsRead reader.old (renamed_marks n) reader.new) }
     ensures refused { IfErr result (λ e. IsRefused reader.old e) }
 {
@@ -27,7 +27,7 @@ fn read_renamed<'a>(reader: &mut Reader<'a>) -> ParseResult<IncludeName<'a>>
 }
 
 /// Reads renamed names in braces.
-fn read_renamed_names<'a>(reader: &mut Reader<'a>) -> ParseResult<Vec<IncludeName<'a>>>
+fn read_renamed_names<'a>(reader: &mut Reader<'a>) -> ReadResult<Vec<IncludeName<'a>>>
     ensures read { IfOk result (λ names. IsRead reader.old (flat_map renamed_marks names.items) reader.new) }
     ensures refused { IfErr result (λ e. IsRefused reader.old e) }
 {
@@ -42,7 +42,7 @@ fn read_renamed_names<'a>(reader: &mut Reader<'a>) -> ParseResult<Vec<IncludeNam
 }
 
 /// Goes past a `;`, where there is one.
-fn skip_semicolon(reader: &mut Reader<'_>) -> ParseResult<()>
+fn skip_semicolon(reader: &mut Reader<'_>) -> ReadResult<()>
     ensures read { OnOk result (IsReadOn reader.old [] reader.new) }
     ensures refused { IfErr result (λ e. IsRefused reader.old e) }
 {
@@ -53,7 +53,7 @@ fn skip_semicolon(reader: &mut Reader<'_>) -> ParseResult<()>
 }
 
 /// Reads `;`, or `with { name as name, .. }` and perhaps a `;` behind it.
-fn read_renames<'a>(reader: &mut Reader<'a>) -> ParseResult<Vec<IncludeName<'a>>>
+fn read_renames<'a>(reader: &mut Reader<'a>) -> ReadResult<Vec<IncludeName<'a>>>
     ensures read { IfOk result (λ names. IsRead reader.old (flat_map renamed_marks names.items) reader.new) }
     ensures refused { IfErr result (λ e. IsRefused reader.old e) }
 {
@@ -71,7 +71,7 @@ fn read_renames<'a>(reader: &mut Reader<'a>) -> ParseResult<Vec<IncludeName<'a>>
 fn read_include<'a>(
     reader: &mut Reader<'a>,
     attributes: Vec<Attribute<'a>>,
-) -> ParseResult<Include<'a>>
+) -> ReadResult<Include<'a>>
     ensures read { IfOk result (λ i. IsReadBehind reader.old (attributes_marks attributes.entry.items) (include_marks i) reader.new) }
     ensures refused { IfErr result (λ e. IsRefused reader.old e) }
 {
@@ -86,7 +86,7 @@ fn read_include<'a>(
 }
 
 /// Reads an item of a world.
-fn read_world_item<'a>(reader: &mut Reader<'a>) -> ParseResult<WorldItem<'a>>
+fn read_world_item<'a>(reader: &mut Reader<'a>) -> ReadResult<WorldItem<'a>>
     ensures read { IfOk result (λ item. IsRead reader.old (world_item_marks item) reader.new) }
     ensures refused { IfErr result (λ e. IsRefused reader.old e) }
 {
@@ -112,7 +112,7 @@ fn read_world_item<'a>(reader: &mut Reader<'a>) -> ParseResult<WorldItem<'a>>
 }
 
 /// Reads the items of a world in braces.
-fn read_world_items<'a>(reader: &mut Reader<'a>) -> ParseResult<Vec<WorldItem<'a>>>
+fn read_world_items<'a>(reader: &mut Reader<'a>) -> ReadResult<Vec<WorldItem<'a>>>
     ensures read { IfOk result (λ items. IsRead reader.old (flat_map world_item_marks items.items) reader.new) }
     ensures refused { IfErr result (λ e. IsRefused reader.old e) }
 {
@@ -127,7 +127,7 @@ fn read_world_items<'a>(reader: &mut Reader<'a>) -> ParseResult<Vec<WorldItem<'a
 }
 
 /// Reads `world name { .. }`.
-pub fn read_world<'a>(reader: &mut Reader<'a>, front: Front<'a>) -> ParseResult<World<'a>>
+pub fn read_world<'a>(reader: &mut Reader<'a>, front: Front<'a>) -> ReadResult<World<'a>>
     ensures read { IfOk result (λ w. IsReadBehind reader.old (front_marks front.entry.docs front.entry.attributes.items) (world_marks w) reader.new) }
     ensures refused { IfErr result (λ e. IsRefused reader.old e) }
 {

@@ -1,5 +1,5 @@
 use Rattle.wit_reader.proofs.Parts.{whole}
-use Rattle.wit_text.proofs.file.read_file.Goals as goal
+use Rattle.wit_text.proofs.file.read_source.Goals as goal
 
 pub returns-clause-read : goal.returns-clause-read
 returns-clause-read c = whole c.in_ok-file.ensures.read
