@@ -66,7 +66,7 @@ fn add_item(
 fn place_of(items: &Items, name: &str) -> Option<usize>
     ensures { result ≡ position (pointwise nat_eq name.now) (map (λ item. item.0) items.now) }
 {
-    items.as_map().get_index_of(name)
+    items.get_index_of(name)
 }
 
 /// Adds a visit of the item of a name, of a stability; the item gets the entry if nothing has

@@ -21,7 +21,7 @@ pub type Packages = Table<PackageName, Items>;
 fn place_of(packages: &Packages, key: &PackageName) -> Option<usize>
     ensures { result ≡ position (same_package key.now) (map (λ p. p.0) packages.now) }
 {
-    packages.as_map().get_index_of(key)
+    packages.get_index_of(key)
 }
 
 /// The items of a package, of which the first visit is told.

@@ -13,7 +13,6 @@ ghost use Rattle.wit_rules.specs.Signatures.{told_ok, AreResults};
 ghost use Rattle.wit_items.specs.Items.{declared_behind};
 ghost use Rattle.wit_scopes.specs.Held.{name_behind};
 
-use indexmap::IndexMap;
 use std::alloc::{AllocError, Global};
 use wit_items::items::Declared;
 use wit_model::Function;
@@ -122,8 +121,7 @@ fn placed_table(alloc: Global, functions: Vec<Function>) -> Result<TextTable<Fun
     ensures { IfOk result (λ table. table ≡ placed_functions functions.items) }
 {
     let placed = setters_behind_getters(alloc, functions)?;
-    let map = IndexMap::with_capacity(alloc, placed.len())?;
-    let mut table = TextTable::from(map);
+    let mut table = TextTable::with_capacity(alloc, placed.len())?;
     for function in placed {
         add_function(alloc, &mut table, function)?;
     }

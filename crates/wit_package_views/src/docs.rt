@@ -58,8 +58,10 @@ fn push_interface(text: &mut String, interface: &Interface) -> Result<(), AllocE
     if let Some(name) = &interface.name {
         push_docs(text, name.as_str(), &interface.docs)?;
     }
-    for (name, function) in interface.functions.as_map() {
-        push_docs(text, name.as_str(), &function.docs)?;
+    for place in 0..interface.functions.len() {
+        if let Some((name, function)) = interface.functions.get_index(place) {
+            push_docs(text, name, &function.docs)?;
+        }
     }
     Ok(())
 }

@@ -183,8 +183,10 @@ fn push_function_ids(
     interfaces: &Arena<Interface, InterfacePlace>,
 ) -> Result<(), AllocError> {
     for interface in interfaces.iter() {
-        for (name, function) in interface.functions.as_map() {
-            push_id(text, name.as_str(), &function.external_id)?;
+        for place in 0..interface.functions.len() {
+            if let Some((name, function)) = interface.functions.get_index(place) {
+                push_id(text, name, &function.external_id)?;
+            }
         }
     }
     Ok(())

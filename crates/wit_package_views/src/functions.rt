@@ -103,8 +103,10 @@ fn push_interface(
     };
     let id = package.interface_id(alloc, name.as_str())?;
     write!(text, "interface {}\n", id.as_str())?;
-    for (_, function) in interface.functions.as_map() {
-        push_function(alloc, text, types, Some(id.as_str()), function)?;
+    for place in 0..interface.functions.len() {
+        if let Some((_, function)) = interface.functions.get_index(place) {
+            push_function(alloc, text, types, Some(id.as_str()), function)?;
+        }
     }
     Ok(())
 }

@@ -100,8 +100,10 @@ fn push_interfaces(
 ) -> Result<(), AllocError> {
     for interface in interfaces.iter() {
         text.push_str("\nfunctions")?;
-        for (_, function) in interface.functions.as_map() {
-            push_function(text, map, function)?;
+        for place in 0..interface.functions.len() {
+            if let Some((_, function)) = interface.functions.get_index(place) {
+                push_function(text, map, function)?;
+            }
         }
     }
     Ok(())

@@ -7,3 +7,4 @@ mod Serving
 pub mod Keys
 mod OneSide
 mod Pairing
+pub mod Sought

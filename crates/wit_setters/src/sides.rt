@@ -18,23 +18,25 @@ use std::alloc::{AllocError, Global};
 use wit_model::{WorldItem, WorldKey, world_item_func};
 use wit_values::Table;
 
+/// Whether an item is a setter.
+fn is_setter_item(item: &WorldItem) -> bool
+    ensures { result ≡ is_a_setter (function_of item.now) }
+{
+    is_setter(world_item_func(item))
+}
+
 /// Whether one of these is a setter.
 fn have_setter(side: &Table<WorldKey, WorldItem>) -> bool
     ensures { result ≡ list_any (λ e. is_a_setter (function_of e.1)) side.now }
 {
-    side.as_map()
-        .iter()
-        .any(|(_, item)| is_setter(world_item_func(item)))
-}
-
-/// The entries of a side, moved out of its table.
-fn entries_of(
-    alloc: Global,
-    side: Table<WorldKey, WorldItem>,
-) -> Result<Vec<(WorldKey, WorldItem)>, AllocError>
-    ensures { IfOk result (λ entries. entries.items ≡ side) }
-{
-    side.into_map().into_iter().collect(alloc)
+    for place in 0..side.len() {
+        if let Some((_, item)) = side.get_index(place) {
+            if is_setter_item(item) {
+                return true;
+            }
+        }
+    }
+    false
 }
 
 /// Puts an entry into a table.
@@ -77,7 +79,7 @@ pub fn place_setters(
     if !have_setter(&side) {
         return Ok(side);
     }
-    let entries = entries_of(alloc, side)?;
+    let entries = side.into_entries()?;
     let placed = behind_getters(alloc, entries)?;
     let table = table_of(alloc, placed)?;
     Ok(table)

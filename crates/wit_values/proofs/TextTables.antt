@@ -1,11 +1,12 @@
 -- What a map from texts finds and stores, on its entries as contracts see them.
-use Rattle.std.proofs.Common.{zero, Option, Some, None, slice_get, ◌&&◌, sym, ◌≡◌, ℕ, suc, Bool, List, [], ◌∷◌, String, string_bytes, nat_eq, length, refl, ap, ◌∙◌, inl, inr}
+use Rattle.std.proofs.Common.{zero, Option, Some, None, slice_get, position, cond, not, nat_lt, ◌&&◌, ◌+◌, sym, ◌≡◌, ℕ, suc, Bool, List, [], ◌∷◌, String, string_bytes, nat_eq, length, refl, ap, ◌∙◌, inl, inr}
 use Rattle.std.proofs.lemmas.Bool.{cases_Bool}
+use Rattle.std.proofs.lemmas.List.{length-map}
 use Rattle.std.specs.Cmp.Lexicographic.{pointwise}
 use Rattle.std.specs.Str.{bytes_eq}
 use Rattle.std.specs.Map.{lookup, lookup_entry, keys_of}
 use Rattle.std.specs.HashMap.{entries_eq}
-use Rattle.std.specs.List.{AllZip, list_all}
+use Rattle.std.specs.List.{AllZip, list_all, position_or_len}
 use Rattle.std.specs.Option.{option_eq, option_map}
 use Rattle.std.specs.declared.alloc.Global.{Global}
 use Rattle.indexmap.specs.IndexMap.{insert_entry, set_value_at}
@@ -35,8 +36,21 @@ slice_get-text_entries (e ∷ es) zero = refl
 slice_get-text_entries (e ∷ es) (suc i) = slice_get-text_entries es i
 
 -- the value at a place is the same, whichever way its key is seen
-pub value-text_entries : {V : Type 0} (es : List (String Global × V)) (i : ℕ) (p : String Global × V) → slice_get es i ≡ Some p → option_map (λ (e : List ℕ × V). e.1) (slice_get (text_entries es) i) ≡ Some p.1
-value-text_entries {V} es i p here = ap (option_map (λ (e : List ℕ × V). e.1)) (slice_get-text_entries es i ∙ ap (option_map (λ (e : String Global × V). (string_bytes e.0, e.1))) here)
+pub value-text_entries : {V : Type 0} (es : List (String Global × V)) (i : ℕ) → option_map (λ (e : List ℕ × V). e.1) (slice_get (text_entries es) i) ≡ option_map (λ (e : String Global × V). e.1) (slice_get es i)
+value-text_entries [] i = refl
+value-text_entries (e ∷ es) zero = refl
+value-text_entries (e ∷ es) (suc i) = value-text_entries es i
+
+same_len : {V : Type 0} (bs : List ℕ) (es : List (String Global × V)) → position_or_len (λ k. bytes_eq bs (string_bytes k)) (keys_of es) ≡ position_or_len (pointwise nat_eq bs) (keys_of (text_entries es))
+same_len bs [] = refl
+same_len bs (e ∷ es) = ap (λ n. cond (not (bytes_eq bs (string_bytes e.0))) (1 + n) 0) (same_len bs es)
+
+-- the place of a text is the same, whichever way its key is seen
+pub position-text_entries : {V : Type 0} (bs : List ℕ) (es : List (String Global × V)) → position (λ k. bytes_eq bs (string_bytes k)) (keys_of es) ≡ position (pointwise nat_eq bs) (keys_of (text_entries es))
+position-text_entries {V} bs es =
+    let len : length (keys_of es) ≡ length (keys_of (text_entries es)) = length-map es (λ (e : String Global × V). e.0) ∙ (sym (length-text_entries es) ∙ sym (length-map (text_entries es) (λ (e : List ℕ × V). e.0))) in
+    ap (λ n. cond (nat_lt n (length (keys_of es))) (Some n) None) (same_len bs es)
+    ∙ ap (λ n. cond (nat_lt (position_or_len (pointwise nat_eq bs) (keys_of (text_entries es))) n) (Some (position_or_len (pointwise nat_eq bs) (keys_of (text_entries es)))) None) len
 
 pub text_entries-set_value_at : {V : Type 0} (es : List (String Global × V)) (i : ℕ) (w : V) → text_entries (set_value_at es i w) ≡ set_value_at (text_entries es) i w
 text_entries-set_value_at [] i w = refl

@@ -1,3 +1,4 @@
+pub mod Entries
 pub mod TextEntries
 pub mod ReleaseOrder
 pub mod ReleaseText

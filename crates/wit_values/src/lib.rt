@@ -8,6 +8,7 @@
 pub mod accessor;
 pub mod holding;
 pub mod laws;
+mod lazy_map;
 pub mod release;
 mod release_text;
 pub mod row;

@@ -1,5 +1,5 @@
 //! Maps from texts in insertion order, which contracts see as the list of their entries.
-ghost use Rattle.std.specs.Prelude.{◌≡◌, ◌↔◌, ◌<◌, Some, OnOk, OnErr, IfErr, IfOk, IsSome, [], nat_eq, string_bytes, length, slice_get};
+ghost use Rattle.std.specs.Prelude.{◌≡◌, ◌<◌, Some, OnOk, OnErr, IfErr, IfOk, [], nat_eq, string_bytes, length, map, position, slice_get};
 ghost use Rattle.std.specs.Cmp.Lexicographic.{pointwise, nat_list_eq_equiv};
 ghost use Rattle.std.specs.Cmp.{equiv, partial_equiv_from_equiv};
 ghost use Rattle.std.specs.HashMap.{entries_eq};
@@ -11,7 +11,7 @@ ghost use Rattle.indexmap.specs.IndexMap.{insert_entry};
 ghost use Rattle.indexmap.specs.Layout.{hash_map, set_value_at};
 ghost use Rattle.wit_values.specs.TextEntries.{text_entries};
 
-use indexmap::IndexMap;
+use crate::table::Table;
 use std::alloc::{AllocError, AllocFailed, Global};
 use std::fmt;
 use std::marker::Model;
@@ -20,12 +20,12 @@ use std::marker::Model;
 ///
 /// Two are equal if they hold the same pairs, in any order; a copy has its source's order too.
 pub struct TextTable<V> {
-    map: IndexMap<String, V>,
+    table: Table<String, V>,
 }
 
 impl<V: Drop> Drop for TextTable<V> {
     fn drop(self) {
-        let TextTable { map: _ } = self;
+        let TextTable { table: _ } = self;
     }
 }
 
@@ -35,15 +35,7 @@ impl<V> Model for TextTable<V> {
 
     ghost Value = { List (List ℕ × V) };
 
-    ghost view = { λ t. text_entries t.map.entries };
-}
-
-impl<V> From<IndexMap<String, V>> for TextTable<V> {
-    ghost from_gives = { λ m t. t ≡ text_entries m.entries };
-
-    fn from(map: IndexMap<String, V>) -> TextTable<V> {
-        TextTable { map }
-    }
+    ghost view = { λ t. text_entries t.table };
 }
 
 impl<V> TextTable<V> {
@@ -55,29 +47,46 @@ impl<V> TextTable<V> {
         ensures { result ≡ [] }
     {
         TextTable {
-            map: IndexMap::new(alloc),
+            table: Table::new(alloc),
         }
+    }
+
+    /// A map with nothing in it, and with room for as many entries.
+    pub fn with_capacity(alloc: Global, entries: usize) -> Result<TextTable<V>, AllocError>
+    where
+        V: Drop,
+        ensures { IfOk result (λ table. table ≡ []) }
+    {
+        let table = Table::with_capacity(alloc, entries)?;
+        Ok(TextTable { table })
     }
 
     /// How many entries there are.
     pub fn len(&self) -> usize
         ensures { result ≡ length self.now }
     {
-        self.map.len()
+        self.table.len()
+    }
+
+    /// The place of a text, counted from 0 in insertion order, if it has one.
+    pub fn get_index_of(&self, key: &str) -> Option<usize>
+        ensures { result ≡ position (pointwise nat_eq key.now) (map (λ e. e.0) self.now) }
+    {
+        self.table.get_index_of(key)
     }
 
     /// The value at a text, if there is one.
     pub fn get(&self, key: &str) -> Option<&V>
         ensures { option_copied result ≡ lookup (pointwise nat_eq key.now) self.now }
     {
-        self.map.get(key)
+        self.table.get_by(key)
     }
 
     /// The entry at a place, counted from 0 in insertion order; `None` behind the last.
     pub fn get_index(&self, place: usize) -> Option<(&str, &V)>
         ensures { option_map (λ p. (p.0.now, p.1.now)) result ≡ slice_get self.now place }
     {
-        match self.map.get_index(place) {
+        match self.table.get_index(place) {
             Some((key, value)) => Some((key.as_str(), value)),
             None => None,
         }
@@ -89,8 +98,7 @@ impl<V> TextTable<V> {
         ensures* writes_back { sem 𝓛 (Lends (the_row V.row) V.row self.entry result (set_value_at self.old place)) }
         ensures value { option_map (λ e. e.1) (slice_get self.old place) ≡ Some result.now }
     {
-        let (_, value) = self.map.pair_mut(place);
-        value
+        self.table.value_mut(place)
     }
 
     /// Puts a value at a text and gives back the one that was there.
@@ -98,12 +106,14 @@ impl<V> TextTable<V> {
     /// A new text stands last, one that is there keeps its place. If a growth is refused, the
     /// map stays as it was.
     pub fn insert(&mut self, key: String, value: V) -> Result<Option<V>, AllocFailed<(String, V)>>
+    where
+        V: Drop,
         ensures ok { OnOk result (self.new ≡ insert_entry (pointwise nat_eq) self.old (string_bytes key) value) }
         ensures was { IfOk result (λ was. was ≡ lookup (pointwise nat_eq (string_bytes key)) self.old) }
         ensures err { OnErr result (self.new ≡ self.old) }
         ensures value_returned { IfErr result (λ e. e.value ≡ (key, value)) }
     {
-        self.map.insert(key, value)
+        self.table.insert(key, value)
     }
 
     /// Puts a value at a text and lets go of the one that was there.
@@ -115,34 +125,27 @@ impl<V> TextTable<V> {
         ensures ok { OnOk result (self.new ≡ insert_entry (pointwise nat_eq) self.old (string_bytes key) value) }
         ensures err { OnErr result (self.new ≡ self.old) }
     {
-        match self.insert(key, value) {
-            Ok(_) => Ok(()),
-            Err(_) => Err(AllocError),
-        }
+        self.table.put(key, value)
     }
 
     /// The map with no more room than it takes.
     pub fn fitted(self) -> TextTable<V>
         ensures { result ≡ self }
     {
-        let mut map = self.into_map();
-        map.shrink_to_fit();
-        TextTable { map }
+        let TextTable { table } = self;
+        TextTable {
+            table: table.fitted(),
+        }
     }
 
-    /// The map of `indexmap`.
-    pub fn as_map(&self) -> &IndexMap<String, V>
-        ensures { text_entries result.now.entries ≡ self.now }
+    /// The entries in their order, moved out of the map.
+    pub fn into_entries(self) -> Result<Vec<(String, V)>, AllocError>
+    where
+        V: Drop,
+        ensures { IfOk result (λ entries. text_entries entries.items ≡ self) }
     {
-        &self.map
-    }
-
-    /// The map of `indexmap`, given back.
-    pub fn into_map(self) -> IndexMap<String, V>
-        ensures { text_entries result.entries ≡ self }
-    {
-        let TextTable { map } = self;
-        map
+        let TextTable { table } = self;
+        table.into_entries()
     }
 }
 
@@ -151,14 +154,14 @@ impl<V: Clone> Clone for TextTable<V> {
 
     fn clone(&self) -> Result<TextTable<V>, AllocError> {
         Ok(TextTable {
-            map: self.map.clone()?,
+            table: self.table.clone()?,
         })
     }
 }
 
 impl<V: fmt::Debug> fmt::Debug for TextTable<V> {
     fn fmt<W: fmt::Write>(&self, f: &mut fmt::Formatter<W>) -> fmt::Result {
-        fmt::Debug::fmt(&self.map, f)
+        fmt::Debug::fmt(&self.table, f)
     }
 }
 
@@ -168,7 +171,7 @@ impl<V: PartialEq> PartialEq for TextTable<V> {
     ghost laws = { let v = V.laws in record { symm = λ a b. hash_map_eq_symm (pointwise nat_eq) V.eq v.symm (hash_map {S = Unit {0}} a tt 0) (hash_map {S = Unit {0}} b tt 0); trans = λ a b c. hash_map_eq_trans (pointwise nat_eq) V.eq nat_list_eq_equiv v.trans (hash_map {S = Unit {0}} a tt 0) (hash_map {S = Unit {0}} b tt 0) (hash_map {S = Unit {0}} c tt 0) } };
 
     fn eq(&self, other: &TextTable<V>) -> bool {
-        self.map == other.map
+        self.table == other.table
     }
 }
 

@@ -26,7 +26,6 @@ ghost use Rattle.wit_world_sides.specs.Settled.{none_of};
 ghost use Rattle.wit_world_sides.specs.Sides.{entries_of, entries_on, inserted_on};
 
 use crate::setters::settle;
-use indexmap::IndexMap;
 use std::alloc::{AllocError, Global};
 use wit_externs::held::{HeldExtern, HeldInline, HeldLink, Led};
 use wit_items::interfaces::Interfaces;
@@ -64,8 +63,7 @@ fn type_imports(
     requires distinct { AllDiffer (map (λ id. id.name.now) turn.now) }
     ensures { IfOk result (λ imports. (xs : List ScopeName) → turn.now ≡ map local_id xs → imports ≡ the_imports xs types.now) }
 {
-    let map = IndexMap::with_capacity(alloc, turn.len())?;
-    let mut imports = Table::from(map);
+    let mut imports = Table::with_capacity(alloc, turn.len())?;
     for (place, id) in turn.iter().enumerate() {
         if let Some((_, ty)) = types.get_index(place) {
             add_import(alloc, &mut imports, *id, *ty)?;

@@ -3,4 +3,4 @@ use Rattle.wit_values.proofs.TextTables.{lookup-text_entries}
 use Rattle.wit_values.proofs.text_table.TextTable.get.Goals as goal
 
 pub returns : goal.returns
-returns g c = rw (← c.self.view_is) (c.get.ensures.value ∙ lookup-text_entries c.args.key.now c.self.inside.map.entries)
+returns g c = rw (← c.self.view_is) (c.get_by.ensures ∙ lookup-text_entries c.args.key.now c.self.inside.table)
