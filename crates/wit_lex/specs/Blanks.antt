@@ -1,6 +1,6 @@
 -- What begins at a place between tokens.
 use Rattle.std.specs.Prelude.{◌≡◌, ℕ, ◌+◌, ◌-◌, ◌<◌, ◌≤◌, true, List, length, slice_index}
-use Rattle.wit_tree.specs.Comments.{IsComment, IsStop, is_blank}
+use Rattle.wit_tree.specs.Comments.{IsComment, IsNested, IsPair, IsStop, is_blank}
 use Rattle.wit_lex.specs.declared.blank.Blank.{Blank}
 use Rattle.wit_lex.specs.declared.blank.Blank.TheVariants.{Space, Comment, Endless, Nothing}
 
@@ -12,8 +12,17 @@ pub record IsWhole (source : List ℕ) (at end : ℕ) : Type 0 where
   pub first : slice_index source at ≡ 47
   pub last : end < length source → 128 ≤ slice_index source end → slice_index source (end - 1) < 128
 
+-- block comments from a place on, of which some are still open where at most one byte is left
+pub record IsEndless (source : List ℕ) (at : ℕ) : Type 0 where
+  pub front : IsPair source at 47 42
+  pub depth : ℕ
+  pub place : ℕ
+  pub nested : IsNested source at depth place
+  pub some : 0 < depth
+  pub last : length source ≤ place + 1
+
 abbrev pub Begins : List ℕ → ℕ → Blank → Type 0
 Begins source at Space = is_blank (slice_index source at) ≡ true
 Begins source at (Comment end) = IsWhole source at end
-Begins source at Endless = at + 2 ≤ length source
+Begins source at Endless = IsEndless source at
 Begins source at Nothing = IsStop source at

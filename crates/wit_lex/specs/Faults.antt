@@ -4,6 +4,9 @@ use Rattle.wit_values.specs.declared.span.Span.{Span}
 use Rattle.wit_tree.specs.declared.error.ParseError.{ParseError}
 use Rattle.wit_tree.specs.declared.error.ParseErrorKind.{ParseErrorKind}
 use Rattle.wit_tree.specs.declared.error.ParseErrorKind.TheVariants.{Syntax, ItemNotFound, TypeCycle, OutOfMemory}
+use Rattle.wit_tree.specs.Refusal.{IsWantOfMemory}
+use Rattle.wit_lex.specs.Blanks.{IsEndless}
+use Rattle.wit_lex.specs.Starts.{IsStrange}
 use Rattle.wit_lex.specs.declared.fault.ReadError.{ReadError}
 use Rattle.wit_lex.specs.declared.fault.ReadError.TheVariants.{Fault, OutOfMemory as Wanting}
 use Rattle.wit_lex.specs.declared.fault.ReadFault.{ReadFault}
@@ -45,7 +48,36 @@ Tells source offset number OutOfMemory = number ≡ 45
 pub record IsRefusal (source : List ℕ) (offset : ℕ) (e : ParseError) : Type 0 where
   pub tells : Tells source offset e.rule e.kind
 
+-- this fault in its words, from one place to another
+pub record IsFaultAt (fault : ReadFault) (from to number : ℕ) (span : Span) (message : List ℕ) : Type 0 where
+  pub rule : number ≡ rule_of fault
+  pub words : message ≡ words_of fault
+  pub start : span.start ≡ from
+  pub end : span.end ≡ to
+
+-- this fault from one place to another, or want of memory for its words
+abbrev pub TellsFault : ReadFault → ℕ → ℕ → ℕ → ParseErrorKind → Type 0
+TellsFault fault from to number (Syntax span message) = IsFaultAt fault from to number span (string_bytes message)
+TellsFault fault from to number (ItemNotFound span name kind hint) = ⊥
+TellsFault fault from to number (TypeCycle span name kind) = ⊥
+TellsFault fault from to number OutOfMemory = number ≡ 45
+
+-- why reading ended, told of a source whose first byte has the place `offset`
+abbrev pub IsRefusalOf : ReadError → ℕ → ParseError → Type 0
+IsRefusalOf (Fault fault start end) offset e = TellsFault fault (offset + start) (offset + end) e.rule e.kind
+IsRefusalOf Wanting offset e = IsWantOfMemory e
+
 -- what is at fault stands in the source
 abbrev pub IsWithin : List ℕ → ReadError → Type 0
 IsWithin source (Fault fault start end) = (start ≤ end) × (end ≤ length source)
 IsWithin source Wanting = Unit {0}
+
+-- why no token stands behind the blanks and comments from a place on
+abbrev pub IsUnread : List ℕ → ℕ → ReadError → Type 0
+IsUnread source from (Fault Character start end) = (from ≤ start) × IsStrange source start end
+IsUnread source from (Fault Comment start end) = (from ≤ start) × IsEndless source start × (end ≡ start + 2)
+IsUnread source from (Fault Token start end) = ⊥
+IsUnread source from (Fault Nesting start end) = ⊥
+IsUnread source from (Fault Version start end) = ⊥
+IsUnread source from (Fault Number start end) = ⊥
+IsUnread source from Wanting = ⊥

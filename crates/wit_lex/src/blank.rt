@@ -1,7 +1,7 @@
 //! Blanks and comments.
-ghost use Rattle.std.specs.Prelude.{◌≡◌, ◌+◌, ◌-◌, ◌<◌, ◌≤◌, length, slice_index, MatchResult, IfSome};
+ghost use Rattle.std.specs.Prelude.{◌≡◌, ◌+◌, ◌-◌, ◌<◌, ◌≤◌, length, slice_index, MatchResult, IfErr, IfNone, IfSome};
 ghost use Rattle.wit_tree.specs.Comments.{IsComment, IsLine, IsNested, IsPair, is_blank as is_blank_byte};
-ghost use Rattle.wit_lex.specs.Blanks.{Begins};
+ghost use Rattle.wit_lex.specs.Blanks.{Begins, IsEndless};
 
 use memchr::memchr;
 
@@ -44,6 +44,7 @@ fn block_end(bytes: &[u8], from: usize) -> Option<usize>
     ensures whole { IfSome result (λ end. IsNested bytes.now from 0 end) }
     ensures range { IfSome result (λ end. (from + 2 ≤ end) × (end ≤ length bytes.now)) }
     ensures last { IfSome result (λ end. slice_index bytes.now (end - 1) ≡ 47) }
+    ensures endless { IfNone result (IsEndless bytes.now from) }
 {
     let len = bytes.len();
     let mut depth: usize = 1;
@@ -101,7 +102,8 @@ pub fn blank_at(bytes: &[u8], at: usize) -> Blank
 /// comment that has no end.
 pub fn skip_blanks(bytes: &[u8], from: usize) -> Result<usize, usize>
     requires { from ≤ length bytes.now }
-    ensures { MatchResult result (λ at. (from ≤ at) × (at ≤ length bytes.now)) (λ at. at + 2 ≤ length bytes.now) }
+    ensures range { MatchResult result (λ at. (from ≤ at) × (at ≤ length bytes.now)) (λ at. at + 2 ≤ length bytes.now) }
+    ensures endless { IfErr result (λ at. (from ≤ at) × IsEndless bytes.now at) }
 {
     let len = bytes.len();
     let mut at = from;

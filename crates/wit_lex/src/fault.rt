@@ -1,7 +1,7 @@
 //! Why a text cannot be read.
 ghost use Rattle.std.specs.Prelude.{◌≡◌, ◌+◌, ◌<◌, ◌≤◌, ◌^◌, length};
-ghost use Rattle.wit_lex.specs.declared.fault.ReadError.TheVariants.{OutOfMemory};
-ghost use Rattle.wit_lex.specs.Faults.{IsRefusal, IsWithin, rule_of, words_of};
+ghost use Rattle.wit_lex.specs.declared.fault.ReadError.TheVariants.{Fault, OutOfMemory};
+ghost use Rattle.wit_lex.specs.Faults.{IsRefusal, IsRefusalOf, IsWithin, rule_of, words_of};
 
 use std::alloc::{AllocError, AllocFailed, Global};
 use wit_tree::{ParseError, ParseErrorKind, Span};
@@ -89,7 +89,8 @@ impl ReadError {
     pub fn refusal(self, alloc: Global, source: &str, offset: u32) -> ParseError
         requires within { IsWithin source.now self }
         requires fits { offset + length source.now < 2 ^ 32 }
-        ensures { IsRefusal source.now offset result }
+        ensures refusal { IsRefusal source.now offset result }
+        ensures told { IsRefusalOf self offset result }
     {
         match self {
             ReadError::Fault(fault, start, end) => {
@@ -125,7 +126,8 @@ fn refusal(
     requires order { start ≤ end }
     requires within { end ≤ length source.now }
     requires fits { offset + length source.now < 2 ^ 32 }
-    ensures { IsRefusal source.now offset result }
+    ensures refusal { IsRefusal source.now offset result }
+    ensures told { IsRefusalOf (Fault fault start end) offset result }
 {
     match String::from_str(alloc, fault.message()) {
         Ok(message) => {

@@ -1,5 +1,6 @@
 //! Kinds of tokens.
-ghost use Rattle.std.specs.Prelude.{◌<◌, IfSome};
+ghost use Rattle.std.specs.Prelude.{◌≡◌, ◌<◌, false, IfNone, IfSome};
+ghost use Rattle.wit_lex.specs.Starts.{is_sign};
 ghost use Rattle.wit_lex.specs.Tokens.{IsNoWord, IsWritten};
 
 use crate::scan::is_letter;
@@ -39,6 +40,7 @@ pub enum Kind {
 pub fn sign(c: u8) -> Option<Kind>
     ensures ascii { IfSome result (λ _. c < 128) }
     ensures no_word { IfSome result IsNoWord }
+    ensures none { IfNone result (is_sign c ≡ false) }
 {
     match c {
         b'=' => Some(Kind::Equals),

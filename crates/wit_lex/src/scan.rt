@@ -1,9 +1,12 @@
 //! Letters, digits and the runs of them.
-ghost use Rattle.std.specs.Prelude.{◌≡◌, ◌+◌, ◌-◌, ◌<◌, ◌≤◌, true, length, slice_index, slice_range};
+ghost use Rattle.std.specs.Prelude.{◌≡◌, ◌+◌, ◌-◌, ◌<◌, ◌≤◌, true, false, length, slice_index, slice_range};
+ghost use Rattle.std.specs.Char.{is_ascii_digit, is_ascii_lowercase};
 ghost use Rattle.wit_tree.specs.Slices.{unescaped};
+ghost use Rattle.wit_lex.specs.Starts.{is_in_word, is_letter as is_letter_byte, width_of};
 
 /// A letter.
 pub fn is_letter(c: u8) -> bool
+    ensures letter { result ≡ is_letter_byte c }
     ensures ascii { result ≡ true → c < 128 }
     ensures some { result ≡ true → 0 < c }
 {
@@ -12,6 +15,7 @@ pub fn is_letter(c: u8) -> bool
 
 /// A digit.
 pub fn is_digit(c: u8) -> bool
+    ensures digit { result ≡ is_ascii_digit c }
     ensures ascii { result ≡ true → c < 128 }
     ensures some { result ≡ true → 0 < c }
 {
@@ -20,13 +24,15 @@ pub fn is_digit(c: u8) -> bool
 
 /// A letter in lower case, as most are.
 fn is_small_letter(c: u8) -> bool
-    ensures { result ≡ true → c < 128 }
+    ensures small { result ≡ is_ascii_lowercase c }
+    ensures ascii { result ≡ true → c < 128 }
 {
     c >= b'a' && c <= b'z'
 }
 
 /// A letter, a digit or `-`.
 pub fn is_word_byte(c: u8) -> bool
+    ensures word { result ≡ is_in_word c }
     ensures ascii { result ≡ true → c < 128 }
 {
     is_letter(c) || is_digit(c) || c == b'-'
@@ -37,6 +43,7 @@ pub fn word_end(bytes: &[u8], from: usize) -> usize
     requires { from ≤ length bytes.now }
     ensures after { from ≤ result }
     ensures within { result ≤ length bytes.now }
+    ensures stop { result < length bytes.now → is_in_word (slice_index bytes.now result) ≡ false }
     ensures ascii { from < result → slice_index bytes.now (result - 1) < 128 }
 {
     let len = bytes.len();
@@ -60,6 +67,7 @@ pub fn digits_end(bytes: &[u8], from: usize) -> usize
     requires { from ≤ length bytes.now }
     ensures after { from ≤ result }
     ensures within { result ≤ length bytes.now }
+    ensures stop { result < length bytes.now → is_ascii_digit (slice_index bytes.now result) ≡ false }
     ensures ascii { from < result → slice_index bytes.now (result - 1) < 128 }
 {
     let len = bytes.len();
@@ -75,6 +83,7 @@ pub fn digits_end(bytes: &[u8], from: usize) -> usize
 
 /// How many bytes the character has whose first one is `c`.
 pub fn width(c: u8) -> usize
+    ensures width { result ≡ width_of c }
     ensures some { 0 < result }
     ensures most { result ≤ 4 }
 {

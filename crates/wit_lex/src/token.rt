@@ -1,6 +1,7 @@
 //! Tokens.
 ghost use Rattle.std.specs.Prelude.{◌≡◌, ◌<◌, ◌≤◌, ◌-◌, length, slice_index, IfOk, IfErr};
-ghost use Rattle.wit_lex.specs.Faults.{IsWithin};
+ghost use Rattle.wit_lex.specs.Faults.{IsUnread, IsWithin};
+ghost use Rattle.wit_lex.specs.Starts.{IsNoStart};
 ghost use Rattle.wit_lex.specs.Tokens.{IsToken};
 
 use crate::blank::skip_blanks;
@@ -25,6 +26,7 @@ fn token_end(bytes: &[u8], start: usize) -> usize
     ensures within { result ≤ length bytes.now }
     ensures first { start < result → slice_index bytes.now start < 128 }
     ensures last { start < result → slice_index bytes.now (result - 1) < 128 }
+    ensures none { result ≡ start → IsNoStart bytes.now start }
 {
     let first = bytes[start];
     if is_letter(first) {
@@ -52,6 +54,7 @@ fn token_at<'a>(source: &'a str, start: usize) -> ReadResult<Token<'a>>
     ensures token { IfOk result (λ t. IsToken source.now t) }
     ensures there { IfOk result (λ t. start ≡ t.start) }
     ensures refused { IfErr result (IsWithin source.now) }
+    ensures unread { IfErr result (IsUnread source.now start) }
 {
     let bytes = source.as_bytes();
     let first = bytes[start];
@@ -88,6 +91,7 @@ pub fn next_token<'a>(source: &'a str, from: usize) -> ReadResult<Token<'a>>
     ensures token { IfOk result (λ t. IsToken source.now t) }
     ensures onward { IfOk result (λ t. from ≤ t.start) }
     ensures refused { IfErr result (IsWithin source.now) }
+    ensures unread { IfErr result (IsUnread source.now from) }
 {
     let bytes = source.as_bytes();
     let start = match skip_blanks(bytes, from) {

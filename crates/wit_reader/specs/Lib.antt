@@ -1,4 +1,5 @@
 pub mod Attributes
+pub mod Deeper
 pub mod Fronts
 pub mod Headers
 pub mod Reading

@@ -1,6 +1,7 @@
 //! A reader goes through the tokens of a source, one after the other.
 ghost use Rattle.std.specs.Prelude.{◌≡◌, ◌+◌, ◌<◌, ◌≤◌, ◌^◌, [], ◌∷◌, length, IfOk, OnOk, IfErr, IsTrue};
 ghost use Rattle.wit_tree.specs.Marks.{named, spelled, told};
+ghost use Rattle.wit_lex.specs.declared.fault.ReadError.TheVariants.{Fault};
 ghost use Rattle.wit_lex.specs.Tokens.{IsToken};
 ghost use Rattle.wit_lex.specs.Words.{word_text};
 
@@ -43,7 +44,8 @@ impl<'a> Reader<'a> {
 
     /// The fault of the token.
     pub fn refuse(&self, fault: ReadFault) -> ReadError
-        ensures { IsRefused self.now result }
+        ensures refused { IsRefused self.now result }
+        ensures exact { result ≡ Fault fault self.now.token.start self.now.token.end }
     {
         ReadError::Fault(fault, self.token.start, self.token.end)
     }

@@ -3,6 +3,7 @@ ghost use Rattle.std.specs.Prelude.{◌≡◌, ◌+◌, [], ◌∷◌, ◌++◌,
 ghost use Rattle.std.specs.List.{flat_map};
 ghost use Rattle.wit_values.specs.declared.span.Span.{Span as TheSpan};
 ghost use Rattle.wit_tree.specs.Marks.{spelled, counted, type_marks, boxed_marks, size_marks};
+ghost use Rattle.wit_reader.specs.Deeper.{word_begins_type, kind_begins_type, deeper_fault};
 
 use crate::primitive::primitive;
 use crate::reader::Reader;
@@ -17,7 +18,9 @@ use wit_values::{beside, push};
 pub const MOST_NESTED: u8 = 100;
 
 /// Whether a word begins a type.
-fn begins_type(word: Word) -> bool {
+fn begins_type(word: Word) -> bool
+    ensures { result ≡ word_begins_type word }
+{
     matches!(
         word,
         Word::Bool
@@ -60,7 +63,9 @@ impl<'a> Reader<'a> {
     ghost use Rattle.wit_reader.specs.Reading.{IsRead, IsReadOn, IsRefused};
 
     /// Whether a type begins with the token.
-    fn begins_type(&self) -> bool {
+    fn begins_type(&self) -> bool
+        ensures { result ≡ kind_begins_type self.now.token.kind }
+    {
         match self.token.kind {
             Kind::Name => true,
             Kind::Word(word) => begins_type(word),
@@ -70,7 +75,8 @@ impl<'a> Reader<'a> {
 
     /// The refusal of the token where no further level of types is read.
     fn refuse_deeper(&self) -> ReadError
-        ensures { IsRefused self.now result }
+        ensures refused { IsRefused self.now result }
+        ensures exact { result ≡ deeper_fault self.now.token }
     {
         if self.begins_type() {
             self.refuse(ReadFault::Nesting)

@@ -2,6 +2,7 @@
 ghost use Rattle.std.specs.Prelude.{◌≡◌, ◌<◌, ◌≤◌, [], ◌∷◌, ◌-◌, length, slice_index, IfOk, IfErr};
 ghost use Rattle.wit_tree.specs.Marks.{versioned};
 ghost use Rattle.wit_reader.specs.Headers.{found_marks};
+ghost use Rattle.wit_reader.specs.Reading.{IsRefusedFrom};
 ghost use Rattle.wit_lex.specs.Faults.{IsWithin};
 
 use crate::reader::Reader;
@@ -17,7 +18,8 @@ use wit_tree::Span;
 /// The fault of the first token from a place on.
 fn refuse_from(source: &str, from: usize) -> ReadError
     requires within { from ≤ length source.now }
-    ensures { IsWithin source.now result }
+    ensures within { IsWithin source.now result }
+    ensures told { IsRefusedFrom source.now from result }
 {
     match next_token(source, from) {
         Ok(token) => ReadError::Fault(ReadFault::Token, token.start, token.end),
