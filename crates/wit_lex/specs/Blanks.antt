@@ -12,6 +12,17 @@ pub record IsWhole (source : List ℕ) (at end : ℕ) : Type 0 where
   pub first : slice_index source at ≡ 47
   pub last : end < length source → 128 ≤ slice_index source end → slice_index source (end - 1) < 128
 
+-- from one place to another there are blanks and comments alone
+pub data IsSkipped (source : List ℕ) (from : ℕ) : ℕ → Type 0 where
+  Here : IsSkipped source from from
+  PastBlank : (at : ℕ) → IsSkipped source from at → at < length source → is_blank (slice_index source at) ≡ true → IsSkipped source from (at + 1)
+  PastComment : (at end : ℕ) → IsSkipped source from at → IsComment source at end → IsSkipped source from end
+
+-- the first place from another one on where neither a blank nor a comment begins
+pub record IsFirst (source : List ℕ) (from at : ℕ) : Type 0 where
+  pub skipped : IsSkipped source from at
+  pub stop : IsStop source at
+
 -- block comments from a place on, of which some are still open where at most one byte is left
 pub record IsEndless (source : List ℕ) (at : ℕ) : Type 0 where
   pub front : IsPair source at 47 42

@@ -5,7 +5,7 @@ use Rattle.wit_tree.specs.declared.error.ParseError.{ParseError}
 use Rattle.wit_tree.specs.declared.error.ParseErrorKind.{ParseErrorKind}
 use Rattle.wit_tree.specs.declared.error.ParseErrorKind.TheVariants.{Syntax, ItemNotFound, TypeCycle, OutOfMemory}
 use Rattle.wit_tree.specs.Refusal.{IsWantOfMemory}
-use Rattle.wit_lex.specs.Blanks.{IsEndless}
+use Rattle.wit_lex.specs.Blanks.{IsEndless, IsFirst, IsSkipped}
 use Rattle.wit_lex.specs.Starts.{IsStrange}
 use Rattle.wit_lex.specs.declared.fault.ReadError.{ReadError}
 use Rattle.wit_lex.specs.declared.fault.ReadError.TheVariants.{Fault, OutOfMemory as Wanting}
@@ -72,10 +72,20 @@ abbrev pub IsWithin : List ℕ → ReadError → Type 0
 IsWithin source (Fault fault start end) = (start ≤ end) × (end ≤ length source)
 IsWithin source Wanting = Unit {0}
 
--- why no token stands behind the blanks and comments from a place on
+-- the character at a place begins no token
+abbrev pub IsNoToken : List ℕ → ℕ → ReadError → Type 0
+IsNoToken source at (Fault Character start end) = (start ≡ at) × IsStrange source start end
+IsNoToken source at (Fault Comment start end) = ⊥
+IsNoToken source at (Fault Token start end) = ⊥
+IsNoToken source at (Fault Nesting start end) = ⊥
+IsNoToken source at (Fault Version start end) = ⊥
+IsNoToken source at (Fault Number start end) = ⊥
+IsNoToken source at Wanting = ⊥
+
+-- behind the blanks and comments from a place on stands a character that begins no token, or a comment that has no end
 abbrev pub IsUnread : List ℕ → ℕ → ReadError → Type 0
-IsUnread source from (Fault Character start end) = (from ≤ start) × IsStrange source start end
-IsUnread source from (Fault Comment start end) = (from ≤ start) × IsEndless source start × (end ≡ start + 2)
+IsUnread source from (Fault Character start end) = IsFirst source from start × IsStrange source start end
+IsUnread source from (Fault Comment start end) = IsSkipped source from start × IsEndless source start × (end ≡ start + 2)
 IsUnread source from (Fault Token start end) = ⊥
 IsUnread source from (Fault Nesting start end) = ⊥
 IsUnread source from (Fault Version start end) = ⊥

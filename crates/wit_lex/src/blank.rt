@@ -1,7 +1,7 @@
 //! Blanks and comments.
-ghost use Rattle.std.specs.Prelude.{◌≡◌, ◌+◌, ◌-◌, ◌<◌, ◌≤◌, length, slice_index, MatchResult, IfErr, IfNone, IfSome};
+ghost use Rattle.std.specs.Prelude.{◌≡◌, ◌+◌, ◌-◌, ◌<◌, ◌≤◌, length, slice_index, MatchResult, IfOk, IfErr, IfNone, IfSome};
 ghost use Rattle.wit_tree.specs.Comments.{IsComment, IsLine, IsNested, IsPair, is_blank as is_blank_byte};
-ghost use Rattle.wit_lex.specs.Blanks.{Begins, IsEndless};
+ghost use Rattle.wit_lex.specs.Blanks.{Begins, IsEndless, IsFirst, IsSkipped};
 
 use memchr::memchr;
 
@@ -103,7 +103,8 @@ pub fn blank_at(bytes: &[u8], at: usize) -> Blank
 pub fn skip_blanks(bytes: &[u8], from: usize) -> Result<usize, usize>
     requires { from ≤ length bytes.now }
     ensures range { MatchResult result (λ at. (from ≤ at) × (at ≤ length bytes.now)) (λ at. at + 2 ≤ length bytes.now) }
-    ensures endless { IfErr result (λ at. (from ≤ at) × IsEndless bytes.now at) }
+    ensures first { IfOk result (IsFirst bytes.now from) }
+    ensures endless { IfErr result (λ at. IsSkipped bytes.now from at × IsEndless bytes.now at) }
 {
     let len = bytes.len();
     let mut at = from;

@@ -1,6 +1,7 @@
 //! Tokens.
 ghost use Rattle.std.specs.Prelude.{◌≡◌, ◌<◌, ◌≤◌, ◌-◌, length, slice_index, IfOk, IfErr};
-ghost use Rattle.wit_lex.specs.Faults.{IsUnread, IsWithin};
+ghost use Rattle.wit_lex.specs.Blanks.{IsFirst};
+ghost use Rattle.wit_lex.specs.Faults.{IsNoToken, IsUnread, IsWithin};
 ghost use Rattle.wit_lex.specs.Starts.{IsNoStart};
 ghost use Rattle.wit_lex.specs.Tokens.{IsToken};
 
@@ -54,7 +55,7 @@ fn token_at<'a>(source: &'a str, start: usize) -> ReadResult<Token<'a>>
     ensures token { IfOk result (λ t. IsToken source.now t) }
     ensures there { IfOk result (λ t. start ≡ t.start) }
     ensures refused { IfErr result (IsWithin source.now) }
-    ensures unread { IfErr result (IsUnread source.now start) }
+    ensures strange { IfErr result (IsNoToken source.now start) }
 {
     let bytes = source.as_bytes();
     let first = bytes[start];
@@ -90,6 +91,7 @@ pub fn next_token<'a>(source: &'a str, from: usize) -> ReadResult<Token<'a>>
     requires within { from ≤ length source.now }
     ensures token { IfOk result (λ t. IsToken source.now t) }
     ensures onward { IfOk result (λ t. from ≤ t.start) }
+    ensures first { IfOk result (λ t. IsFirst source.now from t.start) }
     ensures refused { IfErr result (IsWithin source.now) }
     ensures unread { IfErr result (IsUnread source.now from) }
 {

@@ -7,6 +7,7 @@ use Rattle.wit_lex.specs.declared.fault.ReadError.{ReadError}
 use Rattle.wit_lex.specs.declared.fault.ReadError.TheVariants.{Fault}
 use Rattle.wit_lex.specs.declared.fault.ReadFault.TheVariants as fault
 use Rattle.wit_lex.specs.declared.token.Token.{Token}
+use Rattle.wit_lex.specs.Blanks.{IsFirst}
 use Rattle.wit_lex.specs.Faults.{IsUnread, IsWithin}
 use Rattle.wit_lex.specs.Tokens.{IsToken}
 
@@ -29,4 +30,4 @@ IsRefused reader e = IsWithin reader.source.now e
 
 -- the token behind the blanks and comments from a place on is refused, or none stands there
 abbrev pub IsRefusedFrom : List ℕ → ℕ → ReadError → Type 0
-IsRefusedFrom source from e = ((t : Token) × IsToken source t × (from ≤ t.start) × (e ≡ Fault fault.Token t.start t.end)) ⊎ IsUnread source from e
+IsRefusedFrom source from e = ((t : Token) × IsToken source t × IsFirst source from t.start × (e ≡ Fault fault.Token t.start t.end)) ⊎ IsUnread source from e
