@@ -1,10 +1,10 @@
 -- What is met in a type without a name: forms that an unnamed type can have.
 use Rattle.std.proofs.Common.{◌≡◌, List, [], ◌∷◌, inl, inr, subst}
-use Rattle.wit_tree.specs.declared.types.«Type».{«Type» as Written, Held-Type-Result-1 as Held, None', Some', Row_of-Type, end_of-Type, more_of-Type}
-use Rattle.wit_tree.specs.declared.types.«Type».TheVariants as written
-use Rattle.wit_tree.specs.declared.types.TypeBody.{TypeBody}
-use Rattle.wit_tree.specs.declared.types.TypeBody.TheVariants.{Record, Flags, Variant, Enum, Resource, Plain}
-use Rattle.wit_tree.specs.Parts.{field_types, case_types}
+use Rattle.wit_type_tree.specs.declared.types.«Type».{«Type» as Written, Held-Type-Result-1 as Held, None', Some', Row_of-Type, end_of-Type, more_of-Type}
+use Rattle.wit_type_tree.specs.declared.types.«Type».TheVariants as written
+use Rattle.wit_type_tree.specs.declared.types.TypeBody.{TypeBody}
+use Rattle.wit_type_tree.specs.declared.types.TypeBody.TheVariants.{Record, Flags, Variant, Enum, Resource, Plain}
+use Rattle.wit_type_tree.specs.Parts.{field_types, case_types}
 use Rattle.wit_syntax.specs.Form.{Form, UnknownForm}
 use Rattle.wit_syntax.specs.Shape.{Shape, Shapes, shape_of, held_shape, row_shapes, all_shapes, head, written_body, body_of}
 use Rattle.wit_syntax.specs.Shape as shape

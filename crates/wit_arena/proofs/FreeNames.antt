@@ -3,13 +3,13 @@ use Rattle.std.proofs.Common.{◌≡◌, ℕ, zero, suc, List, [], ◌∷◌, �
 use Rattle.std.specs.Prelude.{slice_get, map}
 use Rattle.std.specs.List.{flat_map}
 use Rattle.std.proofs.lemmas.Option.{slice_get_within}
-use Rattle.wit_tree.specs.declared.types.FuncForm.{FuncForm}
-use Rattle.wit_tree.specs.declared.types.FuncForm.TheVariants as form
-use Rattle.wit_tree.specs.declared.tree.Id.{Id}
-use Rattle.wit_tree.specs.declared.types.TypeBody.{TypeBody}
-use Rattle.wit_tree.specs.declared.types.TypeBody.TheVariants as body
-use Rattle.wit_tree.specs.declared.types.ResourceFunc.{ResourceFunc}
-use Rattle.wit_tree.specs.declared.types.ResourceFunc.TheVariants as resource
+use Rattle.wit_type_tree.specs.declared.types.FuncForm.{FuncForm}
+use Rattle.wit_type_tree.specs.declared.types.FuncForm.TheVariants as form
+use Rattle.wit_type_tree.specs.declared.leaves.Id.{Id}
+use Rattle.wit_type_tree.specs.declared.types.TypeBody.{TypeBody}
+use Rattle.wit_type_tree.specs.declared.types.TypeBody.TheVariants as body
+use Rattle.wit_type_tree.specs.declared.types.ResourceFunc.{ResourceFunc}
+use Rattle.wit_type_tree.specs.declared.types.ResourceFunc.TheVariants as resource
 use Rattle.wit_functions.specs.declared.function.Function.{Function}
 use Rattle.wit_functions.specs.declared.function.FunctionKind.{FunctionKind}
 use Rattle.wit_syntax.specs.Address.{Address}

@@ -3,7 +3,7 @@ use Rattle.std.proofs.Common.{◌≡◌, ℕ, not, List, [], take, Option, Some,
 use Rattle.std.specs.Prelude.{if◌then◌else◌, map}
 use Rattle.std.specs.List.{filter}
 use Rattle.wit_values.specs.declared.span.Span.{Span}
-use Rattle.wit_tree.specs.declared.tree.Id.{Id}
+use Rattle.wit_type_tree.specs.declared.leaves.Id.{Id}
 use Rattle.wit_tree.specs.declared.tree.PackageFile.{PackageFile}
 use Rattle.wit_package_names.specs.declared.package_name.PackageName.{PackageName}
 use Rattle.wit_types.specs.declared.stability.Stability.{Stability}

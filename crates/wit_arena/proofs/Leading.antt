@@ -7,11 +7,11 @@ use Rattle.std.specs.Str.{bytes_eq}
 use Rattle.std.proofs.lemmas.List.{take-append-drop}
 use Rattle.std.proofs.lemmas.List.Elements.{filter-append}
 use Rattle.std.proofs.lemmas.Option.{slice_get-get_or, slice_get_within, get_or_from_slice_get}
-use Rattle.wit_tree.specs.declared.tree.Id.{Id}
+use Rattle.wit_type_tree.specs.declared.leaves.Id.{Id}
 use Rattle.wit_tree.specs.declared.tree.Include.{Include}
 use Rattle.wit_tree.specs.declared.tree.UsePath.{UsePath}
 use Rattle.wit_tree.specs.declared.tree.Use.{Use}
-use Rattle.wit_tree.specs.declared.tree.Attribute.{Attribute}
+use Rattle.wit_type_tree.specs.declared.leaves.Attribute.{Attribute}
 use Rattle.wit_tree.specs.declared.tree.UseName.{UseName}
 use Rattle.wit_tree.specs.declared.tree.InterfaceItem.{InterfaceItem}
 use Rattle.wit_tree.specs.declared.tree.InterfaceItem.TheVariants as interface_item

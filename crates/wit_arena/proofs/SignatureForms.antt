@@ -2,14 +2,14 @@
 use Rattle.std.proofs.Common.{◌≡◌, ℕ, zero, suc, List, [], ◌∷◌, map, Option, Some, None, inl, inr, subst}
 use Rattle.std.specs.Prelude.{slice_get}
 use Rattle.std.specs.Option.{option_map, option_map_or, option_to_list}
-use Rattle.wit_tree.specs.declared.tree.Id.{Id}
-use Rattle.wit_tree.specs.declared.types.«Type».{«Type» as Written}
-use Rattle.wit_tree.specs.declared.types.NamedFunc.{NamedFunc}
-use Rattle.wit_tree.specs.declared.types.Param.{Param}
-use Rattle.wit_tree.specs.declared.types.TypeBody.{TypeBody}
-use Rattle.wit_tree.specs.declared.types.TypeBody.TheVariants as body
-use Rattle.wit_tree.specs.declared.types.ResourceFunc.{ResourceFunc}
-use Rattle.wit_tree.specs.declared.types.ResourceFunc.TheVariants as resource
+use Rattle.wit_type_tree.specs.declared.leaves.Id.{Id}
+use Rattle.wit_type_tree.specs.declared.types.«Type».{«Type» as Written}
+use Rattle.wit_type_tree.specs.declared.types.NamedFunc.{NamedFunc}
+use Rattle.wit_type_tree.specs.declared.types.Param.{Param}
+use Rattle.wit_type_tree.specs.declared.types.TypeBody.{TypeBody}
+use Rattle.wit_type_tree.specs.declared.types.TypeBody.TheVariants as body
+use Rattle.wit_type_tree.specs.declared.types.ResourceFunc.{ResourceFunc}
+use Rattle.wit_type_tree.specs.declared.types.ResourceFunc.TheVariants as resource
 use Rattle.wit_tree.specs.declared.tree.PackageFile.{PackageFile}
 use Rattle.wit_syntax.specs.Shape.{Shape, Word, shape_of}
 use Rattle.wit_syntax.specs.Address.{Address}
@@ -19,9 +19,9 @@ use Rattle.wit_syntax.specs.Function.{Role, SourceParam, SourceFunction, all_par
 use Rattle.wit_arena.specs.Whole.{functions_at}
 use Rattle.wit_syntax.proofs.Lists.{at_split, map_at, flat_map_at}
 use Rattle.wit_arena.proofs.Forms.{AreAnonymous, written_anonymous}
-use Rattle.wit_tree.specs.declared.types.Func.{Func}
-use Rattle.wit_tree.specs.declared.tree.Docs.{Docs}
-use Rattle.wit_tree.specs.declared.tree.Attribute.{Attribute}
+use Rattle.wit_type_tree.specs.declared.types.Func.{Func}
+use Rattle.wit_type_tree.specs.declared.leaves.Docs.{Docs}
+use Rattle.wit_type_tree.specs.declared.leaves.Attribute.{Attribute}
 use Rattle.wit_syntax.proofs.Externs.{extern_at}
 
 -- of a function

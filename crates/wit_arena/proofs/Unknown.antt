@@ -1,6 +1,6 @@
 -- Names that stand for nothing yet.
 use Rattle.std.proofs.Common.{◌≡◌, [], ◌∷◌, None, refl, arith}
-use Rattle.wit_tree.specs.declared.tree.Id.{Id}
+use Rattle.wit_type_tree.specs.declared.leaves.Id.{Id}
 use Rattle.wit_syntax.specs.Fault.{Fault, missing_type_at}
 use Rattle.wit_arena.specs.Resolving.{Env, IsUnknown}
 

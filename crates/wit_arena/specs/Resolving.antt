@@ -6,15 +6,15 @@ use Rattle.std.specs.Map.{lookup}
 use Rattle.std.specs.Option.{option_map, unwrap_or}
 use Rattle.indexmap.specs.IndexMap.{insert_entry}
 use Rattle.wit_values.specs.declared.span.Span.{Span}
-use Rattle.wit_tree.specs.declared.tree.Id.{Id}
-use Rattle.wit_tree.specs.declared.tree.Attribute.{Attribute}
+use Rattle.wit_type_tree.specs.declared.leaves.Id.{Id}
+use Rattle.wit_type_tree.specs.declared.leaves.Attribute.{Attribute}
 use Rattle.wit_tree.specs.declared.tree.UsePath.{UsePath}
 use Rattle.wit_tree.specs.declared.tree.UseName.{UseName}
 use Rattle.wit_tree.specs.declared.tree.PackageFile.{PackageFile}
-use Rattle.wit_tree.specs.declared.types.«Type».{«Type» as WrittenType}
-use Rattle.wit_tree.specs.declared.types.TypeBody.{TypeBody}
-use Rattle.wit_tree.specs.declared.types.TypeDef.{TypeDef as Definition}
-use Rattle.wit_tree.specs.Parts.{body_types}
+use Rattle.wit_type_tree.specs.declared.types.«Type».{«Type» as WrittenType}
+use Rattle.wit_type_tree.specs.declared.types.TypeBody.{TypeBody}
+use Rattle.wit_type_tree.specs.declared.types.TypeDef.{TypeDef as Definition}
+use Rattle.wit_type_tree.specs.Parts.{body_types}
 use Rattle.wit_types.specs.declared.stability.Stability.{Stability}
 use Rattle.wit_types.specs.declared.types.«Type».{«Type» as Ty}
 use Rattle.wit_types.specs.declared.types.«Type».TheVariants as type

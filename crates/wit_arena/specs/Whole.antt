@@ -40,7 +40,7 @@ use Rattle.wit_arena.specs.Expr.{Expr, expr_of}
 use Rattle.wit_functions.specs.declared.function.Function.{Function}
 use Rattle.wit_syntax.specs.Function.{SourceFunction, signature, functions as item_functions, all_types}
 use Rattle.wit_syntax.specs.Ends.{AtResource, AtForeign, EndsAt}
-use Rattle.wit_tree.specs.declared.tree.Id.{Id}
+use Rattle.wit_type_tree.specs.declared.leaves.Id.{Id}
 use Rattle.wit_tree.specs.declared.tree.WorldSide.TheVariants.{Imported, Exported}
 use Rattle.wit_arena.specs.Functions.{AreFunctions, placed_functions}
 use Rattle.wit_arena.specs.SideItems.{AreSideItems, settled}

@@ -7,7 +7,7 @@ ghost use Rattle.wit_bundle.specs.Laid.{AreLaid, room};
 use crate::parts::{front_of, named};
 use std::alloc::Global;
 use wit_lex::SourceMap;
-use wit_tree::ParseResult;
+use wit_type_tree::ParseResult;
 
 /// The path of a text in front of all lines that start a source.
 const PATH: &str = "stdin.wit";

@@ -3,8 +3,8 @@ use Rattle.std.proofs.Common.{◌≡◌, ℕ, zero, suc, List, [], ◌∷◌, �
 use Rattle.std.specs.Prelude.{slice_get}
 use Rattle.std.specs.List.{cons_option}
 use Rattle.std.specs.Option.{option_to_list}
-use Rattle.wit_tree.specs.declared.types.Case.{Case}
-use Rattle.wit_tree.specs.Parts.{case_types}
+use Rattle.wit_type_tree.specs.declared.types.Case.{Case}
+use Rattle.wit_type_tree.specs.Parts.{case_types}
 use Rattle.wit_types.specs.declared.types.TypeDef.{TypeDef}
 use Rattle.wit_syntax.specs.Fault.{Fault}
 use Rattle.wit_arena.specs.Resolving.{Env, AreWrongTypes}

@@ -1,7 +1,7 @@
 //! Bodies of definitions, as kinds of entries.
 ghost use Rattle.std.specs.Prelude.{◌≡◌, ◌⊎◌, [], map, IfOk, IfErr, OnOk};
 ghost use Rattle.std.specs.Option.{option_to_list};
-ghost use Rattle.wit_tree.specs.Parts.{field_types, case_types, body_types};
+ghost use Rattle.wit_type_tree.specs.Parts.{field_types, case_types, body_types};
 ghost use Rattle.wit_syntax.specs.Form.{RecordForm, FlagsForm, VariantForm, EnumForm};
 ghost use Rattle.wit_arena.specs.Kind.{kind_of, field_member, flag_member, case_member, enum_case_member, payloads};
 ghost use Rattle.wit_syntax.specs.Shape.{member, written_field, written_flag, written_case, written_enum_case, written_body, body_of, handles, all_handles};

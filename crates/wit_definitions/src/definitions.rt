@@ -1,6 +1,6 @@
 //! Definitions, as named entries of the arena.
 ghost use Rattle.std.specs.Prelude.{◌≡◌, ◌⊎◌, List, [], ◌∷◌, OnOk, IfErr};
-ghost use Rattle.wit_tree.specs.Parts.{body_types};
+ghost use Rattle.wit_type_tree.specs.Parts.{body_types};
 ghost use Rattle.wit_syntax.specs.Address.{Address};
 ghost use Rattle.wit_syntax.specs.Shape.{all_handles};
 ghost use Rattle.wit_syntax.specs.Source.{Defined};

@@ -5,12 +5,12 @@ use Rattle.std.specs.Option.{option_to_list}
 use Rattle.std.proofs.lemmas.List.{append-nil}
 use Rattle.std.specs.declared.alloc.Global.{Global}
 use Rattle.wit_values.specs.declared.span.Span.{Span}
-use Rattle.wit_tree.specs.declared.error.ParseError.{ParseError}
-use Rattle.wit_tree.specs.declared.tree.Id.{Id}
-use Rattle.wit_tree.specs.declared.types.«Type».{«Type» as Written}
-use Rattle.wit_tree.specs.declared.types.«Type».TheVariants as written
-use Rattle.wit_tree.specs.declared.types.TypeBody.TheVariants.{Plain}
-use Rattle.wit_tree.specs.Parts.{part_types, boxed_types}
+use Rattle.wit_type_tree.specs.declared.error.ParseError.{ParseError}
+use Rattle.wit_type_tree.specs.declared.leaves.Id.{Id}
+use Rattle.wit_type_tree.specs.declared.types.«Type».{«Type» as Written}
+use Rattle.wit_type_tree.specs.declared.types.«Type».TheVariants as written
+use Rattle.wit_type_tree.specs.declared.types.TypeBody.TheVariants.{Plain}
+use Rattle.wit_type_tree.specs.Parts.{part_types, boxed_types}
 use Rattle.wit_types.specs.declared.types.«Type».{«Type» as Ty}
 use Rattle.wit_types.specs.declared.stability.Stability.{Stability}
 use Rattle.wit_types.specs.declared.types.TypeDef.{TypeDef}

@@ -1,6 +1,6 @@
 -- What handles require of types of other packages, and arenas that have grown.
 use Rattle.std.specs.Prelude.{◌≡◌, List, ◌++◌}
-use Rattle.wit_tree.specs.declared.tree.Id.{Id}
+use Rattle.wit_type_tree.specs.declared.leaves.Id.{Id}
 use Rattle.wit_types.specs.declared.types.TypeDef.{TypeDef}
 use Rattle.wit_arena.specs.Resolving.{Env, Required, AreEnded}
 

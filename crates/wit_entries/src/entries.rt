@@ -1,6 +1,6 @@
 //! The types of a package, while they are made: each unnamed one once.
 ghost use Rattle.std.specs.Prelude.{◌≡◌, ℕ, Some, [], ◌∷◌, ◌++◌, ◌↔◌, length, IsTrue, IfOk, OnOk, OnErr, IfErr, IfSome, IfNone};
-ghost use Rattle.wit_tree.specs.Refusal.{IsWantOfMemory};
+ghost use Rattle.wit_type_tree.specs.Refusal.{IsWantOfMemory};
 ghost use Rattle.wit_types.specs.declared.types.TypeDef.{TypeDef};
 ghost use Rattle.wit_arena.specs.Meet.{settled as the_settled};
 ghost use Rattle.wit_arena.specs.Package.{At};

@@ -1,6 +1,6 @@
 //! The names of a scope, while it is resolved.
 ghost use Rattle.std.specs.Prelude.{◌≡◌, OnOk, IfErr};
-ghost use Rattle.wit_tree.specs.Refusal.{IsWantOfMemory};
+ghost use Rattle.wit_type_tree.specs.Refusal.{IsWantOfMemory};
 ghost use Rattle.wit_arena.specs.Resolving.{IsAdded};
 ghost use Rattle.wit_notes.specs.Notes.{notes_behind};
 ghost use Rattle.wit_entries.specs.Requiring.{IsGrown};

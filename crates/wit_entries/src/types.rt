@@ -1,8 +1,8 @@
 //! Written types, as types of the arena.
 ghost use Rattle.std.specs.Prelude.{◌≡◌, IfOk, IfErr, OnOk, is_some};
 ghost use Rattle.std.specs.Option.{option_to_list};
-ghost use Rattle.wit_tree.specs.Refusal.{IsWantOfMemory};
-ghost use Rattle.wit_tree.specs.Parts.{boxed_types};
+ghost use Rattle.wit_type_tree.specs.Refusal.{IsWantOfMemory};
+ghost use Rattle.wit_type_tree.specs.Parts.{boxed_types};
 ghost use Rattle.wit_syntax.specs.Shape.{shape_of, handles, all_handles};
 ghost use Rattle.wit_syntax.specs.Fault.{Fault};
 ghost use Rattle.wit_syntax.specs.Bodies.{IsBrokenType, IsBrokenPart};

@@ -1,9 +1,9 @@
 -- What is found in a text, from what is found in its sources, or from what is too large.
 use Rattle.std.proofs.Common.{◌≡◌, ℕ, ◌<◌, List, [], Some, arith}
 use Rattle.std.specs.Prelude.{Option, None}
-use Rattle.wit_tree.specs.declared.error.ParseError.{ParseError}
-use Rattle.wit_tree.specs.declared.error.ParseErrorKind.{ParseErrorKind}
-use Rattle.wit_tree.specs.declared.error.ParseErrorKind.TheVariants.{Syntax, ItemNotFound, TypeCycle, OutOfMemory}
+use Rattle.wit_type_tree.specs.declared.error.ParseError.{ParseError}
+use Rattle.wit_type_tree.specs.declared.error.ParseErrorKind.{ParseErrorKind}
+use Rattle.wit_type_tree.specs.declared.error.ParseErrorKind.TheVariants.{Syntax, ItemNotFound, TypeCycle, OutOfMemory}
 use Rattle.wit_lex.specs.declared.source.Source.{Source}
 use Rattle.wit_lex.specs.Sources.{IsTooLarge, TellsTooLarge}
 use Rattle.wit_bundle.specs.Bundle.{sources_of}

@@ -7,8 +7,8 @@ ghost use Rattle.wit_ffi.specs.Plain.{IsHolding, IsPlain, IsPlaced, fields_of, n
 use crate::refusal::Refusal;
 use std::alloc::{AllocError, Global};
 use wit_lex::Source;
-use wit_tree::{ParseError, Span};
-use wit_values::Text;
+use wit_type_tree::ParseError;
+use wit_values::{Span, Text};
 
 /// A refusal: its number, whether it has a place, the path and the range of that, and its words.
 #[derive(Drop)]

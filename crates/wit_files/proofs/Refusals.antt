@@ -1,9 +1,9 @@
 -- The refusal of an edge that forbids an order.
 use Rattle.std.proofs.Common.{◌≡◌, ◌⊎◌, ℕ, List, Some, inl, inr, sym, ap, ◌∙◌}
 use Rattle.std.specs.Prelude.{slice_get}
-use Rattle.wit_tree.specs.declared.tree.Id.{Id}
-use Rattle.wit_tree.specs.declared.error.ParseError.{ParseError}
-use Rattle.wit_tree.specs.Refusal.{IsWantOfMemory}
+use Rattle.wit_type_tree.specs.declared.leaves.Id.{Id}
+use Rattle.wit_type_tree.specs.declared.error.ParseError.{ParseError}
+use Rattle.wit_type_tree.specs.Refusal.{IsWantOfMemory}
 use Rattle.wit_graph.specs.Table.{Row, IsEdge}
 use Rattle.wit_graph.specs.Faults.{IsFirstMissing, IsFirstCyclic}
 use Rattle.wit_syntax.specs.Fault.{Fault, fault_of, cyclic_at}

@@ -50,7 +50,7 @@ impl<'f, 'a> Model for FileNames<'f, 'a> {
     ghost use Rattle.std.specs.Prelude.{List, []};
     ghost use Rattle.wit_tree.specs.declared.tree.PackageFile.{PackageFile};
     ghost use Rattle.wit_files.specs.FileNames.{AreTablesOf};
-    ghost use Rattle.wit_tree.specs.contracts.types.Type as written;
+    ghost use Rattle.wit_type_tree.specs.contracts.types.Type as written;
     ghost use Rattle.std.specs.Coded.{codes};
     ghost use mir.Syntax.{named};
 

@@ -1,6 +1,6 @@
 //! Refusals of tables that have no order.
 ghost use Rattle.std.specs.Prelude.{◌⊎◌};
-ghost use Rattle.wit_tree.specs.declared.tree.Id.{Id as TheId};
+ghost use Rattle.wit_type_tree.specs.declared.leaves.Id.{Id as TheId};
 ghost use Rattle.wit_graph.specs.Table.{rows, IsEdge};
 ghost use Rattle.wit_graph.specs.Faults.{IsFaultOf};
 ghost use Rattle.wit_syntax.specs.Fault.{missing_at, missing_type_at, item_word, type_word};

@@ -5,7 +5,7 @@ ghost use Rattle.std.specs.Cmp.Lexicographic.{pointwise};
 ghost use Rattle.indexmap.specs.IndexMap.{insert_entry};
 ghost use Rattle.wit_tree.specs.declared.tree.PackageFile.{PackageFile as TheFile};
 ghost use Rattle.wit_tree.specs.declared.tree.WorldSide.{WorldSide as TheSide};
-ghost use Rattle.wit_tree.specs.Refusal.{IsWantOfMemory};
+ghost use Rattle.wit_type_tree.specs.Refusal.{IsWantOfMemory};
 ghost use Rattle.wit_syntax.specs.Address.{Address};
 ghost use Rattle.wit_syntax.specs.Source.{all_items, scope_names, Taking, taking};
 ghost use Rattle.wit_syntax.specs.Foreign.{ForeignVisit as TheVisit, foreign_items};

@@ -3,7 +3,7 @@ use Rattle.std.proofs.Common.{◌≡◌, ℕ, zero, suc, ◌+◌, ◌<◌, List,
 use Rattle.std.proofs.lemmas.List.{length_push}
 use Rattle.std.proofs.lemmas.Bool.{cases_lt}
 use Rattle.std.proofs.lemmas.Option.{same_Some, none-some, slice_get_within}
-use Rattle.wit_tree.specs.declared.tree.Id.{Id}
+use Rattle.wit_type_tree.specs.declared.leaves.Id.{Id}
 use Rattle.wit_graph.specs.Order.{ReachesCycle, IsBefore, IsDependencyFirst, IsLeast}
 use Rattle.wit_graph.specs.Table.{Row, target, IsMissing, IsCyclic, IsComplete, Leads}
 use Rattle.wit_graph.specs.Laws.{HasEdgeThat, AreAccepted, AreRefused}

@@ -1,9 +1,9 @@
 -- What a fault says of the rows: for callers.
 use Rattle.std.proofs.Common.{◌≡◌, ℕ, ◌<◌, List, length, sym, ◌∙◌, ap, subst, Some, slice_get}
 use Rattle.std.proofs.lemmas.Option.{slice_get_within, same_Some}
-use Rattle.wit_tree.specs.declared.tree.Id.{Id}
-use Rattle.wit_tree.specs.declared.error.ParseErrorKind.{ParseErrorKind}
-use Rattle.wit_tree.specs.Refusal.{IsTypeCycle}
+use Rattle.wit_type_tree.specs.declared.leaves.Id.{Id}
+use Rattle.wit_type_tree.specs.declared.error.ParseErrorKind.{ParseErrorKind}
+use Rattle.wit_type_tree.specs.Refusal.{IsTypeCycle}
 use Rattle.wit_graph.specs.Table.{Row, IsEdge}
 use Rattle.wit_graph.specs.Faults.{IsFirstMissing, IsFirstCyclic}
 use Rattle.wit_graph.specs.Refused.{IsNotFound, RefusesMissing, RefusesCycle}

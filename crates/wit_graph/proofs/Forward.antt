@@ -3,9 +3,9 @@ use Rattle.std.proofs.Common.{◌≡◌, ℕ, zero, suc, ◌+◌, ◌≤◌, get
 use Rattle.std.specs.Result.{IfOk, IfErr}
 use Rattle.std.proofs.lemmas.Bool.{cases_order}
 use Rattle.std.proofs.lemmas.Option.{same_Some, slice_get_within}
-use Rattle.wit_tree.specs.declared.tree.Id.{Id}
-use Rattle.wit_tree.specs.declared.error.ParseError.{ParseError}
-use Rattle.wit_tree.specs.Refusal.{IsTypeCycle}
+use Rattle.wit_type_tree.specs.declared.leaves.Id.{Id}
+use Rattle.wit_type_tree.specs.declared.error.ParseError.{ParseError}
+use Rattle.wit_type_tree.specs.Refusal.{IsTypeCycle}
 use Rattle.wit_graph.specs.Edges.{IsEarlier, IsFirstEdge}
 use Rattle.wit_graph.specs.Table.{Row, target, IsEdge, IsMissing, IsCyclic, IsComplete, Leads, IsOrder}
 use Rattle.wit_graph.specs.Refused.{IsNotFound, IsRefused, FailsAtMissing, FailsAtCycle}

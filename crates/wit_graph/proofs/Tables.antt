@@ -9,7 +9,7 @@ use Rattle.std.proofs.lemmas.Option.{slice_get_within, get_or_from_slice_get, sl
 use Rattle.indexmap.specs.IndexMap.{IndexMap, keys}
 use Rattle.std.specs.Map.Iter.{deref_pair}
 use Rattle.std.proofs.lemmas.Bool.{false≢true}
-use Rattle.wit_tree.specs.declared.tree.Id.{Id}
+use Rattle.wit_type_tree.specs.declared.leaves.Id.{Id}
 use Rattle.wit_graph.specs.declared.fault.OrderFault.{OrderFault}
 use Rattle.wit_graph.specs.declared.fault.OrderFault.TheVariants.{Missing}
 use Rattle.wit_graph.specs.Graph.{Graph}

@@ -1,6 +1,6 @@
 -- Why a table has no order, by the places of the edge that forbids one.
 use Rattle.std.specs.Prelude.{Result, MatchResult, ◌≡◌, ℕ, ◌⊎◌, List, ⊤}
-use Rattle.wit_tree.specs.declared.tree.Id.{Id}
+use Rattle.wit_type_tree.specs.declared.leaves.Id.{Id}
 use Rattle.wit_graph.specs.declared.fault.OrderFault.{OrderFault}
 use Rattle.wit_graph.specs.declared.fault.OrderFault.TheVariants.{Missing, Cyclic, OutOfMemory}
 use Rattle.wit_graph.specs.Edges.{IsFirstEdge}

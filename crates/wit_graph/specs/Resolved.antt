@@ -1,6 +1,6 @@
 -- The graph of places that the rows of a table make.
 use Rattle.std.specs.Prelude.{◌≡◌, ℕ, ◌<◌, ◌++◌, List, Some, None, IsSome, map, slice_get}
-use Rattle.wit_tree.specs.declared.tree.Id.{Id}
+use Rattle.wit_type_tree.specs.declared.leaves.Id.{Id}
 use Rattle.wit_graph.specs.declared.fault.OrderFault.{OrderFault}
 use Rattle.wit_graph.specs.declared.fault.OrderFault.TheVariants.{Missing, Cyclic}
 use Rattle.wit_graph.specs.Faults.{IsFirstMissing, IsFirstCyclic}

@@ -3,10 +3,11 @@ use Rattle.std.specs.Prelude.{◌≡◌, ℕ, ◌+◌, List, [], ◌∷◌, ◌+
 use Rattle.std.specs.List.{flat_map}
 use Rattle.wit_tree.specs.declared.tree.PackageFile.{PackageFile}
 use Rattle.wit_tree.specs.declared.tree.SourceFile.{SourceFile}
-use Rattle.wit_tree.specs.declared.error.ParseError.{ParseError}
-use Rattle.wit_tree.specs.Marks.{Mark, file_marks, inner_marks, nested_marks}
-use Rattle.wit_tree.specs.Refusal.{IsWantOfMemory}
-use Rattle.wit_tree.specs.Slices.{Rise}
+use Rattle.wit_type_tree.specs.declared.error.ParseError.{ParseError}
+use Rattle.wit_type_tree.specs.Marks.{Mark}
+use Rattle.wit_tree.specs.Marks.{file_marks, inner_marks, nested_marks}
+use Rattle.wit_type_tree.specs.Refusal.{IsWantOfMemory}
+use Rattle.wit_type_tree.specs.Slices.{Rise}
 use Rattle.wit_lex.specs.declared.source.Source.{Source}
 use Rattle.wit_lex.specs.Faults.{IsRefusal}
 use Rattle.wit_lex.specs.Sources.{IsSource, IsTooLarge}

@@ -2,7 +2,8 @@
 ghost use Rattle.std.specs.Prelude.{◌≡◌, ◌+◌, [], ◌∷◌, IfOk, IfErr};
 ghost use Rattle.std.specs.List.{flat_map};
 ghost use Rattle.wit_reader.specs.Fronts.{IsReadBehind};
-ghost use Rattle.wit_tree.specs.Marks.{front_marks, defined_marks, definition_marks, item_marks};
+ghost use Rattle.wit_type_tree.specs.Marks.{front_marks, defined_marks, definition_marks};
+ghost use Rattle.wit_tree.specs.Marks.{item_marks};
 ghost use Rattle.wit_reader.specs.Reading.{IsRead, IsRefused};
 
 use crate::function::read_named_func;

@@ -2,7 +2,7 @@
 ghost use Rattle.std.specs.Prelude.{◌≡◌, ◌+◌, [], ◌∷◌, ◌++◌, IfOk, IfErr, IfSome};
 ghost use Rattle.std.specs.List.{flat_map};
 ghost use Rattle.wit_reader.specs.Fronts.{IsReadBehind};
-ghost use Rattle.wit_tree.specs.Marks.{spelled, front_marks, param_marks, payload_marks, form_word, func_marks, named_func_marks};
+ghost use Rattle.wit_type_tree.specs.Marks.{spelled, front_marks, param_marks, payload_marks, form_word, func_marks, named_func_marks};
 ghost use Rattle.wit_reader.specs.Reading.{IsRead, IsReadOn, IsRefused};
 
 use wit_lex::fault::ReadResult;

@@ -1,7 +1,7 @@
 //! Reading fields, flags and cases.
 ghost use Rattle.std.specs.Prelude.{◌≡◌, ◌+◌, [], ◌∷◌, IfOk, IfErr};
 ghost use Rattle.std.specs.List.{flat_map};
-ghost use Rattle.wit_tree.specs.Marks.{field_marks, flag_marks, payload_marks, case_marks, enum_case_marks};
+ghost use Rattle.wit_type_tree.specs.Marks.{field_marks, flag_marks, payload_marks, case_marks, enum_case_marks};
 ghost use Rattle.wit_reader.specs.Reading.{IsRead, IsReadOn, IsRefused};
 
 use wit_lex::fault::ReadResult;

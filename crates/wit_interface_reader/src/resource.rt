@@ -2,7 +2,7 @@
 ghost use Rattle.std.specs.Prelude.{◌≡◌, ◌+◌, [], ◌∷◌, ◌++◌, IfOk, IfErr};
 ghost use Rattle.std.specs.List.{flat_map};
 ghost use Rattle.wit_reader.specs.Fronts.{IsReadBehind};
-ghost use Rattle.wit_tree.specs.Marks.{named, front_marks, func_marks, resource_func_marks, defined_marks};
+ghost use Rattle.wit_type_tree.specs.Marks.{named, front_marks, func_marks, resource_func_marks, defined_marks};
 ghost use Rattle.wit_reader.specs.Reading.{IsRead, IsReadOn, IsRefused};
 
 use crate::function::{read_closed_func, read_signature};

@@ -1,7 +1,7 @@
 -- What the resolver's functions tell one another: orders that were found, names that stand twice, and what was resolved so far.
 use Rattle.std.specs.Prelude.{◌≡◌, ℕ, false, List, length, take, Some, slice_get}
 use Rattle.wit_tree.specs.declared.tree.Extern.{Extern}
-use Rattle.wit_tree.specs.declared.tree.Id.{Id}
+use Rattle.wit_type_tree.specs.declared.leaves.Id.{Id}
 use Rattle.wit_tree.specs.declared.tree.InterfaceItem.{InterfaceItem}
 use Rattle.wit_types.specs.declared.types.TypeDef.{TypeDef}
 use Rattle.wit_types.specs.declared.types.TypeOwner.TheVariants as owner

@@ -8,7 +8,7 @@ ghost use Rattle.wit_syntax.specs.Function.{functions as the_functions};
 ghost use Rattle.wit_syntax.specs.Sides.{IsBrokenSides};
 ghost use Rattle.wit_syntax.specs.Fault.{Fault};
 ghost use Rattle.wit_syntax.specs.Broken.{IsBrokenScope, Refused};
-ghost use Rattle.wit_tree.specs.Refusal.{IsWantOfMemory};
+ghost use Rattle.wit_type_tree.specs.Refusal.{IsWantOfMemory};
 ghost use Rattle.wit_items.specs.Items.{item_behind, names_behind};
 ghost use Rattle.wit_items.specs.Front.{AreItemsPlaced};
 ghost use Rattle.wit_arena.specs.Resolving.{IsIndex};

@@ -9,8 +9,8 @@ use Rattle.std.specs.Str.{bytes_eq}
 use Rattle.std.proofs.lemmas.List.Folds.{find-append}
 use Rattle.indexmap.specs.IndexMap.{insert_entry}
 use denote.Ref.{Bor}
-use Rattle.wit_tree.specs.declared.types.«Type».{«Type» as Written}
-use Rattle.wit_tree.specs.declared.types.TypeDef.{TypeDef as Definition}
+use Rattle.wit_type_tree.specs.declared.types.«Type».{«Type» as Written}
+use Rattle.wit_type_tree.specs.declared.types.TypeDef.{TypeDef as Definition}
 use Rattle.wit_syntax.specs.Source.{ScopeName, Defined, local_name, meaning}
 use Rattle.wit_syntax.specs.Signature.{body_ok, meant_ok}
 use Rattle.wit_syntax.specs.Scope.{AreDistinct}

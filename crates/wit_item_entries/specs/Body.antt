@@ -1,6 +1,6 @@
 -- What the names and the functions of an item add, and what can be wrong with an item: the same of an interface and of a world.
 use Rattle.std.specs.Prelude.{◌≡◌, List, map, Contains}
-use Rattle.wit_tree.specs.declared.tree.Id.{Id}
+use Rattle.wit_type_tree.specs.declared.leaves.Id.{Id}
 use Rattle.wit_types.specs.declared.types.TypeDef.{TypeDef}
 use Rattle.wit_types.specs.declared.types.TypeOwner.{TypeOwner}
 use Rattle.wit_functions.specs.declared.function.Function.{Function}

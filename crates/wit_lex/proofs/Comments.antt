@@ -3,7 +3,7 @@ use Rattle.std.proofs.Common.{◌≡◌, ℕ, ◌+◌, ◌-◌, ◌<◌, ◌≤�
 use Rattle.std.specs.Prelude.{slice_index, slice_range}
 use denote.Ref.{Bor}
 use Rattle.wit_values.specs.declared.span.Span.{Span}
-use Rattle.wit_tree.specs.Comments.{IsComment, IsDocs, IsNested, IsPair, Closed, Inside, IsStretch, Found, stretched}
+use Rattle.wit_type_tree.specs.Comments.{IsComment, IsDocs, IsNested, IsPair, Closed, Inside, IsStretch, Found, stretched}
 
 -- one comment more among docs
 pub docs_more : (source : List ℕ) (offset from : ℕ) (docs more : List (Bor (List ℕ))) (span whole found : Span) (comment : Bor (List ℕ)) (at end : ℕ) →

@@ -1,7 +1,7 @@
 -- Where a line ends, by a search behind its `//`.
 use Rattle.std.proofs.Common.{◌≡◌, ℕ, ◌+◌, ◌-◌, ◌<◌, ◌≤◌, true, List, length, take, drop, ap, ◌∙◌, sym, arith, eqb-true, length-take-le, length-drop, get_or-take, get_or-drop, slice_index}
 use Rattle.memchr.specs.Find.{Nowhere, NoneBefore, Passes, is_byte}
-use Rattle.wit_tree.specs.Comments.{IsPair, IsLine}
+use Rattle.wit_type_tree.specs.Comments.{IsPair, IsLine}
 
 -- what stands from a place on, as it is searched
 abbrev rest : List ℕ → ℕ → List ℕ

@@ -1,6 +1,6 @@
 -- What begins at a place between tokens.
 use Rattle.std.specs.Prelude.{◌≡◌, ℕ, ◌+◌, ◌-◌, ◌<◌, ◌≤◌, true, List, length, slice_index}
-use Rattle.wit_tree.specs.Comments.{IsComment, IsNested, IsPair, IsStop, is_blank}
+use Rattle.wit_type_tree.specs.Comments.{IsComment, IsNested, IsPair, IsStop, is_blank}
 use Rattle.wit_lex.specs.declared.blank.Blank.{Blank}
 use Rattle.wit_lex.specs.declared.blank.Blank.TheVariants.{Space, Comment, Endless, Nothing}
 

@@ -1,10 +1,10 @@
 -- What the refusal of a text says: which fault, in which words, and at which place of the source.
 use Rattle.std.specs.Prelude.{◌≡◌, ℕ, ◌≤◌, ◌+◌, List, length, codes, string_bytes}
 use Rattle.wit_values.specs.declared.span.Span.{Span}
-use Rattle.wit_tree.specs.declared.error.ParseError.{ParseError}
-use Rattle.wit_tree.specs.declared.error.ParseErrorKind.{ParseErrorKind}
-use Rattle.wit_tree.specs.declared.error.ParseErrorKind.TheVariants.{Syntax, ItemNotFound, TypeCycle, OutOfMemory}
-use Rattle.wit_tree.specs.Refusal.{IsWantOfMemory}
+use Rattle.wit_type_tree.specs.declared.error.ParseError.{ParseError}
+use Rattle.wit_type_tree.specs.declared.error.ParseErrorKind.{ParseErrorKind}
+use Rattle.wit_type_tree.specs.declared.error.ParseErrorKind.TheVariants.{Syntax, ItemNotFound, TypeCycle, OutOfMemory}
+use Rattle.wit_type_tree.specs.Refusal.{IsWantOfMemory}
 use Rattle.wit_lex.specs.Blanks.{IsEndless, IsFirst, IsSkipped}
 use Rattle.wit_lex.specs.Starts.{IsStrange}
 use Rattle.wit_lex.specs.declared.fault.ReadError.{ReadError}

@@ -1,7 +1,7 @@
 -- Where tokens begin.
 use Rattle.std.specs.Prelude.{◌≡◌, ℕ, ◌+◌, ◌<◌, ◌==◌, ◌||◌, min, Bool, true, false, cond, nat_lt, List, length, slice_index}
 use Rattle.std.specs.Char.{is_ascii_digit, is_ascii_lowercase, is_ascii_uppercase}
-use Rattle.wit_tree.specs.Comments.{IsPair}
+use Rattle.wit_type_tree.specs.Comments.{IsPair}
 
 abbrev pub is_letter : ℕ → Bool
 is_letter c = is_ascii_lowercase c || is_ascii_uppercase c

@@ -1,14 +1,14 @@
 //! Docs: comments that document what stands behind them.
 ghost use Rattle.std.specs.Prelude.{◌≡◌, ◌+◌, ◌<◌, ◌≤◌, ◌^◌, ◌++◌, ◌∷◌, [], length, IfOk, IfErr, OnOk, MatchBool};
-ghost use Rattle.wit_tree.specs.Comments.{IsDocs, IsStop, IsStretch, is_blank as is_blank_byte, stretched as stretched_span};
+ghost use Rattle.wit_type_tree.specs.Comments.{IsDocs, IsStop, IsStretch, is_blank as is_blank_byte, stretched as stretched_span};
 ghost use Rattle.wit_lex.specs.Faults.{IsWithin};
 
 use crate::blank::{Blank, blank_at, is_blank};
 use crate::fault::{ReadError, ReadFault, ReadResult, span_at};
 use crate::scan::cut;
 use std::alloc::{AllocError, Global};
-use wit_tree::Span;
-use wit_tree::tree::Docs;
+use wit_type_tree::leaves::Docs;
+use wit_values::Span;
 
 /// Whether the comment at a range begins with `///` or `/**`.
 fn is_docs(bytes: &[u8], start: usize, end: usize) -> bool

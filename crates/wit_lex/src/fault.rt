@@ -4,7 +4,8 @@ ghost use Rattle.wit_lex.specs.declared.fault.ReadError.TheVariants.{Fault, OutO
 ghost use Rattle.wit_lex.specs.Faults.{IsRefusal, IsRefusalOf, IsWithin, rule_of, words_of};
 
 use std::alloc::{AllocError, AllocFailed, Global};
-use wit_tree::{ParseError, ParseErrorKind, Span};
+use wit_type_tree::{ParseError, ParseErrorKind};
+use wit_values::Span;
 
 /// Why a text cannot be read.
 #[derive(Clone, Copy, Debug, PartialEq, Eq)]

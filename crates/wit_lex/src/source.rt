@@ -2,7 +2,7 @@
 ghost use Rattle.std.specs.Prelude.{◌≡◌, ◌+◌, ◌<◌, ◌^◌, length, string_bytes, IfSome, IfNone};
 
 use std::alloc::AllocError;
-use wit_tree::Span;
+use wit_values::Span;
 
 /// A text, where it comes from, and its place among the sources.
 #[derive(Debug, PartialEq, Eq, Drop)]

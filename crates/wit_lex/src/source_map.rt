@@ -4,7 +4,8 @@ ghost use Rattle.wit_lex.specs.Sources.{IsLocated, IsTooLarge, LiesIn, space, to
 
 use crate::source::Source;
 use std::alloc::{AllocError, Global};
-use wit_tree::{ParseError, ParseErrorKind, ParseResult, Span};
+use wit_type_tree::{ParseError, ParseErrorKind, ParseResult};
+use wit_values::Span;
 
 /// Sources, each with a range of places of its own.
 ///

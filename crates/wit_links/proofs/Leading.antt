@@ -6,7 +6,7 @@ use Rattle.std.proofs.lemmas.List.{length-map}
 use Rattle.std.proofs.lemmas.List.Elements.{Contains-append_cases}
 use Rattle.std.proofs.lemmas.List.Quantifiers.{position-Some}
 use Rattle.std.proofs.lemmas.Option.{slice_get-map, slice_get-get_or, slice_get_within}
-use Rattle.wit_tree.specs.declared.tree.Id.{Id}
+use Rattle.wit_type_tree.specs.declared.leaves.Id.{Id}
 use Rattle.wit_tree.specs.declared.tree.UsePath.{UsePath}
 use Rattle.wit_tree.specs.declared.tree.PackageFile.{PackageFile}
 use Rattle.wit_model.specs.declared.interface.Interface.{Interface}

@@ -9,7 +9,7 @@ use crate::output::put;
 use std::alloc::{AllocError, Global};
 use std::io::Write;
 use wit_lex::SourceMap;
-use wit_tree::ParseError;
+use wit_type_tree::ParseError;
 
 /// The front of a text up to its first LF or CR.
 fn first_line(text: &str) -> &str

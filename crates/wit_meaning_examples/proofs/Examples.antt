@@ -5,14 +5,14 @@ use Rattle.std.specs.declared.alloc.Global.{Global}
 use denote.RawPtr.{Ptr}
 use Rattle.wit_names.specs.Label.{is_label}
 use Rattle.wit_values.specs.declared.span.Span.{Span}
-use Rattle.wit_tree.specs.declared.tree.Id.{Id}
-use Rattle.wit_tree.specs.declared.tree.Docs.{Docs as Comments}
-use Rattle.wit_tree.specs.declared.tree.Attribute.{Attribute}
-use Rattle.wit_tree.specs.declared.types.Field.{Field as WrittenField}
-use Rattle.wit_tree.specs.declared.types.«Type».{«Type» as Written}
-use Rattle.wit_tree.specs.declared.types.«Type».TheVariants as written
-use Rattle.wit_tree.specs.declared.types.TypeBody.TheVariants.{Record, Plain}
-use Rattle.wit_tree.specs.declared.types.TypeDef.{TypeDef as Definition}
+use Rattle.wit_type_tree.specs.declared.leaves.Id.{Id}
+use Rattle.wit_type_tree.specs.declared.leaves.Docs.{Docs as Comments}
+use Rattle.wit_type_tree.specs.declared.leaves.Attribute.{Attribute}
+use Rattle.wit_type_tree.specs.declared.types.Field.{Field as WrittenField}
+use Rattle.wit_type_tree.specs.declared.types.«Type».{«Type» as Written}
+use Rattle.wit_type_tree.specs.declared.types.«Type».TheVariants as written
+use Rattle.wit_type_tree.specs.declared.types.TypeBody.TheVariants.{Record, Plain}
+use Rattle.wit_type_tree.specs.declared.types.TypeDef.{TypeDef as Definition}
 use Rattle.wit_tree.specs.declared.tree.UsePath.TheVariants as path
 use Rattle.wit_tree.specs.declared.tree.UseName.{UseName}
 use Rattle.wit_tree.specs.declared.tree.Use.{Use}
@@ -44,7 +44,7 @@ use Rattle.wit_syntax.specs.Trees.{source_tree}
 use Rattle.wit_arena.specs.Expr.{Prim, one}
 use Rattle.wit_arena.specs.Meet.{Def, Whole, Meeting, IsMet, Meets}
 use Rattle.wit_syntax.specs.Scope.{rows_of, item_rows, in_turn}
-use Rattle.wit_tree.specs.Refusal.{Missing, Cyclic}
+use Rattle.wit_type_tree.specs.Refusal.{Missing, Cyclic}
 use Rattle.wit_syntax.specs.Fault.{fault}
 use Rattle.wit_syntax.specs.Shape.{Word}
 use Rattle.wit_syntax.specs.Bodies.{folded, IsDuplicateName}

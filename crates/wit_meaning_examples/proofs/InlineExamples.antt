@@ -7,15 +7,15 @@ use Rattle.wit_values.specs.declared.span.Span.{Span}
 use Rattle.wit_tree.specs.declared.tree.Extern.{Extern}
 use Rattle.wit_tree.specs.declared.tree.ExternKind.{ExternKind}
 use Rattle.wit_tree.specs.declared.tree.ExternKind.TheVariants as extern
-use Rattle.wit_tree.specs.declared.types.Func.{Func}
-use Rattle.wit_tree.specs.declared.types.FuncForm.TheVariants as form
-use Rattle.wit_tree.specs.declared.tree.Id.{Id}
+use Rattle.wit_type_tree.specs.declared.types.Func.{Func}
+use Rattle.wit_type_tree.specs.declared.types.FuncForm.TheVariants as form
+use Rattle.wit_type_tree.specs.declared.leaves.Id.{Id}
 use Rattle.wit_tree.specs.declared.tree.WorldSide.{WorldSide}
 use Rattle.wit_tree.specs.declared.tree.WorldSide.TheVariants.{Imported, Exported}
-use Rattle.wit_tree.specs.declared.types.«Type».{«Type» as Written}
-use Rattle.wit_tree.specs.declared.types.«Type».TheVariants as written
-use Rattle.wit_tree.specs.declared.types.TypeBody.TheVariants.{Plain}
-use Rattle.wit_tree.specs.declared.types.TypeDef.{TypeDef as Definition}
+use Rattle.wit_type_tree.specs.declared.types.«Type».{«Type» as Written}
+use Rattle.wit_type_tree.specs.declared.types.«Type».TheVariants as written
+use Rattle.wit_type_tree.specs.declared.types.TypeBody.TheVariants.{Plain}
+use Rattle.wit_type_tree.specs.declared.types.TypeDef.{TypeDef as Definition}
 use Rattle.wit_tree.specs.declared.tree.Use.{Use}
 use Rattle.wit_tree.specs.declared.tree.UsePath.TheVariants as path
 use Rattle.wit_tree.specs.declared.tree.UseName.{UseName}

@@ -7,16 +7,16 @@ use Rattle.std.specs.declared.alloc.Global.{Global}
 use denote.RawPtr.{Ptr}
 use Rattle.wit_tree.specs.declared.tree.Extern.{Extern}
 use Rattle.wit_tree.specs.declared.tree.ExternKind.TheVariants as extern
-use Rattle.wit_tree.specs.declared.types.FuncForm.TheVariants as form
+use Rattle.wit_type_tree.specs.declared.types.FuncForm.TheVariants as form
 use Rattle.wit_tree.specs.declared.tree.Include.{Include}
-use Rattle.wit_tree.specs.declared.types.NamedFunc.{NamedFunc}
+use Rattle.wit_type_tree.specs.declared.types.NamedFunc.{NamedFunc}
 use Rattle.wit_tree.specs.declared.tree.PackageFile.{PackageFile}
 use Rattle.wit_tree.specs.declared.tree.AstItem.TheVariants as ast
 use Rattle.wit_tree.specs.declared.tree.World.{World as WrittenWorld}
 use Rattle.wit_tree.specs.declared.tree.WorldItem.TheVariants as world_item
 use Rattle.wit_tree.specs.declared.tree.WorldSide.{WorldSide}
 use Rattle.wit_tree.specs.declared.tree.WorldSide.TheVariants.{Imported, Exported}
-use Rattle.wit_tree.specs.declared.types.«Type».TheVariants as written
+use Rattle.wit_type_tree.specs.declared.types.«Type».TheVariants as written
 use Rattle.wit_types.specs.declared.stability.Stability.TheVariants.{Unknown}
 use Rattle.wit_types.specs.declared.types.«Type».TheVariants as type
 use Rattle.wit_functions.specs.declared.function.Function.{Function}

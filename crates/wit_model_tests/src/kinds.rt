@@ -6,12 +6,11 @@ use wit_model::laws::equality::{
     is_same_handle, is_same_outcome, is_same_record, is_same_tuple, is_same_type_def,
     is_same_variant,
 };
-use wit_tree::Span;
 use wit_types::{
     Case, Docs, Enum, EnumCase, Field, Flag, Flags, Handle, Record, Result_, Stability, Tuple,
     Type, TypeDef, TypeDefKind, TypeOwner, Types, Variant,
 };
-use wit_values::Text;
+use wit_values::{Span, Text};
 
 // Puts a type of this kind behind others.
 fn add_type(types: &mut Types, kind: TypeDefKind, span: Span) -> Result<(), AllocError> {

@@ -13,9 +13,8 @@ use wit_model::laws::equality::{
 use wit_model::laws::order::{compare_package_names, compare_stabilities};
 use wit_model::{AstItem, ForeignItems, UnresolvedPackage};
 use wit_package_names::PackageName;
-use wit_tree::Span;
 use wit_types::{Arena, Docs, HasSpans, Stability};
-use wit_values::{Release, Row, Table, Text, TextTable};
+use wit_values::{Release, Row, Span, Table, Text, TextTable};
 
 // The name of a package, with a version.
 fn package_name(alloc: Global, name: &str) -> Result<PackageName, AllocError> {

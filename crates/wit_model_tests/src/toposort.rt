@@ -5,8 +5,9 @@ use std::alloc::Global;
 use std::process::Abort;
 use std::test::Fail;
 use wit_order::{laws, order_steps, toposort, toposort_heap, toposort_scan};
-use wit_tree::tree::Id;
-use wit_tree::{ParseResult, Span};
+use wit_type_tree::ParseResult;
+use wit_type_tree::leaves::Id;
+use wit_values::Span;
 
 /// A table a line, the answer of every body, and what `order_steps` counts. A table is rows that
 /// end in `;`, each a name, `:` and what it needs. A refusal ends in the index of its needed name.

@@ -11,9 +11,8 @@ use wit_model::{
     Function, FunctionKind, IncludeName, Interface, LiftLowerAbi, ManglingAndAbi, Param, World,
     WorldInclude, WorldItem, WorldKey,
 };
-use wit_tree::Span;
 use wit_types::{Arena, Docs, InterfacePlace, Stability, Type, Types, WorldPlace};
-use wit_values::{Row, Table, Text, TextTable};
+use wit_values::{Row, Span, Table, Text, TextTable};
 
 fn params(alloc: Global, span: Span) -> Result<Row<Param>, AllocError> {
     let name = Text::from_str(alloc, "p")?;

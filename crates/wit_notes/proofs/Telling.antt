@@ -5,13 +5,13 @@ use Rattle.std.specs.Option.{option_copied}
 use denote.Ref.{Bor}
 use Rattle.std.specs.List.{find}
 use Rattle.std.proofs.lemmas.Bool.{cases_Bool}
-use Rattle.wit_tree.specs.declared.tree.Attribute.{Attribute}
-use Rattle.wit_tree.specs.declared.tree.Attribute.TheVariants as attribute
+use Rattle.wit_type_tree.specs.declared.leaves.Attribute.{Attribute}
+use Rattle.wit_type_tree.specs.declared.leaves.Attribute.TheVariants as attribute
 use Rattle.wit_syntax.specs.Fault.{Fault}
 use Rattle.wit_syntax.proofs.Lists.{at_either, at_take}
-use Rattle.wit_tree.specs.declared.attribute_kind.AttributeKind.{AttributeKind}
-use Rattle.wit_tree.specs.declared.attribute_kind.AttributeKind.TheVariants.{Since, Unstable, Deprecated, ExternalId}
-use Rattle.wit_tree.specs.Attributes.{kind_of, is_of, first_of, StandsAt}
+use Rattle.wit_type_tree.specs.declared.attribute_kind.AttributeKind.{AttributeKind}
+use Rattle.wit_type_tree.specs.declared.attribute_kind.AttributeKind.TheVariants.{Since, Unstable, Deprecated, ExternalId}
+use Rattle.wit_type_tree.specs.Attributes.{kind_of, is_of, first_of, StandsAt}
 use Rattle.wit_syntax.specs.Notes.{IsTwice, IsBrokenStability, SinceTwice, DeprecatedTwice, UnstableTwice, SinceAndUnstable, DeprecatedAlone}
 use Rattle.wit_notes.specs.Kinds.{number_of, IsRepeat, IsOnce, IsEachOnce}
 

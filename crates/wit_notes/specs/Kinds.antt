@@ -1,10 +1,10 @@
 -- Attributes of a kind that stand once, or twice.
 use Rattle.std.specs.Prelude.{◌≡◌, ◌≢◌, ℕ, List, None}
-use Rattle.wit_tree.specs.declared.tree.Attribute.{Attribute}
+use Rattle.wit_type_tree.specs.declared.leaves.Attribute.{Attribute}
 use Rattle.wit_syntax.specs.Fault.{Fault, fault}
-use Rattle.wit_tree.specs.declared.attribute_kind.AttributeKind.{AttributeKind}
-use Rattle.wit_tree.specs.declared.attribute_kind.AttributeKind.TheVariants.{Since, Unstable, Deprecated, ExternalId}
-use Rattle.wit_tree.specs.Attributes.{attribute_span, first_of, kind_of, StandsAt}
+use Rattle.wit_type_tree.specs.declared.attribute_kind.AttributeKind.{AttributeKind}
+use Rattle.wit_type_tree.specs.declared.attribute_kind.AttributeKind.TheVariants.{Since, Unstable, Deprecated, ExternalId}
+use Rattle.wit_type_tree.specs.Attributes.{attribute_span, first_of, kind_of, StandsAt}
 
 -- the number of the rule that a second attribute of a kind breaks
 abbrev pub number_of : AttributeKind → ℕ

@@ -1,12 +1,12 @@
 //! What the attributes of an item tell: how stable it is, and its name elsewhere.
 ghost use Rattle.std.specs.Prelude.{◌≡◌, ◌≢◌, ◌⊎◌, IfErr, IfOk, None, OnOk};
 ghost use Rattle.std.specs.Option.{option_copied, option_map};
-ghost use Rattle.wit_tree.specs.Refusal.{IsWantOfMemory};
+ghost use Rattle.wit_type_tree.specs.Refusal.{IsWantOfMemory};
 ghost use Rattle.wit_syntax.specs.Broken.{Refused};
 ghost use Rattle.wit_syntax.specs.Fault.{Fault, fault, fault_of};
-ghost use Rattle.wit_tree.specs.Attributes.{attribute_span, first_of, kind_of, told_text, told_version};
+ghost use Rattle.wit_type_tree.specs.Attributes.{attribute_span, first_of, kind_of, told_text, told_version};
 ghost use Rattle.wit_syntax.specs.Notes.{IsBrokenStability, IsExternalIdTwice, external_id_of, stability_of};
-ghost use Rattle.wit_tree.specs.declared.attribute_kind.AttributeKind.TheVariants.{ExternalId};
+ghost use Rattle.wit_type_tree.specs.declared.attribute_kind.AttributeKind.TheVariants.{ExternalId};
 ghost use Rattle.wit_notes.specs.Kinds.{IsEachOnce, IsRepeat, number_of};
 
 use crate::package::release_of;

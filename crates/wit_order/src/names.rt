@@ -9,7 +9,7 @@ use crate::graph::Graph;
 use indexmap::IndexMap;
 use std::alloc::{AllocError, Global};
 use wit_graph::OrderFault;
-use wit_tree::tree::Id;
+use wit_type_tree::leaves::Id;
 
 /// Puts the places of what the ids of a place name behind the targets.
 fn add_row<'a>(

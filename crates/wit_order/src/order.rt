@@ -18,8 +18,8 @@ use indexmap::IndexMap;
 use std::alloc::Global;
 use wit_graph::OrderFault;
 use wit_graph::sorted::Sorted;
-use wit_tree::tree::Id;
-use wit_tree::{ParseError, ParseErrorKind, ParseResult};
+use wit_type_tree::leaves::Id;
+use wit_type_tree::{ParseError, ParseErrorKind, ParseResult};
 
 /// The sorted places, or the first edge both of whose ends reach a cycle.
 fn conclude(graph: &Graph, sorted: Sorted) -> Result<Vec<usize>, OrderFault>

@@ -1,7 +1,7 @@
 //! The refusal that says why a table has no order.
 ghost use Rattle.std.specs.Prelude.{◌≡◌, IfOk, IfErr};
-ghost use Rattle.wit_tree.specs.Refusal.{IsTypeCycle};
-ghost use Rattle.wit_tree.specs.declared.error.ParseErrorKind.TheVariants.{OutOfMemory};
+ghost use Rattle.wit_type_tree.specs.Refusal.{IsTypeCycle};
+ghost use Rattle.wit_type_tree.specs.declared.error.ParseErrorKind.TheVariants.{OutOfMemory};
 ghost use Rattle.wit_graph.specs.Table.{rows};
 ghost use Rattle.wit_graph.specs.Faults.{IsFaultOf};
 ghost use Rattle.wit_graph.specs.Refused.{IsNotFound, IsRefused};
@@ -9,8 +9,8 @@ ghost use Rattle.wit_graph.specs.Refused.{IsNotFound, IsRefused};
 use indexmap::IndexMap;
 use std::alloc::Global;
 use wit_graph::OrderFault;
-use wit_tree::tree::Id;
-use wit_tree::{ParseError, ParseErrorKind, ParseResult};
+use wit_type_tree::leaves::Id;
+use wit_type_tree::{ParseError, ParseErrorKind, ParseResult};
 
 fn not_found(alloc: Global, kind: &str, id: &Id<'_>) -> ParseResult<ParseErrorKind>
     ensures ok { IfOk result (IsNotFound id.now.span id.now.name.now kind.now) }

@@ -4,14 +4,14 @@ use Rattle.std.specs.Prelude.{slice_get, codes}
 use Rattle.std.specs.List.{list_any}
 use Rattle.std.proofs.lemmas.Bool.{or_left, or_right}
 use Rattle.std.proofs.lemmas.List.Folds.{list_any-append}
-use Rattle.wit_tree.specs.declared.types.FuncForm.{FuncForm}
-use Rattle.wit_tree.specs.declared.types.FuncForm.TheVariants as form
-use Rattle.wit_tree.specs.declared.tree.Id.{Id}
-use Rattle.wit_tree.specs.declared.types.TypeBody.{TypeBody}
-use Rattle.wit_tree.specs.declared.types.TypeBody.TheVariants as body
-use Rattle.wit_tree.specs.declared.types.NamedFunc.{NamedFunc}
-use Rattle.wit_tree.specs.declared.types.ResourceFunc.{ResourceFunc}
-use Rattle.wit_tree.specs.declared.types.ResourceFunc.TheVariants as resource
+use Rattle.wit_type_tree.specs.declared.types.FuncForm.{FuncForm}
+use Rattle.wit_type_tree.specs.declared.types.FuncForm.TheVariants as form
+use Rattle.wit_type_tree.specs.declared.leaves.Id.{Id}
+use Rattle.wit_type_tree.specs.declared.types.TypeBody.{TypeBody}
+use Rattle.wit_type_tree.specs.declared.types.TypeBody.TheVariants as body
+use Rattle.wit_type_tree.specs.declared.types.NamedFunc.{NamedFunc}
+use Rattle.wit_type_tree.specs.declared.types.ResourceFunc.{ResourceFunc}
+use Rattle.wit_type_tree.specs.declared.types.ResourceFunc.TheVariants as resource
 use Rattle.wit_functions.specs.Names.{mark_of, HasMark, HasMarkOf}
 use Rattle.wit_functions.specs.declared.function.FunctionKind.{FunctionKind}
 use Rattle.wit_syntax.specs.Address.{Address}
@@ -20,9 +20,9 @@ use Rattle.wit_syntax.specs.Function.{SourceFunction, accessor, dotted, free_fun
 use Rattle.wit_arena.specs.Functions.{freestanding_kind, method_kind, static_kind, IsKind}
 use Rattle.wit_arena.specs.Meet.{Key}
 use Rattle.wit_syntax.proofs.Lists.{map_at, flat_map_at}
-use Rattle.wit_tree.specs.declared.types.Func.{Func}
-use Rattle.wit_tree.specs.declared.tree.Docs.{Docs}
-use Rattle.wit_tree.specs.declared.tree.Attribute.{Attribute}
+use Rattle.wit_type_tree.specs.declared.types.Func.{Func}
+use Rattle.wit_type_tree.specs.declared.leaves.Docs.{Docs}
+use Rattle.wit_type_tree.specs.declared.leaves.Attribute.{Attribute}
 use Rattle.wit_tree.specs.declared.tree.WorldSide.{WorldSide}
 use Rattle.wit_syntax.proofs.Externs.{extern_at}
 

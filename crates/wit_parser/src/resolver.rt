@@ -6,7 +6,7 @@ ghost use Rattle.wit_values.specs.ReleaseText.{release_parts};
 ghost use Rattle.wit_syntax.specs.Fault.{Fault};
 ghost use Rattle.wit_syntax.specs.Broken.{IsMismatch, IsBroken, IsBrokenNames, IsLegal, Refused, headers, last_header};
 ghost use Rattle.wit_items.specs.Headers.{header_at, have_docs as the_docs};
-ghost use Rattle.wit_tree.specs.Refusal.{IsWantOfMemory};
+ghost use Rattle.wit_type_tree.specs.Refusal.{IsWantOfMemory};
 ghost use Rattle.wit_contents.specs.Between.{IsMade};
 ghost use Rattle.wit_parser.specs.Stray.{IsNesting, IsStray};
 ghost use Rattle.wit_types.specs.Types.{IsBackward};

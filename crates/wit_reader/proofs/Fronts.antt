@@ -3,12 +3,12 @@ use Rattle.std.proofs.Common.{◌≡◌, ℕ, ◌+◌, ◌≤◌, List, [], ◌�
 use Rattle.std.specs.Prelude.{codes}
 use Rattle.semver.specs.declared.Version.{Version}
 use Rattle.wit_values.specs.declared.span.Span.{Span}
-use Rattle.wit_tree.specs.declared.tree.Id.{Id}
-use Rattle.wit_tree.specs.declared.tree.Docs.{Docs}
-use Rattle.wit_tree.specs.declared.tree.Attribute.{Attribute}
-use Rattle.wit_tree.specs.Comments.{IsDocumented, IsStretch, IsStop}
-use Rattle.wit_tree.specs.Marks.{Mark, named, spelled, versioned, released, documented, opened, told, closed, attribute_marks}
-use Rattle.wit_tree.specs.Slices.{Rise}
+use Rattle.wit_type_tree.specs.declared.leaves.Id.{Id}
+use Rattle.wit_type_tree.specs.declared.leaves.Docs.{Docs}
+use Rattle.wit_type_tree.specs.declared.leaves.Attribute.{Attribute}
+use Rattle.wit_type_tree.specs.Comments.{IsDocumented, IsStretch, IsStop}
+use Rattle.wit_type_tree.specs.Marks.{Mark, named, spelled, versioned, released, documented, opened, told, closed, attribute_marks}
+use Rattle.wit_type_tree.specs.Slices.{Rise}
 use Rattle.wit_reader.specs.declared.reader.Reader.{Reader}
 use Rattle.wit_reader.specs.Attributes.{IsAttribute}
 use Rattle.wit_reader.specs.Reading.{IsRead, IsReadOn}

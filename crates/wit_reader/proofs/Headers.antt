@@ -2,13 +2,14 @@
 use Rattle.std.proofs.Common.{◌≡◌, ℕ, List, [], ◌∷◌, Option, Some, None, ap, ◌∙◌, sym, subst, arith}
 use Rattle.semver.specs.declared.Version.{Version}
 use Rattle.wit_values.specs.declared.span.Span.{Span}
-use Rattle.wit_tree.specs.declared.tree.Docs.{Docs}
-use Rattle.wit_tree.specs.declared.tree.Id.{Id}
+use Rattle.wit_type_tree.specs.declared.leaves.Docs.{Docs}
+use Rattle.wit_type_tree.specs.declared.leaves.Id.{Id}
 use Rattle.wit_tree.specs.declared.tree.PackageName.{PackageName}
 use Rattle.wit_tree.specs.declared.tree.UsePath.TheVariants.{Package as PathPackage}
-use Rattle.wit_tree.specs.Marks.{Mark, documented, bare, named, joined, whole_mark, header_marks, release_marks, path_marks}
-use Rattle.wit_tree.specs.Comments.{IsNoDocs}
-use Rattle.wit_tree.specs.Slices.{IsJoined, Rise}
+use Rattle.wit_type_tree.specs.Marks.{Mark, documented, bare, named, joined}
+use Rattle.wit_tree.specs.Marks.{whole_mark, header_marks, release_marks, path_marks}
+use Rattle.wit_type_tree.specs.Comments.{IsNoDocs}
+use Rattle.wit_type_tree.specs.Slices.{IsJoined, Rise}
 use Rattle.wit_reader.specs.declared.reader.Reader.{Reader}
 use Rattle.wit_reader.specs.Fronts.{IsReadBehind}
 use Rattle.wit_reader.specs.Headers.{IsWhole, found_version, found_marks}

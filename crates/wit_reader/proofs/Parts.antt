@@ -3,10 +3,10 @@ use Rattle.std.proofs.Common.{◌≡◌, ℕ, ◌+◌, ◌≤◌, List, [], ◌�
 use Rattle.std.specs.List.{flat_map}
 use Rattle.std.specs.Str.Parse.{digits_value, without_leading_plus}
 use Rattle.std.proofs.lemmas.List.{append-nil}
-use Rattle.wit_tree.specs.declared.tree.Id.{Id}
+use Rattle.wit_type_tree.specs.declared.leaves.Id.{Id}
 use Rattle.wit_values.specs.declared.span.Span.{Span}
-use Rattle.wit_tree.specs.Marks.{Mark, named, joined, counted}
-use Rattle.wit_tree.specs.Slices.{Rise, IsJoined, IsCounted, unescaped}
+use Rattle.wit_type_tree.specs.Marks.{Mark, named, joined, counted}
+use Rattle.wit_type_tree.specs.Slices.{Rise, IsJoined, IsCounted, unescaped}
 use Rattle.wit_reader.specs.declared.reader.Reader.{Reader}
 use Rattle.wit_reader.specs.Fronts.{IsReadBehind, Completes}
 use Rattle.wit_reader.specs.Reading.{IsRead, IsReadOn}

@@ -6,11 +6,11 @@ use Rattle.std.proofs.lemmas.List.Concat.{flat_map-append}
 use Rattle.std.proofs.lemmas.List.{append-nil}
 use Rattle.semver.specs.declared.Version.{Version}
 use Rattle.wit_values.specs.declared.span.Span.{Span}
-use Rattle.wit_tree.specs.declared.tree.Id.{Id}
-use Rattle.wit_tree.specs.Marks.{Mark, named, spelled, joined, versioned, released, counted, documented, bare, opened, told, closed}
-use Rattle.wit_tree.specs.declared.tree.Docs.{Docs}
-use Rattle.wit_tree.specs.Comments.{IsDocumented}
-use Rattle.wit_tree.specs.Slices.{unescaped, IsNamed, StandsAt, IsVersioned, IsReleased, IsCounted, IsOpened, IsTold, IsClosed, Rise}
+use Rattle.wit_type_tree.specs.declared.leaves.Id.{Id}
+use Rattle.wit_type_tree.specs.Marks.{Mark, named, spelled, joined, versioned, released, counted, documented, bare, opened, told, closed}
+use Rattle.wit_type_tree.specs.declared.leaves.Docs.{Docs}
+use Rattle.wit_type_tree.specs.Comments.{IsDocumented}
+use Rattle.wit_type_tree.specs.Slices.{unescaped, IsNamed, StandsAt, IsVersioned, IsReleased, IsCounted, IsOpened, IsTold, IsClosed, Rise}
 
 pub is_named : (source : List ℕ) (offset : ℕ) (id : Id) (start end : ℕ) (text : List ℕ) → start ≤ end → end ≤ length source → text ≡ slice_range source start end →
     id.span.start ≡ offset + start → id.span.end ≡ offset + end → id.name.now ≡ unescaped text → IsNamed source offset id

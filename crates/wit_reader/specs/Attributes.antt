@@ -2,10 +2,10 @@
 use Rattle.std.specs.Prelude.{◌≡◌, ℕ, List, [], ◌∷◌, codes}
 use Rattle.semver.specs.declared.Version.{Version}
 use Rattle.wit_values.specs.declared.span.Span.{Span}
-use Rattle.wit_tree.specs.declared.tree.Id.{Id}
-use Rattle.wit_tree.specs.declared.tree.Attribute.{Attribute}
-use Rattle.wit_tree.specs.declared.tree.Attribute.TheVariants.{Since, Unstable, Deprecated, ExternalId}
-use Rattle.wit_tree.specs.Marks.{Mark, named, released, opened, told, closed, attribute_marks}
+use Rattle.wit_type_tree.specs.declared.leaves.Id.{Id}
+use Rattle.wit_type_tree.specs.declared.leaves.Attribute.{Attribute}
+use Rattle.wit_type_tree.specs.declared.leaves.Attribute.TheVariants.{Since, Unstable, Deprecated, ExternalId}
+use Rattle.wit_type_tree.specs.Marks.{Mark, named, released, opened, told, closed, attribute_marks}
 use Rattle.wit_reader.specs.declared.reader.Reader.{Reader}
 use Rattle.wit_reader.specs.Reading.{IsRead}
 

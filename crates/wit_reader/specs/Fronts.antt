@@ -1,6 +1,6 @@
 -- Items behind what stands in front of them, and what is read on from a beginning.
 use Rattle.std.specs.Prelude.{◌≡◌, List, ◌++◌}
-use Rattle.wit_tree.specs.Marks.{Mark}
+use Rattle.wit_type_tree.specs.Marks.{Mark}
 use Rattle.wit_reader.specs.declared.reader.Reader.{Reader}
 use Rattle.wit_reader.specs.Reading.{IsRead, IsReadOn}
 

@@ -2,10 +2,10 @@
 use Rattle.std.specs.Prelude.{◌≡◌, List, [], ◌∷◌, Option, Some, None}
 use Rattle.semver.specs.declared.Version.{Version}
 use Rattle.wit_values.specs.declared.span.Span.{Span}
-use Rattle.wit_tree.specs.declared.tree.Id.{Id}
+use Rattle.wit_type_tree.specs.declared.leaves.Id.{Id}
 use Rattle.wit_tree.specs.declared.tree.PackageName.{PackageName}
-use Rattle.wit_tree.specs.Marks.{Mark, versioned}
-use Rattle.wit_tree.specs.Slices.{IsJoined}
+use Rattle.wit_type_tree.specs.Marks.{Mark, versioned}
+use Rattle.wit_type_tree.specs.Slices.{IsJoined}
 
 -- the version alone, where one was found
 abbrev pub found_version : Option (Span × Version) → Option Version

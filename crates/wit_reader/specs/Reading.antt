@@ -1,7 +1,7 @@
 -- How a reader goes on.
 use Rattle.std.specs.Prelude.{◌≡◌, ℕ, ◌+◌, ◌<◌, ◌≤◌, ◌⊎◌, List}
-use Rattle.wit_tree.specs.Marks.{Mark}
-use Rattle.wit_tree.specs.Slices.{Rise}
+use Rattle.wit_type_tree.specs.Marks.{Mark}
+use Rattle.wit_type_tree.specs.Slices.{Rise}
 use Rattle.wit_reader.specs.declared.reader.Reader.{Reader}
 use Rattle.wit_lex.specs.declared.fault.ReadError.{ReadError}
 use Rattle.wit_lex.specs.declared.fault.ReadError.TheVariants.{Fault}

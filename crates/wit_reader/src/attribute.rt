@@ -1,6 +1,6 @@
 //! Reading attributes.
 ghost use Rattle.std.specs.Prelude.{◌≡◌, ◌+◌, [], ◌∷◌, ◌++◌, codes, IfOk, IfErr};
-ghost use Rattle.wit_tree.specs.Marks.{attribute_marks};
+ghost use Rattle.wit_type_tree.specs.Marks.{attribute_marks};
 ghost use Rattle.wit_reader.specs.Attributes.{IsAttribute, feature_marks, version_marks};
 
 use crate::reader::Reader;

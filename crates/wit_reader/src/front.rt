@@ -1,6 +1,6 @@
 //! Reading what stands in front of items.
 ghost use Rattle.std.specs.Prelude.{◌≡◌, ◌+◌, [], ◌∷◌, IfOk, IfErr};
-ghost use Rattle.wit_tree.specs.Marks.{documented, attributes_marks, front_marks};
+ghost use Rattle.wit_type_tree.specs.Marks.{documented, attributes_marks, front_marks};
 
 use crate::reader::Reader;
 use wit_lex::docs::docs_behind;

@@ -1,6 +1,6 @@
 //! Reading handles of resources.
 ghost use Rattle.std.specs.Prelude.{◌≡◌, ◌+◌, [], ◌∷◌, IfOk, IfErr};
-ghost use Rattle.wit_tree.specs.Marks.{named, type_marks};
+ghost use Rattle.wit_type_tree.specs.Marks.{named, type_marks};
 
 use crate::reader::Reader;
 use wit_lex::fault::ReadResult;

@@ -1,6 +1,6 @@
 //! Primitive types.
 ghost use Rattle.std.specs.Prelude.{◌≡◌, [], ◌∷◌, IfSome};
-ghost use Rattle.wit_tree.specs.Marks.{type_marks, spelled};
+ghost use Rattle.wit_type_tree.specs.Marks.{type_marks, spelled};
 ghost use Rattle.wit_lex.specs.Words.{word_text};
 
 use wit_lex::word::Word;

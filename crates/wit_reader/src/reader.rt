@@ -1,6 +1,6 @@
 //! A reader goes through the tokens of a source, one after the other.
 ghost use Rattle.std.specs.Prelude.{◌≡◌, ◌+◌, ◌<◌, ◌≤◌, ◌^◌, [], ◌∷◌, length, IfOk, OnOk, IfErr, IsTrue};
-ghost use Rattle.wit_tree.specs.Marks.{named, spelled, told};
+ghost use Rattle.wit_type_tree.specs.Marks.{named, spelled, told};
 ghost use Rattle.wit_lex.specs.declared.fault.ReadError.TheVariants.{Fault};
 ghost use Rattle.wit_lex.specs.Tokens.{IsToken};
 ghost use Rattle.wit_lex.specs.Words.{word_text};

@@ -2,7 +2,7 @@
 ghost use Rattle.std.specs.Prelude.{◌≡◌, ◌+◌, [], ◌∷◌, ◌++◌, IfOk, IfErr, IfSome, codes};
 ghost use Rattle.std.specs.List.{flat_map};
 ghost use Rattle.wit_values.specs.declared.span.Span.{Span as TheSpan};
-ghost use Rattle.wit_tree.specs.Marks.{spelled, counted, type_marks, boxed_marks, size_marks};
+ghost use Rattle.wit_type_tree.specs.Marks.{spelled, counted, type_marks, boxed_marks, size_marks};
 ghost use Rattle.wit_reader.specs.Deeper.{word_begins_type, kind_begins_type, deeper_fault};
 
 use crate::primitive::primitive;

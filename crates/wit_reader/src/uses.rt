@@ -1,8 +1,9 @@
 //! Reading paths, what an interface or a world uses, and other names for items.
 ghost use Rattle.std.specs.Prelude.{◌≡◌, ◌+◌, [], ◌∷◌, IfOk, IfErr};
 ghost use Rattle.std.specs.List.{flat_map};
-ghost use Rattle.wit_tree.specs.Marks.{named, attributes_marks, path_marks, local_marks, used_marks, use_marks, toplevel_marks};
-ghost use Rattle.wit_tree.specs.Slices.{IsJoined};
+ghost use Rattle.wit_type_tree.specs.Marks.{named, attributes_marks};
+ghost use Rattle.wit_tree.specs.Marks.{path_marks, local_marks, used_marks, use_marks, toplevel_marks};
+ghost use Rattle.wit_type_tree.specs.Slices.{IsJoined};
 ghost use Rattle.wit_reader.specs.Fronts.{Completes, IsReadBehind};
 ghost use Rattle.wit_reader.specs.Headers.{found_version};
 

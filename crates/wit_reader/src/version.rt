@@ -1,6 +1,6 @@
 //! Reading versions.
 ghost use Rattle.std.specs.Prelude.{◌≡◌, ◌<◌, ◌≤◌, [], ◌∷◌, ◌-◌, length, slice_index, IfOk, IfErr};
-ghost use Rattle.wit_tree.specs.Marks.{versioned};
+ghost use Rattle.wit_type_tree.specs.Marks.{versioned};
 ghost use Rattle.wit_reader.specs.Headers.{found_marks};
 ghost use Rattle.wit_reader.specs.Reading.{IsRefusedFrom};
 ghost use Rattle.wit_lex.specs.Faults.{IsWithin};

@@ -19,7 +19,7 @@ use Rattle.wit_syntax.proofs.Lists.{at_either, map_at}
 use Rattle.wit_syntax.proofs.Names.{name_equal}
 use Rattle.wit_syntax.proofs.Repeated.{differ_more}
 use Rattle.wit_refusals.specs.declared.name_scope.DefinedName.{DefinedName}
-use Rattle.wit_tree.specs.declared.error.ParseError.{ParseError}
+use Rattle.wit_type_tree.specs.declared.error.ParseError.{ParseError}
 use Rattle.wit_syntax.specs.Fault.{fault}
 use Rattle.wit_syntax.specs.Broken.{Refused}
 use Rattle.wit_refusals.specs.Names.{Name, IsTaken, IsLoneSetter, IsFirstLoneSetter}

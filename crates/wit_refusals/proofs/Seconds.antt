@@ -1,7 +1,7 @@
 -- Names whose keys stand twice.
 use Rattle.std.proofs.Common.{ℕ, ◌<◌, List, take, Some, sym, ap, ◌∙◌, arith}
 use Rattle.std.specs.Prelude.{map}
-use Rattle.wit_tree.specs.declared.tree.Id.{Id}
+use Rattle.wit_type_tree.specs.declared.leaves.Id.{Id}
 use Rattle.wit_syntax.proofs.Lists.{map_at}
 use Rattle.wit_syntax.specs.Bodies.{folded}
 use Rattle.wit_syntax.specs.Repeats.{IsRepeatAt, AllDiffer}

@@ -12,8 +12,8 @@ use crate::refusal::refuse_in;
 use std::alloc::{AllocError, Global};
 use std::marker::Model;
 use wit_names::{Folded, getter_for_setter, is_setter};
-use wit_tree::{ParseResult, Span};
-use wit_values::{Table, Text};
+use wit_type_tree::ParseResult;
+use wit_values::{Span, Table, Text};
 
 /// A name of a scope, where it is not spelled as its key, and where it is written.
 #[derive(Debug, Drop)]

@@ -1,13 +1,14 @@
 //! Refusals of a broken rule.
 ghost use Rattle.std.specs.Prelude.{◌≡◌, ◌⊎◌, IfOk, None, Some, string_bytes};
 ghost use Rattle.std.specs.Option.{option_map};
-ghost use Rattle.wit_tree.specs.Refusal.{IsWantOfMemory, IsItemNotFound, IsTypeCycle};
+ghost use Rattle.wit_type_tree.specs.Refusal.{IsWantOfMemory, IsItemNotFound, IsTypeCycle};
 ghost use Rattle.wit_syntax.specs.Fault.{fault, fault_of, missing_at, missing_type_at, cyclic_at, type_word};
 ghost use Rattle.wit_syntax.specs.Hint.{hint_of, renamed, type_hint};
 
 use std::alloc::{AllocError, Global};
-use wit_tree::tree::Id;
-use wit_tree::{ParseError, ParseErrorKind, Span};
+use wit_type_tree::leaves::Id;
+use wit_type_tree::{ParseError, ParseErrorKind};
+use wit_values::Span;
 
 /// A rule that is broken at a span, in the words that were made, or that memory is wanted for.
 #[cold]

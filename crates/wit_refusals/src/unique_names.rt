@@ -6,8 +6,8 @@ ghost use Rattle.wit_refusals.specs.Names.{IsFirstSecond, IsSecond};
 use crate::refusal::refuse_in;
 use crate::repeats::first_folded_repeat;
 use std::alloc::{AllocError, Global};
-use wit_tree::ParseResult;
-use wit_tree::tree::Id;
+use wit_type_tree::ParseResult;
+use wit_type_tree::leaves::Id;
 
 /// The names as they are spelled.
 fn spelled<'a>(alloc: Global, names: &[Id<'a>]) -> Result<Vec<&'a str>, AllocError>

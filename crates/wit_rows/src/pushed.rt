@@ -9,7 +9,7 @@ use wit_nested::GroupResolver;
 use wit_package_views::read_marked;
 use wit_parser::Resolver;
 use wit_text::SourceMap;
-use wit_tree::ParseResult;
+use wit_type_tree::ParseResult;
 use wit_views::{Found, behind, without_nested};
 
 /// Puts the number of a refusal behind a text, or 0.

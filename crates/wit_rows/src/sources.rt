@@ -6,7 +6,7 @@ use wit_nested::GroupResolver;
 use wit_package_views::read_marked;
 use wit_text::SourceMap;
 use wit_tool::bundle;
-use wit_tree::ParseResult;
+use wit_type_tree::ParseResult;
 use wit_views::{Found, behind};
 
 /// The path of a source that has none.

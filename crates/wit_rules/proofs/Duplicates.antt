@@ -1,6 +1,6 @@
 -- Names of fields, flags and cases, of which a later one is an earlier one once case is folded.
 use Rattle.std.proofs.Common.{◌≡◌, ℕ, false, List, [], ◌∷◌, length, ◌==◌, Some, sym, ap, ◌∙◌}
-use Rattle.wit_tree.specs.declared.tree.Id.{Id}
+use Rattle.wit_type_tree.specs.declared.leaves.Id.{Id}
 use Rattle.wit_syntax.specs.Fault.{Fault}
 use Rattle.wit_syntax.specs.Bodies.{folded, IsDuplicateName}
 use Rattle.wit_refusals.specs.Names.{IsSecond, IsFirstSecond}

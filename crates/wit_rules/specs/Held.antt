@@ -1,6 +1,6 @@
 -- Written functions that are held until their types are resolved.
 use Rattle.std.specs.Prelude.{Option, Some, None}
-use Rattle.wit_tree.specs.declared.tree.Id.{Id}
+use Rattle.wit_type_tree.specs.declared.leaves.Id.{Id}
 use Rattle.wit_tree.specs.declared.tree.WorldSide.{WorldSide}
 use Rattle.wit_syntax.specs.Function.{Role, Freestanding, Method, Static, Constructor, OnSide, SourceFunction, free_function, resource_function, side_function}
 use Rattle.wit_rules.specs.declared.held.HeldFunction.{HeldFunction}

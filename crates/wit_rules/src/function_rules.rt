@@ -1,7 +1,7 @@
 //! The rules of functions: of their parameters and of their results.
 ghost use Rattle.std.specs.Prelude.{◌≡◌, ◌⊎◌, ◌↔◌, List, Some, None, IfErr, IfNone, IfOk, IfSome, IsTrue, OnOk, map};
-ghost use Rattle.wit_tree.specs.Refusal.{IsWantOfMemory};
-ghost use Rattle.wit_tree.specs.declared.types.FuncForm.TheVariants.{Getter, Setter};
+ghost use Rattle.wit_type_tree.specs.Refusal.{IsWantOfMemory};
+ghost use Rattle.wit_type_tree.specs.declared.types.FuncForm.TheVariants.{Getter, Setter};
 ghost use Rattle.wit_syntax.specs.Fault.{Fault, fault, fault_of};
 ghost use Rattle.wit_syntax.specs.Source.{ScopeName};
 ghost use Rattle.wit_syntax.specs.Broken.{Refused};

@@ -5,7 +5,7 @@ use Rattle.std.specs.List.{cons_option}
 use Rattle.std.proofs.lemmas.List.{length-map, take_all}
 use Rattle.std.proofs.lemmas.Bool.{cases_lt}
 use Rattle.std.proofs.lemmas.Option.{same_Some, get_or_from_slice_get}
-use Rattle.wit_tree.specs.declared.tree.Id.{Id}
+use Rattle.wit_type_tree.specs.declared.leaves.Id.{Id}
 use Rattle.wit_graph.specs.Table.{Row, IsEdge, Leads, IsOrder}
 use Rattle.wit_graph.proofs.Greedy.{own_greedy, greedy_sorted, greedy_least}
 use Rattle.wit_graph.proofs.Tables.{slice_get-take}

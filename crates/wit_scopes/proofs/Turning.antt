@@ -7,8 +7,8 @@ use Rattle.std.proofs.lemmas.Option.{slice_get-map}
 use Rattle.std.proofs.lemmas.List.{map-append}
 use Rattle.std.proofs.lemmas.Bool.{cases_Bool, cond-true, cond-false}
 use Rattle.wit_syntax.specs.Source.{ScopeName, Used, Defined, Taken, local_id, local_name}
-use Rattle.wit_tree.specs.declared.tree.Id.{Id}
-use Rattle.wit_tree.specs.declared.types.TypeDef.{TypeDef as Definition}
+use Rattle.wit_type_tree.specs.declared.leaves.Id.{Id}
+use Rattle.wit_type_tree.specs.declared.types.TypeDef.{TypeDef as Definition}
 use Rattle.wit_syntax.specs.Shape.{all_words, body_of}
 use Rattle.wit_syntax.specs.Scope.{in_order, is_defined, rows_of, used, defined, AreDistinct, local_names}
 use Rattle.wit_syntax.specs.Fault.{Fault, fault, missing_type_at, type_word}

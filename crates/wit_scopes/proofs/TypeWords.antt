@@ -4,10 +4,10 @@ use Rattle.std.specs.declared.alloc.Global.{Global}
 use Rattle.std.proofs.lemmas.List.{append-nil}
 use Rattle.std.specs.Option.{option_to_list}
 use Rattle.wit_values.specs.declared.span.Span.{Span}
-use Rattle.wit_tree.specs.declared.tree.Id.{Id}
-use Rattle.wit_tree.specs.declared.types.Case.{Case}
-use Rattle.wit_tree.specs.declared.types.«Type».{«Type» as Written, Tuple}
-use Rattle.wit_tree.specs.Parts.{case_types}
+use Rattle.wit_type_tree.specs.declared.leaves.Id.{Id}
+use Rattle.wit_type_tree.specs.declared.types.Case.{Case}
+use Rattle.wit_type_tree.specs.declared.types.«Type».{«Type» as Written, Tuple}
+use Rattle.wit_type_tree.specs.Parts.{case_types}
 use Rattle.wit_syntax.specs.Shape.{shape_of, all_shapes, words, all_words}
 use Rattle.wit_syntax.proofs.Lists.{filter_map_more}
 use Rattle.wit_arena.proofs.Written.{tuple_inner, all_words-append}

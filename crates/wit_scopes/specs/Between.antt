@@ -1,7 +1,7 @@
 -- What the resolver's functions tell one another: orders that were found, names that stand twice, and what was resolved so far.
 use Rattle.std.specs.Prelude.{◌≡◌, ◌⊎◌, ℕ, List, [], take, Some, Contains, slice_get}
-use Rattle.wit_tree.specs.declared.tree.Id.{Id}
-use Rattle.wit_tree.specs.declared.types.TypeDef.{TypeDef as Definition}
+use Rattle.wit_type_tree.specs.declared.leaves.Id.{Id}
+use Rattle.wit_type_tree.specs.declared.types.TypeDef.{TypeDef as Definition}
 use Rattle.wit_graph.specs.Table.{IsOrder}
 use Rattle.wit_syntax.specs.Source.{ScopeName, Defined, local_name}
 use Rattle.wit_syntax.specs.Scope.{needed_ids, rows_of, in_order, defined}

@@ -2,7 +2,7 @@
 use Rattle.std.specs.Prelude.{◌≡◌, ℕ, List, Some, ⊤, slice_get}
 use Rattle.wit_scopes.specs.declared.scope_name.UsedName.{UsedName}
 use denote.Ref.{Bor}
-use Rattle.wit_tree.specs.declared.types.TypeDef.{TypeDef}
+use Rattle.wit_type_tree.specs.declared.types.TypeDef.{TypeDef}
 use Rattle.wit_scopes.specs.declared.scope_name.Lent.{Lent}
 use Rattle.wit_scopes.specs.declared.scope_name.Named.{Named}
 use Rattle.wit_scopes.specs.declared.scope_name.Named.TheVariants as held

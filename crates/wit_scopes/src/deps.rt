@@ -1,6 +1,6 @@
 //! The names that are written in types and in the bodies of definitions.
 ghost use Rattle.std.specs.Prelude.{◌≡◌, ◌++◌, IfOk, OnOk};
-ghost use Rattle.wit_tree.specs.Parts.{boxed_types, field_types, case_types};
+ghost use Rattle.wit_type_tree.specs.Parts.{boxed_types, field_types, case_types};
 ghost use Rattle.wit_syntax.specs.Shape.{shape_of, all_shapes, body_of, words, all_words};
 
 use std::alloc::{AllocError, Global};

@@ -5,9 +5,9 @@ use Rattle.std.specs.List.{flat_map}
 use Rattle.std.specs.Option.{option_to_list}
 use Rattle.std.proofs.lemmas.List.Elements.{Contains-append_left, Contains-append_right}
 use Rattle.std.proofs.lemmas.Option.{same_Some, slice_get_within}
-use Rattle.wit_tree.specs.declared.error.ParseError.{ParseError}
-use Rattle.wit_tree.specs.declared.tree.Attribute.{Attribute}
-use Rattle.wit_tree.specs.declared.types.«Type».{«Type» as Written}
+use Rattle.wit_type_tree.specs.declared.error.ParseError.{ParseError}
+use Rattle.wit_type_tree.specs.declared.leaves.Attribute.{Attribute}
+use Rattle.wit_type_tree.specs.declared.types.«Type».{«Type» as Written}
 use Rattle.wit_types.specs.declared.types.TypeDef.{TypeDef}
 use Rattle.wit_syntax.specs.Shape.{words}
 use Rattle.wit_syntax.specs.Source.{ScopeName, meaning}

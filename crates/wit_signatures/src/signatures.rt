@@ -1,7 +1,7 @@
 //! Types in signatures.
 ghost use Rattle.std.specs.Prelude.{◌≡◌, ◌<◌, ◌↔◌, List, None, IfOk, IfErr, IsTrue, OnOk, length, map};
-ghost use Rattle.wit_tree.specs.Refusal.{IsItemNotFound};
-ghost use Rattle.wit_tree.specs.declared.types.«Type».{«Type» as Written};
+ghost use Rattle.wit_type_tree.specs.Refusal.{IsItemNotFound};
+ghost use Rattle.wit_type_tree.specs.declared.types.«Type».{«Type» as Written};
 ghost use Rattle.wit_types.specs.declared.types.TypeDef.{TypeDef};
 ghost use Rattle.wit_types.specs.declared.stability.Stability.TheVariants.{Unknown};
 ghost use Rattle.wit_syntax.specs.Shape.{shape_of, handles};

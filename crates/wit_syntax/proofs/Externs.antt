@@ -1,8 +1,8 @@
 -- What a world imports or exports as a function.
 use Rattle.std.proofs.Common.{◌≡◌, ℕ, zero, suc, Some}
 use Rattle.std.specs.Prelude.{slice_get}
-use Rattle.wit_tree.specs.declared.tree.Id.{Id}
-use Rattle.wit_tree.specs.declared.types.Func.{Func}
+use Rattle.wit_type_tree.specs.declared.leaves.Id.{Id}
+use Rattle.wit_type_tree.specs.declared.types.Func.{Func}
 use Rattle.wit_tree.specs.declared.tree.Extern.{Extern}
 use Rattle.wit_tree.specs.declared.tree.ExternKind.{ExternKind}
 use Rattle.wit_tree.specs.declared.tree.ExternKind.TheVariants as extern

@@ -1,6 +1,6 @@
 -- Refusals, passed on.
 use Rattle.std.proofs.Common.{inl, inr}
-use Rattle.wit_tree.specs.declared.error.ParseError.{ParseError}
+use Rattle.wit_type_tree.specs.declared.error.ParseError.{ParseError}
 use Rattle.wit_syntax.specs.Fault.{Fault}
 use Rattle.wit_syntax.specs.Broken.{Refused}
 

@@ -2,16 +2,16 @@
 use Rattle.std.specs.Prelude.{◌≡◌, ℕ, zero, suc, ◌<◌, ◌⊎◌, List, [], map, Some, Contains, slice_get}
 use Rattle.std.specs.Char.{to_ascii_lowercase}
 use Rattle.wit_values.specs.declared.span.Span.{Span}
-use Rattle.wit_tree.specs.declared.tree.Id.{Id}
-use Rattle.wit_tree.specs.declared.types.Field.{Field}
-use Rattle.wit_tree.specs.declared.types.Flag.{Flag}
-use Rattle.wit_tree.specs.declared.types.Case.{Case}
-use Rattle.wit_tree.specs.declared.types.EnumCase.{EnumCase}
-use Rattle.wit_tree.specs.declared.types.«Type».{«Type» as Written}
-use Rattle.wit_tree.specs.declared.types.«Type».TheVariants as written
-use Rattle.wit_tree.specs.declared.types.TypeBody.{TypeBody}
-use Rattle.wit_tree.specs.declared.types.TypeBody.TheVariants.{Record, Flags, Variant, Enum, Resource, Plain}
-use Rattle.wit_tree.specs.Parts.{part_types, row_types, body_types}
+use Rattle.wit_type_tree.specs.declared.leaves.Id.{Id}
+use Rattle.wit_type_tree.specs.declared.types.Field.{Field}
+use Rattle.wit_type_tree.specs.declared.types.Flag.{Flag}
+use Rattle.wit_type_tree.specs.declared.types.Case.{Case}
+use Rattle.wit_type_tree.specs.declared.types.EnumCase.{EnumCase}
+use Rattle.wit_type_tree.specs.declared.types.«Type».{«Type» as Written}
+use Rattle.wit_type_tree.specs.declared.types.«Type».TheVariants as written
+use Rattle.wit_type_tree.specs.declared.types.TypeBody.{TypeBody}
+use Rattle.wit_type_tree.specs.declared.types.TypeBody.TheVariants.{Record, Flags, Variant, Enum, Resource, Plain}
+use Rattle.wit_type_tree.specs.Parts.{part_types, row_types, body_types}
 use Rattle.wit_syntax.specs.Fault.{Fault, fault}
 
 -- the key by which labels are told apart: the label in lower case

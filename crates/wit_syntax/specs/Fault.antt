@@ -1,9 +1,9 @@
 -- Faults: what a refusal tells, without its words.
 use Rattle.std.specs.Prelude.{ℕ, List, Option, Some, None, codes}
 use Rattle.wit_values.specs.declared.span.Span.{Span}
-use Rattle.wit_tree.specs.declared.tree.Id.{Id}
-use Rattle.wit_tree.specs.declared.error.ParseError.{ParseError}
-use Rattle.wit_tree.specs.Refusal.{span_of, name_of, Sort, Said, Missing, Cyclic, sort_of}
+use Rattle.wit_type_tree.specs.declared.leaves.Id.{Id}
+use Rattle.wit_type_tree.specs.declared.error.ParseError.{ParseError}
+use Rattle.wit_type_tree.specs.Refusal.{span_of, name_of, Sort, Said, Missing, Cyclic, sort_of}
 use Rattle.wit_syntax.specs.Hint.{hint_of, type_hint}
 
 -- the number of a rule, a place, the name that it is about, where it is about one, which kind of refusal it is, and the hint that it gives, where it gives one

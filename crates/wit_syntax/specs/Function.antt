@@ -3,24 +3,24 @@ use Rattle.std.specs.Prelude.{ℕ, List, [], ◌∷◌, ◌++◌, Option, Some, 
 use Rattle.std.specs.List.{flat_map}
 use Rattle.std.specs.Option.{option_map, option_map_or, option_to_list}
 use Rattle.wit_values.specs.declared.span.Span.{Span}
-use Rattle.wit_tree.specs.declared.tree.Id.{Id}
-use Rattle.wit_tree.specs.declared.tree.Attribute.{Attribute}
-use Rattle.wit_tree.specs.declared.tree.Docs.{Docs}
-use Rattle.wit_tree.specs.declared.types.«Type».{«Type» as Written}
-use Rattle.wit_tree.specs.declared.types.TypeBody.{TypeBody}
-use Rattle.wit_tree.specs.declared.types.TypeBody.TheVariants as body
-use Rattle.wit_tree.specs.declared.types.NamedFunc.{NamedFunc}
-use Rattle.wit_tree.specs.declared.types.Func.{Func}
+use Rattle.wit_type_tree.specs.declared.leaves.Id.{Id}
+use Rattle.wit_type_tree.specs.declared.leaves.Attribute.{Attribute}
+use Rattle.wit_type_tree.specs.declared.leaves.Docs.{Docs}
+use Rattle.wit_type_tree.specs.declared.types.«Type».{«Type» as Written}
+use Rattle.wit_type_tree.specs.declared.types.TypeBody.{TypeBody}
+use Rattle.wit_type_tree.specs.declared.types.TypeBody.TheVariants as body
+use Rattle.wit_type_tree.specs.declared.types.NamedFunc.{NamedFunc}
+use Rattle.wit_type_tree.specs.declared.types.Func.{Func}
 use Rattle.wit_tree.specs.declared.tree.WorldSide.{WorldSide}
 use Rattle.wit_tree.specs.declared.tree.Extern.{Extern}
 use Rattle.wit_tree.specs.declared.tree.ExternKind.{ExternKind}
 use Rattle.wit_tree.specs.declared.tree.ExternKind.TheVariants as extern
-use Rattle.wit_tree.specs.declared.types.FuncForm.{FuncForm}
-use Rattle.wit_tree.specs.declared.types.FuncForm.TheVariants as form
-use Rattle.wit_tree.specs.declared.types.Param.{Param}
-use Rattle.wit_tree.specs.declared.types.ResourceFunc.{ResourceFunc}
-use Rattle.wit_tree.specs.declared.types.ResourceFunc.TheVariants as resource
-use Rattle.wit_tree.specs.Parts.{body_types}
+use Rattle.wit_type_tree.specs.declared.types.FuncForm.{FuncForm}
+use Rattle.wit_type_tree.specs.declared.types.FuncForm.TheVariants as form
+use Rattle.wit_type_tree.specs.declared.types.Param.{Param}
+use Rattle.wit_type_tree.specs.declared.types.ResourceFunc.{ResourceFunc}
+use Rattle.wit_type_tree.specs.declared.types.ResourceFunc.TheVariants as resource
+use Rattle.wit_type_tree.specs.Parts.{body_types}
 use Rattle.wit_syntax.specs.Form.{BorrowForm}
 use Rattle.wit_syntax.specs.Shape.{Shape, Word, Of, one, shape_of}
 use Rattle.wit_syntax.specs.Notes.{Notes, notes, docs_of}

@@ -3,11 +3,11 @@ use Rattle.std.specs.Prelude.{◌≡◌, ℕ, ◌<◌, ◌⊎◌, List, [], ◌�
 use Rattle.std.specs.Option.{option_map}
 use Rattle.semver.specs.declared.Version.{Version}
 use Rattle.wit_values.specs.declared.release.Release.{Release}
-use Rattle.wit_tree.specs.declared.tree.Docs.{Docs as Comments}
-use Rattle.wit_tree.specs.declared.tree.Attribute.{Attribute}
-use Rattle.wit_tree.specs.declared.attribute_kind.AttributeKind.{AttributeKind}
-use Rattle.wit_tree.specs.declared.attribute_kind.AttributeKind.TheVariants.{Since, Unstable, Deprecated, ExternalId}
-use Rattle.wit_tree.specs.Attributes.{attribute_span, told_text, told_version, StandsAt}
+use Rattle.wit_type_tree.specs.declared.leaves.Docs.{Docs as Comments}
+use Rattle.wit_type_tree.specs.declared.leaves.Attribute.{Attribute}
+use Rattle.wit_type_tree.specs.declared.attribute_kind.AttributeKind.{AttributeKind}
+use Rattle.wit_type_tree.specs.declared.attribute_kind.AttributeKind.TheVariants.{Since, Unstable, Deprecated, ExternalId}
+use Rattle.wit_type_tree.specs.Attributes.{attribute_span, told_text, told_version, StandsAt}
 use Rattle.wit_types.specs.declared.docs.Docs.{Docs}
 use Rattle.wit_types.specs.declared.stability.Stability.{Stability}
 use Rattle.wit_types.specs.declared.stability.Stability.TheVariants as stability

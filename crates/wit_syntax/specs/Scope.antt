@@ -1,6 +1,6 @@
 -- What each name of a scope needs, and each item, as tables whose orders are those in which they are resolved.
 use Rattle.std.specs.Prelude.{ℕ, Bool, true, false, not, List, [], ◌∷◌, ◌++◌, map, slice_get}
-use Rattle.wit_tree.specs.declared.tree.Id.{Id}
+use Rattle.wit_type_tree.specs.declared.leaves.Id.{Id}
 use Rattle.std.specs.List.{flat_map, filter, filter_map}
 use Rattle.wit_tree.specs.declared.tree.Include.{Include}
 use Rattle.wit_tree.specs.declared.tree.Use.{Use}

@@ -1,17 +1,17 @@
 -- A written type as a shape: a primitive, a name, or a form over parts.
 use Rattle.std.specs.Prelude.{Bool, true, false, List, [], ◌∷◌, ◌++◌, map, is_some}
 use Rattle.wit_values.specs.declared.span.Span.{Span}
-use Rattle.wit_tree.specs.declared.tree.Id.{Id}
-use Rattle.wit_tree.specs.declared.types.«Type».{«Type» as Written, Held-Type-Result-1 as Held, None', Some', Row_of-Type, end_of-Type, more_of-Type}
-use Rattle.wit_tree.specs.declared.types.«Type».TheVariants as written
-use Rattle.wit_tree.specs.declared.types.Field.{Field}
-use Rattle.wit_tree.specs.declared.types.Flag.{Flag}
-use Rattle.wit_tree.specs.declared.types.Case.{Case}
-use Rattle.wit_tree.specs.declared.types.EnumCase.{EnumCase}
-use Rattle.wit_tree.specs.declared.types.TypeBody.{TypeBody}
-use Rattle.wit_tree.specs.declared.types.TypeBody.TheVariants.{Record, Flags, Variant, Enum, Resource, Plain}
-use Rattle.wit_tree.specs.Parts.{field_types, case_types}
-use Rattle.wit_tree.specs.declared.tree.Docs.{Docs as Comments}
+use Rattle.wit_type_tree.specs.declared.leaves.Id.{Id}
+use Rattle.wit_type_tree.specs.declared.types.«Type».{«Type» as Written, Held-Type-Result-1 as Held, None', Some', Row_of-Type, end_of-Type, more_of-Type}
+use Rattle.wit_type_tree.specs.declared.types.«Type».TheVariants as written
+use Rattle.wit_type_tree.specs.declared.types.Field.{Field}
+use Rattle.wit_type_tree.specs.declared.types.Flag.{Flag}
+use Rattle.wit_type_tree.specs.declared.types.Case.{Case}
+use Rattle.wit_type_tree.specs.declared.types.EnumCase.{EnumCase}
+use Rattle.wit_type_tree.specs.declared.types.TypeBody.{TypeBody}
+use Rattle.wit_type_tree.specs.declared.types.TypeBody.TheVariants.{Record, Flags, Variant, Enum, Resource, Plain}
+use Rattle.wit_type_tree.specs.Parts.{field_types, case_types}
+use Rattle.wit_type_tree.specs.declared.leaves.Docs.{Docs as Comments}
 use Rattle.wit_syntax.specs.Notes.{docs_of}
 use Rattle.wit_syntax.specs.Form.{Member, Form, RecordForm, FlagsForm, VariantForm, EnumForm, OptionForm, ResultForm, TupleForm, ListForm, MapForm, FixedLengthListForm, FutureForm, StreamForm, AliasForm, OwnForm, BorrowForm, ResourceForm}
 use Rattle.wit_syntax.specs.Node.{Primitive}

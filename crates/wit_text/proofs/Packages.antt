@@ -1,8 +1,9 @@
 -- What was found among the items of a file or of a nested package.
 use Rattle.std.proofs.Common.{◌≡◌, [], ◌∷◌, subst}
 use Rattle.wit_tree.specs.declared.tree.AstItem.{AstItem}
-use Rattle.wit_tree.specs.declared.tree.Docs.{Docs}
-use Rattle.wit_tree.specs.Marks.{documented, declaration_marks}
+use Rattle.wit_type_tree.specs.declared.leaves.Docs.{Docs}
+use Rattle.wit_type_tree.specs.Marks.{documented}
+use Rattle.wit_tree.specs.Marks.{declaration_marks}
 use Rattle.wit_reader.specs.declared.reader.Reader.{Reader}
 use Rattle.wit_text.specs.declared.declaration.PackageItem.{PackageItem}
 use Rattle.wit_text.specs.declared.declaration.PackageItem.TheVariants.{Declaration, Package}

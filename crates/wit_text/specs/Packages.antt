@@ -1,6 +1,7 @@
 -- What stands among the items of a file or of a nested package.
 use Rattle.std.specs.Prelude.{[], ◌∷◌}
-use Rattle.wit_tree.specs.Marks.{documented, declaration_marks}
+use Rattle.wit_type_tree.specs.Marks.{documented}
+use Rattle.wit_tree.specs.Marks.{declaration_marks}
 use Rattle.wit_reader.specs.declared.reader.Reader.{Reader}
 use Rattle.wit_text.specs.declared.declaration.PackageItem.{PackageItem}
 use Rattle.wit_text.specs.declared.declaration.PackageItem.TheVariants.{Declaration, Package}

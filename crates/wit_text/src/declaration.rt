@@ -1,6 +1,7 @@
 //! Reading declarations, and whether a nested package stands in the place of one.
 ghost use Rattle.std.specs.Prelude.{◌≡◌, ◌+◌, [], ◌∷◌, IfOk, IfErr};
-ghost use Rattle.wit_tree.specs.Marks.{front_marks, interface_marks};
+ghost use Rattle.wit_type_tree.specs.Marks.{front_marks};
+ghost use Rattle.wit_tree.specs.Marks.{interface_marks};
 ghost use Rattle.wit_reader.specs.Fronts.{IsReadBehind};
 ghost use Rattle.wit_reader.specs.Reading.{IsRead, IsRefused};
 ghost use Rattle.wit_text.specs.Packages.{IsItemRead};

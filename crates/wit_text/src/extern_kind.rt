@@ -1,7 +1,8 @@
 //! Reading what worlds import and export.
 ghost use Rattle.std.specs.Prelude.{◌≡◌, ◌+◌, [], ◌∷◌, IfOk, IfErr};
 ghost use Rattle.wit_reader.specs.Fronts.{Completes, IsReadBehind};
-ghost use Rattle.wit_tree.specs.Marks.{named, front_marks, extern_marks, side_marks};
+ghost use Rattle.wit_type_tree.specs.Marks.{named, front_marks};
+ghost use Rattle.wit_tree.specs.Marks.{extern_marks, side_marks};
 ghost use Rattle.wit_reader.specs.Reading.{IsRead, IsRefused};
 
 use wit_interface_reader::definition::read_interface_items;

@@ -2,7 +2,7 @@
 ghost use Rattle.std.specs.Prelude.{◌≡◌, ◌+◌, ◌<◌, ◌^◌, [], ◌∷◌, length, IfOk, OnOk, IfErr};
 ghost use Rattle.std.specs.List.{flat_map};
 ghost use Rattle.wit_tree.specs.Marks.{declaration_marks, package_marks, file_marks, nested_marks, inner_marks};
-ghost use Rattle.wit_tree.specs.Slices.{Rise};
+ghost use Rattle.wit_type_tree.specs.Slices.{Rise};
 ghost use Rattle.wit_lex.specs.Faults.{IsRefusal, IsWithin};
 ghost use Rattle.wit_reader.specs.Reading.{IsReadOn, IsRefused};
 ghost use Rattle.wit_reader.specs.Fronts.{CompletesOn};

@@ -1,7 +1,8 @@
 //! Reading names of packages, and packages that are nested in a file or in one another.
 ghost use Rattle.std.specs.Prelude.{◌≡◌, ◌+◌, [], ◌∷◌, IfOk, OnOk, IfErr};
 ghost use Rattle.std.specs.List.{flat_map};
-ghost use Rattle.wit_tree.specs.Marks.{named, documented, declaration_marks, header_marks, nested_marks, inner_marks};
+ghost use Rattle.wit_type_tree.specs.Marks.{named, documented};
+ghost use Rattle.wit_tree.specs.Marks.{declaration_marks, header_marks, nested_marks, inner_marks};
 ghost use Rattle.wit_reader.specs.Fronts.{IsReadBehind};
 ghost use Rattle.wit_reader.specs.Headers.{IsWhole};
 ghost use Rattle.wit_reader.specs.Reading.{IsRead, IsRefused};

@@ -2,7 +2,8 @@
 ghost use Rattle.std.specs.Prelude.{◌≡◌, ◌+◌, [], ◌∷◌, OnOk, IfOk, IfErr};
 ghost use Rattle.std.specs.List.{flat_map};
 ghost use Rattle.wit_reader.specs.Fronts.{IsReadBehind};
-ghost use Rattle.wit_tree.specs.Marks.{attributes_marks, front_marks, renamed_marks, include_marks, world_item_marks, world_marks};
+ghost use Rattle.wit_type_tree.specs.Marks.{attributes_marks, front_marks};
+ghost use Rattle.wit_tree.specs.Marks.{renamed_marks, include_marks, world_item_marks, world_marks};
 ghost use Rattle.wit_reader.specs.Reading.{IsRead, IsReadOn, IsRefused};
 
 use crate::extern_kind::{read_export, read_import};

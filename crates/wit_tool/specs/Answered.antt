@@ -1,7 +1,7 @@
 -- What is written of a text.
 use Rattle.std.specs.Prelude.{◌≡◌, ℕ, ◌<◌, Bool, false, List, [], Option, Result, Err}
 use Rattle.std.specs.Io.KnownBytes.{Keeps}
-use Rattle.wit_tree.specs.declared.error.ParseError.{ParseError}
+use Rattle.wit_type_tree.specs.declared.error.ParseError.{ParseError}
 use Rattle.wit_lex.specs.declared.source.Source.{Source}
 use Rattle.wit_lex.specs.Sources.{IsTooLarge}
 use Rattle.wit_bundle.specs.Bundle.{sources_of}

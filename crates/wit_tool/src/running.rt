@@ -9,7 +9,7 @@ use std::io::Write;
 use wit_groups::UnresolvedPackageGroup;
 use wit_lex::SourceMap;
 use wit_listing::{RunFault, error_line};
-use wit_tree::ParseError;
+use wit_type_tree::ParseError;
 
 /// Writes the listing of a group: of its main package, and behind it, in the same way, of its nested
 /// ones: of each its name, its types, its interfaces, its worlds, and what it names of other packages, a

@@ -8,7 +8,8 @@ use std::{io, str};
 use wit_listing::{RunFault, error_line};
 use wit_text::SourceMap;
 use wit_tool::run;
-use wit_tree::{ParseError, ParseErrorKind, Span};
+use wit_type_tree::{ParseError, ParseErrorKind};
+use wit_values::Span;
 
 /// Two sources.
 fn two_sources(alloc: Global) -> Result<SourceMap, Fail> {

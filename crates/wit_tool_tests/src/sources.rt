@@ -4,7 +4,7 @@ use std::alloc::{AllocError, Global};
 use std::process::Abort;
 use std::test::Fail;
 use wit_lex::{SourceMap, is_same_map};
-use wit_tree::Span;
+use wit_values::Span;
 
 /// A map of three sources, the second of which is empty.
 fn three_sources(rt: &impl Abort, alloc: Global) -> SourceMap {

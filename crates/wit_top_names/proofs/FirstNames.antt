@@ -11,7 +11,7 @@ use Rattle.std.proofs.lemmas.List.{map-append}
 use Rattle.std.proofs.lemmas.Option.{none-some}
 use Rattle.indexmap.specs.IndexMap.{insert_entry}
 use Rattle.wit_graph.proofs.Rows.{key_eq}
-use Rattle.wit_tree.specs.declared.tree.Id.{Id}
+use Rattle.wit_type_tree.specs.declared.leaves.Id.{Id}
 use Rattle.wit_tree.specs.declared.tree.UsePath.TheVariants as path
 use Rattle.wit_syntax.specs.Source.{TopName, Local, top_text, top_target, top_named, leads, Item, item_name, item_named}
 use Rattle.wit_syntax.specs.Repeats.{AllDiffer}

@@ -1,7 +1,2 @@
-pub mod Attributes
-pub mod Comments
 pub mod Externs
 pub mod Marks
-pub mod Parts
-pub mod Refusal
-pub mod Slices

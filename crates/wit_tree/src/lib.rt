@@ -1,10 +1,9 @@
-//! Syntax trees with borrowed names, spans and refusals.
+//! Syntax trees of files with borrowed names and spans; those of types and functions, and refusals, it gives again.
 #![tactic(auto)]
 
-pub mod attribute_kind;
-pub mod error;
 pub mod tree;
-pub mod types;
 
-pub use error::{OUT_OF_MEMORY, ParseError, ParseErrorKind, ParseResult};
+pub use wit_type_tree::{
+    OUT_OF_MEMORY, ParseError, ParseErrorKind, ParseResult, attribute_kind, error, types,
+};
 pub use wit_values::{AccessorKind, Span, compare_spans, is_same_span};

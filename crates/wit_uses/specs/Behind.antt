@@ -1,6 +1,6 @@
 -- What the functions of an item add behind its names.
 use Rattle.std.specs.Prelude.{◌≡◌, ℕ, List, map}
-use Rattle.wit_tree.specs.declared.tree.Id.{Id}
+use Rattle.wit_type_tree.specs.declared.leaves.Id.{Id}
 use Rattle.wit_graph.specs.Table.{IsOrder}
 use Rattle.wit_syntax.specs.Source.{ScopeName, local_id}
 use Rattle.wit_syntax.specs.Scope.{rows_of, in_turn, AreDistinct}

@@ -1,6 +1,6 @@
 -- What is wrong with what stands on the sides of a world is wrong with the world.
 use Rattle.std.proofs.Common.{ℕ, List, map, inl, inr}
-use Rattle.wit_tree.specs.declared.tree.Id.{Id}
+use Rattle.wit_type_tree.specs.declared.leaves.Id.{Id}
 use Rattle.wit_tree.specs.declared.tree.PackageFile.{PackageFile}
 use Rattle.wit_types.specs.declared.types.TypeDef.{TypeDef}
 use Rattle.wit_types.specs.declared.types.TypeOwner.{TypeOwner}

@@ -1,6 +1,6 @@
 //! Declared worlds.
 ghost use Rattle.std.specs.Prelude.{◌≡◌, ◌<◌, ◌≤◌, ◌+◌, ◌++◌, ◌∷◌, [], List, All, Contains, Some, false, true, length, IfOk, IfErr, OnOk, map};
-ghost use Rattle.wit_tree.specs.Refusal.{IsWantOfMemory};
+ghost use Rattle.wit_type_tree.specs.Refusal.{IsWantOfMemory};
 ghost use Rattle.wit_syntax.specs.Address.{Address};
 ghost use Rattle.wit_syntax.specs.Source.{address, declared_attributes, declared_parts, is_world, item_notes as the_notes, leads, scope_names as the_names};
 ghost use Rattle.wit_syntax.specs.Function.{SourceFunction};

@@ -4,8 +4,8 @@ use Rattle.std.specs.Option.{option_to_list}
 use Rattle.std.proofs.lemmas.List.{map-append, take_more, take_all}
 use Rattle.std.proofs.lemmas.Option.{slice_get-get_or}
 use Rattle.std.proofs.lemmas.Result.{err_from_is_err_and}
-use Rattle.wit_tree.specs.declared.types.Case.{Case as WrittenCase}
-use Rattle.wit_tree.specs.Parts.{case_types}
+use Rattle.wit_type_tree.specs.declared.types.Case.{Case as WrittenCase}
+use Rattle.wit_type_tree.specs.Parts.{case_types}
 use Rattle.wit_types.specs.declared.types.Case.{Case}
 use Rattle.wit_arena.specs.Kind.{case_member, payloads}
 use Rattle.wit_syntax.specs.Shape.{written_case}

@@ -1,5 +1,5 @@
 use Rattle.std.proofs.Common.{◌≡◌, map, take}
-use Rattle.wit_tree.specs.Parts.{case_types}
+use Rattle.wit_type_tree.specs.Parts.{case_types}
 use Rattle.wit_arena.specs.Kind.{case_member, payloads}
 use Rattle.wit_syntax.specs.Shape.{written_case, all_handles}
 use Rattle.wit_arena.specs.Resolving.{env_of}

@@ -4,8 +4,8 @@ use Rattle.std.specs.Option.{option_map}
 use Rattle.std.proofs.lemmas.List.{map-append, take_more, take_all}
 use Rattle.std.proofs.lemmas.Option.{slice_get-map, slice_get-get_or}
 use Rattle.std.proofs.lemmas.Result.{err_from_is_err_and}
-use Rattle.wit_tree.specs.declared.types.Field.{Field as WrittenField}
-use Rattle.wit_tree.specs.Parts.{field_types}
+use Rattle.wit_type_tree.specs.declared.types.Field.{Field as WrittenField}
+use Rattle.wit_type_tree.specs.Parts.{field_types}
 use Rattle.wit_types.specs.declared.types.Field.{Field}
 use Rattle.wit_arena.specs.Kind.{field_member}
 use Rattle.wit_syntax.specs.Shape.{written_field}

@@ -1,5 +1,5 @@
 use Rattle.std.proofs.Common.{◌≡◌, map, take}
-use Rattle.wit_tree.specs.Parts.{field_types}
+use Rattle.wit_type_tree.specs.Parts.{field_types}
 use Rattle.wit_arena.specs.Kind.{field_member}
 use Rattle.wit_syntax.specs.Shape.{written_field, all_handles}
 use Rattle.wit_arena.specs.Resolving.{env_of}

@@ -1,7 +1,7 @@
 use Rattle.std.proofs.Common.{◌⊎◌, List, inl, inr, subst}
 use Rattle.std.proofs.lemmas.Result.{err_from_is_err_and}
-use Rattle.wit_tree.specs.declared.tree.Attribute.{Attribute}
-use Rattle.wit_tree.specs.Parts.{body_types}
+use Rattle.wit_type_tree.specs.declared.leaves.Attribute.{Attribute}
+use Rattle.wit_type_tree.specs.Parts.{body_types}
 use Rattle.wit_syntax.specs.Fault.{Fault}
 use Rattle.wit_syntax.specs.Notes.{IsBrokenNotes}
 use Rattle.wit_syntax.specs.Shape.{all_handles}

@@ -2,10 +2,10 @@ use Rattle.std.proofs.Common.{◌≡◌, List, [], ◌∷◌, ◌++◌, ◌+◌,
 use Rattle.std.proofs.lemmas.List.{take_more, take_all}
 use Rattle.std.proofs.lemmas.Option.{slice_get-get_or}
 use Rattle.std.proofs.lemmas.Result.{err_from_is_err_and}
-use Rattle.wit_tree.specs.declared.tree.Id.{Id}
-use Rattle.wit_tree.specs.declared.types.«Type».TheVariants as written
-use Rattle.wit_tree.specs.Parts.{boxed_types}
-use Rattle.wit_tree.proofs.Rows.{tuple_types, types_of_held, result_types}
+use Rattle.wit_type_tree.specs.declared.leaves.Id.{Id}
+use Rattle.wit_type_tree.specs.declared.types.«Type».TheVariants as written
+use Rattle.wit_type_tree.specs.Parts.{boxed_types}
+use Rattle.wit_type_tree.proofs.Rows.{tuple_types, types_of_held, result_types}
 use Rattle.wit_syntax.specs.Fault.{Fault}
 use Rattle.wit_syntax.specs.Bodies.{IsInvalidKey, IsEmptyTuple, IsBrokenType}
 use Rattle.wit_arena.specs.Resolving.{env_of, IsWrongType, AreWrongTypes}

@@ -1,4 +1,4 @@
-use Rattle.wit_tree.specs.Marks.{case_marks}
+use Rattle.wit_type_tree.specs.Marks.{case_marks}
 use Rattle.wit_reader.proofs.Parts.{close, more}
 use Rattle.wit_interface_reader.proofs.members.read_cases.Goals as goal
 

@@ -1,5 +1,5 @@
 use Rattle.std.proofs.Common.{inl, inr, ap, ◌∙◌}
-use Rattle.wit_tree.specs.declared.tree.Id.{Id}
+use Rattle.wit_type_tree.specs.declared.leaves.Id.{Id}
 use Rattle.wit_syntax.specs.Fault.{fault}
 use Rattle.wit_item_names.specs.Items.{Nowhere, AtWorld}
 use Rattle.wit_item_names.proofs.reached.path_source.Goals as goal

@@ -1,5 +1,5 @@
 use Rattle.std.proofs.Common.{arith}
-use Rattle.wit_tree.specs.Comments.{Opened, Deeper, Closed, Inside}
+use Rattle.wit_type_tree.specs.Comments.{Opened, Deeper, Closed, Inside}
 use Rattle.wit_lex.proofs.Comments.{nested_end, nested_two}
 use Rattle.wit_lex.proofs.blank.block_end.Goals.{else-first-eq42-via-then-first-eq42+else-second-eq47, else-first-eq42-via-else-first-eq42}
 use Rattle.wit_lex.proofs.blank.block_end.Goals.{else-first-eq47-via-then-first-eq47+else-second-eq42, else-first-eq47-via-else-first-eq47}

@@ -1,5 +1,5 @@
 use Rattle.std.proofs.Common.{◌-◌, ◌≤◌, ◌<◌, ◌+◌}
-use Rattle.wit_tree.specs.Comments.{IsNested}
+use Rattle.wit_type_tree.specs.Comments.{IsNested}
 use Rattle.wit_lex.proofs.blank.block_end.Given as goal
 
 abbrev pub invariant-loop-at : goal.invariant-loop-at

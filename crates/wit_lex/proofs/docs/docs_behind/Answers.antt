@@ -1,5 +1,5 @@
 use Rattle.std.proofs.Common.{sym, ◌∙◌, arith}
-use Rattle.wit_tree.specs.Comments.{Start, Blank, Other}
+use Rattle.wit_type_tree.specs.Comments.{Start, Blank, Other}
 use Rattle.wit_lex.proofs.Comments.{docs_more}
 use Rattle.wit_lex.proofs.docs.docs_behind.Goals as goal
 

@@ -1,6 +1,6 @@
 use Rattle.std.proofs.Common.{◌⊎◌, true, map, inl, inr, refl, sym, ap, ◌∙◌}
 use Rattle.std.proofs.lemmas.Result.{err_from_is_err_and}
-use Rattle.wit_tree.specs.declared.tree.Id.{Id}
+use Rattle.wit_type_tree.specs.declared.leaves.Id.{Id}
 use Rattle.wit_syntax.specs.Source.{Target, Including, leads}
 use Rattle.wit_syntax.specs.Fault.{fault}
 use Rattle.wit_syntax.specs.Notes.{IsBrokenStability}

@@ -4,8 +4,8 @@ use Rattle.std.proofs.lemmas.List.{take_more}
 use Rattle.std.proofs.lemmas.Option.{slice_get-get_or}
 use Rattle.std.proofs.lemmas.Result.{err_from_is_err_and}
 use Rattle.wit_syntax.proofs.Refusing.{refused_weaker}
-use Rattle.wit_tree.specs.declared.attribute_kind.AttributeKind.TheVariants.{ExternalId}
-use Rattle.wit_tree.specs.Attributes.{is_of}
+use Rattle.wit_type_tree.specs.declared.attribute_kind.AttributeKind.TheVariants.{ExternalId}
+use Rattle.wit_type_tree.specs.Attributes.{is_of}
 use Rattle.wit_syntax.specs.Notes.{IsBrokenStability}
 use Rattle.wit_notes.specs.Kinds.{IsRepeat}
 use Rattle.wit_notes.proofs.Telling.{broken-repeat, each_once-more}

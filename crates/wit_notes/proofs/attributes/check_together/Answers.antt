@@ -1,7 +1,7 @@
 use Rattle.std.proofs.Common.{◌≡◌, None, inl, inr, ap, sym, ◌∙◌}
 use Rattle.wit_syntax.specs.Fault.{fault}
-use Rattle.wit_tree.specs.declared.attribute_kind.AttributeKind.TheVariants.{Since, Unstable, Deprecated}
-use Rattle.wit_tree.specs.Attributes.{first_of}
+use Rattle.wit_type_tree.specs.declared.attribute_kind.AttributeKind.TheVariants.{Since, Unstable, Deprecated}
+use Rattle.wit_type_tree.specs.Attributes.{first_of}
 use Rattle.wit_syntax.specs.Notes.{SinceAndUnstable, DeprecatedAlone}
 use Rattle.wit_refusals.proofs.Scoping.{not_some}
 use Rattle.wit_notes.proofs.Telling.{stands-first, none-stands, told-some, told-none, legal-together}

@@ -1,6 +1,6 @@
 use Rattle.std.proofs.Common.{◌≡◌, ℕ, List, nat_eq, inl, inr, ap, sym, ◌∙◌}
 use Rattle.std.specs.Cmp.Lexicographic.{pointwise}
-use Rattle.wit_tree.specs.declared.tree.Id.{Id}
+use Rattle.wit_type_tree.specs.declared.leaves.Id.{Id}
 use Rattle.wit_syntax.specs.Shape.{Word, shape_of}
 use Rattle.wit_syntax.proofs.Names.{name_equal, name_itself}
 use Rattle.wit_rules.proofs.function_rules.is_written_as.Goals as goal

@@ -1,6 +1,6 @@
 use Rattle.std.proofs.Common.{List, ◌++◌, map, ap, sym, ◌∙◌, arith}
 use Rattle.std.proofs.lemmas.List.{take_all}
-use Rattle.wit_tree.specs.declared.types.Param.{Param}
+use Rattle.wit_type_tree.specs.declared.types.Param.{Param}
 use Rattle.wit_rules.specs.Held.{function_behind}
 use Rattle.wit_rules.proofs.FunctionRules.{names-append}
 use Rattle.wit_rules.proofs.function_rules.param_names.Goals as goal

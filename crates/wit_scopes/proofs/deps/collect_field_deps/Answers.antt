@@ -1,6 +1,6 @@
 use Rattle.std.proofs.Common.{◌≡◌, ◌+◌, ◌++◌, ◌∷◌, [], take, sym, ap, ◌∙◌}
 use Rattle.std.proofs.lemmas.List.{take_more, map-append}
-use Rattle.wit_tree.specs.Parts.{field_types}
+use Rattle.wit_type_tree.specs.Parts.{field_types}
 use Rattle.wit_scopes.proofs.TypeWords.{words_more}
 use Rattle.wit_scopes.proofs.deps.collect_field_deps.Goals as goal
 

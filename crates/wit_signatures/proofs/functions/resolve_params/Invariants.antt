@@ -1,5 +1,5 @@
 use Rattle.std.proofs.Common.{◌≡◌, ◌≤◌, ◌+◌, ℕ, List, ◌++◌, Some, length, map, take}
-use Rattle.wit_tree.specs.declared.types.Param.{Param as Written}
+use Rattle.wit_type_tree.specs.declared.types.Param.{Param as Written}
 use Rattle.wit_types.specs.declared.types.TypeDef.{TypeDef}
 use Rattle.wit_syntax.specs.Shape.{all_handles}
 use Rattle.wit_syntax.specs.Function.{SourceParam, written_param}

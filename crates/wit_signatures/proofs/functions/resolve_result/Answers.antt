@@ -2,7 +2,7 @@ use Rattle.std.proofs.Common.{◌⊎◌, Option, inl, inr, sym, ◌∙◌, subst
 use Rattle.std.specs.Option.{option_to_list}
 use Rattle.std.proofs.lemmas.Option.{none-some}
 use Rattle.std.proofs.lemmas.Result.{err_from_is_err_and, on_ok_weaker}
-use Rattle.wit_tree.specs.declared.types.«Type».{«Type» as Written}
+use Rattle.wit_type_tree.specs.declared.types.«Type».{«Type» as Written}
 use Rattle.wit_syntax.specs.Fault.{Fault}
 use Rattle.wit_arena.specs.Resolving.{env_of}
 use Rattle.wit_syntax.proofs.Refusing.{refused_weaker}

@@ -1,5 +1,5 @@
 use Rattle.std.proofs.Common.{Some, sym, ap, ◌∙◌, map}
-use Rattle.wit_tree.specs.Refusal.{span_of, name_of}
+use Rattle.wit_type_tree.specs.Refusal.{span_of, name_of}
 use Rattle.wit_rules.specs.Held.{function_behind}
 use Rattle.wit_signatures.proofs.Lost.{refused_lost}
 use Rattle.wit_signatures.proofs.signatures.in_signature.Goals as goal

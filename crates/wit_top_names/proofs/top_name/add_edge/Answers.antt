@@ -2,7 +2,7 @@ use Rattle.std.proofs.Common.{◌++◌, List, sym, ap, ◌∙◌, Vec, Global}
 use Rattle.std.specs.Option.{option_copied}
 use Rattle.std.proofs.lemmas.Result.{err_from_is_err_and}
 use Rattle.std.proofs.lemmas.List.{append-nil}
-use Rattle.wit_tree.specs.declared.tree.Id.{Id}
+use Rattle.wit_type_tree.specs.declared.leaves.Id.{Id}
 use Rattle.wit_syntax.specs.Source.{Target, leads}
 use Rattle.wit_syntax.specs.Scope.{local_target}
 use Rattle.wit_syntax.proofs.Refusing.{refused_weaker}

@@ -1,6 +1,6 @@
 use Rattle.std.proofs.lemmas.Result.{err_from_is_err_and}
 use Rattle.std.proofs.Common.{◌≡◌, rules, None}
-use Rattle.wit_tree.specs.declared.tree.Id.{Id}
+use Rattle.wit_type_tree.specs.declared.leaves.Id.{Id}
 use Rattle.wit_syntax.proofs.Refusing.{refused_weaker}
 use Rattle.wit_syntax.specs.Address.{InterfaceNamed}
 use Rattle.wit_arena.specs.Resolving.{cell_at, env_of, IsUnresolved, IsWrongUse, Unresolved, Wrong}

@@ -3,7 +3,7 @@ use Rattle.std.specs.Prelude.{slice_get}
 use Rattle.std.specs.Option.{option_map}
 use Rattle.std.proofs.lemmas.Option.{slice_get-get_or}
 use Rattle.indexmap.specs.IndexMap.{insert_entry}
-use Rattle.wit_tree.specs.declared.tree.Id.{Id}
+use Rattle.wit_type_tree.specs.declared.leaves.Id.{Id}
 use Rattle.wit_model.specs.declared.world.WorldKey.TheVariants as key
 use Rattle.wit_model.specs.declared.world.WorldItem.TheVariants.{Type_}
 use Rattle.wit_model.specs.contracts.world.WorldKeyPartialEq.TheImpl.{eq-value as key_test}

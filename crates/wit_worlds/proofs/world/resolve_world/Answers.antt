@@ -1,7 +1,7 @@
 use Rattle.std.proofs.Common.{List, [], map, refl, subst}
 use Rattle.std.proofs.lemmas.List.{length-map}
 use Rattle.std.proofs.lemmas.Result.{err_from_is_err_and}
-use Rattle.wit_tree.specs.declared.tree.Id.{Id}
+use Rattle.wit_type_tree.specs.declared.leaves.Id.{Id}
 use Rattle.wit_model.specs.declared.interface.Interface.{Interface}
 use Rattle.wit_syntax.specs.Address.{WorldNamed}
 use Rattle.wit_items.specs.Items.{item_behind, others_of}

@@ -1,5 +1,5 @@
-use Rattle.wit_tree.specs.Marks.{type_marks}
-use Rattle.wit_tree.proofs.Rows.{tuple_marks, result_marks, future_marks, stream_marks}
+use Rattle.wit_type_tree.specs.Marks.{type_marks}
+use Rattle.wit_type_tree.proofs.Rows.{tuple_marks, result_marks, future_marks, stream_marks}
 use Rattle.wit_reader.proofs.Parts.{then, then_perhaps, on, skip, close, more, same_marks}
 use Rattle.wit_reader.proofs.reader.Reader.+types.Goals as goal
 

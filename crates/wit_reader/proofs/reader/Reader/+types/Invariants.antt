@@ -1,6 +1,6 @@
 use Rattle.std.proofs.Common.{◌+◌, ◌-◌, ◌*◌, length}
 use Rattle.std.specs.List.{flat_map}
-use Rattle.wit_tree.specs.Marks.{type_marks}
+use Rattle.wit_type_tree.specs.Marks.{type_marks}
 use Rattle.wit_reader.specs.Reading.{IsRead}
 use Rattle.wit_reader.proofs.reader.Reader.+types.Given as goal
 

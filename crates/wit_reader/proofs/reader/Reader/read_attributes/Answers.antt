@@ -1,4 +1,4 @@
-use Rattle.wit_tree.specs.Marks.{attribute_marks}
+use Rattle.wit_type_tree.specs.Marks.{attribute_marks}
 use Rattle.wit_reader.proofs.Parts.{more_on}
 use Rattle.wit_reader.proofs.reader.Reader.read_attributes.Goals as goal
 

@@ -1,5 +1,5 @@
 use Rattle.std.proofs.Common.{◌-◌, length}
-use Rattle.wit_tree.specs.Marks.{attributes_marks}
+use Rattle.wit_type_tree.specs.Marks.{attributes_marks}
 use Rattle.wit_reader.specs.Reading.{IsReadOn}
 use Rattle.wit_reader.proofs.reader.Reader.read_attributes.Given as goal
 

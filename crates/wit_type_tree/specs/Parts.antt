@@ -2,11 +2,11 @@
 use Rattle.std.specs.Prelude.{List, [], ◌∷◌, ◌++◌, map, Option, Some, None, Box}
 use Rattle.std.specs.List.{filter_map}
 use Rattle.std.specs.declared.alloc.Global.{Global}
-use Rattle.wit_tree.specs.declared.types.Field.{Field}
-use Rattle.wit_tree.specs.declared.types.Case.{Case}
-use Rattle.wit_tree.specs.declared.types.TypeBody.{TypeBody}
-use Rattle.wit_tree.specs.declared.types.TypeBody.TheVariants.{Record, Flags, Variant, Enum, Resource, Plain}
-use Rattle.wit_tree.specs.declared.types.«Type».{«Type» as Written, List', FixedLengthList', Map', Option', Result', Tuple', Future', Stream', Held-Type-Result-1, None', Some', Row_of-Type, end_of-Type, more_of-Type}
+use Rattle.wit_type_tree.specs.declared.types.Field.{Field}
+use Rattle.wit_type_tree.specs.declared.types.Case.{Case}
+use Rattle.wit_type_tree.specs.declared.types.TypeBody.{TypeBody}
+use Rattle.wit_type_tree.specs.declared.types.TypeBody.TheVariants.{Record, Flags, Variant, Enum, Resource, Plain}
+use Rattle.wit_type_tree.specs.declared.types.«Type».{«Type» as Written, List', FixedLengthList', Map', Option', Result', Tuple', Future', Stream', Held-Type-Result-1, None', Some', Row_of-Type, end_of-Type, more_of-Type}
 
 -- a type, where there is one
 abbrev pub held_types : Held-Type-Result-1 → List Written

@@ -1,9 +1,9 @@
 //! The kinds of attributes.
 ghost use Rattle.std.specs.Prelude.{◌≡◌};
 ghost use Rattle.std.specs.Option.{option_copied};
-ghost use Rattle.wit_tree.specs.Attributes.{attribute_span, first_of, is_of, kind_of};
+ghost use Rattle.wit_type_tree.specs.Attributes.{attribute_span, first_of, is_of, kind_of};
 
-use crate::tree::Attribute;
+use crate::leaves::Attribute;
 use wit_values::Span;
 
 /// The kind of an attribute.

@@ -1,6 +1,6 @@
 //! Definitions of types, functions, and the types that they write.
 
-use crate::tree::{Attribute, Docs, Id};
+use crate::leaves::{Attribute, Docs, Id};
 use wit_values::Span;
 
 /// The definition of a type.

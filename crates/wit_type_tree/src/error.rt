@@ -1,6 +1,6 @@
 //! Refusals.
 ghost use Rattle.std.specs.Prelude.{◌≡◌, None, Some};
-ghost use Rattle.wit_tree.specs.Refusal.{IsWantOfMemory, kind_text, span_of};
+ghost use Rattle.wit_type_tree.specs.Refusal.{IsWantOfMemory, kind_text, span_of};
 
 use std::alloc::{AllocError, AllocFailed};
 use std::fmt;
@@ -52,8 +52,8 @@ pub const OUT_OF_MEMORY: u8 = 45;
 
 impl ParseError {
     ghost use Rattle.std.specs.Borrow.{sem, Lends};
-    ghost use Rattle.wit_tree.specs.contracts.error.ParseError.{the_row};
-    ghost use Rattle.wit_tree.specs.contracts.error.ParseErrorKind.{the_row as kind_row};
+    ghost use Rattle.wit_type_tree.specs.contracts.error.ParseError.{the_row};
+    ghost use Rattle.wit_type_tree.specs.contracts.error.ParseErrorKind.{the_row as kind_row};
 
     /// A refusal of this kind under the rule of this number.
     pub fn of(kind: ParseErrorKind, rule: u8) -> Self

@@ -5,9 +5,9 @@ use Rattle.semver.specs.declared.Version.{Version}
 use Rattle.semver.specs.Identifiers.{parts_of}
 use Rattle.semver.specs.Parse.{version_parts}
 use Rattle.wit_values.specs.declared.span.Span.{Span}
-use Rattle.wit_tree.specs.declared.tree.Id.{Id}
-use Rattle.wit_tree.specs.Comments.{IsDocumented, IsNoDocs}
-use Rattle.wit_tree.specs.Marks.{Mark, named, spelled, joined, versioned, released, counted, documented, bare, opened, told, closed}
+use Rattle.wit_type_tree.specs.declared.leaves.Id.{Id}
+use Rattle.wit_type_tree.specs.Comments.{IsDocumented, IsNoDocs}
+use Rattle.wit_type_tree.specs.Marks.{Mark, named, spelled, joined, versioned, released, counted, documented, bare, opened, told, closed}
 
 -- a front `%` taken off
 abbrev pub unescaped : List ℕ → List ℕ

@@ -4,10 +4,10 @@ use Rattle.std.specs.List.{find}
 use Rattle.std.specs.Option.{option_and_then}
 use Rattle.semver.specs.declared.Version.{Version}
 use Rattle.wit_values.specs.declared.span.Span.{Span}
-use Rattle.wit_tree.specs.declared.tree.Attribute.{Attribute}
-use Rattle.wit_tree.specs.declared.tree.Attribute.TheVariants as attribute
-use Rattle.wit_tree.specs.declared.attribute_kind.AttributeKind.{AttributeKind}
-use Rattle.wit_tree.specs.declared.attribute_kind.AttributeKind.TheVariants.{Since, Unstable, Deprecated, ExternalId}
+use Rattle.wit_type_tree.specs.declared.leaves.Attribute.{Attribute}
+use Rattle.wit_type_tree.specs.declared.leaves.Attribute.TheVariants as attribute
+use Rattle.wit_type_tree.specs.declared.attribute_kind.AttributeKind.{AttributeKind}
+use Rattle.wit_type_tree.specs.declared.attribute_kind.AttributeKind.TheVariants.{Since, Unstable, Deprecated, ExternalId}
 
 -- the kind of an attribute
 abbrev pub kind_of : Attribute → AttributeKind

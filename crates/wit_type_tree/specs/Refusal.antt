@@ -2,9 +2,9 @@
 use Rattle.std.specs.Prelude.{◌≡◌, ℕ, List, [], ◌++◌, Option, Some, None, String, string_bytes, codes}
 use Rattle.std.specs.declared.alloc.Global.{Global}
 use Rattle.wit_values.specs.declared.span.Span.{Span}
-use Rattle.wit_tree.specs.declared.error.ParseErrorKind.{ParseErrorKind}
-use Rattle.wit_tree.specs.declared.error.ParseErrorKind.TheVariants.{Syntax, ItemNotFound, TypeCycle, OutOfMemory}
-use Rattle.wit_tree.specs.declared.error.ParseError.{ParseError}
+use Rattle.wit_type_tree.specs.declared.error.ParseErrorKind.{ParseErrorKind}
+use Rattle.wit_type_tree.specs.declared.error.ParseErrorKind.TheVariants.{Syntax, ItemNotFound, TypeCycle, OutOfMemory}
+use Rattle.wit_type_tree.specs.declared.error.ParseError.{ParseError}
 
 -- where it is
 abbrev pub span_of : ParseErrorKind → Span

@@ -4,10 +4,10 @@ use Rattle.std.specs.Prelude.{codes}
 use Rattle.std.specs.List.{flat_map}
 use Rattle.std.specs.declared.alloc.Global.{Global}
 use Rattle.wit_values.specs.declared.span.Span.{Span}
-use Rattle.wit_tree.specs.declared.types.«Type».{«Type» as Written, Result, Tuple, Future, Stream, Row_of-Type, end_of-Type, more_of-Type, items-the_row-Type, back-Type-Result-1}
-use Rattle.wit_tree.specs.declared.types.«Type».TheViews.{the_lemmas}
-use Rattle.wit_tree.specs.Marks.{type_marks, row_marks, boxed_marks, spelled}
-use Rattle.wit_tree.specs.Parts.{row_types, part_types, held_types, boxed_types}
+use Rattle.wit_type_tree.specs.declared.types.«Type».{«Type» as Written, Result, Tuple, Future, Stream, Row_of-Type, end_of-Type, more_of-Type, items-the_row-Type, back-Type-Result-1}
+use Rattle.wit_type_tree.specs.declared.types.«Type».TheViews.{the_lemmas}
+use Rattle.wit_type_tree.specs.Marks.{type_marks, row_marks, boxed_marks, spelled}
+use Rattle.wit_type_tree.specs.Parts.{row_types, part_types, held_types, boxed_types}
 
 types_of_row : (n : _) (row : Row_of-Type n) → row_types row ≡ items-the_row-Type n row
 types_of_row n end_of-Type = refl
