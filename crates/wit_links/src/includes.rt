@@ -28,7 +28,7 @@ use wit_top_names::declaration::world_items;
 use wit_tree::ParseResult;
 use wit_tree::tree::{self, UsePath};
 use wit_types::{Arena, WorldId, WorldPlace};
-use wit_values::{Row, Text, TextTable};
+use wit_values::{Row, Text, TextTable, fitted};
 
 /// The worlds that are resolved, and the places of the declared ones by their names.
 #[derive(Drop)]
@@ -125,15 +125,6 @@ fn resolve_include<'f, 'a>(
     })
 }
 
-/// Includes, with no more room than they take.
-fn fitted(includes: Vec<WorldInclude>) -> Row<WorldInclude>
-    ensures { result ≡ includes.items }
-{
-    let mut includes = includes;
-    includes.shrink_to_fit();
-    Row::from(includes)
-}
-
 /// The includes of a world.
 fn resolve_includes<'f, 'a>(
     alloc: Global,
@@ -157,7 +148,7 @@ fn resolve_includes<'f, 'a>(
             includes.push(include)?;
         }
     }
-    Ok(fitted(includes))
+    Ok(Row::from(fitted(includes)))
 }
 
 /// The includes of a declared world.

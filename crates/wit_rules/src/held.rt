@@ -43,8 +43,10 @@ fn free_name(alloc: Global, form: FuncForm, id: Id<'_>) -> Result<String, AllocE
     let name = id.name;
     match form {
         FuncForm::Plain | FuncForm::Async => String::from_str(alloc, name),
-        FuncForm::Getter => format!(in alloc; "[get]{name}"),
-        FuncForm::Setter => format!(in alloc; "[set]{name}"),
+        FuncForm::Getter | FuncForm::Setter => {
+            let mark = mark(form);
+            format!(in alloc; "{mark}{name}")
+        }
     }
 }
 

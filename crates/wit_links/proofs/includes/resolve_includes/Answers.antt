@@ -84,7 +84,7 @@ returns-clause-are c =
     let xs = c.world_items-part-items.result.now in
     let k = c.loop-part.part-index in
     let all : take k w.items.items ≡ w.items.items = ap (take k) (sym c.world_items-part-items.ensures) ∙ take_all k xs (omega arith) ∙ c.world_items-part-items.ensures in
-    rw c.fitted.ensures (includes_are worlds top w c.loop-part.includes.items (subst (λ (l : List WorldItem). AreIncluded worlds top (included l) c.loop-part.includes.items) all c.loop-part.invariant.are))
+    rw (c.from.ensures, c.fitted.ensures) (includes_are worlds top w c.loop-part.includes.items (subst (λ (l : List WorldItem). AreIncluded worlds top (included l) c.loop-part.includes.items) all c.loop-part.invariant.are))
 
 pub returns-clause-stable : goal.returns-clause-stable
 returns-clause-stable c =
