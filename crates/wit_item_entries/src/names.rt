@@ -115,7 +115,7 @@ pub fn resolve_names<'f, 'a>(
     let uses = used_names(alloc, names)?;
     let mut scope = Scope {
         owner,
-        names: TextTable::new(alloc),
+        names: TextTable::with_capacity(alloc, names.len())?,
         required: Vec::new(alloc),
     };
     resolve_uses(alloc, &uses, types, interfaces, &mut scope)?;

@@ -89,20 +89,20 @@ fn table(alloc: Global, keys: &[u8]) -> Result<Table<u8, u8>, Fail> {
 }
 
 fn is_table(table: &Table<u8, u8>) -> bool {
-    table.len() == 2
-        && table.get_index_of(&1) == Some(1)
+    table.len() == 6
+        && table.get_index_of(&6) == Some(5)
         && table.get(&3) == Some(&5)
         && table.get_index(1) == Some((&1, &5))
 }
 
 #[test]
 fn tables(rt: HostRuntime) -> Result<(), Fail> {
-    let mut values = table(rt.alloc(), &[3, 1])?;
-    assert!(rt; is_table(&values) && values == table(rt.alloc(), &[1, 3])?);
-    if values.len() == 2 {
-        *values.value_mut(1) = 6;
+    let mut values = table(rt.alloc(), &[3, 1, 2, 4, 5, 6])?;
+    assert!(rt; is_table(&values) && values == table(rt.alloc(), &[6, 5, 4, 3, 2, 1])?);
+    if values.len() == 6 {
+        *values.value_mut(5) = 7;
     }
-    assert!(rt; values.clone()?.into_entries()?.get(1) == Some(&(1, 6)));
+    assert!(rt; values.clone()?.into_entries()?.get(5) == Some(&(6, 7)));
     Ok(())
 }
 
@@ -115,19 +115,20 @@ fn text_table(alloc: Global, keys: &[&str]) -> Result<TextTable<u8>, Fail> {
 }
 
 fn is_text_table(table: &TextTable<u8>) -> bool {
-    table.len() == 2
-        && table.get_index_of("a") == Some(1)
+    table.len() == 6
+        && table.get_index_of("f") == Some(5)
         && table.get("c") == Some(&5)
         && table.get_index(1) == Some(("a", &5))
 }
 
 #[test]
 fn text_tables(rt: HostRuntime) -> Result<(), Fail> {
-    let mut values = text_table(rt.alloc(), &["c", "a"])?;
-    assert!(rt; is_text_table(&values) && values == text_table(rt.alloc(), &["a", "c"])?);
-    if values.len() == 2 {
-        *values.value_mut(1) = 6;
+    let texts = ["c", "a", "b", "d", "e", "f"];
+    let mut values = text_table(rt.alloc(), &texts)?;
+    assert!(rt; is_text_table(&values) && values == values.clone()?);
+    if values.len() == 6 {
+        *values.value_mut(5) = 7;
     }
-    assert!(rt; values.into_entries()?.len() == 2);
+    assert!(rt; values.get("f") == Some(&7) && values.into_entries()?.len() == 6);
     Ok(())
 }

@@ -40,7 +40,7 @@ returns-in_err-turn-clause-refused c =
     let names : map use_behind c.deref.result.now ≡ used xs = ap (map use_behind) c.deref.ensures.value ∙ c.in_ok-uses.ensures.uses in
     let first = c.resolve_uses.new.types in
     let scope = c.resolve_uses.new.scope in
-    let uses : (s : Address) → Defines old first cs o s [] scope.names (used xs) = rw (names, c.new.ensures) at c.in_ok-resolve_uses.ensures.defines in
+    let uses : (s : Address) → Defines old first cs o s [] scope.names (used xs) = rw (names, c.in_ok-with_capacity.ensures) at c.in_ok-resolve_uses.ensures.defines in
     rw (p.1, p.2) (refused_weaker (λ f. ((fns : List SourceFunction) → IsBrokenScope xs fns f) ⊎ IsWrongHandleTurn first scope.owner scope.names xs f) (IsWrongNames old cs by_name o xs) _ (λ f h. elim h [
       | inl broken ↦ WrongScopeNames (λ fns. WrongItself (broken fns))
       | inr wrong ↦ WrongHandleNames (wrong_handle_turn old first cs o scope.names xs f uses (rw c.in_ok-resolve_uses.ensures.owner at wrong))
@@ -56,12 +56,12 @@ returns-clause-adds c =
     let after = c.resolve_types.new.scope in
     let now = after.names in
     let new = c.resolve_types.new.types in
-    let uses : (s : Address) → Defines c.args.types.now c.resolve_uses.new.types cs o s [] scope.names (used xs) = rw (names, c.new.ensures) at c.in_ok-resolve_uses.ensures.defines in
+    let uses : (s : Address) → Defines c.args.types.now c.resolve_uses.new.types cs o s [] scope.names (used xs) = rw (names, c.in_ok-with_capacity.ensures) at c.in_ok-resolve_uses.ensures.defines in
     let turn : DefinesTurn c.resolve_uses.new.types new o scope.names now xs c.in_ok-turn.turn.items scope.required.items after.required.items = rw c.in_ok-resolve_uses.ensures.owner at c.in_ok-turn.ensures.defines in
     let all = turn.all in
     let ds = defined (in_order xs all.order) in
     let listed : names_in scope.names ≡ local_names (used xs) = rw names at c.in_ok-resolve_uses.ensures.listed in
-    let none : scope.required.items ≡ [] = ap (λ rs. rs.items) c.in_ok-resolve_uses.ensures.required ∙ c.new-2.ensures.items in
+    let none : scope.required.items ≡ [] = ap (λ rs. rs.items) c.in_ok-resolve_uses.ensures.required ∙ c.new.ensures.items in
     record {
       adds = record {
         order = all.order;

@@ -14,9 +14,9 @@ returns-in-Some-clause-ok g c =
     let key = c.args.key in
     let found : position (eq key) (keys_of es) ≡ Some place = sym (ap (λ l. position (eq key) (keys_of l)) c.as_slice.ensures.value) ∙ sym c.place_among.ensures ∙ c.in-Some.is in
     rw (← c.self.view_is) (
-      ap (λ v. slice_set es place (c.index_mut.result.now.0, v) ++ rest) c.replace.ensures.after
-      ∙ set_value_at_in_front es rest place c.index_mut.result.now c.args.value (slice_get_read es _ place c.index_mut.result.now refl (place_within (eq key) es place found) c.index_mut.ensures.value)
-      ∙ sym (insert_entry_in_front eq key c.args.value es rest place found)
+    ap (λ v. slice_set es place (c.index_mut.result.now.0, v) ++ rest) c.replace.ensures.after
+    ∙ set_value_at_in_front es rest place c.index_mut.result.now c.args.value (slice_get_read es _ place c.index_mut.result.now refl (place_within (eq key) es place found) c.index_mut.ensures.value)
+    ∙ sym (insert_entry_in_front eq key c.args.value es rest place found)
     )
 
 pub returns-in-Some-clause-was : goal.returns-in-Some-clause-was
