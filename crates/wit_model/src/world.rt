@@ -67,7 +67,7 @@ pub struct IncludeName {
 }
 
 /// What an import or export is found by.
-#[derive(Debug, Clone, PartialEq, Eq, Hash)]
+#[derive(Debug, Clone, PartialEq, Eq, Hash, PartialOrd, Ord)]
 pub enum WorldKey {
     /// A name, a function's with the marks of its kind.
     Name(Text),

@@ -1,15 +1,17 @@
 //! Folded names.
-ghost use Rattle.std.specs.Prelude.{◌≡◌, IfOk, IsTrue, nat_eq};
+ghost use Rattle.std.specs.Prelude.{◌≡◌, IfOk, IsTrue, Some, nat_eq, refl};
 ghost use Rattle.std.proofs.Common.{rules};
-ghost use Rattle.std.specs.Cmp.{partial_equiv_from_equiv};
-ghost use Rattle.std.specs.Cmp.Lexicographic.{nat_list_eq_equiv, pointwise};
-ghost use Rattle.std.specs.Cmp.Rules.{hashing};
+ghost use Rattle.std.specs.Cmp.{partial_equiv_from_equiv, partial_order_from_own_ties};
+ghost use Rattle.std.specs.Cmp.Lexicographic.{nat_list_cmp_total, nat_list_eq_equiv, pointwise, slice_cmp};
+ghost use Rattle.std.specs.Cmp.Rules.{comparing, hashing};
+ghost use Rattle.std.specs.Ordering.{as_partial_cmp, nat_cmp};
 ghost use Rattle.std.specs.Hash as fed;
 ghost use Rattle.wit_names.specs.Folded.{folded_key, single, single_if_bare, without_kind};
 ghost use Rattle.wit_names.specs.Mangled.{is_mangled};
 
 use crate::front::behind;
 use std::alloc::{AllocError, Global};
+use std::cmp::Ordering;
 use std::hash::{Hash, Hasher};
 use std::marker::Model;
 
@@ -117,5 +119,39 @@ impl Hash for Folded {
 
     fn hash<H: Hasher>(&self, state: &mut H) {
         self.key.as_str().hash(state);
+    }
+}
+
+impl Ord for Folded {
+    ghost cmp = { slice_cmp nat_cmp };
+
+    ghost total = { nat_list_cmp_total };
+
+    ghost matches_partial_cmp = { λ a b. refl };
+
+    ghost matches_eq = { Prim.search (comparing, rules) };
+
+    fn cmp(&self, other: &Folded) -> Ordering {
+        self.key.as_str().cmp(other.key.as_str())
+    }
+}
+
+impl PartialOrd for Folded {
+    ghost partial_cmp = { as_partial_cmp (slice_cmp nat_cmp) };
+
+    ghost laws = { partial_order_from_own_ties (Prim.search (comparing, rules)) (Prim.search (comparing, rules)) };
+
+    fn partial_cmp(&self, other: &Folded) -> Option<Ordering> {
+        Some(self.cmp(other))
+    }
+}
+
+impl Clone for Folded {
+    ghost is_clone = { λ f g. g ≡ f };
+
+    fn clone(&self) -> Result<Folded, AllocError> {
+        Ok(Folded {
+            key: self.key.clone()?,
+        })
     }
 }
