@@ -102,7 +102,7 @@ fn tables(rt: HostRuntime) -> Result<(), Fail> {
     if values.len() == 6 {
         *values.value_mut(5) = 7;
     }
-    assert!(rt; values.clone()?.into_entries()?.get(5) == Some(&(6, 7)));
+    assert!(rt; values.clone()?.into_entries().get(5) == Some(&(6, 7)));
     Ok(())
 }
 
@@ -129,6 +129,6 @@ fn text_tables(rt: HostRuntime) -> Result<(), Fail> {
     if values.len() == 6 {
         *values.value_mut(5) = 7;
     }
-    assert!(rt; values.get("f") == Some(&7) && values.into_entries()?.len() == 6);
+    assert!(rt; values.get("f") == Some(&7) && values.into_entries().len() == 6);
     Ok(())
 }

@@ -79,7 +79,7 @@ pub fn place_setters(
     if !have_setter(&side) {
         return Ok(side);
     }
-    let entries = side.into_entries()?;
+    let entries = side.into_entries();
     let placed = behind_getters(alloc, entries)?;
     let table = table_of(alloc, placed)?;
     Ok(table)

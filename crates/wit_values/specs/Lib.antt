@@ -1,4 +1,5 @@
-pub mod Entries
+pub mod Indexed
+pub mod Slots
 pub mod TextEntries
 pub mod ReleaseOrder
 pub mod ReleaseText

@@ -1,5 +1,5 @@
-//! Values that trees and packages share: spans, and small types over `String`, `Vec`, `IndexMap` and
-//! `Version`, which contracts see as plain lists.
+//! Values that trees and packages share: spans, and small types over `String`, `Vec` and `Version`, and
+//! tables, which contracts see as plain lists.
 //!
 //! A copy of each equals its source, and each is made from what it holds and gives it back
 //! without taking memory.
@@ -7,11 +7,13 @@
 
 pub mod accessor;
 pub mod holding;
+mod index;
 pub mod laws;
-mod lazy_map;
 pub mod release;
 mod release_text;
 pub mod row;
+mod slots;
+pub mod sought;
 pub mod span;
 pub mod table;
 pub mod text;
@@ -21,6 +23,7 @@ pub use accessor::AccessorKind;
 pub use holding::{beside, fitted, push};
 pub use release::{BuildText, PreText, Release};
 pub use row::Row;
+pub use sought::Sought;
 pub use span::{Span, compare_spans, is_same_span};
 pub use table::Table;
 pub use text::Text;

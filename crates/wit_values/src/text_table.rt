@@ -139,10 +139,8 @@ impl<V> TextTable<V> {
     }
 
     /// The entries in their order, moved out of the map.
-    pub fn into_entries(self) -> Result<Vec<(String, V)>, AllocError>
-    where
-        V: Drop,
-        ensures { IfOk result (λ entries. text_entries entries.items ≡ self) }
+    pub fn into_entries(self) -> Vec<(String, V)>
+        ensures { text_entries result.items ≡ self }
     {
         let TextTable { table } = self;
         table.into_entries()

@@ -10,7 +10,7 @@ use crate::spans::HasSpans;
 use std::hash::Hash;
 use wit_values::{Table, TextTable};
 
-fn fits_at<K: Eq + Hash, V: HasSpans>(table: &Table<K, V>, place: usize, offset: u32) -> bool
+fn fits_at<K: Eq + Hash + Ord, V: HasSpans>(table: &Table<K, V>, place: usize, offset: u32) -> bool
     requires { place < length table.now }
     ensures { (e : K × V) → slice_get table.now place ≡ Some e → MatchBool result (AllFit offset (V.spans e.1)) (AllFit offset (V.spans e.1) → ⊥) }
 {
@@ -20,7 +20,7 @@ fn fits_at<K: Eq + Hash, V: HasSpans>(table: &Table<K, V>, place: usize, offset:
     }
 }
 
-fn adjust_at<K: Eq + Hash, V: HasSpans>(table: &mut Table<K, V>, place: usize, offset: u32)
+fn adjust_at<K: Eq + Hash + Ord, V: HasSpans>(table: &mut Table<K, V>, place: usize, offset: u32)
     requires within { place < length table.old }
     requires fits { (e : K × V) → slice_get table.old place ≡ Some e → AllFit offset (V.spans e.1) }
     ensures { (e : K × V) → slice_get table.old place ≡ Some e → table.new ≡ set_value_at table.old place (V.moved offset e.1) }
@@ -28,7 +28,7 @@ fn adjust_at<K: Eq + Hash, V: HasSpans>(table: &mut Table<K, V>, place: usize, o
     table.value_mut(place).adjust_spans(offset);
 }
 
-impl<K: Eq + Hash, V: HasSpans> HasSpans for Table<K, V> {
+impl<K: Eq + Hash + Ord, V: HasSpans> HasSpans for Table<K, V> {
     ghost spans = { λ table. flat_map V.spans (values_of table) };
 
     ghost moved = { λ offset table. map (on_value (V.moved offset)) table };

@@ -12,10 +12,10 @@ pub returns-then-not-have_setter : goal.returns-then-not-have_setter
 returns-then-not-have_setter c = sym (no_setters item_function c.args.side (sym c.have_setter.ensures ∙ c.if-not-have_setter.true))
 
 pub behind_getters-requires : goal.behind_getters-requires
-behind_getters-requires c = subst (HaveOwnNames item_function) (sym c.in_ok-entries.ensures) (own_on_side c.args.side c.requires.distinct c.requires.named)
+behind_getters-requires c = subst (HaveOwnNames item_function) (sym c.into_entries-entries.ensures) (own_on_side c.args.side c.requires.distinct c.requires.named)
 
 pub table_of-requires : goal.table_of-requires
-table_of-requires c = subst (λ (es : List Entry). AllDiffer (map key_of es)) (sym (c.in_ok-placed.ensures ∙ ap (placed function_of) c.in_ok-entries.ensures)) (placed_differ c.args.side c.requires.distinct c.requires.named)
+table_of-requires c = subst (λ (es : List Entry). AllDiffer (map key_of es)) (sym (c.in_ok-placed.ensures ∙ ap (placed function_of) c.into_entries-entries.ensures)) (placed_differ c.args.side c.requires.distinct c.requires.named)
 
 pub returns : goal.returns
-returns c = c.in_ok-table.ensures ∙ c.in_ok-placed.ensures ∙ ap (placed function_of) c.in_ok-entries.ensures
+returns c = c.in_ok-table.ensures ∙ c.in_ok-placed.ensures ∙ ap (placed function_of) c.into_entries-entries.ensures

@@ -2,7 +2,7 @@ use Rattle.std.proofs.Common.{◌≡◌, ◌≤◌, Bool, Some, length, slice_ge
 use Rattle.std.specs.Map.{lookup_entry}
 use Rattle.std.specs.Map.Iter.{deref_pair}
 use Rattle.std.specs.Option.{option_eq}
-use Rattle.wit_values.proofs.Agreeing.{all_next, list_all-each, list_all-not}
+use Rattle.wit_values.proofs.Agreeing.{list_all-each, list_all-not}
 use Rattle.wit_values.proofs.table.agree.Goals as goal
 
 pub returns-then-not-agree_at : goal.returns-then-not-agree_at
