@@ -6,11 +6,11 @@ use Rattle.std.specs.Option.{option_map}
 use Rattle.std.specs.Str.{bytes_eq}
 use Rattle.std.proofs.lemmas.List.{map-append}
 use Rattle.std.proofs.lemmas.Option.{slice_get-map, slice_get_within, slice_get_cases}
-use Rattle.indexmap.specs.IndexMap.{insert_entry, keys}
+use Rattle.indexmap.specs.IndexMap.{insert_entry}
 use Rattle.wit_type_tree.specs.declared.leaves.Id.{Id}
 use Rattle.wit_tree.specs.declared.tree.AstItem.{AstItem}
 use Rattle.wit_tree.specs.declared.tree.PackageFile.{PackageFile}
-use Rattle.wit_graph.specs.Table.{Row, Table, entry_row, rows, place_of, target, IsOrder}
+use Rattle.wit_graph.specs.Table.{Row, entry_row, rows, place_of, target, IsOrder}
 use Rattle.wit_graph.proofs.Rows.{key_eq, rows-insert}
 use Rattle.wit_graph.proofs.Tables.{place_by_key}
 use Rattle.wit_syntax.specs.Source.{TopName, top_names, top_text, declared_items, Item, file_items, all_items, item_name}
@@ -118,7 +118,7 @@ tops_added files file old new tops more = record {
         ]
         | inr one ↦ elim in_old [
           | inl second ↦ (let lt = slice_get_within old i top second in let is = one.0 in absurd (let h : ⊥ = omega arith in h))
-          | inr last ↦ subst (λ (x : PackageFile). AreNamed (top_names x) top) (sym one.1) (subst (λ (m : Named). AreNamed (top_names file) m) (sym last.1) more.named)
+          | inr last ↦ subst (λ (x : PackageFile). AreNamed (top_names x) top) (sym one.1) (subst (λ (names : Named). AreNamed (top_names file) names) (sym last.1) more.named)
         ]
       ]);
 }
@@ -139,7 +139,7 @@ legal_items files places differ tops order f (CyclicItem h) = no_cyclic_edge 8 i
 
 -- the table of the items of files finds them
 pub names_declared : (files : List PackageFile) (names : Tables) → AreTablesOf files names → AreDeclared (all_items files) names.items
-names_declared files names are = record { finds = λ name. rows_items (all_items files) names.items.entries name are.declared.items }
+names_declared files names are = record { finds = λ name. rows_items (all_items files) names.items name are.declared.items }
 
 -- what is wrong with attributes in front of a path to another package, and at the top of a file, is wrong with names
 pub broken_visit : (files : List PackageFile) (f : Fault) → IsBrokenVisit (foreign_visits files) f → IsBrokenNames files f
@@ -157,8 +157,8 @@ legal_names files legal visits tops f (AttributedTopUse file among h) = (let p =
 legal_names files legal visits tops f (MissingOriginal file among h) = (let p = at_contains files file among in tops.each p.0 file p.1 f (MissingUse h))
 
 -- the place of a name among the keys is that of the item which an edge of this name leads to
-pub item_place : (files : List PackageFile) (table : Table) (name : List ℕ) (edge : Id) → rows table ≡ item_rows files → name ≡ edge.name.now → position (λ (k : Bor (List ℕ)). bytes_eq name k.now) (keys table) ≡ target (item_rows files) edge
-item_place files table name edge same named = sym (place_by_key table name) ∙ ap (place_of (rows table)) named ∙ ap (λ rs. place_of rs edge.name.now) same
+pub item_place : (files : List PackageFile) (es : List (Bor (List ℕ) × Vec Id Global)) (name : List ℕ) (edge : Id) → rows es ≡ item_rows files → name ≡ edge.name.now → position (λ (k : Bor (List ℕ)). bytes_eq name k.now) (map (λ e. e.0) es) ≡ target (item_rows files) edge
+item_place files es name edge same named = sym (place_by_key es name) ∙ ap (place_of (rows es)) named ∙ ap (λ rs. place_of rs edge.name.now) same
 
 -- the names at the top of the file at a place are those that stand there
 pub top_at_place : (files : List PackageFile) (tops : List Named) (i : ℕ) (top : Named) → AreTopsOf files tops → i < length files → slice_get tops i ≡ Some top → AreNamed (top_at files i) top

@@ -11,13 +11,13 @@ ghost use Rattle.wit_top_names.specs.Tops.{AreNamed, AreDeclared};
 ghost use Rattle.wit_top_names.specs.Checks.{edges_of, IsLostAmong, IsWrongFile};
 
 use crate::order_refusal::refuse_item_order;
-use indexmap::IndexMap;
 use std::alloc::{AllocError, Global};
 use wit_order::order_places;
 use wit_top_names::declaration::{declarations, interface_items, world_items};
 use wit_top_names::top_name::{Paths, add_edge};
 use wit_tree::ParseResult;
 use wit_tree::tree::{AstItem, Id, Interface, InterfaceItem, PackageFile, World, WorldItem};
+use wit_values::Table;
 
 /// Adds the edge of the path of a part of an interface, where that is a `use`.
 fn add_use<'a>(
@@ -95,7 +95,7 @@ pub(crate) fn add_items<'a>(
     alloc: Global,
     file: &PackageFile<'a>,
     paths: Paths<'_, '_, 'a>,
-    table: &mut IndexMap<&'a str, Vec<Id<'a>>>,
+    table: &mut Table<&'a str, Vec<Id<'a>>>,
 ) -> ParseResult<()>
     requires named { AreNamed (top_names file.now) paths.top.now }
     requires distinct { AllDiffer (map (λ row. row.name) (rows table.old) ++ map item_name (file_items file.now)) }
@@ -111,7 +111,7 @@ pub(crate) fn add_items<'a>(
             AstItem::World(world) => (world.name, world_edges(alloc, world, paths)?),
             AstItem::Use(_) => continue,
         };
-        table.insert(id.name, edges)?;
+        table.put(id.name, edges)?;
     }
     Ok(())
 }
@@ -135,7 +135,7 @@ pub(crate) fn add_kinds(file: &PackageFile<'_>, kinds: &mut Vec<bool>) -> Result
 /// such order.
 pub(crate) fn table_order<'a>(
     alloc: Global,
-    table: &IndexMap<&'a str, Vec<Id<'a>>>,
+    table: &Table<&'a str, Vec<Id<'a>>>,
 ) -> ParseResult<Vec<usize>>
     ensures order { IfOk result (λ places. IsOrder (rows table.now) places.items) }
     ensures refused { IfErr result (Refused (λ f. IsMissingEdge (missing_at 7 item_word) (rows table.now) f ⊎ IsCyclicEdge 8 item_word (rows table.now) f)) }

@@ -6,15 +6,15 @@ ghost use Rattle.wit_graph.specs.Faults.{IsFaultOf};
 ghost use Rattle.wit_syntax.specs.Fault.{missing_at, missing_type_at, item_word, type_word};
 ghost use Rattle.wit_syntax.specs.Broken.{IsMissingEdge, IsCyclicEdge, Refused};
 
-use indexmap::IndexMap;
 use std::alloc::Global;
 use wit_order::OrderFault;
 use wit_refusals::refusal::{refuse_cycle, refuse_missing, refuse_missing_type};
 use wit_tree::tree::Id;
 use wit_tree::{OUT_OF_MEMORY, ParseError, ParseErrorKind};
+use wit_values::Table;
 
 /// The name at an index of what the item at a place needs.
-fn needed<'a>(table: &IndexMap<&'a str, Vec<Id<'a>>>, place: usize, index: usize) -> Id<'a>
+fn needed<'a>(table: &Table<&'a str, Vec<Id<'a>>>, place: usize, index: usize) -> Id<'a>
     requires { (id : TheId) × IsEdge (rows table.now) place index id }
     ensures { IsEdge (rows table.now) place index result }
 {
@@ -23,9 +23,9 @@ fn needed<'a>(table: &IndexMap<&'a str, Vec<Id<'a>>>, place: usize, index: usize
 }
 
 /// The refusal of items that have no order.
-pub fn refuse_item_order(
+pub fn refuse_item_order<'a>(
     alloc: Global,
-    table: &IndexMap<&str, Vec<Id<'_>>>,
+    table: &Table<&'a str, Vec<Id<'a>>>,
     fault: OrderFault,
 ) -> ParseError
     requires { IsFaultOf (rows table.now) fault }
@@ -43,9 +43,9 @@ pub fn refuse_item_order(
 }
 
 /// The refusal of definitions that have no order.
-pub fn refuse_type_order(
+pub fn refuse_type_order<'a>(
     alloc: Global,
-    table: &IndexMap<&str, Vec<Id<'_>>>,
+    table: &Table<&'a str, Vec<Id<'a>>>,
     fault: OrderFault,
 ) -> ParseError
     requires { IsFaultOf (rows table.now) fault }

@@ -15,11 +15,11 @@ ghost use Rattle.wit_files.specs.FileNames.{AddsTop, AreTablesOf, AreDeclaration
 
 use crate::foreign::{ForeignItems, ForeignVisit, check_visits, foreign_visits};
 use crate::item_table::{add_items, add_kinds, table_order};
-use indexmap::IndexMap;
 use std::alloc::Global;
 use wit_top_names::top_name::{Paths, Target, check_top_uses, file_names, item_names};
 use wit_tree::ParseResult;
 use wit_tree::tree::{Id, PackageFile};
+use wit_values::Table;
 
 /// What the names of files are kept in.
 #[derive(Drop)]
@@ -29,11 +29,11 @@ pub(crate) struct Tables<'f, 'a> {
     /// The items of other packages.
     pub foreign: ForeignItems<'f, 'a>,
     /// The items by name, each with the names of the items that have to come before it.
-    pub items: IndexMap<&'a str, Vec<Id<'a>>>,
+    pub items: Table<&'a str, Vec<Id<'a>>>,
     /// Of each item whether it is a world.
     pub kinds: Vec<bool>,
     /// Of each file the names at its top, with what each stands for.
-    pub tops: Vec<IndexMap<&'a str, Target<'f, 'a>>>,
+    pub tops: Vec<Table<&'a str, Target<'f, 'a>>>,
     /// The places of the items in their order.
     pub order: Vec<usize>,
 }
@@ -56,7 +56,7 @@ impl<'f, 'a> Tables<'f, 'a> {
         Ok(Tables {
             visits,
             foreign,
-            items: IndexMap::new(alloc),
+            items: Table::new(alloc),
             kinds: Vec::new(alloc),
             tops: Vec::new(alloc),
             order: Vec::new(alloc),
@@ -67,7 +67,7 @@ impl<'f, 'a> Tables<'f, 'a> {
     fn add_file(
         alloc: Global,
         file: &'f PackageFile<'a>,
-        declared: &IndexMap<&'a str, Target<'f, 'a>>,
+        declared: &Table<&'a str, Target<'f, 'a>>,
         names: &mut Tables<'f, 'a>,
     ) -> ParseResult<()>
         requires distinct { AllDiffer (map (λ row. row.name) (rows names.old.items) ++ map item_name (file_items file.now)) }
@@ -94,7 +94,7 @@ impl<'f, 'a> Tables<'f, 'a> {
     fn add_files(
         alloc: Global,
         files: &'f [PackageFile<'a>],
-        declared: &IndexMap<&'a str, Target<'f, 'a>>,
+        declared: &Table<&'a str, Target<'f, 'a>>,
         names: &mut Tables<'f, 'a>,
     ) -> ParseResult<()>
         requires empty { rows names.old.items ≡ [] }

@@ -34,7 +34,7 @@ fresh_entry (e ∷ es) k v h =
           cond-false (bytes_eq k.now e.0.now) ((e.0, v) ∷ es) (e ∷ insert_entry key_eq es k v) other ∙ ap (λ l. e ∷ l) (fresh_entry es k v (omega (arith, h')))
     ]
 
--- inserting a name that no row has appends a row; `rows m` is `map entry_row m.entries`
+-- inserting a name that no row has appends a row; `rows entries` is `map entry_row entries`
 pub rows-insert : (old new : List (Bor (List ℕ) × Vec Id Global)) (k : Bor (List ℕ)) (v : Vec Id Global) → new ≡ insert_entry key_eq old k v → place_of (map entry_row old) k.now ≡ None
     → map entry_row new ≡ map entry_row old ++ (record { name = k.now; needs = v.items }) ∷ []
 rows-insert old new k v e fresh =

@@ -4,17 +4,16 @@ use Rattle.std.specs.Prelude.{position, nat_lt}
 use Rattle.std.specs.List.{prefix_len, position_or_len}
 use Rattle.std.specs.Str.{bytes_eq}
 use Rattle.std.specs.Option.{option_map}
-use Rattle.std.proofs.lemmas.List.{take_more, map-append, length-map}
+use Rattle.std.proofs.lemmas.List.{take_more, map-append, length-map, append_assoc}
 use Rattle.std.proofs.lemmas.Option.{slice_get_within, get_or_from_slice_get, slice_get-map, same_Some, none-some}
-use Rattle.indexmap.specs.IndexMap.{IndexMap, keys}
 use Rattle.std.specs.Map.Iter.{deref_pair}
 use Rattle.std.proofs.lemmas.Bool.{false≢true}
 use Rattle.wit_type_tree.specs.declared.leaves.Id.{Id}
 use Rattle.wit_graph.specs.declared.fault.OrderFault.{OrderFault}
 use Rattle.wit_graph.specs.declared.fault.OrderFault.TheVariants.{Missing}
 use Rattle.wit_graph.specs.Graph.{Graph}
-use Rattle.wit_graph.specs.Table.{Row, Table, entry_row, rows, target, place_of}
-use Rattle.wit_graph.specs.Resolved.{MissesFirst, Misses, Resolves}
+use Rattle.wit_graph.specs.Table.{Row, entry_row, rows, target, place_of}
+use Rattle.wit_graph.specs.Resolved.{AddsRow, MissesFirst, Misses, Resolves}
 
 -- the step of a loop that maps a list
 pub map_step : {A B C : Type 0} (f : A → C) (g : B → C) (xs : List A) (ys : List B) (i : ℕ) (x : A) (y : B) → map f xs ≡ map g (take i ys) → slice_get ys i ≡ Some y → f x ≡ g y
@@ -23,17 +22,15 @@ map_step f g xs ys i x y same at e =
     let t : take (i + 1) ys ≡ take i ys ++ y ∷ [] = take_more ys i y (slice_get_within ys i y at) ∙ ap (λ z. take i ys ++ z ∷ []) (get_or_from_slice_get ys i y y at) in
     map-append f xs (x ∷ []) ∙ ap (λ z. z ++ f x ∷ []) same ∙ ap (λ z. map g (take i ys) ++ z ∷ []) e ∙ sym (map-append g (take i ys) (y ∷ [])) ∙ ap (map g) (sym t)
 
-module _ {K V S : Type 0} (m : IndexMap K V S) (i : ℕ) (r : Option (Bor K × Bor V)) (p : Bor K × Bor V) (entry : option_map deref_pair r ≡ slice_get m.entries i) (some : r ≡ Some p) where
-  pub entry_at : slice_get m.entries i ≡ Some (deref_pair p)
-  entry_at = sym entry ∙ ap (option_map deref_pair) some
-
-  pub key_at : slice_get (keys m) i ≡ Some p.0.now
-  key_at = slice_get-map (λ e. e.0) m.entries i ∙ ap (option_map (λ e. e.0)) entry_at
+-- the key of what was got at a place
+pub key_at : {K V : Type 0} (es : List (K × V)) (i : ℕ) (r : Option (Bor K × Bor V)) (p : Bor K × Bor V)
+    → option_map deref_pair r ≡ slice_get es i → r ≡ Some p → slice_get (map (λ e. e.0) es) i ≡ Some p.0.now
+key_at es i r p entry some = slice_get-map (λ e. e.0) es i ∙ ap (option_map (λ e. e.0)) (sym entry ∙ ap (option_map deref_pair) some)
 
 -- the row of what was got at a place
-pub row_at_place : (m : Table) (i : ℕ) (r : Option (Bor (Bor (List ℕ)) × Bor (Vec Id Global))) (p : Bor (Bor (List ℕ)) × Bor (Vec Id Global))
-    → option_map deref_pair r ≡ slice_get m.entries i → r ≡ Some p → slice_get (rows m) i ≡ Some (entry_row (deref_pair p))
-row_at_place m i r p entry some = slice_get-map entry_row m.entries i ∙ ap (option_map entry_row) (entry_at m i r p entry some)
+pub row_at_place : (es : List (Bor (List ℕ) × Vec Id Global)) (i : ℕ) (r : Option (Bor (Bor (List ℕ)) × Bor (Vec Id Global))) (p : Bor (Bor (List ℕ)) × Bor (Vec Id Global))
+    → option_map deref_pair r ≡ slice_get es i → r ≡ Some p → slice_get (rows es) i ≡ Some (entry_row (deref_pair p))
+row_at_place es i r p entry some = slice_get-map entry_row es i ∙ ap (option_map entry_row) (sym entry ∙ ap (option_map deref_pair) some)
 
 -- where a test first passes by name, and by key
 same_prefix : (test : List ℕ → Bool) (es : List (Bor (List ℕ) × Vec Id Global)) → prefix_len (λ (row : Row). not (test row.name)) (map entry_row es) ≡ prefix_len (λ (k : Bor (List ℕ)). not (test k.now)) (map (λ e. e.0) es)
@@ -41,11 +38,12 @@ same_prefix test [] = refl
 same_prefix test (e ∷ es) = ap (λ n. cond (not (test e.0.now)) (1 + n) 0) (same_prefix test es)
 
 -- a name's place among the rows is its key's index in the table
-pub place_by_key : (m : Table) (name : List ℕ) → place_of (rows m) name ≡ position (λ (k : Bor (List ℕ)). bytes_eq name k.now) (keys m)
-place_by_key m name =
-    let p : position_or_len (λ (row : Row). bytes_eq name row.name) (rows m) ≡ position_or_len (λ (k : Bor (List ℕ)). bytes_eq name k.now) (keys m) = same_prefix (bytes_eq name) m.entries in
-    let l : length (rows m) ≡ length (keys m) = length-map m.entries entry_row ∙ sym (length-map m.entries (λ e. e.0)) in
-    ap (λ n. cond (nat_lt n (length (rows m))) (Some n) None) p ∙ ap (λ n. cond (nat_lt (position_or_len (λ (k : Bor (List ℕ)). bytes_eq name k.now) (keys m)) n) (Some (position_or_len (λ (k : Bor (List ℕ)). bytes_eq name k.now) (keys m))) None) l
+pub place_by_key : (es : List (Bor (List ℕ) × Vec Id Global)) (name : List ℕ) → place_of (rows es) name ≡ position (λ (k : Bor (List ℕ)). bytes_eq name k.now) (map (λ e. e.0) es)
+place_by_key es name =
+    let ks : List (Bor (List ℕ)) = map (λ e. e.0) es in
+    let p : position_or_len (λ (row : Row). bytes_eq name row.name) (rows es) ≡ position_or_len (λ (k : Bor (List ℕ)). bytes_eq name k.now) ks = same_prefix (bytes_eq name) es in
+    let l : length (rows es) ≡ length ks = length-map es entry_row ∙ sym (length-map es (λ e. e.0)) in
+    ap (λ n. cond (nat_lt n (length (rows es))) (Some n) None) p ∙ ap (λ n. cond (nat_lt (position_or_len (λ (k : Bor (List ℕ)). bytes_eq name k.now) ks) n) (Some (position_or_len (λ (k : Bor (List ℕ)). bytes_eq name k.now) ks)) None) l
 
 pub some_from_map : {A C : Type 0} (f : A → C) (o : Option A) (z : C) → option_map f o ≡ Some z → (x : A) × (o ≡ Some x) × (f x ≡ z)
 some_from_map f None z e = absurd (none-some z e)
@@ -57,6 +55,15 @@ pub matched : {A B C : Type 0} (f : A → C) (g : B → C) (xs : List A) (ys : L
 matched {C} f g xs ys same k y at =
     let there : slice_get (map g ys) k ≡ Some (g y) = slice_get-map g ys k ∙ ap (option_map g) at in
     some_from_map f (slice_get xs k) (g y) (sym (slice_get-map f xs k) ∙ ap (λ (l : List C). slice_get l k) same ∙ there)
+
+-- one place more of a row
+pub row_more : (rs : List Row) (ids : List Id) (old now new : List ℕ) (k : ℕ) (id : Id) (p : ℕ) → AddsRow rs (take k ids) old now → slice_get ids k ≡ Some id → target rs id ≡ Some p → new ≡ now ++ p ∷ []
+    → AddsRow rs (take (k + 1) ids) old new
+row_more rs ids old now new k id p added at found is = (
+  added.0 ++ p ∷ [],
+  is ∙ ap (λ l. l ++ p ∷ []) added.1 ∙ append_assoc old added.0 (p ∷ []),
+  map_step Some (target rs) added.0 ids k p id added.2 at (sym found),
+)
 
 pub slice_get-take : {A : Type 0} (xs : List A) (i k : ℕ) → k < i → slice_get (take i xs) k ≡ slice_get xs k
 slice_get-take xs zero k h = absurd (omega arith)

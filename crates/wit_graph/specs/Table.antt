@@ -21,9 +21,9 @@ Table = IndexMap (Bor (List ℕ)) (Vec Id Global) (BuildHasherDefault FoldHasher
 abbrev pub entry_row : Bor (List ℕ) × Vec Id Global → Row
 entry_row entry = record { name = entry.0.now; needs = entry.1.items }
 
--- the rows of a table, in its order; a row's index is its place
-abbrev pub rows : Table → List Row
-rows m = map entry_row m.entries
+-- the rows of a table's entries, in its order; a row's index is its place
+abbrev pub rows : List (Bor (List ℕ) × Vec Id Global) → List Row
+rows entries = map entry_row entries
 
 -- the place of the first row of this name
 abbrev pub place_of : List Row → List ℕ → Option ℕ
@@ -32,6 +32,10 @@ place_of rs name = position (λ row. bytes_eq name row.name) rs
 -- the place of what the id names
 abbrev pub target : List Row → Id → Option ℕ
 target rs id = place_of rs id.name.now
+
+-- these ids are what the name at the place needs
+abbrev pub AreNeedsAt : List Row → ℕ → List Id → Type 0
+AreNeedsAt rs place ids = (row : Row) × (slice_get rs place ≡ Some row) × (row.needs ≡ ids)
 
 -- id is the edge k of the place i
 abbrev pub IsEdge : List Row → ℕ → ℕ → Id → Type 0
@@ -66,5 +70,5 @@ AreKeysAt m places names = map Some names ≡ map (slice_get (keys m)) places
 -- the table's own keys, in the least dependency-first order
 pub record IsOrdered (m : Table) (names : List (Bor (List ℕ))) : Type 0 where
   pub places : List ℕ
-  pub order : IsOrder (rows m) places
+  pub order : IsOrder (rows m.entries) places
   pub own : AreKeysAt m places names

@@ -8,6 +8,7 @@
 mod graph;
 mod heap;
 pub mod laws;
+mod name_table;
 mod names;
 pub mod order;
 mod places;

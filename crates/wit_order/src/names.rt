@@ -2,27 +2,28 @@
 ghost use Rattle.std.specs.Prelude.{◌≡◌, ◌⊎◌, ℕ, ◌<◌, All, IfOk, OnOk, IfErr};
 ghost use Rattle.wit_graph.specs.declared.fault.OrderFault.TheVariants.{OutOfMemory};
 ghost use Rattle.indexmap.specs.IndexMap.{index_map_len};
-ghost use Rattle.wit_graph.specs.Table.{rows, AreKeysAt};
+ghost use Rattle.wit_graph.specs.Table.{AreKeysAt};
 ghost use Rattle.wit_graph.specs.Resolved.{AddsRow, MissesFirst, Misses, IsGraphOf};
 
 use crate::graph::Graph;
+use crate::name_table::NameTable;
 use indexmap::IndexMap;
 use std::alloc::{AllocError, Global};
 use wit_graph::OrderFault;
 use wit_type_tree::leaves::Id;
 
 /// Puts the places of what the ids of a place name behind the targets.
-fn add_row<'a>(
+fn add_row<T: NameTable>(
     targets: &mut Vec<usize>,
-    deps: &IndexMap<&'a str, Vec<Id<'a>>>,
+    deps: &T,
     place: usize,
-    ids: &[Id<'a>],
+    ids: &[Id<'_>],
 ) -> Result<(), OrderFault>
-    ensures ok { OnOk result (AddsRow (rows deps.now) ids.now targets.old.items targets.new.items) }
-    ensures err { IfErr result (λ f. (f ≡ OutOfMemory) ⊎ MissesFirst (rows deps.now) ids.now place f) }
+    ensures ok { OnOk result (AddsRow (T.table_rows deps.now) ids.now targets.old.items targets.new.items) }
+    ensures err { IfErr result (λ f. (f ≡ OutOfMemory) ⊎ MissesFirst (T.table_rows deps.now) ids.now place f) }
 {
     for (index, id) in ids.iter().enumerate() {
-        match deps.get_index_of(id.name) {
+        match deps.place(id.name) {
             Some(target) => targets.push(target)?,
             None => return Err(OrderFault::Missing { place, index }),
         }
@@ -31,20 +32,16 @@ fn add_row<'a>(
 }
 
 /// The graph of the table.
-pub fn graph_of<'a>(
-    alloc: Global,
-    deps: &IndexMap<&'a str, Vec<Id<'a>>>,
-) -> Result<Graph, OrderFault>
-    ensures ok { IfOk result (IsGraphOf (rows deps.now)) }
-    ensures err { IfErr result (λ f. (f ≡ OutOfMemory) ⊎ Misses (rows deps.now) f) }
+pub fn graph_of<T: NameTable>(alloc: Global, deps: &T) -> Result<Graph, OrderFault>
+    ensures ok { IfOk result (IsGraphOf (T.table_rows deps.now)) }
+    ensures err { IfErr result (λ f. (f ≡ OutOfMemory) ⊎ Misses (T.table_rows deps.now) f) }
 {
-    let len = deps.len();
-    let mut starts = Vec::with_capacity(alloc, len + 1)?;
+    let len = deps.count();
+    let mut starts = Vec::with_capacity(alloc, len.saturating_add(1))?;
     let mut targets = Vec::with_capacity(alloc, len)?;
     starts.push(0)?;
     for place in 0..len {
-        let (_, ids) = deps.get_index(place).unwrap();
-        add_row(&mut targets, deps, place, ids)?;
+        add_row(&mut targets, deps, place, deps.needs(place))?;
         starts.push(targets.len())?;
     }
     Ok(Graph { starts, targets })

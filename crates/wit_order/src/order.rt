@@ -9,6 +9,7 @@ ghost use Rattle.wit_graph.specs.Refused.{IsRefused, FailsAtMissing, FailsAtCycl
 ghost use Rattle.wit_graph.specs.Resolved.{IsGraphOf, Cycles};
 
 use crate::graph::Graph;
+use crate::name_table::NameTable;
 use crate::names::{graph_of, names_at};
 use crate::places::{self, first_stuck_edge};
 use crate::ready::Steps;
@@ -20,6 +21,7 @@ use wit_graph::OrderFault;
 use wit_graph::sorted::Sorted;
 use wit_type_tree::leaves::Id;
 use wit_type_tree::{ParseError, ParseErrorKind, ParseResult};
+use wit_values::Table;
 
 /// The sorted places, or the first edge both of whose ends reach a cycle.
 fn conclude(graph: &Graph, sorted: Sorted) -> Result<Vec<usize>, OrderFault>
@@ -38,13 +40,10 @@ fn conclude(graph: &Graph, sorted: Sorted) -> Result<Vec<usize>, OrderFault>
     }
 }
 
-/// [`order_places`] by counts and a set.
-fn order_by_set<'a>(
-    alloc: Global,
-    deps: &IndexMap<&'a str, Vec<Id<'a>>>,
-) -> Result<Vec<usize>, OrderFault>
-    ensures ok { IfOk result (λ places. IsOrder (rows deps.now) places.items) }
-    ensures err { IfErr result (IsFaultOf (rows deps.now)) }
+/// [`order_places`] of either kind of table, by counts and a set.
+fn order_by_set<T: NameTable>(alloc: Global, deps: &T) -> Result<Vec<usize>, OrderFault>
+    ensures ok { IfOk result (λ places. IsOrder (T.table_rows deps.now) places.items) }
+    ensures err { IfErr result (IsFaultOf (T.table_rows deps.now)) }
 {
     let graph = graph_of(alloc, deps)?;
     let sorted = tree::sort(alloc, &graph)?;
@@ -56,9 +55,9 @@ fn order_counted<'a>(
     alloc: Global,
     deps: &IndexMap<&'a str, Vec<Id<'a>>>,
 ) -> Result<(Vec<usize>, Steps), OrderFault>
-    ensures ok { IfOk result (λ r. IsOrder (rows deps.now) r.0.items) }
-    ensures steps { IfOk result (λ r. IsCounted (rows deps.now) r.1) }
-    ensures err { IfErr result (IsFaultOf (rows deps.now)) }
+    ensures ok { IfOk result (λ r. IsOrder (rows deps.now.entries) r.0.items) }
+    ensures steps { IfOk result (λ r. IsCounted (rows deps.now.entries) r.1) }
+    ensures err { IfErr result (IsFaultOf (rows deps.now.entries)) }
 {
     let graph = graph_of(alloc, deps)?;
     let (sorted, steps) = tree::sort_places(alloc, &graph)?;
@@ -71,8 +70,8 @@ fn order_by_heap<'a>(
     alloc: Global,
     deps: &IndexMap<&'a str, Vec<Id<'a>>>,
 ) -> Result<Vec<usize>, OrderFault>
-    ensures ok { IfOk result (λ places. IsOrder (rows deps.now) places.items) }
-    ensures err { IfErr result (IsFaultOf (rows deps.now)) }
+    ensures ok { IfOk result (λ places. IsOrder (rows deps.now.entries) places.items) }
+    ensures err { IfErr result (IsFaultOf (rows deps.now.entries)) }
 {
     let graph = graph_of(alloc, deps)?;
     let sorted = heap::sort_places(alloc, &graph)?;
@@ -88,7 +87,7 @@ fn order_by_heap<'a>(
 /// The [`OrderFault`] that forbids an order, or want of memory.
 pub fn order_places<'a>(
     alloc: Global,
-    deps: &IndexMap<&'a str, Vec<Id<'a>>>,
+    deps: &Table<&'a str, Vec<Id<'a>>>,
 ) -> Result<Vec<usize>, OrderFault>
     ensures ok { IfOk result (λ places. IsOrder (rows deps.now) places.items) }
     ensures err { IfErr result (IsFaultOf (rows deps.now)) }
@@ -106,8 +105,8 @@ fn order_by_scan<'a>(
     alloc: Global,
     deps: &IndexMap<&'a str, Vec<Id<'a>>>,
 ) -> Result<Vec<usize>, OrderFault>
-    ensures ok { IfOk result (λ places. IsOrder (rows deps.now) places.items) }
-    ensures err { IfErr result (IsFaultOf (rows deps.now)) }
+    ensures ok { IfOk result (λ places. IsOrder (rows deps.now.entries) places.items) }
+    ensures err { IfErr result (IsFaultOf (rows deps.now.entries)) }
 {
     let graph = graph_of(alloc, deps)?;
     let sorted = places::sort_places(alloc, &graph)?;
@@ -121,13 +120,13 @@ fn keys_of<'a>(
     deps: &IndexMap<&'a str, Vec<Id<'a>>>,
     order: Result<Vec<usize>, OrderFault>,
 ) -> ParseResult<Vec<&'a str>>
-    requires ok { IfOk order (λ places. IsOrder (rows deps.now) places.items) }
-    requires err { IfErr order (IsFaultOf (rows deps.now)) }
+    requires ok { IfOk order (λ places. IsOrder (rows deps.now.entries) places.items) }
+    requires err { IfErr order (IsFaultOf (rows deps.now.entries)) }
     ensures ok { IfOk result (λ names. IsOrdered deps.now names.items) }
-    ensures err { IfErr result (λ e. IsRefused (rows deps.now) kind.now e.kind) }
+    ensures err { IfErr result (λ e. IsRefused (rows deps.now.entries) kind.now e.kind) }
     ensures rule { IfErr result (λ e. e.rule ≡ 0) }
-    ensures missing { FailsAtMissing (rows deps.now) kind.now result }
-    ensures cycle { FailsAtCycle (rows deps.now) kind.now result }
+    ensures missing { FailsAtMissing (rows deps.now.entries) kind.now result }
+    ensures cycle { FailsAtCycle (rows deps.now.entries) kind.now result }
 {
     match order {
         Ok(places) => match names_at(alloc, deps, &places) {
@@ -145,8 +144,8 @@ fn keys_counted<'a>(
     deps: &IndexMap<&'a str, Vec<Id<'a>>>,
 ) -> ParseResult<(Vec<&'a str>, Steps)>
     ensures ok { IfOk result (λ r. IsOrdered deps.now r.0.items) }
-    ensures steps { IfOk result (λ r. IsCounted (rows deps.now) r.1) }
-    ensures err { IfErr result (λ e. IsRefused (rows deps.now) kind.now e.kind) }
+    ensures steps { IfOk result (λ r. IsCounted (rows deps.now.entries) r.1) }
+    ensures err { IfErr result (λ e. IsRefused (rows deps.now.entries) kind.now e.kind) }
     ensures rule { IfErr result (λ e. e.rule ≡ 0) }
 {
     match order_counted(alloc, deps) {
@@ -171,11 +170,11 @@ pub fn order_steps<'a>(
     deps: &IndexMap<&'a str, Vec<Id<'a>>>,
 ) -> ParseResult<(Vec<&'a str>, Steps)>
     ensures ok { IfOk result (λ r. IsOrdered deps.now r.0.items) }
-    ensures steps { IfOk result (λ r. IsCounted (rows deps.now) r.1) }
-    ensures err { IfErr result (λ e. IsRefused (rows deps.now) kind.now e.kind) }
+    ensures steps { IfOk result (λ r. IsCounted (rows deps.now.entries) r.1) }
+    ensures err { IfErr result (λ e. IsRefused (rows deps.now.entries) kind.now e.kind) }
     ensures rule { IfErr result (λ e. e.rule ≡ 0) }
-    ensures missing { FailsAtMissing (rows deps.now) kind.now result }
-    ensures cycle { FailsAtCycle (rows deps.now) kind.now result }
+    ensures missing { FailsAtMissing (rows deps.now.entries) kind.now result }
+    ensures cycle { FailsAtCycle (rows deps.now.entries) kind.now result }
 {
     keys_counted(alloc, kind, deps)
 }
@@ -197,12 +196,12 @@ pub fn toposort<'a>(
     deps: &IndexMap<&'a str, Vec<Id<'a>>>,
 ) -> ParseResult<Vec<&'a str>>
     ensures ok { IfOk result (λ names. IsOrdered deps.now names.items) }
-    ensures err { IfErr result (λ e. IsRefused (rows deps.now) kind.now e.kind) }
+    ensures err { IfErr result (λ e. IsRefused (rows deps.now.entries) kind.now e.kind) }
     ensures rule { IfErr result (λ e. e.rule ≡ 0) }
-    ensures missing { FailsAtMissing (rows deps.now) kind.now result }
-    ensures cycle { FailsAtCycle (rows deps.now) kind.now result }
+    ensures missing { FailsAtMissing (rows deps.now.entries) kind.now result }
+    ensures cycle { FailsAtCycle (rows deps.now.entries) kind.now result }
 {
-    let order = order_places(alloc, deps);
+    let order = order_by_set(alloc, deps);
     keys_of(alloc, kind, deps, order)
 }
 
@@ -214,10 +213,10 @@ pub fn toposort_heap<'a>(
     deps: &IndexMap<&'a str, Vec<Id<'a>>>,
 ) -> ParseResult<Vec<&'a str>>
     ensures ok { IfOk result (λ names. IsOrdered deps.now names.items) }
-    ensures err { IfErr result (λ e. IsRefused (rows deps.now) kind.now e.kind) }
+    ensures err { IfErr result (λ e. IsRefused (rows deps.now.entries) kind.now e.kind) }
     ensures rule { IfErr result (λ e. e.rule ≡ 0) }
-    ensures missing { FailsAtMissing (rows deps.now) kind.now result }
-    ensures cycle { FailsAtCycle (rows deps.now) kind.now result }
+    ensures missing { FailsAtMissing (rows deps.now.entries) kind.now result }
+    ensures cycle { FailsAtCycle (rows deps.now.entries) kind.now result }
 {
     let order = order_by_heap(alloc, deps);
     keys_of(alloc, kind, deps, order)
@@ -231,10 +230,10 @@ pub fn toposort_scan<'a>(
     deps: &IndexMap<&'a str, Vec<Id<'a>>>,
 ) -> ParseResult<Vec<&'a str>>
     ensures ok { IfOk result (λ names. IsOrdered deps.now names.items) }
-    ensures err { IfErr result (λ e. IsRefused (rows deps.now) kind.now e.kind) }
+    ensures err { IfErr result (λ e. IsRefused (rows deps.now.entries) kind.now e.kind) }
     ensures rule { IfErr result (λ e. e.rule ≡ 0) }
-    ensures missing { FailsAtMissing (rows deps.now) kind.now result }
-    ensures cycle { FailsAtCycle (rows deps.now) kind.now result }
+    ensures missing { FailsAtMissing (rows deps.now.entries) kind.now result }
+    ensures cycle { FailsAtCycle (rows deps.now.entries) kind.now result }
 {
     let order = order_by_scan(alloc, deps);
     keys_of(alloc, kind, deps, order)

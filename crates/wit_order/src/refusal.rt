@@ -42,8 +42,8 @@ fn kind_of<'a>(
     deps: &IndexMap<&'a str, Vec<Id<'a>>>,
     fault: OrderFault,
 ) -> ParseResult<ParseErrorKind>
-    requires { IsFaultOf (rows deps.now) fault }
-    ensures ok { IfOk result (IsRefused (rows deps.now) kind.now) }
+    requires { IsFaultOf (rows deps.now.entries) fault }
+    ensures ok { IfOk result (IsRefused (rows deps.now.entries) kind.now) }
     ensures err { IfErr result (λ e. e.kind ≡ OutOfMemory) }
 {
     match fault {
@@ -66,8 +66,8 @@ pub fn refusal<'a>(
     deps: &IndexMap<&'a str, Vec<Id<'a>>>,
     fault: OrderFault,
 ) -> ParseError
-    requires { IsFaultOf (rows deps.now) fault }
-    ensures kind { IsRefused (rows deps.now) kind.now result.kind }
+    requires { IsFaultOf (rows deps.now.entries) fault }
+    ensures kind { IsRefused (rows deps.now.entries) kind.now result.kind }
     ensures rule { result.rule ≡ 0 }
 {
     match kind_of(alloc, kind, deps, fault) {

@@ -11,12 +11,12 @@ ghost use Rattle.wit_scopes.specs.Between.{AreOrdered, NeedNone};
 use crate::deps::body_deps;
 use crate::order::in_order;
 use crate::scope_name::{DefinedName, ScopeName, definitions, local_id};
-use indexmap::IndexMap;
 use std::alloc::{AllocError, Global};
 use wit_files::order_refusal::refuse_type_order;
 use wit_order::order_places;
 use wit_tree::ParseResult;
 use wit_tree::tree::Id;
+use wit_values::Table;
 
 /// The names that a name of a scope needs: those in its body, where it is a definition.
 fn needed_ids<'a>(alloc: Global, name: &ScopeName<'_, 'a>) -> Result<Vec<Id<'a>>, AllocError>
@@ -32,14 +32,14 @@ fn needed_ids<'a>(alloc: Global, name: &ScopeName<'_, 'a>) -> Result<Vec<Id<'a>>
 fn scope_table<'a>(
     alloc: Global,
     names: &[ScopeName<'_, 'a>],
-) -> Result<IndexMap<&'a str, Vec<Id<'a>>>, AllocError>
+) -> Result<Table<&'a str, Vec<Id<'a>>>, AllocError>
     requires distinct { AreDistinct (map name_behind names.now) }
     ensures rows { IfOk result (λ table. rows table ≡ rows_of (map name_behind names.now)) }
 {
-    let mut table = IndexMap::with_capacity(alloc, names.len())?;
+    let mut table = Table::with_capacity(alloc, names.len())?;
     for name in names {
         let needed = needed_ids(alloc, name)?;
-        table.insert(local_id(name).name, needed)?;
+        table.put(local_id(name).name, needed)?;
     }
     Ok(table)
 }

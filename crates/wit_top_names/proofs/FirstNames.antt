@@ -22,23 +22,20 @@ use Rattle.wit_syntax.proofs.Found.{find_passes, find_at}
 use Rattle.wit_graph.specs.Table.{Row, entry_row}
 use Rattle.wit_syntax.specs.Scope.{item_row}
 use Rattle.wit_top_names.specs.declared.top_name.Target.{Target as Held}
-use Rattle.wit_top_names.specs.Tops.{target_behind, item_top}
+use Rattle.wit_top_names.specs.Tops.{target_behind, item_top, Named}
 
-abbrev pub Entries : Type 0
-Entries = List (Bor (List ℕ) × Held)
-
-abbrev pub found : List ℕ → Entries → Option Held
+abbrev pub found : List ℕ → Named → Option Held
 found name es = lookup (λ key. bytes_eq name key.now) es
 
 -- each name finds what the first of these that goes by it stands for
-abbrev pub Finds : List TopName → Entries → Type 0
+abbrev pub Finds : List TopName → Named → Type 0
 Finds top es = (name : List ℕ) → option_map target_behind (found name es) ≡ option_map top_target (top_named top name)
 
 abbrev last_of : {V : Type 0} → Bool → V → Option V
 last_of b v = cond b (Some v) None
 
 -- a name more, which was not there
-found_more : (es : Entries) (k : Bor (List ℕ)) (v : Held) (q : List ℕ) → found k.now es ≡ None → found q (insert_entry key_eq es k v) ≡ option_or (found q es) (last_of (bytes_eq q k.now) v)
+found_more : (es : Named) (k : Bor (List ℕ)) (v : Held) (q : List ℕ) → found k.now es ≡ None → found q (insert_entry key_eq es k v) ≡ option_or (found q es) (last_of (bytes_eq q k.now) v)
 found_more [] k v q none = refl
 found_more (e ∷ es) k v q none = elim (cases_Bool (bytes_eq k.now e.0.now)) [
   | inl hit ↦ absurd (none-some e.1 (sym none ∙ cond-true (bytes_eq k.now e.0.now) (Some e.1) (found k.now es) hit))
@@ -72,7 +69,7 @@ named_more top t name =
     ap (option_map top_target) (find-append (λ (x : TopName). bytes_eq (top_text x) name) top (t ∷ [])) ∙ map_or top_target (top_named top name) (cond (bytes_eq (top_text t) name) (Some t) None) ∙ ap (option_or (option_map top_target (top_named top name))) (map_last top_target (bytes_eq (top_text t) name) t)
 
 -- a name more, put into the table that had it not
-pub finds_more : (top : List TopName) (es new : Entries) (t : TopName) (k : Bor (List ℕ)) (v : Held) → Finds top es → k.now ≡ top_text t → target_behind v ≡ top_target t → found k.now es ≡ None → new ≡ insert_entry key_eq es k v → Finds (top ++ t ∷ []) new
+pub finds_more : (top : List TopName) (es new : Named) (t : TopName) (k : Bor (List ℕ)) (v : Held) → Finds top es → k.now ≡ top_text t → target_behind v ≡ top_target t → found k.now es ≡ None → new ≡ insert_entry key_eq es k v → Finds (top ++ t ∷ []) new
 finds_more top es new t k v old key value none inserted name =
     let own : bytes_eq name k.now ≡ bytes_eq (top_text t) name = turned name k.now ∙ ap (λ x. bytes_eq x name) key in
     ap (λ es. option_map target_behind (found name es)) inserted
@@ -118,13 +115,13 @@ unmapped_some f None y h = absurd (none-some y h)
 unmapped_some f (Some x) y h = (x, refl)
 
 -- a name that is not found is none of these
-pub absent : (top : List TopName) (es : Entries) (name : List ℕ) → Finds top es → found name es ≡ None → (i : ℕ) → slice_get (map top_text top) i ≡ Some name → ⊥
+pub absent : (top : List TopName) (es : Named) (name : List ℕ) → Finds top es → found name es ≡ None → (i : ℕ) → slice_get (map top_text top) i ≡ Some name → ⊥
 absent top es name finds none i at =
     let t = map_at top_text top i name at in
     find_none (λ (x : TopName). bytes_eq (top_text x) name) top (unmapped_none top_target (top_named top name) (sym (finds name) ∙ ap (option_map target_behind) none)) i t.0 t.1 (ap (λ n. bytes_eq n name) t.2 ∙ name_itself name)
 
 -- and one that is found is one of them
-pub present : (top : List TopName) (es : Entries) (name : List ℕ) (v : Held) → Finds top es → found name es ≡ Some v → (i : ℕ) × (t : TopName) × (slice_get top i ≡ Some t) × (top_text t ≡ name)
+pub present : (top : List TopName) (es : Named) (name : List ℕ) (v : Held) → Finds top es → found name es ≡ Some v → (i : ℕ) × (t : TopName) × (slice_get top i ≡ Some t) × (top_text t ≡ name)
 present top es name v finds some =
     let test : TopName → Bool = λ x. bytes_eq (top_text x) name in
     let t = unmapped_some top_target (top_named top name) (target_behind v) (sym (finds name) ∙ ap (option_map target_behind) some) in
@@ -132,19 +129,19 @@ present top es name v finds some =
     (at.0, t.0, at.1, name_equal (top_text t.0) name (find_passes test top t.0 t.1))
 
 -- names still differ with one that is not found
-pub differ_top : (top : List TopName) (es : Entries) (t : TopName) (name : List ℕ) → Finds top es → AllDiffer (map top_text top) → name ≡ top_text t → found name es ≡ None → AllDiffer (map top_text (top ++ t ∷ []))
+pub differ_top : (top : List TopName) (es : Named) (t : TopName) (name : List ℕ) → Finds top es → AllDiffer (map top_text top) → name ≡ top_text t → found name es ≡ None → AllDiffer (map top_text (top ++ t ∷ []))
 differ_top top es t name finds differ key none =
     subst AllDiffer (sym (map-append top_text top (t ∷ []))) (differ_more (map top_text top) (top_text t) differ (absent top es (top_text t) finds (ap (λ n. found n es) (sym key) ∙ none)))
 
 -- so a path that is a name leads to what is found
-pub leads_some : (top : List TopName) (es : Entries) (id : Id) (v : Held) → Finds top es → found id.name.now es ≡ Some v → target_behind v ≡ leads top (path.Id id)
+pub leads_some : (top : List TopName) (es : Named) (id : Id) (v : Held) → Finds top es → found id.name.now es ≡ Some v → target_behind v ≡ leads top (path.Id id)
 leads_some top es id v finds some = go (top_named top id.name.now) (sym (finds id.name.now) ∙ ap (option_map target_behind) some)
   where
     go : (o : Option TopName) → option_map top_target o ≡ Some (target_behind v) → target_behind v ≡ option_map_or top_target o (Local id)
     go None h = absurd (none-some (target_behind v) h)
     go (Some t) h = (let same : top_target t ≡ target_behind v = cc in sym same)
 
-pub leads_none : (top : List TopName) (es : Entries) (id : Id) → Finds top es → found id.name.now es ≡ None → Local id ≡ leads top (path.Id id)
+pub leads_none : (top : List TopName) (es : Named) (id : Id) → Finds top es → found id.name.now es ≡ None → Local id ≡ leads top (path.Id id)
 leads_none top es id finds none = go (top_named top id.name.now) (sym (finds id.name.now) ∙ ap (option_map target_behind) none)
   where
     go : (o : Option TopName) → option_map top_target o ≡ None → Local id ≡ option_map_or top_target o (Local id)
@@ -161,7 +158,7 @@ named_as is name =
     mapped_some top_target (top_named (map item_top is) name) ∙ ap is_some first ∙ mapped_some item_top (item_named is name)
 
 -- a table of names finds the items among these names
-pub named_items : (is : List Item) (es : Entries) (name : List ℕ) → Finds (map item_top is) es → is_some (found name es) ≡ is_some (item_named is name)
+pub named_items : (is : List Item) (es : Named) (name : List ℕ) → Finds (map item_top is) es → is_some (found name es) ≡ is_some (item_named is name)
 named_items is es name finds = sym (mapped_some target_behind (found name es)) ∙ ap is_some (finds name) ∙ named_as is name
 
 found-any : {V : Type 0} (name : List ℕ) (es : List (Bor (List ℕ) × V)) → is_some (lookup (λ key. bytes_eq name key.now) es) ≡ list_any (bytes_eq name) (map (λ e. e.0.now) es)

@@ -4,9 +4,6 @@ use Rattle.std.specs.Option.{option_map, is_some}
 use Rattle.std.specs.Str.{bytes_eq}
 use Rattle.std.specs.Map.{lookup}
 use denote.Ref.{Bor}
-use Rattle.std.specs.declared.hash.FoldHasher.{FoldHasher}
-use Rattle.std.specs.declared.hash.BuildHasherDefault.{BuildHasherDefault}
-use Rattle.indexmap.specs.IndexMap.{IndexMap}
 use Rattle.wit_top_names.specs.declared.top_name.TopName.{TopName as Held}
 use Rattle.wit_top_names.specs.declared.top_name.Target.{Target as HeldTarget}
 use Rattle.wit_top_names.specs.declared.top_name.Target.TheVariants as held
@@ -26,13 +23,14 @@ top_behind t = record { id = t.id; target = target_behind t.target }
 abbrev pub item_top : Item → TopName
 item_top i = itself (item_id i)
 
+-- names in their order, each with what it stands for
 abbrev pub Named : Type 0
-Named = IndexMap (Bor (List ℕ)) HeldTarget (BuildHasherDefault FoldHasher)
+Named = List (Bor (List ℕ) × HeldTarget)
 
 -- a name finds what the first of these that goes by it stands for
-pub record AreNamed (top : List TopName) (m : Named) : Type 0 where
-  pub finds : (name : List ℕ) → option_map target_behind (lookup (λ key. bytes_eq name key.now) m.entries) ≡ option_map top_target (top_named top name)
+pub record AreNamed (top : List TopName) (names : Named) : Type 0 where
+  pub finds : (name : List ℕ) → option_map target_behind (lookup (λ key. bytes_eq name key.now) names) ≡ option_map top_target (top_named top name)
 
 -- a name is there exactly where one of these items goes by it
-pub record AreDeclared {V : Type 0} (is : List Item) (m : IndexMap (Bor (List ℕ)) V (BuildHasherDefault FoldHasher)) : Type 0 where
-  pub finds : (name : List ℕ) → is_some (lookup (λ key. bytes_eq name key.now) m.entries) ≡ is_some (item_named is name)
+pub record AreDeclared {V : Type 0} (is : List Item) (names : List (Bor (List ℕ) × V)) : Type 0 where
+  pub finds : (name : List ℕ) → is_some (lookup (λ key. bytes_eq name key.now) names) ≡ is_some (item_named is name)

@@ -8,12 +8,12 @@ ghost use Rattle.wit_top_names.specs.Tops.{target_behind, top_behind, item_top, 
 ghost use Rattle.wit_top_names.specs.Checks.{AreRightUses, IsDeclaredTarget, IsRepeatedName, IsRightUse, IsUndeclared, IsLostTarget, IsWrongTop, IsWrongUse};
 
 use crate::declaration::declarations;
-use indexmap::IndexMap;
 use std::alloc::{AllocError, Global};
 use wit_notes::path_id;
 use wit_refusals::refusal::{refuse, refuse_in, refuse_missing};
 use wit_tree::ParseResult;
 use wit_tree::tree::{AstItem, Id, PackageFile, PackageName, ToplevelUse, UsePath};
+use wit_values::Table;
 
 /// Where a path leads.
 #[derive(Clone, Copy, Debug)]
@@ -37,8 +37,8 @@ pub struct TopName<'f, 'a> {
 /// The names at the top of a file, and the declared items, each with what it stands for.
 #[derive(Clone, Copy)]
 pub struct Paths<'n, 'f, 'a> {
-    pub top: &'n IndexMap<&'a str, Target<'f, 'a>>,
-    pub declared: &'n IndexMap<&'a str, Target<'f, 'a>>,
+    pub top: &'n Table<&'a str, Target<'f, 'a>>,
+    pub declared: &'n Table<&'a str, Target<'f, 'a>>,
 }
 
 /// What a path says by itself.
@@ -134,20 +134,20 @@ fn unique_names<'f, 'a>(
     front: &str,
     back: &str,
     names: &[TopName<'f, 'a>],
-) -> ParseResult<IndexMap<&'a str, Target<'f, 'a>>>
+) -> ParseResult<Table<&'a str, Target<'f, 'a>>>
     ensures named { IfOk result (AreNamed (map top_behind names.now)) }
     ensures distinct { OnOk result (AllDiffer (map top_text (map top_behind names.now))) }
     ensures refused { IfErr result (Refused (IsRepeatedName rule (map top_behind names.now))) }
 {
-    let mut found = IndexMap::with_capacity(alloc, names.len())?;
+    let mut found = Table::with_capacity(alloc, names.len())?;
     for name in names {
         let id = name.id;
-        if found.get(id.name).is_some() {
+        if found.get_by(id.name).is_some() {
             drop(found);
             let words = repeated(alloc, front, id.name, back);
             return Err(refuse_in(rule, id.span, words));
         }
-        found.insert(id.name, name.target)?;
+        found.put(id.name, name.target)?;
     }
     Ok(found)
 }
@@ -156,7 +156,7 @@ fn unique_names<'f, 'a>(
 pub fn file_names<'f, 'a>(
     alloc: Global,
     file: &'f PackageFile<'a>,
-) -> ParseResult<IndexMap<&'a str, Target<'f, 'a>>>
+) -> ParseResult<Table<&'a str, Target<'f, 'a>>>
     ensures named { IfOk result (AreNamed (the_names file.now)) }
     ensures distinct { OnOk result (AllDiffer (map top_text (the_names file.now))) }
     ensures refused { IfErr result (Refused (IsDuplicateTopName (the_names file.now))) }
@@ -169,7 +169,7 @@ pub fn file_names<'f, 'a>(
 pub fn item_names<'f, 'a>(
     alloc: Global,
     files: &'f [PackageFile<'a>],
-) -> ParseResult<IndexMap<&'a str, Target<'f, 'a>>>
+) -> ParseResult<Table<&'a str, Target<'f, 'a>>>
     ensures declared { IfOk result (AreDeclared (all_items files.now)) }
     ensures distinct { OnOk result (AllDiffer (map item_name (all_items files.now))) }
     ensures refused { IfErr result (Refused (IsBrokenItems files.now)) }
@@ -179,11 +179,11 @@ pub fn item_names<'f, 'a>(
 }
 
 /// Refuses a name that is no declared item's.
-fn check_declared<V>(alloc: Global, declared: &IndexMap<&str, V>, id: Id<'_>) -> ParseResult<()>
+fn check_declared<V>(alloc: Global, declared: &Table<&str, V>, id: Id<'_>) -> ParseResult<()>
     ensures declared { OnOk result ((is : List Item) → AreDeclared is declared.now → IsSome (item_named is id.entry.name.now)) }
     ensures refused { IfErr result (λ e. (is : List Item) → AreDeclared is declared.now → Refused (IsUndeclared is id.entry) e) }
 {
-    if !declared.contains_key(id.name) {
+    if declared.get_by(id.name).is_none() {
         return Err(refuse_missing(alloc, 7, "interface or world", id));
     }
     Ok(())
@@ -191,14 +191,11 @@ fn check_declared<V>(alloc: Global, declared: &IndexMap<&str, V>, id: Id<'_>) ->
 
 /// Where a path leads in a file with these names at its top: a name at the top leads where that
 /// stands for, every other path where it says.
-pub fn leads<'f, 'a>(
-    top: &IndexMap<&'a str, Target<'f, 'a>>,
-    path: &'f UsePath<'a>,
-) -> Target<'f, 'a>
+pub fn leads<'f, 'a>(top: &Table<&'a str, Target<'f, 'a>>, path: &'f UsePath<'a>) -> Target<'f, 'a>
     ensures { (names : List Top) → AreNamed names top.now → target_behind result ≡ the_leads names path.now }
 {
     match path {
-        UsePath::Id(id) => match top.get(id.name) {
+        UsePath::Id(id) => match top.get_by(id.name) {
             Some(target) => *target,
             None => Target::Local(*id),
         },
@@ -229,7 +226,7 @@ pub fn add_edge<'a>(
     ensures refused { IfErr result (λ e. (top : List Top) (is : List Item) → AreNamed top paths.entry.top.now → AreDeclared is paths.entry.declared.now → Refused (IsLostTarget is (the_leads top path.now)) e) }
 {
     match path {
-        UsePath::Id(id) => match paths.top.get(id.name) {
+        UsePath::Id(id) => match paths.top.get_by(id.name) {
             Some(target) => add_local(edges, *target)?,
             None => {
                 check_declared(alloc, paths.declared, *id)?;
@@ -244,7 +241,7 @@ pub fn add_edge<'a>(
 /// Refuses a path that is a name, but no declared item's.
 fn check_original<V>(
     alloc: Global,
-    declared: &IndexMap<&str, V>,
+    declared: &Table<&str, V>,
     path: &UsePath<'_>,
 ) -> ParseResult<()>
     ensures declared { OnOk result ((is : List Item) → AreDeclared is declared.now → IsDeclaredTarget is (the_target path.now)) }
@@ -261,7 +258,7 @@ fn check_original<V>(
 /// item's.
 fn check_top_use<V>(
     alloc: Global,
-    declared: &IndexMap<&str, V>,
+    declared: &Table<&str, V>,
     used: &ToplevelUse<'_>,
 ) -> ParseResult<()>
     ensures right { OnOk result ((is : List Item) → AreDeclared is declared.now → IsRightUse is used.now) }
@@ -280,7 +277,7 @@ fn check_top_use<V>(
 pub fn check_top_uses<V>(
     alloc: Global,
     file: &PackageFile<'_>,
-    declared: &IndexMap<&str, V>,
+    declared: &Table<&str, V>,
 ) -> ParseResult<()>
     ensures right { OnOk result ((is : List Item) → AreDeclared is declared.now → AreRightUses is file.now.decl_list.items.items) }
     ensures refused { IfErr result (λ e. (is : List Item) → AreDeclared is declared.now → Refused (IsWrongTop is file.now.decl_list.items.items) e) }

@@ -47,6 +47,6 @@ loop-item-preserved c =
     let differ = subst (λ (l : List AstItem). AllDiffer (map (λ row. row.name) (rows c.args.table.now) ++ map item_name (flat_map (declared_items top) l))) (sym c.declarations-items.ensures) c.requires.distinct in
     let at : slice_get xs i ≡ Some x = slice_get-get_or xs i x c.loop-item-test.true ∙ ap Some (sym c.item-item.is) in
     elim c.match-item.branch [
-      | in-Interface+in_ok-interface_edges-in-Interface b ↦ item_added top (rows c.args.table.now) xs i x (record { top = top; declared = TheInterface b.in-Interface.interface }) c.loop-item.table.entries c.insert.new.self.entries _ _ at (ap (declared_items top) b.in-Interface.is) differ c.loop-item.invariant c.in_ok-insert.ensures.entries (ap (λ (p : Id × Vec Id Global). p.0.name.now) b.edges-is) (ap (λ (p : Id × Vec Id Global). p.1.items) b.edges-is ∙ b.in_ok-interface_edges-in-Interface.ensures.edges top c.requires.named)
-      | in-World+in_ok-world_edges-in-World b ↦ item_added top (rows c.args.table.now) xs i x (record { top = top; declared = TheWorld b.in-World.world }) c.loop-item.table.entries c.insert.new.self.entries _ _ at (ap (declared_items top) b.in-World.is) differ c.loop-item.invariant c.in_ok-insert.ensures.entries (ap (λ (p : Id × Vec Id Global). p.0.name.now) b.edges-is) (ap (λ (p : Id × Vec Id Global). p.1.items) b.edges-is ∙ b.in_ok-world_edges-in-World.ensures.edges top c.requires.named)
+      | in-Interface+in_ok-interface_edges-in-Interface b ↦ item_added top (rows c.args.table.now) xs i x (record { top = top; declared = TheInterface b.in-Interface.interface }) c.loop-item.table c.put.new.self _ _ at (ap (declared_items top) b.in-Interface.is) differ c.loop-item.invariant c.in_ok-put.ensures.ok (ap (λ (p : Id × Vec Id Global). p.0.name.now) b.edges-is) (ap (λ (p : Id × Vec Id Global). p.1.items) b.edges-is ∙ b.in_ok-interface_edges-in-Interface.ensures.edges top c.requires.named)
+      | in-World+in_ok-world_edges-in-World b ↦ item_added top (rows c.args.table.now) xs i x (record { top = top; declared = TheWorld b.in-World.world }) c.loop-item.table c.put.new.self _ _ at (ap (declared_items top) b.in-World.is) differ c.loop-item.invariant c.in_ok-put.ensures.ok (ap (λ (p : Id × Vec Id Global). p.0.name.now) b.edges-is) (ap (λ (p : Id × Vec Id Global). p.1.items) b.edges-is ∙ b.in_ok-world_edges-in-World.ensures.edges top c.requires.named)
     ]

@@ -15,4 +15,4 @@ loop-name-preserved c =
     let i = c.loop-name.name-index in
     let x = name_behind c.name-item.result in
     let at : slice_get xs i ≡ Some x = read_map name_behind names i c.name-item.result c.loop-name-test.true c.name-item.is in
-    rows_more row_of xs i x c.loop-name.table.entries c.insert.new.self.entries _ _ at (c.loop-name.invariant ∙ ap rows_of (sym (take-map name_behind i names))) (fresh_row row_of xs i x c.requires.distinct at) c.in_ok-insert.ensures.entries (ap (λ (id : Id). id.name.now) c.local_id.ensures) c.in_ok-needed.ensures ∙ ap rows_of (take-map name_behind (i + 1) names)
+    rows_more row_of xs i x c.loop-name.table c.put.new.self _ _ at (c.loop-name.invariant ∙ ap rows_of (sym (take-map name_behind i names))) (fresh_row row_of xs i x c.requires.distinct at) c.in_ok-put.ensures.ok (ap (λ (id : Id). id.name.now) c.local_id.ensures) c.in_ok-needed.ensures ∙ ap rows_of (take-map name_behind (i + 1) names)

@@ -15,21 +15,21 @@ pub returns-in_err-check_declared-in-None-clause-refused : goal.returns-in_err-c
 returns-in_err-check_declared-in-None-clause-refused c =
     let p = err_from_is_err_and c.from_residual-in_err-check_declared-in-None.result c.from_residual-in_err-check_declared-in-None.ensures.1 in
     rw (p.1, p.2) (λ top is named all. (
-    let local = leads_none top c.args.paths.top.now.entries c.in-Id.id named.finds (sym c.get.ensures.value ∙ ap option_copied c.in-None.is) in
+    let local = leads_none top c.args.paths.top.now c.in-Id.id named.finds (sym c.get_by.ensures ∙ ap option_copied c.in-None.is) in
     refused_weaker (IsUndeclared is c.in-Id.id) (IsLostTarget is (leads top c.args.path.now)) _ (λ f h. record { id = c.in-Id.id; local = ap (leads top) c.in-Id.is ∙ sym local; undeclared = h }) (c.in_err-check_declared-in-None.ensures.refused is all)))
 
 pub returns-clause-edges : goal.returns-clause-edges
 returns-clause-edges c = λ top named. (
     let old = c.args.edges.now.items in
-    let es = c.args.paths.top.now.entries in
+    let es = c.args.paths.top.now in
     let items : Vec Id Global → List Id = λ v. v.items in
     let behind : Target → List Id = λ t. old ++ local_target t in
     elim c.match-path.branch [
       | in-Id+in-Some+in_ok-add_local-in-Some w ↦ (
-          let found = leads_some top es w.in-Id.id w.in-Some.target.now named.finds (sym w.get.ensures.value ∙ ap option_copied w.in-Some.is) in
+          let found = leads_some top es w.in-Id.id w.in-Some.target.now named.finds (sym w.get_by.ensures ∙ ap option_copied w.in-Some.is) in
           ap items w.edges-is ∙ w.in_ok-add_local-in-Some.ensures ∙ ap behind (found ∙ ap (leads top) (sym w.in-Id.is)))
       | in-Id+in-None+in_ok-check_declared-in-None+in_ok-push-in-None w ↦ (
-          let own = leads_none top es w.in-Id.id named.finds (sym w.get.ensures.value ∙ ap option_copied w.in-None.is) in
+          let own = leads_none top es w.in-Id.id named.finds (sym w.get_by.ensures ∙ ap option_copied w.in-None.is) in
           ap items w.edges-is ∙ w.in_ok-push-in-None.ensures.items ∙ ap behind (own ∙ ap (leads top) (sym w.in-Id.is)))
       | in-Package w ↦ ap items w.edges-is ∙ sym (append-nil old) ∙ ap (λ path. behind (leads top path)) (sym w.in-Package.is)
     ])

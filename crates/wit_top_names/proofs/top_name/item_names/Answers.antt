@@ -30,4 +30,4 @@ returns-clause-declared c =
     let is = all_items c.args.files.now in
     let are : map top_behind c.deref.result.now ≡ map item_top is = ap (map top_behind) c.deref.ensures.value ∙ c.in_ok-names.ensures in
     let finds = subst (λ (l : List TopName). AreNamed l c.in_ok-unique_names.field-0) are c.in_ok-unique_names.ensures.named in
-    record { finds = λ name. named_items is c.in_ok-unique_names.field-0.entries name finds.finds }
+    record { finds = λ name. named_items is c.in_ok-unique_names.field-0 name finds.finds }

@@ -13,8 +13,8 @@ returns-then-is_some-clause-refused c =
     let i = c.loop-name.name-index in
     let t = top_behind c.name-item.result in
     let at : slice_get xs i ≡ Some t = read_map top_behind c.args.names.now i c.name-item.result c.loop-name-test.true c.name-item.is in
-    let v = copied_some c.get.result (sym c.is_some.ensures ∙ c.if-is_some.true) in
-    let p = present (map top_behind (take i c.args.names.now)) c.loop-name.found.entries (top_text t) v.0 c.loop-name.invariant.named.finds (sym c.get.ensures.value ∙ v.1) in
+    let v = copied_some c.get_by.result (sym c.is_some.ensures ∙ c.if-is_some.true) in
+    let p = present (map top_behind (take i c.args.names.now)) c.loop-name.found (top_text t) v.0 c.loop-name.invariant.named.finds (sym c.get_by.ensures ∙ v.1) in
     let there = at_take xs i p.0 p.1 (ap (λ (l : List TopName). slice_get l p.0) (take-map top_behind i c.args.names.now) ∙ p.2) in
     elim c.refuse_in.ensures [
       | inl memory ↦ inl memory
@@ -28,9 +28,9 @@ loop-name-preserved c =
     let before = map top_behind (take i xs) in
     let t = top_behind c.name-item.result in
     let grown : map top_behind (take (i + 1) xs) ≡ before ++ t ∷ [] = ap (map top_behind) (take_more xs i c.name-item.result c.loop-name-test.true ∙ ap (λ x. take i xs ++ x ∷ []) (sym c.name-item.is)) ∙ map-append top_behind (take i xs) (c.name-item.result ∷ []) in
-    let none = sym c.get.ensures.value ∙ copied_none c.get.result (sym c.is_some.ensures ∙ c.if-is_some.false) in
+    let none = sym c.get_by.ensures ∙ copied_none c.get_by.result (sym c.is_some.ensures ∙ c.if-is_some.false) in
     let old = c.loop-name.invariant in
     record {
-      named = rw grown (record { finds = finds_more before c.loop-name.found.entries c.insert.new.self.entries t _ _ old.named.finds refl refl none c.in_ok-insert.ensures.entries });
-      distinct = rw grown (differ_top before c.loop-name.found.entries t (top_text t) old.named.finds old.distinct refl none);
+      named = rw grown (record { finds = finds_more before c.loop-name.found c.put.new.self t _ _ old.named.finds refl refl none c.in_ok-put.ensures.ok });
+      distinct = rw grown (differ_top before c.loop-name.found t (top_text t) old.named.finds old.distinct refl none);
     }
