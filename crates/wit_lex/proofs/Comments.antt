@@ -3,7 +3,8 @@ use Rattle.std.proofs.Common.{◌≡◌, ℕ, ◌+◌, ◌-◌, ◌<◌, ◌≤�
 use Rattle.std.specs.Prelude.{slice_index, slice_range}
 use denote.Ref.{Bor}
 use Rattle.wit_values.specs.declared.span.Span.{Span}
-use Rattle.wit_type_tree.specs.Comments.{IsComment, IsDocs, IsNested, IsPair, Closed, Inside, IsStretch, Found, stretched}
+use Rattle.wit_type_tree.specs.Comments.{IsComment, IsDocs, IsNested, IsPair, Closed, Inside, IsStretch, Start, Blank, Other, Found, stretched}
+use Rattle.wit_lex.specs.Blanks.{IsSkipped, Here, PastBlank, PastComment}
 
 -- one comment more among docs
 pub docs_more : (source : List ℕ) (offset from : ℕ) (docs more : List (Bor (List ℕ))) (span whole found : Span) (comment : Bor (List ℕ)) (at end : ℕ) →
@@ -24,3 +25,10 @@ nested_two source from depth at h some room star slash =
     let two = Inside depth (at + 1) one some (omega arith) (λ p. slash p.first) (λ p. star p.first) in
     let same : at + 1 + 1 ≡ at + 2 = omega arith in
     subst (IsNested source from depth) same two
+
+-- what docs stand among is blanks and comments
+pub stretch_skipped : (source : List ℕ) (offset from : ℕ) (docs : List (Bor (List ℕ))) (span : Span) (at : ℕ) → IsStretch source offset from docs span at → IsSkipped source from at
+stretch_skipped source offset from _ _ _ Start = Here
+stretch_skipped source offset from _ _ _ (Blank docs span at h room blank) = PastBlank at (stretch_skipped source offset from docs span at h) room blank
+stretch_skipped source offset from _ _ _ (Other docs span at end h comment none) = PastComment at end (stretch_skipped source offset from docs span at h) comment
+stretch_skipped source offset from _ _ _ (Found docs span found text at end h comment is slice first last) = PastComment at end (stretch_skipped source offset from docs span at h) comment

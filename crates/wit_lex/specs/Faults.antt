@@ -91,3 +91,13 @@ IsUnread source from (Fault Nesting start end) = ⊥
 IsUnread source from (Fault Version start end) = ⊥
 IsUnread source from (Fault Number start end) = ⊥
 IsUnread source from Wanting = ⊥
+
+-- behind the blanks and comments from a place on stands a comment that has no end, or memory was wanted
+abbrev pub IsUnended : List ℕ → ℕ → ReadError → Type 0
+IsUnended source from (Fault Comment start end) = IsSkipped source from start × IsEndless source start × (end ≡ start + 2)
+IsUnended source from (Fault Character start end) = ⊥
+IsUnended source from (Fault Token start end) = ⊥
+IsUnended source from (Fault Nesting start end) = ⊥
+IsUnended source from (Fault Version start end) = ⊥
+IsUnended source from (Fault Number start end) = ⊥
+IsUnended source from Wanting = Unit {0}

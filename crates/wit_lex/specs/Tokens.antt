@@ -1,12 +1,49 @@
 -- Tokens of a source.
-use Rattle.std.specs.Prelude.{◌≡◌, ℕ, ◌≤◌, ◌<◌, List, length, slice_index, slice_range}
+use Rattle.std.specs.Prelude.{◌≡◌, ℕ, ◌≤◌, ◌<◌, ◌⊎◌, true, false, List, length, slice_index, slice_range}
 use Rattle.wit_lex.specs.declared.kind.Kind.{Kind}
+use Rattle.wit_lex.specs.declared.kind.Kind.TheVariants as kind
 use Rattle.wit_lex.specs.declared.token.Token.{Token}
 use Rattle.wit_lex.specs.declared.word.Word.{Word}
-use Rattle.wit_lex.specs.Words.{word_text}
+use Rattle.wit_lex.specs.Starts.{is_letter, is_sign}
+use Rattle.wit_lex.specs.Words.{IsPlain, word_text}
 
-abbrev pub IsNoWord : Kind → Type 0
-IsNoWord kind = (word : Word) → kind ≡ Kind.Word word → ⊥
+-- the byte is a token of this kind by itself
+abbrev pub IsSign : ℕ → Kind → Type 0
+IsSign c kind.Equals = c ≡ 61
+IsSign c kind.Comma = c ≡ 44
+IsSign c kind.Colon = c ≡ 58
+IsSign c kind.Semicolon = c ≡ 59
+IsSign c kind.OpenParen = c ≡ 40
+IsSign c kind.CloseParen = c ≡ 41
+IsSign c kind.OpenBrace = c ≡ 123
+IsSign c kind.CloseBrace = c ≡ 125
+IsSign c kind.OpenAngle = c ≡ 60
+IsSign c kind.CloseAngle = c ≡ 62
+IsSign c kind.Dot = c ≡ 46
+IsSign c kind.Slash = c ≡ 47
+IsSign c kind.At = c ≡ 64
+IsSign c kind.Underscore = c ≡ 95
+IsSign c (kind.Word _) = ⊥
+IsSign c kind.Name = ⊥
+IsSign c kind.Number = ⊥
+IsSign c kind.Arrow = ⊥
+IsSign c kind.End = ⊥
+
+-- neither a letter, a sign, `%` nor `-`
+pub record IsOther (c : ℕ) : Type 0 where
+  pub letter : is_letter c ≡ false
+  pub sign : is_sign c ≡ false
+  pub escape : c ≡ 37 → ⊥
+  pub dash : c ≡ 45 → ⊥
+
+-- what a token is that begins with a byte and has a text: behind a letter it is the word that the text is, or a name where it is none;
+-- `%` begins a name, `-` an arrow, a sign is a token by itself, and all else is a number
+abbrev pub IsKindOf : ℕ → List ℕ → Kind → Type 0
+IsKindOf first text (kind.Word word) = (is_letter first ≡ true) × (text ≡ word_text word)
+IsKindOf first text kind.Name = ((is_letter first ≡ true) × IsPlain text) ⊎ (first ≡ 37)
+IsKindOf first text kind.Arrow = first ≡ 45
+IsKindOf first text kind.Number = IsOther first
+IsKindOf first text sign = IsSign first sign
 
 -- a word of the grammar is written as it is told
 abbrev pub IsWritten : Kind → List ℕ → Type 0

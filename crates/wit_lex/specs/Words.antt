@@ -1,5 +1,5 @@
 -- The words of the grammar, as they are written.
-use Rattle.std.specs.Prelude.{ℕ, List, codes}
+use Rattle.std.specs.Prelude.{◌≡◌, ℕ, List, codes}
 use Rattle.wit_lex.specs.declared.word.Word.{Word}
 use Rattle.wit_lex.specs.declared.word.Word.TheVariants as word
 
@@ -46,3 +46,7 @@ word_text word.Package = codes "package"
 word_text word.Constructor = codes "constructor"
 word_text word.Include = codes "include"
 word_text word.With = codes "with"
+
+-- the text is none of these words
+abbrev pub IsPlain : List ℕ → Type 0
+IsPlain text = (word : Word) → text ≡ word_text word → ⊥

@@ -1,7 +1,7 @@
 //! Docs: comments that document what stands behind them.
 ghost use Rattle.std.specs.Prelude.{◌≡◌, ◌+◌, ◌<◌, ◌≤◌, ◌^◌, ◌++◌, ◌∷◌, [], length, IfOk, IfErr, OnOk, MatchBool};
 ghost use Rattle.wit_type_tree.specs.Comments.{IsDocs, IsStop, IsStretch, is_blank as is_blank_byte, stretched as stretched_span};
-ghost use Rattle.wit_lex.specs.Faults.{IsWithin};
+ghost use Rattle.wit_lex.specs.Faults.{IsUnended, IsWithin};
 
 use crate::blank::{Blank, blank_at, is_blank};
 use crate::fault::{ReadError, ReadFault, ReadResult, span_at};
@@ -59,6 +59,7 @@ pub fn docs_behind<'a>(
     ensures stretch { IfOk result (λ found. IsStretch source.now offset from found.0.docs.items found.0.span found.1) }
     ensures stop { IfOk result (λ found. IsStop source.now found.1) }
     ensures refused { IfErr result (IsWithin source.now) }
+    ensures unended { IfErr result (IsUnended source.now from) }
 {
     let bytes = source.as_bytes();
     let len = bytes.len();

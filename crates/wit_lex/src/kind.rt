@@ -1,7 +1,7 @@
 //! Kinds of tokens.
 ghost use Rattle.std.specs.Prelude.{◌≡◌, ◌<◌, false, IfNone, IfSome};
 ghost use Rattle.wit_lex.specs.Starts.{is_sign};
-ghost use Rattle.wit_lex.specs.Tokens.{IsNoWord, IsWritten};
+ghost use Rattle.wit_lex.specs.Tokens.{IsKindOf, IsSign, IsWritten};
 
 use crate::scan::is_letter;
 use crate::word::{Word, word_of};
@@ -39,7 +39,7 @@ pub enum Kind {
 #[inline(always)]
 pub fn sign(c: u8) -> Option<Kind>
     ensures ascii { IfSome result (λ _. c < 128) }
-    ensures no_word { IfSome result IsNoWord }
+    ensures kind { IfSome result (IsSign c) }
     ensures none { IfNone result (is_sign c ≡ false) }
 {
     match c {
@@ -63,7 +63,8 @@ pub fn sign(c: u8) -> Option<Kind>
 
 /// What the token is that begins with a byte and has a text.
 pub fn kind_of(first: u8, text: &str) -> Kind
-    ensures { IsWritten result text.now }
+    ensures kind { IsKindOf first text.now result }
+    ensures written { IsWritten result text.now }
 {
     if is_letter(first) {
         return match word_of(text) {

@@ -1,6 +1,6 @@
 //! Words of the grammar.
-ghost use Rattle.std.specs.Prelude.{◌≡◌, IfSome};
-ghost use Rattle.wit_lex.specs.Words.{word_text};
+ghost use Rattle.std.specs.Prelude.{◌≡◌, ◌<◌, IfNone, IfSome, length, slice_index};
+ghost use Rattle.wit_lex.specs.Words.{IsPlain, word_text};
 
 /// A word that is no name where no `%` stands before it.
 #[derive(Clone, Copy, Debug, PartialEq, Eq)]
@@ -52,14 +52,19 @@ pub enum Word {
 /// The word that is spelled like this, where the text is.
 fn spelled(text: &str, like: &str, word: Word) -> Option<Word>
     requires { like.now ≡ word_text word }
-    ensures { IfSome result (λ word. text.now ≡ word_text word) }
+    ensures word { IfSome result (λ found. found ≡ word) }
+    ensures same { IfSome result (λ found. text.now ≡ like.now) }
+    ensures none { IfNone result (text.now ≡ like.now → ⊥) }
 {
     if text == like { Some(word) } else { None }
 }
 
 /// The word of two letters that a text is, told by its first one first.
 fn word_of_two(text: &str, first: u8) -> Option<Word>
-    ensures { IfSome result (λ word. text.now ≡ word_text word) }
+    requires long { length text.now ≡ 2 }
+    requires first { slice_index text.now 0 ≡ first }
+    ensures word { IfSome result (λ word. text.now ≡ word_text word) }
+    ensures none { IfNone result (IsPlain text.now) }
 {
     match first {
         b'u' => spelled(text, "u8", Word::U8),
@@ -71,7 +76,10 @@ fn word_of_two(text: &str, first: u8) -> Option<Word>
 
 /// The word of three letters that a text is.
 fn word_of_three(text: &str, first: u8) -> Option<Word>
-    ensures { IfSome result (λ word. text.now ≡ word_text word) }
+    requires long { length text.now ≡ 3 }
+    requires first { slice_index text.now 0 ≡ first }
+    ensures word { IfSome result (λ word. text.now ≡ word_text word) }
+    ensures none { IfNone result (IsPlain text.now) }
 {
     match first {
         b'u' => match text {
@@ -100,7 +108,10 @@ fn word_of_three(text: &str, first: u8) -> Option<Word>
 
 /// The word of four letters that a text is.
 fn word_of_four(text: &str, first: u8) -> Option<Word>
-    ensures { IfSome result (λ word. text.now ≡ word_text word) }
+    requires long { length text.now ≡ 4 }
+    requires first { slice_index text.now 0 ≡ first }
+    ensures word { IfSome result (λ word. text.now ≡ word_text word) }
+    ensures none { IfNone result (IsPlain text.now) }
 {
     match first {
         b'l' => spelled(text, "list", Word::List),
@@ -116,7 +127,10 @@ fn word_of_four(text: &str, first: u8) -> Option<Word>
 
 /// The word of five letters that a text is.
 fn word_of_five(text: &str, first: u8) -> Option<Word>
-    ensures { IfSome result (λ word. text.now ≡ word_text word) }
+    requires long { length text.now ≡ 5 }
+    requires first { slice_index text.now 0 ≡ first }
+    ensures word { IfSome result (λ word. text.now ≡ word_text word) }
+    ensures none { IfNone result (IsPlain text.now) }
 {
     match first {
         b'f' => spelled(text, "flags", Word::Flags),
@@ -129,7 +143,10 @@ fn word_of_five(text: &str, first: u8) -> Option<Word>
 
 /// The word of six letters that a text is.
 fn word_of_six(text: &str, first: u8) -> Option<Word>
-    ensures { IfSome result (λ word. text.now ≡ word_text word) }
+    requires long { length text.now ≡ 6 }
+    requires first { slice_index text.now 0 ≡ first }
+    ensures word { IfSome result (λ word. text.now ≡ word_text word) }
+    ensures none { IfNone result (IsPlain text.now) }
 {
     match first {
         b's' => match text {
@@ -154,7 +171,10 @@ fn word_of_six(text: &str, first: u8) -> Option<Word>
 
 /// The word of seven letters that a text is.
 fn word_of_seven(text: &str, first: u8) -> Option<Word>
-    ensures { IfSome result (λ word. text.now ≡ word_text word) }
+    requires long { length text.now ≡ 7 }
+    requires first { slice_index text.now 0 ≡ first }
+    ensures word { IfSome result (λ word. text.now ≡ word_text word) }
+    ensures none { IfNone result (IsPlain text.now) }
 {
     match first {
         b'p' => spelled(text, "package", Word::Package),
@@ -166,7 +186,10 @@ fn word_of_seven(text: &str, first: u8) -> Option<Word>
 
 /// The word of more than seven letters that a text is.
 fn word_of_more(text: &str, first: u8) -> Option<Word>
-    ensures { IfSome result (λ word. text.now ≡ word_text word) }
+    requires long { 7 < length text.now }
+    requires first { slice_index text.now 0 ≡ first }
+    ensures word { IfSome result (λ word. text.now ≡ word_text word) }
+    ensures none { IfNone result (IsPlain text.now) }
 {
     match first {
         b'r' => spelled(text, "resource", Word::Resource),
@@ -179,7 +202,8 @@ fn word_of_more(text: &str, first: u8) -> Option<Word>
 
 /// The word that a text is, told by its length and its first letter first.
 pub fn word_of(text: &str) -> Option<Word>
-    ensures { IfSome result (λ word. text.now ≡ word_text word) }
+    ensures word { IfSome result (λ word. text.now ≡ word_text word) }
+    ensures none { IfNone result (IsPlain text.now) }
 {
     let bytes = text.as_bytes();
     let len = bytes.len();

@@ -1,6 +1,6 @@
-use Rattle.std.proofs.Common.{sym, ◌∙◌, arith}
+use Rattle.std.proofs.Common.{sym, ◌∙◌, arith, refl}
 use Rattle.wit_type_tree.specs.Comments.{Start, Blank, Other}
-use Rattle.wit_lex.proofs.Comments.{docs_more}
+use Rattle.wit_lex.proofs.Comments.{docs_more, stretch_skipped}
 use Rattle.wit_lex.proofs.docs.docs_behind.Goals as goal
 
 pub loop-at-init : goal.loop-at-init
@@ -55,3 +55,6 @@ loop-at-preserved c =
           (rw c.as_bytes-bytes.ensures.value at c.in-Comment.ensures.comment)
           (rw c.as_bytes-bytes.ensures.value at c.if-is_docs.ensures),
     )
+
+pub returns-in-Endless-clause-unended : goal.returns-in-Endless-clause-unended
+returns-in-Endless-clause-unended c = (stretch_skipped _ _ _ _ _ _ c.loop-at.invariant.2, rw c.as_bytes-bytes.ensures.value at c.in-Endless.ensures, refl)
