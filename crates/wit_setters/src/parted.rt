@@ -1,7 +1,7 @@
 //! Items, parted into setters that stand before their getter and others.
 ghost use Rattle.std.specs.Prelude.{◌≡◌, ◌++◌, ◌∷◌, ◌||◌, [], ℕ, List, IfOk, OnOk, Some, string_bytes};
-ghost use Rattle.std.specs.HashMap.{get_by_text};
-ghost use Rattle.std.specs.HashSet.{contains_text};
+ghost use Rattle.std.specs.BTreeMap.{get_by_text};
+ghost use Rattle.std.specs.BTreeSet.{contains_text};
 ghost use Rattle.std.specs.Option.{option_map};
 ghost use Rattle.wit_functions.specs.Setters.{is_same_text};
 ghost use Rattle.wit_setters.specs.Told.{HaveOwnNames, offered as the_offered, wanted as the_wanted};
@@ -9,7 +9,7 @@ ghost use Rattle.wit_setters.specs.Parted.{known, IsParted};
 
 use crate::told::{Told, offered, wanted};
 use std::alloc::{AllocError, Global};
-use std::collections::{HashMap, HashSet};
+use std::collections::{BTreeMap, BTreeSet};
 
 /// Items, parted on the way back through them.
 #[derive(Drop)]
@@ -17,9 +17,9 @@ pub(crate) struct Parted<T> {
     /// Those that wait for no getter, the last one first.
     pub others: Vec<T>,
     /// The names of the getters.
-    pub getters: HashSet<String>,
+    pub getters: BTreeSet<String>,
     /// The setters that stand before their getter, under its name.
-    pub waiting: HashMap<String, T>,
+    pub waiting: BTreeMap<String, T>,
 }
 
 impl<T: Told> Parted<T> {
@@ -76,8 +76,8 @@ pub(crate) fn part<T: Told>(alloc: Global, items: Vec<T>) -> Result<Parted<T>, A
     items.reverse();
     let mut parted = Parted {
         others: Vec::new(alloc),
-        getters: HashSet::new(alloc),
-        waiting: HashMap::new(alloc),
+        getters: BTreeSet::new(alloc),
+        waiting: BTreeMap::new(alloc),
     };
     for item in items {
         parted.add(alloc, item)?;

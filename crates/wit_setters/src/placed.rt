@@ -1,6 +1,6 @@
 //! Items of which some are functions, with their setters put behind their getters.
 ghost use Rattle.std.specs.Prelude.{◌≡◌, ◌++◌, ◌∷◌, ℕ, List, IfOk, OnOk, reverse};
-ghost use Rattle.std.specs.HashMap.{get_by_text};
+ghost use Rattle.std.specs.BTreeMap.{get_by_text};
 ghost use Rattle.std.specs.Option.{option_and_then, option_copied, option_to_list};
 ghost use Rattle.wit_functions.specs.Setters.{setters_placed};
 ghost use Rattle.wit_setters.specs.Told.{HaveOwnNames, goes, offered as the_offered};
@@ -9,11 +9,11 @@ ghost use Rattle.wit_setters.specs.Parted.{served, waiting_for, without};
 use crate::parted::part;
 use crate::told::{Told, offered};
 use std::alloc::{AllocError, Global};
-use std::collections::HashMap;
+use std::collections::BTreeMap;
 use wit_model::Function;
 
 /// Takes out what waits for a function.
-fn take<T: Drop>(waiting: &mut HashMap<String, T>, told: Option<&Function>) -> Option<T>
+fn take<T: Drop>(waiting: &mut BTreeMap<String, T>, told: Option<&Function>) -> Option<T>
     ensures taken { result ≡ option_and_then (get_by_text waiting.old) (the_offered (option_copied told.entry)) }
     ensures left { (name : List ℕ) → get_by_text waiting.new name ≡ without (the_offered (option_copied told.entry)) (get_by_text waiting.old) name }
 {
@@ -37,7 +37,7 @@ fn push_both<T: Drop>(placed: &mut Vec<T>, item: T, next: Option<T>) -> Result<(
 /// Puts an item behind others, and directly behind it the setter that waits for it.
 fn place<T: Told>(
     placed: &mut Vec<T>,
-    waiting: &mut HashMap<String, T>,
+    waiting: &mut BTreeMap<String, T>,
     item: T,
 ) -> Result<(), AllocError>
     ensures placed { OnOk result (placed.new.items ≡ placed.old.items ++ item ∷ option_to_list (waiting_for T.tells (get_by_text waiting.old) item)) }
@@ -52,7 +52,7 @@ fn place<T: Told>(
 fn place_all<T: Told>(
     alloc: Global,
     others: Vec<T>,
-    waiting: HashMap<String, T>,
+    waiting: BTreeMap<String, T>,
 ) -> Result<Vec<T>, AllocError>
     ensures { IfOk result (λ placed. placed.items ≡ served T.tells (get_by_text waiting) (reverse others.items)) }
 {

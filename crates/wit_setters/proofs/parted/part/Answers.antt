@@ -1,6 +1,6 @@
 use Rattle.std.proofs.Common.{rules, ◌≡◌, ◌++◌, ◌∷◌, [], ap, ◌∙◌, sym, subst, reverse}
-use Rattle.std.specs.HashMap.{get_by_text}
-use Rattle.std.specs.HashSet.{contains_text}
+use Rattle.std.specs.BTreeMap.{get_by_text}
+use Rattle.std.specs.BTreeSet.{contains_text}
 use Rattle.std.specs.Vec.Iter.{into_iter_items}
 use Rattle.std.proofs.lemmas.List.{nil_from_length, reverse-append}
 use Rattle.wit_setters.specs.Told.{HaveOwnNames}

@@ -1,6 +1,6 @@
 use Rattle.std.proofs.Common.{◌≡◌, ◌++◌, reverse}
-use Rattle.std.specs.HashMap.{get_by_text}
-use Rattle.std.specs.HashSet.{contains_text}
+use Rattle.std.specs.BTreeMap.{get_by_text}
+use Rattle.std.specs.BTreeSet.{contains_text}
 use Rattle.std.specs.Vec.Iter.{into_iter_items}
 use Rattle.wit_setters.specs.Parted.{IsParted}
 use Rattle.wit_setters.proofs.parted.part.Given as goal

@@ -1,6 +1,6 @@
 use Rattle.std.proofs.Common.{◌∙◌}
-use Rattle.std.specs.HashMap.{get_by_text}
-use Rattle.std.specs.HashSet.{contains_text}
+use Rattle.std.specs.BTreeMap.{get_by_text}
+use Rattle.std.specs.BTreeSet.{contains_text}
 use Rattle.wit_setters.proofs.Serving.{served_placed}
 use Rattle.wit_setters.proofs.placed.behind_getters.Goals as goal
 

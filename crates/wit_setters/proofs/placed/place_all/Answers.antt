@@ -1,5 +1,5 @@
 use Rattle.std.proofs.Common.{rules, ◌≡◌, ◌++◌, [], ap, ◌∙◌, sym}
-use Rattle.std.specs.HashMap.{get_by_text}
+use Rattle.std.specs.BTreeMap.{get_by_text}
 use Rattle.std.specs.Vec.Iter.{into_iter_items}
 use Rattle.std.proofs.lemmas.List.{append-nil, nil_from_length}
 use Rattle.wit_setters.specs.Parted.{served}

@@ -1,5 +1,5 @@
 use Rattle.std.proofs.Common.{◌≡◌, ◌++◌, reverse}
-use Rattle.std.specs.HashMap.{get_by_text}
+use Rattle.std.specs.BTreeMap.{get_by_text}
 use Rattle.std.specs.Vec.Iter.{into_iter_items}
 use Rattle.wit_setters.specs.Parted.{served}
 use Rattle.wit_setters.proofs.placed.place_all.Given as goal
