@@ -1,10 +1,12 @@
 -- Tokens of a source.
-use Rattle.std.specs.Prelude.{◌≡◌, ℕ, ◌≤◌, ◌<◌, ◌⊎◌, true, false, List, length, slice_index, slice_range}
+use Rattle.std.specs.Prelude.{◌≡◌, ℕ, ◌+◌, ◌≤◌, ◌<◌, ◌⊎◌, true, false, List, length, slice_index, slice_range}
+use Rattle.std.specs.Char.{is_ascii_digit}
+use Rattle.wit_type_tree.specs.Comments.{IsPair}
 use Rattle.wit_lex.specs.declared.kind.Kind.{Kind}
 use Rattle.wit_lex.specs.declared.kind.Kind.TheVariants as kind
 use Rattle.wit_lex.specs.declared.token.Token.{Token}
 use Rattle.wit_lex.specs.declared.word.Word.{Word}
-use Rattle.wit_lex.specs.Starts.{is_letter, is_sign}
+use Rattle.wit_lex.specs.Starts.{IsEscaped, IsRun, is_in_word, is_letter, is_sign}
 use Rattle.wit_lex.specs.Words.{IsPlain, word_text}
 
 -- the byte is a token of this kind by itself
@@ -44,6 +46,16 @@ IsKindOf first text kind.Name = ((is_letter first ≡ true) × IsPlain text) ⊎
 IsKindOf first text kind.Arrow = first ≡ 45
 IsKindOf first text kind.Number = IsOther first
 IsKindOf first text sign = IsSign first sign
+
+-- a letter begins a word of the grammar or a name, which goes on as long as letters, digits and `-` do; `%` and such a run are a name too;
+-- digits are a number, as long as they go on; `->` is an arrow, a sign is a token by itself, and at its end is the end of the text
+abbrev pub IsFound : List ℕ → ℕ → ℕ → List ℕ → Kind → Type 0
+IsFound source start end text (kind.Word word) = (is_letter (slice_index source start) ≡ true) × IsRun is_in_word source start end × (text ≡ word_text word)
+IsFound source start end text kind.Name = ((is_letter (slice_index source start) ≡ true) × IsRun is_in_word source start end × IsPlain text) ⊎ IsEscaped source start end
+IsFound source start end text kind.Number = (is_ascii_digit (slice_index source start) ≡ true) × IsRun is_ascii_digit source start end
+IsFound source start end text kind.Arrow = IsPair source start 45 62 × (end ≡ start + 2)
+IsFound source start end text kind.End = (start ≡ length source) × (end ≡ start)
+IsFound source start end text sign = IsSign (slice_index source start) sign × (end ≡ start + 1)
 
 -- a word of the grammar is written as it is told
 abbrev pub IsWritten : Kind → List ℕ → Type 0

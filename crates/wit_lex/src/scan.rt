@@ -2,7 +2,7 @@
 ghost use Rattle.std.specs.Prelude.{◌≡◌, ◌+◌, ◌-◌, ◌<◌, ◌≤◌, true, false, length, slice_index, slice_range};
 ghost use Rattle.std.specs.Char.{is_ascii_digit, is_ascii_lowercase};
 ghost use Rattle.wit_type_tree.specs.Slices.{unescaped};
-ghost use Rattle.wit_lex.specs.Starts.{is_in_word, is_letter as is_letter_byte, width_of};
+ghost use Rattle.wit_lex.specs.Starts.{IsRun, is_in_word, is_letter as is_letter_byte, width_of};
 
 /// A letter.
 pub fn is_letter(c: u8) -> bool
@@ -43,7 +43,7 @@ pub fn word_end(bytes: &[u8], from: usize) -> usize
     requires { from ≤ length bytes.now }
     ensures after { from ≤ result }
     ensures within { result ≤ length bytes.now }
-    ensures stop { result < length bytes.now → is_in_word (slice_index bytes.now result) ≡ false }
+    ensures run { IsRun is_in_word bytes.now from result }
     ensures ascii { from < result → slice_index bytes.now (result - 1) < 128 }
 {
     let len = bytes.len();
@@ -67,7 +67,7 @@ pub fn digits_end(bytes: &[u8], from: usize) -> usize
     requires { from ≤ length bytes.now }
     ensures after { from ≤ result }
     ensures within { result ≤ length bytes.now }
-    ensures stop { result < length bytes.now → is_ascii_digit (slice_index bytes.now result) ≡ false }
+    ensures run { IsRun is_ascii_digit bytes.now from result }
     ensures ascii { from < result → slice_index bytes.now (result - 1) < 128 }
 {
     let len = bytes.len();

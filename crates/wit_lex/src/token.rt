@@ -2,8 +2,8 @@
 ghost use Rattle.std.specs.Prelude.{◌≡◌, ◌<◌, ◌≤◌, ◌-◌, length, slice_index, IfOk, IfErr};
 ghost use Rattle.wit_lex.specs.Blanks.{IsFirst};
 ghost use Rattle.wit_lex.specs.Faults.{IsNoToken, IsUnread, IsWithin};
-ghost use Rattle.wit_lex.specs.Starts.{IsNoStart};
-ghost use Rattle.wit_lex.specs.Tokens.{IsToken};
+ghost use Rattle.wit_lex.specs.Starts.{IsEnd, IsNoStart};
+ghost use Rattle.wit_lex.specs.Tokens.{IsFound, IsToken};
 
 use crate::blank::skip_blanks;
 use crate::fault::{ReadError, ReadFault, ReadResult};
@@ -28,6 +28,7 @@ fn token_end(bytes: &[u8], start: usize) -> usize
     ensures first { start < result → slice_index bytes.now start < 128 }
     ensures last { start < result → slice_index bytes.now (result - 1) < 128 }
     ensures none { result ≡ start → IsNoStart bytes.now start }
+    ensures end { IsEnd bytes.now start result }
 {
     let first = bytes[start];
     if is_letter(first) {
@@ -53,6 +54,7 @@ fn token_end(bytes: &[u8], start: usize) -> usize
 fn token_at<'a>(source: &'a str, start: usize) -> ReadResult<Token<'a>>
     requires within { start < length source.now }
     ensures token { IfOk result (λ t. IsToken source.now t) }
+    ensures found { IfOk result (λ t. IsFound source.now t.start t.end t.text.now t.kind) }
     ensures there { IfOk result (λ t. start ≡ t.start) }
     ensures refused { IfErr result (IsWithin source.now) }
     ensures strange { IfErr result (IsNoToken source.now start) }
@@ -90,6 +92,7 @@ fn token_at<'a>(source: &'a str, start: usize) -> ReadResult<Token<'a>>
 pub fn next_token<'a>(source: &'a str, from: usize) -> ReadResult<Token<'a>>
     requires within { from ≤ length source.now }
     ensures token { IfOk result (λ t. IsToken source.now t) }
+    ensures found { IfOk result (λ t. IsFound source.now t.start t.end t.text.now t.kind) }
     ensures onward { IfOk result (λ t. from ≤ t.start) }
     ensures first { IfOk result (λ t. IsFirst source.now from t.start) }
     ensures refused { IfErr result (IsWithin source.now) }
