@@ -1,3 +1,4 @@
 mod Comments
 pub mod Maps
 mod LineEnds
+mod Versions

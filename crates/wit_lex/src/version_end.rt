@@ -1,5 +1,8 @@
 //! Where versions end.
-ghost use Rattle.std.specs.Prelude.{◌≡◌, ◌+◌, ◌-◌, ◌<◌, ◌≤◌, length, slice_index, IfOk, IfErr};
+ghost use Rattle.std.specs.Prelude.{◌≡◌, ◌+◌, ◌-◌, ◌<◌, ◌≤◌, false, length, slice_index, IfOk, IfErr};
+ghost use Rattle.std.specs.Char.{is_ascii_digit};
+ghost use Rattle.wit_lex.specs.Starts.{IsRun};
+ghost use Rattle.wit_lex.specs.Versions.{IsDotNumber, IsLongest, IsMarked, IsNoDotNumber, IsNoNumbers, IsNumbers, IsVersionEnd};
 
 use crate::scan::{digits_end, is_word_byte};
 
@@ -7,7 +10,9 @@ use crate::scan::{digits_end, is_word_byte};
 fn dot_end(bytes: &[u8], from: usize) -> Result<usize, usize>
     requires { from ≤ length bytes.now }
     ensures found { IfOk result (λ end. (end ≡ from + 1) × (end ≤ length bytes.now)) }
+    ensures dot { IfOk result (λ _. slice_index bytes.now from ≡ 46) }
     ensures none { IfErr result (λ at. at ≡ from) }
+    ensures missing { IfErr result (λ _. from < length bytes.now → slice_index bytes.now from ≡ 46 → ⊥) }
 {
     if from < bytes.len() && bytes[from] == b'.' {
         Ok(from + 1)
@@ -21,10 +26,26 @@ fn number_end(bytes: &[u8], from: usize) -> Result<usize, usize>
     requires { from ≤ length bytes.now }
     ensures after { IfOk result (λ end. (from < end) × (end ≤ length bytes.now)) }
     ensures ascii { IfOk result (λ end. slice_index bytes.now (end - 1) < 128) }
+    ensures run { IfOk result (IsRun is_ascii_digit bytes.now from) }
     ensures none { IfErr result (λ at. at ≡ from) }
+    ensures missing { IfErr result (λ at. at < length bytes.now → is_ascii_digit (slice_index bytes.now at) ≡ false) }
 {
     let end = digits_end(bytes, from);
     if from < end { Ok(end) } else { Err(from) }
+}
+
+/// The end of a `.` and a number; else the place where the `.`, or the number behind it, is wanted
+/// and does not stand.
+fn dot_number_end(bytes: &[u8], from: usize) -> Result<usize, usize>
+    requires { from ≤ length bytes.now }
+    ensures after { IfOk result (λ end. (from < end) × (end ≤ length bytes.now)) }
+    ensures ascii { IfOk result (λ end. slice_index bytes.now (end - 1) < 128) }
+    ensures found { IfOk result (IsDotNumber bytes.now from) }
+    ensures none { IfErr result (λ at. (from ≤ at) × (at ≤ length bytes.now)) }
+    ensures missing { IfErr result (IsNoDotNumber bytes.now from) }
+{
+    let number = dot_end(bytes, from)?;
+    number_end(bytes, number)
 }
 
 /// The end of the longest run of letters, digits, `-`, and those `.` that one of them follows.
@@ -33,6 +54,7 @@ fn run_end(bytes: &[u8], from: usize) -> usize
     ensures after { from ≤ result }
     ensures within { result ≤ length bytes.now }
     ensures ascii { from < result → slice_index bytes.now (result - 1) < 128 }
+    ensures longest { IsLongest bytes.now from result }
 {
     let len = bytes.len();
     let mut at = from;
@@ -57,6 +79,7 @@ fn marked_end(bytes: &[u8], from: usize, mark: u8) -> usize
     ensures after { from ≤ result }
     ensures within { result ≤ length bytes.now }
     ensures ascii { slice_index bytes.now (result - 1) < 128 }
+    ensures marked { IsMarked mark bytes.now from result }
 {
     if from == bytes.len() || bytes[from] != mark {
         return from;
@@ -71,12 +94,12 @@ fn numbers_end(bytes: &[u8], from: usize) -> Result<usize, usize>
     requires { from ≤ length bytes.now }
     ensures after { IfOk result (λ end. (from < end) × (end ≤ length bytes.now)) }
     ensures ascii { IfOk result (λ end. slice_index bytes.now (end - 1) < 128) }
+    ensures found { IfOk result (IsNumbers bytes.now from) }
     ensures none { IfErr result (λ at. (from ≤ at) × (at ≤ length bytes.now)) }
+    ensures missing { IfErr result (IsNoNumbers bytes.now from) }
 {
-    let minor = dot_end(bytes, from)?;
-    let minor_end = number_end(bytes, minor)?;
-    let patch = dot_end(bytes, minor_end)?;
-    number_end(bytes, patch)
+    let minor = dot_number_end(bytes, from)?;
+    dot_number_end(bytes, minor)
 }
 
 /// The end of a version whose first number ends at a place: three numbers joined by `.`, then
@@ -86,7 +109,9 @@ pub fn version_end(bytes: &[u8], from: usize) -> Result<usize, usize>
     requires { from ≤ length bytes.now }
     ensures after { IfOk result (λ end. (from < end) × (end ≤ length bytes.now)) }
     ensures ascii { IfOk result (λ end. slice_index bytes.now (end - 1) < 128) }
+    ensures found { IfOk result (IsVersionEnd bytes.now from) }
     ensures none { IfErr result (λ at. (from ≤ at) × (at ≤ length bytes.now)) }
+    ensures missing { IfErr result (IsNoNumbers bytes.now from) }
 {
     let numbers = numbers_end(bytes, from)?;
     let pre = marked_end(bytes, numbers, b'-');
