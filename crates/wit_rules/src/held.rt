@@ -1,7 +1,7 @@
 //! Functions as they are written, before their types are resolved.
 ghost use Rattle.std.specs.Prelude.{◌≡◌, ◌++◌, map, IfOk, string_bytes};
 ghost use Rattle.std.specs.Option.{option_map};
-ghost use Rattle.wit_syntax.specs.Function.{accessor, resource_function, written_param};
+ghost use Rattle.wit_syntax.specs.Function.{accessor, dotted, resource_function, written_param};
 ghost use Rattle.wit_syntax.specs.Signature.{role_form};
 ghost use Rattle.wit_syntax.specs.Sides.{role_side};
 ghost use Rattle.wit_rules.specs.Held.{function_behind, owner_of, given_of, made_of, across_of};
@@ -36,6 +36,17 @@ fn mark(form: FuncForm) -> &'static str
     }
 }
 
+/// Two texts, one behind the other.
+fn joined(alloc: Global, front: &str, back: &str) -> Result<String, AllocError>
+    ensures { IfOk result (λ text. string_bytes text ≡ front.now ++ back.now) }
+{
+    let room = front.len().saturating_add(back.len());
+    let mut text = String::with_capacity(alloc, room)?;
+    text.push_str(front)?;
+    text.push_str(back)?;
+    Ok(text)
+}
+
 /// The name of a function by itself, with its mark.
 fn free_name(alloc: Global, form: FuncForm, id: Id<'_>) -> Result<String, AllocError>
     ensures { IfOk result (λ name. string_bytes name ≡ accessor form ++ id.entry.name.now) }
@@ -43,11 +54,30 @@ fn free_name(alloc: Global, form: FuncForm, id: Id<'_>) -> Result<String, AllocE
     let name = id.name;
     match form {
         FuncForm::Plain | FuncForm::Async => String::from_str(alloc, name),
-        FuncForm::Getter | FuncForm::Setter => {
-            let mark = mark(form);
-            format!(in alloc; "{mark}{name}")
-        }
+        FuncForm::Getter | FuncForm::Setter => joined(alloc, mark(form), name),
     }
+}
+
+/// The name of a member of a resource, behind a word for what it is and its mark.
+fn member_name(
+    alloc: Global,
+    word: &str,
+    mark: &str,
+    of: Id<'_>,
+    name: Id<'_>,
+) -> Result<String, AllocError>
+    ensures { IfOk result (λ text. string_bytes text ≡ word.now ++ mark.now ++ dotted of.entry name.entry) }
+{
+    let front = word.len().saturating_add(mark.len());
+    let dotted = of.name.len().saturating_add(name.name.len());
+    let room = front.saturating_add(dotted).saturating_add(1);
+    let mut text = String::with_capacity(alloc, room)?;
+    text.push_str(word)?;
+    text.push_str(mark)?;
+    text.push_str(of.name)?;
+    text.push_str(".")?;
+    text.push_str(name.name)?;
+    Ok(text)
 }
 
 /// The name of a function of a resource, with the marks of what it is.
@@ -58,19 +88,14 @@ fn resource_name(
 ) -> Result<String, AllocError>
     ensures { IfOk result (λ name. string_bytes name ≡ (resource_function resource.entry function.now).name) }
 {
-    let of = resource.name;
     match function {
         ResourceFunc::Method(f) => {
-            let mark = mark(f.func.form);
-            let name = f.name.name;
-            format!(in alloc; "[method]{mark}{of}.{name}")
+            member_name(alloc, "[method]", mark(f.func.form), resource, f.name)
         }
         ResourceFunc::Static(f) => {
-            let mark = mark(f.func.form);
-            let name = f.name.name;
-            format!(in alloc; "[static]{mark}{of}.{name}")
+            member_name(alloc, "[static]", mark(f.func.form), resource, f.name)
         }
-        ResourceFunc::Constructor { .. } => format!(in alloc; "[constructor]{of}"),
+        ResourceFunc::Constructor { .. } => joined(alloc, "[constructor]", resource.name),
     }
 }
 
