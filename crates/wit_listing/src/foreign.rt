@@ -4,6 +4,7 @@ ghost use Rattle.std.specs.List.{flat_map};
 ghost use Rattle.wit_listing.specs.Words.{Adds};
 ghost use Rattle.wit_listing.specs.Foreign.{dep_lines, item_line, item_place};
 
+use crate::words::push_numbered;
 use std::alloc::AllocError;
 use wit_model::AstItem;
 use wit_package_names::PackageName;
@@ -15,8 +16,8 @@ fn push_place(text: &mut String, item: AstItem) -> Result<(), AllocError>
     ensures { OnOk result (Adds text.old text.new (item_place item)) }
 {
     match item {
-        AstItem::Interface(id) => write!(text, "i{}", id.index()),
-        AstItem::World(id) => write!(text, "w{}", id.index()),
+        AstItem::Interface(id) => push_numbered(text, "i", id.index()),
+        AstItem::World(id) => push_numbered(text, "w", id.index()),
     }
 }
 
@@ -34,8 +35,8 @@ fn push_item(
     text.push_str(name)?;
     text.push_str(" ")?;
     push_place(text, *item)?;
-    let count = visits.len();
-    write!(text, " {count}\n")
+    push_numbered(text, " ", visits.len())?;
+    text.push_str("\n")
 }
 
 /// The lines of the items of a package.

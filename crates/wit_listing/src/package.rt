@@ -6,6 +6,7 @@ ghost use Rattle.wit_listing.specs.Package.{count_line, foreign_text, header_tex
 use crate::foreign::push_deps;
 use crate::interfaces::push_interfaces;
 use crate::types::push_type_lines;
+use crate::words::push_numbered;
 use crate::worlds::push_worlds;
 use std::alloc::AllocError;
 use wit_model::{AstItem, Interface, UnresolvedPackage, World};
@@ -17,7 +18,9 @@ use wit_values::{Row, Table, TextTable};
 fn push_count(text: &mut String, word: &str, count: usize) -> Result<(), AllocError>
     ensures { OnOk result (Adds text.old text.new (count_line word.now count)) }
 {
-    write!(text, "{word} {count}\n")
+    text.push_str(word)?;
+    push_numbered(text, " ", count)?;
+    text.push_str("\n")
 }
 
 /// The types behind their number.

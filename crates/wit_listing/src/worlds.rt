@@ -18,7 +18,7 @@ fn push_key(text: &mut String, key: &WorldKey) -> Result<(), AllocError>
 {
     match key {
         WorldKey::Name(name) => text.push_str(name.as_str()),
-        WorldKey::Interface(id) => write!(text, "interface-{}", id.index()),
+        WorldKey::Interface(id) => push_numbered(text, "interface-", id.index()),
     }
 }
 
@@ -60,7 +60,7 @@ fn push_extern(
 {
     match item {
         WorldItem::Interface { id, stability, .. } => {
-            write!(text, "interface i{}", id.index())?;
+            push_numbered(text, "interface i", id.index())?;
             if is_inline(interfaces, key, *id) {
                 return Ok(());
             }
@@ -134,7 +134,7 @@ fn push_renames(text: &mut String, renames: &[IncludeName]) -> Result<(), AllocE
 fn push_included(text: &mut String, world: WorldId) -> Result<(), AllocError>
     ensures { OnOk result (Adds text.old text.new (included_text world)) }
 {
-    write!(text, "  include w{}", world.index())
+    push_numbered(text, "  include w", world.index())
 }
 
 /// The line of an included world.
