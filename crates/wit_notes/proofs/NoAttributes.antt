@@ -22,5 +22,8 @@ unbroken_notes f h = elim h [
   | inr twice ↦ none_at twice.first twice.earlier twice.at_first.at
 ]
 
+pub none_unstable : (xs : List Attribute) → length xs ≡ 0 → (f : Fault) → IsBrokenStability xs f → ⊥
+none_unstable xs none f h = unbroken f (subst (λ (l : List Attribute). IsBrokenStability l f) (nil_from_length xs none) h)
+
 pub none_broken : (xs : List Attribute) → length xs ≡ 0 → (f : Fault) → IsBrokenNotes xs f → ⊥
 none_broken xs none f h = unbroken_notes f (subst (λ (l : List Attribute). IsBrokenNotes l f) (nil_from_length xs none) h)

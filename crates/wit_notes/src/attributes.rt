@@ -126,6 +126,9 @@ fn check_together(alloc: Global, attributes: &[Attribute<'_>]) -> ParseResult<()
 pub fn told_stability(alloc: Global, attributes: &[Attribute<'_>]) -> Result<Stability, AllocError>
     ensures { IfOk result (λ stability. stability ≡ stability_of attributes.now) }
 {
+    if attributes.len() == 0 {
+        return Ok(Stability::Unknown);
+    }
     let deprecated = release_of(told_version(attributes, AttributeKind::Deprecated))?;
     if let Some(version) = told_version(attributes, AttributeKind::Since) {
         let since = Release::from(version.clone()?);
@@ -147,6 +150,9 @@ pub fn check_stability(alloc: Global, attributes: &[Attribute<'_>]) -> ParseResu
     ensures legal { OnOk result ((f : Fault) → IsBrokenStability attributes.now f → ⊥) }
     ensures refused { IfErr result (Refused (IsBrokenStability attributes.now)) }
 {
+    if attributes.len() == 0 {
+        return Ok(());
+    }
     check_each_once(alloc, attributes)?;
     check_together(alloc, attributes)?;
     Ok(())
