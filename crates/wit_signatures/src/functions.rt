@@ -142,7 +142,13 @@ fn self_param(
     })
 }
 
-/// The parameters that a function is given before its written ones.
+/// How many parameters a function has, with those that it is given.
+fn param_count(function: HeldFunction<'_, '_>) -> usize {
+    let given = if function.given().is_some() { 1 } else { 0 };
+    function.params().len().saturating_add(given)
+}
+
+/// The parameters that a function is given before its written ones, with room for these.
 fn given_params(
     alloc: Global,
     names: &TextTable<TypeId>,
@@ -154,7 +160,7 @@ fn given_params(
     ensures grown { IsGrown types.old types.new }
     ensures refused { IfErr result IsWantOfMemory }
 {
-    let mut params = Vec::new(alloc);
+    let mut params = Vec::with_capacity(alloc, param_count(function))?;
     if let Some(resource) = function.given() {
         params.push(self_param(alloc, types, names, resource, function.word())?)?;
     }
