@@ -92,11 +92,16 @@ pub fn define_extern(
     ensures free { OnOk result (IsTaken (taken_on side taken.old) name.now → ⊥) }
     ensures refused { IfErr result (Refused (λ f. IsCrossed (taken_on side taken.old) name.now span f ⊎ IsDefinedAgain (taken_on side taken.old) name.now span f)) }
 {
-    if taken.has(side, name)? {
-        let what = sort_of(before, types, side, name);
-        return Err(refuse_in(44, span, conflict(alloc, side, name, what)));
+    match taken.define(side, name, span) {
+        Ok(()) => Ok(()),
+        Err(refusal) => {
+            if !taken.has(side, name)? {
+                return Err(refusal);
+            }
+            let what = sort_of(before, types, side, name);
+            Err(refuse_in(44, span, conflict(alloc, side, name, what)))
+        }
     }
-    taken.define(side, name, span)
 }
 
 /// Defines the name of a function on its side; `before` is what stands in front of it, `types` the
