@@ -1,13 +1,14 @@
 -- Rules of functions: their parameters by name, and what setters and constructors give.
-use Rattle.std.proofs.Common.{◌≡◌, ℕ, List, ◌++◌, inl, inr, sym, ap, ◌∙◌}
+use Rattle.std.proofs.Common.{◌≡◌, ℕ, ◌<◌, List, ◌++◌, length, arith, inl, inr, sym, ap, ◌∙◌}
 use Rattle.std.specs.Prelude.{map, Result, Ok, Err, OnOk}
 use Rattle.std.proofs.lemmas.List.{map-append}
+use Rattle.std.proofs.lemmas.Option.{slice_get_within}
 use denote.Ref.{Bor}
 use Rattle.wit_type_tree.specs.declared.leaves.Id.{Id}
 use Rattle.wit_type_tree.specs.declared.types.FuncForm.TheVariants as form
 use Rattle.wit_type_tree.specs.declared.types.Param.{Param}
 use Rattle.wit_type_tree.specs.declared.types.«Type».{«Type» as Written}
-use Rattle.wit_syntax.specs.Bodies.{folded}
+use Rattle.wit_syntax.specs.Bodies.{folded, IsRepeated}
 use Rattle.wit_syntax.specs.Fault.{Fault}
 use Rattle.wit_syntax.specs.Function.{Role, Constructor, SourceFunction, SourceParam, written_param}
 use Rattle.wit_syntax.specs.Repeats.{IsRepeatAt}
@@ -32,6 +33,13 @@ repeated_at key xs first second r =
     let earlier = map_at key xs first r.x r.at_first in
     let later = map_at key xs second r.x r.at_second in
     record { first = first; earlier = earlier.0; later = later.0; before = r.before; at_first = earlier.1; at = later.1; same = earlier.2 ∙ sym later.2 }
+
+-- a key that stands at two places wants two of them
+pub too_few : {X : Type 0} (key : X → List ℕ) (xs : List X) (later : X) → length xs < 2 → IsRepeated key xs later → ⊥
+too_few key xs later few r =
+    let second : r.second < length xs = slice_get_within xs r.second later r.at_second in
+    let before = r.before in
+    omega arith
 
 -- no constructor is a setter
 pub no_setter : {A : Type 0} (role : Role) (constructs : (of : Id) × (role ≡ Constructor of)) → role_form role ≡ form.Setter → A

@@ -82,7 +82,7 @@ fn param_names<'t, 'a>(
     ensures { IfOk result (λ names. map (λ t. t.now) names.items ≡ map (λ p. p.name) (all_params (function_behind function.entry))) }
 {
     let params = function.params();
-    let mut names = Vec::with_capacity(alloc, params.len() + 1)?;
+    let mut names = Vec::with_capacity(alloc, function.param_count())?;
     if function.given().is_some() {
         names.push("self")?;
     }
@@ -100,6 +100,9 @@ pub fn repeated_param(
     ensures some { IfOk result (λ found. IfSome found (λ place. IsRepeatedAt param_key (all_params (function_behind function.entry)) place)) }
     ensures none { IfOk result (λ found. IfNone found ((f : Fault) → IsDuplicateParam (function_behind function.entry) f → ⊥)) }
 {
+    if function.param_count() < 2 {
+        return Ok(None);
+    }
     let names = param_names(alloc, function)?;
     match first_folded_repeat(alloc, &names)? {
         Some((_, second)) => Ok(Some(second)),

@@ -1,7 +1,7 @@
 //! Functions as they are written, before their types are resolved.
-ghost use Rattle.std.specs.Prelude.{◌≡◌, ◌++◌, map, IfOk, string_bytes};
+ghost use Rattle.std.specs.Prelude.{◌≡◌, ◌++◌, length, map, IfOk, string_bytes};
 ghost use Rattle.std.specs.Option.{option_map};
-ghost use Rattle.wit_syntax.specs.Function.{accessor, dotted, resource_function, written_param};
+ghost use Rattle.wit_syntax.specs.Function.{accessor, all_params, dotted, resource_function, written_param};
 ghost use Rattle.wit_syntax.specs.Signature.{role_form};
 ghost use Rattle.wit_syntax.specs.Sides.{role_side};
 ghost use Rattle.wit_rules.specs.Held.{function_behind, owner_of, given_of, made_of, across_of};
@@ -215,6 +215,19 @@ impl<'t, 'a> HeldFunction<'t, 'a> {
                 .func
                 .params,
             HeldFunction::Of(_, ResourceFunc::Constructor { params, .. }) => params,
+        }
+    }
+
+    /// How many parameters it has, with those that it is given.
+    pub fn param_count(self) -> usize
+        ensures { result ≡ length (all_params (function_behind self.entry)) }
+    {
+        let written = self.params().len();
+        match self {
+            HeldFunction::Free(_) | HeldFunction::Across(_, _, _, _, _) => written,
+            HeldFunction::Of(_, ResourceFunc::Method(_)) => written + 1,
+            HeldFunction::Of(_, ResourceFunc::Static(_)) => written,
+            HeldFunction::Of(_, ResourceFunc::Constructor { .. }) => written,
         }
     }
 

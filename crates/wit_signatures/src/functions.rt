@@ -142,12 +142,6 @@ fn self_param(
     })
 }
 
-/// How many parameters a function has, with those that it is given.
-fn param_count(function: HeldFunction<'_, '_>) -> usize {
-    let given = if function.given().is_some() { 1 } else { 0 };
-    function.params().len().saturating_add(given)
-}
-
 /// The parameters that a function is given before its written ones, with room for these.
 fn given_params(
     alloc: Global,
@@ -160,7 +154,7 @@ fn given_params(
     ensures grown { IsGrown types.old types.new }
     ensures refused { IfErr result IsWantOfMemory }
 {
-    let mut params = Vec::with_capacity(alloc, param_count(function))?;
+    let mut params = Vec::with_capacity(alloc, function.param_count())?;
     if let Some(resource) = function.given() {
         params.push(self_param(alloc, types, names, resource, function.word())?)?;
     }
