@@ -155,6 +155,17 @@ fn held_extern<'f, 'a>(
     }
 }
 
+/// How much of a world is imported or exported.
+fn extern_count(world: &World<'_>) -> usize {
+    let mut count: usize = 0;
+    for part in world_items(world) {
+        if let WorldItem::Extern(_) = part {
+            count = count.saturating_add(1);
+        }
+    }
+    count
+}
+
 /// What stands on the sides of a world in the file at a place. `entries` are those of other packages'
 /// items.
 fn world_externs<'f, 'a>(
@@ -171,7 +182,7 @@ fn world_externs<'f, 'a>(
     ensures behind { IfOk result (λ externs. externs_behind externs.items ≡ flat_map part_items (map world_part world.now.items.items)) }
     ensures led { IfOk result (λ externs. AreLed files.now (front_of interfaces.now.foreign.now) interfaces.now.by_name (top_at files.now place) externs.items) }
 {
-    let mut externs = Vec::new(alloc);
+    let mut externs = Vec::with_capacity(alloc, extern_count(world))?;
     for part in world_items(world) {
         match part {
             WorldItem::TypeDef(definition) => add_definition(&mut externs, definition)?,

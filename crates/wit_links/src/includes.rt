@@ -28,7 +28,7 @@ use wit_top_names::declaration::world_items;
 use wit_tree::ParseResult;
 use wit_tree::tree::{self, UsePath};
 use wit_types::{Arena, WorldId, WorldPlace};
-use wit_values::{Row, Text, TextTable, fitted};
+use wit_values::{Row, Text, TextTable};
 
 /// The worlds that are resolved, and the places of the declared ones by their names.
 #[derive(Drop)]
@@ -125,6 +125,17 @@ fn resolve_include<'f, 'a>(
     })
 }
 
+/// How many includes a world has.
+fn include_count(world: &tree::World<'_>) -> usize {
+    let mut count: usize = 0;
+    for part in world_items(world) {
+        if let tree::WorldItem::Include(_) = part {
+            count = count.saturating_add(1);
+        }
+    }
+    count
+}
+
 /// The includes of a world.
 fn resolve_includes<'f, 'a>(
     alloc: Global,
@@ -141,14 +152,14 @@ fn resolve_includes<'f, 'a>(
     ensures stable { OnOk result (AreStable (flat_map part_includes (map world_part world.now.items.items))) }
     ensures refused { IfErr result (Refused (λ f. IsBrokenItemStability (record { top = top_at files.now place; declared = TheWorld world.now }) f ⊎ IsLostInclude files.now worlds.now.by_name (record { top = top_at files.now place; declared = TheWorld world.now }) f)) }
 {
-    let mut includes = Vec::new(alloc);
+    let mut includes = Vec::with_capacity(alloc, include_count(world))?;
     for part in world_items(world) {
         if let tree::WorldItem::Include(include) = part {
             let include = resolve_include(alloc, files, place, worlds, include)?;
             includes.push(include)?;
         }
     }
-    Ok(Row::from(fitted(includes)))
+    Ok(Row::from(includes))
 }
 
 /// The includes of a declared world.

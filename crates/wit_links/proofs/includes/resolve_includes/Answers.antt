@@ -25,7 +25,7 @@ part_at items xs k x y all lt is same = ap (λ (l : List WorldItem). slice_get l
 
 pub loop-part-init : goal.loop-part-init
 loop-part-init c = record {
-  are = rw c.new-includes.ensures.items (included_none (worlds_at (others_of c.args.files.now) c.args.worlds.now.arena) (top_at c.args.files.now c.args.place));
+  are = rw c.in_ok-includes.ensures.items (included_none (worlds_at (others_of c.args.files.now) c.args.worlds.now.arena) (top_at c.args.files.now c.args.place));
   stable = stable_none;
 }
 
@@ -42,7 +42,7 @@ pub returns-in_err-include-clause-refused : goal.returns-in_err-include-clause-r
 returns-in_err-include-clause-refused c =
     let files = c.args.files.now in
     let top = top_at files c.args.place in
-    let p = err_from_is_err_and c.from_residual.result c.from_residual.ensures.1 in
+    let p = err_from_is_err_and c.from_residual-in_err-include.result c.from_residual-in_err-include.ensures.1 in
     let by_name = c.args.worlds.now.by_name in
     let w = c.args.world.now in
     let k = c.loop-part.part-index in
@@ -84,7 +84,7 @@ returns-clause-are c =
     let xs = c.world_items-part-items.result.now in
     let k = c.loop-part.part-index in
     let all : take k w.items.items ≡ w.items.items = ap (take k) (sym c.world_items-part-items.ensures) ∙ take_all k xs (omega arith) ∙ c.world_items-part-items.ensures in
-    rw (c.from.ensures, c.fitted.ensures) (includes_are worlds top w c.loop-part.includes.items (subst (λ (l : List WorldItem). AreIncluded worlds top (included l) c.loop-part.includes.items) all c.loop-part.invariant.are))
+    rw c.from.ensures (includes_are worlds top w c.loop-part.includes.items (subst (λ (l : List WorldItem). AreIncluded worlds top (included l) c.loop-part.includes.items) all c.loop-part.invariant.are))
 
 pub returns-clause-stable : goal.returns-clause-stable
 returns-clause-stable c =
