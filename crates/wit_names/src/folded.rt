@@ -1,12 +1,12 @@
 //! Folded names.
-ghost use Rattle.std.specs.Prelude.{◌≡◌, IfOk, IsTrue, Some, nat_eq, refl};
+ghost use Rattle.std.specs.Prelude.{◌≡◌, IfOk, IfSome, IsTrue, Some, nat_eq, refl, string_bytes};
 ghost use Rattle.std.proofs.Common.{rules};
 ghost use Rattle.std.specs.Cmp.{partial_equiv_from_equiv, partial_order_from_own_ties};
 ghost use Rattle.std.specs.Cmp.Lexicographic.{nat_list_cmp_total, nat_list_eq_equiv, pointwise, slice_cmp};
 ghost use Rattle.std.specs.Cmp.Rules.{comparing, hashing};
 ghost use Rattle.std.specs.Ordering.{as_partial_cmp, nat_cmp};
 ghost use Rattle.std.specs.Hash as fed;
-ghost use Rattle.wit_names.specs.Folded.{folded_key, single, single_if_bare, without_kind};
+ghost use Rattle.wit_names.specs.Folded.{folded_key, lower_case, single, single_if_bare, without_kind};
 ghost use Rattle.wit_names.specs.Mangled.{is_mangled};
 
 use crate::front::behind;
@@ -24,6 +24,16 @@ fn without_kind(name: &str) -> &str
             Some(rest) => rest,
             None => name,
         },
+    }
+}
+
+/// What stands behind `[method]` or `[static]`, where a name has one of them in front.
+fn behind_kind(name: &str) -> Option<&str>
+    ensures { IfSome result (λ rest. without_kind (lower_case name.now) ≡ lower_case rest.now) }
+{
+    match behind(name, "[method]") {
+        Some(rest) => Some(rest),
+        None => behind(name, "[static]"),
     }
 }
 
@@ -70,6 +80,19 @@ impl Model for Folded {
     ghost view = { λ f. string_bytes f.key };
 }
 
+/// The folded name of a name in lower case that has neither `[method]` nor `[static]` in front.
+fn bare(alloc: Global, lower: String) -> Result<Folded, AllocError>
+    ensures { IfOk result (λ f. f ≡ single_if_bare (string_bytes lower)) }
+{
+    let key = single_if_bare(lower.as_str());
+    if key == lower.as_str() {
+        return Ok(Folded { key: lower });
+    }
+    Ok(Folded {
+        key: String::from_str(alloc, key)?,
+    })
+}
+
 impl Folded {
     /// The folded name of a mangled name.
     ///
@@ -78,6 +101,9 @@ impl Folded {
         requires { IsTrue (is_mangled name.now) }
         ensures { IfOk result (λ f. f ≡ folded_key name.now) }
     {
+        if let Some(rest) = behind_kind(name) {
+            return bare(alloc, rest.to_ascii_lowercase(alloc)?);
+        }
         let lower = name.to_ascii_lowercase(alloc)?;
         let key = single_if_bare(without_kind(lower.as_str()));
         if key == lower.as_str() {
