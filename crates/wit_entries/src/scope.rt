@@ -47,7 +47,7 @@ impl Scope {
     {
         let text = Text::from_str(alloc, name)?;
         let id = types.add_named(self.owner, text, kind, notes, span)?;
-        self.names.insert(String::from_str(alloc, name)?, id)?;
+        self.names.put(String::from_str(alloc, name)?, id)?;
         Ok(())
     }
 }

@@ -86,7 +86,7 @@ fn add_type(
 ) -> Result<(), AllocError>
     ensures { OnOk result (interface.new ≡ with_types interface.old (insert_entry (pointwise nat_eq) interface.old.types name.now ty)) }
 {
-    interface.types.insert(String::from_str(alloc, name)?, ty)?;
+    interface.types.put(String::from_str(alloc, name)?, ty)?;
     Ok(())
 }
 

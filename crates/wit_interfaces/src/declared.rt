@@ -47,7 +47,7 @@ fn add_interface(
 {
     let place = interfaces.arena.alloc(interface)?;
     let name = String::from_str(alloc, name)?;
-    interfaces.by_name.insert(name, place)?;
+    interfaces.by_name.put(name, place)?;
     Ok(())
 }
 

@@ -95,7 +95,7 @@ pub fn written_results<'t, 'a>(
         if let ScopeName::Defined(defined) = name {
             let definition = defined.definition;
             if let Some(ty) = written_result(definition) {
-                results.insert(String::from_str(alloc, definition.name.name)?, ty)?;
+                results.put(String::from_str(alloc, definition.name.name)?, ty)?;
             }
         }
     }

@@ -162,7 +162,7 @@ impl NameScope {
             return Err(refuse_in(17, span, words));
         }
         let name = other_spelling(self.alloc, &key, name)?;
-        self.names.insert(key, DefinedName { name, span })?;
+        self.names.put(key, DefinedName { name, span })?;
         Ok(())
     }
 

@@ -47,7 +47,7 @@ fn add(
     ensures { OnOk result (table.new ≡ insert_entry key_test.it table.old entry.0 entry.1) }
 {
     let (key, item) = entry;
-    table.insert(key, item)?;
+    table.put(key, item)?;
     Ok(())
 }
 

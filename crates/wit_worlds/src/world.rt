@@ -102,7 +102,7 @@ fn add_world(
     let place = worlds.arena.alloc(world)?;
     worlds
         .by_name
-        .insert(String::from_str(alloc, id.name)?, place)?;
+        .put(String::from_str(alloc, id.name)?, place)?;
     add_required(required, &parts.required)?;
     Ok(())
 }

@@ -11,4 +11,4 @@ returns-clause-index c =
     let is = c.args.interfaces.now in
     let front = front_of is.foreign.now in
     let enough : length front ≤ length is.arena = omega (arith, length-map is.foreign.now (λ v. visited (foreign_behind v)), c.requires.front) in
-    rw (c.in_ok-place.ensures.ok, c.in_ok-insert.ensures.ok, c.in_ok-name.ensures.ok, c.in_ok-place.ensures.id) (index_interface front is.arena is.by_name c.args.interface c.args.name.now enough c.requires.index c.requires.named)
+    rw (c.in_ok-place.ensures.ok, c.in_ok-put.ensures.ok, c.in_ok-name.ensures.ok, c.in_ok-place.ensures.id) (index_interface front is.arena is.by_name c.args.interface c.args.name.now enough c.requires.index c.requires.named)

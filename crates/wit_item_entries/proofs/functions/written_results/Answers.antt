@@ -9,7 +9,7 @@ use Rattle.wit_syntax.specs.Signature.{body_ok, meant_ok}
 use Rattle.wit_rules.specs.Signatures.{told_ok}
 use Rattle.wit_scopes.specs.Held.{name_behind}
 use Rattle.wit_item_entries.proofs.Results.{unmeant_before, results_same, results_more}
-use Rattle.wit_item_entries.proofs.functions.written_results.Goals.{in-Defined+in-Some+in_ok-from_str+in_ok-insert, in-Defined+in_default-written_result, in_default}
+use Rattle.wit_item_entries.proofs.functions.written_results.Goals.{in-Defined+in-Some+in_ok-from_str+in_ok-put, in-Defined+in_default-written_result, in_default}
 use Rattle.wit_item_entries.proofs.functions.written_results.Goals as goal
 
 pub loop-name-preserved : goal.loop-name-preserved
@@ -23,7 +23,7 @@ loop-name-preserved c =
     let was = c.loop-name.invariant in
     let all = map name_behind names in
     elim c.match-name.branch [
-      | in-Defined+in-Some+in_ok-from_str+in_ok-insert w ↦ (
+      | in-Defined+in-Some+in_ok-from_str+in_ok-put w ↦ (
           let d = w.in-Defined.defined.definition.now in
           let t = w.in-Some.ty in
           let own : name_behind x ≡ Defined d = ap name_behind w.in-Defined.is in
@@ -31,7 +31,7 @@ loop-name-preserved c =
           let there : slice_get all i ≡ Some (Defined d) = slice_get-map name_behind names i ∙ ap (option_map name_behind) at ∙ ap Some own in
           let free : meaning front (local_name (Defined d)) ≡ None = ap (λ l. meaning l (local_name (Defined d))) (sym (take-map name_behind i names)) ∙ unmeant_before all i (Defined d) c.requires there in
           let next = results_more c.loop-name.results front d t gives free was in
-          rw (w.results-is, w.in_ok-insert.ensures.ok, w.in_ok-from_str.ensures.ok, more, own) next)
+          rw (w.results-is, w.in_ok-put.ensures.ok, w.in_ok-from_str.ensures.ok, more, own) next)
       | in-Defined+in_default-written_result w ↦ (
           let own = ap name_behind w.in-Defined.is in
           let none : meant_ok (Some (Defined w.in-Defined.defined.definition.now)) ≡ None = sym (ap told_ok (sym w.in_default-written_result.is) ∙ w.written_result.ensures) in

@@ -29,4 +29,4 @@ returns-clause-added c =
 pub returns-clause-index : goal.returns-clause-index
 returns-clause-index c = λ others enough index.
     let name = rw c.in_ok-parts.ensures.both.1 at c.from_str-name.ensures in
-    rw (c.in_ok-place.ensures.ok, c.in_ok-insert.ensures.ok, c.in_ok-from_str.ensures.ok, c.in_ok-place.ensures.id) (index_world others c.args.worlds.now.arena c.args.worlds.now.by_name _ c.args.id.name.now enough index name)
+    rw (c.in_ok-place.ensures.ok, c.in_ok-put.ensures.ok, c.in_ok-from_str.ensures.ok, c.in_ok-place.ensures.id) (index_world others c.args.worlds.now.arena c.args.worlds.now.by_name _ c.args.id.name.now enough index name)

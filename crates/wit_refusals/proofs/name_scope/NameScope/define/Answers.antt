@@ -29,7 +29,7 @@ invariant_of-self-2 c =
     let d : DefinedName = record { name = c.in_ok-name.name; span = c.args.span } in
     let named : spelled key d ≡ c.args.name.now = c.in_ok-name.ensures in
     let grown = keyed-more es key d c.self.invariant none (c.in_ok-key.ensures ∙ ap folded_key (sym named)) in
-    subst IsKeyed (sym (insert_entry-last es key d none) ∙ sym c.in_ok-insert.ensures.ok) grown
+    subst IsKeyed (sym (insert_entry-last es key d none) ∙ sym c.in_ok-put.ensures.ok) grown
 
 pub returns-clause-defined : goal.returns-clause-defined
 returns-clause-defined c =
@@ -38,7 +38,7 @@ returns-clause-defined c =
     let none : lookup (pointwise nat_eq key) es ≡ None = sym c.get.ensures ∙ not_some c.get.result c.in_default.not-Some in
     let d : DefinedName = record { name = c.in_ok-name.name; span = c.args.span } in
     let named : spelled key d ≡ c.args.name.now = c.in_ok-name.ensures in
-    ap names_of (c.in_ok-insert.ensures.ok ∙ insert_entry-last es key d none) ∙ map-append name_of es ((key, d) ∷ []) ∙ ap (λ (ns : List Name). ns ++ (spelled key d, d.span) ∷ []) c.self.view_is ∙ ap (λ n. c.args.self.now ++ (n, c.args.span) ∷ []) named
+    ap names_of (c.in_ok-put.ensures.ok ∙ insert_entry-last es key d none) ∙ map-append name_of es ((key, d) ∷ []) ∙ ap (λ (ns : List Name). ns ++ (spelled key d, d.span) ∷ []) c.self.view_is ∙ ap (λ n. c.args.self.now ++ (n, c.args.span) ∷ []) named
 
 pub returns-clause-free : goal.returns-clause-free
 returns-clause-free c = λ taken.
