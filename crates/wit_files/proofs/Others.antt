@@ -2,6 +2,7 @@
 use Rattle.std.proofs.Common.{◌≡◌, ℕ, zero, suc, ◌||◌, ◌&&◌, Bool, true, false, not, cond, length, List, [], ◌∷◌, ◌++◌, ◌+◌, map, Option, Some, None, inl, inr, refl, sym, ap, ◌∙◌}
 use Rattle.std.specs.Prelude.{slice_get, position, nat_lt}
 use Rattle.std.specs.List.{flat_map, list_any, prefix_len}
+use Rattle.std.specs.Map.{keys_of}
 use Rattle.std.specs.Option.{option_map, option_eq}
 use Rattle.std.specs.Str.{bytes_eq}
 use Rattle.std.proofs.lemmas.Bool.{cases_Bool, cond-true, cond-false, both_ways}
@@ -213,35 +214,35 @@ key_same a b =
     let name = bytes_eq a.name.now b.name.now in
     ap (λ version. namespace && (of && (version && name))) (version_same a.version b.version) ∙ and_last namespace of (same_version (option_map key_release a.version) (option_map key_release b.version)) name
 
-key_known : (vs : List ForeignVisit) (held : ForeignItems) (v : ForeignVisit) (k : ForeignKey) → AreItemsOf vs held → key_address k ≡ visited v → list_any (key_test.it k) held.keys.keys ≡ list_any (same_address (visited v)) (map visited (firsts same_item vs))
+key_known : (vs : List ForeignVisit) (held : ForeignItems) (v : ForeignVisit) (k : ForeignKey) → AreItemsOf vs held → key_address k ≡ visited v → list_any (key_test.it k) (keys_of held.keys) ≡ list_any (same_address (visited v)) (map visited (firsts same_item vs))
 key_known vs held v k are is =
-    any-alike (key_test.it k) (λ x. same_address (key_address k) (key_address x)) held.keys.keys (key_same k)
-    ∙ any-mapped (same_address (key_address k)) key_address held.keys.keys
-    ∙ ap (λ (s : Address). list_any (same_address s) (map key_address held.keys.keys)) is
+    any-alike (key_test.it k) (λ x. same_address (key_address k) (key_address x)) (keys_of held.keys) (key_same k)
+    ∙ any-mapped (same_address (key_address k)) key_address (keys_of held.keys)
+    ∙ ap (λ (s : Address). list_any (same_address s) (map key_address (keys_of held.keys))) is
     ∙ ap (list_any (same_address (visited v))) are.keys
 
 -- a key that is there adds nothing
-pub items_kept : (vs : List ForeignVisit) (held : ForeignItems) (v : ForeignVisit) (k : ForeignKey) (keys : List ForeignKey) → AreItemsOf vs held → key_address k ≡ visited v → list_any (key_test.it k) held.keys.keys ≡ true → keys ≡ insert_key key_test.it held.keys.keys k → (map key_address keys ≡ map visited (firsts same_item (vs ++ v ∷ []))) × (map foreign_behind held.items.items ≡ firsts same_item (vs ++ v ∷ []))
+pub items_kept : (vs : List ForeignVisit) (held : ForeignItems) (v : ForeignVisit) (k : ForeignKey) (keys : List ForeignKey) → AreItemsOf vs held → key_address k ≡ visited v → list_any (key_test.it k) (keys_of held.keys) ≡ true → keys ≡ insert_key key_test.it (keys_of held.keys) k → (map key_address keys ≡ map visited (firsts same_item (vs ++ v ∷ []))) × (map foreign_behind held.items.items ≡ firsts same_item (vs ++ v ∷ []))
 items_kept vs held v k keys are is known inserted =
     let same = firsts-known vs v (sym (key_known vs held v k are is) ∙ known) in
-    let stay : keys ≡ held.keys.keys = inserted ∙ cond-true (list_any (key_test.it k) held.keys.keys) held.keys.keys (held.keys.keys ++ k ∷ []) known in
+    let stay : keys ≡ keys_of held.keys = inserted ∙ cond-true (list_any (key_test.it k) (keys_of held.keys)) (keys_of held.keys) (keys_of held.keys ++ k ∷ []) known in
     (ap (map key_address) stay ∙ are.keys ∙ ap (map visited) (sym same), are.items ∙ sym same)
 
 -- a new one adds the item
-pub items_more : (vs : List ForeignVisit) (held : ForeignItems) (v : HeldVisit) (k : ForeignKey) (keys : List ForeignKey) (items : List HeldVisit) → AreItemsOf vs held → key_address k ≡ visited (foreign_behind v) → list_any (key_test.it k) held.keys.keys ≡ false → keys ≡ insert_key key_test.it held.keys.keys k → items ≡ held.items.items ++ v ∷ [] → (map key_address keys ≡ map visited (firsts same_item (vs ++ foreign_behind v ∷ []))) × (map foreign_behind items ≡ firsts same_item (vs ++ foreign_behind v ∷ []))
+pub items_more : (vs : List ForeignVisit) (held : ForeignItems) (v : HeldVisit) (k : ForeignKey) (keys : List ForeignKey) (items : List HeldVisit) → AreItemsOf vs held → key_address k ≡ visited (foreign_behind v) → list_any (key_test.it k) (keys_of held.keys) ≡ false → keys ≡ insert_key key_test.it (keys_of held.keys) k → items ≡ held.items.items ++ v ∷ [] → (map key_address keys ≡ map visited (firsts same_item (vs ++ foreign_behind v ∷ []))) × (map foreign_behind items ≡ firsts same_item (vs ++ foreign_behind v ∷ []))
 items_more vs held v k keys items are is new inserted pushed =
     let w = foreign_behind v in
-    let old = held.keys.keys in
+    let old = keys_of held.keys in
     let more = firsts-new vs w (sym (key_known vs held w k are is) ∙ new) in
     let grown : keys ≡ old ++ k ∷ [] = inserted ∙ cond-false (list_any (key_test.it k) old) old (old ++ k ∷ []) new in
     (ap (map key_address) grown ∙ map-append key_address old (k ∷ []) ∙ ap (λ l. l ++ key_address k ∷ []) are.keys ∙ ap (λ (s : Address). map visited (firsts same_item vs) ++ s ∷ []) is ∙ sym (map-append visited (firsts same_item vs) (w ∷ [])) ∙ ap (map visited) (sym more), ap (map foreign_behind) pushed ∙ map-append foreign_behind held.items.items (v ∷ []) ∙ ap (λ l. l ++ w ∷ []) are.items ∙ sym more)
 
 -- the place of a key is that of the item which it stands for
-pub key_place : (vs : List ForeignVisit) (held : ForeignItems) (k : ForeignKey) (s : Address) → AreItemsOf vs held → key_address k ≡ s → position (key_test.it k) held.keys.keys ≡ position (λ v. same_address (visited v) s) (firsts same_item vs)
+pub key_place : (vs : List ForeignVisit) (held : ForeignItems) (k : ForeignKey) (s : Address) → AreItemsOf vs held → key_address k ≡ s → position (key_test.it k) (keys_of held.keys) ≡ position (λ v. same_address (visited v) s) (firsts same_item vs)
 key_place vs held k s are is =
-    position-alike (key_test.it k) (λ x. same_address (key_address k) (key_address x)) held.keys.keys (key_same k)
-    ∙ position-mapped (same_address (key_address k)) key_address held.keys.keys
-    ∙ ap (λ (t : Address). position (same_address t) (map key_address held.keys.keys)) is
+    position-alike (key_test.it k) (λ x. same_address (key_address k) (key_address x)) (keys_of held.keys) (key_same k)
+    ∙ position-mapped (same_address (key_address k)) key_address (keys_of held.keys)
+    ∙ ap (λ (t : Address). position (same_address t) (map key_address (keys_of held.keys))) is
     ∙ ap (position (same_address s)) are.keys
     ∙ sym (position-mapped (same_address s) visited (firsts same_item vs))
     ∙ position-alike (λ v. same_address s (visited v)) (λ v. same_address (visited v) s) (firsts same_item vs) (λ v. same_turned s (visited v))

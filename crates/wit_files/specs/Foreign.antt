@@ -1,5 +1,6 @@
 -- Paths to items of other packages that are held, and the keys by which the items are told apart.
 use Rattle.std.specs.Prelude.{◌≡◌, Bool, true, false, List, map}
+use Rattle.std.specs.Map.{keys_of}
 use Rattle.std.specs.Option.{option_map}
 use Rattle.wit_values.specs.declared.release.Release.{Release}
 use Rattle.wit_syntax.specs.Address.{Address, ForeignNamed}
@@ -32,4 +33,4 @@ key_address k = ForeignNamed (record { namespace = k.namespace.now; name = k.pac
 -- these are the items that the visits lead to, each at its first visit, with their keys
 pub record AreItemsOf (visits : List ForeignVisit) (held : ForeignItems) : Type 0 where
   pub items : map foreign_behind held.items.items ≡ firsts same_item visits
-  pub keys : map key_address held.keys.keys ≡ map visited (firsts same_item visits)
+  pub keys : map key_address (keys_of held.keys) ≡ map visited (firsts same_item visits)

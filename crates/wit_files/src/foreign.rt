@@ -8,12 +8,12 @@ ghost use Rattle.wit_top_names.specs.Checks.{AreLegalVisits, IsBrokenVisit};
 ghost use Rattle.wit_files.specs.Foreign.{foreign_behind, wants_world, key_release, key_address, AreItemsOf};
 
 use crate::visit::{Visit, Wanted, visits};
-use indexmap::IndexSet;
 use semver::Version;
 use std::alloc::{AllocError, Global};
 use wit_notes::attributes::check_stability;
 use wit_tree::ParseResult;
 use wit_tree::tree::{Attribute, Id, PackageFile, PackageName, UsePath};
+use wit_values::Table;
 
 /// A path with a package, which leads to an item of that package.
 ///
@@ -30,7 +30,7 @@ pub struct ForeignVisit<'f, 'a> {
 }
 
 /// The parts of a version.
-#[derive(Clone, Copy, PartialEq, Eq, Hash)]
+#[derive(Clone, Copy, PartialEq, Eq, PartialOrd, Ord, Hash)]
 struct VersionKey<'k> {
     major: u64,
     minor: u64,
@@ -41,7 +41,7 @@ struct VersionKey<'k> {
 
 /// What items of other packages are told apart by: their packages, to the builds of their versions,
 /// and their names.
-#[derive(Clone, Copy, PartialEq, Eq, Hash)]
+#[derive(Clone, Copy, PartialEq, Eq, PartialOrd, Ord, Hash)]
 pub struct ForeignKey<'k> {
     namespace: &'k str,
     package: &'k str,
@@ -54,7 +54,7 @@ pub struct ForeignItems<'f, 'a> {
     /// Each item at its first visit.
     pub items: Vec<ForeignVisit<'f, 'a>>,
     /// The keys of the items.
-    keys: IndexSet<ForeignKey<'f>>,
+    keys: Table<ForeignKey<'f>, ()>,
 }
 
 impl Drop for ForeignItems<'_, '_> {
@@ -158,7 +158,7 @@ impl<'f, 'a> ForeignItems<'f, 'a> {
     {
         ForeignItems {
             items: Vec::new(alloc),
-            keys: IndexSet::new(alloc),
+            keys: Table::new(alloc),
         }
     }
 
@@ -166,7 +166,8 @@ impl<'f, 'a> ForeignItems<'f, 'a> {
     fn add(&mut self, visit: ForeignVisit<'f, 'a>) -> Result<(), AllocError>
         ensures { OnOk result ((visits : List TheVisit) → AreItemsOf visits self.old → AreItemsOf (visits ++ foreign_behind visit.entry ∷ []) self.new) }
     {
-        if self.keys.insert(foreign_key(visit.package, visit.name))? {
+        let key = foreign_key(visit.package, visit.name);
+        if self.keys.insert(key, ())?.is_none() {
             self.items.push(visit)?;
         }
         Ok(())
@@ -184,7 +185,7 @@ impl<'f, 'a> ForeignItems<'f, 'a> {
     }
 
     /// The place of an item of a package; none where no visit leads to it.
-    pub fn place(&self, id: &PackageName<'_>, name: Id<'_>) -> Option<usize>
+    pub fn place(&self, id: &'f PackageName<'a>, name: Id<'a>) -> Option<usize>
         ensures { (visits : List TheVisit) → AreItemsOf visits self.now → result ≡ position (λ v. same_address (visited v) (ForeignNamed (package_of id.now) name.entry.name.now)) (firsts same_item visits) }
     {
         self.keys.get_index_of(&foreign_key(id, name))

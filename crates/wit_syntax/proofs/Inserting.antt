@@ -1,10 +1,14 @@
 -- Entries that are put, one after another, at keys that are not there yet.
-use Rattle.std.proofs.Common.{◌≡◌, ◌⊎◌, ℕ, suc, ◌+◌, ◌<◌, Bool, false, List, [], ◌∷◌, ◌++◌, length, Some, inl, inr, refl, sym, ap, ◌∙◌, arith, append_assoc}
+use Rattle.std.proofs.Common.{◌≡◌, ◌⊎◌, ℕ, suc, ◌+◌, ◌<◌, Bool, true, false, cond, List, [], ◌∷◌, ◌++◌, length, Some, inl, inr, refl, sym, ap, ◌∙◌, arith, append_assoc}
 use Rattle.std.specs.Prelude.{slice_get, map}
+use Rattle.std.specs.List.{list_any}
+use Rattle.std.specs.Map.{keys_of}
 use Rattle.std.specs.Option.{option_map}
+use Rattle.std.proofs.lemmas.Bool.{cases_Bool}
 use Rattle.std.proofs.lemmas.List.{map-append}
 use Rattle.std.proofs.lemmas.Option.{slice_get-map, slice_get_within}
 use Rattle.indexmap.specs.IndexMap.{insert_entry}
+use Rattle.indexmap.specs.IndexSet.{insert_key}
 use Rattle.wit_syntax.specs.Repeats.{AllDiffer}
 use Rattle.wit_syntax.proofs.Lists.{at_front, at_back, at_split, map_at}
 
@@ -12,6 +16,18 @@ use Rattle.wit_syntax.proofs.Lists.{at_front, at_back, at_split, map_at}
 pub insert_entry-new : {K V : Type 0} (eq : K → K → Bool) (es : List (K × V)) (k : K) (v : V) → ((i : ℕ) (e : K × V) → slice_get es i ≡ Some e → eq k e.0 ≡ false) → insert_entry eq es k v ≡ es ++ (k, v) ∷ []
 insert_entry-new eq [] k v other = refl
 insert_entry-new eq (e ∷ es) k v other = rw (other 0 e refl) (ap (λ l. e ∷ l) (insert_entry-new eq es k v (λ i d at. other (suc i) d at)))
+
+cons-cond : {K : Type 0} (b : Bool) (x : K) (xs ys : List K) → x ∷ cond b xs ys ≡ cond b (x ∷ xs) (x ∷ ys)
+cons-cond true x xs ys = refl
+cons-cond false x xs ys = refl
+
+-- the keys stay if one is equal to the key at which an entry is put, and else that key goes last
+pub keys-insert_entry : {K V : Type 0} (eq : K → K → Bool) (es : List (K × V)) (k : K) (v : V) → keys_of (insert_entry eq es k v) ≡ insert_key eq (keys_of es) k
+keys-insert_entry eq [] k v = refl
+keys-insert_entry eq (e ∷ es) k v = elim (cases_Bool (eq k e.0)) [
+  | inl hit ↦ rw hit refl
+  | inr miss ↦ rw miss (ap (λ l. e.0 ∷ l) (keys-insert_entry eq es k v) ∙ cons-cond (list_any (eq k) (keys_of es)) e.0 (keys_of es) (keys_of es ++ k ∷ []))
+]
 
 module _ {X K V : Type 0} (eq : K → K → Bool) (key : X → K) (value : X → V) where
   abbrev entry : X → K × V
