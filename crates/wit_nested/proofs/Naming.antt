@@ -32,6 +32,10 @@ among_any now eq equal (x ∷ xs) k h = elim (cases_Bool (eq k x)) [
       contains_at (now x ∷ map now xs) (suc rest.0) (now k) rest.1)
 ]
 
+pub turned : (a b : Bool) → a ≡ not b → b ≡ not a
+turned a true is = sym (ap not is)
+turned a false is = sym (ap not is)
+
 -- a key is put behind these, where it is none of them
 pub inserted : {K N : Type 0} (now : K → N) (eq : K → K → Bool) → ((x y : K) → eq x y ≡ true → now x ≡ now y) → ((x y : K) → now x ≡ now y → eq x y ≡ true) → (ks keys : List K) (k : K) (new : Bool) →
     new ≡ not (list_any (eq k) ks) → keys ≡ insert_key eq ks k → MatchBool new ((map now keys ≡ map now ks ++ now k ∷ []) × (Contains (map now ks) (now k) → ⊥)) (Contains (map now ks) (now k))

@@ -1,24 +1,25 @@
 //! The names of the packages of a group: no two of them may be equal.
 ghost use Rattle.std.specs.Prelude.{◌≡◌, ◌++◌, ◌∷◌, [], Contains, IfErr, IfNone, IfOk, IfSome, MatchBool, OnOk, codes, map, string_bytes};
+ghost use Rattle.std.specs.Map.{keys_of};
 ghost use Rattle.wit_package_names.specs.PackageName.{name_text};
 ghost use Rattle.wit_syntax.specs.Broken.{Refused};
 ghost use Rattle.wit_nested.specs.Names.{AreNamedApart, IsNamedAgain, IsRepeatedPackage};
 
-use indexmap::IndexSet;
 use std::alloc::{AllocError, Global};
 use wit_model::UnresolvedPackage;
 use wit_package_names::PackageName;
 use wit_refusals::refusal::refuse_in;
 use wit_tree::ParseResult;
+use wit_values::Table;
 
 /// Puts a name behind these, where it is none of them; tells whether it was new.
 fn insert<'p>(
-    names: &mut IndexSet<&'p PackageName>,
+    names: &mut Table<&'p PackageName, ()>,
     name: &'p PackageName,
 ) -> Result<bool, AllocError>
-    ensures { IfOk result (λ new. MatchBool new ((map (λ n. n.now) names.new.keys ≡ map (λ n. n.now) names.old.keys ++ name.now ∷ []) × (Contains (map (λ n. n.now) names.old.keys) name.now → ⊥)) (Contains (map (λ n. n.now) names.old.keys) name.now)) }
+    ensures { IfOk result (λ new. MatchBool new ((map (λ n. n.now) (keys_of names.new) ≡ map (λ n. n.now) (keys_of names.old) ++ name.now ∷ []) × (Contains (map (λ n. n.now) (keys_of names.old)) name.now → ⊥)) (Contains (map (λ n. n.now) (keys_of names.old)) name.now)) }
 {
-    Ok(names.insert(name)?)
+    Ok(names.insert(name, ())?.is_none())
 }
 
 /// The first nested package that has the name of the main one, or of a nested one before it.
@@ -30,7 +31,7 @@ fn named_again<'p>(
     ensures some { IfOk result (λ found. IfSome found (λ later. IsNamedAgain main.now nested.now later.now)) }
     ensures none { IfOk result (λ found. IfNone found (AreNamedApart main.now nested.now)) }
 {
-    let mut names = IndexSet::new(alloc);
+    let mut names = Table::new(alloc);
     insert(&mut names, &main.name)?;
     for package in nested {
         if !insert(&mut names, &package.name)? {
