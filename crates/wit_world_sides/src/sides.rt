@@ -54,16 +54,19 @@ fn add_import(
     Ok(())
 }
 
-/// The names of a scope as imports of a world: each with the type that it stands for.
+/// The names of a scope as imports of a world: each with the type that it stands for. Behind them is room
+/// for so many more.
 fn type_imports(
     alloc: Global,
     turn: &[Id<'_>],
     types: &TextTable<TypeId>,
+    more: usize,
 ) -> Result<Table<WorldKey, WorldItem>, AllocError>
     requires distinct { AllDiffer (map (λ id. id.name.now) turn.now) }
     ensures { IfOk result (λ imports. (xs : List ScopeName) → turn.now ≡ map local_id xs → imports ≡ the_imports xs types.now) }
 {
-    let mut imports = Table::with_capacity(alloc, turn.len())?;
+    let room = turn.len().saturating_add(more);
+    let mut imports = Table::with_capacity(alloc, room)?;
     for (place, id) in turn.iter().enumerate() {
         if let Some((_, ty)) = types.get_index(place) {
             add_import(alloc, &mut imports, *id, *ty)?;
@@ -240,6 +243,27 @@ fn add_externs<'f, 'a>(
     Ok(())
 }
 
+/// The side on which something stands.
+fn side_of(held: &HeldExtern<'_, '_>) -> WorldSide {
+    match held {
+        HeldExtern::Function(written) => written.side(),
+        HeldExtern::Link(link) => link.side,
+        HeldExtern::Inline(inline) => inline.written.side,
+    }
+}
+
+/// How much of what is written is imported; the rest is exported.
+fn import_count(externs: &[HeldExtern<'_, '_>]) -> usize {
+    let mut count: usize = 0;
+    for held in externs {
+        match side_of(held) {
+            WorldSide::Imported => count = count.saturating_add(1),
+            WorldSide::Exported => {}
+        }
+    }
+    count
+}
+
 /// What a world imports, the names of its scope and then what is written, and what it exports;
 /// `standing` is what was made of that. Of a world that includes nothing, which is `closed`, each setter
 /// stands behind its getter.
@@ -263,10 +287,11 @@ pub fn world_sides<'f, 'a>(
     ensures imports { IfOk result (λ sides. (xs : List ScopeName) (is : List Include) → turn.now ≡ map local_id xs → closed ≡ none_of is → sides.imports ≡ settled is (the_imports xs types.now ++ entries_on Imported externs.now standing.functions.items standing.inside.items)) }
     ensures exports { IfOk result (λ sides. (is : List Include) → closed ≡ none_of is → sides.exports ≡ settled is (entries_on Exported externs.now standing.functions.items standing.inside.items)) }
 {
-    let mut sides = WorldSides {
-        imports: type_imports(alloc, turn, types)?,
-        exports: Table::new(alloc),
-    };
+    let imported = import_count(externs);
+    let imports = type_imports(alloc, turn, types, imported)?;
+    let exported = externs.len().saturating_sub(imported);
+    let exports = Table::with_capacity(alloc, exported)?;
+    let mut sides = WorldSides { imports, exports };
     add_externs(alloc, externs, interfaces, &mut sides, standing)?;
     settle(alloc, sides, closed)
 }
