@@ -14,8 +14,9 @@ use wit_lex::kind::Kind;
 use wit_lex::word::Word;
 use wit_reader::front::Front;
 use wit_reader::reader::Reader;
+use wit_reader::room::add;
 use wit_tree::tree::{Id, InterfaceItem, TypeBody, TypeDef};
-use wit_values::{fitted, push};
+use wit_values::fitted;
 
 /// Reads `type name = type;`.
 fn read_alias<'a>(reader: &mut Reader<'a>) -> ReadResult<(Id<'a>, TypeBody<'a>)>
@@ -131,10 +132,10 @@ pub fn read_interface_items<'a>(reader: &mut Reader<'a>) -> ReadResult<Vec<Inter
     ensures refused { IfErr result (λ e. IsRefused reader.old e) }
 {
     reader.expect(Kind::OpenBrace)?;
-    let mut items = Vec::with_capacity(reader.alloc, 1)?;
+    let mut items = Vec::new(reader.alloc);
     'items: while !reader.at(Kind::CloseBrace) {
         let item = read_item(reader)?;
-        push(&mut items, item)?;
+        add(&mut items, item, reader.at(Kind::CloseBrace))?;
     }
     reader.bump()?;
     Ok(fitted(items))

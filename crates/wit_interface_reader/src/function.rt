@@ -11,10 +11,10 @@ use wit_lex::token::next_token;
 use wit_lex::word::Word;
 use wit_reader::front::Front;
 use wit_reader::reader::Reader;
+use wit_reader::room::add;
 use wit_reader::types::MOST_NESTED;
 use wit_tree::Span;
 use wit_tree::tree::{Func, FuncForm, NamedFunc, Param, Type};
-use wit_values::push;
 
 /// The form of a getter or a setter, where the text is its word.
 fn accessor_form(text: &str) -> Option<FuncForm>
@@ -45,7 +45,7 @@ fn read_params<'a>(reader: &mut Reader<'a>) -> ReadResult<Vec<Param<'a>>>
     let mut params = Vec::new(reader.alloc);
     'params: while more {
         let param = read_param(reader)?;
-        push(&mut params, param)?;
+        add(&mut params, param, reader.at(Kind::CloseParen))?;
         more = reader.next_in_list(Kind::CloseParen)?;
     }
     Ok(params)

@@ -7,9 +7,10 @@ ghost use Rattle.wit_reader.specs.Reading.{IsRead, IsReadOn, IsRefused};
 use wit_lex::fault::ReadResult;
 use wit_lex::kind::Kind;
 use wit_reader::reader::Reader;
+use wit_reader::room::add;
 use wit_reader::types::MOST_NESTED;
 use wit_tree::tree::{Case, EnumCase, Field, Flag, Type};
-use wit_values::{fitted, push};
+use wit_values::fitted;
 
 fn read_field<'a>(reader: &mut Reader<'a>) -> ReadResult<Field<'a>>
     ensures read { IfOk result (λ f. IsRead reader.old (field_marks f) reader.new) }
@@ -30,7 +31,7 @@ pub fn read_fields<'a>(reader: &mut Reader<'a>) -> ReadResult<Vec<Field<'a>>>
     let mut fields = Vec::new(reader.alloc);
     'fields: while more {
         let field = read_field(reader)?;
-        push(&mut fields, field)?;
+        add(&mut fields, field, reader.at(Kind::CloseBrace))?;
         more = reader.next_in_list(Kind::CloseBrace)?;
     }
     Ok(fitted(fields))
@@ -54,7 +55,7 @@ pub fn read_flags<'a>(reader: &mut Reader<'a>) -> ReadResult<Vec<Flag<'a>>>
     let mut flags = Vec::new(reader.alloc);
     'flags: while more {
         let flag = read_flag(reader)?;
-        push(&mut flags, flag)?;
+        add(&mut flags, flag, reader.at(Kind::CloseBrace))?;
         more = reader.next_in_list(Kind::CloseBrace)?;
     }
     Ok(fitted(flags))
@@ -92,7 +93,7 @@ pub fn read_cases<'a>(reader: &mut Reader<'a>) -> ReadResult<Vec<Case<'a>>>
     let mut cases = Vec::new(reader.alloc);
     'cases: while more {
         let case = read_case(reader)?;
-        push(&mut cases, case)?;
+        add(&mut cases, case, reader.at(Kind::CloseBrace))?;
         more = reader.next_in_list(Kind::CloseBrace)?;
     }
     Ok(fitted(cases))
@@ -116,7 +117,7 @@ pub fn read_enum_cases<'a>(reader: &mut Reader<'a>) -> ReadResult<Vec<EnumCase<'
     let mut cases = Vec::new(reader.alloc);
     'cases: while more {
         let case = read_enum_case(reader)?;
-        push(&mut cases, case)?;
+        add(&mut cases, case, reader.at(Kind::CloseBrace))?;
         more = reader.next_in_list(Kind::CloseBrace)?;
     }
     Ok(fitted(cases))

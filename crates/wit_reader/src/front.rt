@@ -3,12 +3,12 @@ ghost use Rattle.std.specs.Prelude.{◌≡◌, ◌+◌, [], ◌∷◌, IfOk, IfE
 ghost use Rattle.wit_type_tree.specs.Marks.{documented, attributes_marks, front_marks};
 
 use crate::reader::Reader;
+use crate::room::add;
 use wit_lex::docs::docs_behind;
 use wit_lex::fault::ReadResult;
 use wit_lex::kind::Kind;
 use wit_lex::token::next_token;
 use wit_tree::tree::{Attribute, Docs};
-use wit_values::push;
 
 /// What stands in front of an item.
 #[derive(Drop)]
@@ -43,7 +43,7 @@ impl<'a> Reader<'a> {
         let mut attributes = Vec::new(self.alloc);
         'attributes: while self.at(Kind::At) {
             let attribute = self.read_attribute()?;
-            push(&mut attributes, attribute)?;
+            add(&mut attributes, attribute, !self.at(Kind::At))?;
         }
         Ok(attributes)
     }

@@ -9,6 +9,7 @@ pub mod holding;
 pub mod list;
 mod primitive;
 pub mod reader;
+pub mod room;
 pub mod types;
 pub mod uses;
 pub mod version;

@@ -13,6 +13,7 @@ use wit_lex::fault::{ReadFault, ReadResult};
 use wit_lex::kind::Kind;
 use wit_lex::word::Word;
 use wit_reader::reader::Reader;
+use wit_reader::room::add;
 use wit_reader::types::MOST_NESTED;
 use wit_tree::Span;
 use wit_tree::tree::{DeclList, Docs, Id, NestedPackage, PackageName};
@@ -131,7 +132,9 @@ fn read_nested_items<'a>(
     'items: while !reader.at(Kind::CloseBrace) {
         let item = read_package_item(reader)?;
         match item {
-            PackageItem::Declaration(declaration) => push(&mut items, declaration)?,
+            PackageItem::Declaration(declaration) => {
+                add(&mut items, declaration, reader.at(Kind::CloseBrace))?;
+            }
             PackageItem::Package(docs) => {
                 let name = read_inner(reader, docs, MOST_NESTED - 1)?;
                 push(&mut inner, name)?;

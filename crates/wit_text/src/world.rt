@@ -13,8 +13,9 @@ use wit_lex::kind::Kind;
 use wit_lex::word::Word;
 use wit_reader::front::Front;
 use wit_reader::reader::Reader;
+use wit_reader::room::add;
 use wit_tree::tree::{Attribute, Include, IncludeName, World, WorldItem};
-use wit_values::{beside, fitted, push};
+use wit_values::{beside, fitted};
 
 /// Reads `name as name`.
 fn read_renamed<'a>(reader: &mut Reader<'a>) -> ReadResult<IncludeName<'a>>
@@ -36,7 +37,7 @@ fn read_renamed_names<'a>(reader: &mut Reader<'a>) -> ReadResult<Vec<IncludeName
     let mut names = Vec::new(reader.alloc);
     'names: while more {
         let renamed = read_renamed(reader)?;
-        push(&mut names, renamed)?;
+        add(&mut names, renamed, reader.at(Kind::CloseBrace))?;
         more = reader.next_in_list(Kind::CloseBrace)?;
     }
     Ok(names)
@@ -118,10 +119,10 @@ fn read_world_items<'a>(reader: &mut Reader<'a>) -> ReadResult<Vec<WorldItem<'a>
     ensures refused { IfErr result (λ e. IsRefused reader.old e) }
 {
     reader.expect(Kind::OpenBrace)?;
-    let mut items = Vec::with_capacity(reader.alloc, 1)?;
+    let mut items = Vec::new(reader.alloc);
     'items: while !reader.at(Kind::CloseBrace) {
         let item = read_world_item(reader)?;
-        push(&mut items, item)?;
+        add(&mut items, item, reader.at(Kind::CloseBrace))?;
     }
     reader.bump()?;
     Ok(fitted(items))

@@ -3,7 +3,7 @@ use Rattle.wit_reader.proofs.Parts.{close, more}
 use Rattle.wit_interface_reader.proofs.definition.read_interface_items.Goals as goal
 
 pub items-preserved : goal.items-preserved
-items-preserved c = more item_marks c.items.items.items c.push.new.items.items _ c.in_ok-push.ensures c.items.invariant c.in_ok-item.ensures.read
+items-preserved c = more item_marks c.items.items.items c.add.new.items.items _ c.in_ok-add.ensures c.items.invariant c.in_ok-item.ensures.read
 
 pub returns-clause-read : goal.returns-clause-read
 returns-clause-read c = rw c.fitted.ensures (close c.items.invariant c.in_ok-bump.ensures.read)

@@ -4,4 +4,4 @@ use Rattle.wit_interface_reader.proofs.members.read_cases.Goals as goal
 
 pub cases-preserved : goal.cases-preserved
 cases-preserved c =
-    close (more case_marks c.cases.cases.items c.push.new.items.items c.in_ok-case.case c.in_ok-push.ensures c.cases.invariant c.in_ok-case.ensures.read) c.in_ok-more-2.ensures.read
+    close (more case_marks c.cases.cases.items c.add.new.items.items c.in_ok-case.case c.in_ok-add.ensures c.cases.invariant c.in_ok-case.ensures.read) c.in_ok-more-2.ensures.read

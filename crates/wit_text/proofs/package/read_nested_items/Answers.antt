@@ -6,7 +6,7 @@ use Rattle.wit_text.proofs.package.read_nested_items.Goals as goal
 pub items-preserved-in-Continue-branch-3 : goal.items-preserved-in-Continue-branch-3
 items-preserved-in-Continue-branch-3 c =
     let read = declaration_read _ _ c.in-Declaration.is c.in_ok-item.ensures.read in (
-      more declaration_marks c.items.items.items c.push.new.items.items _ c.in_ok-push-in-Declaration.ensures c.items.invariant.0 read,
+      more declaration_marks c.items.items.items c.add.new.items.items _ c.in_ok-add-in-Declaration.ensures c.items.invariant.0 read,
       close c.items.invariant.1 (passed read),
     )
 
@@ -14,7 +14,7 @@ pub items-preserved : goal.items-preserved
 items-preserved c =
     let read = fronted (docs_found _ _ c.in-Package.is c.in_ok-item.ensures.read) c.in_ok-name-in-Package.ensures.read in (
       close c.items.invariant.0 (passed read),
-      more header_marks c.items.inner.items c.push-in-Package.new.items.items _ c.in_ok-push-in-Package.ensures c.items.invariant.1 read,
+      more header_marks c.items.inner.items c.push.new.items.items _ c.in_ok-push-in-Package.ensures c.items.invariant.1 read,
     )
 
 pub returns-clause-read : goal.returns-clause-read
