@@ -57,6 +57,10 @@ place_differs (Err e) side old new id defined free = tt
 any_from : (eq : ℕ → ℕ → Bool) → ((x : ℕ) → eq x x ≡ true) → (ks : List ℕ) (k : ℕ) → Contains ks k → list_any (eq k) ks ≡ true
 any_from eq itself ks k among = (let there = at_contains ks k among in any_passes_from_place (eq k) ks there.0 k there.1 (itself k))
 
+pub turned : (a b : Bool) → a ≡ not b → b ≡ not a
+turned a true is = sym (ap not is)
+turned a false is = sym (ap not is)
+
 pub inserted : (eq : ℕ → ℕ → Bool) → ((x y : ℕ) → eq x y ≡ true → x ≡ y) → ((x : ℕ) → eq x x ≡ true) → (ks keys : List ℕ) (k : ℕ) (new : Bool) → new ≡ not (list_any (eq k) ks) → keys ≡ insert_key eq ks k → MatchBool new ((keys ≡ ks ++ k ∷ []) × (Contains ks k → ⊥)) (Contains ks k)
 inserted eq same itself ks keys k true told is =
     let none : list_any (eq k) ks ≡ false = not-true (list_any (eq k) ks) (sym told) in

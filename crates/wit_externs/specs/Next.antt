@@ -1,5 +1,6 @@
 -- What may be wrong with one more that stands on a side of a scope, behind what stands there.
 use Rattle.std.specs.Prelude.{◌≡◌, ℕ, List, [], ◌∷◌, None, Contains, if◌then◌else◌}
+use Rattle.std.specs.Map.{keys_of}
 use Rattle.wit_values.specs.declared.span.Span.{Span}
 use Rattle.wit_tree.specs.declared.tree.WorldSide.{WorldSide}
 use Rattle.wit_tree.specs.declared.tree.WorldSide.TheVariants.{Imported, Exported}
@@ -20,8 +21,8 @@ use Rattle.wit_externs.specs.Links.{IsWrongLink}
 
 -- the places of the interfaces on a side that have no name of their own
 abbrev pub linked_on : WorldSide → Links → List ℕ
-linked_on Imported l = l.imports.keys
-linked_on Exported l = l.exports.keys
+linked_on Imported l = keys_of l.imports
+linked_on Exported l = keys_of l.exports
 
 -- what one on a side adds to a side
 abbrev pub only_place : WorldSide → WorldSide → ℕ → List ℕ

@@ -1,19 +1,20 @@
 //! Interfaces that stand on the sides of a world by their paths alone.
 ghost use Rattle.std.specs.Prelude.{◌≡◌, ◌++◌, ◌∷◌, [], Contains, IfErr, IfOk, MatchBool, OnOk, OnErr};
+ghost use Rattle.std.specs.Map.{keys_of};
 ghost use Rattle.wit_syntax.specs.Broken.{Refused};
 ghost use Rattle.wit_externs.specs.Next.{IsLinked, linked_on, only_place};
 
-use indexmap::IndexSet;
 use std::alloc::{AllocError, Global};
 use wit_refusals::refusal::refuse;
 use wit_tree::tree::WorldSide;
 use wit_tree::{ParseResult, Span};
+use wit_values::Table;
 
 /// The places of the interfaces that a world imports and exports by their paths, without names of
 /// their own, each in source order.
 pub struct Links {
-    imports: IndexSet<usize>,
-    exports: IndexSet<usize>,
+    imports: Table<usize, ()>,
+    exports: Table<usize, ()>,
 }
 
 impl Drop for Links {
@@ -26,11 +27,11 @@ impl Drop for Links {
 }
 
 /// Puts an interface behind these, where it is none of them; tells whether it was new.
-fn insert(set: &mut IndexSet<usize>, interface: usize) -> Result<bool, AllocError>
-    ensures told { IfOk result (λ new. MatchBool new ((set.new.keys ≡ set.old.keys ++ interface ∷ []) × (Contains set.old.keys interface → ⊥)) (Contains set.old.keys interface)) }
-    ensures unchanged { OnErr result (set.new.keys ≡ set.old.keys) }
+fn insert(links: &mut Table<usize, ()>, interface: usize) -> Result<bool, AllocError>
+    ensures told { IfOk result (λ new. MatchBool new ((keys_of links.new ≡ keys_of links.old ++ interface ∷ []) × (Contains (keys_of links.old) interface → ⊥)) (Contains (keys_of links.old) interface)) }
+    ensures unchanged { OnErr result (keys_of links.new ≡ keys_of links.old) }
 {
-    Ok(set.insert(interface)?)
+    Ok(links.insert(interface, ())?.is_none())
 }
 
 /// The words for an interface that stands on a side again.
@@ -49,8 +50,8 @@ impl Links {
         ensures { (s : WorldSide) → linked_on s result ≡ [] }
     {
         Links {
-            imports: IndexSet::new(alloc),
-            exports: IndexSet::new(alloc),
+            imports: Table::new(alloc),
+            exports: Table::new(alloc),
         }
     }
 

@@ -1,7 +1,16 @@
 use Rattle.std.proofs.lemmas.Bool.{eq-eqb, eqb-true}
-use Rattle.std.proofs.Common.{◌==◌, refl}
-use Rattle.wit_externs.proofs.Linked.{inserted}
+use Rattle.std.proofs.lemmas.Map.Made.{is_some-lookup}
+use Rattle.std.proofs.Common.{◌==◌, not, refl, ap, ◌∙◌}
+use Rattle.std.specs.Map.{keys_of}
+use Rattle.std.specs.Option.{is_some}
+use Rattle.wit_syntax.proofs.Inserting.{keys-insert_entry}
+use Rattle.wit_externs.proofs.Linked.{inserted, turned}
 use Rattle.wit_externs.proofs.links.insert.Goals as goal
 
 pub returns-clause-told : goal.returns-clause-told
-returns-clause-told c = inserted (λ a b. a == b) eqb-true (λ a. eq-eqb a a refl) c.args.set.now.keys c.insert.new.self.keys c.args.interface c.in_ok-insert.field-0 c.in_ok-insert.ensures.added c.in_ok-insert.ensures.keys
+returns-clause-told c =
+    let old = c.args.links.now in
+    let k = c.args.interface in
+    inserted (λ a b. a == b) eqb-true (λ a. eq-eqb a a refl) (keys_of old) (keys_of c.insert.new.self) k c.is_none.result
+    (turned _ c.is_none.result c.is_none.ensures ∙ ap not (ap is_some c.in_ok-insert.ensures.was ∙ is_some-lookup (λ b. k == b) old))
+    (ap keys_of c.in_ok-insert.ensures.ok ∙ keys-insert_entry (λ a b. a == b) old k _)
