@@ -32,8 +32,8 @@ use Rattle.wit_syntax.proofs.Inline.{inline_items_none}
 use Rattle.wit_syntax.proofs.Kept.{behind_one, kept_has}
 use Rattle.wit_syntax.proofs.Lists.{flat_map_at, flat_map_has}
 use Rattle.wit_arena.proofs.Resolved.{scopes_legal as legal_scopes, files_legal as legal_by, files_package as package_by, files_faithful as faithful_by, files_arena as arena_by}
-use Rattle.wit_interfaces.specs.Between.{IsWrongNow}
-use Rattle.wit_worlds.specs.Between.{IsWrongWorldNow}
+use Rattle.wit_contents.specs.BetweenInterfaces.{IsWrongNow}
+use Rattle.wit_contents.specs.BetweenWorlds.{IsWrongWorldNow}
 use Rattle.wit_type_tree.specs.declared.error.ParseError.{ParseError}
 use Rattle.wit_contents.specs.Between.{AddsFiles, IsMade}
 

@@ -1,2 +1,13 @@
 pub mod Files
 mod Fronting
+pub mod Outer
+mod Counted
+mod Closing
+pub mod Linking
+mod Adding
+mod DoneSides
+mod InsideAt
+mod StandingItem
+mod WrongStanding
+mod WorldsMore
+mod Parts

@@ -1,1 +1,4 @@
 pub mod Between
+pub mod BetweenInterfaces
+pub mod Standing
+pub mod BetweenWorlds

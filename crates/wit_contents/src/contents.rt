@@ -7,13 +7,14 @@ ghost use Rattle.wit_contents.specs.Between.{AddsFiles, MakeContents};
 ghost use Rattle.wit_syntax.specs.Foreign.{foreign_packages};
 ghost use Rattle.wit_arena.specs.Whole.{dep};
 
+use crate::declared::resolve_interfaces;
+use crate::world::resolve_worlds;
 use std::alloc::{AllocError, Global};
 use wit_entries::entries::Entries;
 use wit_entries::scope::Required;
 use wit_files::FileNames;
 use wit_foreign::foreign_deps;
 use wit_front::foreign::ForeignArenas;
-use wit_interfaces::declared::resolve_interfaces;
 use wit_items::interfaces::Interfaces;
 use wit_items::items::{Item, declared_items};
 use wit_links::includes::Worlds;
@@ -22,7 +23,6 @@ use wit_tree::tree::PackageFile;
 use wit_tree::{ParseResult, Span};
 use wit_types::{Arena, InterfacePlace, TypeDef, TypePlace, WorldPlace};
 use wit_values::{Row, TextTable, beside};
-use wit_worlds::world::resolve_worlds;
 
 /// The interfaces and the worlds of files, where types of other packages are first used, and which of
 /// these have to be resources.

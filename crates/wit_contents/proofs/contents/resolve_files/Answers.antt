@@ -16,9 +16,9 @@ use Rattle.wit_items.specs.Items.{item_behind, others_of}
 use Rattle.wit_item_names.specs.Interfaces.{front_of}
 use Rattle.wit_front.specs.Front.{IsFront}
 use Rattle.wit_uses.specs.Between.{Emits}
-use Rattle.wit_interfaces.specs.Between.{AreOuter, IsWrongNow}
-use Rattle.wit_interfaces.proofs.Outer.{all_outer}
-use Rattle.wit_worlds.specs.Between.{arenas, IsWrongWorldNow}
+use Rattle.wit_contents.specs.BetweenInterfaces.{AreOuter, IsWrongNow}
+use Rattle.wit_contents.proofs.Outer.{all_outer}
+use Rattle.wit_contents.specs.BetweenWorlds.{arenas, IsWrongWorldNow}
 use Rattle.wit_uses.proofs.Telling.{stability_both}
 use Rattle.wit_contents.proofs.Files.{sided_both, sound_both, uses_usable, held_within, wrong_interface, wrong_world}
 use Rattle.wit_contents.proofs.Fronting.{front_started, front_taken, lent_front, lent_placed, lent_enough, lent_index, worlds_enough, worlds_index}

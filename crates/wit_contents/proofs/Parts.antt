@@ -1,0 +1,156 @@
+-- The parts of a world, put together, and the world that has them.
+use Rattle.std.proofs.Common.{◌≡◌, ◌⊎◌, ◌+◌, ℕ, zero, suc, Bool, List, ◌∷◌, [], ◌++◌, Some, length, map, inl, inr, refl, sym, ap, ◌∙◌, subst, arith}
+use Rattle.std.specs.Prelude.{slice_get}
+use Rattle.std.specs.List.{flat_map}
+use Rattle.std.proofs.lemmas.List.{length-map}
+use Rattle.wit_type_tree.specs.declared.leaves.Id.{Id}
+use Rattle.wit_tree.specs.declared.tree.Include.{Include}
+use Rattle.wit_tree.specs.declared.tree.WorldSide.{WorldSide}
+use Rattle.wit_tree.specs.declared.tree.WorldSide.TheVariants.{Imported, Exported}
+use Rattle.wit_types.specs.declared.types.TypeDef.{TypeDef}
+use Rattle.wit_type_tree.specs.declared.error.ParseError.{ParseError}
+use Rattle.wit_types.specs.declared.types.TypeOwner.{TypeOwner}
+use Rattle.wit_types.specs.declared.types.TypeOwner.TheVariants as owner
+use Rattle.wit_functions.specs.declared.function.Function.{Function}
+use Rattle.wit_model.specs.declared.interface.Interface.{Interface}
+use Rattle.wit_model.specs.declared.world.World.{World}
+use Rattle.wit_syntax.specs.Address.{Address}
+use Rattle.wit_syntax.specs.Broken.{IsBrokenScope, IsSetterAlone, Refused}
+use Rattle.wit_syntax.specs.Fault.{Fault}
+use Rattle.wit_syntax.specs.Function.{functions}
+use Rattle.wit_syntax.specs.Scope.{in_turn, includes}
+use Rattle.wit_syntax.specs.Sides.{IsBrokenSides, SideItem, inline_items, item_inline, side_items}
+use Rattle.wit_syntax.specs.Notes.{IsBrokenStability}
+use Rattle.wit_syntax.specs.Source.{Item, ScopeName, address, declared_attributes, item_id, item_notes, local_id, scope_names}
+use Rattle.wit_syntax.proofs.Inline.{length-inline_behind}
+use Rattle.wit_syntax.proofs.Lists.{at_back}
+use Rattle.wit_arena.specs.Resolving.{Cell, Names, Required, cells}
+use Rattle.wit_arena.specs.Resolved.{AddsSides, AddsWorld, AreLegalSides, AreSoundScopes, IsBrokenItemStability, IsNameless, OfInclude, OwnStability, interfaces_at, worlds_at}
+use Rattle.wit_arena.specs.SideItems.{AreSideItems, settled}
+use Rattle.wit_arena.specs.Whole.{AreIncludes, type_imports}
+use Rattle.wit_externs.specs.Held.{externs_behind}
+use Rattle.wit_externs.specs.Links.{AreLinksPlaced, AreRightLinks}
+use Rattle.wit_externs.specs.declared.held.HeldExtern.{HeldExtern}
+use Rattle.wit_items.specs.Told.{AreOf, notes_behind}
+use Rattle.wit_uses.specs.Between.{Emits}
+use Rattle.wit_item_entries.specs.Between.{AddsTurn}
+use Rattle.wit_item_entries.specs.Body.{IsWrongBody}
+use Rattle.wit_uses.proofs.Telling.{world_told}
+use Rattle.wit_contents.specs.declared.world.WorldParts.{WorldParts}
+use Rattle.wit_contents.specs.BetweenWorlds.{AreWorldParts, IsAddedWorld, arenas}
+use Rattle.wit_links.specs.Includes.{AreStable}
+use Rattle.wit_world_sides.specs.Settled.{none_of}
+use Rattle.wit_world_sides.specs.Sides.{entries_on}
+use Rattle.wit_contents.specs.Standing.{AreConsecutive}
+use Rattle.wit_links.proofs.Leading.{links_wider}
+use Rattle.wit_world_sides.proofs.SideKeys.{AreMade}
+use Rattle.wit_world_sides.proofs.SideEntries.{AreAt, at_from, entries_are}
+
+-- an element is the first, or one of those behind it
+at_cons : {X : Type 0} (x : X) (xs : List X) (k : ℕ) (y : X) → slice_get (x ∷ xs) k ≡ Some y → (x ≡ y) ⊎ ((j : ℕ) × (slice_get xs j ≡ Some y))
+at_cons x xs zero y at = inl cc
+at_cons x xs (suc k) y at = inr (k, at)
+
+-- where each of so many interfaces that are written in an item is, behind the declared ones and those that were written before
+module _ (foreign : List Address) (is inside : List Interface) (ss : List Address) (item : Item) (counted : length (interfaces_at foreign is) ≡ length is) (known : length ss ≡ length inside) where
+  inline_stands : (k : ℕ) (s : Address) → slice_get (map address (inline_items item)) k ≡ Some s → slice_get (interfaces_at foreign is ++ (ss ++ map address (inline_items item))) ((length is + length inside) + k) ≡ Some s
+  inline_stands k s at =
+      let us = map address (inline_items item) in
+      let place : (length is + length inside) + k ≡ length (interfaces_at foreign is) + (length ss + k) = omega (arith, counted, known) in
+      ap (slice_get (interfaces_at foreign is ++ (ss ++ us))) place ∙ at_back (interfaces_at foreign is) (ss ++ us) (length ss + k) s (at_back ss us k s at)
+
+  inline_places : (hs : List HeldExtern) (ids : List ℕ) → side_items item ≡ externs_behind hs → length ids ≡ length (flat_map item_inline (externs_behind hs)) → AreConsecutive (length is + length inside) ids → AreAt (interfaces_at foreign is ++ (ss ++ map address (inline_items item))) ids (map address (inline_items item))
+  inline_places hs ids same count follow =
+      let us = map address (inline_items item) in
+      let long : length ids ≡ length us = count ∙ ap (λ (l : List SideItem). length (flat_map item_inline l)) (sym same) ∙ sym (length-inline_behind item [] (side_items item)) ∙ sym (length-map (inline_items item) address) in
+      at_from (interfaces_at foreign is ++ (ss ++ us)) (length is + length inside) ids us long follow.each inline_stands
+
+  -- so what was put on a side stands there
+  pub entries_stand : (side : WorldSide) (hs : List HeldExtern) (fs : List Function) (ids : List ℕ) → side_items item ≡ externs_behind hs → AreLinksPlaced (interfaces_at foreign is) item.top hs → AreRightLinks hs → AreMade hs fs → length ids ≡ length (flat_map item_inline (externs_behind hs)) → AreConsecutive (length is + length inside) ids → AreSideItems (interfaces_at foreign is ++ (ss ++ map address (inline_items item))) item.top side (side_items item) fs (map address (inline_items item)) (entries_on side hs fs ids)
+  entries_stand side hs fs ids same placed right made count follow =
+      let us = map address (inline_items item) in
+      let all = interfaces_at foreign is ++ (ss ++ us) in
+      subst (λ (xs : List SideItem). AreSideItems all item.top side xs fs us (entries_on side hs fs ids)) (sym same) (entries_are all item.top side hs fs ids us (links_wider (interfaces_at foreign is) (ss ++ us) item.top hs placed) right made count (inline_places hs ids same count follow))
+
+-- what its names and what stands on its sides add, with what was put there, and its includes
+pub parts_are : (foreign others : List Address) (is : List Interface) (old mid new : List TypeDef) (ws : List World) (inside now : List Interface) (ss : List Address) (item : Item) (p : WorldParts) (types kept : Names) (turn held : List Id) (own : List Required) (fs : List Function) (ids : List ℕ) (hs : List HeldExtern) (closed : Bool) → length (interfaces_at foreign is) ≡ length is → length ss ≡ length inside → AddsTurn old mid (cells foreign is) (owner.World (length ws)) (scope_names item) types turn own → Emits own p.required.items (λ rs. AddsSides (cells foreign is) (length is) (address item) types mid new inside now fs rs (side_items item) (inline_items item)) → length now ≡ length inside + length (inline_items item) → side_items item ≡ externs_behind hs → AreLinksPlaced (interfaces_at foreign is) item.top hs → AreRightLinks hs → AreMade hs fs → length ids ≡ length (flat_map item_inline (externs_behind hs)) → AreConsecutive (length is + length inside) ids → held ≡ turn → kept ≡ types → ((xs : List ScopeName) (is : List Include) → held ≡ map local_id xs → closed ≡ none_of is → p.sides.imports ≡ settled is (type_imports xs kept ++ entries_on Imported hs fs ids)) → ((is : List Include) → closed ≡ none_of is → p.sides.exports ≡ settled is (entries_on Exported hs fs ids)) → closed ≡ none_of (includes item) → ((f : Fault) → IsSetterAlone item f → ⊥) → AreOf (item_notes item) p.notes → AreIncludes (worlds_at others ws) item p.includes → AreWorldParts foreign others is old new ws inside now ss item p
+parts_are foreign others is old mid new ws inside now ss item p types kept turn held own fs ids hs closed counted known names emits grown same placed right made count follow lent stored imports exports shut paired told included =
+    let order = names.adds.order in
+    let us = map address (inline_items item) in
+    let all = interfaces_at foreign is ++ (ss ++ us) in
+    record {
+      told = told;
+      types = types;
+      middle = mid;
+      adds = names.adds;
+      own = names.handled.list;
+      ended = names.handled.ended;
+      functions = fs;
+      rest = emits.own;
+      requires = emits.list ∙ ap (λ (l : List Required). l ++ emits.own) names.handled.added;
+      sides = emits.holds;
+      grown = grown;
+      imported = entries_on Imported hs fs ids;
+      imports = imports (in_turn (scope_names item) order) (includes item) (lent ∙ names.turn) shut ∙ ap (λ (t : Names). settled (includes item) (type_imports (in_turn (scope_names item) order) t ++ entries_on Imported hs fs ids)) stored;
+      are_imported = entries_stand foreign is inside ss item counted known Imported hs fs ids same placed right made count follow;
+      exported = entries_on Exported hs fs ids;
+      are_exported = entries_stand foreign is inside ss item counted known Exported hs fs ids same placed right made count follow;
+      exports = exports (includes item) shut;
+      paired = paired;
+      includes = included;
+    }
+
+-- the world that has them is added
+pub world_adds : (foreign others : List Address) (is : List Interface) (old new : List TypeDef) (ws ws' : List World) (inside now : List Interface) (ss : List Address) (item : Item) (p : WorldParts) → AreWorldParts foreign others is old new ws inside now ss item p → IsAddedWorld ws ws' (item_id item) (notes_behind p.notes) p.sides.imports p.sides.exports p.includes → AddsWorld foreign others is old new (arenas ws inside ss) (arenas ws' now (ss ++ map address (inline_items item))) p.required.items item
+world_adds foreign others is old new ws ws' inside now ss item p parts a = record {
+  added = a.added;
+  last = a.last;
+  more = refl;
+  says = world_told (item_id item) (item_notes item) p.notes a.added parts.told a.says;
+  types = parts.types;
+  middle = parts.middle;
+  adds = parts.adds;
+  own = parts.own;
+  ended = parts.ended;
+  functions = parts.functions;
+  rest = parts.rest;
+  requires = parts.requires;
+  sides = parts.sides;
+  imported = parts.imported;
+  imports = a.imports ∙ parts.imports;
+  are_imported = parts.are_imported;
+  exported = parts.exported;
+  are_exported = parts.are_exported;
+  exports = a.exports ∙ parts.exports;
+  paired = parts.paired;
+  includes = subst (AreIncludes (worlds_at others ws) item) (sym a.includes) parts.includes;
+}
+
+-- an item and those that are written in it are sound, and legal
+pub sounds_all : (i : Item) (us : List Item) → ((f : Fault) → IsBrokenScope (scope_names i) (functions i) f → IsNameless (scope_names i) (functions i)) → AreSoundScopes us → AreSoundScopes (i ∷ us)
+sounds_all i us one more = record {
+  sound = λ k u f at broken. elim (at_cons i us k u at) [
+    | inl here ↦ subst (λ (x : Item). IsNameless (scope_names x) (functions x)) here (one f (subst (λ (x : Item). IsBrokenScope (scope_names x) (functions x) f) (sym here) broken))
+    | inr later ↦ more.sound later.0 u f later.1 broken
+  ];
+}
+
+pub sides_all : (i : Item) (us : List Item) → ((f : Fault) → IsBrokenSides i f → ⊥) → AreLegalSides us → AreLegalSides (i ∷ us)
+sides_all i us one more = record {
+  legal = λ k u f at broken. elim (at_cons i us k u at) [
+    | inl here ↦ one f (subst (λ (x : Item). IsBrokenSides x f) (sym here) broken)
+    | inr later ↦ more.legal later.0 u f later.1 broken
+  ];
+}
+
+-- what is known of the names of an item whose owner and names are lent
+pub turn_item : (old mid : List TypeDef) (cs : List Cell) (o p : TypeOwner) (i j : Item) (types : Names) (ids : List Id) (rs : List Required) → o ≡ p → i ≡ j → AddsTurn old mid cs o (scope_names i) types ids rs → AddsTurn old mid cs p (scope_names j) types ids rs
+turn_item old mid cs o p i j types ids rs whose same h = subst (λ (x : TypeOwner). AddsTurn old mid cs x (scope_names j) types ids rs) whose (subst (λ (x : Item). AddsTurn old mid cs o (scope_names x) types ids rs) same h)
+
+pub body_item : (old : List TypeDef) (cs : List Cell) (by_name : Names) (o p : TypeOwner) (i j : Item) (e : ParseError) → o ≡ p → i ≡ j → Refused (IsWrongBody old cs by_name o i) e → Refused (IsWrongBody old cs by_name p j) e
+body_item old cs by_name o p i j e whose same h = subst (λ (x : TypeOwner). Refused (IsWrongBody old cs by_name x j) e) whose (subst (λ (x : Item). Refused (IsWrongBody old cs by_name o x) e) same h)
+
+-- nothing is wrong with the stability of a world, where nothing is with its own attributes nor with its includes
+pub world_stable : (w : Item) → ((f : Fault) → IsBrokenStability (declared_attributes w.declared) f → ⊥) → AreStable (includes w) → (f : Fault) → IsBrokenItemStability w f → ⊥
+world_stable w own stable f (OwnStability h) = own f h
+world_stable w own stable f (OfInclude i among h) = stable.each i among f h

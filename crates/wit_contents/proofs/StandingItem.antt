@@ -1,0 +1,50 @@
+-- What stands on the sides of an item: what is added by it, and what is wrong with it, are those of the item.
+use Rattle.std.proofs.Common.{◌≡◌, ℕ, List, [], length, map, sym, ap, ◌∙◌, subst}
+use Rattle.std.specs.List.{flat_map}
+use Rattle.wit_type_tree.specs.declared.error.ParseError.{ParseError}
+use Rattle.wit_type_tree.specs.declared.leaves.Id.{Id}
+use Rattle.wit_tree.specs.declared.tree.WorldSide.{WorldSide}
+use Rattle.wit_types.specs.declared.types.TypeDef.{TypeDef}
+use Rattle.wit_functions.specs.declared.function.Function.{Function}
+use Rattle.wit_model.specs.declared.interface.Interface.{Interface}
+use Rattle.wit_syntax.specs.Address.{Address}
+use Rattle.wit_syntax.specs.Broken.{Refused}
+use Rattle.wit_syntax.specs.Fault.{Fault}
+use Rattle.wit_syntax.specs.Function.{SourceFunction, functions}
+use Rattle.wit_syntax.specs.Sides.{SideItem, inline_items, item_inline, names_on, side_items}
+use Rattle.wit_syntax.specs.Source.{Item, address, scope_names}
+use Rattle.wit_syntax.proofs.Inline.{length-inline_behind}
+use Rattle.wit_syntax.proofs.Refusing.{refused_weaker}
+use Rattle.wit_arena.specs.Resolving.{Cell, Names, Required, env_of}
+use Rattle.wit_arena.specs.Resolved.{AddsSides}
+use Rattle.wit_refusals.specs.Names.{Name}
+use Rattle.wit_rules.specs.declared.function_scope.FunctionScope.{FunctionScope}
+use Rattle.wit_rules.specs.Signatures.{IsWrongFunctionAmong, functions_behind}
+use Rattle.wit_signatures.specs.Taken.{name_of_id}
+use Rattle.wit_externs.specs.declared.held.HeldExtern.{HeldExtern}
+use Rattle.wit_externs.specs.Held.{externs_behind}
+use Rattle.wit_scopes.specs.Held.{Held as HeldName}
+use Rattle.wit_uses.specs.Between.{Emits}
+use Rattle.wit_uses.specs.Body.{IsStandingBy}
+use Rattle.wit_contents.specs.Standing.{IsWrongExtern, IsWrongInside, IsWrongStanding, StandingExtern, StandingFunction, StandingInside, WrongExtern, WrongFunction, WrongInside}
+
+module _ (i : Item) (xs : List HeldName) (hs : List HeldExtern) (own : IsStandingBy i xs hs) where
+  -- as many interfaces are written there as stand on its sides
+  pub standing_count : length (flat_map item_inline (externs_behind hs)) ≡ length (inline_items i)
+  standing_count = ap (λ (l : List SideItem). length (flat_map item_inline l)) (sym own.sides) ∙ sym (length-inline_behind i [] (side_items i))
+
+  module _ (cs : List Cell) (count : ℕ) (old : List TypeDef) (inside : List Interface) where
+    pub standing_adds : (names : Names) (new : List TypeDef) (now : List Interface) (fs : List Function) (before after : List Required) → Emits before after (λ rs. (s : Address) → AddsSides cs count s names old new inside now fs rs (externs_behind hs) (inline_items i)) → Emits before after (λ rs. AddsSides cs count (address i) names old new inside now fs rs (side_items i) (inline_items i))
+    standing_adds names new now fs before after e = record {
+      own = e.own;
+      list = e.list;
+      holds = subst (λ (l : List SideItem). AddsSides cs count (address i) names old new inside now fs e.own l (inline_items i)) (sym own.sides) (e.holds (address i));
+    }
+
+    standing_wrong : (by_name : Names) (scope : FunctionScope) (before : WorldSide → List Name) (ids : List Id) (f : Fault) → functions_behind scope ≡ functions i → ((s : WorldSide) → before s ≡ names_on s (map name_of_id ids)) → IsWrongExtern old cs count inside by_name scope (scope_names i) before (address i) hs (inline_items i) f → IsWrongStanding old cs count inside by_name scope.names.now ids i hs f
+    standing_wrong by_name scope before ids f all are (WrongFunction mid grown wrong) = StandingFunction mid grown (subst (λ (l : List SourceFunction). IsWrongFunctionAmong (env_of scope.names.now) mid (scope_names i) l f) all wrong)
+    standing_wrong by_name scope before ids f all are (WrongExtern wrong) = StandingExtern before are wrong
+    standing_wrong by_name scope before ids f all are (WrongInside wrong) = StandingInside (subst (λ (l : List SideItem). IsWrongInside old cs count inside by_name scope.names.now (address i) l (inline_items i) f) (sym own.sides) wrong)
+
+    pub standing_refused : {scope : FunctionScope} (by_name : Names) (before : WorldSide → List Name) (ids : List Id) (e : ParseError) → Refused (IsWrongExtern old cs count inside by_name scope (scope_names i) before (address i) hs (inline_items i)) e → functions_behind scope ≡ functions i → ((s : WorldSide) → before s ≡ names_on s (map name_of_id ids)) → Refused (IsWrongStanding old cs count inside by_name scope.names.now ids i hs) e
+    standing_refused {scope} by_name before ids e refused all are = refused_weaker (IsWrongExtern old cs count inside by_name scope (scope_names i) before (address i) hs (inline_items i)) (IsWrongStanding old cs count inside by_name scope.names.now ids i hs) e (λ f wrong. standing_wrong by_name scope before ids f all are wrong) refused

@@ -1,0 +1,97 @@
+-- Worlds that are added one after another, with the interfaces that are written in them, and one more.
+use Rattle.std.proofs.Common.{◌≡◌, ◌≤◌, ◌+◌, ℕ, zero, suc, List, [], ◌∷◌, ◌++◌, All, Some, length, map, inl, inr, refl, sym, ap, ◌∙◌, subst, append_assoc, arith}
+use Rattle.std.specs.Prelude.{slice_get}
+use Rattle.std.specs.List.{flat_map}
+use Rattle.std.proofs.lemmas.Grind.{flat_map-append}
+use Rattle.std.proofs.lemmas.List.{append-nil, length-append, length-map, map-append}
+use Rattle.wit_types.specs.declared.types.TypeDef.{TypeDef}
+use Rattle.wit_model.specs.declared.interface.Interface.{Interface}
+use Rattle.wit_model.specs.declared.world.World.{World}
+use Rattle.wit_syntax.specs.Address.{Address}
+use Rattle.wit_syntax.specs.Sides.{inline_items, with_inline}
+use Rattle.wit_syntax.specs.Source.{Item, address}
+use Rattle.wit_syntax.proofs.Lists.{at_split}
+use Rattle.wit_arena.specs.Resolving.{Required}
+use Rattle.wit_arena.specs.Resolved.{AddsEach, AddsWorld, AddsWorlds, AreLegalSides, AreSoundScopes, front_worlds}
+use Rattle.wit_scopes.specs.Front.{AreNamesPlaced}
+use Rattle.wit_items.specs.declared.items.Item.{Item as HeldItem}
+use Rattle.wit_items.specs.Front.{AreItemsPlaced}
+use Rattle.wit_uses.specs.Between.{Emits}
+use Rattle.wit_contents.specs.BetweenWorlds.{arenas}
+
+-- what items add, and one behind them
+module _ {X : Type 0} (Adds : List TypeDef → List TypeDef → X → X → List Required → Item → Type 0) where
+  each_more : (a b c : List TypeDef) (i j k : X) (rs own : List Required) (ws : List Item) (w : Item) → AddsEach Adds a b i j rs ws → Adds b c j k own w → AddsEach Adds a c i k (rs ++ own) (ws ++ w ∷ [])
+  each_more a b c i j k rs own [] w p q = subst (λ (x : List TypeDef). AddsEach Adds x c i k (rs ++ own) (w ∷ [])) p.0 (subst (λ (x : X). AddsEach Adds b c x k (rs ++ own) (w ∷ [])) p.1 (subst (λ (r : List Required). AddsEach Adds b c j k (r ++ own) (w ∷ [])) (sym p.2) (c, k, own, [], sym (append-nil own), q, (refl, refl, refl))))
+  each_more a b c i j k rs own (v ∷ ws) w p q = (p.0, p.1, p.2, p.3 ++ own, ap (λ (r : List Required). r ++ own) p.4 ∙ append_assoc p.2 p.3 own, p.5, each_more p.0 b c p.1 j k p.3 own ws w p.6 q)
+
+-- the addresses of the interfaces that are written in worlds
+abbrev pub addresses_in : List Item → List Address
+addresses_in ws = map address (flat_map inline_items ws)
+
+pub addresses_more : (ws : List Item) (w : Item) → addresses_in (ws ++ w ∷ []) ≡ addresses_in ws ++ map address (inline_items w)
+addresses_more ws w = ap (map address) (flat_map-append inline_items ws (w ∷ []) ∙ ap (λ (l : List Item). flat_map inline_items ws ++ l) (append-nil (inline_items w))) ∙ map-append address (flat_map inline_items ws) (inline_items w)
+
+pub with_more : (ws : List Item) (w : Item) → flat_map with_inline (ws ++ w ∷ []) ≡ flat_map with_inline ws ++ with_inline w
+with_more ws w = flat_map-append with_inline ws (w ∷ []) ∙ ap (λ (l : List Item). flat_map with_inline ws ++ l) (append-nil (with_inline w))
+
+-- some worlds were added, of whose interfaces these are the addresses
+pub record AreWorldsTo (foreign others : List Address) (is : List Interface) (old new : List TypeDef) (front ws : List World) (inside : List Interface) (before after : List Required) (items : List Item) : Type 0 where
+  pub emits : Emits before after (λ rs. AddsWorlds foreign others is old new (front_worlds front) (arenas ws inside (addresses_in items)) rs items)
+  pub put : length (addresses_in items) ≡ length inside
+
+pub worlds_none : (foreign others : List Address) (is : List Interface) (old : List TypeDef) (front : List World) (inside : List Interface) (before : List Required) → inside ≡ [] → AreWorldsTo foreign others is old old front front inside before before []
+worlds_none foreign others is old front inside before bare = record {
+  emits = record { own = []; list = sym (append-nil before); holds = (refl, ap (λ (l : List Interface). arenas front l []) bare, refl) };
+  put = sym (ap length bare);
+}
+
+pub worlds_more : (foreign others : List Address) (is : List Interface) (old mid new : List TypeDef) (front ws ws' : List World) (inside now : List Interface) (before between after : List Required) (items : List Item) (w : Item) → AreWorldsTo foreign others is old mid front ws inside before between items → ((ss : List Address) → length ss ≡ length inside → Emits between after (λ rs. AddsWorld foreign others is mid new (arenas ws inside ss) (arenas ws' now (ss ++ map address (inline_items w))) rs w)) → length now ≡ length inside + length (inline_items w) → AreWorldsTo foreign others is old new front ws' now before after (items ++ w ∷ [])
+worlds_more foreign others is old mid new front ws ws' inside now before between after items w p adds grown =
+    let q = adds (addresses_in items) p.put in
+    let more = addresses_more items w in
+    record {
+      emits = record {
+        own = p.emits.own ++ q.own;
+        list = q.list ∙ ap (λ (l : List Required). l ++ q.own) p.emits.list ∙ append_assoc before p.emits.own q.own;
+        holds = subst (λ (ss : List Address). AddsWorlds foreign others is old new (front_worlds front) (arenas ws' now ss) (p.emits.own ++ q.own) (items ++ w ∷ [])) (sym more) (each_more (AddsWorld foreign others is) old mid new (front_worlds front) (arenas ws inside (addresses_in items)) (arenas ws' now (addresses_in items ++ map address (inline_items w))) p.emits.own q.own items w p.emits.holds q.holds);
+      };
+      put = (
+          let long = ap length more ∙ length-append (addresses_in items) (map address (inline_items w)) in
+          let count = length-map (inline_items w) address in
+          let before = p.put in
+          omega (arith, long, count, before, grown));
+    }
+
+-- the worlds have one more
+pub longer : (ws ws' : List World) (x : World) (n : ℕ) → ws' ≡ ws ++ x ∷ [] → n ≤ length ws → n ≤ length ws'
+longer ws ws' x n one enough = omega (arith, ap length one, length-append ws (x ∷ []), enough)
+
+-- an item at hand, of whose names the place is known
+pub placed_one : (front : List Address) (items : List HeldItem) (k : ℕ) (x : HeldItem) → slice_get items k ≡ Some x → AreItemsPlaced front items → AreItemsPlaced front (x ∷ [])
+placed_one front items k x at placed = record {
+  each = λ j i there. subst (λ (y : HeldItem). AreNamesPlaced front y.names.items) (one x j i there) (placed.each k x at);
+  imported = λ j i there. subst (λ (y : HeldItem). All (λ ns. AreNamesPlaced front ns.items) y.imported.items) (one x j i there) (placed.imported k x at);
+  exported = λ j i there. subst (λ (y : HeldItem). All (λ ns. AreNamesPlaced front ns.items) y.exported.items) (one x j i there) (placed.exported k x at);
+}
+  where
+    one : (x : HeldItem) (j : ℕ) (i : HeldItem) → slice_get (x ∷ []) j ≡ Some i → x ≡ i
+    one x zero i there = cc
+    one x (suc j) i there = absurd (let f : ⊥ = cc in f)
+
+-- items behind others, all sound, and all legal
+pub sounds_both : (xs ys : List Item) → AreSoundScopes xs → AreSoundScopes ys → AreSoundScopes (xs ++ ys)
+sounds_both xs ys first second = record {
+  sound = λ k u f at broken. elim (at_split xs ys k u at) [
+    | inl early ↦ first.sound k u f early broken
+    | inr late ↦ second.sound late.0 u f late.2 broken
+  ];
+}
+
+pub sides_both : (xs ys : List Item) → AreLegalSides xs → AreLegalSides ys → AreLegalSides (xs ++ ys)
+sides_both xs ys first second = record {
+  legal = λ k u f at broken. elim (at_split xs ys k u at) [
+    | inl early ↦ first.legal k u f early broken
+    | inr late ↦ second.legal late.0 u f late.2 broken
+  ];
+}

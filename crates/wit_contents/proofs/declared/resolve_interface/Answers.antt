@@ -1,0 +1,59 @@
+use Rattle.std.proofs.Common.{Some, length, inl, sym, ap, ◌∙◌, subst}
+use Rattle.std.proofs.lemmas.Result.{err_from_is_err_and}
+use Rattle.wit_type_tree.specs.declared.leaves.Id.{Id}
+use Rattle.wit_syntax.specs.Broken.{IsBrokenScope}
+use Rattle.wit_syntax.specs.Fault.{Fault}
+use Rattle.wit_syntax.specs.Function.{functions}
+use Rattle.wit_syntax.specs.Notes.{IsBrokenStability}
+use Rattle.wit_syntax.specs.Sides.{IsBrokenSides}
+use Rattle.wit_syntax.specs.Source.{Item, declared_attributes, declared_name, is_world, item_id, scope_names}
+use Rattle.wit_arena.specs.Resolved.{AddsInterface, IsNameless}
+use Rattle.wit_items.specs.Items.{item_behind}
+use Rattle.wit_items.specs.Interfaces.{cells_of}
+use Rattle.wit_uses.specs.Between.{Emits}
+use Rattle.wit_contents.proofs.declared.resolve_interface.Goals as goal
+
+pub interface_of-requires-clause-sort : goal.interface_of-requires-clause-sort
+interface_of-requires-clause-sort c = ap is_world c.scope-scope.ensures.item ∙ c.requires.sort
+
+pub interface_of-requires-clause-called : goal.interface_of-requires-clause-called
+interface_of-requires-clause-called c = ap Some c.in_ok-from_str.ensures ∙ c.requires.id.1 ∙ ap (λ (i : Item). declared_name i.declared) (sym c.scope-scope.ensures.item)
+
+pub interface_of-requires-clause-stands : goal.interface_of-requires-clause-stands
+interface_of-requires-clause-stands c = ap (λ (i : Id). i.span) c.requires.id.0 ∙ ap (λ (i : Item). (item_id i).span) (sym c.scope-scope.ensures.item)
+
+pub interface_of-requires-clause-named : goal.interface_of-requires-clause-named
+interface_of-requires-clause-named c = c.scope-scope.ensures.names ∙ c.requires.named ∙ ap scope_names (sym c.scope-scope.ensures.item)
+
+pub interface_of-requires-clause-placed : goal.interface_of-requires-clause-placed
+interface_of-requires-clause-placed c = rw c.scope-scope.ensures.held c.requires.placed
+
+pub returns-in_err-interface-clause-refused : goal.returns-in_err-interface-clause-refused
+returns-in_err-interface-clause-refused c =
+    let p = err_from_is_err_and c.from_residual-in_err-interface.result c.from_residual-in_err-interface.ensures.1 in
+    rw (p.1, p.2) (rw (c.next_id-place.ensures, c.scope-scope.ensures.item) at c.in_err-interface.ensures.refused)
+
+pub returns-in_err-add_interface-clause-refused : goal.returns-in_err-add_interface-clause-refused
+returns-in_err-add_interface-clause-refused c =
+    let p = err_from_is_err_and c.from_residual-in_err-add_interface.result c.from_residual-in_err-add_interface.ensures.1 in
+    rw (p.1, p.2) (inl c.in_err-add_interface.ensures.refused)
+
+pub returns-clause-added : goal.returns-clause-added
+returns-clause-added c =
+    let is = c.args.interfaces.now in
+    let item = item_behind c.args.item.now in
+    let one : Emits c.args.required.now.items c.interface_of.new.required.items (λ rs. AddsInterface (cells_of is) (length is.arena) c.args.types.now c.interface_of.new.types c.in_ok-interface.interface rs item) = rw (c.next_id-place.ensures, c.scope-scope.ensures.item) at c.in_ok-interface.ensures.adds in
+    record {
+      own = one.own;
+      list = one.list;
+      holds = record { added = c.in_ok-interface.interface; last = c.in_ok-add_interface.ensures.added; adds = one.holds };
+    }
+
+pub returns-clause-stable : goal.returns-clause-stable
+returns-clause-stable c = subst (λ (i : Item). (f : Fault) → IsBrokenStability (declared_attributes i.declared) f → ⊥) c.scope-scope.ensures.item c.in_ok-interface.ensures.stable
+
+pub returns-clause-sound : goal.returns-clause-sound
+returns-clause-sound c = subst (λ (i : Item). (f : Fault) → IsBrokenScope (scope_names i) (functions i) f → IsNameless (scope_names i) (functions i)) c.scope-scope.ensures.item c.in_ok-interface.ensures.sound
+
+pub returns-clause-sided : goal.returns-clause-sided
+returns-clause-sided c = subst (λ (i : Item). (f : Fault) → IsBrokenSides i f → ⊥) c.scope-scope.ensures.item c.in_ok-interface.ensures.sided

@@ -1,0 +1,132 @@
+use Rattle.std.proofs.Common.{◌≡◌, ℕ, ◌<◌, ◌≤◌, ◌+◌, ◌++◌, ◌∷◌, List, [], All, arith, take, length, get_or, true, false, not, Some, ap, sym, ◌∙◌}
+use Rattle.std.specs.Prelude.{slice_get, map}
+use Rattle.std.proofs.lemmas.Option.{slice_get-get_or}
+use Rattle.std.proofs.lemmas.Result.{err_from_is_err_and}
+use Rattle.std.proofs.lemmas.List.{length-append}
+use Rattle.wit_types.specs.declared.types.TypeDef.{TypeDef}
+use Rattle.wit_model.specs.declared.interface.Interface.{Interface}
+use Rattle.wit_syntax.specs.Address.{Address}
+use Rattle.wit_syntax.specs.Source.{Item, is_declared_world, is_world, scope_names}
+use Rattle.wit_syntax.specs.Scope.{in_order, interfaces_of}
+use Rattle.wit_arena.specs.Resolving.{Required, cells}
+use Rattle.wit_arena.specs.Resolved.{AddsDeclared, IsWrongInterface}
+use Rattle.wit_types.specs.declared.types.TypeOwner.TheVariants.{Interface as OfInterface}
+use Rattle.wit_item_names.specs.Interfaces.{front_of}
+use Rattle.wit_uses.specs.Between.{Emits}
+use Rattle.wit_contents.specs.BetweenInterfaces.{IsWrongNow}
+use Rattle.wit_items.specs.declared.items.Item.{Item as HeldItem}
+use Rattle.wit_syntax.proofs.Lists.{read_map, map_map}
+use Rattle.wit_syntax.proofs.Kept.{kept_next, kept_past}
+use Rattle.wit_syntax.proofs.Refusing.{refused_weaker}
+use Rattle.wit_arena.proofs.Adding.{sounds_more}
+use Rattle.wit_uses.proofs.Emitting.{emits_more}
+use Rattle.wit_uses.proofs.Telling.{interface_stable, sides_more, stability_more}
+use Rattle.wit_items.specs.declared.items.Declared.{Declared as HeldDeclared}
+use Rattle.wit_items.specs.Items.{declared_behind, item_behind, names_behind}
+use Rattle.wit_scopes.proofs.Declaring.{alike}
+use Rattle.wit_contents.proofs.declared.resolve_interfaces.Goals.{in-Interface+in_ok-resolve_interface-in-Interface, in-World, in-Inline}
+use Rattle.wit_contents.proofs.declared.resolve_interfaces.Goals as goal
+
+-- the interfaces have one more
+grown : (foreign : List Address) (old new : List TypeDef) (is is' : List Interface) (rs : List Required) (w : Item) (n : ℕ) → AddsDeclared foreign old new is is' rs w → n ≤ length is → n ≤ length is'
+grown foreign old new is is' rs w n one enough = omega (arith, ap length one.last, length-append is (one.added ∷ []), enough)
+
+item_at : (items : List HeldItem) (places : List ℕ) (k : ℕ) (x : HeldItem) → All (λ (place : ℕ). place < length items) places → k < length places → x ≡ get_or items (get_or places k 0) x → slice_get items (get_or places k 0) ≡ Some x
+item_at items places k x within lt is = slice_get-get_or items (get_or places k 0) x (within k 0 lt) ∙ ap Some (sym is)
+
+pub resolve_interface-requires-clause-sort : goal.resolve_interface-requires-clause-sort
+resolve_interface-requires-clause-sort c = ap (λ (d : HeldDeclared). is_declared_world (declared_behind d)) c.in-Interface.is
+
+pub resolve_interface-requires-clause-placed : goal.resolve_interface-requires-clause-placed
+resolve_interface-requires-clause-placed c =
+    let there = item_at c.args.items.now c.args.places.now c.loop-place.place-index c.index-items-place.result c.requires.within c.loop-place-test.true c.index-items-place.is in
+    rw c.loop-place.invariant.foreign (c.requires.placed.each _ c.index-items-place.result there)
+
+pub resolve_interface-requires-clause-front : goal.resolve_interface-requires-clause-front
+resolve_interface-requires-clause-front c = rw c.loop-place.invariant.foreign c.loop-place.invariant.front
+
+pub resolve_interface-requires-clause-index : goal.resolve_interface-requires-clause-index
+resolve_interface-requires-clause-index c = rw c.loop-place.invariant.foreign c.loop-place.invariant.index
+
+pub returns-clause-index : goal.returns-clause-index
+returns-clause-index c = rw c.loop-place.invariant.foreign c.loop-place.invariant.index
+
+pub resolve_interface-requires-clause-named : goal.resolve_interface-requires-clause-named
+resolve_interface-requires-clause-named c =
+    let items = c.args.items.now in
+    let p = get_or c.args.places.now c.loop-place.place-index 0 in
+    let x = c.index-items-place.result in
+    let within : p < length items = c.requires.within c.loop-place.place-index 0 c.loop-place-test.true in
+    let there : slice_get items p ≡ Some x = slice_get-get_or items p x within ∙ ap Some (sym c.index-items-place.is) in
+    alike names_behind (λ i. scope_names (item_behind i)) items (c.requires.named ∙ map_map scope_names item_behind items) p x there
+
+pub returns-in_err-resolve_interface-in-Interface-clause-refused : goal.returns-in_err-resolve_interface-in-Interface-clause-refused
+returns-in_err-resolve_interface-in-Interface-clause-refused c =
+    let q = err_from_is_err_and c.from_residual.result c.from_residual.ensures.1 in
+    let ws = map item_behind c.args.items.now in
+    let places = c.args.places.now in
+    let i = c.loop-place.place-index in
+    let p = get_or places i 0 in
+    let x = c.index-items-place.result in
+    let w = item_behind x in
+    let now = c.loop-place.interfaces in
+    let at : slice_get places i ≡ Some p = slice_get-get_or places i 0 c.loop-place-test.true in
+    let within : p < length c.args.items.now = c.requires.within i 0 c.loop-place-test.true in
+    let there : slice_get ws p ≡ Some w = read_map item_behind c.args.items.now p x within c.index-items-place.is in
+    let sort : is_world w ≡ false = ap (λ (d : HeldDeclared). is_declared_world (declared_behind d)) c.in-Interface.is in
+    let foreign = front_of c.args.interfaces.now.foreign.now in
+    rw (q.1, q.2) (refused_weaker (IsWrongInterface c.loop-place.types (cells foreign now.arena) now.by_name (OfInterface (length now.arena)) w) (IsWrongNow foreign c.args.types.now c.args.interfaces.now.arena ws places) _ (λ f h. record {
+      count = i;
+      item = w;
+      next = record { place = p; next = at; at = there };
+      sort = sort;
+      mid = c.loop-place.types;
+      before = now.arena;
+      rs = c.loop-place.invariant.added.own;
+      added = c.loop-place.invariant.added.holds;
+      by_name = now.by_name;
+      index = c.loop-place.invariant.index;
+      wrong = h;
+    }) (rw c.loop-place.invariant.foreign at c.in_err-resolve_interface-in-Interface.ensures.refused))
+
+pub loop-place-preserved : goal.loop-place-preserved
+loop-place-preserved c =
+    let ws = map item_behind c.args.items.now in
+    let places = c.args.places.now in
+    let i = c.loop-place.place-index in
+    let p = get_or places i 0 in
+    let x = c.index-items-place.result in
+    let w = item_behind x in
+    let front = interfaces_of (in_order ws (take i places)) in
+    let was = c.loop-place.invariant in
+    let at : slice_get places i ≡ Some p = slice_get-get_or places i 0 c.loop-place-test.true in
+    let within : p < length c.args.items.now = c.requires.within i 0 c.loop-place-test.true in
+    let there : slice_get ws p ≡ Some w = read_map item_behind c.args.items.now p x within c.index-items-place.is in
+    let before = c.loop-place.interfaces.arena in
+    elim c.match-item.branch [
+      | in-Interface+in_ok-resolve_interface-in-Interface b ↦ (
+          let sort : not (is_world w) ≡ true = ap (λ (d : HeldDeclared). not (is_declared_world (declared_behind d))) b.in-Interface.is in
+          let more : interfaces_of (in_order ws (take (i + 1) places)) ≡ front ++ w ∷ [] = kept_next (λ v. not (is_world v)) ws places i p w at there sort in
+          let own : is_world w ≡ false = ap (λ (d : HeldDeclared). is_declared_world (declared_behind d)) b.in-Interface.is in
+          let e = b.in_ok-resolve_interface-in-Interface.ensures in
+          let new = b.resolve_interface.new.interfaces.arena in
+          let types = b.resolve_interface.new.types in
+          let foreign = front_of c.args.interfaces.now.foreign.now in
+          let required = b.resolve_interface.new.required.items in
+          let one : Emits c.loop-place.required.items required (λ rs. AddsDeclared foreign c.loop-place.types types before new rs w) = rw was.foreign at e.added in
+          let same = e.foreign ∙ was.foreign in
+          rw (b.interfaces-is, b.types-is, b.required-is) (record {
+            foreign = same;
+            front = grown foreign c.loop-place.types types before new one.own w _ one.holds was.front;
+            added = rw more (emits_more (AddsDeclared foreign) c.args.types.now c.loop-place.types types c.args.interfaces.now.arena before new c.args.required.now.items c.loop-place.required.items required front w was.added one);
+            index = rw same at e.index;
+            sound = rw more (sounds_more front w was.sound e.sound);
+            stable = rw more (stability_more front w was.stable (interface_stable w own e.stable));
+            sided = rw more (sides_more front w was.sided e.sided);
+          }))
+      | in-World b ↦ (
+          let sort : not (is_world w) ≡ false = ap (λ (d : HeldDeclared). not (is_declared_world (declared_behind d))) b.in-World.is in
+          let past : interfaces_of (in_order ws (take (i + 1) places)) ≡ front = kept_past (λ v. not (is_world v)) ws places i p w at there sort in
+          rw (b.interfaces-is, b.types-is, b.required-is) (record { foreign = was.foreign; front = was.front; added = rw past was.added; index = was.index; sound = rw past was.sound; stable = rw past was.stable; sided = rw past was.sided }))
+      | in-Inline b ↦ absurd (c.requires.outer.outer p w _ _ _ _ _ there (ap declared_behind b.in-Inline.is))
+    ]

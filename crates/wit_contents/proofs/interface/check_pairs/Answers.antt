@@ -1,0 +1,9 @@
+use Rattle.std.proofs.Common.{arith}
+use Rattle.wit_item_entries.proofs.NoFunctions.{none_unpaired}
+use Rattle.wit_contents.proofs.interface.check_pairs.Goals as goal
+
+pub returns-then-functions-eq0-clause-paired : goal.returns-then-functions-eq0-clause-paired
+returns-then-functions-eq0-clause-paired c = none_unpaired c.args.functions.now (omega (arith, c.if-functions-eq0.true))
+
+pub check_setters-requires : goal.check_setters-requires
+check_setters-requires c = c.requires (omega (arith, c.if-functions-eq0.false))

@@ -1,0 +1,125 @@
+use Rattle.std.proofs.Common.{◌≡◌, ◌++◌, ◌+◌, true, List, length, map, sym, ap, ◌∙◌, subst}
+use Rattle.std.specs.List.{flat_map}
+use Rattle.std.proofs.lemmas.Result.{err_from_is_err_and}
+use Rattle.wit_type_tree.specs.declared.leaves.Id.{Id}
+use Rattle.wit_tree.specs.declared.tree.WorldSide.{WorldSide}
+use Rattle.wit_tree.specs.declared.tree.WorldSide.TheVariants.{Imported}
+use Rattle.wit_syntax.specs.Function.{functions}
+use Rattle.wit_syntax.specs.Repeats.{AllDiffer}
+use Rattle.wit_syntax.specs.Sides.{item_function, items_on, names_on, on_side, side_items}
+use Rattle.wit_syntax.specs.Signature.{IsUnpairedSetter}
+use Rattle.wit_syntax.specs.Source.{address, scope_names}
+use Rattle.wit_syntax.proofs.Refusing.{refused_weaker}
+use Rattle.wit_syntax.proofs.Repeated.{differ_none}
+use Rattle.wit_arena.specs.Resolving.{env_of}
+use Rattle.wit_refusals.specs.Names.{Name}
+use Rattle.wit_sides.specs.Sides.{taken_on}
+use Rattle.wit_rules.specs.Held.{function_behind}
+use Rattle.wit_rules.specs.Signatures.{AreResults, HaveOwners}
+use Rattle.wit_signatures.specs.Taken.{IsTwiceAmong, name_key, name_of_function, name_of_id}
+use Rattle.wit_externs.specs.Clash.{all_on, names_of_items}
+use Rattle.wit_externs.specs.Held.{externs_behind}
+use Rattle.wit_scopes.specs.Held.{name_behind}
+use Rattle.wit_items.specs.Items.{item_behind}
+use Rattle.wit_items.specs.Interfaces.{cells_of}
+use Rattle.wit_uses.specs.Body.{IsStandingBy}
+use Rattle.wit_item_entries.proofs.Behind.{all_names, front_folded, taken_before}
+use Rattle.wit_uses.proofs.ItemSides.{held_functions}
+use Rattle.wit_item_entries.proofs.Owners.{owners, turn_has}
+use Rattle.wit_contents.specs.Standing.{IsWrongStanding, StandingNames, StandingSetter}
+use Rattle.wit_contents.proofs.Closing.{alone_closed, none_alone}
+use Rattle.wit_contents.proofs.StandingItem.{standing_adds, standing_count, standing_refused}
+use Rattle.wit_contents.proofs.standing.resolve_standing.Goals as goal
+
+pub returns-in_err-define_names-clause-refused : goal.returns-in_err-define_names-clause-refused
+returns-in_err-define_names-clause-refused c =
+    let p = err_from_is_err_and c.from_residual-in_err-define_names.result c.from_residual-in_err-define_names.ensures.1 in
+    let i = item_behind c.args.item.now in
+    let ids = c.args.names.now.turn.items in
+    let before = c.new-taken.result.imports in
+    let same : before ++ map name_of_id c.deref-2.result.now ≡ map name_of_id ids = ap (λ (l : List Name). l ++ map name_of_id c.deref-2.result.now) (c.new-taken.ensures Imported) ∙ ap (map name_of_id) c.deref-2.ensures.value in
+    rw (p.1, p.2) (refused_weaker (IsTwiceAmong (before ++ map name_of_id c.deref-2.result.now)) (IsWrongStanding c.args.types.now (cells_of c.args.interfaces.now) (length c.args.interfaces.now.arena) c.args.inside.now c.args.interfaces.now.by_name c.args.names.now.types ids i c.args.externs.now) _ (λ f h. StandingNames (front_folded (scope_names i) (side_items i) ids f c.requires.turn (subst (λ (l : List Name). IsTwiceAmong l f) same h))) c.in_err-define_names.ensures.refused)
+
+pub resolve_externs-requires-clause-owners : goal.resolve_externs-requires-clause-owners
+resolve_externs-requires-clause-owners c =
+    let i = item_behind c.args.item.now in
+    let xs = c.args.item.now.names.items in
+    let hs = c.args.externs.now in
+    let own : IsStandingBy i xs hs = record { names = sym c.requires.named; sides = c.requires.sides } in
+    let types = c.args.names.now.types in
+    let fns : map function_behind c.deref-3.result.now ≡ functions i = ap (map function_behind) c.deref-3.ensures.value ∙ held_functions i xs hs c.in_ok-written.written.items own c.in_ok-written.ensures in
+    subst (HaveOwners (env_of types)) (sym fns) (owners i (env_of types) (turn_has (scope_names i) c.args.names.now.turn.items types c.requires.turn c.requires.listed))
+
+pub resolve_externs-requires-clause-functions : goal.resolve_externs-requires-clause-functions
+resolve_externs-requires-clause-functions c = sym c.in_ok-written.ensures ∙ ap (map function_behind) (sym c.deref-3.ensures.value)
+
+pub returns-in_err-standing-clause-refused : goal.returns-in_err-standing-clause-refused
+returns-in_err-standing-clause-refused c =
+    let p = err_from_is_err_and c.from_residual-in_err-standing.result c.from_residual-in_err-standing.ensures.1 in
+    let i = item_behind c.args.item.now in
+    let xs = c.args.item.now.names.items in
+    let hs = c.args.externs.now in
+    let own : IsStandingBy i xs hs = record { names = sym c.requires.named; sides = c.requires.sides } in
+    let ids = c.args.names.now.turn.items in
+    let types = c.args.names.now.types in
+    let taken = c.define_names.new.taken in
+    let fns : map function_behind c.deref-3.result.now ≡ functions i = ap (map function_behind) c.deref-3.ensures.value ∙ held_functions i xs hs c.in_ok-written.written.items own c.in_ok-written.ensures in
+    let results : AreResults c.in_ok-results.results (scope_names i) = subst (AreResults c.in_ok-results.results) (ap (map name_behind) c.deref.ensures.value ∙ sym own.names) c.in_ok-results.ensures in
+    rw (p.1, p.2) (standing_refused i xs hs own (cells_of c.args.interfaces.now) (length c.args.interfaces.now.arena) c.args.types.now c.args.inside.now c.args.interfaces.now.by_name (λ s. taken_on s taken) ids _ (c.in_err-standing.ensures.refused (address i) (scope_names i) (record { names = all_names (scope_names i) ids types c.requires.turn c.requires.listed; results = results })) fns (λ s. taken_before s c.new-taken.result taken c.deref-2.result.now ids c.new-taken.ensures c.in_ok-define_names.ensures.defined c.deref-2.ensures.value))
+
+pub returns-clause-adds : goal.returns-clause-adds
+returns-clause-adds c =
+    let i = item_behind c.args.item.now in
+    let xs = c.args.item.now.names.items in
+    let hs = c.args.externs.now in
+    let own : IsStandingBy i xs hs = record { names = sym c.requires.named; sides = c.requires.sides } in
+    standing_adds i xs hs own (cells_of c.args.interfaces.now) (length c.args.interfaces.now.arena) c.args.types.now c.args.inside.now c.args.names.now.types c.resolve_externs.new.types c.resolve_externs.new.inside c.in_ok-standing.standing.functions.items c.args.names.now.required.items c.resolve_externs.new.required.items c.in_ok-standing.ensures.adds
+
+pub returns-clause-grown : goal.returns-clause-grown
+returns-clause-grown c =
+    let i = item_behind c.args.item.now in
+    let xs = c.args.item.now.names.items in
+    let hs = c.args.externs.now in
+    let own : IsStandingBy i xs hs = record { names = sym c.requires.named; sides = c.requires.sides } in
+    c.in_ok-standing.ensures.grown ∙ ap (λ n. length c.args.inside.now + n) (standing_count i xs hs own)
+
+pub returns-clause-named : goal.returns-clause-named
+returns-clause-named c = c.in_ok-standing.ensures.named ∙ ap (map name_of_function) (ap (map function_behind) c.deref-3.ensures.value ∙ c.in_ok-written.ensures)
+
+pub returns-clause-differ : goal.returns-clause-differ
+returns-clause-differ c = λ side.
+    let ids = c.args.names.now.turn.items in
+    let items = externs_behind c.args.externs.now in
+    let none : AllDiffer (map name_key (taken_on side c.new-taken.result)) = subst (λ (l : List Name). AllDiffer (map name_key l)) (sym (c.new-taken.ensures side)) differ_none in
+    let before : taken_on side c.define_names.new.taken ≡ names_on side (map name_of_id ids) = taken_before side c.new-taken.result c.define_names.new.taken c.deref-2.result.now ids c.new-taken.ensures c.in_ok-define_names.ensures.defined c.deref-2.ensures.value in
+    let all : taken_on side c.resolve_externs.new.taken ≡ all_on side ids items = c.in_ok-standing.ensures.defined side ∙ ap (λ (l : List Name). l ++ names_of_items (items_on side items)) before in
+    subst (λ (l : List Name). AllDiffer (map name_key l)) all (c.in_ok-standing.ensures.differ side (c.in_ok-define_names.ensures.differ side none))
+
+pub returns-clause-legal : goal.returns-clause-legal
+returns-clause-legal c =
+    let i = item_behind c.args.item.now in
+    let xs = c.args.item.now.names.items in
+    let hs = c.args.externs.now in
+    let own : IsStandingBy i xs hs = record { names = sym c.requires.named; sides = c.requires.sides } in
+    let fns : map function_behind c.deref-3.result.now ≡ functions i = ap (map function_behind) c.deref-3.ensures.value ∙ held_functions i xs hs c.in_ok-written.written.items own c.in_ok-written.ensures in
+    let results : AreResults c.in_ok-results.results (scope_names i) = subst (AreResults c.in_ok-results.results) (ap (map name_behind) c.deref.ensures.value ∙ sym own.names) c.in_ok-results.ensures in
+    let are = all_names (scope_names i) c.args.names.now.turn.items c.args.names.now.types c.requires.turn c.requires.listed in
+    rw (sym fns) (c.in_ok-standing.ensures.legal (scope_names i) (record { names = are; results = results }))
+
+pub check_closed-requires : goal.check_closed-requires
+check_closed-requires c = λ side.
+    let ids = c.args.names.now.turn.items in
+    let items = externs_behind c.args.externs.now in
+    let before : taken_on side c.define_names.new.taken ≡ names_on side (map name_of_id ids) = taken_before side c.new-taken.result c.define_names.new.taken c.deref-2.result.now ids c.new-taken.ensures c.in_ok-define_names.ensures.defined c.deref-2.ensures.value in
+    c.in_ok-standing.ensures.defined side ∙ ap (λ (l : List Name). l ++ names_of_items (items_on side items)) before ∙ ap (λ (l : List Id). all_on side l items) (sym c.deref-4.ensures.value)
+
+pub returns-in_err-check_closed-clause-refused : goal.returns-in_err-check_closed-clause-refused
+returns-in_err-check_closed-clause-refused c =
+    let p = err_from_is_err_and c.from_residual-in_err-check_closed.result c.from_residual-in_err-check_closed.ensures.1 in
+    let i = item_behind c.args.item.now in
+    let ids = c.args.names.now.turn.items in
+    let items = externs_behind c.args.externs.now in
+    rw (p.1, p.2) (refused_weaker (λ f. (c.args.closed ≡ true) × ((s : WorldSide) × IsUnpairedSetter (on_side s (flat_map item_function items)) f)) (IsWrongStanding c.args.types.now (cells_of c.args.interfaces.now) (length c.args.interfaces.now.arena) c.args.inside.now c.args.interfaces.now.by_name c.args.names.now.types ids i c.args.externs.now) _ (λ f h. StandingSetter (alone_closed i items c.requires.sides c.args.closed c.requires.closed h.1.0 f h.0 h.1.1)) c.in_err-check_closed.ensures.refused)
+
+pub returns-clause-paired : goal.returns-clause-paired
+returns-clause-paired c = none_alone (item_behind c.args.item.now) (externs_behind c.args.externs.now) c.requires.sides c.args.closed c.requires.closed c.in_ok-check_closed.ensures.paired

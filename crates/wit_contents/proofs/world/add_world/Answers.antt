@@ -1,0 +1,32 @@
+use Rattle.std.proofs.Common.{◌≡◌, ◌++◌, List, refl, ap, ◌∙◌}
+use Rattle.wit_arena.proofs.Indexing.{index_world}
+use Rattle.wit_arena.specs.Resolving.{Required}
+use Rattle.wit_contents.specs.declared.world.WorldParts.{WorldParts}
+use Rattle.wit_contents.proofs.world.add_world.Goals as goal
+
+pub returns-clause-required : goal.returns-clause-required
+returns-clause-required c = c.in_ok-add_required.ensures ∙ ap (λ (l : List Required). c.args.required.now.items ++ l) (c.deref.ensures.value ∙ ap (λ (p : WorldParts). p.required.items) c.in_ok-parts.ensures.both.0)
+
+pub returns-clause-added : goal.returns-clause-added
+returns-clause-added c =
+    let parts = c.in_ok-parts.ensures.both.0 in
+    let name = rw c.in_ok-parts.ensures.both.1 at c.from_str-name.ensures in
+    record {
+      added = _;
+      last = c.in_ok-place.ensures.ok;
+      says = record {
+        name = name;
+        span = refl;
+        docs = ap (λ (p : WorldParts). p.notes.docs) parts;
+        stability = ap (λ (p : WorldParts). p.notes.stability) parts;
+        no_package = refl;
+      };
+      imports = c.fitted.ensures ∙ ap (λ (p : WorldParts). p.sides.imports) parts;
+      exports = c.fitted-2.ensures ∙ ap (λ (p : WorldParts). p.sides.exports) parts;
+      includes = ap (λ (p : WorldParts). p.includes) parts;
+    }
+
+pub returns-clause-index : goal.returns-clause-index
+returns-clause-index c = λ others enough index.
+    let name = rw c.in_ok-parts.ensures.both.1 at c.from_str-name.ensures in
+    rw (c.in_ok-place.ensures.ok, c.in_ok-put.ensures.ok, c.in_ok-from_str.ensures.ok, c.in_ok-place.ensures.id) (index_world others c.args.worlds.now.arena c.args.worlds.now.by_name _ c.args.id.name.now enough index name)

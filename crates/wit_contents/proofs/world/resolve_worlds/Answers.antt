@@ -1,0 +1,162 @@
+use Rattle.std.proofs.Common.{◌≡◌, ◌<◌, ◌+◌, ◌++◌, ◌∷◌, ℕ, List, [], All, take, length, get_or, true, false, Some, refl, ap, sym, ◌∙◌, subst}
+use Rattle.std.specs.Prelude.{slice_get, map}
+use Rattle.std.specs.List.{flat_map}
+use Rattle.std.proofs.lemmas.List.{take_all}
+use Rattle.std.proofs.lemmas.Option.{slice_get-get_or}
+use Rattle.std.proofs.lemmas.Result.{err_from_is_err_and}
+use Rattle.wit_items.specs.declared.items.Item.{Item as HeldItem}
+use Rattle.wit_item_names.specs.Interfaces.{front_of}
+use Rattle.wit_items.specs.Interfaces.{cells_of}
+use Rattle.wit_syntax.specs.Source.{is_declared_world, is_world, scope_names}
+use Rattle.wit_syntax.specs.Scope.{in_order, worlds_of}
+use Rattle.wit_syntax.specs.Sides.{with_inline}
+use Rattle.wit_items.specs.Inside.{inside_behind, names_written}
+use Rattle.wit_arena.specs.Resolved.{IsWrongWorld}
+use Rattle.wit_types.specs.declared.types.TypeOwner.TheVariants.{World as OfWorld}
+use Rattle.wit_syntax.proofs.Lists.{read_map, map_map}
+use Rattle.wit_syntax.proofs.Kept.{kept_next, kept_past}
+use Rattle.wit_syntax.proofs.Refusing.{refused_weaker}
+use Rattle.wit_uses.proofs.Telling.{stability_more}
+use Rattle.wit_items.specs.declared.items.Declared.{Declared as HeldDeclared}
+use Rattle.wit_items.specs.Items.{declared_behind, item_behind, names_behind, others_of}
+use Rattle.wit_contents.specs.BetweenWorlds.{IsWrongWorldNow, arenas}
+use Rattle.wit_scopes.proofs.Declaring.{alike}
+use Rattle.wit_contents.proofs.Linking.{links_more}
+use Rattle.wit_contents.proofs.WorldsMore.{AreWorldsTo, addresses_in, longer, placed_one, sides_both, sounds_both, with_more, worlds_more, worlds_none}
+use Rattle.wit_contents.proofs.world.resolve_worlds.Goals.{in-World+in_ok-resolve_world-in-World, in-Interface, in-Inline}
+use Rattle.wit_contents.proofs.world.resolve_worlds.Goals as goal
+
+-- the item at hand
+item_at : (items : List HeldItem) (places : List ℕ) (k : ℕ) (x : HeldItem) → All (λ (place : ℕ). place < length items) places → k < length places → x ≡ get_or items (get_or places k 0) x → slice_get items (get_or places k 0) ≡ Some x
+item_at items places k x within lt is = slice_get-get_or items (get_or places k 0) x (within k 0 lt) ∙ ap Some (sym is)
+
+pub loop-place-init : goal.loop-place-init
+loop-place-init c = record {
+  added = worlds_none (front_of c.args.interfaces.now.foreign.now) (others_of c.args.files.now) c.args.interfaces.now.arena c.args.types.now c.args.worlds.now.arena c.args.inside.now c.args.required.now.items c.requires.bare;
+  entries = refl;
+  front = c.requires.worlds_front;
+  index = c.requires.worlds_index;
+  sound = record { sound = λ k u f at broken. absurd (let wrong : ⊥ = cc in wrong) };
+  stable = record { legal = λ k u f at broken. absurd (let wrong : ⊥ = cc in wrong) };
+  sided = record { legal = λ k u f at broken. absurd (let wrong : ⊥ = cc in wrong) };
+  linked = record { usable = λ k u link at among. absurd (let wrong : ⊥ = cc in wrong) };
+}
+
+pub resolve_world-requires-clause-sort : goal.resolve_world-requires-clause-sort
+resolve_world-requires-clause-sort c = ap (λ (d : HeldDeclared). is_declared_world (declared_behind d)) c.in-World.is
+
+pub resolve_world-requires-clause-filed : goal.resolve_world-requires-clause-filed
+resolve_world-requires-clause-filed c = c.requires.filed.each _ c.index-items-place.result (item_at c.args.items.now c.args.places.now c.loop-place.place-index c.index-items-place.result c.requires.within c.loop-place-test.true c.index-items-place.is)
+
+pub resolve_world-requires-clause-placed : goal.resolve_world-requires-clause-placed
+resolve_world-requires-clause-placed c =
+    let there = item_at c.args.items.now c.args.places.now c.loop-place.place-index c.index-items-place.result c.requires.within c.loop-place-test.true c.index-items-place.is in
+    placed_one (front_of c.args.interfaces.now.foreign.now) c.args.items.now _ c.index-items-place.result there c.requires.placed
+
+pub resolve_world-requires-clause-written : goal.resolve_world-requires-clause-written
+resolve_world-requires-clause-written c = λ side.
+    let items = c.args.items.now in
+    let x = c.index-items-place.result in
+    let there = item_at items c.args.places.now c.loop-place.place-index x c.requires.within c.loop-place-test.true c.index-items-place.is in
+    alike (inside_behind side) (λ i. names_written side (item_behind i)) items (c.requires.written side ∙ map_map (names_written side) item_behind items) _ x there
+
+pub resolve_world-requires-clause-entries : goal.resolve_world-requires-clause-entries
+resolve_world-requires-clause-entries c = rw c.loop-place.invariant.entries c.requires.entries
+
+pub resolve_world-requires-clause-named : goal.resolve_world-requires-clause-named
+resolve_world-requires-clause-named c =
+    let items = c.args.items.now in
+    let p = get_or c.args.places.now c.loop-place.place-index 0 in
+    let x = c.index-items-place.result in
+    let within : p < length items = c.requires.within c.loop-place.place-index 0 c.loop-place-test.true in
+    let there : slice_get items p ≡ Some x = slice_get-get_or items p x within ∙ ap Some (sym c.index-items-place.is) in
+    alike names_behind (λ i. scope_names (item_behind i)) items (c.requires.named ∙ map_map scope_names item_behind items) p x there
+
+pub returns-in_err-resolve_world-in-World-clause-refused : goal.returns-in_err-resolve_world-in-World-clause-refused
+returns-in_err-resolve_world-in-World-clause-refused c =
+    let q = err_from_is_err_and c.from_residual.result c.from_residual.ensures.1 in
+    let cs = cells_of c.args.interfaces.now in
+    let by_name = c.args.interfaces.now.by_name in
+    let ws = map item_behind c.args.items.now in
+    let places = c.args.places.now in
+    let i = c.loop-place.place-index in
+    let p = get_or places i 0 in
+    let x = c.index-items-place.result in
+    let w = item_behind x in
+    let now = c.loop-place.worlds in
+    let at : slice_get places i ≡ Some p = slice_get-get_or places i 0 c.loop-place-test.true in
+    let within : p < length c.args.items.now = c.requires.within i 0 c.loop-place-test.true in
+    let there : slice_get ws p ≡ Some w = read_map item_behind c.args.items.now p x within c.index-items-place.is in
+    let sort : is_world w ≡ true = ap (λ (d : HeldDeclared). is_declared_world (declared_behind d)) c.in-World.is in
+    let foreign = front_of c.args.interfaces.now.foreign.now in
+    let files = c.args.files.now in
+    let others = others_of files in
+    rw (q.1, q.2) (refused_weaker (IsWrongWorld files c.loop-place.types cs (length c.args.interfaces.now.arena) c.loop-place.inside by_name now.by_name (OfWorld (length now.arena)) w) (IsWrongWorldNow files foreign others c.args.types.now c.args.interfaces.now.arena by_name c.args.worlds.now.arena ws places) _ (λ f h. record {
+      count = i;
+      item = w;
+      next = record { place = p; next = at; at = there };
+      sort = sort;
+      mid = c.loop-place.types;
+      before = arenas now.arena c.loop-place.inside (addresses_in (worlds_of (in_order ws (take i places))));
+      rs = c.loop-place.invariant.added.emits.own;
+      added = c.loop-place.invariant.added.emits.holds;
+      worlds_by_name = now.by_name;
+      worlds_index = c.loop-place.invariant.index;
+      wrong = h;
+    }) c.in_err-resolve_world-in-World.ensures.refused)
+
+pub loop-place-preserved : goal.loop-place-preserved
+loop-place-preserved c =
+    let is = c.args.interfaces.now.arena in
+    let ws = map item_behind c.args.items.now in
+    let places = c.args.places.now in
+    let i = c.loop-place.place-index in
+    let p = get_or places i 0 in
+    let x = c.index-items-place.result in
+    let w = item_behind x in
+    let front = worlds_of (in_order ws (take i places)) in
+    let was = c.loop-place.invariant in
+    let at : slice_get places i ≡ Some p = slice_get-get_or places i 0 c.loop-place-test.true in
+    let within : p < length c.args.items.now = c.requires.within i 0 c.loop-place-test.true in
+    let there : slice_get ws p ≡ Some w = read_map item_behind c.args.items.now p x within c.index-items-place.is in
+    let before = c.loop-place.worlds.arena in
+    elim c.match-item.branch [
+      | in-World+in_ok-resolve_world-in-World b ↦ (
+          let sort : is_world w ≡ true = ap (λ (d : HeldDeclared). is_declared_world (declared_behind d)) b.in-World.is in
+          let more : worlds_of (in_order ws (take (i + 1) places)) ≡ front ++ w ∷ [] = kept_next is_world ws places i p w at there sort in
+          let e = b.in_ok-resolve_world-in-World.ensures in
+          let new = b.resolve_world.new.worlds.arena in
+          let types = b.resolve_world.new.types in
+          let required = b.resolve_world.new.required.items in
+          let foreign = front_of c.args.interfaces.now.foreign.now in
+          let others = others_of c.args.files.now in
+          let one = e.added (addresses_in front) was.added.put in
+          let all : flat_map with_inline (worlds_of (in_order ws (take (i + 1) places))) ≡ flat_map with_inline front ++ with_inline w = ap (flat_map with_inline) more ∙ with_more front w in
+          rw (b.worlds-is, b.types-is, b.required-is, b.inside-is) (record {
+            entries = e.entries ∙ was.entries;
+            front = longer before new one.holds.added _ one.holds.last was.front;
+            added = rw more (worlds_more foreign others is c.args.types.now c.loop-place.types types c.args.worlds.now.arena before new c.loop-place.inside b.resolve_world.new.inside c.args.required.now.items c.loop-place.required.items required front w was.added e.added e.grown);
+            index = e.index;
+            sound = rw all (sounds_both (flat_map with_inline front) (with_inline w) was.sound e.sound);
+            stable = rw more (stability_more front w was.stable e.stable);
+            sided = rw all (sides_both (flat_map with_inline front) (with_inline w) was.sided e.sided);
+            linked = rw more (links_more c.args.files.now front w was.linked e.linked);
+          }))
+      | in-Interface b ↦ (
+          let sort : is_world w ≡ false = ap (λ (d : HeldDeclared). is_declared_world (declared_behind d)) b.in-Interface.is in
+          let past : worlds_of (in_order ws (take (i + 1) places)) ≡ front = kept_past is_world ws places i p w at there sort in
+          rw (b.worlds-is, b.types-is, b.required-is, b.inside-is) (record { entries = was.entries; front = was.front; added = rw past was.added; index = was.index; sound = rw past was.sound; stable = rw past was.stable; sided = rw past was.sided; linked = rw past was.linked }))
+      | in-Inline b ↦ (
+          let sort : is_world w ≡ false = ap (λ (d : HeldDeclared). is_declared_world (declared_behind d)) b.in-Inline.is in
+          let past : worlds_of (in_order ws (take (i + 1) places)) ≡ front = kept_past is_world ws places i p w at there sort in
+          rw (b.worlds-is, b.types-is, b.required-is, b.inside-is) (record { entries = was.entries; front = was.front; added = rw past was.added; index = was.index; sound = rw past was.sound; stable = rw past was.stable; sided = rw past was.sided; linked = rw past was.linked }))
+    ]
+
+pub returns-clause-added : goal.returns-clause-added
+returns-clause-added c =
+    let ws = map item_behind c.args.items.now in
+    let places = c.args.places.now in
+    let i = c.loop-place.place-index in
+    let now = c.loop-place.worlds in
+    let p = subst (λ (l : List ℕ). AreWorldsTo (front_of c.args.interfaces.now.foreign.now) (others_of c.args.files.now) c.args.interfaces.now.arena c.args.types.now c.loop-place.types c.args.worlds.now.arena now.arena c.loop-place.inside c.args.required.now.items c.loop-place.required.items (worlds_of (in_order ws l))) (take_all i places c.loop-place-test.false) c.loop-place.invariant.added in
+    record { own = p.emits.own; list = p.emits.list; holds = (addresses_in (worlds_of (in_order ws places)), p.emits.holds) }

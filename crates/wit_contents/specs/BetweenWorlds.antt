@@ -1,0 +1,81 @@
+-- What a world adds to the arenas, part by part, and which world is wrong.
+use Rattle.std.specs.Prelude.{◌≡◌, ℕ, ◌+◌, true, List, [], ◌∷◌, ◌++◌, length, map, take}
+use Rattle.wit_type_tree.specs.declared.leaves.Id.{Id}
+use Rattle.wit_tree.specs.declared.tree.PackageFile.{PackageFile}
+use Rattle.wit_types.specs.declared.types.TypeDef.{TypeDef}
+use Rattle.wit_types.specs.declared.types.TypeOwner.TheVariants as owner
+use Rattle.wit_tree.specs.declared.tree.WorldSide.TheVariants.{Imported, Exported}
+use Rattle.wit_functions.specs.declared.function.Function.{Function}
+use Rattle.wit_model.specs.declared.interface.Interface.{Interface}
+use Rattle.wit_model.specs.declared.world.World.{World}
+use Rattle.wit_model.specs.declared.world.WorldInclude.{WorldInclude}
+use Rattle.wit_model.specs.declared.world.WorldKey.{WorldKey}
+use Rattle.wit_model.specs.declared.world.WorldItem.{WorldItem}
+use Rattle.wit_syntax.specs.Address.{Address}
+use Rattle.wit_syntax.specs.Source.{address, Item, is_world, item_notes, scope_names}
+use Rattle.wit_syntax.specs.Scope.{in_order, in_turn, includes, worlds_of}
+use Rattle.wit_syntax.specs.Broken.{IsSetterAlone}
+use Rattle.wit_syntax.specs.Fault.{Fault}
+use Rattle.wit_syntax.specs.Function.{name_types}
+use Rattle.wit_syntax.specs.Shape.{all_handles}
+use Rattle.std.specs.List.{flat_map}
+use Rattle.wit_syntax.specs.Notes.{Notes}
+use Rattle.wit_syntax.specs.Sides.{inline_items, side_items}
+use Rattle.wit_arena.specs.Package.{IsWorld}
+use Rattle.wit_arena.specs.SideItems.{AreSideItems, settled}
+use Rattle.wit_arena.specs.Whole.{type_imports, AreIncludes}
+use Rattle.wit_arena.specs.Resolving.{Names, env_of, cells, Required, AreEnded, IsWorldIndex}
+use Rattle.wit_arena.specs.Resolved.{interfaces_at, worlds_at, AddsScope, AddsSides, AddsWorlds, WorldArenas, front_worlds, IsNext, IsWrongWorld}
+use Rattle.wit_items.specs.Told.{AreOf}
+use Rattle.wit_contents.specs.declared.world.WorldParts.{WorldParts}
+
+-- a world was added, with these notes, imports, exports and includes
+pub record IsAddedWorld (ws ws' : List World) (id : Id) (n : Notes) (imported exported : List (WorldKey × WorldItem)) (included : List WorldInclude) : Type 0 where
+  pub added : World
+  pub last : ws' ≡ ws ++ added ∷ []
+  pub says : IsWorld id n added
+  pub imports : added.imports ≡ imported
+  pub exports : added.exports ≡ exported
+  pub includes : added.includes ≡ included
+
+-- the worlds, and the interfaces that are written in them, at these addresses
+abbrev pub arenas : List World → List Interface → List Address → WorldArenas
+arenas ws inside ss = record { worlds = ws; inside = inside; addresses = ss }
+
+-- These are the parts of a world, which it adds to the arena of types and brings to that of worlds, where these are the declared interfaces, and
+-- at first those at these addresses; the interfaces that are written in it stand behind those that were written before it.
+pub record AreWorldParts (foreign others : List Address) (is : List Interface) (old new : List TypeDef) (ws : List World) (inside now : List Interface) (ss : List Address) (item : Item) (p : WorldParts) : Type 0 where
+  pub told : AreOf (item_notes item) p.notes
+  pub types : Names
+  pub middle : List TypeDef
+  pub adds : AddsScope old middle (cells foreign is) (owner.World (length ws)) (scope_names item) types
+  pub own : List Required
+  pub ended : AreEnded (env_of types) middle (all_handles (flat_map name_types (in_turn (scope_names item) adds.order))) own
+  pub functions : List Function
+  pub rest : List Required
+  pub requires : p.required.items ≡ own ++ rest
+  pub sides : AddsSides (cells foreign is) (length is) (address item) types middle new inside now functions rest (side_items item) (inline_items item)
+  pub grown : length now ≡ length inside + length (inline_items item)
+  pub imported : List (WorldKey × WorldItem)
+  pub imports : p.sides.imports ≡ settled (includes item) (type_imports (in_turn (scope_names item) adds.order) types ++ imported)
+  pub are_imported : AreSideItems (interfaces_at foreign is ++ (ss ++ map address (inline_items item))) item.top Imported (side_items item) functions (map address (inline_items item)) imported
+  pub exported : List (WorldKey × WorldItem)
+  pub are_exported : AreSideItems (interfaces_at foreign is ++ (ss ++ map address (inline_items item))) item.top Exported (side_items item) functions (map address (inline_items item)) exported
+  pub exports : p.sides.exports ≡ settled (includes item) exported
+  pub paired : (f : Fault) → IsSetterAlone item f → ⊥
+  pub includes : AreIncludes (worlds_at others ws) item p.includes
+
+-- where these are the interfaces, their types were resolved, and these worlds stand in front: once the worlds among some of the items
+-- were added in the order of their places, the next item is a world that is wrong
+pub record IsWrongWorldNow (files : List PackageFile) (foreign others : List Address) (middle : List TypeDef) (is : List Interface) (by_name : Names) (front : List World) (items : List Item) (places : List ℕ) (f : Fault) : Type 0 where
+  pub count : ℕ
+  pub item : Item
+  pub next : IsNext items places count item
+  pub sort : is_world item ≡ true
+  pub mid : List TypeDef
+  pub before : WorldArenas
+  pub rs : List Required
+  pub added : AddsWorlds foreign others is middle mid (front_worlds front) before rs (worlds_of (in_order items (take count places)))
+  pub worlds_by_name : Names
+  pub worlds_index : IsWorldIndex (worlds_at others before.worlds) worlds_by_name
+  pub wrong : IsWrongWorld files mid (cells foreign is) (length is) before.inside by_name worlds_by_name (owner.World (length before.worlds)) item f

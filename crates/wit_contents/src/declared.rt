@@ -1,0 +1,123 @@
+//! Declared interfaces, one after another.
+ghost use Rattle.std.specs.Prelude.{◌≡◌, ◌<◌, ◌≤◌, ◌++◌, ◌∷◌, [], false, All, Some, length, IfErr, OnOk, map};
+ghost use Rattle.wit_types.specs.declared.types.TypeOwner.TheVariants.{Interface as InterfaceOwner};
+ghost use Rattle.wit_syntax.specs.Source.{declared_attributes, declared_name, is_world, item_id, scope_names as the_names};
+ghost use Rattle.wit_syntax.specs.Notes.{IsBrokenStability};
+ghost use Rattle.wit_syntax.specs.Scope.{in_order, interfaces_of};
+ghost use Rattle.wit_syntax.specs.Function.{functions as the_functions};
+ghost use Rattle.wit_syntax.specs.Sides.{IsBrokenSides};
+ghost use Rattle.wit_syntax.specs.Fault.{Fault};
+ghost use Rattle.wit_syntax.specs.Broken.{IsBrokenScope, Refused};
+ghost use Rattle.wit_type_tree.specs.Refusal.{IsWantOfMemory};
+ghost use Rattle.wit_items.specs.Items.{item_behind, names_behind};
+ghost use Rattle.wit_items.specs.Front.{AreItemsPlaced};
+ghost use Rattle.wit_arena.specs.Resolving.{IsIndex};
+ghost use Rattle.wit_arena.specs.Resolved.{AddsDeclared, AddsInterfaces, AreLegalSides, AreSoundScopes, HaveLegalStability, IsNameless, IsWrongInterface};
+ghost use Rattle.wit_item_names.specs.Interfaces.{front_of};
+ghost use Rattle.wit_items.specs.Interfaces.{cells_of};
+ghost use Rattle.wit_uses.specs.Between.{Emits};
+ghost use Rattle.wit_contents.specs.BetweenInterfaces.{AreOuter, IsWrongNow};
+ghost use Rattle.wit_scopes.specs.Front.{AreNamesPlaced};
+
+use crate::interface::interface_of;
+use std::alloc::Global;
+use wit_entries::entries::Entries;
+use wit_entries::scope::Required;
+use wit_items::interfaces::Interfaces;
+use wit_items::items::{Declared, Item};
+use wit_model::Interface;
+use wit_tree::ParseResult;
+use wit_tree::tree::Id;
+use wit_values::Text;
+
+/// Adds a declared interface, under its name.
+fn add_interface(
+    alloc: Global,
+    interfaces: &mut Interfaces<'_, '_, '_>,
+    name: &str,
+    interface: Interface,
+) -> ParseResult<()>
+    requires front { length interfaces.old.foreign.now ≤ length interfaces.old.arena }
+    requires index { IsIndex (cells_of interfaces.old) interfaces.old.by_name }
+    requires named { interface.name ≡ Some name.now }
+    ensures foreign { OnOk result (interfaces.new.foreign ≡ interfaces.old.foreign) }
+    ensures added { OnOk result (interfaces.new.arena ≡ interfaces.old.arena ++ interface ∷ []) }
+    ensures index { OnOk result (IsIndex (cells_of interfaces.new) interfaces.new.by_name) }
+    ensures refused { IfErr result IsWantOfMemory }
+{
+    let place = interfaces.arena.alloc(interface)?;
+    let name = String::from_str(alloc, name)?;
+    interfaces.by_name.put(name, place)?;
+    Ok(())
+}
+
+/// Adds a declared interface with what is told of it, its names, and what is in them, and then its
+/// functions.
+fn resolve_interface<'a>(
+    alloc: Global,
+    item: &Item<'_, 'a>,
+    types: &mut Entries,
+    required: &mut Vec<Required>,
+    interfaces: &mut Interfaces<'_, '_, '_>,
+    id: Id<'a>,
+) -> ParseResult<()>
+    requires id { (id ≡ item_id (item_behind item.now)) × (Some id.name.now ≡ declared_name (item_behind item.now).declared) }
+    requires sort { is_world (item_behind item.now) ≡ false }
+    requires named { names_behind item.now ≡ the_names (item_behind item.now) }
+    requires placed { AreNamesPlaced (front_of interfaces.old.foreign.now) item.now.names.items }
+    requires front { length interfaces.old.foreign.now ≤ length interfaces.old.arena }
+    requires index { IsIndex (cells_of interfaces.old) interfaces.old.by_name }
+    ensures foreign { OnOk result (interfaces.new.foreign ≡ interfaces.old.foreign) }
+    ensures added { OnOk result (Emits required.old.items required.new.items (λ rs. AddsDeclared (front_of interfaces.old.foreign.now) types.old types.new interfaces.old.arena interfaces.new.arena rs (item_behind item.now))) }
+    ensures index { OnOk result (IsIndex (cells_of interfaces.new) interfaces.new.by_name) }
+    ensures stable { OnOk result ((f : Fault) → IsBrokenStability (declared_attributes (item_behind item.now).declared) f → ⊥) }
+    ensures sound { OnOk result ((f : Fault) → IsBrokenScope (the_names (item_behind item.now)) (the_functions (item_behind item.now)) f → IsNameless (the_names (item_behind item.now)) (the_functions (item_behind item.now))) }
+    ensures sided { OnOk result ((f : Fault) → IsBrokenSides (item_behind item.now) f → ⊥) }
+    ensures refused { IfErr result (Refused (IsWrongInterface types.old (cells_of interfaces.old) interfaces.old.by_name (InterfaceOwner (length interfaces.old.arena)) (item_behind item.now))) }
+{
+    let place = interfaces.arena.next_id();
+    let name = Some(Text::from_str(alloc, id.name)?);
+    let scope = item.scope();
+    let interface = interface_of(
+        alloc, &scope, types, required, interfaces, place, name, id.span,
+    )?;
+    add_interface(alloc, interfaces, id.name, interface)?;
+    Ok(())
+}
+
+/// Adds the interfaces among items, in the order of their places, behind those of other packages.
+pub fn resolve_interfaces(
+    alloc: Global,
+    items: &[Item<'_, '_>],
+    types: &mut Entries,
+    required: &mut Vec<Required>,
+    interfaces: &mut Interfaces<'_, '_, '_>,
+    places: &[usize],
+) -> ParseResult<()>
+    requires within { All (λ place. place < length items.now) places.now }
+    requires outer { AreOuter (map item_behind items.now) }
+    requires named { map names_behind items.now ≡ map the_names (map item_behind items.now) }
+    requires placed { AreItemsPlaced (front_of interfaces.old.foreign.now) items.now }
+    requires front { length interfaces.old.foreign.now ≤ length interfaces.old.arena }
+    requires index { IsIndex (cells_of interfaces.old) interfaces.old.by_name }
+    ensures foreign { OnOk result (interfaces.new.foreign ≡ interfaces.old.foreign) }
+    ensures front { OnOk result (length interfaces.old.foreign.now ≤ length interfaces.new.arena) }
+    ensures added { OnOk result (Emits required.old.items required.new.items (λ rs. AddsInterfaces (front_of interfaces.old.foreign.now) types.old types.new interfaces.old.arena interfaces.new.arena rs (interfaces_of (in_order (map item_behind items.now) places.now)))) }
+    ensures index { OnOk result (IsIndex (cells_of interfaces.new) interfaces.new.by_name) }
+    ensures stable { OnOk result (HaveLegalStability (interfaces_of (in_order (map item_behind items.now) places.now))) }
+    ensures sound { OnOk result (AreSoundScopes (interfaces_of (in_order (map item_behind items.now) places.now))) }
+    ensures sided { OnOk result (AreLegalSides (interfaces_of (in_order (map item_behind items.now) places.now))) }
+    ensures refused { IfErr result (Refused (IsWrongNow (front_of interfaces.old.foreign.now) types.old interfaces.old.arena (map item_behind items.now) places.now)) }
+{
+    for place in places {
+        let item = &items[*place];
+        match item.declared {
+            Declared::Interface(interface) => {
+                resolve_interface(alloc, item, types, required, interfaces, interface.name)?;
+            }
+            Declared::World(_) => {}
+            Declared::Inline(_) => {}
+        }
+    }
+    Ok(())
+}

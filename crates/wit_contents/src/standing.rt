@@ -1,0 +1,296 @@
+//! What stands on the sides of a world, one after another, over its types.
+ghost use Rattle.std.specs.Prelude.{◌≡◌, ◌<◌, ◌≤◌, ◌+◌, ◌++◌, ◌∷◌, ℕ, [], None, Some, List, IfErr, IfOk, OnOk, false, length, map, slice_get};
+ghost use Rattle.std.specs.List.{flat_map};
+ghost use Rattle.wit_tree.specs.declared.tree.WorldSide.{WorldSide};
+ghost use Rattle.wit_types.specs.declared.types.TypeOwner.TheVariants.{Interface as InterfaceOwner};
+ghost use Rattle.wit_syntax.specs.Address.{Address};
+ghost use Rattle.wit_syntax.specs.Broken.{IsBrokenScope, IsSetterAlone, Refused};
+ghost use Rattle.wit_syntax.specs.Fault.{Fault};
+ghost use Rattle.wit_syntax.specs.Function.{SourceFunction, functions as the_functions};
+ghost use Rattle.wit_syntax.specs.Notes.{IsBrokenStability};
+ghost use Rattle.wit_syntax.specs.Repeats.{AllDiffer};
+ghost use Rattle.wit_syntax.specs.Scope.{includes};
+ghost use Rattle.wit_syntax.specs.Sides.{IsBrokenSides, inline_items, item_function, item_inline, items_on, side_items};
+ghost use Rattle.wit_syntax.specs.Signature.{IsBrokenFunction};
+ghost use Rattle.wit_syntax.specs.Source.{Item as TheItem, ScopeName as TheName, address, declared_attributes, declared_name as the_name, is_world, item_id, item_name, scope_names as the_names};
+ghost use Rattle.wit_arena.specs.Resolving.{IsIndex, env_of, names_in};
+ghost use Rattle.wit_arena.specs.Resolved.{AddsSides, AreLegalSides, AreSoundScopes, IsNameless, IsWrongInterface};
+ghost use Rattle.wit_entries.specs.Requiring.{IsGrown};
+ghost use Rattle.wit_sides.specs.Sides.{taken_on};
+ghost use Rattle.wit_rules.specs.Held.{function_behind};
+ghost use Rattle.wit_rules.specs.Signatures.{HaveOwners, IsScopeOf, functions_behind};
+ghost use Rattle.wit_signatures.specs.Taken.{name_key, name_of_function, name_of_made};
+ghost use Rattle.wit_externs.specs.Clash.{DifferOnSides, names_of_items};
+ghost use Rattle.wit_externs.specs.Held.{externs_behind, held_on};
+ghost use Rattle.wit_externs.specs.Links.{AreNotedInside, AreRightLinks, bare_places};
+ghost use Rattle.wit_items.specs.Front.{AreItemsPlaced};
+ghost use Rattle.wit_items.specs.Inside.{inside_behind, names_written};
+ghost use Rattle.wit_items.specs.Items.{item_behind, names_behind, scope_item};
+ghost use Rattle.wit_uses.specs.Behind.{IsTurn};
+ghost use Rattle.wit_uses.specs.Between.{Emits};
+ghost use Rattle.wit_item_names.specs.Interfaces.{front_of};
+ghost use Rattle.wit_items.specs.Interfaces.{cells_of};
+ghost use Rattle.wit_scopes.specs.Front.{AreNamesPlaced};
+ghost use Rattle.wit_world_sides.specs.Settled.{none_of};
+ghost use Rattle.wit_contents.specs.Standing.{AddsInside, AreConsecutive, IsInside, IsWrongExtern, IsWrongStanding, lent_names};
+
+use crate::interface::interface_of;
+use std::alloc::{AllocError, Global};
+use wit_entries::entries::Entries;
+use wit_entries::scope::Required;
+use wit_externs::defining::define_function;
+use wit_externs::held::{HeldExtern, HeldInline};
+use wit_externs::inline::define_inline;
+use wit_externs::linking::define_link;
+use wit_externs::links::Links;
+use wit_externs::taken::define_names;
+use wit_item_entries::functions::written_results;
+use wit_item_entries::names::ResolvedNames;
+use wit_items::interfaces::Interfaces;
+use wit_items::items::{Item, ItemScope};
+use wit_links::inside::{Counts, Met, declared_name, inside_scope};
+use wit_model::Interface;
+use wit_rules::function_scope::FunctionScope;
+use wit_rules::held::HeldFunction;
+use wit_sides::Sides;
+use wit_signatures::functions::resolve_function;
+use wit_tree::{ParseResult, Span};
+use wit_types::{Arena, InterfaceId, InterfacePlace};
+use wit_values::push;
+use wit_world_sides::setters::check_closed;
+use wit_world_sides::sides::Standing;
+
+/// The functions among what stands on the sides of a world, in source order.
+fn written_functions<'t, 'a>(
+    alloc: Global,
+    externs: &[HeldExtern<'t, 'a>],
+) -> Result<Vec<HeldFunction<'t, 'a>>, AllocError>
+    ensures { IfOk result (λ functions. map function_behind functions.items ≡ flat_map item_function (externs_behind externs.now)) }
+{
+    let mut functions = Vec::new(alloc);
+    for held in externs {
+        match held {
+            HeldExtern::Function(function) => {
+                push(&mut functions, *function)?;
+            }
+            HeldExtern::Link(_) => {}
+            HeldExtern::Inline(_) => {}
+        }
+    }
+    Ok(functions)
+}
+
+/// The id of the next interface that is written in a world: behind all declared ones, and those that were
+/// written before it.
+fn next_inside(
+    interfaces: &Interfaces<'_, '_, '_>,
+    inside: &Arena<Interface, InterfacePlace>,
+) -> Result<InterfaceId, AllocError>
+    ensures { IfOk result (λ id. id ≡ length interfaces.now.arena + length inside.now) }
+{
+    match interfaces.arena.id_behind(inside.len()) {
+        Some(id) => Ok(id),
+        None => Err(AllocError),
+    }
+}
+
+/// Adds an interface that is written in a world, where this is the span of its name; `inside` are those
+/// that were written before it, which stand behind all declared ones.
+fn resolve_inline<'f, 'a>(
+    alloc: Global,
+    scope: &ItemScope<'f, 'a, '_>,
+    types: &mut Entries,
+    required: &mut Vec<Required>,
+    interfaces: &Interfaces<'_, 'f, 'a>,
+    inside: &mut Arena<Interface, InterfacePlace>,
+    span: Span,
+) -> ParseResult<InterfaceId>
+    requires sort { is_world (scope_item scope.now) ≡ false }
+    requires called { the_name (scope_item scope.now).declared ≡ None }
+    requires stands { span ≡ (item_id (scope_item scope.now)).span }
+    requires named { lent_names scope.now ≡ the_names (scope_item scope.now) }
+    requires placed { AreNamesPlaced (front_of interfaces.now.foreign.now) scope.now.names.now }
+    requires front { length interfaces.now.foreign.now ≤ length interfaces.now.arena }
+    requires index { IsIndex (cells_of interfaces.now) interfaces.now.by_name }
+    ensures id { IfOk result (λ id. id ≡ length interfaces.now.arena + length inside.old) }
+    ensures adds { OnOk result (AddsInside (cells_of interfaces.now) (length interfaces.now.arena) types.old types.new inside.old inside.new required.old.items required.new.items (scope_item scope.now)) }
+    ensures grown { OnOk result (IsGrown types.old types.new) }
+    ensures stable { OnOk result ((f : Fault) → IsBrokenStability (declared_attributes (scope_item scope.now).declared) f → ⊥) }
+    ensures sound { OnOk result ((f : Fault) → IsBrokenScope (the_names (scope_item scope.now)) (the_functions (scope_item scope.now)) f → IsNameless (the_names (scope_item scope.now)) (the_functions (scope_item scope.now))) }
+    ensures sided { OnOk result ((f : Fault) → IsBrokenSides (scope_item scope.now) f → ⊥) }
+    ensures refused { IfErr result (Refused (IsWrongInterface types.old (cells_of interfaces.now) interfaces.now.by_name (InterfaceOwner (length interfaces.now.arena + length inside.old)) (scope_item scope.now))) }
+{
+    let id = next_inside(interfaces, inside)?;
+    let interface = interface_of(alloc, scope, types, required, interfaces, id, None, span)?;
+    inside.alloc(interface)?;
+    Ok(id)
+}
+
+/// Adds an interface that is written in a world of this name, where that was met before it on its side.
+fn resolve_written<'f, 'a>(
+    alloc: Global,
+    item: &Item<'f, 'a>,
+    world: &'a str,
+    inline: &HeldInline<'f, 'a>,
+    before: Counts,
+    types: &mut Entries,
+    required: &mut Vec<Required>,
+    interfaces: &Interfaces<'_, 'f, 'a>,
+    inside: &mut Arena<Interface, InterfacePlace>,
+) -> ParseResult<InterfaceId>
+    requires called { item_name (item_behind item.now) ≡ world.now }
+    requires within { before.inline < length (inside_behind inline.now.written.now.side item.now) }
+    requires named { (names : List TheName) (u : TheItem) → slice_get (inside_behind inline.now.written.now.side item.now) before.inline ≡ Some names → IsInside (item_behind item.now) before.interfaces inline.now u → names ≡ the_names u }
+    requires placed { AreItemsPlaced (front_of interfaces.now.foreign.now) (item.now ∷ []) }
+    requires front { length interfaces.now.foreign.now ≤ length interfaces.now.arena }
+    requires index { IsIndex (cells_of interfaces.now) interfaces.now.by_name }
+    ensures id { IfOk result (λ id. id ≡ length interfaces.now.arena + length inside.old) }
+    ensures adds { OnOk result ((u : TheItem) → IsInside (item_behind item.now) before.interfaces inline.now u → AddsInside (cells_of interfaces.now) (length interfaces.now.arena) types.old types.new inside.old inside.new required.old.items required.new.items u) }
+    ensures grown { OnOk result (IsGrown types.old types.new) }
+    ensures sound { OnOk result ((u : TheItem) → IsInside (item_behind item.now) before.interfaces inline.now u → (f : Fault) → IsBrokenScope (the_names u) (the_functions u) f → IsNameless (the_names u) (the_functions u)) }
+    ensures sided { OnOk result ((u : TheItem) → IsInside (item_behind item.now) before.interfaces inline.now u → (f : Fault) → IsBrokenSides u f → ⊥) }
+    ensures refused { IfErr result (λ e. (u : TheItem) → IsInside (item_behind item.now) before.interfaces inline.now u → Refused (IsWrongInterface types.old (cells_of interfaces.now) interfaces.now.by_name (InterfaceOwner (length interfaces.now.arena + length inside.old)) u) e) }
+{
+    let scope = inside_scope(item, world, inline, before);
+    let span = inline.name.span;
+    let id = resolve_inline(alloc, &scope, types, required, interfaces, inside, span)?;
+    Ok(id)
+}
+
+/// Resolves what stands on the sides of a world, in source order: the name of each is defined behind
+/// those before it on its side, and so is an interface that has no name of its own; an interface that is
+/// written there is resolved in front of its name.
+///
+/// A refusal is one of `resolve_function`, of `define_link`, of `interface_of` or of `define_inline`; E44
+/// where an earlier name of the side is spelled like that of an import or an export, E17 where an earlier
+/// one has the folded key; or want of memory.
+fn resolve_externs<'f, 'a>(
+    alloc: Global,
+    item: &Item<'f, 'a>,
+    externs: &[HeldExtern<'f, 'a>],
+    scope: FunctionScope<'_, 'f, 'a>,
+    types: &mut Entries,
+    required: &mut Vec<Required>,
+    interfaces: &Interfaces<'_, 'f, 'a>,
+    inside: &mut Arena<Interface, InterfacePlace>,
+    taken: &mut Sides,
+) -> ParseResult<Standing>
+    requires owners { HaveOwners (env_of scope.names.now) (functions_behind scope) }
+    requires functions { flat_map item_function (externs_behind externs.now) ≡ functions_behind scope }
+    requires sides { side_items (item_behind item.now) ≡ externs_behind externs.now }
+    requires written { (side : WorldSide) → inside_behind side item.now ≡ names_written side (item_behind item.now) }
+    requires placed { AreItemsPlaced (front_of interfaces.now.foreign.now) (item.now ∷ []) }
+    requires front { length interfaces.now.foreign.now ≤ length interfaces.now.arena }
+    requires index { IsIndex (cells_of interfaces.now) interfaces.now.by_name }
+    ensures adds { IfOk result (λ standing. Emits required.old.items required.new.items (λ rs. (s : Address) → AddsSides (cells_of interfaces.now) (length interfaces.now.arena) s scope.entry.names.now types.old types.new inside.old inside.new standing.functions.items rs (externs_behind externs.now) (inline_items (item_behind item.now)))) }
+    ensures counted { IfOk result (λ standing. length standing.inside.items ≡ length (flat_map item_inline (externs_behind externs.now))) }
+    ensures ids { IfOk result (λ standing. AreConsecutive (length interfaces.now.arena + length inside.old) standing.inside.items) }
+    ensures grown { OnOk result (length inside.new ≡ length inside.old + length (flat_map item_inline (externs_behind externs.now))) }
+    ensures named { IfOk result (λ standing. map name_of_made standing.functions.items ≡ map name_of_function (functions_behind scope.entry)) }
+    ensures defined { OnOk result ((s : WorldSide) → taken_on s taken.new ≡ taken_on s taken.old ++ names_of_items (items_on s (externs_behind externs.now))) }
+    ensures differ { OnOk result ((s : WorldSide) → AllDiffer (map name_key (taken_on s taken.old)) → AllDiffer (map name_key (taken_on s taken.new))) }
+    ensures legal { OnOk result ((xs : List TheName) → IsScopeOf scope.entry xs → (k : ℕ) (fn : SourceFunction) → slice_get (functions_behind scope.entry) k ≡ Some fn → (f : Fault) → IsBrokenFunction xs (functions_behind scope.entry) k fn f → IsNameless xs (functions_behind scope.entry)) }
+    ensures right { OnOk result (AreRightLinks externs.now) }
+    ensures noted { OnOk result (AreNotedInside externs.now) }
+    ensures apart { OnOk result ((s : WorldSide) → AllDiffer (bare_places (held_on s externs.now))) }
+    ensures sound { OnOk result (AreSoundScopes (inline_items (item_behind item.now))) }
+    ensures sided { OnOk result (AreLegalSides (inline_items (item_behind item.now))) }
+    ensures refused { IfErr result (λ e. (s : Address) (xs : List TheName) → IsScopeOf scope.entry xs → Refused (IsWrongExtern types.old (cells_of interfaces.now) (length interfaces.now.arena) inside.old interfaces.now.by_name scope.entry xs (λ s. taken_on s taken.old) s externs.now (inline_items (item_behind item.now))) e) }
+{
+    let mut functions = Vec::with_capacity(alloc, scope.functions.len())?;
+    let mut ids = Vec::new(alloc);
+    let mut links = Links::new(alloc);
+    let world = declared_name(&item.declared);
+    let mut met = Met::none();
+    for place in 0..externs.len() {
+        let before = &externs[..place];
+        let next = &externs[place];
+        let was = met;
+        met = met.with(next);
+        match next {
+            HeldExtern::Function(held) => {
+                let held = *held;
+                let function = resolve_function(alloc, scope, types, required, functions.len())?;
+                define_function(alloc, before, held, scope.names, taken, &function)?;
+                functions.push(function)?;
+            }
+            HeldExtern::Link(link) => {
+                define_link(alloc, link, before, scope.names, taken, &mut links)?;
+            }
+            HeldExtern::Inline(inline) => {
+                let counts = was.on(inline.written.side);
+                let id = resolve_written(
+                    alloc, item, world.name, inline, counts, types, required, interfaces, inside,
+                )?;
+                define_inline(alloc, inline, before, scope.names, taken)?;
+                ids.push(id)?;
+            }
+        }
+    }
+    Ok(Standing {
+        functions,
+        inside: ids,
+    })
+}
+
+/// What stands on the sides of a world, behind its names, which are resolved, with the interfaces that are
+/// written there. Where the world includes nothing, it is `closed`, each setter has its getter on its side.
+pub fn resolve_standing<'f, 'a>(
+    alloc: Global,
+    item: &Item<'f, 'a>,
+    externs: &[HeldExtern<'f, 'a>],
+    types: &mut Entries,
+    names: &mut ResolvedNames<'a>,
+    interfaces: &Interfaces<'_, 'f, 'a>,
+    inside: &mut Arena<Interface, InterfacePlace>,
+    closed: bool,
+) -> ParseResult<Standing>
+    requires closed { closed ≡ none_of (includes (item_behind item.now)) }
+    requires named { names_behind item.now ≡ the_names (item_behind item.now) }
+    requires written { (side : WorldSide) → inside_behind side item.now ≡ names_written side (item_behind item.now) }
+    requires placed { AreItemsPlaced (front_of interfaces.now.foreign.now) (item.now ∷ []) }
+    requires sides { side_items (item_behind item.now) ≡ externs_behind externs.now }
+    requires listed { names_in names.old.types ≡ map (λ id. id.name.now) names.old.turn.items }
+    requires turn { IsTurn (the_names (item_behind item.now)) names.old.turn.items }
+    requires front { length interfaces.now.foreign.now ≤ length interfaces.now.arena }
+    requires index { IsIndex (cells_of interfaces.now) interfaces.now.by_name }
+    ensures types { OnOk result (names.new.types ≡ names.old.types) }
+    ensures turn { OnOk result (names.new.turn ≡ names.old.turn) }
+    ensures adds { IfOk result (λ standing. Emits names.old.required.items names.new.required.items (λ rs. AddsSides (cells_of interfaces.now) (length interfaces.now.arena) (address (item_behind item.now)) names.old.types types.old types.new inside.old inside.new standing.functions.items rs (side_items (item_behind item.now)) (inline_items (item_behind item.now)))) }
+    ensures counted { IfOk result (λ standing. length standing.inside.items ≡ length (flat_map item_inline (externs_behind externs.now))) }
+    ensures ids { IfOk result (λ standing. AreConsecutive (length interfaces.now.arena + length inside.old) standing.inside.items) }
+    ensures grown { OnOk result (length inside.new ≡ length inside.old + length (inline_items (item_behind item.now))) }
+    ensures named { IfOk result (λ standing. map name_of_made standing.functions.items ≡ map name_of_function (flat_map item_function (externs_behind externs.now))) }
+    ensures differ { OnOk result (DifferOnSides names.old.turn.items (externs_behind externs.now)) }
+    ensures right { OnOk result (AreRightLinks externs.now) }
+    ensures noted { OnOk result (AreNotedInside externs.now) }
+    ensures apart { OnOk result ((s : WorldSide) → AllDiffer (bare_places (held_on s externs.now))) }
+    ensures legal { OnOk result ((k : ℕ) (fn : SourceFunction) → slice_get (the_functions (item_behind item.now)) k ≡ Some fn → (f : Fault) → IsBrokenFunction (the_names (item_behind item.now)) (the_functions (item_behind item.now)) k fn f → IsNameless (the_names (item_behind item.now)) (the_functions (item_behind item.now))) }
+    ensures sound { OnOk result (AreSoundScopes (inline_items (item_behind item.now))) }
+    ensures sided { OnOk result (AreLegalSides (inline_items (item_behind item.now))) }
+    ensures paired { OnOk result ((f : Fault) → IsSetterAlone (item_behind item.now) f → ⊥) }
+    ensures refused { IfErr result (Refused (IsWrongStanding types.old (cells_of interfaces.now) (length interfaces.now.arena) inside.old interfaces.now.by_name names.old.types names.old.turn.items (item_behind item.now) externs.now)) }
+{
+    let written = written_functions(alloc, externs)?;
+    let results = written_results(alloc, &item.names)?;
+    let mut taken = Sides::new(alloc);
+    define_names(&mut taken, &names.turn)?;
+    let scope = FunctionScope {
+        names: &names.types,
+        results: &results,
+        functions: &written,
+    };
+    let standing = resolve_externs(
+        alloc,
+        item,
+        externs,
+        scope,
+        types,
+        &mut names.required,
+        interfaces,
+        inside,
+        &mut taken,
+    )?;
+    check_closed(closed, externs, &taken, &names.turn)?;
+    Ok(standing)
+}

@@ -1,7 +1,0 @@
-mod Counted
-mod Closing
-pub mod Linking
-mod Adding
-mod DoneSides
-mod InsideAt
-mod StandingItem

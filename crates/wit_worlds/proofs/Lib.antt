@@ -1,3 +1,0 @@
-mod WrongStanding
-mod WorldsMore
-mod Parts

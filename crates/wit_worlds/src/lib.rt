@@ -1,4 +1,0 @@
-//! Declared worlds, one after another.
-#![tactic(auto)]
-
-pub mod world;
