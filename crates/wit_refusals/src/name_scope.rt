@@ -81,6 +81,23 @@ fn conflict(alloc: Global, earlier: &str, name: &str) -> Result<String, AllocErr
     }
 }
 
+/// The refusal of a name whose key that at a place has.
+fn defined_again(
+    alloc: Global,
+    names: &Table<Folded, DefinedName>,
+    place: usize,
+    name: &str,
+    span: Span,
+) -> ParseError
+    ensures { IsWantOfMemory result ⊎ (says (λ f. f ≡ fault 17 span) result) }
+{
+    let words = match names.get_index(place) {
+        Some((key, earlier)) => conflict(alloc, earlier.spelled(key), name),
+        None => conflict(alloc, name, name),
+    };
+    refuse_in(17, span, words)
+}
+
 /// Whether a name is spelled like this.
 fn has_name(
     alloc: Global,
@@ -157,13 +174,11 @@ impl NameScope {
         ensures unchanged { OnErr result (self.new ≡ self.old) }
     {
         let key = Folded::new(self.alloc, name)?;
-        if let Some(earlier) = self.names.get(&key) {
-            let words = conflict(self.alloc, earlier.spelled(&key), name);
-            return Err(refuse_in(17, span, words));
+        let other = other_spelling(self.alloc, &key, name)?;
+        match self.names.put_new(key, DefinedName { name: other, span })? {
+            Some(place) => Err(defined_again(self.alloc, &self.names, place, name, span)),
+            None => Ok(()),
         }
-        let name = other_spelling(self.alloc, &key, name)?;
-        self.names.put(key, DefinedName { name, span })?;
-        Ok(())
     }
 
     /// Whether a name is spelled like this.

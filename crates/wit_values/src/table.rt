@@ -1,5 +1,5 @@
 //! Maps in insertion order, which contracts see as the list of their entries.
-ghost use Rattle.std.specs.Prelude.{◌≡◌, ◌<◌, ◌≤◌, ◌++◌, ◌∷◌, Some, None, IfOk, OnOk, OnErr, IfErr, [], length, map, position, slice_get};
+ghost use Rattle.std.specs.Prelude.{◌≡◌, ◌<◌, ◌≤◌, ◌++◌, ◌∷◌, Some, None, IfOk, OnOk, OnErr, IfErr, IfNone, IfSome, [], length, map, position, slice_get};
 ghost use Rattle.std.specs.List.{AllZip, list_all};
 ghost use Rattle.std.specs.HashMap.{entries_eq};
 ghost use Rattle.std.specs.Map.{lookup, lookup_entry, keys_of};
@@ -10,6 +10,7 @@ ghost use Rattle.std.specs.Cmp.{equiv, partial_equiv_from_equiv};
 ghost use Rattle.indexmap.specs.Layout.{hash_map, set_value_at};
 ghost use Rattle.indexmap.specs.IndexMap.{insert_entry};
 
+use crate::holding::make_room;
 use crate::index::{Index, empty_index, place_in, place_or_note};
 use crate::sought::Sought;
 use std::alloc::{AllocError, AllocFailed, Global};
@@ -141,7 +142,7 @@ impl<K: Eq + Hash + Ord, V> Table<K, V> {
         ensures value_returned { IfErr result (λ e. e.value ≡ (key, value)) }
     {
         let alloc = *self.entries.allocator();
-        if self.entries.reserve(1).is_err() {
+        if make_room(&mut self.entries).is_err() {
             return Err(AllocFailed {
                 value: (key, value),
             });
@@ -169,12 +170,36 @@ impl<K: Eq + Hash + Ord, V> Table<K, V> {
         ensures err { OnErr result (self.new ≡ self.old) }
     {
         let alloc = *self.entries.allocator();
-        self.entries.reserve(1)?;
+        make_room(&mut self.entries)?;
         match place_or_note(alloc, &self.entries, &mut self.index, &key)? {
             Some(place) => self.entries[place].1 = value,
             None => self.entries.push_reserved((key, value)),
         }
         Ok(())
+    }
+
+    /// Puts a value at a new key, behind the others; where the key is there, the map stays as it was and
+    /// its place is told.
+    ///
+    /// If a growth is refused, the map stays as it was.
+    pub fn put_new(&mut self, key: K, value: V) -> Result<Option<usize>, AllocError>
+    where
+        K: Clone + Drop,
+        V: Drop,
+        ensures place { IfOk result (λ place. place ≡ position (K.eq key) (map (λ e. e.0) self.old)) }
+        ensures fresh { IfOk result (λ place. IfNone place (self.new ≡ self.old ++ (key, value) ∷ [])) }
+        ensures there { IfOk result (λ place. IfSome place (λ i. self.new ≡ self.old)) }
+        ensures err { OnErr result (self.new ≡ self.old) }
+    {
+        let alloc = *self.entries.allocator();
+        make_room(&mut self.entries)?;
+        match place_or_note(alloc, &self.entries, &mut self.index, &key)? {
+            Some(place) => Ok(Some(place)),
+            None => {
+                self.entries.push_reserved((key, value));
+                Ok(None)
+            }
+        }
     }
 
     /// The map with no more room than it takes.
@@ -234,9 +259,9 @@ fn append<K: Eq + Hash + Ord + Clone + Drop, V: Drop>(
 ) -> Result<(), AllocError>
     ensures { OnOk result (table.new ≡ table.old ++ (key, value) ∷ []) }
 {
-    match table.get_index_of(&key) {
+    match table.put_new(key, value)? {
         Some(_) => Err(AllocError),
-        None => table.put(key, value),
+        None => Ok(()),
     }
 }
 

@@ -1,52 +1,12 @@
-use Rattle.std.proofs.Common.{◌≡◌, Some, position, refl, sym, ap, ◌∙◌, subst}
-use Rattle.std.proofs.lemmas.Option.{slice_get_read}
-use Rattle.std.specs.Map.{keys_of}
-use Rattle.indexmap.specs.IndexMap.{insert_entry}
-use Rattle.wit_values.specs.Indexed.{AreApart, IsKept, IsKeptWith}
-use Rattle.wit_values.specs.Slots.{IsAt, IsNowhere}
-use Rattle.wit_values.proofs.Indexed.{apart_of, insert_at, insert_new, keys_of-slice_set, place_of_key, position_apart, position_nowhere}
+use Rattle.std.proofs.Common.{◌∙◌}
+use Rattle.wit_values.proofs.Putting.{kept_there, put_last, put_there}
 use Rattle.wit_values.proofs.table.Table.put.Goals as goal
 
 pub invariant_of-self-in-Some-1 : goal.invariant_of-self-in-Some-1
-invariant_of-self-in-Some-1 g c =
-    let es = c.reserve.new.self.items in
-    let eq = g.K.PartialEq.eq in
-    let cmp = g.K.Ord.cmp in
-    let writes = g.K.Hash.hash_input in
-    let key = c.args.key in
-    let items = c.reserve.ensures.items in
-    let place = c.in-Some.place in
-    let apart : AreApart eq (keys_of es) = subst (λ l. AreApart eq (keys_of l)) (sym items) (apart_of eq cmp writes (keys_of c.self.inside.entries.items) c.self.inside.index c.self.invariant) in
-    let there : IsAt (eq key) (keys_of es) place = subst (λ l. IsAt (eq key) (keys_of l) place) c.deref.ensures.value (subst (IsKeptWith eq cmp writes (keys_of c.deref.result.now) key c.place_or_note.new.index) c.in-Some.is c.in_ok-place.ensures.found) in
-    let found : position (eq key) (keys_of es) ≡ Some place = position_apart eq (keys_of es) apart (eq key) (g.met.K.Eq.laws.congr key) place there in
-    let at = slice_get_read es _ place c.index_mut.result.now refl (place_of_key (eq key) es place found) c.index_mut.ensures.value in
-    let kept : IsKept eq cmp writes (keys_of es) c.place_or_note.new.index = subst (λ l. IsKept eq cmp writes (keys_of l) c.place_or_note.new.index) c.deref.ensures.value c.in_ok-place.ensures.kept in
-    subst (λ ks. IsKept eq cmp writes ks c.place_or_note.new.index) (sym (keys_of-slice_set es place c.index_mut.result.now c.args.value at)) kept
+invariant_of-self-in-Some-1 g c = kept_there g.K.PartialEq.eq g.K.Ord.cmp g.K.Hash.hash_input c.args.key _ _ _ _ c.make_room.ensures.items c.self.view_is c.deref.ensures.value _ _ c.in_ok-place.ensures.found (g.met.K.Eq.laws.congr c.args.key) c.self.inside.index c.self.invariant _ c.in-Some.is c.index_mut.result.now c.index_mut.ensures.value c.args.value c.in_ok-place.ensures.kept
 
 pub returns-in-Some-clause-ok : goal.returns-in-Some-clause-ok
-returns-in-Some-clause-ok g c =
-    let es = c.reserve.new.self.items in
-    let eq = g.K.PartialEq.eq in
-    let cmp = g.K.Ord.cmp in
-    let writes = g.K.Hash.hash_input in
-    let key = c.args.key in
-    let items = c.reserve.ensures.items in
-    let place = c.in-Some.place in
-    let apart : AreApart eq (keys_of es) = subst (λ l. AreApart eq (keys_of l)) (sym items) (apart_of eq cmp writes (keys_of c.self.inside.entries.items) c.self.inside.index c.self.invariant) in
-    let there : IsAt (eq key) (keys_of es) place = subst (λ l. IsAt (eq key) (keys_of l) place) c.deref.ensures.value (subst (IsKeptWith eq cmp writes (keys_of c.deref.result.now) key c.place_or_note.new.index) c.in-Some.is c.in_ok-place.ensures.found) in
-    let found : position (eq key) (keys_of es) ≡ Some place = position_apart eq (keys_of es) apart (eq key) (g.met.K.Eq.laws.congr key) place there in
-    let at = slice_get_read es _ place c.index_mut.result.now refl (place_of_key (eq key) es place found) c.index_mut.ensures.value in
-    let is : es ≡ c.args.self.now = items ∙ c.self.view_is in
-    insert_at eq key c.args.value es place c.index_mut.result.now found at ∙ ap (λ l. insert_entry eq l key c.args.value) is
+returns-in-Some-clause-ok g c = put_there g.K.PartialEq.eq g.K.Ord.cmp g.K.Hash.hash_input c.args.key _ _ _ _ c.make_room.ensures.items c.self.view_is c.deref.ensures.value _ _ c.in_ok-place.ensures.found (g.met.K.Eq.laws.congr c.args.key) c.self.inside.index c.self.invariant _ c.in-Some.is c.index_mut.result.now c.index_mut.ensures.value c.args.value
 
 pub returns-in-None-clause-ok : goal.returns-in-None-clause-ok
-returns-in-None-clause-ok g c =
-    let es = c.reserve.new.self.items in
-    let eq = g.K.PartialEq.eq in
-    let cmp = g.K.Ord.cmp in
-    let writes = g.K.Hash.hash_input in
-    let key = c.args.key in
-    let items = c.reserve.ensures.items in
-    let none : IsNowhere (eq key) (keys_of es) = subst (λ l. IsNowhere (eq key) (keys_of l)) c.deref.ensures.value (subst (IsKeptWith eq cmp writes (keys_of c.deref.result.now) key c.place_or_note.new.index) c.in-None.is c.in_ok-place.ensures.found).0 in
-    let is : es ≡ c.args.self.now = items ∙ c.self.view_is in
-    c.push_reserved.ensures.items ∙ insert_new eq key c.args.value es (position_nowhere (eq key) (keys_of es) none) ∙ ap (λ l. insert_entry eq l key c.args.value) is
+returns-in-None-clause-ok g c = c.push_reserved.ensures.items ∙ put_last g.K.PartialEq.eq g.K.Ord.cmp g.K.Hash.hash_input c.args.key _ _ _ _ c.make_room.ensures.items c.self.view_is c.deref.ensures.value _ _ c.in_ok-place.ensures.found c.args.value c.in-None.is
