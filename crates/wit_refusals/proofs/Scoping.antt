@@ -1,8 +1,8 @@
 -- Scopes: what a key finds among their names, and setters with their getters.
-use Rattle.std.proofs.Common.{◌≡◌, ℕ, ◌<◌, Bool, true, false, List, [], ◌∷◌, ◌++◌, length, take, drop, Some, None, Option, nat_eq, inl, inr, refl, sym, ap, ◌∙◌}
-use Rattle.std.specs.Prelude.{slice_get, map, codes}
+use Rattle.std.proofs.Common.{◌≡◌, ℕ, ◌<◌, Bool, true, false, List, [], ◌∷◌, ◌++◌, length, take, drop, Some, None, Option, nat_eq, inl, inr, IfNone, IfSome, refl, subst, sym, ap, ◌∙◌}
+use Rattle.std.specs.Prelude.{slice_get, map, codes, position}
 use Rattle.std.specs.Cmp.Lexicographic.{pointwise}
-use Rattle.std.specs.Map.{lookup}
+use Rattle.std.specs.Map.{keys_of, lookup}
 use Rattle.std.specs.List.{starts_with}
 use Rattle.std.specs.Option.{option_copied, option_map}
 use denote.Ref.{Bor}
@@ -15,7 +15,9 @@ use Rattle.wit_names.specs.Label.{is_label}
 use Rattle.wit_names.specs.Mangled.{is_dotted, is_mangled}
 use Rattle.wit_names.specs.Setter.{getter_of, is_setter}
 use Rattle.wit_names.proofs.MadeNames.{is_mangled-get, is_mangled-method_get, is_mangled-static_get}
-use Rattle.wit_syntax.proofs.Lists.{at_either, map_at}
+use Rattle.indexmap.proofs.MapLemmas.{Found-position}
+use Rattle.wit_values.proofs.Indexed.{lookup_nowhere}
+use Rattle.wit_syntax.proofs.Lists.{at_either, at_within, map_at}
 use Rattle.wit_syntax.proofs.Names.{name_equal}
 use Rattle.wit_syntax.proofs.Repeated.{differ_more}
 use Rattle.wit_refusals.specs.declared.name_scope.DefinedName.{DefinedName}
@@ -45,11 +47,23 @@ keyed-more es k d is none fits = record {
       lookup-none es k i found.0 none found.1 found.2)));
 }
 
+-- a new key more, unless it stands somewhere
+pub keyed-put : (es new : List Entry) (name k : List ℕ) (d : DefinedName) (place : Option ℕ) → IsKeyed es → k ≡ folded_key name → spelled k d ≡ name → place ≡ position (pointwise nat_eq k) (keys_of es) → IfNone place (new ≡ es ++ (k, d) ∷ []) → IfSome place (λ i. new ≡ es) → IsKeyed new
+keyed-put es new name k d (Some i) is fits named at fresh there = subst IsKeyed (sym there) is
+keyed-put es new name k d None is fits named at fresh there = subst IsKeyed (sym fresh) (keyed-more es k d is (lookup_nowhere (pointwise nat_eq k) es (sym at)) (fits ∙ ap folded_key (sym named)))
+
 -- a key that is found is taken, and one that is not found is free
 pub taken-found : (es : List Entry) (name k : List ℕ) (d : DefinedName) → IsKeyed es → k ≡ folded_key name → lookup (pointwise nat_eq k) es ≡ Some d → IsTaken (names_of es) name
 taken-found es name k d is fits h =
     let found = lookup-at es k d h in
     record { place = found.0; earlier = (spelled k d, d.span); at = slice_get-map name_of es found.0 ∙ ap (option_map name_of) found.1; same = sym (is.keyed found.0 (k, d) found.1) ∙ fits }
+
+-- a key that stands at a place is taken
+pub taken-at : (es : List Entry) (name k : List ℕ) (place : ℕ) → IsKeyed es → k ≡ folded_key name → position (pointwise nat_eq k) (keys_of es) ≡ Some place → IsTaken (names_of es) name
+taken-at es name k place is fits h =
+    let found = Found-position (pointwise nat_eq k) es place h in
+    let there = at_within es place found.within in
+    taken-found es name k there.0.1 is fits (found.value ∙ slice_get-map (λ (e : Entry). e.1) es place ∙ ap (option_map (λ (e : Entry). e.1)) there.1)
 
 pub free-none : (es : List Entry) (name k : List ℕ) → IsKeyed es → k ≡ folded_key name → lookup (pointwise nat_eq k) es ≡ None → IsTaken (names_of es) name → ⊥
 free-none es name k is fits none taken =

@@ -1,9 +1,10 @@
 //! The names of a scope, which differ once folded.
-ghost use Rattle.std.specs.Prelude.{◌≡◌, ◌++◌, ◌∷◌, [], ◌↔◌, ℕ, IfErr, IfOk, IsTrue, OnErr, OnOk};
+ghost use Rattle.std.specs.Prelude.{◌≡◌, ◌⊎◌, ◌++◌, ◌∷◌, [], ◌↔◌, ℕ, IfErr, IfOk, IsTrue, OnErr, OnOk};
 ghost use Rattle.wit_names.specs.Mangled.{is_mangled};
 ghost use Rattle.wit_names.specs.Setter.{getter_of, is_setter};
 ghost use Rattle.wit_syntax.specs.Broken.{Refused};
-ghost use Rattle.wit_syntax.specs.Fault.{fault};
+ghost use Rattle.wit_type_tree.specs.Refusal.{IsWantOfMemory};
+ghost use Rattle.wit_syntax.specs.Fault.{fault, fault_of};
 ghost use Rattle.wit_refusals.specs.Names.{IsDefinedAgain, IsFirstLoneSetter, IsLoneSetter, IsTaken};
 ghost use Rattle.wit_refusals.specs.Scope.{HasName, IsKeyed, names_of, spelled, spelling};
 
@@ -12,7 +13,7 @@ use crate::refusal::refuse_in;
 use std::alloc::{AllocError, Global};
 use std::marker::Model;
 use wit_names::{Folded, getter_for_setter, is_setter};
-use wit_type_tree::ParseResult;
+use wit_type_tree::{ParseError, ParseResult};
 use wit_values::{Span, Table, Text};
 
 /// A name of a scope, where it is not spelled as its key, and where it is written.
@@ -89,7 +90,7 @@ fn defined_again(
     name: &str,
     span: Span,
 ) -> ParseError
-    ensures { IsWantOfMemory result ⊎ (says (λ f. f ≡ fault 17 span) result) }
+    ensures { IsWantOfMemory result ⊎ (fault_of result ≡ fault 17 span) }
 {
     let words = match names.get_index(place) {
         Some((key, earlier)) => conflict(alloc, earlier.spelled(key), name),

@@ -28,7 +28,7 @@ pub fn fitted<T>(items: Vec<T>) -> Vec<T>
 }
 
 /// Makes room for one more item, and for no more where it is the first: many lists hold one.
-pub(crate) fn make_room<T>(items: &mut Vec<T>) -> Result<(), AllocError>
+pub(crate) fn room_for_one<T>(items: &mut Vec<T>) -> Result<(), AllocError>
     ensures items { items.new.items ≡ items.old.items }
     ensures room { OnOk result (vec_len items.new < vec_capacity items.new) }
 {
@@ -42,7 +42,7 @@ pub(crate) fn make_room<T>(items: &mut Vec<T>) -> Result<(), AllocError>
 pub fn push<T: Drop>(items: &mut Vec<T>, item: T) -> Result<(), AllocError>
     ensures { OnOk result (items.new.items ≡ items.old.items ++ item ∷ []) }
 {
-    make_room(items)?;
+    room_for_one(items)?;
     items.push_reserved(item);
     Ok(())
 }

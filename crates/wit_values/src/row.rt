@@ -8,7 +8,7 @@ ghost use Rattle.std.specs.Hash as fed;
 ghost use Rattle.std.specs.Hash.{items_Alike};
 ghost use Rattle.std.specs.Cmp.Rules.{comparing, hashing};
 
-use crate::holding::make_room;
+use crate::holding::room_for_one;
 use std::alloc::{AllocError, AllocFailed, Global};
 use std::cmp::Ordering;
 use std::fmt;
@@ -87,7 +87,7 @@ impl<T> Row<T> {
         ensures err { OnErr result (self.new ≡ self.old) }
         ensures value_returned { IfErr result (λ e. e.value ≡ value) }
     {
-        if make_room(&mut self.items).is_err() {
+        if room_for_one(&mut self.items).is_err() {
             return Err(AllocFailed { value });
         }
         self.items.push_reserved(value);

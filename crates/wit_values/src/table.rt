@@ -10,7 +10,6 @@ ghost use Rattle.std.specs.Cmp.{equiv, partial_equiv_from_equiv};
 ghost use Rattle.indexmap.specs.Layout.{hash_map, set_value_at};
 ghost use Rattle.indexmap.specs.IndexMap.{insert_entry};
 
-use crate::holding::make_room;
 use crate::index::{Index, empty_index, place_in, place_or_note};
 use crate::sought::Sought;
 use std::alloc::{AllocError, AllocFailed, Global};
@@ -142,7 +141,7 @@ impl<K: Eq + Hash + Ord, V> Table<K, V> {
         ensures value_returned { IfErr result (λ e. e.value ≡ (key, value)) }
     {
         let alloc = *self.entries.allocator();
-        if make_room(&mut self.entries).is_err() {
+        if self.entries.reserve(1).is_err() {
             return Err(AllocFailed {
                 value: (key, value),
             });
@@ -170,7 +169,7 @@ impl<K: Eq + Hash + Ord, V> Table<K, V> {
         ensures err { OnErr result (self.new ≡ self.old) }
     {
         let alloc = *self.entries.allocator();
-        make_room(&mut self.entries)?;
+        self.entries.reserve(1)?;
         match place_or_note(alloc, &self.entries, &mut self.index, &key)? {
             Some(place) => self.entries[place].1 = value,
             None => self.entries.push_reserved((key, value)),
@@ -192,7 +191,7 @@ impl<K: Eq + Hash + Ord, V> Table<K, V> {
         ensures err { OnErr result (self.new ≡ self.old) }
     {
         let alloc = *self.entries.allocator();
-        make_room(&mut self.entries)?;
+        self.entries.reserve(1)?;
         match place_or_note(alloc, &self.entries, &mut self.index, &key)? {
             Some(place) => Ok(Some(place)),
             None => {
