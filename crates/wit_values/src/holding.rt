@@ -1,6 +1,5 @@
 //! Values held while something behind them may be refused, whatever they are.
-ghost use Rattle.std.specs.Prelude.{◌≡◌, ◌<◌, ◌++◌, ◌∷◌, [], Err, IfErr, IfOk, Ok, OnOk};
-ghost use Rattle.std.specs.Vec.{vec_capacity, vec_len};
+ghost use Rattle.std.specs.Prelude.{◌≡◌, ◌++◌, ◌∷◌, [], Err, IfErr, IfOk, Ok, OnOk};
 
 use std::alloc::AllocError;
 
@@ -27,22 +26,11 @@ pub fn fitted<T>(items: Vec<T>) -> Vec<T>
     items
 }
 
-/// Makes room for one more item, and for no more where it is the first: many lists hold one.
-pub(crate) fn room_for_one<T>(items: &mut Vec<T>) -> Result<(), AllocError>
-    ensures items { items.new.items ≡ items.old.items }
-    ensures room { OnOk result (vec_len items.new < vec_capacity items.new) }
-{
-    if items.is_empty() {
-        return items.reserve_exact(1);
-    }
-    items.reserve(1)
-}
-
 /// Puts an item behind the others; where room for it is refused, it is let go here.
 pub fn push<T: Drop>(items: &mut Vec<T>, item: T) -> Result<(), AllocError>
     ensures { OnOk result (items.new.items ≡ items.old.items ++ item ∷ []) }
 {
-    room_for_one(items)?;
+    items.reserve(1)?;
     items.push_reserved(item);
     Ok(())
 }

@@ -1,6 +1,7 @@
 //! Lists of values, which contracts see as plain lists.
 ghost use Rattle.std.specs.Prelude.{◌≡◌, ◌<◌, ◌++◌, ◌∷◌, IfOk, OnOk, OnErr, IfErr, Some, [], length, slice_get, slice_set};
 ghost use Rattle.std.specs.List.{AllZip};
+ghost use Rattle.std.specs.Vec.{vec_capacity, vec_len};
 ghost use Rattle.std.specs.Cmp.Lexicographic.{lists_agrees, lists_equiv, lists_po, lists_ties, lists_total, pointwise, slice_cmp, slice_partial_cmp};
 ghost use Rattle.std.specs.Cmp.{partial_equiv_from_equiv};
 ghost use Rattle.std.proofs.Common.{rules};
@@ -8,7 +9,6 @@ ghost use Rattle.std.specs.Hash as fed;
 ghost use Rattle.std.specs.Hash.{items_Alike};
 ghost use Rattle.std.specs.Cmp.Rules.{comparing, hashing};
 
-use crate::holding::room_for_one;
 use std::alloc::{AllocError, AllocFailed, Global};
 use std::cmp::Ordering;
 use std::fmt;
@@ -43,6 +43,17 @@ impl<T> From<Vec<T>> for Row<T> {
     fn from(items: Vec<T>) -> Row<T> {
         Row { items }
     }
+}
+
+/// Makes room for one more value, and for no more where it is the first: many rows hold one.
+fn make_room<T>(values: &mut Vec<T>) -> Result<(), AllocError>
+    ensures items { values.new.items ≡ values.old.items }
+    ensures room { OnOk result (vec_len values.new < vec_capacity values.new) }
+{
+    if values.is_empty() {
+        return values.reserve_exact(1);
+    }
+    values.reserve(1)
 }
 
 impl<T> Row<T> {
@@ -81,13 +92,14 @@ impl<T> Row<T> {
         &mut self.items[place]
     }
 
-    /// Puts a value behind the others. If a growth is refused, the row stays as it was.
+    /// Puts a value behind the others. The first has room for itself alone. If a growth is refused, the row
+    /// stays as it was.
     pub fn push(&mut self, value: T) -> Result<(), AllocFailed<T>>
         ensures ok { OnOk result (self.new ≡ self.old ++ value ∷ []) }
         ensures err { OnErr result (self.new ≡ self.old) }
         ensures value_returned { IfErr result (λ e. e.value ≡ value) }
     {
-        if room_for_one(&mut self.items).is_err() {
+        if make_room(&mut self.items).is_err() {
             return Err(AllocFailed { value });
         }
         self.items.push_reserved(value);
