@@ -1,6 +1,5 @@
 -- What putting a value at a key makes of entries, after room was made for it and its place was looked for.
 use Rattle.std.proofs.Common.{◌≡◌, ◌++◌, ◌∷◌, [], List, ℕ, Bool, Option, Some, None, Box, get_or, position, slice_get, slice_set, refl, sym, ap, ◌∙◌, subst}
-
 use Rattle.std.specs.Map.{keys_of, lookup}
 use Rattle.std.specs.declared.alloc.Global.{Global}
 use Rattle.std.specs.declared.cmp.Ordering.{Ordering}
