@@ -20,7 +20,7 @@ use wit_values::{Release, Row, Span, Table, Text, TextTable};
 fn package_name(alloc: Global, name: &str) -> Result<PackageName, AllocError> {
     let namespace = Text::from_str(alloc, "a")?;
     let name = Text::from_str(alloc, name)?;
-    let version = Some(Release::from(Version::new(1, 2, 3)));
+    let version = Some(Release::of(alloc, &Version::new(1, 2, 3))?);
     Ok(PackageName {
         namespace,
         name,
@@ -28,11 +28,10 @@ fn package_name(alloc: Global, name: &str) -> Result<PackageName, AllocError> {
     })
 }
 
-fn stable() -> Stability {
-    Stability::Stable {
-        since: Release::from(Version::new(1, 0, 0)),
-        deprecated: Some(Release::from(Version::new(2, 0, 0))),
-    }
+fn stable(alloc: Global) -> Result<Stability, AllocError> {
+    let since = Release::of(alloc, &Version::new(1, 0, 0))?;
+    let deprecated = Some(Release::of(alloc, &Version::new(2, 0, 0))?);
+    Ok(Stability::Stable { since, deprecated })
 }
 
 // Puts an interface that one path leads to behind others.
@@ -40,7 +39,7 @@ fn add_visited(
     alloc: Global,
     items: &mut TextTable<(AstItem, Row<Stability>)>,
 ) -> Result<(), AllocError> {
-    let visits = row(alloc, stable())?;
+    let visits = row(alloc, stable(alloc)?)?;
     put(
         alloc,
         items,

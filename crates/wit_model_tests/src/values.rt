@@ -38,7 +38,7 @@ fn texts(rt: HostRuntime) -> Result<(), Fail> {
 
 fn release(alloc: Global, text: &str) -> Result<Release, Fail> {
     let version = Version::parse(alloc, text)?;
-    Ok(Release::from(version))
+    Ok(Release::of(alloc, &version)?)
 }
 
 fn is_shown(alloc: Global, release: &Release, wanted: &str) -> Result<bool, Fail> {

@@ -129,9 +129,9 @@ pub fn told_stability(alloc: Global, attributes: &[Attribute<'_>]) -> Result<Sta
     if attributes.len() == 0 {
         return Ok(Stability::Unknown);
     }
-    let deprecated = release_of(told_version(attributes, AttributeKind::Deprecated))?;
+    let deprecated = release_of(alloc, told_version(attributes, AttributeKind::Deprecated))?;
     if let Some(version) = told_version(attributes, AttributeKind::Since) {
-        let since = Release::from(version.clone()?);
+        let since = Release::of(alloc, version)?;
         return Ok(Stability::Stable { since, deprecated });
     }
     match told_text(attributes, AttributeKind::Unstable) {

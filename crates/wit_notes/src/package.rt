@@ -12,12 +12,12 @@ use wit_tree::tree;
 use wit_values::{Release, Text};
 
 /// A version that is written or absent, as a package keeps it.
-pub fn release_of(version: Option<&Version>) -> Result<Option<Release>, AllocError>
+pub fn release_of(alloc: Global, version: Option<&Version>) -> Result<Option<Release>, AllocError>
     ensures parts { IfOk result (λ release. option_map release_parts release ≡ option_map parts_of (option_copied version.entry)) }
     ensures release { IfOk result (λ release. release ≡ option_map the_release (option_copied version.entry)) }
 {
     match version {
-        Some(version) => Ok(Some(Release::from(version.clone()?))),
+        Some(version) => Ok(Some(Release::of(alloc, version)?)),
         None => Ok(None),
     }
 }
@@ -37,6 +37,6 @@ pub fn package_name(
     Ok(PackageName {
         namespace: Text::from_str(alloc, written.namespace.name)?,
         name: Text::from_str(alloc, written.name.name)?,
-        version: release_of(written.version.as_ref())?,
+        version: release_of(alloc, written.version.as_ref())?,
     })
 }

@@ -2,5 +2,6 @@ pub mod Indexed
 pub mod Slots
 pub mod TextEntries
 pub mod ReleaseOrder
+pub mod ReleaseParts
 pub mod ReleaseText
 pub mod Spans

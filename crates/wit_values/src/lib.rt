@@ -1,8 +1,7 @@
 //! Values that trees and packages share: spans, and small types over `String`, `Vec` and `Version`, and
 //! tables, which contracts see as plain lists.
 //!
-//! A copy of each equals its source, and each is made from what it holds and gives it back
-//! without taking memory.
+//! A copy of each equals its source, and each gives back what it holds without taking memory.
 #![tactic(auto)]
 
 pub mod accessor;

@@ -1,16 +1,17 @@
 //! Versions, which contracts see as their parts.
-ghost use Rattle.std.specs.Prelude.{◌≡◌, Some, nat_eq, refl};
+ghost use Rattle.std.specs.Prelude.{◌≡◌, IfOk, Some, [], nat_eq, refl};
 ghost use Rattle.std.proofs.Common.{rules};
 ghost use Rattle.std.specs.Cmp.{partial_equiv_from_equiv};
 ghost use Rattle.std.specs.Cmp.Lexicographic.{nat_list_eq_equiv, pointwise};
 ghost use Rattle.std.specs.Cmp.Rules.{hashing};
 ghost use Rattle.std.specs.Hash as fed;
-ghost use Rattle.semver.specs.Identifiers.{parts_of};
+ghost use Rattle.semver.specs.Identifiers.{build_text, parts_of, pre_text};
 ghost use Rattle.semver.specs.Order.{build_cmp, pre_cmp};
+ghost use Rattle.wit_values.specs.ReleaseParts.{build_of, pre_of};
 ghost use Rattle.semver.specs.OrderLaws.{build-anti, build_po, build_total, order_ties, pre-anti, pre_po, pre_total};
 
 use semver::{BuildMetadata, Prerelease, Version};
-use std::alloc::AllocError;
+use std::alloc::{AllocError, Global};
 use std::cmp::Ordering;
 use std::fmt;
 use std::hash::{Hash, Hasher};
@@ -42,29 +43,21 @@ impl Drop for Release {
     }
 }
 
-impl From<Version> for Release {
-    ghost from_gives = { λ v r. parts_of v ≡ (r.major, r.minor, r.patch, r.pre, r.build) };
-
-    fn from(version: Version) -> Release {
-        let Version {
-            major,
-            minor,
-            patch,
-            pre,
-            build,
-        } = version;
-        Release {
-            major,
-            minor,
-            patch,
-            pre: PreText { part: pre },
-            build: BuildText { part: build },
-        }
-    }
-}
-
 impl Release {
-    /// The version of `semver`, given back.
+    /// A copy of a version of `semver`. Memory is taken for a pre-release and for build metadata alone.
+    pub fn of(alloc: Global, version: &Version) -> Result<Release, AllocError>
+        ensures { IfOk result (λ r. parts_of version.now ≡ (r.major, r.minor, r.patch, r.pre, r.build)) }
+    {
+        Ok(Release {
+            major: version.major,
+            minor: version.minor,
+            patch: version.patch,
+            pre: PreText::of(alloc, &version.pre)?,
+            build: BuildText::of(alloc, &version.build)?,
+        })
+    }
+
+    /// A version of `semver`, made of what this one holds.
     pub fn into_version(self) -> Version
         ensures { parts_of result ≡ (self.major, self.minor, self.patch, self.pre, self.build) }
     {
@@ -85,9 +78,10 @@ impl Release {
     }
 }
 
-/// The text of a pre-release, which contracts see as its bytes.
+/// The text of a pre-release, which contracts see as its bytes. Few versions have one, so it stands apart.
 pub struct PreText {
-    part: Prerelease,
+    /// None where the text is empty.
+    part: Option<Box<Prerelease>>,
 }
 
 impl Drop for PreText {
@@ -98,21 +92,36 @@ impl Drop for PreText {
 
 impl Model for PreText {
     ghost use Rattle.std.specs.Prelude.{ℕ, List};
-    ghost use Rattle.semver.specs.Identifiers.{pre_text};
+    ghost use Rattle.wit_values.specs.ReleaseParts.{pre_of};
 
     ghost Value = { List ℕ };
 
-    ghost view = { λ p. pre_text p.part };
+    ghost view = { λ p. pre_of p.part };
 }
 
 impl PreText {
     ghost use Rattle.semver.specs.Identifiers.{pre_text};
 
+    /// A copy of a pre-release.
+    fn of(alloc: Global, part: &Prerelease) -> Result<PreText, AllocError>
+        ensures { IfOk result (λ text. text ≡ pre_text part.now) }
+    {
+        if part.is_empty() {
+            return Ok(PreText { part: None });
+        }
+        Ok(PreText {
+            part: Some(Box::new(alloc, part.clone()?)?),
+        })
+    }
+
     /// The text.
     pub fn as_str(&self) -> &str
         ensures { result.now ≡ self.now }
     {
-        self.part.as_str()
+        match &self.part {
+            Some(part) => part.as_str(),
+            None => "",
+        }
     }
 
     /// The pre-release, given back.
@@ -120,7 +129,10 @@ impl PreText {
         ensures { pre_text result ≡ self }
     {
         let PreText { part } = self;
-        part
+        match part {
+            Some(part) => Box::into_inner(part),
+            None => Prerelease::empty(),
+        }
     }
 }
 
@@ -128,15 +140,18 @@ impl Clone for PreText {
     ghost is_clone = { λ a b. b ≡ a };
 
     fn clone(&self) -> Result<PreText, AllocError> {
-        Ok(PreText {
-            part: self.part.clone()?,
-        })
+        match &self.part {
+            Some(part) => Ok(PreText {
+                part: Some(part.clone()?),
+            }),
+            None => Ok(PreText { part: None }),
+        }
     }
 }
 
 impl fmt::Debug for PreText {
     fn fmt<W: fmt::Write>(&self, f: &mut fmt::Formatter<W>) -> fmt::Result {
-        fmt::Debug::fmt(&self.part, f)
+        fmt::Debug::fmt(self.as_str(), f)
     }
 }
 
@@ -146,7 +161,7 @@ impl PartialEq for PreText {
     ghost laws = { partial_equiv_from_equiv nat_list_eq_equiv };
 
     fn eq(&self, other: &PreText) -> bool {
-        self.part == other.part
+        self.as_str() == other.as_str()
     }
 }
 
@@ -160,7 +175,7 @@ impl Hash for PreText {
     ghost respects_eq = { Prim.search (hashing, rules) };
 
     fn hash<H: Hasher>(&self, state: &mut H) {
-        self.part.hash(state);
+        self.as_str().hash(state);
     }
 }
 
@@ -184,13 +199,26 @@ impl Ord for PreText {
     ghost matches_eq = { λ a b. order_ties pre_cmp pre_total pre-anti a b };
 
     fn cmp(&self, other: &PreText) -> Ordering {
-        self.part.cmp(&other.part)
+        let none = Prerelease::empty();
+        pre_or(&self.part, &none).cmp(pre_or(&other.part, &none))
     }
 }
 
-/// The text of build metadata, which contracts see as its bytes.
+/// The pre-release, or the one that stands for none.
+fn pre_or<'p>(part: &'p Option<Box<Prerelease>>, none: &'p Prerelease) -> &'p Prerelease
+    requires { pre_text none.now ≡ [] }
+    ensures { pre_text result.now ≡ pre_of part.now }
+{
+    match part {
+        Some(part) => part,
+        None => none,
+    }
+}
+
+/// The text of build metadata, which contracts see as its bytes. Few versions have one, so it stands apart.
 pub struct BuildText {
-    part: BuildMetadata,
+    /// None where the text is empty.
+    part: Option<Box<BuildMetadata>>,
 }
 
 impl Drop for BuildText {
@@ -201,21 +229,36 @@ impl Drop for BuildText {
 
 impl Model for BuildText {
     ghost use Rattle.std.specs.Prelude.{ℕ, List};
-    ghost use Rattle.semver.specs.Identifiers.{build_text};
+    ghost use Rattle.wit_values.specs.ReleaseParts.{build_of};
 
     ghost Value = { List ℕ };
 
-    ghost view = { λ p. build_text p.part };
+    ghost view = { λ p. build_of p.part };
 }
 
 impl BuildText {
     ghost use Rattle.semver.specs.Identifiers.{build_text};
 
+    /// A copy of build metadata.
+    fn of(alloc: Global, part: &BuildMetadata) -> Result<BuildText, AllocError>
+        ensures { IfOk result (λ text. text ≡ build_text part.now) }
+    {
+        if part.is_empty() {
+            return Ok(BuildText { part: None });
+        }
+        Ok(BuildText {
+            part: Some(Box::new(alloc, part.clone()?)?),
+        })
+    }
+
     /// The text.
     pub fn as_str(&self) -> &str
         ensures { result.now ≡ self.now }
     {
-        self.part.as_str()
+        match &self.part {
+            Some(part) => part.as_str(),
+            None => "",
+        }
     }
 
     /// The metadata, given back.
@@ -223,7 +266,10 @@ impl BuildText {
         ensures { build_text result ≡ self }
     {
         let BuildText { part } = self;
-        part
+        match part {
+            Some(part) => Box::into_inner(part),
+            None => BuildMetadata::empty(),
+        }
     }
 }
 
@@ -231,15 +277,18 @@ impl Clone for BuildText {
     ghost is_clone = { λ a b. b ≡ a };
 
     fn clone(&self) -> Result<BuildText, AllocError> {
-        Ok(BuildText {
-            part: self.part.clone()?,
-        })
+        match &self.part {
+            Some(part) => Ok(BuildText {
+                part: Some(part.clone()?),
+            }),
+            None => Ok(BuildText { part: None }),
+        }
     }
 }
 
 impl fmt::Debug for BuildText {
     fn fmt<W: fmt::Write>(&self, f: &mut fmt::Formatter<W>) -> fmt::Result {
-        fmt::Debug::fmt(&self.part, f)
+        fmt::Debug::fmt(self.as_str(), f)
     }
 }
 
@@ -249,7 +298,7 @@ impl PartialEq for BuildText {
     ghost laws = { partial_equiv_from_equiv nat_list_eq_equiv };
 
     fn eq(&self, other: &BuildText) -> bool {
-        self.part == other.part
+        self.as_str() == other.as_str()
     }
 }
 
@@ -263,7 +312,7 @@ impl Hash for BuildText {
     ghost respects_eq = { Prim.search (hashing, rules) };
 
     fn hash<H: Hasher>(&self, state: &mut H) {
-        self.part.hash(state);
+        self.as_str().hash(state);
     }
 }
 
@@ -287,6 +336,18 @@ impl Ord for BuildText {
     ghost matches_eq = { λ a b. order_ties build_cmp build_total build-anti a b };
 
     fn cmp(&self, other: &BuildText) -> Ordering {
-        self.part.cmp(&other.part)
+        let none = BuildMetadata::empty();
+        build_or(&self.part, &none).cmp(build_or(&other.part, &none))
+    }
+}
+
+/// The metadata, or the one that stands for none.
+fn build_or<'p>(part: &'p Option<Box<BuildMetadata>>, none: &'p BuildMetadata) -> &'p BuildMetadata
+    requires { build_text none.now ≡ [] }
+    ensures { build_text result.now ≡ build_of part.now }
+{
+    match part {
+        Some(part) => part,
+        None => none,
     }
 }
