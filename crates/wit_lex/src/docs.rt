@@ -66,9 +66,13 @@ pub fn docs_behind<'a>(
     let mut docs = Docs::none(alloc);
     let mut at = from;
     while at < len {
-        if is_blank(bytes[at]) {
+        let first = bytes[at];
+        if is_blank(first) {
             at += 1;
             continue;
+        }
+        if first != b'/' {
+            return Ok((docs, at));
         }
         match blank_at(bytes, at) {
             Blank::Space => at += 1,
