@@ -41,7 +41,8 @@ fn add_comment<'a>(docs: &mut Docs<'a>, comment: &'a str, found: Span) -> Result
     ensures span { OnOk result (docs.new.span ≡ stretched_span docs.old.docs.items docs.old.span found) }
 {
     let span = stretched(docs, found);
-    docs.docs.push(comment)?;
+    docs.docs.reserve(1)?;
+    docs.docs.push_reserved(comment);
     docs.span = span;
     Ok(())
 }
