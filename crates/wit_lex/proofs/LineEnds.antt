@@ -1,7 +1,8 @@
--- Where a line ends, by a search behind its `//`.
-use Rattle.std.proofs.Common.{◌≡◌, ℕ, ◌+◌, ◌-◌, ◌<◌, ◌≤◌, true, List, length, take, drop, ap, ◌∙◌, sym, arith, eqb-true, length-take-le, length-drop, get_or-take, get_or-drop, slice_index}
+-- Where a line ends, and where the next `/` stands, by a search.
+use Rattle.std.proofs.Common.{◌≡◌, ℕ, ◌+◌, ◌-◌, ◌<◌, ◌≤◌, true, List, length, take, drop, ap, ◌∙◌, sym, arith, eqb-true, refl, length-take-le, length-drop, get_or-take, get_or-drop, slice_index}
 use Rattle.memchr.specs.Find.{Nowhere, NoneBefore, Passes, is_byte}
 use Rattle.wit_type_tree.specs.Comments.{IsPair, IsLine}
+use Rattle.wit_lex.specs.Blanks.{IsNextSlash, IsNoSlash}
 
 -- what stands from a place on, as it is searched
 abbrev rest : List ℕ → ℕ → List ℕ
@@ -13,12 +14,12 @@ length-rest text at = length-take-le (length text - at) (drop at text) (rw (leng
 rest_at : (text : List ℕ) (at i : ℕ) → at + i < length text → slice_index (rest text at) i ≡ slice_index text (at + i)
 rest_at text at i lt = get_or-take (length text - at) (drop at text) i 0 (omega arith) ∙ get_or-drop at text i 0
 
--- no byte of a part that is searched in vain is an LF
-no_feed : (text : List ℕ) (at count : ℕ) → at + count ≤ length text → Nowhere (Passes (is_byte 10) (rest text at)) 0 count → (i : ℕ) → at ≤ i → i < at + count → slice_index text i ≡ 10 → ⊥
-no_feed text at count fits none i low high feed =
+-- a part that is searched in vain has no such byte
+no_byte : (text : List ℕ) (byte at count : ℕ) → is_byte byte byte ≡ true → at + count ≤ length text → Nowhere (Passes (is_byte byte) (rest text at)) 0 count → (i : ℕ) → at ≤ i → i < at + count → slice_index text i ≡ byte → ⊥
+no_byte text byte at count same fits none i low high found =
     let place : at + (i - at) ≡ i = omega arith in
-    let is : slice_index (rest text at) (i - at) ≡ 10 = rest_at text at (i - at) (omega arith) ∙ ap (slice_index text) place ∙ feed in
-    none (i - at) (omega arith) (omega arith) (ap (is_byte 10) is)
+    let is : slice_index (rest text at) (i - at) ≡ byte = rest_at text at (i - at) (omega arith) ∙ ap (slice_index text) place ∙ found in
+    none (i - at) (omega arith) (omega arith) (ap (is_byte byte) is ∙ same)
 
 pub line_found : (text : List ℕ) (from count : ℕ) → IsPair text from 47 47 → NoneBefore (Passes (is_byte 10) (rest text (from + 2))) 0 (length (rest text (from + 2))) count × Passes (is_byte 10) (rest text (from + 2)) count → IsLine text from (from + 2 + count)
 line_found text from count pair found =
@@ -28,7 +29,7 @@ line_found text from count pair found =
       front = pair;
       order = omega arith;
       within = omega arith;
-      inside = no_feed text (from + 2) count (omega arith) found.0.before;
+      inside = no_byte text 10 (from + 2) count refl (omega arith) found.0.before;
       last = λ lt. sym (rest_at text (from + 2) count within) ∙ eqb-true (slice_index (rest text (from + 2)) count) 10 found.1;
     }
 
@@ -41,6 +42,22 @@ line_last text from pair none =
       front = pair;
       order = order;
       within = omega arith;
-      inside = λ i low high. no_feed text (from + 2) (length text - (from + 2)) (omega arith) (rw long at none) i low (omega arith);
+      inside = λ i low high. no_byte text 10 (from + 2) (length text - (from + 2)) refl (omega arith) (rw long at none) i low (omega arith);
       last = λ lt. absurd (omega arith);
     }
+
+pub slash_found : (text : List ℕ) (from count : ℕ) → from ≤ length text → NoneBefore (Passes (is_byte 47) (rest text from)) 0 (length (rest text from)) count × Passes (is_byte 47) (rest text from) count → IsNextSlash text from (from + count)
+slash_found text from count order found =
+    let long = length-rest text from in
+    let within : from + count < length text = omega (arith, found.0.high, long) in
+    record {
+      low = omega arith;
+      high = within;
+      slash = sym (rest_at text from count within) ∙ eqb-true (slice_index (rest text from) count) 47 found.1;
+      before = no_byte text 47 from count refl (omega arith) found.0.before;
+    }
+
+pub no_slash : (text : List ℕ) (from : ℕ) → from ≤ length text → Nowhere (Passes (is_byte 47) (rest text from)) 0 (length (rest text from)) → IsNoSlash text from (length text)
+no_slash text from order none =
+    let long = length-rest text from in
+    λ i low high. no_byte text 47 from (length text - from) refl (omega arith) (rw long at none) i low (omega arith)

@@ -32,6 +32,17 @@ pub record IsEndless (source : List ℕ) (at : ℕ) : Type 0 where
   pub some : 0 < depth
   pub last : length source ≤ place + 1
 
+-- no `/` from one place up to another
+abbrev pub IsNoSlash : List ℕ → ℕ → ℕ → Type 0
+IsNoSlash source from to = (i : ℕ) → from ≤ i → i < to → slice_index source i ≡ 47 → ⊥
+
+-- the first `/` from a place on
+pub record IsNextSlash (source : List ℕ) (from at : ℕ) : Type 0 where
+  pub low : from ≤ at
+  pub high : at < length source
+  pub slash : slice_index source at ≡ 47
+  pub before : IsNoSlash source from at
+
 abbrev pub Begins : List ℕ → ℕ → Blank → Type 0
 Begins source at Space = is_blank (slice_index source at) ≡ true
 Begins source at (Comment end) = IsWhole source at end

@@ -1,7 +1,7 @@
 //! Blanks and comments.
 ghost use Rattle.std.specs.Prelude.{◌≡◌, ◌+◌, ◌-◌, ◌<◌, ◌≤◌, length, slice_index, MatchResult, IfOk, IfErr, IfNone, IfSome};
 ghost use Rattle.wit_type_tree.specs.Comments.{IsComment, IsLine, IsNested, IsPair, is_blank as is_blank_byte};
-ghost use Rattle.wit_lex.specs.Blanks.{Begins, IsEndless, IsFirst, IsSkipped};
+ghost use Rattle.wit_lex.specs.Blanks.{Begins, IsEndless, IsFirst, IsNextSlash, IsNoSlash, IsSkipped};
 
 use memchr::memchr;
 
@@ -36,9 +36,22 @@ fn line_end(bytes: &[u8], from: usize) -> usize
     }
 }
 
+/// The first `/` from a place on.
+#[inline(always)]
+fn next_slash(bytes: &[u8], from: usize) -> Option<usize>
+    requires { from ≤ length bytes.now }
+    ensures found { IfSome result (IsNextSlash bytes.now from) }
+    ensures none { IfNone result (IsNoSlash bytes.now from (length bytes.now)) }
+{
+    match memchr(b'/', &bytes[from..]) {
+        Some(count) => Some(from + count),
+        None => None,
+    }
+}
+
 /// The end of the block comment whose first two bytes stand at a place. Such comments nest.
 ///
-/// A byte that is neither `*` nor `/` is in no `/*` and in no `*/`: with it the one in front of it is passed.
+/// Each `/*` and each `*/` has a `/`, so that what stands between two of these is passed at once.
 fn block_end(bytes: &[u8], from: usize) -> Option<usize>
     requires { IsPair bytes.now from 47 42 }
     ensures whole { IfSome result (λ end. IsNested bytes.now from 0 end) }
@@ -49,24 +62,18 @@ fn block_end(bytes: &[u8], from: usize) -> Option<usize>
     let len = bytes.len();
     let mut depth: usize = 1;
     let mut at = from + 2;
-    while len - at >= 2 {
-        let second = bytes[at + 1];
-        if second < b'*' || second > b'/' {
-            at += 2;
-            continue;
-        }
-        let first = bytes[at];
-        if first == b'*' && second == b'/' {
-            at += 2;
+    while let Some(slash) = next_slash(bytes, at) {
+        if slash > at && bytes[slash - 1] == b'*' {
+            at = slash + 1;
             if depth <= 1 {
                 return Some(at);
             }
             depth -= 1;
-        } else if first == b'/' && second == b'*' {
-            at += 2;
+        } else if len - slash >= 2 && bytes[slash + 1] == b'*' {
+            at = slash + 2;
             depth += 1;
         } else {
-            at += 1;
+            at = slash + 1;
         }
     }
     None

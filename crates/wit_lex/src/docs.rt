@@ -41,7 +41,8 @@ fn add_comment<'a>(docs: &mut Docs<'a>, comment: &'a str, found: Span) -> Result
     ensures span { OnOk result (docs.new.span ≡ stretched_span docs.old.docs.items docs.old.span found) }
 {
     let span = stretched(docs, found);
-    docs.docs.push(comment)?;
+    docs.docs.reserve(1)?;
+    docs.docs.push_reserved(comment);
     docs.span = span;
     Ok(())
 }
@@ -66,9 +67,13 @@ pub fn docs_behind<'a>(
     let mut docs = Docs::none(alloc);
     let mut at = from;
     while at < len {
-        if is_blank(bytes[at]) {
+        let first = bytes[at];
+        if is_blank(first) {
             at += 1;
             continue;
+        }
+        if first != b'/' {
+            return Ok((docs, at));
         }
         match blank_at(bytes, at) {
             Blank::Space => at += 1,

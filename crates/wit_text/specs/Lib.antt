@@ -1,1 +1,2 @@
 pub mod Packages
+pub mod Worlds

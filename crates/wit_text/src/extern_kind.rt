@@ -1,8 +1,8 @@
 //! Reading what worlds import and export.
 ghost use Rattle.std.specs.Prelude.{◌≡◌, ◌+◌, [], ◌∷◌, IfOk, IfErr};
 ghost use Rattle.wit_reader.specs.Fronts.{Completes, IsReadBehind};
-ghost use Rattle.wit_type_tree.specs.Marks.{named, front_marks};
-ghost use Rattle.wit_tree.specs.Marks.{extern_marks, side_marks};
+ghost use Rattle.wit_type_tree.specs.Marks.{named, told, front_marks};
+ghost use Rattle.wit_tree.specs.Marks.{extern_marks, side_marks, side_word};
 ghost use Rattle.wit_reader.specs.Reading.{IsRead, IsRefused};
 
 use wit_interface_reader::definition::read_interface_items;
@@ -79,30 +79,28 @@ fn read_extern<'a>(reader: &mut Reader<'a>) -> ReadResult<ExternKind<'a>>
     Ok(kind)
 }
 
-/// Reads `import` and what is imported.
-pub fn read_import<'a>(reader: &mut Reader<'a>, front: Front<'a>) -> ReadResult<Extern<'a>>
+/// Reads `import` or `export`.
+fn read_direction(reader: &mut Reader<'_>) -> ReadResult<WorldSide>
+    ensures read { IfOk result (λ side. IsRead reader.old (told (side_word side) ∷ []) reader.new) }
+    ensures refused { IfErr result (λ e. IsRefused reader.old e) }
+{
+    if reader.at_word(Word::Import) {
+        reader.read_word(Word::Import)?;
+        return Ok(WorldSide::Imported);
+    }
+    reader.read_word(Word::Export)?;
+    Ok(WorldSide::Exported)
+}
+
+/// Reads `import` or `export`, and what is imported or exported.
+pub fn read_side<'a>(reader: &mut Reader<'a>, front: Front<'a>) -> ReadResult<Extern<'a>>
     ensures read { IfOk result (λ i. IsReadBehind reader.old (front_marks front.entry.docs front.entry.attributes.items) (side_marks i) reader.new) }
     ensures refused { IfErr result (λ e. IsRefused reader.old e) }
 {
-    reader.read_word(Word::Import)?;
+    let side = read_direction(reader)?;
     let kind = read_extern(reader)?;
     Ok(Extern {
-        side: WorldSide::Imported,
-        docs: front.docs,
-        attributes: front.attributes,
-        kind,
-    })
-}
-
-/// Reads `export` and what is exported.
-pub fn read_export<'a>(reader: &mut Reader<'a>, front: Front<'a>) -> ReadResult<Extern<'a>>
-    ensures read { IfOk result (λ e. IsReadBehind reader.old (front_marks front.entry.docs front.entry.attributes.items) (side_marks e) reader.new) }
-    ensures refused { IfErr result (λ e. IsRefused reader.old e) }
-{
-    reader.read_word(Word::Export)?;
-    let kind = read_extern(reader)?;
-    Ok(Extern {
-        side: WorldSide::Exported,
+        side,
         docs: front.docs,
         attributes: front.attributes,
         kind,

@@ -5,8 +5,9 @@ ghost use Rattle.wit_reader.specs.Fronts.{IsReadBehind};
 ghost use Rattle.wit_type_tree.specs.Marks.{attributes_marks, front_marks};
 ghost use Rattle.wit_tree.specs.Marks.{renamed_marks, include_marks, world_item_marks, world_marks};
 ghost use Rattle.wit_reader.specs.Reading.{IsRead, IsReadOn, IsRefused};
+ghost use Rattle.wit_text.specs.Worlds.{IsAdded, IsMore};
 
-use crate::extern_kind::{read_export, read_import};
+use crate::extern_kind::read_side;
 use wit_interface_reader::definition::read_definition;
 use wit_lex::fault::ReadResult;
 use wit_lex::kind::Kind;
@@ -87,30 +88,88 @@ fn read_include<'a>(
     })
 }
 
-/// Reads an item of a world.
-fn read_world_item<'a>(reader: &mut Reader<'a>) -> ReadResult<WorldItem<'a>>
-    ensures read { IfOk result (λ item. IsRead reader.old (world_item_marks item) reader.new) }
+/// Reads an import or an export, and puts it behind the other items.
+#[inline(never)]
+fn add_side<'a>(
+    reader: &mut Reader<'a>,
+    front: Front<'a>,
+    items: &mut Vec<WorldItem<'a>>,
+) -> ReadResult<()>
+    ensures read { OnOk result (IsAdded reader.old (front_marks front.entry.docs front.entry.attributes.items) items.old.items items.new.items reader.new) }
+    ensures refused { IfErr result (λ e. IsRefused reader.old e) }
+{
+    let side = read_side(reader, front)?;
+    add(items, WorldItem::Extern(side), reader.at(Kind::CloseBrace))?;
+    Ok(())
+}
+
+/// Reads names that are used, and puts them behind the other items.
+#[inline(never)]
+fn add_use<'a>(
+    reader: &mut Reader<'a>,
+    attributes: Vec<Attribute<'a>>,
+    items: &mut Vec<WorldItem<'a>>,
+) -> ReadResult<()>
+    ensures read { OnOk result (IsAdded reader.old (attributes_marks attributes.entry.items) items.old.items items.new.items reader.new) }
+    ensures refused { IfErr result (λ e. IsRefused reader.old e) }
+{
+    let names = reader.read_use(attributes)?;
+    add(items, WorldItem::Use(names), reader.at(Kind::CloseBrace))?;
+    Ok(())
+}
+
+/// Reads what a world includes, and puts it behind the other items.
+#[inline(never)]
+fn add_include<'a>(
+    reader: &mut Reader<'a>,
+    attributes: Vec<Attribute<'a>>,
+    items: &mut Vec<WorldItem<'a>>,
+) -> ReadResult<()>
+    ensures read { OnOk result (IsAdded reader.old (attributes_marks attributes.entry.items) items.old.items items.new.items reader.new) }
+    ensures refused { IfErr result (λ e. IsRefused reader.old e) }
+{
+    let include = read_include(reader, attributes)?;
+    add(items, WorldItem::Include(include), reader.at(Kind::CloseBrace))?;
+    Ok(())
+}
+
+/// Reads a definition, and puts it behind the other items.
+#[inline(never)]
+fn add_definition<'a>(
+    reader: &mut Reader<'a>,
+    front: Front<'a>,
+    items: &mut Vec<WorldItem<'a>>,
+) -> ReadResult<()>
+    ensures read { OnOk result (IsAdded reader.old (front_marks front.entry.docs front.entry.attributes.items) items.old.items items.new.items reader.new) }
+    ensures refused { IfErr result (λ e. IsRefused reader.old e) }
+{
+    let definition = read_definition(reader, front)?;
+    add(items, WorldItem::TypeDef(definition), reader.at(Kind::CloseBrace))?;
+    Ok(())
+}
+
+/// Reads an item of a world, and puts it behind the others.
+///
+/// Each sort of item has a function of its own, so that no item takes the room of the others.
+fn add_world_item<'a>(reader: &mut Reader<'a>, items: &mut Vec<WorldItem<'a>>) -> ReadResult<()>
+    ensures read { OnOk result (IsMore reader.old items.old.items items.new.items reader.new) }
     ensures refused { IfErr result (λ e. IsRefused reader.old e) }
 {
     let front = reader.read_front()?;
     if reader.at_word(Word::Use) {
-        let names = reader.read_use(front.attributes)?;
-        return Ok(WorldItem::Use(names));
+        add_use(reader, front.attributes, items)?;
+        return Ok(());
     }
     if reader.at_word(Word::Include) {
-        let include = read_include(reader, front.attributes)?;
-        return Ok(WorldItem::Include(include));
+        add_include(reader, front.attributes, items)?;
+        return Ok(());
     }
-    if reader.at_word(Word::Import) {
-        let imported = read_import(reader, front)?;
-        return Ok(WorldItem::Extern(imported));
+    if reader.at_word(Word::Import) || reader.at_word(Word::Export) {
+        add_side(reader, front, items)?;
+        return Ok(());
     }
-    if reader.at_word(Word::Export) {
-        let exported = read_export(reader, front)?;
-        return Ok(WorldItem::Extern(exported));
-    }
-    let definition = read_definition(reader, front)?;
-    Ok(WorldItem::TypeDef(definition))
+    add_definition(reader, front, items)?;
+    Ok(())
 }
 
 /// Reads the items of a world in braces.
@@ -121,8 +180,7 @@ fn read_world_items<'a>(reader: &mut Reader<'a>) -> ReadResult<Vec<WorldItem<'a>
     reader.expect(Kind::OpenBrace)?;
     let mut items = Vec::new(reader.alloc);
     'items: while !reader.at(Kind::CloseBrace) {
-        let item = read_world_item(reader)?;
-        add(&mut items, item, reader.at(Kind::CloseBrace))?;
+        add_world_item(reader, &mut items)?;
     }
     reader.bump()?;
     Ok(fitted(items))

@@ -2,8 +2,8 @@ use Rattle.std.proofs.Common.{◌-◌, ◌≤◌, ◌<◌, ◌+◌}
 use Rattle.wit_type_tree.specs.Comments.{IsNested}
 use Rattle.wit_lex.proofs.blank.block_end.Given as goal
 
-abbrev pub invariant-loop-at : goal.invariant-loop-at
-invariant-loop-at l = (l.from + 2 ≤ l.at) × (l.at ≤ l.len) × (0 < l.depth) × (l.depth < l.at) × IsNested l.bytes l.from l.depth l.at
+abbrev pub invariant-loop-slash : goal.invariant-loop-slash
+invariant-loop-slash l = (l.from + 2 ≤ l.at) × (l.at ≤ l.len) × (0 < l.depth) × (l.depth < l.at) × IsNested l.bytes l.from l.depth l.at
 
-abbrev pub decreases-loop-at : goal.decreases-loop-at
-decreases-loop-at l = l.len - l.at
+abbrev pub decreases-loop-slash : goal.decreases-loop-slash
+decreases-loop-slash l = l.len - l.at
