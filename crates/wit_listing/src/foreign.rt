@@ -33,10 +33,10 @@ fn push_item(
     let (item, visits) = entry;
     write!(text, "{package_name} ")?;
     text.push_str(name)?;
-    text.push_str(" ")?;
+    text.push(' ')?;
     push_place(text, *item)?;
     push_numbered(text, " ", visits.len())?;
-    text.push_str("\n")
+    text.push('\n')
 }
 
 /// The lines of the items of a package.

@@ -17,7 +17,7 @@ fn push_parameter(text: &mut String, place: usize, param: &Param) -> Result<(), 
         text.push_str(", ")?;
     }
     text.push_str(param.name.as_str())?;
-    text.push_str(":")?;
+    text.push(':')?;
     push_type(text, param.ty)
 }
 
@@ -51,6 +51,6 @@ pub fn push_signature(text: &mut String, function: &Function) -> Result<(), Allo
     }
     text.push_str("func(")?;
     push_parameters(text, function.params.as_slice())?;
-    text.push_str(")")?;
+    text.push(')')?;
     push_result(text, function.result)
 }

@@ -29,7 +29,7 @@ fn push_named_type(text: &mut String, name: &str, id: TypeId) -> Result<(), Allo
     text.push_str("  ")?;
     text.push_str(name)?;
     push_numbered(text, " = type #", id.index())?;
-    text.push_str("\n")
+    text.push('\n')
 }
 
 fn push_named_types(text: &mut String, types: &TextTable<TypeId>) -> Result<(), AllocError>
@@ -53,7 +53,7 @@ pub fn push_function(text: &mut String, name: &str, function: &Function) -> Resu
     text.push_str(" = ")?;
     push_signature(text, function)?;
     push_stability(text, &function.stability)?;
-    text.push_str("\n")
+    text.push('\n')
 }
 
 fn push_functions(text: &mut String, functions: &TextTable<Function>) -> Result<(), AllocError>
@@ -73,10 +73,10 @@ fn push_interface(text: &mut String, place: usize, interface: &Interface) -> Res
     ensures { OnOk result (Adds text.old text.new (interface_lines place interface.now)) }
 {
     push_numbered(text, "i", place)?;
-    text.push_str(" ")?;
+    text.push(' ')?;
     push_name(text, &interface.name)?;
     push_stability(text, &interface.stability)?;
-    text.push_str("\n")?;
+    text.push('\n')?;
     push_named_types(text, &interface.types)?;
     push_functions(text, &interface.functions)
 }

@@ -13,9 +13,9 @@ fn push_fields(text: &mut String, fields: &[Field]) -> Result<(), AllocError>
     ensures { OnOk result (Adds text.old text.new (flat_map field_text fields.now)) }
 {
     for field in fields {
-        text.push_str(" ")?;
+        text.push(' ')?;
         text.push_str(field.name.as_str())?;
-        text.push_str(":")?;
+        text.push(':')?;
         push_type(text, field.ty)?;
     }
     Ok(())
@@ -25,7 +25,7 @@ fn push_flags(text: &mut String, flags: &[Flag]) -> Result<(), AllocError>
     ensures { OnOk result (Adds text.old text.new (flat_map flag_text flags.now)) }
 {
     for flag in flags {
-        text.push_str(" ")?;
+        text.push(' ')?;
         text.push_str(flag.name.as_str())?;
     }
     Ok(())
@@ -35,7 +35,7 @@ fn push_items(text: &mut String, types: &[Type]) -> Result<(), AllocError>
     ensures { OnOk result (Adds text.old text.new (flat_map item_text types.now)) }
 {
     for ty in types {
-        text.push_str(" ")?;
+        text.push(' ')?;
         push_type(text, *ty)?;
     }
     Ok(())
@@ -44,11 +44,11 @@ fn push_items(text: &mut String, types: &[Type]) -> Result<(), AllocError>
 fn push_case(text: &mut String, case: &Case) -> Result<(), AllocError>
     ensures { OnOk result (Adds text.old text.new (case_text case.now)) }
 {
-    text.push_str(" ")?;
+    text.push(' ')?;
     text.push_str(case.name.as_str())?;
     match case.ty {
         Some(ty) => {
-            text.push_str(":")?;
+            text.push(':')?;
             push_type(text, ty)
         }
         None => Ok(()),
@@ -68,7 +68,7 @@ fn push_enum_cases(text: &mut String, cases: &[EnumCase]) -> Result<(), AllocErr
     ensures { OnOk result (Adds text.old text.new (flat_map enum_case_text cases.now)) }
 {
     for case in cases {
-        text.push_str(" ")?;
+        text.push(' ')?;
         text.push_str(case.name.as_str())?;
     }
     Ok(())
@@ -88,7 +88,7 @@ fn push_one(text: &mut String, word: &str, ty: Type) -> Result<(), AllocError>
     ensures { OnOk result (Adds text.old text.new (word.now ++ item_text ty)) }
 {
     text.push_str(word)?;
-    text.push_str(" ")?;
+    text.push(' ')?;
     push_type(text, ty)
 }
 
@@ -113,7 +113,7 @@ fn push_map(text: &mut String, key: Type, value: Type) -> Result<(), AllocError>
     ensures { OnOk result (Adds text.old text.new (kind_text (kind.Map key value))) }
 {
     push_one(text, "map", key)?;
-    text.push_str(" ")?;
+    text.push(' ')?;
     push_type(text, value)
 }
 

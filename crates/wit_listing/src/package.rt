@@ -20,7 +20,7 @@ fn push_count(text: &mut String, word: &str, count: usize) -> Result<(), AllocEr
 {
     text.push_str(word)?;
     push_numbered(text, " ", count)?;
-    text.push_str("\n")
+    text.push('\n')
 }
 
 /// The types behind their number.

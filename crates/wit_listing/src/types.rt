@@ -40,12 +40,12 @@ fn push_type_line(text: &mut String, place: usize, def: &TypeDef) -> Result<(), 
     ensures { OnOk result (Adds text.old text.new (type_line place def.now)) }
 {
     push_numbered(text, "#", place)?;
-    text.push_str(" ")?;
+    text.push(' ')?;
     push_owner(text, def.owner, &def.name)?;
     text.push_str(" = ")?;
     push_kind(text, &def.kind)?;
     push_stability(text, &def.stability)?;
-    text.push_str("\n")
+    text.push('\n')
 }
 
 /// The lines of all types, in order.

@@ -88,7 +88,7 @@ fn push_extern_line(
     push_key(text, key)?;
     text.push_str(" = ")?;
     push_extern(text, interfaces, key, item)?;
-    text.push_str("\n")
+    text.push('\n')
 }
 
 fn push_externs(
@@ -115,7 +115,7 @@ fn push_rename(text: &mut String, place: usize, rename: &IncludeName) -> Result<
     if place > 0 {
         text.push_str(",")?;
     }
-    text.push_str(" ")?;
+    text.push(' ')?;
     text.push_str(rename.name.as_str())?;
     text.push_str(" as ")?;
     text.push_str(rename.as_.as_str())
@@ -143,7 +143,7 @@ fn push_include(text: &mut String, include: &WorldInclude) -> Result<(), AllocEr
 {
     push_included(text, include.id)?;
     push_renames(text, include.names.as_slice())?;
-    text.push_str("\n")
+    text.push('\n')
 }
 
 fn push_includes(text: &mut String, includes: &[WorldInclude]) -> Result<(), AllocError>
@@ -171,10 +171,10 @@ fn push_world_line(text: &mut String, place: usize, world: &World) -> Result<(),
     ensures { OnOk result (Adds text.old text.new (world_line place world.now)) }
 {
     push_numbered(text, "w", place)?;
-    text.push_str(" ")?;
+    text.push(' ')?;
     push_world_name(text, world.name.as_str())?;
     push_stability(text, &world.stability)?;
-    text.push_str("\n")
+    text.push('\n')
 }
 
 /// The line of a world, and those of what it imports, exports and includes.
