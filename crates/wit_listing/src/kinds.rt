@@ -1,5 +1,5 @@
 //! What a type is, in one line of a listing.
-ghost use Rattle.std.specs.Prelude.{◌≡◌, ◌++◌, OnOk, string_bytes};
+ghost use Rattle.std.specs.Prelude.{◌≡◌, ◌++◌, OnOk, codes, string_bytes};
 ghost use Rattle.std.specs.List.{flat_map};
 ghost use Rattle.wit_types.specs.declared.types.TypeDefKind.TheVariants as kind;
 ghost use Rattle.wit_listing.specs.Words.{Adds, optional_text};
@@ -75,11 +75,11 @@ fn push_enum_cases(text: &mut String, cases: &[EnumCase]) -> Result<(), AllocErr
 }
 
 fn push_handle(text: &mut String, handle: Handle) -> Result<(), AllocError>
-    ensures { OnOk result (Adds text.old text.new (handle_text handle)) }
+    ensures { OnOk result (Adds text.old text.new (codes " = " ++ handle_text handle)) }
 {
     match handle {
-        Handle::Own(resource) => push_numbered(text, "own #", resource.index()),
-        Handle::Borrow(resource) => push_numbered(text, "borrow #", resource.index()),
+        Handle::Own(resource) => push_numbered(text, " = own #", resource.index()),
+        Handle::Borrow(resource) => push_numbered(text, " = borrow #", resource.index()),
     }
 }
 
@@ -100,66 +100,66 @@ fn push_perhaps(text: &mut String, word: &str, ty: Option<Type>) -> Result<(), A
     push_optional(text, ty)
 }
 
-/// What a result is.
+/// What a result is, behind a sign of equality.
 fn push_outcome(text: &mut String, ok: Option<Type>, err: Option<Type>) -> Result<(), AllocError>
-    ensures { OnOk result (Adds text.old text.new (kind_text (kind.Result (record { ok = ok; err = err })))) }
+    ensures { OnOk result (Adds text.old text.new (codes " = " ++ kind_text (kind.Result (record { ok = ok; err = err })))) }
 {
-    push_perhaps(text, "result ", ok)?;
+    push_perhaps(text, " = result ", ok)?;
     push_perhaps(text, " ", err)
 }
 
-/// What a map is.
+/// What a map is, behind a sign of equality.
 fn push_map(text: &mut String, key: Type, value: Type) -> Result<(), AllocError>
-    ensures { OnOk result (Adds text.old text.new (kind_text (kind.Map key value))) }
+    ensures { OnOk result (Adds text.old text.new (codes " = " ++ kind_text (kind.Map key value))) }
 {
-    push_one(text, "map", key)?;
+    push_one(text, " = map", key)?;
     text.push(' ')?;
     push_type(text, value)
 }
 
-/// What a list of fixed length is.
+/// What a list of fixed length is, behind a sign of equality.
 fn push_fixed(text: &mut String, ty: Type, count: u32) -> Result<(), AllocError>
-    ensures { OnOk result (Adds text.old text.new (kind_text (kind.FixedLengthList ty count))) }
+    ensures { OnOk result (Adds text.old text.new (codes " = " ++ kind_text (kind.FixedLengthList ty count))) }
 {
-    push_one(text, "fixed", ty)?;
+    push_one(text, " = fixed", ty)?;
     write!(text, " {count}")
 }
 
-/// What a type is, its parts behind single blanks.
+/// What a type is, behind a sign of equality, its parts behind single blanks.
 pub fn push_kind(text: &mut String, kind: &TypeDefKind) -> Result<(), AllocError>
-    ensures { OnOk result (Adds text.old text.new (kind_text kind.now)) }
+    ensures { OnOk result (Adds text.old text.new (codes " = " ++ kind_text kind.now)) }
 {
     match kind {
         TypeDefKind::Record(record) => {
-            text.push_str("record")?;
+            text.push_str(" = record")?;
             push_fields(text, record.fields.as_slice())
         }
-        TypeDefKind::Resource => text.push_str("resource"),
+        TypeDefKind::Resource => text.push_str(" = resource"),
         TypeDefKind::Handle(handle) => push_handle(text, *handle),
         TypeDefKind::Flags(flags) => {
-            text.push_str("flags")?;
+            text.push_str(" = flags")?;
             push_flags(text, flags.flags.as_slice())
         }
         TypeDefKind::Tuple(tuple) => {
-            text.push_str("tuple")?;
+            text.push_str(" = tuple")?;
             push_items(text, tuple.types.as_slice())
         }
         TypeDefKind::Variant(variant) => {
-            text.push_str("variant")?;
+            text.push_str(" = variant")?;
             push_cases(text, variant.cases.as_slice())
         }
         TypeDefKind::Enum(enumeration) => {
-            text.push_str("enum")?;
+            text.push_str(" = enum")?;
             push_enum_cases(text, enumeration.cases.as_slice())
         }
-        TypeDefKind::Option(ty) => push_one(text, "option", *ty),
+        TypeDefKind::Option(ty) => push_one(text, " = option", *ty),
         TypeDefKind::Result(outcome) => push_outcome(text, outcome.ok, outcome.err),
-        TypeDefKind::List(ty) => push_one(text, "list", *ty),
+        TypeDefKind::List(ty) => push_one(text, " = list", *ty),
         TypeDefKind::Map(key, value) => push_map(text, *key, *value),
         TypeDefKind::FixedLengthList(ty, count) => push_fixed(text, *ty, *count),
-        TypeDefKind::Future(ty) => push_perhaps(text, "future ", *ty),
-        TypeDefKind::Stream(ty) => push_perhaps(text, "stream ", *ty),
-        TypeDefKind::Type_(ty) => push_one(text, "alias", *ty),
-        TypeDefKind::Unknown => text.push_str("unknown"),
+        TypeDefKind::Future(ty) => push_perhaps(text, " = future ", *ty),
+        TypeDefKind::Stream(ty) => push_perhaps(text, " = stream ", *ty),
+        TypeDefKind::Type_(ty) => push_one(text, " = alias", *ty),
+        TypeDefKind::Unknown => text.push_str(" = unknown"),
     }
 }

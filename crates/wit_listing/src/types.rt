@@ -42,7 +42,6 @@ fn push_type_line(text: &mut String, place: usize, def: &TypeDef) -> Result<(), 
     push_marked(text, '#', place)?;
     text.push(' ')?;
     push_owner(text, def.owner, &def.name)?;
-    text.push_str(" = ")?;
     push_kind(text, &def.kind)?;
     push_stability(text, &def.stability)?;
     text.push('\n')
