@@ -4,7 +4,7 @@ ghost use Rattle.std.specs.List.{flat_map};
 ghost use Rattle.wit_listing.specs.Words.{Adds};
 ghost use Rattle.wit_listing.specs.Foreign.{dep_lines, item_line, item_place};
 
-use crate::words::push_numbered;
+use crate::words::push_marked;
 use std::alloc::AllocError;
 use wit_model::AstItem;
 use wit_package_names::PackageName;
@@ -16,8 +16,8 @@ fn push_place(text: &mut String, item: AstItem) -> Result<(), AllocError>
     ensures { OnOk result (Adds text.old text.new (item_place item)) }
 {
     match item {
-        AstItem::Interface(id) => push_numbered(text, "i", id.index()),
-        AstItem::World(id) => push_numbered(text, "w", id.index()),
+        AstItem::Interface(id) => push_marked(text, 'i', id.index()),
+        AstItem::World(id) => push_marked(text, 'w', id.index()),
     }
 }
 
@@ -33,10 +33,10 @@ fn push_item(
     let (item, visits) = entry;
     write!(text, "{package_name} ")?;
     text.push_str(name)?;
-    text.push_str(" ")?;
+    text.push(' ')?;
     push_place(text, *item)?;
-    push_numbered(text, " ", visits.len())?;
-    text.push_str("\n")
+    push_marked(text, ' ', visits.len())?;
+    text.push('\n')
 }
 
 /// The lines of the items of a package.

@@ -1,5 +1,5 @@
 //! Functions in a listing.
-ghost use Rattle.std.specs.Prelude.{◌≡◌, ◌++◌, OnOk, string_bytes};
+ghost use Rattle.std.specs.Prelude.{[], ◌≡◌, ◌++◌, OnOk, codes, if◌then◌else◌, string_bytes};
 ghost use Rattle.wit_listing.specs.Lists.{numbered};
 ghost use Rattle.wit_listing.specs.Words.{Adds};
 ghost use Rattle.wit_listing.specs.Functions.{parameter_text, result_text, signature_text};
@@ -14,10 +14,11 @@ fn push_parameter(text: &mut String, place: usize, param: &Param) -> Result<(), 
     ensures { OnOk result (Adds text.old text.new (parameter_text place param.now)) }
 {
     if place > 0 {
-        text.push_str(", ")?;
+        text.push(',')?;
+        text.push(' ')?;
     }
     text.push_str(param.name.as_str())?;
-    text.push_str(":")?;
+    text.push(':')?;
     push_type(text, param.ty)
 }
 
@@ -42,15 +43,23 @@ fn push_result(text: &mut String, result_type: Option<Type>) -> Result<(), Alloc
     }
 }
 
-/// What a function takes and gives.
-pub fn push_signature(text: &mut String, function: &Function) -> Result<(), AllocError>
-    ensures { OnOk result (Adds text.old text.new (signature_text function.now)) }
+/// The words in front of what a function takes.
+fn push_front(text: &mut String, is_async: bool) -> Result<(), AllocError>
+    ensures { OnOk result (Adds text.old text.new (codes " = " ++ ((if is_async then codes "async " else []) ++ codes "func("))) }
 {
-    if function.kind.is_async() {
-        text.push_str("async ")?;
+    if is_async {
+        text.push_str(" = async func(")
+    } else {
+        text.push_str(" = func(")
     }
-    text.push_str("func(")?;
+}
+
+/// What a function takes and gives, behind a sign of equality.
+pub fn push_signature(text: &mut String, function: &Function) -> Result<(), AllocError>
+    ensures { OnOk result (Adds text.old text.new (codes " = " ++ signature_text function.now)) }
+{
+    push_front(text, function.kind.is_async())?;
     push_parameters(text, function.params.as_slice())?;
-    text.push_str(")")?;
+    text.push(')')?;
     push_result(text, function.result)
 }

@@ -1,12 +1,12 @@
 //! The interfaces of a package in its listing.
-ghost use Rattle.std.specs.Prelude.{◌≡◌, ◌++◌, OnOk, string_bytes, List, ℕ};
+ghost use Rattle.std.specs.Prelude.{◌≡◌, ◌++◌, OnOk, codes, string_bytes, List, ℕ};
 ghost use Rattle.std.specs.List.{flat_map};
 ghost use Rattle.wit_listing.specs.Lists.{numbered};
 ghost use Rattle.wit_listing.specs.Words.{Adds};
 ghost use Rattle.wit_listing.specs.Interfaces.{function_line, interface_lines, named_type_line, name_text};
 
 use crate::functions::push_signature;
-use crate::words::{push_numbered, push_stability};
+use crate::words::{push_marked, push_numbered, push_stability};
 use std::alloc::AllocError;
 use wit_model::{Function, Interface};
 use wit_types::{Arena, InterfacePlace, TypeId};
@@ -18,18 +18,26 @@ fn push_name(text: &mut String, name: &Option<Text>) -> Result<(), AllocError>
 {
     match name {
         Some(name) => text.push_str(name.as_str()),
-        None => text.push_str("-"),
+        None => text.push('-'),
     }
+}
+
+/// A name behind two blanks.
+fn push_indented(text: &mut String, name: &str) -> Result<(), AllocError>
+    ensures { OnOk result (Adds text.old text.new (codes "  " ++ name.now)) }
+{
+    text.push(' ')?;
+    text.push(' ')?;
+    text.push_str(name)
 }
 
 /// The line of a type's name.
 fn push_named_type(text: &mut String, name: &str, id: TypeId) -> Result<(), AllocError>
     ensures { OnOk result (Adds text.old text.new (named_type_line (name.now, id))) }
 {
-    text.push_str("  ")?;
-    text.push_str(name)?;
+    push_indented(text, name)?;
     push_numbered(text, " = type #", id.index())?;
-    text.push_str("\n")
+    text.push('\n')
 }
 
 fn push_named_types(text: &mut String, types: &TextTable<TypeId>) -> Result<(), AllocError>
@@ -48,12 +56,10 @@ fn push_named_types(text: &mut String, types: &TextTable<TypeId>) -> Result<(), 
 pub fn push_function(text: &mut String, name: &str, function: &Function) -> Result<(), AllocError>
     ensures { OnOk result (Adds text.old text.new (function_line (name.now, function.now))) }
 {
-    text.push_str("  ")?;
-    text.push_str(name)?;
-    text.push_str(" = ")?;
+    push_indented(text, name)?;
     push_signature(text, function)?;
     push_stability(text, &function.stability)?;
-    text.push_str("\n")
+    text.push('\n')
 }
 
 fn push_functions(text: &mut String, functions: &TextTable<Function>) -> Result<(), AllocError>
@@ -72,11 +78,11 @@ fn push_functions(text: &mut String, functions: &TextTable<Function>) -> Result<
 fn push_interface(text: &mut String, place: usize, interface: &Interface) -> Result<(), AllocError>
     ensures { OnOk result (Adds text.old text.new (interface_lines place interface.now)) }
 {
-    push_numbered(text, "i", place)?;
-    text.push_str(" ")?;
+    push_marked(text, 'i', place)?;
+    text.push(' ')?;
     push_name(text, &interface.name)?;
     push_stability(text, &interface.stability)?;
-    text.push_str("\n")?;
+    text.push('\n')?;
     push_named_types(text, &interface.types)?;
     push_functions(text, &interface.functions)
 }

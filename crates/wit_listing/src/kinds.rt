@@ -1,5 +1,5 @@
 //! What a type is, in one line of a listing.
-ghost use Rattle.std.specs.Prelude.{◌≡◌, ◌++◌, OnOk, string_bytes};
+ghost use Rattle.std.specs.Prelude.{◌≡◌, ◌++◌, OnOk, codes, string_bytes};
 ghost use Rattle.std.specs.List.{flat_map};
 ghost use Rattle.wit_types.specs.declared.types.TypeDefKind.TheVariants as kind;
 ghost use Rattle.wit_listing.specs.Words.{Adds, optional_text};
@@ -13,9 +13,9 @@ fn push_fields(text: &mut String, fields: &[Field]) -> Result<(), AllocError>
     ensures { OnOk result (Adds text.old text.new (flat_map field_text fields.now)) }
 {
     for field in fields {
-        text.push_str(" ")?;
+        text.push(' ')?;
         text.push_str(field.name.as_str())?;
-        text.push_str(":")?;
+        text.push(':')?;
         push_type(text, field.ty)?;
     }
     Ok(())
@@ -25,7 +25,7 @@ fn push_flags(text: &mut String, flags: &[Flag]) -> Result<(), AllocError>
     ensures { OnOk result (Adds text.old text.new (flat_map flag_text flags.now)) }
 {
     for flag in flags {
-        text.push_str(" ")?;
+        text.push(' ')?;
         text.push_str(flag.name.as_str())?;
     }
     Ok(())
@@ -35,7 +35,7 @@ fn push_items(text: &mut String, types: &[Type]) -> Result<(), AllocError>
     ensures { OnOk result (Adds text.old text.new (flat_map item_text types.now)) }
 {
     for ty in types {
-        text.push_str(" ")?;
+        text.push(' ')?;
         push_type(text, *ty)?;
     }
     Ok(())
@@ -44,11 +44,11 @@ fn push_items(text: &mut String, types: &[Type]) -> Result<(), AllocError>
 fn push_case(text: &mut String, case: &Case) -> Result<(), AllocError>
     ensures { OnOk result (Adds text.old text.new (case_text case.now)) }
 {
-    text.push_str(" ")?;
+    text.push(' ')?;
     text.push_str(case.name.as_str())?;
     match case.ty {
         Some(ty) => {
-            text.push_str(":")?;
+            text.push(':')?;
             push_type(text, ty)
         }
         None => Ok(()),
@@ -68,18 +68,18 @@ fn push_enum_cases(text: &mut String, cases: &[EnumCase]) -> Result<(), AllocErr
     ensures { OnOk result (Adds text.old text.new (flat_map enum_case_text cases.now)) }
 {
     for case in cases {
-        text.push_str(" ")?;
+        text.push(' ')?;
         text.push_str(case.name.as_str())?;
     }
     Ok(())
 }
 
 fn push_handle(text: &mut String, handle: Handle) -> Result<(), AllocError>
-    ensures { OnOk result (Adds text.old text.new (handle_text handle)) }
+    ensures { OnOk result (Adds text.old text.new (codes " = " ++ handle_text handle)) }
 {
     match handle {
-        Handle::Own(resource) => push_numbered(text, "own #", resource.index()),
-        Handle::Borrow(resource) => push_numbered(text, "borrow #", resource.index()),
+        Handle::Own(resource) => push_numbered(text, " = own #", resource.index()),
+        Handle::Borrow(resource) => push_numbered(text, " = borrow #", resource.index()),
     }
 }
 
@@ -88,7 +88,7 @@ fn push_one(text: &mut String, word: &str, ty: Type) -> Result<(), AllocError>
     ensures { OnOk result (Adds text.old text.new (word.now ++ item_text ty)) }
 {
     text.push_str(word)?;
-    text.push_str(" ")?;
+    text.push(' ')?;
     push_type(text, ty)
 }
 
@@ -100,66 +100,66 @@ fn push_perhaps(text: &mut String, word: &str, ty: Option<Type>) -> Result<(), A
     push_optional(text, ty)
 }
 
-/// What a result is.
+/// What a result is, behind a sign of equality.
 fn push_outcome(text: &mut String, ok: Option<Type>, err: Option<Type>) -> Result<(), AllocError>
-    ensures { OnOk result (Adds text.old text.new (kind_text (kind.Result (record { ok = ok; err = err })))) }
+    ensures { OnOk result (Adds text.old text.new (codes " = " ++ kind_text (kind.Result (record { ok = ok; err = err })))) }
 {
-    push_perhaps(text, "result ", ok)?;
+    push_perhaps(text, " = result ", ok)?;
     push_perhaps(text, " ", err)
 }
 
-/// What a map is.
+/// What a map is, behind a sign of equality.
 fn push_map(text: &mut String, key: Type, value: Type) -> Result<(), AllocError>
-    ensures { OnOk result (Adds text.old text.new (kind_text (kind.Map key value))) }
+    ensures { OnOk result (Adds text.old text.new (codes " = " ++ kind_text (kind.Map key value))) }
 {
-    push_one(text, "map", key)?;
-    text.push_str(" ")?;
+    push_one(text, " = map", key)?;
+    text.push(' ')?;
     push_type(text, value)
 }
 
-/// What a list of fixed length is.
+/// What a list of fixed length is, behind a sign of equality.
 fn push_fixed(text: &mut String, ty: Type, count: u32) -> Result<(), AllocError>
-    ensures { OnOk result (Adds text.old text.new (kind_text (kind.FixedLengthList ty count))) }
+    ensures { OnOk result (Adds text.old text.new (codes " = " ++ kind_text (kind.FixedLengthList ty count))) }
 {
-    push_one(text, "fixed", ty)?;
+    push_one(text, " = fixed", ty)?;
     write!(text, " {count}")
 }
 
-/// What a type is, its parts behind single blanks.
+/// What a type is, behind a sign of equality, its parts behind single blanks.
 pub fn push_kind(text: &mut String, kind: &TypeDefKind) -> Result<(), AllocError>
-    ensures { OnOk result (Adds text.old text.new (kind_text kind.now)) }
+    ensures { OnOk result (Adds text.old text.new (codes " = " ++ kind_text kind.now)) }
 {
     match kind {
         TypeDefKind::Record(record) => {
-            text.push_str("record")?;
+            text.push_str(" = record")?;
             push_fields(text, record.fields.as_slice())
         }
-        TypeDefKind::Resource => text.push_str("resource"),
+        TypeDefKind::Resource => text.push_str(" = resource"),
         TypeDefKind::Handle(handle) => push_handle(text, *handle),
         TypeDefKind::Flags(flags) => {
-            text.push_str("flags")?;
+            text.push_str(" = flags")?;
             push_flags(text, flags.flags.as_slice())
         }
         TypeDefKind::Tuple(tuple) => {
-            text.push_str("tuple")?;
+            text.push_str(" = tuple")?;
             push_items(text, tuple.types.as_slice())
         }
         TypeDefKind::Variant(variant) => {
-            text.push_str("variant")?;
+            text.push_str(" = variant")?;
             push_cases(text, variant.cases.as_slice())
         }
         TypeDefKind::Enum(enumeration) => {
-            text.push_str("enum")?;
+            text.push_str(" = enum")?;
             push_enum_cases(text, enumeration.cases.as_slice())
         }
-        TypeDefKind::Option(ty) => push_one(text, "option", *ty),
+        TypeDefKind::Option(ty) => push_one(text, " = option", *ty),
         TypeDefKind::Result(outcome) => push_outcome(text, outcome.ok, outcome.err),
-        TypeDefKind::List(ty) => push_one(text, "list", *ty),
+        TypeDefKind::List(ty) => push_one(text, " = list", *ty),
         TypeDefKind::Map(key, value) => push_map(text, *key, *value),
         TypeDefKind::FixedLengthList(ty, count) => push_fixed(text, *ty, *count),
-        TypeDefKind::Future(ty) => push_perhaps(text, "future ", *ty),
-        TypeDefKind::Stream(ty) => push_perhaps(text, "stream ", *ty),
-        TypeDefKind::Type_(ty) => push_one(text, "alias", *ty),
-        TypeDefKind::Unknown => text.push_str("unknown"),
+        TypeDefKind::Future(ty) => push_perhaps(text, " = future ", *ty),
+        TypeDefKind::Stream(ty) => push_perhaps(text, " = stream ", *ty),
+        TypeDefKind::Type_(ty) => push_one(text, " = alias", *ty),
+        TypeDefKind::Unknown => text.push_str(" = unknown"),
     }
 }

@@ -6,7 +6,7 @@ ghost use Rattle.wit_listing.specs.Package.{count_line, foreign_text, header_tex
 use crate::foreign::push_deps;
 use crate::interfaces::push_interfaces;
 use crate::types::push_type_lines;
-use crate::words::push_numbered;
+use crate::words::push_marked;
 use crate::worlds::push_worlds;
 use std::alloc::AllocError;
 use wit_model::{AstItem, Interface, UnresolvedPackage, World};
@@ -19,8 +19,8 @@ fn push_count(text: &mut String, word: &str, count: usize) -> Result<(), AllocEr
     ensures { OnOk result (Adds text.old text.new (count_line word.now count)) }
 {
     text.push_str(word)?;
-    push_numbered(text, " ", count)?;
-    text.push_str("\n")
+    push_marked(text, ' ', count)?;
+    text.push('\n')
 }
 
 /// The types behind their number.

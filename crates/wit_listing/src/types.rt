@@ -5,7 +5,7 @@ ghost use Rattle.wit_listing.specs.Words.{Adds};
 ghost use Rattle.wit_listing.specs.Types.{owner_place, owner_text, type_line};
 
 use crate::kinds::push_kind;
-use crate::words::{push_numbered, push_stability};
+use crate::words::{push_marked, push_stability};
 use std::alloc::AllocError;
 use wit_types::{Arena, TypeDef, TypeOwner, TypePlace};
 use wit_values::Text;
@@ -15,9 +15,9 @@ fn push_owner_place(text: &mut String, owner: TypeOwner) -> Result<(), AllocErro
     ensures { OnOk result (Adds text.old text.new (owner_place owner)) }
 {
     match owner {
-        TypeOwner::World(world) => push_numbered(text, "w", world.index()),
-        TypeOwner::Interface(interface) => push_numbered(text, "i", interface.index()),
-        TypeOwner::None => text.push_str("-"),
+        TypeOwner::World(world) => push_marked(text, 'w', world.index()),
+        TypeOwner::Interface(interface) => push_marked(text, 'i', interface.index()),
+        TypeOwner::None => text.push('-'),
     }
 }
 
@@ -28,10 +28,10 @@ fn push_owner(text: &mut String, owner: TypeOwner, name: &Option<Text>) -> Resul
     match name {
         Some(name) => {
             push_owner_place(text, owner)?;
-            text.push_str(".")?;
+            text.push('.')?;
             text.push_str(name.as_str())
         }
-        None => text.push_str("-"),
+        None => text.push('-'),
     }
 }
 
@@ -39,13 +39,12 @@ fn push_owner(text: &mut String, owner: TypeOwner, name: &Option<Text>) -> Resul
 fn push_type_line(text: &mut String, place: usize, def: &TypeDef) -> Result<(), AllocError>
     ensures { OnOk result (Adds text.old text.new (type_line place def.now)) }
 {
-    push_numbered(text, "#", place)?;
-    text.push_str(" ")?;
+    push_marked(text, '#', place)?;
+    text.push(' ')?;
     push_owner(text, def.owner, &def.name)?;
-    text.push_str(" = ")?;
     push_kind(text, &def.kind)?;
     push_stability(text, &def.stability)?;
-    text.push_str("\n")
+    text.push('\n')
 }
 
 /// The lines of all types, in order.

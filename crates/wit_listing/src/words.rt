@@ -1,5 +1,5 @@
 //! Small texts of a listing, each put behind a text.
-ghost use Rattle.std.specs.Prelude.{◌≡◌, ◌++◌, OnOk, decimal, string_bytes};
+ghost use Rattle.std.specs.Prelude.{◌≡◌, ◌<◌, ◌∷◌, ◌++◌, OnOk, decimal, string_bytes};
 ghost use Rattle.wit_listing.specs.Words.{Adds, deprecated_text, optional_text, stability_text, type_text};
 
 use itoa::Buffer;
@@ -7,13 +7,77 @@ use std::alloc::AllocError;
 use wit_types::{Stability, Type};
 use wit_values::Release;
 
+/// A number of one digit.
+#[tactic(auto, using(std::proofs::lemmas::Fmt::decimal_digit))]
+fn push_digit(text: &mut String, number: usize) -> Result<(), AllocError>
+    requires { number < 10 }
+    ensures { OnOk result (Adds text.old text.new (decimal number)) }
+{
+    text.push((b'0' + number as u8) as char)
+}
+
+/// A number of one digit or two.
+fn push_tens(text: &mut String, number: usize) -> Result<(), AllocError>
+    requires { number < 100 }
+    ensures { OnOk result (Adds text.old text.new (decimal number)) }
+{
+    if number < 10 {
+        return push_digit(text, number);
+    }
+    push_digit(text, number / 10)?;
+    push_digit(text, number % 10)
+}
+
+/// A number of at most three digits.
+fn push_hundreds(text: &mut String, number: usize) -> Result<(), AllocError>
+    requires { number < 1000 }
+    ensures { OnOk result (Adds text.old text.new (decimal number)) }
+{
+    if number < 100 {
+        return push_tens(text, number);
+    }
+    push_tens(text, number / 10)?;
+    push_digit(text, number % 10)
+}
+
+/// A number of at most four digits.
+fn push_thousands(text: &mut String, number: usize) -> Result<(), AllocError>
+    requires { number < 10000 }
+    ensures { OnOk result (Adds text.old text.new (decimal number)) }
+{
+    if number < 1000 {
+        return push_hundreds(text, number);
+    }
+    push_hundreds(text, number / 10)?;
+    push_digit(text, number % 10)
+}
+
+/// A number in decimal digits.
+fn push_number(text: &mut String, number: usize) -> Result<(), AllocError>
+    ensures { OnOk result (Adds text.old text.new (decimal number)) }
+{
+    if number < 10_000 {
+        return push_thousands(text, number);
+    }
+    let mut digits = Buffer::new();
+    text.push_str(digits.format(number))
+}
+
+/// A mark, and a number in decimal digits behind it.
+pub fn push_marked(text: &mut String, mark: char, number: usize) -> Result<(), AllocError>
+    requires { mark < 128 }
+    ensures { OnOk result (Adds text.old text.new (mark ∷ decimal number)) }
+{
+    text.push(mark)?;
+    push_number(text, number)
+}
+
 /// A text, and a number in decimal digits behind it.
 pub fn push_numbered(text: &mut String, front: &str, number: usize) -> Result<(), AllocError>
     ensures { OnOk result (Adds text.old text.new (front.now ++ decimal number)) }
 {
-    let mut digits = Buffer::new();
     text.push_str(front)?;
-    text.push_str(digits.format(number))
+    push_number(text, number)
 }
 
 /// The word of a primitive type, or `#` and the place of an entry.
@@ -35,7 +99,7 @@ pub fn push_type(text: &mut String, ty: Type) -> Result<(), AllocError>
         Type::Char => text.push_str("char"),
         Type::String => text.push_str("string"),
         Type::ErrorContext => text.push_str("error-context"),
-        Type::Id(id) => push_numbered(text, "#", id.index()),
+        Type::Id(id) => push_marked(text, '#', id.index()),
     }
 }
 
@@ -45,7 +109,7 @@ pub fn push_optional(text: &mut String, ty: Option<Type>) -> Result<(), AllocErr
 {
     match ty {
         Some(ty) => push_type(text, ty),
-        None => text.push_str("_"),
+        None => text.push('_'),
     }
 }
 

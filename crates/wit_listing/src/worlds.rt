@@ -1,12 +1,12 @@
 //! The worlds of a package in its listing.
-ghost use Rattle.std.specs.Prelude.{◌≡◌, ◌++◌, OnOk, string_bytes};
+ghost use Rattle.std.specs.Prelude.{◌≡◌, ◌++◌, OnOk, codes, string_bytes};
 ghost use Rattle.std.specs.List.{flat_map};
 ghost use Rattle.wit_listing.specs.Lists.{numbered};
 ghost use Rattle.wit_listing.specs.Words.{Adds};
 ghost use Rattle.wit_listing.specs.Worlds.{extern_line, extern_text, has_own_line, include_line, included_text, is_inline, key_text, rename_text, world_line, world_lines, world_name};
 
 use crate::functions::push_signature;
-use crate::words::{push_numbered, push_stability};
+use crate::words::{push_marked, push_numbered, push_stability};
 use std::alloc::AllocError;
 use wit_model::{IncludeName, Interface, World, WorldInclude, WorldItem, WorldKey};
 use wit_types::{Arena, InterfaceId, InterfacePlace, Stability, WorldId, WorldPlace};
@@ -49,17 +49,18 @@ fn is_inline(interfaces: &Arena<Interface, InterfacePlace>, key: &WorldKey, id: 
     }
 }
 
-/// What is imported or exported.
+/// What is imported or exported, behind a sign of equality.
 fn push_extern(
     text: &mut String,
     interfaces: &Arena<Interface, InterfacePlace>,
     key: &WorldKey,
     item: &WorldItem,
 ) -> Result<(), AllocError>
-    ensures { OnOk result (Adds text.old text.new (extern_text interfaces.now key.now item.now)) }
+    ensures { OnOk result (Adds text.old text.new (codes " = " ++ extern_text interfaces.now key.now item.now)) }
 {
     match item {
         WorldItem::Interface { id, stability, .. } => {
+            text.push_str(" = ")?;
             push_numbered(text, "interface i", id.index())?;
             if is_inline(interfaces, key, *id) {
                 return Ok(());
@@ -70,7 +71,7 @@ fn push_extern(
             push_signature(text, function)?;
             push_stability(text, &function.stability)
         }
-        WorldItem::Type_ { id, .. } => push_numbered(text, "type #", id.index()),
+        WorldItem::Type_ { id, .. } => push_numbered(text, " = type #", id.index()),
     }
 }
 
@@ -86,9 +87,8 @@ fn push_extern_line(
 {
     text.push_str(side)?;
     push_key(text, key)?;
-    text.push_str(" = ")?;
     push_extern(text, interfaces, key, item)?;
-    text.push_str("\n")
+    text.push('\n')
 }
 
 fn push_externs(
@@ -113,9 +113,9 @@ fn push_rename(text: &mut String, place: usize, rename: &IncludeName) -> Result<
     ensures { OnOk result (Adds text.old text.new (rename_text place rename.now)) }
 {
     if place > 0 {
-        text.push_str(",")?;
+        text.push(',')?;
     }
-    text.push_str(" ")?;
+    text.push(' ')?;
     text.push_str(rename.name.as_str())?;
     text.push_str(" as ")?;
     text.push_str(rename.as_.as_str())
@@ -143,7 +143,7 @@ fn push_include(text: &mut String, include: &WorldInclude) -> Result<(), AllocEr
 {
     push_included(text, include.id)?;
     push_renames(text, include.names.as_slice())?;
-    text.push_str("\n")
+    text.push('\n')
 }
 
 fn push_includes(text: &mut String, includes: &[WorldInclude]) -> Result<(), AllocError>
@@ -160,7 +160,7 @@ fn push_world_name(text: &mut String, name: &str) -> Result<(), AllocError>
     ensures { OnOk result (Adds text.old text.new (world_name name.now)) }
 {
     if name.is_empty() {
-        text.push_str("-")
+        text.push('-')
     } else {
         text.push_str(name)
     }
@@ -170,11 +170,11 @@ fn push_world_name(text: &mut String, name: &str) -> Result<(), AllocError>
 fn push_world_line(text: &mut String, place: usize, world: &World) -> Result<(), AllocError>
     ensures { OnOk result (Adds text.old text.new (world_line place world.now)) }
 {
-    push_numbered(text, "w", place)?;
-    text.push_str(" ")?;
+    push_marked(text, 'w', place)?;
+    text.push(' ')?;
     push_world_name(text, world.name.as_str())?;
     push_stability(text, &world.stability)?;
-    text.push_str("\n")
+    text.push('\n')
 }
 
 /// The line of a world, and those of what it imports, exports and includes.
