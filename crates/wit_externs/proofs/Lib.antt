@@ -1,5 +1,6 @@
 mod Named
 mod Paired
+pub mod NoSetters
 mod PairedNames
 pub mod Steps
 pub mod Clashing

@@ -2,3 +2,4 @@ pub mod Held
 pub mod Clash
 pub mod Links
 pub mod Next
+pub mod Setters

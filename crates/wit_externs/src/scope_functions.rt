@@ -55,7 +55,8 @@ pub fn resolve_functions(
     for held in scope.functions {
         let function = resolve_function(alloc, scope, types, required, functions.len())?;
         define_alone(alloc, scope.names, *held, taken, &function)?;
-        functions.push(function)?;
+        functions.reserve(1)?;
+        functions.push_reserved(function);
     }
     Ok(functions)
 }

@@ -22,9 +22,9 @@ use wit_definitions::definitions::define;
 use wit_entries::entries::Entries;
 use wit_entries::scope::{Required, Scope};
 use wit_items::interfaces::Interfaces;
-use wit_scopes::distinct::{add_definition_ids, check_unique_names, used_ids};
-use wit_scopes::scope::ordered_definitions;
-use wit_scopes::scope_name::{DefinedName, ScopeName, UsedName, definitions, used_names};
+use wit_scopes::distinct::check_unique_names;
+use wit_scopes::scope::{ordered_turn, written_turn};
+use wit_scopes::scope_name::{DefinedName, ScopeName, UsedName, used_names};
 use wit_tree::ParseResult;
 use wit_tree::tree::Id;
 use wit_types::{TypeId, TypeOwner};
@@ -83,15 +83,11 @@ fn resolve_types<'t, 'a>(
     ensures grown { OnOk result (IsGrown types.old types.new) }
     ensures refused { IfErr result (Refused (λ f. ((fns : List SourceFunction) → IsBrokenScope (map name_behind names.now) fns f) ⊎ IsWrongHandleTurn types.old scope.old.owner scope.old.names (map name_behind names.now) f)) }
 {
-    let written = definitions(alloc, names)?;
-    let mut ids = used_ids(alloc, uses)?;
-    add_definition_ids(&mut ids, &written)?;
-    check_unique_names(alloc, &ids)?;
-    let ordered = ordered_definitions(alloc, names)?;
-    define_all(alloc, types, scope, &ordered)?;
-    let mut turn = used_ids(alloc, uses)?;
-    add_definition_ids(&mut turn, &ordered)?;
-    Ok(turn)
+    let written = written_turn(alloc, names, uses)?;
+    check_unique_names(alloc, &written.ids)?;
+    let turn = ordered_turn(alloc, names, uses, written)?;
+    define_all(alloc, types, scope, &turn.definitions)?;
+    Ok(turn.ids)
 }
 
 /// Adds the names of a scope of this owner, and what is in them.

@@ -167,6 +167,9 @@ pub fn stability(alloc: Global, attributes: &[Attribute<'_>]) -> ParseResult<Sta
     ensures legal { OnOk result ((f : Fault) → IsBrokenStability attributes.now f → ⊥) }
     ensures refused { IfErr result (Refused (IsBrokenStability attributes.now)) }
 {
+    if attributes.len() == 0 {
+        return Ok(Stability::Unknown);
+    }
     check_stability(alloc, attributes)?;
     Ok(told_stability(alloc, attributes)?)
 }

@@ -57,6 +57,9 @@ pub fn check_notes(alloc: Global, attributes: &[Attribute<'_>]) -> ParseResult<(
     ensures legal { OnOk result ((f : Fault) → IsBrokenNotes attributes.now f → ⊥) }
     ensures refused { IfErr result (Refused (IsBrokenNotes attributes.now)) }
 {
+    if attributes.len() == 0 {
+        return Ok(());
+    }
     check_stability(alloc, attributes)?;
     check_external_once(alloc, attributes)?;
     Ok(())
@@ -69,6 +72,13 @@ pub fn check_notes(alloc: Global, attributes: &[Attribute<'_>]) -> ParseResult<(
 pub fn told_notes(alloc: Global, attributes: &[Attribute<'_>]) -> Result<Notes, AllocError>
     ensures { IfOk result (λ n. notes_behind n ≡ the_notes no_docs attributes.now) }
 {
+    if attributes.len() == 0 {
+        return Ok(Notes {
+            docs: Docs { contents: None },
+            stability: Stability::Unknown,
+            external_id: None,
+        });
+    }
     let stability = told_stability(alloc, attributes)?;
     let external_id = told_external_id(alloc, attributes)?;
     Ok(Notes {

@@ -1,5 +1,5 @@
 -- Scopes whose names need none: their order is that in which they are written.
-use Rattle.std.proofs.Common.{◌≡◌, ℕ, zero, suc, ◌+◌, ◌<◌, ◌≤◌, List, [], ◌∷◌, ◌++◌, length, take, Some, inl, inr, refl, sym, ap, ◌∙◌, arith, length-append}
+use Rattle.std.proofs.Common.{◌≡◌, ℕ, zero, suc, ◌+◌, ◌<◌, ◌≤◌, List, [], ◌∷◌, ◌++◌, length, take, map, Some, inl, inr, refl, sym, ap, subst, ◌∙◌, arith, length-append}
 use Rattle.std.specs.Prelude.{slice_get}
 use Rattle.std.specs.List.{cons_option}
 use Rattle.std.proofs.lemmas.List.{length-map, take_all}
@@ -9,11 +9,11 @@ use Rattle.wit_type_tree.specs.declared.leaves.Id.{Id}
 use Rattle.wit_graph.specs.Table.{Row, IsEdge, Leads, IsOrder}
 use Rattle.wit_graph.proofs.Greedy.{own_greedy, greedy_sorted, greedy_least}
 use Rattle.wit_graph.proofs.Tables.{slice_get-take}
-use Rattle.wit_syntax.specs.Source.{ScopeName}
-use Rattle.wit_syntax.specs.Scope.{needed_ids, row_of, rows_of, in_order, defined}
+use Rattle.wit_syntax.specs.Source.{ScopeName, local_id}
+use Rattle.wit_syntax.specs.Scope.{needed_ids, row_of, rows_of, in_order, used, defined}
 use Rattle.wit_syntax.proofs.Lists.{at_front, at_seam, at_take, at_within, map_at}
 use Rattle.wit_syntax.proofs.Orders.{take_next, in_order-append}
-use Rattle.wit_scopes.specs.Between.{AreOrdered, NeedNone}
+use Rattle.wit_scopes.specs.Between.{AreOrdered, IsTurnOf, IsWritten, NeedNone}
 
 -- the first n places in their own order
 abbrev own : ℕ → List ℕ
@@ -63,6 +63,13 @@ as_written xs none = record {
   order = own (length (rows_of xs));
   least = own_order (rows_of xs) (λ i row at. (let p = map_at row_of xs i row at in ap (λ (r : Row). r.needs) (sym p.2) ∙ none i p.0 p.1));
   are = ap defined (sym (ap (λ n. in_order xs (own n)) (length-map xs row_of) ∙ in_order-own xs (length xs) (omega arith) ∙ take_all (length xs) xs (omega arith)));
+}
+
+-- definitions as they are written, and the names of their scope
+pub written_in_turn : (xs ds : List ScopeName) (ids : List Id) → IsWritten xs ds ids → NeedNone xs → IsTurnOf xs ds ids
+written_in_turn xs ds ids w none = record {
+  ordered = subst (AreOrdered xs) (sym w.are) (as_written xs none);
+  names = w.names ∙ ap (λ l. map local_id (used xs ++ l)) (sym w.are);
 }
 
 -- one name more that needs none

@@ -118,10 +118,6 @@ broken_definition xs ds f o b fns =
       | inr body ↦ Body b.d (contains_at xs p.0 (Defined b.d) p.1) body
     ]
 
--- ids of used names, and behind them those of definitions
-pub ids_are : (us ds vs ws : List ScopeName) (front ids : List Id) → front ≡ map local_id us → ids ≡ front ++ map local_id ds → us ≡ vs → ds ≡ ws → ids ≡ map local_id (vs ++ ws)
-ids_are us ds vs ws front ids first is used_is defined_is = is ∙ ap (λ l. l ++ map local_id ds) first ∙ sym (map-append local_id us ds) ∙ ap (map local_id) (ap (λ l. l ++ ds) used_is ∙ ap (λ l. vs ++ l) defined_is)
-
 unmapped : (key : Id → List ℕ) (zs : List ScopeName) (later : Id) → IsRepeated key (map local_id zs) later → (x : ScopeName) × IsRepeated (λ y. key (local_id y)) zs x × (local_id x ≡ later)
 unmapped key zs later r =
     let a = map_at local_id zs r.first r.earlier r.at_first in

@@ -1,10 +1,10 @@
 -- What the resolver's functions tell one another: orders that were found, names that stand twice, and what was resolved so far.
-use Rattle.std.specs.Prelude.{◌≡◌, ◌⊎◌, ℕ, List, [], take, Some, Contains, slice_get}
+use Rattle.std.specs.Prelude.{◌≡◌, ◌⊎◌, ◌++◌, ℕ, List, [], take, map, Some, Contains, slice_get}
 use Rattle.wit_type_tree.specs.declared.leaves.Id.{Id}
 use Rattle.wit_type_tree.specs.declared.types.TypeDef.{TypeDef as Definition}
 use Rattle.wit_graph.specs.Table.{IsOrder}
-use Rattle.wit_syntax.specs.Source.{ScopeName, Defined, local_name}
-use Rattle.wit_syntax.specs.Scope.{needed_ids, rows_of, in_order, defined}
+use Rattle.wit_syntax.specs.Source.{ScopeName, Defined, local_id, local_name}
+use Rattle.wit_syntax.specs.Scope.{needed_ids, rows_of, in_order, used, defined}
 use Rattle.wit_syntax.specs.Fault.{Fault, fault, missing_at, name_word}
 use Rattle.wit_syntax.specs.Notes.{IsBrokenNotes}
 use Rattle.wit_syntax.specs.Bodies.{IsRepeated, IsBrokenBody}
@@ -21,6 +21,16 @@ pub record AreOrdered (xs ds : List ScopeName) : Type 0 where
   pub order : List ℕ
   pub least : IsOrder (rows_of xs) order
   pub are : ds ≡ defined (in_order xs order)
+
+-- these are the definitions of a scope as they are written, and its names: those that it uses, and then theirs
+pub record IsWritten (xs ds : List ScopeName) (ids : List Id) : Type 0 where
+  pub are : ds ≡ defined xs
+  pub names : ids ≡ map local_id (used xs ++ defined xs)
+
+-- these are the definitions of a scope in the order in which they are resolved, and its names: those that it uses, and then theirs
+pub record IsTurnOf (xs ds : List ScopeName) (ids : List Id) : Type 0 where
+  pub ordered : AreOrdered xs ds
+  pub names : ids ≡ map local_id (used xs ++ ds)
 
 -- each name that one of these needs stands in a table already, or one before it has it
 pub record AreInTurn (env : Env) (ds : List ScopeName) : Type 0 where

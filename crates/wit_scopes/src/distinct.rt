@@ -13,11 +13,15 @@ use wit_refusals::repeats::first_repeat;
 use wit_tree::ParseResult;
 use wit_tree::tree::Id;
 
-/// The names that used ones go by.
-pub fn used_ids<'a>(alloc: Global, uses: &[UsedName<'_, 'a>]) -> Result<Vec<Id<'a>>, AllocError>
+/// The names that used ones go by. Behind them is room for so many more.
+pub(crate) fn used_ids<'a>(
+    alloc: Global,
+    uses: &[UsedName<'_, 'a>],
+    more: usize,
+) -> Result<Vec<Id<'a>>, AllocError>
     ensures { IfOk result (λ ids. ids.items ≡ map the_local_id (map use_behind uses.now)) }
 {
-    let mut ids = Vec::new(alloc);
+    let mut ids = Vec::with_capacity(alloc, uses.len().saturating_add(more))?;
     for used in uses {
         ids.push(local_of(used.name))?;
     }
@@ -25,13 +29,12 @@ pub fn used_ids<'a>(alloc: Global, uses: &[UsedName<'_, 'a>]) -> Result<Vec<Id<'
 }
 
 /// Adds the names of definitions.
-pub fn add_definition_ids<'a>(
+pub(crate) fn add_definition_ids<'a>(
     ids: &mut Vec<Id<'a>>,
     definitions: &[DefinedName<'_, 'a>],
 ) -> Result<(), AllocError>
     ensures { OnOk result (ids.new.items ≡ ids.old.items ++ map the_local_id (map definition_behind definitions.now)) }
 {
-    ids.reserve_exact(definitions.len())?;
     for defined in definitions {
         ids.push(defined.definition.name)?;
     }

@@ -1,16 +1,18 @@
 //! The order in which the definitions of a scope are resolved.
-ghost use Rattle.std.specs.Prelude.{◌≡◌, List, map, IfOk, IfErr};
+ghost use Rattle.std.specs.Prelude.{◌≡◌, ◌++◌, List, map, IfOk, IfErr};
 ghost use Rattle.std.specs.Bool.{MatchBool};
 ghost use Rattle.wit_graph.specs.Table.{rows, IsOrder};
-ghost use Rattle.wit_syntax.specs.Scope.{needed_ids as the_needed, rows_of, AreDistinct};
+ghost use Rattle.wit_syntax.specs.Scope.{needed_ids as the_needed, rows_of, used, AreDistinct};
+ghost use Rattle.wit_syntax.specs.Source.{local_id as the_local_id};
 ghost use Rattle.wit_syntax.specs.Function.{SourceFunction};
 ghost use Rattle.wit_syntax.specs.Broken.{IsBrokenScope, Refused};
-ghost use Rattle.wit_scopes.specs.Held.{name_behind, definition_behind};
-ghost use Rattle.wit_scopes.specs.Between.{AreOrdered, NeedNone};
+ghost use Rattle.wit_scopes.specs.Held.{name_behind, use_behind, definition_behind};
+ghost use Rattle.wit_scopes.specs.Between.{AreOrdered, IsTurnOf, IsWritten, NeedNone};
 
 use crate::deps::body_deps;
+use crate::distinct::{add_definition_ids, used_ids};
 use crate::order::in_order;
-use crate::scope_name::{DefinedName, ScopeName, definitions, local_id};
+use crate::scope_name::{DefinedName, ScopeName, UsedName, definitions, local_id};
 use std::alloc::{AllocError, Global};
 use wit_files::order_refusal::refuse_type_order;
 use wit_order::order_places;
@@ -57,6 +59,41 @@ fn scope_order(alloc: Global, names: &[ScopeName<'_, '_>]) -> ParseResult<Vec<us
     }
 }
 
+/// Definitions of a scope in an order, and its names: those that it uses, and then those of the
+/// definitions.
+#[derive(Drop)]
+pub struct Turn<'t, 'a> {
+    pub definitions: Vec<DefinedName<'t, 'a>>,
+    pub ids: Vec<Id<'a>>,
+}
+
+/// Definitions in an order, with the names of their scope, which uses these.
+fn turn_of<'t, 'a>(
+    alloc: Global,
+    uses: &[UsedName<'t, 'a>],
+    definitions: Vec<DefinedName<'t, 'a>>,
+) -> Result<Turn<'t, 'a>, AllocError>
+    ensures definitions { IfOk result (λ turn. turn.definitions ≡ definitions.entry) }
+    ensures ids { IfOk result (λ turn. turn.ids.items ≡ map the_local_id (map use_behind uses.now ++ map definition_behind definitions.entry.items)) }
+{
+    let mut ids = used_ids(alloc, uses, definitions.len())?;
+    add_definition_ids(&mut ids, &definitions)?;
+    Ok(Turn { definitions, ids })
+}
+
+/// The definitions of a scope, which uses these names, as they are written.
+pub fn written_turn<'t, 'a>(
+    alloc: Global,
+    names: &[ScopeName<'t, 'a>],
+    uses: &[UsedName<'t, 'a>],
+) -> Result<Turn<'t, 'a>, AllocError>
+    requires { map use_behind uses.now ≡ used (map name_behind names.now) }
+    ensures { IfOk result (λ turn. IsWritten (map name_behind names.now) (map definition_behind turn.definitions.items) turn.ids.items) }
+{
+    let written = definitions(alloc, names, uses.len())?;
+    turn_of(alloc, uses, written)
+}
+
 /// The definitions of a scope in the order of its table.
 fn sorted_definitions<'t, 'a>(
     alloc: Global,
@@ -68,7 +105,7 @@ fn sorted_definitions<'t, 'a>(
 {
     let places = scope_order(alloc, names)?;
     let ordered = in_order(alloc, names, &places)?;
-    Ok(definitions(alloc, &ordered)?)
+    Ok(definitions(alloc, &ordered, 0)?)
 }
 
 /// Whether each name of a scope needs none.
@@ -84,18 +121,23 @@ fn need_none(alloc: Global, names: &[ScopeName<'_, '_>]) -> Result<bool, AllocEr
     Ok(true)
 }
 
-/// The definitions of a scope, in the order in which they are resolved: that in which they are
-/// written where none needs a name.
-pub fn ordered_definitions<'t, 'a>(
+/// The definitions of a scope, which uses these names, in the order in which they are resolved: that in
+/// which they are written where none needs a name.
+pub fn ordered_turn<'t, 'a>(
     alloc: Global,
     names: &[ScopeName<'t, 'a>],
-) -> ParseResult<Vec<DefinedName<'t, 'a>>>
+    uses: &[UsedName<'t, 'a>],
+    written: Turn<'t, 'a>,
+) -> ParseResult<Turn<'t, 'a>>
     requires distinct { AreDistinct (map name_behind names.now) }
-    ensures ordered { IfOk result (λ ordered. AreOrdered (map name_behind names.now) (map definition_behind ordered.items)) }
+    requires uses { map use_behind uses.now ≡ used (map name_behind names.now) }
+    requires written { IsWritten (map name_behind names.now) (map definition_behind written.definitions.items) written.ids.items }
+    ensures turn { IfOk result (λ turn. IsTurnOf (map name_behind names.now) (map definition_behind turn.definitions.items) turn.ids.items) }
     ensures refused { IfErr result (Refused (λ f. (fns : List SourceFunction) → IsBrokenScope (map name_behind names.now) fns f)) }
 {
     if need_none(alloc, names)? {
-        return Ok(definitions(alloc, names)?);
+        return Ok(written);
     }
-    sorted_definitions(alloc, names)
+    let ordered = sorted_definitions(alloc, names)?;
+    Ok(turn_of(alloc, uses, ordered)?)
 }

@@ -93,14 +93,15 @@ pub fn used_names<'t, 'a>(
     Ok(uses)
 }
 
-/// The definitions of some names.
-pub fn definitions<'t, 'a>(
+/// The definitions of some names, of which so many are used ones.
+pub(crate) fn definitions<'t, 'a>(
     alloc: Global,
     names: &[ScopeName<'t, 'a>],
+    used: usize,
 ) -> Result<Vec<DefinedName<'t, 'a>>, AllocError>
     ensures { IfOk result (λ definitions. map definition_behind definitions.items ≡ defined (map name_behind names.now)) }
 {
-    let mut definitions = Vec::with_capacity(alloc, names.len())?;
+    let mut definitions = Vec::with_capacity(alloc, names.len().saturating_sub(used))?;
     for name in names {
         if let ScopeName::Defined(name) = name {
             definitions.push(*name)?;

@@ -33,8 +33,8 @@ use wit_model::{Function, WorldItem, WorldKey};
 use wit_notes::{docs, path_id, told_notes};
 use wit_tree::Span;
 use wit_tree::tree::{Attribute, Id, UsePath, WorldSide};
-use wit_types::{Docs, InterfaceId, TypeId};
-use wit_values::{Table, Text, TextTable, beside};
+use wit_types::{Docs, InterfaceId, Stability, TypeId};
+use wit_values::{Table, Text, TextTable};
 
 /// Puts a type at a name of a world, as an import.
 fn add_import(
@@ -121,9 +121,7 @@ fn add_function(
 ) -> Result<(), AllocError>
     ensures { OnOk result ((s : TheSide) → entries_of s sides.new ≡ inserted_on s side (function_item function) (entries_of s sides.old)) }
 {
-    let name: Result<Text, AllocError> = function.name.clone();
-    let (function, name) = beside(function, name)?;
-    let key = WorldKey::Name(name);
+    let key = WorldKey::Name(function.name.clone()?);
     add_item(sides, side, key, WorldItem::Function(function))?;
     Ok(())
 }
@@ -158,6 +156,15 @@ fn interface_item(
 ) -> Result<WorldItem, AllocError>
     ensures { IfOk result (λ item. item ≡ InterfaceItem id (stability_of attributes.now) (external_id_of attributes.now) docs span) }
 {
+    if attributes.len() == 0 {
+        return Ok(WorldItem::Interface {
+            id,
+            stability: Stability::Unknown,
+            external_id: None,
+            docs,
+            span,
+        });
+    }
     let told = told_notes(alloc, attributes)?;
     Ok(WorldItem::Interface {
         id,

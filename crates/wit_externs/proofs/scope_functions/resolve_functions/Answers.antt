@@ -85,12 +85,12 @@ returns-in_err-define_alone-clause-refused c =
     let mid : WorldSide → List Name = λ s. taken_on s c.loop-held.taken in
     rw (p.1, p.2) (λ xs scope. refused_weaker (IsClash mid (SideFunction fn ∷ [])) (λ (f : Fault). IsWrongFunctionAmong env new xs fns f ⊎ IsClash old (map SideFunction fns) f) _ (λ f clash. inr (clash_whole old mid (map SideFunction fns) i (SideFunction fn) f item c.loop-held.invariant.defined clash)) c.in_err-define_alone.ensures.refused)
 
-pub returns-in_err-push-clause-grown : goal.returns-in_err-push-clause-grown
-returns-in_err-push-clause-grown c = grown_then c.args.types.now c.loop-held.types c.resolve_function.new.types c.loop-held.invariant.done.grown c.in_ok-function.ensures.grown
+pub returns-in_err-reserve-clause-grown : goal.returns-in_err-reserve-clause-grown
+returns-in_err-reserve-clause-grown c = grown_then c.args.types.now c.loop-held.types c.resolve_function.new.types c.loop-held.invariant.done.grown c.in_ok-function.ensures.grown
 
-pub returns-in_err-push-clause-refused : goal.returns-in_err-push-clause-refused
-returns-in_err-push-clause-refused c =
-    let p = err_from_is_err_and c.from_residual-in_err-push.result c.from_residual-in_err-push.ensures.1 in
+pub returns-in_err-reserve-clause-refused : goal.returns-in_err-reserve-clause-refused
+returns-in_err-reserve-clause-refused c =
+    let p = err_from_is_err_and c.from_residual-in_err-reserve.result c.from_residual-in_err-reserve.ensures.1 in
     rw p.1 (λ xs scope. inl p.2)
 
 pub loop-held-preserved : goal.loop-held-preserved
@@ -110,7 +110,7 @@ loop-held-preserved c =
     let says = c.in_ok-function.ensures in
     let made_one = c.in_ok-function.function in
     record {
-      done = done_more c.args.types.now c.loop-held.types c.resolve_function.new.types c.args.scope (take i fns) (take (i + 1) fns) fn c.loop-held.functions.items c.push.new.self.items made_one c.args.required.now.items c.loop-held.required.items c.resolve_function.new.required.items (taken_next fns i fn here) c.in_ok-push.ensures.items (says.adds fn there) (says.named fn there) says.mangled (λ zs scope. subst (λ (n : ℕ). (e : Fault) → IsBrokenFunction zs fns n fn e → IsNameless zs fns) (count ∙ sym made) (says.legal zs scope fn there)) (says.handled fn there) says.grown was.done;
+      done = done_more c.args.types.now c.loop-held.types c.resolve_function.new.types c.args.scope (take i fns) (take (i + 1) fns) fn c.loop-held.functions.items c.push_reserved.new.self.items made_one c.args.required.now.items c.loop-held.required.items c.resolve_function.new.required.items (taken_next fns i fn here) (rw c.reserve.ensures.items at c.push_reserved.ensures.items) (says.adds fn there) (says.named fn there) says.mangled (λ zs scope. subst (λ (n : ℕ). (e : Fault) → IsBrokenFunction zs fns n fn e → IsNameless zs fns) (count ∙ sym made) (says.legal zs scope fn there)) (says.handled fn there) says.grown was.done;
       defined = λ s. sides_more s (taken_on s c.args.taken.now) (taken_on s c.loop-held.taken) (taken_on s c.define_alone.new.taken) xs i (SideFunction fn) item (was.defined s) (c.in_ok-define_alone.ensures.defined s);
       differ = λ s before. c.in_ok-define_alone.ensures.differ s (was.differ s before);
     }

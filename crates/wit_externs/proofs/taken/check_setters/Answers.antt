@@ -1,13 +1,19 @@
-use Rattle.std.proofs.Common.{map}
+use Rattle.std.proofs.Common.{map, sym, ◌∙◌}
 use Rattle.std.proofs.lemmas.Result.{on_ok_weaker, IfErr-weaker}
 use Rattle.wit_syntax.specs.Broken.{Refused}
 use Rattle.wit_syntax.specs.Signature.{IsUnpairedSetter}
 use Rattle.wit_syntax.proofs.Refusing.{refused_weaker}
 use Rattle.wit_refusals.specs.Names.{IsFirstLoneSetter}
 use Rattle.wit_rules.specs.Held.{function_behind}
+use Rattle.wit_externs.proofs.NoSetters.{any-held, none_alone}
 use Rattle.wit_externs.proofs.PairedNames.{all_names, scope_named}
 use Rattle.wit_externs.proofs.Paired.{lone_setter, unpaired_setter}
 use Rattle.wit_externs.proofs.taken.check_setters.Goals as goal
+
+pub returns-then-not-have_setter-clause-paired : goal.returns-then-not-have_setter-clause-paired
+returns-then-not-have_setter-clause-paired c =
+    let hs = c.args.functions.now in
+    none_alone (map function_behind hs) (any-held hs ∙ sym c.have_setter.ensures ∙ c.if-not-have_setter.true)
 
 pub returns-clause-paired : goal.returns-clause-paired
 returns-clause-paired c = on_ok_weaker c.check_setters.result (λ paired f broken.

@@ -1,4 +1,4 @@
-use Rattle.std.proofs.Common.{List, subst, sym}
+use Rattle.std.proofs.Common.{List, subst, sym, ◌∙◌}
 use Rattle.std.specs.List.{flat_map}
 use Rattle.std.proofs.lemmas.Result.{err_from_is_err_and}
 use Rattle.wit_tree.specs.declared.tree.WorldSide.{WorldSide}
@@ -10,6 +10,7 @@ use Rattle.wit_syntax.proofs.Refusing.{refused_weaker}
 use Rattle.wit_refusals.specs.Names.{Name, IsFirstLoneSetter, IsLoneSetter}
 use Rattle.wit_externs.specs.Clash.{all_on}
 use Rattle.wit_externs.specs.Held.{externs_behind}
+use Rattle.wit_externs.proofs.NoSetters.{none_there}
 use Rattle.wit_externs.proofs.PairedNames.{side_named}
 use Rattle.wit_externs.proofs.Paired.{lone_setter, unpaired_setter}
 use Rattle.wit_externs.proofs.taken.check_sides.Goals as goal
@@ -31,6 +32,9 @@ returns-in_err-check_setters-2-clause-refused c =
     let fns = flat_map item_function (externs_behind hs) in
     let names = c.args.taken.now.exports in
     rw (p.1, p.2) (refused_weaker (IsFirstLoneSetter names) (λ f. (s : WorldSide) × IsUnpairedSetter (on_side s fns) f) _ (λ f first. (Exported, unpaired_setter (all_on Exported ids (externs_behind hs)) (on_side Exported fns) (side_named Exported ids hs) f (subst (λ (l : List Name). IsFirstLoneSetter l f) (c.requires Exported) first))) c.in_err-check_setters-2.ensures.refused)
+
+pub returns-then-not-sides_have_setter-clause-paired : goal.returns-then-not-sides_have_setter-clause-paired
+returns-then-not-sides_have_setter-clause-paired c = none_there c.args.externs.now (sym c.sides_have_setter.ensures ∙ c.if-not-sides_have_setter.true)
 
 pub returns-clause-paired : goal.returns-clause-paired
 returns-clause-paired c = on

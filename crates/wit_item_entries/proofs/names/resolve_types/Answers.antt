@@ -8,49 +8,40 @@ use Rattle.wit_syntax.specs.Broken.{IsBrokenScope}
 use Rattle.wit_arena.specs.Resolving.{env_of, AreLegalBodies, AreLegalNotes, names_in}
 use Rattle.wit_syntax.proofs.Refusing.{refused_weaker}
 use Rattle.wit_syntax.proofs.Turns.{distinct_names}
-use Rattle.wit_scopes.specs.Held.{name_behind, use_behind, definition_behind}
+use Rattle.wit_scopes.specs.Held.{name_behind, definition_behind}
 use Rattle.wit_scopes.specs.Between.{AreOrdered, IsBrokenAmong, IsRepeatedId}
 use Rattle.wit_item_entries.specs.Between.{IsWrongHandleIn, IsWrongHandleTurn}
-use Rattle.wit_scopes.proofs.Turning.{in_their_turn, own_held, ids_are, broken_twice, broken_definition, differ_names, turn_differs, legal_unfolded}
+use Rattle.wit_scopes.proofs.Turning.{in_their_turn, own_held, broken_twice, broken_definition, differ_names, turn_differs, legal_unfolded}
 use Rattle.wit_item_entries.proofs.names.resolve_types.Goals as goal
 
 pub returns-in_err-check_unique_names-clause-refused : goal.returns-in_err-check_unique_names-clause-refused
 returns-in_err-check_unique_names-clause-refused c =
     let p = err_from_is_err_and c.from_residual-in_err-check_unique_names.result c.from_residual-in_err-check_unique_names.ensures.1 in
     let xs = map name_behind c.args.names.now in
-    let us = map use_behind c.args.uses.now in
-    let ds = map definition_behind c.deref.result.now in
-    let ids : List Id = c.deref-2.result.now in
-    let written : ds ≡ defined xs = ap (map definition_behind) c.deref.ensures.value ∙ c.in_ok-written.ensures in
-    let are : ids ≡ map local_id (used xs ++ defined xs) = ids_are us ds (used xs) (defined xs) c.in_ok-ids.ids.items ids c.in_ok-ids.ensures (c.deref-2.ensures.value ∙ c.in_ok-add_definition_ids.ensures) c.requires.uses written in
+    let ids : List Id = c.deref.result.now in
+    let are : ids ≡ map local_id (used xs ++ defined xs) = c.deref.ensures.value ∙ c.in_ok-written.ensures.names in
     rw (p.1, p.2) (refused_weaker (IsRepeatedId 14 (λ id. id.name.now) ids) (λ f. ((fns : List SourceFunction) → IsBrokenScope xs fns f) ⊎ IsWrongHandleTurn c.args.types.now c.args.scope.now.owner c.args.scope.now.names xs f) _ (λ f h. inl (broken_twice xs ids f are h)) c.in_err-check_unique_names.ensures.refused)
 
-pub ordered_definitions-requires : goal.ordered_definitions-requires
-ordered_definitions-requires c =
+pub ordered_turn-requires-clause-distinct : goal.ordered_turn-requires-clause-distinct
+ordered_turn-requires-clause-distinct c =
     let xs = map name_behind c.args.names.now in
-    let us = map use_behind c.args.uses.now in
-    let ds = map definition_behind c.deref.result.now in
-    let ids : List Id = c.deref-2.result.now in
-    let written : ds ≡ defined xs = ap (map definition_behind) c.deref.ensures.value ∙ c.in_ok-written.ensures in
-    let are : ids ≡ map local_id (used xs ++ defined xs) = ids_are us ds (used xs) (defined xs) c.in_ok-ids.ids.items ids c.in_ok-ids.ensures (c.deref-2.ensures.value ∙ c.in_ok-add_definition_ids.ensures) c.requires.uses written in
-    record { distinct = distinct_names xs (differ_names xs ids are c.in_ok-check_unique_names.ensures.legal) }
+    let ids : List Id = c.deref.result.now in
+    let are : ids ≡ map local_id (used xs ++ defined xs) = c.deref.ensures.value ∙ c.in_ok-written.ensures.names in
+    distinct_names xs (differ_names xs ids are c.in_ok-check_unique_names.ensures.legal)
 
-pub returns-in_err-ordered-clause-refused : goal.returns-in_err-ordered-clause-refused
-returns-in_err-ordered-clause-refused c =
-    let p = err_from_is_err_and c.from_residual-in_err-ordered.result c.from_residual-in_err-ordered.ensures.1 in
+pub returns-in_err-turn-clause-refused : goal.returns-in_err-turn-clause-refused
+returns-in_err-turn-clause-refused c =
+    let p = err_from_is_err_and c.from_residual-in_err-turn.result c.from_residual-in_err-turn.ensures.1 in
     let xs = map name_behind c.args.names.now in
-    rw (p.1, p.2) (refused_weaker (λ f. (fns : List SourceFunction) → IsBrokenScope xs fns f) (λ f. ((fns : List SourceFunction) → IsBrokenScope xs fns f) ⊎ IsWrongHandleTurn c.args.types.now c.args.scope.now.owner c.args.scope.now.names xs f) _ (λ f h. inl h) c.in_err-ordered.ensures.refused)
+    rw (p.1, p.2) (refused_weaker (λ f. (fns : List SourceFunction) → IsBrokenScope xs fns f) (λ f. ((fns : List SourceFunction) → IsBrokenScope xs fns f) ⊎ IsWrongHandleTurn c.args.types.now c.args.scope.now.owner c.args.scope.now.names xs f) _ (λ f h. inl h) c.in_err-turn.ensures.refused)
 
 pub define_all-requires : goal.define_all-requires
 define_all-requires c =
     let xs = map name_behind c.args.names.now in
-    let ds = map definition_behind c.deref-3.result.now in
-    let o : AreOrdered xs ds = subst (λ l. AreOrdered xs (map definition_behind l)) (sym c.deref-3.ensures.value) c.in_ok-ordered.ensures.ordered in
-    let us = map use_behind c.args.uses.now in
-    let ws = map definition_behind c.deref.result.now in
-    let ids : List Id = c.deref-2.result.now in
-    let written : ws ≡ defined xs = ap (map definition_behind) c.deref.ensures.value ∙ c.in_ok-written.ensures in
-    let are : ids ≡ map local_id (used xs ++ defined xs) = ids_are us ws (used xs) (defined xs) c.in_ok-ids.ids.items ids c.in_ok-ids.ensures (c.deref-2.ensures.value ∙ c.in_ok-add_definition_ids.ensures) c.requires.uses written in
+    let ds = map definition_behind c.deref-2.result.now in
+    let o : AreOrdered xs ds = subst (λ l. AreOrdered xs (map definition_behind l)) (sym c.deref-2.ensures.value) c.in_ok-turn.ensures.turn.ordered in
+    let ids : List Id = c.deref.result.now in
+    let are : ids ≡ map local_id (used xs ++ defined xs) = c.deref.ensures.value ∙ c.in_ok-written.ensures.names in
     let distinct : AreDistinct xs = distinct_names xs (differ_names xs ids are c.in_ok-check_unique_names.ensures.legal) in
     record {
       turn = in_their_turn xs ds (env_of c.args.scope.now.names) (own_held c.args.names.now) o c.requires.has;
@@ -61,16 +52,13 @@ pub returns-in_err-define_all-clause-refused : goal.returns-in_err-define_all-cl
 returns-in_err-define_all-clause-refused c =
     let p = err_from_is_err_and c.from_residual-in_err-define_all.result c.from_residual-in_err-define_all.ensures.1 in
     let xs = map name_behind c.args.names.now in
-    let ds = map definition_behind c.deref-3.result.now in
+    let ds = map definition_behind c.deref-2.result.now in
     let old = c.args.types.now in
     let owner = c.args.scope.now.owner in
     let names = c.args.scope.now.names in
-    let o : AreOrdered xs ds = subst (λ l. AreOrdered xs (map definition_behind l)) (sym c.deref-3.ensures.value) c.in_ok-ordered.ensures.ordered in
-    let us = map use_behind c.args.uses.now in
-    let ws = map definition_behind c.deref.result.now in
-    let ids : List Id = c.deref-2.result.now in
-    let written : ws ≡ defined xs = ap (map definition_behind) c.deref.ensures.value ∙ c.in_ok-written.ensures in
-    let are : ids ≡ map local_id (used xs ++ defined xs) = ids_are us ws (used xs) (defined xs) c.in_ok-ids.ids.items ids c.in_ok-ids.ensures (c.deref-2.ensures.value ∙ c.in_ok-add_definition_ids.ensures) c.requires.uses written in
+    let o : AreOrdered xs ds = subst (λ l. AreOrdered xs (map definition_behind l)) (sym c.deref-2.ensures.value) c.in_ok-turn.ensures.turn.ordered in
+    let ids : List Id = c.deref.result.now in
+    let are : ids ≡ map local_id (used xs ++ defined xs) = c.deref.ensures.value ∙ c.in_ok-written.ensures.names in
     let distinct : AreDistinct xs = distinct_names xs (differ_names xs ids are c.in_ok-check_unique_names.ensures.legal) in
     rw (p.1, p.2) (refused_weaker (λ f. IsBrokenAmong ds f ⊎ IsWrongHandleIn old owner names ds f) (λ f. ((fns : List SourceFunction) → IsBrokenScope xs fns f) ⊎ IsWrongHandleTurn old owner names xs f) _ (λ f h. elim h [
       | inl broken ↦ inl (broken_definition xs ds f o broken)
@@ -80,35 +68,28 @@ returns-in_err-define_all-clause-refused c =
 pub returns-clause-legal : goal.returns-clause-legal
 returns-clause-legal c =
     let xs = map name_behind c.args.names.now in
-    let ds = map definition_behind c.in_ok-ordered.ordered.items in
-    let us = map use_behind c.args.uses.now in
-    let ws = map definition_behind c.deref.result.now in
-    let ids : List Id = c.deref-2.result.now in
-    let written : ws ≡ defined xs = ap (map definition_behind) c.deref.ensures.value ∙ c.in_ok-written.ensures in
-    let are : ids ≡ map local_id (used xs ++ defined xs) = ids_are us ws (used xs) (defined xs) c.in_ok-ids.ids.items ids c.in_ok-ids.ensures (c.deref-2.ensures.value ∙ c.in_ok-add_definition_ids.ensures) c.requires.uses written in
-    let notes : AreLegalNotes ds = rw c.deref-3.ensures.value at c.in_ok-define_all.ensures.noted in
-    let bodies : AreLegalBodies ds = rw c.deref-3.ensures.value at c.in_ok-define_all.ensures.legal in
-    legal_unfolded xs ds ids c.in_ok-ordered.ensures.ordered are c.in_ok-check_unique_names.ensures.legal notes bodies
+    let ds = map definition_behind c.in_ok-turn.turn.definitions.items in
+    let ids : List Id = c.deref.result.now in
+    let are : ids ≡ map local_id (used xs ++ defined xs) = c.deref.ensures.value ∙ c.in_ok-written.ensures.names in
+    let notes : AreLegalNotes ds = rw c.deref-2.ensures.value at c.in_ok-define_all.ensures.noted in
+    let bodies : AreLegalBodies ds = rw c.deref-2.ensures.value at c.in_ok-define_all.ensures.legal in
+    legal_unfolded xs ds ids c.in_ok-turn.ensures.turn.ordered are c.in_ok-check_unique_names.ensures.legal notes bodies
 
 pub returns-clause-defines : goal.returns-clause-defines
 returns-clause-defines c =
     let xs = map name_behind c.args.names.now in
-    let ds = map definition_behind c.in_ok-ordered.ordered.items in
-    let turn : List Id = c.add_definition_ids-2.new.ids.items in
-    let o = c.in_ok-ordered.ensures.ordered in
-    let us = map use_behind c.args.uses.now in
-    let ws = map definition_behind c.deref.result.now in
-    let ids : List Id = c.deref-2.result.now in
-    let written : ws ≡ defined xs = ap (map definition_behind) c.deref.ensures.value ∙ c.in_ok-written.ensures in
-    let are : ids ≡ map local_id (used xs ++ defined xs) = ids_are us ws (used xs) (defined xs) c.in_ok-ids.ids.items ids c.in_ok-ids.ensures (c.deref-2.ensures.value ∙ c.in_ok-add_definition_ids.ensures) c.requires.uses written in
+    let turn = c.in_ok-turn.ensures.turn in
+    let o = turn.ordered in
+    let ids : List Id = c.deref.result.now in
+    let are : ids ≡ map local_id (used xs ++ defined xs) = c.deref.ensures.value ∙ c.in_ok-written.ensures.names in
     record {
       all = record {
         order = o.order;
         least = o.least;
         distinct = distinct_names xs (differ_names xs ids are c.in_ok-check_unique_names.ensures.legal);
-        defines = rw (c.deref-3.ensures.value, o.are) at c.in_ok-define_all.ensures.defines;
+        defines = rw (c.deref-2.ensures.value, o.are) at c.in_ok-define_all.ensures.defines;
       };
-      turn = ids_are us ds (used xs) (defined (in_order xs o.order)) c.in_ok-turn.turn.items turn c.in_ok-turn.ensures (c.in_ok-add_definition_ids-2.ensures ∙ ap (λ l. c.in_ok-turn.turn.items ++ map local_id (map definition_behind l)) c.deref-4.ensures.value) c.requires.uses o.are;
-      listed = rw (c.deref-3.ensures.value, o.are) at c.in_ok-define_all.ensures.listed;
-      handled = rw (c.deref-3.ensures.value, o.are) at c.in_ok-define_all.ensures.handled;
+      turn = turn.names ∙ ap (λ l. map local_id (used xs ++ l)) o.are;
+      listed = rw (c.deref-2.ensures.value, o.are) at c.in_ok-define_all.ensures.listed;
+      handled = rw (c.deref-2.ensures.value, o.are) at c.in_ok-define_all.ensures.handled;
     }

@@ -1,0 +1,18 @@
+use Rattle.std.proofs.Common.{◌≡◌, map}
+use Rattle.std.proofs.lemmas.Bool.{MatchBool-at_true}
+use Rattle.std.proofs.lemmas.Result.{err_from_is_err_and}
+use Rattle.wit_scopes.specs.Held.{name_behind, definition_behind}
+use Rattle.wit_scopes.specs.Between.{NeedNone}
+use Rattle.wit_scopes.proofs.NeedingNone.{written_in_turn}
+use Rattle.wit_scopes.proofs.scope.ordered_turn.Goals as goal
+
+pub returns-then-branch-clause-turn : goal.returns-then-branch-clause-turn
+returns-then-branch-clause-turn c =
+    let xs = map name_behind c.args.names.now in
+    let written = c.args.written in
+    written_in_turn xs (map definition_behind written.definitions.items) written.ids.items c.requires.written (MatchBool-at_true (NeedNone xs) (NeedNone xs → ⊥) c.if-branch.true c.in_ok-need_none.ensures)
+
+pub returns-in_err-ordered-clause-refused : goal.returns-in_err-ordered-clause-refused
+returns-in_err-ordered-clause-refused c =
+    let p = err_from_is_err_and c.from_residual-in_err-ordered.result c.from_residual-in_err-ordered.ensures.1 in
+    rw (p.1, p.2) c.in_err-ordered.ensures.refused
