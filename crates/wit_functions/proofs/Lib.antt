@@ -1,6 +1,13 @@
 pub mod InTurn
 pub mod Marks
 pub mod Walk
-pub mod Placing
 pub mod Pairs
 pub mod Same
+pub mod Names
+pub mod GetterNames
+pub mod OwnNames
+pub mod Parting
+pub mod Serving
+pub mod Keys
+pub mod Swaps
+pub mod Reordered

@@ -2,7 +2,7 @@
 use Rattle.std.specs.Prelude.{◌≡◌, ℕ, ◌&&◌, Bool, true, false, List, [], ◌∷◌, Option, Some, None, codes, if◌then◌else◌, nat_eq}
 use Rattle.std.specs.Cmp.Lexicographic.{pointwise}
 use Rattle.std.specs.Fn.{FnReturnsAt}
-use Rattle.std.specs.List.{IsDistinct, filter, flat_map, list_any, position_from}
+use Rattle.std.specs.List.{IsDistinct, filter, flat_map, list_any}
 use Rattle.std.specs.Option.{option_copied}
 use denote.Param.Members.{Shared}
 use denote.Ref.{Bor}
@@ -107,7 +107,3 @@ module _ {K V : Type 0} (tells : V → Option Function) where
   -- the entries, with each setter that stood before its getter directly behind it
   abbrev pub placed : List (K × V) → List (K × V)
   placed es = setters_placed pairs es
-
-  -- the index of the getter of e's setter, where the list starts at index i
-  abbrev pub getter_index : K × V → ℕ → List (K × V) → Option ℕ
-  getter_index e i es = position_from (pairs e) i es

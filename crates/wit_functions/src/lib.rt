@@ -11,9 +11,13 @@ pub mod function_kind;
 pub mod function_name;
 pub mod futures;
 pub mod laws;
+mod order;
+mod parted;
+pub mod placed;
 pub mod setters;
 pub mod signature;
 mod spans;
+pub mod told;
 
 pub use abi::{AbiVariant, LiftLowerAbi, Mangling, ManglingAndAbi, ManglingFault};
 pub use function::{Function, FunctionKind, Param};

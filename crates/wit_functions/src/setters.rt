@@ -1,13 +1,17 @@
 //! Setters behind their getters.
-ghost use Rattle.std.specs.Prelude.{◌≡◌, ◌+◌, ◌<◌, ◌==◌, ℕ, Option, drop, length, slice_get, IfSome, Some};
+ghost use Rattle.std.specs.Prelude.{◌≡◌, ◌<◌, ℕ, Option, IfOk, OnErr, OnOk, Some, map as mapped, slice_get};
+ghost use Rattle.std.specs.List.{enumerate_from};
 ghost use Rattle.std.specs.Option.{option_copied, option_map};
 ghost use Rattle.indexmap.specs.IndexMap.{index_map_len};
-ghost use Rattle.wit_functions.specs.Setters.{HaveDistinctNames, Tells, fronts, getter_index, goes_on_alike, goes_with, is_getter, is_getter_of, is_same_text, placed};
+ghost use Rattle.wit_functions.specs.Order.{IsOrder};
+ghost use Rattle.wit_functions.specs.Setters.{HaveDistinctNames, Tells, fronts, is_getter, placed};
 
 use crate::function::{Function, FunctionKind};
+use crate::order::{Standing, put_in_order};
+use crate::placed::behind_getters;
 use indexmap::IndexMap;
+use std::alloc::{AllocError, Global};
 use std::hash::Hash;
-use wit_names::front::behind;
 
 /// Of a setter's kind, the front of its name and that of its getter's name; none for another kind.
 pub fn fronts(kind: FunctionKind) -> Option<(&'static str, &'static str)>
@@ -31,33 +35,6 @@ pub fn is_getter(kind: FunctionKind) -> bool
     )
 }
 
-fn is_same_text(a: Option<&str>, b: Option<&str>) -> bool
-    ensures { result ≡ is_same_text (option_copied a.entry) (option_copied b.entry) }
-{
-    match a {
-        Some(a) => match b {
-            Some(b) => a == b,
-            None => false,
-        },
-        None => false,
-    }
-}
-
-fn goes_on_alike(kind: FunctionKind, setter: &str, getter: &str) -> bool
-    ensures { result ≡ goes_on_alike (fronts kind) setter.now getter.now }
-{
-    match fronts(kind) {
-        Some((set, get)) => is_same_text(behind(setter, set), behind(getter, get)),
-        None => false,
-    }
-}
-
-fn is_getter_of(setter: &Function, getter: &Function) -> bool
-    ensures { result ≡ is_getter_of setter.now getter.now }
-{
-    is_getter(getter.kind) && goes_on_alike(setter.kind, setter.name.as_str(), getter.name.as_str())
-}
-
 fn told<'a, V, F: Fn(&V) -> Option<&Function>>(func: &F, value: &'a V) -> Option<&'a Function>
     requires { F.IsAlwaysCallable func.now }
     ensures { (tells : V → Option Function) → Tells F.Fn func.now tells → option_copied result ≡ tells value.now }
@@ -65,58 +42,60 @@ fn told<'a, V, F: Fn(&V) -> Option<&Function>>(func: &F, value: &'a V) -> Option
     func(value)
 }
 
-fn both(setter: Option<&Function>, getter: Option<&Function>) -> bool
-    ensures { result ≡ goes_with (option_copied setter.entry) (option_copied getter.entry) }
-{
-    match setter {
-        Some(setter) => match getter {
-            Some(getter) => is_getter_of(setter, getter),
-            None => false,
-        },
-        None => false,
-    }
-}
-
-fn pairs<V, F: Fn(&V) -> Option<&Function>>(func: &F, setter: &V, getter: &V) -> bool
-    requires { F.IsAlwaysCallable func.now }
-    ensures { (tells : V → Option Function) → Tells F.Fn func.now tells → result ≡ goes_with (tells setter.now) (tells getter.now) }
-{
-    both(told(func, setter), told(func, getter))
-}
-
-fn is_pair<K: Eq + Hash, V, F: Fn(&V) -> Option<&Function>>(
-    map: &IndexMap<K, V>,
-    setter: usize,
-    getter: usize,
-    func: &F,
-) -> bool
-    requires setter_within { setter < index_map_len map.now }
-    requires getter_within { getter < index_map_len map.now }
-    requires callable { F.IsAlwaysCallable func.now }
-    ensures { (tells : V → Option Function) → Tells F.Fn func.now tells → (s g : K × V) → slice_get map.now.entries setter ≡ Some s → slice_get map.now.entries getter ≡ Some g → result ≡ goes_with (tells s.1) (tells g.1) }
-{
-    let entries = map.as_slice();
-    pairs(func, &entries[setter], &entries[getter])
-}
-
-fn getter_behind<K: Eq + Hash, V, F: Fn(&V) -> Option<&Function>>(
-    map: &IndexMap<K, V>,
+fn told_at<'a, K: Eq + Hash, V, F: Fn(&V) -> Option<&Function>>(
+    map: &'a IndexMap<K, V>,
     place: usize,
     func: &F,
-) -> Option<usize>
+) -> Option<&'a Function>
     requires within { place < index_map_len map.now }
     requires callable { F.IsAlwaysCallable func.now }
-    ensures value { (tells : V → Option Function) → Tells F.Fn func.now tells → (e : K × V) → slice_get map.now.entries place ≡ Some e → result ≡ getter_index tells e (place + 1) (drop (place + 1) map.now.entries) }
-    ensures behind { IfSome result (λ j. place < j) }
-    ensures in_bounds { IfSome result (λ j. j < index_map_len map.now) }
+    ensures { (tells : V → Option Function) → Tells F.Fn func.now tells → (e : K × V) → slice_get map.now.entries place ≡ Some e → option_copied result ≡ tells e.1 }
+{
+    let (_, value) = map.get_index(place).unwrap();
+    told(func, value)
+}
+
+/// The places of a map, each with the function that stands there.
+fn told_places<'a, K: Eq + Hash, V, F: Fn(&V) -> Option<&Function>>(
+    alloc: Global,
+    map: &'a IndexMap<K, V>,
+    func: &F,
+) -> Result<Vec<(usize, Option<&'a Function>)>, AllocError>
+    requires { F.IsAlwaysCallable func.now }
+    ensures { IfOk result (λ told. (tells : V → Option Function) → Tells F.Fn func.now tells → mapped {B = ℕ × Option Function} (λ t. (t.0, option_copied t.1)) told.items ≡ mapped (λ z. (z.0, tells z.1.1)) (enumerate_from 0 map.now.entries)) }
 {
     let len = map.len();
-    for getter in place + 1..len {
-        if is_pair(map, place, getter, func) {
-            return Some(getter);
-        }
+    let mut places = Vec::with_capacity(alloc, len)?;
+    for place in 0..len {
+        places.push((place, told_at(map, place, func)))?;
     }
-    None
+    Ok(places)
+}
+
+fn places_of(alloc: Global, told: Vec<(usize, Option<&Function>)>) -> Result<Vec<usize>, AllocError>
+    ensures { IfOk result (λ places. places.items ≡ mapped (λ t. t.0) told.entry.items) }
+{
+    let mut places = Vec::with_capacity(alloc, told.len())?;
+    for entry in told {
+        places.push(entry.0)?;
+    }
+    Ok(places)
+}
+
+/// The places of the entries of a map, in the order in which each setter that stands before its
+/// getter stands directly behind it instead.
+fn order_of<K: Eq + Hash, V, F: Fn(&V) -> Option<&Function>>(
+    alloc: Global,
+    map: &IndexMap<K, V>,
+    func: &F,
+) -> Result<Vec<usize>, AllocError>
+    requires { F.IsAlwaysCallable func.now }
+    ensures { IfOk result (λ order. (tells : V → Option Function) → Tells F.Fn func.now tells → HaveDistinctNames tells map.now.entries → IsOrder map.now.entries order.items (placed tells map.now.entries)) }
+{
+    let told = told_places(alloc, map, func)?;
+    let placed = behind_getters(alloc, told)?;
+    let order = places_of(alloc, placed)?;
+    Ok(order)
 }
 
 /// Puts each setter that stands before its getter directly behind it. All else, a setter that
@@ -124,20 +103,18 @@ fn getter_behind<K: Eq + Hash, V, F: Fn(&V) -> Option<&Function>>(
 ///
 /// `func` tells the function of a value, if it is one, and always the same of the same value. A
 /// setter's getter is the one whose name is the setter's with `[get]` for `[set]`. The names of
-/// the functions are distinct. No memory is taken.
+/// the functions are distinct. Without memory the map stays as it is.
 pub fn place_setters_after_getters<K: Eq + Hash, V, F: Fn(&V) -> Option<&Function>>(
     map: &mut IndexMap<K, V>,
     func: F,
-)
+) -> Result<(), AllocError>
     requires { F.IsAlwaysCallable func }
-    ensures { (tells : V → Option Function) → Tells F.Fn func tells → HaveDistinctNames tells map.old.entries → map.new.entries ≡ placed tells map.old.entries }
+    ensures placed { OnOk result ((tells : V → Option Function) → Tells F.Fn func tells → HaveDistinctNames tells map.old.entries → map.new.entries ≡ placed tells map.old.entries) }
+    ensures unchanged { OnErr result (map.new ≡ map.old) }
 {
-    let mut place = map.len();
-    while place > 0 {
-        place -= 1;
-        match getter_behind(map, place, &func) {
-            Some(getter) => map.move_index(place, getter),
-            None => {}
-        }
-    }
+    let alloc = *map.allocator();
+    let order = order_of(alloc, map, &func)?;
+    let standing = Standing::new(alloc, map.len())?;
+    put_in_order(map, standing, order);
+    Ok(())
 }

@@ -5,6 +5,7 @@ ghost use Rattle.wit_model.specs.Worlds.{IsWithin, function_of, key_text, name_o
 
 use std::alloc::{AllocError, Global};
 use wit_functions::Function;
+use wit_functions::told::Told;
 use wit_types::{Docs, InterfaceId, PackageId, Stability, TypeId, Types, WorldId};
 use wit_values::{Row, Span, Table, Text};
 
@@ -171,6 +172,14 @@ impl WorldItem {
             WorldItem::Function(function) => function.span,
             WorldItem::Type_ { span, .. } => *span,
         }
+    }
+}
+
+impl Told for WorldItem {
+    ghost tells = { function_of };
+
+    fn told(&self) -> Option<&Function> {
+        world_item_func(self)
     }
 }
 

@@ -37,7 +37,7 @@ fn expect_placed<V, F: Fn(&V) -> Option<&Function>>(
 ) -> Result<(), AllocError>
     requires { F.IsAlwaysCallable func }
 {
-    place_setters_after_getters(map, func);
+    place_setters_after_getters(map, func)?;
     let mut text = String::new(alloc);
     for name in map.keys() {
         text.push_str(name)?;

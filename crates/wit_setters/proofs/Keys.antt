@@ -1,67 +1,29 @@
 -- Keys that differ still do once setters are placed.
-use Rattle.std.specs.Prelude.{⊤}
-use Rattle.std.proofs.Common.{◌≡◌, ℕ, zero, suc, Bool, List, [], ◌∷◌, Option, Some, None, insert, refl, sym, ap, ◌∙◌}
+use Rattle.std.proofs.Common.{◌≡◌, ℕ, zero, suc, Bool, List, [], ◌∷◌, refl, ap, ◌∙◌}
 use Rattle.std.specs.Prelude.{map}
-use Rattle.std.specs.List.{position_from}
-use Rattle.wit_functions.proofs.InTurn.{in_turn, put_at}
+use Rattle.wit_functions.proofs.InTurn.{in_turn}
+use Rattle.wit_functions.proofs.Keys.{Differ, Lacks, differ-in_turn}
 use Rattle.wit_syntax.specs.Repeats.{AllDiffer}
 use Rattle.wit_syntax.proofs.Kept.{HasNot, differ_cons, differ_head, differ_tail}
 use Rattle.wit_syntax.proofs.Repeated.{differ_none}
 
 module _ {X K : Type 0} (key : X → K) where
-  -- none of these has the key
-  abbrev Lacks : K → List X → Type 0
-  Lacks k [] = ⊤
-  Lacks k (x ∷ xs) = (key x ≡ k → ⊥) × Lacks k xs
-
-  -- no two have one key
-  abbrev Differ : List X → Type 0
-  Differ [] = ⊤
-  Differ (x ∷ xs) = Lacks (key x) xs × Differ xs
-
-  lacks_from : (k : K) (xs : List X) → HasNot key k xs → Lacks k xs
+  lacks_from : (k : K) (xs : List X) → HasNot key k xs → Lacks key k xs
   lacks_from k [] h = tt
   lacks_from k (x ∷ xs) h = (h 0 x refl, lacks_from k xs (λ i y at. h (suc i) y at))
 
-  has_not_from : (k : K) (xs : List X) → Lacks k xs → HasNot key k xs
+  has_not_from : (k : K) (xs : List X) → Lacks key k xs → HasNot key k xs
   has_not_from k [] l i y at same = cc
   has_not_from k (x ∷ xs) l zero y at same = (let is : x ≡ y = cc in l.0 (ap key is ∙ same))
   has_not_from k (x ∷ xs) l (suc i) y at same = has_not_from k xs l.1 i y at same
 
-  differ_from : (xs : List X) → AllDiffer (map key xs) → Differ xs
+  differ_from : (xs : List X) → AllDiffer (map key xs) → Differ key xs
   differ_from [] d = tt
   differ_from (x ∷ xs) d = (lacks_from (key x) xs (differ_head key x xs d), differ_from xs (differ_tail key x xs d))
 
-  all_differ_from : (xs : List X) → Differ xs → AllDiffer (map key xs)
+  all_differ_from : (xs : List X) → Differ key xs → AllDiffer (map key xs)
   all_differ_from [] d = differ_none
   all_differ_from (x ∷ xs) d = differ_cons key x xs (has_not_from (key x) xs d.0) (all_differ_from xs d.1)
 
-  lacks-insert : (k : K) (xs : List X) (i : ℕ) (e : X) → (key e ≡ k → ⊥) → Lacks k xs → Lacks k (insert xs i e)
-  lacks-insert k xs zero e one l = (one, l)
-  lacks-insert k [] (suc i) e one l = (one, l)
-  lacks-insert k (x ∷ xs) (suc i) e one l = (l.0, lacks-insert k xs i e one l.1)
-
-  differ-insert : (xs : List X) (i : ℕ) (e : X) → Lacks (key e) xs → Differ xs → Differ (insert xs i e)
-  differ-insert xs zero e l d = (l, d)
-  differ-insert [] (suc i) e l d = (l, d)
-  differ-insert (x ∷ xs) (suc i) e l d = (lacks-insert (key x) xs i e (λ same. l.0 (sym same)) d.0, differ-insert xs i e l.1 d.1)
-
-  lacks-put : (k : K) (xs : List X) (o : Option ℕ) (e : X) → (key e ≡ k → ⊥) → Lacks k xs → Lacks k (put_at e xs o)
-  lacks-put k xs None e one l = (one, l)
-  lacks-put k xs (Some i) e one l = lacks-insert k xs i e one l
-
-  differ-put : (xs : List X) (o : Option ℕ) (e : X) → Lacks (key e) xs → Differ xs → Differ (put_at e xs o)
-  differ-put xs None e l d = (l, d)
-  differ-put xs (Some i) e l d = differ-insert xs i e l d
-
-  module _ (goes : X → X → Bool) where
-    lacks-in_turn : (k : K) (es : List X) → Lacks k es → Lacks k (in_turn goes es)
-    lacks-in_turn k [] l = tt
-    lacks-in_turn k (e ∷ es) l = lacks-put k (in_turn goes es) (position_from (goes e) 1 (in_turn goes es)) e l.0 (lacks-in_turn k es l.1)
-
-    differ-in_turn : (es : List X) → Differ es → Differ (in_turn goes es)
-    differ-in_turn [] d = tt
-    differ-in_turn (e ∷ es) d = differ-put (in_turn goes es) (position_from (goes e) 1 (in_turn goes es)) e (lacks-in_turn (key e) es d.0) (differ-in_turn es d.1)
-
-    pub in_turn_differ : (es : List X) → AllDiffer (map key es) → AllDiffer (map key (in_turn goes es))
-    in_turn_differ es d = all_differ_from (in_turn goes es) (differ-in_turn es (differ_from es d))
+  pub in_turn_differ : (goes : X → X → Bool) (es : List X) → AllDiffer (map key es) → AllDiffer (map key (in_turn goes es))
+  in_turn_differ goes es d = all_differ_from (in_turn goes es) (differ-in_turn key goes es (differ_from es d))

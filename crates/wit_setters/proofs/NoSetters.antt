@@ -4,8 +4,8 @@ use Rattle.std.specs.Prelude.{Option}
 use Rattle.std.specs.List.{flat_map, list_any}
 use Rattle.wit_functions.specs.Setters.{early, is_same_text, others, setters_placed, with_setters}
 use Rattle.wit_functions.specs.declared.function.Function.{Function}
-use Rattle.wit_setters.specs.Told.{goes, is_setter, offered}
-use Rattle.wit_setters.proofs.GetterNames.{goes_wanted, wants_none}
+use Rattle.wit_functions.specs.Told.{goes, is_setter, offered}
+use Rattle.wit_functions.proofs.GetterNames.{goes_wanted, wants_none}
 
 none_of : (a b : Bool) → (a || b) ≡ false → (a ≡ false) × (b ≡ false)
 none_of false b h = (refl, h)

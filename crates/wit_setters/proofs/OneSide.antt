@@ -15,7 +15,7 @@ use Rattle.wit_syntax.specs.Repeats.{AllDiffer}
 use Rattle.wit_syntax.proofs.Kept.{differ_head, differ_tail}
 use Rattle.wit_syntax.proofs.Lists.{at_back}
 use Rattle.wit_syntax.proofs.Names.{name_equal}
-use Rattle.wit_setters.specs.Told.{HaveOwnNames}
+use Rattle.wit_functions.specs.Told.{HaveOwnNames}
 use Rattle.wit_setters.proofs.Keys.{in_turn_differ}
 use Rattle.wit_setters.proofs.OwnNames.{AtNames, own_names}
 

@@ -10,8 +10,8 @@ use Rattle.wit_functions.specs.declared.function.Function.{Function}
 use Rattle.wit_syntax.specs.Repeats.{AllDiffer}
 use Rattle.wit_syntax.proofs.Names.{name_equal}
 use Rattle.wit_setters.specs.Paired.{ArePaired}
-use Rattle.wit_setters.specs.Told.{is_setter, offered, wanted}
-use Rattle.wit_setters.proofs.GetterNames.{goes_wanted, same_as_none, wants_none}
+use Rattle.wit_functions.specs.Told.{is_setter, offered, wanted}
+use Rattle.wit_functions.proofs.GetterNames.{goes_wanted, same_as_none, wants_none}
 use Rattle.wit_setters.proofs.NoSetters.{each_alone}
 
 -- no item goes with one behind it

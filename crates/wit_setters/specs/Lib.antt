@@ -1,3 +1,1 @@
 pub mod Paired
-pub mod Told
-pub mod Parted

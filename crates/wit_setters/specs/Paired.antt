@@ -2,7 +2,7 @@
 use Rattle.std.specs.Prelude.{◌≡◌, ℕ, ◌<◌, true, List, Some, length, slice_get}
 use Rattle.wit_functions.specs.declared.function.Function.{Function}
 use Rattle.wit_functions.specs.Setters.{is_getter_of}
-use Rattle.wit_setters.specs.Told.{is_setter}
+use Rattle.wit_functions.specs.Told.{is_setter}
 
 -- the getter of the function at a place stands before it, if that is a setter
 abbrev pub IsPaired : List Function → ℕ → Type 0

@@ -2,8 +2,5 @@
 #![tactic(auto)]
 
 mod paired;
-mod parted;
-mod placed;
 pub mod setters;
 pub mod sides;
-mod told;

@@ -4,7 +4,7 @@ ghost use Rattle.std.specs.Option.{option_copied};
 ghost use Rattle.wit_functions.specs.Setters.{fronts as the_fronts, goes_on_alike, is_getter_of, is_same_text};
 ghost use Rattle.wit_setters.specs.Paired.{ArePaired, IsPaired};
 
-use crate::told::is_setter;
+use wit_functions::told::is_setter;
 use wit_model::Function;
 use wit_model::setters::{fronts, is_getter};
 use wit_names::front::behind;

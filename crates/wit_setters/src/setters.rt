@@ -4,8 +4,8 @@ ghost use Rattle.wit_functions.specs.Setters.{is_getter_of, setters_placed};
 ghost use Rattle.wit_syntax.specs.Repeats.{AllDiffer};
 
 use crate::paired::are_paired;
-use crate::placed::behind_getters;
 use std::alloc::{AllocError, Global};
+use wit_functions::placed::behind_getters;
 use wit_model::Function;
 
 /// Functions, where each setter that stands before its getter stands directly behind it instead.

@@ -10,11 +10,11 @@ ghost use Rattle.wit_model.specs.declared.world.WorldKey.{WorldKey as TheKey};
 ghost use Rattle.wit_model.specs.declared.world.WorldKey.TheVariants.{Name};
 ghost use Rattle.wit_model.specs.contracts.world.WorldKeyPartialEq.TheImpl.{eq-value as key_test};
 ghost use Rattle.wit_syntax.specs.Repeats.{AllDiffer};
-ghost use Rattle.wit_setters.specs.Told.{is_setter as is_a_setter};
+ghost use Rattle.wit_functions.specs.Told.{is_setter as is_a_setter};
 
-use crate::placed::behind_getters;
-use crate::told::is_setter;
 use std::alloc::{AllocError, Global};
+use wit_functions::placed::behind_getters;
+use wit_functions::told::is_setter;
 use wit_model::{WorldItem, WorldKey, world_item_func};
 use wit_values::Table;
 

@@ -8,8 +8,5 @@ use Rattle.wit_setters.proofs.setters.setters_behind_getters.Goals as goal
 pub returns-then-are_paired : goal.returns-then-are_paired
 returns-then-are_paired c = sym (paired_stay c.args.functions.items c.requires (subst ArePaired c.deref.ensures.value (c.are_paired.ensures c.if-are_paired.true)))
 
-pub behind_getters-requires : goal.behind_getters-requires
-behind_getters-requires c = own_names Some (λ f. f.name) (λ n. n) c.args.functions.items c.requires (λ k e f at is. (let same : e ≡ f = cc in ap (λ (g : Function). g.name) same))
-
 pub returns : goal.returns
-returns c = c.in_ok-placed.ensures
+returns c = c.in_ok-placed.ensures (own_names Some (λ f. f.name) (λ n. n) c.args.functions.items c.requires (λ k e f at is. (let same : e ≡ f = cc in ap (λ (g : Function). g.name) same)))

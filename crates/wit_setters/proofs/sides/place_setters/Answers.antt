@@ -3,7 +3,7 @@ use Rattle.std.specs.Prelude.{map}
 use Rattle.wit_functions.specs.Setters.{placed}
 use Rattle.wit_model.specs.Worlds.{function_of}
 use Rattle.wit_syntax.specs.Repeats.{AllDiffer}
-use Rattle.wit_setters.specs.Told.{HaveOwnNames}
+use Rattle.wit_functions.specs.Told.{HaveOwnNames}
 use Rattle.wit_setters.proofs.NoSetters.{no_setters}
 use Rattle.wit_setters.proofs.OneSide.{Entry, item_function, key_of, own_on_side, placed_differ}
 use Rattle.wit_setters.proofs.sides.place_setters.Goals as goal
@@ -11,11 +11,12 @@ use Rattle.wit_setters.proofs.sides.place_setters.Goals as goal
 pub returns-then-not-have_setter : goal.returns-then-not-have_setter
 returns-then-not-have_setter c = sym (no_setters item_function c.args.side (sym c.have_setter.ensures ∙ c.if-not-have_setter.true))
 
-pub behind_getters-requires : goal.behind_getters-requires
-behind_getters-requires c = subst (HaveOwnNames item_function) (sym c.into_entries-entries.ensures) (own_on_side c.args.side c.requires.distinct c.requires.named)
-
 pub table_of-requires : goal.table_of-requires
-table_of-requires c = subst (λ (es : List Entry). AllDiffer (map key_of es)) (sym (c.in_ok-placed.ensures ∙ ap (placed function_of) c.into_entries-entries.ensures)) (placed_differ c.args.side c.requires.distinct c.requires.named)
+table_of-requires c =
+    let own = subst (HaveOwnNames item_function) (sym c.into_entries-entries.ensures) (own_on_side c.args.side c.requires.distinct c.requires.named) in
+    subst (λ (es : List Entry). AllDiffer (map key_of es)) (sym (c.in_ok-placed.ensures own ∙ ap (placed function_of) c.into_entries-entries.ensures)) (placed_differ c.args.side c.requires.distinct c.requires.named)
 
 pub returns : goal.returns
-returns c = c.in_ok-table.ensures ∙ c.in_ok-placed.ensures ∙ ap (placed function_of) c.into_entries-entries.ensures
+returns c =
+    let own = subst (HaveOwnNames item_function) (sym c.into_entries-entries.ensures) (own_on_side c.args.side c.requires.distinct c.requires.named) in
+    c.in_ok-table.ensures ∙ c.in_ok-placed.ensures own ∙ ap (placed function_of) c.into_entries-entries.ensures

@@ -1,0 +1,35 @@
+-- Entries put into another order.
+use Rattle.std.specs.Prelude.{◌≡◌, ℕ, ◌<◌, List, Some, length, slice_get}
+use Rattle.std.specs.Option.{option_and_then}
+
+-- at each place stands the entry that is told to stand there, by the place where it stood at first
+abbrev pub Shows : {E : Type 0} → List E → List ℕ → List E → Type 0
+Shows first entries now = (k : ℕ) → slice_get now k ≡ option_and_then (slice_get first) (slice_get entries k)
+
+-- the one list is the other's entries, each once, in the order of these places
+pub record IsOrder {E : Type 0} (first : List E) (order : List ℕ) (now : List E) : Type 0 where
+  pub shows : Shows first order now
+  pub all : length order ≡ length first
+  pub within : (k w : ℕ) → slice_get order k ≡ Some w → w < length first
+  pub once : (i j w : ℕ) → slice_get order i ≡ Some w → slice_get order j ≡ Some w → i ≡ j
+
+-- where the one list has a place, the other has the way back
+abbrev pub TurnsBack : List ℕ → List ℕ → Type 0
+TurnsBack there back = (k w : ℕ) → slice_get there k ≡ Some w → slice_get back w ≡ Some k
+
+-- so many entries stand at as many places, and the two lists tell the same of them
+pub record AreStanding (n : ℕ) (entries places : List ℕ) : Type 0 where
+  pub all_entries : length entries ≡ n
+  pub all_places : length places ≡ n
+  pub found : TurnsBack entries places
+  pub held : TurnsBack places entries
+
+-- each stands where it stood at first
+abbrev pub AreFirst : List ℕ → Type 0
+AreFirst entries = (k w : ℕ) → slice_get entries k ≡ Some w → w ≡ k
+
+-- up to a place the entries stand in the order that is wanted
+pub record AreBrought {E : Type 0} (first now : List E) (order entries : List ℕ) (n : ℕ) : Type 0 where
+  pub long : length now ≡ length first
+  pub shown : Shows first entries now
+  pub done : (k : ℕ) → k < n → slice_get entries k ≡ slice_get order k
