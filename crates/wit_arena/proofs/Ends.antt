@@ -23,7 +23,7 @@ use Rattle.wit_syntax.specs.Source.{ScopeName, Used, Defined, Taken, Place, loca
 use Rattle.wit_syntax.specs.Trees.{scope, source_node, source_tree}
 use Rattle.wit_arena.specs.Expr.{Exprs, exprs_of, name_exprs}
 use Rattle.wit_arena.specs.Meet.{Key, Def, AreAt, Decl, Decls, decl_of, IsKeyed, primitive_type}
-use Rattle.wit_arena.specs.Package.{HasPart}
+use Rattle.wit_arena.proofs.Parts.{HasPart}
 use Rattle.wit_arena.specs.Resolving.{decls_of}
 use Rattle.wit_syntax.specs.Scope.{AreDistinct}
 use Rattle.wit_syntax.specs.Ends.{End, AtResource, AtForeign, Elsewhere, named_end, node_end, tree_end, EndsAt}

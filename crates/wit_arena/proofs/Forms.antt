@@ -12,7 +12,7 @@ use Rattle.wit_syntax.specs.Address.{Address}
 use Rattle.wit_syntax.specs.Source.{ScopeName, Used, Defined, Taken}
 use Rattle.wit_arena.specs.Expr.{Exprs, expr_of, exprs_of, name_exprs}
 use Rattle.wit_arena.specs.Meet.{Whole}
-use Rattle.wit_arena.specs.Whole.{IsAnonymousForm}
+use Rattle.wit_arena.specs.Faithful.{IsAnonymousForm}
 use Rattle.wit_arena.specs.Resolving.{met, all_met}
 use Rattle.wit_arena.proofs.Meeting.{Has, has_either}
 

@@ -36,6 +36,8 @@ pub mod Interfaces
 pub mod Stated
 pub mod SignatureNames
 pub mod Unknowns
+pub mod Backward
+pub mod Positions
 pub mod Faithful
 pub mod Itemizing
 pub mod Visits

@@ -30,7 +30,8 @@ use Rattle.wit_arena.specs.SideItems.{AreSideItems, settled}
 use Rattle.wit_syntax.specs.Scope.{includes, item_rows, rows_of, in_order, interfaces_of, worlds_of}
 use Rattle.wit_syntax.specs.Broken.{headers, last_header}
 use Rattle.wit_arena.specs.Package.{world_types}
-use Rattle.wit_arena.specs.Whole.{Ordered, OrderedWorld, AreOrdered, own_item, Turned, item_of, ordered_names, turned, world_turns, all_turns, all_inside, turn_handles, AreRequired, meetings, all_meetings, type_imports, addresses, interface_addresses, world_addresses, declarations, HasTypes, AreIncludes, HasSides, foreign_turned, AreForeignInterfaces, AreInterfaces, AreWorlds, IsFaithful, NamesOthers, first_docs, IsPackage}
+use Rattle.wit_arena.specs.Whole.{Ordered, OrderedWorld, AreOrdered, own_item, Turned, item_of, ordered_names, turned, world_turns, all_turns, all_inside, turn_handles, AreRequired, meetings, all_meetings, type_imports, addresses, interface_addresses, world_addresses, declarations, HasTypes, AreIncludes, HasSides, foreign_turned, AreForeignInterfaces, AreInterfaces, AreWorlds, NamesOthers, first_docs, IsPackage}
+use Rattle.wit_arena.specs.Faithful.{IsFaithful}
 use Rattle.wit_arena.specs.FirstMeetings.{HasArena}
 use Rattle.wit_arena.specs.Resolving.{Names, Required, cell}
 use Rattle.wit_arena.specs.Resolved.{WorldArenas, AddsForeign}

@@ -1,21 +1,19 @@
--- Types refer backwards, unnamed ones are one where they are equal, and each is reached.
+-- Types refer backwards, and unnamed ones are one where they are equal.
 use Rattle.std.proofs.Common.{◌≡◌, ℕ, zero, suc, List, [], ◌∷◌, take, Some, None, inl, inr, refl, sym, ap, ◌∙◌, subst, arith}
 use Rattle.std.specs.Prelude.{slice_get}
 use Rattle.std.proofs.lemmas.Option.{slice_get_within}
 use Rattle.wit_types.specs.declared.types.«Type».{«Type» as Ty}
-use Rattle.wit_types.specs.declared.types.«Type».TheVariants.{Id}
 use Rattle.wit_types.specs.declared.types.TypeDef.{TypeDef}
 use Rattle.wit_types.specs.declared.types.TypeDefKind.{TypeDefKind}
 use Rattle.wit_syntax.specs.Form.{Form}
 use Rattle.wit_arena.specs.Kind.{kind_of}
 use Rattle.wit_arena.specs.Expr.{Expr, Prim, Use, Of, Exprs, End, More}
 use Rattle.wit_arena.specs.Meet.{Key, Def, Whole, IsAt, AreAt, Decls, IsEntry, IsKeyed}
-use Rattle.wit_arena.specs.Package.{At, HasPart, IsBelow, Reaches}
-use Rattle.wit_arena.specs.Resolving.{met, all_met}
+use Rattle.wit_arena.specs.Package.{At, IsBelow}
+use Rattle.wit_arena.proofs.Parts.{HasPart}
 use Rattle.wit_syntax.proofs.Lists.{at_take, at_within}
 use Rattle.wit_arena.proofs.Primitives.{primitive_below}
 use Rattle.wit_arena.proofs.Places.{all_at_untaken, all_at_injective}
-use Rattle.wit_arena.proofs.Meeting.{Has, has_either}
 
 module _ (decls : Decls) (ks : List Key) (es : List TypeDef) (m : IsKeyed decls ks es) where
   -- the key of an entry, and the entry of a key
@@ -58,29 +56,3 @@ module _ (decls : Decls) (ks : List Key) (es : List TypeDef) (m : IsKeyed decls 
       let l = key_of j f atj.is in
       let keys = same_whole i j k.0 l.0 e f (m.each i k.0 e k.1 ati.is) (m.each j l.0 f l.1 atj.is) noe nof same in
       m.once.differ i j k.0 k.1 (l.1 ∙ ap Some (sym keys))
-
-  -- a type leads to each unnamed one in it
-  mutual
-    pub leads : (x : Expr) (t : Ty) (j : ℕ) (form : Form) (parts : Exprs) → IsAt ks x t → slice_get ks j ≡ Some (Whole form parts) → Has (met x) (Whole form parts) → Reaches es t j
-    leads (Prim p) t j form parts at there has = absurd has
-    leads (Use s name) t j form parts at there has = absurd has
-    leads (Of form' parts') t j form parts at there has = elim (has_either (all_met parts') (Whole form' parts' ∷ []) (Whole form parts) has) [
-      | inl inner ↦ (
-          let e = entry_of_key at.0 (Whole form' parts') at.2 in
-          let it = m.each at.0 (Whole form' parts') e.0 at.2 e.1 in
-          let through = all_lead parts' (kind_of e.0.kind).parts j form parts (all_at_untaken at.0 ks parts' (kind_of e.0.kind).parts it.parts) there inner in
-          (suc through.2.0, (at.0, e.0, through.0, at.1, record { is = e.1 }, through.1, through.2.1)))
-      | inr last ↦ elim last [
-        | inl here ↦ (zero, at.1 ∙ ap Id (m.once.differ at.0 j (Whole form parts) (at.2 ∙ ap Some here) there))
-        | inr none ↦ absurd none
-      ]
-    ]
-
-    pub all_lead : (xs : Exprs) (ts : List Ty) (j : ℕ) (form : Form) (parts : Exprs) → AreAt ks xs ts → slice_get ks j ≡ Some (Whole form parts) → Has (all_met xs) (Whole form parts) → (part : Ty) × HasPart ts part × Reaches es part j
-    all_lead End [] j form parts at there has = absurd has
-    all_lead (More x xs) (t ∷ ts) j form parts at there has = elim (has_either (met x) (all_met xs) (Whole form parts) has) [
-      | inl first ↦ (t, inl refl, leads x t j form parts at.0 there first)
-      | inr rest ↦ (let it = all_lead xs ts j form parts at.1 there rest in (it.0, inr it.1, it.2))
-    ]
-    all_lead End (t ∷ ts) j form parts at there has = absurd at
-    all_lead (More x xs) [] j form parts at there has = absurd at

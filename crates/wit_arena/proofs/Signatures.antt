@@ -18,7 +18,7 @@ use Rattle.wit_syntax.specs.Function.{Role, Freestanding, Method, Static, Constr
 use Rattle.wit_arena.specs.Functions.{IsKind, AreParams, IsResult, IsFunction, AreFunctions}
 use Rattle.wit_arena.specs.Expr.{Exprs, expr_of, exprs_of}
 use Rattle.wit_arena.specs.Meet.{Key, Def, Whole, Meeting, keys, Meets, IsAt, shape_meetings, shapes_meetings, function_meetings, all_function_meetings}
-use Rattle.wit_arena.specs.Package.{HasPart, function_types}
+use Rattle.wit_arena.specs.Package.{function_types}
 use Rattle.wit_arena.specs.Resolving.{Cell, Env, env_of, met, all_met, AreNames, AreKnown}
 use Rattle.wit_arena.specs.Adding.{gathered}
 use Rattle.wit_syntax.proofs.Lists.{at_split, at_within, map_at}
@@ -166,8 +166,3 @@ function_typed ks s fn f h = typed_append ks s (map (λ p. p.shape) (all_params 
 -- each shape has its type
 pub type_of : {ks : List Key} {s : Address} {xs : List Shape} {ts : List Ty} → AreTyped ks s xs ts → (k : ℕ) (x : Shape) → slice_get xs k ≡ Some x → (t : Ty) × (slice_get ts k ≡ Some t)
 type_of {ks} {s} {xs} {ts} h k x at = let lt = slice_get_within xs k x at in let count = h.count in at_within ts k (omega arith)
-
-pub part_has : (ts : List Ty) (k : ℕ) (t : Ty) → slice_get ts k ≡ Some t → HasPart ts t
-part_has [] k t at = absurd (let f : ⊥ = cc in f)
-part_has (u ∷ ts) zero t at = inl (let same : u ≡ t = cc in same)
-part_has (u ∷ ts) (suc k) t at = inr (part_has ts k t at)

@@ -29,7 +29,6 @@ use Rattle.wit_syntax.proofs.Scopes.{declared_at}
 use Rattle.wit_arena.proofs.Interfaces.{scope_at}
 use Rattle.wit_arena.proofs.Shape.{entry_of_key}
 use Rattle.wit_arena.proofs.Depth.{meaning_found}
-use Rattle.wit_arena.proofs.Parts.{part_type}
 use Rattle.wit_arena.proofs.Standing.{DoneScope, turn_of, IsDone}
 
 -- where a name of a scope stands that is the only part
@@ -100,12 +99,6 @@ module _ (files : List PackageFile) (decls : Decls) (written : List Meeting) (cs
       let count = are.count in
       let f = at_within c.made k (omega arith) in
       (f.0, f.1, are.each k fn f.0 fat f.1)
-
-  -- a part of the entry of a name of a scope
-  pub part_in : (t : ℕ) (c : DoneScope) (k : ℕ) (x : ScopeName) (index id : ℕ) (e : TypeDef) (part : ℕ) (place : Place) (ty : Ty) → slice_get cs t ≡ Some c → slice_get (scope files c.address) k ≡ Some x → slice_get c.types index ≡ Some (local_name x, id) → slice_get es id ≡ Some e → slice_get (name_parts c.address x) part ≡ Some place → slice_get (kind_of e.kind).parts part ≡ Some ty → IsAt ks (expr_of place.0 place.1) ty
-  part_in t c k x index id e part place ty at xat stands entry written type =
-      let here = (has_types t c at).places index (local_name x) id stands in
-      part_type ks (name_scope c.address x) (name_body x).parts (kind_of e.kind).parts part place ty (parts_at t c k x id e at xat here entry) written type
 
   -- a name that was met means something in its scope
   pub meaning_at : (j : ℕ) (s : Address) (name : List ℕ) → slice_get ks j ≡ Some (Def s name) → (x : ScopeName) × (meaning (scope files s) name ≡ Some x)

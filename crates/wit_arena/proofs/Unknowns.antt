@@ -15,8 +15,8 @@ use Rattle.wit_syntax.specs.Source.{Item, item_at, ScopeName, Used, Defined, Tak
 use Rattle.wit_syntax.specs.Trees.{scope}
 use Rattle.wit_syntax.specs.Sides.{all_scopes}
 use Rattle.wit_arena.specs.Meet.{Key, Def, Whole, Meeting, keys, Meets, Decl, Decls}
-use Rattle.wit_arena.specs.Package.{At}
-use Rattle.wit_arena.specs.Whole.{taking_meeting, IsAnonymousForm}
+use Rattle.wit_arena.specs.Whole.{taking_meeting}
+use Rattle.wit_arena.specs.Faithful.{IsAnonymousForm}
 use Rattle.wit_syntax.proofs.Lists.{at_within}
 use Rattle.wit_arena.proofs.Places.{Grown, key_grown}
 use Rattle.wit_arena.proofs.Meeting.{meets_grown}
@@ -71,7 +71,7 @@ unknown_taken (Used from attributes n) h = absurd (let f : ⊥ = cc in f)
 unknown_taken (Defined d) h = absurd (body_known d.body h)
 unknown_taken (Taken attributes id) h = (attributes, id, refl)
 
-module _ (files : List PackageFile) (decls : Decls) (written : List Meeting) (cs : List DoneScope) (es : List TypeDef) (d : IsDone files decls written cs es) (front : Grown (map taking_key (first_takings files)) (keys d.met)) (formed : (j : ℕ) (e : TypeDef) → At es j e → e.name ≡ None → IsAnonymousForm (kind_of e.kind).form) where
+module _ (files : List PackageFile) (decls : Decls) (written : List Meeting) (cs : List DoneScope) (es : List TypeDef) (d : IsDone files decls written cs es) (front : Grown (map taking_key (first_takings files)) (keys d.met)) (formed : (j : ℕ) (e : TypeDef) → slice_get es j ≡ Some e → e.name ≡ None → IsAnonymousForm (kind_of e.kind).form) where
   abbrev ks : List Key
   ks = keys d.met
 
@@ -116,11 +116,11 @@ module _ (files : List PackageFile) (decls : Decls) (written : List Meeting) (cs
         | inl foreign ↦ foreign_front i s name x.0 x.1 here foreign x.2 x.4
         | inr own ↦ absurd (let t = unknown_taken x.1 (sym x.3 ∙ unknown) in own_name files s x.0 t.0 t.1 own (x.2 ∙ ap Some t.2))
       ]
-  unknown_at i (Whole form parts) e here there unknown = absurd (subst IsAnonymousForm unknown (formed i e (record { is = there }) (d.meeting.keyed.each i (Whole form parts) e here there).name))
+  unknown_at i (Whole form parts) e here there unknown = absurd (subst IsAnonymousForm unknown (formed i e there (d.meeting.keyed.each i (Whole form parts) e here there).name))
 
   -- so these are the front
-  pub unknown_front : (i : ℕ) (e : TypeDef) → At es i e → ((kind_of e.kind).form ≡ UnknownForm) ↔ (i < length ts)
+  pub unknown_front : (i : ℕ) (e : TypeDef) → slice_get es i ≡ Some e → ((kind_of e.kind).form ≡ UnknownForm) ↔ (i < length ts)
   unknown_front i e at = (
-    λ unknown. (let k = key_of decls ks es d.meeting.keyed i e at.is in unknown_at i k.0 e k.1 at.is unknown),
-    λ lt. (let t = at_within ts i lt in front_unknown i t.0 e t.1 at.is),
+    λ unknown. (let k = key_of decls ks es d.meeting.keyed i e at in unknown_at i k.0 e k.1 at unknown),
+    λ lt. (let t = at_within ts i lt in front_unknown i t.0 e t.1 at),
   )

@@ -10,7 +10,8 @@ use Rattle.wit_syntax.specs.Source.{Place}
 use Rattle.wit_arena.specs.Expr.{expr_of}
 use Rattle.wit_arena.specs.Meet.{Key, Def, Meeting, keys, IsMet, IsAt, IsMeeting}
 use Rattle.wit_arena.specs.Package.{owner_of, names_of}
-use Rattle.wit_arena.specs.Whole.{Ordered, OrderedWorld, AreOrdered, all_inside, all_turns, all_meetings, interface_addresses, world_addresses, declarations, HasType}
+use Rattle.wit_arena.specs.Whole.{Ordered, OrderedWorld, AreOrdered, all_inside, all_turns, all_meetings, interface_addresses, world_addresses, declarations}
+use Rattle.wit_arena.specs.Faithful.{HasType}
 
 -- places that rise, none of them before this one
 abbrev pub IsRising : ℕ → List ℕ → Type 0
@@ -40,4 +41,4 @@ pub record HasArena (files : List PackageFile) (p : UnresolvedPackage) : Type 0 
   pub first : AreFirst (all_meetings files (all_turns interfaces worlds)) met
   pub entries : IsMeeting (declarations files (interface_addresses files (interfaces ++ all_inside worlds)) (world_addresses files worlds)) met p.types
   pub names : (o : TypeOwner) (s : Address) (k : ℕ) (name : List ℕ) (id : ℕ) → owner_of p o ≡ OfScope s → slice_get (names_of p o) k ≡ Some (name, id) → slice_get (keys met) id ≡ Some (Def s name)
-  pub positions : (n : ℕ) (x : Place) (ty : Ty) → HasType files p n x ty → IsAt (keys met) (expr_of x.0 x.1) ty
+  pub positions : (x : Place) (ty : Ty) → HasType files p x ty → IsAt (keys met) (expr_of x.0 x.1) ty

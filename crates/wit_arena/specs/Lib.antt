@@ -6,6 +6,7 @@ pub mod Functions
 pub mod SideItems
 pub mod Package
 pub mod Whole
+pub mod Faithful
 pub mod Resolving
 pub mod Resolved
 pub mod Adding

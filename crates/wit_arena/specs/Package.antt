@@ -200,24 +200,10 @@ package_tree p n ty = unfolded (package_node p) n ty
 pub record At (es : List TypeDef) (i : ℕ) (e : TypeDef) : Type 0 where
   pub is : slice_get es i ≡ Some e
 
--- a type is one of these
-abbrev pub HasPart : List Ty → Ty → Type 0
-HasPart [] part = ⊥
-HasPart (t ∷ ts) part = (t ≡ part) ⊎ HasPart ts part
-
 -- a type names no place from n on
 abbrev pub IsBelow : ℕ → Ty → Type 0
 IsBelow n (type.Id i) = i < n
 IsBelow n _ = Unit {0}
-
--- a type leads to the entry at a place, in n steps from whole to part
-abbrev pub LeadsTo : List TypeDef → ℕ → Ty → ℕ → Type 0
-LeadsTo es zero ty j = ty ≡ type.Id j
-LeadsTo es (suc n) ty j = (i : ℕ) × (e : TypeDef) × (part : Ty) × (ty ≡ type.Id i) × At es i e × HasPart (kind_of e.kind).parts part × LeadsTo es n part j
-
--- a type leads to the entry at a place
-abbrev pub Reaches : List TypeDef → Ty → ℕ → Type 0
-Reaches es ty j = (n : ℕ) × LeadsTo es n ty j
 
 -- an interface of the arena has this name, stands there, and has these notes, apart from its types and functions
 pub record IsInterface (name : Option (List ℕ)) (span : Span) (n : Notes) (i : Interface) : Type 0 where

@@ -1,5 +1,5 @@
 -- The theorem: what a resolved package is.
-use Rattle.std.specs.Prelude.{if◌then◌else◌, ◌≡◌, ◌↔◌, ◌<◌, ◌==◌, ℕ, zero, suc, not, List, [], ◌∷◌, ◌++◌, length, map, Option, Some, None, slice_get, ◌⊎◌, position}
+use Rattle.std.specs.Prelude.{if◌then◌else◌, ◌≡◌, ◌↔◌, ◌==◌, ℕ, not, List, [], ◌∷◌, ◌++◌, length, map, Option, Some, None, slice_get, position}
 use Rattle.wit_values.specs.declared.span.Span.{Span}
 use Rattle.std.specs.Option.{option_map, option_map_or, option_or, unwrap_or}
 use Rattle.semver.specs.Identifiers.{parts_of}
@@ -21,24 +21,19 @@ use Rattle.wit_model.specs.declared.world.WorldItem.{WorldItem}
 use Rattle.wit_model.specs.declared.world.WorldItem.TheVariants.{Type_}
 use Rattle.wit_types.specs.declared.stability.Stability.{Stability}
 use Rattle.wit_types.specs.declared.types.«Type».{«Type» as Ty}
-use Rattle.wit_types.specs.declared.types.«Type».TheVariants.{Id as IdType}
-use Rattle.wit_types.specs.declared.types.TypeDef.{TypeDef}
 use Rattle.wit_types.specs.declared.types.TypeOwner.{TypeOwner}
 use Rattle.wit_types.specs.declared.types.TypeOwner.TheVariants as owner
 use Rattle.wit_graph.specs.Table.{IsOrder}
 use Rattle.wit_model.specs.declared.unresolved.UnresolvedPackage.{UnresolvedPackage}
-use Rattle.wit_syntax.specs.Form.{Form, OwnForm, AliasForm, ResourceForm, UnknownForm, RecordForm, FlagsForm, VariantForm, EnumForm}
-use Rattle.wit_arena.specs.Kind.{kind_of}
 use Rattle.std.specs.List.{flat_map, filter_map, prefix_len}
-use Rattle.wit_syntax.specs.Shape.{Shape, Word, Of, Shapes, all_handles}
+use Rattle.wit_syntax.specs.Shape.{all_handles}
 use Rattle.wit_syntax.specs.Address.{Address, same_address}
-use Rattle.wit_syntax.specs.Node.{OfScope}
-use Rattle.wit_syntax.specs.Source.{path_id, leads, TopName, Item, item_id, item_notes, address, included_scope, ScopeName, all_items, item_at, scope_names, local_name, local_id, Place, placed, Taking, takings, first_takings, name_parts}
-use Rattle.wit_syntax.specs.Trees.{scope, source_tree}
+use Rattle.wit_syntax.specs.Source.{path_id, leads, TopName, Item, item_id, item_notes, address, included_scope, ScopeName, all_items, item_at, scope_names, local_name, local_id, Taking, takings, first_takings}
+use Rattle.wit_syntax.specs.Trees.{scope}
 use Rattle.wit_syntax.specs.Foreign.{ForeignVisit, visited_package, visited, same_item, foreign_interfaces, foreign_worlds, foreign_packages, items_of_package, visits_of}
-use Rattle.wit_arena.specs.Expr.{Expr, expr_of}
+use Rattle.wit_arena.specs.Expr.{Expr}
 use Rattle.wit_functions.specs.declared.function.Function.{Function}
-use Rattle.wit_syntax.specs.Function.{SourceFunction, signature, functions as item_functions, all_types}
+use Rattle.wit_syntax.specs.Function.{SourceFunction, functions as item_functions, all_types}
 use Rattle.wit_syntax.specs.Ends.{AtResource, AtForeign, EndsAt}
 use Rattle.wit_type_tree.specs.declared.leaves.Id.{Id}
 use Rattle.wit_tree.specs.declared.tree.WorldSide.TheVariants.{Imported, Exported}
@@ -48,10 +43,9 @@ use Rattle.wit_syntax.specs.Scope.{item_rows, interfaces_of, worlds_of, includes
 use Rattle.wit_types.specs.declared.docs.Docs.{Docs}
 use Rattle.wit_syntax.specs.Notes.{docs_of, no_docs, stability_of}
 use Rattle.wit_syntax.specs.Broken.{last_header, headers}
-use Rattle.wit_syntax.specs.Sides.{FunctionKey, function_key, SideItem, SideFunction, SideLink, SideInline, side_items, inline_items, all_scopes}
+use Rattle.wit_syntax.specs.Sides.{SideItem, SideFunction, SideLink, SideInline, side_items, inline_items, all_scopes}
 use Rattle.wit_arena.specs.Meet.{Key, Def, Meeting, keys, all_name_meetings, all_function_meetings, Meets, IsAt, Decls, decl_of, IsMeeting}
-use Rattle.wit_syntax.specs.Trees as trees
-use Rattle.wit_arena.specs.Package.{At, HasPart, IsBelow, Reaches, IsInterfaceOf, IsWorld, IsForeignInterface, IsForeignWorld, world_types, owner_of, names_of, functions_of, function_types, package_tree}
+use Rattle.wit_arena.specs.Package.{IsInterfaceOf, IsWorld, IsForeignInterface, IsForeignWorld, world_types}
 
 -- an item, with an order of its names
 pub record Ordered : Type 0 where
@@ -309,128 +303,6 @@ pub record IsPackage (files : List PackageFile) (p : UnresolvedPackage) : Type 0
   -- two written types are one type exactly where they are one expression
   pub one : (x y : Expr) (t u : Ty) → IsAt (keys met) x t → IsAt (keys met) y u → (t ≡ u) ↔ (x ≡ y)
 
--- the entry of a name of a scope stands among the names of its owner, and is its tree at every depth
-pub record HasTree (files : List PackageFile) (p : UnresolvedPackage) (o : TypeOwner) (s : Address) (x : ScopeName) : Type 0 where
-  pub place : ℕ
-  pub id : ℕ
-  pub stands : slice_get (names_of p o) place ≡ Some (local_name x, id)
-  pub tree : (n : ℕ) → package_tree p n (IdType id) ≡ source_tree files n (s, Word (local_id x))
-
 -- the functions of a scope
 abbrev pub functions_at : List PackageFile → Address → List SourceFunction
 functions_at files s = option_map_or item_functions (item_at (all_scopes files) s) []
-
--- a function of a scope stands under its side and name among the functions of its owner, with a type for each of its own, whose tree is that at
--- every depth
-pub record HasFunctionTree (files : List PackageFile) (p : UnresolvedPackage) (o : TypeOwner) (s : Address) (fn : SourceFunction) : Type 0 where
-  pub place : ℕ
-  pub f : Function
-  pub stands : slice_get (functions_of p o) place ≡ Some (function_key fn, f)
-  pub count : length (function_types f) ≡ length (signature fn)
-  pub trees : (k : ℕ) (x : Shape) (ty : Ty) → slice_get (signature fn) k ≡ Some x → slice_get (function_types f) k ≡ Some ty → (n : ℕ) → package_tree p n ty ≡ source_tree files n (s, x)
-
--- an entry stands under its name among the names of its owner
-pub record IsOwned (p : UnresolvedPackage) (j : ℕ) (e : TypeDef) (name : List ℕ) : Type 0 where
-  pub place : ℕ
-  pub stands : slice_get (names_of p e.owner) place ≡ Some (name, j)
-
--- a type that a name of an owner stands for leads to the entry at a place
-pub record IsReached (p : UnresolvedPackage) (j : ℕ) : Type 0 where
-  pub owner : TypeOwner
-  pub place : ℕ
-  pub name : List ℕ
-  pub id : ℕ
-  pub stands : slice_get (names_of p owner) place ≡ Some (name, id)
-  pub leads : Reaches p.types (IdType id) j
-
--- a type of a function of an owner leads to the entry at a place
-pub record IsReachedByFunction (p : UnresolvedPackage) (j : ℕ) : Type 0 where
-  pub owner : TypeOwner
-  pub place : ℕ
-  pub key : FunctionKey
-  pub f : Function
-  pub ty : Ty
-  pub stands : slice_get (functions_of p owner) place ≡ Some (key, f)
-  pub among : HasPart (function_types f) ty
-  pub leads : Reaches p.types ty j
-
--- the written type at an index of a function's signature has the type at that index of the package's function
-pub record IsInSignature (files : List PackageFile) (p : UnresolvedPackage) (written : Place) (ty : Ty) : Type 0 where
-  pub owner : TypeOwner
-  pub k : ℕ
-  pub fn : SourceFunction
-  pub place : ℕ
-  pub f : Function
-  pub index : ℕ
-  pub called : owner_of p owner ≡ OfScope written.0
-  pub among : slice_get (functions_at files written.0) k ≡ Some fn
-  pub stands : slice_get (functions_of p owner) place ≡ Some (function_key fn, f)
-  pub shape : slice_get (signature fn) index ≡ Some written.1
-  pub is : slice_get (function_types f) index ≡ Some ty
-
--- the written type at an index of what a name of a scope stands for has the type at that index of the name's entry
-pub record IsPartOfName (files : List PackageFile) (p : UnresolvedPackage) (written : Place) (ty : Ty) : Type 0 where
-  pub owner : TypeOwner
-  pub scope : Address
-  pub k : ℕ
-  pub x : ScopeName
-  pub index : ℕ
-  pub id : ℕ
-  pub e : TypeDef
-  pub part : ℕ
-  pub called : owner_of p owner ≡ OfScope scope
-  pub among : slice_get (trees.scope files scope) k ≡ Some x
-  pub stands : slice_get (names_of p owner) index ≡ Some (local_name x, id)
-  pub entry : slice_get p.types id ≡ Some e
-  pub place : slice_get (name_parts scope x) part ≡ Some written
-  pub is : slice_get (kind_of e.kind).parts part ≡ Some ty
-
--- a part of an unnamed type that has a type has that part of the type's entry
-pub record IsPartOfWhole (p : UnresolvedPackage) (has : Place → Ty → Type 0) (written : Place) (ty : Ty) : Type 0 where
-  pub scope : Address
-  pub span : Span
-  pub form : Form
-  pub parts : Shapes
-  pub id : ℕ
-  pub e : TypeDef
-  pub part : ℕ
-  pub whole : has (scope, Of span form parts) (IdType id)
-  pub entry : slice_get p.types id ≡ Some e
-  pub place : slice_get (placed scope parts) part ≡ Some written
-  pub is : slice_get (kind_of e.kind).parts part ≡ Some ty
-
--- A written type has this type at its position in the package: at first as a part of what a name stands for, or in a signature, then by
--- steps from an unnamed type to its parts.
-abbrev pub HasType : List PackageFile → UnresolvedPackage → (n : ℕ) → Place → Ty → Type 0
-HasType files p zero place ty = IsPartOfName files p place ty ⊎ IsInSignature files p place ty
-HasType files p (suc n) place ty = IsPartOfWhole p (HasType files p n) place ty
-
--- a form that an unnamed type can have
-abbrev pub IsAnonymousForm : Form → Type 0
-IsAnonymousForm OwnForm = ⊥
-IsAnonymousForm AliasForm = ⊥
-IsAnonymousForm ResourceForm = ⊥
-IsAnonymousForm UnknownForm = ⊥
-IsAnonymousForm (RecordForm fields) = ⊥
-IsAnonymousForm (FlagsForm flags) = ⊥
-IsAnonymousForm (VariantForm cases) = ⊥
-IsAnonymousForm (EnumForm cases) = ⊥
-IsAnonymousForm _ = Unit {0}
-
--- Types refer only backwards, equal unnamed types are one, nothing is unreached, and every name is the tree that
--- lexical scope gives it.
-pub record IsFaithful (files : List PackageFile) (p : UnresolvedPackage) : Type 0 where
-  pub backward : (i : ℕ) (e : TypeDef) (part : Ty) → At p.types i e → HasPart (kind_of e.kind).parts part → IsBelow i part
-  pub interned : (i j : ℕ) (e f : TypeDef) → At p.types i e → At p.types j f → e.name ≡ None → f.name ≡ None → e.kind ≡ f.kind → i ≡ j
-  -- an unnamed entry has a form that a type can have without a name: it is no own handle, no other word for a type, no resource
-  pub formed : (i : ℕ) (e : TypeDef) → At p.types i e → e.name ≡ None → IsAnonymousForm (kind_of e.kind).form
-  -- the types of unknown form are exactly the front of the arena: as many as there are spans of unknown types
-  pub front : (i : ℕ) (e : TypeDef) → At p.types i e → ((kind_of e.kind).form ≡ UnknownForm) ↔ (i < length p.unknown_type_spans)
-  -- a named entry stands among the names of its owner
-  pub named : (j : ℕ) (e : TypeDef) (name : List ℕ) → At p.types j e → e.name ≡ Some name → IsOwned p j e name
-  -- an unnamed one is reached from a name of an owner, or from a function
-  pub reached : (j : ℕ) (e : TypeDef) → At p.types j e → e.name ≡ None → IsReached p j ⊎ IsReachedByFunction p j
-  -- two written types have one type exactly where they are one expression
-  pub same : (m n : ℕ) (x y : Place) (t u : Ty) → HasType files p m x t → HasType files p n y u → (t ≡ u) ↔ (expr_of x.0 x.1 ≡ expr_of y.0 y.1)
-  pub trees : (o : TypeOwner) (s : Address) (k : ℕ) (x : ScopeName) → owner_of p o ≡ OfScope s → slice_get (scope files s) k ≡ Some x → HasTree files p o s x
-  pub functions : (o : TypeOwner) (s : Address) (k : ℕ) (fn : SourceFunction) → owner_of p o ≡ OfScope s → slice_get (functions_at files s) k ≡ Some fn → HasFunctionTree files p o s fn

@@ -26,7 +26,8 @@ use Rattle.wit_syntax.specs.Broken.{IsLegal, headers, last_header}
 use Rattle.wit_syntax.specs.Foreign.{visited, foreign_interfaces, foreign_worlds}
 use Rattle.wit_arena.specs.Resolved.{AddsForeign, AddsInterfaces, AreLegalScopes, AreLegalSides, AreSoundScopes, AreUsableUses, IsWrongAmong, IsWrongWorldAmong}
 use Rattle.wit_arena.specs.Resolving.{Names, Required, cells, IsIndex}
-use Rattle.wit_arena.specs.Whole.{NamesOthers, first_docs, IsPackage, IsFaithful}
+use Rattle.wit_arena.specs.Whole.{NamesOthers, first_docs, IsPackage}
+use Rattle.wit_arena.specs.Faithful.{IsFaithful}
 use Rattle.wit_arena.specs.FirstMeetings.{HasArena}
 use Rattle.wit_syntax.proofs.Inline.{inline_items_none}
 use Rattle.wit_syntax.proofs.Kept.{behind_one, kept_has}

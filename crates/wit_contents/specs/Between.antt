@@ -5,7 +5,6 @@ use Rattle.wit_tree.specs.declared.tree.Use.{Use}
 use Rattle.wit_tree.specs.declared.tree.PackageFile.{PackageFile}
 use Rattle.wit_graph.specs.Table.{IsOrder}
 use Rattle.wit_types.specs.declared.types.TypeDef.{TypeDef}
-use Rattle.wit_types.specs.Types.{IsBackward}
 use Rattle.wit_model.specs.declared.foreign.ForeignItems.{ForeignItems}
 use Rattle.wit_model.specs.declared.unresolved.UnresolvedPackage.{UnresolvedPackage}
 use Rattle.wit_model.specs.declared.interface.Interface.{Interface}
@@ -18,7 +17,8 @@ use Rattle.wit_syntax.specs.Notes.{IsBrokenNotes}
 use Rattle.wit_syntax.specs.Broken.{IsBrokenNames, IsLegal}
 use Rattle.wit_syntax.specs.Foreign.{visited, foreign_interfaces, foreign_packages, foreign_worlds}
 use Rattle.wit_arena.specs.Resolving.{Required}
-use Rattle.wit_arena.specs.Whole.{dep, IsPackage, IsFaithful}
+use Rattle.wit_arena.specs.Whole.{dep, IsPackage}
+use Rattle.wit_arena.specs.Faithful.{IsFaithful}
 use Rattle.wit_arena.specs.FirstMeetings.{HasArena}
 use Rattle.wit_arena.specs.Resolved.{WorldArenas, front_worlds, AddsForeign, AddsInterfaces, AddsWorlds, AreLegalSides, AreSoundScopes, AreUsableLinks, AreUsableUses, HaveLegalStability}
 
@@ -64,4 +64,3 @@ pub record IsMade (files : List PackageFile) (p : UnresolvedPackage) : Type 0 wh
   pub whole : IsPackage files p
   pub arena : HasArena files p
   pub faithful : IsFaithful files p
-  pub backward : IsBackward p.types

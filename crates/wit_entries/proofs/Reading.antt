@@ -17,7 +17,7 @@ use Rattle.wit_syntax.specs.Address.{Address}
 use Rattle.wit_arena.specs.Expr.{exprs_of, expr_of}
 use Rattle.wit_arena.specs.Expr as exprs
 use Rattle.wit_arena.specs.Meet.{shape_meetings, shapes_meetings}
-use Rattle.wit_arena.specs.Whole.{IsAnonymousForm}
+use Rattle.wit_arena.specs.Faithful.{IsAnonymousForm}
 use Rattle.wit_arena.specs.Resolving.{Env, AreResolved, IsInterned}
 use Rattle.wit_arena.proofs.UnnamedKinds.{only_anonymous}
 use Rattle.wit_arena.proofs.Resolving.{resolved_more, resolved_whole}

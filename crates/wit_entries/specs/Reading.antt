@@ -15,7 +15,7 @@ use Rattle.wit_syntax.specs.Address.{Address}
 use Rattle.wit_arena.specs.Expr.{one, expr_of, exprs_of}
 use Rattle.wit_arena.specs.Meet.{shape_meetings, shapes_meetings, primitive_type}
 use Rattle.wit_arena.specs.Resolving.{Env, AreResolved, IsInterned}
-use Rattle.wit_arena.specs.Whole.{IsAnonymousForm}
+use Rattle.wit_arena.specs.Faithful.{IsAnonymousForm}
 use Rattle.wit_entries.specs.declared.types.Reading.{Reading}
 use Rattle.wit_entries.specs.declared.types.Reading.TheVariants as reading
 

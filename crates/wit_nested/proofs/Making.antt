@@ -9,12 +9,12 @@ use Rattle.wit_tree.specs.declared.tree.PackageName.{PackageName as Header}
 use Rattle.wit_tree.specs.declared.tree.PackageFile.{PackageFile}
 use Rattle.wit_tree.specs.declared.tree.SourceFile.{SourceFile}
 use Rattle.wit_type_tree.specs.declared.error.ParseError.{ParseError}
-use Rattle.wit_types.specs.Types.{IsBackward}
 use Rattle.wit_model.specs.declared.unresolved.UnresolvedPackage.{UnresolvedPackage}
 use Rattle.wit_syntax.specs.Fault.{Fault, fault}
 use Rattle.wit_syntax.specs.Broken.{IsBroken, IsDocumentedTwice, IsLegal, IsOtherPackage, Refused}
 use Rattle.wit_syntax.proofs.Refusing.{refused_weaker}
-use Rattle.wit_arena.specs.Whole.{IsPackage, IsFaithful}
+use Rattle.wit_arena.specs.Whole.{IsPackage}
+use Rattle.wit_arena.specs.Faithful.{IsFaithful}
 use Rattle.wit_arena.specs.FirstMeetings.{HasArena}
 use Rattle.wit_parser.specs.Stray.{IsNesting, IsStray}
 use Rattle.wit_nested.specs.Nested.{GrowByNested, IsBrokenAmong, IsBrokenNested, IsMadeByNested, IsMadeOf, IsUnfit, file_of}
@@ -52,12 +52,12 @@ alone n s old files none is grown = grown ∙ (ap (λ fs. fs ++ s.file ∷ []) n
 
 -- the package of one
 pub one_made : (n : NestedPackage) (s : SourceFile) (old files : List PackageFile) (r : Result UnresolvedPackage ParseError) → old ≡ [] → IsSourceOf n s → files ≡ old ++ s.file ∷ [] →
-    ((f : Fault) → IsStray old s f → ⊥) → OnOk r (IsLegal files) → IfOk r (IsPackage files) → IfOk r (HasArena files) → IfOk r (IsFaithful files) → IfOk r (λ p. IsBackward p.types) → IfOk r (IsMadeByNested n)
-one_made n s old files (Ok p) none is grown fits legal whole arena faithful backward = record {
+    ((f : Fault) → IsStray old s f → ⊥) → OnOk r (IsLegal files) → IfOk r (IsPackage files) → IfOk r (HasArena files) → IfOk r (IsFaithful files) → IfOk r (IsMadeByNested n)
+one_made n s old files (Ok p) none is grown fits legal whole arena faithful = record {
   flat = sym is.inner ∙ ap (map (λ (i : NestedPackage). i.name)) (none_nested s.nested.items (λ f nesting. fits f (inr (inr nesting))));
-  made = subst (λ fs. IsMadeOf fs p) (alone n s old files none is grown) (record { legal = legal; whole = whole; arena = arena; faithful = faithful; backward = backward });
+  made = subst (λ fs. IsMadeOf fs p) (alone n s old files none is grown) (record { legal = legal; whole = whole; arena = arena; faithful = faithful });
 }
-one_made n s old files (Err e) none is grown fits legal whole arena faithful backward = tt
+one_made n s old files (Err e) none is grown fits legal whole arena faithful = tt
 
 -- one that breaks a rule
 pub one_broken : (n : NestedPackage) (s : SourceFile) (old files : List PackageFile) (r : Result UnresolvedPackage ParseError) → old ≡ [] → IsSourceOf n s → files ≡ old ++ s.file ∷ [] →

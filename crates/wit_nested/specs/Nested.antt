@@ -5,11 +5,11 @@ use Rattle.wit_tree.specs.declared.tree.NestedPackage.{NestedPackage}
 use Rattle.wit_tree.specs.declared.tree.PackageName.{PackageName as Header}
 use Rattle.wit_tree.specs.declared.tree.PackageFile.{PackageFile}
 use Rattle.wit_tree.specs.declared.tree.SourceFile.{SourceFile}
-use Rattle.wit_types.specs.Types.{IsBackward}
 use Rattle.wit_model.specs.declared.unresolved.UnresolvedPackage.{UnresolvedPackage}
 use Rattle.wit_syntax.specs.Fault.{Fault, fault}
 use Rattle.wit_syntax.specs.Broken.{IsBroken, IsDocumentedTwice, IsLegal, IsOtherPackage}
-use Rattle.wit_arena.specs.Whole.{IsPackage, IsFaithful}
+use Rattle.wit_arena.specs.Whole.{IsPackage}
+use Rattle.wit_arena.specs.Faithful.{IsFaithful}
 use Rattle.wit_arena.specs.FirstMeetings.{HasArena}
 
 -- a nested package as a file of its own: its name is the header
@@ -22,7 +22,6 @@ pub record IsMadeOf (files : List PackageFile) (p : UnresolvedPackage) : Type 0 
   pub whole : IsPackage files p
   pub arena : HasArena files p
   pub faithful : IsFaithful files p
-  pub backward : IsBackward p.types
 
 -- no package is nested in a nested one, and this is the package that it makes as a file of its own
 pub record IsMadeByNested (n : NestedPackage) (p : UnresolvedPackage) : Type 0 where

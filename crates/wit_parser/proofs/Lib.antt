@@ -1,5 +1,4 @@
 mod LastHeader
-mod Backward
 mod WrittenMarks
 mod FunctionMarks
 mod TypeIds

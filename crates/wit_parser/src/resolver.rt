@@ -10,7 +10,8 @@ ghost use Rattle.wit_type_tree.specs.Refusal.{IsWantOfMemory};
 ghost use Rattle.wit_contents.specs.Between.{IsMade};
 ghost use Rattle.wit_parser.specs.Stray.{IsNesting, IsStray};
 ghost use Rattle.wit_types.specs.Types.{IsBackward};
-ghost use Rattle.wit_arena.specs.Whole.{first_docs, IsPackage, IsFaithful};
+ghost use Rattle.wit_arena.specs.Whole.{first_docs, IsPackage};
+ghost use Rattle.wit_arena.specs.Faithful.{IsFaithful};
 ghost use Rattle.wit_arena.specs.FirstMeetings.{HasArena};
 
 use std::alloc::{AllocError, Global};

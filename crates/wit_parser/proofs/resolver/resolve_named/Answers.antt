@@ -3,9 +3,8 @@ use Rattle.std.specs.Option.{option_map}
 use Rattle.std.proofs.lemmas.Result.{err_from_is_err_and}
 use Rattle.wit_values.specs.ReleaseText.{release_parts}
 use Rattle.wit_package_names.specs.declared.package_name.PackageName.{PackageName}
-use Rattle.wit_arena.specs.Whole.{NamesOthers, IsFaithful}
+use Rattle.wit_arena.specs.Whole.{NamesOthers}
 use Rattle.wit_contents.specs.Between.{MakeContents}
-use Rattle.wit_parser.proofs.Backward.{kind_below}
 use Rattle.wit_contents.proofs.Files.{files_legal, files_package, files_faithful, files_arena}
 use Rattle.wit_parser.proofs.resolver.resolve_named.Goals as goal
 
@@ -19,7 +18,6 @@ returns-clause-made c =
     let e = c.new.ensures in
     let n = rw (c.in_ok-contents.ensures.both.1, sym c.requires.files) at c.package_heading.ensures in
     let others : NamesOthers files p = record { deps = e.foreign_deps ∙ made.deps; spans = e.foreign_dep_spans ∙ made.spans; unknown = e.unknown_type_spans ∙ made.unknown } in
-    let faithful : IsFaithful files p = files_faithful files _ _ _ _ made.added p e.types e.interfaces e.worlds others in
     record {
       legal = files_legal files _ _ _ _ made.added header c.requires.header;
       whole = files_package files _ _ _ _ made.added p e.types e.interfaces e.worlds others e.required_resource_types header c.requires.header
@@ -29,8 +27,7 @@ returns-clause-made c =
           e.name_span
           (e.docs ∙ n.docs);
       arena = files_arena files _ _ _ _ made.added p e.types e.interfaces e.worlds others;
-      faithful = faithful;
-      backward = λ i t at. kind_below i t.kind (λ part has. faithful.backward i t part (record { is = at }) has);
+      faithful = files_faithful files _ _ _ _ made.added p e.types e.interfaces e.worlds others;
     }
 
 pub returns-in_err-contents-clause-refused : goal.returns-in_err-contents-clause-refused

@@ -1,6 +1,7 @@
 use Rattle.std.proofs.lemmas.Result.{IfOk-weaker}
 use Rattle.wit_types.specs.Types.{IsBackward}
-use Rattle.wit_arena.specs.Whole.{IsPackage, IsFaithful}
+use Rattle.wit_arena.specs.Whole.{IsPackage}
+use Rattle.wit_arena.specs.Faithful.{IsFaithful}
 use Rattle.wit_arena.specs.FirstMeetings.{HasArena}
 use Rattle.wit_contents.specs.Between.{IsMade}
 use Rattle.wit_contents.proofs.Files.{made_legal}
@@ -27,4 +28,4 @@ returns-clause-faithful c =
 pub returns-clause-backward : goal.returns-clause-backward
 returns-clause-backward c =
     let files = c.args.self.files.items in
-    IfOk-weaker c.resolve_pushed.result (IsMade files) (λ p. IsBackward p.types) (λ p made. made.backward) c.resolve_pushed.ensures.made
+    IfOk-weaker c.resolve_pushed.result (IsMade files) (λ p. IsBackward p.types) (λ p made. made.faithful.backward) c.resolve_pushed.ensures.made

@@ -13,7 +13,8 @@ use Rattle.wit_types.specs.declared.types.TypeDefKind.{TypeDefKind}
 use Rattle.wit_types.specs.declared.types.TypeDefKind.TheVariants as kind
 use Rattle.wit_types.specs.Types.{place_of, places_to, rank, IsBelow as IsKindBelow}
 use Rattle.wit_arena.specs.Kind.{kind_of}
-use Rattle.wit_arena.specs.Package.{HasPart, IsBelow}
+use Rattle.wit_arena.specs.Package.{IsBelow}
+use Rattle.wit_arena.proofs.Parts.{HasPart}
 
 -- each of these is below
 abbrev AreBelow : ℕ → List Ty → Type 0

@@ -1,0 +1,148 @@
+-- Where each type stands at its place, so do those below it, by one path.
+use Rattle.std.proofs.Common.{◌≡◌, ℕ, zero, suc, List, [], ◌∷◌, Option, Some, None, inl, inr, refl, sym, ap, ◌∙◌, subst}
+use Rattle.std.specs.Prelude.{slice_get}
+use Rattle.wit_type_tree.specs.declared.leaves.Id.{Id}
+use Rattle.wit_tree.specs.declared.tree.PackageFile.{PackageFile}
+use Rattle.wit_model.specs.declared.unresolved.UnresolvedPackage.{UnresolvedPackage}
+use Rattle.wit_types.specs.declared.types.«Type».{«Type» as Ty}
+use Rattle.wit_types.specs.declared.types.«Type».TheVariants as type
+use Rattle.wit_types.specs.declared.types.TypeDef.{TypeDef}
+use Rattle.wit_syntax.specs.Form.{Form}
+use Rattle.wit_syntax.specs.Shape.{Shape, Shapes}
+use Rattle.wit_syntax.specs.Shape as shape
+use Rattle.wit_syntax.specs.Address.{Address}
+use Rattle.wit_syntax.specs.Source.{ScopeName, Place, local_name, meaning, name_body, name_scope, named_node, placed}
+use Rattle.wit_syntax.specs.Trees.{scope, source_node}
+use Rattle.wit_arena.specs.Kind.{kind_of}
+use Rattle.wit_arena.specs.Expr.{Exprs, expr_of, exprs_of, name_exprs}
+use Rattle.wit_arena.specs.Meet.{Key, Def, Whole, Meeting, keys, IsAt, AreAt, Decls}
+use Rattle.wit_arena.specs.Package.{package_node, node_at, entry_node}
+use Rattle.wit_arena.specs.Faithful.{node_parts, StandsBelow}
+use Rattle.wit_arena.specs.Resolving.{met, all_met}
+use Rattle.wit_arena.proofs.Primitives.{primitive_node}
+use Rattle.wit_arena.proofs.Places.{all_at_untaken}
+use Rattle.wit_arena.proofs.Meeting.{Has, has_either}
+use Rattle.wit_arena.proofs.Shape.{entry_of_key}
+use Rattle.wit_arena.proofs.Depth.{meaning_found}
+use Rattle.wit_arena.proofs.Parts.{part_type}
+use Rattle.wit_arena.proofs.Standing.{DoneScope, IsDone}
+use Rattle.wit_arena.proofs.Stated.{entry_of, parts_at}
+
+-- an entry has the parts of its kind
+entry_parts : (p : UnresolvedPackage) (name : Option (List ℕ)) (e : TypeDef) → node_parts (entry_node p name e) ≡ (kind_of e.kind).parts
+entry_parts p None e = refl
+entry_parts p (Some name) e = refl
+
+pub type_parts : (p : UnresolvedPackage) (i : ℕ) (e : TypeDef) → slice_get p.types i ≡ Some e → node_parts (package_node p (type.Id i)) ≡ (kind_of e.kind).parts
+type_parts p i e at = ap (λ (o : Option TypeDef). node_parts (node_at p o)) at ∙ entry_parts p e.name e
+
+module _ (files : List PackageFile) (decls : Decls) (written : List Meeting) (cs : List DoneScope) (p : UnresolvedPackage) (d : IsDone files decls written cs p.types) where
+  abbrev ks : List Key
+  ks = keys d.met
+
+  -- the parts of a written type are these of a scope, and the parts of its type stand at their places
+  pub record HasParts (x : Place) (t : Ty) : Type 0 where
+    pub scope : Address
+    pub parts : Shapes
+    pub written : node_parts (source_node files x) ≡ placed scope parts
+    pub are : AreAt ks (exprs_of scope parts) (node_parts (package_node p t))
+
+  -- what a name of a scope means there
+  pub means : (t : ℕ) (c : DoneScope) (k : ℕ) (x : ScopeName) (name : List ℕ) → slice_get cs t ≡ Some c → slice_get c.names k ≡ Some x → local_name x ≡ name → meaning (scope files c.address) name ≡ Some x
+  means t c k x name at among called =
+      let turn = (d.each t c at).turn in
+      let q = turn.among k x among in
+      meaning_found (scope files c.address) q.0 x name turn.distinct q.1 called
+
+  name_has_parts : (s : Address) (id : Id) (i : ℕ) → slice_get ks i ≡ Some (Def s id.name.now) → HasParts (s, shape.Word id) (type.Id i)
+  name_has_parts s id i here =
+      let it = d.before i s id.name.now here in
+      let c = it.cell in
+      let x = it.x in
+      let q = (d.each it.place c it.at).turn.among it.index x it.among in
+      let there : slice_get ks i ≡ Some (Def c.address (local_name x)) = here ∙ ap (λ (z : Address). Some (Def z id.name.now)) (sym it.scope) ∙ ap (λ (n : List ℕ). Some (Def c.address n)) (sym it.called) in
+      let e = entry_of files decls written cs p.types d i c.address (local_name x) there in
+      let parts : AreAt ks (name_exprs s x) (kind_of e.0.kind).parts = subst (λ (z : Address). AreAt ks (name_exprs z x) (kind_of e.0.kind).parts) it.scope (parts_at files decls written cs p.types d it.place c q.0 x i e.0 it.at q.1 there e.1) in
+      let found : meaning (scope files s) id.name.now ≡ Some x = ap (λ (z : Address). meaning (scope files z) id.name.now) (sym it.scope) ∙ means it.place c it.index x id.name.now it.at it.among it.called in
+      record {
+        scope = name_scope s x;
+        parts = (name_body x).parts;
+        written = ap (λ (o : Option ScopeName). node_parts (named_node s o)) found;
+        are = subst (AreAt ks (name_exprs s x)) (sym (type_parts p i e.0 e.1)) parts;
+      }
+
+  whole_has_parts : (s : Address) (form : Form) (parts : Shapes) (i : ℕ) → slice_get ks i ≡ Some (Whole form (exprs_of s parts)) → AreAt ks (exprs_of s parts) (node_parts (package_node p (type.Id i)))
+  whole_has_parts s form parts i there =
+      let k = Whole form (exprs_of s parts) in
+      let e = entry_of_key decls ks p.types d.meeting.keyed i k there in
+      let it = d.meeting.keyed.each i k e.0 there e.1 in
+      subst (AreAt ks (exprs_of s parts)) (sym (type_parts p i e.0 e.1)) (all_at_untaken i ks (exprs_of s parts) (kind_of e.0.kind).parts it.parts)
+
+  pub has_parts : (s : Address) (x : Shape) (t : Ty) → IsAt ks (expr_of s x) t → HasParts (s, x) t
+  has_parts s (shape.Prim q) t h = record {
+    scope = s;
+    parts = shape.End;
+    written = refl;
+    are = subst (AreAt ks (exprs_of s shape.End)) (sym (ap (λ (u : Ty). node_parts (package_node p u)) h ∙ ap node_parts (primitive_node p q))) tt;
+  }
+  has_parts s (shape.Word id) t h = subst (HasParts (s, shape.Word id)) (sym h.1) (name_has_parts s id h.0 h.2)
+  has_parts s (shape.Of span form parts) t h = record {
+    scope = s;
+    parts = parts;
+    written = refl;
+    are = subst (λ (u : Ty). AreAt ks (exprs_of s parts) (node_parts (package_node p u))) (sym h.1) (whole_has_parts s form parts h.0 h.2);
+  }
+
+  -- what stands below a written type has the type that stands so below its type
+  pub below_at : (path : List ℕ) (x y : Place) (t u : Ty) → IsAt ks (expr_of x.0 x.1) t → StandsBelow (source_node files) x path y → StandsBelow (package_node p) t path u → IsAt ks (expr_of y.0 y.1) u
+  below_at [] x y t u h below is = subst (λ (z : Place). IsAt ks (expr_of z.0 z.1) u) below (subst (IsAt ks (expr_of x.0 x.1)) is h)
+  below_at (k ∷ path) x y t u h below is =
+      let q = has_parts x.0 x.1 t h in
+      let at = ap (λ (l : List Place). slice_get l k) (sym q.written) ∙ below.1 in
+      below_at path below.0 y is.0 u (part_type ks q.scope q.parts (node_parts (package_node p t)) k below.0 is.0 q.are at is.1) below.2 is.2
+
+  -- below a written type a type is written whose type is the entry at a place
+  pub record LeadsTo (x : Place) (t : Ty) (j : ℕ) : Type 0 where
+    pub inner : Place
+    pub path : List ℕ
+    pub below : StandsBelow (source_node files) x path inner
+    pub is : StandsBelow (package_node p) t path (type.Id j)
+
+  -- so it is below one of these
+  pub record OneLeadsTo (xs : List Place) (ts : List Ty) (j : ℕ) : Type 0 where
+    pub number : ℕ
+    pub x : Place
+    pub t : Ty
+    pub written : slice_get xs number ≡ Some x
+    pub stands : slice_get ts number ≡ Some t
+    pub leads : LeadsTo x t j
+
+  -- a part leads where its whole does
+  pub whole_leads : (x : Place) (t : Ty) (j : ℕ) → OneLeadsTo (node_parts (source_node files x)) (node_parts (package_node p t)) j → LeadsTo x t j
+  whole_leads x t j h = record {
+    inner = h.leads.inner;
+    path = h.number ∷ h.leads.path;
+    below = (h.x, h.written, h.leads.below);
+    is = (h.t, h.stands, h.leads.is);
+  }
+
+  -- a written type leads to each unnamed one in it
+  mutual
+    pub leads : (s : Address) (x : Shape) (t : Ty) (j : ℕ) (form : Form) (parts : Exprs) → IsAt ks (expr_of s x) t → slice_get ks j ≡ Some (Whole form parts) → Has (met (expr_of s x)) (Whole form parts) → LeadsTo (s, x) t j
+    leads s (shape.Prim q) t j form parts at there has = absurd has
+    leads s (shape.Word id) t j form parts at there has = absurd has
+    leads s (shape.Of span own xs) t j form parts at there has = elim (has_either (all_met (exprs_of s xs)) (Whole own (exprs_of s xs) ∷ []) (Whole form parts) has) [
+      | inl inner ↦ whole_leads (s, shape.Of span own xs) t j (all_lead s xs (node_parts (package_node p t)) j form parts (has_parts s (shape.Of span own xs) t at).are there inner)
+      | inr last ↦ elim last [
+        | inl here ↦ record { inner = (s, shape.Of span own xs); path = []; below = refl; is = at.1 ∙ ap type.Id (d.meeting.keyed.once.differ at.0 j (Whole form parts) (at.2 ∙ ap Some here) there) }
+        | inr none ↦ absurd none
+      ]
+    ]
+
+    pub all_lead : (s : Address) (xs : Shapes) (ts : List Ty) (j : ℕ) (form : Form) (parts : Exprs) → AreAt ks (exprs_of s xs) ts → slice_get ks j ≡ Some (Whole form parts) → Has (all_met (exprs_of s xs)) (Whole form parts) → OneLeadsTo (placed s xs) ts j
+    all_lead s shape.End ts j form parts at there has = absurd has
+    all_lead s (shape.More x xs) (t ∷ ts) j form parts at there has = elim (has_either (met (expr_of s x)) (all_met (exprs_of s xs)) (Whole form parts) has) [
+      | inl first ↦ record { number = 0; x = (s, x); t = t; written = refl; stands = refl; leads = leads s x t j form parts at.0 there first }
+      | inr rest ↦ (let it = all_lead s xs ts j form parts at.1 there rest in record { number = suc it.number; x = it.x; t = it.t; written = it.written; stands = it.stands; leads = it.leads })
+    ]
+    all_lead s (shape.More x xs) [] j form parts at there has = absurd at

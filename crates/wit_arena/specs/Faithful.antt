@@ -1,0 +1,82 @@
+-- What holds of a resolved package: each written type has one at its position, with its tree, and nothing else stands there.
+use Rattle.std.specs.Prelude.{◌≡◌, ◌↔◌, ◌<◌, ℕ, List, [], ◌∷◌, length, Some, None, slice_get, Contains}
+use Rattle.wit_tree.specs.declared.tree.PackageFile.{PackageFile}
+use Rattle.wit_functions.specs.declared.function.Function.{Function}
+use Rattle.wit_types.specs.declared.types.«Type».{«Type» as Ty}
+use Rattle.wit_types.specs.declared.types.«Type».TheVariants.{Id}
+use Rattle.wit_types.specs.declared.types.TypeDef.{TypeDef}
+use Rattle.wit_types.specs.declared.types.TypeOwner.{TypeOwner}
+use Rattle.wit_types.specs.Types.{IsBackward}
+use Rattle.wit_model.specs.declared.unresolved.UnresolvedPackage.{UnresolvedPackage}
+use Rattle.wit_syntax.specs.Form.{Form, OwnForm, AliasForm, ResourceForm, UnknownForm, RecordForm, FlagsForm, VariantForm, EnumForm}
+use Rattle.wit_syntax.specs.Shape.{Shape, Word}
+use Rattle.wit_syntax.specs.Address.{Address}
+use Rattle.wit_syntax.specs.Node.{OfScope, Node, Leaf, Named, Unnamed, Nothing}
+use Rattle.wit_syntax.specs.Source.{ScopeName, Place, local_name, local_id}
+use Rattle.wit_syntax.specs.Trees.{scope, source_node, source_tree}
+use Rattle.wit_syntax.specs.Function.{SourceFunction, signature}
+use Rattle.wit_syntax.specs.Sides.{function_key}
+use Rattle.wit_arena.specs.Kind.{kind_of}
+use Rattle.wit_arena.specs.Expr.{expr_of}
+use Rattle.wit_arena.specs.Package.{owner_of, names_of, functions_of, function_types, package_node, package_tree}
+use Rattle.wit_arena.specs.Whole.{functions_at}
+
+-- the parts of one level
+abbrev pub node_parts : {X : Type 0} → Node X → List X
+node_parts (Leaf p) = []
+node_parts (Named head form parts) = parts
+node_parts (Unnamed form parts) = parts
+node_parts Nothing = []
+
+-- y stands below x, where step gives one level: it is the part at this path of numbers, from whole to part
+abbrev pub StandsBelow : {X : Type 0} → (X → Node X) → X → List ℕ → X → Type 0
+StandsBelow step x [] y = x ≡ y
+StandsBelow {X} step x (k ∷ path) y = (part : X) × (slice_get (node_parts (step x)) k ≡ Some part) × StandsBelow step part path y
+
+-- A written type of a scope, and the type of the package that it is: a name of the scope, and what it stands for among the names of the
+-- scope's owner; or a type in the signature of a function of the scope, and the one at its index in the owner's function.
+pub data IsRoot (files : List PackageFile) (p : UnresolvedPackage) (s : Address) (x : Shape) (ty : Ty) : Type 0 where
+  OfName : (o : TypeOwner) (n : ScopeName) (id : ℕ) → owner_of p o ≡ OfScope s → Contains (scope files s) n → Contains (names_of p o) (local_name n, id) → x ≡ Word (local_id n) → ty ≡ Id id → IsRoot files p s x ty
+  OfFunction : (o : TypeOwner) (fn : SourceFunction) (f : Function) (k : ℕ) → owner_of p o ≡ OfScope s → Contains (functions_at files s) fn → Contains (functions_of p o) (function_key fn, f) → slice_get (signature fn) k ≡ Some x → slice_get (function_types f) k ≡ Some ty → IsRoot files p s x ty
+
+-- a written type has this type at its position in the package: they stand below such two, both by one path
+pub record HasType (files : List PackageFile) (p : UnresolvedPackage) (written : Place) (ty : Ty) : Type 0 where
+  pub top : Place
+  pub whole : Ty
+  pub root : IsRoot files p top.0 top.1 whole
+  pub path : List ℕ
+  pub below : StandsBelow (source_node files) top path written
+  pub is : StandsBelow (package_node p) whole path ty
+
+-- a form that an unnamed type can have
+abbrev pub IsAnonymousForm : Form → Type 0
+IsAnonymousForm OwnForm = ⊥
+IsAnonymousForm AliasForm = ⊥
+IsAnonymousForm ResourceForm = ⊥
+IsAnonymousForm UnknownForm = ⊥
+IsAnonymousForm (RecordForm fields) = ⊥
+IsAnonymousForm (FlagsForm flags) = ⊥
+IsAnonymousForm (VariantForm cases) = ⊥
+IsAnonymousForm (EnumForm cases) = ⊥
+IsAnonymousForm _ = Unit {0}
+
+-- Types refer only backwards, equal unnamed types are one, nothing is unreached, and every written type is, at its position, the tree that
+-- lexical scope gives it.
+pub record IsFaithful (files : List PackageFile) (p : UnresolvedPackage) : Type 0 where
+  pub backward : IsBackward p.types
+  pub interned : (i j : ℕ) (e f : TypeDef) → slice_get p.types i ≡ Some e → slice_get p.types j ≡ Some f → e.name ≡ None → f.name ≡ None → e.kind ≡ f.kind → i ≡ j
+  -- an unnamed entry has a form that a type can have without a name: it is no own handle, no other word for a type, no resource
+  pub formed : (i : ℕ) (e : TypeDef) → slice_get p.types i ≡ Some e → e.name ≡ None → IsAnonymousForm (kind_of e.kind).form
+  -- the types of unknown form are exactly the front of the arena: as many as there are spans of unknown types
+  pub front : (i : ℕ) (e : TypeDef) → slice_get p.types i ≡ Some e → ((kind_of e.kind).form ≡ UnknownForm) ↔ (i < length p.unknown_type_spans)
+  -- a named entry stands among the names of its owner
+  pub named : (j : ℕ) (e : TypeDef) (name : List ℕ) → slice_get p.types j ≡ Some e → e.name ≡ Some name → Contains (names_of p e.owner) (name, j)
+  -- an unnamed one is that of a written type
+  pub reached : (j : ℕ) (e : TypeDef) → slice_get p.types j ≡ Some e → e.name ≡ None → (x : Place) × HasType files p x (Id j)
+  -- each name of a scope is one of its owner, and so is each function, with a type for each of its own
+  pub names : (o : TypeOwner) (s : Address) (n : ScopeName) → owner_of p o ≡ OfScope s → Contains (scope files s) n → (id : ℕ) × Contains (names_of p o) (local_name n, id)
+  pub functions : (o : TypeOwner) (s : Address) (fn : SourceFunction) → owner_of p o ≡ OfScope s → Contains (functions_at files s) fn → (f : Function) × Contains (functions_of p o) (function_key fn, f) × (length (function_types f) ≡ length (signature fn))
+  -- two written types have one type exactly where they are one expression
+  pub same : (x y : Place) (t u : Ty) → HasType files p x t → HasType files p y u → (t ≡ u) ↔ (expr_of x.0 x.1 ≡ expr_of y.0 y.1)
+  -- and the tree of each, at every depth, is that of its type
+  pub trees : (x : Place) (t : Ty) (n : ℕ) → HasType files p x t → package_tree p n t ≡ source_tree files n x
