@@ -54,9 +54,8 @@ foreign_owner p i = address_of (find (λ e. same_entry e.0 i) (flat_map dep_item
 
 -- the interfaces among what stands on a side
 abbrev pub is_interface_item : WorldKey × WorldItem → Bool
-is_interface_item (key, item.Type_ id span) = false
 is_interface_item (key, item.Interface id stability external_id docs span) = true
-is_interface_item (key, item.Function f) = false
+is_interface_item _ = false
 
 abbrev pub interface_items : List (WorldKey × WorldItem) → List (WorldKey × WorldItem)
 interface_items xs = filter is_interface_item xs
@@ -64,9 +63,7 @@ interface_items xs = filter is_interface_item xs
 -- an interface that stands under a name, at a place among those of a side of a world, with the address that it has where it is written there
 abbrev pub interface_at : List ℕ → WorldSide → ℕ → WorldKey × WorldItem → List (ℕ × Address)
 interface_at world side place (key.Name name, item.Interface id stability external_id docs span) = (id, InlineAt world side place) ∷ []
-interface_at world side place (key.Name name, item.Type_ id span) = []
-interface_at world side place (key.Name name, item.Function f) = []
-interface_at world side place (key.Interface i, it) = []
+interface_at world side place _ = []
 
 abbrev pub interfaces_from : List ℕ → WorldSide → ℕ → List (WorldKey × WorldItem) → List (ℕ × Address)
 interfaces_from world side place [] = []
@@ -119,9 +116,7 @@ interface_types i = i.types
 -- the type that an import is, under its name
 abbrev pub import_types : WorldKey × WorldItem → List (List ℕ × ℕ)
 import_types (key.Name name, item.Type_ id span) = (name, id) ∷ []
-import_types (key.Name name, item.Interface id stability external_id docs span) = []
-import_types (key.Name name, item.Function f) = []
-import_types (key.Interface i, it) = []
+import_types _ = []
 
 -- the types among the imports of a world, under their names
 abbrev pub world_types : World → List (List ℕ × ℕ)
@@ -130,9 +125,7 @@ world_types w = flat_map import_types w.imports
 -- the function that an import or an export is, under its name
 abbrev pub item_functions : WorldKey × WorldItem → List (List ℕ × Function)
 item_functions (key.Name name, item.Function f) = (name, f) ∷ []
-item_functions (key.Name name, item.Type_ id span) = []
-item_functions (key.Name name, item.Interface id stability external_id docs span) = []
-item_functions (key.Interface i, it) = []
+item_functions _ = []
 
 -- a function under its name, on a side
 abbrev pub keyed : WorldSide → List ℕ × Function → FunctionKey × Function

@@ -51,7 +51,5 @@ same_address _ _ = false
 
 -- whether a scope is of another package
 abbrev pub is_foreign : Address → Bool
-is_foreign (InterfaceNamed name) = false
-is_foreign (WorldNamed name) = false
-is_foreign (InlineAt world side place) = false
 is_foreign (ForeignNamed p name) = true
+is_foreign _ = false

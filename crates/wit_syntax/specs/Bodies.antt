@@ -136,8 +136,7 @@ IsBrokenList (Record span fields) f = IsBrokenRecord fields.items span f
 IsBrokenList (Flags span flags) f = IsBrokenFlags flags.items span f
 IsBrokenList (Variant span cases) f = IsBrokenVariant cases.items span f
 IsBrokenList (Enum span cases) f = IsBrokenEnum cases.items span f
-IsBrokenList (Resource funcs) f = ⊥
-IsBrokenList (Plain t) f = ⊥
+IsBrokenList _ f = ⊥
 
 -- what is wrong with the body of a definition: its list, or a type that is written in it
 abbrev pub IsBrokenBody : TypeBody → Fault → Type 0

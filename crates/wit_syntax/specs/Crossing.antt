@@ -19,19 +19,15 @@ same_side Exported Exported = true
 
 -- the path of an interface that is imported or exported by it, perhaps under a name of its own
 abbrev pub extern_paths : ExternKind → List UsePath
-extern_paths (extern.Interface name items) = []
 extern_paths (extern.Path path) = path ∷ []
-extern_paths (extern.Func name f) = []
 extern_paths (extern.NamedPath name path) = path ∷ []
+extern_paths _ = []
 
 abbrev pub item_uses : InterfaceItem → List Use
-item_uses (interface_item.TypeDef d) = []
 item_uses (interface_item.Use u) = u ∷ []
-item_uses (interface_item.Func f) = []
+item_uses _ = []
 
 -- the uses of an interface that is written there
 abbrev pub inline_uses : ExternKind → List Use
 inline_uses (extern.Interface name items) = flat_map item_uses items.items
-inline_uses (extern.Path path) = []
-inline_uses (extern.Func name f) = []
-inline_uses (extern.NamedPath name path) = []
+inline_uses _ = []

@@ -30,10 +30,9 @@ named_end ends head UnknownForm parts = foreign_end head.owner head.name
 named_end ends head form parts = Some Elsewhere
 
 abbrev pub node_end : {X : Type 0} → (X → Option End) → Node X → Option End
-node_end ends (Leaf p) = Some Elsewhere
-node_end ends (Unnamed form parts) = Some Elsewhere
 node_end ends Nothing = None
 node_end ends (Named head form parts) = named_end ends head form parts
+node_end ends _ = Some Elsewhere
 
 -- where a tree of so many levels ends, if it has enough of them
 abbrev pub tree_end : (n : ℕ) → Tree n → Option End

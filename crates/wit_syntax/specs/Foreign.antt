@@ -38,22 +38,17 @@ path_visits attributes world (path.Package p id) = record { attributes = attribu
 
 -- an include wants a world, a `use` does not
 abbrev pub part_visits : Part → List ForeignVisit
-part_visits (Defining d) = []
 part_visits (Using u) = path_visits u.attributes.items false u.from
 part_visits (Including i) = path_visits i.attributes.items true i.from
-part_visits (Doing f) = []
-part_visits (Crossing x) = []
+part_visits _ = []
 
 -- what is imported or exported by a path wants an interface, as each `use` does that is written there
 abbrev pub extern_visits : Extern → List ForeignVisit
 extern_visits x = flat_map (λ u. path_visits u.attributes.items false u.from) (inline_uses x.kind) ++ flat_map (path_visits x.attributes.items false) (extern_paths x.kind)
 
 abbrev pub side_visits : WorldSide → Part → List ForeignVisit
-side_visits side (Defining d) = []
-side_visits side (Using u) = []
-side_visits side (Including i) = []
-side_visits side (Doing f) = []
 side_visits side (Crossing x) = if same_side side x.side then extern_visits x else []
+side_visits side _ = []
 
 -- the visits of parts: first those of uses and includes, then those of imports, and then those of exports
 abbrev pub visits_in : List Part → List ForeignVisit

@@ -69,10 +69,9 @@ written_types f = f.param_types ++ option_to_list f.result_type
 
 -- the mark of an accessor
 abbrev pub accessor : FuncForm → List ℕ
-accessor form.Plain = []
-accessor form.Async = []
 accessor form.Getter = codes "[get]"
 accessor form.Setter = codes "[set]"
+accessor _ = []
 
 -- a function of a resource, without what marks its role
 abbrev pub dotted : Id → Id → List ℕ
@@ -115,10 +114,8 @@ side_function side docs attributes id f = function_of (accessor f.form ++ id.nam
 
 -- the function that a world imports or exports, if it is one
 abbrev pub extern_functions : Extern → ExternKind → List SourceFunction
-extern_functions x (extern.Interface name items) = []
-extern_functions x (extern.Path path) = []
 extern_functions x (extern.Func name f) = side_function x.side x.docs x.attributes.items name f ∷ []
-extern_functions x (extern.NamedPath name path) = []
+extern_functions x _ = []
 
 -- a constructor without a result makes its resource
 abbrev pub constructor_of : Id → Docs → List Attribute → Span → List Param → Option Written → SourceFunction
@@ -150,10 +147,9 @@ definition_functions r _ = []
 -- the functions of a part of an item
 abbrev pub part_functions : Part → List SourceFunction
 part_functions (Defining d) = definition_functions d.name d.body
-part_functions (Using u) = []
-part_functions (Including i) = []
 part_functions (Doing f) = free_function f ∷ []
 part_functions (Crossing x) = extern_functions x x.kind
+part_functions _ = []
 
 -- the functions of an item, in source order
 abbrev pub functions : Item → List SourceFunction
@@ -162,19 +158,16 @@ functions i = flat_map part_functions (parts i)
 -- the names of the functions that are no resource's
 abbrev pub role_names : Role → List (List ℕ)
 role_names (Freestanding id form) = id.name.now ∷ []
-role_names (Method of form) = []
-role_names (Static of form) = []
-role_names (Constructor of) = []
 role_names (OnSide side id form) = id.name.now ∷ []
+role_names _ = []
 
 abbrev pub free_names : Item → List (List ℕ)
 free_names i = flat_map (λ f. role_names f.role) (functions i)
 
 -- the types that are written in a name of a scope: those of a definition's body
 abbrev pub name_types : ScopeName → List Written
-name_types (Used from attributes n) = []
 name_types (Defined d) = body_types d.body
-name_types (Taken attributes id) = []
+name_types _ = []
 
 -- the types that are written in names of a scope, and then in its functions
 abbrev pub all_types : List ScopeName → List SourceFunction → List Written

@@ -7,10 +7,8 @@ use Rattle.wit_type_tree.specs.declared.error.ParseErrorKind.TheVariants.{Syntax
 
 -- the hint that a refusal gives
 abbrev pub hint_of : ParseErrorKind → Option (List ℕ)
-hint_of (Syntax span message) = None
 hint_of (ItemNotFound span name kind hint) = option_map string_bytes hint
-hint_of (TypeCycle span name kind) = None
-hint_of OutOfMemory = None
+hint_of _ = None
 
 -- a type has another name now
 abbrev pub renamed : List ℕ → List ℕ → List ℕ

@@ -14,9 +14,8 @@ use Rattle.wit_syntax.specs.Repeats.{AllDiffer}
 
 -- the names that a name of a scope needs: those in a definition's body; a used name needs none of its own scope
 abbrev pub needed_ids : ScopeName → List Id
-needed_ids (Used from attributes n) = []
 needed_ids (Defined d) = all_words (body_of d.body).parts
-needed_ids (Taken attributes id) = []
+needed_ids _ = []
 
 abbrev pub row_of : ScopeName → Row
 row_of x = record { name = local_name x; needs = needed_ids x }
@@ -30,9 +29,8 @@ abbrev pub in_order : {X : Type 0} → List X → List ℕ → List X
 in_order xs places = filter_map (slice_get xs) places
 
 abbrev pub is_defined : ScopeName → Bool
-is_defined (Used from attributes n) = false
 is_defined (Defined d) = true
-is_defined (Taken attributes id) = false
+is_defined _ = false
 
 -- those that are used
 abbrev pub used : List ScopeName → List ScopeName
@@ -48,19 +46,14 @@ in_turn xs order = used xs ++ defined (in_order xs order)
 
 -- the paths of a part to interfaces: that of a `use`, that by which a world imports or exports one, and those of uses that are written there
 abbrev pub use_path : Part → List UsePath
-use_path (Defining d) = []
 use_path (Using u) = u.from ∷ []
-use_path (Including i) = []
-use_path (Doing f) = []
 use_path (Crossing x) = map (λ u. u.from) (inline_uses x.kind) ++ extern_paths x.kind
+use_path _ = []
 
 -- the path of a part that is an include
 abbrev pub include_path : Part → List UsePath
-include_path (Defining d) = []
-include_path (Using u) = []
 include_path (Including i) = i.from ∷ []
-include_path (Doing f) = []
-include_path (Crossing x) = []
+include_path _ = []
 
 -- the paths of an item to interfaces
 abbrev pub use_paths : Item → List UsePath
@@ -72,9 +65,8 @@ include_paths i = flat_map include_path (parts i)
 
 -- the path of a part to an item that has to come before: of an interface that of a `use`, of a world that of an include
 abbrev pub needed_path : Declared → Part → List UsePath
-needed_path (TheInterface i) = use_path
 needed_path (TheWorld w) = include_path
-needed_path (TheInline world place x name items) = use_path
+needed_path _ = use_path
 
 -- the name of an item of the package that a path leads to
 abbrev pub local_target : Target → List Id
@@ -101,22 +93,17 @@ abbrev pub worlds_of : List Item → List Item
 worlds_of is = filter is_world is
 
 abbrev pub part_uses : Part → List Use
-part_uses (Defining d) = []
 part_uses (Using u) = u ∷ []
-part_uses (Including i) = []
-part_uses (Doing f) = []
 part_uses (Crossing x) = inline_uses x.kind
+part_uses _ = []
 
 -- the uses of an item, and of interfaces that are written in it, in source order
 abbrev pub uses : Item → List Use
 uses i = flat_map part_uses (parts i)
 
 abbrev pub part_includes : Part → List Include
-part_includes (Defining d) = []
-part_includes (Using u) = []
 part_includes (Including i) = i ∷ []
-part_includes (Doing f) = []
-part_includes (Crossing x) = []
+part_includes _ = []
 
 -- the includes of an item, in source order
 abbrev pub includes : Item → List Include

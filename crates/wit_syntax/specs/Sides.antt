@@ -27,11 +27,8 @@ use Rattle.wit_syntax.specs.Signature.{Called, called_key, name_called, function
 
 -- the side that a function of a role stands on
 abbrev pub role_side : Role → WorldSide
-role_side (Freestanding id form) = Imported
-role_side (Method of form) = Imported
-role_side (Static of form) = Imported
-role_side (Constructor of) = Imported
 role_side (OnSide side id form) = side
+role_side _ = Imported
 
 -- what a function of a scope goes by: its side and its name
 abbrev pub FunctionKey : Type 0
@@ -70,10 +67,9 @@ extern_items x (extern.NamedPath name path) = SideLink (extern_link x (Some name
 
 abbrev pub part_items : Part → List SideItem
 part_items (Defining d) = map SideFunction (definition_functions d.name d.body)
-part_items (Using u) = []
-part_items (Including i) = []
 part_items (Doing f) = SideFunction (free_function f) ∷ []
 part_items (Crossing x) = extern_items x x.kind
+part_items _ = []
 
 -- what stands on the sides of an item behind its names of types, in source order
 abbrev pub side_items : Item → List SideItem
@@ -82,14 +78,12 @@ side_items i = flat_map part_items (parts i)
 -- the function that it is, if it is one
 abbrev pub item_function : SideItem → List SourceFunction
 item_function (SideFunction fn) = fn ∷ []
-item_function (SideLink link) = []
-item_function (SideInline x name items) = []
+item_function _ = []
 
 -- the path of an interface that it is, if it is one
 abbrev pub item_link : SideItem → List Link
-item_link (SideFunction fn) = []
 item_link (SideLink link) = link ∷ []
-item_link (SideInline x name items) = []
+item_link _ = []
 
 -- the links of an item, in source order
 abbrev pub links : Item → List Link
@@ -102,9 +96,8 @@ item_side (SideInline x name items) = x.side
 
 -- the interface that it is, if it is written there
 abbrev pub item_inline : SideItem → List Extern
-item_inline (SideFunction fn) = []
-item_inline (SideLink link) = []
 item_inline (SideInline x name items) = x ∷ []
+item_inline _ = []
 
 -- the interfaces that are written in an item, in source order
 abbrev pub inline_externs : Item → List Extern
@@ -117,8 +110,7 @@ items_on side items = filter (λ x. same_side side (item_side x)) items
 -- whether it is an interface, by its path or written there
 abbrev pub is_interface : SideItem → Bool
 is_interface (SideFunction fn) = false
-is_interface (SideLink link) = true
-is_interface (SideInline x name items) = true
+is_interface _ = true
 
 -- the interfaces on a side, in source order
 abbrev pub interfaces_on : WorldSide → List SideItem → List SideItem
@@ -126,9 +118,8 @@ interfaces_on side items = filter is_interface (items_on side items)
 
 -- the item that an interface is which is written in another one, where this is its place among the interfaces of its side
 abbrev pub inline_item : Item → ℕ → SideItem → List Item
-inline_item i place (SideFunction fn) = []
-inline_item i place (SideLink link) = []
 inline_item i place (SideInline x name items) = record { top = i.top; declared = TheInline (item_name i) place x name items } ∷ []
+inline_item i place _ = []
 
 -- the items that are interfaces which are written in an item, behind these: the place of each is how many interfaces stand before it on its side
 abbrev pub inline_behind : Item → List SideItem → List SideItem → List Item
@@ -178,8 +169,7 @@ pub record IsFoldedTwice (xs : List ScopeName) (items : List SideItem) (f : Faul
 -- what a world imports or exports under a name
 abbrev pub IsCrossing : SideItem → Type 0
 IsCrossing (SideFunction fn) = (side : WorldSide) × (id : Id) × (form : FuncForm) × (fn.role ≡ OnSide side id form)
-IsCrossing (SideLink link) = ⊤
-IsCrossing (SideInline x name items) = ⊤
+IsCrossing _ = ⊤
 
 -- an earlier name on a side is that of an import or an export
 pub record IsCrossedTwice (xs : List ScopeName) (items : List SideItem) (f : Fault) : Type 0 where
@@ -199,9 +189,8 @@ pub record IsCrossedTwice (xs : List ScopeName) (items : List SideItem) (f : Fau
 
 -- the scope of the interface that is imported or exported by its path alone
 abbrev pub bare_scope : List TopName → SideItem → List Address
-bare_scope top (SideFunction fn) = []
 bare_scope top (SideLink link) = option_map_or (λ id. []) link.name (path_scope top link.path ∷ [])
-bare_scope top (SideInline x name items) = []
+bare_scope top _ = []
 
 -- an earlier one on a side is the same interface, where both have no name of their own
 pub record IsLinkedTwice (top : List TopName) (items : List SideItem) (f : Fault) : Type 0 where

@@ -86,9 +86,8 @@ declared_address (TheWorld w) = WorldNamed w.name.name.now
 declared_address (TheInline world place x name items) = InlineAt world x.side place
 
 abbrev pub is_declared_world : Declared → Bool
-is_declared_world (TheInterface i) = false
 is_declared_world (TheWorld w) = true
-is_declared_world (TheInline world place x name items) = false
+is_declared_world _ = false
 
 -- a part of an item
 pub data Part : Type 0 where
@@ -224,9 +223,7 @@ local_name x = (local_id x).name.now
 abbrev pub part_names : List TopName → Part → List ScopeName
 part_names top (Defining d) = Defined d ∷ []
 part_names top (Using u) = map (Used (path_scope top u.from) u.attributes.items) u.names.items
-part_names top (Including i) = []
-part_names top (Doing f) = []
-part_names top (Crossing x) = []
+part_names top _ = []
 
 -- the names of an item, in source order
 abbrev pub scope_names : Item → List ScopeName
@@ -245,19 +242,13 @@ abbrev pub use_takings : List TopName → Use → List Taking
 use_takings top u = map (taking (path_scope top u.from) u.attributes.items) u.names.items
 
 abbrev pub part_takings : List TopName → Part → List Taking
-part_takings top (Defining d) = []
 part_takings top (Using u) = use_takings top u
-part_takings top (Including i) = []
-part_takings top (Doing f) = []
-part_takings top (Crossing x) = []
+part_takings top _ = []
 
 -- those that are used in interfaces that are written on a side of a world
 abbrev pub side_takings : List TopName → WorldSide → Part → List Taking
-side_takings top side (Defining d) = []
-side_takings top side (Using u) = []
-side_takings top side (Including i) = []
-side_takings top side (Doing f) = []
 side_takings top side (Crossing x) = if same_side side x.side then flat_map (use_takings top) (inline_uses x.kind) else []
+side_takings top side _ = []
 
 -- those that are used in parts: first those of their own, then those of imports, and then those of exports
 abbrev pub takings_in : List TopName → List Part → List Taking
@@ -307,8 +298,7 @@ name_body (Taken attributes id) = record { form = UnknownForm; parts = End }
 -- the scope in which that is read: of a used name, the one that it comes from
 abbrev pub name_scope : Address → ScopeName → Address
 name_scope s (Used from attributes n) = from
-name_scope s (Defined d) = s
-name_scope s (Taken attributes id) = s
+name_scope s _ = s
 
 abbrev pub name_form : ScopeName → Form
 name_form x = (name_body x).form

@@ -34,16 +34,14 @@ attribute_span (attribute.ExternalId span id) = span
 -- the version that an attribute tells
 abbrev pub attribute_version : Attribute → Option Version
 attribute_version (attribute.Since span version) = Some version
-attribute_version (attribute.Unstable span feature) = None
 attribute_version (attribute.Deprecated span version) = Some version
-attribute_version (attribute.ExternalId span id) = None
+attribute_version _ = None
 
 -- the text that an attribute tells: a feature's name, or an id
 abbrev pub attribute_text : Attribute → Option (List ℕ)
-attribute_text (attribute.Since span version) = None
 attribute_text (attribute.Unstable span feature) = Some feature.name.now
-attribute_text (attribute.Deprecated span version) = None
 attribute_text (attribute.ExternalId span id) = Some id.now
+attribute_text _ = None
 
 -- the first attribute of a kind
 abbrev pub first_of : AttributeKind → List Attribute → Option Attribute

@@ -132,10 +132,9 @@ param_marks p = named p.name ∷ type_marks p.ty
 
 -- the word that a form of functions is told by
 abbrev pub form_word : FuncForm → List ℕ
-form_word PlainForm = codes "func"
-form_word Async = codes "func"
 form_word Getter = codes "get"
 form_word Setter = codes "set"
+form_word _ = codes "func"
 
 -- the parameters, and the result where there is one, stand behind a word
 abbrev pub signature_marks : Span → List ℕ → List Param → Option Written → List Mark

@@ -44,8 +44,6 @@ case_types cs = filter_map (λ c. c.ty) cs
 -- the functions of a resource are signatures, and no part of its body
 abbrev pub body_types : TypeBody → List Written
 body_types (Record span fields) = field_types fields.items
-body_types (Flags span flags) = []
 body_types (Variant span cases) = case_types cases.items
-body_types (Enum span cases) = []
-body_types (Resource funcs) = []
 body_types (Plain t) = t ∷ []
+body_types _ = []

@@ -15,10 +15,9 @@ span_of OutOfMemory = record { start = 0; end = 0 }
 
 -- the name that it is about, where its kind has one
 abbrev pub name_of : ParseErrorKind → Option (List ℕ)
-name_of (Syntax span message) = None
 name_of (ItemNotFound span name kind hint) = Some (string_bytes name)
 name_of (TypeCycle span name kind) = Some (string_bytes name)
-name_of OutOfMemory = None
+name_of _ = None
 
 -- which kind of refusal it is: a broken rule in words, a name that stands for nothing of a sort, or a thing of a sort that depends on itself
 pub data Sort : Type 0 where
@@ -42,16 +41,12 @@ pub record IsWantOfMemory (e : ParseError) : Type 0 where
 -- nothing of this sort has the name written at the span
 abbrev pub IsItemNotFound : Span → List ℕ → List ℕ → ParseErrorKind → Type 0
 IsItemNotFound at name sort (ItemNotFound s n k h) = (s ≡ at) × (string_bytes n ≡ name) × (string_bytes k ≡ sort)
-IsItemNotFound at name sort (Syntax s m) = ⊥
-IsItemNotFound at name sort (TypeCycle s n k) = ⊥
-IsItemNotFound at name sort OutOfMemory = ⊥
+IsItemNotFound at name sort _ = ⊥
 
 -- what the name written at the span stands for depends on itself
 abbrev pub IsTypeCycle : Span → List ℕ → List ℕ → ParseErrorKind → Type 0
 IsTypeCycle at name sort (TypeCycle s n k) = (s ≡ at) × (string_bytes n ≡ name) × (string_bytes k ≡ sort)
-IsTypeCycle at name sort (Syntax s m) = ⊥
-IsTypeCycle at name sort (ItemNotFound s n k h) = ⊥
-IsTypeCycle at name sort OutOfMemory = ⊥
+IsTypeCycle at name sort _ = ⊥
 
 abbrev pub hint_text : Option (String Global) → List ℕ
 hint_text None = []
