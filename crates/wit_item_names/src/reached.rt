@@ -4,6 +4,7 @@ ghost use Rattle.std.specs.Option.{option_copied};
 ghost use Rattle.wit_syntax.specs.Source.{Local, leads, path_scope};
 ghost use Rattle.wit_syntax.specs.Foreign.{visited, foreign_interfaces};
 ghost use Rattle.wit_syntax.specs.Broken.{Refused};
+ghost use Rattle.wit_top_names.specs.Tops.{target_behind};
 ghost use Rattle.wit_files.specs.FileNames.{top_at};
 ghost use Rattle.wit_scopes.specs.Held.{source_behind, IsPlaced};
 ghost use Rattle.wit_item_names.specs.Items.{HasPath, AreEntriesOf, item_place as the_item_place, other_place as the_other_place, entry_at, interface_entry, IsReached, IsUsable, IsUnusable};
@@ -51,6 +52,20 @@ fn other_place(found: Option<Found>) -> Option<usize>
     }
 }
 
+/// The entry of the item of another package that a path leads to; none where it leads to none.
+/// `entries` are those of other packages' items.
+fn entry_there<'e, 'f, 'a>(
+    files: &FileNames<'f, 'a>,
+    entries: &'e [Entry],
+    target: Target<'f, 'a>,
+) -> Option<&'e Entry>
+    requires { AreEntriesOf files.now entries.now }
+    ensures { option_copied result ≡ entry_at files.now (target_behind target.entry) }
+{
+    let found = other_place(files.found(target))?;
+    entries.get(found)
+}
+
 /// The entry of the item of another package that a path in the file at a place leads to; none where
 /// it leads to none. `entries` are those of other packages' items.
 pub fn entry_of<'e, 'f, 'a>(
@@ -63,8 +78,7 @@ pub fn entry_of<'e, 'f, 'a>(
     requires entries { AreEntriesOf files.now entries.now }
     ensures { option_copied result ≡ entry_at files.now (leads (top_at files.now place) path.now) }
 {
-    let found = other_place(files.lookup(place, path))?;
-    entries.get(found)
+    entry_there(files, entries, files.target(place, path))
 }
 
 /// The place of the interface that an entry is; none where there is no entry, or a world's.
@@ -89,7 +103,7 @@ fn reach_name<'f, 'a>(
     requires local { leads (top_at files.now place) path.now ≡ Local name }
     ensures { IsReached files.now (top_at files.now place) path.now result }
 {
-    let found = match item_place(files.lookup(place, path)) {
+    let found = match item_place(files.found(Target::Local(name))) {
         Some(found) => found,
         None => return Reached::Nothing(name),
     };
@@ -114,7 +128,8 @@ pub fn reach<'f, 'a>(
     match files.target(place, path) {
         Target::Local(name) => reach_name(files, place, path, name),
         Target::Foreign { package, name } => {
-            match interface_place(entry_of(files, entries, place, path)) {
+            let target = Target::Foreign { package, name };
+            match interface_place(entry_there(files, entries, target)) {
                 Some(place) => Reached::Interface(Source::Foreign {
                     place,
                     package,

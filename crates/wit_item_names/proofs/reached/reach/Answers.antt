@@ -14,7 +14,7 @@ returns-in-Some c =
     let p = package_of c.in-Foreign.«package».now in
     let id = c.in-Foreign.name in
     let lead : leads (top_at files c.args.place) c.args.path.now ≡ Foreign p id = sym c.target.ensures ∙ ap target_behind c.in-Foreign.is in
-    let is : interface_entry (entry_at files (Foreign p id)) ≡ Some c.in-Some.place = sym (ap interface_entry (c.entry_of.ensures ∙ ap (entry_at files) lead)) ∙ sym c.interface_place.ensures ∙ c.in-Some.is in
+    let is : interface_entry (entry_at files (Foreign p id)) ≡ Some c.in-Some.place = sym (ap interface_entry c.entry_there.ensures) ∙ sym c.interface_place.ensures ∙ c.in-Some.is in
     let found = interface_found files p id c.in-Some.place is in
     (sym (ap used_scope lead), found.1, ap (is_world_at files) lead ∙ found.0)
 
@@ -24,6 +24,6 @@ returns-in-None c =
     let p = package_of c.in-Foreign.«package».now in
     let id = c.in-Foreign.name in
     let lead : leads (top_at files c.args.place) c.args.path.now ≡ Foreign p id = sym c.target.ensures ∙ ap target_behind c.in-Foreign.is in
-    let none : interface_entry (entry_at files (Foreign p id)) ≡ None = sym (ap interface_entry (c.entry_of.ensures ∙ ap (entry_at files) lead)) ∙ sym c.interface_place.ensures ∙ c.in-None.is in
+    let none : interface_entry (entry_at files (Foreign p id)) ≡ None = sym (ap interface_entry c.entry_there.ensures) ∙ sym c.interface_place.ensures ∙ c.in-None.is in
     let v = wanted_visited files c.args.place c.args.path.now c.requires.path p id lead in
     ap (is_world_at files) lead ∙ interface_missing files p id v.0 v.1 none
