@@ -9,6 +9,7 @@ use Rattle.std.proofs.lemmas.Option.{slice_get_within}
 use Rattle.wit_functions.specs.declared.function.Function.{Function}
 use Rattle.wit_functions.specs.Order.{IsOrder, Shows}
 use Rattle.wit_functions.specs.Setters.{HaveDistinctNames, early, goes_with, name_in, others, pairs, placed, setters_placed, told_names, with_setters}
+use Rattle.wit_functions.specs.Told.{HaveOwnNames, goes}
 use Rattle.wit_functions.proofs.InTurn.{in_turn, put_at}
 use Rattle.wit_functions.proofs.Keys.{Differ, Lacks, differ-in_turn}
 use Rattle.wit_functions.proofs.Pairs.{in_turn-placed}
@@ -161,57 +162,53 @@ module _ {E : Type 0} where
     once = number_once zs differ;
   }
 
-module _ {K V : Type 0} (tells : V → Option Function) where
-  -- what an entry with its place tells
-  abbrev tells_entry : K × V → Option Function
-  tells_entry e = tells e.1
-
-  names-numbered : (n : ℕ) (es : List (K × V)) → told_names tells_entry (enumerate_from n es) ≡ told_names tells es
+module _ {E : Type 0} (tells : E → Option Function) where
+  names-numbered : (n : ℕ) (es : List E) → told_names tells (enumerate_from n es) ≡ flat_map (λ e. name_in (tells e)) es
   names-numbered n [] = refl
-  names-numbered n (e ∷ es) = ap (λ l. name_in (tells e.1) ++ l) (names-numbered (n + 1) es)
+  names-numbered n (e ∷ es) = ap (λ l. name_in (tells e) ++ l) (names-numbered (n + 1) es)
 
   -- the told functions have distinct names
-  pub own_told : {T : Type 0} (place : T → ℕ) (told : T → Option Function) (ts : List T) (es : List (K × V))
-      → map {B = ℕ × Option Function} (λ t. (place t, told t)) ts ≡ map (λ z. (z.0, tells z.1.1)) (enumerate_from 0 es) → HaveDistinctNames tells es
+  pub own_told : {T : Type 0} (place : T → ℕ) (told : T → Option Function) (ts : List T) (es : List E)
+      → map {B = ℕ × Option Function} (λ t. (place t, told t)) ts ≡ map (λ z. (z.0, tells z.1)) (enumerate_from 0 es) → HaveOwnNames tells es
       → IsDistinct (pointwise nat_eq) (flat_map (λ t. name_in (told t)) ts)
   own_told place told ts es are names =
       let names_of = λ (p : ℕ × Option Function). name_in p.1 in
       subst (IsDistinct (pointwise nat_eq)) (sym (
       sym (flat_map-map {B = ℕ × Option Function} (λ t. (place t, told t)) names_of ts) ∙ ap (flat_map names_of) are
-      ∙ flat_map-map {B = ℕ × Option Function} (λ z. (z.0, tells z.1.1)) names_of (enumerate_from 0 es) ∙ names-numbered 0 es)) names
+      ∙ flat_map-map {B = ℕ × Option Function} (λ z. (z.0, tells z.1)) names_of (enumerate_from 0 es) ∙ names-numbered 0 es)) names
 
   -- the places of the told functions, once setters are placed among these, are the order of the entries
-  pub placed_order : {T : Type 0} (place : T → ℕ) (told : T → Option Function) (ts : List T) (es : List (K × V))
-      → map {B = ℕ × Option Function} (λ t. (place t, told t)) ts ≡ map (λ z. (z.0, tells z.1.1)) (enumerate_from 0 es) → HaveDistinctNames tells es
-      → IsOrder es (map place (setters_placed (λ s g. goes_with (told s) (told g)) ts)) (placed tells es)
+  pub placed_order : {T : Type 0} (place : T → ℕ) (told : T → Option Function) (ts : List T) (es : List E)
+      → map {B = ℕ × Option Function} (λ t. (place t, told t)) ts ≡ map (λ z. (z.0, tells z.1)) (enumerate_from 0 es) → HaveOwnNames tells es
+      → IsOrder es (map place (setters_placed (λ s g. goes_with (told s) (told g)) ts)) (setters_placed (goes tells) es)
   placed_order {T = T} place told ts es are names =
       let zs = enumerate_from 0 es in
-      let goes = pairs {K = ℕ} tells_entry in
-      let own : HaveDistinctNames tells_entry zs = subst (IsDistinct (pointwise nat_eq)) (sym (names-numbered 0 es)) names in
-      let turned = in_turn-placed tells_entry zs own in
-      let numbers = λ (z : ℕ × (K × V)). z.0 in
-      let is = in_order es (in_turn goes zs) (stand-in_turn goes es zs (numbered-stand es 0 es (λ k. (let same : 0 + k ≡ k = omega arith in ap (slice_get es) same)))) (differ-in_turn numbers goes zs (numbered-differ 0 es)) (long-in_turn goes zs ∙ long-numbered 0 es) in
+      let by_entry = pairs {K = ℕ} tells in
+      let own : HaveDistinctNames tells zs = subst (IsDistinct (pointwise nat_eq)) (sym (names-numbered 0 es)) names in
+      let turned = in_turn-placed tells zs own in
+      let numbers = λ (z : ℕ × E). z.0 in
+      let is = in_order es (in_turn by_entry zs) (stand-in_turn by_entry es zs (numbered-stand es 0 es (λ k. (let same : 0 + k ≡ k = omega arith in ap (slice_get es) same)))) (differ-in_turn numbers by_entry zs (numbered-differ 0 es)) (long-in_turn by_entry zs ∙ long-numbered 0 es) in
       let view : T → ℕ × Option Function = λ t. (place t, told t) in
-      let tell : ℕ × (K × V) → ℕ × Option Function = λ z. (z.0, tells z.1.1) in
+      let tell : ℕ × E → ℕ × Option Function = λ z. (z.0, tells z.1) in
       let both = λ (s g : ℕ × Option Function). goes_with s.1 g.1 in
-      let order : map place (setters_placed (λ s g. goes_with (told s) (told g)) ts) ≡ map numbers (in_turn goes zs) =
+      let order : map place (setters_placed (λ s g. goes_with (told s) (told g)) ts) ≡ map numbers (in_turn by_entry zs) =
       sym (map-map view (λ p. p.0) (setters_placed (λ s g. goes_with (told s) (told g)) ts))
-      ∙ ap (map (λ p. p.0)) (placed-map view (λ s g. goes_with (told s) (told g)) both (λ a b. refl) ts ∙ ap (setters_placed both) are ∙ sym (placed-map tell goes both (λ a b. refl) zs) ∙ ap (map tell) (sym turned))
-      ∙ map-map tell (λ p. p.0) (in_turn goes zs) in
-      let entries : map (λ z. z.1) (in_turn goes zs) ≡ placed tells es =
-      ap (map (λ z. z.1)) turned ∙ placed-map (λ z. z.1) goes (pairs tells) (λ a b. refl) zs ∙ ap (placed tells) (numbered-entries 0 es) in
-      subst (λ o. IsOrder es o (placed tells es)) (sym order) (subst (λ l. IsOrder es (map numbers (in_turn goes zs)) l) entries is)
+      ∙ ap (map (λ p. p.0)) (placed-map view (λ s g. goes_with (told s) (told g)) both (λ a b. refl) ts ∙ ap (setters_placed both) are ∙ sym (placed-map tell by_entry both (λ a b. refl) zs) ∙ ap (map tell) (sym turned))
+      ∙ map-map tell (λ p. p.0) (in_turn by_entry zs) in
+      let entries : map (λ z. z.1) (in_turn by_entry zs) ≡ setters_placed (goes tells) es =
+      ap (map (λ z. z.1)) turned ∙ placed-map (λ z. z.1) by_entry (goes tells) (λ a b. refl) zs ∙ ap (setters_placed (goes tells)) (numbered-entries 0 es) in
+      subst (λ o. IsOrder es o (setters_placed (goes tells) es)) (sym order) (subst (λ l. IsOrder es (map numbers (in_turn by_entry zs)) l) entries is)
 
 -- one more place with its function
-pub told_more : {K V T : Type 0} (tells : V → Option Function) (view : T → ℕ × Option Function) (es : List (K × V)) (place : ℕ) (e : K × V) (was now : List T) (t : T)
-    → slice_get es place ≡ Some e → view t ≡ (place, tells e.1) → now ≡ was ++ t ∷ []
-    → map view was ≡ map (λ z. (z.0, tells z.1.1)) (take place (enumerate_from 0 es)) → map view now ≡ map (λ z. (z.0, tells z.1.1)) (take (place + 1) (enumerate_from 0 es))
-told_more {K = K} {V = V} tells view es place e was now t at is more so_far =
-    let tell : ℕ × (K × V) → ℕ × Option Function = λ z. (z.0, tells z.1.1) in
+pub told_more : {E T : Type 0} (tells : E → Option Function) (view : T → ℕ × Option Function) (es : List E) (place : ℕ) (e : E) (was now : List T) (t : T)
+    → slice_get es place ≡ Some e → view t ≡ (place, tells e) → now ≡ was ++ t ∷ []
+    → map view was ≡ map (λ z. (z.0, tells z.1)) (take place (enumerate_from 0 es)) → map view now ≡ map (λ z. (z.0, tells z.1)) (take (place + 1) (enumerate_from 0 es))
+told_more {E = E} tells view es place e was now t at is more so_far =
+    let tell : ℕ × E → ℕ × Option Function = λ z. (z.0, tells z.1) in
     ap (map view) more ∙ map-append view was (t ∷ []) ∙ (λ i. so_far i ++ is i ∷ [])
     ∙ sym (map-append tell (take place (enumerate_from 0 es)) ((place, e) ∷ []))
     ∙ ap (map tell) (sym (take_one_more (enumerate_from 0 es) place (place, e) (numbered-at 0 es place e at ∙ (let same : 0 + place ≡ place = omega arith in ap (λ (m : ℕ). Some (m, e)) same))))
 
 -- once all are told
-pub told_all : {K V : Type 0} (tells : V → Option Function) (es : List (K × V)) (n : ℕ) (ps : List (ℕ × Option Function)) → length es ≤ n → ps ≡ map (λ z. (z.0, tells z.1.1)) (take n (enumerate_from 0 es)) → ps ≡ map (λ z. (z.0, tells z.1.1)) (enumerate_from 0 es)
-told_all tells es n ps all so_far = so_far ∙ ap (map (λ z. (z.0, tells z.1.1))) (take_all n (enumerate_from 0 es) (omega (arith, all, long-numbered 0 es)))
+pub told_all : {E : Type 0} (tells : E → Option Function) (es : List E) (n : ℕ) (ps : List (ℕ × Option Function)) → length es ≤ n → ps ≡ map (λ z. (z.0, tells z.1)) (take n (enumerate_from 0 es)) → ps ≡ map (λ z. (z.0, tells z.1)) (enumerate_from 0 es)
+told_all tells es n ps all so_far = so_far ∙ ap (map (λ z. (z.0, tells z.1))) (take_all n (enumerate_from 0 es) (omega (arith, all, long-numbered 0 es)))

@@ -4,7 +4,7 @@ use Rattle.std.specs.Option.{option_and_then}
 use Rattle.std.proofs.lemmas.Option.{slice_get-get_or, slice_get_past, slice_get_cases, slice_get_within}
 use Rattle.std.proofs.lemmas.List.Edits.{length-swap}
 use Rattle.wit_types.proofs.Moving.{some_at}
-use Rattle.wit_functions.specs.Order.{AreBrought, AreFirst, AreStanding, IsOrder, Shows, TurnsBack}
+use Rattle.wit_functions.specs.Order.{AreBrought, AreFirst, AreStanding, IsExchange, IsOrder, Shows, TurnsBack}
 
 same_or_not : (m n : ℕ) → (m ≡ n) ⊎ (m ≡ n → ⊥)
 same_or_not m n = elim (three_ways m n) [
@@ -118,41 +118,49 @@ module _ (n : ℕ) (entries places : List ℕ) (was : AreStanding n entries plac
         held = crossed places entries entry other place from le lo lp lf was.held at_entry at_other at_place at_from;
       }
 
-  module _ {E : Type 0} (first cur now : List E) (order : List ℕ) (is : IsOrder first order now) (wanted : slice_get order place ≡ Some entry) (so_far : AreBrought first cur order entries place) (long : length cur ≡ n) where
+module _ (entries after : List ℕ) (place entry from : ℕ) (moved : IsExchange entries after place entry from) where
+  pub same_after : (n : ℕ) → n ≡ length entries → n ≡ length after
+  same_after n same = same ∙ sym (length-swap entries place from) ∙ ap length (sym moved.exchanged)
+
+  module _ {E : Type 0} (first cur now : List E) (order : List ℕ) (is : IsOrder first order now) (wanted : slice_get order place ≡ Some entry) (so_far : AreBrought first cur order entries place) (long : length cur ≡ length entries) where
+    to_place : slice_get (swap entries place from) place ≡ slice_get entries from
+    to_place = swapped_first entries place from moved.place_within moved.from_within
+
+    to_from : slice_get (swap entries place from) from ≡ slice_get entries place
+    to_from = swapped_second entries place from moved.place_within moved.from_within
+
+    -- a swap of entries and of what they tell shows the same
     shown_swapped : Shows first (swap entries place from) (swap cur place from)
     shown_swapped k =
-        let lp = within_entries place other at_place in
-        let lf = within_entries from entry at_from in
-        let lc : place < length cur = omega (arith, lp, long, was.all_entries) in
-        let ld : from < length cur = omega (arith, lf, long, was.all_entries) in
+        let lc : place < length cur = omega (arith, moved.place_within, long) in
+        let ld : from < length cur = omega (arith, moved.from_within, long) in
+        let tell : Option ℕ → Option E = λ o. option_and_then (slice_get first) o in
         elim (same_or_not k place) [
           | inl here ↦ (
               ap (slice_get (swap cur place from)) here ∙ swapped_first cur place from lc ld ∙ so_far.shown from
-              ∙ ap (λ o. option_and_then (slice_get first) o) (sym (swapped_first entries place from lp lf) ∙ ap (slice_get (swap entries place from)) (sym here)))
+              ∙ ap tell (sym to_place ∙ ap (slice_get (swap entries place from)) (sym here)))
           | inr not_place ↦ elim (same_or_not k from) [
             | inl here ↦ (
                 ap (slice_get (swap cur place from)) here ∙ swapped_second cur place from lc ld ∙ so_far.shown place
-                ∙ ap (λ o. option_and_then (slice_get first) o) (sym (swapped_second entries place from lp lf) ∙ ap (slice_get (swap entries place from)) (sym here)))
+                ∙ ap tell (sym to_from ∙ ap (slice_get (swap entries place from)) (sym here)))
             | inr not_from ↦ (
                 swapped_other cur place from k not_place not_from ∙ so_far.shown k
-                ∙ ap (λ o. option_and_then (slice_get first) o) (sym (swapped_other entries place from k not_place not_from)))
+                ∙ ap tell (sym (swapped_other entries place from k not_place not_from)))
           ]
         ]
 
     done_more : (k : ℕ) → k < place + 1 → slice_get (swap entries place from) k ≡ slice_get order k
-    done_more k lt =
-        let lp = within_entries place other at_place in
-        let lf = within_entries from entry at_from in
-        elim (same_or_not k place) [
-          | inl here ↦ ap (slice_get (swap entries place from)) here ∙ swapped_first entries place from lp lf ∙ at_from ∙ sym wanted ∙ ap (slice_get order) (sym here)
-          | inr not_place ↦ (
-              let before : k < place = grind (arith, lt, not_place) in
-              let not_from : k ≡ from → ⊥ = λ same. not_place (is.once k place entry (sym (so_far.done k before) ∙ ap (slice_get entries) same ∙ at_from) wanted) in
-              swapped_other entries place from k not_place not_from ∙ so_far.done k before)
-        ]
+    done_more k lt = elim (same_or_not k place) [
+      | inl here ↦ ap (slice_get (swap entries place from)) here ∙ to_place ∙ moved.stood ∙ sym wanted ∙ ap (slice_get order) (sym here)
+      | inr not_place ↦ (
+          let before : k < place = grind (arith, lt, not_place) in
+          let not_from : k ≡ from → ⊥ = λ same. not_place (is.once k place entry (sym (so_far.done k before) ∙ ap (slice_get entries) same ∙ moved.stood) wanted) in
+          swapped_other entries place from k not_place not_from ∙ so_far.done k before)
+    ]
 
-    pub brought_more : AreBrought first (swap cur place from) order (swap entries place from) (place + 1)
-    brought_more = record { long = length-swap cur place from ∙ so_far.long; shown = shown_swapped; done = done_more }
+    -- one more stands at its place
+    pub brought_next : AreBrought first (swap cur place from) order after (place + 1)
+    brought_next = rw moved.exchanged (record { long = length-swap cur place from ∙ so_far.long; shown = shown_swapped; done = done_more })
 
 -- before any is brought
 pub none_brought : {E : Type 0} (first : List E) (order entries : List ℕ) → AreFirst entries → length entries ≡ length first → AreBrought first first order entries 0
@@ -208,9 +216,9 @@ first_stand n entries places all_entries all_places of_entries of_places = recor
         let y = some_at ys w (omega (arith, lt, le, same)) in
         y.1 ∙ ap (λ (n : ℕ). Some n) (of_ys w y.0 y.1 ∙ same)
 
--- an entry that is wanted at a place is one of the map's, and the place too
-pub wanted_within : {E : Type 0} (first cur now : List E) (order entries : List ℕ) (place entry n : ℕ) → IsOrder first order now → slice_get order place ≡ Some entry → AreBrought first cur order entries place → length cur ≡ n → (place < n) × (entry < n)
-wanted_within first cur now order entries place entry n is wanted so_far long =
+-- an entry that is wanted at a place is there, and the place too
+pub no_less : {E : Type 0} (entries : List ℕ) (place entry n : ℕ) (first cur now : List E) (order : List ℕ) → IsOrder first order now → slice_get order place ≡ Some entry → AreBrought first cur order entries place → length cur ≡ n → (place < n → entry < n → ⊥) → ⊥
+no_less entries place entry n first cur now order is wanted so_far long none =
     let at = slice_get_within order place entry wanted in
     let in_first = is.within place entry wanted in
-    (omega (arith, at, is.all, so_far.long, long), omega (arith, in_first, so_far.long, long))
+    none (omega (arith, at, is.all, so_far.long, long)) (omega (arith, in_first, so_far.long, long))

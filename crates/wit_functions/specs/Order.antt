@@ -1,5 +1,5 @@
 -- Entries put into another order.
-use Rattle.std.specs.Prelude.{◌≡◌, ℕ, ◌<◌, List, Some, length, slice_get}
+use Rattle.std.specs.Prelude.{◌≡◌, ℕ, ◌<◌, List, Some, length, slice_get, swap}
 use Rattle.std.specs.Option.{option_and_then}
 
 -- at each place stands the entry that is told to stand there, by the place where it stood at first
@@ -27,6 +27,13 @@ pub record AreStanding (n : ℕ) (entries places : List ℕ) : Type 0 where
 -- each stands where it stood at first
 abbrev pub AreFirst : List ℕ → Type 0
 AreFirst entries = (k w : ℕ) → slice_get entries k ≡ Some w → w ≡ k
+
+-- an entry comes to a place, and what stood there to where it stood
+pub record IsExchange (was now : List ℕ) (place entry from : ℕ) : Type 0 where
+  pub place_within : place < length was
+  pub from_within : from < length was
+  pub stood : slice_get was from ≡ Some entry
+  pub exchanged : now ≡ swap was place from
 
 -- up to a place the entries stand in the order that is wanted
 pub record AreBrought {E : Type 0} (first now : List E) (order entries : List ℕ) (n : ℕ) : Type 0 where

@@ -1,7 +1,7 @@
 //! The entries of a map, put into another order.
-ghost use Rattle.std.specs.Prelude.{◌≡◌, ◌+◌, ◌<◌, ℕ, List, IfOk, Some, length, slice_get};
+ghost use Rattle.std.specs.Prelude.{◌≡◌, ◌<◌, ℕ, List, IfNone, IfOk, IfSome, length};
 ghost use Rattle.indexmap.specs.IndexMap.{index_map_len};
-ghost use Rattle.wit_functions.specs.Order.{AreBrought, AreFirst, AreStanding, IsOrder};
+ghost use Rattle.wit_functions.specs.Order.{AreFirst, AreStanding, IsExchange, IsOrder};
 
 use indexmap::IndexMap;
 use std::alloc::{AllocError, Global};
@@ -39,40 +39,37 @@ impl Standing {
         })
     }
 
-    /// Brings an entry to a place. What stood there stands where the entry did.
-    fn bring<K: Eq + Hash, V>(&mut self, map: &mut IndexMap<K, V>, place: usize, entry: usize)
-        requires place_within { place < index_map_len map.old }
-        requires entry_within { entry < index_map_len map.old }
-        requires stands { AreStanding (index_map_len map.old) self.old.entries.items self.old.places.items }
-        ensures stands { AreStanding (index_map_len map.new) self.new.entries.items self.new.places.items }
-        ensures brought { (first now : List (K × V)) (order : List ℕ) → IsOrder first order now → slice_get order place ≡ Some entry → AreBrought first map.old.entries order self.old.entries.items place → AreBrought first map.new.entries order self.new.entries.items (place + 1) }
+    /// Lets an entry and what stands at a place change places, and tells where the entry stood.
+    fn exchange(&mut self, place: usize, entry: usize) -> usize
+        requires place_within { place < length self.old.entries.items }
+        requires entry_within { entry < length self.old.entries.items }
+        requires stands { AreStanding (length self.old.entries.items) self.old.entries.items self.old.places.items }
+        ensures stands { AreStanding (length self.new.entries.items) self.new.entries.items self.new.places.items }
+        ensures exchanged { IsExchange self.old.entries.items self.new.entries.items place entry result }
     {
         let from = self.places[entry];
         let other = self.entries[place];
-        map.swap_indices(place, from);
         self.entries.swap(place, from);
         self.places.swap(entry, other);
+        from
     }
 
-    /// Brings an entry to a place, if both are of the map.
-    fn bring_within<K: Eq + Hash, V>(
-        &mut self,
-        map: &mut IndexMap<K, V>,
-        place: usize,
-        entry: usize,
-    )
-        requires { AreStanding (index_map_len map.old) self.old.entries.items self.old.places.items }
-        ensures stands { AreStanding (index_map_len map.new) self.new.entries.items self.new.places.items }
-        ensures brought { (first now : List (K × V)) (order : List ℕ) → IsOrder first order now → slice_get order place ≡ Some entry → AreBrought first map.old.entries order self.old.entries.items place → AreBrought first map.new.entries order self.new.entries.items (place + 1) }
+    /// Brings an entry to a place, if both are there, and tells where it stood.
+    fn bring(&mut self, place: usize, entry: usize) -> Option<usize>
+        requires { AreStanding (length self.old.entries.items) self.old.entries.items self.old.places.items }
+        ensures stands { AreStanding (length self.new.entries.items) self.new.entries.items self.new.places.items }
+        ensures exchanged { IfSome result (IsExchange self.old.entries.items self.new.entries.items place entry) }
+        ensures unchanged { IfNone result (self.new.entries.items ≡ self.old.entries.items) }
+        ensures missing { IfNone result (place < length self.old.entries.items → entry < length self.old.entries.items → ⊥) }
     {
-        let len = map.len();
+        let len = self.entries.len();
         if place >= len {
-            return;
+            return None;
         }
         if entry >= len {
-            return;
+            return None;
         }
-        self.bring(map, place, entry);
+        Some(self.exchange(place, entry))
     }
 }
 
@@ -88,6 +85,26 @@ pub(crate) fn put_in_order<K: Eq + Hash, V>(
 {
     let mut standing = standing;
     for place in 0..order.len() {
-        standing.bring_within(map, place, order[place]);
+        match standing.bring(place, order[place]) {
+            Some(from) => map.swap_indices(place, from),
+            None => {}
+        }
     }
+}
+
+/// Items, which stand at their first places, in another order.
+pub(crate) fn in_order<T: Drop>(items: Vec<T>, standing: Standing, order: Vec<usize>) -> Vec<T>
+    requires stands { AreStanding (length items.items) standing.entries.items standing.places.items }
+    requires first { AreFirst standing.entries.items }
+    ensures { (now : List T) → IsOrder items.items order.items now → result.items ≡ now }
+{
+    let mut items = items;
+    let mut standing = standing;
+    for place in 0..order.len() {
+        match standing.bring(place, order[place]) {
+            Some(from) => items.swap(place, from),
+            None => {}
+        }
+    }
+    items
 }

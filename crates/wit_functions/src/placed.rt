@@ -1,5 +1,5 @@
 //! Items of which some are functions, with their setters put behind their getters.
-ghost use Rattle.std.specs.Prelude.{◌≡◌, ◌++◌, ◌∷◌, ℕ, List, IfOk, OnOk, reverse};
+ghost use Rattle.std.specs.Prelude.{◌≡◌, ◌++◌, ◌∷◌, ℕ, List, IfOk, OnOk, map, reverse};
 ghost use Rattle.std.specs.BTreeMap.{get_by_text};
 ghost use Rattle.std.specs.Option.{option_and_then, option_copied, option_to_list};
 ghost use Rattle.wit_functions.specs.Setters.{setters_placed};
@@ -68,10 +68,33 @@ fn place_all<T: Told>(
 
 /// Items, where each setter that stands before its getter stands directly behind it instead, if no
 /// two functions have one name.
-pub fn behind_getters<T: Told>(alloc: Global, items: Vec<T>) -> Result<Vec<T>, AllocError>
+fn all_placed<T: Told>(alloc: Global, items: Vec<T>) -> Result<Vec<T>, AllocError>
     ensures { IfOk result (λ placed. HaveOwnNames T.tells items.items → placed.items ≡ setters_placed (goes T.tells) items.items) }
 {
     let parted = part(alloc, items)?;
     let placed = place_all(alloc, parted.others, parted.waiting)?;
     Ok(placed)
+}
+
+fn places_of(alloc: Global, told: Vec<(usize, Option<&Function>)>) -> Result<Vec<usize>, AllocError>
+    ensures { IfOk result (λ places. places.items ≡ map (λ t. t.0) told.entry.items) }
+{
+    let mut places = Vec::with_capacity(alloc, told.len())?;
+    for entry in told {
+        places.push(entry.0)?;
+    }
+    Ok(places)
+}
+
+/// Places, each with what is told there, in the order in which each setter that stands before its
+/// getter stands directly behind it instead.
+pub(crate) fn order_of(
+    alloc: Global,
+    told: Vec<(usize, Option<&Function>)>,
+) -> Result<Vec<usize>, AllocError>
+    ensures { IfOk result (λ order. HaveOwnNames (λ t. option_copied t.1) told.entry.items → order.items ≡ map (λ t. t.0) (setters_placed (goes (λ t. option_copied t.1)) told.entry.items)) }
+{
+    let placed = all_placed(alloc, told)?;
+    let order = places_of(alloc, placed)?;
+    Ok(order)
 }

@@ -8,7 +8,7 @@ ghost use Rattle.wit_functions.specs.Setters.{HaveDistinctNames, Tells, fronts, 
 
 use crate::function::{Function, FunctionKind};
 use crate::order::{Standing, put_in_order};
-use crate::placed::behind_getters;
+use crate::placed::order_of;
 use indexmap::IndexMap;
 use std::alloc::{AllocError, Global};
 use std::hash::Hash;
@@ -72,19 +72,9 @@ fn told_places<'a, K: Eq + Hash, V, F: Fn(&V) -> Option<&Function>>(
     Ok(places)
 }
 
-fn places_of(alloc: Global, told: Vec<(usize, Option<&Function>)>) -> Result<Vec<usize>, AllocError>
-    ensures { IfOk result (λ places. places.items ≡ mapped (λ t. t.0) told.entry.items) }
-{
-    let mut places = Vec::with_capacity(alloc, told.len())?;
-    for entry in told {
-        places.push(entry.0)?;
-    }
-    Ok(places)
-}
-
 /// The places of the entries of a map, in the order in which each setter that stands before its
 /// getter stands directly behind it instead.
-fn order_of<K: Eq + Hash, V, F: Fn(&V) -> Option<&Function>>(
+fn map_order<K: Eq + Hash, V, F: Fn(&V) -> Option<&Function>>(
     alloc: Global,
     map: &IndexMap<K, V>,
     func: &F,
@@ -93,8 +83,7 @@ fn order_of<K: Eq + Hash, V, F: Fn(&V) -> Option<&Function>>(
     ensures { IfOk result (λ order. (tells : V → Option Function) → Tells F.Fn func.now tells → HaveDistinctNames tells map.now.entries → IsOrder map.now.entries order.items (placed tells map.now.entries)) }
 {
     let told = told_places(alloc, map, func)?;
-    let placed = behind_getters(alloc, told)?;
-    let order = places_of(alloc, placed)?;
+    let order = order_of(alloc, told)?;
     Ok(order)
 }
 
@@ -113,7 +102,7 @@ pub fn place_setters_after_getters<K: Eq + Hash, V, F: Fn(&V) -> Option<&Functio
     ensures unchanged { OnErr result (map.new ≡ map.old) }
 {
     let alloc = *map.allocator();
-    let order = order_of(alloc, map, &func)?;
+    let order = map_order(alloc, map, &func)?;
     let standing = Standing::new(alloc, map.len())?;
     put_in_order(map, standing, order);
     Ok(())

@@ -5,7 +5,7 @@ ghost use Rattle.wit_syntax.specs.Repeats.{AllDiffer};
 
 use crate::paired::are_paired;
 use std::alloc::{AllocError, Global};
-use wit_functions::placed::behind_getters;
+use wit_functions::items::behind_getters;
 use wit_model::Function;
 
 /// Functions, where each setter that stands before its getter stands directly behind it instead.

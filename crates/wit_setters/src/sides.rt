@@ -13,7 +13,7 @@ ghost use Rattle.wit_syntax.specs.Repeats.{AllDiffer};
 ghost use Rattle.wit_functions.specs.Told.{is_setter as is_a_setter};
 
 use std::alloc::{AllocError, Global};
-use wit_functions::placed::behind_getters;
+use wit_functions::items::behind_getters;
 use wit_functions::told::is_setter;
 use wit_model::{WorldItem, WorldKey, world_item_func};
 use wit_values::Table;

@@ -2,7 +2,7 @@ use Rattle.std.proofs.Common.{◌∙◌}
 use Rattle.std.specs.BTreeMap.{get_by_text}
 use Rattle.std.specs.BTreeSet.{contains_text}
 use Rattle.wit_functions.proofs.Serving.{served_placed}
-use Rattle.wit_functions.proofs.placed.behind_getters.Goals as goal
+use Rattle.wit_functions.proofs.placed.all_placed.Goals as goal
 
 pub returns : goal.returns
 returns g c = λ own.

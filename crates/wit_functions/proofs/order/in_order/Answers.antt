@@ -1,0 +1,36 @@
+use Rattle.std.proofs.Common.{◌≡◌, ◌≤◌, ◌∙◌, ap, length, rules, arith, refl, sym}
+use Rattle.std.proofs.lemmas.List.Edits.{length-swap}
+use Rattle.std.proofs.lemmas.Option.{slice_get_read}
+use Rattle.wit_functions.proofs.Swaps.{all_brought, brought_next, no_less, same_after}
+use Rattle.wit_functions.proofs.order.in_order.Goals.{in-Some, in-None}
+use Rattle.wit_functions.proofs.order.in_order.Goals as goal
+
+pub loop-place-preserved : goal.loop-place-preserved
+loop-place-preserved g c =
+    let was = c.loop-place.invariant in
+    let first = c.args.items.items in
+    let cur = c.loop-place.items.items in
+    elim c.match-bring.branch [
+      | in-Some w ↦ (
+          let moved = w.in-Some.ensures.exchanged in
+          let now_is = ap (λ x. x.items) w.items-is ∙ w.swap.ensures.items in
+          record {
+            same = ap length now_is ∙ length-swap cur c.loop-place.place w.in-Some.from ∙ same_after _ _ _ _ _ moved _ was.same;
+            stands = c.bring.ensures.stands;
+            brought = λ now is. rw now_is (brought_next _ _ _ _ _ moved first cur now c.args.order.items is (slice_get_read c.args.order.items _ _ _ refl (search rules) c.index.ensures) (was.brought now is) was.same);
+          })
+      | in-None w ↦ (
+          let now_is = ap (λ x. x.items) w.items-is in
+          record {
+            same = ap length now_is ∙ was.same ∙ ap length (sym w.in-None.ensures.unchanged);
+            stands = c.bring.ensures.stands;
+            brought = λ now is. absurd (no_less _ _ _ _ first cur now c.args.order.items is (slice_get_read c.args.order.items _ _ _ refl (search rules) c.index.ensures) (was.brought now is) was.same w.in-None.ensures.missing);
+          })
+    ]
+
+pub returns : goal.returns
+returns g c = λ now is.
+    let end : length c.args.order.items ≤ c.loop-place.place = omega (arith, c.loop-place-test.false, c.loop-place.auto.place-end, c.len-place-end.ensures) in
+    let was = c.loop-place.invariant in
+    let brought = was.brought now is in
+    all_brought c.args.items.items c.loop-place.items.items now c.args.order.items c.loop-place.standing.entries.items c.loop-place.place is end brought (sym was.same ∙ brought.long)
