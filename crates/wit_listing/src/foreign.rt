@@ -1,9 +1,11 @@
 //! Interfaces and worlds of other packages in a listing.
-ghost use Rattle.std.specs.Prelude.{◌≡◌, ◌++◌, OnOk, string_bytes};
+ghost use Rattle.std.specs.Prelude.{◌≡◌, ◌++◌, ◌∷◌, OnOk, string_bytes};
 ghost use Rattle.std.specs.List.{flat_map};
+ghost use Rattle.wit_package_names.specs.PackageName.{name_text};
 ghost use Rattle.wit_listing.specs.Words.{Adds};
 ghost use Rattle.wit_listing.specs.Foreign.{dep_lines, item_line, item_place};
 
+use crate::package_names::push_package_name;
 use crate::words::push_marked;
 use std::alloc::AllocError;
 use wit_model::AstItem;
@@ -21,6 +23,15 @@ fn push_place(text: &mut String, item: AstItem) -> Result<(), AllocError>
     }
 }
 
+/// The name of an item behind that of its package.
+fn push_path(text: &mut String, package_name: &PackageName, name: &str) -> Result<(), AllocError>
+    ensures { OnOk result (Adds text.old text.new (name_text package_name.now ++ (32 ∷ name.now))) }
+{
+    push_package_name(text, package_name)?;
+    text.push(' ')?;
+    text.push_str(name)
+}
+
 /// The line of an item: its package and name, its place, and how many paths lead to it.
 fn push_item(
     text: &mut String,
@@ -31,8 +42,7 @@ fn push_item(
     ensures { OnOk result (Adds text.old text.new (item_line package_name.now (name.now, entry.now))) }
 {
     let (item, visits) = entry;
-    write!(text, "{package_name} ")?;
-    text.push_str(name)?;
+    push_path(text, package_name, name)?;
     text.push(' ')?;
     push_place(text, *item)?;
     push_marked(text, ' ', visits.len())?;

@@ -9,6 +9,7 @@ mod interfaces;
 mod kinds;
 mod output;
 mod package;
+mod package_names;
 pub mod refusal;
 mod types;
 mod words;

@@ -5,6 +5,7 @@ ghost use Rattle.wit_listing.specs.Package.{count_line, foreign_text, header_tex
 
 use crate::foreign::push_deps;
 use crate::interfaces::push_interfaces;
+use crate::package_names::push_package_name;
 use crate::types::push_type_lines;
 use crate::words::push_marked;
 use crate::worlds::push_worlds;
@@ -57,7 +58,9 @@ fn push_all_worlds(
 fn push_header(text: &mut String, name: &PackageName) -> Result<(), AllocError>
     ensures { OnOk result (Adds text.old text.new (header_text name.now)) }
 {
-    write!(text, "package {name}\n")
+    text.push_str("package ")?;
+    push_package_name(text, name)?;
+    text.push('\n')
 }
 
 /// The items of other packages behind the number of these packages.

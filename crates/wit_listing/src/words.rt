@@ -1,5 +1,7 @@
 //! Small texts of a listing, each put behind a text.
 ghost use Rattle.std.specs.Prelude.{◌≡◌, ◌<◌, ◌∷◌, ◌++◌, OnOk, decimal, string_bytes};
+ghost use Rattle.semver.specs.Identifiers.{marked};
+ghost use Rattle.wit_values.specs.ReleaseText.{release_text};
 ghost use Rattle.wit_listing.specs.Words.{Adds, deprecated_text, optional_text, stability_text, type_text};
 
 use itoa::Buffer;
@@ -113,12 +115,38 @@ pub fn push_optional(text: &mut String, ty: Option<Type>) -> Result<(), AllocErr
     }
 }
 
+/// A part of a version behind its mark; nothing where it is empty.
+fn push_part(text: &mut String, mark: char, part: &str) -> Result<(), AllocError>
+    requires { mark < 128 }
+    ensures { OnOk result (Adds text.old text.new (marked mark part.now)) }
+{
+    if part.is_empty() {
+        return Ok(());
+    }
+    text.push(mark)?;
+    text.push_str(part)
+}
+
+/// A version.
+pub fn push_release(text: &mut String, release: &Release) -> Result<(), AllocError>
+    ensures { OnOk result (Adds text.old text.new (release_text release.now)) }
+{
+    push_number(text, release.major as usize)?;
+    push_marked(text, '.', release.minor as usize)?;
+    push_marked(text, '.', release.patch as usize)?;
+    push_part(text, '-', release.pre.as_str())?;
+    push_part(text, '+', release.build.as_str())
+}
+
 /// From which version on an item is deprecated.
 fn push_deprecated(text: &mut String, deprecated: &Option<Release>) -> Result<(), AllocError>
     ensures { OnOk result (Adds text.old text.new (deprecated_text deprecated.now)) }
 {
     match deprecated {
-        Some(version) => write!(text, " deprecated {version}"),
+        Some(version) => {
+            text.push_str(" deprecated ")?;
+            push_release(text, version)
+        }
         None => Ok(()),
     }
 }
@@ -138,7 +166,8 @@ pub fn push_stability(text: &mut String, stability: &Stability) -> Result<(), Al
             push_deprecated(text, deprecated)
         }
         Stability::Stable { since, deprecated } => {
-            write!(text, " since {since}")?;
+            text.push_str(" since ")?;
+            push_release(text, since)?;
             push_deprecated(text, deprecated)
         }
     }
