@@ -42,24 +42,12 @@ fn push_hundreds(text: &mut String, number: usize) -> Result<(), AllocError>
     push_digit(text, number % 10)
 }
 
-/// A number of at most four digits.
-fn push_thousands(text: &mut String, number: usize) -> Result<(), AllocError>
-    requires { number < 10000 }
-    ensures { OnOk result (Adds text.old text.new (decimal number)) }
-{
-    if number < 1000 {
-        return push_hundreds(text, number);
-    }
-    push_hundreds(text, number / 10)?;
-    push_digit(text, number % 10)
-}
-
 /// A number in decimal digits.
 fn push_number(text: &mut String, number: usize) -> Result<(), AllocError>
     ensures { OnOk result (Adds text.old text.new (decimal number)) }
 {
-    if number < 10_000 {
-        return push_thousands(text, number);
+    if number < 1000 {
+        return push_hundreds(text, number);
     }
     let mut digits = Buffer::new();
     text.push_str(digits.format(number))
