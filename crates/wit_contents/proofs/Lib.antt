@@ -8,6 +8,7 @@ mod Adding
 mod DoneSides
 mod InsideAt
 mod StandingItem
+mod NoSides
 mod WrongStanding
 mod WorldsMore
 mod Parts

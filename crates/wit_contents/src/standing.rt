@@ -46,6 +46,7 @@ use wit_externs::links::Links;
 use wit_externs::taken::define_names;
 use wit_item_entries::functions::written_results;
 use wit_item_entries::names::ResolvedNames;
+use wit_item_entries::own_keys::have_upper_case;
 use wit_items::interfaces::Interfaces;
 use wit_items::items::{Item, ItemScope};
 use wit_links::inside::{Counts, Met, declared_name, inside_scope};
@@ -233,6 +234,17 @@ fn resolve_externs<'f, 'a>(
     })
 }
 
+/// What stands on the sides of a world, where that is nothing.
+fn nothing_standing(alloc: Global) -> Standing
+    ensures functions { result.functions.items ≡ [] }
+    ensures inside { result.inside.items ≡ [] }
+{
+    Standing {
+        functions: Vec::new(alloc),
+        inside: Vec::new(alloc),
+    }
+}
+
 /// What stands on the sides of a world, behind its names, which are resolved, with the interfaces that are
 /// written there. Where the world includes nothing, it is `closed`, each setter has its getter on its side.
 pub fn resolve_standing<'f, 'a>(
@@ -271,6 +283,11 @@ pub fn resolve_standing<'f, 'a>(
     ensures paired { OnOk result ((f : Fault) → IsSetterAlone (item_behind item.now) f → ⊥) }
     ensures refused { IfErr result (Refused (IsWrongStanding types.old (cells_of interfaces.now) (length interfaces.now.arena) inside.old interfaces.now.by_name names.old.types names.old.turn.items (item_behind item.now) externs.now)) }
 {
+    if externs.len() == 0 {
+        if !have_upper_case(&names.turn) {
+            return Ok(nothing_standing(alloc));
+        }
+    }
     let written = written_functions(alloc, externs)?;
     let results = written_results(alloc, &item.names)?;
     let mut taken = Sides::new(alloc);

@@ -34,7 +34,7 @@ ghost use Rattle.wit_contents.specs.BetweenWorlds.{arenas, AreWorldParts, IsAdde
 ghost use Rattle.wit_world_sides.specs.Links.{interfaces_of_others};
 
 use crate::standing::resolve_standing;
-use std::alloc::Global;
+use std::alloc::{AllocError, Global};
 use wit_entries::entries::Entries;
 use wit_entries::scope::Required;
 use wit_externs::held::HeldExtern;
@@ -268,6 +268,41 @@ fn resolve_world<'f, 'a>(
     Ok(())
 }
 
+/// How many worlds are among items.
+fn world_count(items: &[Item<'_, '_>]) -> usize {
+    let mut count: usize = 0;
+    for item in items {
+        if let Declared::World(_) = item.declared {
+            count = count.saturating_add(1);
+        }
+    }
+    count
+}
+
+/// How many interfaces are written in the worlds among items.
+fn inside_count(items: &[Item<'_, '_>]) -> usize {
+    let mut count: usize = 0;
+    for item in items {
+        count = count.saturating_add(item.imported.len());
+        count = count.saturating_add(item.exported.len());
+    }
+    count
+}
+
+/// Makes room for the worlds among items, and for the interfaces that are written in them.
+#[inline(never)]
+fn make_room(
+    items: &[Item<'_, '_>],
+    inside: &mut Arena<Interface, InterfacePlace>,
+    worlds: &mut Worlds<'_>,
+) -> Result<(), AllocError>
+    ensures inside { inside.new ≡ inside.old }
+    ensures worlds { worlds.new ≡ worlds.old }
+{
+    inside.reserve(inside_count(items))?;
+    worlds.arena.reserve(world_count(items))
+}
+
 /// Adds the worlds among items, in the order of their places, behind those of other packages; the
 /// interfaces that are written in them are put `inside`, in the order in which they are met.
 pub fn resolve_worlds<'f, 'a>(
@@ -300,6 +335,7 @@ pub fn resolve_worlds<'f, 'a>(
     ensures linked { OnOk result (AreUsableLinks files.now (worlds_of (in_order (map item_behind items.now) places.now))) }
     ensures refused { IfErr result (Refused (IsWrongWorldNow files.now (front_of interfaces.now.foreign.now) (others_of files.now) types.old interfaces.now.arena interfaces.now.by_name worlds.old.arena (map item_behind items.now) places.now)) }
 {
+    make_room(items, inside, worlds)?;
     for place in places {
         let item = &items[*place];
         match item.declared {

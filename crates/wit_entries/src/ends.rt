@@ -56,7 +56,7 @@ pub(crate) fn add_entry(
 {
     let end = end_of(ends, &entry.kind, types.next_id());
     ends.push(end)?;
-    match types.alloc(entry) {
+    match types.add(entry) {
         Ok(id) => Ok(id),
         Err(e) => {
             ends.pop();

@@ -4,6 +4,6 @@
 pub mod body;
 pub mod functions;
 pub mod names;
-mod own_keys;
+pub mod own_keys;
 pub mod required;
 pub mod signatures;

@@ -7,7 +7,7 @@ use wit_refusals::repeats::has_upper_case;
 use wit_tree::tree::Id;
 
 /// Whether a letter of some name is upper case.
-pub(crate) fn have_upper_case(names: &[Id<'_>]) -> bool
+pub fn have_upper_case(names: &[Id<'_>]) -> bool
     ensures { result ≡ list_any (λ id. list_any is_ascii_uppercase id.name.now) names.now }
 {
     names.iter().any(|id| has_upper_case(id.name))

@@ -133,6 +133,23 @@ impl<T, M> Arena<T, M> {
         })
     }
 
+    /// Puts a value behind the others, and answers its id.
+    ///
+    /// If a growth is refused, the arena stays as it was and the value is let go: so no refusal has to carry
+    /// it.
+    pub fn add(&mut self, value: T) -> Result<Id<M>, AllocError>
+    where
+        T: Drop,
+        ensures id { IfOk result (λ i. i ≡ length self.old) }
+        ensures ok { OnOk result (self.new ≡ self.old ++ value ∷ []) }
+        ensures err { OnErr result (self.new ≡ self.old) }
+    {
+        let id = self.next_id();
+        self.items.reserve(1)?;
+        self.items.push_reserved(value);
+        Ok(id)
+    }
+
     /// Makes room for so many more values, which are then added without another growth.
     pub fn reserve(&mut self, more: usize) -> Result<(), AllocError>
         ensures { self.new ≡ self.old }

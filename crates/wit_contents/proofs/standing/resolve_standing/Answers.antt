@@ -1,5 +1,7 @@
-use Rattle.std.proofs.Common.{◌≡◌, ◌++◌, ◌+◌, true, List, length, map, sym, ap, ◌∙◌, subst}
-use Rattle.std.specs.List.{flat_map}
+use Rattle.std.proofs.Common.{◌≡◌, ◌++◌, ◌+◌, true, false, List, [], length, map, refl, sym, ap, ◌∙◌, subst, arith}
+use Rattle.std.specs.Char.{is_ascii_uppercase}
+use Rattle.std.specs.List.{flat_map, list_any}
+use Rattle.std.proofs.lemmas.List.{nil_from_length}
 use Rattle.std.proofs.lemmas.Result.{err_from_is_err_and}
 use Rattle.wit_type_tree.specs.declared.leaves.Id.{Id}
 use Rattle.wit_tree.specs.declared.tree.WorldSide.{WorldSide}
@@ -25,11 +27,102 @@ use Rattle.wit_items.specs.Interfaces.{cells_of}
 use Rattle.wit_uses.specs.Body.{IsStandingBy}
 use Rattle.wit_item_entries.proofs.Behind.{all_names, front_folded, taken_before}
 use Rattle.wit_uses.proofs.ItemSides.{held_functions}
+use Rattle.wit_item_entries.proofs.NoFunctions.{names_alone}
 use Rattle.wit_item_entries.proofs.Owners.{owners, turn_has}
 use Rattle.wit_contents.specs.Standing.{IsWrongStanding, StandingNames, StandingSetter}
 use Rattle.wit_contents.proofs.Closing.{alone_closed, none_alone}
+use Rattle.wit_contents.proofs.NoSides.{no_function, nothing_added, nothing_alone, nothing_grown, nothing_sided, nothing_sound}
 use Rattle.wit_contents.proofs.StandingItem.{standing_adds, standing_count, standing_refused}
 use Rattle.wit_contents.proofs.standing.resolve_standing.Goals as goal
+
+pub returns-then-not-have_upper_case-clause-adds : goal.returns-then-not-have_upper_case-clause-adds
+returns-then-not-have_upper_case-clause-adds c =
+    let i = item_behind c.args.item.now in
+    let xs = c.args.item.now.names.items in
+    let hs = c.args.externs.now in
+    let none : hs ≡ [] = nil_from_length hs (omega (arith, c.if-externs-eq0.true)) in
+    let own : IsStandingBy i xs hs = record { names = sym c.requires.named; sides = c.requires.sides } in
+    rw c.nothing_standing.ensures.functions (nothing_added i xs hs own none (cells_of c.args.interfaces.now) (length c.args.interfaces.now.arena) c.args.names.now.types c.args.types.now c.args.inside.now c.args.names.now.required.items)
+
+pub returns-then-not-have_upper_case-clause-counted : goal.returns-then-not-have_upper_case-clause-counted
+returns-then-not-have_upper_case-clause-counted c =
+    let none : c.args.externs.now ≡ [] = nil_from_length c.args.externs.now (omega (arith, c.if-externs-eq0.true)) in
+    rw (none, c.nothing_standing.ensures.inside) refl
+
+pub returns-then-not-have_upper_case-clause-ids : goal.returns-then-not-have_upper_case-clause-ids
+returns-then-not-have_upper_case-clause-ids c = rw c.nothing_standing.ensures.inside (record { each = λ k id at. absurd (let wrong : ⊥ = cc in wrong) })
+
+pub returns-then-not-have_upper_case-clause-grown : goal.returns-then-not-have_upper_case-clause-grown
+returns-then-not-have_upper_case-clause-grown c =
+    let i = item_behind c.args.item.now in
+    let xs = c.args.item.now.names.items in
+    let hs = c.args.externs.now in
+    let none : hs ≡ [] = nil_from_length hs (omega (arith, c.if-externs-eq0.true)) in
+    let own : IsStandingBy i xs hs = record { names = sym c.requires.named; sides = c.requires.sides } in
+    nothing_grown i xs hs own none (length c.args.inside.now)
+
+pub returns-then-not-have_upper_case-clause-named : goal.returns-then-not-have_upper_case-clause-named
+returns-then-not-have_upper_case-clause-named c =
+    let none : c.args.externs.now ≡ [] = nil_from_length c.args.externs.now (omega (arith, c.if-externs-eq0.true)) in
+    rw (none, c.nothing_standing.ensures.functions) refl
+
+pub returns-then-not-have_upper_case-clause-differ : goal.returns-then-not-have_upper_case-clause-differ
+returns-then-not-have_upper_case-clause-differ c = λ side.
+    let ids = c.args.names.now.turn.items in
+    let none : c.args.externs.now ≡ [] = nil_from_length c.args.externs.now (omega (arith, c.if-externs-eq0.true)) in
+    let lower : list_any (λ (id : Id). list_any is_ascii_uppercase id.name.now) ids ≡ false = ap (list_any (λ (id : Id). list_any is_ascii_uppercase id.name.now)) (sym c.deref.ensures.value) ∙ sym c.have_upper_case.ensures ∙ c.if-not-have_upper_case.true in
+    rw none (names_alone side (scope_names (item_behind c.args.item.now)) ids [] refl c.requires.turn lower)
+
+pub returns-then-not-have_upper_case-clause-right : goal.returns-then-not-have_upper_case-clause-right
+returns-then-not-have_upper_case-clause-right c =
+    let none : c.args.externs.now ≡ [] = nil_from_length c.args.externs.now (omega (arith, c.if-externs-eq0.true)) in
+    rw none (record { each = λ k l at. absurd (let wrong : ⊥ = cc in wrong) })
+
+pub returns-then-not-have_upper_case-clause-noted : goal.returns-then-not-have_upper_case-clause-noted
+returns-then-not-have_upper_case-clause-noted c =
+    let none : c.args.externs.now ≡ [] = nil_from_length c.args.externs.now (omega (arith, c.if-externs-eq0.true)) in
+    rw none (record { each = λ k x at f broken. (let wrong : ⊥ = cc in wrong) })
+
+pub returns-then-not-have_upper_case-clause-apart : goal.returns-then-not-have_upper_case-clause-apart
+returns-then-not-have_upper_case-clause-apart c = λ side.
+    let none : c.args.externs.now ≡ [] = nil_from_length c.args.externs.now (omega (arith, c.if-externs-eq0.true)) in
+    rw none differ_none
+
+pub returns-then-not-have_upper_case-clause-legal : goal.returns-then-not-have_upper_case-clause-legal
+returns-then-not-have_upper_case-clause-legal c =
+    let i = item_behind c.args.item.now in
+    let xs = c.args.item.now.names.items in
+    let hs = c.args.externs.now in
+    let none : hs ≡ [] = nil_from_length hs (omega (arith, c.if-externs-eq0.true)) in
+    let own : IsStandingBy i xs hs = record { names = sym c.requires.named; sides = c.requires.sides } in
+    λ k fn at f broken. absurd (no_function i xs hs own none k fn at)
+
+pub returns-then-not-have_upper_case-clause-sound : goal.returns-then-not-have_upper_case-clause-sound
+returns-then-not-have_upper_case-clause-sound c =
+    let i = item_behind c.args.item.now in
+    let xs = c.args.item.now.names.items in
+    let hs = c.args.externs.now in
+    let none : hs ≡ [] = nil_from_length hs (omega (arith, c.if-externs-eq0.true)) in
+    let own : IsStandingBy i xs hs = record { names = sym c.requires.named; sides = c.requires.sides } in
+    nothing_sound i xs hs own none
+
+pub returns-then-not-have_upper_case-clause-sided : goal.returns-then-not-have_upper_case-clause-sided
+returns-then-not-have_upper_case-clause-sided c =
+    let i = item_behind c.args.item.now in
+    let xs = c.args.item.now.names.items in
+    let hs = c.args.externs.now in
+    let none : hs ≡ [] = nil_from_length hs (omega (arith, c.if-externs-eq0.true)) in
+    let own : IsStandingBy i xs hs = record { names = sym c.requires.named; sides = c.requires.sides } in
+    nothing_sided i xs hs own none
+
+pub returns-then-not-have_upper_case-clause-paired : goal.returns-then-not-have_upper_case-clause-paired
+returns-then-not-have_upper_case-clause-paired c =
+    let i = item_behind c.args.item.now in
+    let xs = c.args.item.now.names.items in
+    let hs = c.args.externs.now in
+    let none : hs ≡ [] = nil_from_length hs (omega (arith, c.if-externs-eq0.true)) in
+    let own : IsStandingBy i xs hs = record { names = sym c.requires.named; sides = c.requires.sides } in
+    none_alone i (externs_behind hs) c.requires.sides c.args.closed c.requires.closed (λ shut. nothing_alone i xs hs own none)
 
 pub returns-in_err-define_names-clause-refused : goal.returns-in_err-define_names-clause-refused
 returns-in_err-define_names-clause-refused c =
@@ -37,8 +130,8 @@ returns-in_err-define_names-clause-refused c =
     let i = item_behind c.args.item.now in
     let ids = c.args.names.now.turn.items in
     let before = c.new-taken.result.imports in
-    let same : before ++ map name_of_id c.deref-2.result.now ≡ map name_of_id ids = ap (λ (l : List Name). l ++ map name_of_id c.deref-2.result.now) (c.new-taken.ensures Imported) ∙ ap (map name_of_id) c.deref-2.ensures.value in
-    rw (p.1, p.2) (refused_weaker (IsTwiceAmong (before ++ map name_of_id c.deref-2.result.now)) (IsWrongStanding c.args.types.now (cells_of c.args.interfaces.now) (length c.args.interfaces.now.arena) c.args.inside.now c.args.interfaces.now.by_name c.args.names.now.types ids i c.args.externs.now) _ (λ f h. StandingNames (front_folded (scope_names i) (side_items i) ids f c.requires.turn (subst (λ (l : List Name). IsTwiceAmong l f) same h))) c.in_err-define_names.ensures.refused)
+    let same : before ++ map name_of_id c.deref-3.result.now ≡ map name_of_id ids = ap (λ (l : List Name). l ++ map name_of_id c.deref-3.result.now) (c.new-taken.ensures Imported) ∙ ap (map name_of_id) c.deref-3.ensures.value in
+    rw (p.1, p.2) (refused_weaker (IsTwiceAmong (before ++ map name_of_id c.deref-3.result.now)) (IsWrongStanding c.args.types.now (cells_of c.args.interfaces.now) (length c.args.interfaces.now.arena) c.args.inside.now c.args.interfaces.now.by_name c.args.names.now.types ids i c.args.externs.now) _ (λ f h. StandingNames (front_folded (scope_names i) (side_items i) ids f c.requires.turn (subst (λ (l : List Name). IsTwiceAmong l f) same h))) c.in_err-define_names.ensures.refused)
 
 pub resolve_externs-requires-clause-owners : goal.resolve_externs-requires-clause-owners
 resolve_externs-requires-clause-owners c =
@@ -47,11 +140,11 @@ resolve_externs-requires-clause-owners c =
     let hs = c.args.externs.now in
     let own : IsStandingBy i xs hs = record { names = sym c.requires.named; sides = c.requires.sides } in
     let types = c.args.names.now.types in
-    let fns : map function_behind c.deref-3.result.now ≡ functions i = ap (map function_behind) c.deref-3.ensures.value ∙ held_functions i xs hs c.in_ok-written.written.items own c.in_ok-written.ensures in
+    let fns : map function_behind c.deref-4.result.now ≡ functions i = ap (map function_behind) c.deref-4.ensures.value ∙ held_functions i xs hs c.in_ok-written.written.items own c.in_ok-written.ensures in
     subst (HaveOwners (env_of types)) (sym fns) (owners i (env_of types) (turn_has (scope_names i) c.args.names.now.turn.items types c.requires.turn c.requires.listed))
 
 pub resolve_externs-requires-clause-functions : goal.resolve_externs-requires-clause-functions
-resolve_externs-requires-clause-functions c = sym c.in_ok-written.ensures ∙ ap (map function_behind) (sym c.deref-3.ensures.value)
+resolve_externs-requires-clause-functions c = sym c.in_ok-written.ensures ∙ ap (map function_behind) (sym c.deref-4.ensures.value)
 
 pub returns-in_err-standing-clause-refused : goal.returns-in_err-standing-clause-refused
 returns-in_err-standing-clause-refused c =
@@ -63,9 +156,9 @@ returns-in_err-standing-clause-refused c =
     let ids = c.args.names.now.turn.items in
     let types = c.args.names.now.types in
     let taken = c.define_names.new.taken in
-    let fns : map function_behind c.deref-3.result.now ≡ functions i = ap (map function_behind) c.deref-3.ensures.value ∙ held_functions i xs hs c.in_ok-written.written.items own c.in_ok-written.ensures in
-    let results : AreResults c.in_ok-results.results (scope_names i) = subst (AreResults c.in_ok-results.results) (ap (map name_behind) c.deref.ensures.value ∙ sym own.names) c.in_ok-results.ensures in
-    rw (p.1, p.2) (standing_refused i xs hs own (cells_of c.args.interfaces.now) (length c.args.interfaces.now.arena) c.args.types.now c.args.inside.now c.args.interfaces.now.by_name (λ s. taken_on s taken) ids _ (c.in_err-standing.ensures.refused (address i) (scope_names i) (record { names = all_names (scope_names i) ids types c.requires.turn c.requires.listed; results = results })) fns (λ s. taken_before s c.new-taken.result taken c.deref-2.result.now ids c.new-taken.ensures c.in_ok-define_names.ensures.defined c.deref-2.ensures.value))
+    let fns : map function_behind c.deref-4.result.now ≡ functions i = ap (map function_behind) c.deref-4.ensures.value ∙ held_functions i xs hs c.in_ok-written.written.items own c.in_ok-written.ensures in
+    let results : AreResults c.in_ok-results.results (scope_names i) = subst (AreResults c.in_ok-results.results) (ap (map name_behind) c.deref-2.ensures.value ∙ sym own.names) c.in_ok-results.ensures in
+    rw (p.1, p.2) (standing_refused i xs hs own (cells_of c.args.interfaces.now) (length c.args.interfaces.now.arena) c.args.types.now c.args.inside.now c.args.interfaces.now.by_name (λ s. taken_on s taken) ids _ (c.in_err-standing.ensures.refused (address i) (scope_names i) (record { names = all_names (scope_names i) ids types c.requires.turn c.requires.listed; results = results })) fns (λ s. taken_before s c.new-taken.result taken c.deref-3.result.now ids c.new-taken.ensures c.in_ok-define_names.ensures.defined c.deref-3.ensures.value))
 
 pub returns-clause-adds : goal.returns-clause-adds
 returns-clause-adds c =
@@ -84,14 +177,14 @@ returns-clause-grown c =
     c.in_ok-standing.ensures.grown ∙ ap (λ n. length c.args.inside.now + n) (standing_count i xs hs own)
 
 pub returns-clause-named : goal.returns-clause-named
-returns-clause-named c = c.in_ok-standing.ensures.named ∙ ap (map name_of_function) (ap (map function_behind) c.deref-3.ensures.value ∙ c.in_ok-written.ensures)
+returns-clause-named c = c.in_ok-standing.ensures.named ∙ ap (map name_of_function) (ap (map function_behind) c.deref-4.ensures.value ∙ c.in_ok-written.ensures)
 
 pub returns-clause-differ : goal.returns-clause-differ
 returns-clause-differ c = λ side.
     let ids = c.args.names.now.turn.items in
     let items = externs_behind c.args.externs.now in
     let none : AllDiffer (map name_key (taken_on side c.new-taken.result)) = subst (λ (l : List Name). AllDiffer (map name_key l)) (sym (c.new-taken.ensures side)) differ_none in
-    let before : taken_on side c.define_names.new.taken ≡ names_on side (map name_of_id ids) = taken_before side c.new-taken.result c.define_names.new.taken c.deref-2.result.now ids c.new-taken.ensures c.in_ok-define_names.ensures.defined c.deref-2.ensures.value in
+    let before : taken_on side c.define_names.new.taken ≡ names_on side (map name_of_id ids) = taken_before side c.new-taken.result c.define_names.new.taken c.deref-3.result.now ids c.new-taken.ensures c.in_ok-define_names.ensures.defined c.deref-3.ensures.value in
     let all : taken_on side c.resolve_externs.new.taken ≡ all_on side ids items = c.in_ok-standing.ensures.defined side ∙ ap (λ (l : List Name). l ++ names_of_items (items_on side items)) before in
     subst (λ (l : List Name). AllDiffer (map name_key l)) all (c.in_ok-standing.ensures.differ side (c.in_ok-define_names.ensures.differ side none))
 
@@ -101,8 +194,8 @@ returns-clause-legal c =
     let xs = c.args.item.now.names.items in
     let hs = c.args.externs.now in
     let own : IsStandingBy i xs hs = record { names = sym c.requires.named; sides = c.requires.sides } in
-    let fns : map function_behind c.deref-3.result.now ≡ functions i = ap (map function_behind) c.deref-3.ensures.value ∙ held_functions i xs hs c.in_ok-written.written.items own c.in_ok-written.ensures in
-    let results : AreResults c.in_ok-results.results (scope_names i) = subst (AreResults c.in_ok-results.results) (ap (map name_behind) c.deref.ensures.value ∙ sym own.names) c.in_ok-results.ensures in
+    let fns : map function_behind c.deref-4.result.now ≡ functions i = ap (map function_behind) c.deref-4.ensures.value ∙ held_functions i xs hs c.in_ok-written.written.items own c.in_ok-written.ensures in
+    let results : AreResults c.in_ok-results.results (scope_names i) = subst (AreResults c.in_ok-results.results) (ap (map name_behind) c.deref-2.ensures.value ∙ sym own.names) c.in_ok-results.ensures in
     let are = all_names (scope_names i) c.args.names.now.turn.items c.args.names.now.types c.requires.turn c.requires.listed in
     rw (sym fns) (c.in_ok-standing.ensures.legal (scope_names i) (record { names = are; results = results }))
 
@@ -110,8 +203,8 @@ pub check_closed-requires : goal.check_closed-requires
 check_closed-requires c = λ side.
     let ids = c.args.names.now.turn.items in
     let items = externs_behind c.args.externs.now in
-    let before : taken_on side c.define_names.new.taken ≡ names_on side (map name_of_id ids) = taken_before side c.new-taken.result c.define_names.new.taken c.deref-2.result.now ids c.new-taken.ensures c.in_ok-define_names.ensures.defined c.deref-2.ensures.value in
-    c.in_ok-standing.ensures.defined side ∙ ap (λ (l : List Name). l ++ names_of_items (items_on side items)) before ∙ ap (λ (l : List Id). all_on side l items) (sym c.deref-4.ensures.value)
+    let before : taken_on side c.define_names.new.taken ≡ names_on side (map name_of_id ids) = taken_before side c.new-taken.result c.define_names.new.taken c.deref-3.result.now ids c.new-taken.ensures c.in_ok-define_names.ensures.defined c.deref-3.ensures.value in
+    c.in_ok-standing.ensures.defined side ∙ ap (λ (l : List Name). l ++ names_of_items (items_on side items)) before ∙ ap (λ (l : List Id). all_on side l items) (sym c.deref-5.ensures.value)
 
 pub returns-in_err-check_closed-clause-refused : goal.returns-in_err-check_closed-clause-refused
 returns-in_err-check_closed-clause-refused c =

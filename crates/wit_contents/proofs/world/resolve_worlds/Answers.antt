@@ -31,7 +31,7 @@ item_at : (items : List HeldItem) (places : List ℕ) (k : ℕ) (x : HeldItem) �
 item_at items places k x within lt is = slice_get-get_or items (get_or places k 0) x (within k 0 lt) ∙ ap Some (sym is)
 
 pub loop-place-init : goal.loop-place-init
-loop-place-init c = record {
+loop-place-init c = rw (c.make_room.ensures.inside, c.make_room.ensures.worlds) (record {
   added = worlds_none (front_of c.args.interfaces.now.foreign.now) (others_of c.args.files.now) c.args.interfaces.now.arena c.args.types.now c.args.worlds.now.arena c.args.inside.now c.args.required.now.items c.requires.bare;
   entries = refl;
   front = c.requires.worlds_front;
@@ -40,7 +40,7 @@ loop-place-init c = record {
   stable = record { legal = λ k u f at broken. absurd (let wrong : ⊥ = cc in wrong) };
   sided = record { legal = λ k u f at broken. absurd (let wrong : ⊥ = cc in wrong) };
   linked = record { usable = λ k u link at among. absurd (let wrong : ⊥ = cc in wrong) };
-}
+})
 
 pub resolve_world-requires-clause-sort : goal.resolve_world-requires-clause-sort
 resolve_world-requires-clause-sort c = ap (λ (d : HeldDeclared). is_declared_world (declared_behind d)) c.in-World.is
@@ -74,7 +74,7 @@ resolve_world-requires-clause-named c =
 
 pub returns-in_err-resolve_world-in-World-clause-refused : goal.returns-in_err-resolve_world-in-World-clause-refused
 returns-in_err-resolve_world-in-World-clause-refused c =
-    let q = err_from_is_err_and c.from_residual.result c.from_residual.ensures.1 in
+    let q = err_from_is_err_and c.from_residual-in_err-resolve_world-in-World.result c.from_residual-in_err-resolve_world-in-World.ensures.1 in
     let cs = cells_of c.args.interfaces.now in
     let by_name = c.args.interfaces.now.by_name in
     let ws = map item_behind c.args.items.now in

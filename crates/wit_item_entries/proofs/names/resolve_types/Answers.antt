@@ -2,7 +2,7 @@ use Rattle.std.proofs.Common.{◌≡◌, ◌⊎◌, ◌++◌, List, map, inl, in
 use Rattle.std.proofs.lemmas.Result.{err_from_is_err_and}
 use Rattle.wit_type_tree.specs.declared.leaves.Id.{Id}
 use Rattle.wit_syntax.specs.Source.{local_id}
-use Rattle.wit_syntax.specs.Scope.{in_order, used, defined, AreDistinct}
+use Rattle.wit_syntax.specs.Scope.{used, defined, AreDistinct}
 use Rattle.wit_syntax.specs.Function.{SourceFunction}
 use Rattle.wit_syntax.specs.Broken.{IsBrokenScope}
 use Rattle.wit_arena.specs.Resolving.{env_of, AreLegalBodies, AreLegalNotes, names_in}
