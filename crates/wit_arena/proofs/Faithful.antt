@@ -1,5 +1,5 @@
 -- What follows for a package whose scopes are done.
-use Rattle.std.proofs.Common.{◌≡◌, ◌↔◌, ◌<◌, ℕ, zero, suc, List, [], length, map, take, Option, Some, None, ◌⊎◌, Contains, arith, inl, inr, refl, sym, ap, ◌∙◌, subst}
+use Rattle.std.proofs.Common.{◌≡◌, ◌↔◌, ◌<◌, ℕ, List, [], ◌∷◌, length, map, take, Option, Some, None, ◌⊎◌, Contains, arith, inl, inr, refl, sym, ap, ◌∙◌, subst}
 use Rattle.std.specs.Prelude.{slice_get}
 use Rattle.wit_tree.specs.declared.tree.PackageFile.{PackageFile}
 use Rattle.wit_types.specs.declared.types.«Type».{«Type» as Ty}
@@ -125,15 +125,17 @@ module _ (files : List PackageFile) (decls : Decls) (written : List Meeting) (cs
       let top = entry_of files decls written cs p.types d id.0 s (local_name x) id.2 in
       let inner = parts_at files decls written cs p.types d w.place c q.0 x id.0 top.0 w.at q.1 id.2 top.1 in
       let one = all_lead files decls written cs p d (name_scope s x) (name_body x).parts (kind_of top.0.kind).parts j form parts inner there w.has in
-      let found = ap (λ (o : Option ScopeName). node_parts (named_node s o)) (means files decls written cs p d w.place c w.index x (local_name x) w.at w.among refl) in
-      (one.leads.inner, record {
-        top = (s, Word (local_id x));
-        whole = Id id.0;
-        root = OfName c.owner x id.0 (owners.called w.place c w.at) (contains_at (scope files s) q.0 x q.1) (contains_at (names_of p c.owner) w.index (local_name x, id.0) (ap (λ (l : Names). slice_get l w.index) (owners.names w.place c w.at) ∙ id.1)) refl refl;
-        path = one.number ∷ one.leads.path;
-        below = (one.x, ap (λ (l : List Place). slice_get l one.number) found ∙ one.written, one.leads.below);
-        is = (one.t, ap (λ (l : List Ty). slice_get l one.number) (type_parts p id.0 top.0 top.1) ∙ one.stands, one.leads.is);
-      })
+      let found = ap (λ (o : Option ScopeName). node_parts (named_node s o)) (means files decls written cs p d w.place c w.index x (local_name x) w.at w.among refl) in (
+        one.leads.inner,
+        record {
+          top = (s, Word (local_id x));
+          whole = Id id.0;
+          root = OfName c.owner x id.0 (owners.called w.place c w.at) (contains_at (scope files s) q.0 x q.1) (contains_at (names_of p c.owner) w.index (local_name x, id.0) (ap (λ (l : Names). slice_get l w.index) (owners.names w.place c w.at) ∙ id.1)) refl refl;
+          path = one.number ∷ one.leads.path;
+          below = (one.x, ap (λ (l : List Place). slice_get l one.number) found ∙ one.source, one.leads.below);
+          is = (one.t, ap (λ (l : List Ty). slice_get l one.number) (type_parts p id.0 top.0 top.1) ∙ one.stands, one.leads.is);
+        },
+      )
 
   -- and what a function is written with, below a type of it
   reached_by : (j : ℕ) (form : Form) (parts : Exprs) → slice_get ks j ≡ Some (Whole form parts) → IsInSignatureOf cs form parts → (x : Place) × HasType files p x (Id j)
@@ -144,15 +146,17 @@ module _ (files : List PackageFile) (decls : Decls) (written : List Meeting) (cs
       let typed = function_typed ks c.address i.fn f.0 f.2 in
       let ty = type_of typed i.position i.shape i.written in
       let lead = leads files decls written cs p d c.address i.shape ty.0 j form parts (typed.each i.position i.shape ty.0 i.written ty.1) there i.has in
-      let among : Contains (functions_at files c.address) i.fn = contains_at (functions_at files c.address) i.index i.fn (ap (λ (l : List SourceFunction). slice_get l i.index) (sym (d.each w.place c w.at).functions) ∙ i.among) in
-      (lead.inner, record {
-        top = (c.address, i.shape);
-        whole = ty.0;
-        root = OfFunction c.owner i.fn f.0 i.position (owners.called w.place c w.at) among (stated_at w.place c i.index i.fn f.0 w.at i.among f.1 f.2) i.written ty.1;
-        path = lead.path;
-        below = lead.below;
-        is = lead.is;
-      })
+      let among : Contains (functions_at files c.address) i.fn = contains_at (functions_at files c.address) i.index i.fn (ap (λ (l : List SourceFunction). slice_get l i.index) (sym (d.each w.place c w.at).functions) ∙ i.among) in (
+        lead.inner,
+        record {
+          top = (c.address, i.shape);
+          whole = ty.0;
+          root = OfFunction c.owner i.fn f.0 i.position (owners.called w.place c w.at) among (stated_at w.place c i.index i.fn f.0 w.at i.among f.1 f.2) i.written ty.1;
+          path = lead.path;
+          below = lead.below;
+          is = lead.is;
+        },
+      )
 
   reached : (j : ℕ) (e : TypeDef) → slice_get p.types j ≡ Some e → e.name ≡ None → (x : Place) × HasType files p x (Id j)
   reached j e at none =

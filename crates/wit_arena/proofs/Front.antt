@@ -209,9 +209,9 @@ module _ (files : List PackageFile) (uses : AreUsableUses files (all_items files
   interface_done : (i : ℕ) (v : ForeignVisit) (x : Interface) → slice_get visits i ≡ Some v → slice_get front i ≡ Some x → IsDoneScope files (interface_scope files i v x)
   interface_done i v x at there = record {
     turn = record { distinct = taken_distinct files (visited v); differ = taken_distinct files (visited v); among = λ k y yat. (k, yat); has = λ k y yat. (k, yat) };
-    listed = (adds.interfaces.types i v x at there).names;
+    listed = (adds.interfaces.each i v x at there).types.names;
     functions = sym (no_functions_at files (visited_package v) v.id.name.now);
-    stated = rw (adds.interfaces.says i v x at there).functions nothing_stated;
+    stated = rw (adds.interfaces.each i v x at there).functions nothing_stated;
   }
 
   world_done : (i : ℕ) (w : ForeignVisit) → slice_get (foreign_worlds files) i ≡ Some w → IsDoneScope files (world_scope i w)
@@ -231,12 +231,12 @@ module _ (files : List PackageFile) (uses : AreUsableUses files (all_items files
   pub taken_listed : (i : ℕ) (v : ForeignVisit) (x : Interface) → slice_get visits i ≡ Some v → slice_get front i ≡ Some x → (j : ℕ) (t : Taking) → slice_get ts j ≡ Some t → t.from ≡ visited v → IsSome (env_of x.types t.id.name.now)
   taken_listed i v x at there j t taken from =
       let k = taken_has files (visited v) j t taken from in
-      lookup-listed x.types k.0 t.id.name.now (ap (λ l. slice_get l k.0) (adds.interfaces.types i v x at there).names ∙ slice_get-map local_name (taken_names files (visited v)) k.0 ∙ ap (option_map local_name) k.1)
+      lookup-listed x.types k.0 t.id.name.now (ap (λ l. slice_get l k.0) (adds.interfaces.each i v x at there).types.names ∙ slice_get-map local_name (taken_names files (visited v)) k.0 ∙ ap (option_map local_name) k.1)
 
   -- the names of an interface in front stand for their places
   interface_stands : (i : ℕ) (v : ForeignVisit) (x : Interface) → slice_get visits i ≡ Some v → slice_get front i ≡ Some x → AreNames (keys met) (visited v) (env_of x.types)
   interface_stands i v x at there = record {
-    stands = λ name id found. (let k = lookup-place x.types name id found in (adds.interfaces.types i v x at there).places k.0 name id k.1);
+    stands = λ name id found. (let k = lookup-place x.types name id found in (adds.interfaces.each i v x at there).types.places k.0 name id k.1);
     has = λ j name key. (
         let t = taking_of j (Def (visited v) name) key in
         let from : t.0.from ≡ visited v = (let same = t.2 in cc) in

@@ -12,9 +12,9 @@ use Rattle.wit_syntax.proofs.JoinedFiles.{AreAlike, alike_back, items_twins, joi
 use Rattle.wit_syntax.proofs.JoinedOrders.{order_onward}
 use Rattle.wit_syntax.proofs.JoinedTrees.{takings_alike}
 use Rattle.wit_arena.specs.Meet.{Meeting}
-use Rattle.wit_arena.specs.Whole.{Ordered, OrderedWorld, AreOrdered, item_of, own_item, Turned, all_turns, taking_meeting, meetings, all_meetings}
+use Rattle.wit_arena.specs.Whole.{Ordered, OrderedWorld, AreOrdered, item_of, own_item, Turned, all_turns, taking_meeting, meetings, all_meetings, AreFirstMeetings}
 use Rattle.wit_arena.specs.FirstMeetings.{AreFirst}
-use Rattle.wit_arena.specs.Splitting.{AreFirstMeetings, HaveSameMeetings}
+use Rattle.wit_arena.specs.Splitting.{HaveSameMeetings}
 use Rattle.wit_arena.proofs.JoinedOnce.{first_once}
 use Rattle.wit_arena.proofs.JoinedTurns.{twins_in_order, twin_interfaces, twin_worlds, reordered, Told, told, reordered_items, reordered_told}
 use Rattle.wit_arena.proofs.JoinedWorlds.{reworlded, told_world, reworlded_items, reworlded_told, reworlded_inside, turns_same, all_ordered, all_told}

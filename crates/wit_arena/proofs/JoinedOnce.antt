@@ -9,9 +9,8 @@ use Rattle.wit_syntax.specs.Scope.{item_rows, interfaces_of, worlds_of, in_order
 use Rattle.wit_syntax.specs.Sides.{inline_items}
 use Rattle.wit_syntax.proofs.Lists.{at_front, at_back}
 use Rattle.wit_arena.specs.Meet.{Meeting}
-use Rattle.wit_arena.specs.Whole.{Ordered, OrderedWorld, AreOrdered, item_of, own_item, all_inside, all_turns, all_meetings}
+use Rattle.wit_arena.specs.Whole.{Ordered, OrderedWorld, AreOrdered, item_of, own_item, all_inside, all_turns, all_meetings, AreFirstMeetings}
 use Rattle.wit_arena.specs.FirstMeetings.{AreFirst}
-use Rattle.wit_arena.specs.Splitting.{AreFirstMeetings}
 use Rattle.wit_arena.proofs.JoinedWorlds.{HasInside}
 use Rattle.wit_arena.proofs.Meeting.{meets_one}
 use Rattle.wit_arena.proofs.FirstMeetings.{meets_of_first}

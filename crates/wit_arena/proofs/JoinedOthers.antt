@@ -23,7 +23,8 @@ use Rattle.wit_syntax.proofs.JoinedTrees.{takings_alike, scope_alike}
 use Rattle.wit_syntax.proofs.JoinedLegal.{ends_onward}
 use Rattle.wit_syntax.specs.Ends.{AtResource, AtForeign}
 use Rattle.wit_arena.specs.Meet.{Key, Decl, Decls, decl_of, IsAmong, Def, Whole, IsEntry, IsMeeting, Meeting, keys}
-use Rattle.wit_arena.specs.Whole.{foreign_place, NamesOthers, HandleRequires, AreRequired, owner_at, declarations, AreForeignInterfaces, HasTypes}
+use Rattle.wit_arena.specs.OneByOne.{OneByOne}
+use Rattle.wit_arena.specs.Whole.{foreign_place, NamesOthers, HandleRequires, AreRequired, owner_at, declarations, IsForeignInterface, HasTypes}
 
 -- what is named of other packages, by the visits
 abbrev items_by : List ForeignVisit → List ForeignVisit
@@ -83,12 +84,20 @@ module _ (files others : List PackageFile) (a : AreAlike files others) where
   pub foreign_worlds_same : foreign_worlds files ≡ foreign_worlds others
   foreign_worlds_same = ap worlds_by (visits_same files others a)
 
-  pub foreign_onward : (ks : List Key) (is : List Interface) → AreForeignInterfaces files ks (foreign_interfaces files) is → AreForeignInterfaces others ks (foreign_interfaces others) is
-  foreign_onward ks is h = subst (λ (vs : List ForeignVisit). AreForeignInterfaces others ks vs is) foreign_interfaces_same (record {
-    count = h.count;
-    says = h.says;
-    types = λ t v i at there. subst (λ (xs : List ScopeName). HasTypes ks (record { address = visited v; names = xs; functions = [] }) i.types) (scope_alike files others a (visited v)) (h.types t v i at there);
-  })
+  foreign_alike : (ks : List Key) (v : ForeignVisit) (i : Interface) → IsForeignInterface files ks v i → IsForeignInterface others ks v i
+  foreign_alike ks v i h = record {
+    name = h.name;
+    span = h.span;
+    types = subst (λ (xs : List ScopeName). HasTypes ks (record { address = visited v; names = xs; functions = [] }) i.types) (scope_alike files others a (visited v)) h.types;
+    functions = h.functions;
+    docs = h.docs;
+    stability = h.stability;
+    no_package = h.no_package;
+    no_source = h.no_source;
+  }
+
+  pub foreign_onward : (ks : List Key) (is : List Interface) → OneByOne (IsForeignInterface files ks) (foreign_interfaces files) is → OneByOne (IsForeignInterface others ks) (foreign_interfaces others) is
+  foreign_onward ks is h = subst (λ (vs : List ForeignVisit). OneByOne (IsForeignInterface others ks) vs is) foreign_interfaces_same (record { count = h.count; each = λ t v i at there. foreign_alike ks v i (h.each t v i at there) })
 
   -- the declarations of scopes are the same, where the interfaces and the worlds have the same addresses
   pub declarations_same : (is js ws vs : List Address) → is ≡ js → ws ≡ vs → (s : Address) → declarations files is ws s ≡ declarations others js vs s

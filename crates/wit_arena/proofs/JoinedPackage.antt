@@ -20,10 +20,12 @@ use Rattle.wit_syntax.proofs.Lists.{map_map}
 use Rattle.wit_syntax.proofs.JoinedItems.{bare, ArePlain}
 use Rattle.wit_syntax.proofs.JoinedFiles.{AreAlike, alike_back, joined_alike}
 use Rattle.wit_syntax.proofs.JoinedHeaders.{HaveSameHeaders, headers_back, joined_headers}
-use Rattle.wit_arena.specs.Meet.{Key, keys, Meeting, Meets}
+use Rattle.wit_arena.specs.Meet.{Key, keys, Meeting}
 use Rattle.wit_arena.specs.Functions.{AreFunctions, placed_functions}
-use Rattle.wit_arena.specs.Package.{IsInterface, IsWorld, world_types}
-use Rattle.wit_arena.specs.Whole.{Ordered, OrderedWorld, own_item, all_inside, Turned, all_turns, addresses, HasTypes, AreInterfaces, HasSides, AreWorlds, turn_handles, interface_addresses, world_addresses, declarations, AreRequired, AreForeignWorlds, first_docs, IsPackage}
+use Rattle.wit_arena.specs.Package.{IsInterface, IsWorld, IsForeignWorld, world_types}
+use Rattle.wit_arena.specs.OneByOne.{OneByOne}
+use Rattle.wit_arena.specs.FirstMeetings.{AreFirst}
+use Rattle.wit_arena.specs.Whole.{Ordered, OrderedWorld, own_item, all_inside, Turned, all_turns, addresses, HasTypes, HasSides, turn_handles, interface_addresses, world_addresses, declarations, AreRequired, first_docs, IsPackage, IsResolvedInterface, IsResolvedWorld}
 use Rattle.wit_arena.specs.Splitting.{HaveSamePackages}
 use Rattle.wit_arena.proofs.JoinedTurns.{Told, told}
 use Rattle.wit_arena.proofs.JoinedWorlds.{ToldWorld, told_world, own_told, turned_of, turns_same, interfaces_told}
@@ -47,18 +49,17 @@ same_long : {X Y : Type 0} (f : X → Y) (xs zs : List X) → map f xs ≡ map f
 same_long f xs zs same = sym (length-map xs f) ∙ ap length same ∙ length-map zs f
 
 -- the interfaces of scopes are those of scopes that are told alike
-interfaces_onward : (ks : List Key) (os qs : List Ordered) (is : List Interface) → map told os ≡ map told qs → AreInterfaces ks os is → AreInterfaces ks qs is
+interfaces_onward : (ks : List Key) (os qs : List Ordered) (is : List Interface) → map told os ≡ map told qs → OneByOne (IsResolvedInterface ks) os is → OneByOne (IsResolvedInterface ks) qs is
 interfaces_onward ks os qs is same h = record {
   count = h.count ∙ same_long told os qs same;
-  says = λ t q i at there. (
+  each = λ t q i at there. (
       let it = matched told told os qs same t q at in
-      subst (λ (x : Told). IsInterface (declared_name x.0) (declared_id x.0).span (declared_notes x.0) i) it.2 (h.says t it.0 i it.1 there));
-  types = λ t q i at there. (
-      let it = matched told told os qs same t q at in
-      subst (λ (x : Told). HasTypes ks (turned_of x) i.types) it.2 (h.types t it.0 i it.1 there));
-  functions = λ t q i at there. (
-      let it = matched told told os qs same t q at in
-      subst (λ (x : Told). (fs : List Function) × AreFunctions ks (declared_address x.0) (functions (bare x.0)) fs × (i.functions ≡ placed_functions fs)) it.2 (h.functions t it.0 i it.1 there));
+      let is_one = h.each t it.0 i it.1 there in
+      record {
+        says = subst (λ (x : Told). IsInterface (declared_name x.0) (declared_id x.0).span (declared_notes x.0) i) it.2 is_one.says;
+        types = subst (λ (x : Told). HasTypes ks (turned_of x) i.types) it.2 is_one.types;
+        functions = subst (λ (x : Told). (fs : List Function) × AreFunctions ks (declared_address x.0) (functions (bare x.0)) fs × (i.functions ≡ placed_functions fs)) it.2 is_one.functions;
+      });
 }
 
 -- and so are worlds
@@ -75,21 +76,18 @@ module _ (ks : List Key) (interfaces worlds : List Address) (ws vs : List Ordere
       let inside = subst (λ (l : List Address). HasSides ks interfaces l u.own w) (inside_addresses u v one) h in
       sides_onward ks interfaces (addresses v.inside) u.own v.own w (left t u.own.item (slice_get-map own_item ws t ∙ ap (option_map own_item) at_u)) (right t v.own.item (slice_get-map own_item vs t ∙ ap (option_map own_item) at_v)) (ap own_told one) inside
 
-  worlds_onward : (all : List World) → AreWorlds ks interfaces worlds ws all → AreWorlds ks interfaces worlds vs all
+  worlds_onward : (all : List World) → OneByOne (IsResolvedWorld ks interfaces worlds) ws all → OneByOne (IsResolvedWorld ks interfaces worlds) vs all
   worlds_onward all h = record {
     count = h.count ∙ same_long told_world ws vs same;
-    says = λ t v w at there. (
+    each = λ t v w at there. (
         let it = like t v at in
-        subst (λ (x : Told). IsWorld (declared_id x.0) (declared_notes x.0) w) (ap own_told it.2) (h.says t it.0 w it.1 there));
-    types = λ t v w at there. (
-        let it = like t v at in
-        subst (λ (x : Told). HasTypes ks (turned_of x) (world_types w)) (ap own_told it.2) (h.types t it.0 w it.1 there));
-    sides = λ t v w at there. (
-        let it = like t v at in
-        sides_of_like it.0 v w t it.1 at it.2 (h.sides t it.0 w it.1 there));
-    includes = λ t v w at there. (
-        let it = like t v at in
-        includes_onward worlds it.0.own v.own w.includes (left t it.0.own.item (slice_get-map own_item ws t ∙ ap (option_map own_item) it.1)) (right t v.own.item (slice_get-map own_item vs t ∙ ap (option_map own_item) at)) (ap own_told it.2) (h.includes t it.0 w it.1 there));
+        let is_one = h.each t it.0 w it.1 there in
+        record {
+          says = subst (λ (x : Told). IsWorld (declared_id x.0) (declared_notes x.0) w) (ap own_told it.2) is_one.says;
+          types = subst (λ (x : Told). HasTypes ks (turned_of x) (world_types w)) (ap own_told it.2) is_one.types;
+          sides = sides_of_like it.0 v w t it.1 at it.2 is_one.sides;
+          includes = includes_onward worlds it.0.own v.own w.includes (left t it.0.own.item (slice_get-map own_item ws t ∙ ap (option_map own_item) it.1)) (right t v.own.item (slice_get-map own_item vs t ∙ ap (option_map own_item) at)) (ap own_told it.2) is_one.includes;
+        });
   }
 
 module _ (files others : List PackageFile) (a : AreAlike files others) (hs : HaveSameHeaders files others) where
@@ -101,10 +99,10 @@ module _ (files others : List PackageFile) (a : AreAlike files others) (hs : Hav
       let own = sym (map_map world_address told_world ws) ∙ ap (map world_address) same ∙ map_map world_address told_world vs in
       ap (λ (l : List ForeignVisit). map visited l ++ map (λ (w : OrderedWorld). address w.own.item) ws) (foreign_worlds_same files others a) ∙ ap (λ (l : List Address). map visited (foreign_worlds others) ++ l) own
 
-  package_with : (p : UnresolvedPackage) (h : IsPackage files p) → HasOrdered others h.interfaces h.worlds → IsPackage others p
+  package_with : (p : UnresolvedPackage) (h : IsPackage files p) → HasOrdered others h.first.interfaces h.first.worlds → IsPackage others p
   package_with p h it =
-      let is = h.interfaces in
-      let ws = h.worlds in
+      let is = h.first.interfaces in
+      let ws = h.first.worlds in
       let js = it.interfaces in
       let vs = it.worlds in
       let ks = keys h.met in
@@ -112,7 +110,7 @@ module _ (files others : List PackageFile) (a : AreAlike files others) (hs : Hav
       let own = interface_addresses_same (is ++ all_inside ws) (js ++ all_inside vs) scopes in
       let worlds = world_addresses_same ws vs it.same.worlds in
       let turns : all_turns is ws ≡ all_turns js vs = turns_same is js ws vs it.same.interfaces it.same.worlds in
-      let placed_worlds = subst (λ (l : List Address). AreWorlds ks l (world_addresses others vs) ws h.own_worlds) own (subst (λ (l : List Address). AreWorlds ks (interface_addresses files (is ++ all_inside ws)) l ws h.own_worlds) worlds h.are_worlds) in
+      let placed_worlds = subst (λ (l : List Address). OneByOne (IsResolvedWorld ks l (world_addresses others vs)) ws h.own_worlds) own (subst (λ (l : List Address). OneByOne (IsResolvedWorld ks (interface_addresses files (is ++ all_inside ws)) l) ws h.own_worlds) worlds h.are_worlds) in
       record {
         header = h.header;
         last = sym hs.last ∙ h.last;
@@ -122,11 +120,13 @@ module _ (files others : List PackageFile) (a : AreAlike files others) (hs : Hav
         name_span = h.name_span;
         docs = h.docs ∙ ap first_docs hs.all;
         others = others_onward files others a p h.others;
-        interfaces = js;
-        worlds = vs;
-        ordered = it.ordered;
         met = h.met;
-        meets = subst (λ (ms : List Meeting). Meets [] ms h.met) (meetings_same files others a is js ws vs it.same) h.meets;
+        first = record {
+          interfaces = js;
+          worlds = vs;
+          ordered = it.ordered;
+          first = subst (λ (ms : List Meeting). AreFirst ms h.met) (meetings_same files others a is js ws vs it.same) h.first.first;
+        };
         meeting = meeting_again (declarations files (interface_addresses files (is ++ all_inside ws)) (world_addresses files ws)) (declarations others (interface_addresses others (js ++ all_inside vs)) (world_addresses others vs)) (declarations_same files others a (interface_addresses files (is ++ all_inside ws)) (interface_addresses others (js ++ all_inside vs)) (world_addresses files ws) (world_addresses others vs) own worlds) h.met p.types h.meeting;
         foreign_front = h.foreign_front;
         own_interfaces = h.own_interfaces;
@@ -136,14 +136,13 @@ module _ (files others : List PackageFile) (a : AreAlike files others) (hs : Hav
         worlds_front = h.worlds_front;
         own_worlds = h.own_worlds;
         world_arena = h.world_arena;
-        are_foreign_worlds = subst (λ (l : List ForeignVisit). AreForeignWorlds l h.worlds_front) (foreign_worlds_same files others a) h.are_foreign_worlds;
+        are_foreign_worlds = subst (λ (l : List ForeignVisit). OneByOne IsForeignWorld l h.worlds_front) (foreign_worlds_same files others a) h.are_foreign_worlds;
         are_worlds = worlds_onward ks (interface_addresses others (js ++ all_inside vs)) (world_addresses others vs) ws vs it.same.worlds it.left it.right h.own_worlds placed_worlds;
         required = required_onward files others a ks (flat_map turn_handles (all_turns js vs)) p.required_resource_types (subst (λ (ts : List Turned). AreRequired files ks (flat_map turn_handles ts) p.required_resource_types) turns h.required);
-        one = h.one;
       }
 
   pub package_onward : (p : UnresolvedPackage) → IsPackage files p → IsPackage others p
-  package_onward p h = package_with p h (ordered_onward files others a h.interfaces h.worlds h.ordered)
+  package_onward p h = package_with p h (ordered_onward files others a h.first.interfaces h.first.worlds h.first.ordered)
 
 pub joined_packages : (files : List PackageFile) (one : PackageFile) → IsJoined files one → HaveSamePackages files (one ∷ [])
 joined_packages files one j p =

@@ -121,13 +121,13 @@ module _ (files : List PackageFile) (is ws : List Item) (interfaces : AreOfSort 
   front_called t c at = elim (front_at files front foreign.interfaces.count t c at) [
     | FrontInterface k v i v_at i_at is ↦ (
         let there = interface_in_front k i i_at in
-        (ap (λ (b : DoneScope). owner_of p b.owner) is ∙ interface_by k i None there (foreign.interfaces.says k v i v_at i_at).name ∙ ap (λ (x : Owner). or_owner x (inline_owner p k)) (foreign_interface_owner files p others.deps k v v_at) ∙ ap (λ (b : DoneScope). OfScope b.address) (sym is), ap (λ (b : DoneScope). names_of p b.owner) is ∙ ap (λ (o : Option Interface). option_map_or interface_types o []) there ∙ ap (λ (b : DoneScope). b.types) (sym is), ap (λ (b : DoneScope). functions_of p b.owner) is ∙ ap (λ (o : Option Interface). option_map_or interface_functions o []) there ∙ ap (λ (b : DoneScope). b.stated) (sym is)))
+        (ap (λ (b : DoneScope). owner_of p b.owner) is ∙ interface_by k i None there (foreign.interfaces.each k v i v_at i_at).name ∙ ap (λ (x : Owner). or_owner x (inline_owner p k)) (foreign_interface_owner files p others.deps k v v_at) ∙ ap (λ (b : DoneScope). OfScope b.address) (sym is), ap (λ (b : DoneScope). names_of p b.owner) is ∙ ap (λ (o : Option Interface). option_map_or interface_types o []) there ∙ ap (λ (b : DoneScope). b.types) (sym is), ap (λ (b : DoneScope). functions_of p b.owner) is ∙ ap (λ (o : Option Interface). option_map_or interface_functions o []) there ∙ ap (λ (b : DoneScope). b.stated) (sym is)))
     | FrontWorld k v v_at is ↦ (
         let lt = slice_get_within (foreign_worlds files) k v v_at in
         let count = foreign.worlds.count in
         let w = at_within wfront k (omega arith) in
         let there = world_in_front k w.0 w.1 in
-        let says = foreign.worlds.says k v w.0 v_at w.1 in
+        let says = foreign.worlds.each k v w.0 v_at w.1 in
         (ap (λ (b : DoneScope). owner_of p b.owner) is ∙ world_by k w.0 [] there says.name ∙ foreign_world_owner files p others.deps k v v_at ∙ ap (λ (b : DoneScope). OfScope b.address) (sym is), ap (λ (b : DoneScope). names_of p b.owner) is ∙ ap (λ (o : Option World). option_map_or world_types o []) there ∙ ap (flat_map import_types) says.imports ∙ ap (λ (b : DoneScope). b.types) (sym is), ap (λ (b : DoneScope). functions_of p b.owner) is ∙ ap (λ (o : Option World). option_map_or world_functions o []) there ∙ no_functions_in w.0 says.imports says.exports ∙ ap (λ (b : DoneScope). b.stated) (sym is)))
   ]
 
@@ -186,7 +186,7 @@ module _ (files : List PackageFile) (is ws : List Item) (interfaces : AreOfSort 
       let lt = slice_get_within wfront t w at in
       let count = foreign.worlds.count in
       let v = at_within (foreign_worlds files) t (omega (arith, lt, count)) in
-      let says = foreign.worlds.says t v.0 w v.1 at in
+      let says = foreign.worlds.each t v.0 w v.1 at in
       ap (λ l. interfaces_from w.name Imported 0 (interface_items l) ++ interfaces_from w.name Exported 0 (interface_items w.exports)) says.imports ∙ ap (λ l. interfaces_from w.name Exported 0 (interface_items l)) says.exports
 
   -- the package knows it by its place

@@ -18,7 +18,7 @@ use Rattle.semver.specs.Identifiers.{parts_of}
 use Rattle.wit_values.specs.ReleaseText.{release_parts}
 use Rattle.wit_syntax.specs.Address.{Address}
 use Rattle.wit_syntax.specs.Source.{address, Item, ScopeName, all_items, first_takings, scope_names}
-use Rattle.wit_syntax.specs.Foreign.{visited, foreign_interfaces, foreign_worlds}
+use Rattle.wit_syntax.specs.Foreign.{ForeignVisit, visited, foreign_interfaces, foreign_worlds}
 use Rattle.wit_arena.specs.Meet.{Meeting, Key, keys, IsMeeting}
 use Rattle.wit_syntax.specs.Repeats.{AllDiffer}
 use Rattle.wit_functions.specs.declared.function.Function.{Function}
@@ -30,9 +30,9 @@ use Rattle.wit_arena.specs.SideItems.{AreSideItems, settled}
 use Rattle.wit_syntax.specs.Scope.{includes, item_rows, rows_of, in_order, interfaces_of, worlds_of}
 use Rattle.wit_syntax.specs.Broken.{headers, last_header}
 use Rattle.wit_arena.specs.Package.{world_types}
-use Rattle.wit_arena.specs.Whole.{Ordered, OrderedWorld, AreOrdered, own_item, Turned, item_of, ordered_names, turned, world_turns, all_turns, all_inside, turn_handles, AreRequired, meetings, all_meetings, type_imports, addresses, interface_addresses, world_addresses, declarations, HasTypes, AreIncludes, HasSides, foreign_turned, AreForeignInterfaces, AreInterfaces, AreWorlds, NamesOthers, first_docs, IsPackage}
-use Rattle.wit_arena.specs.Faithful.{IsFaithful}
-use Rattle.wit_arena.specs.FirstMeetings.{HasArena}
+use Rattle.wit_arena.specs.OneByOne.{OneByOne}
+use Rattle.wit_arena.specs.Whole.{Ordered, OrderedWorld, AreOrdered, own_item, Turned, item_of, ordered_names, turned, world_turns, all_turns, all_inside, turn_handles, AreRequired, meetings, all_meetings, type_imports, addresses, interface_addresses, world_addresses, declarations, HasTypes, AreIncludes, HasSides, foreign_turned, NamesOthers, first_docs, IsPackage, IsResolvedInterface, IsResolvedWorld, IsForeignInterface, AreFirstMeetings}
+use Rattle.wit_arena.specs.Faithful.{IsFaithful, HasArena}
 use Rattle.wit_arena.specs.Resolving.{Names, Required, cell}
 use Rattle.wit_arena.specs.Resolved.{WorldArenas, AddsForeign}
 use Rattle.wit_syntax.proofs.Lists.{at_front, at_back, map_map}
@@ -46,12 +46,16 @@ use Rattle.wit_arena.proofs.Interfaces.{AreItems, AreOfSort}
 use Rattle.wit_arena.proofs.DoneWorlds.{world_cell, AreWorldsDone, own_order, scopes_of, all_within}
 use Rattle.wit_arena.proofs.Required.{both_parts, required_append}
 use Rattle.wit_arena.proofs.Stated.{has_types}
-use Rattle.wit_arena.proofs.Faithful.{name_at, one_type, type_at, faithful}
+use Rattle.wit_arena.proofs.Faithful.{name_at, type_at, faithful}
 use Rattle.wit_arena.proofs.FirstMeetings.{first_of_meets}
 use Rattle.wit_arena.proofs.Unknowns.{takings_front}
 use Rattle.wit_arena.proofs.Owners.{types_of_cell, worlds_are_all, front_interface_at, world_scope_among, inside_scope_among, inside_entry, owners}
 
 -- what the package is, over these owners
+-- an interface of another package over other keys
+foreign_interface_over : {files : List PackageFile} {ks more : List Key} (v : ForeignVisit) (i : Interface) → IsForeignInterface files ks v i → HasTypes more (foreign_turned files v) i.types → IsForeignInterface files more v i
+foreign_interface_over v i h types = record { name = h.name; span = h.span; types = types; functions = h.functions; docs = h.docs; stability = h.stability; no_package = h.no_package; no_source = h.no_source }
+
 module _ (files : List PackageFile) (is ws : List Item) (interfaces : AreOfSort false is) (worlds : AreOfSort true ws) (is_items : AreItems files is) (ws_items : AreItems files ws) (start middle : List TypeDef) (front xs : List Interface) (wfront : List World) (foreign : AddsForeign files start front wfront) (irs wrs : List Required) (p : UnresolvedPackage) (a : WorldArenas) (d : InterfacesDone files is ws front is middle xs irs) (e : AreWorldsDone files is ws wfront d.ordered (front_scopes files front ++ d.scopes) ws p.types a wrs) (interface_arena : p.interfaces ≡ (front ++ xs) ++ a.inside) (world_arena : p.worlds ≡ a.worlds) (others : NamesOthers files p) where
   abbrev ahead : List DoneScope
   ahead = front_scopes files front
@@ -147,12 +151,8 @@ module _ (files : List PackageFile) (is ws : List Item) (interfaces : AreOfSort 
         are_exported = subst (λ (l : List Address). AreSideItems l own.item.top Exported (side_items own.item) c.0.made (addresses o.inside) makes.exported) same_interfaces (subst (λ (l : List Address). AreSideItems all_interfaces own.item.top Exported (side_items own.item) c.0.made l makes.exported) inside makes.are_exported);
       }
 
-  foreign_interfaces_are : AreForeignInterfaces files met_keys (foreign_interfaces files) front
-  foreign_interfaces_are = record {
-    count = foreign.interfaces.count;
-    says = foreign.interfaces.says;
-    types = λ t v i at there. types_at t (interface_scope files t v i) (foreign_turned files v) i.types (front_interface_at files is ws interfaces worlds is_items ws_items start middle front xs wfront foreign irs wrs p a d e interface_arena world_arena others t v i at there) refl refl;
-  }
+  foreign_interface_is : (t : ℕ) (v : ForeignVisit) (i : Interface) → slice_get (foreign_interfaces files) t ≡ Some v → slice_get front t ≡ Some i → IsForeignInterface files met_keys v i
+  foreign_interface_is t v i at there = foreign_interface_over v i (foreign.interfaces.each t v i at there) (types_at t (interface_scope files t v i) (foreign_turned files v) i.types (front_interface_at files is ws interfaces worlds is_items ws_items start middle front xs wfront foreign irs wrs p a d e interface_arena world_arena others t v i at there) refl refl)
 
   -- an entry is that of a declared interface, or of one that is written in a world
   entry_either : (t : ℕ) (o : Ordered) (i : Interface) → slice_get (d.ordered ++ all_inside e.ordered) t ≡ Some o → slice_get (xs ++ a.inside) t ≡ Some i → ((slice_get d.ordered t ≡ Some o) × (slice_get xs t ≡ Some i)) ⊎ ((k : ℕ) × (c : DoneScope) × (slice_get (all_within e.scopes) k ≡ Some c) × IsInside ((length ss + length is) + k) o c i)
@@ -165,27 +165,28 @@ module _ (files : List PackageFile) (is ws : List Item) (interfaces : AreOfSort 
         inr (far.0, h.0.c, h.0.at_c, subst (λ (x : Ordered). IsInside ((length ss + length is) + far.0) x h.0.c i) one (subst (λ (x : Interface). IsInside ((length ss + length is) + far.0) h.0.o h.0.c x) h.1 h.0.holds)))
   ]
 
-  interfaces_are : AreInterfaces met_keys (d.ordered ++ all_inside e.ordered) (xs ++ a.inside)
+  interfaces_are : OneByOne (IsResolvedInterface met_keys) (d.ordered ++ all_inside e.ordered) (xs ++ a.inside)
   interfaces_are = record {
     count = length-append xs a.inside ∙ ap (λ n. n + length a.inside) d.laid.count ∙ ap (λ n. length d.ordered + n) (inside_count (length ss + length is) (all_inside e.ordered) (all_within e.scopes) a.inside e.laid_inside) ∙ sym (length-append d.ordered (all_inside e.ordered));
-    says = λ t o i at there. elim (entry_either t o i at there) [ inl h ↦ d.laid.says t o i h.0 h.1 | inr h ↦ h.3.says ];
-    types = λ t o i at there. elim (entry_either t o i at there) [
-      | inl h ↦ interface_types_at t o i h.0 h.1
-      | inr h ↦ (let k = inside_scope_among files is ws interfaces worlds is_items ws_items start middle front xs wfront foreign irs wrs p a d e interface_arena world_arena others h.0 h.1 h.2 in types_at k.0 h.1 (turned o) i.types k.1 h.3.turn h.3.types)
-    ];
-    functions = λ t o i at there. elim (entry_either t o i at there) [
-      | inl h ↦ interface_makes t o i h.0 h.1
-      | inr h ↦ (let k = inside_scope_among files is ws interfaces worlds is_items ws_items start middle front xs wfront foreign irs wrs p a d e interface_arena world_arena others h.0 h.1 h.2 in (h.1.made, functions_made k.0 h.1 o k.1 h.3.turn, h.3.stand))
+    each = λ t o i at there. elim (entry_either t o i at there) [
+      | inl h ↦ record { says = d.laid.says t o i h.0 h.1; types = interface_types_at t o i h.0 h.1; functions = interface_makes t o i h.0 h.1 }
+      | inr h ↦ (
+          let k = inside_scope_among files is ws interfaces worlds is_items ws_items start middle front xs wfront foreign irs wrs p a d e interface_arena world_arena others h.0 h.1 h.2 in
+          record { says = h.3.says; types = types_at k.0 h.1 (turned o) i.types k.1 h.3.turn h.3.types; functions = (h.1.made, functions_made k.0 h.1 o k.1 h.3.turn, h.3.stand) })
     ];
   }
 
-  worlds_are : AreWorlds met_keys (interface_addresses files (d.ordered ++ all_inside e.ordered)) (world_addresses files e.ordered) e.ordered ys
+  worlds_are : OneByOne (IsResolvedWorld met_keys (interface_addresses files (d.ordered ++ all_inside e.ordered)) (world_addresses files e.ordered)) e.ordered ys
   worlds_are = record {
     count = e.laid.count ∙ length-map e.ordered own_order;
-    says = λ t o w at there. (e.laid.says t o.own w (own_order_at t o at) there).says;
-    types = world_types_at;
-    sides = world_makes;
-    includes = λ t o w at there. subst (λ (x : List Address). AreIncludes x o.own.item w.includes) same_worlds (e.laid.says t o.own w (own_order_at t o at) there).includes;
+    each = λ t o w at there. (
+        let it = e.laid.says t o.own w (own_order_at t o at) there in
+        record {
+          says = it.says;
+          types = world_types_at t o w at there;
+          sides = world_makes t o w at there;
+          includes = subst (λ (x : List Address). AreIncludes x o.own.item w.includes) same_worlds it.includes;
+        });
   }
 
   -- what their handles require of other packages
@@ -217,13 +218,18 @@ module _ (files : List PackageFile) (is ws : List Item) (interfaces : AreOfSort 
   orders : (places : List ℕ) → IsOrder (item_rows files) places → is ≡ interfaces_of (in_order (all_items files) places) → ws ≡ worlds_of (in_order (all_items files) places) → AreOrdered files d.ordered e.ordered
   orders places order in_order_interfaces in_order_worlds = record { places = places; item_order = order; all_interfaces = d.all ∙ in_order_interfaces; all_worlds = e.all ∙ in_order_worlds; inside = e.each_inside; least = least_orders }
 
-  pub arena_package : ((t : ℕ) (c : DoneScope) → slice_get scopes t ≡ Some c → AllDiffer (map function_key c.functions)) → (places : List ℕ) → IsOrder (item_rows files) places → is ≡ interfaces_of (in_order (all_items files) places) → ws ≡ worlds_of (in_order (all_items files) places) → HasArena files p
-  arena_package apart places order in_order_interfaces in_order_worlds = record {
+  abbrev first_met : (places : List ℕ) → IsOrder (item_rows files) places → is ≡ interfaces_of (in_order (all_items files) places) → ws ≡ worlds_of (in_order (all_items files) places) → AreFirstMeetings files e.done.met
+  first_met places order in_order_interfaces in_order_worlds = record {
     interfaces = d.ordered;
     worlds = e.ordered;
     ordered = orders places order in_order_interfaces in_order_worlds;
-    met = e.done.met;
     first = first_of_meets written e.done.met e.done.meets;
+  }
+
+  pub arena_package : ((t : ℕ) (c : DoneScope) → slice_get scopes t ≡ Some c → AllDiffer (map function_key c.functions)) → (places : List ℕ) → IsOrder (item_rows files) places → is ≡ interfaces_of (in_order (all_items files) places) → ws ≡ worlds_of (in_order (all_items files) places) → HasArena files p
+  arena_package apart places order in_order_interfaces in_order_worlds = record {
+    met = e.done.met;
+    first = first_met places order in_order_interfaces in_order_worlds;
     entries = met_addresses;
     names = name_at files (decls files is ws) written scopes p e.done (owners files is ws interfaces worlds is_items ws_items start middle front xs wfront foreign irs wrs p a d e interface_arena world_arena others);
     positions = type_at files (decls files is ws) written scopes p e.done (owners files is ws interfaces worlds is_items ws_items start middle front xs wfront foreign irs wrs p a d e interface_arena world_arena others) apart;
@@ -239,16 +245,13 @@ module _ (files : List PackageFile) (is ws : List Item) (interfaces : AreOfSort 
     name_span = span;
     docs = docs;
     others = others;
-    interfaces = d.ordered;
-    worlds = e.ordered;
-    ordered = orders places order in_order_interfaces in_order_worlds;
     met = e.done.met;
-    meets = e.done.meets;
+    first = first_met places order in_order_interfaces in_order_worlds;
     meeting = met_addresses;
     foreign_front = front;
     own_interfaces = xs ++ a.inside;
     interface_arena = interface_arena ∙ append_assoc front xs a.inside;
-    are_foreign_interfaces = foreign_interfaces_are;
+    are_foreign_interfaces = record { count = foreign.interfaces.count; each = foreign_interface_is };
     are_interfaces = interfaces_are;
     worlds_front = wfront;
     own_worlds = ys;
@@ -256,5 +259,4 @@ module _ (files : List PackageFile) (is ws : List Item) (interfaces : AreOfSort 
     are_foreign_worlds = foreign.worlds;
     are_worlds = worlds_are;
     required = subst (AreRequired files met_keys (flat_map turn_handles (all_turns d.ordered e.ordered))) (sym requires) required_of;
-    one = one_type files (decls files is ws) written scopes p e.done (owners files is ws interfaces worlds is_items ws_items start middle front xs wfront foreign irs wrs p a d e interface_arena world_arena others);
   }

@@ -1,6 +1,7 @@
 -- Where each type stands at its place, so do those below it, by one path.
-use Rattle.std.proofs.Common.{◌≡◌, ℕ, zero, suc, List, [], ◌∷◌, Option, Some, None, inl, inr, refl, sym, ap, ◌∙◌, subst}
+use Rattle.std.proofs.Common.{◌≡◌, ℕ, suc, List, [], ◌∷◌, Option, Some, None, inl, inr, refl, sym, ap, ◌∙◌, subst}
 use Rattle.std.specs.Prelude.{slice_get}
+use Rattle.wit_values.specs.declared.span.Span.{Span}
 use Rattle.wit_type_tree.specs.declared.leaves.Id.{Id}
 use Rattle.wit_tree.specs.declared.tree.PackageFile.{PackageFile}
 use Rattle.wit_model.specs.declared.unresolved.UnresolvedPackage.{UnresolvedPackage}
@@ -44,7 +45,7 @@ module _ (files : List PackageFile) (decls : Decls) (written : List Meeting) (cs
   pub record HasParts (x : Place) (t : Ty) : Type 0 where
     pub scope : Address
     pub parts : Shapes
-    pub written : node_parts (source_node files x) ≡ placed scope parts
+    pub source : node_parts (source_node files x) ≡ placed scope parts
     pub are : AreAt ks (exprs_of scope parts) (node_parts (package_node p t))
 
   -- what a name of a scope means there
@@ -67,7 +68,7 @@ module _ (files : List PackageFile) (decls : Decls) (written : List Meeting) (cs
       record {
         scope = name_scope s x;
         parts = (name_body x).parts;
-        written = ap (λ (o : Option ScopeName). node_parts (named_node s o)) found;
+        source = ap (λ (o : Option ScopeName). node_parts (named_node s o)) found;
         are = subst (AreAt ks (name_exprs s x)) (sym (type_parts p i e.0 e.1)) parts;
       }
 
@@ -78,19 +79,22 @@ module _ (files : List PackageFile) (decls : Decls) (written : List Meeting) (cs
       let it = d.meeting.keyed.each i k e.0 there e.1 in
       subst (AreAt ks (exprs_of s parts)) (sym (type_parts p i e.0 e.1)) (all_at_untaken i ks (exprs_of s parts) (kind_of e.0.kind).parts it.parts)
 
+  whole_parts : (s : Address) (span : Span) (form : Form) (parts : Shapes) (t : Ty) → IsAt ks (expr_of s (shape.Of span form parts)) t → AreAt ks (exprs_of s parts) (node_parts (package_node p t))
+  whole_parts s span form parts t h = subst (λ (u : Ty). AreAt ks (exprs_of s parts) (node_parts (package_node p u))) (sym h.1) (whole_has_parts s form parts h.0 h.2)
+
   pub has_parts : (s : Address) (x : Shape) (t : Ty) → IsAt ks (expr_of s x) t → HasParts (s, x) t
   has_parts s (shape.Prim q) t h = record {
     scope = s;
     parts = shape.End;
-    written = refl;
+    source = refl;
     are = subst (AreAt ks (exprs_of s shape.End)) (sym (ap (λ (u : Ty). node_parts (package_node p u)) h ∙ ap node_parts (primitive_node p q))) tt;
   }
   has_parts s (shape.Word id) t h = subst (HasParts (s, shape.Word id)) (sym h.1) (name_has_parts s id h.0 h.2)
   has_parts s (shape.Of span form parts) t h = record {
     scope = s;
     parts = parts;
-    written = refl;
-    are = subst (λ (u : Ty). AreAt ks (exprs_of s parts) (node_parts (package_node p u))) (sym h.1) (whole_has_parts s form parts h.0 h.2);
+    source = refl;
+    are = whole_parts s span form parts t h;
   }
 
   -- what stands below a written type has the type that stands so below its type
@@ -98,7 +102,7 @@ module _ (files : List PackageFile) (decls : Decls) (written : List Meeting) (cs
   below_at [] x y t u h below is = subst (λ (z : Place). IsAt ks (expr_of z.0 z.1) u) below (subst (IsAt ks (expr_of x.0 x.1)) is h)
   below_at (k ∷ path) x y t u h below is =
       let q = has_parts x.0 x.1 t h in
-      let at = ap (λ (l : List Place). slice_get l k) (sym q.written) ∙ below.1 in
+      let at = ap (λ (l : List Place). slice_get l k) (sym q.source) ∙ below.1 in
       below_at path below.0 y is.0 u (part_type ks q.scope q.parts (node_parts (package_node p t)) k below.0 is.0 q.are at is.1) below.2 is.2
 
   -- below a written type a type is written whose type is the entry at a place
@@ -113,7 +117,7 @@ module _ (files : List PackageFile) (decls : Decls) (written : List Meeting) (cs
     pub number : ℕ
     pub x : Place
     pub t : Ty
-    pub written : slice_get xs number ≡ Some x
+    pub source : slice_get xs number ≡ Some x
     pub stands : slice_get ts number ≡ Some t
     pub leads : LeadsTo x t j
 
@@ -122,7 +126,7 @@ module _ (files : List PackageFile) (decls : Decls) (written : List Meeting) (cs
   whole_leads x t j h = record {
     inner = h.leads.inner;
     path = h.number ∷ h.leads.path;
-    below = (h.x, h.written, h.leads.below);
+    below = (h.x, h.source, h.leads.below);
     is = (h.t, h.stands, h.leads.is);
   }
 
@@ -132,7 +136,7 @@ module _ (files : List PackageFile) (decls : Decls) (written : List Meeting) (cs
     leads s (shape.Prim q) t j form parts at there has = absurd has
     leads s (shape.Word id) t j form parts at there has = absurd has
     leads s (shape.Of span own xs) t j form parts at there has = elim (has_either (all_met (exprs_of s xs)) (Whole own (exprs_of s xs) ∷ []) (Whole form parts) has) [
-      | inl inner ↦ whole_leads (s, shape.Of span own xs) t j (all_lead s xs (node_parts (package_node p t)) j form parts (has_parts s (shape.Of span own xs) t at).are there inner)
+      | inl inner ↦ whole_leads (s, shape.Of span own xs) t j (all_lead s xs (node_parts (package_node p t)) j form parts (whole_parts s span own xs t at) there inner)
       | inr last ↦ elim last [
         | inl here ↦ record { inner = (s, shape.Of span own xs); path = []; below = refl; is = at.1 ∙ ap type.Id (d.meeting.keyed.once.differ at.0 j (Whole form parts) (at.2 ∙ ap Some here) there) }
         | inr none ↦ absurd none
@@ -142,7 +146,7 @@ module _ (files : List PackageFile) (decls : Decls) (written : List Meeting) (cs
     pub all_lead : (s : Address) (xs : Shapes) (ts : List Ty) (j : ℕ) (form : Form) (parts : Exprs) → AreAt ks (exprs_of s xs) ts → slice_get ks j ≡ Some (Whole form parts) → Has (all_met (exprs_of s xs)) (Whole form parts) → OneLeadsTo (placed s xs) ts j
     all_lead s shape.End ts j form parts at there has = absurd has
     all_lead s (shape.More x xs) (t ∷ ts) j form parts at there has = elim (has_either (met (expr_of s x)) (all_met (exprs_of s xs)) (Whole form parts) has) [
-      | inl first ↦ record { number = 0; x = (s, x); t = t; written = refl; stands = refl; leads = leads s x t j form parts at.0 there first }
-      | inr rest ↦ (let it = all_lead s xs ts j form parts at.1 there rest in record { number = suc it.number; x = it.x; t = it.t; written = it.written; stands = it.stands; leads = it.leads })
+      | inl first ↦ record { number = 0; x = (s, x); t = t; source = refl; stands = refl; leads = leads s x t j form parts at.0 there first }
+      | inr rest ↦ (let it = all_lead s xs ts j form parts at.1 there rest in record { number = suc it.number; x = it.x; t = it.t; source = it.source; stands = it.stands; leads = it.leads })
     ]
     all_lead s (shape.More x xs) [] j form parts at there has = absurd at

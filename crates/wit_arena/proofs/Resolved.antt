@@ -28,8 +28,7 @@ use Rattle.wit_syntax.specs.Notes.{IsBrokenNotes}
 use Rattle.wit_syntax.specs.Broken.{IsDuplicateItem, is_world_at, IsInterfaceIncluded, IsBrokenNames, DuplicateItem, Items, Headerless, Names, ItemStability, UseNotes, IncludeStability, Use, InterfaceIncluded, MissingName, FunctionUsed, Scope, Sides, Handle, Setter, IsSetterAlone, IsLegal, headers, last_header}
 use Rattle.wit_syntax.specs.Repeats.{AllDiffer}
 use Rattle.wit_arena.specs.Whole.{own_item, Turned, turn_handles, all_turns, all_meetings, AreRequired, AreIncludes, NamesOthers, first_docs, IsPackage}
-use Rattle.wit_arena.specs.Faithful.{IsFaithful}
-use Rattle.wit_arena.specs.FirstMeetings.{HasArena}
+use Rattle.wit_arena.specs.Faithful.{IsFaithful, HasArena}
 use Rattle.wit_arena.specs.Resolved.{WorldArenas, front_worlds, AddsInterfaces, AddsWorlds, AddsForeign, AreLegalScopes, AreLegalSides, AreUsableUses, AreUsableLinks, AreSoundScopes, IsBrokenItemStability, OwnStability, OfInclude, HaveLegalStability}
 use Rattle.wit_syntax.proofs.Lists.{at_within, flat_map_at, flat_map_has, map_at}
 use Rattle.wit_syntax.proofs.Headers.{some_header}

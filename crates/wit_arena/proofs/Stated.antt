@@ -13,10 +13,10 @@ use Rattle.wit_types.specs.declared.types.«Type».{«Type» as Ty}
 use Rattle.wit_types.specs.declared.types.TypeDef.{TypeDef}
 use Rattle.wit_arena.specs.Kind.{kind_of}
 use Rattle.wit_syntax.specs.Address.{Address}
-use Rattle.wit_syntax.specs.Source.{Item, all_items, item_at, ScopeName, Used, Place, local_name, scope_names, meaning, name_body, name_scope, name_parts}
+use Rattle.wit_syntax.specs.Source.{Item, all_items, item_at, ScopeName, Used, local_name, scope_names, meaning}
 use Rattle.wit_syntax.specs.Trees.{scope}
-use Rattle.wit_arena.specs.Expr.{Use, Exprs, one, expr_of, name_exprs}
-use Rattle.wit_arena.specs.Meet.{Key, Def, Meeting, keys, IsAt, AreAt, Decl, Decls, decl_of}
+use Rattle.wit_arena.specs.Expr.{Use, Exprs, one, name_exprs}
+use Rattle.wit_arena.specs.Meet.{Key, Def, Meeting, keys, AreAt, Decl, Decls, decl_of}
 use Rattle.wit_syntax.specs.Fault.{Fault}
 use Rattle.wit_syntax.specs.Broken.{IsMissingName, IsFunctionUsed}
 use Rattle.wit_arena.specs.Whole.{HasTypes}

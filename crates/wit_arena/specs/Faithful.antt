@@ -1,5 +1,5 @@
 -- What holds of a resolved package: each written type has one at its position, with its tree, and nothing else stands there.
-use Rattle.std.specs.Prelude.{◌≡◌, ◌↔◌, ◌<◌, ℕ, List, [], ◌∷◌, length, Some, None, slice_get, Contains}
+use Rattle.std.specs.Prelude.{◌≡◌, ◌↔◌, ◌<◌, ℕ, List, [], ◌∷◌, ◌++◌, length, Some, None, slice_get, Contains}
 use Rattle.wit_tree.specs.declared.tree.PackageFile.{PackageFile}
 use Rattle.wit_functions.specs.declared.function.Function.{Function}
 use Rattle.wit_types.specs.declared.types.«Type».{«Type» as Ty}
@@ -19,7 +19,8 @@ use Rattle.wit_syntax.specs.Sides.{function_key}
 use Rattle.wit_arena.specs.Kind.{kind_of}
 use Rattle.wit_arena.specs.Expr.{expr_of}
 use Rattle.wit_arena.specs.Package.{owner_of, names_of, functions_of, function_types, package_node, package_tree}
-use Rattle.wit_arena.specs.Whole.{functions_at}
+use Rattle.wit_arena.specs.Meet.{Def, Meeting, keys, IsAt, IsMeeting}
+use Rattle.wit_arena.specs.Whole.{functions_at, all_inside, interface_addresses, world_addresses, declarations, AreFirstMeetings}
 
 -- the parts of one level
 abbrev pub node_parts : {X : Type 0} → Node X → List X
@@ -80,3 +81,13 @@ pub record IsFaithful (files : List PackageFile) (p : UnresolvedPackage) : Type 
   pub same : (x y : Place) (t u : Ty) → HasType files p x t → HasType files p y u → (t ≡ u) ↔ (expr_of x.0 x.1 ≡ expr_of y.0 y.1)
   -- and the tree of each, at every depth, is that of its type
   pub trees : (x : Place) (t : Ty) (n : ℕ) → HasType files p x t → package_tree p n t ≡ source_tree files n x
+
+-- The arena of types is what is first met in files, where their scopes are resolved in their orders, in the order in which it is met: an
+-- entry is that of its key, and has the span of its first meeting, and an unnamed one the stability that follows from it. Each name of an
+-- owner stands for the place where it is first met, and at the position of each written type stands that of its expression.
+pub record HasArena (files : List PackageFile) (p : UnresolvedPackage) : Type 0 where
+  pub met : List Meeting
+  pub first : AreFirstMeetings files met
+  pub entries : IsMeeting (declarations files (interface_addresses files (first.interfaces ++ all_inside first.worlds)) (world_addresses files first.worlds)) met p.types
+  pub names : (o : TypeOwner) (s : Address) (k : ℕ) (name : List ℕ) (id : ℕ) → owner_of p o ≡ OfScope s → slice_get (names_of p o) k ≡ Some (name, id) → slice_get (keys met) id ≡ Some (Def s name)
+  pub positions : (x : Place) (ty : Ty) → HasType files p x ty → IsAt (keys met) (expr_of x.0 x.1) ty

@@ -5,10 +5,11 @@ pub mod EntryEnds
 pub mod Functions
 pub mod SideItems
 pub mod Package
+pub mod OneByOne
+pub mod FirstMeetings
 pub mod Whole
 pub mod Faithful
 pub mod Resolving
 pub mod Resolved
 pub mod Adding
-pub mod FirstMeetings
 pub mod Splitting

@@ -1,5 +1,5 @@
 -- What types of a package mean: the arenas unfolded, whose names are by what the package calls them, and what an interface says.
-use Rattle.std.specs.Prelude.{◌≡◌, ℕ, zero, suc, ◌<◌, Bool, true, false, nat_eq, List, [], ◌∷◌, ◌++◌, Option, Some, None, ◌⊎◌, map, find, slice_get}
+use Rattle.std.specs.Prelude.{◌≡◌, ℕ, suc, ◌<◌, Bool, true, false, nat_eq, List, [], ◌∷◌, ◌++◌, Option, Some, None, map, find, slice_get}
 use Rattle.std.specs.List.{flat_map, filter}
 use Rattle.std.specs.Option.{option_map_or, option_to_list}
 use Rattle.wit_functions.specs.declared.function.Function.{Function}
@@ -25,6 +25,7 @@ use Rattle.wit_types.specs.declared.types.TypeOwner.TheVariants as owner
 use Rattle.wit_arena.specs.Kind.{kind_of}
 use Rattle.wit_syntax.specs.Address.{Address, InterfaceNamed, WorldNamed, InlineAt, ForeignNamed}
 use Rattle.wit_syntax.specs.Source.{Item, item_id, item_notes, declared_name}
+use Rattle.wit_syntax.specs.Foreign.{ForeignVisit}
 use Rattle.wit_syntax.specs.Node.{Owner, OfScope, Nobody, Head, Node, Leaf, Named, Unnamed, Nothing, Tree, unfolded}
 use Rattle.wit_syntax.specs.Node as node
 use Rattle.wit_tree.specs.declared.tree.WorldSide.{WorldSide}
@@ -219,20 +220,10 @@ pub record IsWorld (id : Id) (n : Notes) (w : World) : Type 0 where
   pub stability : w.stability ≡ n.stability
   pub no_package : w.package ≡ None
 
--- an interface of another package, where a path first leads to it, apart from its types
-pub record IsForeignInterface (id : Id) (i : Interface) : Type 0 where
-  pub name : i.name ≡ None
-  pub span : i.span ≡ id.span
-  pub functions : i.functions ≡ []
-  pub docs : i.docs ≡ no_docs
-  pub stability : i.stability ≡ Unknown
-  pub no_package : i.package ≡ None
-  pub no_source : i.clone_of ≡ None
-
 -- a world of another package, where a path first leads to it
-pub record IsForeignWorld (id : Id) (w : World) : Type 0 where
+pub record IsForeignWorld (v : ForeignVisit) (w : World) : Type 0 where
   pub name : w.name ≡ []
-  pub span : w.span ≡ id.span
+  pub span : w.span ≡ v.id.span
   pub imports : w.imports ≡ []
   pub exports : w.exports ≡ []
   pub docs : w.docs ≡ no_docs

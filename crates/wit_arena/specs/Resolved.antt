@@ -20,7 +20,8 @@ use Rattle.wit_syntax.specs.Source.{leads, Item, item_id, item_notes, declared_a
 use Rattle.wit_syntax.specs.Foreign.{visited, foreign_interfaces, foreign_worlds}
 use Rattle.wit_arena.specs.Meet.{keys}
 use Rattle.wit_syntax.specs.Fault.{Fault}
-use Rattle.wit_arena.specs.Package.{IsInterfaceOf, IsWorld}
+use Rattle.wit_arena.specs.OneByOne.{OneByOne}
+use Rattle.wit_arena.specs.Package.{IsInterfaceOf, IsWorld, IsForeignWorld}
 use Rattle.wit_syntax.specs.Scope.{uses, includes, interfaces_of, worlds_of, rows_of, in_order, defined, in_turn, AreDistinct}
 use Rattle.wit_functions.specs.declared.function.Function.{Function}
 use Rattle.wit_syntax.specs.Function.{SourceFunction, functions as item_functions, signature, name_types, written_types, all_types, item_types}
@@ -30,7 +31,7 @@ use Rattle.wit_arena.specs.Functions.{placed_functions}
 use Rattle.wit_arena.specs.SideItems.{AreSideItems, settled}
 use Rattle.wit_syntax.specs.Broken.{is_world_at, IsBrokenScope, IsBrokenUse, IsSetterAlone}
 use Rattle.wit_syntax.specs.Sides.{Link, links, SideItem, SideFunction, SideLink, SideInline, side_items, inline_items, IsBrokenSides}
-use Rattle.wit_arena.specs.Whole.{owner_at, taking_meeting, AreForeignInterfaces, AreForeignWorlds, type_imports, AreIncludes}
+use Rattle.wit_arena.specs.Whole.{owner_at, taking_meeting, IsForeignInterface, type_imports, AreIncludes}
 use Rattle.wit_arena.specs.Resolving.{Names, env_of, Cell, cells, named, Defines, AddsFunctions, Required, IsWrongHandle, AreEnded, IsIndex, IsWorldIndex, IsLostInclude, IsLostLink, IsWrongScope}
 use Rattle.wit_syntax.specs.Shape.{words, all_handles}
 
@@ -191,8 +192,8 @@ foreign_type files t = named (owner_at (map visited (foreign_interfaces files)) 
 -- what other packages' items put in front of the arenas: the names that are taken from them, and their interfaces and worlds
 pub record AddsForeign (files : List PackageFile) (es : List TypeDef) (is : List Interface) (ws : List World) : Type 0 where
   pub types : es ≡ map (foreign_type files) (first_takings files)
-  pub interfaces : AreForeignInterfaces files (keys (map taking_meeting (first_takings files))) (foreign_interfaces files) is
-  pub worlds : AreForeignWorlds (foreign_worlds files) ws
+  pub interfaces : OneByOne (IsForeignInterface files (keys (map taking_meeting (first_takings files)))) (foreign_interfaces files) is
+  pub worlds : OneByOne IsForeignWorld (foreign_worlds files) ws
 
 -- once some names of a scope were added in turn, and some types behind them, a name in a handle of the item ends at something else than
 -- a resource

@@ -3,15 +3,7 @@ use Rattle.std.specs.Prelude.{◌≡◌, ◌↔◌, List}
 use Rattle.wit_tree.specs.declared.tree.PackageFile.{PackageFile}
 use Rattle.wit_model.specs.declared.unresolved.UnresolvedPackage.{UnresolvedPackage}
 use Rattle.wit_arena.specs.Meet.{Meeting}
-use Rattle.wit_arena.specs.Whole.{Ordered, OrderedWorld, AreOrdered, all_turns, all_meetings, IsPackage}
-use Rattle.wit_arena.specs.FirstMeetings.{AreFirst}
-
--- this is what is first met in files, where their scopes are resolved in these orders
-pub record AreFirstMeetings (files : List PackageFile) (met : List Meeting) : Type 0 where
-  pub interfaces : List Ordered
-  pub worlds : List OrderedWorld
-  pub ordered : AreOrdered files interfaces worlds
-  pub first : AreFirst (all_meetings files (all_turns interfaces worlds)) met
+use Rattle.wit_arena.specs.Whole.{AreFirstMeetings, IsPackage}
 
 -- what is first met in the one is first met in the others, in the same order, and each where it is written there; and it is one list
 pub record HaveSameMeetings (files others : List PackageFile) : Type 0 where

@@ -1,5 +1,5 @@
 -- The theorem: what a resolved package is.
-use Rattle.std.specs.Prelude.{if◌then◌else◌, ◌≡◌, ◌↔◌, ◌==◌, ℕ, not, List, [], ◌∷◌, ◌++◌, length, map, Option, Some, None, slice_get, position}
+use Rattle.std.specs.Prelude.{if◌then◌else◌, ◌≡◌, ◌==◌, ℕ, not, List, [], ◌∷◌, ◌++◌, length, map, Option, Some, None, slice_get, position}
 use Rattle.wit_values.specs.declared.span.Span.{Span}
 use Rattle.std.specs.Option.{option_map, option_map_or, option_or, unwrap_or}
 use Rattle.semver.specs.Identifiers.{parts_of}
@@ -20,7 +20,7 @@ use Rattle.wit_model.specs.declared.world.WorldKey.TheVariants as key
 use Rattle.wit_model.specs.declared.world.WorldItem.{WorldItem}
 use Rattle.wit_model.specs.declared.world.WorldItem.TheVariants.{Type_}
 use Rattle.wit_types.specs.declared.stability.Stability.{Stability}
-use Rattle.wit_types.specs.declared.types.«Type».{«Type» as Ty}
+use Rattle.wit_types.specs.declared.stability.Stability.TheVariants.{Unknown}
 use Rattle.wit_types.specs.declared.types.TypeOwner.{TypeOwner}
 use Rattle.wit_types.specs.declared.types.TypeOwner.TheVariants as owner
 use Rattle.wit_graph.specs.Table.{IsOrder}
@@ -31,7 +31,6 @@ use Rattle.wit_syntax.specs.Address.{Address, same_address}
 use Rattle.wit_syntax.specs.Source.{path_id, leads, TopName, Item, item_id, item_notes, address, included_scope, ScopeName, all_items, item_at, scope_names, local_name, local_id, Taking, takings, first_takings}
 use Rattle.wit_syntax.specs.Trees.{scope}
 use Rattle.wit_syntax.specs.Foreign.{ForeignVisit, visited_package, visited, same_item, foreign_interfaces, foreign_worlds, foreign_packages, items_of_package, visits_of}
-use Rattle.wit_arena.specs.Expr.{Expr}
 use Rattle.wit_functions.specs.declared.function.Function.{Function}
 use Rattle.wit_syntax.specs.Function.{SourceFunction, functions as item_functions, all_types}
 use Rattle.wit_syntax.specs.Ends.{AtResource, AtForeign, EndsAt}
@@ -44,8 +43,10 @@ use Rattle.wit_types.specs.declared.docs.Docs.{Docs}
 use Rattle.wit_syntax.specs.Notes.{docs_of, no_docs, stability_of}
 use Rattle.wit_syntax.specs.Broken.{last_header, headers}
 use Rattle.wit_syntax.specs.Sides.{SideItem, SideFunction, SideLink, SideInline, side_items, inline_items, all_scopes}
-use Rattle.wit_arena.specs.Meet.{Key, Def, Meeting, keys, all_name_meetings, all_function_meetings, Meets, IsAt, Decls, decl_of, IsMeeting}
-use Rattle.wit_arena.specs.Package.{IsInterfaceOf, IsWorld, IsForeignInterface, IsForeignWorld, world_types}
+use Rattle.wit_arena.specs.Meet.{Key, Def, Meeting, keys, all_name_meetings, all_function_meetings, Decls, decl_of, IsMeeting}
+use Rattle.wit_arena.specs.OneByOne.{OneByOne}
+use Rattle.wit_arena.specs.FirstMeetings.{AreFirst}
+use Rattle.wit_arena.specs.Package.{IsInterfaceOf, IsWorld, IsForeignWorld, world_types}
 
 -- an item, with an order of its names
 pub record Ordered : Type 0 where
@@ -142,12 +143,11 @@ pub record HasTypes (ks : List Key) (t : Turned) (types : List (List ℕ × ℕ)
   pub names : map (λ n. n.0) types ≡ map local_name t.names
   pub places : (k : ℕ) (name : List ℕ) (id : ℕ) → slice_get types k ≡ Some (name, id) → slice_get ks id ≡ Some (Def t.address name)
 
--- these are the interfaces of files, each with its names in turn, and its functions
-pub record AreInterfaces (ks : List Key) (os : List Ordered) (is : List Interface) : Type 0 where
-  pub count : length is ≡ length os
-  pub says : (t : ℕ) (o : Ordered) (i : Interface) → slice_get os t ≡ Some o → slice_get is t ≡ Some i → IsInterfaceOf o.item i
-  pub types : (t : ℕ) (o : Ordered) (i : Interface) → slice_get os t ≡ Some o → slice_get is t ≡ Some i → HasTypes ks (turned o) i.types
-  pub functions : (t : ℕ) (o : Ordered) (i : Interface) → slice_get os t ≡ Some o → slice_get is t ≡ Some i → (fs : List Function) × AreFunctions ks (address o.item) (item_functions o.item) fs × (i.functions ≡ placed_functions fs)
+-- an interface of files, with its names in turn, and its functions
+pub record IsResolvedInterface (ks : List Key) (o : Ordered) (i : Interface) : Type 0 where
+  pub says : IsInterfaceOf o.item i
+  pub types : HasTypes ks (turned o) i.types
+  pub functions : (fs : List Function) × AreFunctions ks (address o.item) (item_functions o.item) fs × (i.functions ≡ placed_functions fs)
 
 -- names of a scope as imports: each is the type that it stands for, at its local name
 abbrev pub type_imports : List ScopeName → List (List ℕ × ℕ) → List (WorldKey × WorldItem)
@@ -183,14 +183,13 @@ pub record HasSides (ks : List Key) (interfaces inside : List Address) (o : Orde
   pub are_exported : AreSideItems interfaces o.item.top Exported (side_items o.item) functions inside exported
   pub exports : w.exports ≡ settled (includes o.item) exported
 
--- These are the worlds of files, each with its names in turn as its imports, and then the functions and interfaces that it imports, with
--- those that it exports, and with its includes, where the interfaces and the worlds have these addresses.
-pub record AreWorlds (ks : List Key) (interfaces worlds : List Address) (os : List OrderedWorld) (ws : List World) : Type 0 where
-  pub count : length ws ≡ length os
-  pub says : (t : ℕ) (o : OrderedWorld) (w : World) → slice_get os t ≡ Some o → slice_get ws t ≡ Some w → IsWorld (item_id o.own.item) (item_notes o.own.item) w
-  pub types : (t : ℕ) (o : OrderedWorld) (w : World) → slice_get os t ≡ Some o → slice_get ws t ≡ Some w → HasTypes ks (turned o.own) (world_types w)
-  pub sides : (t : ℕ) (o : OrderedWorld) (w : World) → slice_get os t ≡ Some o → slice_get ws t ≡ Some w → HasSides ks interfaces (addresses o.inside) o.own w
-  pub includes : (t : ℕ) (o : OrderedWorld) (w : World) → slice_get os t ≡ Some o → slice_get ws t ≡ Some w → AreIncludes worlds o.own.item w.includes
+-- A world of files, with its names in turn as its imports, and then the functions and interfaces that it imports, with those that it exports,
+-- and with its includes, where the interfaces and the worlds have these addresses.
+pub record IsResolvedWorld (ks : List Key) (interfaces worlds : List Address) (o : OrderedWorld) (w : World) : Type 0 where
+  pub says : IsWorld (item_id o.own.item) (item_notes o.own.item) w
+  pub types : HasTypes ks (turned o.own) (world_types w)
+  pub sides : HasSides ks interfaces (addresses o.inside) o.own w
+  pub includes : AreIncludes worlds o.own.item w.includes
 
 -- the names in the handles of a scope, each with the scope, in the order in which they are resolved
 abbrev pub turn_handles : Turned → List (Address × Id)
@@ -229,16 +228,16 @@ world_addresses files ws = map visited (foreign_worlds files) ++ map (λ w. addr
 abbrev pub foreign_turned : List PackageFile → ForeignVisit → Turned
 foreign_turned files v = record { address = visited v; names = scope files (visited v); functions = [] }
 
--- these are interfaces of other packages, each with the names that are taken from it
-pub record AreForeignInterfaces (files : List PackageFile) (ks : List Key) (vs : List ForeignVisit) (is : List Interface) : Type 0 where
-  pub count : length is ≡ length vs
-  pub says : (t : ℕ) (v : ForeignVisit) (i : Interface) → slice_get vs t ≡ Some v → slice_get is t ≡ Some i → IsForeignInterface v.id i
-  pub types : (t : ℕ) (v : ForeignVisit) (i : Interface) → slice_get vs t ≡ Some v → slice_get is t ≡ Some i → HasTypes ks (foreign_turned files v) i.types
-
--- these are worlds of other packages
-pub record AreForeignWorlds (vs : List ForeignVisit) (ws : List World) : Type 0 where
-  pub count : length ws ≡ length vs
-  pub says : (t : ℕ) (v : ForeignVisit) (w : World) → slice_get vs t ≡ Some v → slice_get ws t ≡ Some w → IsForeignWorld v.id w
+-- an interface of another package, where a path first leads to it, with the names that are taken from it
+pub record IsForeignInterface (files : List PackageFile) (ks : List Key) (v : ForeignVisit) (i : Interface) : Type 0 where
+  pub name : i.name ≡ None
+  pub span : i.span ≡ v.id.span
+  pub types : HasTypes ks (foreign_turned files v) i.types
+  pub functions : i.functions ≡ []
+  pub docs : i.docs ≡ no_docs
+  pub stability : i.stability ≡ Unknown
+  pub no_package : i.package ≡ None
+  pub no_source : i.clone_of ≡ None
 
 -- how many of these stand before the first that is the item
 abbrev pub foreign_place : List ForeignVisit → ForeignVisit → ℕ
@@ -268,6 +267,13 @@ abbrev pub first_docs : List Header → Docs
 first_docs [] = no_docs
 first_docs (h ∷ hs) = if length h.docs.docs.items == 0 then first_docs hs else docs_of h.docs
 
+-- this is what is first met in files, where their scopes are resolved in these orders
+pub record AreFirstMeetings (files : List PackageFile) (met : List Meeting) : Type 0 where
+  pub interfaces : List Ordered
+  pub worlds : List OrderedWorld
+  pub ordered : AreOrdered files interfaces worlds
+  pub first : AreFirst (all_meetings files (all_turns interfaces worlds)) met
+
 -- The package has the name and the version of the last header, and the docs of the one that has some. Its arenas begin with the items of other packages, in the order of
 -- their first visits; then they have the interfaces and the worlds in the least order in which each item comes after those that it
 -- needs, each with its used names and then its definitions in the least dependency-first order. Its arena of types is the list of first
@@ -282,26 +288,21 @@ pub record IsPackage (files : List PackageFile) (p : UnresolvedPackage) : Type 0
   pub name_span : p.name_span ≡ header.span
   pub docs : p.docs ≡ first_docs (headers files)
   pub others : NamesOthers files p
-  pub interfaces : List Ordered
-  pub worlds : List OrderedWorld
-  pub ordered : AreOrdered files interfaces worlds
   pub met : List Meeting
-  pub meets : Meets [] (all_meetings files (all_turns interfaces worlds)) met
-  pub meeting : IsMeeting (declarations files (interface_addresses files (interfaces ++ all_inside worlds)) (world_addresses files worlds)) met p.types
+  pub first : AreFirstMeetings files met
+  pub meeting : IsMeeting (declarations files (interface_addresses files (first.interfaces ++ all_inside first.worlds)) (world_addresses files first.worlds)) met p.types
   pub foreign_front : List Interface
   pub own_interfaces : List Interface
   pub interface_arena : p.interfaces ≡ foreign_front ++ own_interfaces
-  pub are_foreign_interfaces : AreForeignInterfaces files (keys met) (foreign_interfaces files) foreign_front
-  pub are_interfaces : AreInterfaces (keys met) (interfaces ++ all_inside worlds) own_interfaces
+  pub are_foreign_interfaces : OneByOne (IsForeignInterface files (keys met)) (foreign_interfaces files) foreign_front
+  pub are_interfaces : OneByOne (IsResolvedInterface (keys met)) (first.interfaces ++ all_inside first.worlds) own_interfaces
   pub worlds_front : List World
   pub own_worlds : List World
   pub world_arena : p.worlds ≡ worlds_front ++ own_worlds
-  pub are_foreign_worlds : AreForeignWorlds (foreign_worlds files) worlds_front
-  pub are_worlds : AreWorlds (keys met) (interface_addresses files (interfaces ++ all_inside worlds)) (world_addresses files worlds) worlds own_worlds
+  pub are_foreign_worlds : OneByOne IsForeignWorld (foreign_worlds files) worlds_front
+  pub are_worlds : OneByOne (IsResolvedWorld (keys met) (interface_addresses files (first.interfaces ++ all_inside first.worlds)) (world_addresses files first.worlds)) first.worlds own_worlds
   -- the types of other packages that must be resources: those at which names in handles end, of all interfaces and then of all worlds
-  pub required : AreRequired files (keys met) (flat_map turn_handles (all_turns interfaces worlds)) p.required_resource_types
-  -- two written types are one type exactly where they are one expression
-  pub one : (x y : Expr) (t u : Ty) → IsAt (keys met) x t → IsAt (keys met) y u → (t ≡ u) ↔ (x ≡ y)
+  pub required : AreRequired files (keys met) (flat_map turn_handles (all_turns first.interfaces first.worlds)) p.required_resource_types
 
 -- the functions of a scope
 abbrev pub functions_at : List PackageFile → Address → List SourceFunction

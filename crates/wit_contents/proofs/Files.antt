@@ -27,8 +27,7 @@ use Rattle.wit_syntax.specs.Foreign.{visited, foreign_interfaces, foreign_worlds
 use Rattle.wit_arena.specs.Resolved.{AddsForeign, AddsInterfaces, AreLegalScopes, AreLegalSides, AreSoundScopes, AreUsableUses, IsWrongAmong, IsWrongWorldAmong}
 use Rattle.wit_arena.specs.Resolving.{Names, Required, cells, IsIndex}
 use Rattle.wit_arena.specs.Whole.{NamesOthers, first_docs, IsPackage}
-use Rattle.wit_arena.specs.Faithful.{IsFaithful}
-use Rattle.wit_arena.specs.FirstMeetings.{HasArena}
+use Rattle.wit_arena.specs.Faithful.{IsFaithful, HasArena}
 use Rattle.wit_syntax.proofs.Inline.{inline_items_none}
 use Rattle.wit_syntax.proofs.Kept.{behind_one, kept_has}
 use Rattle.wit_syntax.proofs.Lists.{flat_map_at, flat_map_has}

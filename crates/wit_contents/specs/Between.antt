@@ -18,8 +18,7 @@ use Rattle.wit_syntax.specs.Broken.{IsBrokenNames, IsLegal}
 use Rattle.wit_syntax.specs.Foreign.{visited, foreign_interfaces, foreign_packages, foreign_worlds}
 use Rattle.wit_arena.specs.Resolving.{Required}
 use Rattle.wit_arena.specs.Whole.{dep, IsPackage}
-use Rattle.wit_arena.specs.Faithful.{IsFaithful}
-use Rattle.wit_arena.specs.FirstMeetings.{HasArena}
+use Rattle.wit_arena.specs.Faithful.{IsFaithful, HasArena}
 use Rattle.wit_arena.specs.Resolved.{WorldArenas, front_worlds, AddsForeign, AddsInterfaces, AddsWorlds, AreLegalSides, AreSoundScopes, AreUsableLinks, AreUsableUses, HaveLegalStability}
 
 -- behind what stands in front, the items of files were added in the least dependency-first order of their table, all interfaces before all

@@ -28,8 +28,8 @@ use Rattle.wit_syntax.specs.Notes.{notes, no_docs}
 use Rattle.wit_syntax.specs.Repeats.{firsts}
 use Rattle.wit_syntax.specs.Foreign.{ForeignVisit, visited, foreign_items, foreign_interfaces, foreign_worlds}
 use Rattle.wit_arena.specs.Meet.{Key, Def, keys}
-use Rattle.wit_arena.specs.Package.{IsForeignInterface, IsForeignWorld}
-use Rattle.wit_arena.specs.Whole.{place_at, owner_at, taking_meeting, HasTypes, foreign_turned}
+use Rattle.wit_arena.specs.Package.{IsForeignWorld}
+use Rattle.wit_arena.specs.Whole.{place_at, owner_at, taking_meeting, HasTypes, foreign_turned, IsForeignInterface}
 use Rattle.wit_arena.specs.Resolving.{Names, named}
 use Rattle.wit_syntax.proofs.Lists.{map_at, map_map}
 use Rattle.wit_syntax.proofs.Names.{lookup-place}
@@ -235,12 +235,11 @@ module _ (files : List PackageFile) (es : List TypeDef) (a : ForeignArenas) (don
       types = done.types;
       interfaces = record {
         count = ap length done.interfaces ∙ length-map (foreign_interfaces files) (interface_behind all);
-        says = λ t v i at_v at_i. subst (λ (x : Interface). IsForeignInterface v.id x) (interface_is t v i at_v at_i) (record { name = refl; span = refl; functions = refl; docs = refl; stability = refl; no_package = refl; no_source = refl });
-        types = λ t v i at_v at_i. subst (λ (x : Interface). HasTypes (keys (map taking_meeting all)) (foreign_turned files v) x.types) (interface_is t v i at_v at_i) (has_types v);
+        each = λ t v i at_v at_i. subst (λ (x : Interface). IsForeignInterface files (keys (map taking_meeting all)) v x) (interface_is t v i at_v at_i) (record { name = refl; span = refl; types = has_types v; functions = refl; docs = refl; stability = refl; no_package = refl; no_source = refl });
       };
       worlds = record {
         count = ap length done.worlds ∙ length-map (foreign_worlds files) (λ (u : ForeignVisit). bare_world u.id.span);
-        says = λ t v w at_v at_w. subst (λ (x : World). IsForeignWorld v.id x) (world_is t v w at_v at_w) (record { name = refl; span = refl; imports = refl; exports = refl; docs = refl; stability = refl; includes = refl; no_package = refl });
+        each = λ t v w at_v at_w. subst (λ (x : World). IsForeignWorld v x) (world_is t v w at_v at_w) (record { name = refl; span = refl; imports = refl; exports = refl; docs = refl; stability = refl; includes = refl; no_package = refl });
       };
     };
     visits = done.visits;

@@ -9,8 +9,7 @@ use Rattle.wit_model.specs.declared.unresolved.UnresolvedPackage.{UnresolvedPack
 use Rattle.wit_syntax.specs.Fault.{Fault, fault}
 use Rattle.wit_syntax.specs.Broken.{IsBroken, IsDocumentedTwice, IsLegal, IsOtherPackage}
 use Rattle.wit_arena.specs.Whole.{IsPackage}
-use Rattle.wit_arena.specs.Faithful.{IsFaithful}
-use Rattle.wit_arena.specs.FirstMeetings.{HasArena}
+use Rattle.wit_arena.specs.Faithful.{IsFaithful, HasArena}
 
 -- a nested package as a file of its own: its name is the header
 abbrev pub file_of : NestedPackage → PackageFile

@@ -30,8 +30,9 @@ use Rattle.wit_arena.specs.SideItems.{AreSideItems, settled}
 use Rattle.wit_arena.proofs.Settled.{moved, settled_at}
 use Rattle.wit_arena.proofs.SideItems.{side_functions}
 use Rattle.wit_arena.specs.Meet.{Key, keys}
-use Rattle.wit_arena.specs.Package.{item_functions, keyed, interface_functions, world_functions, world_types, functions_of}
-use Rattle.wit_arena.specs.Whole.{Ordered, OrderedWorld, ordered_names, addresses, all_inside, type_imports, AreInterfaces, AreWorlds, AreForeignInterfaces, AreForeignWorlds, IsPackage, interface_addresses, world_addresses}
+use Rattle.wit_arena.specs.Package.{item_functions, keyed, interface_functions, world_functions, world_types, functions_of, IsForeignWorld}
+use Rattle.wit_arena.specs.OneByOne.{OneByOne}
+use Rattle.wit_arena.specs.Whole.{Ordered, OrderedWorld, ordered_names, addresses, all_inside, type_imports, IsPackage, interface_addresses, world_addresses, IsResolvedInterface, IsResolvedWorld, IsForeignInterface}
 use Rattle.wit_syntax.proofs.Lists.{at_split, at_within, map_at}
 use Rattle.wit_arena.proofs.Placed.{function_from}
 use Rattle.wit_arena.proofs.MadeOn.{made_on_from}
@@ -104,15 +105,15 @@ settled_marked : (is : List Include) (xs ys : List (WorldKey × WorldItem)) → 
 settled_marked is xs ys are marked = subst (λ (l : List (WorldKey × WorldItem)). AreMarked (flat_map item_functions l)) (sym are) (λ place name f at. (let it = moved item_functions (settled is xs) xs (settled_at is xs) place (name, f) at in marked it.0 name f it.1))
 
 -- the interfaces and the worlds of a package: those of other packages have no function
-own_interface : (ks : List Key) (os : List Ordered) (is : List Interface) → AreInterfaces ks os is → (k : ℕ) (i : Interface) → slice_get is k ≡ Some i → AreMarked i.functions
+own_interface : (ks : List Key) (os : List Ordered) (is : List Interface) → OneByOne (IsResolvedInterface ks) os is → (k : ℕ) (i : Interface) → slice_get is k ≡ Some i → AreMarked i.functions
 own_interface ks os is are k i at =
     let within = slice_get_within is k i at in
     let count = are.count in
     let o = at_within os k (omega arith) in
-    let has = are.functions k o.0 i o.1 at in
+    let has = (are.each k o.0 i o.1 at).functions in
     subst AreMarked (sym has.2) (placed_marked ks (address o.0.item) o.0.item has.0 has.1)
 
-own_world : (ks : List Key) (interfaces worlds : List Address) (os : List OrderedWorld) (ws : List World) → AreWorlds ks interfaces worlds os ws → (k : ℕ) (w : World) → slice_get ws k ≡ Some w → AreKeyed (world_functions w)
+own_world : (ks : List Key) (interfaces worlds : List Address) (os : List OrderedWorld) (ws : List World) → OneByOne (IsResolvedWorld ks interfaces worlds) os ws → (k : ℕ) (w : World) → slice_get ws k ≡ Some w → AreKeyed (world_functions w)
 own_world ks interfaces worlds os ws are k w at =
     let within = slice_get_within ws k w at in
     let count = are.count in
@@ -120,7 +121,7 @@ own_world ks interfaces worlds os ws are k w at =
     let own = o.0.own in
     let i = own.item in
     let inside = addresses o.0.inside in
-    let has = are.sides k o.0 w o.1 at in
+    let has = (are.each k o.0 w o.1 at).sides in
     let fs = has.functions in
     let whole = type_imports (ordered_names own) (world_types w) ++ has.imported in
     let ins : flat_map item_functions whole ≡ map by_name (made_on Imported (functions i) fs) = imported (ordered_names own) (world_types w) has.imported ∙ there interfaces inside Imported i fs has.imported has.are_imported in
@@ -129,32 +130,32 @@ own_world ks interfaces worlds os ws are k w at =
     (marked_keyed Imported (flat_map item_functions w.imports) (settled_marked (includes i) whole w.imports has.imports (subst AreMarked (sym ins) (side_marked Imported ks (address i) i fs has.are))))
     (marked_keyed Exported (flat_map item_functions w.exports) (settled_marked (includes i) has.exported w.exports has.exports (subst AreMarked (sym outs) (side_marked Exported ks (address i) i fs has.are))))
 
-foreign_interface : (files : List PackageFile) (ks : List Key) (vs : List ForeignVisit) (is : List Interface) → AreForeignInterfaces files ks vs is → (k : ℕ) (i : Interface) → slice_get is k ≡ Some i → AreMarked i.functions
+foreign_interface : (files : List PackageFile) (ks : List Key) (vs : List ForeignVisit) (is : List Interface) → OneByOne (IsForeignInterface files ks) vs is → (k : ℕ) (i : Interface) → slice_get is k ≡ Some i → AreMarked i.functions
 foreign_interface files ks vs is are k i at =
     let within = slice_get_within is k i at in
     let count = are.count in
     let v = at_within vs k (omega arith) in
-    none_marked i.functions (are.says k v.0 i v.1 at).functions
+    none_marked i.functions (are.each k v.0 i v.1 at).functions
 
-foreign_world : (vs : List ForeignVisit) (ws : List World) → AreForeignWorlds vs ws → (k : ℕ) (w : World) → slice_get ws k ≡ Some w → AreKeyed (world_functions w)
+foreign_world : (vs : List ForeignVisit) (ws : List World) → OneByOne IsForeignWorld vs ws → (k : ℕ) (w : World) → slice_get ws k ≡ Some w → AreKeyed (world_functions w)
 foreign_world vs ws are k w at =
     let within = slice_get_within ws k w at in
     let count = are.count in
     let v = at_within vs k (omega arith) in
-    let says = are.says k v.0 w v.1 at in
+    let says = are.each k v.0 w v.1 at in
     none_keyed (world_functions w) (ap (λ (l : List (List ℕ × Function)). map (keyed Imported) l ++ map (keyed Exported) (flat_map item_functions w.exports)) (ap (flat_map item_functions) says.imports) ∙ ap (λ (l : List (List ℕ × Function)). map (keyed Exported) l) (ap (flat_map item_functions) says.exports))
 
 module _ (files : List PackageFile) (p : UnresolvedPackage) (is : IsPackage files p) where
   interface_marked : (k : ℕ) (i : Interface) → slice_get p.interfaces k ≡ Some i → AreMarked i.functions
   interface_marked k i at = elim (at_split is.foreign_front is.own_interfaces k i (ap (λ (l : List Interface). slice_get l k) (sym is.interface_arena) ∙ at)) [
     | inl front ↦ foreign_interface files (keys is.met) (foreign_interfaces files) is.foreign_front is.are_foreign_interfaces k i front
-    | inr own ↦ own_interface (keys is.met) (is.interfaces ++ all_inside is.worlds) is.own_interfaces is.are_interfaces own.0 i own.2
+    | inr own ↦ own_interface (keys is.met) (is.first.interfaces ++ all_inside is.first.worlds) is.own_interfaces is.are_interfaces own.0 i own.2
   ]
 
   world_marked : (k : ℕ) (w : World) → slice_get p.worlds k ≡ Some w → AreKeyed (world_functions w)
   world_marked k w at = elim (at_split is.worlds_front is.own_worlds k w (ap (λ (l : List World). slice_get l k) (sym is.world_arena) ∙ at)) [
     | inl front ↦ foreign_world (foreign_worlds files) is.worlds_front is.are_foreign_worlds k w front
-    | inr own ↦ own_world (keys is.met) (interface_addresses files (is.interfaces ++ all_inside is.worlds)) (world_addresses files is.worlds) is.worlds is.own_worlds is.are_worlds own.0 w own.2
+    | inr own ↦ own_world (keys is.met) (interface_addresses files (is.first.interfaces ++ all_inside is.first.worlds)) (world_addresses files is.first.worlds) is.first.worlds is.own_worlds is.are_worlds own.0 w own.2
   ]
 
   -- what one of these has, if there is one

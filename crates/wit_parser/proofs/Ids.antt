@@ -27,8 +27,9 @@ use Rattle.wit_syntax.specs.Source.{Item, address, included_scope, leads}
 use Rattle.wit_syntax.specs.Trees.{scope}
 use Rattle.wit_arena.specs.Kind.{kind_of}
 use Rattle.wit_arena.specs.Meet.{Key, Def, Whole, keys, decl_of, IsEntry, IsKeyed}
-use Rattle.wit_arena.specs.Package.{world_types}
-use Rattle.wit_arena.specs.Whole.{Ordered, OrderedWorld, turned, ordered_names, addresses, all_inside, all_turns, turn_handles, type_imports, place_at, owner_at, declarations, AreInterfaces, AreIncludes, AreWorlds, AreForeignInterfaces, AreForeignWorlds, IsPackage, interface_addresses, world_addresses, foreign_turned, foreign_entry, dep_item, dep}
+use Rattle.wit_arena.specs.Package.{world_types, IsForeignWorld}
+use Rattle.wit_arena.specs.OneByOne.{OneByOne}
+use Rattle.wit_arena.specs.Whole.{Ordered, OrderedWorld, turned, ordered_names, addresses, all_inside, all_turns, turn_handles, type_imports, place_at, owner_at, declarations, AreIncludes, IsPackage, interface_addresses, world_addresses, foreign_turned, foreign_entry, dep_item, dep, IsResolvedInterface, IsResolvedWorld, IsForeignInterface}
 use Rattle.wit_syntax.proofs.Kept.{kept_at}
 use Rattle.wit_syntax.proofs.Lists.{at_split, at_within, map_at}
 use Rattle.wit_arena.proofs.Deps.{entry_of_interface, entry_of_world, item_sort}
@@ -71,30 +72,30 @@ module _ (p : UnresolvedPackage) (ks : List Key) (types : length p.types ≡ len
   entries_within files keyed i e at = let k = key_of (declarations files is ws) ks p.types keyed i e at in entry_within files i k.0 e (keyed.each i k.0 e k.1 at)
 
   -- the interfaces of the package, and those of other packages
-  own_interface : (os : List Ordered) (own : List Interface) → AreInterfaces ks os own → (k : ℕ) (i : Interface) → slice_get own k ≡ Some i → IsInterfaceWithin p i
+  own_interface : (os : List Ordered) (own : List Interface) → OneByOne (IsResolvedInterface ks) os own → (k : ℕ) (i : Interface) → slice_get own k ≡ Some i → IsInterfaceWithin p i
   own_interface os own are k i at =
       let within = slice_get_within own k i at in
       let count = are.count in
       let o = at_within os k (omega arith) in
-      let says = are.says k o.0 i o.1 at in
-      let has = are.functions k o.0 i o.1 at in
+      let it = are.each k o.0 i o.1 at in
+      let has = it.functions in
       record {
-        types = names_within p ks types (turned o.0) i.types (are.types k o.0 i o.1 at);
+        types = names_within p ks types (turned o.0) i.types it.types;
         functions = λ j name f there. (
-            let it = function_from has.0 j name f (ap (λ (l : List (List ℕ × Function)). slice_get l j) (sym has.2) ∙ there) in
-            functions_within p ks types (address o.0.item) (functions o.0.item) has.0 has.1 it.0 f it.1);
-        no_package = says.no_package;
-        no_source = says.no_source;
+            let from = function_from has.0 j name f (ap (λ (l : List (List ℕ × Function)). slice_get l j) (sym has.2) ∙ there) in
+            functions_within p ks types (address o.0.item) (functions o.0.item) has.0 has.1 from.0 f from.1);
+        no_package = it.says.no_package;
+        no_source = it.says.no_source;
       }
 
-  foreign_interface : (files : List PackageFile) (vs : List ForeignVisit) (front : List Interface) → AreForeignInterfaces files ks vs front → (k : ℕ) (i : Interface) → slice_get front k ≡ Some i → IsInterfaceWithin p i
+  foreign_interface : (files : List PackageFile) (vs : List ForeignVisit) (front : List Interface) → OneByOne (IsForeignInterface files ks) vs front → (k : ℕ) (i : Interface) → slice_get front k ≡ Some i → IsInterfaceWithin p i
   foreign_interface files vs front are k i at =
       let within = slice_get_within front k i at in
       let count = are.count in
       let v = at_within vs k (omega arith) in
-      let says = are.says k v.0 i v.1 at in
+      let says = are.each k v.0 i v.1 at in
       record {
-        types = names_within p ks types (foreign_turned files v.0) i.types (are.types k v.0 i v.1 at);
+        types = names_within p ks types (foreign_turned files v.0) i.types says.types;
         functions = λ j name f there. absurd (let none = says.functions in let f : ⊥ = cc in f);
         no_package = says.no_package;
         no_source = says.no_source;
@@ -111,28 +112,29 @@ module _ (p : UnresolvedPackage) (ks : List Key) (types : length p.types ≡ len
       omega (arith, placed, worlds)
 
   -- the worlds of the package, and those of other packages
-  own_world : (os : List OrderedWorld) (own : List World) → AreWorlds ks is ws os own → (k : ℕ) (w : World) → slice_get own k ≡ Some w → IsWorldWithin p w
+  own_world : (os : List OrderedWorld) (own : List World) → OneByOne (IsResolvedWorld ks is ws) os own → (k : ℕ) (w : World) → slice_get own k ≡ Some w → IsWorldWithin p w
   own_world os own are k w at =
       let within = slice_get_within own k w at in
       let count = are.count in
       let o = at_within os k (omega arith) in
       let item = o.0.own.item in
-      let has = are.sides k o.0 w o.1 at in
+      let it = are.each k o.0 w o.1 at in
+      let has = it.sides in
       let each = functions_within p ks types (address item) (functions item) has.functions has.are in
-      let names = names_within p ks types (turned o.0.own) (world_types w) (are.types k o.0 w o.1 at) in
+      let names = names_within p ks types (turned o.0.own) (world_types w) it.types in
       record {
         imports = settled_within p (includes item) (type_imports (ordered_names o.0.own) (world_types w) ++ has.imported) w.imports has.imports (both_within p (type_imports (ordered_names o.0.own) (world_types w)) has.imported (type_imports_within p (ordered_names o.0.own) (world_types w) names) (side_within p is interfaces item.top Imported (side_items item) has.functions (addresses o.0.inside) has.imported each has.are_imported));
         exports = settled_within p (includes item) has.exported w.exports has.exports (side_within p is interfaces item.top Exported (side_items item) has.functions (addresses o.0.inside) has.exported each has.are_exported);
-        includes = include_within item w.includes (are.includes k o.0 w o.1 at);
-        no_package = (are.says k o.0 w o.1 at).no_package;
+        includes = include_within item w.includes it.includes;
+        no_package = it.says.no_package;
       }
 
-  foreign_world : (vs : List ForeignVisit) (front : List World) → AreForeignWorlds vs front → (k : ℕ) (w : World) → slice_get front k ≡ Some w → IsWorldWithin p w
+  foreign_world : (vs : List ForeignVisit) (front : List World) → OneByOne IsForeignWorld vs front → (k : ℕ) (w : World) → slice_get front k ≡ Some w → IsWorldWithin p w
   foreign_world vs front are k w at =
       let within = slice_get_within front k w at in
       let count = are.count in
       let v = at_within vs k (omega arith) in
-      let says = are.says k v.0 w v.1 at in
+      let says = are.each k v.0 w v.1 at in
       record {
         imports = none_within p w.imports says.imports;
         exports = none_within p w.exports says.exports;
@@ -160,10 +162,10 @@ length_joined f g xs ys = length-append (map f xs) (map g ys) ∙ ap (λ n. n + 
 
 module _ (files : List PackageFile) (p : UnresolvedPackage) (is : IsPackage files p) where
   abbrev interface_list : List Address
-  interface_list = interface_addresses files (is.interfaces ++ all_inside is.worlds)
+  interface_list = interface_addresses files (is.first.interfaces ++ all_inside is.first.worlds)
 
   abbrev world_list : List Address
-  world_list = world_addresses files is.worlds
+  world_list = world_addresses files is.first.worlds
 
   types : length p.types ≡ length (keys is.met)
   types = is.meeting.keyed.count
@@ -176,24 +178,24 @@ module _ (files : List PackageFile) (p : UnresolvedPackage) (is : IsPackage file
 
   interfaces : length p.interfaces ≡ length interface_list
   interfaces =
-      let all = length_joined visited (λ (o : Ordered). address o.item) (foreign_interfaces files) (is.interfaces ++ all_inside is.worlds) in
+      let all = length_joined visited (λ (o : Ordered). address o.item) (foreign_interfaces files) (is.first.interfaces ++ all_inside is.first.worlds) in
       omega (arith, all, interface_count, is.are_foreign_interfaces.count, is.are_interfaces.count)
 
   worlds : length p.worlds ≡ length world_list
   worlds =
-      let all = length_joined visited (λ (w : OrderedWorld). address w.own.item) (foreign_worlds files) is.worlds in
+      let all = length_joined visited (λ (w : OrderedWorld). address w.own.item) (foreign_worlds files) is.first.worlds in
       omega (arith, all, world_count, is.are_foreign_worlds.count, is.are_worlds.count)
 
   interface_within : (k : ℕ) (i : Interface) → slice_get p.interfaces k ≡ Some i → IsInterfaceWithin p i
   interface_within k i at = elim (at_split is.foreign_front is.own_interfaces k i (ap (λ (l : List Interface). slice_get l k) (sym is.interface_arena) ∙ at)) [
     | inl front ↦ foreign_interface p (keys is.met) types interface_list world_list interfaces worlds files (foreign_interfaces files) is.foreign_front is.are_foreign_interfaces k i front
-    | inr own ↦ own_interface p (keys is.met) types interface_list world_list interfaces worlds (is.interfaces ++ all_inside is.worlds) is.own_interfaces is.are_interfaces own.0 i own.2
+    | inr own ↦ own_interface p (keys is.met) types interface_list world_list interfaces worlds (is.first.interfaces ++ all_inside is.first.worlds) is.own_interfaces is.are_interfaces own.0 i own.2
   ]
 
   world_within : (k : ℕ) (w : World) → slice_get p.worlds k ≡ Some w → IsWorldWithin p w
   world_within k w at = elim (at_split is.worlds_front is.own_worlds k w (ap (λ (l : List World). slice_get l k) (sym is.world_arena) ∙ at)) [
     | inl front ↦ foreign_world p (keys is.met) types interface_list world_list interfaces worlds (foreign_worlds files) is.worlds_front is.are_foreign_worlds k w front
-    | inr own ↦ own_world p (keys is.met) types interface_list world_list interfaces worlds is.worlds is.own_worlds is.are_worlds own.0 w own.2
+    | inr own ↦ own_world p (keys is.met) types interface_list world_list interfaces worlds is.first.worlds is.own_worlds is.are_worlds own.0 w own.2
   ]
 
   foreign_within : (k : ℕ) (d : PackageName × List (List ℕ × (AstItem × List Stability))) → slice_get p.foreign_deps k ≡ Some d → (j : ℕ) (x : List ℕ × (AstItem × List Stability)) → slice_get d.1 j ≡ Some x → IsForeignWithin p x.1.0
@@ -209,5 +211,5 @@ module _ (files : List PackageFile) (p : UnresolvedPackage) (is : IsPackage file
     interfaces = interface_within;
     worlds = world_within;
     foreign = foreign_within;
-    required = required_within p (keys is.met) types files (flat_map turn_handles (all_turns is.interfaces is.worlds)) p.required_resource_types is.required;
+    required = required_within p (keys is.met) types files (flat_map turn_handles (all_turns is.first.interfaces is.first.worlds)) p.required_resource_types is.required;
   }

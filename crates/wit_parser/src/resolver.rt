@@ -11,8 +11,7 @@ ghost use Rattle.wit_contents.specs.Between.{IsMade};
 ghost use Rattle.wit_parser.specs.Stray.{IsNesting, IsStray};
 ghost use Rattle.wit_types.specs.Types.{IsBackward};
 ghost use Rattle.wit_arena.specs.Whole.{first_docs, IsPackage};
-ghost use Rattle.wit_arena.specs.Faithful.{IsFaithful};
-ghost use Rattle.wit_arena.specs.FirstMeetings.{HasArena};
+ghost use Rattle.wit_arena.specs.Faithful.{IsFaithful, HasArena};
 
 use std::alloc::{AllocError, Global};
 use wit_contents::contents::resolve_contents;

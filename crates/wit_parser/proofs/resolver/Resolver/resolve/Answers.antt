@@ -1,8 +1,7 @@
 use Rattle.std.proofs.lemmas.Result.{IfOk-weaker}
 use Rattle.wit_types.specs.Types.{IsBackward}
 use Rattle.wit_arena.specs.Whole.{IsPackage}
-use Rattle.wit_arena.specs.Faithful.{IsFaithful}
-use Rattle.wit_arena.specs.FirstMeetings.{HasArena}
+use Rattle.wit_arena.specs.Faithful.{IsFaithful, HasArena}
 use Rattle.wit_contents.specs.Between.{IsMade}
 use Rattle.wit_contents.proofs.Files.{made_legal}
 use Rattle.wit_parser.proofs.resolver.Resolver.resolve.Goals as goal
