@@ -156,12 +156,21 @@ impl<'f, 'a> FileNames<'f, 'a> {
 
     /// Where a path in an item of the file at a place leads: where the name at the top of the file
     /// stands for, where it is one, else where the path says.
-    ///
-    /// A path of a `use` at the top of a file says itself where it leads: it is not read here.
     pub fn target(&self, file: usize, path: &'f UsePath<'a>) -> Target<'f, 'a>
         requires within { file < length self.now }
         ensures { target_behind result ≡ the_leads (top_at self.now file) path.now }
     {
         leads(&self.tables.tops[file], path)
+    }
+
+    /// What a path in an item of the file at a place leads to; none where no item has the name, or no
+    /// path of the files leads to that item of another package.
+    ///
+    /// A path of a `use` at the top of a file says itself where it leads: it is not read here.
+    pub fn lookup(&self, file: usize, path: &'f UsePath<'a>) -> Option<Found>
+        requires within { file < length self.now }
+        ensures { result ≡ found_at self.now (the_leads (top_at self.now file) path.now) }
+    {
+        self.found(self.target(file, path))
     }
 }
