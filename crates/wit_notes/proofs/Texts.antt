@@ -1,8 +1,9 @@
 -- Marks at both ends of texts, spaces in front, and lines.
-use Rattle.std.proofs.Common.{◌≡◌, ◌≢◌, ℕ, zero, suc, ◌-◌, ◌<◌, ◌==◌, ◌&&◌, true, false, List, [], ◌∷◌, ◌++◌, length, take, drop, Option, Some, None, IfSome, inl, inr, refl, sym, ap, ◌∙◌, arith, lit<, if◌then◌else◌}
+use Rattle.std.proofs.Common.{◌≡◌, ◌≢◌, ℕ, zero, suc, ◌-◌, ◌<◌, ◌==◌, ◌&&◌, true, false, List, [], ◌∷◌, ◌++◌, length, take, drop, append-nil, slice_index, Option, Some, None, is_some, IfSome, inl, inr, refl, sym, ap, ◌∙◌, arith, lit<, if◌then◌else◌}
 use Rattle.std.specs.Prelude.{map, filter, nat_eq}
-use Rattle.std.specs.List.{ends_with}
+use Rattle.std.specs.List.{ends_with, flat_map, slice_split}
 use Rattle.std.specs.Str.{IsCharBoundary}
+use Rattle.std.specs.Str.Lines.{lines_of_parts}
 use Rattle.std.specs.Str.Pattern.{CutsPrefixes, CutsSuffixes, IsTrimStartMatches, IsTrimEndMatches, FindsCharPrefix, FindsCharSuffix, FindsTextSuffix, HasCharAt, StripsSuffix}
 use Rattle.std.proofs.lemmas.Bool.{cases_Bool, eqb-true, ne_eqb}
 use Rattle.std.proofs.lemmas.Str.{encode_ascii}
@@ -10,8 +11,9 @@ use Rattle.std.proofs.lemmas.Str.Pattern.{drop_at_char, ends_text}
 use Rattle.std.proofs.lemmas.List.{take-append-drop}
 use Rattle.std.proofs.Math.Seq.{drop-length}
 use denote.Ref.{Bor}
+use Rattle.memchr.specs.Find.{IsFirstByte, is_byte}
 use Rattle.wit_syntax.proofs.Lists.{map_map}
-use Rattle.wit_syntax.specs.Docs.{behind_slashes, behind_spaces, docs_text, indent, is_written, joined, said, without_end, without_last_lines}
+use Rattle.wit_syntax.specs.Docs.{behind_slashes, behind_spaces, docs_text, ended, ended_lines, indent, is_written, joined, said, without_end, without_last_lines}
 
 -- a text whose end was taken off
 pub without_end-stripped : (n s : List ℕ) (x : Bor (List ℕ)) → StripsSuffix (FindsTextSuffix n) s x.now → x.now ≡ without_end n s
@@ -92,6 +94,30 @@ last_lines-done r (Some n) h z = absurd (let ends = h.1.ends in let f : ⊥ = om
 
 pub last_lines-trimmed : (s r : List ℕ) → IsTrimEndMatches (FindsCharSuffix 10) s r → r ≡ without_last_lines s
 last_lines-trimmed s r h = sym (last_lines-cut s r h.0.0 h.0.1 ∙ last_lines-done r h.1.0 h.1.1 h.1.2)
+
+-- a text without an LF is one line
+one_part : (text : List ℕ) → ((k : ℕ) → k < length text → (slice_index text k == 10) ≡ true → ⊥) → slice_split (λ b. b == 10) text ≡ text ∷ []
+one_part [] h = refl
+one_part (b ∷ text) h = elim (cases_Bool (b == 10)) [
+  | inl end ↦ absurd (h 0 (omega arith) end)
+  | inr other ↦ rw (other, one_part text (λ k lt e. h (suc k) (omega arith) e)) refl
+]
+
+one_line : (text : List ℕ) (parts : List (List ℕ)) → parts ≡ text ∷ [] → (if length text == 0 then [] ∷ [] else lines_of_parts parts) ≡ text ∷ []
+one_line [] parts is = refl
+one_line (b ∷ text) parts is =
+    let long : (length (b ∷ text) == 0) ≡ false = ne_eqb (length (b ∷ text)) 0 (λ z. (let f : ⊥ = omega arith in f)) in
+    rw (is, long) refl
+
+pub lines-one : (text : List ℕ) (found : Option ℕ) → IsFirstByte (is_byte 10) text found → is_some found ≡ false → ended_lines text ≡ ended text
+lines-one text (Some place) h none = absurd (let f : ⊥ = cc in f)
+lines-one text None h none =
+    let part = one_part text (λ k lt. h k (omega arith) lt) in
+    ap (flat_map ended) (one_line text (slice_split (λ b. b == 10) text) part) ∙ append-nil (ended text)
+
+pub lines-many : (text : List ℕ) (found : Option ℕ) → IsFirstByte (is_byte 10) text found → is_some found ≡ true → (length text == 0) ≡ false
+lines-many text None h some = absurd (let f : ⊥ = cc in f)
+lines-many text (Some place) h some = ne_eqb (length text) 0 (λ z. (let high = h.0.high in let f : ⊥ = omega arith in f))
 
 -- the indents of lent texts
 pub indents-lent : (ts : List (Bor (List ℕ))) → map (λ (t : Bor (List ℕ)). indent t.now) (filter (λ (t : Bor (List ℕ)). is_written t.now) ts) ≡ map indent (filter is_written (map (λ (t : Bor (List ℕ)). t.now) ts))

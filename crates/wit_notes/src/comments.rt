@@ -3,6 +3,7 @@ ghost use Rattle.std.specs.Prelude.{◌≡◌, ◌++◌, IfOk, OnOk, map, string
 ghost use Rattle.wit_syntax.specs.Docs.{behind_slashes, common_indent, ended, ended_lines, indent, joined, said, unmarked, without_end, without_last_lines, without_spaces};
 ghost use Rattle.wit_syntax.specs.Notes.{docs_of};
 
+use memchr::memchr;
 use std::alloc::{AllocError, Global};
 use wit_names::front::behind;
 use wit_tree::tree;
@@ -108,7 +109,7 @@ fn push_line(text: &mut String, line: &str) -> Result<(), AllocError>
 fn push_lines(text: &mut String, added: &str) -> Result<(), AllocError>
     ensures { OnOk result (string_bytes text.new ≡ string_bytes text.old ++ ended_lines added.now) }
 {
-    if added.is_empty() {
+    if memchr(b'\n', added.as_bytes()).is_none() {
         return push_line(text, added);
     }
     for line in added.lines() {
