@@ -129,7 +129,11 @@ fn add_include<'a>(
     ensures refused { IfErr result (λ e. IsRefused reader.old e) }
 {
     let include = read_include(reader, attributes)?;
-    add(items, WorldItem::Include(include), reader.at(Kind::CloseBrace))?;
+    add(
+        items,
+        WorldItem::Include(include),
+        reader.at(Kind::CloseBrace),
+    )?;
     Ok(())
 }
 
@@ -144,7 +148,11 @@ fn add_definition<'a>(
     ensures refused { IfErr result (λ e. IsRefused reader.old e) }
 {
     let definition = read_definition(reader, front)?;
-    add(items, WorldItem::TypeDef(definition), reader.at(Kind::CloseBrace))?;
+    add(
+        items,
+        WorldItem::TypeDef(definition),
+        reader.at(Kind::CloseBrace),
+    )?;
     Ok(())
 }
 
