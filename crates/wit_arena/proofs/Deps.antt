@@ -12,9 +12,8 @@ use Rattle.wit_package_names.specs.declared.package_name.PackageName.{PackageNam
 use Rattle.wit_model.specs.declared.unresolved.UnresolvedPackage.{UnresolvedPackage}
 use Rattle.wit_types.specs.declared.stability.Stability.{Stability}
 use Rattle.wit_syntax.specs.Address.{Address, ForeignNamed, same_package}
-use Rattle.wit_syntax.specs.Node.{OfScope, Nobody}
 use Rattle.wit_syntax.specs.Foreign.{ForeignVisit, visited_package, visited, same_item, foreign_visits, foreign_items, is_foreign_world, foreign_interfaces, foreign_worlds, foreign_packages, items_of_package}
-use Rattle.wit_arena.specs.Package.{dep_items, same_entry, address_of, foreign_owner}
+use Rattle.wit_arena.specs.Package.{dep_items, same_entry, foreign_owner}
 use Rattle.wit_syntax.specs.Repeats.{AllDiffer}
 use Rattle.wit_arena.specs.Whole.{foreign_place, foreign_entry, dep_item, dep}
 use Rattle.wit_syntax.proofs.Lists.{map_at, flat_map_at, flat_map_has}
@@ -134,7 +133,7 @@ module _ (files : List PackageFile) where
         item_listed (visited_package u.0) d.3.0 e (ap (λ (z : Dep). slice_get (dep_items z) d.3.0) u.2 ∙ d.3.1)
 
     -- the package calls an item by its address
-    pub foreign_owner-entry : (q : ℕ) (v : ForeignVisit) → slice_get (foreign_items files) q ≡ Some v → foreign_owner p (foreign_entry files v) ≡ OfScope (visited v)
+    pub foreign_owner-entry : (q : ℕ) (v : ForeignVisit) → slice_get (foreign_items files) q ≡ Some v → foreign_owner p (foreign_entry files v) ≡ Some (visited v)
     foreign_owner-entry q v at =
         let i = foreign_entry files v in
         let test = λ (e : AstItem × Address). same_entry e.0 i in
@@ -145,17 +144,17 @@ module _ (files : List PackageFile) where
         let passes = same_entry-equal e.0.0 i (find_passes test listed e.0 e.1) in
         let same : foreign_entry files u.1 ≡ i = ap (λ (x : AstItem × Address). x.0) (sym u.3) ∙ passes in
         let one = foreign_entry-injective u.0 q u.1 v u.2 at same in
-        ap address_of e.1 ∙ ap (λ (x : AstItem × Address). OfScope x.1) u.3 ∙ ap (λ (x : ForeignVisit). OfScope (visited x)) one
+        ap (option_map (λ (x : AstItem × Address). x.1)) e.1 ∙ ap (λ (x : AstItem × Address). Some x.1) u.3 ∙ ap (λ (x : ForeignVisit). Some (visited x)) one
 
-    pub foreign_interface_owner : (t : ℕ) (v : ForeignVisit) → slice_get (foreign_interfaces files) t ≡ Some v → foreign_owner p (entry.Interface t) ≡ OfScope (visited v)
+    pub foreign_interface_owner : (t : ℕ) (v : ForeignVisit) → slice_get (foreign_interfaces files) t ≡ Some v → foreign_owner p (entry.Interface t) ≡ Some (visited v)
     foreign_interface_owner t v at = let q = interface_visit files t v at in ap (foreign_owner p) (sym (entry_of_interface t v at)) ∙ foreign_owner-entry q.0 v q.1
 
-    pub foreign_world_owner : (t : ℕ) (v : ForeignVisit) → slice_get (foreign_worlds files) t ≡ Some v → foreign_owner p (entry.World t) ≡ OfScope (visited v)
+    pub foreign_world_owner : (t : ℕ) (v : ForeignVisit) → slice_get (foreign_worlds files) t ≡ Some v → foreign_owner p (entry.World t) ≡ Some (visited v)
     foreign_world_owner t v at = let q = world_visit files t v at in ap (foreign_owner p) (sym (entry_of_world t v at)) ∙ foreign_owner-entry q.0 v q.1
 
     -- no interface behind those of other packages is one of them
-    pub foreign_interface-none : (t : ℕ) → length (foreign_interfaces files) ≤ t → foreign_owner p (entry.Interface t) ≡ Nobody
-    foreign_interface-none t past = ap address_of (none_found (λ (e : AstItem × Address). same_entry e.0 (entry.Interface t)) listed (λ k e at passes. (
+    pub foreign_interface-none : (t : ℕ) → length (foreign_interfaces files) ≤ t → foreign_owner p (entry.Interface t) ≡ None
+    foreign_interface-none t past = ap (option_map (λ (x : AstItem × Address). x.1)) (none_found (λ (e : AstItem × Address). same_entry e.0 (entry.Interface t)) listed (λ k e at passes. (
         let u = listed_at k e at in
         let one : foreign_entry files u.1 ≡ entry.Interface t = ap (λ (x : AstItem × Address). x.0) (sym u.3) ∙ same_entry-equal e.0 (entry.Interface t) passes in
         elim (item_sort u.0 u.1 u.2) [

@@ -13,15 +13,15 @@ use Rattle.wit_types.specs.declared.types.TypeDef.{TypeDef}
 use Rattle.wit_types.specs.declared.types.TypeOwner.{TypeOwner}
 use Rattle.wit_syntax.specs.Form.{Form}
 use Rattle.wit_arena.specs.Kind.{kind_of}
-use Rattle.wit_syntax.specs.Node.{Primitive, Tree, Head, Owner, OfScope, Leaf, Named, Unnamed, node_map}
+use Rattle.wit_syntax.specs.Node.{Primitive, Tree, Head, Leaf, Named, Unnamed, node_map, primitive_type}
 use Rattle.wit_syntax.specs.Shape.{Shape, Shapes}
 use Rattle.wit_syntax.specs.Shape as shape
-use Rattle.wit_syntax.specs.Notes.{Notes, HasNotes}
+use Rattle.wit_syntax.specs.Notes.{Notes, AreNotes}
 use Rattle.wit_syntax.specs.Address.{Address}
 use Rattle.wit_syntax.specs.Source.{ScopeName, local_name, meaning, head, named_node, name_form, name_body, name_scope, name_span, name_notes, placed}
 use Rattle.wit_syntax.specs.Trees.{scope, source_tree}
 use Rattle.wit_arena.specs.Expr.{expr_of, exprs_of, name_exprs, Exprs}
-use Rattle.wit_arena.specs.Meet.{Key, Def, Whole, IsAt, AreAt, Decl, Decls, decl_of, IsKeyed, primitive_type}
+use Rattle.wit_arena.specs.Meet.{Key, Def, Whole, IsAt, AreAt, Decl, Decls, decl_of, IsKeyed}
 use Rattle.wit_arena.specs.Package.{package_tree, node_at, entry_head, entry_node, owner_of}
 use Rattle.wit_arena.specs.Resolving.{decls_of}
 use Rattle.wit_syntax.specs.Scope.{AreDistinct}
@@ -44,7 +44,7 @@ meaning_found (y ∷ xs) (suc k) x name distinct at same = elim (name_cases (loc
   | inr other ↦ rw other (meaning_found xs k x name (differ_by local_name xs (λ i j e f ati atj names. (let both = differ_at local_name (y ∷ xs) distinct (suc i) (suc j) e f ati atj names in omega arith))) at same)
 ]
 
-abbrev made : Owner → List ℕ → Span → Docs → Stability → Option (List ℕ) → Head
+abbrev made : Option Address → List ℕ → Span → Docs → Stability → Option (List ℕ) → Head
 made o name span docs stability external_id = record { owner = o; name = name; span = span; docs = docs; stability = stability; external_id = external_id }
 
 abbrev named_of : (n : ℕ) → Head → Form → List (Tree n) → Tree (suc n)
@@ -58,7 +58,7 @@ pub record IsScope (files : List PackageFile) (decls : Decls) (p : UnresolvedPac
   pub distinct : AreDistinct (scope files s)
   pub whose : TypeOwner
   pub own : decls s ≡ decls_of whose s (scope files s)
-  pub called : owner_of p whose ≡ OfScope s
+  pub called : owner_of p whose ≡ Some s
 
 module _ (files : List PackageFile) (decls : Decls) (ks : List Key) (p : UnresolvedPackage) (m : IsKeyed decls ks p.types) (scopes : (j : ℕ) (s : Address) (name : List ℕ) → slice_get ks j ≡ Some (Def s name) → IsScope files decls p s) where
   abbrev Agree : ℕ → Type 0
@@ -71,14 +71,14 @@ module _ (files : List PackageFile) (decls : Decls) (ks : List Key) (p : Unresol
   parts_agree n agree s (shape.More x xs) [] h = absurd h
 
   -- the heads agree
-  head_agrees : (s : Address) (called : List ℕ) (x : ScopeName) (e : TypeDef) → local_name x ≡ called → e.span ≡ name_span x → owner_of p e.owner ≡ OfScope s → HasNotes (name_notes x) e → entry_head p called e ≡ head s x
+  head_agrees : (s : Address) (called : List ℕ) (x : ScopeName) (e : TypeDef) → local_name x ≡ called → e.span ≡ name_span x → owner_of p e.owner ≡ Some s → AreNotes (name_notes x) e.docs e.stability e.external_id → entry_head p called e ≡ head s x
   head_agrees s called x e name span own told =
-      ap (λ (o : Owner). made o called e.span e.docs e.stability e.external_id) own
-      ∙ ap (λ (n : List ℕ). made (OfScope s) n e.span e.docs e.stability e.external_id) (sym name)
-      ∙ ap (λ (z : Span). made (OfScope s) (local_name x) z e.docs e.stability e.external_id) span
-      ∙ ap (λ (z : Docs). made (OfScope s) (local_name x) (name_span x) z e.stability e.external_id) told.docs
-      ∙ ap (λ (z : Stability). made (OfScope s) (local_name x) (name_span x) (name_notes x).docs z e.external_id) told.stability
-      ∙ ap (λ (z : Option (List ℕ)). made (OfScope s) (local_name x) (name_span x) (name_notes x).docs (name_notes x).stability z) told.external_id
+      ap (λ (o : Option Address). made o called e.span e.docs e.stability e.external_id) own
+      ∙ ap (λ (n : List ℕ). made (Some s) n e.span e.docs e.stability e.external_id) (sym name)
+      ∙ ap (λ (z : Span). made (Some s) (local_name x) z e.docs e.stability e.external_id) span
+      ∙ ap (λ (z : Docs). made (Some s) (local_name x) (name_span x) z e.stability e.external_id) told.docs
+      ∙ ap (λ (z : Stability). made (Some s) (local_name x) (name_span x) (name_notes x).docs z e.external_id) told.stability
+      ∙ ap (λ (z : Option (List ℕ)). made (Some s) (local_name x) (name_span x) (name_notes x).docs (name_notes x).stability z) told.external_id
 
   name_agrees : (n : ℕ) → Agree n → (s : Address) (name : List ℕ) (i : ℕ) → slice_get ks i ≡ Some (Def s name) → package_tree p (suc n) (type.Id i) ≡ node_map (source_tree files n) (named_node s (meaning (scope files s) name))
   name_agrees n agree s name i there =
@@ -89,12 +89,12 @@ module _ (files : List PackageFile) (decls : Decls) (ks : List Key) (p : Unresol
       let x = map_at (decl_of here.whose s) (scope files s) k it.decl (ap (λ (l : List Decl). slice_get l k) (sym here.own) ∙ it.among.1) in
       let called : local_name x.0 ≡ name = ap (λ (y : Decl). y.name) x.2 ∙ it.same in
       let span : e.0.span ≡ name_span x.0 = it.span ∙ sym (ap (λ (y : Decl). y.span) x.2) in
-      let own : owner_of p e.0.owner ≡ OfScope s = ap (owner_of p) (it.owner ∙ sym (ap (λ (y : Decl). y.owner) x.2)) ∙ here.called in
+      let own : owner_of p e.0.owner ≡ Some s = ap (owner_of p) (it.owner ∙ sym (ap (λ (y : Decl). y.owner) x.2)) ∙ here.called in
       let form : (kind_of e.0.kind).form ≡ name_form x.0 = it.form ∙ sym (ap (λ (y : Decl). y.form) x.2) in
       let parts : AreAt ks (name_exprs s x.0) (kind_of e.0.kind).parts = subst (λ (y : Exprs). AreAt ks y (kind_of e.0.kind).parts) (sym (ap (λ (y : Decl). y.parts) x.2)) (all_at_untaken i ks it.decl.parts (kind_of e.0.kind).parts it.parts) in
       let inner = parts_agree n agree (name_scope s x.0) (name_body x.0).parts (kind_of e.0.kind).parts parts in
       let found = meaning_found (scope files s) k x.0 name here.distinct x.1 called in
-      let told : HasNotes (name_notes x.0) e.0 = subst (λ (y : Notes). HasNotes y e.0) (sym (ap (λ (y : Decl). y.notes) x.2)) it.notes in
+      let told : AreNotes (name_notes x.0) e.0.docs e.0.stability e.0.external_id = subst (λ (y : Notes). AreNotes y e.0.docs e.0.stability e.0.external_id) (sym (ap (λ (y : Decl). y.notes) x.2)) it.notes in
       let heads = head_agrees s name x.0 e.0 called span own told in
       ap (λ (o : Option TypeDef). node_map (package_tree p n) (node_at p o)) e.1
       ∙ ap (λ (o : Option (List ℕ)). node_map (package_tree p n) (entry_node p o e.0)) it.name
@@ -113,7 +113,7 @@ module _ (files : List PackageFile) (decls : Decls) (ks : List Key) (p : Unresol
       ∙ ap (λ (x : Form). unnamed_of n x (map (package_tree p n) (kind_of e.0.kind).parts)) it.form
       ∙ ap (λ (x : List (Tree n)). unnamed_of n form x) inner
 
-  primitive_agrees : (n : ℕ) (x : Primitive) → package_tree p (suc n) (primitive_type x) ≡ Leaf x
+  primitive_agrees : (n : ℕ) (x : Primitive) → package_tree p (suc n) (primitive_type x) ≡ Leaf (primitive_type x)
   primitive_agrees n x = ap (node_map (package_tree p n)) (primitive_node p x)
 
   pub same_tree : (n : ℕ) → Agree n

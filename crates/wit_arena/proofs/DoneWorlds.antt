@@ -49,7 +49,7 @@ use Rattle.wit_arena.proofs.Stating.{world_types-all}
 
 -- a world of the arena is the item, with its includes, where the worlds have these addresses
 pub record SaysWorld (worlds : List Address) (o : Ordered) (w : World) : Type 0 where
-  pub says : IsWorld (item_id o.item) (item_notes o.item) w
+  pub says : IsWorld (item_id o.item).name.now (item_id o.item).span (item_notes o.item) w
   pub includes : AreIncludes worlds o.item w.includes
 
 -- it has the types of a scope as its imports, and then, on its sides, what the item has there, each setter behind its getter where nothing is

@@ -15,14 +15,14 @@ use Rattle.wit_types.specs.declared.types.TypeDef.{TypeDef}
 use Rattle.wit_types.specs.declared.types.TypeOwner.{TypeOwner}
 use Rattle.wit_syntax.specs.Form.{Form, ResourceForm, AliasForm, UnknownForm}
 use Rattle.wit_arena.specs.Kind.{kind_of}
-use Rattle.wit_syntax.specs.Node.{Primitive, Head, Node, Leaf, Named, Unnamed, Nothing, node_map, unfolded}
+use Rattle.wit_syntax.specs.Node.{Primitive, Head, Node, Leaf, Named, Unnamed, Nothing, node_map, unfolded, primitive_type}
 use Rattle.wit_syntax.specs.Node as node
 use Rattle.wit_syntax.specs.Shape.{Shapes, Prim, Word, one, written_body, body_of}
 use Rattle.wit_syntax.specs.Address.{Address}
 use Rattle.wit_syntax.specs.Source.{ScopeName, Used, Defined, Taken, Place, local_name, meaning, head, placed, name_form, name_body, name_scope, name_parts, named_node}
 use Rattle.wit_syntax.specs.Trees.{scope, source_node, source_tree}
 use Rattle.wit_arena.specs.Expr.{Exprs, exprs_of, name_exprs}
-use Rattle.wit_arena.specs.Meet.{Key, Def, AreAt, Decl, Decls, decl_of, IsKeyed, primitive_type}
+use Rattle.wit_arena.specs.Meet.{Key, Def, AreAt, Decl, Decls, decl_of, IsKeyed}
 use Rattle.wit_arena.proofs.Parts.{HasPart}
 use Rattle.wit_arena.specs.Resolving.{decls_of}
 use Rattle.wit_syntax.specs.Scope.{AreDistinct}

@@ -11,7 +11,6 @@ use Rattle.wit_syntax.specs.Form.{Form, UnknownForm}
 use Rattle.wit_arena.specs.Kind.{kind_of}
 use Rattle.wit_syntax.specs.Shape.{Shape, Word}
 use Rattle.wit_syntax.specs.Address.{Address}
-use Rattle.wit_syntax.specs.Node.{OfScope}
 use Rattle.wit_syntax.specs.Source.{ScopeName, Place, local_name, local_id, first_takings, name_body, name_scope, named_node}
 use Rattle.wit_syntax.specs.Trees.{scope}
 use Rattle.wit_arena.specs.Expr.{Expr, Exprs, expr_of}
@@ -54,10 +53,10 @@ pub record IsOwnerOf (cs : List DoneScope) (o : TypeOwner) (s : Address) : Type 
 
 -- the owners of a package are those of these scopes, and have their names and their functions
 pub record AreOwners (p : UnresolvedPackage) (cs : List DoneScope) : Type 0 where
-  pub called : (t : ℕ) (c : DoneScope) → slice_get cs t ≡ Some c → owner_of p c.owner ≡ OfScope c.address
+  pub called : (t : ℕ) (c : DoneScope) → slice_get cs t ≡ Some c → owner_of p c.owner ≡ Some c.address
   pub names : (t : ℕ) (c : DoneScope) → slice_get cs t ≡ Some c → names_of p c.owner ≡ c.types
   pub functions : (t : ℕ) (c : DoneScope) → slice_get cs t ≡ Some c → functions_of p c.owner ≡ c.stated
-  pub all : (o : TypeOwner) (s : Address) → owner_of p o ≡ OfScope s → IsOwnerOf cs o s
+  pub all : (o : TypeOwner) (s : Address) → owner_of p o ≡ Some s → IsOwnerOf cs o s
 
 module _ (files : List PackageFile) (decls : Decls) (written : List Meeting) (cs : List DoneScope) (p : UnresolvedPackage) (d : IsDone files decls written cs p.types) (owners : AreOwners p cs) where
   abbrev ks : List Key
@@ -203,7 +202,7 @@ module _ (files : List PackageFile) (decls : Decls) (written : List Meeting) (cs
   stated_of o s w = ap (functions_of p) (sym w.whose) ∙ owners.functions w.place w.cell w.at
 
   -- each name of a scope is one of its owner
-  name_stands : (o : TypeOwner) (s : Address) (x : ScopeName) → owner_of p o ≡ OfScope s → Contains (scope files s) x → (id : ℕ) × Contains (names_of p o) (local_name x, id)
+  name_stands : (o : TypeOwner) (s : Address) (x : ScopeName) → owner_of p o ≡ Some s → Contains (scope files s) x → (id : ℕ) × Contains (names_of p o) (local_name x, id)
   name_stands o s x called among =
       let w = owners.all o s called in
       let k = at_contains (scope files s) x among in
@@ -218,7 +217,7 @@ module _ (files : List PackageFile) (decls : Decls) (written : List Meeting) (cs
       (k.0, ap (λ (l : List SourceFunction). slice_get l k.0) (d.each t c at).functions ∙ ap (λ (z : Address). slice_get (functions_at files z) k.0) same ∙ k.1)
 
   -- so is each function, with a type for each of its own
-  function_stands : (o : TypeOwner) (s : Address) (fn : SourceFunction) → owner_of p o ≡ OfScope s → Contains (functions_at files s) fn → (f : Function) × Contains (functions_of p o) (function_key fn, f) × (length (function_types f) ≡ length (signature fn))
+  function_stands : (o : TypeOwner) (s : Address) (fn : SourceFunction) → owner_of p o ≡ Some s → Contains (functions_at files s) fn → (f : Function) × Contains (functions_of p o) (function_key fn, f) × (length (function_types f) ≡ length (signature fn))
   function_stands o s fn called among =
       let w = owners.all o s called in
       let k = function_place s fn w.place w.cell w.at w.scope among in
@@ -227,7 +226,7 @@ module _ (files : List PackageFile) (decls : Decls) (written : List Meeting) (cs
       (f.0, subst (λ (z : TypeOwner). Contains (functions_of p z) (function_key fn, f.0)) w.whose stated, (function_typed ks w.cell.address fn f.0 f.2).count)
 
   -- a name of an owner stands for the place where it was met
-  pub name_at : (o : TypeOwner) (s : Address) (k : ℕ) (name : List ℕ) (id : ℕ) → owner_of p o ≡ OfScope s → slice_get (names_of p o) k ≡ Some (name, id) → slice_get ks id ≡ Some (Def s name)
+  pub name_at : (o : TypeOwner) (s : Address) (k : ℕ) (name : List ℕ) (id : ℕ) → owner_of p o ≡ Some s → slice_get (names_of p o) k ≡ Some (name, id) → slice_get ks id ≡ Some (Def s name)
   name_at o s k name id called at =
       let w = owners.all o s called in
       let types : names_of p o ≡ w.cell.types = ap (names_of p) (sym w.whose) ∙ owners.names w.place w.cell w.at in
@@ -241,7 +240,7 @@ module _ (files : List PackageFile) (decls : Decls) (written : List Meeting) (cs
   -- where no two functions of a scope go by one side and name
   module _ (apart : (t : ℕ) (c : DoneScope) → slice_get cs t ≡ Some c → AllDiffer (map function_key c.functions)) where
     -- the function of an owner that goes by the key of one of its scope is that one
-    function_is : (o : TypeOwner) (s : Address) (fn : SourceFunction) (f : Function) → owner_of p o ≡ OfScope s → Contains (functions_at files s) fn → Contains (functions_of p o) (function_key fn, f) → IsFunction ks s fn f
+    function_is : (o : TypeOwner) (s : Address) (fn : SourceFunction) (f : Function) → owner_of p o ≡ Some s → Contains (functions_at files s) fn → Contains (functions_of p o) (function_key fn, f) → IsFunction ks s fn f
     function_is o s fn f called among stands =
         let w = owners.all o s called in
         let c = w.cell in

@@ -1,5 +1,6 @@
 -- The package knows an interface that is written in a world by the place where it stands there.
 use Rattle.std.proofs.Common.{◌≡◌, ℕ, ◌+◌, true, false, List, [], length, Some, None, inl, inr, sym, ap, ◌∙◌, eqb-true, eq-eqb}
+use Rattle.std.specs.Option.{option_map}
 use Rattle.std.specs.Prelude.{slice_get, ◌++◌, take, nat_eq}
 use Rattle.std.specs.List.{flat_map}
 use Rattle.wit_tree.specs.declared.tree.PackageFile.{PackageFile}
@@ -7,7 +8,6 @@ use Rattle.wit_tree.specs.declared.tree.WorldSide.{WorldSide}
 use Rattle.wit_model.specs.declared.world.World.{World}
 use Rattle.wit_model.specs.declared.unresolved.UnresolvedPackage.{UnresolvedPackage}
 use Rattle.wit_syntax.specs.Address.{Address, InlineAt}
-use Rattle.wit_syntax.specs.Node.{OfScope}
 use Rattle.wit_syntax.specs.Repeats.{AllDiffer}
 use Rattle.wit_syntax.specs.Sides.{interfaces_on, side_items, inline_items}
 use Rattle.wit_syntax.specs.Source.{Item, item_name, address, declared_name}
@@ -16,7 +16,7 @@ use Rattle.wit_syntax.proofs.Inline.{is_inside, inline_items_at, inline_inside}
 use Rattle.wit_syntax.proofs.Lists.{at_back, flat_map_at, flat_map_has}
 use Rattle.wit_syntax.proofs.Turns.{at_part}
 use Rattle.wit_syntax.specs.Scope.{includes}
-use Rattle.wit_arena.specs.Package.{world_interfaces, inline_address, inline_owner}
+use Rattle.wit_arena.specs.Package.{world_interfaces, inline_owner}
 use Rattle.wit_arena.specs.Whole.{Ordered}
 use Rattle.wit_arena.proofs.InlineOwners.{IsInlineEntry, world_entries, world_entry}
 use Rattle.wit_arena.proofs.Laid.{AreLaid, scope_at, entry_of_item, item_of_entry}
@@ -71,7 +71,7 @@ module _ (files : List PackageFile) (p : UnresolvedPackage) (interfaces worlds :
       (n.0, it.1, n.1, it.3)
 
   -- so the package knows it by its place
-  pub inline_called : AllDiffer interfaces → (t : ℕ) (o : Ordered) (k : ℕ) (i : Item) (place : ℕ) → slice_get os t ≡ Some o → slice_get (inline_items o.item) k ≡ Some i → slice_get interfaces place ≡ Some (address i) → inline_owner p place ≡ OfScope (address i)
+  pub inline_called : AllDiffer interfaces → (t : ℕ) (o : Ordered) (k : ℕ) (i : Item) (place : ℕ) → slice_get os t ≡ Some o → slice_get (inline_items o.item) k ≡ Some i → slice_get interfaces place ≡ Some (address i) → inline_owner p place ≡ Some (address i)
   inline_called differ t o k i place at inside stands =
       let test = λ (e : ℕ × Address). nat_eq e.0 place in
       let it = has_listed t o k i at inside in
@@ -83,7 +83,7 @@ module _ (files : List PackageFile) (p : UnresolvedPackage) (interfaces worlds :
         | inl own ↦ (
             let both : Some found.0.1 ≡ Some (address i) = sym own ∙ ap (slice_get interfaces) here ∙ stands in
             let one : found.0.1 ≡ address i = cc in
-            ap inline_address found.1 ∙ ap OfScope one)
+            ap (option_map (λ (x : ℕ × Address). x.1)) found.1 ∙ ap Some one)
         | inr other ↦ absurd (
             let both : Some other.0 ≡ Some (address i) = sym other.1 ∙ ap (slice_get interfaces) here ∙ stands in
             let one : other.0 ≡ address i = cc in

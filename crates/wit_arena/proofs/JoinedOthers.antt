@@ -86,14 +86,9 @@ module _ (files others : List PackageFile) (a : AreAlike files others) where
 
   foreign_alike : (ks : List Key) (v : ForeignVisit) (i : Interface) → IsForeignInterface files ks v i → IsForeignInterface others ks v i
   foreign_alike ks v i h = record {
-    name = h.name;
-    span = h.span;
+    says = h.says;
     types = subst (λ (xs : List ScopeName). HasTypes ks (record { address = visited v; names = xs; functions = [] }) i.types) (scope_alike files others a (visited v)) h.types;
     functions = h.functions;
-    docs = h.docs;
-    stability = h.stability;
-    no_package = h.no_package;
-    no_source = h.no_source;
   }
 
   pub foreign_onward : (ks : List Key) (is : List Interface) → OneByOne (IsForeignInterface files ks) (foreign_interfaces files) is → OneByOne (IsForeignInterface others ks) (foreign_interfaces others) is

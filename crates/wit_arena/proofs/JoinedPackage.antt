@@ -83,7 +83,7 @@ module _ (ks : List Key) (interfaces worlds : List Address) (ws vs : List Ordere
         let it = like t v at in
         let is_one = h.each t it.0 w it.1 there in
         record {
-          says = subst (λ (x : Told). IsWorld (declared_id x.0) (declared_notes x.0) w) (ap own_told it.2) is_one.says;
+          says = subst (λ (x : Told). IsWorld (declared_id x.0).name.now (declared_id x.0).span (declared_notes x.0) w) (ap own_told it.2) is_one.says;
           types = subst (λ (x : Told). HasTypes ks (turned_of x) (world_types w)) (ap own_told it.2) is_one.types;
           sides = sides_of_like it.0 v w t it.1 at it.2 is_one.sides;
           includes = includes_onward worlds it.0.own v.own w.includes (left t it.0.own.item (slice_get-map own_item ws t ∙ ap (option_map own_item) it.1)) (right t v.own.item (slice_get-map own_item vs t ∙ ap (option_map own_item) at)) (ap own_told it.2) is_one.includes;

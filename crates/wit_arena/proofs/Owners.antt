@@ -2,7 +2,7 @@
 use Rattle.std.proofs.Common.{◌≡◌, ℕ, ◌+◌, true, false, List, [], ◌∷◌, ◌++◌, length, Option, Some, None, inl, inr, refl, sym, ap, ◌∙◌, arith, length-append}
 use Rattle.std.specs.Prelude.{slice_get, map}
 use Rattle.std.specs.List.{flat_map}
-use Rattle.std.specs.Option.{option_map, option_map_or, unwrap_or}
+use Rattle.std.specs.Option.{option_map, option_map_or, unwrap_or, option_or}
 use Rattle.std.proofs.lemmas.List.{length-map}
 use Rattle.std.proofs.lemmas.Option.{slice_get_within, slice_get-map}
 use Rattle.wit_names.specs.Label.{is_label}
@@ -16,14 +16,13 @@ use Rattle.wit_types.specs.declared.types.TypeDef.{TypeDef}
 use Rattle.wit_types.specs.declared.types.TypeOwner.{TypeOwner}
 use Rattle.wit_types.specs.declared.types.TypeOwner.TheVariants as owner
 use Rattle.wit_syntax.specs.Address.{Address, InterfaceNamed, WorldNamed}
-use Rattle.wit_syntax.specs.Node.{Owner, OfScope, Nobody}
 use Rattle.wit_syntax.specs.Source.{address, Item, declared_name, item_id}
 use Rattle.wit_syntax.specs.Foreign.{ForeignVisit, visited, foreign_interfaces, foreign_worlds}
 use Rattle.wit_arena.specs.Meet.{Meeting}
 use Rattle.wit_syntax.specs.Function.{functions}
 use Rattle.wit_tree.specs.declared.tree.WorldSide.TheVariants.{Imported, Exported}
 use Rattle.wit_syntax.specs.Sides.{inline_items}
-use Rattle.wit_arena.specs.Package.{owner_of, names_of, functions_of, inline_owner, or_owner, named_interface, interface_owner, named_world, world_owner, interface_types, interface_functions, import_types, world_types, item_functions, keyed, world_functions, interface_items, interfaces_from, world_interfaces}
+use Rattle.wit_arena.specs.Package.{owner_of, names_of, functions_of, inline_owner, named_interface, interface_owner, named_world, world_owner, interface_functions, import_types, world_types, item_functions, keyed, world_functions, interface_items, interfaces_from, world_interfaces}
 use Rattle.wit_arena.specs.Whole.{Ordered, own_item, Turned, item_of, all_turns, all_inside, all_meetings, NamesOthers}
 use Rattle.wit_arena.specs.Resolving.{Cell, Required, cell}
 use Rattle.wit_arena.specs.Resolved.{WorldArenas, AddsForeign}
@@ -43,11 +42,11 @@ use Rattle.wit_arena.proofs.Faithful.{IsOwnerOf, AreOwners}
 pub types_of_cell : (c : DoneScope) (x : Cell) → x ≡ cell_of c → x.types ≡ c.types
 types_of_cell c x same = ap (λ (y : Cell). y.types) same
 
-scope_injective : (s t : Address) → OfScope s ≡ OfScope t → s ≡ t
+scope_injective : (s t : Address) → Some s ≡ Some t → s ≡ t
 scope_injective s t h = cc
 
 -- a name that is a label is a world's own
-named_world-label : (p : UnresolvedPackage) (place : ℕ) (name : List ℕ) → is_label name ≡ true → named_world p place name ≡ OfScope (WorldNamed name)
+named_world-label : (p : UnresolvedPackage) (place : ℕ) (name : List ℕ) → is_label name ≡ true → named_world p place name ≡ Some (WorldNamed name)
 named_world-label p place [] h = absurd (let f : ⊥ = cc in f)
 named_world-label p place (c ∷ cs) h = refl
 
@@ -117,42 +116,42 @@ module _ (files : List PackageFile) (is ws : List Item) (interfaces : AreOfSort 
   world_by t w name at is = ap (world_owner p t) at ∙ ap (named_world p t) is
 
   -- a scope in front, by what the package calls it, with its names
-  front_called : (t : ℕ) (c : DoneScope) → slice_get ahead t ≡ Some c → (owner_of p c.owner ≡ OfScope c.address) × (names_of p c.owner ≡ c.types) × (functions_of p c.owner ≡ c.stated)
+  front_called : (t : ℕ) (c : DoneScope) → slice_get ahead t ≡ Some c → (owner_of p c.owner ≡ Some c.address) × (names_of p c.owner ≡ c.types) × (functions_of p c.owner ≡ c.stated)
   front_called t c at = elim (front_at files front foreign.interfaces.count t c at) [
     | FrontInterface k v i v_at i_at is ↦ (
         let there = interface_in_front k i i_at in
-        (ap (λ (b : DoneScope). owner_of p b.owner) is ∙ interface_by k i None there (foreign.interfaces.each k v i v_at i_at).name ∙ ap (λ (x : Owner). or_owner x (inline_owner p k)) (foreign_interface_owner files p others.deps k v v_at) ∙ ap (λ (b : DoneScope). OfScope b.address) (sym is), ap (λ (b : DoneScope). names_of p b.owner) is ∙ ap (λ (o : Option Interface). option_map_or interface_types o []) there ∙ ap (λ (b : DoneScope). b.types) (sym is), ap (λ (b : DoneScope). functions_of p b.owner) is ∙ ap (λ (o : Option Interface). option_map_or interface_functions o []) there ∙ ap (λ (b : DoneScope). b.stated) (sym is)))
+        (ap (λ (b : DoneScope). owner_of p b.owner) is ∙ interface_by k i None there (foreign.interfaces.each k v i v_at i_at).says.called ∙ ap (λ (x : Option Address). option_or x (inline_owner p k)) (foreign_interface_owner files p others.deps k v v_at) ∙ ap (λ (b : DoneScope). Some b.address) (sym is), ap (λ (b : DoneScope). names_of p b.owner) is ∙ ap (λ (o : Option Interface). option_map_or (λ (x : Interface). x.types) o []) there ∙ ap (λ (b : DoneScope). b.types) (sym is), ap (λ (b : DoneScope). functions_of p b.owner) is ∙ ap (λ (o : Option Interface). option_map_or interface_functions o []) there ∙ ap (λ (b : DoneScope). b.stated) (sym is)))
     | FrontWorld k v v_at is ↦ (
         let lt = slice_get_within (foreign_worlds files) k v v_at in
         let count = foreign.worlds.count in
         let w = at_within wfront k (omega arith) in
         let there = world_in_front k w.0 w.1 in
         let says = foreign.worlds.each k v w.0 v_at w.1 in
-        (ap (λ (b : DoneScope). owner_of p b.owner) is ∙ world_by k w.0 [] there says.name ∙ foreign_world_owner files p others.deps k v v_at ∙ ap (λ (b : DoneScope). OfScope b.address) (sym is), ap (λ (b : DoneScope). names_of p b.owner) is ∙ ap (λ (o : Option World). option_map_or world_types o []) there ∙ ap (flat_map import_types) says.imports ∙ ap (λ (b : DoneScope). b.types) (sym is), ap (λ (b : DoneScope). functions_of p b.owner) is ∙ ap (λ (o : Option World). option_map_or world_functions o []) there ∙ no_functions_in w.0 says.imports says.exports ∙ ap (λ (b : DoneScope). b.stated) (sym is)))
+        (ap (λ (b : DoneScope). owner_of p b.owner) is ∙ world_by k w.0 [] there says.says.name ∙ foreign_world_owner files p others.deps k v v_at ∙ ap (λ (b : DoneScope). Some b.address) (sym is), ap (λ (b : DoneScope). names_of p b.owner) is ∙ ap (λ (o : Option World). option_map_or world_types o []) there ∙ ap (flat_map import_types) says.imports ∙ ap (λ (b : DoneScope). b.types) (sym is), ap (λ (b : DoneScope). functions_of p b.owner) is ∙ ap (λ (o : Option World). option_map_or world_functions o []) there ∙ no_functions_in w.0 says.imports says.exports ∙ ap (λ (b : DoneScope). b.stated) (sym is)))
   ]
 
   -- an interface of the package by what it calls it
-  interface_called : (t : ℕ) (c : DoneScope) → slice_get d.scopes t ≡ Some c → owner_of p c.owner ≡ OfScope c.address
+  interface_called : (t : ℕ) (c : DoneScope) → slice_get d.scopes t ≡ Some c → owner_of p c.owner ≡ Some c.address
   interface_called t c at =
       let o = ordered_at d.laid t c at in
       let i = entry_of d.laid t c at in
       let name = (d.laid.says t o.0 i.0 o.1 i.1).called ∙ declared_called files is is_items t o.0.item (d.laid.front t o.0 o.1) in
-      ap (owner_of p) (d.laid.whose t c at) ∙ interface_by (length (map visited (foreign_interfaces files)) + t) i.0 (Some (item_id o.0.item).name.now) (interface_behind t i.0 i.1) name ∙ ap (λ (n : Option (List ℕ)). OfScope (InterfaceNamed (unwrap_or n []))) (sym name) ∙ ap (λ (x : Cell). OfScope x.address) i.2
+      ap (owner_of p) (d.laid.whose t c at) ∙ interface_by (length (map visited (foreign_interfaces files)) + t) i.0 (Some (item_id o.0.item).name.now) (interface_behind t i.0 i.1) name ∙ ap (λ (n : Option (List ℕ)). Some (InterfaceNamed (unwrap_or n []))) (sym name) ∙ ap (λ (x : Cell). Some x.address) i.2
 
   -- a world of the package by what it calls it
-  world_called : (t : ℕ) (c : DoneScope) → slice_get (map own_scope e.scopes) t ≡ Some c → owner_of p c.owner ≡ OfScope c.address
+  world_called : (t : ℕ) (c : DoneScope) → slice_get (map own_scope e.scopes) t ≡ Some c → owner_of p c.owner ≡ Some c.address
   world_called t c at =
       let o = ordered_at e.laid t c at in
       let w = entry_of e.laid t c at in
       let id = item_id o.0.item in
       let name = (e.laid.says t o.0 w.0 o.1 w.1).says.name in
       let place = length (map visited (foreign_worlds files)) + t in
-      ap (owner_of p) (e.laid.whose t c at) ∙ world_by place w.0 id.name.now (world_behind t w.0 w.1) name ∙ named_world-label p place id.name.now id.label ∙ ap (λ (n : List ℕ). OfScope (WorldNamed n)) (sym name) ∙ ap (λ (x : Cell). OfScope x.address) w.2
+      ap (owner_of p) (e.laid.whose t c at) ∙ world_by place w.0 id.name.now (world_behind t w.0 w.1) name ∙ named_world-label p place id.name.now id.label ∙ ap (λ (n : List ℕ). Some (WorldNamed n)) (sym name) ∙ ap (λ (x : Cell). Some x.address) w.2
 
   interface_names : (t : ℕ) (c : DoneScope) → slice_get d.scopes t ≡ Some c → names_of p c.owner ≡ c.types
   interface_names t c at =
       let i = entry_of d.laid t c at in
-      ap (names_of p) (d.laid.whose t c at) ∙ ap (λ (o : Option Interface). option_map_or interface_types o []) (interface_behind t i.0 i.1) ∙ types_of_cell c (cell i.0) i.2
+      ap (names_of p) (d.laid.whose t c at) ∙ ap (λ (o : Option Interface). option_map_or (λ (x : Interface). x.types) o []) (interface_behind t i.0 i.1) ∙ types_of_cell c (cell i.0) i.2
 
   world_names : (t : ℕ) (c : DoneScope) → slice_get (map own_scope e.scopes) t ≡ Some c → names_of p c.owner ≡ c.types
   world_names t c at =
@@ -190,7 +189,7 @@ module _ (files : List PackageFile) (is ws : List Item) (interfaces : AreOfSort 
       ap (λ l. interfaces_from w.name Imported 0 (interface_items l) ++ interfaces_from w.name Exported 0 (interface_items w.exports)) says.imports ∙ ap (λ l. interfaces_from w.name Exported 0 (interface_items l)) says.exports
 
   -- the package knows it by its place
-  known_inside : (k : ℕ) (o : Ordered) → slice_get (all_inside e.ordered) k ≡ Some o → (inline_owner p ((length ss + length is) + k) ≡ OfScope (address o.item)) × (declared_name o.item.declared ≡ None)
+  known_inside : (k : ℕ) (o : Ordered) → slice_get (all_inside e.ordered) k ≡ Some o → (inline_owner p ((length ss + length is) + k) ≡ Some (address o.item)) × (declared_name o.item.declared ≡ None)
   known_inside k o at =
       let place = (length ss + length is) + k in
       let i_at : slice_get (inside_of ws) k ≡ Some o.item = ap (λ (l : List Item). slice_get l k) (sym e.inside) ∙ slice_get-map item_of (all_inside e.ordered) k ∙ ap (option_map item_of) at in
@@ -202,7 +201,7 @@ module _ (files : List PackageFile) (is ws : List Item) (interfaces : AreOfSort 
       let stands : slice_get all_interfaces place ≡ Some (address o.item) = ap (slice_get all_interfaces) (let same : (length ss + length is) + k ≡ length ss + (length is + k) = omega arith in same) ∙ listed in
       (inline_called files p all_interfaces (world_list files ws) wfront ys worlds_are_all none_in_front ws (map own_order e.ordered) (map own_scope e.scopes) e.laid (all_addresses files is ws interfaces worlds is_items ws_items).interfaces it.0 w.0.own it.3.0 o.item place os_at inside stands, (written_at it.1 it.3.0 o.item it.3.1).unnamed)
 
-  inside_called : (k : ℕ) (c : DoneScope) → slice_get (all_within e.scopes) k ≡ Some c → owner_of p c.owner ≡ OfScope c.address
+  inside_called : (k : ℕ) (c : DoneScope) → slice_get (all_within e.scopes) k ≡ Some c → owner_of p c.owner ≡ Some c.address
   inside_called k c at =
       let h = inside_scope k c at in
       let place = (length ss + length is) + k in
@@ -210,12 +209,12 @@ module _ (files : List PackageFile) (is ws : List Item) (interfaces : AreOfSort 
       let name : h.0.i.name ≡ None = h.0.holds.says.called ∙ it.1 in
       let past = foreign_interface-none files p others.deps place (let long = length-map (foreign_interfaces files) visited in omega (arith, long)) in
       let scope : address h.0.o.item ≡ c.address = ap (λ (x : Turned). x.address) (sym h.0.holds.turn) ∙ ap (λ (b : DoneScope). b.address) h.1 in
-      ap (λ (b : DoneScope). owner_of p b.owner) (sym h.1) ∙ ap (owner_of p) h.0.holds.whose ∙ interface_by place h.0.i None (inside_behind k h.0.i h.0.at_i) name ∙ ap (λ (x : Owner). or_owner x (inline_owner p place)) past ∙ it.0 ∙ ap OfScope scope
+      ap (λ (b : DoneScope). owner_of p b.owner) (sym h.1) ∙ ap (owner_of p) h.0.holds.whose ∙ interface_by place h.0.i None (inside_behind k h.0.i h.0.at_i) name ∙ ap (λ (x : Option Address). option_or x (inline_owner p place)) past ∙ it.0 ∙ ap Some scope
 
   inside_names : (k : ℕ) (c : DoneScope) → slice_get (all_within e.scopes) k ≡ Some c → names_of p c.owner ≡ c.types
   inside_names k c at =
       let h = inside_scope k c at in
-      ap (λ (b : DoneScope). names_of p b.owner) (sym h.1) ∙ ap (names_of p) h.0.holds.whose ∙ ap (λ (o : Option Interface). option_map_or interface_types o []) (inside_behind k h.0.i h.0.at_i) ∙ sym h.0.holds.types ∙ ap (λ (b : DoneScope). b.types) h.1
+      ap (λ (b : DoneScope). names_of p b.owner) (sym h.1) ∙ ap (names_of p) h.0.holds.whose ∙ ap (λ (o : Option Interface). option_map_or (λ (x : Interface). x.types) o []) (inside_behind k h.0.i h.0.at_i) ∙ sym h.0.holds.types ∙ ap (λ (b : DoneScope). b.types) h.1
 
   inside_functions : (k : ℕ) (c : DoneScope) → slice_get (all_within e.scopes) k ≡ Some c → functions_of p c.owner ≡ c.stated
   inside_functions k c at =
@@ -229,8 +228,8 @@ module _ (files : List PackageFile) (is ws : List Item) (interfaces : AreOfSort 
     | inr h ↦ elim (scope_either e.scopes h.0 c h.1) [ inl g ↦ world g.0 c g.1 | inr g ↦ inner g.0 c g.1 ]
   ]
 
-  called_at : (t : ℕ) (c : DoneScope) → slice_get scopes t ≡ Some c → owner_of p c.owner ≡ OfScope c.address
-  called_at = of_scopes (λ (c : DoneScope). owner_of p c.owner ≡ OfScope c.address) (λ t c at. (front_called t c at).0) interface_called world_called inside_called
+  called_at : (t : ℕ) (c : DoneScope) → slice_get scopes t ≡ Some c → owner_of p c.owner ≡ Some c.address
+  called_at = of_scopes (λ (c : DoneScope). owner_of p c.owner ≡ Some c.address) (λ t c at. (front_called t c at).0) interface_called world_called inside_called
 
   names_at : (t : ℕ) (c : DoneScope) → slice_get scopes t ≡ Some c → names_of p c.owner ≡ c.types
   names_at = of_scopes (λ (c : DoneScope). names_of p c.owner ≡ c.types) (λ t c at. (front_called t c at).1) interface_names world_names inside_names
@@ -297,21 +296,21 @@ module _ (files : List PackageFile) (is ws : List Item) (interfaces : AreOfSort 
   ]
 
   -- an owner with an address is one of these
-  owner_is : (o : TypeOwner) (s : Address) (k : ℕ) (c : DoneScope) → slice_get scopes k ≡ Some c → c.owner ≡ o → owner_of p o ≡ OfScope s → IsOwnerOf scopes o s
+  owner_is : (o : TypeOwner) (s : Address) (k : ℕ) (c : DoneScope) → slice_get scopes k ≡ Some c → c.owner ≡ o → owner_of p o ≡ Some s → IsOwnerOf scopes o s
   owner_is o s k c at whose called = record { place = k; cell = c; at = at; whose = whose; scope = scope_injective c.address s (sym (called_at k c at) ∙ ap (owner_of p) whose ∙ called) }
 
-  interface_owned : (t : ℕ) (s : Address) (o : Option Interface) → slice_get p.interfaces t ≡ o → interface_owner p t o ≡ OfScope s → IsOwnerOf scopes (owner.Interface t) s
-  interface_owned t s None there h = absurd (let wrong : Nobody ≡ OfScope s = h in let f : ⊥ = cc in f)
+  interface_owned : (t : ℕ) (s : Address) (o : Option Interface) → slice_get p.interfaces t ≡ o → interface_owner p t o ≡ Some s → IsOwnerOf scopes (owner.Interface t) s
+  interface_owned t s None there h = absurd (let wrong : None ≡ Some s = h in let f : ⊥ = cc in f)
   interface_owned t s (Some i) there h = let c = some_interface t i there in owner_is (owner.Interface t) s c.0 c.1 c.2 c.3 (ap (interface_owner p t) there ∙ h)
 
-  world_owned : (t : ℕ) (s : Address) (o : Option World) → slice_get p.worlds t ≡ o → world_owner p t o ≡ OfScope s → IsOwnerOf scopes (owner.World t) s
-  world_owned t s None there h = absurd (let wrong : Nobody ≡ OfScope s = h in let f : ⊥ = cc in f)
+  world_owned : (t : ℕ) (s : Address) (o : Option World) → slice_get p.worlds t ≡ o → world_owner p t o ≡ Some s → IsOwnerOf scopes (owner.World t) s
+  world_owned t s None there h = absurd (let wrong : None ≡ Some s = h in let f : ⊥ = cc in f)
   world_owned t s (Some w) there h = let c = some_world t w there in owner_is (owner.World t) s c.0 c.1 c.2 c.3 (ap (world_owner p t) there ∙ h)
 
-  all_owners : (o : TypeOwner) (s : Address) → owner_of p o ≡ OfScope s → IsOwnerOf scopes o s
+  all_owners : (o : TypeOwner) (s : Address) → owner_of p o ≡ Some s → IsOwnerOf scopes o s
   all_owners (owner.Interface t) s h = interface_owned t s (slice_get p.interfaces t) refl h
   all_owners (owner.World t) s h = world_owned t s (slice_get p.worlds t) refl h
-  all_owners owner.None s h = absurd (let wrong : Nobody ≡ OfScope s = h in let f : ⊥ = cc in f)
+  all_owners owner.None s h = absurd (let wrong : None ≡ Some s = h in let f : ⊥ = cc in f)
 
   pub owners : AreOwners p scopes
   owners = record { called = called_at; names = names_at; functions = functions_at_owner; all = all_owners }

@@ -54,7 +54,7 @@ use Rattle.wit_arena.proofs.Owners.{types_of_cell, worlds_are_all, front_interfa
 -- what the package is, over these owners
 -- an interface of another package over other keys
 foreign_interface_over : {files : List PackageFile} {ks more : List Key} (v : ForeignVisit) (i : Interface) → IsForeignInterface files ks v i → HasTypes more (foreign_turned files v) i.types → IsForeignInterface files more v i
-foreign_interface_over v i h types = record { name = h.name; span = h.span; types = types; functions = h.functions; docs = h.docs; stability = h.stability; no_package = h.no_package; no_source = h.no_source }
+foreign_interface_over v i h types = record { says = h.says; types = types; functions = h.functions }
 
 module _ (files : List PackageFile) (is ws : List Item) (interfaces : AreOfSort false is) (worlds : AreOfSort true ws) (is_items : AreItems files is) (ws_items : AreItems files ws) (start middle : List TypeDef) (front xs : List Interface) (wfront : List World) (foreign : AddsForeign files start front wfront) (irs wrs : List Required) (p : UnresolvedPackage) (a : WorldArenas) (d : InterfacesDone files is ws front is middle xs irs) (e : AreWorldsDone files is ws wfront d.ordered (front_scopes files front ++ d.scopes) ws p.types a wrs) (interface_arena : p.interfaces ≡ (front ++ xs) ++ a.inside) (world_arena : p.worlds ≡ a.worlds) (others : NamesOthers files p) where
   abbrev ahead : List DoneScope

@@ -3,9 +3,8 @@ use Rattle.std.proofs.Common.{◌≡◌, ℕ, Option, Some, None, refl, sym, ap,
 use Rattle.wit_types.specs.declared.types.«Type».{«Type» as Ty}
 use Rattle.wit_types.specs.declared.types.«Type».TheVariants as type
 use Rattle.wit_model.specs.declared.unresolved.UnresolvedPackage.{UnresolvedPackage}
-use Rattle.wit_syntax.specs.Node.{Primitive, Leaf}
+use Rattle.wit_syntax.specs.Node.{Primitive, Leaf, primitive_type}
 use Rattle.wit_syntax.specs.Node as node
-use Rattle.wit_arena.specs.Meet.{primitive_type}
 use Rattle.wit_arena.specs.Package.{package_node, IsBelow}
 
 -- the primitive that a type is
@@ -55,7 +54,7 @@ primitive_type-id p i h =
     f
 
 -- one level of a primitive
-pub primitive_node : (p : UnresolvedPackage) (x : Primitive) → package_node p (primitive_type x) ≡ Leaf x
+pub primitive_node : (p : UnresolvedPackage) (x : Primitive) → package_node p (primitive_type x) ≡ Leaf (primitive_type x)
 primitive_node p node.Bool = refl
 primitive_node p node.U8 = refl
 primitive_node p node.U16 = refl

@@ -11,7 +11,7 @@ use Rattle.wit_model.specs.declared.unresolved.UnresolvedPackage.{UnresolvedPack
 use Rattle.wit_syntax.specs.Form.{Form, OwnForm, AliasForm, ResourceForm, UnknownForm, RecordForm, FlagsForm, VariantForm, EnumForm}
 use Rattle.wit_syntax.specs.Shape.{Shape, Word}
 use Rattle.wit_syntax.specs.Address.{Address}
-use Rattle.wit_syntax.specs.Node.{OfScope, Node, Leaf, Named, Unnamed, Nothing}
+use Rattle.wit_syntax.specs.Node.{Node, Leaf, Named, Unnamed, Nothing}
 use Rattle.wit_syntax.specs.Source.{ScopeName, Place, local_name, local_id}
 use Rattle.wit_syntax.specs.Trees.{scope, source_node, source_tree}
 use Rattle.wit_syntax.specs.Function.{SourceFunction, signature}
@@ -24,7 +24,7 @@ use Rattle.wit_arena.specs.Whole.{functions_at, all_inside, interface_addresses,
 
 -- the parts of one level
 abbrev pub node_parts : {X : Type 0} → Node X → List X
-node_parts (Leaf p) = []
+node_parts (Leaf t) = []
 node_parts (Named head form parts) = parts
 node_parts (Unnamed form parts) = parts
 node_parts Nothing = []
@@ -37,8 +37,8 @@ StandsBelow {X} step x (k ∷ path) y = (part : X) × (slice_get (node_parts (st
 -- A written type of a scope, and the type of the package that it is: a name of the scope, and what it stands for among the names of the
 -- scope's owner; or a type in the signature of a function of the scope, and the one at its index in the owner's function.
 pub data IsRoot (files : List PackageFile) (p : UnresolvedPackage) (s : Address) (x : Shape) (ty : Ty) : Type 0 where
-  OfName : (o : TypeOwner) (n : ScopeName) (id : ℕ) → owner_of p o ≡ OfScope s → Contains (scope files s) n → Contains (names_of p o) (local_name n, id) → x ≡ Word (local_id n) → ty ≡ Id id → IsRoot files p s x ty
-  OfFunction : (o : TypeOwner) (fn : SourceFunction) (f : Function) (k : ℕ) → owner_of p o ≡ OfScope s → Contains (functions_at files s) fn → Contains (functions_of p o) (function_key fn, f) → slice_get (signature fn) k ≡ Some x → slice_get (function_types f) k ≡ Some ty → IsRoot files p s x ty
+  OfName : (o : TypeOwner) (n : ScopeName) (id : ℕ) → owner_of p o ≡ Some s → Contains (scope files s) n → Contains (names_of p o) (local_name n, id) → x ≡ Word (local_id n) → ty ≡ Id id → IsRoot files p s x ty
+  OfFunction : (o : TypeOwner) (fn : SourceFunction) (f : Function) (k : ℕ) → owner_of p o ≡ Some s → Contains (functions_at files s) fn → Contains (functions_of p o) (function_key fn, f) → slice_get (signature fn) k ≡ Some x → slice_get (function_types f) k ≡ Some ty → IsRoot files p s x ty
 
 -- a written type has this type at its position in the package: they stand below such two, both by one path
 pub record HasType (files : List PackageFile) (p : UnresolvedPackage) (written : Place) (ty : Ty) : Type 0 where
@@ -75,8 +75,8 @@ pub record IsFaithful (files : List PackageFile) (p : UnresolvedPackage) : Type 
   -- an unnamed one is that of a written type
   pub reached : (j : ℕ) (e : TypeDef) → slice_get p.types j ≡ Some e → e.name ≡ None → (x : Place) × HasType files p x (Id j)
   -- each name of a scope is one of its owner, and so is each function, with a type for each of its own
-  pub names : (o : TypeOwner) (s : Address) (n : ScopeName) → owner_of p o ≡ OfScope s → Contains (scope files s) n → (id : ℕ) × Contains (names_of p o) (local_name n, id)
-  pub functions : (o : TypeOwner) (s : Address) (fn : SourceFunction) → owner_of p o ≡ OfScope s → Contains (functions_at files s) fn → (f : Function) × Contains (functions_of p o) (function_key fn, f) × (length (function_types f) ≡ length (signature fn))
+  pub names : (o : TypeOwner) (s : Address) (n : ScopeName) → owner_of p o ≡ Some s → Contains (scope files s) n → (id : ℕ) × Contains (names_of p o) (local_name n, id)
+  pub functions : (o : TypeOwner) (s : Address) (fn : SourceFunction) → owner_of p o ≡ Some s → Contains (functions_at files s) fn → (f : Function) × Contains (functions_of p o) (function_key fn, f) × (length (function_types f) ≡ length (signature fn))
   -- two written types have one type exactly where they are one expression
   pub same : (x y : Place) (t u : Ty) → HasType files p x t → HasType files p y u → (t ≡ u) ↔ (expr_of x.0 x.1 ≡ expr_of y.0 y.1)
   -- and the tree of each, at every depth, is that of its type
@@ -89,5 +89,5 @@ pub record HasArena (files : List PackageFile) (p : UnresolvedPackage) : Type 0 
   pub met : List Meeting
   pub first : AreFirstMeetings files met
   pub entries : IsMeeting (declarations files (interface_addresses files (first.interfaces ++ all_inside first.worlds)) (world_addresses files first.worlds)) met p.types
-  pub names : (o : TypeOwner) (s : Address) (k : ℕ) (name : List ℕ) (id : ℕ) → owner_of p o ≡ OfScope s → slice_get (names_of p o) k ≡ Some (name, id) → slice_get (keys met) id ≡ Some (Def s name)
+  pub names : (o : TypeOwner) (s : Address) (k : ℕ) (name : List ℕ) (id : ℕ) → owner_of p o ≡ Some s → slice_get (names_of p o) k ≡ Some (name, id) → slice_get (keys met) id ≡ Some (Def s name)
   pub positions : (x : Place) (ty : Ty) → HasType files p x ty → IsAt (keys met) (expr_of x.0 x.1) ty

@@ -1,8 +1,7 @@
 -- What the functions of a package say: each is a written function, whose types stand at the places of their expressions.
-use Rattle.std.specs.Prelude.{if◌then◌else◌, ◌≡◌, ℕ, List, [], ◌∷◌, length, map, Option, Some, None, slice_get, codes}
+use Rattle.std.specs.Prelude.{if◌then◌else◌, ◌≡◌, ℕ, List, [], ◌∷◌, map, Option, Some, None, slice_get, codes}
 use Rattle.std.specs.Option.{option_to_list}
 use Rattle.wit_names.specs.Front.{behind}
-use Rattle.wit_type_tree.specs.declared.leaves.Id.{Id}
 use Rattle.wit_type_tree.specs.declared.types.FuncForm.{FuncForm}
 use Rattle.wit_type_tree.specs.declared.types.FuncForm.TheVariants as form
 use Rattle.wit_types.specs.declared.types.«Type».{«Type» as Ty}
@@ -23,6 +22,8 @@ use Rattle.wit_syntax.specs.Sides.{role_side}
 use Rattle.wit_syntax.specs.Function.{Role, Freestanding, Method, Static, Constructor, OnSide, SourceParam, SourceFunction, all_params, function_notes}
 use Rattle.wit_arena.specs.Expr.{expr_of}
 use Rattle.wit_arena.specs.Meet.{Key, Def, IsAt}
+use Rattle.wit_syntax.specs.Notes.{AreNotes}
+use Rattle.wit_arena.specs.OneByOne.{OneByOne}
 
 abbrev pub freestanding_kind : FuncForm → FunctionKind
 freestanding_kind form.Plain = kind.Freestanding
@@ -42,16 +43,12 @@ static_kind form.Async r = kind.AsyncStatic r
 static_kind form.Getter r = kind.StaticGetter r
 static_kind form.Setter r = kind.StaticSetter r
 
--- a resource stands at a place
-abbrev pub IsResourceAt : List Key → Address → Id → ℕ → Type 0
-IsResourceAt ks s of place = slice_get ks place ≡ Some (Def s of.name.now)
-
 -- the kind of a function of a role, over the place of its resource
 abbrev pub IsKind : List Key → Address → Role → FunctionKind → Type 0
 IsKind ks s (Freestanding id form) k = k ≡ freestanding_kind form
-IsKind ks s (Method of form) k = (r : ℕ) × (k ≡ method_kind form r) × IsResourceAt ks s of r
-IsKind ks s (Static of form) k = (r : ℕ) × (k ≡ static_kind form r) × IsResourceAt ks s of r
-IsKind ks s (Constructor of) k = (r : ℕ) × (k ≡ kind.Constructor r) × IsResourceAt ks s of r
+IsKind ks s (Method of form) k = (r : ℕ) × (k ≡ method_kind form r) × (slice_get ks r ≡ Some (Def s of.name.now))
+IsKind ks s (Static of form) k = (r : ℕ) × (k ≡ static_kind form r) × (slice_get ks r ≡ Some (Def s of.name.now))
+IsKind ks s (Constructor of) k = (r : ℕ) × (k ≡ kind.Constructor r) × (slice_get ks r ≡ Some (Def s of.name.now))
 IsKind ks s (OnSide side id form) k = k ≡ freestanding_kind form
 
 -- a parameter of the package is the written one
@@ -60,9 +57,9 @@ pub record IsParam (ks : List Key) (s : Address) (written : SourceParam) (p : Pa
   pub span : p.span ≡ written.span
   pub type : IsAt ks (expr_of s written.shape) p.ty
 
-pub record AreParams (ks : List Key) (s : Address) (written : List SourceParam) (ps : List Param) : Type 0 where
-  pub count : length ps ≡ length written
-  pub each : (k : ℕ) (w : SourceParam) (p : Param) → slice_get written k ≡ Some w → slice_get ps k ≡ Some p → IsParam ks s w p
+-- these are the written parameters, in order
+abbrev pub AreParams : List Key → Address → List SourceParam → List Param → Type 0
+AreParams ks s written ps = OneByOne (IsParam ks s) written ps
 
 -- so is a result, or both are absent
 abbrev pub IsResult : List Key → Address → Option Shape → Option Ty → Type 0
@@ -70,25 +67,18 @@ IsResult ks s None t = t ≡ None
 IsResult ks s (Some x) None = ⊥
 IsResult ks s (Some x) (Some t) = IsAt ks (expr_of s x) t
 
--- a function of the package has what is told of the written one
-pub record IsNoted (written : SourceFunction) (f : Function) : Type 0 where
-  pub docs : f.docs ≡ (function_notes written).docs
-  pub stability : f.stability ≡ (function_notes written).stability
-  pub external_id : f.external_id ≡ (function_notes written).external_id
-
 -- a function of the package is the written one
 pub record IsFunction (ks : List Key) (s : Address) (written : SourceFunction) (f : Function) : Type 0 where
   pub name : f.name ≡ written.name
   pub kind : IsKind ks s written.role f.kind
-  pub params : AreParams ks s (all_params written) f.params
+  pub params : OneByOne (IsParam ks s) (all_params written) f.params
   pub result : IsResult ks s written.result f.result
   pub span : f.span ≡ written.span
-  pub notes : IsNoted written f
+  pub notes : AreNotes (function_notes written) f.docs f.stability f.external_id
 
 -- these are the functions of a scope, in source order
-pub record AreFunctions (ks : List Key) (s : Address) (written : List SourceFunction) (fs : List Function) : Type 0 where
-  pub count : length fs ≡ length written
-  pub each : (k : ℕ) (w : SourceFunction) (f : Function) → slice_get written k ≡ Some w → slice_get fs k ≡ Some f → IsFunction ks s w f
+abbrev pub AreFunctions : List Key → Address → List SourceFunction → List Function → Type 0
+AreFunctions ks s written fs = OneByOne (IsFunction ks s) written fs
 
 -- the written name of a function that is no resource's
 abbrev pub freestanding_names : FunctionKind → List ℕ → List (List ℕ)

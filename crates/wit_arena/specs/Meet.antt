@@ -13,12 +13,11 @@ use Rattle.wit_types.specs.declared.types.TypeOwner.{TypeOwner}
 use Rattle.wit_types.specs.declared.types.TypeOwner.TheVariants as owner
 use Rattle.wit_syntax.specs.Form.{Form}
 use Rattle.wit_arena.specs.Kind.{kind_of}
-use Rattle.wit_syntax.specs.Node.{Primitive}
-use Rattle.wit_syntax.specs.Node as node
+use Rattle.wit_syntax.specs.Node.{primitive_type}
 use Rattle.wit_syntax.specs.Repeats.{AllDiffer}
 use Rattle.wit_syntax.specs.Shape.{Shape, Shapes}
 use Rattle.wit_syntax.specs.Shape as shape
-use Rattle.wit_syntax.specs.Notes.{Notes, HasNotes, no_docs, first_known}
+use Rattle.wit_syntax.specs.Notes.{Notes, AreNotes, no_docs, first_known}
 use Rattle.wit_syntax.specs.Address.{Address}
 use Rattle.wit_syntax.specs.Source.{ScopeName, local_name, name_form, name_span, name_body, name_scope, name_notes, name_stability}
 use Rattle.wit_syntax.specs.Function.{SourceFunction, signature}
@@ -78,22 +77,6 @@ abbrev pub Meets : List Meeting → List Meeting → List Meeting → Type 0
 Meets ms [] all = all ≡ ms
 Meets ms (k ∷ ks) all = (IsMet (keys ms) k.key × Meets ms ks all) ⊎ ((IsMet (keys ms) k.key → ⊥) × Meets (ms ++ k ∷ []) ks all)
 
-abbrev pub primitive_type : Primitive → Ty
-primitive_type node.Bool = type.Bool
-primitive_type node.U8 = type.U8
-primitive_type node.U16 = type.U16
-primitive_type node.U32 = type.U32
-primitive_type node.U64 = type.U64
-primitive_type node.S8 = type.S8
-primitive_type node.S16 = type.S16
-primitive_type node.S32 = type.S32
-primitive_type node.S64 = type.S64
-primitive_type node.F32 = type.F32
-primitive_type node.F64 = type.F64
-primitive_type node.Char = type.Char
-primitive_type node.String = type.String
-primitive_type node.ErrorContext = type.ErrorContext
-
 -- a type is a primitive, or the place of its first meeting
 abbrev pub IsAt : List Key → Expr → Ty → Type 0
 IsAt ks (Prim p) ty = ty ≡ primitive_type p
@@ -135,7 +118,7 @@ pub record IsNamedEntry (decls : Decls) (ks : List Key) (s : Address) (called : 
   pub owner : e.owner ≡ decl.owner
   pub form : (kind_of e.kind).form ≡ decl.form
   pub parts : AreAt ks decl.parts (kind_of e.kind).parts
-  pub notes : HasNotes decl.notes e
+  pub notes : AreNotes decl.notes e.docs e.stability e.external_id
 
 -- the entry of an unnamed type, over the places of parts that were met before
 pub record IsUnnamedEntry (ks : List Key) (shape : Form) (exprs : Exprs) (e : TypeDef) : Type 0 where
@@ -156,12 +139,9 @@ pub record IsKeyed (decls : Decls) (ks : List Key) (es : List TypeDef) : Type 0 
   pub once : AllDiffer ks
   pub each : (i : ℕ) (k : Key) (e : TypeDef) → slice_get ks i ≡ Some k → slice_get es i ≡ Some e → IsEntry decls (take i ks) k e
 
-abbrev pub entry_stability : TypeDef → Stability
-entry_stability e = e.stability
-
 -- the stability of what a type stands for; of a primitive none is known
 abbrev pub stability_at : List TypeDef → Ty → Stability
-stability_at es (type.Id i) = option_map_or entry_stability (slice_get es i) Unknown
+stability_at es (type.Id i) = option_map_or (λ e. e.stability) (slice_get es i) Unknown
 stability_at es ty = Unknown
 
 -- the stability of an unnamed type of this kind among entries: that of the definition that it stands in, where that is known, else the first known one of its parts

@@ -1,7 +1,7 @@
 -- What types of a package mean: the arenas unfolded, whose names are by what the package calls them, and what an interface says.
 use Rattle.std.specs.Prelude.{◌≡◌, ℕ, suc, ◌<◌, Bool, true, false, nat_eq, List, [], ◌∷◌, ◌++◌, Option, Some, None, map, find, slice_get}
 use Rattle.std.specs.List.{flat_map, filter}
-use Rattle.std.specs.Option.{option_map_or, option_to_list}
+use Rattle.std.specs.Option.{option_map, option_map_or, option_or, option_to_list}
 use Rattle.wit_functions.specs.declared.function.Function.{Function}
 use Rattle.wit_functions.specs.declared.function.Param.{Param}
 use Rattle.wit_type_tree.specs.declared.leaves.Id.{Id}
@@ -16,7 +16,6 @@ use Rattle.wit_model.specs.declared.world.WorldItem.{WorldItem}
 use Rattle.wit_model.specs.declared.world.WorldItem.TheVariants as item
 use Rattle.wit_model.specs.declared.unresolved.UnresolvedPackage.{UnresolvedPackage}
 use Rattle.wit_types.specs.declared.stability.Stability.{Stability}
-use Rattle.wit_types.specs.declared.stability.Stability.TheVariants.{Unknown}
 use Rattle.wit_types.specs.declared.types.«Type».{«Type» as Ty}
 use Rattle.wit_types.specs.declared.types.«Type».TheVariants as type
 use Rattle.wit_types.specs.declared.types.TypeDef.{TypeDef}
@@ -26,12 +25,11 @@ use Rattle.wit_arena.specs.Kind.{kind_of}
 use Rattle.wit_syntax.specs.Address.{Address, InterfaceNamed, WorldNamed, InlineAt, ForeignNamed}
 use Rattle.wit_syntax.specs.Source.{Item, item_id, item_notes, declared_name}
 use Rattle.wit_syntax.specs.Foreign.{ForeignVisit}
-use Rattle.wit_syntax.specs.Node.{Owner, OfScope, Nobody, Head, Node, Leaf, Named, Unnamed, Nothing, Tree, unfolded}
-use Rattle.wit_syntax.specs.Node as node
+use Rattle.wit_syntax.specs.Node.{Head, Node, Leaf, Named, Unnamed, Nothing, Tree, unfolded}
 use Rattle.wit_tree.specs.declared.tree.WorldSide.{WorldSide}
 use Rattle.wit_tree.specs.declared.tree.WorldSide.TheVariants.{Imported, Exported}
 use Rattle.wit_syntax.specs.Sides.{FunctionKey}
-use Rattle.wit_syntax.specs.Notes.{Notes, no_docs}
+use Rattle.wit_syntax.specs.Notes.{Notes, no_notes}
 use Rattle.wit_values.specs.declared.span.Span.{Span}
 
 -- what other packages' items a package names, each with its address
@@ -42,16 +40,11 @@ dep_items d = map (λ e. (e.1.0, ForeignNamed d.0 e.0)) d.1
 abbrev pub same_entry : AstItem → AstItem → Bool
 same_entry (entry.Interface i) (entry.Interface j) = nat_eq i j
 same_entry (entry.World i) (entry.World j) = nat_eq i j
-same_entry (entry.Interface i) (entry.World j) = false
-same_entry (entry.World i) (entry.Interface j) = false
-
-abbrev pub address_of : Option (AstItem × Address) → Owner
-address_of None = Nobody
-address_of (Some e) = OfScope e.1
+same_entry _ _ = false
 
 -- an item of another package, by what the package calls it
-abbrev pub foreign_owner : UnresolvedPackage → AstItem → Owner
-foreign_owner p i = address_of (find (λ e. same_entry e.0 i) (flat_map dep_items p.foreign_deps))
+abbrev pub foreign_owner : UnresolvedPackage → AstItem → Option Address
+foreign_owner p i = option_map (λ e. e.1) (find (λ e. same_entry e.0 i) (flat_map dep_items p.foreign_deps))
 
 -- the interfaces among what stands on a side
 abbrev pub is_interface_item : WorldKey × WorldItem → Bool
@@ -74,45 +67,33 @@ interfaces_from world side place (x ∷ xs) = interface_at world side place x ++
 abbrev pub world_interfaces : World → List (ℕ × Address)
 world_interfaces w = interfaces_from w.name Imported 0 (interface_items w.imports) ++ interfaces_from w.name Exported 0 (interface_items w.exports)
 
-abbrev pub inline_address : Option (ℕ × Address) → Owner
-inline_address None = Nobody
-inline_address (Some e) = OfScope e.1
-
 -- an interface that is written in a world, by the place where it stands there
-abbrev pub inline_owner : UnresolvedPackage → ℕ → Owner
-inline_owner p place = inline_address (find (λ e. nat_eq e.0 place) (flat_map world_interfaces p.worlds))
-
--- an owner, or where that is nobody another one
-abbrev pub or_owner : Owner → Owner → Owner
-or_owner Nobody other = other
-or_owner (OfScope s) other = OfScope s
+abbrev pub inline_owner : UnresolvedPackage → ℕ → Option Address
+inline_owner p place = option_map (λ e. e.1) (find (λ e. nat_eq e.0 place) (flat_map world_interfaces p.worlds))
 
 -- an interface goes by its name; one without a name is another package's, or is written in a world
-abbrev pub named_interface : UnresolvedPackage → ℕ → Option (List ℕ) → Owner
-named_interface p place None = or_owner (foreign_owner p (entry.Interface place)) (inline_owner p place)
-named_interface p place (Some name) = OfScope (InterfaceNamed name)
+abbrev pub named_interface : UnresolvedPackage → ℕ → Option (List ℕ) → Option Address
+named_interface p place None = option_or (foreign_owner p (entry.Interface place)) (inline_owner p place)
+named_interface p place (Some name) = Some (InterfaceNamed name)
 
-abbrev pub interface_owner : UnresolvedPackage → ℕ → Option Interface → Owner
-interface_owner p place None = Nobody
+abbrev pub interface_owner : UnresolvedPackage → ℕ → Option Interface → Option Address
+interface_owner p place None = None
 interface_owner p place (Some i) = named_interface p place i.name
 
 -- a world goes by its name; one whose name is empty is another package's
-abbrev pub named_world : UnresolvedPackage → ℕ → List ℕ → Owner
+abbrev pub named_world : UnresolvedPackage → ℕ → List ℕ → Option Address
 named_world p place [] = foreign_owner p (entry.World place)
-named_world p place (c ∷ cs) = OfScope (WorldNamed (c ∷ cs))
+named_world p place (c ∷ cs) = Some (WorldNamed (c ∷ cs))
 
-abbrev pub world_owner : UnresolvedPackage → ℕ → Option World → Owner
-world_owner p place None = Nobody
+abbrev pub world_owner : UnresolvedPackage → ℕ → Option World → Option Address
+world_owner p place None = None
 world_owner p place (Some w) = named_world p place w.name
 
 -- an owner by what the package calls it
-abbrev pub owner_of : UnresolvedPackage → TypeOwner → Owner
+abbrev pub owner_of : UnresolvedPackage → TypeOwner → Option Address
 owner_of p (owner.Interface i) = interface_owner p i (slice_get p.interfaces i)
 owner_of p (owner.World w) = world_owner p w (slice_get p.worlds w)
-owner_of p owner.None = Nobody
-
-abbrev pub interface_types : Interface → List (List ℕ × ℕ)
-interface_types i = i.types
+owner_of p owner.None = None
 
 -- the type that an import is, under its name
 abbrev pub import_types : WorldKey × WorldItem → List (List ℕ × ℕ)
@@ -152,7 +133,7 @@ function_types f = map (λ (x : Param). x.ty) f.params ++ option_to_list f.resul
 
 -- the names of an owner's types, with their places
 abbrev pub names_of : UnresolvedPackage → TypeOwner → List (List ℕ × ℕ)
-names_of p (owner.Interface i) = option_map_or interface_types (slice_get p.interfaces i) []
+names_of p (owner.Interface i) = option_map_or (λ (x : Interface). x.types) (slice_get p.interfaces i) []
 names_of p (owner.World w) = option_map_or world_types (slice_get p.worlds w) []
 names_of p owner.None = []
 
@@ -170,21 +151,8 @@ node_at p (Some e) = entry_node p e.name e
 
 -- one level of a type of the package
 abbrev pub package_node : UnresolvedPackage → Ty → Node Ty
-package_node p type.Bool = Leaf node.Bool
-package_node p type.U8 = Leaf node.U8
-package_node p type.U16 = Leaf node.U16
-package_node p type.U32 = Leaf node.U32
-package_node p type.U64 = Leaf node.U64
-package_node p type.S8 = Leaf node.S8
-package_node p type.S16 = Leaf node.S16
-package_node p type.S32 = Leaf node.S32
-package_node p type.S64 = Leaf node.S64
-package_node p type.F32 = Leaf node.F32
-package_node p type.F64 = Leaf node.F64
-package_node p type.Char = Leaf node.Char
-package_node p type.String = Leaf node.String
-package_node p type.ErrorContext = Leaf node.ErrorContext
 package_node p (type.Id i) = node_at p (slice_get p.types i)
+package_node p t = Leaf t
 
 -- the tree of a type, to n levels
 abbrev pub package_tree : UnresolvedPackage → (n : ℕ) → Ty → Tree n
@@ -213,20 +181,16 @@ abbrev pub IsInterfaceOf : Item → Interface → Type 0
 IsInterfaceOf item i = IsInterface (declared_name item.declared) (item_id item).span (item_notes item) i
 
 -- a world of the arena is the declared one of a name and these notes, apart from its imports, exports and includes
-pub record IsWorld (id : Id) (n : Notes) (w : World) : Type 0 where
-  pub name : w.name ≡ id.name.now
-  pub span : w.span ≡ id.span
+pub record IsWorld (name : List ℕ) (span : Span) (n : Notes) (w : World) : Type 0 where
+  pub name : w.name ≡ name
+  pub span : w.span ≡ span
   pub docs : w.docs ≡ n.docs
   pub stability : w.stability ≡ n.stability
   pub no_package : w.package ≡ None
 
 -- a world of another package, where a path first leads to it
 pub record IsForeignWorld (v : ForeignVisit) (w : World) : Type 0 where
-  pub name : w.name ≡ []
-  pub span : w.span ≡ v.id.span
+  pub says : IsWorld [] v.id.span no_notes w
   pub imports : w.imports ≡ []
   pub exports : w.exports ≡ []
-  pub docs : w.docs ≡ no_docs
-  pub stability : w.stability ≡ Unknown
   pub includes : w.includes ≡ []
-  pub no_package : w.package ≡ None

@@ -105,7 +105,7 @@ pub record AddsWorld (foreign others : List Address) (is : List Interface) (old 
   pub added : World
   pub last : b.worlds ≡ a.worlds ++ added ∷ []
   pub more : b.addresses ≡ a.addresses ++ map address (inline_items item)
-  pub says : IsWorld (item_id item) (item_notes item) added
+  pub says : IsWorld (item_id item).name.now (item_id item).span (item_notes item) added
   pub types : Names
   pub middle : List TypeDef
   pub adds : AddsScope old middle (cells foreign is) (owner.World (length a.worlds)) (scope_names item) types

@@ -20,7 +20,6 @@ use Rattle.wit_model.specs.declared.world.WorldKey.TheVariants as key
 use Rattle.wit_model.specs.declared.world.WorldItem.{WorldItem}
 use Rattle.wit_model.specs.declared.world.WorldItem.TheVariants.{Type_}
 use Rattle.wit_types.specs.declared.stability.Stability.{Stability}
-use Rattle.wit_types.specs.declared.stability.Stability.TheVariants.{Unknown}
 use Rattle.wit_types.specs.declared.types.TypeOwner.{TypeOwner}
 use Rattle.wit_types.specs.declared.types.TypeOwner.TheVariants as owner
 use Rattle.wit_graph.specs.Table.{IsOrder}
@@ -36,17 +35,17 @@ use Rattle.wit_syntax.specs.Function.{SourceFunction, functions as item_function
 use Rattle.wit_syntax.specs.Ends.{AtResource, AtForeign, EndsAt}
 use Rattle.wit_type_tree.specs.declared.leaves.Id.{Id}
 use Rattle.wit_tree.specs.declared.tree.WorldSide.TheVariants.{Imported, Exported}
-use Rattle.wit_arena.specs.Functions.{AreFunctions, placed_functions}
+use Rattle.wit_arena.specs.Functions.{IsFunction, placed_functions}
 use Rattle.wit_arena.specs.SideItems.{AreSideItems, settled}
 use Rattle.wit_syntax.specs.Scope.{item_rows, interfaces_of, worlds_of, includes, rows_of, in_order, in_turn}
 use Rattle.wit_types.specs.declared.docs.Docs.{Docs}
-use Rattle.wit_syntax.specs.Notes.{docs_of, no_docs, stability_of}
+use Rattle.wit_syntax.specs.Notes.{docs_of, no_docs, stability_of, no_notes}
 use Rattle.wit_syntax.specs.Broken.{last_header, headers}
 use Rattle.wit_syntax.specs.Sides.{SideItem, SideFunction, SideLink, SideInline, side_items, inline_items, all_scopes}
 use Rattle.wit_arena.specs.Meet.{Key, Def, Meeting, keys, all_name_meetings, all_function_meetings, Decls, decl_of, IsMeeting}
 use Rattle.wit_arena.specs.OneByOne.{OneByOne}
 use Rattle.wit_arena.specs.FirstMeetings.{AreFirst}
-use Rattle.wit_arena.specs.Package.{IsInterfaceOf, IsWorld, IsForeignWorld, world_types}
+use Rattle.wit_arena.specs.Package.{IsInterface, IsInterfaceOf, IsWorld, IsForeignWorld, world_types}
 
 -- an item, with an order of its names
 pub record Ordered : Type 0 where
@@ -147,7 +146,7 @@ pub record HasTypes (ks : List Key) (t : Turned) (types : List (List ℕ × ℕ)
 pub record IsResolvedInterface (ks : List Key) (o : Ordered) (i : Interface) : Type 0 where
   pub says : IsInterfaceOf o.item i
   pub types : HasTypes ks (turned o) i.types
-  pub functions : (fs : List Function) × AreFunctions ks (address o.item) (item_functions o.item) fs × (i.functions ≡ placed_functions fs)
+  pub functions : (fs : List Function) × OneByOne (IsFunction ks (address o.item)) (item_functions o.item) fs × (i.functions ≡ placed_functions fs)
 
 -- names of a scope as imports: each is the type that it stands for, at its local name
 abbrev pub type_imports : List ScopeName → List (List ℕ × ℕ) → List (WorldKey × WorldItem)
@@ -167,15 +166,14 @@ pub record IsInclude (worlds : List Address) (top : List TopName) (written : Inc
   pub span : i.span ≡ (path_id written.from).span
 
 -- these are the includes of an item, where the worlds have these addresses
-pub record AreIncludes (worlds : List Address) (item : Item) (is : List WorldInclude) : Type 0 where
-  pub count : length is ≡ length (includes item)
-  pub each : (k : ℕ) (written : Include) (i : WorldInclude) → slice_get (includes item) k ≡ Some written → slice_get is k ≡ Some i → IsInclude worlds item.top written i
+abbrev pub AreIncludes : List Address → Item → List WorldInclude → Type 0
+AreIncludes worlds item is = OneByOne (IsInclude worlds item.top) (includes item) is
 
 -- Behind the names of types a world has on its sides what an item has there, with functions over the types of the package, and each setter
 -- behind its getter where nothing is included; the interfaces have these addresses, and those that are written in it have those.
 pub record HasSides (ks : List Key) (interfaces inside : List Address) (o : Ordered) (w : World) : Type 0 where
   pub functions : List Function
-  pub are : AreFunctions ks (address o.item) (item_functions o.item) functions
+  pub are : OneByOne (IsFunction ks (address o.item)) (item_functions o.item) functions
   pub imported : List (WorldKey × WorldItem)
   pub are_imported : AreSideItems interfaces o.item.top Imported (side_items o.item) functions inside imported
   pub imports : w.imports ≡ settled (includes o.item) (type_imports (ordered_names o) (world_types w) ++ imported)
@@ -186,7 +184,7 @@ pub record HasSides (ks : List Key) (interfaces inside : List Address) (o : Orde
 -- A world of files, with its names in turn as its imports, and then the functions and interfaces that it imports, with those that it exports,
 -- and with its includes, where the interfaces and the worlds have these addresses.
 pub record IsResolvedWorld (ks : List Key) (interfaces worlds : List Address) (o : OrderedWorld) (w : World) : Type 0 where
-  pub says : IsWorld (item_id o.own.item) (item_notes o.own.item) w
+  pub says : IsWorld (item_id o.own.item).name.now (item_id o.own.item).span (item_notes o.own.item) w
   pub types : HasTypes ks (turned o.own) (world_types w)
   pub sides : HasSides ks interfaces (addresses o.inside) o.own w
   pub includes : AreIncludes worlds o.own.item w.includes
@@ -230,14 +228,9 @@ foreign_turned files v = record { address = visited v; names = scope files (visi
 
 -- an interface of another package, where a path first leads to it, with the names that are taken from it
 pub record IsForeignInterface (files : List PackageFile) (ks : List Key) (v : ForeignVisit) (i : Interface) : Type 0 where
-  pub name : i.name ≡ None
-  pub span : i.span ≡ v.id.span
+  pub says : IsInterface None v.id.span no_notes i
   pub types : HasTypes ks (foreign_turned files v) i.types
   pub functions : i.functions ≡ []
-  pub docs : i.docs ≡ no_docs
-  pub stability : i.stability ≡ Unknown
-  pub no_package : i.package ≡ None
-  pub no_source : i.clone_of ≡ None
 
 -- how many of these stand before the first that is the item
 abbrev pub foreign_place : List ForeignVisit → ForeignVisit → ℕ

@@ -33,7 +33,7 @@ use Rattle.wit_contents.specs.declared.world.WorldParts.{WorldParts}
 pub record IsAddedWorld (ws ws' : List World) (id : Id) (n : Notes) (imported exported : List (WorldKey × WorldItem)) (included : List WorldInclude) : Type 0 where
   pub added : World
   pub last : ws' ≡ ws ++ added ∷ []
-  pub says : IsWorld id n added
+  pub says : IsWorld id.name.now id.span n added
   pub imports : added.imports ≡ imported
   pub exports : added.exports ≡ exported
   pub includes : added.includes ≡ included

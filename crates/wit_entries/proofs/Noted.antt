@@ -11,10 +11,9 @@ use Rattle.wit_functions.specs.declared.function.Function.{Function}
 use Rattle.wit_syntax.specs.Address.{Address}
 use Rattle.wit_arena.specs.Expr.{exprs_of}
 use Rattle.wit_arena.specs.Kind.{kind_of}
-use Rattle.wit_syntax.specs.Function.{SourceFunction}
-use Rattle.wit_arena.specs.Functions.{IsNoted}
+use Rattle.wit_syntax.specs.Function.{SourceFunction, function_notes}
 use Rattle.wit_arena.specs.Meet.{shapes_meetings}
-use Rattle.wit_syntax.specs.Notes.{Notes, notes, docs_of}
+use Rattle.wit_syntax.specs.Notes.{Notes, notes, docs_of, AreNotes}
 use Rattle.wit_arena.specs.Resolving.{Cell, Names, env_of, AreResolved, IsAdded, Defines}
 use Rattle.wit_syntax.specs.Shape.{body_of}
 use Rattle.wit_syntax.specs.Source.{Defined, name_notes}
@@ -27,7 +26,7 @@ told_of : (n : Made) (docs own : Docs) (attributes of : List Attribute) → note
 told_of n docs own attributes of told same_docs same_attributes = told ∙ ap (λ (d : Docs). notes (docs_of d) attributes) same_docs ∙ ap (notes (docs_of own)) same_attributes
 
 -- a function has the notes that its docs and its attributes tell
-pub noted_as : (fn : SourceFunction) (f : Function) (n : Made) (docs : Docs) (attributes : List Attribute) → notes_behind n ≡ notes (docs_of docs) attributes → docs ≡ fn.docs → attributes ≡ fn.attributes → f.docs ≡ n.docs → f.stability ≡ n.stability → f.external_id ≡ n.external_id → IsNoted fn f
+pub noted_as : (fn : SourceFunction) (f : Function) (n : Made) (docs : Docs) (attributes : List Attribute) → notes_behind n ≡ notes (docs_of docs) attributes → docs ≡ fn.docs → attributes ≡ fn.attributes → f.docs ≡ n.docs → f.stability ≡ n.stability → f.external_id ≡ n.external_id → AreNotes (function_notes fn) f.docs f.stability f.external_id
 noted_as fn f n docs attributes told same_docs same_attributes own_docs own_stability own_id =
     let all = told_of n docs fn.docs attributes fn.attributes told same_docs same_attributes in
     record {

@@ -1,5 +1,6 @@
 -- What a written type is once its parts are resolved.
 use Rattle.std.specs.Prelude.{◌≡◌, ℕ, List, [], ◌∷◌, Option, Some, None}
+use Rattle.wit_syntax.specs.Node.{primitive_type}
 use Rattle.wit_values.specs.declared.span.Span.{Span}
 use Rattle.wit_type_tree.specs.declared.types.«Type».{«Type» as Written}
 use Rattle.wit_type_tree.specs.declared.types.«Type».TheVariants as written
@@ -13,7 +14,7 @@ use Rattle.wit_arena.specs.Kind.{kind_of}
 use Rattle.wit_syntax.specs.Shape.{Shape, Prim, Word, Of, all_shapes}
 use Rattle.wit_syntax.specs.Address.{Address}
 use Rattle.wit_arena.specs.Expr.{one, expr_of, exprs_of}
-use Rattle.wit_arena.specs.Meet.{shape_meetings, shapes_meetings, primitive_type}
+use Rattle.wit_arena.specs.Meet.{shape_meetings, shapes_meetings}
 use Rattle.wit_arena.specs.Resolving.{Env, AreResolved, IsInterned}
 use Rattle.wit_arena.specs.Faithful.{IsAnonymousForm}
 use Rattle.wit_entries.specs.declared.types.Reading.{Reading}

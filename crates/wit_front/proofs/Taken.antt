@@ -235,11 +235,11 @@ module _ (files : List PackageFile) (es : List TypeDef) (a : ForeignArenas) (don
       types = done.types;
       interfaces = record {
         count = ap length done.interfaces ∙ length-map (foreign_interfaces files) (interface_behind all);
-        each = λ t v i at_v at_i. subst (λ (x : Interface). IsForeignInterface files (keys (map taking_meeting all)) v x) (interface_is t v i at_v at_i) (record { name = refl; span = refl; types = has_types v; functions = refl; docs = refl; stability = refl; no_package = refl; no_source = refl });
+        each = λ t v i at_v at_i. subst (λ (x : Interface). IsForeignInterface files (keys (map taking_meeting all)) v x) (interface_is t v i at_v at_i) (record { says = record { called = refl; stands = refl; docs = refl; stability = refl; no_package = refl; no_source = refl }; types = has_types v; functions = refl });
       };
       worlds = record {
         count = ap length done.worlds ∙ length-map (foreign_worlds files) (λ (u : ForeignVisit). bare_world u.id.span);
-        each = λ t v w at_v at_w. subst (λ (x : World). IsForeignWorld v x) (world_is t v w at_v at_w) (record { name = refl; span = refl; imports = refl; exports = refl; docs = refl; stability = refl; includes = refl; no_package = refl });
+        each = λ t v w at_v at_w. subst (λ (x : World). IsForeignWorld v x) (world_is t v w at_v at_w) (record { says = record { name = refl; span = refl; docs = refl; stability = refl; no_package = refl }; imports = refl; exports = refl; includes = refl });
       };
     };
     visits = done.visits;

@@ -16,32 +16,14 @@ abbrev pub fronts : FunctionKind → Option (List ℕ × List ℕ)
 fronts kind.Setter = Some (codes "[set]", codes "[get]")
 fronts (kind.MethodSetter r) = Some (codes "[method][set]", codes "[method][get]")
 fronts (kind.StaticSetter r) = Some (codes "[static][set]", codes "[static][get]")
-fronts kind.Freestanding = None
-fronts kind.AsyncFreestanding = None
-fronts kind.Getter = None
-fronts (kind.Method r) = None
-fronts (kind.AsyncMethod r) = None
-fronts (kind.MethodGetter r) = None
-fronts (kind.Static r) = None
-fronts (kind.AsyncStatic r) = None
-fronts (kind.StaticGetter r) = None
-fronts (kind.Constructor r) = None
+fronts _ = None
 
 -- a getter's kind
 abbrev pub is_getter : FunctionKind → Bool
 is_getter kind.Getter = true
 is_getter (kind.MethodGetter r) = true
 is_getter (kind.StaticGetter r) = true
-is_getter kind.Freestanding = false
-is_getter kind.AsyncFreestanding = false
-is_getter kind.Setter = false
-is_getter (kind.Method r) = false
-is_getter (kind.AsyncMethod r) = false
-is_getter (kind.MethodSetter r) = false
-is_getter (kind.Static r) = false
-is_getter (kind.AsyncStatic r) = false
-is_getter (kind.StaticSetter r) = false
-is_getter (kind.Constructor r) = false
+is_getter _ = false
 
 -- both texts are there and the same
 abbrev pub is_same_text : Option (List ℕ) → Option (List ℕ) → Bool

@@ -35,7 +35,7 @@ use Rattle.wit_syntax.specs.Broken.{is_world_at, IsBroken, Use, WorldUsed, Inter
 use Rattle.wit_syntax.specs.Fault.{fault}
 use Rattle.wit_syntax.specs.Foreign.{ForeignVisit, foreign_visits, foreign_items}
 use Rattle.wit_syntax.specs.Form.{AliasForm, UnknownForm}
-use Rattle.wit_syntax.specs.Node.{OfScope, Head, Named, Tree}
+use Rattle.wit_syntax.specs.Node.{Head, Named, Tree}
 use Rattle.wit_syntax.specs.Notes.{no_docs}
 use Rattle.wit_syntax.specs.Scope.{item_rows, rows_of}
 use Rattle.wit_syntax.specs.Shape.{Word}
@@ -239,12 +239,12 @@ module _ (ptr : Ptr) (alloc : Global) where
     named : NamesOthers files whole
     named = record { deps = refl; spans = refl; unknown = refl }
 
-    owners : map (owner_of whole) (owner.Interface 0 ∷ owner.Interface 1 ∷ []) ≡ (OfScope other ∷ OfScope here ∷ [])
+    owners : map (owner_of whole) (owner.Interface 0 ∷ owner.Interface 1 ∷ []) ≡ (Some other ∷ Some here ∷ [])
     owners = refl
 
     -- i's t is another word for the other i's t, of which nothing is known
     abbrev t_head : Address → Head
-    t_head s = record { owner = OfScope s; name = codes "t"; span = at 46 47; docs = no_docs; stability = Unknown; external_id = None }
+    t_head s = record { owner = Some s; name = codes "t"; span = at 46 47; docs = no_docs; stability = Unknown; external_id = None }
 
     abbrev t_tree : Tree 3
     t_tree = Named (t_head here) AliasForm (Named (t_head other) UnknownForm [] ∷ [])

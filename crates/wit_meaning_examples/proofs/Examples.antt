@@ -35,7 +35,7 @@ use Rattle.wit_graph.specs.Table.{Row, Leads, IsMissing, IsCyclic, IsOrder}
 use Rattle.wit_graph.specs.Order.{ReachesCycle}
 use Rattle.wit_syntax.specs.Form.{Member, RecordForm, ListForm, AliasForm}
 use Rattle.wit_arena.specs.Kind.{kind_of}
-use Rattle.wit_syntax.specs.Node.{OfScope, Head, Leaf, Named, Unnamed, Tree}
+use Rattle.wit_syntax.specs.Node.{Head, Leaf, Named, Unnamed, Tree}
 use Rattle.wit_syntax.specs.Node as node
 use Rattle.wit_syntax.specs.Address.{InterfaceNamed}
 use Rattle.wit_syntax.specs.Notes.{no_docs}
@@ -109,10 +109,10 @@ module _ (ptr : Ptr) (alloc : Global) where
   members = record { name = codes "a"; docs = no_docs; span = at 42 43 } ∷ record { name = codes "b"; docs = no_docs; span = at 55 56 } ∷ []
 
   abbrev p_head : Head
-  p_head = record { owner = OfScope (InterfaceNamed (codes "i")); name = codes "p"; span = at 38 39; docs = no_docs; stability = Unknown; external_id = None }
+  p_head = record { owner = Some (InterfaceNamed (codes "i")); name = codes "p"; span = at 38 39; docs = no_docs; stability = Unknown; external_id = None }
 
   abbrev p_tree : Tree 3
-  p_tree = Named p_head (RecordForm members) (Unnamed ListForm (Leaf node.U8 ∷ []) ∷ Unnamed ListForm (Leaf node.U8 ∷ []) ∷ [])
+  p_tree = Named p_head (RecordForm members) (Unnamed ListForm (Leaf type.U8 ∷ []) ∷ Unnamed ListForm (Leaf type.U8 ∷ []) ∷ [])
 
   header_of_files : last_header files ≡ Some header
   header_of_files = refl
@@ -305,7 +305,7 @@ module _ (ptr : Ptr) (alloc : Global) where
     turns_of_user = refl
 
     abbrev t_head : List ℕ → Span → Head
-    t_head interface span = record { owner = OfScope (InterfaceNamed interface); name = codes "t"; span = span; docs = no_docs; stability = Unknown; external_id = None }
+    t_head interface span = record { owner = Some (InterfaceNamed interface); name = codes "t"; span = span; docs = no_docs; stability = Unknown; external_id = None }
 
     -- i's t is another word for x's t
     tree_of_used : source_tree used_files 2 (InterfaceNamed (codes "i"), Word of_a) ≡ (Named (t_head (codes "i") (at 63 64)) AliasForm (Named (t_head (codes "x") (at 88 89)) AliasForm (tt ∷ []) ∷ []))
@@ -368,7 +368,7 @@ module _ (ptr : Ptr) (alloc : Global) where
 
     -- so i's t is another word for z's t
     tree_of_alias : source_tree two_files 3 (InterfaceNamed (codes "i"), Word t_of_x.name)
-        ≡ Named (record { owner = OfScope (InterfaceNamed (codes "i")); name = codes "t"; span = at 108 109; docs = no_docs; stability = Unknown; external_id = None }) AliasForm (Named (record { owner = OfScope (InterfaceNamed (codes "z")); name = codes "t"; span = at 65 66; docs = no_docs; stability = Unknown; external_id = None }) AliasForm (Leaf node.U16 ∷ []) ∷ [])
+        ≡ Named (record { owner = Some (InterfaceNamed (codes "i")); name = codes "t"; span = at 108 109; docs = no_docs; stability = Unknown; external_id = None }) AliasForm (Named (record { owner = Some (InterfaceNamed (codes "z")); name = codes "t"; span = at 65 66; docs = no_docs; stability = Unknown; external_id = None }) AliasForm (Leaf type.U16 ∷ []) ∷ [])
     tree_of_alias = refl
 
     -- use z as x; interface x {}

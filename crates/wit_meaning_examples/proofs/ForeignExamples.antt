@@ -24,7 +24,7 @@ use Rattle.wit_model.specs.declared.interface.Interface.{Interface}
 use Rattle.wit_model.specs.declared.unresolved.UnresolvedPackage.{UnresolvedPackage}
 use Rattle.wit_syntax.specs.Form.{AliasForm, UnknownForm}
 use Rattle.wit_syntax.specs.Address.{Address, InterfaceNamed, ForeignNamed}
-use Rattle.wit_syntax.specs.Node.{OfScope, Head, Named, Tree}
+use Rattle.wit_syntax.specs.Node.{Head, Named, Tree}
 use Rattle.wit_syntax.specs.Notes.{no_docs}
 use Rattle.wit_syntax.specs.Source.{top_names, TheInterface, Item, takings}
 use Rattle.wit_syntax.specs.Trees.{source_tree}
@@ -122,12 +122,12 @@ module _ (ptr : Ptr) (alloc : Global) where
   first_type : map (foreign_type files) (takings files) ≡ (t_entry 0 kind.Unknown ∷ [])
   first_type = refl
 
-  owner_of_c : owner_of whole (owner.Interface 0) ≡ OfScope c_of_ab
+  owner_of_c : owner_of whole (owner.Interface 0) ≡ Some c_of_ab
   owner_of_c = refl
 
   -- i's t is another word for c's t, of which nothing is known
   abbrev t_head : Address → Head
-  t_head s = record { owner = OfScope s; name = codes "t"; span = at 54 55; docs = no_docs; stability = Unknown; external_id = None }
+  t_head s = record { owner = Some s; name = codes "t"; span = at 54 55; docs = no_docs; stability = Unknown; external_id = None }
 
   abbrev t_tree : Tree 3
   t_tree = Named (t_head (InterfaceNamed (codes "i"))) AliasForm (Named (t_head c_of_ab) UnknownForm [] ∷ [])

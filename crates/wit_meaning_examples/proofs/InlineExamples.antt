@@ -41,7 +41,7 @@ use Rattle.wit_model.specs.declared.world.WorldItem.{WorldItem}
 use Rattle.wit_model.specs.declared.unresolved.UnresolvedPackage.{UnresolvedPackage}
 use Rattle.wit_syntax.specs.Address.{Address, InterfaceNamed, InlineAt}
 use Rattle.wit_syntax.specs.Form.{AliasForm}
-use Rattle.wit_syntax.specs.Node.{OfScope, Head, Leaf, Named}
+use Rattle.wit_syntax.specs.Node.{Head, Leaf, Named}
 use Rattle.wit_syntax.specs.Node as node
 use Rattle.wit_syntax.specs.Notes.{no_docs}
 use Rattle.wit_syntax.specs.Shape.{Word}
@@ -183,21 +183,21 @@ module _ (ptr : Ptr) (alloc : Global) where
   }
 
   -- the package tells them by where they stand in w
-  in_w : owner_of whole (owner.Interface 1) ≡ OfScope in_address
+  in_w : owner_of whole (owner.Interface 1) ≡ Some in_address
   in_w = refl
 
-  out_of_w : owner_of whole (owner.Interface 2) ≡ OfScope out_address
+  out_of_w : owner_of whole (owner.Interface 2) ≡ Some out_address
   out_of_w = refl
 
   names_in_package : names_of whole (owner.Interface 1) ≡ ((codes "t", 1) ∷ (codes "s", 2) ∷ [])
   names_in_package = refl
 
   abbrev inner : List ℕ → Span → Head
-  inner name span = record { owner = OfScope in_address; name = name; span = span; docs = no_docs; stability = Unknown; external_id = None }
+  inner name span = record { owner = Some in_address; name = name; span = span; docs = no_docs; stability = Unknown; external_id = None }
 
   -- s is u8 under three names, in the files and in the package
   tree_in_files : source_tree files 4 (in_address, Word s.name)
-      ≡ Named (inner (codes "s") (at 112 113)) AliasForm (Named (inner (codes "t") (at 103 104)) AliasForm (Named (record { owner = OfScope (InterfaceNamed (codes "i")); name = codes "t"; span = (at 36 37); docs = no_docs; stability = Unknown; external_id = None }) AliasForm (Leaf node.U8 ∷ []) ∷ []) ∷ [])
+      ≡ Named (inner (codes "s") (at 112 113)) AliasForm (Named (inner (codes "t") (at 103 104)) AliasForm (Named (record { owner = Some (InterfaceNamed (codes "i")); name = codes "t"; span = (at 36 37); docs = no_docs; stability = Unknown; external_id = None }) AliasForm (Leaf type.U8 ∷ []) ∷ []) ∷ [])
   tree_in_files = refl
 
   tree_in_package : package_tree whole 4 (type.Id 2) ≡ source_tree files 4 (in_address, Word s.name)

@@ -53,7 +53,6 @@ use Rattle.wit_syntax.specs.Address.{Address, InterfaceNamed, WorldNamed, Foreig
 use Rattle.wit_syntax.specs.Foreign.{foreign_items}
 use Rattle.wit_syntax.specs.Form.{BorrowForm, ListForm, ResultForm}
 use Rattle.wit_syntax.specs.Function.{functions, signature}
-use Rattle.wit_syntax.specs.Node.{OfScope}
 use Rattle.wit_syntax.specs.Node as node
 use Rattle.wit_syntax.specs.Notes.{Notes, no_docs, notes}
 use Rattle.wit_syntax.specs.Docs.{joined}
@@ -284,7 +283,7 @@ module _ (ptr : Ptr) (alloc : Global) where
   others : NamesOthers files whole
   others = record { deps = refl; spans = refl; unknown = refl }
 
-  owners : map (owner_of whole) (owner.Interface 0 ∷ owner.Interface 1 ∷ owner.World 0 ∷ []) ≡ (OfScope io_error ∷ OfScope in_streams ∷ OfScope in_w ∷ [])
+  owners : map (owner_of whole) (owner.Interface 0 ∷ owner.Interface 1 ∷ owner.World 0 ∷ []) ≡ (Some io_error ∷ Some in_streams ∷ Some in_w ∷ [])
   owners = refl
 
   -- every name and every function is, in the package, the tree that is written

@@ -48,7 +48,6 @@ use Rattle.wit_model.specs.declared.world.WorldKey.TheVariants as key
 use Rattle.wit_graph.specs.Table.{IsOrder}
 use Rattle.wit_syntax.specs.Address.{Address, InterfaceNamed, WorldNamed, InlineAt}
 use Rattle.wit_syntax.specs.Function.{functions, signature}
-use Rattle.wit_syntax.specs.Node.{OfScope}
 use Rattle.wit_syntax.specs.Notes.{no_docs}
 use Rattle.wit_syntax.specs.Scope.{in_order, item_rows, rows_of, interfaces_of, worlds_of}
 use Rattle.wit_syntax.specs.Shape.{Shape, Word}
@@ -279,7 +278,7 @@ module _ (ptr : Ptr) (alloc : Global) where
     required_resource_types = [];
   }
 
-  owners : map (owner_of whole) (owner.Interface 0 ∷ owner.World 1 ∷ owner.Interface 1 ∷ []) ≡ (OfScope in_a ∷ OfScope in_w ∷ OfScope in_b ∷ [])
+  owners : map (owner_of whole) (owner.Interface 0 ∷ owner.World 1 ∷ owner.Interface 1 ∷ []) ≡ (Some in_a ∷ Some in_w ∷ Some in_b ∷ [])
   owners = refl
 
   names_in_w : names_of whole (owner.World 1) ≡ ((codes "t", 1) ∷ [])

@@ -30,7 +30,7 @@ use Rattle.wit_model.specs.declared.world.WorldKey.{WorldKey}
 use Rattle.wit_model.specs.declared.world.WorldItem.{WorldItem}
 use Rattle.wit_model.specs.declared.unresolved.UnresolvedPackage.{UnresolvedPackage}
 use Rattle.wit_syntax.specs.Form.{AliasForm}
-use Rattle.wit_syntax.specs.Node.{OfScope, Head, Leaf, Named}
+use Rattle.wit_syntax.specs.Node.{Head, Leaf, Named}
 use Rattle.wit_syntax.specs.Node as node
 use Rattle.wit_syntax.specs.Address.{Address, InterfaceNamed, WorldNamed}
 use Rattle.wit_syntax.specs.Notes.{no_docs}
@@ -133,11 +133,11 @@ module _ (ptr : Ptr) (alloc : Global) where
   names_in_package = refl
 
   abbrev world_head : List ℕ → Span → Head
-  world_head name span = record { owner = OfScope (WorldNamed (codes "w")); name = name; span = span; docs = no_docs; stability = Unknown; external_id = None }
+  world_head name span = record { owner = Some (WorldNamed (codes "w")); name = name; span = span; docs = no_docs; stability = Unknown; external_id = None }
 
   -- s is u8 under three names, in the files and in the package
   tree_in_files : source_tree files 4 (WorldNamed (codes "w"), Word s.name)
-      ≡ Named (world_head (codes "s") (at 95 96)) AliasForm (Named (world_head (codes "t") (at 86 87)) AliasForm (Named (record { owner = OfScope (InterfaceNamed (codes "x")); name = codes "t"; span = (at 36 37); docs = no_docs; stability = Unknown; external_id = None }) AliasForm (Leaf node.U8 ∷ []) ∷ []) ∷ [])
+      ≡ Named (world_head (codes "s") (at 95 96)) AliasForm (Named (world_head (codes "t") (at 86 87)) AliasForm (Named (record { owner = Some (InterfaceNamed (codes "x")); name = codes "t"; span = (at 36 37); docs = no_docs; stability = Unknown; external_id = None }) AliasForm (Leaf type.U8 ∷ []) ∷ []) ∷ [])
   tree_in_files = refl
 
   tree_in_package : package_tree whole 4 (type.Id 2) ≡ source_tree files 4 (WorldNamed (codes "w"), Word s.name)

@@ -97,8 +97,8 @@ module _ (p : UnresolvedPackage) (ks : List Key) (types : length p.types ≡ len
       record {
         types = names_within p ks types (foreign_turned files v.0) i.types says.types;
         functions = λ j name f there. absurd (let none = says.functions in let f : ⊥ = cc in f);
-        no_package = says.no_package;
-        no_source = says.no_source;
+        no_package = says.says.no_package;
+        no_source = says.says.no_source;
       }
 
   -- the includes of a world
@@ -139,7 +139,7 @@ module _ (p : UnresolvedPackage) (ks : List Key) (types : length p.types ≡ len
         imports = none_within p w.imports says.imports;
         exports = none_within p w.exports says.exports;
         includes = λ j i there. absurd (let none = says.includes in let f : ⊥ = cc in f);
-        no_package = says.no_package;
+        no_package = says.says.no_package;
       }
 
 -- the items of other packages, where the arenas have as many

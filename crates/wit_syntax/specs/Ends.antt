@@ -1,11 +1,12 @@
 -- Where names end, through uses and definitions that are other words for a type.
 use Rattle.std.specs.Prelude.{◌≡◌, ℕ, zero, suc, List, [], ◌∷◌, Option, Some, None, Contains}
+use Rattle.std.specs.Option.{option_map}
 use Rattle.wit_type_tree.specs.declared.leaves.Id.{Id}
 use Rattle.wit_tree.specs.declared.tree.PackageFile.{PackageFile}
 use Rattle.wit_type_tree.specs.declared.types.«Type».{«Type» as Written}
 use Rattle.wit_syntax.specs.Form.{Form, AliasForm, ResourceForm, UnknownForm}
 use Rattle.wit_syntax.specs.Address.{Address}
-use Rattle.wit_syntax.specs.Node.{Owner, OfScope, Nobody, Head, Node, Leaf, Named, Unnamed, Nothing, Tree}
+use Rattle.wit_syntax.specs.Node.{Head, Node, Leaf, Named, Unnamed, Nothing, Tree}
 use Rattle.wit_syntax.specs.Shape.{Word, all_handles}
 use Rattle.wit_syntax.specs.Fault.{Fault, fault}
 use Rattle.wit_syntax.specs.Trees.{source_tree}
@@ -16,17 +17,13 @@ pub data End : Type 0 where
   AtForeign : (scope : Address) (name : List ℕ) → End
   Elsewhere : End
 
--- nothing is known of a name of another package but whose it is
-abbrev pub foreign_end : Owner → List ℕ → Option End
-foreign_end (OfScope s) name = Some (AtForeign s name)
-foreign_end Nobody name = None
-
--- where a named type ends, where `ends` tells where its parts do: another word for a type where that ends
+-- where a named type ends, where `ends` tells where its parts do: another word for a type where that ends; of a name of another package
+-- nothing is known but whose it is
 abbrev pub named_end : {X : Type 0} → (X → Option End) → Head → Form → List X → Option End
 named_end ends head AliasForm [] = None
 named_end ends head AliasForm (t ∷ ts) = ends t
 named_end ends head ResourceForm parts = Some AtResource
-named_end ends head UnknownForm parts = foreign_end head.owner head.name
+named_end ends head UnknownForm parts = option_map (λ s. AtForeign s head.name) head.owner
 named_end ends head form parts = Some Elsewhere
 
 abbrev pub node_end : {X : Type 0} → (X → Option End) → Node X → Option End

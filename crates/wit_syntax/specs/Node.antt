@@ -3,6 +3,8 @@ use Rattle.std.specs.Prelude.{ℕ, zero, suc, List, Option, map}
 use Rattle.wit_values.specs.declared.span.Span.{Span}
 use Rattle.wit_types.specs.declared.docs.Docs.{Docs}
 use Rattle.wit_types.specs.declared.stability.Stability.{Stability}
+use Rattle.wit_types.specs.declared.types.«Type».{«Type» as Ty}
+use Rattle.wit_types.specs.declared.types.«Type».TheVariants as type
 use Rattle.wit_syntax.specs.Form.{Form}
 use Rattle.wit_syntax.specs.Address.{Address}
 
@@ -23,14 +25,26 @@ pub data Primitive : Type 0 where
   String : Primitive
   ErrorContext : Primitive
 
--- whose a name is, by names alone: a scope's, or nobody's
-pub data Owner : Type 0 where
-  OfScope : (scope : Address) → Owner
-  Nobody : Owner
+-- the type of a package that a primitive is
+abbrev pub primitive_type : Primitive → Ty
+primitive_type Bool = type.Bool
+primitive_type U8 = type.U8
+primitive_type U16 = type.U16
+primitive_type U32 = type.U32
+primitive_type U64 = type.U64
+primitive_type S8 = type.S8
+primitive_type S16 = type.S16
+primitive_type S32 = type.S32
+primitive_type S64 = type.S64
+primitive_type F32 = type.F32
+primitive_type F64 = type.F64
+primitive_type Char = type.Char
+primitive_type String = type.String
+primitive_type ErrorContext = type.ErrorContext
 
--- a named type without its body
+-- a named type without its body; its owner, if it has one, is a scope, told by names alone
 pub record Head : Type 0 where
-  pub owner : Owner
+  pub owner : Option Address
   pub name : List ℕ
   pub span : Span
   pub docs : Docs
@@ -39,14 +53,14 @@ pub record Head : Type 0 where
 
 -- one level of a type
 pub data Node (X : Type 0) : Type 0 where
-  Leaf : (primitive : Primitive) → Node X
+  Leaf : (primitive : Ty) → Node X
   Named : (head : Head) (form : Form) (parts : List X) → Node X
   Unnamed : (form : Form) (parts : List X) → Node X
   -- a name or a place with nothing behind it
   Nothing : Node X
 
 abbrev pub node_map : {X Y : Type 0} → (X → Y) → Node X → Node Y
-node_map f (Leaf p) = Leaf p
+node_map f (Leaf t) = Leaf t
 node_map f (Named head form parts) = Named head form (map f parts)
 node_map f (Unnamed form parts) = Unnamed form (map f parts)
 node_map f Nothing = Nothing

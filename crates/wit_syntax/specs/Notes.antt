@@ -56,11 +56,15 @@ pub record Notes : Type 0 where
 abbrev pub notes : Docs → List Attribute → Notes
 notes docs xs = record { docs = docs; stability = stability_of xs; external_id = external_id_of xs }
 
--- an entry has these notes
-pub record HasNotes (n : Notes) (e : TypeDef) : Type 0 where
-  pub docs : e.docs ≡ n.docs
-  pub stability : e.stability ≡ n.stability
-  pub external_id : e.external_id ≡ n.external_id
+-- nothing is told
+abbrev pub no_notes : Notes
+no_notes = record { docs = no_docs; stability = stability.Unknown; external_id = None }
+
+-- these are the notes
+pub record AreNotes (n : Notes) (docs : Docs) (stability : Stability) (external_id : Option (List ℕ)) : Type 0 where
+  pub docs : docs ≡ n.docs
+  pub stability : stability ≡ n.stability
+  pub external_id : external_id ≡ n.external_id
 
 -- the first of these that is known
 abbrev pub first_known : List Stability → Stability

@@ -31,7 +31,7 @@ use Rattle.wit_tree.specs.declared.tree.WorldSide.TheVariants.{Imported, Exporte
 use Rattle.wit_syntax.specs.Address.{Address, InterfaceNamed, WorldNamed, InlineAt, ForeignNamed, package_of, same_address, is_foreign}
 use Rattle.wit_syntax.specs.Crossing.{same_side, inline_uses}
 use Rattle.wit_syntax.specs.Repeats.{firsts}
-use Rattle.wit_syntax.specs.Node.{OfScope, Head, Node, Named, Nothing}
+use Rattle.wit_syntax.specs.Node.{Head, Node, Named, Nothing}
 use Rattle.wit_syntax.specs.Shape.{Shape, Word, Shapes, End, More, one, Body, body_of}
 use Rattle.wit_syntax.specs.Notes.{Notes, notes, docs_of, no_docs}
 
@@ -323,7 +323,7 @@ name_stability x = (name_notes x).stability
 
 -- a name of a scope, without what it stands for
 abbrev pub head : Address → ScopeName → Head
-head s x = record { owner = OfScope s; name = local_name x; span = name_span x; docs = (name_notes x).docs; stability = (name_notes x).stability; external_id = (name_notes x).external_id }
+head s x = record { owner = Some s; name = local_name x; span = name_span x; docs = (name_notes x).docs; stability = (name_notes x).stability; external_id = (name_notes x).external_id }
 
 abbrev pub named_node : Address → Option ScopeName → Node Place
 named_node s None = Nothing

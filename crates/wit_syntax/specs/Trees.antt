@@ -3,25 +3,19 @@ use Rattle.std.specs.Prelude.{ℕ, List, []}
 use Rattle.std.specs.Option.{option_map_or}
 use Rattle.wit_tree.specs.declared.tree.PackageFile.{PackageFile}
 use Rattle.wit_syntax.specs.Address.{Address, InterfaceNamed, WorldNamed, InlineAt, ForeignNamed}
-use Rattle.wit_syntax.specs.Node.{Node, Leaf, Unnamed, Tree, unfolded}
+use Rattle.wit_syntax.specs.Node.{primitive_type, Node, Leaf, Unnamed, Tree, unfolded}
 use Rattle.wit_syntax.specs.Shape.{Prim, Word, Of}
 use Rattle.wit_syntax.specs.Source.{ScopeName, scope_names, item_at, taken_names, meaning, Place, placed, named_node}
 use Rattle.wit_syntax.specs.Sides.{all_scopes}
 
--- the names of the item at an address
-abbrev pub item_scope : List PackageFile → Address → List ScopeName
-item_scope files s = option_map_or scope_names (item_at (all_scopes files) s) []
-
--- the names of a scope
+-- the names of a scope: those that are taken from another package's item, or those of the item at its address
 abbrev pub scope : List PackageFile → Address → List ScopeName
-scope files (InterfaceNamed name) = item_scope files (InterfaceNamed name)
-scope files (WorldNamed name) = item_scope files (WorldNamed name)
-scope files (InlineAt world side place) = item_scope files (InlineAt world side place)
 scope files (ForeignNamed p name) = taken_names files (ForeignNamed p name)
+scope files s = option_map_or scope_names (item_at (all_scopes files) s) []
 
 -- one level of a written type: a name means what its scope says, every other form stands for itself
 abbrev pub source_node : List PackageFile → Place → Node Place
-source_node files (s, Prim p) = Leaf p
+source_node files (s, Prim p) = Leaf (primitive_type p)
 source_node files (s, Word id) = named_node s (meaning (scope files s) id.name.now)
 source_node files (s, Of span form parts) = Unnamed form (placed s parts)
 

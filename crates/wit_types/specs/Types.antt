@@ -10,21 +10,8 @@ use Rattle.wit_types.specs.declared.types.«Type».TheVariants as ty
 
 -- the place in the arena, if it is no primitive
 abbrev pub place_of : Ty → Option ℕ
-place_of ty.Bool = None
-place_of ty.U8 = None
-place_of ty.U16 = None
-place_of ty.U32 = None
-place_of ty.U64 = None
-place_of ty.S8 = None
-place_of ty.S16 = None
-place_of ty.S32 = None
-place_of ty.S64 = None
-place_of ty.F32 = None
-place_of ty.F64 = None
-place_of ty.Char = None
-place_of ty.String = None
-place_of ty.ErrorContext = None
 place_of (ty.Id i) = Some i
+place_of _ = None
 
 -- the same of a type that may be left out
 abbrev pub place_of_slot : Option Ty → Option ℕ
@@ -43,12 +30,8 @@ rank slot = places_to (place_of_slot slot)
 -- the slots of a kind where a type can stand, in written order; a handle's resource is no slot
 abbrev pub slots : TypeDefKind → List (Option Ty)
 slots (kind.Record r) = map (λ f. Some f.ty) r.fields
-slots kind.Resource = []
-slots (kind.Handle h) = []
-slots (kind.Flags f) = []
 slots (kind.Tuple t) = map (λ p. Some p) t.types
 slots (kind.Variant v) = map (λ c. c.ty) v.cases
-slots (kind.Enum e) = []
 slots (kind.Option t) = Some t ∷ []
 slots (kind.Result r) = r.ok ∷ r.err ∷ []
 slots (kind.List t) = Some t ∷ []
@@ -57,7 +40,7 @@ slots (kind.FixedLengthList t n) = Some t ∷ []
 slots (kind.Future t) = t ∷ []
 slots (kind.Stream t) = t ∷ []
 slots (kind.Type_ t) = Some t ∷ []
-slots kind.Unknown = []
+slots _ = []
 
 -- the place of a handle's resource
 abbrev pub handled : Handle → ℕ
@@ -66,22 +49,8 @@ handled (handle.Borrow i) = i
 
 -- the place of the resource, of a handle
 abbrev pub handled_of : TypeDefKind → Option ℕ
-handled_of (kind.Record r) = None
-handled_of kind.Resource = None
 handled_of (kind.Handle h) = Some (handled h)
-handled_of (kind.Flags f) = None
-handled_of (kind.Tuple t) = None
-handled_of (kind.Variant v) = None
-handled_of (kind.Enum e) = None
-handled_of (kind.Option t) = None
-handled_of (kind.Result r) = None
-handled_of (kind.List t) = None
-handled_of (kind.Map k v) = None
-handled_of (kind.FixedLengthList t n) = None
-handled_of (kind.Future t) = None
-handled_of (kind.Stream t) = None
-handled_of (kind.Type_ t) = None
-handled_of kind.Unknown = None
+handled_of _ = None
 
 -- every id in the kind is below a place
 abbrev pub IsBelow : ℕ → TypeDefKind → Type 0

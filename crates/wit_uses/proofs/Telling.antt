@@ -26,8 +26,8 @@ use Rattle.wit_items.specs.Told.{notes_behind, AreOf}
 pub interface_told : (name : Option (List ℕ)) (span : Span) (n : Notes) (held : ItemNotes) (i : Interface) → AreOf n held → IsInterface name span (notes_behind held) i → IsInterface name span n i
 interface_told name span n held i are says = record { called = says.called; stands = says.stands; docs = says.docs ∙ are.docs; stability = says.stability ∙ are.stability; no_package = says.no_package; no_source = says.no_source }
 
-pub world_told : (id : Id) (n : Notes) (held : ItemNotes) (w : World) → AreOf n held → IsWorld id (notes_behind held) w → IsWorld id n w
-world_told id n held w are says = record { name = says.name; span = says.span; docs = says.docs ∙ are.docs; stability = says.stability ∙ are.stability; no_package = says.no_package }
+pub world_told : (name : List ℕ) (span : Span) (n : Notes) (held : ItemNotes) (w : World) → AreOf n held → IsWorld name span (notes_behind held) w → IsWorld name span n w
+world_told name span n held w are says = record { name = says.name; span = says.span; docs = says.docs ∙ are.docs; stability = says.stability ∙ are.stability; no_package = says.no_package }
 
 -- an interface includes nothing
 no_include : (xs : List InterfaceItem) (i : Include) → Contains (flat_map part_includes (map interface_part xs)) i → ⊥
