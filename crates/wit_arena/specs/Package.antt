@@ -181,9 +181,9 @@ abbrev pub IsInterfaceOf : Item → Interface → Type 0
 IsInterfaceOf item i = IsInterface (declared_name item.declared) (item_id item).span (item_notes item) i
 
 -- a world of the arena is the declared one of a name and these notes, apart from its imports, exports and includes
-pub record IsWorld (name : List ℕ) (span : Span) (n : Notes) (w : World) : Type 0 where
-  pub name : w.name ≡ name
-  pub span : w.span ≡ span
+pub record IsWorld (called : List ℕ) (at : Span) (n : Notes) (w : World) : Type 0 where
+  pub name : w.name ≡ called
+  pub span : w.span ≡ at
   pub docs : w.docs ≡ n.docs
   pub stability : w.stability ≡ n.stability
   pub no_package : w.package ≡ None

@@ -61,10 +61,10 @@ abbrev pub no_notes : Notes
 no_notes = record { docs = no_docs; stability = stability.Unknown; external_id = None }
 
 -- these are the notes
-pub record AreNotes (n : Notes) (docs : Docs) (stability : Stability) (external_id : Option (List ℕ)) : Type 0 where
-  pub docs : docs ≡ n.docs
-  pub stability : stability ≡ n.stability
-  pub external_id : external_id ≡ n.external_id
+pub record AreNotes (n : Notes) (d : Docs) (s : Stability) (id : Option (List ℕ)) : Type 0 where
+  pub docs : d ≡ n.docs
+  pub stability : s ≡ n.stability
+  pub external_id : id ≡ n.external_id
 
 -- the first of these that is known
 abbrev pub first_known : List Stability → Stability
