@@ -193,19 +193,19 @@ pub fn stability(alloc: Global, attributes: &[Attribute<'_>]) -> ParseResult<Sta
 pub fn told_external_id(
     alloc: Global,
     attributes: &[Attribute<'_>],
-) -> Result<Option<Text>, AllocError>
+) -> Result<Rare<Text>, AllocError>
     ensures { IfOk result (λ id. id ≡ external_id_of attributes.now) }
 {
     match told_text(attributes, AttributeKind::ExternalId) {
-        Some(id) => Ok(Some(Text::from_str(alloc, id)?)),
-        None => Ok(None),
+        Some(id) => Rare::some(alloc, Text::from_str(alloc, id)?),
+        None => Ok(Rare::none()),
     }
 }
 
 /// The external id that attributes tell, if one does; other attributes are ignored.
 ///
 /// The error is E35 at a second external id, or want of memory.
-pub fn external_id(alloc: Global, attributes: &[Attribute<'_>]) -> ParseResult<Option<Text>>
+pub fn external_id(alloc: Global, attributes: &[Attribute<'_>]) -> ParseResult<Rare<Text>>
     ensures told { IfOk result (λ id. id ≡ external_id_of attributes.now) }
     ensures legal { OnOk result ((f : Fault) → IsExternalIdTwice attributes.now f → ⊥) }
     ensures refused { IfErr result (Refused (IsExternalIdTwice attributes.now)) }
