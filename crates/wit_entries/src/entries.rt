@@ -23,7 +23,7 @@ use wit_tree::{ParseResult, Span};
 use wit_types::{
     Arena, Docs, Stability, TypeDef, TypeDefKind, TypeId, TypeOwner, TypePlace, is_same_kind,
 };
-use wit_values::Text;
+use wit_values::{Rare, Text};
 
 /// The entries of the arena of types, and a table that knows the unnamed ones by what they are.
 ///
@@ -224,7 +224,7 @@ impl Entries {
             docs: Docs::default(),
             stability,
             span,
-            external_id: None,
+            external_id: Rare::none(),
         };
         let id = add_entry(&mut self.arena, &mut self.ends, entry)?;
         Ok(id)

@@ -3,7 +3,7 @@ ghost use Rattle.std.specs.Prelude.{◌≡◌, IfOk};
 
 use crate::function::{Function, Param};
 use std::alloc::AllocError;
-use wit_types::laws::copies::{copy_docs, copy_stability, copy_text};
+use wit_types::laws::copies::{copy_docs, copy_external_id, copy_stability};
 use wit_values::Row;
 
 fn copy_params(params: &Row<Param>) -> Result<Row<Param>, AllocError>
@@ -24,7 +24,7 @@ impl Clone for Function {
             docs: copy_docs(&self.docs)?,
             stability: copy_stability(&self.stability)?,
             span: self.span,
-            external_id: copy_text(&self.external_id)?,
+            external_id: copy_external_id(&self.external_id)?,
         })
     }
 }

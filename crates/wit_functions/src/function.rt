@@ -1,7 +1,7 @@
 //! Functions.
 
 use wit_types::{Docs, Stability, Type, TypeId};
-use wit_values::{Row, Span, Text};
+use wit_values::{Rare, Row, Span, Text};
 
 /// A parameter. Its span is the name's; that of `self` is the function's.
 #[derive(Debug, Clone, PartialEq, Eq)]
@@ -34,7 +34,7 @@ pub struct Function {
     pub stability: Stability,
     /// The name's place.
     pub span: Span,
-    pub external_id: Option<Text>,
+    pub external_id: Rare<Text>,
 }
 
 impl Drop for Function {

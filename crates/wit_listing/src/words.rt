@@ -7,7 +7,7 @@ ghost use Rattle.wit_listing.specs.Words.{Adds, deprecated_text, optional_text, 
 use itoa::Buffer;
 use std::alloc::AllocError;
 use wit_types::{Stability, Type};
-use wit_values::Release;
+use wit_values::{Rare, Release};
 
 /// A number of one digit.
 #[tactic(auto, using(std::proofs::lemmas::Fmt::decimal_digit))]
@@ -127,10 +127,10 @@ pub fn push_release(text: &mut String, release: &Release) -> Result<(), AllocErr
 }
 
 /// From which version on an item is deprecated.
-fn push_deprecated(text: &mut String, deprecated: &Option<Release>) -> Result<(), AllocError>
+fn push_deprecated(text: &mut String, deprecated: &Rare<Release>) -> Result<(), AllocError>
     ensures { OnOk result (Adds text.old text.new (deprecated_text deprecated.now)) }
 {
-    match deprecated {
+    match deprecated.get() {
         Some(version) => {
             text.push_str(" deprecated ")?;
             push_release(text, version)

@@ -6,7 +6,7 @@ use crate::world::{World, WorldInclude, WorldItem, WorldKey};
 use std::alloc::AllocError;
 use wit_functions::Function;
 use wit_types::TypeId;
-use wit_types::laws::copies::{copy_docs, copy_stability, copy_text};
+use wit_types::laws::copies::{copy_docs, copy_external_id, copy_stability, copy_text};
 use wit_values::{Row, Table, TextTable};
 
 fn copy_types(types: &TextTable<TypeId>) -> Result<TextTable<TypeId>, AllocError>
@@ -64,7 +64,7 @@ impl Clone for WorldItem {
             } => Ok(WorldItem::Interface {
                 id: *id,
                 stability: copy_stability(stability)?,
-                external_id: copy_text(external_id)?,
+                external_id: copy_external_id(external_id)?,
                 docs: copy_docs(docs)?,
                 span: *span,
             }),

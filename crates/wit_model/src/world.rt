@@ -7,7 +7,7 @@ use std::alloc::{AllocError, Global};
 use wit_functions::Function;
 use wit_functions::told::Told;
 use wit_types::{Docs, InterfaceId, PackageId, Stability, TypeId, Types, WorldId};
-use wit_values::{Row, Span, Table, Text};
+use wit_values::{Rare, Row, Span, Table, Text};
 
 /// A world: what a component imports and exports.
 #[derive(Debug, PartialEq, Eq)]
@@ -91,7 +91,7 @@ pub enum WorldItem {
     Interface {
         id: InterfaceId,
         stability: Stability,
-        external_id: Option<Text>,
+        external_id: Rare<Text>,
         docs: Docs,
         /// The path's place, or that of the label in front of it.
         span: Span,

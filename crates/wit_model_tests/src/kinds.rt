@@ -10,7 +10,7 @@ use wit_types::{
     Case, Docs, Enum, EnumCase, Field, Flag, Flags, Handle, Record, Result_, Stability, Tuple,
     Type, TypeDef, TypeDefKind, TypeOwner, Types, Variant,
 };
-use wit_values::{Span, Text};
+use wit_values::{Rare, Span, Text};
 
 // Puts a type of this kind behind others.
 fn add_type(types: &mut Types, kind: TypeDefKind, span: Span) -> Result<(), AllocError> {
@@ -23,7 +23,7 @@ fn add_type(types: &mut Types, kind: TypeDefKind, span: Span) -> Result<(), Allo
             docs: Docs::default(),
             stability: Stability::Unknown,
             span,
-            external_id: None,
+            external_id: Rare::none(),
         },
     )
 }

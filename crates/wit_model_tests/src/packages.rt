@@ -14,7 +14,7 @@ use wit_model::laws::order::{compare_package_names, compare_stabilities};
 use wit_model::{AstItem, ForeignItems, UnresolvedPackage};
 use wit_package_names::PackageName;
 use wit_types::{Arena, Docs, HasSpans, Stability};
-use wit_values::{Release, Row, Span, Table, Text, TextTable};
+use wit_values::{Rare, Release, Row, Span, Table, Text, TextTable};
 
 // The name of a package, with a version.
 fn package_name(alloc: Global, name: &str) -> Result<PackageName, AllocError> {
@@ -30,7 +30,7 @@ fn package_name(alloc: Global, name: &str) -> Result<PackageName, AllocError> {
 
 fn stable(alloc: Global) -> Result<Stability, AllocError> {
     let since = Release::of(alloc, &Version::new(1, 0, 0))?;
-    let deprecated = Some(Release::of(alloc, &Version::new(2, 0, 0))?);
+    let deprecated = Rare::some(alloc, Release::of(alloc, &Version::new(2, 0, 0))?)?;
     Ok(Stability::Stable { since, deprecated })
 }
 

@@ -3,7 +3,7 @@ use std::alloc::{AllocError, Global};
 use std::process::Abort;
 use wit_model::{Function, FunctionKind, Param};
 use wit_types::{Arena, Docs, Id, Stability};
-use wit_values::{Row, Span, Text, TextTable};
+use wit_values::{Rare, Row, Span, Text, TextTable};
 
 /// Where things stand.
 pub const SPAN: Span = Span { start: 3, end: 5 };
@@ -79,6 +79,6 @@ pub fn function(name: Text, kind: FunctionKind, params: Row<Param>, span: Span) 
         docs: Docs::default(),
         stability: Stability::Unknown,
         span,
-        external_id: None,
+        external_id: Rare::none(),
     }
 }

@@ -12,7 +12,7 @@ use wit_model::{
     WorldInclude, WorldItem, WorldKey,
 };
 use wit_types::{Arena, Docs, InterfacePlace, Stability, Type, Types, WorldPlace};
-use wit_values::{Row, Span, Table, Text, TextTable};
+use wit_values::{Rare, Row, Span, Table, Text, TextTable};
 
 fn params(alloc: Global, span: Span) -> Result<Row<Param>, AllocError> {
     let name = Text::from_str(alloc, "p")?;
@@ -78,7 +78,7 @@ fn add_import(
     name: &str,
     span: Span,
 ) -> Result<(), AllocError> {
-    let external_id = Some(Text::from_str(alloc, "x")?);
+    let external_id = Rare::some(alloc, Text::from_str(alloc, "x")?)?;
     let id = first_id(alloc);
     let stability = Stability::Unknown;
     let docs = Docs::default();

@@ -5,11 +5,10 @@ ghost use Rattle.wit_type_tree.specs.Refusal.{IsWantOfMemory};
 ghost use Rattle.wit_syntax.specs.Broken.{Refused};
 ghost use Rattle.wit_syntax.specs.Fault.{Fault, fault, fault_of};
 ghost use Rattle.wit_type_tree.specs.Attributes.{attribute_span, first_of, kind_of, told_text, told_version};
-ghost use Rattle.wit_syntax.specs.Notes.{IsBrokenStability, IsExternalIdTwice, external_id_of, stability_of};
+ghost use Rattle.wit_syntax.specs.Notes.{IsBrokenStability, IsExternalIdTwice, deprecation, external_id_of, stability_of};
 ghost use Rattle.wit_type_tree.specs.declared.attribute_kind.AttributeKind.TheVariants.{ExternalId};
 ghost use Rattle.wit_notes.specs.Kinds.{IsEachOnce, IsRepeat, number_of};
 
-use crate::package::release_of;
 use semver::Version;
 use std::alloc::{AllocError, Global};
 use wit_refusals::refusal::refuse;
@@ -17,7 +16,7 @@ use wit_tree::attribute_kind::{AttributeKind, first_of, is_of, kind_of, span_of}
 use wit_tree::tree::Attribute;
 use wit_tree::{ParseError, ParseResult, Span};
 use wit_types::Stability;
-use wit_values::{Release, Text};
+use wit_values::{Rare, Release, Text};
 
 /// The version that the first attribute of a kind tells.
 fn told_version<'f>(attributes: &'f [Attribute<'_>], kind: AttributeKind) -> Option<&'f Version>
@@ -119,6 +118,19 @@ fn check_together(alloc: Global, attributes: &[Attribute<'_>]) -> ParseResult<()
     }
 }
 
+/// The version from which on attributes tell that a thing is deprecated, if they do.
+fn deprecation(
+    alloc: Global,
+    attributes: &[Attribute<'_>],
+) -> Result<Rare<Release>, AllocError>
+    ensures { IfOk result (λ release. release ≡ deprecation attributes.now) }
+{
+    match told_version(attributes, AttributeKind::Deprecated) {
+        Some(version) => Rare::some(alloc, Release::of(alloc, version)?),
+        None => Ok(Rare::none()),
+    }
+}
+
 /// The stability that attributes tell, the first of each kind, whatever rule they break; other
 /// attributes are ignored.
 ///
@@ -129,7 +141,7 @@ pub fn told_stability(alloc: Global, attributes: &[Attribute<'_>]) -> Result<Sta
     if attributes.len() == 0 {
         return Ok(Stability::Unknown);
     }
-    let deprecated = release_of(alloc, told_version(attributes, AttributeKind::Deprecated))?;
+    let deprecated = deprecation(alloc, attributes)?;
     if let Some(version) = told_version(attributes, AttributeKind::Since) {
         let since = Release::of(alloc, version)?;
         return Ok(Stability::Stable { since, deprecated });
@@ -181,19 +193,19 @@ pub fn stability(alloc: Global, attributes: &[Attribute<'_>]) -> ParseResult<Sta
 pub fn told_external_id(
     alloc: Global,
     attributes: &[Attribute<'_>],
-) -> Result<Option<Text>, AllocError>
+) -> Result<Rare<Text>, AllocError>
     ensures { IfOk result (λ id. id ≡ external_id_of attributes.now) }
 {
     match told_text(attributes, AttributeKind::ExternalId) {
-        Some(id) => Ok(Some(Text::from_str(alloc, id)?)),
-        None => Ok(None),
+        Some(id) => Rare::some(alloc, Text::from_str(alloc, id)?),
+        None => Ok(Rare::none()),
     }
 }
 
 /// The external id that attributes tell, if one does; other attributes are ignored.
 ///
 /// The error is E35 at a second external id, or want of memory.
-pub fn external_id(alloc: Global, attributes: &[Attribute<'_>]) -> ParseResult<Option<Text>>
+pub fn external_id(alloc: Global, attributes: &[Attribute<'_>]) -> ParseResult<Rare<Text>>
     ensures told { IfOk result (λ id. id ≡ external_id_of attributes.now) }
     ensures legal { OnOk result ((f : Fault) → IsExternalIdTwice attributes.now f → ⊥) }
     ensures refused { IfErr result (Refused (IsExternalIdTwice attributes.now)) }

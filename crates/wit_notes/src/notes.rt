@@ -11,14 +11,14 @@ use std::alloc::{AllocError, Global};
 use wit_tree::ParseResult;
 use wit_tree::tree::{self, Attribute};
 use wit_types::{Docs, Stability};
-use wit_values::Text;
+use wit_values::{Rare, Text};
 
 /// What is told of a thing: its docs, how stable it is, and its name elsewhere.
 #[derive(Debug, Clone, Drop)]
 pub struct Notes {
     pub docs: Docs,
     pub stability: Stability,
-    pub external_id: Option<Text>,
+    pub external_id: Rare<Text>,
 }
 
 /// What docs and attributes tell.
@@ -38,7 +38,7 @@ pub fn notes_of(
         return Ok(Notes {
             docs,
             stability: Stability::Unknown,
-            external_id: None,
+            external_id: Rare::none(),
         });
     }
     let told = use_notes(alloc, attributes)?;
@@ -76,7 +76,7 @@ pub fn told_notes(alloc: Global, attributes: &[Attribute<'_>]) -> Result<Notes, 
         return Ok(Notes {
             docs: Docs { contents: None },
             stability: Stability::Unknown,
-            external_id: None,
+            external_id: Rare::none(),
         });
     }
     let stability = told_stability(alloc, attributes)?;

@@ -12,7 +12,7 @@ use wit_tree::tree::{
     SourceFile, TypeBody, TypeDef,
 };
 use wit_types::{Arena, InterfacePlace, Types, WorldPlace};
-use wit_values::{Table, Text};
+use wit_values::{Rare, Table, Text};
 
 /// The external id that a feature is made, where it begins with `id-`.
 fn id_of<'a>(attribute: &Attribute<'a>) -> Option<Attribute<'a>> {
@@ -118,8 +118,8 @@ pub fn read_marked<'a>(alloc: Global, source: &'a Source) -> ParseResult<SourceF
 }
 
 /// Puts a name and its external id behind a text, as a line.
-fn push_id(text: &mut String, name: &str, id: &Option<Text>) -> Result<(), AllocError> {
-    if let Some(id) = id {
+fn push_id(text: &mut String, name: &str, id: &Rare<Text>) -> Result<(), AllocError> {
+    if let Some(id) = id.get() {
         text.push_str("\n")?;
         text.push_str(name)?;
         text.push_str(" ")?;
@@ -129,8 +129,8 @@ fn push_id(text: &mut String, name: &str, id: &Option<Text>) -> Result<(), Alloc
 }
 
 /// Puts a key of a world and the external id of what it has by this key behind a text, as a line.
-fn push_key_id(text: &mut String, key: &WorldKey, id: &Option<Text>) -> Result<(), AllocError> {
-    if let Some(id) = id {
+fn push_key_id(text: &mut String, key: &WorldKey, id: &Rare<Text>) -> Result<(), AllocError> {
+    if let Some(id) = id.get() {
         push_key(text, key)?;
         text.push_str(" ")?;
         text.push_str(id.as_str())?;

@@ -4,11 +4,11 @@
 use std::alloc::AllocError;
 use wit_model::{AstItem, UnresolvedPackage};
 use wit_types::Stability;
-use wit_values::{Release, Row, TextTable};
+use wit_values::{Rare, Release, Row, TextTable};
 
 /// Puts the version from which on something is deprecated behind a text.
-fn push_deprecated(text: &mut String, deprecated: &Option<Release>) -> Result<(), AllocError> {
-    match deprecated {
+fn push_deprecated(text: &mut String, deprecated: &Rare<Release>) -> Result<(), AllocError> {
+    match deprecated.get() {
         Some(version) => write!(text, ", not from {version}"),
         None => Ok(()),
     }

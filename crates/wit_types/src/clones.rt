@@ -1,7 +1,7 @@
 //! Clones of entries: each is equal to its source.
 ghost use Rattle.std.specs.Prelude.{◌≡◌};
 
-use crate::laws::copies::{copy_docs, copy_kind, copy_stability, copy_text};
+use crate::laws::copies::{copy_docs, copy_external_id, copy_kind, copy_stability, copy_text};
 use crate::types::TypeDef;
 use std::alloc::AllocError;
 
@@ -16,7 +16,7 @@ impl Clone for TypeDef {
             docs: copy_docs(&self.docs)?,
             stability: copy_stability(&self.stability)?,
             span: self.span,
-            external_id: copy_text(&self.external_id)?,
+            external_id: copy_external_id(&self.external_id)?,
         })
     }
 }

@@ -2,7 +2,7 @@
 ghost use Rattle.std.specs.Prelude.{◌≡◌};
 ghost use Rattle.wit_types.specs.Stabilities.{is_stable, is_unknown};
 
-use wit_values::{Release, Text};
+use wit_values::{Rare, Release, Text};
 
 /// How stable an item is, by its attributes; the default is `Unknown`.
 ///
@@ -15,12 +15,12 @@ pub enum Stability {
     /// There behind a feature, and from a version on deprecated.
     Unstable {
         feature: Text,
-        deprecated: Option<Release>,
+        deprecated: Rare<Release>,
     },
     /// There since a version, and from a version on deprecated.
     Stable {
         since: Release,
-        deprecated: Option<Release>,
+        deprecated: Rare<Release>,
     },
 }
 

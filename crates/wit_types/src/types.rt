@@ -4,7 +4,7 @@ use crate::arena::Arena;
 use crate::docs::Docs;
 use crate::ids::{InterfaceId, TypeId, TypePlace, WorldId};
 use crate::stability::Stability;
-use wit_values::{Row, Span, Text};
+use wit_values::{Rare, Row, Span, Text};
 
 /// A type as it is referred to: a primitive, or an entry of the arena of types.
 ///
@@ -39,7 +39,7 @@ pub struct TypeDef {
     pub stability: Stability,
     /// The name's place; of an unnamed type, that of its first writing.
     pub span: Span,
-    pub external_id: Option<Text>,
+    pub external_id: Rare<Text>,
 }
 
 impl Drop for TypeDef {

@@ -8,6 +8,7 @@ pub mod accessor;
 pub mod holding;
 mod index;
 pub mod laws;
+pub mod rare;
 pub mod release;
 mod release_text;
 pub mod row;
@@ -20,6 +21,7 @@ pub mod text_table;
 
 pub use accessor::AccessorKind;
 pub use holding::{beside, fitted, push};
+pub use rare::Rare;
 pub use release::{BuildText, PreText, Release};
 pub use row::Row;
 pub use sought::Sought;

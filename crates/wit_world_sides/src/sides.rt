@@ -34,7 +34,7 @@ use wit_notes::{docs, path_id, told_notes};
 use wit_tree::Span;
 use wit_tree::tree::{Attribute, Id, UsePath, WorldSide};
 use wit_types::{Docs, InterfaceId, Stability, TypeId};
-use wit_values::{Table, Text, TextTable};
+use wit_values::{Rare, Table, Text, TextTable};
 
 /// Puts a type at a name of a world, as an import.
 fn add_import(
@@ -160,7 +160,7 @@ fn interface_item(
         return Ok(WorldItem::Interface {
             id,
             stability: Stability::Unknown,
-            external_id: None,
+            external_id: Rare::none(),
             docs,
             span,
         });

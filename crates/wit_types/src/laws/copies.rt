@@ -5,13 +5,20 @@ use crate::docs::Docs;
 use crate::stability::Stability;
 use crate::types::TypeDefKind;
 use std::alloc::AllocError;
-use wit_values::Text;
+use wit_values::{Rare, Text};
 
 /// A copy of a text that may be left out.
 pub fn copy_text(text: &Option<Text>) -> Result<Option<Text>, AllocError>
     ensures { IfOk result (λ copy. copy ≡ text.now) }
 {
     text.clone()
+}
+
+/// A copy of a name elsewhere.
+pub fn copy_external_id(id: &Rare<Text>) -> Result<Rare<Text>, AllocError>
+    ensures { IfOk result (λ copy. copy ≡ id.now) }
+{
+    id.clone()
 }
 
 /// A copy of docs.
