@@ -2,6 +2,7 @@
 ghost use Rattle.std.specs.Prelude.{◌≡◌, ◌++◌, IfOk, OnOk, map, string_bytes};
 ghost use Rattle.wit_syntax.specs.Docs.{behind_slashes, common_indent, ended, ended_lines, indent, joined, said, unmarked, without_end, without_last_lines, without_spaces};
 ghost use Rattle.wit_syntax.specs.Notes.{docs_of};
+ghost use Rattle.wit_notes.specs.Indents.{written_indent};
 
 use memchr::memchr;
 use std::alloc::{AllocError, Global};
@@ -28,9 +29,14 @@ fn behind_slashes(text: &str) -> &str
 }
 
 /// A comment without its marks.
+///
+/// Most begin with `///`, and are told by that first.
 fn unmarked(comment: &str) -> &str
     ensures { result.now ≡ unmarked comment.now }
 {
+    if let Some(rest) = behind(comment, "///") {
+        return behind_slashes(rest);
+    }
     if comment == "/**/" {
         return "";
     }
@@ -47,17 +53,6 @@ fn said(comment: &str) -> &str
     unmarked(comment).trim_end()
 }
 
-/// What each comment says.
-fn all_said<'a>(alloc: Global, comments: &[&'a str]) -> Result<Vec<&'a str>, AllocError>
-    ensures { IfOk result (λ texts. map (λ t. t.now) texts.items ≡ map (λ c. said c.now) comments.now) }
-{
-    let mut texts = Vec::with_capacity(alloc, comments.len())?;
-    for comment in comments {
-        texts.push(said(comment))?;
-    }
-    Ok(texts)
-}
-
 /// How many bytes of ASCII white space a text begins with.
 fn indent(text: &str) -> usize
     ensures { result ≡ indent text.now }
@@ -68,14 +63,24 @@ fn indent(text: &str) -> usize
         .count()
 }
 
-/// The least indent of those texts that are not empty; 0 where all are.
-fn common_indent(texts: &[&str]) -> usize
-    ensures { result ≡ common_indent (map (λ t. t.now) texts.now) }
+/// The indent of what a comment says, where it says something.
+fn said_indent(comment: &str) -> Option<usize>
+    ensures { result ≡ written_indent (said comment.now) }
 {
-    texts
+    let text = said(comment);
+    if text.is_empty() {
+        return None;
+    }
+    Some(indent(text))
+}
+
+/// The least indent of what those comments say that say something; 0 where none does.
+fn common_indent(comments: &[&str]) -> usize
+    ensures { result ≡ common_indent (map (λ c. said c.now) comments.now) }
+{
+    comments
         .iter()
-        .filter(|text| !text.is_empty())
-        .map(|text| indent(text))
+        .filter_map(|comment| said_indent(comment))
         .min()
         .unwrap_or(0)
 }
@@ -126,23 +131,23 @@ fn drop_last_lines(text: &mut String)
     text.truncate(end);
 }
 
-/// Room for what comments say, each with an LF.
-fn room(texts: &[&str]) -> usize {
+/// Room for what comments say, each with an LF: no more than the comments, whose marks are longer.
+fn room(comments: &[&str]) -> usize {
     let mut room: usize = 0;
-    for text in texts {
-        room = room.saturating_add(text.len()).saturating_add(1);
+    for comment in comments {
+        room = room.saturating_add(comment.len());
     }
     room
 }
 
-/// What comments say, joined.
-fn joined(alloc: Global, texts: &[&str]) -> Result<String, AllocError>
-    ensures { IfOk result (λ text. string_bytes text ≡ joined (map (λ t. t.now) texts.now)) }
+/// What comments say, joined. It is found twice, which costs less than a list of it.
+fn joined(alloc: Global, comments: &[&str]) -> Result<String, AllocError>
+    ensures { IfOk result (λ text. string_bytes text ≡ joined (map (λ c. said c.now) comments.now)) }
 {
-    let count = common_indent(texts);
-    let mut text = String::with_capacity(alloc, room(texts))?;
-    for added in texts {
-        push_lines(&mut text, without_spaces(added, count))?;
+    let count = common_indent(comments);
+    let mut text = String::with_capacity(alloc, room(comments))?;
+    for comment in comments {
+        push_lines(&mut text, without_spaces(said(comment), count))?;
     }
     drop_last_lines(&mut text);
     Ok(text)
@@ -165,8 +170,7 @@ pub fn docs(alloc: Global, docs: &tree::Docs<'_>) -> Result<Docs, AllocError>
     if comments.is_empty() {
         return Ok(Docs { contents: None });
     }
-    let texts = all_said(alloc, comments)?;
-    let text = joined(alloc, &texts)?;
+    let text = joined(alloc, comments)?;
     Ok(Docs {
         contents: Some(Text::from(text)),
     })
