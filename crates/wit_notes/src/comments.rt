@@ -1,5 +1,6 @@
 //! The text of docs.
-ghost use Rattle.std.specs.Prelude.{◌≡◌, ◌++◌, IfOk, OnOk, map, string_bytes};
+ghost use Rattle.std.specs.Prelude.{◌≡◌, ◌++◌, IfOk, IsTrue, OnOk, map, string_bytes};
+ghost use Rattle.std.specs.Str.{trim_end};
 ghost use Rattle.wit_syntax.specs.Docs.{behind_slashes, common_indent, ended, ended_lines, indent, joined, said, unmarked, without_end, without_last_lines, without_spaces};
 ghost use Rattle.wit_syntax.specs.Notes.{docs_of};
 ghost use Rattle.wit_notes.specs.Indents.{written_indent};
@@ -46,11 +47,27 @@ fn unmarked(comment: &str) -> &str
     }
 }
 
-/// What a comment says: neither its marks nor the white space at its end.
+/// Whether a text ends with a letter, a digit or another sign of ASCII: then no white space stands at its end.
+fn ends_in_sign(text: &str) -> bool
+    ensures { IsTrue result → text.now ≡ trim_end text.now }
+{
+    let bytes = text.as_bytes();
+    let len = bytes.len();
+    if len == 0 {
+        return false;
+    }
+    bytes[len - 1].is_ascii_graphic()
+}
+
+/// What a comment says: neither its marks nor the white space at its end. Most have none there.
 fn said(comment: &str) -> &str
     ensures { result.now ≡ said comment.now }
 {
-    unmarked(comment).trim_end()
+    let text = unmarked(comment);
+    if ends_in_sign(text) {
+        return text;
+    }
+    text.trim_end()
 }
 
 /// How many bytes of ASCII white space a text begins with.
