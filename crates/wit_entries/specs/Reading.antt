@@ -45,6 +45,11 @@ abbrev pub IsOwn : Written → Type 0
 IsOwn (written.Own span id) = Unit {0}
 IsOwn t = ⊥
 
+-- a list of any length
+abbrev pub IsList : Written → Type 0
+IsList (written.List' span p t) = Unit {0}
+IsList t = ⊥
+
 -- a form with this span, and its kind over its resolved parts
 abbrev pub IsForm : List TypeDef → List TypeDef → Env → Stability → Shape → TypeDefKind → Span → Type 0
 IsForm old new env given (Prim p) kind span = ⊥

@@ -8,7 +8,7 @@ ghost use Rattle.wit_syntax.specs.Fault.{Fault};
 ghost use Rattle.wit_syntax.specs.Bodies.{IsBrokenType, IsBrokenPart};
 ghost use Rattle.wit_syntax.specs.Broken.{Refused};
 ghost use Rattle.wit_arena.specs.Resolving.{env_of, IsWrongType, AreWrongTypes};
-ghost use Rattle.wit_entries.specs.Reading.{primitive_in, IsResolved, AreTypes, IsLeaf, IsRead, StandsFor, named_kind as the_named_kind};
+ghost use Rattle.wit_entries.specs.Reading.{primitive_in, IsResolved, AreTypes, IsLeaf, IsList, IsRead, StandsFor, named_kind as the_named_kind};
 ghost use Rattle.wit_entries.specs.Requiring.{IsGrown, Requires};
 
 use crate::entries::Entries;
@@ -105,11 +105,17 @@ pub fn read(
         let resource = find_resource(alloc, types, names, required, *id)?;
         return Ok(Reading::Leaf(Type::Id(resource)));
     }
+    if let tree::Type::List(span, item) = ty {
+        let item = resolve_type(alloc, types, names, required, given, item)?;
+        return Ok(Reading::Form(TypeDefKind::List(item), *span));
+    }
     read_form(alloc, types, names, required, given, ty)
 }
 
-/// A type that is neither a primitive nor a name, nor a resource that is handed over. Each form of types is told here alone.
+/// A form but a list, and no resource that is handed over. It stands by itself since each of its calls has room for
+/// a refusal: a list, the form that is nested most, needs room for its own alone.
 #[cycle(types)]
+#[inline(never)]
 fn read_form(
     alloc: Global,
     types: &mut Entries,
@@ -118,7 +124,8 @@ fn read_form(
     given: &Stability,
     ty: &tree::Type<'_>,
 ) -> ParseResult<Reading>
-    requires { IsLeaf (shape_of ty.now) → ⊥ }
+    requires form { IsLeaf (shape_of ty.now) → ⊥ }
+    requires unlisted { IsList ty.now → ⊥ }
     ensures read { IfOk result (IsRead types.old types.new (env_of names.now) given.now (shape_of ty.now)) }
     ensures legal { OnOk result ((f : Fault) → IsBrokenType ty.now f → ⊥) }
     ensures handled { OnOk result (Requires (env_of names.now) types.new (handles ty.now) required.old.items required.new.items) }
@@ -126,10 +133,6 @@ fn read_form(
     ensures refused { IfErr result (Refused (IsWrongType (env_of names.now) types.new ty.now)) }
 {
     match ty {
-        tree::Type::List(span, item) => {
-            let item = resolve_type(alloc, types, names, required, given, item)?;
-            Ok(Reading::Form(TypeDefKind::List(item), *span))
-        }
         tree::Type::FixedLengthList(span, item, size) => {
             let item = resolve_type(alloc, types, names, required, given, item)?;
             Ok(Reading::Form(TypeDefKind::FixedLengthList(item, *size), *span))

@@ -1,3 +1,4 @@
 pub mod Texts
+pub mod Trimmed
 pub mod Telling
 pub mod NoAttributes

@@ -1,7 +1,7 @@
 -- Marks at both ends of texts, spaces in front, and lines.
 use Rattle.std.proofs.Common.{◌≡◌, ◌≢◌, ℕ, zero, suc, ◌-◌, ◌<◌, ◌==◌, ◌&&◌, true, false, List, [], ◌∷◌, ◌++◌, length, take, drop, append-nil, slice_index, Option, Some, None, is_some, IfSome, inl, inr, refl, sym, ap, ◌∙◌, arith, lit<, if◌then◌else◌}
-use Rattle.std.specs.Prelude.{map, filter, nat_eq}
-use Rattle.std.specs.List.{ends_with, flat_map, slice_split}
+use Rattle.std.specs.Prelude.{Bool, codes, map, filter, nat_eq}
+use Rattle.std.specs.List.{ends_with, filter_map, flat_map, slice_split, starts_with}
 use Rattle.std.specs.Str.{IsCharBoundary}
 use Rattle.std.specs.Str.Lines.{lines_of_parts}
 use Rattle.std.specs.Str.Pattern.{CutsPrefixes, CutsSuffixes, IsTrimStartMatches, IsTrimEndMatches, FindsCharPrefix, FindsCharSuffix, FindsTextSuffix, HasCharAt, StripsSuffix}
@@ -12,8 +12,11 @@ use Rattle.std.proofs.lemmas.List.{take-append-drop}
 use Rattle.std.proofs.Math.Seq.{drop-length}
 use denote.Ref.{Bor}
 use Rattle.memchr.specs.Find.{IsFirstByte, is_byte}
+use Rattle.wit_names.specs.Front.{behind}
+use Rattle.wit_notes.specs.Indents.{written_indent}
 use Rattle.wit_syntax.proofs.Lists.{map_map}
-use Rattle.wit_syntax.specs.Docs.{behind_slashes, behind_spaces, docs_text, ended, ended_lines, indent, is_written, joined, said, without_end, without_last_lines}
+use Rattle.wit_syntax.proofs.Names.{name_equal}
+use Rattle.wit_syntax.specs.Docs.{behind_slashes, behind_spaces, docs_text, ended, ended_lines, indent, is_written, joined, said, unmarked, without_end, without_last_lines}
 
 -- a text whose end was taken off
 pub without_end-stripped : (n s : List ℕ) (x : Bor (List ℕ)) → StripsSuffix (FindsTextSuffix n) s x.now → x.now ≡ without_end n s
@@ -119,15 +122,31 @@ pub lines-many : (text : List ℕ) (found : Option ℕ) → IsFirstByte (is_byte
 lines-many text None h some = absurd (let f : ⊥ = cc in f)
 lines-many text (Some place) h some = ne_eqb (length text) 0 (λ z. (let high = h.0.high in let f : ⊥ = omega arith in f))
 
--- the indents of lent texts
-pub indents-lent : (ts : List (Bor (List ℕ))) → map (λ (t : Bor (List ℕ)). indent t.now) (filter (λ (t : Bor (List ℕ)). is_written t.now) ts) ≡ map indent (filter is_written (map (λ (t : Bor (List ℕ)). t.now) ts))
-indents-lent [] = refl
-indents-lent (t ∷ ts) = elim (cases_Bool (is_written t.now)) [
-  | inl written ↦ rw written (ap (λ ns. indent t.now ∷ ns) (indents-lent ts))
-  | inr empty ↦ rw empty (indents-lent ts)
+-- the text behind a front stands behind it
+behind-some : (front text rest : List ℕ) → behind front text ≡ Some rest → text ≡ front ++ rest
+behind-some front text rest h = by (starts_with nat_eq text front) refl
+  where
+    by : (b : Bool) → starts_with nat_eq text front ≡ b → text ≡ front ++ rest
+    by true e =
+        let some : Some (drop (length front) text) ≡ Some rest = rw e at h in
+        let is : drop (length front) text ≡ rest = cc in
+        let starts : front ≡ take (length front) text = name_equal front (take (length front) text) e in
+        sym (take-append-drop (length front) text) ∙ ap (λ t. t ++ drop (length front) text) (sym starts) ∙ ap (λ t. front ++ t) is
+    by false e = absurd (let wrong : None ≡ Some rest = rw e at h in let f : ⊥ = cc in f)
+
+-- a comment that begins with three slashes has no other mark
+pub unmarked-slashes : (comment rest : List ℕ) → behind (codes "///") comment ≡ Some rest → behind_slashes rest ≡ unmarked comment
+unmarked-slashes comment rest h = sym (ap unmarked (behind-some (codes "///") comment rest h))
+
+-- the indents of what lent comments say
+pub indents-found : (comments : List (Bor (List ℕ))) → filter_map (λ (m : Bor (List ℕ)). written_indent (said m.now)) comments ≡ map indent (filter is_written (map (λ (m : Bor (List ℕ)). said m.now) comments))
+indents-found [] = refl
+indents-found (m ∷ ms) = elim (cases_Bool (is_written (said m.now))) [
+  | inl written ↦ rw written (ap (λ ns. indent (said m.now) ∷ ns) (indents-found ms))
+  | inr empty ↦ rw empty (indents-found ms)
 ]
 
 -- the text of lent comments
-pub docs-joined : (comments texts : List (Bor (List ℕ))) → (length comments == 0) ≡ false → map (λ (t : Bor (List ℕ)). t.now) texts ≡ map (λ (m : Bor (List ℕ)). said m.now) comments → Some (joined (map (λ (t : Bor (List ℕ)). t.now) texts)) ≡ docs_text (map (λ (m : Bor (List ℕ)). m.now) comments)
-docs-joined [] texts some is = absurd (let f : ⊥ = cc in f)
-docs-joined (m ∷ ms) texts some is = ap (λ ts. Some (joined ts)) (is ∙ sym (map_map said (λ (n : Bor (List ℕ)). n.now) (m ∷ ms)))
+pub docs-joined : (comments : List (Bor (List ℕ))) → (length comments == 0) ≡ false → Some (joined (map (λ (m : Bor (List ℕ)). said m.now) comments)) ≡ docs_text (map (λ (m : Bor (List ℕ)). m.now) comments)
+docs-joined [] some = absurd (let f : ⊥ = cc in f)
+docs-joined (m ∷ ms) some = ap (λ ts. Some (joined ts)) (sym (map_map said (λ (n : Bor (List ℕ)). n.now) (m ∷ ms)))

@@ -1,2 +1,3 @@
+pub mod Indents
 pub mod Kinds
 pub mod Notes

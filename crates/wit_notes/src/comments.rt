@@ -1,7 +1,9 @@
 //! The text of docs.
-ghost use Rattle.std.specs.Prelude.{◌≡◌, ◌++◌, IfOk, OnOk, map, string_bytes};
+ghost use Rattle.std.specs.Prelude.{◌≡◌, ◌++◌, IfOk, IsTrue, OnOk, map, string_bytes};
+ghost use Rattle.std.specs.Str.{trim_end};
 ghost use Rattle.wit_syntax.specs.Docs.{behind_slashes, common_indent, ended, ended_lines, indent, joined, said, unmarked, without_end, without_last_lines, without_spaces};
 ghost use Rattle.wit_syntax.specs.Notes.{docs_of};
+ghost use Rattle.wit_notes.specs.Indents.{written_indent};
 
 use memchr::memchr;
 use std::alloc::{AllocError, Global};
@@ -28,9 +30,14 @@ fn behind_slashes(text: &str) -> &str
 }
 
 /// A comment without its marks.
+///
+/// Most begin with `///`, and are told by that first.
 fn unmarked(comment: &str) -> &str
     ensures { result.now ≡ unmarked comment.now }
 {
+    if let Some(rest) = behind(comment, "///") {
+        return behind_slashes(rest);
+    }
     if comment == "/**/" {
         return "";
     }
@@ -40,22 +47,27 @@ fn unmarked(comment: &str) -> &str
     }
 }
 
-/// What a comment says: neither its marks nor the white space at its end.
+/// Whether a text ends with a letter, a digit or another sign of ASCII: then no white space stands at its end.
+fn ends_in_sign(text: &str) -> bool
+    ensures { IsTrue result → text.now ≡ trim_end text.now }
+{
+    let bytes = text.as_bytes();
+    let len = bytes.len();
+    if len == 0 {
+        return false;
+    }
+    bytes[len - 1].is_ascii_graphic()
+}
+
+/// What a comment says: neither its marks nor the white space at its end. Most have none there.
 fn said(comment: &str) -> &str
     ensures { result.now ≡ said comment.now }
 {
-    unmarked(comment).trim_end()
-}
-
-/// What each comment says.
-fn all_said<'a>(alloc: Global, comments: &[&'a str]) -> Result<Vec<&'a str>, AllocError>
-    ensures { IfOk result (λ texts. map (λ t. t.now) texts.items ≡ map (λ c. said c.now) comments.now) }
-{
-    let mut texts = Vec::with_capacity(alloc, comments.len())?;
-    for comment in comments {
-        texts.push(said(comment))?;
+    let text = unmarked(comment);
+    if ends_in_sign(text) {
+        return text;
     }
-    Ok(texts)
+    text.trim_end()
 }
 
 /// How many bytes of ASCII white space a text begins with.
@@ -68,14 +80,24 @@ fn indent(text: &str) -> usize
         .count()
 }
 
-/// The least indent of those texts that are not empty; 0 where all are.
-fn common_indent(texts: &[&str]) -> usize
-    ensures { result ≡ common_indent (map (λ t. t.now) texts.now) }
+/// The indent of what a comment says, where it says something.
+fn said_indent(comment: &str) -> Option<usize>
+    ensures { result ≡ written_indent (said comment.now) }
 {
-    texts
+    let text = said(comment);
+    if text.is_empty() {
+        return None;
+    }
+    Some(indent(text))
+}
+
+/// The least indent of what those comments say that say something; 0 where none does.
+fn common_indent(comments: &[&str]) -> usize
+    ensures { result ≡ common_indent (map (λ c. said c.now) comments.now) }
+{
+    comments
         .iter()
-        .filter(|text| !text.is_empty())
-        .map(|text| indent(text))
+        .filter_map(|comment| said_indent(comment))
         .min()
         .unwrap_or(0)
 }
@@ -126,23 +148,23 @@ fn drop_last_lines(text: &mut String)
     text.truncate(end);
 }
 
-/// Room for what comments say, each with an LF.
-fn room(texts: &[&str]) -> usize {
+/// Room for what comments say, each with an LF: no more than the comments, whose marks are longer.
+fn room(comments: &[&str]) -> usize {
     let mut room: usize = 0;
-    for text in texts {
-        room = room.saturating_add(text.len()).saturating_add(1);
+    for comment in comments {
+        room = room.saturating_add(comment.len());
     }
     room
 }
 
-/// What comments say, joined.
-fn joined(alloc: Global, texts: &[&str]) -> Result<String, AllocError>
-    ensures { IfOk result (λ text. string_bytes text ≡ joined (map (λ t. t.now) texts.now)) }
+/// What comments say, joined. It is found twice, which costs less than a list of it.
+fn joined(alloc: Global, comments: &[&str]) -> Result<String, AllocError>
+    ensures { IfOk result (λ text. string_bytes text ≡ joined (map (λ c. said c.now) comments.now)) }
 {
-    let count = common_indent(texts);
-    let mut text = String::with_capacity(alloc, room(texts))?;
-    for added in texts {
-        push_lines(&mut text, without_spaces(added, count))?;
+    let count = common_indent(comments);
+    let mut text = String::with_capacity(alloc, room(comments))?;
+    for comment in comments {
+        push_lines(&mut text, without_spaces(said(comment), count))?;
     }
     drop_last_lines(&mut text);
     Ok(text)
@@ -165,8 +187,7 @@ pub fn docs(alloc: Global, docs: &tree::Docs<'_>) -> Result<Docs, AllocError>
     if comments.is_empty() {
         return Ok(Docs { contents: None });
     }
-    let texts = all_said(alloc, comments)?;
-    let text = joined(alloc, &texts)?;
+    let text = joined(alloc, comments)?;
     Ok(Docs {
         contents: Some(Text::from(text)),
     })

@@ -24,15 +24,21 @@ read-returns-in-Some-clause-legal t c = legal_primitive c.args.ty.now c.in-Some.
 pub read-returns-in-Name-clause-read : goal.read-returns-in-Name-clause-read
 read-returns-in-Name-clause-read t c = rw c.in-Name.is (tt, resolved_word c.args.types.now (env_of c.args.names.now) c.args.given.now c.in-Name.id c.in_ok-found.found c.in_ok-found.ensures.found)
 
-pub read_form-returns-in_err-item-in-List-clause-refused : goal.read_form-returns-in_err-item-in-List-clause-refused
-read_form-returns-in_err-item-in-List-clause-refused t c =
-    let p = err_from_is_err_and c.from_residual.result c.from_residual.ensures.1 in
-    rw (c.in-List.is, p.1, p.2) (refused_part (env_of c.args.names.now) _ (written.List c.in-List.span c.in-List.item) 0 c.deref.result.now _ (ap Some (sym c.deref.ensures)) c.in_err-item-in-List.ensures.refused)
+pub read-returns-in_err-item-clause-refused : goal.read-returns-in_err-item-clause-refused
+read-returns-in_err-item-clause-refused t c =
+    let p = err_from_is_err_and c.from_residual-in_err-item.result c.from_residual-in_err-item.ensures.1 in
+    rw (c.in-List.is, p.1, p.2) (refused_part (env_of c.args.names.now) _ (written.List c.in-List.span c.in-List.item) 0 c.deref.result.now _ (ap Some (sym c.deref.ensures)) c.in_err-item.ensures.refused)
+
+pub read-returns-in-List-clause-legal : goal.read-returns-in-List-clause-legal
+read-returns-in-List-clause-legal t c = rw c.in-List.is (legal_only (written.List c.in-List.span c.in-List.item) c.deref.result.now (λ f own. own) (ap (λ t. t ∷ []) (sym c.deref.ensures)) c.in_ok-item.ensures.legal)
+
+pub read-returns-in-List-clause-handled : goal.read-returns-in-List-clause-handled
+read-returns-in-List-clause-handled t c = rw c.in-List.is (requires_only (env_of c.args.names.now) _ (written.List c.in-List.span c.in-List.item) c.deref.result.now _ _ tt (ap (λ t. t ∷ []) (sym c.deref.ensures)) c.in_ok-item.ensures.handled)
 
 pub read_form-returns-in_err-item-in-FixedLengthList-clause-refused : goal.read_form-returns-in_err-item-in-FixedLengthList-clause-refused
 read_form-returns-in_err-item-in-FixedLengthList-clause-refused t c =
-    let p = err_from_is_err_and c.from_residual-in_err-item-in-FixedLengthList.result c.from_residual-in_err-item-in-FixedLengthList.ensures.1 in
-    rw (c.in-FixedLengthList.is, p.1, p.2) (refused_part (env_of c.args.names.now) _ (written.FixedLengthList c.in-FixedLengthList.span c.in-FixedLengthList.item c.in-FixedLengthList.size) 0 c.deref-in-FixedLengthList.result.now _ (ap Some (sym c.deref-in-FixedLengthList.ensures)) c.in_err-item-in-FixedLengthList.ensures.refused)
+    let p = err_from_is_err_and c.from_residual.result c.from_residual.ensures.1 in
+    rw (c.in-FixedLengthList.is, p.1, p.2) (refused_part (env_of c.args.names.now) _ (written.FixedLengthList c.in-FixedLengthList.span c.in-FixedLengthList.item c.in-FixedLengthList.size) 0 c.deref.result.now _ (ap Some (sym c.deref.ensures)) c.in_err-item-in-FixedLengthList.ensures.refused)
 
 pub read_form-returns-in_err-key_type-in-Map-clause-refused : goal.read_form-returns-in_err-key_type-in-Map-clause-refused
 read_form-returns-in_err-key_type-in-Map-clause-refused t c =
@@ -84,11 +90,8 @@ read_form-returns-in_err-item-in-Stream-clause-refused t c =
     let p = err_from_is_err_and c.from_residual-in_err-item-in-Stream.result c.from_residual-in_err-item-in-Stream.ensures.1 in
     rw (c.in-Stream.is, p.1, p.2) (refused_parts (env_of c.args.names.now) _ (written.Stream c.in-Stream.span c.in-Stream.item) (boxed_types c.in-Stream.item) _ (λ es f wrong. subst (λ ts. AreWrongTypes (env_of c.args.names.now) es ts f) (sym (types_of_held c.in-Stream.item)) wrong) c.in_err-item-in-Stream.ensures.refused)
 
-pub read_form-returns-in_ok-item-in-List-clause-legal : goal.read_form-returns-in_ok-item-in-List-clause-legal
-read_form-returns-in_ok-item-in-List-clause-legal t c = rw c.in-List.is (legal_only (written.List c.in-List.span c.in-List.item) c.deref.result.now (λ f own. own) (ap (λ t. t ∷ []) (sym c.deref.ensures)) c.in_ok-item-in-List.ensures.legal)
-
 pub read_form-returns-in_ok-item-in-FixedLengthList-clause-legal : goal.read_form-returns-in_ok-item-in-FixedLengthList-clause-legal
-read_form-returns-in_ok-item-in-FixedLengthList-clause-legal t c = rw c.in-FixedLengthList.is (legal_only (written.FixedLengthList c.in-FixedLengthList.span c.in-FixedLengthList.item c.in-FixedLengthList.size) c.deref-in-FixedLengthList.result.now (λ f own. own) (ap (λ t. t ∷ []) (sym c.deref-in-FixedLengthList.ensures)) c.in_ok-item-in-FixedLengthList.ensures.legal)
+read_form-returns-in_ok-item-in-FixedLengthList-clause-legal t c = rw c.in-FixedLengthList.is (legal_only (written.FixedLengthList c.in-FixedLengthList.span c.in-FixedLengthList.item c.in-FixedLengthList.size) c.deref.result.now (λ f own. own) (ap (λ t. t ∷ []) (sym c.deref.ensures)) c.in_ok-item-in-FixedLengthList.ensures.legal)
 
 pub read_form-returns-in_ok-check_key-in-Map-clause-read : goal.read_form-returns-in_ok-check_key-in-Map-clause-read
 read_form-returns-in_ok-check_key-in-Map-clause-read t c = rw c.in-Map.is (map_form c.args.types.now c.resolve_type-in-Map.new.types c.resolve_type-in-Map-2.new.types (env_of c.args.names.now) c.args.given.now c.in-Map.span c.in-Map.key c.in-Map.value c.in_ok-key_type-in-Map.key_type c.in_ok-value_type-in-Map.value_type
@@ -179,11 +182,8 @@ read-returns-in-Some-clause-handled t c = subst (λ (l : List Id). Requires (env
 pub read-returns-in-Own-clause-read : goal.read-returns-in-Own-clause-read
 read-returns-in-Own-clause-read t c = rw c.in-Own.is (tt, resolved_word c.args.types.now (env_of c.args.names.now) c.args.given.now c.in-Own.id c.in_ok-resource.resource c.in_ok-resource.ensures.found)
 
-pub read_form-returns-in_ok-item-in-List-clause-handled : goal.read_form-returns-in_ok-item-in-List-clause-handled
-read_form-returns-in_ok-item-in-List-clause-handled t c = rw c.in-List.is (requires_only (env_of c.args.names.now) _ (written.List c.in-List.span c.in-List.item) c.deref.result.now _ _ tt (ap (λ t. t ∷ []) (sym c.deref.ensures)) c.in_ok-item-in-List.ensures.handled)
-
 pub read_form-returns-in_ok-item-in-FixedLengthList-clause-handled : goal.read_form-returns-in_ok-item-in-FixedLengthList-clause-handled
-read_form-returns-in_ok-item-in-FixedLengthList-clause-handled t c = rw c.in-FixedLengthList.is (requires_only (env_of c.args.names.now) _ (written.FixedLengthList c.in-FixedLengthList.span c.in-FixedLengthList.item c.in-FixedLengthList.size) c.deref-in-FixedLengthList.result.now _ _ tt (ap (λ t. t ∷ []) (sym c.deref-in-FixedLengthList.ensures)) c.in_ok-item-in-FixedLengthList.ensures.handled)
+read_form-returns-in_ok-item-in-FixedLengthList-clause-handled t c = rw c.in-FixedLengthList.is (requires_only (env_of c.args.names.now) _ (written.FixedLengthList c.in-FixedLengthList.span c.in-FixedLengthList.item c.in-FixedLengthList.size) c.deref.result.now _ _ tt (ap (λ t. t ∷ []) (sym c.deref.ensures)) c.in_ok-item-in-FixedLengthList.ensures.handled)
 
 pub read_form-returns-in_ok-check_key-in-Map-clause-handled : goal.read_form-returns-in_ok-check_key-in-Map-clause-handled
 read_form-returns-in_ok-check_key-in-Map-clause-handled t c = rw c.in-Map.is (requires_parts (env_of c.args.names.now) _ (written.Map c.in-Map.span c.in-Map.key c.in-Map.value) (c.deref-in-Map.result.now ∷ c.deref-in-Map-2.result.now ∷ []) _ _ tt

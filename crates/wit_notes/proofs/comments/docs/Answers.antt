@@ -10,7 +10,6 @@ pub returns : goal.returns
 returns c =
     let comments = c.args.docs.now.docs.items in
     let some : (length comments == 0) ≡ false = ap (λ (cs : List (Bor (List ℕ))). length cs == 0) (sym c.as_slice-comments.ensures.value) ∙ sym c.is_empty.ensures ∙ c.if-is_empty.false in
-    let texts = c.in_ok-texts.ensures ∙ ap (map (λ m. said m.now)) c.as_slice-comments.ensures.value in
-    let text : Some c.from.result ≡ docs_text (map (λ (m : Bor (List ℕ)). m.now) comments) = ap Some (c.from.ensures ∙ c.in_ok-text.ensures ∙ ap (λ ts. joined (map (λ t. t.now) ts)) c.deref.ensures.value) ∙ docs-joined comments c.in_ok-texts.texts.items some texts in
+    let text : Some c.from.result ≡ docs_text (map (λ (m : Bor (List ℕ)). m.now) comments) = ap Some (c.from.ensures ∙ c.in_ok-text.ensures ∙ ap (λ (cs : List (Bor (List ℕ))). joined (map (λ m. said m.now) cs)) c.as_slice-comments.ensures.value) ∙ docs-joined comments some in
     let told : Option (List ℕ) → Docs = λ t. record { contents = t } in
     ap told text
