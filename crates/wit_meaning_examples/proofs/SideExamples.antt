@@ -32,7 +32,7 @@ use Rattle.wit_syntax.specs.Notes.{no_docs, IsBrokenStability, SinceTwice, Depre
 use Rattle.wit_syntax.specs.Repeats.{AllDiffer}
 use Rattle.wit_syntax.specs.Source.{top_names, TheWorld, Item, Defined, scope_names}
 use Rattle.wit_syntax.specs.Function.{SourceFunction, side_function, functions, free_names}
-use Rattle.wit_syntax.specs.Signature.{called_key, IsBrokenFunction, BrokenNotes, BrokenTypes, FunctionAsType, MissingInSignature, GetterGiven, SetterGiven, DuplicateParam, GetterWithoutResult, SetterWithResult, ConstructorWithoutResult, ConstructorOfOther}
+use Rattle.wit_syntax.specs.Signature.{called_key, IsBrokenFunction, BrokenNotes, BrokenTypes, MissingInSignature, GetterGiven, SetterGiven, DuplicateParam, GetterWithoutResult, SetterWithResult, ConstructorWithoutResult, ConstructorOfOther}
 use Rattle.wit_syntax.specs.Sides.{SideItem, SideFunction, SideLink, Link, side_items, items_on, side_called, IsFoldedTwice, IsCrossedTwice, IsBrokenSides, FoldedTwice, CrossedTwice, LinkedTwice, LinkNotes, InlineNotes}
 use Rattle.wit_syntax.specs.Broken.{IsBrokenScope, DefinedTwice, MissingType, CyclicType, Notes, Body, Function, IsBroken, Sides}
 use Rattle.wit_syntax.proofs.Found.{at_contains}
@@ -184,7 +184,6 @@ module _ (ptr : Ptr) (alloc : Global) where
     none_in : (side : WorldSide) (name word : Span) (k : ℕ) (f : Fault) → IsBrokenFunction [] fns k (plain side name word) f → ⊥
     none_in side name word k f (BrokenNotes h) = no_notes f h
     none_in side name word k f (BrokenTypes h) = none_among h.t h.among
-    none_in side name word k f (FunctionAsType h) = none_among h.id h.among
     none_in side name word k f (MissingInSignature h) = none_among h.id h.among
     none_in side name word k f (GetterGiven h) = let wrong = h.getter in let g : ⊥ = cc in g
     none_in side name word k f (SetterGiven h) = let wrong = h.setter in let g : ⊥ = cc in g

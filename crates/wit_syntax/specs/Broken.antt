@@ -27,7 +27,7 @@ use Rattle.wit_syntax.specs.Source.{path_id, Target, Local, Foreign, path_target
 use Rattle.wit_syntax.specs.Foreign.{ForeignVisit, foreign_visits, is_foreign_world, foreign_at}
 use Rattle.wit_syntax.specs.Function.{SourceFunction, functions, free_names, item_types}
 use Rattle.wit_syntax.specs.Sides.{on_side, all_scopes, IsBrokenSides}
-use Rattle.wit_syntax.specs.Signature.{IsBrokenFunction, IsUnpairedSetter}
+use Rattle.wit_syntax.specs.Signature.{IsNoType, IsBrokenFunction, IsUnpairedSetter}
 use Rattle.wit_syntax.specs.Ends.{IsNoResource}
 use Rattle.wit_syntax.specs.Scope.{use_paths, include_paths, uses, includes, item_rows, rows_of, used, defined}
 
@@ -161,7 +161,7 @@ pub record IsInterfaceIncluded (files : List PackageFile) (i : Item) (f : Fault)
   pub other : is_world_at files (leads i.top path) ≡ Some false
   pub is : f ≡ fault 11 (path_id path).span
 
--- a used name is none of the interface that it comes from, nor of a function there
+-- a used name is none of the interface that it comes from
 pub record IsMissingName (files : List PackageFile) (xs : List ScopeName) (f : Fault) : Type 0 where
   pub from : Address
   pub attributes : List Attribute
@@ -170,20 +170,7 @@ pub record IsMissingName (files : List PackageFile) (xs : List ScopeName) (f : F
   pub target : Item
   pub declared : item_at (all_items files) from ≡ Some target
   pub missing : meaning (scope_names target) n.name.name.now ≡ None
-  pub other : Contains (free_names target) n.name.name.now → ⊥
-  pub is : f ≡ missing_at 12 name_word n.name
-
--- it is that of a function
-pub record IsFunctionUsed (files : List PackageFile) (xs : List ScopeName) (f : Fault) : Type 0 where
-  pub from : Address
-  pub attributes : List Attribute
-  pub n : UseName
-  pub among : Contains xs (Used from attributes n)
-  pub target : Item
-  pub declared : item_at (all_items files) from ≡ Some target
-  pub missing : meaning (scope_names target) n.name.name.now ≡ None
-  pub function : Contains (free_names target) n.name.name.now
-  pub is : f ≡ fault 13 n.name.span
+  pub told : IsNoType (Contains (free_names target) n.name.name.now) (fault 13 n.name.span) (missing_at 12 name_word n.name) f
 
 -- an earlier name of the scope is the same, where the used ones come before the definitions
 pub record IsDefinedTwice (xs : List ScopeName) (f : Fault) : Type 0 where
@@ -254,7 +241,6 @@ pub data IsBroken (files : List PackageFile) (f : Fault) : Type 0 where
   Use : (i : Item) → Contains (all_items files) i → IsBrokenUse files i f → IsBroken files f
   InterfaceIncluded : (i : Item) → Contains (all_items files) i → IsInterfaceIncluded files i f → IsBroken files f
   MissingName : (i : Item) → Contains (all_scopes files) i → IsMissingName files (scope_names i) f → IsBroken files f
-  FunctionUsed : (i : Item) → Contains (all_scopes files) i → IsFunctionUsed files (scope_names i) f → IsBroken files f
   Scope : (i : Item) → Contains (all_scopes files) i → IsBrokenScope (scope_names i) (functions i) f → IsBroken files f
   Sides : (i : Item) → Contains (all_scopes files) i → IsBrokenSides i f → IsBroken files f
   Handle : (i : Item) → Contains (all_scopes files) i → IsHandleBroken files i f → IsBroken files f

@@ -108,21 +108,17 @@ pub record IsEntered (fs : List SourceFunction) (k : ℕ) (name : List ℕ) : Ty
   pub role : entered.role ≡ Freestanding id form
   pub same : id.name.now ≡ name
 
--- a name in a signature is that of a function
-pub record IsFunctionAsType (xs : List ScopeName) (fs : List SourceFunction) (k : ℕ) (fn : SourceFunction) (f : Fault) : Type 0 where
-  pub id : Id
-  pub among : Contains (flat_map words (signature fn)) id
-  pub missing : meaning xs id.name.now ≡ None
-  pub entered : IsEntered fs k id.name.now
-  pub is : f ≡ fault 28 id.span
+-- a name that stands for no type is that of a function, or of nothing: a fault tells of the one, another of the other
+pub data IsNoType (IsFunction : Type 0) (of_function of_nothing f : Fault) : Type 0 where
+  OfFunction : IsFunction → f ≡ of_function → IsNoType IsFunction of_function of_nothing f
+  OfNothing : (IsFunction → ⊥) → f ≡ of_nothing → IsNoType IsFunction of_function of_nothing f
 
--- it is no name of the scope
+-- a name in a signature is none of the scope
 pub record IsMissingInSignature (xs : List ScopeName) (fs : List SourceFunction) (k : ℕ) (fn : SourceFunction) (f : Fault) : Type 0 where
   pub id : Id
   pub among : Contains (flat_map words (signature fn)) id
   pub missing : meaning xs id.name.now ≡ None
-  pub other : IsEntered fs k id.name.now → ⊥
-  pub is : f ≡ missing_at 29 name_word id
+  pub told : IsNoType (IsEntered fs k id.name.now) (fault 28 id.span) (missing_at 29 name_word id) f
 
 -- a getter has a parameter
 pub record IsGetterGiven (fn : SourceFunction) (f : Fault) : Type 0 where
@@ -192,7 +188,6 @@ pub record IsConstructorOfOther (xs : List ScopeName) (fn : SourceFunction) (f :
 pub data IsBrokenFunction (xs : List ScopeName) (fs : List SourceFunction) (k : ℕ) (fn : SourceFunction) (f : Fault) : Type 0 where
   BrokenNotes : IsBrokenNotes fn.attributes f → IsBrokenFunction xs fs k fn f
   BrokenTypes : IsBrokenPart (written_types fn) f → IsBrokenFunction xs fs k fn f
-  FunctionAsType : IsFunctionAsType xs fs k fn f → IsBrokenFunction xs fs k fn f
   MissingInSignature : IsMissingInSignature xs fs k fn f → IsBrokenFunction xs fs k fn f
   GetterGiven : IsGetterGiven fn f → IsBrokenFunction xs fs k fn f
   SetterGiven : IsSetterGiven fn f → IsBrokenFunction xs fs k fn f
