@@ -25,7 +25,8 @@ use Rattle.wit_arena.specs.Meet.{Meeting, keys}
 use Rattle.wit_arena.specs.Resolving.{Required}
 use Rattle.wit_syntax.specs.Fault.{Fault, fault}
 use Rattle.wit_syntax.specs.Notes.{IsBrokenNotes}
-use Rattle.wit_syntax.specs.Broken.{IsDuplicateItem, is_world_at, IsInterfaceIncluded, IsBrokenNames, DuplicateItem, Items, Headerless, Names, ItemStability, UseNotes, IncludeStability, Use, InterfaceIncluded, MissingName, Scope, Sides, Handle, Setter, IsSetterAlone, IsLegal, headers, last_header}
+use Rattle.wit_syntax.specs.Bodies.{IsSecond}
+use Rattle.wit_syntax.specs.Broken.{is_world_at, IsInterfaceIncluded, IsBrokenNames, DuplicateItem, Items, Headerless, Names, ItemStability, UseNotes, IncludeStability, Use, InterfaceIncluded, MissingName, Scope, Sides, Handle, Setter, IsSetterAlone, IsLegal, headers, last_header}
 use Rattle.wit_syntax.specs.Repeats.{AllDiffer}
 use Rattle.wit_arena.specs.Whole.{own_item, Turned, turn_handles, all_turns, all_meetings, AreRequired, AreIncludes, NamesOthers, first_docs, IsPackage}
 use Rattle.wit_arena.specs.Faithful.{IsFaithful, HasArena}
@@ -60,8 +61,8 @@ use Rattle.wit_arena.proofs.Finished.{are_interfaces, are_worlds, interface_at, 
 use Rattle.wit_arena.proofs.Packaged.{arena_package, faithful_package, required_of, package_of}
 
 -- an item whose name an earlier one has is declared twice
-twice : (files : List PackageFile) (i j : ℕ) (x y : Item) → i < j → slice_get (all_items files) i ≡ Some x → slice_get (all_items files) j ≡ Some y → item_name x ≡ item_name y → IsDuplicateItem files (fault 5 (item_id y).span)
-twice files i j x y before at_x at_y same = record { later = y; repeated = record { first = i; second = j; earlier = x; before = before; at_first = at_x; at_second = at_y; same = same }; says = refl }
+twice : (files : List PackageFile) (i j : ℕ) (x y : Item) → i < j → slice_get (all_items files) i ≡ Some x → slice_get (all_items files) j ≡ Some y → item_name x ≡ item_name y → IsSecond item_name (λ (w : Item). fault 5 (item_id w).span) (all_items files) (fault 5 (item_id y).span)
+twice files i j x y before at_x at_y same = record { later = y; repeated = record { first = i; second = j; earlier = x; before = before; at_first = at_x; at_second = at_y; same = same }; is = refl }
 
 -- where no rule about names is broken, the names of items differ
 pub distinct_items : (files : List PackageFile) → ((f : Fault) → IsBrokenNames files f → ⊥) → AllDiffer (map item_name (all_items files))

@@ -39,7 +39,7 @@ use Rattle.wit_syntax.specs.Node.{OfScope, Head, Leaf, Named, Unnamed, Tree}
 use Rattle.wit_syntax.specs.Node as node
 use Rattle.wit_syntax.specs.Address.{InterfaceNamed}
 use Rattle.wit_syntax.specs.Notes.{no_docs}
-use Rattle.wit_syntax.specs.Source.{path_id, Local, top_names, TheInterface, Item, all_items, ScopeName, Used, Defined, scope_names}
+use Rattle.wit_syntax.specs.Source.{path_id, Local, TopName, top_names, top_text, TheInterface, Item, all_items, ScopeName, Used, Defined, scope_names}
 use Rattle.wit_syntax.specs.Trees.{source_tree}
 use Rattle.wit_arena.specs.Expr.{Prim, one}
 use Rattle.wit_arena.specs.Meet.{Def, Whole, Meeting, IsMet, Meets}
@@ -47,8 +47,8 @@ use Rattle.wit_syntax.specs.Scope.{rows_of, item_rows, in_turn}
 use Rattle.wit_type_tree.specs.Refusal.{Missing, Cyclic}
 use Rattle.wit_syntax.specs.Fault.{fault}
 use Rattle.wit_syntax.specs.Shape.{Word}
-use Rattle.wit_syntax.specs.Bodies.{folded, IsDuplicateName}
-use Rattle.wit_syntax.specs.Broken.{last_header, IsMissingType, IsCyclicType, IsDuplicateTopName, IsMissingOriginal, IsBroken, Headerless}
+use Rattle.wit_syntax.specs.Bodies.{folded, IsSecond, IsDuplicateName}
+use Rattle.wit_syntax.specs.Broken.{last_header, IsMissingType, IsCyclicType, IsMissingOriginal, IsBroken, Headerless}
 use Rattle.wit_arena.specs.Package.{package_tree}
 use Rattle.wit_arena.specs.Whole.{turned, meetings}
 use Rattle.wit_meaning_examples.proofs.SmallOrders.{two, three, two_order, three_order}
@@ -372,7 +372,7 @@ module _ (ptr : Ptr) (alloc : Global) where
     tree_of_alias = refl
 
     -- use z as x; interface x {}
-    twice_on_top : IsDuplicateTopName (record { id = id (codes "x") (at 9 10) refl; target = Local (id (codes "z") (at 4 5) refl) } ∷ record { id = id (codes "x") (at 22 23) refl; target = Local (id (codes "x") (at 22 23) refl) } ∷ []) (fault 6 (at 22 23))
+    twice_on_top : IsSecond top_text (λ (n : TopName). fault 6 n.id.span) (record { id = id (codes "x") (at 9 10) refl; target = Local (id (codes "z") (at 4 5) refl) } ∷ record { id = id (codes "x") (at 22 23) refl; target = Local (id (codes "x") (at 22 23) refl) } ∷ []) (fault 6 (at 22 23))
     twice_on_top = record { later = record { id = id (codes "x") (at 22 23) refl; target = Local (id (codes "x") (at 22 23) refl) }; repeated = record { first = 0; second = 1; earlier = record { id = id (codes "x") (at 9 10) refl; target = Local (id (codes "z") (at 4 5) refl) }; before = lit< tt; at_first = refl; at_second = refl; same = refl }; is = refl }
 
     -- use x as y; use y as z;

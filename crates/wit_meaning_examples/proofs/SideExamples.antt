@@ -121,9 +121,11 @@ module _ (ptr : Ptr) (alloc : Global) where
       side = Imported;
       order = [];
       least = no_rows;
-      later = record { name = codes "F"; span = at 52 53 };
-      repeated = record { first = 0; second = 1; earlier = record { name = codes "f"; span = at 34 35 }; before = lit< tt; at_first = refl; at_second = refl; same = refl };
-      is = refl;
+      twice = record {
+        later = record { name = codes "F"; span = at 52 53 };
+        repeated = record { first = 0; second = 1; earlier = record { name = codes "f"; span = at 34 35 }; before = lit< tt; at_first = refl; at_second = refl; same = refl };
+        is = refl;
+      };
     }))
 
   -- import f: func(); import f: func();

@@ -161,9 +161,11 @@ module _ (ptr : Ptr) (alloc : Global) where
       side = Imported;
       order = 0 ∷ [];
       least = one_order (codes "r");
-      later = record { name = codes "[method]r.r"; span = at 44 45 };
-      repeated = record { first = 0; second = 1; earlier = record { name = codes "r"; span = at 40 41 }; before = lit< tt; at_first = refl; at_second = refl; same = refl };
-      is = refl;
+      twice = record {
+        later = record { name = codes "[method]r.r"; span = at 44 45 };
+        repeated = record { first = 0; second = 1; earlier = record { name = codes "r"; span = at 40 41 }; before = lit< tt; at_first = refl; at_second = refl; same = refl };
+        is = refl;
+      };
     }))
 
   -- resource r { constructor(); }

@@ -29,6 +29,12 @@ pub record IsRepeated {X : Type 0} (key : X → List ℕ) (xs : List X) (later :
   pub at_second : slice_get xs second ≡ Some later
   pub same : key earlier ≡ key later
 
+-- an earlier item of a list has the key of a later one, of which a fault is told
+pub record IsSecond {X : Type 0} (key : X → List ℕ) (told : X → Fault) (xs : List X) (f : Fault) : Type 0 where
+  pub later : X
+  pub repeated : IsRepeated key xs later
+  pub is : f ≡ told later
+
 -- a list has nothing in it, and the fault of this number tells of it
 pub record IsEmpty {X : Type 0} (number : ℕ) (xs : List X) (span : Span) (f : Fault) : Type 0 where
   pub none : xs ≡ []
@@ -39,10 +45,8 @@ abbrev pub IsFlagTooMany : List Flag → Fault → Type 0
 IsFlagTooMany flags f = option_map (λ (flag : Flag). fault 21 flag.name.span) (slice_get flags 32) ≡ Some f
 
 -- an earlier one of the names of fields, flags or cases is the same once case is folded
-pub record IsDuplicateName (names : List Id) (f : Fault) : Type 0 where
-  pub later : Id
-  pub repeated : IsRepeated (λ id. folded id.name.now) names later
-  pub is : f ≡ fault 25 later.span
+abbrev pub IsDuplicateName : List Id → Fault → Type 0
+IsDuplicateName names f = IsSecond (λ (id : Id). folded id.name.now) (λ (id : Id). fault 25 id.span) names f
 
 -- the keys of a map can be of the type, as it is written
 abbrev pub IsKey : Written → Type 0

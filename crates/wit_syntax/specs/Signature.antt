@@ -17,7 +17,7 @@ use Rattle.wit_syntax.specs.Shape.{Word, shape_of, words}
 use Rattle.wit_syntax.specs.Source.{ScopeName, Defined, local_id, local_name, meaning}
 use Rattle.wit_syntax.specs.Function.{Role, Freestanding, Method, Static, Constructor, OnSide, SourceParam, SourceFunction, all_params, written_types, signature}
 use Rattle.wit_syntax.specs.Notes.{IsBrokenNotes}
-use Rattle.wit_syntax.specs.Bodies.{folded, IsRepeated, IsBrokenPart}
+use Rattle.wit_syntax.specs.Bodies.{folded, IsSecond, IsBrokenPart}
 
 -- a name of a scope, and where it stands: no two of them may clash
 pub record Called : Type 0 where
@@ -140,10 +140,8 @@ abbrev pub param_key : SourceParam → List ℕ
 param_key p = folded p.name
 
 -- an earlier parameter has the name once case is folded
-pub record IsDuplicateParam (fn : SourceFunction) (f : Fault) : Type 0 where
-  pub later : SourceParam
-  pub repeated : IsRepeated param_key (all_params fn) later
-  pub is : f ≡ fault 38 later.span
+abbrev pub IsDuplicateParam : SourceFunction → Fault → Type 0
+IsDuplicateParam fn f = IsSecond param_key (λ (p : SourceParam). fault 38 p.span) (all_params fn) f
 
 -- a getter gives nothing
 pub record IsGetterWithoutResult (fn : SourceFunction) (f : Fault) : Type 0 where
