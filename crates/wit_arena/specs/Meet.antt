@@ -156,12 +156,9 @@ pub record IsKeyed (decls : Decls) (ks : List Key) (es : List TypeDef) : Type 0 
   pub once : AllDiffer ks
   pub each : (i : ℕ) (k : Key) (e : TypeDef) → slice_get ks i ≡ Some k → slice_get es i ≡ Some e → IsEntry decls (take i ks) k e
 
-abbrev pub entry_stability : TypeDef → Stability
-entry_stability e = e.stability
-
 -- the stability of what a type stands for; of a primitive none is known
 abbrev pub stability_at : List TypeDef → Ty → Stability
-stability_at es (type.Id i) = option_map_or entry_stability (slice_get es i) Unknown
+stability_at es (type.Id i) = option_map_or (λ (e : TypeDef). e.stability) (slice_get es i) Unknown
 stability_at es ty = Unknown
 
 -- the stability of an unnamed type of this kind among entries: that of the definition that it stands in, where that is known, else the first known one of its parts

@@ -109,14 +109,6 @@ pub record IsCyclicEdge (number : ℕ) (sort : List ℕ) (rs : List Row) (f : Fa
   pub cyclic : IsCyclic rs place id
   pub is : f ≡ cyclic_at number sort id
 
--- a path of an item leads to no item that could come before it
-abbrev pub IsMissingItem : List PackageFile → Fault → Type 0
-IsMissingItem files f = IsMissingEdge (missing_at 7 item_word) (item_rows files) f
-
--- items need one another in a cycle
-abbrev pub IsCyclicItem : List PackageFile → Fault → Type 0
-IsCyclicItem files f = IsCyclicEdge 8 item_word (item_rows files) f
-
 -- whether what stands where a path leads is a world, if something stands there
 abbrev pub is_world_at : List PackageFile → Target → Option Bool
 is_world_at files (Local id) = option_map is_world (item_named (all_items files) id.name.now)
@@ -156,19 +148,11 @@ pub record IsMissingName (files : List PackageFile) (xs : List ScopeName) (f : F
   pub missing : meaning (scope_names target) n.name.name.now ≡ None
   pub told : IsNoType (Contains (free_names target) n.name.name.now) (fault 13 n.name.span) (missing_at 12 name_word n.name) f
 
--- a name written in a definition's body is none of the scope
-abbrev pub IsMissingType : List ScopeName → Fault → Type 0
-IsMissingType xs f = IsMissingEdge missing_type_at (rows_of xs) f
-
--- definitions name one another in a cycle
-abbrev pub IsCyclicType : List ScopeName → Fault → Type 0
-IsCyclicType xs f = IsCyclicEdge 16 type_word (rows_of xs) f
-
 -- what is wrong with a scope by itself, where it has these functions
 pub data IsBrokenScope (xs : List ScopeName) (fns : List SourceFunction) (f : Fault) : Type 0 where
   DefinedTwice : IsSecond local_name (λ (x : ScopeName). fault 14 (local_id x).span) (used xs ++ defined xs) f → IsBrokenScope xs fns f
-  MissingType : IsMissingType xs f → IsBrokenScope xs fns f
-  CyclicType : IsCyclicType xs f → IsBrokenScope xs fns f
+  MissingType : IsMissingEdge missing_type_at (rows_of xs) f → IsBrokenScope xs fns f
+  CyclicType : IsCyclicEdge 16 type_word (rows_of xs) f → IsBrokenScope xs fns f
   Notes : (d : TypeDef) → Contains xs (Defined d) → IsBrokenNotes d.attributes.items f → IsBrokenScope xs fns f
   Body : (d : TypeDef) → Contains xs (Defined d) → IsBrokenBody d.body f → IsBrokenScope xs fns f
   Function : (k : ℕ) (fn : SourceFunction) → slice_get fns k ≡ Some fn → IsBrokenFunction xs fns k fn f → IsBrokenScope xs fns f
@@ -177,8 +161,8 @@ pub data IsBrokenScope (xs : List ScopeName) (fns : List SourceFunction) (f : Fa
 pub data IsBrokenItems (files : List PackageFile) (f : Fault) : Type 0 where
   DuplicateItem : IsSecond item_name (λ (i : Item). fault 5 (item_id i).span) (all_items files) f → IsBrokenItems files f
   DuplicateTopName : (file : PackageFile) → Contains files file → IsSecond top_text (λ (n : TopName). fault 6 n.id.span) (top_names file) f → IsBrokenItems files f
-  MissingItem : IsMissingItem files f → IsBrokenItems files f
-  CyclicItem : IsCyclicItem files f → IsBrokenItems files f
+  MissingItem : IsMissingEdge (missing_at 7 item_word) (item_rows files) f → IsBrokenItems files f
+  CyclicItem : IsCyclicEdge 8 item_word (item_rows files) f → IsBrokenItems files f
 
 -- a `use` at the top of a file has attributes
 pub record IsAttributedTopUse (declarations : List AstItem) (f : Fault) : Type 0 where
