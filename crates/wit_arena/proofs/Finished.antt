@@ -26,7 +26,8 @@ use Rattle.wit_syntax.specs.Function.{SourceFunction, functions, free_names}
 use Rattle.wit_arena.specs.Functions.{AreFunctions}
 use Rattle.std.specs.List.{filter}
 use Rattle.wit_types.specs.declared.types.TypeOwner.TheVariants as owner
-use Rattle.wit_syntax.specs.Broken.{is_world_at, IsBroken, Use, InterfaceIncluded, MissingName, FunctionUsed, Scope, Sides, Handle, Setter}
+use Rattle.wit_syntax.specs.Broken.{is_world_at, IsBroken, Use, InterfaceIncluded, MissingName, Scope, Sides, Handle, Setter}
+use Rattle.wit_syntax.specs.Signature.{OfFunction, OfNothing}
 use Rattle.wit_syntax.specs.Repeats.{AllDiffer}
 use Rattle.wit_arena.specs.Whole.{Ordered, own_item, Turned, item_of}
 use Rattle.wit_arena.specs.Resolving.{Names as Table, Cell, cell, cells, env_of, Required, IsIndex, IsFound, Unresolved, Unstated, OfFunction, WrongName, WrongItself, IsWrongScope, IsWorldIndex, IsNoWorld, IsLostInclude, IsLostLink}
@@ -213,12 +214,12 @@ module _ (files : List PackageFile) (places : List ℕ) (order : IsOrder (item_r
       missing_own : (w : Item) → Contains (all_scopes files) w → (from : Address) (attributes : List Attribute) (n : UseName) → Contains (scope_names w) (Used from attributes n) → (j : ℕ) (target : Cell) → slice_get (map cell own) j ≡ Some target → target.address ≡ from → env_of target.types n.name.name.now ≡ None → (Contains target.functions n.name.name.now → ⊥) → (f : Fault) → f ≡ missing_at 12 name_word n.name → IsBroken files f
       missing_own w here_w from attributes n among j target at called none other f says =
           let t = target_of from n.name.name.now j target at called none in
-          MissingName w here_w (record { from = from; attributes = attributes; n = n; among = among; target = t.item; declared = t.declared; missing = t.missing; other = λ h. other (t.free h); is = says })
+          MissingName w here_w (record { from = from; attributes = attributes; n = n; among = among; target = t.item; declared = t.declared; missing = t.missing; told = OfNothing (λ h. other (t.free h)) says })
 
       function_own : (w : Item) → Contains (all_scopes files) w → (from : Address) (attributes : List Attribute) (n : UseName) → Contains (scope_names w) (Used from attributes n) → (j : ℕ) (target : Cell) → slice_get (map cell own) j ≡ Some target → target.address ≡ from → env_of target.types n.name.name.now ≡ None → Contains target.functions n.name.name.now → (f : Fault) → f ≡ fault 13 n.name.span → IsBroken files f
       function_own w here_w from attributes n among j target at called none function f says =
           let t = target_of from n.name.name.now j target at called none in
-          FunctionUsed w here_w (record { from = from; attributes = attributes; n = n; among = among; target = t.item; declared = t.declared; missing = t.missing; function = t.stated function; is = says })
+          MissingName w here_w (record { from = from; attributes = attributes; n = n; among = among; target = t.item; declared = t.declared; missing = t.missing; told = OfFunction (t.stated function) says })
 
       -- a name that is used was resolved in an interface of the package, or is taken from another one
       none_lacks : (from : Address) (n : UseName) (target : Cell) (found : IsFound (cells ss (front ++ own)) from target) → env_of target.types n.name.name.now ≡ None → IsResolvedUse vs from ⊎ IsForeignUse files from n → (j : ℕ) × (slice_get (map cell own) j ≡ Some target)

@@ -25,7 +25,8 @@ use Rattle.wit_arena.specs.Meet.{Meeting, keys}
 use Rattle.wit_arena.specs.Resolving.{Required}
 use Rattle.wit_syntax.specs.Fault.{Fault, fault}
 use Rattle.wit_syntax.specs.Notes.{IsBrokenNotes}
-use Rattle.wit_syntax.specs.Broken.{IsDuplicateItem, is_world_at, IsInterfaceIncluded, IsBrokenNames, DuplicateItem, Items, Headerless, Names, ItemStability, UseNotes, IncludeStability, Use, InterfaceIncluded, MissingName, FunctionUsed, Scope, Sides, Handle, Setter, IsSetterAlone, IsLegal, headers, last_header}
+use Rattle.wit_syntax.specs.Bodies.{IsSecond}
+use Rattle.wit_syntax.specs.Broken.{is_world_at, IsInterfaceIncluded, IsBrokenNames, DuplicateItem, Items, Headerless, Names, ItemStability, UseNotes, IncludeStability, Use, InterfaceIncluded, MissingName, Scope, Sides, Handle, Setter, IsSetterAlone, IsLegal, headers, last_header}
 use Rattle.wit_syntax.specs.Repeats.{AllDiffer}
 use Rattle.wit_arena.specs.Whole.{own_item, Turned, turn_handles, all_turns, all_meetings, AreRequired, AreIncludes, NamesOthers, first_docs, IsPackage}
 use Rattle.wit_arena.specs.Faithful.{IsFaithful, HasArena}
@@ -52,7 +53,7 @@ use Rattle.wit_arena.proofs.Visits.{world_visit, foreign_at-visited, visited_for
 use Rattle.wit_arena.proofs.Linked.{no_broken_use}
 use Rattle.wit_arena.proofs.Leading.{include_at, interface_includes_none}
 use Rattle.wit_arena.proofs.Laid.{entry_of_item}
-use Rattle.wit_arena.proofs.Upheld.{IsWholeItem, IsScopeOf, interface_done, world_done, inline_done, names_stated, types_stated, handles_stated, names_meant, interface_paired, world_paired, inline_paired, interface_whose, world_whose}
+use Rattle.wit_arena.proofs.Upheld.{IsWholeItem, IsScopeOf, interface_done, world_done, inline_done, names_stated, handles_stated, names_meant, interface_paired, world_paired, inline_paired, interface_whose, world_whose}
 use Rattle.wit_arena.proofs.Added.{inside_of, world_list, decls, InterfacesDone, interfaces_done}
 use Rattle.wit_arena.proofs.DoneWorlds.{scopes_of, own_order, AreWorldsDone}
 use Rattle.wit_arena.proofs.Worlds.{worlds_done}
@@ -60,8 +61,8 @@ use Rattle.wit_arena.proofs.Finished.{are_interfaces, are_worlds, interface_at, 
 use Rattle.wit_arena.proofs.Packaged.{arena_package, faithful_package, required_of, package_of}
 
 -- an item whose name an earlier one has is declared twice
-twice : (files : List PackageFile) (i j : ℕ) (x y : Item) → i < j → slice_get (all_items files) i ≡ Some x → slice_get (all_items files) j ≡ Some y → item_name x ≡ item_name y → IsDuplicateItem files (fault 5 (item_id y).span)
-twice files i j x y before at_x at_y same = record { later = y; repeated = record { first = i; second = j; earlier = x; before = before; at_first = at_x; at_second = at_y; same = same }; says = refl }
+twice : (files : List PackageFile) (i j : ℕ) (x y : Item) → i < j → slice_get (all_items files) i ≡ Some x → slice_get (all_items files) j ≡ Some y → item_name x ≡ item_name y → IsSecond item_name (λ (w : Item). fault 5 (item_id w).span) (all_items files) (fault 5 (item_id y).span)
+twice files i j x y before at_x at_y same = record { later = y; repeated = record { first = i; second = j; earlier = x; before = before; at_first = at_x; at_second = at_y; same = same }; is = refl }
 
 -- where no rule about names is broken, the names of items differ
 pub distinct_items : (files : List PackageFile) → ((f : Fault) → IsBrokenNames files f → ⊥) → AllDiffer (map item_name (all_items files))
@@ -263,7 +264,6 @@ module _ (files : List PackageFile) (places : List ℕ) (order : IsOrder (item_r
   files_legal scopes sides usable stability notes header last f (Use i among h) = no_broken_use files i (λ u used. uses.usable i u among used) (λ link linked. link_usable usable i among link linked) f h
   files_legal scopes sides usable stability notes header last f (InterfaceIncluded i among h) = includes_stated i among f h
   files_legal scopes sides usable stability notes header last f (MissingName i among h) = names_stated files (decls files is_items ws_items) written scopes_done new ws_done.done i (item_done i among) f h
-  files_legal scopes sides usable stability notes header last f (FunctionUsed i among h) = types_stated files (decls files is_items ws_items) written scopes_done new ws_done.done i (item_done i among) f h
   files_legal scopes sides usable stability notes header last f (Handle i among h) = handles_stated files (decls files is_items ws_items) written scopes_done new ws_done.done i (item_done i among) f h
   files_legal scopes sides usable stability notes header last f (Setter i among h) = setter_paired i among f h
   files_legal scopes sides usable stability notes header last f (Sides i among h) = (let t = scope_index i among in sides.legal t.0 i f t.1 h)

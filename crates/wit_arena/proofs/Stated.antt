@@ -18,7 +18,7 @@ use Rattle.wit_syntax.specs.Trees.{scope}
 use Rattle.wit_arena.specs.Expr.{Use, Exprs, one, name_exprs}
 use Rattle.wit_arena.specs.Meet.{Key, Def, Meeting, keys, AreAt, Decl, Decls, decl_of}
 use Rattle.wit_syntax.specs.Fault.{Fault}
-use Rattle.wit_syntax.specs.Broken.{IsMissingName, IsFunctionUsed}
+use Rattle.wit_syntax.specs.Broken.{IsMissingName}
 use Rattle.wit_arena.specs.Whole.{HasTypes}
 use Rattle.wit_syntax.proofs.Lists.{at_within, map_at}
 use Rattle.wit_syntax.proofs.Names.{lookup-at}
@@ -131,6 +131,3 @@ module _ (files : List PackageFile) (decls : Decls) (written : List Meeting) (cs
   -- so it is a name of the scope that it comes from, and no function's
   pub stated : (t : ℕ) (c : DoneScope) (f : Fault) → slice_get cs t ≡ Some c → IsMissingName files (scope files c.address) f → ⊥
   stated t c f at h = stated_name t c h.from h.attributes h.n h.target at h.among h.declared h.missing
-
-  pub stated_type : (t : ℕ) (c : DoneScope) (f : Fault) → slice_get cs t ≡ Some c → IsFunctionUsed files (scope files c.address) f → ⊥
-  stated_type t c f at h = stated_name t c h.from h.attributes h.n h.target at h.among h.declared h.missing

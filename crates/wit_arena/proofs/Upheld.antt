@@ -21,7 +21,7 @@ use Rattle.wit_syntax.specs.Ends.{AtResource, AtForeign, Elsewhere, EndsAt}
 use Rattle.wit_arena.specs.Meet.{Key, Meeting, keys, Decls}
 use Rattle.wit_syntax.specs.Fault.{Fault}
 use Rattle.wit_syntax.specs.Signature.{IsUnpairedSetter}
-use Rattle.wit_syntax.specs.Broken.{IsMissingName, IsFunctionUsed, IsHandleBroken, IsSetterAlone}
+use Rattle.wit_syntax.specs.Broken.{IsMissingName, IsHandleBroken, IsSetterAlone}
 use Rattle.wit_arena.specs.Whole.{Ordered, own_item, Turned, item_of, turned, all_turns, all_inside, all_meetings, turn_handles, HandleRequires, AreRequired}
 use Rattle.wit_arena.specs.Resolving.{Required}
 use Rattle.wit_arena.specs.Resolved.{WorldArenas}
@@ -39,7 +39,7 @@ use Rattle.wit_arena.proofs.Laid.{scope_at, ordered_at, entry_of}
 use Rattle.wit_arena.proofs.Inside.{HasInside, inside_at, inside_scopes-count}
 use Rattle.wit_arena.proofs.Added.{decls, inside_of, InterfacesDone}
 use Rattle.wit_arena.proofs.DoneWorlds.{DoneWorld, own_scope, scopes_of, all_within, own_order, AreWorldsDone, own_among, within_among}
-use Rattle.wit_arena.proofs.Stated.{stated, stated_type}
+use Rattle.wit_arena.proofs.Stated.{stated}
 use Rattle.wit_arena.proofs.SignatureNames.{signature_meant}
 
 -- what is required ends at resources or in other packages, and none of it elsewhere
@@ -76,10 +76,6 @@ module _ (files : List PackageFile) (declares : Decls) (written : List Meeting) 
     -- what is used in it is a name of the interface that it comes from
     pub names_stated : (f : Fault) → IsMissingName files (scope_names w) f → ⊥
     names_stated f g = stated files declares written cs es d h.place h.scope f h.at (subst (λ (l : List ScopeName). IsMissingName files l f) own_names g)
-
-    -- and no function's
-    pub types_stated : (f : Fault) → IsFunctionUsed files (scope_names w) f → ⊥
-    types_stated f g = stated_type files declares written cs es d h.place h.scope f h.at (subst (λ (l : List ScopeName). IsFunctionUsed files l f) own_names g)
 
     -- a name in a signature means something in it
     pub names_meant : (k : ℕ) (fn : SourceFunction) (id : Id) → slice_get (functions w) k ≡ Some fn → Contains (flat_map words (signature fn)) id → meaning (scope_names w) id.name.now ≡ None → ⊥

@@ -141,7 +141,7 @@ pub record IsKeyed (decls : Decls) (ks : List Key) (es : List TypeDef) : Type 0 
 
 -- the stability of what a type stands for; of a primitive none is known
 abbrev pub stability_at : List TypeDef → Ty → Stability
-stability_at es (type.Id i) = option_map_or (λ e. e.stability) (slice_get es i) Unknown
+stability_at es (type.Id i) = option_map_or (λ (e : TypeDef). e.stability) (slice_get es i) Unknown
 stability_at es ty = Unknown
 
 -- the stability of an unnamed type of this kind among entries: that of the definition that it stands in, where that is known, else the first known one of its parts

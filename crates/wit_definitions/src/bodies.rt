@@ -9,7 +9,7 @@ ghost use Rattle.wit_syntax.specs.Address.{Address};
 ghost use Rattle.wit_arena.specs.Expr.{exprs_of};
 ghost use Rattle.wit_arena.specs.Meet.{shapes_meetings};
 ghost use Rattle.wit_syntax.specs.Fault.{Fault};
-ghost use Rattle.wit_syntax.specs.Bodies.{IsBrokenType, IsBrokenPart, IsBrokenRecord, IsBrokenFlags, IsBrokenVariant, IsBrokenEnum, IsBrokenBody};
+ghost use Rattle.wit_syntax.specs.Bodies.{IsBrokenType, IsBrokenPart, IsFlagTooMany, AreBroken, IsBrokenBody};
 ghost use Rattle.wit_syntax.specs.Broken.{Refused};
 ghost use Rattle.wit_arena.specs.Resolving.{env_of, AreResolved, IsWrongType, AreWrongTypes, IsWrongBody};
 ghost use Rattle.wit_entries.specs.Reading.{AreTypes, IsOwn};
@@ -78,11 +78,11 @@ fn resolve_record(
 ) -> ParseResult<TypeDefKind>
     ensures types { IfOk result (λ r. AreTypes types.old types.new (env_of names.now) given.now (field_types fields.now) (kind_of r).parts) }
     ensures form { IfOk result (λ r. (kind_of r).form ≡ RecordForm (map written_field fields.now)) }
-    ensures list { OnOk result ((f : Fault) → IsBrokenRecord fields.now span f → ⊥) }
+    ensures list { OnOk result ((f : Fault) → AreBroken 19 (λ x. x.name) fields.now span f → ⊥) }
     ensures legal { OnOk result ((f : Fault) → IsBrokenPart (field_types fields.now) f → ⊥) }
     ensures handled { OnOk result (Requires (env_of names.now) types.new (all_handles (field_types fields.now)) required.old.items required.new.items) }
     ensures grown { IsGrown types.old types.new }
-    ensures refused { IfErr result (Refused (λ f. IsBrokenRecord fields.now span f ⊎ AreWrongTypes (env_of names.now) types.new (field_types fields.now) f)) }
+    ensures refused { IfErr result (Refused (λ f. AreBroken 19 (λ x. x.name) fields.now span f ⊎ AreWrongTypes (env_of names.now) types.new (field_types fields.now) f)) }
 {
     check_record(alloc, span, fields)?;
     let fields = resolve_fields(alloc, types, names, required, given, fields)?;
@@ -115,8 +115,8 @@ fn flags(alloc: Global, flags: &[tree::Flag<'_>]) -> Result<Row<Flag>, AllocErro
 fn resolve_flags(alloc: Global, span: Span, written: &[tree::Flag<'_>]) -> ParseResult<TypeDefKind>
     ensures form { IfOk result (λ r. (kind_of r).form ≡ FlagsForm (map written_flag written.now)) }
     ensures parts { IfOk result (λ r. (kind_of r).parts ≡ []) }
-    ensures list { OnOk result ((f : Fault) → IsBrokenFlags written.now span f → ⊥) }
-    ensures refused { IfErr result (Refused (IsBrokenFlags written.now span)) }
+    ensures list { OnOk result ((f : Fault) → AreBroken 20 (λ x. x.name) written.now span f ⊎ IsFlagTooMany written.now f → ⊥) }
+    ensures refused { IfErr result (Refused (λ f. AreBroken 20 (λ x. x.name) written.now span f ⊎ IsFlagTooMany written.now f)) }
 {
     check_flags(alloc, span, written)?;
     let flags = flags(alloc, written)?;
@@ -197,11 +197,11 @@ fn resolve_variant(
 ) -> ParseResult<TypeDefKind>
     ensures types { IfOk result (λ r. AreTypes types.old types.new (env_of names.now) given.now (case_types cases.now) (kind_of r).parts) }
     ensures form { IfOk result (λ r. (kind_of r).form ≡ VariantForm (map written_case cases.now)) }
-    ensures list { OnOk result ((f : Fault) → IsBrokenVariant cases.now span f → ⊥) }
+    ensures list { OnOk result ((f : Fault) → AreBroken 23 (λ x. x.name) cases.now span f → ⊥) }
     ensures legal { OnOk result ((f : Fault) → IsBrokenPart (case_types cases.now) f → ⊥) }
     ensures handled { OnOk result (Requires (env_of names.now) types.new (all_handles (case_types cases.now)) required.old.items required.new.items) }
     ensures grown { IsGrown types.old types.new }
-    ensures refused { IfErr result (Refused (λ f. IsBrokenVariant cases.now span f ⊎ AreWrongTypes (env_of names.now) types.new (case_types cases.now) f)) }
+    ensures refused { IfErr result (Refused (λ f. AreBroken 23 (λ x. x.name) cases.now span f ⊎ AreWrongTypes (env_of names.now) types.new (case_types cases.now) f)) }
 {
     check_variant(alloc, span, cases)?;
     let cases = resolve_cases(alloc, types, names, required, given, cases)?;
@@ -238,8 +238,8 @@ fn resolve_enum(
 ) -> ParseResult<TypeDefKind>
     ensures form { IfOk result (λ r. (kind_of r).form ≡ EnumForm (map written_enum_case written.now)) }
     ensures parts { IfOk result (λ r. (kind_of r).parts ≡ []) }
-    ensures list { OnOk result ((f : Fault) → IsBrokenEnum written.now span f → ⊥) }
-    ensures refused { IfErr result (Refused (IsBrokenEnum written.now span)) }
+    ensures list { OnOk result ((f : Fault) → AreBroken 24 (λ x. x.name) written.now span f → ⊥) }
+    ensures refused { IfErr result (Refused (AreBroken 24 (λ x. x.name) written.now span)) }
 {
     check_enum(alloc, span, written)?;
     let cases = enum_cases(alloc, written)?;

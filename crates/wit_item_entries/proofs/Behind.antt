@@ -50,9 +50,11 @@ twice_folded side xs items ids f t h = record {
   side = side;
   order = t.order;
   least = t.least;
-  later = called h.later;
-  repeated = subst (λ (cs : List Called). IsRepeated called_key cs (called h.later)) (all_taken side xs (items_on side items) t.order ids t.are) (repeated_called (all_on side ids items) h.later h.repeated);
-  is = h.is;
+  twice = record {
+    later = called h.later;
+    repeated = subst (λ (cs : List Called). IsRepeated called_key cs (called h.later)) (all_taken side xs (items_on side items) t.order ids t.are) (repeated_called (all_on side ids items) h.later h.repeated);
+    is = h.is;
+  };
 }
 
 -- the name of an import or an export that is taken on its side is one

@@ -11,7 +11,7 @@ use Rattle.wit_tree.specs.declared.tree.UsePath.{UsePath}
 use Rattle.wit_tree.specs.declared.tree.WorldSide.{WorldSide}
 use Rattle.wit_tree.specs.declared.tree.WorldSide.TheVariants.{Imported, Exported}
 use Rattle.wit_syntax.specs.Address.{Address}
-use Rattle.wit_syntax.specs.Broken.{DuplicateItem, DuplicateTopName, MissingItem, CyclicItem, IsBrokenNames, Items, ForeignStability, AttributedTopUse, MissingOriginal, is_world_at, IsBrokenUse, MissingUse, WorldUsed, IsBrokenScope, DefinedTwice, MissingType, CyclicType, Notes, Body, Function, Headerless, Names, ItemStability, UseNotes, IncludeStability, Use, InterfaceIncluded, MissingName, FunctionUsed, Scope, Sides, Handle, Setter, IsLegal}
+use Rattle.wit_syntax.specs.Broken.{DuplicateItem, DuplicateTopName, MissingItem, CyclicItem, IsBrokenNames, Items, ForeignStability, AttributedTopUse, MissingOriginal, is_world_at, IsBrokenUse, MissingUse, WorldUsed, IsBrokenScope, DefinedTwice, MissingType, CyclicType, Notes, Body, Function, Headerless, Names, ItemStability, UseNotes, IncludeStability, Use, InterfaceIncluded, MissingName, Scope, Sides, Handle, Setter, IsLegal}
 use Rattle.wit_syntax.specs.Fault.{Fault, missing_at, missing_type_at, item_word, type_word}
 use Rattle.wit_syntax.specs.Foreign.{ForeignVisit}
 use Rattle.wit_syntax.specs.Function.{functions, item_types}
@@ -143,7 +143,6 @@ module _ (ptr : Ptr) (alloc : Global) where
   legal f (Use i among h) = use_passes f (subst (λ (x : Item). IsBrokenUse files x f) (sym (one_item i among)) h)
   legal f (InterfaceIncluded i among h) = none_among h.path (subst (λ (x : Item). Contains (include_paths x) h.path) (sym (one_item i among)) h.among)
   legal f (MissingName i among h) = from_other h.from h.attributes h.n (subst (λ (x : Item). Contains (scope_names x) (Used h.from h.attributes h.n)) (sym (one_scope i among)) h.among) h.target h.declared
-  legal f (FunctionUsed i among h) = from_other h.from h.attributes h.n (subst (λ (x : Item). Contains (scope_names x) (Used h.from h.attributes h.n)) (sym (one_scope i among)) h.among) h.target h.declared
   legal f (Scope i among h) = scope_passes f (subst (λ (x : Item). IsBrokenScope (scope_names x) (functions x) f) (sym (one_scope i among)) h)
   legal f (Sides i among h) = sides_pass f (subst (λ (x : Item). IsBrokenSides x f) (sym (one_scope i among)) h)
   legal f (Handle i among h) = none_among h.id (subst (λ (x : Item). Contains (all_handles (item_types x)) h.id) (sym (one_scope i among)) h.among)

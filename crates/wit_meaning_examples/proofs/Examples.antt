@@ -39,16 +39,16 @@ use Rattle.wit_syntax.specs.Node.{Head, Leaf, Named, Unnamed, Tree}
 use Rattle.wit_syntax.specs.Node as node
 use Rattle.wit_syntax.specs.Address.{InterfaceNamed}
 use Rattle.wit_syntax.specs.Notes.{no_docs}
-use Rattle.wit_syntax.specs.Source.{path_id, Local, top_names, TheInterface, Item, all_items, ScopeName, Used, Defined, scope_names}
+use Rattle.wit_syntax.specs.Source.{path_id, Local, TopName, top_names, top_text, TheInterface, Item, all_items, ScopeName, Used, Defined, scope_names}
 use Rattle.wit_syntax.specs.Trees.{source_tree}
 use Rattle.wit_arena.specs.Expr.{Prim, one}
 use Rattle.wit_arena.specs.Meet.{Def, Whole, Meeting, IsMet, Meets}
 use Rattle.wit_syntax.specs.Scope.{rows_of, item_rows, in_turn}
 use Rattle.wit_type_tree.specs.Refusal.{Missing, Cyclic}
-use Rattle.wit_syntax.specs.Fault.{fault}
+use Rattle.wit_syntax.specs.Fault.{fault, missing_type_at, type_word}
 use Rattle.wit_syntax.specs.Shape.{Word}
-use Rattle.wit_syntax.specs.Bodies.{folded, IsDuplicateName}
-use Rattle.wit_syntax.specs.Broken.{last_header, IsMissingType, IsCyclicType, IsDuplicateTopName, IsMissingOriginal, IsBroken, Headerless}
+use Rattle.wit_syntax.specs.Bodies.{folded, IsSecond, IsDuplicateName}
+use Rattle.wit_syntax.specs.Broken.{last_header, IsMissingEdge, IsCyclicEdge, IsMissingOriginal, IsBroken, Headerless}
 use Rattle.wit_arena.specs.Package.{package_tree}
 use Rattle.wit_arena.specs.Whole.{turned, meetings}
 use Rattle.wit_meaning_examples.proofs.SmallOrders.{two, three, two_order, three_order}
@@ -204,7 +204,7 @@ module _ (ptr : Ptr) (alloc : Global) where
   b_cyclic : IsCyclic around 1 in_b
   b_cyclic = (b_reaches, (0, refl, a_reaches))
 
-  a_refused : IsCyclicType around_names (record { rule = 16; span = at 23 24; name = Some (codes "b"); sort = Cyclic (codes "type"); hint = None })
+  a_refused : IsCyclicEdge 16 type_word (rows_of around_names) (record { rule = 16; span = at 23 24; name = Some (codes "b"); sort = Cyclic (codes "type"); hint = None })
   a_refused = record { place = 0; index = 0; id = in_a; edge = (record { name = codes "a"; needs = in_a ∷ [] }, refl, refl); cyclic = a_cyclic; is = refl }
 
   -- interface i { type t = u; }
@@ -217,7 +217,7 @@ module _ (ptr : Ptr) (alloc : Global) where
   u_missing : IsMissing (rows_of t_names) 0 u
   u_missing = refl
 
-  u_refused : IsMissingType t_names (record { rule = 15; span = at 23 24; name = Some (codes "u"); sort = Missing (codes "type"); hint = None })
+  u_refused : IsMissingEdge missing_type_at (rows_of t_names) (record { rule = 15; span = at 23 24; name = Some (codes "u"); sort = Missing (codes "type"); hint = None })
   u_refused = record { place = 0; index = 0; id = u; edge = (record { name = codes "t"; needs = u ∷ [] }, refl, refl); missing = u_missing; is = refl }
 
   -- record { a: u8, A: u8 }
@@ -372,7 +372,7 @@ module _ (ptr : Ptr) (alloc : Global) where
     tree_of_alias = refl
 
     -- use z as x; interface x {}
-    twice_on_top : IsDuplicateTopName (record { id = id (codes "x") (at 9 10) refl; target = Local (id (codes "z") (at 4 5) refl) } ∷ record { id = id (codes "x") (at 22 23) refl; target = Local (id (codes "x") (at 22 23) refl) } ∷ []) (fault 6 (at 22 23))
+    twice_on_top : IsSecond top_text (λ (n : TopName). fault 6 n.id.span) (record { id = id (codes "x") (at 9 10) refl; target = Local (id (codes "z") (at 4 5) refl) } ∷ record { id = id (codes "x") (at 22 23) refl; target = Local (id (codes "x") (at 22 23) refl) } ∷ []) (fault 6 (at 22 23))
     twice_on_top = record { later = record { id = id (codes "x") (at 22 23) refl; target = Local (id (codes "x") (at 22 23) refl) }; repeated = record { first = 0; second = 1; earlier = record { id = id (codes "x") (at 9 10) refl; target = Local (id (codes "z") (at 4 5) refl) }; before = lit< tt; at_first = refl; at_second = refl; same = refl }; is = refl }
 
     -- use x as y; use y as z;

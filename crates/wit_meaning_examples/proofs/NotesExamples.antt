@@ -1,5 +1,5 @@
 -- Worked rows with docs and attributes: what they tell, what is met in a definition with a stability, and what breaks the rules of docs and attributes.
-use Rattle.std.proofs.Common.{◌≡◌, ℕ, zero, suc, List, [], ◌∷◌, Some, None, inr, refl, ap, lit<, rules}
+use Rattle.std.proofs.Common.{◌≡◌, ℕ, List, [], ◌∷◌, Some, None, inr, refl, ap, lit<, rules}
 use Rattle.std.specs.Prelude.{codes, Box}
 use Rattle.std.specs.Str.{drop_trailing_whitespace, encode_utf8_all, trim_end}
 use Rattle.std.specs.declared.alloc.Global.{Global}
@@ -12,8 +12,6 @@ use Rattle.wit_values.specs.declared.span.Span.{Span}
 use Rattle.wit_values.specs.declared.release.Release.{Release}
 use Rattle.wit_type_tree.specs.declared.leaves.Attribute.{Attribute}
 use Rattle.wit_type_tree.specs.declared.leaves.Attribute.TheVariants as attribute
-use Rattle.wit_type_tree.specs.declared.attribute_kind.AttributeKind.TheVariants.{Since, Unstable as UnstableKind}
-use Rattle.wit_type_tree.specs.Attributes.{StandsAt}
 use Rattle.wit_tree.specs.declared.tree.AstItem.TheVariants.{Use as ToplevelItem}
 use Rattle.wit_type_tree.specs.declared.leaves.Docs.{Docs as Comments}
 use Rattle.wit_type_tree.specs.declared.types.«Type».TheVariants as written
@@ -130,30 +128,22 @@ module _ (ptr : Ptr) (alloc : Global) where
 
   -- @since(version = 1.0.0) @since(version = 2.0.0)
   since_twice : IsBrokenStability (since 1 (at 0 23) ∷ since 2 (at 24 47) ∷ []) (fault 30 (at 24 47))
-  since_twice = SinceTwice (record { first = 0; second = 1; before = lit< tt; earlier = _; later = _; at_first = record { at = refl; of = refl }; at_second = record { at = refl; of = refl }; is = refl })
+  since_twice = SinceTwice (record { place = 1; later = _; at = refl; of = refl; behind = λ none. (let f : ⊥ = cc in f); is = refl })
 
   -- @unstable(feature = f) @since(version = 1.0.0)
   both_told : IsBrokenStability (unstable (at 0 22) ∷ since 1 (at 23 46) ∷ []) (fault 33 (at 23 46))
-  both_told = SinceAndUnstable (record { since_place = 1; since = _; at_since = record { at = refl; of = refl }; unstable_place = 0; unstable = _; at_unstable = record { at = refl; of = refl }; is = refl })
+  both_told = SinceAndUnstable (record { since = _; first = refl; unstable = λ none. (let f : ⊥ = cc in f); is = refl })
 
   -- @external-id("x") @external-id("y")
   abbrev x_and_y : List Attribute
   x_and_y = attribute.ExternalId (at 0 17) (record { ref_ptr = (0, 0); now = codes "x" }) ∷ attribute.ExternalId (at 18 35) (record { ref_ptr = (0, 0); now = codes "y" }) ∷ []
 
   id_twice : IsBrokenNotes x_and_y (fault 35 (at 18 35))
-  id_twice = inr (record { first = 0; second = 1; before = lit< tt; earlier = _; later = _; at_first = record { at = refl; of = refl }; at_second = record { at = refl; of = refl }; is = refl })
+  id_twice = inr (record { place = 1; later = _; at = refl; of = refl; behind = λ none. (let f : ⊥ = cc in f); is = refl })
 
   -- @deprecated(version = 2.0.0)
   deprecated_alone : IsBrokenStability (deprecated (at 0 28) ∷ []) (fault 34 (at 0 28))
-  deprecated_alone = DeprecatedAlone (record { place = 0; deprecated = _; at = record { at = refl; of = refl }; no_since = no_since; no_unstable = no_unstable; is = refl })
-    where
-      no_since : (i : ℕ) (a : Attribute) → StandsAt Since (deprecated (at 0 28) ∷ []) i a → ⊥
-      no_since zero a h = let here = h.at in let of = h.of in let f : ⊥ = cc in f
-      no_since (suc i) a h = let here = h.at in let f : ⊥ = cc in f
-
-      no_unstable : (i : ℕ) (a : Attribute) → StandsAt UnstableKind (deprecated (at 0 28) ∷ []) i a → ⊥
-      no_unstable zero a h = let here = h.at in let of = h.of in let f : ⊥ = cc in f
-      no_unstable (suc i) a h = let here = h.at in let f : ⊥ = cc in f
+  deprecated_alone = DeprecatedAlone (record { deprecated = _; first = refl; no_since = refl; no_unstable = refl; is = refl })
 
   -- one comment
   abbrev comment : List ℕ → Span → Comments

@@ -40,7 +40,7 @@ use Rattle.wit_syntax.specs.Shape.{Shape}
 use Rattle.wit_syntax.specs.Function.{Role, Freestanding, SourceFunction, functions, signature}
 use Rattle.wit_tree.specs.declared.tree.WorldSide.TheVariants.{Imported}
 use Rattle.wit_arena.specs.Functions.{function_item}
-use Rattle.wit_syntax.specs.Signature.{MissingInSignature, GetterGiven, SetterGiven, GetterWithoutResult, SetterWithResult, ConstructorWithoutResult, ConstructorOfOther, IsEntered, result_ok}
+use Rattle.wit_syntax.specs.Signature.{OfNothing, MissingInSignature, GetterGiven, SetterGiven, GetterWithoutResult, SetterWithResult, ConstructorWithoutResult, ConstructorOfOther, IsEntered, result_ok}
 use Rattle.wit_syntax.specs.Broken.{IsBroken, Function, IsSetterAlone}
 use Rattle.wit_syntax.proofs.Found.{at_contains}
 use Rattle.wit_arena.specs.Package.{names_of, functions_of, function_types, package_tree}
@@ -79,7 +79,7 @@ module _ (ptr : Ptr) (alloc : Global) where
         f
 
     later_refused : IsBroken (file_of ptr alloc later ∷ []) (record { rule = 29; span = at 42 43; name = Some (codes "g"); sort = Missing (codes "name"); hint = None })
-    later_refused = in_scope ptr alloc later _ (Function 0 _ refl (MissingInSignature (record { id = g_id (at 42 43); among = (0, lit< tt, refl); missing = refl; other = not_entered; is = refl })))
+    later_refused = in_scope ptr alloc later _ (Function 0 _ refl (MissingInSignature (record { id = g_id (at 42 43); among = (0, lit< tt, refl); missing = refl; told = OfNothing not_entered refl })))
 
   -- x: get(v: u8) -> u8;
   abbrev given : Interface

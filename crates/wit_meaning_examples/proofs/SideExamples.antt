@@ -1,6 +1,7 @@
 -- Worked rows about functions that a world imports and exports.
 use Rattle.std.proofs.Common.{◌≡◌, ℕ, zero, suc, List, [], ◌∷◌, map, Some, None, inl, inr, refl, subst, arith, lit<, Contains}
 use Rattle.std.specs.Prelude.{codes, slice_get}
+use Rattle.std.proofs.lemmas.Option.{none-some}
 use Rattle.std.specs.declared.alloc.Global.{Global}
 use denote.RawPtr.{Ptr}
 use Rattle.wit_values.specs.declared.span.Span.{Span}
@@ -12,9 +13,6 @@ use Rattle.wit_type_tree.specs.declared.types.«Type».TheVariants as written
 use Rattle.wit_type_tree.specs.declared.types.TypeBody.TheVariants.{Plain}
 use Rattle.wit_type_tree.specs.declared.types.Func.{Func}
 use Rattle.wit_type_tree.specs.declared.leaves.Attribute.{Attribute}
-use Rattle.wit_type_tree.specs.declared.attribute_kind.AttributeKind.{AttributeKind}
-use Rattle.wit_type_tree.specs.declared.attribute_kind.AttributeKind.TheVariants.{Since, Unstable, Deprecated, ExternalId}
-use Rattle.wit_type_tree.specs.Attributes.{StandsAt}
 use Rattle.wit_tree.specs.declared.tree.Extern.{Extern}
 use Rattle.wit_tree.specs.declared.tree.ExternKind.TheVariants as extern
 use Rattle.wit_tree.specs.declared.tree.WorldItem.TheVariants as world_item
@@ -32,7 +30,7 @@ use Rattle.wit_syntax.specs.Notes.{no_docs, IsBrokenStability, SinceTwice, Depre
 use Rattle.wit_syntax.specs.Repeats.{AllDiffer}
 use Rattle.wit_syntax.specs.Source.{top_names, TheWorld, Item, Defined, scope_names}
 use Rattle.wit_syntax.specs.Function.{SourceFunction, side_function, functions, free_names}
-use Rattle.wit_syntax.specs.Signature.{called_key, IsBrokenFunction, BrokenNotes, BrokenTypes, FunctionAsType, MissingInSignature, GetterGiven, SetterGiven, DuplicateParam, GetterWithoutResult, SetterWithResult, ConstructorWithoutResult, ConstructorOfOther}
+use Rattle.wit_syntax.specs.Signature.{called_key, IsBrokenFunction, BrokenNotes, BrokenTypes, MissingInSignature, GetterGiven, SetterGiven, DuplicateParam, GetterWithoutResult, SetterWithResult, ConstructorWithoutResult, ConstructorOfOther}
 use Rattle.wit_syntax.specs.Sides.{SideItem, SideFunction, SideLink, Link, side_items, items_on, side_called, IsFoldedTwice, IsCrossedTwice, IsBrokenSides, FoldedTwice, CrossedTwice, LinkedTwice, LinkNotes, InlineNotes}
 use Rattle.wit_syntax.specs.Broken.{IsBrokenScope, DefinedTwice, MissingType, CyclicType, Notes, Body, Function, IsBroken, Sides}
 use Rattle.wit_syntax.proofs.Found.{at_contains}
@@ -68,20 +66,20 @@ one_differs x = record { differ = differ }
 pub none_among : {X : Type 0} (x : X) → Contains [] x → ⊥
 none_among x h = let it = at_contains [] x h in let f : ⊥ = (let there = it.1 in cc) in f
 
-no_attribute : (kind : AttributeKind) (place : ℕ) (a : Attribute) → StandsAt kind [] place a → ⊥
-no_attribute kind place a h = let there = h.at in let f : ⊥ = cc in f
+no_attribute : (place : ℕ) (a : Attribute) → slice_get [] place ≡ Some a → ⊥
+no_attribute place a there = let f : ⊥ = cc in f
 
 -- no rule of attributes is broken where there are none
 no_stability : (f : Fault) → IsBrokenStability [] f → ⊥
-no_stability f (SinceTwice h) = no_attribute Since h.first h.earlier h.at_first
-no_stability f (DeprecatedTwice h) = no_attribute Deprecated h.first h.earlier h.at_first
-no_stability f (UnstableTwice h) = no_attribute Unstable h.first h.earlier h.at_first
-no_stability f (SinceAndUnstable h) = no_attribute Since h.since_place h.since h.at_since
-no_stability f (DeprecatedAlone h) = no_attribute Deprecated h.place h.deprecated h.at
+no_stability f (SinceTwice h) = no_attribute h.place h.later h.at
+no_stability f (DeprecatedTwice h) = no_attribute h.place h.later h.at
+no_stability f (UnstableTwice h) = no_attribute h.place h.later h.at
+no_stability f (SinceAndUnstable h) = none-some h.since h.first
+no_stability f (DeprecatedAlone h) = none-some h.deprecated h.first
 
 pub no_notes : (f : Fault) → IsBrokenNotes [] f → ⊥
 no_notes f (inl h) = no_stability f h
-no_notes f (inr h) = no_attribute ExternalId h.first h.earlier h.at_first
+no_notes f (inr h) = no_attribute h.place h.later h.at
 
 module _ (ptr : Ptr) (alloc : Global) where
   -- a function without parameters that a world imports or exports, where its name and `func` stand
@@ -121,9 +119,11 @@ module _ (ptr : Ptr) (alloc : Global) where
       side = Imported;
       order = [];
       least = no_rows;
-      later = record { name = codes "F"; span = at 52 53 };
-      repeated = record { first = 0; second = 1; earlier = record { name = codes "f"; span = at 34 35 }; before = lit< tt; at_first = refl; at_second = refl; same = refl };
-      is = refl;
+      twice = record {
+        later = record { name = codes "F"; span = at 52 53 };
+        repeated = record { first = 0; second = 1; earlier = record { name = codes "f"; span = at 34 35 }; before = lit< tt; at_first = refl; at_second = refl; same = refl };
+        is = refl;
+      };
     }))
 
   -- import f: func(); import f: func();
@@ -184,7 +184,6 @@ module _ (ptr : Ptr) (alloc : Global) where
     none_in : (side : WorldSide) (name word : Span) (k : ℕ) (f : Fault) → IsBrokenFunction [] fns k (plain side name word) f → ⊥
     none_in side name word k f (BrokenNotes h) = no_notes f h
     none_in side name word k f (BrokenTypes h) = none_among h.t h.among
-    none_in side name word k f (FunctionAsType h) = none_among h.id h.among
     none_in side name word k f (MissingInSignature h) = none_among h.id h.among
     none_in side name word k f (GetterGiven h) = let wrong = h.getter in let g : ⊥ = cc in g
     none_in side name word k f (SetterGiven h) = let wrong = h.setter in let g : ⊥ = cc in g

@@ -40,10 +40,10 @@ use Rattle.wit_syntax.specs.Fault.{Fault, fault}
 use Rattle.wit_syntax.specs.Shape.{Shape, Word, shape_of}
 use Rattle.wit_syntax.specs.Function.{SourceFunction, functions, free_names}
 use Rattle.wit_arena.specs.Functions.{placed_functions}
-use Rattle.wit_syntax.specs.Signature.{Called, called_key, FunctionAsType, DuplicateParam, SetterWithResult, ConstructorOfOther, IsWrittenAs, result_ok}
+use Rattle.wit_syntax.specs.Signature.{Called, called_key, OfFunction, MissingInSignature, DuplicateParam, SetterWithResult, ConstructorOfOther, IsWrittenAs, result_ok}
 use Rattle.wit_tree.specs.declared.tree.WorldSide.TheVariants.{Imported}
 use Rattle.wit_syntax.specs.Sides.{side_items, all_scopes, side_called, FoldedTwice}
-use Rattle.wit_syntax.specs.Broken.{IsBrokenScope, MissingType, Function, IsBroken, Scope, Sides, FunctionUsed, Setter}
+use Rattle.wit_syntax.specs.Broken.{IsBrokenScope, MissingType, Function, IsBroken, Scope, Sides, MissingName, Setter}
 use Rattle.wit_arena.specs.Whole.{turned, meetings}
 use Rattle.wit_syntax.proofs.Found.{contains_at, at_contains}
 use Rattle.wit_meaning_examples.proofs.Examples.{at, id, vec, no_comments, untold, header}
@@ -161,9 +161,11 @@ module _ (ptr : Ptr) (alloc : Global) where
       side = Imported;
       order = 0 ∷ [];
       least = one_order (codes "r");
-      later = record { name = codes "[method]r.r"; span = at 44 45 };
-      repeated = record { first = 0; second = 1; earlier = record { name = codes "r"; span = at 40 41 }; before = lit< tt; at_first = refl; at_second = refl; same = refl };
-      is = refl;
+      twice = record {
+        later = record { name = codes "[method]r.r"; span = at 44 45 };
+        repeated = record { first = 0; second = 1; earlier = record { name = codes "r"; span = at 40 41 }; before = lit< tt; at_first = refl; at_second = refl; same = refl };
+        is = refl;
+      };
     }))
 
   -- resource r { constructor(); }
@@ -272,12 +274,11 @@ module _ (ptr : Ptr) (alloc : Global) where
   itself = i_of (FuncItem (func_of (f_id (at 31 32)) (at 34 38) form.Plain (param (x_id (at 39 40)) (written.Name (f_id (at 42 43)))) None) ∷ []) (lit< tt)
 
   itself_refused : IsBroken (file_of itself ∷ []) (fault 28 (at 42 43))
-  itself_refused = in_scope itself (fault 28 (at 42 43)) (Function 0 _ refl (FunctionAsType (record {
+  itself_refused = in_scope itself (fault 28 (at 42 43)) (Function 0 _ refl (MissingInSignature (record {
     id = f_id (at 42 43);
     among = (0, lit< tt, refl);
     missing = refl;
-    entered = record { place = 0; entered = _; id = f_id (at 31 32); form = form.Plain; before = lit≤ tt; at = refl; role = refl; same = refl };
-    is = refl;
+    told = OfFunction (record { place = 0; entered = _; id = f_id (at 31 32); form = form.Plain; before = lit≤ tt; at = refl; role = refl; same = refl }) refl;
   })))
 
   -- type t = f; f: func();
@@ -337,4 +338,4 @@ module _ (ptr : Ptr) (alloc : Global) where
     item_in_both i = record { top = top_names both; declared = TheInterface i }
 
     used_refused : IsBroken (both ∷ []) (fault 13 (at 65 66))
-    used_refused = FunctionUsed (item_in_both b) (1, lit< tt, refl) (record { from = InterfaceNamed (codes "a"); attributes = []; n = used_f; among = (0, lit< tt, refl); target = item_in_both a; declared = refl; missing = refl; function = (0, lit< tt, refl); is = refl })
+    used_refused = MissingName (item_in_both b) (1, lit< tt, refl) (record { from = InterfaceNamed (codes "a"); attributes = []; n = used_f; among = (0, lit< tt, refl); target = item_in_both a; declared = refl; missing = refl; told = OfFunction (0, lit< tt, refl) refl })

@@ -23,7 +23,7 @@ use Rattle.wit_tree.specs.declared.tree.WorldSide.{WorldSide}
 use Rattle.wit_tree.specs.declared.tree.WorldSide.TheVariants.{Imported, Exported}
 use Rattle.wit_syntax.specs.Address.{Address, ForeignNamed}
 use Rattle.wit_syntax.specs.Bodies.{IsBrokenBody, StandsIn, IsBrokenForm}
-use Rattle.wit_syntax.specs.Broken.{headers, DuplicateItem, DuplicateTopName, MissingItem, CyclicItem, IsBrokenNames, Items, ForeignStability, AttributedTopUse, MissingOriginal, is_world_at, IsBrokenUse, MissingUse, WorldUsed, IsBrokenScope, DefinedTwice, MissingType, CyclicType, Notes, Body, Function, IsBroken, Headerless, Names, ItemStability, UseNotes, IncludeStability, Use, InterfaceIncluded, MissingName, FunctionUsed, Scope, Sides, Handle, Setter, IsLegal}
+use Rattle.wit_syntax.specs.Broken.{headers, DuplicateItem, DuplicateTopName, MissingItem, CyclicItem, IsBrokenNames, Items, ForeignStability, AttributedTopUse, MissingOriginal, is_world_at, IsBrokenUse, MissingUse, WorldUsed, IsBrokenScope, DefinedTwice, MissingType, CyclicType, Notes, Body, Function, IsBroken, Headerless, Names, ItemStability, UseNotes, IncludeStability, Use, InterfaceIncluded, MissingName, Scope, Sides, Handle, Setter, IsLegal}
 use Rattle.wit_syntax.specs.Fault.{Fault, fault, missing_at, missing_type_at, item_word, type_word}
 use Rattle.wit_syntax.specs.Foreign.{ForeignVisit}
 use Rattle.wit_syntax.specs.Function.{functions, item_types}
@@ -258,7 +258,6 @@ module _ (ptr : Ptr) (alloc : Global) where
   legal f (Use w among h) = each_item (λ (w : Item). IsBrokenUse files w f → ⊥) (no_use f) (use_passes f) w among h
   legal f (InterfaceIncluded w among h) = each_item (λ (w : Item). Contains (include_paths w) h.path → ⊥) (none_among h.path) (none_among h.path) w among h.among
   legal f (MissingName w among h) = used_elsewhere w among h.from h.attributes h.n h.among h.target h.declared
-  legal f (FunctionUsed w among h) = used_elsewhere w among h.from h.attributes h.n h.among h.target h.declared
   legal f (Scope w among h) = each_item (λ (w : Item). IsBrokenScope (scope_names w) (functions w) f → ⊥) (x_passes f) (i_passes f) w among h
   legal f (Sides w among h) = each_item (λ (w : Item). IsBrokenSides w f → ⊥) (x_sides f) (i_sides f) w among h
   legal f (Handle w among h) = each_item (λ (w : Item). Contains (all_handles (item_types w)) h.id → ⊥) (none_among h.id) (none_among h.id) w among h.among

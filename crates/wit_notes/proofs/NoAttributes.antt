@@ -2,6 +2,7 @@
 use Rattle.std.proofs.Common.{◌≡◌, ℕ, List, [], Some, length, inl, inr, subst}
 use Rattle.std.specs.Prelude.{slice_get}
 use Rattle.std.proofs.lemmas.List.{nil_from_length}
+use Rattle.std.proofs.lemmas.Option.{none-some}
 use Rattle.wit_type_tree.specs.declared.leaves.Attribute.{Attribute}
 use Rattle.wit_syntax.specs.Fault.{Fault}
 use Rattle.wit_syntax.specs.Notes.{IsBrokenStability, IsBrokenNotes, SinceTwice, DeprecatedTwice, UnstableTwice, SinceAndUnstable, DeprecatedAlone}
@@ -10,16 +11,16 @@ none_at : (place : ℕ) (a : Attribute) → slice_get [] place ≡ Some a → �
 none_at place a at = let f : ⊥ = cc in f
 
 unbroken : (f : Fault) → IsBrokenStability [] f → ⊥
-unbroken f (SinceTwice h) = none_at h.first h.earlier h.at_first.at
-unbroken f (DeprecatedTwice h) = none_at h.first h.earlier h.at_first.at
-unbroken f (UnstableTwice h) = none_at h.first h.earlier h.at_first.at
-unbroken f (SinceAndUnstable h) = none_at h.since_place h.since h.at_since.at
-unbroken f (DeprecatedAlone h) = none_at h.place h.deprecated h.at.at
+unbroken f (SinceTwice h) = none_at h.place h.later h.at
+unbroken f (DeprecatedTwice h) = none_at h.place h.later h.at
+unbroken f (UnstableTwice h) = none_at h.place h.later h.at
+unbroken f (SinceAndUnstable h) = none-some h.since h.first
+unbroken f (DeprecatedAlone h) = none-some h.deprecated h.first
 
 unbroken_notes : (f : Fault) → IsBrokenNotes [] f → ⊥
 unbroken_notes f h = elim h [
   | inl stability ↦ unbroken f stability
-  | inr twice ↦ none_at twice.first twice.earlier twice.at_first.at
+  | inr twice ↦ none_at twice.place twice.later twice.at
 ]
 
 pub none_unstable : (xs : List Attribute) → length xs ≡ 0 → (f : Fault) → IsBrokenStability xs f → ⊥

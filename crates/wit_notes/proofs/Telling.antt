@@ -1,10 +1,11 @@
 -- Attributes of a kind: the first of them, and that there is no second.
-use Rattle.std.proofs.Common.{◌≡◌, ◌≢◌, ℕ, zero, suc, Bool, true, false, List, [], ◌∷◌, ◌++◌, take, Option, Some, None, inl, inr, refl, sym, ap, ◌∙◌, arith}
+use Rattle.std.proofs.Common.{◌≡◌, ◌≢◌, ◌⊎◌, ℕ, zero, suc, Bool, true, false, List, [], ◌∷◌, ◌++◌, take, Option, Some, None, inl, inr, refl, sym, ap, ◌∙◌, arith}
 use Rattle.std.specs.Prelude.{slice_get, is_some}
 use Rattle.std.specs.Option.{option_copied}
 use denote.Ref.{Bor}
 use Rattle.std.specs.List.{find}
 use Rattle.std.proofs.lemmas.Bool.{cases_Bool}
+use Rattle.std.proofs.lemmas.Option.{none-some}
 use Rattle.wit_type_tree.specs.declared.leaves.Attribute.{Attribute}
 use Rattle.wit_type_tree.specs.declared.leaves.Attribute.TheVariants as attribute
 use Rattle.wit_syntax.specs.Fault.{Fault}
@@ -57,19 +58,7 @@ some-stands kind xs some = by (first_of kind xs) refl
 
 -- a repeat is a second one of its kind
 pub twice-repeat : (xs : List Attribute) (place : ℕ) (a : Attribute) (f : Fault) → slice_get xs place ≡ Some a → IsRepeat (take place xs) a f → IsTwice (number_of (kind_of a)) (kind_of a) xs f
-twice-repeat xs place a f at r =
-    let s = some-stands (kind_of a) (take place xs) r.some in
-    let there = at_take xs place s.0 s.1 s.2.at in
-    record {
-      first = s.0;
-      second = place;
-      before = there.1;
-      earlier = s.1;
-      later = a;
-      at_first = record { at = there.0; of = s.2.of };
-      at_second = record { at = at; of = own_kind a };
-      is = r.is;
-    }
+twice-repeat xs place a f at r = record { place = place; later = a; at = at; of = own_kind a; behind = r.some; is = r.is }
 
 -- which breaks a rule of stability, where it is no external id
 pub broken-repeat : (xs : List Attribute) (place : ℕ) (a : Attribute) (f : Fault) → slice_get xs place ≡ Some a → is_of ExternalId a ≡ false → IsRepeat (take place xs) a f → IsBrokenStability xs f
@@ -125,28 +114,30 @@ each_once-more xs x each new = record {
 
 pub no_twice : (number : ℕ) (kind : AttributeKind) (xs : List Attribute) (f : Fault) → IsOnce kind xs → IsTwice number kind xs f → ⊥
 no_twice number kind xs f once t =
-    let same = once t.first t.second t.earlier t.later t.at_first t.at_second in
-    let before = t.before in
+    let s = some-stands kind (take t.place xs) t.behind in
+    let there = at_take xs t.place s.0 s.1 s.2.at in
+    let same = once s.0 t.place s.1 t.later (record { at = there.0; of = s.2.of }) (record { at = t.at; of = t.of }) in
+    let before = there.1 in
     omega arith
 
 -- no rule is broken where nothing stands twice, `@since` not beside `@unstable`, and `@deprecated` not alone
-pub legal-together : (xs : List Attribute) → IsEachOnce xs → ((i j : ℕ) (a b : Attribute) → StandsAt Since xs i a → StandsAt Unstable xs j b → ⊥) → ((i : ℕ) (a : Attribute) → StandsAt Deprecated xs i a → ((j : ℕ) (b : Attribute) → StandsAt Since xs j b → ⊥) → ((j : ℕ) (b : Attribute) → StandsAt Unstable xs j b → ⊥) → ⊥) → (f : Fault) → IsBrokenStability xs f → ⊥
+pub legal-together : (xs : List Attribute) → IsEachOnce xs → (first_of Since xs ≡ None ⊎ first_of Unstable xs ≡ None) → (first_of Deprecated xs ≢ None → first_of Since xs ≡ None → first_of Unstable xs ≡ None → ⊥) → (f : Fault) → IsBrokenStability xs f → ⊥
 legal-together xs each apart backed f broken = elim broken [
   | SinceTwice t ↦ no_twice 30 Since xs f each.since t
   | DeprecatedTwice t ↦ no_twice 31 Deprecated xs f each.deprecated t
   | UnstableTwice t ↦ no_twice 32 Unstable xs f each.unstable t
-  | SinceAndUnstable t ↦ apart t.since_place t.unstable_place t.since t.unstable t.at_since t.at_unstable
-  | DeprecatedAlone t ↦ backed t.place t.deprecated t.at t.no_since t.no_unstable
+  | SinceAndUnstable t ↦ elim apart [ inl none ↦ none-some t.since (sym none ∙ t.first) | inr none ↦ t.unstable none ]
+  | DeprecatedAlone t ↦ backed (λ none. none-some t.deprecated (sym none ∙ t.first)) t.no_since t.no_unstable
 ]
 
 -- what a test for some attribute tells
-pub told-some : (kind : AttributeKind) (xs : List Attribute) (r : Option (Bor Attribute)) → option_copied r ≡ first_of kind xs → is_some r ≡ true → (i : ℕ) × (a : Attribute) × StandsAt kind xs i a
+pub told-some : (kind : AttributeKind) (xs : List Attribute) (r : Option (Bor Attribute)) → option_copied r ≡ first_of kind xs → is_some r ≡ true → first_of kind xs ≢ None
 told-some kind xs None h told = absurd (let f : ⊥ = cc in f)
-told-some kind xs (Some a) h told = let s = stands-first kind xs a.now (sym h) in (s.0, a.now, s.1)
+told-some kind xs (Some a) h told = λ none. none-some a.now (sym none ∙ sym h)
 
-pub told-none : (kind : AttributeKind) (xs : List Attribute) (r : Option (Bor Attribute)) → option_copied r ≡ first_of kind xs → is_some r ≡ false → (i : ℕ) (a : Attribute) → StandsAt kind xs i a → ⊥
-told-none kind xs None h told i a s = none-stands kind xs (sym h) i a s
-told-none kind xs (Some x) h told i a s = (let f : ⊥ = cc in f)
+pub told-none : (kind : AttributeKind) (xs : List Attribute) (r : Option (Bor Attribute)) → option_copied r ≡ first_of kind xs → is_some r ≡ false → first_of kind xs ≡ None
+told-none kind xs None h told = sym h
+told-none kind xs (Some x) h told = absurd (let f : ⊥ = cc in f)
 
 pub external_kind : (a : Attribute) → is_of ExternalId a ≡ true → kind_of a ≡ ExternalId
 external_kind (attribute.Since s v) h = absurd (let f : ⊥ = cc in f)

@@ -5,7 +5,7 @@ ghost use Rattle.wit_type_tree.specs.Refusal.{IsWantOfMemory};
 ghost use Rattle.wit_syntax.specs.Broken.{Refused};
 ghost use Rattle.wit_syntax.specs.Fault.{Fault, fault, fault_of};
 ghost use Rattle.wit_type_tree.specs.Attributes.{attribute_span, first_of, kind_of, told_text, told_version};
-ghost use Rattle.wit_syntax.specs.Notes.{IsBrokenStability, IsExternalIdTwice, deprecation, external_id_of, stability_of};
+ghost use Rattle.wit_syntax.specs.Notes.{IsBrokenStability, IsTwice, deprecation, external_id_of, stability_of};
 ghost use Rattle.wit_type_tree.specs.declared.attribute_kind.AttributeKind.TheVariants.{ExternalId};
 ghost use Rattle.wit_notes.specs.Kinds.{IsEachOnce, IsRepeat, number_of};
 
@@ -80,8 +80,8 @@ fn check_each_once(alloc: Global, attributes: &[Attribute<'_>]) -> ParseResult<(
 
 /// Refuses a second external id; other attributes are ignored.
 pub fn check_external_once(alloc: Global, attributes: &[Attribute<'_>]) -> ParseResult<()>
-    ensures once { OnOk result ((f : Fault) → IsExternalIdTwice attributes.now f → ⊥) }
-    ensures refused { IfErr result (Refused (IsExternalIdTwice attributes.now)) }
+    ensures once { OnOk result ((f : Fault) → IsTwice 35 ExternalId attributes.now f → ⊥) }
+    ensures refused { IfErr result (Refused (IsTwice 35 ExternalId attributes.now)) }
 {
     for place in 0..attributes.len() {
         let attribute = &attributes[place];
@@ -207,8 +207,8 @@ pub fn told_external_id(
 /// The error is E35 at a second external id, or want of memory.
 pub fn external_id(alloc: Global, attributes: &[Attribute<'_>]) -> ParseResult<Rare<Text>>
     ensures told { IfOk result (λ id. id ≡ external_id_of attributes.now) }
-    ensures legal { OnOk result ((f : Fault) → IsExternalIdTwice attributes.now f → ⊥) }
-    ensures refused { IfErr result (Refused (IsExternalIdTwice attributes.now)) }
+    ensures legal { OnOk result ((f : Fault) → IsTwice 35 ExternalId attributes.now f → ⊥) }
+    ensures refused { IfErr result (Refused (IsTwice 35 ExternalId attributes.now)) }
 {
     check_external_once(alloc, attributes)?;
     Ok(told_external_id(alloc, attributes)?)

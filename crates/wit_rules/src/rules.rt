@@ -1,7 +1,7 @@
 //! The rules of types, fields, flags and cases.
-ghost use Rattle.std.specs.Prelude.{◌≡◌, ◌↔◌, OnOk, IfOk, IfErr, IsTrue, map};
+ghost use Rattle.std.specs.Prelude.{◌≡◌, ◌↔◌, ◌⊎◌, OnOk, IfOk, IfErr, IsTrue, map};
 ghost use Rattle.wit_syntax.specs.Fault.{Fault};
-ghost use Rattle.wit_syntax.specs.Bodies.{IsKey, IsInvalidKey, IsEmptyTuple, IsFlagTooMany, IsDuplicateName, IsBrokenRecord, IsBrokenFlags, IsBrokenVariant, IsBrokenEnum};
+ghost use Rattle.wit_syntax.specs.Bodies.{IsKey, IsInvalidKey, IsEmpty, IsFlagTooMany, IsDuplicateName, AreBroken};
 ghost use Rattle.wit_syntax.specs.Broken.{Refused};
 
 use std::alloc::{AllocError, Global};
@@ -50,8 +50,8 @@ pub fn check_key(alloc: Global, span: Span, key: &Type<'_>) -> ParseResult<()>
 
 /// Refuses a tuple without types (E22).
 pub fn check_tuple(alloc: Global, span: Span, types: &[Type<'_>]) -> ParseResult<()>
-    ensures legal { OnOk result ((f : Fault) → IsEmptyTuple types.now span f → ⊥) }
-    ensures refused { IfErr result (Refused (IsEmptyTuple types.now span)) }
+    ensures legal { OnOk result ((f : Fault) → IsEmpty 22 types.now span f → ⊥) }
+    ensures refused { IfErr result (Refused (IsEmpty 22 types.now span)) }
 {
     if types.is_empty() {
         return Err(refuse(alloc, 22, span, "empty tuple"));
@@ -98,8 +98,8 @@ fn enum_case_names<'a>(alloc: Global, cases: &[EnumCase<'a>]) -> Result<Vec<Id<'
 
 /// Refuses a record without fields (E19), and one with two fields of one name once case is folded (E25).
 pub fn check_record(alloc: Global, span: Span, fields: &[Field<'_>]) -> ParseResult<()>
-    ensures legal { OnOk result ((f : Fault) → IsBrokenRecord fields.now span f → ⊥) }
-    ensures refused { IfErr result (Refused (IsBrokenRecord fields.now span)) }
+    ensures legal { OnOk result ((f : Fault) → AreBroken 19 (λ x. x.name) fields.now span f → ⊥) }
+    ensures refused { IfErr result (Refused (AreBroken 19 (λ x. x.name) fields.now span)) }
 {
     if fields.is_empty() {
         return Err(refuse(alloc, 19, span, "empty record"));
@@ -122,8 +122,8 @@ fn check_count(alloc: Global, flags: &[Flag<'_>]) -> ParseResult<()>
 
 /// Refuses flags without a flag (E20), the thirty-third (E21), and two of one name once case is folded (E25).
 pub fn check_flags(alloc: Global, span: Span, flags: &[Flag<'_>]) -> ParseResult<()>
-    ensures legal { OnOk result ((f : Fault) → IsBrokenFlags flags.now span f → ⊥) }
-    ensures refused { IfErr result (Refused (IsBrokenFlags flags.now span)) }
+    ensures legal { OnOk result ((f : Fault) → AreBroken 20 (λ x. x.name) flags.now span f ⊎ IsFlagTooMany flags.now f → ⊥) }
+    ensures refused { IfErr result (Refused (λ f. AreBroken 20 (λ x. x.name) flags.now span f ⊎ IsFlagTooMany flags.now f)) }
 {
     if flags.is_empty() {
         return Err(refuse(alloc, 20, span, "empty flags"));
@@ -136,8 +136,8 @@ pub fn check_flags(alloc: Global, span: Span, flags: &[Flag<'_>]) -> ParseResult
 
 /// Refuses a variant without cases (E23), and one with two cases of one name once case is folded (E25).
 pub fn check_variant(alloc: Global, span: Span, cases: &[Case<'_>]) -> ParseResult<()>
-    ensures legal { OnOk result ((f : Fault) → IsBrokenVariant cases.now span f → ⊥) }
-    ensures refused { IfErr result (Refused (IsBrokenVariant cases.now span)) }
+    ensures legal { OnOk result ((f : Fault) → AreBroken 23 (λ x. x.name) cases.now span f → ⊥) }
+    ensures refused { IfErr result (Refused (AreBroken 23 (λ x. x.name) cases.now span)) }
 {
     if cases.is_empty() {
         return Err(refuse(alloc, 23, span, "empty variant"));
@@ -149,8 +149,8 @@ pub fn check_variant(alloc: Global, span: Span, cases: &[Case<'_>]) -> ParseResu
 
 /// Refuses an enum without cases (E24), and one with two cases of one name once case is folded (E25).
 pub fn check_enum(alloc: Global, span: Span, cases: &[EnumCase<'_>]) -> ParseResult<()>
-    ensures legal { OnOk result ((f : Fault) → IsBrokenEnum cases.now span f → ⊥) }
-    ensures refused { IfErr result (Refused (IsBrokenEnum cases.now span)) }
+    ensures legal { OnOk result ((f : Fault) → AreBroken 24 (λ x. x.name) cases.now span f → ⊥) }
+    ensures refused { IfErr result (Refused (AreBroken 24 (λ x. x.name) cases.now span)) }
 {
     if cases.is_empty() {
         return Err(refuse(alloc, 24, span, "empty enum"));

@@ -15,7 +15,7 @@ use Rattle.wit_syntax.specs.Shape.{Word}
 use Rattle.wit_syntax.specs.Source.{TopName, Item, address, all_items, ScopeName, scope_names, parts, path_scope}
 use Rattle.wit_syntax.specs.Sides.{SideItem, SideFunction, SideLink, SideInline, side_items, items_on, bare_scope, IsFoldedTwice, IsCrossedTwice, IsLinkedTwice, IsBrokenSides, FoldedTwice, CrossedTwice, LinkedTwice, LinkNotes, InlineNotes, all_scopes}
 use Rattle.wit_syntax.specs.Broken
-use Rattle.wit_syntax.specs.Broken.{IsHeaderless, IsMissingName, IsFunctionUsed, IsBrokenScope, IsBrokenItems, IsBrokenNames, IsHandleBroken, IsBroken, IsLegal}
+use Rattle.wit_syntax.specs.Broken.{IsHeaderless, IsMissingName, IsBrokenScope, IsBrokenItems, IsBrokenNames, IsHandleBroken, IsBroken, IsLegal}
 use Rattle.wit_syntax.proofs.JoinedLists.{flat_map_by}
 use Rattle.wit_syntax.proofs.JoinedTargets.{AreThemselves, used_same}
 use Rattle.wit_syntax.proofs.JoinedItems.{retop, names_same, twin_among}
@@ -23,7 +23,7 @@ use Rattle.wit_syntax.proofs.JoinedFiles.{AreAlike, no_use_in_file, items_twins,
 use Rattle.wit_syntax.proofs.JoinedOrders.{missing_edge_onward, cyclic_edge_onward}
 use Rattle.wit_syntax.proofs.JoinedTrees.{scopes_twins, tree_alike}
 use Rattle.wit_syntax.proofs.JoinedNames.{top_repeated, repeated_onward}
-use Rattle.wit_syntax.proofs.JoinedUses.{missing_use_onward, world_used_onward, interface_included_onward, missing_name_onward, function_used_onward}
+use Rattle.wit_syntax.proofs.JoinedUses.{missing_use_onward, world_used_onward, interface_included_onward, missing_name_onward}
 
 -- what is wrong on the sides of an item is wrong on those of its twin
 module _ (a b : List TopName) (own : AreThemselves a) (other : AreThemselves b) where
@@ -105,9 +105,6 @@ module _ (files others : List PackageFile) (a : AreAlike files others) where
   broken_onward f (Broken.MissingName i is h) =
       let t = twin_among (all_scopes files) (all_scopes others) (scopes_twins files others a) i is in
       (f, Broken.MissingName (retop t.top i) t.among (subst (λ (xs : List ScopeName). IsMissingName others xs f) (twin_names i t.top t.own t.other) (missing_name_onward files others a (scope_names i) f h)))
-  broken_onward f (Broken.FunctionUsed i is h) =
-      let t = twin_among (all_scopes files) (all_scopes others) (scopes_twins files others a) i is in
-      (f, Broken.FunctionUsed (retop t.top i) t.among (subst (λ (xs : List ScopeName). IsFunctionUsed others xs f) (twin_names i t.top t.own t.other) (function_used_onward files others a (scope_names i) f h)))
   broken_onward f (Broken.Scope i is h) =
       let t = twin_among (all_scopes files) (all_scopes others) (scopes_twins files others a) i is in
       (f, Broken.Scope (retop t.top i) t.among (scope_onward i t.top t.own t.other f h))

@@ -8,8 +8,8 @@ use Rattle.wit_tree.specs.declared.tree.AstItem.TheVariants as ast
 use Rattle.wit_tree.specs.declared.tree.PackageFile.{PackageFile}
 use Rattle.wit_graph.proofs.Tables.{matched}
 use Rattle.wit_syntax.specs.Fault.{Fault, fault}
-use Rattle.wit_syntax.specs.Source.{TopName, top_name, top_names, Item, item_id, declared_items, file_items, all_items}
-use Rattle.wit_syntax.specs.Broken.{IsRepeatedItem, IsDuplicateTopName}
+use Rattle.wit_syntax.specs.Source.{TopName, top_name, top_names, top_text, Item, item_id, item_name, declared_items, file_items, all_items}
+use Rattle.wit_syntax.specs.Bodies.{IsSecond}
 use Rattle.wit_syntax.specs.Splitting.{file_declarations, declarations}
 use Rattle.wit_syntax.proofs.Found.{contains_at, at_contains}
 use Rattle.wit_syntax.proofs.JoinedLists.{flat_map_from}
@@ -30,7 +30,7 @@ tops_of_items top (ast.Interface i ∷ ds) none = ap (λ (l : List Id). i.name �
 tops_of_items top (ast.World w ∷ ds) none = ap (λ (l : List Id). w.name ∷ l) (tops_of_items top ds (no_use_behind (ast.World w) ds none))
 tops_of_items top (ast.Use u ∷ ds) none = absurd (none u (contains_at (ast.Use u ∷ ds) 0 (ast.Use u) refl))
 
-pub top_repeated : (files : List PackageFile) (file : PackageFile) (f : Fault) → HasNoUse (declarations files) → Contains files file → IsDuplicateTopName (top_names file) f → (g : Fault) × IsRepeatedItem (all_items files) g
+pub top_repeated : (files : List PackageFile) (file : PackageFile) (f : Fault) → HasNoUse (declarations files) → Contains files file → IsSecond top_text (λ (n : TopName). fault 6 n.id.span) (top_names file) f → (g : Fault) × IsSecond item_name (λ (i : Item). fault 5 (item_id i).span) (all_items files) g
 top_repeated files file f none is h =
     let r = h.repeated in
     let same : map top_id (top_names file) ≡ map item_id (file_items file) = tops_of_items (top_names file) (file_declarations file) (no_use_in_file files none file is) in
@@ -51,12 +51,12 @@ top_repeated files file f none is h =
           at_second = from.1 r.second y.0 y.1;
           same = ap id_text x.2 ∙ r.same ∙ sym (ap id_text y.2);
         };
-        says = refl;
+        is = refl;
       },
     )
 
 -- an item whose name stands twice among items is one whose name does among their twins
-pub repeated_onward : (is js : List Item) (f : Fault) → AreTwins is js → IsRepeatedItem is f → IsRepeatedItem js f
+pub repeated_onward : (is js : List Item) (f : Fault) → AreTwins is js → IsSecond item_name (λ (i : Item). fault 5 (item_id i).span) is f → IsSecond item_name (λ (i : Item). fault 5 (item_id i).span) js f
 repeated_onward is js f t h =
     let r = h.repeated in
     let x = twin_at is js t r.first r.earlier r.at_first in
@@ -64,5 +64,5 @@ repeated_onward is js f t h =
     record {
       later = retop y.0 h.later;
       repeated = record { first = r.first; second = r.second; earlier = retop x.0 r.earlier; before = r.before; at_first = x.2; at_second = y.2; same = r.same };
-      says = h.says;
+      is = h.is;
     }

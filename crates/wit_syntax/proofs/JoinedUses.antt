@@ -11,7 +11,7 @@ use Rattle.wit_syntax.specs.Fault.{Fault, missing_at, item_word}
 use Rattle.wit_syntax.specs.Foreign.{ForeignVisit, visited, same_item, foreign_visits, is_foreign_world}
 use Rattle.wit_syntax.specs.Repeats.{firsts}
 use Rattle.wit_syntax.specs.Source.{TopName, Target, Local, Foreign, leads, Declared, is_declared_world, Item, is_world, address, parts, all_items, item_named, item_at, ScopeName, scope_names, meaning}
-use Rattle.wit_syntax.specs.Broken.{is_world_at, IsMissingUse, IsWorldUsed, IsInterfaceIncluded, IsMissingName, IsFunctionUsed}
+use Rattle.wit_syntax.specs.Broken.{is_world_at, IsMissingUse, IsWorldUsed, IsInterfaceIncluded, IsMissingName}
 use Rattle.wit_syntax.specs.Splitting.{declared_of}
 use Rattle.wit_syntax.proofs.Found.{find_at}
 use Rattle.wit_syntax.proofs.JoinedTargets.{AreThemselves, IsSameTarget, leads_same, local_from}
@@ -80,10 +80,4 @@ module _ (files others : List PackageFile) (a : AreAlike files others) where
   missing_name_onward xs f h =
       let it = twin_at_address (all_items files) (all_items others) (items_twins files others a) h.from h.target h.declared in
       let names : scope_names h.target ≡ scope_names (retop it.0 h.target) = names_same h.target.top it.0 it.1 it.2 (parts h.target) in
-      record { from = h.from; attributes = h.attributes; n = h.n; among = h.among; target = retop it.0 h.target; declared = it.3; missing = sym (ap (λ (ys : List ScopeName). meaning ys h.n.name.name.now) names) ∙ h.missing; other = h.other; is = h.is }
-
-  pub function_used_onward : (xs : List ScopeName) (f : Fault) → IsFunctionUsed files xs f → IsFunctionUsed others xs f
-  function_used_onward xs f h =
-      let it = twin_at_address (all_items files) (all_items others) (items_twins files others a) h.from h.target h.declared in
-      let names : scope_names h.target ≡ scope_names (retop it.0 h.target) = names_same h.target.top it.0 it.1 it.2 (parts h.target) in
-      record { from = h.from; attributes = h.attributes; n = h.n; among = h.among; target = retop it.0 h.target; declared = it.3; missing = sym (ap (λ (ys : List ScopeName). meaning ys h.n.name.name.now) names) ∙ h.missing; function = h.function; is = h.is }
+      record { from = h.from; attributes = h.attributes; n = h.n; among = h.among; target = retop it.0 h.target; declared = it.3; missing = sym (ap (λ (ys : List ScopeName). meaning ys h.n.name.name.now) names) ∙ h.missing; told = h.told }

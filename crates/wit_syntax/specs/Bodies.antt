@@ -1,5 +1,6 @@
 -- The rules of what is written in definitions, and what it is that breaks each.
 use Rattle.std.specs.Prelude.{◌≡◌, ℕ, zero, suc, ◌<◌, ◌⊎◌, List, [], map, Some, Contains, slice_get}
+use Rattle.std.specs.Option.{option_map}
 use Rattle.std.specs.Char.{to_ascii_lowercase}
 use Rattle.wit_values.specs.declared.span.Span.{Span}
 use Rattle.wit_type_tree.specs.declared.leaves.Id.{Id}
@@ -28,42 +29,24 @@ pub record IsRepeated {X : Type 0} (key : X → List ℕ) (xs : List X) (later :
   pub at_second : slice_get xs second ≡ Some later
   pub same : key earlier ≡ key later
 
--- a record has no field
-pub record IsEmptyRecord (fields : List Field) (span : Span) (f : Fault) : Type 0 where
-  pub none : fields ≡ []
-  pub is : f ≡ fault 19 span
+-- an earlier item of a list has the key of a later one, of which a fault is told
+pub record IsSecond {X : Type 0} (key : X → List ℕ) (told : X → Fault) (xs : List X) (f : Fault) : Type 0 where
+  pub later : X
+  pub repeated : IsRepeated key xs later
+  pub is : f ≡ told later
 
--- flags have no flag
-pub record IsEmptyFlags (flags : List Flag) (span : Span) (f : Fault) : Type 0 where
-  pub none : flags ≡ []
-  pub is : f ≡ fault 20 span
+-- a list has nothing in it, and the fault of this number tells of it
+pub record IsEmpty {X : Type 0} (number : ℕ) (xs : List X) (span : Span) (f : Fault) : Type 0 where
+  pub none : xs ≡ []
+  pub is : f ≡ fault number span
 
 -- a flag is the thirty-third
-pub record IsFlagTooMany (flags : List Flag) (f : Fault) : Type 0 where
-  pub flag : Flag
-  pub at : slice_get flags 32 ≡ Some flag
-  pub is : f ≡ fault 21 flag.name.span
-
--- a tuple has no type
-pub record IsEmptyTuple (types : List Written) (span : Span) (f : Fault) : Type 0 where
-  pub none : types ≡ []
-  pub is : f ≡ fault 22 span
-
--- a variant has no case
-pub record IsEmptyVariant (cases : List Case) (span : Span) (f : Fault) : Type 0 where
-  pub none : cases ≡ []
-  pub is : f ≡ fault 23 span
-
--- an enum has no case
-pub record IsEmptyEnum (cases : List EnumCase) (span : Span) (f : Fault) : Type 0 where
-  pub none : cases ≡ []
-  pub is : f ≡ fault 24 span
+abbrev pub IsFlagTooMany : List Flag → Fault → Type 0
+IsFlagTooMany flags f = option_map (λ (flag : Flag). fault 21 flag.name.span) (slice_get flags 32) ≡ Some f
 
 -- an earlier one of the names of fields, flags or cases is the same once case is folded
-pub record IsDuplicateName (names : List Id) (f : Fault) : Type 0 where
-  pub later : Id
-  pub repeated : IsRepeated (λ id. folded id.name.now) names later
-  pub is : f ≡ fault 25 later.span
+abbrev pub IsDuplicateName : List Id → Fault → Type 0
+IsDuplicateName names f = IsSecond (λ (id : Id). folded id.name.now) (λ (id : Id). fault 25 id.span) names f
 
 -- the keys of a map can be of the type, as it is written
 abbrev pub IsKey : Written → Type 0
@@ -87,7 +70,7 @@ pub record IsInvalidKey (key : Written) (span : Span) (f : Fault) : Type 0 where
 
 -- what is wrong with a written type apart from its parts
 abbrev pub IsBrokenForm : Written → Fault → Type 0
-IsBrokenForm (written.Tuple' span shape ts) f = IsEmptyTuple (row_types ts) span f
+IsBrokenForm (written.Tuple' span shape ts) f = IsEmpty 22 (row_types ts) span f
 IsBrokenForm (written.Map' span p key q value) f = IsInvalidKey key span f
 IsBrokenForm t f = ⊥
 
@@ -109,33 +92,17 @@ pub record IsBrokenPart (types : List Written) (f : Fault) : Type 0 where
   pub among : Contains types t
   pub broken : IsBrokenType t f
 
--- what is wrong with the fields of a record
-pub data IsBrokenRecord (fields : List Field) (span : Span) (f : Fault) : Type 0 where
-  EmptyRecord : IsEmptyRecord fields span f → IsBrokenRecord fields span f
-  DuplicateField : IsDuplicateName (map (λ x. x.name) fields) f → IsBrokenRecord fields span f
-
--- what is wrong with flags
-pub data IsBrokenFlags (flags : List Flag) (span : Span) (f : Fault) : Type 0 where
-  EmptyFlags : IsEmptyFlags flags span f → IsBrokenFlags flags span f
-  FlagTooMany : IsFlagTooMany flags f → IsBrokenFlags flags span f
-  DuplicateFlag : IsDuplicateName (map (λ x. x.name) flags) f → IsBrokenFlags flags span f
-
--- what is wrong with the cases of a variant
-pub data IsBrokenVariant (cases : List Case) (span : Span) (f : Fault) : Type 0 where
-  EmptyVariant : IsEmptyVariant cases span f → IsBrokenVariant cases span f
-  DuplicateCase : IsDuplicateName (map (λ x. x.name) cases) f → IsBrokenVariant cases span f
-
--- what is wrong with the cases of an enum
-pub data IsBrokenEnum (cases : List EnumCase) (span : Span) (f : Fault) : Type 0 where
-  EmptyEnum : IsEmptyEnum cases span f → IsBrokenEnum cases span f
-  DuplicateEnumCase : IsDuplicateName (map (λ x. x.name) cases) f → IsBrokenEnum cases span f
+-- what is wrong with fields, flags or cases: there is none, and the fault of this number tells of it, or a name repeats
+pub data AreBroken {X : Type 0} (number : ℕ) (name : X → Id) (xs : List X) (span : Span) (f : Fault) : Type 0 where
+  Empty : IsEmpty number xs span f → AreBroken number name xs span f
+  Repeating : IsDuplicateName (map name xs) f → AreBroken number name xs span f
 
 -- what is wrong with the fields, flags or cases of a body
 abbrev pub IsBrokenList : TypeBody → Fault → Type 0
-IsBrokenList (Record span fields) f = IsBrokenRecord fields.items span f
-IsBrokenList (Flags span flags) f = IsBrokenFlags flags.items span f
-IsBrokenList (Variant span cases) f = IsBrokenVariant cases.items span f
-IsBrokenList (Enum span cases) f = IsBrokenEnum cases.items span f
+IsBrokenList (Record span fields) f = AreBroken 19 (λ (x : Field). x.name) fields.items span f
+IsBrokenList (Flags span flags) f = AreBroken 20 (λ (x : Flag). x.name) flags.items span f ⊎ IsFlagTooMany flags.items f
+IsBrokenList (Variant span cases) f = AreBroken 23 (λ (x : Case). x.name) cases.items span f
+IsBrokenList (Enum span cases) f = AreBroken 24 (λ (x : EnumCase). x.name) cases.items span f
 IsBrokenList _ f = ⊥
 
 -- what is wrong with the body of a definition: its list, or a type that is written in it

@@ -20,14 +20,14 @@ use Rattle.wit_tree.specs.declared.tree.PackageName.{PackageName as Header}
 use Rattle.wit_tree.specs.declared.tree.PackageFile.{PackageFile}
 use Rattle.wit_graph.specs.Table.{Row, IsEdge, IsMissing, IsCyclic}
 use Rattle.wit_syntax.specs.Notes.{IsBrokenStability, IsBrokenNotes}
-use Rattle.wit_syntax.specs.Bodies.{IsRepeated, IsBrokenBody}
+use Rattle.wit_syntax.specs.Bodies.{IsSecond, IsBrokenBody}
 use Rattle.wit_syntax.specs.Fault.{Fault, fault_of, fault, missing_at, missing_type_at, cyclic_at, item_word, type_word, name_word}
 use Rattle.wit_syntax.specs.Address.{Address, ForeignNamed}
 use Rattle.wit_syntax.specs.Source.{path_id, Target, Local, Foreign, path_target, leads, TopName, top_names, top_text, Item, item_id, item_name, declared_attributes, is_world, all_items, item_named, item_at, ScopeName, Used, Defined, local_id, local_name, scope_names, meaning, address}
 use Rattle.wit_syntax.specs.Foreign.{ForeignVisit, foreign_visits, is_foreign_world, foreign_at}
 use Rattle.wit_syntax.specs.Function.{SourceFunction, functions, free_names, item_types}
 use Rattle.wit_syntax.specs.Sides.{on_side, all_scopes, IsBrokenSides}
-use Rattle.wit_syntax.specs.Signature.{IsBrokenFunction, IsUnpairedSetter}
+use Rattle.wit_syntax.specs.Signature.{IsNoType, IsBrokenFunction, IsUnpairedSetter}
 use Rattle.wit_syntax.specs.Ends.{IsNoResource}
 use Rattle.wit_syntax.specs.Scope.{use_paths, include_paths, uses, includes, item_rows, rows_of, used, defined}
 
@@ -35,22 +35,6 @@ use Rattle.wit_syntax.specs.Scope.{use_paths, include_paths, uses, includes, ite
 pub record IsHeaderless (files : List PackageFile) (f : Fault) : Type 0 where
   pub none : (i : ℕ) (file : PackageFile) → slice_get files i ≡ Some file → file.package_id ≡ None
   pub is : f ≡ fault 4 (record { start = 0; end = 0 })
-
--- an earlier one of these items has the name
-pub record IsRepeatedItem (is : List Item) (f : Fault) : Type 0 where
-  pub later : Item
-  pub repeated : IsRepeated item_name is later
-  pub says : f ≡ fault 5 (item_id later).span
-
--- an earlier item of the package has the name
-abbrev pub IsDuplicateItem : List PackageFile → Fault → Type 0
-IsDuplicateItem files f = IsRepeatedItem (all_items files) f
-
--- an earlier name at the top of a file is the same
-pub record IsDuplicateTopName (top : List TopName) (f : Fault) : Type 0 where
-  pub later : TopName
-  pub repeated : IsRepeated top_text top later
-  pub is : f ≡ fault 6 later.id.span
 
 -- the path of a `use` at the top of a file is the name of none of these items
 pub record IsMissingOriginal (items : List Item) (declarations : List AstItem) (f : Fault) : Type 0 where
@@ -125,14 +109,6 @@ pub record IsCyclicEdge (number : ℕ) (sort : List ℕ) (rs : List Row) (f : Fa
   pub cyclic : IsCyclic rs place id
   pub is : f ≡ cyclic_at number sort id
 
--- a path of an item leads to no item that could come before it
-abbrev pub IsMissingItem : List PackageFile → Fault → Type 0
-IsMissingItem files f = IsMissingEdge (missing_at 7 item_word) (item_rows files) f
-
--- items need one another in a cycle
-abbrev pub IsCyclicItem : List PackageFile → Fault → Type 0
-IsCyclicItem files f = IsCyclicEdge 8 item_word (item_rows files) f
-
 -- whether what stands where a path leads is a world, if something stands there
 abbrev pub is_world_at : List PackageFile → Target → Option Bool
 is_world_at files (Local id) = option_map is_world (item_named (all_items files) id.name.now)
@@ -161,7 +137,7 @@ pub record IsInterfaceIncluded (files : List PackageFile) (i : Item) (f : Fault)
   pub other : is_world_at files (leads i.top path) ≡ Some false
   pub is : f ≡ fault 11 (path_id path).span
 
--- a used name is none of the interface that it comes from, nor of a function there
+-- a used name is none of the interface that it comes from
 pub record IsMissingName (files : List PackageFile) (xs : List ScopeName) (f : Fault) : Type 0 where
   pub from : Address
   pub attributes : List Attribute
@@ -170,50 +146,23 @@ pub record IsMissingName (files : List PackageFile) (xs : List ScopeName) (f : F
   pub target : Item
   pub declared : item_at (all_items files) from ≡ Some target
   pub missing : meaning (scope_names target) n.name.name.now ≡ None
-  pub other : Contains (free_names target) n.name.name.now → ⊥
-  pub is : f ≡ missing_at 12 name_word n.name
-
--- it is that of a function
-pub record IsFunctionUsed (files : List PackageFile) (xs : List ScopeName) (f : Fault) : Type 0 where
-  pub from : Address
-  pub attributes : List Attribute
-  pub n : UseName
-  pub among : Contains xs (Used from attributes n)
-  pub target : Item
-  pub declared : item_at (all_items files) from ≡ Some target
-  pub missing : meaning (scope_names target) n.name.name.now ≡ None
-  pub function : Contains (free_names target) n.name.name.now
-  pub is : f ≡ fault 13 n.name.span
-
--- an earlier name of the scope is the same, where the used ones come before the definitions
-pub record IsDefinedTwice (xs : List ScopeName) (f : Fault) : Type 0 where
-  pub later : ScopeName
-  pub repeated : IsRepeated local_name (used xs ++ defined xs) later
-  pub is : f ≡ fault 14 (local_id later).span
-
--- a name written in a definition's body is none of the scope
-abbrev pub IsMissingType : List ScopeName → Fault → Type 0
-IsMissingType xs f = IsMissingEdge missing_type_at (rows_of xs) f
-
--- definitions name one another in a cycle
-abbrev pub IsCyclicType : List ScopeName → Fault → Type 0
-IsCyclicType xs f = IsCyclicEdge 16 type_word (rows_of xs) f
+  pub told : IsNoType (Contains (free_names target) n.name.name.now) (fault 13 n.name.span) (missing_at 12 name_word n.name) f
 
 -- what is wrong with a scope by itself, where it has these functions
 pub data IsBrokenScope (xs : List ScopeName) (fns : List SourceFunction) (f : Fault) : Type 0 where
-  DefinedTwice : IsDefinedTwice xs f → IsBrokenScope xs fns f
-  MissingType : IsMissingType xs f → IsBrokenScope xs fns f
-  CyclicType : IsCyclicType xs f → IsBrokenScope xs fns f
+  DefinedTwice : IsSecond local_name (λ (x : ScopeName). fault 14 (local_id x).span) (used xs ++ defined xs) f → IsBrokenScope xs fns f
+  MissingType : IsMissingEdge missing_type_at (rows_of xs) f → IsBrokenScope xs fns f
+  CyclicType : IsCyclicEdge 16 type_word (rows_of xs) f → IsBrokenScope xs fns f
   Notes : (d : TypeDef) → Contains xs (Defined d) → IsBrokenNotes d.attributes.items f → IsBrokenScope xs fns f
   Body : (d : TypeDef) → Contains xs (Defined d) → IsBrokenBody d.body f → IsBrokenScope xs fns f
   Function : (k : ℕ) (fn : SourceFunction) → slice_get fns k ≡ Some fn → IsBrokenFunction xs fns k fn f → IsBrokenScope xs fns f
 
 -- what is wrong with the names of the items that files declare, with those at the top of each, and with what paths of items lead to
 pub data IsBrokenItems (files : List PackageFile) (f : Fault) : Type 0 where
-  DuplicateItem : IsDuplicateItem files f → IsBrokenItems files f
-  DuplicateTopName : (file : PackageFile) → Contains files file → IsDuplicateTopName (top_names file) f → IsBrokenItems files f
-  MissingItem : IsMissingItem files f → IsBrokenItems files f
-  CyclicItem : IsCyclicItem files f → IsBrokenItems files f
+  DuplicateItem : IsSecond item_name (λ (i : Item). fault 5 (item_id i).span) (all_items files) f → IsBrokenItems files f
+  DuplicateTopName : (file : PackageFile) → Contains files file → IsSecond top_text (λ (n : TopName). fault 6 n.id.span) (top_names file) f → IsBrokenItems files f
+  MissingItem : IsMissingEdge (missing_at 7 item_word) (item_rows files) f → IsBrokenItems files f
+  CyclicItem : IsCyclicEdge 8 item_word (item_rows files) f → IsBrokenItems files f
 
 -- a `use` at the top of a file has attributes
 pub record IsAttributedTopUse (declarations : List AstItem) (f : Fault) : Type 0 where
@@ -254,7 +203,6 @@ pub data IsBroken (files : List PackageFile) (f : Fault) : Type 0 where
   Use : (i : Item) → Contains (all_items files) i → IsBrokenUse files i f → IsBroken files f
   InterfaceIncluded : (i : Item) → Contains (all_items files) i → IsInterfaceIncluded files i f → IsBroken files f
   MissingName : (i : Item) → Contains (all_scopes files) i → IsMissingName files (scope_names i) f → IsBroken files f
-  FunctionUsed : (i : Item) → Contains (all_scopes files) i → IsFunctionUsed files (scope_names i) f → IsBroken files f
   Scope : (i : Item) → Contains (all_scopes files) i → IsBrokenScope (scope_names i) (functions i) f → IsBroken files f
   Sides : (i : Item) → Contains (all_scopes files) i → IsBrokenSides i f → IsBroken files f
   Handle : (i : Item) → Contains (all_scopes files) i → IsHandleBroken files i f → IsBroken files f

@@ -1,5 +1,5 @@
 -- Notes: what the docs and the attributes in front of a thing tell of it, and what breaks the rules of attributes.
-use Rattle.std.specs.Prelude.{◌≡◌, ℕ, ◌<◌, ◌⊎◌, List, [], ◌∷◌, Option, Some, None, map}
+use Rattle.std.specs.Prelude.{◌≡◌, ◌≢◌, ℕ, ◌⊎◌, true, List, [], ◌∷◌, take, Option, Some, None, map, slice_get}
 use Rattle.std.specs.Option.{option_map}
 use Rattle.semver.specs.declared.Version.{Version}
 use Rattle.wit_values.specs.declared.release.Release.{Release}
@@ -7,7 +7,7 @@ use Rattle.wit_type_tree.specs.declared.leaves.Docs.{Docs as Comments}
 use Rattle.wit_type_tree.specs.declared.leaves.Attribute.{Attribute}
 use Rattle.wit_type_tree.specs.declared.attribute_kind.AttributeKind.{AttributeKind}
 use Rattle.wit_type_tree.specs.declared.attribute_kind.AttributeKind.TheVariants.{Since, Unstable, Deprecated, ExternalId}
-use Rattle.wit_type_tree.specs.Attributes.{attribute_span, told_text, told_version, StandsAt}
+use Rattle.wit_type_tree.specs.Attributes.{attribute_span, is_of, first_of, told_text, told_version}
 use Rattle.wit_types.specs.declared.docs.Docs.{Docs}
 use Rattle.wit_types.specs.declared.stability.Stability.{Stability}
 use Rattle.wit_types.specs.declared.stability.Stability.TheVariants as stability
@@ -75,58 +75,36 @@ first_known (stability.Stable since deprecated ∷ xs) = stability.Stable since 
 
 -- an attribute stands behind another one of its kind
 pub record IsTwice (number : ℕ) (kind : AttributeKind) (xs : List Attribute) (f : Fault) : Type 0 where
-  pub first : ℕ
-  pub second : ℕ
-  pub before : first < second
-  pub earlier : Attribute
+  pub place : ℕ
   pub later : Attribute
-  pub at_first : StandsAt kind xs first earlier
-  pub at_second : StandsAt kind xs second later
+  pub at : slice_get xs place ≡ Some later
+  pub of : is_of kind later ≡ true
+  pub behind : first_of kind (take place xs) ≢ None
   pub is : f ≡ fault number (attribute_span later)
-
--- `@since` stands behind `@since`
-abbrev pub IsSinceTwice : List Attribute → Fault → Type 0
-IsSinceTwice xs f = IsTwice 30 Since xs f
-
--- `@deprecated` stands behind `@deprecated`
-abbrev pub IsDeprecatedTwice : List Attribute → Fault → Type 0
-IsDeprecatedTwice xs f = IsTwice 31 Deprecated xs f
-
--- `@unstable` stands behind `@unstable`
-abbrev pub IsUnstableTwice : List Attribute → Fault → Type 0
-IsUnstableTwice xs f = IsTwice 32 Unstable xs f
-
--- an external id stands behind another one
-abbrev pub IsExternalIdTwice : List Attribute → Fault → Type 0
-IsExternalIdTwice xs f = IsTwice 35 ExternalId xs f
 
 -- `@since` and `@unstable` stand together
 pub record IsSinceAndUnstable (xs : List Attribute) (f : Fault) : Type 0 where
-  pub since_place : ℕ
   pub since : Attribute
-  pub at_since : StandsAt Since xs since_place since
-  pub unstable_place : ℕ
-  pub unstable : Attribute
-  pub at_unstable : StandsAt Unstable xs unstable_place unstable
+  pub first : first_of Since xs ≡ Some since
+  pub unstable : first_of Unstable xs ≢ None
   pub is : f ≡ fault 33 (attribute_span since)
 
 -- `@deprecated` stands without `@since` and without `@unstable`
 pub record IsDeprecatedAlone (xs : List Attribute) (f : Fault) : Type 0 where
-  pub place : ℕ
   pub deprecated : Attribute
-  pub at : StandsAt Deprecated xs place deprecated
-  pub no_since : (i : ℕ) (a : Attribute) → StandsAt Since xs i a → ⊥
-  pub no_unstable : (i : ℕ) (a : Attribute) → StandsAt Unstable xs i a → ⊥
+  pub first : first_of Deprecated xs ≡ Some deprecated
+  pub no_since : first_of Since xs ≡ None
+  pub no_unstable : first_of Unstable xs ≡ None
   pub is : f ≡ fault 34 (attribute_span deprecated)
 
 -- what is wrong with attributes that tell a stability
 pub data IsBrokenStability (xs : List Attribute) (f : Fault) : Type 0 where
-  SinceTwice : IsSinceTwice xs f → IsBrokenStability xs f
-  DeprecatedTwice : IsDeprecatedTwice xs f → IsBrokenStability xs f
-  UnstableTwice : IsUnstableTwice xs f → IsBrokenStability xs f
+  SinceTwice : IsTwice 30 Since xs f → IsBrokenStability xs f
+  DeprecatedTwice : IsTwice 31 Deprecated xs f → IsBrokenStability xs f
+  UnstableTwice : IsTwice 32 Unstable xs f → IsBrokenStability xs f
   SinceAndUnstable : IsSinceAndUnstable xs f → IsBrokenStability xs f
   DeprecatedAlone : IsDeprecatedAlone xs f → IsBrokenStability xs f
 
 -- what is wrong with attributes that tell a stability and an external id
 abbrev pub IsBrokenNotes : List Attribute → Fault → Type 0
-IsBrokenNotes xs f = IsBrokenStability xs f ⊎ IsExternalIdTwice xs f
+IsBrokenNotes xs f = IsBrokenStability xs f ⊎ IsTwice 35 ExternalId xs f

@@ -19,7 +19,7 @@ use Rattle.wit_syntax.specs.Address.{Address}
 use Rattle.wit_syntax.specs.Crossing.{same_side}
 use Rattle.wit_syntax.specs.Fault.{Fault, fault}
 use Rattle.wit_syntax.specs.Notes.{IsBrokenNotes}
-use Rattle.wit_syntax.specs.Bodies.{IsRepeated}
+use Rattle.wit_syntax.specs.Bodies.{IsSecond}
 use Rattle.wit_syntax.specs.Source.{TopName, path_id, path_scope, TheInline, Part, Defining, Using, Including, Doing, Crossing, Item, item_name, parts, all_items, ScopeName, scope_names}
 use Rattle.wit_syntax.specs.Scope.{rows_of, in_turn}
 use Rattle.wit_syntax.specs.Function.{Role, Freestanding, Method, Static, Constructor, OnSide, SourceFunction, definition_functions, free_function, side_function}
@@ -162,9 +162,7 @@ pub record IsFoldedTwice (xs : List ScopeName) (items : List SideItem) (f : Faul
   pub side : WorldSide
   pub order : List ℕ
   pub least : IsOrder (rows_of xs) order
-  pub later : Called
-  pub repeated : IsRepeated called_key (side_called side xs items order) later
-  pub is : f ≡ fault 17 later.span
+  pub twice : IsSecond called_key (λ (c : Called). fault 17 c.span) (side_called side xs items order) f
 
 -- what a world imports or exports under a name
 abbrev pub IsCrossing : SideItem → Type 0

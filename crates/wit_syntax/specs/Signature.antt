@@ -17,7 +17,7 @@ use Rattle.wit_syntax.specs.Shape.{Word, shape_of, words}
 use Rattle.wit_syntax.specs.Source.{ScopeName, Defined, local_id, local_name, meaning}
 use Rattle.wit_syntax.specs.Function.{Role, Freestanding, Method, Static, Constructor, OnSide, SourceParam, SourceFunction, all_params, written_types, signature}
 use Rattle.wit_syntax.specs.Notes.{IsBrokenNotes}
-use Rattle.wit_syntax.specs.Bodies.{folded, IsRepeated, IsBrokenPart}
+use Rattle.wit_syntax.specs.Bodies.{folded, IsSecond, IsBrokenPart}
 
 -- a name of a scope, and where it stands: no two of them may clash
 pub record Called : Type 0 where
@@ -108,21 +108,17 @@ pub record IsEntered (fs : List SourceFunction) (k : ℕ) (name : List ℕ) : Ty
   pub role : entered.role ≡ Freestanding id form
   pub same : id.name.now ≡ name
 
--- a name in a signature is that of a function
-pub record IsFunctionAsType (xs : List ScopeName) (fs : List SourceFunction) (k : ℕ) (fn : SourceFunction) (f : Fault) : Type 0 where
-  pub id : Id
-  pub among : Contains (flat_map words (signature fn)) id
-  pub missing : meaning xs id.name.now ≡ None
-  pub entered : IsEntered fs k id.name.now
-  pub is : f ≡ fault 28 id.span
+-- a name that stands for no type is that of a function, or of nothing: a fault tells of the one, another of the other
+pub data IsNoType (IsFunction : Type 0) (of_function of_nothing f : Fault) : Type 0 where
+  OfFunction : IsFunction → f ≡ of_function → IsNoType IsFunction of_function of_nothing f
+  OfNothing : (IsFunction → ⊥) → f ≡ of_nothing → IsNoType IsFunction of_function of_nothing f
 
--- it is no name of the scope
+-- a name in a signature is none of the scope
 pub record IsMissingInSignature (xs : List ScopeName) (fs : List SourceFunction) (k : ℕ) (fn : SourceFunction) (f : Fault) : Type 0 where
   pub id : Id
   pub among : Contains (flat_map words (signature fn)) id
   pub missing : meaning xs id.name.now ≡ None
-  pub other : IsEntered fs k id.name.now → ⊥
-  pub is : f ≡ missing_at 29 name_word id
+  pub told : IsNoType (IsEntered fs k id.name.now) (fault 28 id.span) (missing_at 29 name_word id) f
 
 -- a getter has a parameter
 pub record IsGetterGiven (fn : SourceFunction) (f : Fault) : Type 0 where
@@ -144,10 +140,8 @@ abbrev pub param_key : SourceParam → List ℕ
 param_key p = folded p.name
 
 -- an earlier parameter has the name once case is folded
-pub record IsDuplicateParam (fn : SourceFunction) (f : Fault) : Type 0 where
-  pub later : SourceParam
-  pub repeated : IsRepeated param_key (all_params fn) later
-  pub is : f ≡ fault 38 later.span
+abbrev pub IsDuplicateParam : SourceFunction → Fault → Type 0
+IsDuplicateParam fn f = IsSecond param_key (λ (p : SourceParam). fault 38 p.span) (all_params fn) f
 
 -- a getter gives nothing
 pub record IsGetterWithoutResult (fn : SourceFunction) (f : Fault) : Type 0 where
@@ -192,7 +186,6 @@ pub record IsConstructorOfOther (xs : List ScopeName) (fn : SourceFunction) (f :
 pub data IsBrokenFunction (xs : List ScopeName) (fs : List SourceFunction) (k : ℕ) (fn : SourceFunction) (f : Fault) : Type 0 where
   BrokenNotes : IsBrokenNotes fn.attributes f → IsBrokenFunction xs fs k fn f
   BrokenTypes : IsBrokenPart (written_types fn) f → IsBrokenFunction xs fs k fn f
-  FunctionAsType : IsFunctionAsType xs fs k fn f → IsBrokenFunction xs fs k fn f
   MissingInSignature : IsMissingInSignature xs fs k fn f → IsBrokenFunction xs fs k fn f
   GetterGiven : IsGetterGiven fn f → IsBrokenFunction xs fs k fn f
   SetterGiven : IsSetterGiven fn f → IsBrokenFunction xs fs k fn f

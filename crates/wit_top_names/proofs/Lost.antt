@@ -14,10 +14,11 @@ use Rattle.wit_type_tree.specs.declared.leaves.Id.{Id}
 use Rattle.wit_tree.specs.declared.tree.UsePath.{UsePath}
 use Rattle.wit_tree.specs.declared.tree.PackageFile.{PackageFile}
 use Rattle.wit_graph.specs.Table.{place_of}
-use Rattle.wit_syntax.specs.Source.{TopName, Target, path_target, leads, declared_items, top_names, top_text, Item, file_items, all_items, item_name, item_named}
+use Rattle.wit_syntax.specs.Source.{TopName, Target, path_target, leads, declared_items, top_names, top_text, Item, file_items, all_items, item_id, item_name, item_named}
 use Rattle.wit_syntax.specs.Scope.{local_target, item_row}
 use Rattle.wit_syntax.specs.Fault.{Fault, fault}
-use Rattle.wit_syntax.specs.Broken.{IsRepeatedItem, IsDuplicateTopName, IsMissingOriginal, IsBrokenItems, DuplicateTopName, MissingItem}
+use Rattle.wit_syntax.specs.Bodies.{IsSecond}
+use Rattle.wit_syntax.specs.Broken.{IsMissingOriginal, IsBrokenItems, DuplicateTopName, MissingItem}
 use Rattle.wit_syntax.specs.Repeats.{AllDiffer}
 use Rattle.wit_syntax.proofs.Lists.{at_front, at_back, at_either, map_at}
 use Rattle.wit_syntax.proofs.Names.{name_itself}
@@ -97,11 +98,8 @@ uses_right_more is ds d uses one = record {
   ];
 }
 
-pub duplicate_top : (top : List TopName) (f : Fault) → IsRepeatedName 6 top f → IsDuplicateTopName top f
-duplicate_top top f h = record { later = h.later; repeated = h.repeated; is = h.is }
-
 -- an item whose name stands twice
-pub duplicate_item : (is : List Item) (f : Fault) → IsRepeatedName 5 (map item_top is) f → IsRepeatedItem is f
+pub duplicate_item : (is : List Item) (f : Fault) → IsRepeatedName 5 (map item_top is) f → IsSecond item_name (λ (i : Item). fault 5 (item_id i).span) is f
 duplicate_item is f h =
     let r = h.repeated in
     let a = map_at item_top is r.first r.earlier r.at_first in
@@ -109,7 +107,7 @@ duplicate_item is f h =
     record {
       later = b.0;
       repeated = record { first = r.first; second = r.second; earlier = a.0; before = r.before; at_first = a.1; at_second = b.1; same = ap top_text a.2 ∙ r.same ∙ sym (ap top_text b.2) };
-      says = h.is ∙ ap (λ (t : TopName). fault 5 t.id.span) (sym b.2);
+      is = h.is ∙ ap (λ (t : TopName). fault 5 t.id.span) (sym b.2);
     }
 
 missing_original : (is : List Item) (ds : List AstItem) (i : ℕ) (u : ToplevelUse) (f : Fault) → slice_get ds i ≡ Some (ToplevelItem u) → IsLostTarget is (path_target u.item) f → IsMissingOriginal is ds f

@@ -10,17 +10,15 @@ use Rattle.wit_tree.specs.declared.tree.PackageFile.{PackageFile}
 use Rattle.wit_syntax.specs.Source.{TopName, Target, Local, path_target, leads, top_names, top_text, Item, parts, file_items, item_named}
 use Rattle.wit_syntax.specs.Scope.{needed_path, local_target}
 use Rattle.wit_syntax.specs.Fault.{Fault, fault, missing_at, item_word}
-use Rattle.wit_syntax.specs.Bodies.{IsRepeated}
-use Rattle.wit_syntax.specs.Broken.{IsDuplicateTopName, IsMissingOriginal, IsAttributedTopUse}
+use Rattle.wit_syntax.specs.Bodies.{IsSecond}
+use Rattle.wit_syntax.specs.Broken.{IsMissingOriginal, IsAttributedTopUse}
 use Rattle.wit_syntax.specs.Foreign.{ForeignVisit}
 use Rattle.wit_syntax.specs.Notes.{IsBrokenStability}
 use Rattle.wit_syntax.specs.Repeats.{AllDiffer}
 
 -- an earlier one of these names at the top of a file is the same
-pub record IsRepeatedName (number : ℕ) (top : List TopName) (f : Fault) : Type 0 where
-  pub later : TopName
-  pub repeated : IsRepeated top_text top later
-  pub is : f ≡ fault number later.id.span
+abbrev pub IsRepeatedName : ℕ → List TopName → Fault → Type 0
+IsRepeatedName number top f = IsSecond top_text (λ (n : TopName). fault number n.id.span) top f
 
 -- a name is that of no item, where it is written
 pub record IsUndeclared (items : List Item) (id : Id) (f : Fault) : Type 0 where
@@ -49,7 +47,7 @@ needed_paths w = flat_map (needed_path w.declared) (parts w)
 
 -- what is wrong with a file by itself: a name at its top stands twice, or a path of one of its items is lost
 pub data IsWrongFile (is : List Item) (file : PackageFile) (f : Fault) : Type 0 where
-  WrongTop : IsDuplicateTopName (top_names file) f → IsWrongFile is file f
+  WrongTop : IsRepeatedName 6 (top_names file) f → IsWrongFile is file f
   WrongPath : (w : Item) → Contains (file_items file) w → IsLostAmong is w.top (needed_paths w) f → IsWrongFile is file f
 
 -- the names at the top of each file differ

@@ -2,7 +2,7 @@
 ghost use Rattle.std.specs.Prelude.{◌≡◌, ◌++◌, List, IsSome, map, IfOk, IfErr, OnOk};
 ghost use Rattle.wit_syntax.specs.Source.{TopName as Top, Item, itself as the_itself, top_name as the_name, top_names as the_names, top_text, path_target as the_target, leads as the_leads, file_items, all_items, item_name, item_named};
 ghost use Rattle.wit_syntax.specs.Scope.{local_target};
-ghost use Rattle.wit_syntax.specs.Broken.{IsDuplicateTopName, IsBrokenItems, Refused};
+ghost use Rattle.wit_syntax.specs.Broken.{IsBrokenItems, Refused};
 ghost use Rattle.wit_syntax.specs.Repeats.{AllDiffer};
 ghost use Rattle.wit_top_names.specs.Tops.{target_behind, top_behind, item_top, AreNamed, AreDeclared};
 ghost use Rattle.wit_top_names.specs.Checks.{AreRightUses, IsDeclaredTarget, IsRepeatedName, IsRightUse, IsUndeclared, IsLostTarget, IsWrongTop, IsWrongUse};
@@ -159,7 +159,7 @@ pub fn file_names<'f, 'a>(
 ) -> ParseResult<Table<&'a str, Target<'f, 'a>>>
     ensures named { IfOk result (AreNamed (the_names file.now)) }
     ensures distinct { OnOk result (AllDiffer (map top_text (the_names file.now))) }
-    ensures refused { IfErr result (Refused (IsDuplicateTopName (the_names file.now))) }
+    ensures refused { IfErr result (Refused (IsRepeatedName 6 (the_names file.now))) }
 {
     let names = top_names(alloc, &file.decl_list.items)?;
     Ok(unique_names(alloc, 6, "duplicate name ", " in this file", &names)?)

@@ -7,7 +7,7 @@ use Rattle.wit_type_tree.specs.declared.types.«Type».TheVariants as written
 use Rattle.wit_type_tree.specs.Parts.{boxed_types}
 use Rattle.wit_type_tree.proofs.Rows.{tuple_types, types_of_held, result_types}
 use Rattle.wit_syntax.specs.Fault.{Fault}
-use Rattle.wit_syntax.specs.Bodies.{IsInvalidKey, IsEmptyTuple, IsBrokenType}
+use Rattle.wit_syntax.specs.Bodies.{IsInvalidKey, IsEmpty, IsBrokenType}
 use Rattle.wit_arena.specs.Resolving.{env_of, IsWrongType, AreWrongTypes}
 use Rattle.wit_syntax.specs.Shape.{shape_of, handles}
 use Rattle.wit_syntax.proofs.Refusing.{refused_weaker}
@@ -73,7 +73,7 @@ read_form-returns-in_err-err-in-Result-clause-refused t c =
 pub read_form-returns-in_err-check_tuple-in-Tuple-clause-refused : goal.read_form-returns-in_err-check_tuple-in-Tuple-clause-refused
 read_form-returns-in_err-check_tuple-in-Tuple-clause-refused t c =
     let p = err_from_is_err_and c.from_residual-in_err-check_tuple-in-Tuple.result c.from_residual-in_err-check_tuple-in-Tuple.ensures.1 in
-    rw (c.in-Tuple.is, p.1, p.2) (refused_form (env_of c.args.names.now) _ (written.Tuple c.in-Tuple.span c.in-Tuple.parts) (IsEmptyTuple c.deref-in-Tuple.result.now c.in-Tuple.span) _ (λ f own. subst (λ ts. IsEmptyTuple ts c.in-Tuple.span f) (c.deref-in-Tuple.ensures.value ∙ sym (tuple_types c.in-Tuple.span c.in-Tuple.parts)) own) c.in_err-check_tuple-in-Tuple.ensures.refused)
+    rw (c.in-Tuple.is, p.1, p.2) (refused_form (env_of c.args.names.now) _ (written.Tuple c.in-Tuple.span c.in-Tuple.parts) (IsEmpty 22 c.deref-in-Tuple.result.now c.in-Tuple.span) _ (λ f own. subst (λ ts. IsEmpty 22 ts c.in-Tuple.span f) (c.deref-in-Tuple.ensures.value ∙ sym (tuple_types c.in-Tuple.span c.in-Tuple.parts)) own) c.in_err-check_tuple-in-Tuple.ensures.refused)
 
 pub read_form-returns-in_err-types-in-Tuple-clause-refused : goal.read_form-returns-in_err-types-in-Tuple-clause-refused
 read_form-returns-in_err-types-in-Tuple-clause-refused t c =
@@ -120,7 +120,7 @@ read_form-returns-in_ok-types-in-Tuple-clause-read t c = rw c.in-Tuple.is (tuple
 
 pub read_form-returns-in_ok-types-in-Tuple-clause-legal : goal.read_form-returns-in_ok-types-in-Tuple-clause-legal
 read_form-returns-in_ok-types-in-Tuple-clause-legal t c = rw c.in-Tuple.is (legal_parts (written.Tuple c.in-Tuple.span c.in-Tuple.parts) c.deref-in-Tuple-2.result.now
-    (λ f own. c.in_ok-check_tuple-in-Tuple.ensures.legal f (subst (λ ts. IsEmptyTuple ts c.in-Tuple.span f) (tuple_types c.in-Tuple.span c.in-Tuple.parts ∙ sym c.deref-in-Tuple.ensures.value) own))
+    (λ f own. c.in_ok-check_tuple-in-Tuple.ensures.legal f (subst (λ ts. IsEmpty 22 ts c.in-Tuple.span f) (tuple_types c.in-Tuple.span c.in-Tuple.parts ∙ sym c.deref-in-Tuple.ensures.value) own))
     (tuple_types c.in-Tuple.span c.in-Tuple.parts ∙ sym c.deref-in-Tuple-2.ensures.value) c.in_ok-types-in-Tuple.ensures.legal)
 
 pub read_form-returns-in_ok-value-in-Future-clause-read : goal.read_form-returns-in_ok-value-in-Future-clause-read

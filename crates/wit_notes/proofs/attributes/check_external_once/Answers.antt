@@ -6,7 +6,7 @@ use Rattle.std.proofs.lemmas.Result.{err_from_is_err_and}
 use Rattle.wit_syntax.proofs.Refusing.{refused_weaker}
 use Rattle.wit_type_tree.specs.declared.attribute_kind.AttributeKind.TheVariants.{ExternalId}
 use Rattle.wit_type_tree.specs.Attributes.{is_of, first_of}
-use Rattle.wit_syntax.specs.Notes.{IsExternalIdTwice}
+use Rattle.wit_syntax.specs.Notes.{IsTwice}
 use Rattle.wit_notes.specs.Kinds.{IsRepeat, IsOnce}
 use Rattle.wit_notes.proofs.Telling.{external-repeat, external_kind, once-more, no_twice}
 use Rattle.wit_notes.proofs.attributes.check_external_once.Goals.{then-is_of+in_ok-check_new, else-is_of}
@@ -21,7 +21,7 @@ returns-in_err-check_new-clause-refused c =
     let within : i < length xs = omega arith in
     let at : slice_get xs i ≡ Some a = slice_get-get_or xs i a within ∙ ap Some (sym c.index-attributes-place.is) in
     let own : is_of ExternalId a ≡ true = search rules in
-    rw (p.1, p.2) (refused_weaker (IsRepeat (take i xs) a) (IsExternalIdTwice xs) _ (λ f h. external-repeat xs i a f at own h) c.in_err-check_new.ensures.refused)
+    rw (p.1, p.2) (refused_weaker (IsRepeat (take i xs) a) (IsTwice 35 ExternalId xs) _ (λ f h. external-repeat xs i a f at own h) c.in_err-check_new.ensures.refused)
 
 pub loop-place-preserved : goal.loop-place-preserved
 loop-place-preserved c =
