@@ -6,13 +6,14 @@ use Rattle.std.proofs.lemmas.List.Elements.{Contains-append_left, Contains-appen
 use Rattle.std.specs.declared.alloc.Global.{Global}
 use Rattle.wit_values.specs.declared.span.Span.{Span}
 use Rattle.wit_type_tree.specs.declared.leaves.Id.{Id}
-use Rattle.wit_type_tree.specs.declared.types.«Type».{«Type» as Written, Held-Type-Result-1 as Held, None', Some', Row_of-Type, end_of-Type, more_of-Type}
+use Rattle.wit_type_tree.specs.declared.types.«Type».{«Type» as Written, Held-Type-Future-1 as Held, None', Some', Row_of-Type, end_of-Type, more_of-Type}
+use Rattle.wit_type_tree.specs.declared.types.ResultTypes.{ResultTypes, Neither, Ok', Err', Both'}
 use Rattle.wit_type_tree.specs.declared.types.«Type».TheVariants as written
 use Rattle.wit_type_tree.proofs.Rows.{tuple_types}
-use Rattle.wit_type_tree.specs.Parts.{held_types, row_types, part_types}
+use Rattle.wit_type_tree.specs.Parts.{result_types, held_types, row_types, part_types}
 use Rattle.wit_types.specs.declared.stability.Stability.{Stability}
 use Rattle.wit_types.specs.declared.types.TypeDef.{TypeDef}
-use Rattle.wit_syntax.specs.Shape.{Shape, Prim, Word, Of, Shapes, End, More, shape_of, held_shape, row_shapes, all_shapes, head, words, all_words, handles, held_handles, row_handles, all_handles}
+use Rattle.wit_syntax.specs.Shape.{Shape, Prim, Word, Of, Shapes, End, More, shape_of, result_shapes, held_shape, row_shapes, all_shapes, head, words, all_words, handles, result_handles, held_handles, row_handles, all_handles}
 use Rattle.wit_syntax.specs.Address.{Address}
 use Rattle.wit_arena.specs.Expr.{joined, expr_of, exprs_of}
 use Rattle.wit_arena.specs.Expr as exprs
@@ -26,7 +27,13 @@ pub row_shapes-all : {m : _} (ts : Row_of-Type m) → row_shapes ts ≡ all_shap
 row_shapes-all end_of-Type = refl
 row_shapes-all (more_of-Type t rest) = ap (More (shape_of t)) (row_shapes-all rest)
 
-held_shape-all : (t : Held) → held_shape t End ≡ all_shapes (held_types t)
+pub result_shapes-all : (of : ResultTypes) → result_shapes of ≡ all_shapes (result_types of)
+result_shapes-all Neither = refl
+result_shapes-all (Ok' p t) = refl
+result_shapes-all (Err' p t) = refl
+result_shapes-all (Both' p t q u) = refl
+
+held_shape-all : (t : Held) → held_shape t ≡ all_shapes (held_types t)
 held_shape-all None' = refl
 held_shape-all (Some' p t) = refl
 
@@ -35,10 +42,6 @@ abbrev pub inner : Shape → Shapes
 inner (Of span form parts) = parts
 inner x = End
 
-result_shapes : (ok err : Held) → held_shape ok (held_shape err End) ≡ all_shapes (held_types ok ++ held_types err)
-result_shapes None' err = held_shape-all err
-result_shapes (Some' p t) err = ap (More (shape_of t)) (held_shape-all err)
-
 -- the parts of a type's shape are types: what a handle lends is a name alone
 abbrev pub IsOfTypes : Written → Type 0
 IsOfTypes (written.Borrow span id) = ⊥
@@ -46,7 +49,7 @@ IsOfTypes t = Unit {0}
 
 -- the parts of a type's shape are the shapes of its parts
 pub inner-parts : (t : Written) → IsOfTypes t → inner (shape_of t) ≡ all_shapes (part_types t)
-inner-parts (written.Result' span ok err) h = result_shapes ok err
+inner-parts (written.Result span of) h = result_shapes-all of
 inner-parts (written.Tuple' span shape ts) h = row_shapes-all ts
 inner-parts (written.Future' span t) h = held_shape-all t
 inner-parts (written.Stream' span t) h = held_shape-all t
@@ -103,6 +106,12 @@ handles_at [] i t id at h = absurd (let wrong : ⊥ = cc in wrong)
 handles_at (u ∷ ts) zero t id at h = let same : u ≡ t = cc in Contains-append_left (handles u) (all_handles ts) id (rw same h)
 handles_at (u ∷ ts) (suc i) t id at h = Contains-append_right (handles u) (all_handles ts) id (handles_at ts i t id at h)
 
+result_handles-all : (of : ResultTypes) → result_handles of ≡ all_handles (result_types of)
+result_handles-all Neither = refl
+result_handles-all (Ok' p t) = sym (append-nil (handles t))
+result_handles-all (Err' p t) = sym (append-nil (handles t))
+result_handles-all (Both' p t q u) = ap (λ (l : List Id). handles t ++ l) (sym (append-nil (handles u)))
+
 held_handles-all : (t : Held) → held_handles t ≡ all_handles (held_types t)
 held_handles-all None' = refl
 held_handles-all (Some' p t) = sym (append-nil (handles t))
@@ -125,7 +134,7 @@ handles-parts (written.List' span p t) h = sym (append-nil (handles t))
 handles-parts (written.FixedLengthList' span p t size) h = sym (append-nil (handles t))
 handles-parts (written.Map' span p key q value) h = ap (λ (l : List Id). handles key ++ l) (sym (append-nil (handles value)))
 handles-parts (written.Option' span p t) h = sym (append-nil (handles t))
-handles-parts (written.Result' span ok err) h = ap (λ (l : List Id). l ++ held_handles err) (held_handles-all ok) ∙ ap (λ (l : List Id). all_handles (held_types ok) ++ l) (held_handles-all err) ∙ sym (all_handles-append (held_types ok) (held_types err))
+handles-parts (written.Result span of) h = result_handles-all of
 handles-parts (written.Tuple' span shape ts) h = row_handles-all ts
 handles-parts (written.Future' span t) h = held_handles-all t
 handles-parts (written.Stream' span t) h = held_handles-all t

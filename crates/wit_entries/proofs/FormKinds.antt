@@ -1,5 +1,5 @@
 -- The kinds of forms over their resolved parts, and what is wrong with a form by its parts.
-use Rattle.std.proofs.Common.{◌≡◌, ℕ, List, [], ◌∷◌, Option, Some, None, is_some, true, false, inl, inr, refl, sym, ap, ◌∙◌, subst, Vec, Box, arith}
+use Rattle.std.proofs.Common.{◌≡◌, ℕ, List, [], ◌∷◌, ◌++◌, Option, Some, None, is_some, true, false, inl, inr, refl, sym, ap, ◌∙◌, subst, Vec, Box, arith}
 use Rattle.std.specs.Prelude.{slice_get}
 use Rattle.std.specs.Option.{option_to_list}
 use Rattle.std.proofs.lemmas.List.{append-nil}
@@ -9,8 +9,9 @@ use Rattle.wit_type_tree.specs.declared.error.ParseError.{ParseError}
 use Rattle.wit_type_tree.specs.declared.leaves.Id.{Id}
 use Rattle.wit_type_tree.specs.declared.types.«Type».{«Type» as Written}
 use Rattle.wit_type_tree.specs.declared.types.«Type».TheVariants as written
+use Rattle.wit_type_tree.specs.declared.types.ResultTypes.{ResultTypes}
 use Rattle.wit_type_tree.specs.declared.types.TypeBody.TheVariants.{Plain}
-use Rattle.wit_type_tree.specs.Parts.{part_types, boxed_types}
+use Rattle.wit_type_tree.specs.Parts.{ok_type, err_type, result_types, part_types, boxed_types}
 use Rattle.wit_types.specs.declared.types.«Type».{«Type» as Ty}
 use Rattle.wit_types.specs.declared.stability.Stability.{Stability}
 use Rattle.wit_types.specs.declared.types.TypeDef.{TypeDef}
@@ -25,22 +26,23 @@ use Rattle.wit_syntax.specs.Bodies.{IsBrokenForm, IsBrokenType}
 use Rattle.wit_syntax.specs.Broken.{Refused}
 use Rattle.wit_arena.specs.Resolving.{Env, AreResolved, IsWrongWord, IsWrongType, AreWrongTypes, IsWrongBody}
 use Rattle.wit_syntax.proofs.Refusing.{refused_weaker}
-use Rattle.wit_arena.proofs.Written.{tuple_inner, words-head, wrong_at, wrong_inside, broken_here, AreLegal, legal_none, legal_one, legal_whole}
+use Rattle.wit_arena.proofs.Written.{tuple_inner, result_shapes-all, words-head, wrong_at, wrong_inside, broken_here, AreLegal, legal_none, legal_one, legal_whole}
 use Rattle.wit_entries.specs.Reading.{primitive_in, IsResolved, AreTypes, IsForm}
 use Rattle.wit_entries.proofs.Reading.{types_one, types_then}
 
+pub types_two : (old mid new : List TypeDef) (env : Env) (given : Stability) (t u : Written) (ty uy : Ty) → IsResolved old mid env given (shape_of t) ty → IsResolved mid new env given (shape_of u) uy → AreTypes old new env given (t ∷ u ∷ []) (ty ∷ uy ∷ [])
+types_two old mid new env given t u ty uy p q = types_then given (t ∷ []) (u ∷ []) (types_one given t p) (types_one given u q)
+
 pub map_form : (old mid new : List TypeDef) (env : Env) (given : Stability) (span : Span) (key value : Box Written Global) (k v : Ty) → IsResolved old mid env given (shape_of key.value) k → IsResolved mid new env given (shape_of value.value) v → IsForm old new env given (shape_of (written.Map span key value)) (kind.Map k v) span
-map_form old mid new env given span key value k v p q = (refl, refl, tt, types_then given (key.value ∷ []) (value.value ∷ []) (types_one given key.value p) (types_one given value.value q))
+map_form old mid new env given span key value k v p q = (refl, refl, tt, types_two old mid new env given key.value value.value k v p q)
 
 pub tuple_form : (old new : List TypeDef) (env : Env) (given : Stability) (span : Span) (v : Vec Written Global) (ts : List Ty) → AreTypes old new env given v.items ts → IsForm old new env given (shape_of (written.Tuple span v)) (kind.Tuple (record { types = ts })) span
 tuple_form old new env given span v ts p =
     (refl, refl, tt, subst (λ xs. (s : Address) → AreResolved old new s env (shapes_meetings s given xs) (exprs_of s xs) ts) (sym (tuple_inner span v)) p)
 
-pub result_form : (old mid new : List TypeDef) (env : Env) (given : Stability) (span : Span) (ok err : Option (Box Written Global)) (o e : Option Ty) → is_some o ≡ is_some ok → is_some e ≡ is_some err → AreTypes old mid env given (boxed_types ok) (option_to_list o) → AreTypes mid new env given (boxed_types err) (option_to_list e) → IsForm old new env given (shape_of (written.Result span ok err)) (kind.Result (record { ok = o; err = e })) span
-result_form old mid new env given span None None o e a b p q = (refl, ap (λ x. ResultForm x (is_some e)) a ∙ ap (ResultForm false) b, tt, types_then given [] [] p q)
-result_form old mid new env given span (Some t) None o e a b p q = (refl, ap (λ x. ResultForm x (is_some e)) a ∙ ap (ResultForm true) b, tt, types_then given (t.value ∷ []) [] p q)
-result_form old mid new env given span None (Some u) o e a b p q = (refl, ap (λ x. ResultForm x (is_some e)) a ∙ ap (ResultForm false) b, tt, types_then given [] (u.value ∷ []) p q)
-result_form old mid new env given span (Some t) (Some u) o e a b p q = (refl, ap (λ x. ResultForm x (is_some e)) a ∙ ap (ResultForm true) b, tt, types_then given (t.value ∷ []) (u.value ∷ []) p q)
+pub result_form : (old new : List TypeDef) (env : Env) (given : Stability) (span : Span) (of : ResultTypes) (o e : Option Ty) → is_some o ≡ is_some (ok_type of) → is_some e ≡ is_some (err_type of) → AreTypes old new env given (result_types of) (option_to_list o ++ option_to_list e) → IsForm old new env given (shape_of (written.Result span of)) (kind.Result (record { ok = o; err = e })) span
+result_form old new env given span of o e a b p =
+    (refl, ap (λ x. ResultForm x (is_some e)) a ∙ ap (ResultForm (is_some (ok_type of))) b, tt, subst (λ xs. (s : Address) → AreResolved old new s env (shapes_meetings s given xs) (exprs_of s xs) (option_to_list o ++ option_to_list e)) (sym (result_shapes-all of)) p)
 
 pub future_form : (old new : List TypeDef) (env : Env) (given : Stability) (span : Span) (t : Option (Box Written Global)) (o : Option Ty) → is_some o ≡ is_some t → AreTypes old new env given (boxed_types t) (option_to_list o) → IsForm old new env given (shape_of (written.Future span t)) (kind.Future o) span
 future_form old new env given span None o a p = (refl, ap FutureForm a, tt, p)
@@ -57,6 +59,10 @@ refused_part env es whole i part e at h = refused_weaker (IsWrongType env es par
 -- and one of some of its parts
 pub refused_parts : (env : Env) (es : List TypeDef) (whole : Written) (ts : List Written) (e : ParseError) → ((some : List TypeDef) (f : Fault) → AreWrongTypes env some ts f → AreWrongTypes env some (part_types whole) f) → Refused (AreWrongTypes env es ts) e → Refused (IsWrongType env es whole) e
 refused_parts env es whole ts e among h = refused_weaker (AreWrongTypes env es ts) (IsWrongType env es whole) e (λ f wrong. wrong_inside env es whole f (among es f wrong)) h
+
+-- and one of a type is one of those among which it is
+pub refused_among : (env : Env) (es : List TypeDef) (ts : List Written) (i : ℕ) (t : Written) (e : ParseError) → slice_get ts i ≡ Some t → Refused (IsWrongType env es t) e → Refused (AreWrongTypes env es ts) e
+refused_among env es ts i t e at h = refused_weaker (IsWrongType env es t) (AreWrongTypes env es ts) e (λ f wrong. wrong_at env es ts i t f at wrong) h
 
 -- and one of a type by itself
 pub refused_boxed : (env : Env) (es : List TypeDef) (t u : Written) (e : ParseError) → t ≡ u → Refused (IsWrongType env es t) e → Refused (AreWrongTypes env es (u ∷ [])) e
@@ -79,7 +85,7 @@ legal_primitive (written.List' span p t) ty is = absurd (let wrong : ⊥ = cc in
 legal_primitive (written.FixedLengthList' span p t size) ty is = absurd (let wrong : ⊥ = cc in wrong)
 legal_primitive (written.Map' span p key q value) ty is = absurd (let wrong : ⊥ = cc in wrong)
 legal_primitive (written.Option' span p t) ty is = absurd (let wrong : ⊥ = cc in wrong)
-legal_primitive (written.Result' span ok err) ty is = absurd (let wrong : ⊥ = cc in wrong)
+legal_primitive (written.Result span of) ty is = absurd (let wrong : ⊥ = cc in wrong)
 legal_primitive (written.Tuple' span shape ts) ty is = absurd (let wrong : ⊥ = cc in wrong)
 legal_primitive (written.Future' span t) ty is = absurd (let wrong : ⊥ = cc in wrong)
 legal_primitive (written.Stream' span t) ty is = absurd (let wrong : ⊥ = cc in wrong)

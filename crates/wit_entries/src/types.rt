@@ -1,8 +1,8 @@
 //! Written types, as types of the arena.
-ghost use Rattle.std.specs.Prelude.{◌≡◌, IfOk, IfErr, OnOk, is_some};
+ghost use Rattle.std.specs.Prelude.{◌≡◌, ◌++◌, IfOk, IfErr, OnOk, is_some};
 ghost use Rattle.std.specs.Option.{option_to_list};
 ghost use Rattle.wit_type_tree.specs.Refusal.{IsWantOfMemory};
-ghost use Rattle.wit_type_tree.specs.Parts.{boxed_types};
+ghost use Rattle.wit_type_tree.specs.Parts.{ok_type, err_type, result_types, boxed_types};
 ghost use Rattle.wit_syntax.specs.Shape.{shape_of, handles, all_handles};
 ghost use Rattle.wit_syntax.specs.Fault.{Fault};
 ghost use Rattle.wit_syntax.specs.Bodies.{IsBrokenType, IsBrokenPart};
@@ -53,7 +53,7 @@ fn primitive(ty: &tree::Type<'_>) -> Option<Type>
         | tree::Type::FixedLengthList(_, _, _)
         | tree::Type::Map(_, _, _)
         | tree::Type::Option(_, _)
-        | tree::Type::Result(_, _, _)
+        | tree::Type::Result(_, _)
         | tree::Type::Tuple(_, _)
         | tree::Type::Future(_, _)
         | tree::Type::Stream(_, _)
@@ -147,10 +147,9 @@ fn read_form(
             let value = resolve_type(alloc, types, names, required, given, value)?;
             Ok(Reading::Form(TypeDefKind::Option(value), *span))
         }
-        tree::Type::Result(span, ok, err) => {
-            let ok = resolve_optional(alloc, types, names, required, given, ok)?;
-            let err = resolve_optional(alloc, types, names, required, given, err)?;
-            Ok(Reading::Form(TypeDefKind::Result(Result_ { ok, err }), *span))
+        tree::Type::Result(span, parts) => {
+            let outcome = resolve_result(alloc, types, names, required, given, parts)?;
+            Ok(Reading::Form(TypeDefKind::Result(outcome), *span))
         }
         tree::Type::Tuple(span, parts) => {
             check_tuple(alloc, *span, parts)?;
@@ -170,6 +169,52 @@ fn read_form(
             Ok(Reading::Form(TypeDefKind::Handle(Handle::Borrow(resource)), *span))
         }
         _ => unreachable!(),
+    }
+}
+
+/// The types that those of a result stand for, that of the value first.
+#[cycle(types)]
+fn resolve_result(
+    alloc: Global,
+    types: &mut Entries,
+    names: &TextTable<TypeId>,
+    required: &mut Vec<Required>,
+    given: &Stability,
+    parts: &tree::ResultTypes<'_>,
+) -> ParseResult<Result_>
+    ensures ok { IfOk result (λ r. is_some r.ok ≡ is_some (ok_type parts.now)) }
+    ensures err { IfOk result (λ r. is_some r.err ≡ is_some (err_type parts.now)) }
+    ensures resolved { IfOk result (λ r. AreTypes types.old types.new (env_of names.now) given.now (result_types parts.now) (option_to_list r.ok ++ option_to_list r.err)) }
+    ensures legal { OnOk result ((f : Fault) → IsBrokenPart (result_types parts.now) f → ⊥) }
+    ensures handled { OnOk result (Requires (env_of names.now) types.new (all_handles (result_types parts.now)) required.old.items required.new.items) }
+    ensures grown { IsGrown types.old types.new }
+    ensures refused { IfErr result (Refused (AreWrongTypes (env_of names.now) types.new (result_types parts.now))) }
+{
+    match parts {
+        tree::ResultTypes::Neither => Ok(Result_ {
+            ok: None,
+            err: None,
+        }),
+        tree::ResultTypes::Ok(ok) => {
+            let ok = resolve_type(alloc, types, names, required, given, ok)?;
+            Ok(Result_ {
+                ok: Some(ok),
+                err: None,
+            })
+        }
+        tree::ResultTypes::Err(err) => {
+            let err = resolve_type(alloc, types, names, required, given, err)?;
+            Ok(Result_ {
+                ok: None,
+                err: Some(err),
+            })
+        }
+        tree::ResultTypes::Both(ok, err) => {
+            let ok = resolve_type(alloc, types, names, required, given, ok)?;
+            let err = resolve_type(alloc, types, names, required, given, err)?;
+            let (ok, err) = (Some(ok), Some(err));
+            Ok(Result_ { ok, err })
+        }
     }
 }
 

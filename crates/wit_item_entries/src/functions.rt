@@ -75,7 +75,7 @@ fn written_result<'t, 'a>(definition: &'t TypeDef<'a>) -> Option<&'t Type<'a>>
 {
     match &definition.body {
         TypeBody::Plain(ty) => match ty {
-            Type::Result(_, _, _) => Some(ty),
+            Type::Result(_, _) => Some(ty),
             _ => None,
         },
         _ => None,

@@ -8,7 +8,8 @@ use Rattle.std.specs.declared.alloc.Global.{Global}
 use denote.RawPtr.{Ptr}
 use Rattle.wit_values.specs.declared.span.Span.{Span}
 use Rattle.wit_type_tree.specs.declared.leaves.Id.{Id}
-use Rattle.wit_type_tree.specs.declared.types.«Type».{«Type» as Written, None', Some'}
+use Rattle.wit_type_tree.specs.declared.types.«Type».{«Type» as Written}
+use Rattle.wit_type_tree.specs.declared.types.ResultTypes.{Neither, Ok'}
 use Rattle.wit_type_tree.specs.declared.types.«Type».TheVariants as written
 use Rattle.wit_type_tree.specs.declared.types.TypeBody.TheVariants.{Plain}
 use Rattle.wit_type_tree.specs.declared.types.TypeDef.{TypeDef as Definition}
@@ -124,7 +125,7 @@ module _ (ptr : Ptr) (alloc : Global) where
 
   -- resource r { constructor() -> result; }
   abbrev empty : Written
-  empty = written.Result' (at 61 67) None' None'
+  empty = written.Result (at 61 67) Neither
 
   empty_refused : IsBroken (file_of ptr alloc (making empty) ∷ []) (fault 42 (at 61 67))
   empty_refused = in_scope ptr alloc (making empty) (fault 42 (at 61 67)) (Function 0 _ refl (ConstructorOfOther (record { of = r_id ptr alloc (at 40 41); constructs = refl; t = _; result = refl; ok = None; gives = refl; other = λ u (some : None ≡ Some u) is. (let f : ⊥ = cc in f); is = refl })))
@@ -132,7 +133,7 @@ module _ (ptr : Ptr) (alloc : Global) where
   -- type t = result<u8>; x: set(v: u8) -> t; x: get() -> u8;
   module _ where
     abbrev some_ok : Definition
-    some_ok = record { docs = no_comments ptr alloc; attributes = untold ptr alloc; name = t_id ptr alloc (at 36 37); body = Plain (written.Result' (at 40 46) (Some' (record { ptr = ptr; alloc = alloc; value = tt }) (written.U8 (at 47 49))) None') }
+    some_ok = record { docs = no_comments ptr alloc; attributes = untold ptr alloc; name = t_id ptr alloc (at 36 37); body = Plain (written.Result (at 40 46) (Ok' (record { ptr = ptr; alloc = alloc; value = tt }) (written.U8 (at 47 49)))) }
 
     abbrev called : Interface
     called = i_of ptr alloc (TypeItem some_ok ∷ FuncItem (func_of ptr alloc (x_id ptr alloc (at 52 53)) (at 55 58) form.Setter (v_u8 ptr alloc (at 59 60) (at 62 64)) (Some (written.Name (t_id ptr alloc (at 69 70))))) ∷ FuncItem (getter (at 72 73) (at 75 78) (at 84 86)) ∷ []) (lit< tt)
@@ -142,7 +143,7 @@ module _ (ptr : Ptr) (alloc : Global) where
 
   -- type t = result; type f = t;
   abbrev words : List ScopeName
-  words = Defined (record { docs = no_comments ptr alloc; attributes = untold ptr alloc; name = t_id ptr alloc (at 36 37); body = Plain (written.Result' (at 40 46) None' None') }) ∷ Defined (record { docs = no_comments ptr alloc; attributes = untold ptr alloc; name = f_id ptr alloc (at 53 54); body = Plain (written.Name (t_id ptr alloc (at 57 58))) }) ∷ []
+  words = Defined (record { docs = no_comments ptr alloc; attributes = untold ptr alloc; name = t_id ptr alloc (at 36 37); body = Plain (written.Result (at 40 46) Neither) }) ∷ Defined (record { docs = no_comments ptr alloc; attributes = untold ptr alloc; name = f_id ptr alloc (at 53 54); body = Plain (written.Name (t_id ptr alloc (at 57 58))) }) ∷ []
 
   -- t is a result, f is only another word for one
   t_is_result : result_ok words (written.Name (t_id ptr alloc (at 69 70))) ≡ Some None

@@ -6,7 +6,8 @@ use Rattle.std.specs.declared.alloc.Global.{Global}
 use denote.RawPtr.{Ptr}
 use Rattle.wit_values.specs.declared.span.Span.{Span}
 use Rattle.wit_type_tree.specs.declared.leaves.Id.{Id}
-use Rattle.wit_type_tree.specs.declared.types.«Type».{«Type» as Written, None', Some'}
+use Rattle.wit_type_tree.specs.declared.types.«Type».{«Type» as Written}
+use Rattle.wit_type_tree.specs.declared.types.ResultTypes.{Ok', Err'}
 use Rattle.wit_type_tree.specs.declared.types.«Type».TheVariants as written
 use Rattle.wit_type_tree.specs.declared.types.TypeBody.TheVariants.{Plain, Resource}
 use Rattle.wit_type_tree.specs.declared.types.TypeDef.{TypeDef as Definition}
@@ -230,7 +231,7 @@ module _ (ptr : Ptr) (alloc : Global) where
   -- resource r { constructor() -> result<own<r>>; }
   module _ where
     abbrev owning : Written
-    owning = written.Result' (at 61 67) (Some' box (written.Own (at 68 71) (r_id (at 72 73)))) None'
+    owning = written.Result (at 61 67) (Ok' box (written.Own (at 68 71) (r_id (at 72 73))))
 
     abbrev owned : Interface
     owned = i_of (TypeItem (resource_of (r_id (at 40 41)) (resource.Constructor (no_comments ptr alloc) (untold ptr alloc) (at 44 55) (vec ptr alloc [] (lit< tt)) (Some owning) ∷ []) (lit< tt)) ∷ []) (lit< tt)
@@ -252,7 +253,7 @@ module _ (ptr : Ptr) (alloc : Global) where
     in_a = id ptr alloc (codes "a") (at 68 69) refl
 
     abbrev other : Interface
-    other = i_of (TypeItem (resource_of (r_id (at 40 41)) (resource.Constructor (no_comments ptr alloc) (untold ptr alloc) (at 44 55) (vec ptr alloc [] (lit< tt)) (Some (written.Result' (at 61 67) (Some' box (written.Name in_a)) None')) ∷ []) (lit< tt)) ∷ TypeItem (record { docs = no_comments ptr alloc; attributes = untold ptr alloc; name = id ptr alloc (codes "a") (at 79 80) refl; body = Plain (written.Name (r_id (at 83 84))) }) ∷ []) (lit< tt)
+    other = i_of (TypeItem (resource_of (r_id (at 40 41)) (resource.Constructor (no_comments ptr alloc) (untold ptr alloc) (at 44 55) (vec ptr alloc [] (lit< tt)) (Some (written.Result (at 61 67) (Ok' box (written.Name in_a)))) ∷ []) (lit< tt)) ∷ TypeItem (record { docs = no_comments ptr alloc; attributes = untold ptr alloc; name = id ptr alloc (codes "a") (at 79 80) refl; body = Plain (written.Name (r_id (at 83 84))) }) ∷ []) (lit< tt)
 
     -- whether a type is written with the name r
     abbrev is_word_r : Shape → Bool
@@ -298,10 +299,10 @@ module _ (ptr : Ptr) (alloc : Global) where
   -- x: set(v: u8) -> result<_, u8>; x: get() -> u8;
   module _ where
     abbrev no_ok : Written
-    no_ok = written.Result' (at 48 54) None' (Some' box (written.U8 (at 58 60)))
+    no_ok = written.Result (at 48 54) (Err' box (written.U8 (at 58 60)))
 
     abbrev some_ok : Written
-    some_ok = written.Result' (at 48 54) (Some' box (written.U8 (at 55 57))) None'
+    some_ok = written.Result (at 48 54) (Ok' box (written.U8 (at 55 57)))
 
     -- where the second x, `get` and its u8 stand
     abbrev setter : Written → Span → Span → Span → Interface

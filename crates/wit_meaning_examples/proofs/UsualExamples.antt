@@ -16,7 +16,8 @@ use Rattle.wit_type_tree.specs.declared.types.FuncForm.TheVariants as form
 use Rattle.wit_type_tree.specs.declared.leaves.Id.{Id}
 use Rattle.wit_type_tree.specs.declared.types.NamedFunc.{NamedFunc}
 use Rattle.wit_type_tree.specs.declared.types.ResourceFunc.TheVariants as resource
-use Rattle.wit_type_tree.specs.declared.types.«Type».{«Type» as Written, None', Some'}
+use Rattle.wit_type_tree.specs.declared.types.«Type».{«Type» as Written}
+use Rattle.wit_type_tree.specs.declared.types.ResultTypes.{Neither, Both'}
 use Rattle.wit_type_tree.specs.declared.types.«Type».TheVariants as written
 use Rattle.wit_type_tree.specs.declared.types.TypeBody.TheVariants.{Resource}
 use Rattle.wit_type_tree.specs.declared.types.TypeDef.{TypeDef as Definition}
@@ -121,7 +122,7 @@ module _ (ptr : Ptr) (alloc : Global) where
 
   -- read: func(len: u64) -> result<list<u8>, error>;
   abbrev result_type : Written
-  result_type = written.Result' (at 165 171) (Some' box (written.List' (at 172 176) box (written.U8 (at 177 179)))) (Some' box (written.Name (error_at (at 182 187))))
+  result_type = written.Result (at 165 171) (Both' box (written.List' (at 172 176) box (written.U8 (at 177 179))) box (written.Name (error_at (at 182 187))))
 
   abbrev read : NamedFunc
   read = record {
@@ -150,7 +151,7 @@ module _ (ptr : Ptr) (alloc : Global) where
   import_streams = extern_of Imported (extern.Path (path.Id (id ptr alloc (codes "streams") (at 215 222) refl)))
 
   abbrev export_run : Extern
-  export_run = extern_of Exported (extern.Func (id ptr alloc (codes "run") (at 233 236) refl) (record { span = at 238 242; form = form.Plain; params = vec ptr alloc [] (lit< tt); result = Some (written.Result' (at 248 254) None' None') }))
+  export_run = extern_of Exported (extern.Func (id ptr alloc (codes "run") (at 233 236) refl) (record { span = at 238 242; form = form.Plain; params = vec ptr alloc [] (lit< tt); result = Some (written.Result (at 248 254) Neither) }))
 
   abbrev w : WrittenWorld
   w = record { docs = no_comments ptr alloc; attributes = untold ptr alloc; name = id ptr alloc (codes "w") (at 202 203) refl; items = vec ptr alloc (world_item.Extern import_streams ∷ world_item.Extern export_run ∷ []) (lit< tt) }

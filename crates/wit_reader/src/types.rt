@@ -11,7 +11,7 @@ use wit_lex::fault::{ReadError, ReadFault, ReadResult};
 use wit_lex::kind::Kind;
 use wit_lex::word::Word;
 use wit_tree::Span;
-use wit_tree::tree::Type;
+use wit_tree::tree::{ResultTypes, Type};
 use wit_values::{beside, push};
 
 /// How many levels of types are read.
@@ -57,6 +57,19 @@ fn list<'a>(span: Span, item: Box<Type<'a>>, size: Option<u32>) -> Type<'a>
         Some(size) => Type::FixedLengthList(span, item, size),
         None => Type::List(span, item),
     }
+}
+
+/// The result of these types, where there are any.
+fn result_of<'a>(span: Span, ok: Option<Box<Type<'a>>>, err: Option<Box<Type<'a>>>) -> Type<'a>
+    ensures { type_marks result ≡ spelled span (codes "result") ∷ (boxed_marks ok.entry ++ boxed_marks err.entry) }
+{
+    let types = match (ok, err) {
+        (None, None) => ResultTypes::Neither,
+        (Some(ok), None) => ResultTypes::Ok(ok),
+        (None, Some(err)) => ResultTypes::Err(err),
+        (Some(ok), Some(err)) => ResultTypes::Both(ok, err),
+    };
+    Type::Result(span, types)
 }
 
 impl<'a> Reader<'a> {
@@ -225,13 +238,13 @@ impl<'a> Reader<'a> {
     {
         let span = self.read_word(Word::Result)?;
         if !self.at(Kind::OpenAngle) {
-            return Ok(Type::Result(span, None, None));
+            return Ok(Type::Result(span, ResultTypes::Neither));
         }
         self.bump()?;
         let first = self.read_ok(left)?;
         let needed = first.is_none();
         let (ok, err) = beside(first, self.read_err(left, needed))?;
-        Ok(Type::Result(span, ok, err))
+        Ok(result_of(span, ok, err))
     }
 
     /// Reads the type of the value of a result, or `_`.

@@ -170,7 +170,10 @@ fn ok_span(ty: &Type<'_>) -> Span
     ensures { result ≡ the_ok_span ty.now }
 {
     match ty {
-        Type::Result(_, Some(ok), _) => span_of(ok),
+        Type::Result(span, types) => match types.ok() {
+            Some(ok) => span_of(ok),
+            None => *span,
+        },
         _ => span_of(ty),
     }
 }

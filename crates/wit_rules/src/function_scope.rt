@@ -28,8 +28,7 @@ fn ok_of<'t, 'a>(ty: &'t Type<'a>) -> Option<Option<&'t Type<'a>>>
     ensures { option_map (λ ok. option_map (λ t. t.now) ok) result ≡ the_ok ty.now }
 {
     match ty {
-        Type::Result(_, Some(ok), _) => Some(Some(ok)),
-        Type::Result(_, None, _) => Some(None),
+        Type::Result(_, types) => Some(types.ok()),
         _ => None,
     }
 }
@@ -73,7 +72,7 @@ pub fn span_of(ty: &Type<'_>) -> Span
         | Type::FixedLengthList(span, _, _)
         | Type::Map(span, _, _)
         | Type::Option(span, _)
-        | Type::Result(span, _, _)
+        | Type::Result(span, _)
         | Type::Tuple(span, _)
         | Type::Future(span, _)
         | Type::Stream(span, _)

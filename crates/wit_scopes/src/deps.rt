@@ -1,10 +1,10 @@
 //! The names that are written in types and in the bodies of definitions.
 ghost use Rattle.std.specs.Prelude.{◌≡◌, ◌++◌, IfOk, OnOk};
 ghost use Rattle.wit_type_tree.specs.Parts.{boxed_types, field_types, case_types};
-ghost use Rattle.wit_syntax.specs.Shape.{shape_of, all_shapes, body_of, words, all_words};
+ghost use Rattle.wit_syntax.specs.Shape.{shape_of, result_shapes, all_shapes, body_of, words, all_words};
 
 use std::alloc::{AllocError, Global};
-use wit_tree::tree::{Case, Field, Id, Type, TypeBody};
+use wit_tree::tree::{Case, Field, Id, ResultTypes, Type, TypeBody};
 
 /// Adds the names written in a type.
 #[cycle(deps)]
@@ -20,14 +20,31 @@ fn collect_deps<'a>(deps: &mut Vec<Id<'a>>, ty: &Type<'a>) -> Result<(), AllocEr
             collect_deps(deps, key)?;
             collect_deps(deps, value)?;
         }
-        Type::Result(_, ok, err) => {
-            collect_optional_deps(deps, ok)?;
-            collect_optional_deps(deps, err)?;
-        }
+        Type::Result(_, types) => collect_result_deps(deps, types)?,
         Type::Tuple(_, parts) => collect_all_deps(deps, parts)?,
         Type::Future(_, part) => collect_optional_deps(deps, part)?,
         Type::Stream(_, part) => collect_optional_deps(deps, part)?,
         _ => {}
+    }
+    Ok(())
+}
+
+/// Adds the names written in the types of a result.
+#[cycle(deps)]
+fn collect_result_deps<'a>(
+    deps: &mut Vec<Id<'a>>,
+    types: &ResultTypes<'a>,
+) -> Result<(), AllocError>
+    ensures { OnOk result (deps.new.items ≡ deps.old.items ++ all_words (result_shapes types.now)) }
+{
+    match types {
+        ResultTypes::Neither => {}
+        ResultTypes::Ok(ok) => collect_deps(deps, ok)?,
+        ResultTypes::Err(err) => collect_deps(deps, err)?,
+        ResultTypes::Both(ok, err) => {
+            collect_deps(deps, ok)?;
+            collect_deps(deps, err)?;
+        }
     }
     Ok(())
 }

@@ -2,15 +2,16 @@
 use Rattle.std.specs.Prelude.{Bool, true, false, List, [], ◌∷◌, ◌++◌, map, is_some}
 use Rattle.wit_values.specs.declared.span.Span.{Span}
 use Rattle.wit_type_tree.specs.declared.leaves.Id.{Id}
-use Rattle.wit_type_tree.specs.declared.types.«Type».{«Type» as Written, Held-Type-Result-1 as Held, None', Some', Row_of-Type, end_of-Type, more_of-Type}
+use Rattle.wit_type_tree.specs.declared.types.«Type».{«Type» as Written, Held-Type-Future-1 as Held, None', Some', Row_of-Type, end_of-Type, more_of-Type}
 use Rattle.wit_type_tree.specs.declared.types.«Type».TheVariants as written
+use Rattle.wit_type_tree.specs.declared.types.ResultTypes.{ResultTypes, Neither, Ok', Err', Both'}
 use Rattle.wit_type_tree.specs.declared.types.Field.{Field}
 use Rattle.wit_type_tree.specs.declared.types.Flag.{Flag}
 use Rattle.wit_type_tree.specs.declared.types.Case.{Case}
 use Rattle.wit_type_tree.specs.declared.types.EnumCase.{EnumCase}
 use Rattle.wit_type_tree.specs.declared.types.TypeBody.{TypeBody}
 use Rattle.wit_type_tree.specs.declared.types.TypeBody.TheVariants.{Record, Flags, Variant, Enum, Resource, Plain}
-use Rattle.wit_type_tree.specs.Parts.{field_types, case_types}
+use Rattle.wit_type_tree.specs.Parts.{ok_type, err_type, field_types, case_types}
 use Rattle.wit_type_tree.specs.declared.leaves.Docs.{Docs as Comments}
 use Rattle.wit_syntax.specs.Notes.{docs_of}
 use Rattle.wit_syntax.specs.Form.{Member, Form, RecordForm, FlagsForm, VariantForm, EnumForm, OptionForm, ResultForm, TupleForm, ListForm, MapForm, FixedLengthListForm, FutureForm, StreamForm, AliasForm, OwnForm, BorrowForm, ResourceForm}
@@ -58,18 +59,25 @@ abbrev mutual
   shape_of (written.FixedLengthList' span p t size) = Of span (FixedLengthListForm size) (one (shape_of t))
   shape_of (written.Map' span p key q value) = Of span MapForm (More (shape_of key) (one (shape_of value)))
   shape_of (written.Option' span p t) = Of span OptionForm (one (shape_of t))
-  shape_of (written.Result' span ok err) = Of span (ResultForm (is_held ok) (is_held err)) (held_shape ok (held_shape err End))
+  shape_of (written.Result span of) = Of span (ResultForm (is_some (ok_type of)) (is_some (err_type of))) (result_shapes of)
   shape_of (written.Tuple' span shape ts) = Of span TupleForm (row_shapes ts)
-  shape_of (written.Future' span t) = Of span (FutureForm (is_held t)) (held_shape t End)
-  shape_of (written.Stream' span t) = Of span (StreamForm (is_held t)) (held_shape t End)
+  shape_of (written.Future' span t) = Of span (FutureForm (is_held t)) (held_shape t)
+  shape_of (written.Stream' span t) = Of span (StreamForm (is_held t)) (held_shape t)
   -- a resource that is owned is written as the resource
   shape_of (written.Own span id) = Word id
   shape_of (written.Borrow span id) = Of span BorrowForm (one (Word id))
 
-  -- that of a type, where there is one, in front of others
-  pub held_shape : Held → Shapes → Shapes
-  held_shape None' xs = xs
-  held_shape (Some' p t) xs = More (shape_of t) xs
+  -- those of the types that a result is written with
+  pub result_shapes : ResultTypes → Shapes
+  result_shapes Neither = End
+  result_shapes (Ok' p t) = one (shape_of t)
+  result_shapes (Err' p t) = one (shape_of t)
+  result_shapes (Both' p t q u) = More (shape_of t) (one (shape_of u))
+
+  -- that of a type, where there is one
+  pub held_shape : Held → Shapes
+  held_shape None' = End
+  held_shape (Some' p t) = one (shape_of t)
 
   -- those of types in a row
   pub row_shapes : {m : _} → Row_of-Type m → Shapes
@@ -142,11 +150,17 @@ abbrev mutual
   handles (written.FixedLengthList' span p t size) = handles t
   handles (written.Map' span p key q value) = handles key ++ handles value
   handles (written.Option' span p t) = handles t
-  handles (written.Result' span ok err) = held_handles ok ++ held_handles err
+  handles (written.Result span of) = result_handles of
   handles (written.Tuple' span shape ts) = row_handles ts
   handles (written.Future' span t) = held_handles t
   handles (written.Stream' span t) = held_handles t
   handles _ = []
+
+  pub result_handles : ResultTypes → List Id
+  result_handles Neither = []
+  result_handles (Ok' p t) = handles t
+  result_handles (Err' p t) = handles t
+  result_handles (Both' p t q u) = handles t ++ handles u
 
   pub held_handles : Held → List Id
   held_handles None' = []

@@ -10,8 +10,9 @@ use Rattle.wit_type_tree.specs.declared.types.FuncForm.{FuncForm}
 use Rattle.wit_type_tree.specs.declared.types.FuncForm.TheVariants as form
 use Rattle.wit_type_tree.specs.declared.types.TypeBody.{TypeBody}
 use Rattle.wit_type_tree.specs.declared.types.TypeBody.TheVariants as body
-use Rattle.wit_type_tree.specs.declared.types.«Type».{«Type» as Written, Held-Type-Result-1 as Held, None', Some'}
+use Rattle.wit_type_tree.specs.declared.types.«Type».{«Type» as Written}
 use Rattle.wit_type_tree.specs.declared.types.«Type».TheVariants as written
+use Rattle.wit_type_tree.specs.Parts.{ok_type}
 use Rattle.wit_syntax.specs.Fault.{Fault, fault, missing_at, name_word}
 use Rattle.wit_syntax.specs.Shape.{Word, shape_of, words}
 use Rattle.wit_syntax.specs.Source.{ScopeName, Defined, local_id, local_name, meaning}
@@ -62,20 +63,16 @@ type_span (written.List' span p t) = span
 type_span (written.FixedLengthList' span p t size) = span
 type_span (written.Map' span p key q value) = span
 type_span (written.Option' span p t) = span
-type_span (written.Result' span ok err) = span
+type_span (written.Result span of) = span
 type_span (written.Tuple' span shape ts) = span
 type_span (written.Future' span t) = span
 type_span (written.Stream' span t) = span
 type_span (written.Own span id) = span
 type_span (written.Borrow span id) = span
 
-abbrev pub held_type : Held → Option Written
-held_type None' = None
-held_type (Some' p t) = Some t
-
 -- what a type that is written as a result gives where all is well, if it gives anything; nothing, where it is no result
 abbrev pub ok_of : Written → Option (Option Written)
-ok_of (written.Result' span ok err) = Some (held_type ok)
+ok_of (written.Result span of) = Some (ok_type of)
 ok_of t = None
 
 abbrev pub body_ok : TypeBody → Option (Option Written)
@@ -168,7 +165,7 @@ pub record IsConstructorWithoutResult (xs : List ScopeName) (fn : SourceFunction
 
 -- what a result gives where all is well, where it is written there, else the whole
 abbrev pub ok_span : Written → Span
-ok_span (written.Result' span (Some' p t) err) = type_span t
+ok_span (written.Result span of) = option_map_or type_span (ok_type of) span
 ok_span t = type_span t
 
 -- a constructor's result gives something else than its resource

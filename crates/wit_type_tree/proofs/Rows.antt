@@ -4,8 +4,7 @@ use Rattle.std.specs.Prelude.{codes}
 use Rattle.std.specs.List.{flat_map}
 use Rattle.std.specs.declared.alloc.Global.{Global}
 use Rattle.wit_values.specs.declared.span.Span.{Span}
-use Rattle.wit_type_tree.specs.declared.types.«Type».{«Type» as Written, Result, Tuple, Future, Stream, Row_of-Type, end_of-Type, more_of-Type, items-the_row-Type, back-Type-Result-1}
-use Rattle.wit_type_tree.specs.declared.types.«Type».TheViews.{the_lemmas}
+use Rattle.wit_type_tree.specs.declared.types.«Type».{«Type» as Written, Tuple, Future, Stream, Row_of-Type, end_of-Type, more_of-Type, items-the_row-Type, back-Type-Future-1, the_lemmas}
 use Rattle.wit_type_tree.specs.Marks.{type_marks, row_marks, boxed_marks, spelled}
 use Rattle.wit_type_tree.specs.Parts.{row_types, part_types, held_types, boxed_types}
 
@@ -26,24 +25,11 @@ pub tuple_marks : (span : Span) (v : Vec Written Global) → type_marks (Tuple s
 tuple_marks span v = search (rules, the_lemmas, marks_of_row)
 
 -- a type that is there or not
-pub types_of_held : (t : Option (Box Written Global)) → held_types (back-Type-Result-1 t) ≡ boxed_types t
+pub types_of_held : (t : Option (Box Written Global)) → held_types (back-Type-Future-1 t) ≡ boxed_types t
 types_of_held None = refl
 types_of_held (Some b) = refl
 
--- the parts of a result
-pub result_types : (ok err : Option (Box Written Global)) → (held_types (back-Type-Result-1 ok) ++ held_types (back-Type-Result-1 err)) ≡ (boxed_types ok ++ boxed_types err)
-result_types None None = refl
-result_types None (Some e) = refl
-result_types (Some o) None = refl
-result_types (Some o) (Some e) = refl
-
 -- the marks of types that are there or not
-pub result_marks : (span : Span) (ok err : Option (Box Written Global)) → type_marks (Result span ok err) ≡ spelled span (codes "result") ∷ boxed_marks ok ++ boxed_marks err
-result_marks span None None = refl
-result_marks span None (Some e) = refl
-result_marks span (Some o) None = refl
-result_marks span (Some o) (Some e) = refl
-
 pub future_marks : (span : Span) (t : Option (Box Written Global)) → type_marks (Future span t) ≡ spelled span (codes "future") ∷ boxed_marks t
 future_marks span None = refl
 future_marks span (Some b) = refl

@@ -22,7 +22,8 @@ use Rattle.wit_type_tree.specs.declared.types.FuncForm.{FuncForm}
 use Rattle.wit_type_tree.specs.declared.types.FuncForm.TheVariants.{Plain as PlainForm, Async, Getter, Setter}
 use Rattle.wit_type_tree.specs.declared.types.Param.{Param}
 use Rattle.wit_type_tree.specs.declared.types.TypeDef.{TypeDef}
-use Rattle.wit_type_tree.specs.declared.types.«Type».{«Type» as Written, Bool, U8, U16, U32, U64, S8, S16, S32, S64, F32, F64, Char, String, ErrorContext, Name, List', FixedLengthList', Map', Option', Result', Tuple', Future', Stream', Own, Borrow, Held-Type-Result-1, None', Some', Row_of-Type, end_of-Type, more_of-Type}
+use Rattle.wit_type_tree.specs.declared.types.«Type».{«Type» as Written, Bool, U8, U16, U32, U64, S8, S16, S32, S64, F32, F64, Char, String, ErrorContext, Name, List', FixedLengthList', Map', Option', Result, Tuple', Future', Stream', Own, Borrow, Held-Type-Future-1, None', Some', Row_of-Type, end_of-Type, more_of-Type}
+use Rattle.wit_type_tree.specs.declared.types.ResultTypes.{ResultTypes, Neither, Ok', Err', Both'}
 
 pub data Mark : Type 0 where
   -- a name of the tree
@@ -83,15 +84,22 @@ abbrev mutual
   type_marks (FixedLengthList' s p t size) = spelled s (codes "list") ∷ type_marks t ++ counted size ∷ []
   type_marks (Map' s p key q value) = spelled s (codes "map") ∷ type_marks key ++ type_marks value
   type_marks (Option' s p t) = spelled s (codes "option") ∷ type_marks t
-  type_marks (Result' s ok err) = spelled s (codes "result") ∷ held_marks ok ++ held_marks err
+  type_marks (Result s of) = spelled s (codes "result") ∷ result_marks of
   type_marks (Tuple' s shape ts) = spelled s (codes "tuple") ∷ row_marks ts
   type_marks (Future' s t) = spelled s (codes "future") ∷ held_marks t
   type_marks (Stream' s t) = spelled s (codes "stream") ∷ held_marks t
   type_marks (Own s id) = spelled s (codes "own") ∷ named id ∷ []
   type_marks (Borrow s id) = spelled s (codes "borrow") ∷ named id ∷ []
 
+  -- of the types that a result is written with
+  pub result_marks : ResultTypes → List Mark
+  result_marks Neither = []
+  result_marks (Ok' p t) = type_marks t
+  result_marks (Err' p t) = type_marks t
+  result_marks (Both' p t q u) = type_marks t ++ type_marks u
+
   -- of a type, where there is one
-  pub held_marks : Held-Type-Result-1 → List Mark
+  pub held_marks : Held-Type-Future-1 → List Mark
   held_marks None' = []
   held_marks (Some' p t) = type_marks t
 

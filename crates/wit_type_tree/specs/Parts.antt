@@ -1,15 +1,33 @@
 -- The types that are written in a type or in the body of a definition, in written order.
 use Rattle.std.specs.Prelude.{List, [], ◌∷◌, ◌++◌, map, Option, Some, None, Box}
 use Rattle.std.specs.List.{filter_map}
+use Rattle.std.specs.Option.{option_to_list}
 use Rattle.std.specs.declared.alloc.Global.{Global}
 use Rattle.wit_type_tree.specs.declared.types.Field.{Field}
 use Rattle.wit_type_tree.specs.declared.types.Case.{Case}
 use Rattle.wit_type_tree.specs.declared.types.TypeBody.{TypeBody}
 use Rattle.wit_type_tree.specs.declared.types.TypeBody.TheVariants.{Record, Flags, Variant, Enum, Resource, Plain}
-use Rattle.wit_type_tree.specs.declared.types.«Type».{«Type» as Written, List', FixedLengthList', Map', Option', Result', Tuple', Future', Stream', Held-Type-Result-1, None', Some', Row_of-Type, end_of-Type, more_of-Type}
+use Rattle.wit_type_tree.specs.declared.types.«Type».{«Type» as Written, List', FixedLengthList', Map', Option', Result, Tuple', Future', Stream', Held-Type-Future-1, None', Some', Row_of-Type, end_of-Type, more_of-Type}
+use Rattle.wit_type_tree.specs.declared.types.ResultTypes.{ResultTypes, Ok', Err', Both'}
+
+-- the type of a result's value, where there is one
+abbrev pub ok_type : ResultTypes → Option Written
+ok_type (Ok' p t) = Some t
+ok_type (Both' p t q u) = Some t
+ok_type of = None
+
+-- that of its error
+abbrev pub err_type : ResultTypes → Option Written
+err_type (Err' p t) = Some t
+err_type (Both' p t q u) = Some u
+err_type of = None
+
+-- the types that a result is written with
+abbrev pub result_types : ResultTypes → List Written
+result_types of = option_to_list (ok_type of) ++ option_to_list (err_type of)
 
 -- a type, where there is one
-abbrev pub held_types : Held-Type-Result-1 → List Written
+abbrev pub held_types : Held-Type-Future-1 → List Written
 held_types None' = []
 held_types (Some' p t) = t ∷ []
 
@@ -28,7 +46,7 @@ part_types (List' span p t) = t ∷ []
 part_types (FixedLengthList' span p t size) = t ∷ []
 part_types (Map' span p key q value) = key ∷ value ∷ []
 part_types (Option' span p t) = t ∷ []
-part_types (Result' span ok err) = held_types ok ++ held_types err
+part_types (Result span of) = result_types of
 part_types (Tuple' span shape ts) = row_types ts
 part_types (Future' span t) = held_types t
 part_types (Stream' span t) = held_types t

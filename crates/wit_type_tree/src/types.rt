@@ -1,4 +1,6 @@
 //! Definitions of types, functions, and the types that they write.
+ghost use Rattle.std.specs.Prelude.{◌≡◌};
+ghost use Rattle.std.specs.Option.{option_map};
 
 use crate::leaves::{Attribute, Docs, Id};
 use wit_values::Span;
@@ -177,6 +179,7 @@ pub struct Param<'a> {
 }
 
 /// A written type, with the span of its first word.
+#[cycle(written)]
 #[derive(Debug, Drop)]
 pub enum Type<'a> {
     Bool(Span),
@@ -200,8 +203,7 @@ pub enum Type<'a> {
     /// The type of the keys, and that of the values.
     Map(Span, Box<Type<'a>>, Box<Type<'a>>),
     Option(Span, Box<Type<'a>>),
-    /// The type of the value, and that of the error, where there is one.
-    Result(Span, Option<Box<Type<'a>>>, Option<Box<Type<'a>>>),
+    Result(Span, ResultTypes<'a>),
     Tuple(Span, Vec<Type<'a>>),
     /// The type of the value, where there is one.
     Future(Span, Option<Box<Type<'a>>>),
@@ -211,4 +213,29 @@ pub enum Type<'a> {
     Own(Span, Id<'a>),
     /// A resource that is lent.
     Borrow(Span, Id<'a>),
+}
+
+/// The types that a result is written with: that of the value and that of the error, where there are
+/// any.
+#[cycle(written)]
+#[derive(Debug, Drop)]
+pub enum ResultTypes<'a> {
+    Neither,
+    Ok(Box<Type<'a>>),
+    Err(Box<Type<'a>>),
+    Both(Box<Type<'a>>, Box<Type<'a>>),
+}
+
+impl<'a> ResultTypes<'a> {
+    ghost use Rattle.wit_type_tree.specs.Parts.{ok_type};
+
+    /// The type of the value, where there is one.
+    pub fn ok(&self) -> Option<&Type<'a>>
+        ensures { option_map (λ t. t.now) result ≡ ok_type self.now }
+    {
+        match self {
+            ResultTypes::Ok(ok) | ResultTypes::Both(ok, _) => Some(ok),
+            ResultTypes::Neither | ResultTypes::Err(_) => None,
+        }
+    }
 }

@@ -1,21 +1,21 @@
-use Rattle.std.proofs.Common.{◌≡◌, List, [], ◌∷◌, ◌++◌, ◌+◌, Some, take, sym, ap, ◌∙◌, subst}
+use Rattle.std.proofs.Common.{◌≡◌, List, [], ◌∷◌, ◌++◌, ◌+◌, Some, take, refl, sym, ap, ◌∙◌, subst}
 use Rattle.std.proofs.lemmas.List.{take_more, take_all}
 use Rattle.std.proofs.lemmas.Option.{slice_get-get_or}
 use Rattle.std.proofs.lemmas.Result.{err_from_is_err_and}
 use Rattle.wit_type_tree.specs.declared.leaves.Id.{Id}
 use Rattle.wit_type_tree.specs.declared.types.«Type».TheVariants as written
-use Rattle.wit_type_tree.specs.Parts.{boxed_types}
-use Rattle.wit_type_tree.proofs.Rows.{tuple_types, types_of_held, result_types}
+use Rattle.wit_type_tree.specs.Parts.{result_types, boxed_types}
+use Rattle.wit_type_tree.proofs.Rows.{tuple_types, types_of_held}
 use Rattle.wit_syntax.specs.Fault.{Fault}
 use Rattle.wit_syntax.specs.Bodies.{IsInvalidKey, IsEmpty, IsBrokenType}
 use Rattle.wit_arena.specs.Resolving.{env_of, IsWrongType, AreWrongTypes}
 use Rattle.wit_syntax.specs.Shape.{shape_of, handles}
 use Rattle.wit_syntax.proofs.Refusing.{refused_weaker}
-use Rattle.wit_arena.proofs.Written.{AreLegal, legal_one, legal_more, wrong_at, wrong_left, wrong_right}
+use Rattle.wit_arena.proofs.Written.{AreLegal, legal_one, legal_more, wrong_at}
 use Rattle.wit_entries.specs.Requiring.{Requires}
 use Rattle.wit_entries.proofs.Reading.{resolved_word, read_stands, types_one, types_then}
 use Rattle.wit_entries.proofs.Requiring.{grown_then, requires_none, requires_grown, requires_types, requires_one, requires_boxed, requires_parts, requires_only, no_handles}
-use Rattle.wit_entries.proofs.FormKinds.{map_form, tuple_form, result_form, future_form, stream_form, refused_part, refused_parts, refused_form, refused_boxed, legal_parts, legal_only, legal_primitive}
+use Rattle.wit_entries.proofs.FormKinds.{types_two, map_form, tuple_form, result_form, future_form, stream_form, refused_part, refused_parts, refused_form, refused_boxed, refused_among, legal_parts, legal_only, legal_primitive}
 use Rattle.wit_entries.proofs.types.+types.Goals as goal
 
 pub read-returns-in-Some-clause-legal : goal.read-returns-in-Some-clause-legal
@@ -60,15 +60,10 @@ read_form-returns-in_err-value-in-Option-clause-refused t c =
     let p = err_from_is_err_and c.from_residual-in_err-value-in-Option.result c.from_residual-in_err-value-in-Option.ensures.1 in
     rw (c.in-Option.is, p.1, p.2) (refused_part (env_of c.args.names.now) _ (written.Option c.in-Option.span c.in-Option.value) 0 c.deref-in-Option.result.now _ (ap Some (sym c.deref-in-Option.ensures)) c.in_err-value-in-Option.ensures.refused)
 
-pub read_form-returns-in_err-ok-in-Result-clause-refused : goal.read_form-returns-in_err-ok-in-Result-clause-refused
-read_form-returns-in_err-ok-in-Result-clause-refused t c =
-    let p = err_from_is_err_and c.from_residual-in_err-ok-in-Result.result c.from_residual-in_err-ok-in-Result.ensures.1 in
-    rw (c.in-Result.is, p.1, p.2) (refused_parts (env_of c.args.names.now) _ (written.Result c.in-Result.span c.in-Result.ok c.in-Result.err) (boxed_types c.in-Result.ok) _ (λ es f wrong. subst (λ ts. AreWrongTypes (env_of c.args.names.now) es ts f) (sym (result_types c.in-Result.ok c.in-Result.err)) (wrong_left (env_of c.args.names.now) es (boxed_types c.in-Result.ok) (boxed_types c.in-Result.err) f wrong)) c.in_err-ok-in-Result.ensures.refused)
-
-pub read_form-returns-in_err-err-in-Result-clause-refused : goal.read_form-returns-in_err-err-in-Result-clause-refused
-read_form-returns-in_err-err-in-Result-clause-refused t c =
-    let p = err_from_is_err_and c.from_residual-in_err-err-in-Result.result c.from_residual-in_err-err-in-Result.ensures.1 in
-    rw (c.in-Result.is, p.1, p.2) (refused_parts (env_of c.args.names.now) _ (written.Result c.in-Result.span c.in-Result.ok c.in-Result.err) (boxed_types c.in-Result.err) _ (λ es f wrong. subst (λ ts. AreWrongTypes (env_of c.args.names.now) es ts f) (sym (result_types c.in-Result.ok c.in-Result.err)) (wrong_right (env_of c.args.names.now) es (boxed_types c.in-Result.ok) (boxed_types c.in-Result.err) f wrong)) c.in_err-err-in-Result.ensures.refused)
+pub read_form-returns-in_err-outcome-in-Result-clause-refused : goal.read_form-returns-in_err-outcome-in-Result-clause-refused
+read_form-returns-in_err-outcome-in-Result-clause-refused t c =
+    let p = err_from_is_err_and c.from_residual-in_err-outcome-in-Result.result c.from_residual-in_err-outcome-in-Result.ensures.1 in
+    rw (c.in-Result.is, p.1, p.2) (refused_parts (env_of c.args.names.now) _ (written.Result c.in-Result.span c.in-Result.parts) (result_types c.in-Result.parts) _ (λ es f wrong. wrong) c.in_err-outcome-in-Result.ensures.refused)
 
 pub read_form-returns-in_err-check_tuple-in-Tuple-clause-refused : goal.read_form-returns-in_err-check_tuple-in-Tuple-clause-refused
 read_form-returns-in_err-check_tuple-in-Tuple-clause-refused t c =
@@ -107,13 +102,12 @@ read_form-returns-in_ok-check_key-in-Map-clause-legal t c = rw c.in-Map.is (lega
 pub read_form-returns-in_ok-value-in-Option-clause-legal : goal.read_form-returns-in_ok-value-in-Option-clause-legal
 read_form-returns-in_ok-value-in-Option-clause-legal t c = rw c.in-Option.is (legal_only (written.Option c.in-Option.span c.in-Option.value) c.deref-in-Option.result.now (λ f own. own) (ap (λ t. t ∷ []) (sym c.deref-in-Option.ensures)) c.in_ok-value-in-Option.ensures.legal)
 
-pub read_form-returns-in_ok-err-in-Result-clause-read : goal.read_form-returns-in_ok-err-in-Result-clause-read
-read_form-returns-in_ok-err-in-Result-clause-read t c = rw c.in-Result.is (result_form c.args.types.now c.resolve_optional.new.types c.resolve_optional-in-Result.new.types (env_of c.args.names.now) c.args.given.now c.in-Result.span c.in-Result.ok c.in-Result.err c.in_ok-ok-in-Result.ok c.in_ok-err-in-Result.err
-    c.in_ok-ok-in-Result.ensures.is_some c.in_ok-err-in-Result.ensures.is_some c.in_ok-ok-in-Result.ensures.resolved c.in_ok-err-in-Result.ensures.resolved)
+pub read_form-returns-in_ok-outcome-in-Result-clause-read : goal.read_form-returns-in_ok-outcome-in-Result-clause-read
+read_form-returns-in_ok-outcome-in-Result-clause-read t c = rw c.in-Result.is (result_form c.args.types.now c.resolve_result.new.types (env_of c.args.names.now) c.args.given.now c.in-Result.span c.in-Result.parts c.in_ok-outcome-in-Result.outcome.ok c.in_ok-outcome-in-Result.outcome.err
+    c.in_ok-outcome-in-Result.ensures.ok c.in_ok-outcome-in-Result.ensures.err c.in_ok-outcome-in-Result.ensures.resolved)
 
-pub read_form-returns-in_ok-err-in-Result-clause-legal : goal.read_form-returns-in_ok-err-in-Result-clause-legal
-read_form-returns-in_ok-err-in-Result-clause-legal t c = rw c.in-Result.is (legal_parts (written.Result c.in-Result.span c.in-Result.ok c.in-Result.err) (boxed_types c.in-Result.ok ++ boxed_types c.in-Result.err) (λ f own. own) (result_types c.in-Result.ok c.in-Result.err)
-    (legal_more (boxed_types c.in-Result.ok) (boxed_types c.in-Result.err) c.in_ok-ok-in-Result.ensures.legal c.in_ok-err-in-Result.ensures.legal))
+pub read_form-returns-in_ok-outcome-in-Result-clause-legal : goal.read_form-returns-in_ok-outcome-in-Result-clause-legal
+read_form-returns-in_ok-outcome-in-Result-clause-legal t c = rw c.in-Result.is (legal_parts (written.Result c.in-Result.span c.in-Result.parts) (result_types c.in-Result.parts) (λ f own. own) refl c.in_ok-outcome-in-Result.ensures.legal)
 
 pub read_form-returns-in_ok-types-in-Tuple-clause-read : goal.read_form-returns-in_ok-types-in-Tuple-clause-read
 read_form-returns-in_ok-types-in-Tuple-clause-read t c = rw c.in-Tuple.is (tuple_form c.args.types.now c.resolve_types.new.types (env_of c.args.names.now) c.args.given.now c.in-Tuple.span c.in-Tuple.parts c.in_ok-types-in-Tuple.types (rw (← c.deref-in-Tuple-2.ensures.value) c.in_ok-types-in-Tuple.ensures.resolved))
@@ -124,7 +118,7 @@ read_form-returns-in_ok-types-in-Tuple-clause-legal t c = rw c.in-Tuple.is (lega
     (tuple_types c.in-Tuple.span c.in-Tuple.parts ∙ sym c.deref-in-Tuple-2.ensures.value) c.in_ok-types-in-Tuple.ensures.legal)
 
 pub read_form-returns-in_ok-value-in-Future-clause-read : goal.read_form-returns-in_ok-value-in-Future-clause-read
-read_form-returns-in_ok-value-in-Future-clause-read t c = rw c.in-Future.is (future_form c.args.types.now c.resolve_optional-in-Future.new.types (env_of c.args.names.now) c.args.given.now c.in-Future.span c.in-Future.value c.in_ok-value-in-Future.value c.in_ok-value-in-Future.ensures.is_some c.in_ok-value-in-Future.ensures.resolved)
+read_form-returns-in_ok-value-in-Future-clause-read t c = rw c.in-Future.is (future_form c.args.types.now c.resolve_optional.new.types (env_of c.args.names.now) c.args.given.now c.in-Future.span c.in-Future.value c.in_ok-value-in-Future.value c.in_ok-value-in-Future.ensures.is_some c.in_ok-value-in-Future.ensures.resolved)
 
 pub read_form-returns-in_ok-value-in-Future-clause-legal : goal.read_form-returns-in_ok-value-in-Future-clause-legal
 read_form-returns-in_ok-value-in-Future-clause-legal t c = rw c.in-Future.is (legal_parts (written.Future c.in-Future.span c.in-Future.value) (boxed_types c.in-Future.value) (λ f own. own) (types_of_held c.in-Future.value) c.in_ok-value-in-Future.ensures.legal)
@@ -195,9 +189,8 @@ read_form-returns-in_ok-check_key-in-Map-clause-handled t c = rw c.in-Map.is (re
 pub read_form-returns-in_ok-value-in-Option-clause-handled : goal.read_form-returns-in_ok-value-in-Option-clause-handled
 read_form-returns-in_ok-value-in-Option-clause-handled t c = rw c.in-Option.is (requires_only (env_of c.args.names.now) _ (written.Option c.in-Option.span c.in-Option.value) c.deref-in-Option.result.now _ _ tt (ap (λ t. t ∷ []) (sym c.deref-in-Option.ensures)) c.in_ok-value-in-Option.ensures.handled)
 
-pub read_form-returns-in_ok-err-in-Result-clause-handled : goal.read_form-returns-in_ok-err-in-Result-clause-handled
-read_form-returns-in_ok-err-in-Result-clause-handled t c = rw c.in-Result.is (requires_parts (env_of c.args.names.now) _ (written.Result c.in-Result.span c.in-Result.ok c.in-Result.err) (boxed_types c.in-Result.ok ++ boxed_types c.in-Result.err) _ _ tt (result_types c.in-Result.ok c.in-Result.err)
-    (requires_types (env_of c.args.names.now) _ _ (boxed_types c.in-Result.ok) (boxed_types c.in-Result.err) _ _ _ c.in_ok-err-in-Result.ensures.grown c.in_ok-ok-in-Result.ensures.handled c.in_ok-err-in-Result.ensures.handled))
+pub read_form-returns-in_ok-outcome-in-Result-clause-handled : goal.read_form-returns-in_ok-outcome-in-Result-clause-handled
+read_form-returns-in_ok-outcome-in-Result-clause-handled t c = rw c.in-Result.is (requires_parts (env_of c.args.names.now) _ (written.Result c.in-Result.span c.in-Result.parts) (result_types c.in-Result.parts) _ _ tt refl c.in_ok-outcome-in-Result.ensures.handled)
 
 pub read_form-returns-in_ok-types-in-Tuple-clause-handled : goal.read_form-returns-in_ok-types-in-Tuple-clause-handled
 read_form-returns-in_ok-types-in-Tuple-clause-handled t c = rw c.in-Tuple.is (requires_parts (env_of c.args.names.now) _ (written.Tuple c.in-Tuple.span c.in-Tuple.parts) c.deref-in-Tuple-2.result.now _ _ tt (tuple_types c.in-Tuple.span c.in-Tuple.parts ∙ sym c.deref-in-Tuple-2.ensures.value) c.in_ok-types-in-Tuple.ensures.handled)
@@ -218,3 +211,50 @@ pub resolve_optional-returns-in_err-found-in-Some-clause-refused : goal.resolve_
 resolve_optional-returns-in_err-found-in-Some-clause-refused t c =
     let p = err_from_is_err_and c.from_residual.result c.from_residual.ensures.1 in
     rw (c.in-Some.is, p.1, p.2) (refused_boxed (env_of c.args.names.now) _ c.deref.result.now c.in-Some.ty.value _ c.deref.ensures c.in_err-found-in-Some.ensures.refused)
+
+pub resolve_result-returns-in_err-ok-in-Ok-clause-refused : goal.resolve_result-returns-in_err-ok-in-Ok-clause-refused
+resolve_result-returns-in_err-ok-in-Ok-clause-refused t c =
+    let p = err_from_is_err_and c.from_residual.result c.from_residual.ensures.1 in
+    rw (c.in-Ok.is, p.1, p.2) (refused_boxed (env_of c.args.names.now) _ c.deref.result.now c.in-Ok.ok.value _ c.deref.ensures c.in_err-ok-in-Ok.ensures.refused)
+
+pub resolve_result-returns-in_ok-ok-in-Ok-clause-legal : goal.resolve_result-returns-in_ok-ok-in-Ok-clause-legal
+resolve_result-returns-in_ok-ok-in-Ok-clause-legal t c = rw c.in-Ok.is (legal_one c.in-Ok.ok.value (subst (λ ty. (f : Fault) → IsBrokenType ty f → ⊥) c.deref.ensures c.in_ok-ok-in-Ok.ensures.legal))
+
+pub resolve_result-returns-in_ok-ok-in-Ok-clause-handled : goal.resolve_result-returns-in_ok-ok-in-Ok-clause-handled
+resolve_result-returns-in_ok-ok-in-Ok-clause-handled t c = rw c.in-Ok.is (requires_boxed (env_of c.args.names.now) _ c.deref.result.now c.in-Ok.ok.value _ _ c.deref.ensures c.in_ok-ok-in-Ok.ensures.handled)
+
+pub resolve_result-returns-in_err-err-in-Err-clause-refused : goal.resolve_result-returns-in_err-err-in-Err-clause-refused
+resolve_result-returns-in_err-err-in-Err-clause-refused t c =
+    let p = err_from_is_err_and c.from_residual-in_err-err-in-Err.result c.from_residual-in_err-err-in-Err.ensures.1 in
+    rw (c.in-Err.is, p.1, p.2) (refused_boxed (env_of c.args.names.now) _ c.deref-in-Err.result.now c.in-Err.err.value _ c.deref-in-Err.ensures c.in_err-err-in-Err.ensures.refused)
+
+pub resolve_result-returns-in_ok-err-in-Err-clause-legal : goal.resolve_result-returns-in_ok-err-in-Err-clause-legal
+resolve_result-returns-in_ok-err-in-Err-clause-legal t c = rw c.in-Err.is (legal_one c.in-Err.err.value (subst (λ ty. (f : Fault) → IsBrokenType ty f → ⊥) c.deref-in-Err.ensures c.in_ok-err-in-Err.ensures.legal))
+
+pub resolve_result-returns-in_ok-err-in-Err-clause-handled : goal.resolve_result-returns-in_ok-err-in-Err-clause-handled
+resolve_result-returns-in_ok-err-in-Err-clause-handled t c = rw c.in-Err.is (requires_boxed (env_of c.args.names.now) _ c.deref-in-Err.result.now c.in-Err.err.value _ _ c.deref-in-Err.ensures c.in_ok-err-in-Err.ensures.handled)
+
+pub resolve_result-returns-in_err-ok-in-Both-clause-refused : goal.resolve_result-returns-in_err-ok-in-Both-clause-refused
+resolve_result-returns-in_err-ok-in-Both-clause-refused t c =
+    let p = err_from_is_err_and c.from_residual-in_err-ok-in-Both.result c.from_residual-in_err-ok-in-Both.ensures.1 in
+    rw (c.in-Both.is, p.1, p.2) (refused_among (env_of c.args.names.now) _ (c.in-Both.ok.value ∷ c.in-Both.err.value ∷ []) 0 c.deref-in-Both.result.now _ (ap Some (sym c.deref-in-Both.ensures)) c.in_err-ok-in-Both.ensures.refused)
+
+pub resolve_result-returns-in_err-err-in-Both-clause-refused : goal.resolve_result-returns-in_err-err-in-Both-clause-refused
+resolve_result-returns-in_err-err-in-Both-clause-refused t c =
+    let p = err_from_is_err_and c.from_residual-in_err-err-in-Both.result c.from_residual-in_err-err-in-Both.ensures.1 in
+    rw (c.in-Both.is, p.1, p.2) (refused_among (env_of c.args.names.now) _ (c.in-Both.ok.value ∷ c.in-Both.err.value ∷ []) 1 c.deref-in-Both-2.result.now _ (ap Some (sym c.deref-in-Both-2.ensures)) c.in_err-err-in-Both.ensures.refused)
+
+pub resolve_result-returns-in_ok-err-in-Both-clause-resolved : goal.resolve_result-returns-in_ok-err-in-Both-clause-resolved
+resolve_result-returns-in_ok-err-in-Both-clause-resolved t c = rw c.in-Both.is (types_two c.args.types.now c.resolve_type-in-Both.new.types c.resolve_type-in-Both-2.new.types (env_of c.args.names.now) c.args.given.now c.in-Both.ok.value c.in-Both.err.value c.in_ok-ok-in-Both.ok c.in_ok-err-in-Both.err
+    (rw (← c.deref-in-Both.ensures) c.in_ok-ok-in-Both.ensures.resolved)
+    (rw (← c.deref-in-Both-2.ensures) c.in_ok-err-in-Both.ensures.resolved))
+
+pub resolve_result-returns-in_ok-err-in-Both-clause-legal : goal.resolve_result-returns-in_ok-err-in-Both-clause-legal
+resolve_result-returns-in_ok-err-in-Both-clause-legal t c = rw c.in-Both.is (legal_more (c.in-Both.ok.value ∷ []) (c.in-Both.err.value ∷ [])
+    (legal_one c.in-Both.ok.value (subst (λ ty. (f : Fault) → IsBrokenType ty f → ⊥) c.deref-in-Both.ensures c.in_ok-ok-in-Both.ensures.legal))
+    (legal_one c.in-Both.err.value (subst (λ ty. (f : Fault) → IsBrokenType ty f → ⊥) c.deref-in-Both-2.ensures c.in_ok-err-in-Both.ensures.legal)))
+
+pub resolve_result-returns-in_ok-err-in-Both-clause-handled : goal.resolve_result-returns-in_ok-err-in-Both-clause-handled
+resolve_result-returns-in_ok-err-in-Both-clause-handled t c = rw c.in-Both.is (requires_types (env_of c.args.names.now) _ _ (c.in-Both.ok.value ∷ []) (c.in-Both.err.value ∷ []) _ _ _ c.in_ok-err-in-Both.ensures.grown
+    (requires_boxed (env_of c.args.names.now) _ c.deref-in-Both.result.now c.in-Both.ok.value _ _ c.deref-in-Both.ensures c.in_ok-ok-in-Both.ensures.handled)
+    (requires_boxed (env_of c.args.names.now) _ c.deref-in-Both-2.result.now c.in-Both.err.value _ _ c.deref-in-Both-2.ensures c.in_ok-err-in-Both.ensures.handled))

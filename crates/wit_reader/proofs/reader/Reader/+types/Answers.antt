@@ -1,5 +1,5 @@
 use Rattle.wit_type_tree.specs.Marks.{type_marks}
-use Rattle.wit_type_tree.proofs.Rows.{tuple_marks, result_marks, future_marks, stream_marks}
+use Rattle.wit_type_tree.proofs.Rows.{tuple_marks, future_marks, stream_marks}
 use Rattle.wit_reader.proofs.Parts.{then, then_perhaps, on, skip, close, more, same_marks}
 use Rattle.wit_reader.proofs.reader.Reader.+types.Goals as goal
 
@@ -18,8 +18,8 @@ read_option-returns-clause-read t c = then c.in_ok-span.ensures.read (skip c.in_
 
 pub read_result-returns-clause-read : goal.read_result-returns-clause-read
 read_result-returns-clause-read t c =
-    rw c.in_ok-ok.ensures.both.0
-    (same_marks (result_marks c.in_ok-span.span c.in_ok-first.first c.in_ok-ok.err) (then c.in_ok-span.ensures.read (skip c.in_ok-bump.ensures.read (then c.in_ok-first.ensures.read (rw c.in_ok-ok.ensures.both.1 at c.read_err.ensures.read)))))
+    same_marks (rw c.in_ok-ok.ensures.both.0 at c.result_of.ensures)
+    (then c.in_ok-span.ensures.read (skip c.in_ok-bump.ensures.read (then c.in_ok-first.ensures.read (rw c.in_ok-ok.ensures.both.1 at c.read_err.ensures.read))))
 
 pub read_err-returns-clause-read : goal.read_err-returns-clause-read
 read_err-returns-clause-read t c = skip c.in_ok-expect-2.ensures.read c.in_ok-err.ensures.read
