@@ -2,11 +2,11 @@
 use Rattle.std.proofs.Common.{◌≡◌, ◌≢◌, ℕ, zero, suc, ◌-◌, ◌<◌, ◌==◌, ◌&&◌, true, false, List, [], ◌∷◌, ◌++◌, length, take, drop, append-nil, slice_index, Option, Some, None, is_some, IfSome, inl, inr, refl, sym, ap, ◌∙◌, arith, lit<, if◌then◌else◌}
 use Rattle.std.specs.Prelude.{Bool, codes, map, filter, nat_eq}
 use Rattle.std.specs.List.{ends_with, filter_map, flat_map, slice_split, starts_with}
-use Rattle.std.specs.Str.{IsCharBoundary, IsUtf8}
+use Rattle.std.specs.Str.{IsCharBoundary}
 use Rattle.std.specs.Str.Lines.{lines_of_parts}
 use Rattle.std.specs.Str.Pattern.{CutsPrefixes, CutsSuffixes, IsTrimStartMatches, IsTrimEndMatches, FindsCharPrefix, FindsCharSuffix, FindsTextSuffix, HasCharAt, StripsSuffix}
 use Rattle.std.proofs.lemmas.Bool.{cases_Bool, eqb-true, ne_eqb}
-use Rattle.std.proofs.lemmas.Str.{IsUtf8-past_char, encode_ascii}
+use Rattle.std.proofs.lemmas.Str.{encode_ascii}
 use Rattle.std.proofs.lemmas.Str.Pattern.{drop_at_char, ends_text}
 use Rattle.std.proofs.lemmas.List.{take-append-drop}
 use Rattle.std.proofs.Math.Seq.{drop-length}
@@ -54,31 +54,11 @@ slashes-done r (Some n) h z = absurd (let ends = h.ends in omega arith)
 pub slashes-trimmed : (s r : List ℕ) → IsTrimStartMatches (FindsCharPrefix 47) s r → r ≡ behind_slashes s
 slashes-trimmed s r h = sym (slashes-cut s r h.0.0 h.0.1 ∙ slashes-done r h.1.0 h.1.1 h.1.2)
 
--- the text behind a front stands behind it
-behind-some : (front text rest : List ℕ) → behind front text ≡ Some rest → text ≡ front ++ rest
-behind-some front text rest h = by (starts_with nat_eq text front) refl
-  where
-    by : (b : Bool) → starts_with nat_eq text front ≡ b → text ≡ front ++ rest
-    by true e =
-        let some : Some (drop (length front) text) ≡ Some rest = rw e at h in
-        let is : drop (length front) text ≡ rest = cc in
-        let starts : front ≡ take (length front) text = name_equal front (take (length front) text) e in
-        sym (take-append-drop (length front) text) ∙ ap (λ t. t ++ drop (length front) text) (sym starts) ∙ ap (λ t. front ++ t) is
-    by false e = absurd (let wrong : None ≡ Some rest = rw e at h in let f : ⊥ = cc in f)
-
--- one space, and then all, taken off the front
-pub spaces-some : (n : ℕ) (text rest : List ℕ) → 0 < n → behind (codes " ") text ≡ Some rest → behind_spaces n text ≡ behind_spaces (n - 1) rest
-spaces-some zero text rest lt h = absurd (omega arith)
-spaces-some (suc n) text rest lt h = ap (behind_spaces (suc n)) (behind-some (codes " ") text rest h) ∙ ap (λ k. behind_spaces k rest) (omega arith)
-
-pub behind_space-text : (text rest : List ℕ) → behind (codes " ") text ≡ Some rest → IsUtf8 text → IsUtf8 rest
-behind_space-text text rest h u = IsUtf8-past_char text rest 32 u (behind-some (codes " ") text rest h ∙ sym (ap (λ x. x ++ rest) (encode_ascii 32 (lit< tt))))
-
-pub spaces-none : (n : ℕ) (text : List ℕ) → 0 < n → behind (codes " ") text ≡ None → behind_spaces n text ≡ None
+pub spaces-none : (n : ℕ) (text : List ℕ) → 0 < n → ((rest : List ℕ) → text ≢ 32 ∷ rest) → behind_spaces n text ≡ None
 spaces-none zero text lt h = absurd (omega arith)
 spaces-none (suc n) [] lt h = refl
 spaces-none (suc n) (b ∷ text) lt h = elim (cases_Bool (b == 32)) [
-  | inl space ↦ absurd (let at : b ≡ 32 = eqb-true b 32 space in let some : Some text ≡ None = rw at at h in let f : ⊥ = cc in f)
+  | inl space ↦ absurd (h text (ap (λ c. c ∷ text) (eqb-true b 32 space)))
   | inr other ↦ rw other refl
 ]
 
@@ -141,6 +121,18 @@ lines-one text None h none =
 pub lines-many : (text : List ℕ) (found : Option ℕ) → IsFirstByte (is_byte 10) text found → is_some found ≡ true → (length text == 0) ≡ false
 lines-many text None h some = absurd (let f : ⊥ = cc in f)
 lines-many text (Some place) h some = ne_eqb (length text) 0 (λ z. (let high = h.0.high in let f : ⊥ = omega arith in f))
+
+-- the text behind a front stands behind it
+behind-some : (front text rest : List ℕ) → behind front text ≡ Some rest → text ≡ front ++ rest
+behind-some front text rest h = by (starts_with nat_eq text front) refl
+  where
+    by : (b : Bool) → starts_with nat_eq text front ≡ b → text ≡ front ++ rest
+    by true e =
+        let some : Some (drop (length front) text) ≡ Some rest = rw e at h in
+        let is : drop (length front) text ≡ rest = cc in
+        let starts : front ≡ take (length front) text = name_equal front (take (length front) text) e in
+        sym (take-append-drop (length front) text) ∙ ap (λ t. t ++ drop (length front) text) (sym starts) ∙ ap (λ t. front ++ t) is
+    by false e = absurd (let wrong : None ≡ Some rest = rw e at h in let f : ⊥ = cc in f)
 
 -- a comment that begins with three slashes has no other mark
 pub unmarked-slashes : (comment rest : List ℕ) → behind (codes "///") comment ≡ Some rest → behind_slashes rest ≡ unmarked comment

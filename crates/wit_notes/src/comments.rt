@@ -109,7 +109,7 @@ fn without_spaces(text: &str, count: usize) -> &str
     let mut rest = text;
     let mut left = count;
     while left > 0 {
-        match behind(rest, " ") {
+        match rest.strip_prefix(' ') {
             Some(less) => rest = less,
             None => return text,
         }
