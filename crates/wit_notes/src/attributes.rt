@@ -119,10 +119,7 @@ fn check_together(alloc: Global, attributes: &[Attribute<'_>]) -> ParseResult<()
 }
 
 /// The version from which on attributes tell that a thing is deprecated, if they do.
-fn deprecation(
-    alloc: Global,
-    attributes: &[Attribute<'_>],
-) -> Result<Rare<Release>, AllocError>
+fn deprecation(alloc: Global, attributes: &[Attribute<'_>]) -> Result<Rare<Release>, AllocError>
     ensures { IfOk result (λ release. release ≡ deprecation attributes.now) }
 {
     match told_version(attributes, AttributeKind::Deprecated) {
