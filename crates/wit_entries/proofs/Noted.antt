@@ -7,7 +7,6 @@ use Rattle.wit_types.specs.declared.stability.Stability.{Stability}
 use Rattle.wit_types.specs.declared.types.TypeDef.{TypeDef}
 use Rattle.wit_types.specs.declared.types.TypeDefKind.{TypeDefKind}
 use Rattle.wit_types.specs.declared.types.TypeOwner.{TypeOwner}
-use Rattle.wit_functions.specs.declared.function.Function.{Function}
 use Rattle.wit_syntax.specs.Address.{Address}
 use Rattle.wit_arena.specs.Expr.{exprs_of}
 use Rattle.wit_arena.specs.Kind.{kind_of}
@@ -25,14 +24,14 @@ use Rattle.wit_notes.specs.declared.notes.Notes.{Notes as Made}
 told_of : (n : Made) (docs own : Docs) (attributes of : List Attribute) → notes_behind n ≡ notes (docs_of docs) attributes → docs ≡ own → attributes ≡ of → notes_behind n ≡ notes (docs_of own) of
 told_of n docs own attributes of told same_docs same_attributes = told ∙ ap (λ (d : Docs). notes (docs_of d) attributes) same_docs ∙ ap (notes (docs_of own)) same_attributes
 
--- a function has the notes that its docs and its attributes tell
-pub noted_as : (fn : SourceFunction) (f : Function) (n : Made) (docs : Docs) (attributes : List Attribute) → notes_behind n ≡ notes (docs_of docs) attributes → docs ≡ fn.docs → attributes ≡ fn.attributes → f.docs ≡ n.docs → f.stability ≡ n.stability → f.external_id ≡ n.external_id → AreNotes (function_notes fn) f.docs f.stability f.external_id
-noted_as fn f n docs attributes told same_docs same_attributes own_docs own_stability own_id =
+-- these are the notes that the docs and the attributes of a function tell
+pub noted_as : (fn : SourceFunction) (n : Made) (docs : Docs) (attributes : List Attribute) → notes_behind n ≡ notes (docs_of docs) attributes → docs ≡ fn.docs → attributes ≡ fn.attributes → AreNotes (function_notes fn) n.docs n.stability n.external_id
+noted_as fn n docs attributes told same_docs same_attributes =
     let all = told_of n docs fn.docs attributes fn.attributes told same_docs same_attributes in
     record {
-      docs = own_docs ∙ ap (λ (m : Notes). m.docs) all;
-      stability = own_stability ∙ ap (λ (m : Notes). m.stability) all;
-      external_id = own_id ∙ ap (λ (m : Notes). m.external_id) all;
+      docs = ap (λ (m : Notes). m.docs) all;
+      stability = ap (λ (m : Notes). m.stability) all;
+      external_id = ap (λ (m : Notes). m.external_id) all;
     }
 
 -- a definition is met with its notes, and what is in its body with its stability

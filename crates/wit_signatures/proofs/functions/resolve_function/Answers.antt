@@ -34,7 +34,7 @@ returns-clause-adds c = λ fn at s. (
     let hs = c.args.scope.functions.now in
     let d = c.index-scope-place.result in
     let here = function_behind (get_or hs c.args.place d) in
-    let noted = noted_as here _ c.in_ok-notes.notes c.docs.result.now c.attributes.result.now c.in_ok-notes.ensures.told c.docs.ensures c.attributes.ensures refl refl refl in
+    let noted = noted_as here c.in_ok-notes.notes c.docs.result.now c.attributes.result.now c.in_ok-notes.ensures.told c.docs.ensures c.attributes.ensures in
     held_adds c.args.types.now c.resolve_signature.new.types s c.args.scope.names.now here fn _ (held_at hs c.args.place d fn c.requires.place at) c.in_ok-signature.ensures.over c.in_ok-name.ensures c.kind_of.ensures c.span.ensures noted)
 
 pub returns-clause-named : goal.returns-clause-named
