@@ -1,5 +1,6 @@
 //! What the files of a package make: its arenas, and what it names of other packages.
-ghost use Rattle.std.specs.Prelude.{◌≡◌, [], map, IfOk, IfErr};
+ghost use Rattle.std.specs.Prelude.{◌≡◌, Ok, [], map, IfOk, IfErr};
+ghost use Rattle.wit_type_tree.specs.Refusal.{IsWantOfMemory};
 ghost use Rattle.wit_syntax.specs.Fault.{Fault};
 ghost use Rattle.wit_syntax.specs.Source.{first_takings};
 ghost use Rattle.wit_syntax.specs.Broken.{IsBrokenNames, IsBroken, Refused};
@@ -93,6 +94,23 @@ fn resolve_files<'f, 'a>(
     })
 }
 
+/// The types of files with these names, from nothing, and what else the files add.
+fn resolve_types<'f, 'a>(
+    alloc: Global,
+    names: &FileNames<'f, 'a>,
+    files: &'f [PackageFile<'a>],
+) -> ParseResult<(Entries, Resolved)>
+    requires files { names.now ≡ files.now }
+    requires legal { (f : Fault) → IsBrokenNames names.now f → ⊥ }
+    ensures added { IfOk result (λ r. AddsFiles names.now r.0 r.1.interfaces r.1.worlds r.1.required.items) }
+    ensures unknown { IfOk result (λ r. r.1.unknown_type_spans.items ≡ map (λ t. t.id.span) (first_takings names.now)) }
+    ensures refused { IfErr result (Refused (IsBroken names.now)) }
+{
+    let mut begun = Entries::new(alloc);
+    let added = resolve_files(alloc, names, files, &mut begun);
+    beside(begun, added)
+}
+
 /// What files with these names name of other packages, whose types are first used at these spans, and
 /// these have to be resources.
 fn foreign_items(
@@ -130,26 +148,43 @@ pub struct Contents {
     pub foreign: ForeignItems,
 }
 
+/// These arenas, with no more room than they need, beside what is named of other packages, where
+/// that is told.
+///
+/// The error is want of memory.
+fn with_foreign(
+    types: Entries,
+    interfaces: Arena<Interface, InterfacePlace>,
+    worlds: Arena<World, WorldPlace>,
+    named: Result<ForeignItems, AllocError>,
+) -> ParseResult<Contents>
+    ensures types { IfOk result (λ c. c.arenas.types ≡ types) }
+    ensures interfaces { IfOk result (λ c. c.arenas.interfaces ≡ interfaces) }
+    ensures worlds { IfOk result (λ c. c.arenas.worlds ≡ worlds) }
+    ensures foreign { IfOk result (λ c. named ≡ Ok c.foreign) }
+    ensures refused { IfErr result IsWantOfMemory }
+{
+    let made = Arenas {
+        types: types.into_arena().fitted(),
+        interfaces: interfaces.fitted(),
+        worlds: worlds.fitted(),
+    };
+    let (arenas, foreign) = beside(made, named)?;
+    Ok(Contents { arenas, foreign })
+}
+
 /// What files with these names make, and what they name of other packages.
 pub fn resolve_contents<'f, 'a>(
     alloc: Global,
-    files: &'f [PackageFile<'a>],
     names: &FileNames<'f, 'a>,
+    files: &'f [PackageFile<'a>],
 ) -> ParseResult<Contents>
     requires files { names.now ≡ files.now }
     requires legal { (f : Fault) → IsBrokenNames names.now f → ⊥ }
     ensures made { IfOk result (λ c. MakeContents names.now c.arenas.types c.arenas.interfaces c.arenas.worlds c.foreign) }
     ensures refused { IfErr result (Refused (IsBroken names.now)) }
 {
-    let mut begun = Entries::new(alloc);
-    let added = resolve_files(alloc, names, files, &mut begun);
-    let (types, resolved) = beside(begun, added)?;
+    let (types, resolved) = resolve_types(alloc, names, files)?;
     let named = foreign_items(alloc, names, resolved.unknown_type_spans, resolved.required);
-    let made = Arenas {
-        types: types.into_arena().fitted(),
-        interfaces: resolved.interfaces.fitted(),
-        worlds: resolved.worlds.fitted(),
-    };
-    let (arenas, foreign) = beside(made, named)?;
-    Ok(Contents { arenas, foreign })
+    with_foreign(types, resolved.interfaces, resolved.worlds, named)
 }

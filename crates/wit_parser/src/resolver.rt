@@ -104,7 +104,7 @@ fn resolve_named<'f, 'a>(
     ensures made { IfOk result (IsMade names.now) }
     ensures refused { IfErr result (Refused (IsBroken names.now)) }
 {
-    let made = resolve_contents(alloc, files, names)?;
+    let made = resolve_contents(alloc, names, files)?;
     let (contents, heading) = beside(made, package_heading(alloc, header, files))?;
     Ok(UnresolvedPackage::new(
         heading.0,
