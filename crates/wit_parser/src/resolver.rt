@@ -94,8 +94,8 @@ fn package_heading(
 /// The package that files with these names make, whose last header this is.
 fn resolve_named<'f, 'a>(
     alloc: Global,
-    files: &'f [PackageFile<'a>],
     names: &FileNames<'f, 'a>,
+    files: &'f [PackageFile<'a>],
     header: &tree::PackageName<'_>,
 ) -> ParseResult<UnresolvedPackage>
     requires header { last_header names.now ≡ Some header.now }
@@ -155,7 +155,7 @@ impl<'a> Resolver<'a> {
         };
         let files = self.pushed();
         let names = FileNames::gather(alloc, files)?;
-        resolve_named(alloc, files, &names, header)
+        resolve_named(alloc, &names, files, header)
     }
 
     /// Keeps a file behind the others.
