@@ -94,23 +94,6 @@ fn resolve_files<'f, 'a>(
     })
 }
 
-/// The types of files with these names, from nothing, and what else the files add.
-fn resolve_types<'f, 'a>(
-    alloc: Global,
-    names: &FileNames<'f, 'a>,
-    files: &'f [PackageFile<'a>],
-) -> ParseResult<(Entries, Resolved)>
-    requires files { names.now ≡ files.now }
-    requires legal { (f : Fault) → IsBrokenNames names.now f → ⊥ }
-    ensures added { IfOk result (λ r. AddsFiles names.now r.0 r.1.interfaces r.1.worlds r.1.required.items) }
-    ensures unknown { IfOk result (λ r. r.1.unknown_type_spans.items ≡ map (λ t. t.id.span) (first_takings names.now)) }
-    ensures refused { IfErr result (Refused (IsBroken names.now)) }
-{
-    let mut begun = Entries::new(alloc);
-    let added = resolve_files(alloc, names, files, &mut begun);
-    beside(begun, added)
-}
-
 /// What files with these names name of other packages, whose types are first used at these spans, and
 /// these have to be resources.
 fn foreign_items(
@@ -133,6 +116,68 @@ fn foreign_items(
     })
 }
 
+/// The interfaces and the worlds of files, and what they name of other packages.
+#[derive(Drop)]
+struct Made {
+    interfaces: Arena<Interface, InterfacePlace>,
+    worlds: Arena<World, WorldPlace>,
+    foreign: ForeignItems,
+}
+
+/// These interfaces and worlds, with what is named of other packages, where that is told.
+///
+/// The error is want of memory.
+fn with_foreign(
+    interfaces: Arena<Interface, InterfacePlace>,
+    worlds: Arena<World, WorldPlace>,
+    named: Result<ForeignItems, AllocError>,
+) -> ParseResult<Made>
+    ensures interfaces { IfOk result (λ made. made.interfaces ≡ interfaces) }
+    ensures worlds { IfOk result (λ made. made.worlds ≡ worlds) }
+    ensures foreign { IfOk result (λ made. named ≡ Ok made.foreign) }
+    ensures refused { IfErr result IsWantOfMemory }
+{
+    let (arenas, foreign) = beside((interfaces, worlds), named)?;
+    let (interfaces, worlds) = arenas;
+    Ok(Made {
+        interfaces,
+        worlds,
+        foreign,
+    })
+}
+
+/// Adds to no types what files with these names make.
+fn resolve_named<'f, 'a>(
+    alloc: Global,
+    names: &FileNames<'f, 'a>,
+    files: &'f [PackageFile<'a>],
+    types: &mut Entries,
+) -> ParseResult<Made>
+    requires empty { types.old ≡ [] }
+    requires files { names.now ≡ files.now }
+    requires legal { (f : Fault) → IsBrokenNames names.now f → ⊥ }
+    ensures made { IfOk result (λ made. MakeContents names.now types.new made.interfaces made.worlds made.foreign) }
+    ensures refused { IfErr result (Refused (IsBroken names.now)) }
+{
+    let resolved = resolve_files(alloc, names, files, types)?;
+    let named = foreign_items(alloc, names, resolved.unknown_type_spans, resolved.required);
+    with_foreign(resolved.interfaces, resolved.worlds, named)
+}
+
+/// Adds to no types what files make.
+fn resolve_gathered<'f, 'a>(
+    alloc: Global,
+    types: &mut Entries,
+    files: &'f [PackageFile<'a>],
+) -> ParseResult<Made>
+    requires empty { types.old ≡ [] }
+    ensures made { IfOk result (λ made. MakeContents files.now types.new made.interfaces made.worlds made.foreign) }
+    ensures refused { IfErr result (Refused (IsBroken files.now)) }
+{
+    let names = FileNames::gather(alloc, files)?;
+    resolve_named(alloc, &names, files, types)
+}
+
 /// What files make in the arenas.
 #[derive(Drop)]
 pub struct Arenas {
@@ -148,43 +193,21 @@ pub struct Contents {
     pub foreign: ForeignItems,
 }
 
-/// These arenas, with no more room than they need, beside what is named of other packages, where
-/// that is told.
-///
-/// The error is want of memory.
-fn with_foreign(
-    types: Entries,
-    interfaces: Arena<Interface, InterfacePlace>,
-    worlds: Arena<World, WorldPlace>,
-    named: Result<ForeignItems, AllocError>,
-) -> ParseResult<Contents>
-    ensures types { IfOk result (λ c. c.arenas.types ≡ types) }
-    ensures interfaces { IfOk result (λ c. c.arenas.interfaces ≡ interfaces) }
-    ensures worlds { IfOk result (λ c. c.arenas.worlds ≡ worlds) }
-    ensures foreign { IfOk result (λ c. named ≡ Ok c.foreign) }
-    ensures refused { IfErr result IsWantOfMemory }
+/// What files make, and what they name of other packages. No arena has more room than it needs.
+pub fn resolve_contents(alloc: Global, files: &[PackageFile<'_>]) -> ParseResult<Contents>
+    ensures made { IfOk result (λ c. MakeContents files.now c.arenas.types c.arenas.interfaces c.arenas.worlds c.foreign) }
+    ensures refused { IfErr result (Refused (IsBroken files.now)) }
 {
-    let made = Arenas {
+    let mut begun = Entries::new(alloc);
+    let added = resolve_gathered(alloc, &mut begun, files);
+    let (types, made) = beside(begun, added)?;
+    let arenas = Arenas {
         types: types.into_arena().fitted(),
-        interfaces: interfaces.fitted(),
-        worlds: worlds.fitted(),
+        interfaces: made.interfaces.fitted(),
+        worlds: made.worlds.fitted(),
     };
-    let (arenas, foreign) = beside(made, named)?;
-    Ok(Contents { arenas, foreign })
-}
-
-/// What files with these names make, and what they name of other packages.
-pub fn resolve_contents<'f, 'a>(
-    alloc: Global,
-    names: &FileNames<'f, 'a>,
-    files: &'f [PackageFile<'a>],
-) -> ParseResult<Contents>
-    requires files { names.now ≡ files.now }
-    requires legal { (f : Fault) → IsBrokenNames names.now f → ⊥ }
-    ensures made { IfOk result (λ c. MakeContents names.now c.arenas.types c.arenas.interfaces c.arenas.worlds c.foreign) }
-    ensures refused { IfErr result (Refused (IsBroken names.now)) }
-{
-    let (types, resolved) = resolve_types(alloc, names, files)?;
-    let named = foreign_items(alloc, names, resolved.unknown_type_spans, resolved.required);
-    with_foreign(types, resolved.interfaces, resolved.worlds, named)
+    Ok(Contents {
+        arenas,
+        foreign: made.foreign,
+    })
 }

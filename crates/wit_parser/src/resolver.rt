@@ -4,7 +4,7 @@ ghost use Rattle.std.specs.Option.{option_copied, option_map};
 ghost use Rattle.semver.specs.Identifiers.{parts_of};
 ghost use Rattle.wit_values.specs.ReleaseText.{release_parts};
 ghost use Rattle.wit_syntax.specs.Fault.{Fault};
-ghost use Rattle.wit_syntax.specs.Broken.{IsMismatch, IsBroken, IsBrokenNames, IsLegal, Refused, headers, last_header};
+ghost use Rattle.wit_syntax.specs.Broken.{IsMismatch, IsBroken, IsLegal, Refused, headers, last_header};
 ghost use Rattle.wit_items.specs.Headers.{header_at, have_docs as the_docs};
 ghost use Rattle.wit_type_tree.specs.Refusal.{IsWantOfMemory};
 ghost use Rattle.wit_contents.specs.Between.{IsMade};
@@ -15,7 +15,6 @@ ghost use Rattle.wit_arena.specs.Faithful.{IsFaithful, HasArena};
 
 use std::alloc::{AllocError, Global};
 use wit_contents::contents::resolve_contents;
-use wit_files::FileNames;
 use wit_items::header::{check_docs, have_docs, is_same, mismatch, package_docs};
 use wit_model::UnresolvedPackage;
 use wit_notes::package_name;
@@ -91,20 +90,17 @@ fn package_heading(
     Ok((name, docs))
 }
 
-/// The package that files with these names make, whose last header this is.
-fn resolve_named<'f, 'a>(
+/// The package that files make whose last header this is.
+fn resolve_named(
     alloc: Global,
-    names: &FileNames<'f, 'a>,
-    files: &'f [PackageFile<'a>],
+    files: &[PackageFile<'_>],
     header: &tree::PackageName<'_>,
 ) -> ParseResult<UnresolvedPackage>
-    requires header { last_header names.now ≡ Some header.now }
-    requires files { names.now ≡ files.now }
-    requires legal { (f : Fault) → IsBrokenNames names.now f → ⊥ }
-    ensures made { IfOk result (IsMade names.now) }
-    ensures refused { IfErr result (Refused (IsBroken names.now)) }
+    requires header { last_header files.now ≡ Some header.now }
+    ensures made { IfOk result (IsMade files.now) }
+    ensures refused { IfErr result (Refused (IsBroken files.now)) }
 {
-    let made = resolve_contents(alloc, names, files)?;
+    let made = resolve_contents(alloc, files)?;
     let (contents, heading) = beside(made, package_heading(alloc, header, files))?;
     Ok(UnresolvedPackage::new(
         heading.0,
@@ -153,9 +149,7 @@ impl<'a> Resolver<'a> {
             Some(header) => header,
             None => return Err(refuse(alloc, 4, Span::default(), NO_HEADER)),
         };
-        let files = self.pushed();
-        let names = FileNames::gather(alloc, files)?;
-        resolve_named(alloc, &names, files, header)
+        resolve_named(alloc, self.pushed(), header)
     }
 
     /// Keeps a file behind the others.

@@ -10,13 +10,13 @@ use Rattle.wit_parser.proofs.resolver.resolve_named.Goals as goal
 
 pub returns-clause-made : goal.returns-clause-made
 returns-clause-made c =
-    let files = c.args.names.now in
+    let files = c.args.files.now in
     let header = c.args.header.now in
     let p = c.new.result in
     let of = c.in_ok-contents.contents in
     let made : MakeContents files of.arenas.types of.arenas.interfaces of.arenas.worlds of.foreign = rw c.in_ok-contents.ensures.both.0 c.in_ok-made.ensures.made in
     let e = c.new.ensures in
-    let n = rw (c.in_ok-contents.ensures.both.1, sym c.requires.files) at c.package_heading.ensures in
+    let n = rw c.in_ok-contents.ensures.both.1 at c.package_heading.ensures in
     let others : NamesOthers files p = record { deps = e.foreign_deps ∙ made.deps; spans = e.foreign_dep_spans ∙ made.spans; unknown = e.unknown_type_spans ∙ made.unknown } in
     record {
       legal = files_legal files _ _ _ _ made.added header c.requires.header;

@@ -1,10 +1,8 @@
 use Rattle.std.proofs.Common.{◌≡◌, List, None, inl, inr, sym, ap, ◌∙◌}
 use Rattle.std.specs.Option.{option_copied}
-use Rattle.std.proofs.lemmas.Result.{err_from_is_err_and}
 use Rattle.wit_tree.specs.declared.tree.PackageFile.{PackageFile}
 use Rattle.wit_syntax.specs.Fault.{fault}
-use Rattle.wit_syntax.specs.Broken.{IsBrokenNames, IsBroken, Headerless, Names, last_header}
-use Rattle.wit_syntax.proofs.Refusing.{refused_weaker}
+use Rattle.wit_syntax.specs.Broken.{Headerless, last_header}
 use Rattle.wit_syntax.proofs.Headers.{no_header, span_of_ends}
 use Rattle.wit_parser.proofs.resolver.Resolver.resolve_pushed.Goals as goal
 
@@ -18,20 +16,11 @@ returns-in-None-clause-refused c =
       | inr says ↦ inr (Headerless (record { none = no_header files none; is = says ∙ ap (fault 4) at }))
     ]
 
-pub resolve_named-requires-clause-header : goal.resolve_named-requires-clause-header
-resolve_named-requires-clause-header c = ap last_header (c.in_ok-names.ensures.files ∙ c.pushed-files.ensures) ∙ (sym c.last_header.ensures ∙ ap option_copied c.in-Some.is)
-
-pub resolve_named-requires-clause-legal : goal.resolve_named-requires-clause-legal
-resolve_named-requires-clause-legal c = rw c.in_ok-names.ensures.files c.in_ok-names.ensures.legal
-
-pub returns-in_err-names-clause-refused : goal.returns-in_err-names-clause-refused
-returns-in_err-names-clause-refused c =
-    let p = err_from_is_err_and c.from_residual.result c.from_residual.ensures.1 in
-    let files : List PackageFile = c.args.self.now.files.items in
-    rw (p.1, p.2) (refused_weaker (IsBrokenNames files) (IsBroken files) _ (λ f h. Names h) (rw c.pushed-files.ensures at c.in_err-names.ensures.refused))
+pub resolve_named-requires : goal.resolve_named-requires
+resolve_named-requires c = record { header = ap last_header c.pushed.ensures ∙ (sym c.last_header.ensures ∙ ap option_copied c.in-Some.is) }
 
 pub returns-clause-made : goal.returns-clause-made
-returns-clause-made c = rw (c.in_ok-names.ensures.files, c.pushed-files.ensures) at c.resolve_named.ensures.made
+returns-clause-made c = rw c.pushed.ensures at c.resolve_named.ensures.made
 
 pub returns-clause-refused : goal.returns-clause-refused
-returns-clause-refused c = rw (c.in_ok-names.ensures.files, c.pushed-files.ensures) at c.resolve_named.ensures.refused
+returns-clause-refused c = rw c.pushed.ensures at c.resolve_named.ensures.refused
