@@ -1,8 +1,7 @@
 //! Reading types.
-ghost use Rattle.std.specs.Prelude.{◌≡◌, ◌+◌, [], ◌∷◌, ◌++◌, IfOk, IfErr, IfSome, codes};
+ghost use Rattle.std.specs.Prelude.{◌≡◌, [], ◌∷◌, ◌++◌, IfOk, IfErr, IfSome, codes};
 ghost use Rattle.std.specs.List.{flat_map};
-ghost use Rattle.wit_values.specs.declared.span.Span.{Span as TheSpan};
-ghost use Rattle.wit_type_tree.specs.Marks.{spelled, counted, type_marks, boxed_marks, size_marks};
+ghost use Rattle.wit_type_tree.specs.Marks.{spelled, counted, primitive_word, type_marks, boxed_marks, size_marks};
 ghost use Rattle.wit_reader.specs.Deeper.{word_begins_type, kind_begins_type, deeper_fault};
 
 use crate::primitive::primitive;
@@ -11,7 +10,7 @@ use wit_lex::fault::{ReadError, ReadFault, ReadResult};
 use wit_lex::kind::Kind;
 use wit_lex::word::Word;
 use wit_tree::Span;
-use wit_tree::tree::{ResultTypes, Type};
+use wit_tree::tree::{Primitive, ResultTypes, Type};
 use wit_values::{beside, push};
 
 /// How many levels of types are read.
@@ -99,12 +98,11 @@ impl<'a> Reader<'a> {
     }
 
     /// The primitive type that the token is.
-    fn primitive(&self) -> Option<Type<'a>>
-        ensures { IfSome result (λ t. (span : TheSpan) × (type_marks t ≡ spelled span self.now.token.text.now ∷ [])
-            × (span.start ≡ self.now.offset + self.now.token.start) × (span.end ≡ self.now.offset + self.now.token.end)) }
+    fn primitive(&self) -> Option<Primitive>
+        ensures { IfSome result (λ p. primitive_word p ≡ self.now.token.text.now) }
     {
         match self.token.kind {
-            Kind::Word(word) => primitive(word, self.span()),
+            Kind::Word(word) => primitive(word),
             _ => None,
         }
     }
@@ -115,9 +113,10 @@ impl<'a> Reader<'a> {
         ensures refused { IfErr result (λ e. IsRefused self.old e) }
     {
         match self.primitive() {
-            Some(ty) => {
-                let (ty, _) = beside(ty, self.bump())?;
-                Ok(ty)
+            Some(primitive) => {
+                let span = self.span();
+                self.bump()?;
+                Ok(Type::Primitive(span, primitive))
             }
             None => Err(self.refuse(ReadFault::Token)),
         }

@@ -5,8 +5,8 @@ use semver::Version;
 use std::fmt;
 pub use wit_type_tree::leaves::{Attribute, Docs, Id};
 pub use wit_type_tree::types::{
-    Case, EnumCase, Field, Flag, Func, FuncForm, NamedFunc, Param, ResourceFunc, ResultTypes, Type,
-    TypeBody, TypeDef,
+    Case, EnumCase, Field, Flag, Func, FuncForm, NamedFunc, Param, Primitive, ResourceFunc,
+    ResultTypes, Type, TypeBody, TypeDef,
 };
 use wit_values::Span;
 

@@ -22,7 +22,9 @@ use Rattle.wit_type_tree.specs.declared.types.FuncForm.{FuncForm}
 use Rattle.wit_type_tree.specs.declared.types.FuncForm.TheVariants.{Plain as PlainForm, Async, Getter, Setter}
 use Rattle.wit_type_tree.specs.declared.types.Param.{Param}
 use Rattle.wit_type_tree.specs.declared.types.TypeDef.{TypeDef}
-use Rattle.wit_type_tree.specs.declared.types.«Type».{«Type» as Written, Bool, U8, U16, U32, U64, S8, S16, S32, S64, F32, F64, Char, String, ErrorContext, Name, List', FixedLengthList', Map', Option', Result, Tuple', Future', Stream', Own, Borrow, Held-Type-Future-1, None', Some', Row_of-Type, end_of-Type, more_of-Type}
+use Rattle.wit_type_tree.specs.declared.types.Primitive.{Primitive}
+use Rattle.wit_type_tree.specs.declared.types.Primitive.TheVariants as primitive
+use Rattle.wit_type_tree.specs.declared.types.«Type».{«Type» as Written, Primitive as Word, Name, List', FixedLengthList', Map', Option', Result, Tuple', Future', Stream', Own, Borrow, Held-Type-Future-1, None', Some', Row_of-Type, end_of-Type, more_of-Type}
 use Rattle.wit_type_tree.specs.declared.types.ResultTypes.{ResultTypes, Neither, Ok', Err', Both'}
 
 pub data Mark : Type 0 where
@@ -63,22 +65,26 @@ attributes_marks attributes = flat_map attribute_marks attributes
 abbrev pub front_marks : Docs → List Attribute → List Mark
 front_marks docs attributes = documented docs ∷ attributes_marks attributes
 
+-- the word of a primitive type
+abbrev pub primitive_word : Primitive → List ℕ
+primitive_word primitive.Bool = codes "bool"
+primitive_word primitive.U8 = codes "u8"
+primitive_word primitive.U16 = codes "u16"
+primitive_word primitive.U32 = codes "u32"
+primitive_word primitive.U64 = codes "u64"
+primitive_word primitive.S8 = codes "s8"
+primitive_word primitive.S16 = codes "s16"
+primitive_word primitive.S32 = codes "s32"
+primitive_word primitive.S64 = codes "s64"
+primitive_word primitive.F32 = codes "f32"
+primitive_word primitive.F64 = codes "f64"
+primitive_word primitive.Char = codes "char"
+primitive_word primitive.String = codes "string"
+primitive_word primitive.ErrorContext = codes "error-context"
+
 abbrev mutual
   pub type_marks : Written → List Mark
-  type_marks (Bool s) = spelled s (codes "bool") ∷ []
-  type_marks (U8 s) = spelled s (codes "u8") ∷ []
-  type_marks (U16 s) = spelled s (codes "u16") ∷ []
-  type_marks (U32 s) = spelled s (codes "u32") ∷ []
-  type_marks (U64 s) = spelled s (codes "u64") ∷ []
-  type_marks (S8 s) = spelled s (codes "s8") ∷ []
-  type_marks (S16 s) = spelled s (codes "s16") ∷ []
-  type_marks (S32 s) = spelled s (codes "s32") ∷ []
-  type_marks (S64 s) = spelled s (codes "s64") ∷ []
-  type_marks (F32 s) = spelled s (codes "f32") ∷ []
-  type_marks (F64 s) = spelled s (codes "f64") ∷ []
-  type_marks (Char s) = spelled s (codes "char") ∷ []
-  type_marks (String s) = spelled s (codes "string") ∷ []
-  type_marks (ErrorContext s) = spelled s (codes "error-context") ∷ []
+  type_marks (Word s p) = spelled s (primitive_word p) ∷ []
   type_marks (Name id) = named id ∷ []
   type_marks (List' s p t) = spelled s (codes "list") ∷ type_marks t
   type_marks (FixedLengthList' s p t size) = spelled s (codes "list") ∷ type_marks t ++ counted size ∷ []

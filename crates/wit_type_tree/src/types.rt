@@ -178,24 +178,30 @@ pub struct Param<'a> {
     pub ty: Type<'a>,
 }
 
+/// A type that is a word of the language by itself.
+#[derive(Clone, Copy, Debug, PartialEq, Eq)]
+pub enum Primitive {
+    Bool,
+    U8,
+    U16,
+    U32,
+    U64,
+    S8,
+    S16,
+    S32,
+    S64,
+    F32,
+    F64,
+    Char,
+    String,
+    ErrorContext,
+}
+
 /// A written type, with the span of its first word.
 #[cycle(written)]
 #[derive(Debug, Drop)]
 pub enum Type<'a> {
-    Bool(Span),
-    U8(Span),
-    U16(Span),
-    U32(Span),
-    U64(Span),
-    S8(Span),
-    S16(Span),
-    S32(Span),
-    S64(Span),
-    F32(Span),
-    F64(Span),
-    Char(Span),
-    String(Span),
-    ErrorContext(Span),
+    Primitive(Span, Primitive),
     Name(Id<'a>),
     List(Span, Box<Type<'a>>),
     /// A list of a fixed length: the type of its items, and how many there are.
