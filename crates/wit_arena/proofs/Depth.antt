@@ -13,7 +13,8 @@ use Rattle.wit_types.specs.declared.types.TypeDef.{TypeDef}
 use Rattle.wit_types.specs.declared.types.TypeOwner.{TypeOwner}
 use Rattle.wit_syntax.specs.Form.{Form}
 use Rattle.wit_arena.specs.Kind.{kind_of}
-use Rattle.wit_syntax.specs.Node.{Primitive, Tree, Head, Leaf, Named, Unnamed, node_map, primitive_type}
+use Rattle.wit_type_tree.specs.declared.types.Primitive.{Primitive}
+use Rattle.wit_syntax.specs.Node.{Tree, Head, Leaf, Named, Unnamed, node_map, primitive_type}
 use Rattle.wit_syntax.specs.Shape.{Shape, Shapes}
 use Rattle.wit_syntax.specs.Shape as shape
 use Rattle.wit_syntax.specs.Notes.{Notes, AreNotes}

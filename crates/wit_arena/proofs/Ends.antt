@@ -4,6 +4,8 @@ use Rattle.std.specs.Prelude.{slice_get, take, drop}
 use Rattle.std.proofs.lemmas.List.{take-append-le, take-append-drop, length-take-le}
 use Rattle.std.proofs.lemmas.Option.{slice_get_within}
 use Rattle.wit_type_tree.specs.declared.leaves.Id.{Id}
+use Rattle.wit_type_tree.specs.declared.types.Primitive.{Primitive}
+use Rattle.wit_type_tree.specs.declared.types.Primitive.TheVariants as primitive
 use Rattle.wit_type_tree.specs.declared.types.«Type».{«Type» as Written}
 use Rattle.wit_type_tree.specs.declared.types.«Type».TheVariants as written
 use Rattle.wit_type_tree.specs.declared.types.TypeBody.{TypeBody}
@@ -15,8 +17,7 @@ use Rattle.wit_types.specs.declared.types.TypeDef.{TypeDef}
 use Rattle.wit_types.specs.declared.types.TypeOwner.{TypeOwner}
 use Rattle.wit_syntax.specs.Form.{Form, ResourceForm, AliasForm, UnknownForm}
 use Rattle.wit_arena.specs.Kind.{kind_of}
-use Rattle.wit_syntax.specs.Node.{Primitive, Head, Node, Leaf, Named, Unnamed, Nothing, node_map, unfolded, primitive_type}
-use Rattle.wit_syntax.specs.Node as node
+use Rattle.wit_syntax.specs.Node.{Head, Node, Leaf, Named, Unnamed, Nothing, node_map, unfolded, primitive_type}
 use Rattle.wit_syntax.specs.Shape.{Shapes, Prim, Word, one, written_body, body_of}
 use Rattle.wit_syntax.specs.Address.{Address}
 use Rattle.wit_syntax.specs.Source.{ScopeName, Used, Defined, Taken, Place, local_name, meaning, head, placed, name_form, name_body, name_scope, name_parts, named_node}
@@ -86,20 +87,7 @@ abbrev IsWord : Shapes → Type 0
 IsWord xs = ((p : Primitive) × (xs ≡ one (Prim p))) ⊎ ((id : Id) × (xs ≡ one (Word id)))
 
 alias_written : (t : Written) → (written_body t).form ≡ AliasForm → IsWord (written_body t).parts
-alias_written (written.Bool span) h = inl (node.Bool, refl)
-alias_written (written.U8 span) h = inl (node.U8, refl)
-alias_written (written.U16 span) h = inl (node.U16, refl)
-alias_written (written.U32 span) h = inl (node.U32, refl)
-alias_written (written.U64 span) h = inl (node.U64, refl)
-alias_written (written.S8 span) h = inl (node.S8, refl)
-alias_written (written.S16 span) h = inl (node.S16, refl)
-alias_written (written.S32 span) h = inl (node.S32, refl)
-alias_written (written.S64 span) h = inl (node.S64, refl)
-alias_written (written.F32 span) h = inl (node.F32, refl)
-alias_written (written.F64 span) h = inl (node.F64, refl)
-alias_written (written.Char span) h = inl (node.Char, refl)
-alias_written (written.String span) h = inl (node.String, refl)
-alias_written (written.ErrorContext span) h = inl (node.ErrorContext, refl)
+alias_written (written.Primitive span p) h = inl (p, refl)
 alias_written (written.Name id) h = inr (id, refl)
 alias_written _ h = absurd (let f : ⊥ = cc in f)
 
@@ -114,20 +102,8 @@ alias_named (Taken attributes id) h = absurd (let f : ⊥ = cc in f)
 
 -- a primitive is no entry
 part_primitive : (f : ℕ → Option EntryEnd) (p : Primitive) (ts : List Ty) → part_end f (primitive_type p ∷ ts) ≡ Some IsOther
-part_primitive f node.Bool ts = refl
-part_primitive f node.U8 ts = refl
-part_primitive f node.U16 ts = refl
-part_primitive f node.U32 ts = refl
-part_primitive f node.U64 ts = refl
-part_primitive f node.S8 ts = refl
-part_primitive f node.S16 ts = refl
-part_primitive f node.S32 ts = refl
-part_primitive f node.S64 ts = refl
-part_primitive f node.F32 ts = refl
-part_primitive f node.F64 ts = refl
-part_primitive f node.Char ts = refl
-part_primitive f node.String ts = refl
-part_primitive f node.ErrorContext ts = refl
+part_primitive f primitive.Bool ts = refl
+part_primitive f p ts = refl
 
 -- what the end of an entry tells of the name that the entry is of
 abbrev pub EndIs : List PackageFile → List Key → Address → Id → EntryEnd → Type 0

@@ -31,20 +31,7 @@ abbrev mutual
 -- so it is for a written type
 mutual
   pub written_anonymous : (t : Written) → AreAnonymous (shape_of t)
-  written_anonymous (written.Bool span) = tt
-  written_anonymous (written.U8 span) = tt
-  written_anonymous (written.U16 span) = tt
-  written_anonymous (written.U32 span) = tt
-  written_anonymous (written.U64 span) = tt
-  written_anonymous (written.S8 span) = tt
-  written_anonymous (written.S16 span) = tt
-  written_anonymous (written.S32 span) = tt
-  written_anonymous (written.S64 span) = tt
-  written_anonymous (written.F32 span) = tt
-  written_anonymous (written.F64 span) = tt
-  written_anonymous (written.Char span) = tt
-  written_anonymous (written.String span) = tt
-  written_anonymous (written.ErrorContext span) = tt
+  written_anonymous (written.Primitive span p) = tt
   written_anonymous (written.Name id) = tt
   written_anonymous (written.Own span id) = tt
   written_anonymous (written.Borrow span id) = (tt, (tt, tt))

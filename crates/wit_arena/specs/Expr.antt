@@ -1,7 +1,7 @@
 -- Types as expressions: without spans, each name with the scope that it stands in.
 use Rattle.std.specs.Prelude.{ℕ, List}
 use Rattle.wit_syntax.specs.Form.{Form}
-use Rattle.wit_syntax.specs.Node.{Primitive}
+use Rattle.wit_type_tree.specs.declared.types.Primitive.{Primitive}
 use Rattle.wit_syntax.specs.Shape.{Shape, Shapes}
 use Rattle.wit_syntax.specs.Shape as shape
 use Rattle.wit_syntax.specs.Address.{Address}

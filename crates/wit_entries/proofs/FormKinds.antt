@@ -7,6 +7,7 @@ use Rattle.std.specs.declared.alloc.Global.{Global}
 use Rattle.wit_values.specs.declared.span.Span.{Span}
 use Rattle.wit_type_tree.specs.declared.error.ParseError.{ParseError}
 use Rattle.wit_type_tree.specs.declared.leaves.Id.{Id}
+use Rattle.wit_type_tree.specs.declared.types.Primitive.{Primitive}
 use Rattle.wit_type_tree.specs.declared.types.«Type».{«Type» as Written}
 use Rattle.wit_type_tree.specs.declared.types.«Type».TheVariants as written
 use Rattle.wit_type_tree.specs.declared.types.ResultTypes.{ResultTypes}
@@ -27,7 +28,7 @@ use Rattle.wit_syntax.specs.Broken.{Refused}
 use Rattle.wit_arena.specs.Resolving.{Env, AreResolved, IsWrongWord, IsWrongType, AreWrongTypes, IsWrongBody}
 use Rattle.wit_syntax.proofs.Refusing.{refused_weaker}
 use Rattle.wit_arena.proofs.Written.{tuple_inner, result_shapes-all, words-head, wrong_at, wrong_inside, broken_here, AreLegal, legal_none, legal_one, legal_whole}
-use Rattle.wit_entries.specs.Reading.{primitive_in, IsResolved, AreTypes, IsForm}
+use Rattle.wit_entries.specs.Reading.{IsResolved, AreTypes, IsForm}
 use Rattle.wit_entries.proofs.Reading.{types_one, types_then}
 
 pub types_two : (old mid new : List TypeDef) (env : Env) (given : Stability) (t u : Written) (ty uy : Ty) → IsResolved old mid env given (shape_of t) ty → IsResolved mid new env given (shape_of u) uy → AreTypes old new env given (t ∷ u ∷ []) (ty ∷ uy ∷ [])
@@ -80,18 +81,8 @@ pub legal_only : (whole part : Written) → ((f : Fault) → IsBrokenForm whole 
 legal_only whole part own same legal = legal_parts whole (part ∷ []) own same (legal_one part legal)
 
 -- a primitive breaks no rule
-pub legal_primitive : (t : Written) (ty : Ty) → primitive_in (shape_of t) ≡ Some ty → (f : Fault) → IsBrokenType t f → ⊥
-legal_primitive (written.List' span p t) ty is = absurd (let wrong : ⊥ = cc in wrong)
-legal_primitive (written.FixedLengthList' span p t size) ty is = absurd (let wrong : ⊥ = cc in wrong)
-legal_primitive (written.Map' span p key q value) ty is = absurd (let wrong : ⊥ = cc in wrong)
-legal_primitive (written.Option' span p t) ty is = absurd (let wrong : ⊥ = cc in wrong)
-legal_primitive (written.Result span of) ty is = absurd (let wrong : ⊥ = cc in wrong)
-legal_primitive (written.Tuple' span shape ts) ty is = absurd (let wrong : ⊥ = cc in wrong)
-legal_primitive (written.Future' span t) ty is = absurd (let wrong : ⊥ = cc in wrong)
-legal_primitive (written.Stream' span t) ty is = absurd (let wrong : ⊥ = cc in wrong)
-legal_primitive (written.Own span id) ty is = absurd (let wrong : ⊥ = cc in wrong)
-legal_primitive (written.Borrow span id) ty is = absurd (let wrong : ⊥ = cc in wrong)
-legal_primitive t ty is = legal_whole t (λ f own. own) legal_none
+pub legal_primitive : (span : Span) (p : Primitive) (f : Fault) → IsBrokenType (written.Primitive span p) f → ⊥
+legal_primitive span p = legal_whole (written.Primitive span p) (λ f own. own) legal_none
 
 -- a definition has the names of the type that it is
 words-written : (t : Written) → all_words (written_body t).parts ≡ words (shape_of t)

@@ -1,17 +1,14 @@
 -- Arenas that grow, and what handles require, one after another.
-use Rattle.std.proofs.Common.{◌≡◌, List, [], ◌∷◌, ◌++◌, Some, refl, sym, ap, ◌∙◌, subst, append_assoc}
+use Rattle.std.proofs.Common.{◌≡◌, List, [], ◌∷◌, ◌++◌, refl, sym, ap, ◌∙◌, subst, append_assoc}
 use Rattle.std.proofs.lemmas.List.{append-nil}
 use Rattle.wit_type_tree.specs.declared.leaves.Id.{Id}
 use Rattle.wit_type_tree.specs.declared.types.«Type».{«Type» as Written}
-use Rattle.wit_type_tree.specs.declared.types.«Type».TheVariants as written
 use Rattle.wit_type_tree.specs.Parts.{part_types}
-use Rattle.wit_types.specs.declared.types.«Type».{«Type» as Ty}
 use Rattle.wit_types.specs.declared.types.TypeDef.{TypeDef}
-use Rattle.wit_syntax.specs.Shape.{shape_of, handles, all_handles}
+use Rattle.wit_syntax.specs.Shape.{handles, all_handles}
 use Rattle.wit_arena.specs.Resolving.{Env, Required, AreEnded}
 use Rattle.wit_arena.proofs.Written.{all_handles-append, IsNoHandle, handles-parts}
 use Rattle.wit_arena.proofs.Required.{ended_append, ended_more}
-use Rattle.wit_entries.specs.Reading.{primitive_in}
 use Rattle.wit_entries.specs.Requiring.{IsGrown, Requires}
 
 pub grown_then : (old mid new : List TypeDef) → IsGrown old mid → IsGrown mid new → IsGrown old new
@@ -56,17 +53,3 @@ requires_parts env es whole ts a b other same p = subst (λ (l : List Id). Requi
 
 pub requires_only : (env : Env) (es : List TypeDef) (whole part : Written) (a b : List Required) → IsNoHandle whole → part_types whole ≡ (part ∷ []) → Requires env es (handles part) a b → Requires env es (handles whole) a b
 requires_only env es whole part a b other same p = requires_parts env es whole (part ∷ []) a b other same (requires_one env es part a b p)
-
--- a primitive is no handle
-pub no_handles : (t : Written) (ty : Ty) → primitive_in (shape_of t) ≡ Some ty → handles t ≡ []
-no_handles (written.Own span id) ty is = absurd (let f : ⊥ = cc in f)
-no_handles (written.Borrow span id) ty is = absurd (let f : ⊥ = cc in f)
-no_handles (written.List' span p t) ty is = absurd (let f : ⊥ = cc in f)
-no_handles (written.FixedLengthList' span p t size) ty is = absurd (let f : ⊥ = cc in f)
-no_handles (written.Map' span p key q value) ty is = absurd (let f : ⊥ = cc in f)
-no_handles (written.Option' span p t) ty is = absurd (let f : ⊥ = cc in f)
-no_handles (written.Result span of) ty is = absurd (let f : ⊥ = cc in f)
-no_handles (written.Tuple' span shape ts) ty is = absurd (let f : ⊥ = cc in f)
-no_handles (written.Future' span t) ty is = absurd (let f : ⊥ = cc in f)
-no_handles (written.Stream' span t) ty is = absurd (let f : ⊥ = cc in f)
-no_handles t ty is = refl

@@ -1,6 +1,5 @@
 -- What a written type is once its parts are resolved.
-use Rattle.std.specs.Prelude.{◌≡◌, ℕ, List, [], ◌∷◌, Option, Some, None}
-use Rattle.wit_syntax.specs.Node.{primitive_type}
+use Rattle.std.specs.Prelude.{◌≡◌, ℕ, List, [], ◌∷◌}
 use Rattle.wit_values.specs.declared.span.Span.{Span}
 use Rattle.wit_type_tree.specs.declared.types.«Type».{«Type» as Written}
 use Rattle.wit_type_tree.specs.declared.types.«Type».TheVariants as written
@@ -19,12 +18,6 @@ use Rattle.wit_arena.specs.Resolving.{Env, AreResolved, IsInterned}
 use Rattle.wit_arena.specs.Faithful.{IsAnonymousForm}
 use Rattle.wit_entries.specs.declared.types.Reading.{Reading}
 use Rattle.wit_entries.specs.declared.types.Reading.TheVariants as reading
-
--- the primitive that a shape is
-abbrev pub primitive_in : Shape → Option Ty
-primitive_in (Prim p) = Some (primitive_type p)
-primitive_in (Word id) = None
-primitive_in (Of span form parts) = None
 
 -- from whatever was met, the new arena is that with what is met in a type, which stands in a definition of this stability, and it stands for this
 abbrev pub IsResolved : List TypeDef → List TypeDef → Env → Stability → Shape → Ty → Type 0

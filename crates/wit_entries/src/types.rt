@@ -3,12 +3,13 @@ ghost use Rattle.std.specs.Prelude.{◌≡◌, ◌++◌, IfOk, IfErr, OnOk, is_s
 ghost use Rattle.std.specs.Option.{option_to_list};
 ghost use Rattle.wit_type_tree.specs.Refusal.{IsWantOfMemory};
 ghost use Rattle.wit_type_tree.specs.Parts.{ok_type, err_type, result_types, boxed_types};
+ghost use Rattle.wit_syntax.specs.Node.{primitive_type as the_primitive_type};
 ghost use Rattle.wit_syntax.specs.Shape.{shape_of, handles, all_handles};
 ghost use Rattle.wit_syntax.specs.Fault.{Fault};
 ghost use Rattle.wit_syntax.specs.Bodies.{IsBrokenType, IsBrokenPart};
 ghost use Rattle.wit_syntax.specs.Broken.{Refused};
 ghost use Rattle.wit_arena.specs.Resolving.{env_of, IsWrongType, AreWrongTypes};
-ghost use Rattle.wit_entries.specs.Reading.{primitive_in, IsResolved, AreTypes, IsLeaf, IsList, IsRead, StandsFor, named_kind as the_named_kind};
+ghost use Rattle.wit_entries.specs.Reading.{IsResolved, AreTypes, IsLeaf, IsList, IsRead, StandsFor, named_kind as the_named_kind};
 ghost use Rattle.wit_entries.specs.Requiring.{IsGrown, Requires};
 
 use crate::entries::Entries;
@@ -29,36 +30,25 @@ pub enum Reading {
     Form(TypeDefKind, Span),
 }
 
-/// The primitive that a written type is.
-fn primitive(ty: &tree::Type<'_>) -> Option<Type>
-    ensures { result ≡ primitive_in (shape_of ty.now) }
+/// The type of the package that a primitive is.
+fn primitive_type(primitive: tree::Primitive) -> Type
+    ensures { result ≡ the_primitive_type primitive }
 {
-    match ty {
-        tree::Type::Bool(_) => Some(Type::Bool),
-        tree::Type::U8(_) => Some(Type::U8),
-        tree::Type::U16(_) => Some(Type::U16),
-        tree::Type::U32(_) => Some(Type::U32),
-        tree::Type::U64(_) => Some(Type::U64),
-        tree::Type::S8(_) => Some(Type::S8),
-        tree::Type::S16(_) => Some(Type::S16),
-        tree::Type::S32(_) => Some(Type::S32),
-        tree::Type::S64(_) => Some(Type::S64),
-        tree::Type::F32(_) => Some(Type::F32),
-        tree::Type::F64(_) => Some(Type::F64),
-        tree::Type::Char(_) => Some(Type::Char),
-        tree::Type::String(_) => Some(Type::String),
-        tree::Type::ErrorContext(_) => Some(Type::ErrorContext),
-        tree::Type::Name(_)
-        | tree::Type::List(_, _)
-        | tree::Type::FixedLengthList(_, _, _)
-        | tree::Type::Map(_, _, _)
-        | tree::Type::Option(_, _)
-        | tree::Type::Result(_, _)
-        | tree::Type::Tuple(_, _)
-        | tree::Type::Future(_, _)
-        | tree::Type::Stream(_, _)
-        | tree::Type::Own(_, _)
-        | tree::Type::Borrow(_, _) => None,
+    match primitive {
+        tree::Primitive::Bool => Type::Bool,
+        tree::Primitive::U8 => Type::U8,
+        tree::Primitive::U16 => Type::U16,
+        tree::Primitive::U32 => Type::U32,
+        tree::Primitive::U64 => Type::U64,
+        tree::Primitive::S8 => Type::S8,
+        tree::Primitive::S16 => Type::S16,
+        tree::Primitive::S32 => Type::S32,
+        tree::Primitive::S64 => Type::S64,
+        tree::Primitive::F32 => Type::F32,
+        tree::Primitive::F64 => Type::F64,
+        tree::Primitive::Char => Type::Char,
+        tree::Primitive::String => Type::String,
+        tree::Primitive::ErrorContext => Type::ErrorContext,
     }
 }
 
@@ -94,8 +84,8 @@ pub fn read(
     ensures grown { IsGrown types.old types.new }
     ensures refused { IfErr result (Refused (IsWrongType (env_of names.now) types.new ty.now)) }
 {
-    if let Some(found) = primitive(ty) {
-        return Ok(Reading::Leaf(found));
+    if let tree::Type::Primitive(_, primitive) = ty {
+        return Ok(Reading::Leaf(primitive_type(*primitive)));
     }
     if let tree::Type::Name(id) = ty {
         let found = find_name(alloc, names, *id)?;

@@ -9,6 +9,7 @@ use Rattle.wit_type_tree.specs.declared.leaves.Id.{Id}
 use Rattle.wit_type_tree.specs.declared.leaves.Docs.{Docs as Comments}
 use Rattle.wit_type_tree.specs.declared.leaves.Attribute.{Attribute}
 use Rattle.wit_type_tree.specs.declared.types.Field.{Field as WrittenField}
+use Rattle.wit_type_tree.specs.declared.types.Primitive.TheVariants as primitive
 use Rattle.wit_type_tree.specs.declared.types.«Type».{«Type» as Written}
 use Rattle.wit_type_tree.specs.declared.types.«Type».TheVariants as written
 use Rattle.wit_type_tree.specs.declared.types.TypeBody.TheVariants.{Record, Plain}
@@ -36,7 +37,6 @@ use Rattle.wit_graph.specs.Order.{ReachesCycle}
 use Rattle.wit_syntax.specs.Form.{Member, RecordForm, ListForm, AliasForm}
 use Rattle.wit_arena.specs.Kind.{kind_of}
 use Rattle.wit_syntax.specs.Node.{Head, Leaf, Named, Unnamed, Tree}
-use Rattle.wit_syntax.specs.Node as node
 use Rattle.wit_syntax.specs.Address.{InterfaceNamed}
 use Rattle.wit_syntax.specs.Notes.{no_docs}
 use Rattle.wit_syntax.specs.Source.{path_id, Local, TopName, top_names, top_text, TheInterface, Item, all_items, ScopeName, Used, Defined, scope_names}
@@ -82,7 +82,7 @@ module _ (ptr : Ptr) (alloc : Global) where
   header = record { docs = no_comments; span = at 8 15; namespace = id (codes "foo") (at 8 11) refl; name = id (codes "foo") (at 12 15) refl; version = None }
 
   abbrev list_at : Span → Span → Written
-  list_at whole element = written.List' whole box (written.U8 element)
+  list_at whole element = written.List' whole box (written.Primitive element primitive.U8)
 
   abbrev written_fields : List WrittenField
   written_fields = record { docs = no_comments; name = id (codes "a") (at 42 43) refl; ty = list_at (at 45 49) (at 50 52) } ∷ record { docs = no_comments; name = id (codes "b") (at 55 56) refl; ty = list_at (at 58 62) (at 63 65) } ∷ []
@@ -121,7 +121,7 @@ module _ (ptr : Ptr) (alloc : Global) where
   source = refl
 
   abbrev list_met : Span → Meeting
-  list_met span = record { key = Whole ListForm (one (Prim node.U8)); span = span; given = Unknown }
+  list_met span = record { key = Whole ListForm (one (Prim primitive.U8)); span = span; given = Unknown }
 
   abbrev p_met : Meeting
   p_met = record { key = Def (InterfaceNamed (codes "i")) (codes "p"); span = at 38 39; given = Unknown }
@@ -130,10 +130,10 @@ module _ (ptr : Ptr) (alloc : Global) where
   met : meetings (map turned (record { item = item; order = 0 ∷ [] } ∷ [])) ≡ (list_met (at 45 49) ∷ list_met (at 58 62) ∷ p_met ∷ [])
   met = refl
 
-  list_is_new : IsMet [] (Whole ListForm (one (Prim node.U8))) → ⊥
+  list_is_new : IsMet [] (Whole ListForm (one (Prim primitive.U8))) → ⊥
   list_is_new (k, is) = let f : ⊥ = cc in f
 
-  p_is_new : IsMet (Whole ListForm (one (Prim node.U8)) ∷ []) (Def (InterfaceNamed (codes "i")) (codes "p")) → ⊥
+  p_is_new : IsMet (Whole ListForm (one (Prim primitive.U8)) ∷ []) (Def (InterfaceNamed (codes "i")) (codes "p")) → ⊥
   p_is_new (zero, is) = let f : ⊥ = cc in f
   p_is_new (suc k, is) = let f : ⊥ = cc in f
 
@@ -222,7 +222,7 @@ module _ (ptr : Ptr) (alloc : Global) where
 
   -- record { a: u8, A: u8 }
   abbrev twice : List WrittenField
-  twice = record { docs = no_comments; name = id (codes "a") (at 9 10) refl; ty = written.U8 (at 12 14) } ∷ record { docs = no_comments; name = id (codes "A") (at 16 17) refl; ty = written.U8 (at 19 21) } ∷ []
+  twice = record { docs = no_comments; name = id (codes "a") (at 9 10) refl; ty = written.Primitive (at 12 14) primitive.U8 } ∷ record { docs = no_comments; name = id (codes "A") (at 16 17) refl; ty = written.Primitive (at 19 21) primitive.U8 } ∷ []
 
   twice_refused : IsDuplicateName (map (λ x. x.name) twice) (fault 25 (at 16 17))
   twice_refused = record { later = id (codes "A") (at 16 17) refl; repeated = record { first = 0; second = 1; earlier = id (codes "a") (at 9 10) refl; before = lit< tt; at_first = refl; at_second = refl; same = refl }; is = refl }
@@ -236,7 +236,7 @@ module _ (ptr : Ptr) (alloc : Global) where
   in_list = id (codes "t") (at 28 29) refl
 
   abbrev list_names : List ScopeName
-  list_names = Defined (record { docs = no_comments; attributes = untold; name = id (codes "b") (at 19 20) refl; body = Plain (written.List' (at 23 27) box (written.Name in_list)) }) ∷ Defined (record { docs = no_comments; attributes = untold; name = id (codes "t") (at 37 38) refl; body = Plain (written.U8 (at 41 43)) }) ∷ []
+  list_names = Defined (record { docs = no_comments; attributes = untold; name = id (codes "b") (at 19 20) refl; body = Plain (written.List' (at 23 27) box (written.Name in_list)) }) ∷ Defined (record { docs = no_comments; attributes = untold; name = id (codes "t") (at 37 38) refl; body = Plain (written.Primitive (at 41 43) primitive.U8) }) ∷ []
 
   list_rows : rows_of list_names ≡ two (codes "b") (codes "t") in_list
   list_rows = refl
@@ -254,7 +254,7 @@ module _ (ptr : Ptr) (alloc : Global) where
     a = record { docs = no_comments; attributes = untold; name = id (codes "a") (at 36 37) refl; body = Plain (written.Name of_a) }
 
     abbrev b : Definition
-    b = record { docs = no_comments; attributes = untold; name = id (codes "b") (at 48 49) refl; body = Plain (written.U8 (at 52 54)) }
+    b = record { docs = no_comments; attributes = untold; name = id (codes "b") (at 48 49) refl; body = Plain (written.Primitive (at 52 54) primitive.U8) }
 
     abbrev path_x : Id
     path_x = id (codes "x") (at 60 61) refl
@@ -266,7 +266,7 @@ module _ (ptr : Ptr) (alloc : Global) where
     use_t = record { attributes = untold; from = path.Id path_x; names = vec (used_t ∷ []) (lit< tt) }
 
     abbrev t : Definition
-    t = record { docs = no_comments; attributes = untold; name = id (codes "t") (at 88 89) refl; body = Plain (written.U32 (at 92 95)) }
+    t = record { docs = no_comments; attributes = untold; name = id (codes "t") (at 88 89) refl; body = Plain (written.Primitive (at 92 95) primitive.U32) }
 
     abbrev user : WrittenInterface
     user = record { docs = no_comments; attributes = untold; name = id (codes "i") (at 27 28) refl; items = vec (TypeItem a ∷ TypeItem b ∷ UseItem use_t ∷ []) (lit< tt) }
@@ -339,10 +339,10 @@ module _ (ptr : Ptr) (alloc : Global) where
   -- use z as x; interface i { use x.{t}; }
   module _ where
     abbrev x_here : WrittenInterface
-    x_here = record { docs = no_comments; attributes = untold; name = id (codes "x") (at 27 28) refl; items = vec (TypeItem (record { docs = no_comments; attributes = untold; name = id (codes "t") (at 36 37) refl; body = Plain (written.U8 (at 40 42)) }) ∷ []) (lit< tt) }
+    x_here = record { docs = no_comments; attributes = untold; name = id (codes "x") (at 27 28) refl; items = vec (TypeItem (record { docs = no_comments; attributes = untold; name = id (codes "t") (at 36 37) refl; body = Plain (written.Primitive (at 40 42) primitive.U8) }) ∷ []) (lit< tt) }
 
     abbrev z : WrittenInterface
-    z = record { docs = no_comments; attributes = untold; name = id (codes "z") (at 56 57) refl; items = vec (TypeItem (record { docs = no_comments; attributes = untold; name = id (codes "t") (at 65 66) refl; body = Plain (written.U16 (at 69 72)) }) ∷ []) (lit< tt) }
+    z = record { docs = no_comments; attributes = untold; name = id (codes "z") (at 56 57) refl; items = vec (TypeItem (record { docs = no_comments; attributes = untold; name = id (codes "t") (at 65 66) refl; body = Plain (written.Primitive (at 69 72) primitive.U16) }) ∷ []) (lit< tt) }
 
     abbrev alias : ToplevelUse
     alias = record { attributes = untold; span = at 77 80; item = path.Id (id (codes "z") (at 81 82) refl); as_ = Some (id (codes "x") (at 86 87) refl) }

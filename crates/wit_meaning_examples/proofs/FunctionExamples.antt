@@ -7,6 +7,8 @@ use denote.RawPtr.{Ptr}
 use Rattle.wit_names.specs.Folded.{folded_key}
 use Rattle.wit_values.specs.declared.span.Span.{Span}
 use Rattle.wit_type_tree.specs.declared.leaves.Id.{Id}
+use Rattle.wit_type_tree.specs.declared.types.Primitive.{Primitive}
+use Rattle.wit_type_tree.specs.declared.types.Primitive.TheVariants as primitive
 use Rattle.wit_type_tree.specs.declared.types.«Type».{«Type» as Written, None', Some'}
 use Rattle.wit_type_tree.specs.declared.types.«Type».TheVariants as written
 use Rattle.wit_type_tree.specs.declared.types.TypeBody.TheVariants.{Resource}
@@ -34,7 +36,6 @@ use Rattle.wit_functions.specs.declared.function.Param.{Param}
 use Rattle.wit_model.specs.declared.interface.Interface.{Interface}
 use Rattle.wit_model.specs.declared.unresolved.UnresolvedPackage.{UnresolvedPackage}
 use Rattle.wit_syntax.specs.Form.{BorrowForm, FutureForm, FixedLengthListForm, MapForm, StreamForm, OptionForm}
-use Rattle.wit_syntax.specs.Node as node
 use Rattle.wit_syntax.specs.Address.{Address, InterfaceNamed}
 use Rattle.wit_syntax.specs.Notes.{no_docs}
 use Rattle.wit_syntax.specs.Source.{top_names, TheInterface, Item, scope_names}
@@ -78,13 +79,13 @@ module _ (ptr : Ptr) (alloc : Global) where
   named_r span = id ptr alloc (codes "r") span refl
 
   abbrev n_u32 : WrittenParam
-  n_u32 = record { name = id ptr alloc (codes "n") (at 56 57) refl; ty = written.U32 (at 59 62) }
+  n_u32 = record { name = id ptr alloc (codes "n") (at 56 57) refl; ty = written.Primitive (at 59 62) primitive.U32 }
 
   abbrev x_borrow : WrittenParam
   x_borrow = record { name = id ptr alloc (codes "x") (at 79 80) refl; ty = written.Borrow (at 82 88) (named_r (at 89 90)) }
 
   abbrev method_m : NamedFunc
-  method_m = record { docs = no_comments ptr alloc; attributes = untold ptr alloc; name = id ptr alloc (codes "m") (at 65 66) refl; func = record { span = at 74 78; form = form.Async; params = vec ptr alloc (x_borrow ∷ []) (lit< tt); result = Some (written.Future' (at 96 102) (Some' box (written.U8 (at 103 105)))) } }
+  method_m = record { docs = no_comments ptr alloc; attributes = untold ptr alloc; name = id ptr alloc (codes "m") (at 65 66) refl; func = record { span = at 74 78; form = form.Async; params = vec ptr alloc (x_borrow ∷ []) (lit< tt); result = Some (written.Future' (at 96 102) (Some' box (written.Primitive (at 103 105) primitive.U8))) } }
 
   abbrev static_s : NamedFunc
   static_s = record { docs = no_comments ptr alloc; attributes = untold ptr alloc; name = id ptr alloc (codes "s") (at 108 109) refl; func = record { span = at 118 122; form = form.Plain; params = vec ptr alloc [] (lit< tt); result = Some (written.Name (named_r (at 128 129))) } }
@@ -93,7 +94,7 @@ module _ (ptr : Ptr) (alloc : Global) where
   r = record { docs = no_comments ptr alloc; attributes = untold ptr alloc; name = named_r (at 40 41); body = Resource (vec ptr alloc (resource.Constructor (no_comments ptr alloc) (untold ptr alloc) (at 44 55) (vec ptr alloc (n_u32 ∷ []) (lit< tt)) None ∷ resource.Method method_m ∷ resource.Static static_s ∷ []) (lit< tt)) }
 
   abbrev map_type : Written
-  map_type = written.Map' (at 144 147) box (written.String (at 148 154)) box (written.FixedLengthList' (at 156 160) box (written.U8 (at 161 163)) 4)
+  map_type = written.Map' (at 144 147) box (written.Primitive (at 148 154) primitive.String) box (written.FixedLengthList' (at 156 160) box (written.Primitive (at 161 163) primitive.U8) 4)
 
   abbrev a_map : WrittenParam
   a_map = record { name = id ptr alloc (codes "a") (at 141 142) refl; ty = map_type }
@@ -138,11 +139,11 @@ module _ (ptr : Ptr) (alloc : Global) where
   borrow_r span name = shape.Of span BorrowForm (shape.one (Word name))
 
   abbrev map_shape : shape.Shape
-  map_shape = shape.Of (at 144 147) MapForm (shape.More (shape.Prim node.String) (shape.one (shape.Of (at 156 160) (FixedLengthListForm 4) (shape.one (shape.Prim node.U8)))))
+  map_shape = shape.Of (at 144 147) MapForm (shape.More (shape.Prim primitive.String) (shape.one (shape.Of (at 156 160) (FixedLengthListForm 4) (shape.one (shape.Prim primitive.U8)))))
 
   signatures : map signature (functions item)
-      ≡ ((shape.Prim node.U32 ∷ Word r.name ∷ [])
-      ∷ (borrow_r (at 74 78) r.name ∷ borrow_r (at 82 88) (named_r (at 89 90)) ∷ shape.Of (at 96 102) (FutureForm true) (shape.one (shape.Prim node.U8)) ∷ [])
+      ≡ ((shape.Prim primitive.U32 ∷ Word r.name ∷ [])
+      ∷ (borrow_r (at 74 78) r.name ∷ borrow_r (at 82 88) (named_r (at 89 90)) ∷ shape.Of (at 96 102) (FutureForm true) (shape.one (shape.Prim primitive.U8)) ∷ [])
       ∷ (Word (named_r (at 128 129)) ∷ [])
       ∷ (map_shape ∷ shape.Of (at 173 179) OptionForm (shape.one (shape.Of (at 180 186) (StreamForm false) shape.End)) ∷ [])
       ∷ [])
@@ -153,22 +154,22 @@ module _ (ptr : Ptr) (alloc : Global) where
   in_handles = refl
 
   -- what is met: the resource, and then each signature with its parts in front
-  abbrev whole_met : Span → node.Primitive → Meeting
+  abbrev whole_met : Span → Primitive → Meeting
   whole_met span p = record { key = Whole (FutureForm true) (one (Prim p)); span = span; given = Unknown }
 
   abbrev borrow_met : Span → Meeting
   borrow_met span = record { key = Whole BorrowForm (one (Use in_i (codes "r"))); span = span; given = Unknown }
 
   abbrev fixed : Expr
-  fixed = Of (FixedLengthListForm 4) (one (Prim node.U8))
+  fixed = Of (FixedLengthListForm 4) (one (Prim primitive.U8))
 
   abbrev stream : Expr
   stream = Of (StreamForm false) End
 
   abbrev behind_names : List Meeting
-  behind_names = borrow_met (at 74 78) ∷ borrow_met (at 82 88) ∷ whole_met (at 96 102) node.U8
-      ∷ record { key = Whole (FixedLengthListForm 4) (one (Prim node.U8)); span = at 156 160; given = Unknown }
-      ∷ record { key = Whole MapForm (More (Prim node.String) (one fixed)); span = at 144 147; given = Unknown }
+  behind_names = borrow_met (at 74 78) ∷ borrow_met (at 82 88) ∷ whole_met (at 96 102) primitive.U8
+      ∷ record { key = Whole (FixedLengthListForm 4) (one (Prim primitive.U8)); span = at 156 160; given = Unknown }
+      ∷ record { key = Whole MapForm (More (Prim primitive.String) (one fixed)); span = at 144 147; given = Unknown }
       ∷ record { key = Whole (StreamForm false) End; span = at 180 186; given = Unknown }
       ∷ record { key = Whole OptionForm (one stream); span = at 173 179; given = Unknown } ∷ []
 
@@ -177,7 +178,7 @@ module _ (ptr : Ptr) (alloc : Global) where
 
   -- the arena: each once
   abbrev ks : List Key
-  ks = Def in_i (codes "r") ∷ Whole BorrowForm (one (Use in_i (codes "r"))) ∷ Whole (FutureForm true) (one (Prim node.U8)) ∷ Whole (FixedLengthListForm 4) (one (Prim node.U8)) ∷ Whole MapForm (More (Prim node.String) (one fixed)) ∷ Whole (StreamForm false) End ∷ Whole OptionForm (one stream) ∷ []
+  ks = Def in_i (codes "r") ∷ Whole BorrowForm (one (Use in_i (codes "r"))) ∷ Whole (FutureForm true) (one (Prim primitive.U8)) ∷ Whole (FixedLengthListForm 4) (one (Prim primitive.U8)) ∷ Whole MapForm (More (Prim primitive.String) (one fixed)) ∷ Whole (StreamForm false) End ∷ Whole OptionForm (one stream) ∷ []
 
   abbrev unnamed : TypeDefKind → Span → TypeDef
   unnamed kind span = record { name = None; kind = kind; owner = owner.None; docs = no_docs; stability = Unknown; span = span; external_id = None }

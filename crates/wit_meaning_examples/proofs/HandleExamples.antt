@@ -6,6 +6,7 @@ use Rattle.std.specs.declared.alloc.Global.{Global}
 use denote.RawPtr.{Ptr}
 use Rattle.wit_values.specs.declared.span.Span.{Span}
 use Rattle.wit_type_tree.specs.declared.leaves.Id.{Id}
+use Rattle.wit_type_tree.specs.declared.types.Primitive.TheVariants as primitive
 use Rattle.wit_type_tree.specs.declared.types.«Type».{«Type» as Written}
 use Rattle.wit_type_tree.specs.declared.types.«Type».TheVariants as written
 use Rattle.wit_type_tree.specs.declared.types.TypeBody.TheVariants.{Plain, Resource}
@@ -225,7 +226,7 @@ module _ (ptr : Ptr) (alloc : Global) where
   -- type t = u8; f: func(x: borrow<t>);
   module _ where
     abbrev lender : Interface
-    lender = i_of (TypeItem (record { docs = no_comments ptr alloc; attributes = untold ptr alloc; name = t_id (at 36 37); body = Plain (written.U8 (at 40 42)) }) ∷ FuncItem (record {
+    lender = i_of (TypeItem (record { docs = no_comments ptr alloc; attributes = untold ptr alloc; name = t_id (at 36 37); body = Plain (written.Primitive (at 40 42) primitive.U8) }) ∷ FuncItem (record {
       docs = no_comments ptr alloc;
       attributes = untold ptr alloc;
       name = id ptr alloc (codes "f") (at 44 45) refl;

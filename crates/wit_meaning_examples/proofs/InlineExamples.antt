@@ -12,6 +12,7 @@ use Rattle.wit_type_tree.specs.declared.types.FuncForm.TheVariants as form
 use Rattle.wit_type_tree.specs.declared.leaves.Id.{Id}
 use Rattle.wit_tree.specs.declared.tree.WorldSide.{WorldSide}
 use Rattle.wit_tree.specs.declared.tree.WorldSide.TheVariants.{Imported, Exported}
+use Rattle.wit_type_tree.specs.declared.types.Primitive.TheVariants as primitive
 use Rattle.wit_type_tree.specs.declared.types.«Type».{«Type» as Written}
 use Rattle.wit_type_tree.specs.declared.types.«Type».TheVariants as written
 use Rattle.wit_type_tree.specs.declared.types.TypeBody.TheVariants.{Plain}
@@ -42,7 +43,6 @@ use Rattle.wit_model.specs.declared.unresolved.UnresolvedPackage.{UnresolvedPack
 use Rattle.wit_syntax.specs.Address.{Address, InterfaceNamed, InlineAt}
 use Rattle.wit_syntax.specs.Form.{AliasForm}
 use Rattle.wit_syntax.specs.Node.{Head, Leaf, Named}
-use Rattle.wit_syntax.specs.Node as node
 use Rattle.wit_syntax.specs.Notes.{no_docs}
 use Rattle.wit_syntax.specs.Shape.{Word}
 use Rattle.wit_syntax.specs.Source.{TheWorld, TheInline, Item, address, top_names, Used, Defined, scope_names}
@@ -61,7 +61,7 @@ module _ (ptr : Ptr) (alloc : Global) where
   definition name ty = record { docs = no_comments ptr alloc; attributes = untold ptr alloc; name = name; body = Plain ty }
 
   abbrev i : WrittenInterface
-  i = record { docs = no_comments ptr alloc; attributes = untold ptr alloc; name = id ptr alloc (codes "i") (at 27 28) refl; items = vec ptr alloc (interface_item.TypeDef (definition (id ptr alloc (codes "t") (at 36 37) refl) (written.U8 (at 40 42))) ∷ []) (lit< tt) }
+  i = record { docs = no_comments ptr alloc; attributes = untold ptr alloc; name = id ptr alloc (codes "i") (at 27 28) refl; items = vec ptr alloc (interface_item.TypeDef (definition (id ptr alloc (codes "t") (at 36 37) refl) (written.Primitive (at 40 42) primitive.U8)) ∷ []) (lit< tt) }
 
   abbrev extern_of : WorldSide → ExternKind → Extern
   extern_of side kind = record { side = side; docs = no_comments ptr alloc; attributes = untold ptr alloc; kind = kind }

@@ -14,6 +14,7 @@ use Rattle.wit_type_tree.specs.declared.leaves.Attribute.{Attribute}
 use Rattle.wit_type_tree.specs.declared.leaves.Attribute.TheVariants as attribute
 use Rattle.wit_tree.specs.declared.tree.AstItem.TheVariants.{Use as ToplevelItem}
 use Rattle.wit_type_tree.specs.declared.leaves.Docs.{Docs as Comments}
+use Rattle.wit_type_tree.specs.declared.types.Primitive.TheVariants as primitive
 use Rattle.wit_type_tree.specs.declared.types.«Type».TheVariants as written
 use Rattle.wit_type_tree.specs.declared.types.TypeBody.TheVariants.{Plain}
 use Rattle.wit_type_tree.specs.declared.types.TypeDef.{TypeDef as Definition}
@@ -32,7 +33,6 @@ use Rattle.wit_arena.specs.Expr.{Prim, one}
 use Rattle.wit_syntax.specs.Fault.{fault}
 use Rattle.wit_syntax.specs.Form.{ListForm}
 use Rattle.wit_arena.specs.Meet.{Def, Whole, Meeting, name_meetings, settled, IsSettled}
-use Rattle.wit_syntax.specs.Node as node
 use Rattle.wit_syntax.specs.Notes.{docs_of, no_docs, stability_of, external_id_of, AreNotes, first_known, IsBrokenStability, SinceTwice, SinceAndUnstable, DeprecatedAlone, IsBrokenNotes}
 use Rattle.wit_arena.specs.Resolving.{named, unnamed}
 use Rattle.wit_syntax.specs.Source.{Defined, name_notes}
@@ -61,7 +61,7 @@ abbrev in_i : Address
 in_i = InterfaceNamed (codes "i")
 
 abbrev list_met : Span → Meeting
-list_met span = record { key = Whole ListForm (one (Prim node.U8)); span = span; given = stable }
+list_met span = record { key = Whole ListForm (one (Prim primitive.U8)); span = span; given = stable }
 
 -- no white space stands at the end of these docs
 pub trimmed : trim_end (codes " Streams.") ≡ codes " Streams."
@@ -94,7 +94,7 @@ module _ (ptr : Ptr) (alloc : Global) where
     box = record { ptr = ptr; alloc = alloc; value = tt }
 
     abbrev x : Definition
-    x = record { docs = no_comments ptr alloc; attributes = vec ptr alloc (since 1 (at 31 54) ∷ []) (lit< tt); name = id ptr alloc (codes "x") (at 60 61) refl; body = Plain (written.List' (at 64 68) box (written.List' (at 69 73) box (written.U8 (at 74 76)))) }
+    x = record { docs = no_comments ptr alloc; attributes = vec ptr alloc (since 1 (at 31 54) ∷ []) (lit< tt); name = id ptr alloc (codes "x") (at 60 61) refl; body = Plain (written.List' (at 64 68) box (written.List' (at 69 73) box (written.Primitive (at 74 76) primitive.U8))) }
 
     told : stability_of x.attributes.items ≡ stable
     told = refl
@@ -110,7 +110,7 @@ module _ (ptr : Ptr) (alloc : Global) where
     inner_stable : inner.stability ≡ stable
     inner_stable = refl
 
-    inner_settled : IsSettled [] stable (Whole ListForm (one (Prim node.U8))) inner
+    inner_settled : IsSettled [] stable (Whole ListForm (one (Prim primitive.U8))) inner
     inner_settled = refl
 
     abbrev outer : TypeDef

@@ -8,6 +8,7 @@ use Rattle.std.specs.declared.alloc.Global.{Global}
 use denote.RawPtr.{Ptr}
 use Rattle.wit_values.specs.declared.span.Span.{Span}
 use Rattle.wit_type_tree.specs.declared.leaves.Id.{Id}
+use Rattle.wit_type_tree.specs.declared.types.Primitive.TheVariants as primitive
 use Rattle.wit_type_tree.specs.declared.types.«Type».{«Type» as Written}
 use Rattle.wit_type_tree.specs.declared.types.ResultTypes.{Neither, Ok'}
 use Rattle.wit_type_tree.specs.declared.types.«Type».TheVariants as written
@@ -51,7 +52,7 @@ use Rattle.wit_meaning_examples.proofs.SignatureExamples.{i_of, file_of, item_of
 
 module _ (ptr : Ptr) (alloc : Global) where
   abbrev getter : Span → Span → Span → NamedFunc
-  getter name word ty = func ptr alloc (x_id ptr alloc name) word form.Getter (Some (written.U8 ty))
+  getter name word ty = func ptr alloc (x_id ptr alloc name) word form.Getter (Some (written.Primitive ty primitive.U8))
 
   -- f: func(x: g); g: func();
   module _ where
@@ -84,7 +85,7 @@ module _ (ptr : Ptr) (alloc : Global) where
 
   -- x: get(v: u8) -> u8;
   abbrev given : Interface
-  given = i_of ptr alloc (FuncItem (func_of ptr alloc (x_id ptr alloc (at 31 32)) (at 34 37) form.Getter (v_u8 ptr alloc (at 38 39) (at 41 43)) (Some (written.U8 (at 48 50)))) ∷ []) (lit< tt)
+  given = i_of ptr alloc (FuncItem (func_of ptr alloc (x_id ptr alloc (at 31 32)) (at 34 37) form.Getter (v_u8 ptr alloc (at 38 39) (at 41 43)) (Some (written.Primitive (at 48 50) primitive.U8))) ∷ []) (lit< tt)
 
   given_refused : IsBroken (file_of ptr alloc given ∷ []) (fault 36 (at 38 39))
   given_refused = in_scope ptr alloc given (fault 36 (at 38 39)) (Function 0 _ refl (GetterGiven (record { getter = refl; first = _; at = refl; is = refl })))
@@ -103,7 +104,7 @@ module _ (ptr : Ptr) (alloc : Global) where
     docs = no_comments ptr alloc;
     attributes = untold ptr alloc;
     name = x_id ptr alloc (at 31 32);
-    func = record { span = at 34 37; form = form.Setter; params = vec ptr alloc (v_u8 ptr alloc (at 38 39) (at 41 43) ∷ param ptr alloc (t_id ptr alloc (at 45 46)) (written.U8 (at 48 50)) ∷ []) (lit< tt); result = None };
+    func = record { span = at 34 37; form = form.Setter; params = vec ptr alloc (v_u8 ptr alloc (at 38 39) (at 41 43) ∷ param ptr alloc (t_id ptr alloc (at 45 46)) (written.Primitive (at 48 50) primitive.U8) ∷ []) (lit< tt); result = None };
   }) ∷ FuncItem (getter (at 53 54) (at 56 59) (at 65 67)) ∷ []) (lit< tt)
 
   double_refused : IsBroken (file_of ptr alloc double ∷ []) (fault 37 (at 45 46))
@@ -120,8 +121,8 @@ module _ (ptr : Ptr) (alloc : Global) where
   abbrev making : Written → Interface
   making t = i_of ptr alloc (TypeItem (resource_of ptr alloc (r_id ptr alloc (at 40 41)) (resource.Constructor (no_comments ptr alloc) (untold ptr alloc) (at 44 55) (vec ptr alloc [] (lit< tt)) (Some t) ∷ []) (lit< tt)) ∷ []) (lit< tt)
 
-  plain_refused : IsBroken (file_of ptr alloc (making (written.U8 (at 61 63))) ∷ []) (fault 41 (at 61 63))
-  plain_refused = in_scope ptr alloc (making (written.U8 (at 61 63))) (fault 41 (at 61 63)) (Function 0 _ refl (ConstructorWithoutResult (record { of = r_id ptr alloc (at 40 41); constructs = refl; t = _; result = refl; none = refl; is = refl })))
+  plain_refused : IsBroken (file_of ptr alloc (making (written.Primitive (at 61 63) primitive.U8)) ∷ []) (fault 41 (at 61 63))
+  plain_refused = in_scope ptr alloc (making (written.Primitive (at 61 63) primitive.U8)) (fault 41 (at 61 63)) (Function 0 _ refl (ConstructorWithoutResult (record { of = r_id ptr alloc (at 40 41); constructs = refl; t = _; result = refl; none = refl; is = refl })))
 
   -- resource r { constructor() -> result; }
   abbrev empty : Written
@@ -133,13 +134,13 @@ module _ (ptr : Ptr) (alloc : Global) where
   -- type t = result<u8>; x: set(v: u8) -> t; x: get() -> u8;
   module _ where
     abbrev some_ok : Definition
-    some_ok = record { docs = no_comments ptr alloc; attributes = untold ptr alloc; name = t_id ptr alloc (at 36 37); body = Plain (written.Result (at 40 46) (Ok' (record { ptr = ptr; alloc = alloc; value = tt }) (written.U8 (at 47 49)))) }
+    some_ok = record { docs = no_comments ptr alloc; attributes = untold ptr alloc; name = t_id ptr alloc (at 36 37); body = Plain (written.Result (at 40 46) (Ok' (record { ptr = ptr; alloc = alloc; value = tt }) (written.Primitive (at 47 49) primitive.U8))) }
 
     abbrev called : Interface
     called = i_of ptr alloc (TypeItem some_ok ∷ FuncItem (func_of ptr alloc (x_id ptr alloc (at 52 53)) (at 55 58) form.Setter (v_u8 ptr alloc (at 59 60) (at 62 64)) (Some (written.Name (t_id ptr alloc (at 69 70))))) ∷ FuncItem (getter (at 72 73) (at 75 78) (at 84 86)) ∷ []) (lit< tt)
 
     called_refused : IsBroken (file_of ptr alloc called ∷ []) (fault 40 (at 69 70))
-    called_refused = in_scope ptr alloc called (fault 40 (at 69 70)) (Function 0 _ refl (SetterWithResult (record { setter = refl; t = _; result = refl; other = λ (same : Some (Some (written.U8 (at 47 49))) ≡ Some None). (let f : ⊥ = cc in f); is = refl })))
+    called_refused = in_scope ptr alloc called (fault 40 (at 69 70)) (Function 0 _ refl (SetterWithResult (record { setter = refl; t = _; result = refl; other = λ (same : Some (Some (written.Primitive (at 47 49) primitive.U8)) ≡ Some None). (let f : ⊥ = cc in f); is = refl })))
 
   -- type t = result; type f = t;
   abbrev words : List ScopeName

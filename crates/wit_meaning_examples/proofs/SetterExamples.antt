@@ -16,6 +16,7 @@ use Rattle.wit_tree.specs.declared.tree.World.{World as WrittenWorld}
 use Rattle.wit_tree.specs.declared.tree.WorldItem.TheVariants as world_item
 use Rattle.wit_tree.specs.declared.tree.WorldSide.{WorldSide}
 use Rattle.wit_tree.specs.declared.tree.WorldSide.TheVariants.{Imported, Exported}
+use Rattle.wit_type_tree.specs.declared.types.Primitive.TheVariants as primitive
 use Rattle.wit_type_tree.specs.declared.types.«Type».TheVariants as written
 use Rattle.wit_types.specs.declared.stability.Stability.TheVariants.{Unknown}
 use Rattle.wit_types.specs.declared.types.«Type».TheVariants as type
@@ -61,7 +62,7 @@ module _ (ptr : Ptr) (alloc : Global) where
 
   -- package foo:foo; world w { import x: get() -> u8; export x: set(v: u8); }
   abbrev w : WrittenWorld
-  w = record { docs = no_comments ptr alloc; attributes = untold ptr alloc; name = id ptr alloc (codes "w") (at 23 24) refl; items = vec ptr alloc (world_item.Extern (across Imported (func ptr alloc (x_id ptr alloc (at 34 35)) (at 37 40) form.Getter (Some (written.U8 (at 46 48))))) ∷ world_item.Extern (across Exported (func_of ptr alloc (x_id ptr alloc (at 57 58)) (at 60 63) form.Setter (v_u8 ptr alloc (at 64 65) (at 67 69)) None)) ∷ []) (lit< tt) }
+  w = record { docs = no_comments ptr alloc; attributes = untold ptr alloc; name = id ptr alloc (codes "w") (at 23 24) refl; items = vec ptr alloc (world_item.Extern (across Imported (func ptr alloc (x_id ptr alloc (at 34 35)) (at 37 40) form.Getter (Some (written.Primitive (at 46 48) primitive.U8)))) ∷ world_item.Extern (across Exported (func_of ptr alloc (x_id ptr alloc (at 57 58)) (at 60 63) form.Setter (v_u8 ptr alloc (at 64 65) (at 67 69)) None)) ∷ []) (lit< tt) }
 
   abbrev file : PackageFile
   file = record { package_id = Some (header ptr alloc); decl_list = record { items = vec ptr alloc (ast.World w ∷ []) (lit< tt) } }

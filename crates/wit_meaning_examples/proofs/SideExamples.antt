@@ -9,6 +9,7 @@ use Rattle.wit_type_tree.specs.declared.leaves.Id.{Id}
 use Rattle.wit_type_tree.specs.declared.types.FuncForm.TheVariants as form
 use Rattle.wit_tree.specs.declared.tree.WorldSide.{WorldSide}
 use Rattle.wit_tree.specs.declared.tree.WorldSide.TheVariants.{Imported, Exported}
+use Rattle.wit_type_tree.specs.declared.types.Primitive.TheVariants as primitive
 use Rattle.wit_type_tree.specs.declared.types.«Type».TheVariants as written
 use Rattle.wit_type_tree.specs.declared.types.TypeBody.TheVariants.{Plain}
 use Rattle.wit_type_tree.specs.declared.types.Func.{Func}
@@ -241,7 +242,7 @@ module _ (ptr : Ptr) (alloc : Global) where
   -- package foo:foo; world w { type f = u8; .. }
   module _ where
     abbrev beside : Extern → WrittenWorld
-    beside second = record { docs = no_comments ptr alloc; attributes = untold ptr alloc; name = id ptr alloc (codes "w") (at 23 24) refl; items = vec ptr alloc (world_item.TypeDef (record { docs = no_comments ptr alloc; attributes = untold ptr alloc; name = f_at (at 32 33); body = Plain (written.U8 (at 36 38)) }) ∷ world_item.Extern second ∷ []) (lit< tt) }
+    beside second = record { docs = no_comments ptr alloc; attributes = untold ptr alloc; name = id ptr alloc (codes "w") (at 23 24) refl; items = vec ptr alloc (world_item.TypeDef (record { docs = no_comments ptr alloc; attributes = untold ptr alloc; name = f_at (at 32 33); body = Plain (written.Primitive (at 36 38) primitive.U8) }) ∷ world_item.Extern second ∷ []) (lit< tt) }
 
     -- import f: func();
     abbrev clashing : WrittenWorld

@@ -6,6 +6,7 @@ use Rattle.std.specs.declared.alloc.Global.{Global}
 use denote.RawPtr.{Ptr}
 use Rattle.wit_values.specs.declared.span.Span.{Span}
 use Rattle.wit_type_tree.specs.declared.leaves.Id.{Id}
+use Rattle.wit_type_tree.specs.declared.types.Primitive.TheVariants as primitive
 use Rattle.wit_type_tree.specs.declared.types.«Type».{«Type» as Written}
 use Rattle.wit_type_tree.specs.declared.types.ResultTypes.{Ok', Err'}
 use Rattle.wit_type_tree.specs.declared.types.«Type».TheVariants as written
@@ -137,7 +138,7 @@ module _ (ptr : Ptr) (alloc : Global) where
   func_of name span form given result = record { docs = no_comments ptr alloc; attributes = untold ptr alloc; name = name; func = record { span = span; form = form; params = vec ptr alloc (given ∷ []) (lit< tt); result = result } }
 
   abbrev pub v_u8 : Span → Span → Param
-  v_u8 name ty = param (id ptr alloc (codes "v") name refl) (written.U8 ty)
+  v_u8 name ty = param (id ptr alloc (codes "v") name refl) (written.Primitive ty primitive.U8)
 
   -- a resource with at most two functions
   abbrev pub resource_of : Id → (funcs : List ResourceFunc) → length funcs < 2 ^ 63 → Definition
@@ -178,14 +179,14 @@ module _ (ptr : Ptr) (alloc : Global) where
 
   -- type x = u8; x: get() -> u8;
   abbrev getter_beside : Interface
-  getter_beside = i_of (TypeItem (record { docs = no_comments ptr alloc; attributes = untold ptr alloc; name = x_id (at 36 37); body = Plain (written.U8 (at 40 42)) }) ∷ FuncItem (func (x_id (at 44 45)) (at 47 50) form.Getter (Some (written.U8 (at 56 58)))) ∷ []) (lit< tt)
+  getter_beside = i_of (TypeItem (record { docs = no_comments ptr alloc; attributes = untold ptr alloc; name = x_id (at 36 37); body = Plain (written.Primitive (at 40 42) primitive.U8) }) ∷ FuncItem (func (x_id (at 44 45)) (at 47 50) form.Getter (Some (written.Primitive (at 56 58) primitive.U8))) ∷ []) (lit< tt)
 
   keys_beside : map called_key (side_called Imported (scope_names (item_of getter_beside)) (side_items (item_of getter_beside)) (0 ∷ [])) ≡ (codes "x" ∷ codes "[get]x" ∷ [])
   keys_beside = refl
 
   -- x: set(v: u8); f: func(); x: get() -> u8;
   abbrev setting : Interface
-  setting = i_of (FuncItem (func_of (x_id (at 31 32)) (at 34 37) form.Setter (v_u8 (at 38 39) (at 41 43)) None) ∷ FuncItem (func (f_id (at 46 47)) (at 49 53) form.Plain None) ∷ FuncItem (func (x_id (at 57 58)) (at 60 63) form.Getter (Some (written.U8 (at 69 71)))) ∷ []) (lit< tt)
+  setting = i_of (FuncItem (func_of (x_id (at 31 32)) (at 34 37) form.Setter (v_u8 (at 38 39) (at 41 43)) None) ∷ FuncItem (func (f_id (at 46 47)) (at 49 53) form.Plain None) ∷ FuncItem (func (x_id (at 57 58)) (at 60 63) form.Getter (Some (written.Primitive (at 69 71) primitive.U8))) ∷ []) (lit< tt)
 
   names_of_setting : names (functions (item_of setting)) ≡ (codes "[set]x" ∷ codes "f" ∷ codes "[get]x" ∷ [])
   names_of_setting = refl
@@ -197,7 +198,7 @@ module _ (ptr : Ptr) (alloc : Global) where
   -- resource r { x: get() -> u8; x: static set(v: u8); }
   module _ where
     abbrev unpaired : Interface
-    unpaired = i_of (TypeItem (resource_of (r_id (at 40 41)) (resource.Method (func (x_id (at 44 45)) (at 47 50) form.Getter (Some (written.U8 (at 56 58)))) ∷ resource.Static (func_of (x_id (at 60 61)) (at 70 73) form.Setter (v_u8 (at 74 75) (at 77 79)) None) ∷ []) (lit< tt)) ∷ []) (lit< tt)
+    unpaired = i_of (TypeItem (resource_of (r_id (at 40 41)) (resource.Method (func (x_id (at 44 45)) (at 47 50) form.Getter (Some (written.Primitive (at 56 58) primitive.U8))) ∷ resource.Static (func_of (x_id (at 60 61)) (at 70 73) form.Setter (v_u8 (at 74 75) (at 77 79)) None) ∷ []) (lit< tt)) ∷ []) (lit< tt)
 
     abbrev fns : List SourceFunction
     fns = functions (item_of unpaired)
@@ -291,7 +292,7 @@ module _ (ptr : Ptr) (alloc : Global) where
 
   -- resource r { m: func(self: u8); }
   abbrev two_selves : Interface
-  two_selves = i_of (TypeItem (resource_of (r_id (at 40 41)) (resource.Method (func_of (m_id (at 44 45)) (at 47 51) form.Plain (param (id ptr alloc (codes "self") (at 52 56) refl) (written.U8 (at 58 60))) None) ∷ []) (lit< tt)) ∷ []) (lit< tt)
+  two_selves = i_of (TypeItem (resource_of (r_id (at 40 41)) (resource.Method (func_of (m_id (at 44 45)) (at 47 51) form.Plain (param (id ptr alloc (codes "self") (at 52 56) refl) (written.Primitive (at 58 60) primitive.U8)) None) ∷ []) (lit< tt)) ∷ []) (lit< tt)
 
   two_selves_refused : IsBroken (file_of two_selves ∷ []) (fault 38 (at 52 56))
   two_selves_refused = in_scope two_selves (fault 38 (at 52 56)) (Function 0 _ refl (DuplicateParam (record { later = _; repeated = record { first = 0; second = 1; earlier = _; before = lit< tt; at_first = refl; at_second = refl; same = refl }; is = refl })))
@@ -299,14 +300,14 @@ module _ (ptr : Ptr) (alloc : Global) where
   -- x: set(v: u8) -> result<_, u8>; x: get() -> u8;
   module _ where
     abbrev no_ok : Written
-    no_ok = written.Result (at 48 54) (Err' box (written.U8 (at 58 60)))
+    no_ok = written.Result (at 48 54) (Err' box (written.Primitive (at 58 60) primitive.U8))
 
     abbrev some_ok : Written
-    some_ok = written.Result (at 48 54) (Ok' box (written.U8 (at 55 57)))
+    some_ok = written.Result (at 48 54) (Ok' box (written.Primitive (at 55 57) primitive.U8))
 
     -- where the second x, `get` and its u8 stand
     abbrev setter : Written → Span → Span → Span → Interface
-    setter t name word ty = i_of (FuncItem (func_of (x_id (at 31 32)) (at 34 37) form.Setter (v_u8 (at 38 39) (at 41 43)) (Some t)) ∷ FuncItem (func (x_id name) word form.Getter (Some (written.U8 ty))) ∷ []) (lit< tt)
+    setter t name word ty = i_of (FuncItem (func_of (x_id (at 31 32)) (at 34 37) form.Setter (v_u8 (at 38 39) (at 41 43)) (Some t)) ∷ FuncItem (func (x_id name) word form.Getter (Some (written.Primitive ty primitive.U8))) ∷ []) (lit< tt)
 
     abbrev accepting : Interface
     accepting = setter no_ok (at 63 64) (at 66 69) (at 75 77)
@@ -319,7 +320,7 @@ module _ (ptr : Ptr) (alloc : Global) where
 
     -- x: set(v: u8) -> result<u8>; x: get() -> u8;
     setter_refused : IsBroken (file_of refusing ∷ []) (fault 40 (at 48 54))
-    setter_refused = in_scope refusing (fault 40 (at 48 54)) (Function 0 _ refl (SetterWithResult (record { setter = refl; t = some_ok; result = refl; other = λ (same : Some (Some (written.U8 (at 55 57))) ≡ Some None). (let f : ⊥ = cc in f); is = refl })))
+    setter_refused = in_scope refusing (fault 40 (at 48 54)) (Function 0 _ refl (SetterWithResult (record { setter = refl; t = some_ok; result = refl; other = λ (same : Some (Some (written.Primitive (at 55 57) primitive.U8)) ≡ Some None). (let f : ⊥ = cc in f); is = refl })))
 
   -- package foo:foo; interface a { f: func(); } interface b { use a.{f}; }
   module _ where

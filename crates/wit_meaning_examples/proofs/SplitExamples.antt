@@ -13,6 +13,7 @@ use Rattle.wit_tree.specs.declared.tree.PackageName.{PackageName as Header}
 use Rattle.wit_tree.specs.declared.tree.ToplevelUse.{ToplevelUse}
 use Rattle.wit_type_tree.specs.declared.types.TypeBody.TheVariants.{Plain}
 use Rattle.wit_type_tree.specs.declared.types.TypeDef.{TypeDef}
+use Rattle.wit_type_tree.specs.declared.types.Primitive.TheVariants as primitive
 use Rattle.wit_type_tree.specs.declared.types.«Type».{«Type» as Written}
 use Rattle.wit_type_tree.specs.declared.types.«Type».TheVariants as written
 use Rattle.wit_tree.specs.declared.tree.Use.{Use as WrittenUse}
@@ -67,7 +68,7 @@ x_and_i same = let wrong : true ≡ false = ap (bytes_eq (codes "x")) same in le
 -- use a:b/c as x; interface i { use x.{t}; }
 module _ (ptr : Ptr) (alloc : Global) where
   abbrev t : TypeDef
-  t = record { docs = no_comments ptr alloc; attributes = untold ptr alloc; name = id ptr alloc (codes "t") (at 36 37) refl; body = Plain (written.U8 (at 40 42)) }
+  t = record { docs = no_comments ptr alloc; attributes = untold ptr alloc; name = id ptr alloc (codes "t") (at 36 37) refl; body = Plain (written.Primitive (at 40 42) primitive.U8) }
 
   abbrev x : Interface
   x = record { docs = no_comments ptr alloc; attributes = untold ptr alloc; name = id ptr alloc (codes "x") (at 27 28) refl; items = vec ptr alloc (TypeItem t ∷ []) (lit< tt) }
@@ -192,13 +193,13 @@ module _ (ptr : Ptr) (alloc : Global) where
   only_definition d among = let same = one_among (Defined t) (Defined d) among in cc
 
   -- nothing stands in u8
-  u8_passes : (f : Fault) (level : ℕ) (part : Written) → StandsIn level (written.U8 (at 40 42)) part → IsBrokenForm part f → ⊥
+  u8_passes : (f : Fault) (level : ℕ) (part : Written) → StandsIn level (written.Primitive (at 40 42) primitive.U8) part → IsBrokenForm part f → ⊥
   u8_passes f zero part stands broken = subst (λ (w : Written). IsBrokenForm w f) stands broken
   u8_passes f (suc n) part stands broken = none_among stands.0 stands.1
 
   body_passes : (f : Fault) → IsBrokenBody t.body f → ⊥
   body_passes f (inl h) = h
-  body_passes f (inr h) = u8_passes f h.broken.level h.broken.t (subst (λ (w : Written). StandsIn h.broken.level w h.broken.t) (sym (one_among (written.U8 (at 40 42)) h.t h.among)) h.broken.stands) h.broken.broken
+  body_passes f (inr h) = u8_passes f h.broken.level h.broken.t (subst (λ (w : Written). StandsIn h.broken.level w h.broken.t) (sym (one_among (written.Primitive (at 40 42) primitive.U8) h.t h.among)) h.broken.stands) h.broken.broken
 
   x_passes : (f : Fault) → IsBrokenScope (scope_names x_item) (functions x_item) f → ⊥
   x_passes f (DefinedTwice h) = no_repeat local_name (scope_names x_item) h.later (one_differs (codes "t")) h.repeated

@@ -16,6 +16,7 @@ use Rattle.wit_type_tree.specs.declared.types.FuncForm.TheVariants as form
 use Rattle.wit_type_tree.specs.declared.leaves.Id.{Id}
 use Rattle.wit_type_tree.specs.declared.types.NamedFunc.{NamedFunc}
 use Rattle.wit_type_tree.specs.declared.types.ResourceFunc.TheVariants as resource
+use Rattle.wit_type_tree.specs.declared.types.Primitive.TheVariants as primitive
 use Rattle.wit_type_tree.specs.declared.types.«Type».{«Type» as Written}
 use Rattle.wit_type_tree.specs.declared.types.ResultTypes.{Neither, Both'}
 use Rattle.wit_type_tree.specs.declared.types.«Type».TheVariants as written
@@ -54,7 +55,6 @@ use Rattle.wit_syntax.specs.Address.{Address, InterfaceNamed, WorldNamed, Foreig
 use Rattle.wit_syntax.specs.Foreign.{foreign_items}
 use Rattle.wit_syntax.specs.Form.{BorrowForm, ListForm, ResultForm}
 use Rattle.wit_syntax.specs.Function.{functions, signature}
-use Rattle.wit_syntax.specs.Node as node
 use Rattle.wit_syntax.specs.Notes.{Notes, no_docs, notes}
 use Rattle.wit_syntax.specs.Docs.{joined}
 use Rattle.wit_syntax.specs.Scope.{in_order, item_rows, rows_of}
@@ -122,14 +122,14 @@ module _ (ptr : Ptr) (alloc : Global) where
 
   -- read: func(len: u64) -> result<list<u8>, error>;
   abbrev result_type : Written
-  result_type = written.Result (at 165 171) (Both' box (written.List' (at 172 176) box (written.U8 (at 177 179))) box (written.Name (error_at (at 182 187))))
+  result_type = written.Result (at 165 171) (Both' box (written.List' (at 172 176) box (written.Primitive (at 177 179) primitive.U8)) box (written.Name (error_at (at 182 187))))
 
   abbrev read : NamedFunc
   read = record {
     docs = no_comments ptr alloc;
     attributes = untold ptr alloc;
     name = id ptr alloc (codes "read") (at 141 145) refl;
-    func = record { span = at 147 151; form = form.Plain; params = vec ptr alloc (record { name = id ptr alloc (codes "len") (at 152 155) refl; ty = written.U64 (at 157 160) } ∷ []) (lit< tt); result = Some result_type };
+    func = record { span = at 147 151; form = form.Plain; params = vec ptr alloc (record { name = id ptr alloc (codes "len") (at 152 155) refl; ty = written.Primitive (at 157 160) primitive.U64 } ∷ []) (lit< tt); result = Some result_type };
   }
 
   abbrev input : Definition
@@ -201,8 +201,8 @@ module _ (ptr : Ptr) (alloc : Global) where
       ∷ met_at (Def in_streams (codes "error")) (at 110 115)
       ∷ met_at (Def in_streams (codes "input")) (at 129 134)
       ∷ met_at (Whole BorrowForm (one (Use in_streams (codes "input")))) (at 147 151)
-      ∷ met_at (Whole ListForm (one (Prim node.U8))) (at 172 176)
-      ∷ met_at (Whole (ResultForm true true) (More (Of ListForm (one (Prim node.U8))) (one (Use in_streams (codes "error"))))) (at 165 171)
+      ∷ met_at (Whole ListForm (one (Prim primitive.U8))) (at 172 176)
+      ∷ met_at (Whole (ResultForm true true) (More (Of ListForm (one (Prim primitive.U8))) (one (Use in_streams (codes "error"))))) (at 165 171)
       ∷ met_at (Whole (ResultForm false false) End) (at 248 254) ∷ []
 
   met_once : Meets [] (all_meetings files turns) met

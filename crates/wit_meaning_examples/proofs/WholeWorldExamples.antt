@@ -12,6 +12,7 @@ use Rattle.wit_type_tree.specs.declared.types.Func.{Func}
 use Rattle.wit_type_tree.specs.declared.types.FuncForm.TheVariants as form
 use Rattle.wit_type_tree.specs.declared.leaves.Id.{Id}
 use Rattle.wit_tree.specs.declared.tree.Include.{Include}
+use Rattle.wit_type_tree.specs.declared.types.Primitive.TheVariants as primitive
 use Rattle.wit_type_tree.specs.declared.types.«Type».TheVariants as written
 use Rattle.wit_type_tree.specs.declared.types.TypeBody.TheVariants.{Plain}
 use Rattle.wit_tree.specs.declared.tree.Use.{Use}
@@ -90,7 +91,7 @@ module _ (ptr : Ptr) (alloc : Global) where
   x_at span = id ptr alloc (codes "x") span refl
 
   abbrev a : WrittenInterface
-  a = record { docs = no_comments ptr alloc; attributes = untold ptr alloc; name = a_at (at 27 28); items = vec ptr alloc (interface_item.TypeDef (record { docs = no_comments ptr alloc; attributes = untold ptr alloc; name = t_at (at 36 37); body = Plain (written.U8 (at 40 42)) }) ∷ []) (lit< tt) }
+  a = record { docs = no_comments ptr alloc; attributes = untold ptr alloc; name = a_at (at 27 28); items = vec ptr alloc (interface_item.TypeDef (record { docs = no_comments ptr alloc; attributes = untold ptr alloc; name = t_at (at 36 37); body = Plain (written.Primitive (at 40 42) primitive.U8) }) ∷ []) (lit< tt) }
 
   abbrev used : Span → UseName
   used span = record { name = t_at span; as_ = None }

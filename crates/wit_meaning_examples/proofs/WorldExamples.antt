@@ -4,6 +4,7 @@ use Rattle.std.specs.Prelude.{codes}
 use Rattle.std.specs.declared.alloc.Global.{Global}
 use denote.RawPtr.{Ptr}
 use Rattle.wit_values.specs.declared.span.Span.{Span}
+use Rattle.wit_type_tree.specs.declared.types.Primitive.TheVariants as primitive
 use Rattle.wit_type_tree.specs.declared.types.«Type».TheVariants as written
 use Rattle.wit_type_tree.specs.declared.types.TypeBody.TheVariants.{Plain}
 use Rattle.wit_type_tree.specs.declared.types.TypeDef.{TypeDef as Definition}
@@ -31,7 +32,6 @@ use Rattle.wit_model.specs.declared.world.WorldItem.{WorldItem}
 use Rattle.wit_model.specs.declared.unresolved.UnresolvedPackage.{UnresolvedPackage}
 use Rattle.wit_syntax.specs.Form.{AliasForm}
 use Rattle.wit_syntax.specs.Node.{Head, Leaf, Named}
-use Rattle.wit_syntax.specs.Node as node
 use Rattle.wit_syntax.specs.Address.{Address, InterfaceNamed, WorldNamed}
 use Rattle.wit_syntax.specs.Notes.{no_docs}
 use Rattle.wit_syntax.specs.Source.{TheInterface, TheWorld, Item, top_names, all_items, Used, Defined, scope_names}
@@ -46,7 +46,7 @@ use Rattle.wit_meaning_examples.proofs.Examples.{at, id, vec, no_comments, untol
 -- package foo:foo; interface x { type t = u8; } world v { include w; } world w { use x.{t}; type s = t; }
 module _ (ptr : Ptr) (alloc : Global) where
   abbrev t : Definition
-  t = record { docs = no_comments ptr alloc; attributes = untold ptr alloc; name = id ptr alloc (codes "t") (at 36 37) refl; body = Plain (written.U8 (at 40 42)) }
+  t = record { docs = no_comments ptr alloc; attributes = untold ptr alloc; name = id ptr alloc (codes "t") (at 36 37) refl; body = Plain (written.Primitive (at 40 42) primitive.U8) }
 
   abbrev x : WrittenInterface
   x = record { docs = no_comments ptr alloc; attributes = untold ptr alloc; name = id ptr alloc (codes "x") (at 27 28) refl; items = vec ptr alloc (interface_item.TypeDef t ∷ []) (lit< tt) }

@@ -54,20 +54,7 @@ pub fn span_of(ty: &Type<'_>) -> Span
     ensures { result ≡ type_span ty.now }
 {
     match ty {
-        Type::Bool(span)
-        | Type::U8(span)
-        | Type::U16(span)
-        | Type::U32(span)
-        | Type::U64(span)
-        | Type::S8(span)
-        | Type::S16(span)
-        | Type::S32(span)
-        | Type::S64(span)
-        | Type::F32(span)
-        | Type::F64(span)
-        | Type::Char(span)
-        | Type::String(span)
-        | Type::ErrorContext(span)
+        Type::Primitive(span, _)
         | Type::List(span, _)
         | Type::FixedLengthList(span, _, _)
         | Type::Map(span, _, _)

@@ -1,13 +1,13 @@
 //! The rules of types, fields, flags and cases.
 ghost use Rattle.std.specs.Prelude.{◌≡◌, ◌↔◌, ◌⊎◌, OnOk, IfOk, IfErr, IsTrue, map};
 ghost use Rattle.wit_syntax.specs.Fault.{Fault};
-ghost use Rattle.wit_syntax.specs.Bodies.{IsKey, IsInvalidKey, IsEmpty, IsFlagTooMany, IsDuplicateName, AreBroken};
+ghost use Rattle.wit_syntax.specs.Bodies.{CanBeKey, IsKey, IsInvalidKey, IsEmpty, IsFlagTooMany, IsDuplicateName, AreBroken};
 ghost use Rattle.wit_syntax.specs.Broken.{Refused};
 
 use std::alloc::{AllocError, Global};
 use wit_refusals::check_unique_names;
 use wit_refusals::refusal::refuse;
-use wit_tree::tree::{Case, EnumCase, Field, Flag, Id, Type};
+use wit_tree::tree::{Case, EnumCase, Field, Flag, Id, Primitive, Type};
 use wit_tree::{ParseResult, Span};
 
 /// How many flags there are at most.
@@ -17,22 +17,22 @@ const MOST_FLAGS: usize = 32;
 const INVALID_KEY: &str =
     "invalid map key type: map keys must be bool, u8, u16, u32, u64, s8, s16, s32, s64, char, or string";
 
+/// Whether the keys of a map can be of a primitive type.
+fn can_be_key(primitive: Primitive) -> bool
+    ensures { IsTrue result ↔ CanBeKey primitive }
+{
+    !matches!(
+        primitive,
+        Primitive::F32 | Primitive::F64 | Primitive::ErrorContext
+    )
+}
+
 /// Whether the keys of a map can be of a type, as it is written.
 fn is_key(ty: &Type<'_>) -> bool
     ensures { IsTrue result ↔ IsKey ty.now }
 {
     match ty {
-        Type::Bool(_)
-        | Type::U8(_)
-        | Type::U16(_)
-        | Type::U32(_)
-        | Type::U64(_)
-        | Type::S8(_)
-        | Type::S16(_)
-        | Type::S32(_)
-        | Type::S64(_)
-        | Type::Char(_)
-        | Type::String(_) => true,
+        Type::Primitive(_, primitive) => can_be_key(*primitive),
         _ => false,
     }
 }

@@ -8,6 +8,8 @@ use Rattle.wit_type_tree.specs.declared.types.Field.{Field}
 use Rattle.wit_type_tree.specs.declared.types.Flag.{Flag}
 use Rattle.wit_type_tree.specs.declared.types.Case.{Case}
 use Rattle.wit_type_tree.specs.declared.types.EnumCase.{EnumCase}
+use Rattle.wit_type_tree.specs.declared.types.Primitive.{Primitive}
+use Rattle.wit_type_tree.specs.declared.types.Primitive.TheVariants as primitive
 use Rattle.wit_type_tree.specs.declared.types.«Type».{«Type» as Written}
 use Rattle.wit_type_tree.specs.declared.types.«Type».TheVariants as written
 use Rattle.wit_type_tree.specs.declared.types.TypeBody.{TypeBody}
@@ -48,19 +50,16 @@ IsFlagTooMany flags f = option_map (λ (flag : Flag). fault 21 flag.name.span) (
 abbrev pub IsDuplicateName : List Id → Fault → Type 0
 IsDuplicateName names f = IsSecond (λ (id : Id). folded id.name.now) (λ (id : Id). fault 25 id.span) names f
 
+-- the keys of a map can be of a primitive type, but of no float and no context of errors
+abbrev pub CanBeKey : Primitive → Type 0
+CanBeKey primitive.F32 = ⊥
+CanBeKey primitive.F64 = ⊥
+CanBeKey primitive.ErrorContext = ⊥
+CanBeKey _ = Unit {0}
+
 -- the keys of a map can be of the type, as it is written
 abbrev pub IsKey : Written → Type 0
-IsKey (written.Bool span) = Unit {0}
-IsKey (written.U8 span) = Unit {0}
-IsKey (written.U16 span) = Unit {0}
-IsKey (written.U32 span) = Unit {0}
-IsKey (written.U64 span) = Unit {0}
-IsKey (written.S8 span) = Unit {0}
-IsKey (written.S16 span) = Unit {0}
-IsKey (written.S32 span) = Unit {0}
-IsKey (written.S64 span) = Unit {0}
-IsKey (written.Char span) = Unit {0}
-IsKey (written.String span) = Unit {0}
+IsKey (written.Primitive span p) = CanBeKey p
 IsKey _ = ⊥
 
 -- a map's key is written as another type

@@ -1,6 +1,8 @@
 -- One level of a type over what stands for its parts, and types unfolded to any depth.
 use Rattle.std.specs.Prelude.{ℕ, zero, suc, List, Option, map}
 use Rattle.wit_values.specs.declared.span.Span.{Span}
+use Rattle.wit_type_tree.specs.declared.types.Primitive.{Primitive}
+use Rattle.wit_type_tree.specs.declared.types.Primitive.TheVariants as primitive
 use Rattle.wit_types.specs.declared.docs.Docs.{Docs}
 use Rattle.wit_types.specs.declared.stability.Stability.{Stability}
 use Rattle.wit_types.specs.declared.types.«Type».{«Type» as Ty}
@@ -8,39 +10,22 @@ use Rattle.wit_types.specs.declared.types.«Type».TheVariants as type
 use Rattle.wit_syntax.specs.Form.{Form}
 use Rattle.wit_syntax.specs.Address.{Address}
 
--- the primitive types
-pub data Primitive : Type 0 where
-  Bool : Primitive
-  U8 : Primitive
-  U16 : Primitive
-  U32 : Primitive
-  U64 : Primitive
-  S8 : Primitive
-  S16 : Primitive
-  S32 : Primitive
-  S64 : Primitive
-  F32 : Primitive
-  F64 : Primitive
-  Char : Primitive
-  String : Primitive
-  ErrorContext : Primitive
-
 -- the type of a package that a primitive is
 abbrev pub primitive_type : Primitive → Ty
-primitive_type Bool = type.Bool
-primitive_type U8 = type.U8
-primitive_type U16 = type.U16
-primitive_type U32 = type.U32
-primitive_type U64 = type.U64
-primitive_type S8 = type.S8
-primitive_type S16 = type.S16
-primitive_type S32 = type.S32
-primitive_type S64 = type.S64
-primitive_type F32 = type.F32
-primitive_type F64 = type.F64
-primitive_type Char = type.Char
-primitive_type String = type.String
-primitive_type ErrorContext = type.ErrorContext
+primitive_type primitive.Bool = type.Bool
+primitive_type primitive.U8 = type.U8
+primitive_type primitive.U16 = type.U16
+primitive_type primitive.U32 = type.U32
+primitive_type primitive.U64 = type.U64
+primitive_type primitive.S8 = type.S8
+primitive_type primitive.S16 = type.S16
+primitive_type primitive.S32 = type.S32
+primitive_type primitive.S64 = type.S64
+primitive_type primitive.F32 = type.F32
+primitive_type primitive.F64 = type.F64
+primitive_type primitive.Char = type.Char
+primitive_type primitive.String = type.String
+primitive_type primitive.ErrorContext = type.ErrorContext
 
 -- a named type without its body; its owner, if it has one, is a scope, told by names alone
 pub record Head : Type 0 where

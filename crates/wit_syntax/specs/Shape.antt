@@ -2,6 +2,7 @@
 use Rattle.std.specs.Prelude.{Bool, true, false, List, [], ◌∷◌, ◌++◌, map, is_some}
 use Rattle.wit_values.specs.declared.span.Span.{Span}
 use Rattle.wit_type_tree.specs.declared.leaves.Id.{Id}
+use Rattle.wit_type_tree.specs.declared.types.Primitive.{Primitive}
 use Rattle.wit_type_tree.specs.declared.types.«Type».{«Type» as Written, Held-Type-Future-1 as Held, None', Some', Row_of-Type, end_of-Type, more_of-Type}
 use Rattle.wit_type_tree.specs.declared.types.«Type».TheVariants as written
 use Rattle.wit_type_tree.specs.declared.types.ResultTypes.{ResultTypes, Neither, Ok', Err', Both'}
@@ -15,8 +16,6 @@ use Rattle.wit_type_tree.specs.Parts.{ok_type, err_type, field_types, case_types
 use Rattle.wit_type_tree.specs.declared.leaves.Docs.{Docs as Comments}
 use Rattle.wit_syntax.specs.Notes.{docs_of}
 use Rattle.wit_syntax.specs.Form.{Member, Form, RecordForm, FlagsForm, VariantForm, EnumForm, OptionForm, ResultForm, TupleForm, ListForm, MapForm, FixedLengthListForm, FutureForm, StreamForm, AliasForm, OwnForm, BorrowForm, ResourceForm}
-use Rattle.wit_syntax.specs.Node.{Primitive}
-use Rattle.wit_syntax.specs.Node as node
 
 -- a type is a primitive, a name, or an unnamed type: a form over parts, with its span
 mutual
@@ -40,20 +39,7 @@ is_held (Some' p t) = true
 -- the shape of a written type; a part that is left out is told by the form
 abbrev mutual
   pub shape_of : Written → Shape
-  shape_of (written.Bool span) = Prim node.Bool
-  shape_of (written.U8 span) = Prim node.U8
-  shape_of (written.U16 span) = Prim node.U16
-  shape_of (written.U32 span) = Prim node.U32
-  shape_of (written.U64 span) = Prim node.U64
-  shape_of (written.S8 span) = Prim node.S8
-  shape_of (written.S16 span) = Prim node.S16
-  shape_of (written.S32 span) = Prim node.S32
-  shape_of (written.S64 span) = Prim node.S64
-  shape_of (written.F32 span) = Prim node.F32
-  shape_of (written.F64 span) = Prim node.F64
-  shape_of (written.Char span) = Prim node.Char
-  shape_of (written.String span) = Prim node.String
-  shape_of (written.ErrorContext span) = Prim node.ErrorContext
+  shape_of (written.Primitive span p) = Prim p
   shape_of (written.Name id) = Word id
   shape_of (written.List' span p t) = Of span ListForm (one (shape_of t))
   shape_of (written.FixedLengthList' span p t size) = Of span (FixedLengthListForm size) (one (shape_of t))

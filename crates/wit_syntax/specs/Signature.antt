@@ -44,20 +44,7 @@ role_form (OnSide side id form) = form
 
 -- where a written type stands
 abbrev pub type_span : Written → Span
-type_span (written.Bool span) = span
-type_span (written.U8 span) = span
-type_span (written.U16 span) = span
-type_span (written.U32 span) = span
-type_span (written.U64 span) = span
-type_span (written.S8 span) = span
-type_span (written.S16 span) = span
-type_span (written.S32 span) = span
-type_span (written.S64 span) = span
-type_span (written.F32 span) = span
-type_span (written.F64 span) = span
-type_span (written.Char span) = span
-type_span (written.String span) = span
-type_span (written.ErrorContext span) = span
+type_span (written.Primitive span p) = span
 type_span (written.Name id) = id.span
 type_span (written.List' span p t) = span
 type_span (written.FixedLengthList' span p t size) = span

@@ -14,12 +14,12 @@ use Rattle.wit_syntax.proofs.Refusing.{refused_weaker}
 use Rattle.wit_arena.proofs.Written.{AreLegal, legal_one, legal_more, wrong_at}
 use Rattle.wit_entries.specs.Requiring.{Requires}
 use Rattle.wit_entries.proofs.Reading.{resolved_word, read_stands, types_one, types_then}
-use Rattle.wit_entries.proofs.Requiring.{grown_then, requires_none, requires_grown, requires_types, requires_one, requires_boxed, requires_parts, requires_only, no_handles}
+use Rattle.wit_entries.proofs.Requiring.{grown_then, requires_none, requires_grown, requires_types, requires_one, requires_boxed, requires_parts, requires_only}
 use Rattle.wit_entries.proofs.FormKinds.{types_two, map_form, tuple_form, result_form, future_form, stream_form, refused_part, refused_parts, refused_form, refused_boxed, refused_among, legal_parts, legal_only, legal_primitive}
 use Rattle.wit_entries.proofs.types.+types.Goals as goal
 
-pub read-returns-in-Some-clause-legal : goal.read-returns-in-Some-clause-legal
-read-returns-in-Some-clause-legal t c = legal_primitive c.args.ty.now c.in-Some.found (sym c.primitive.ensures ∙ c.in-Some.is)
+pub read-returns-in-Primitive-clause-legal : goal.read-returns-in-Primitive-clause-legal
+read-returns-in-Primitive-clause-legal t c = rw c.in-Primitive.is (legal_primitive _ c.in-Primitive.primitive)
 
 pub read-returns-in-Name-clause-read : goal.read-returns-in-Name-clause-read
 read-returns-in-Name-clause-read t c = rw c.in-Name.is (tt, resolved_word c.args.types.now (env_of c.args.names.now) c.args.given.now c.in-Name.id c.in_ok-found.found c.in_ok-found.ensures.found)
@@ -170,8 +170,8 @@ resolve_types-returns-clause-handled t c =
     let all = take_all c.loop-part.part-index c.args.parts.now c.loop-part-test.false in
     rw (← all) c.loop-part.invariant.handled
 
-pub read-returns-in-Some-clause-handled : goal.read-returns-in-Some-clause-handled
-read-returns-in-Some-clause-handled t c = subst (λ (l : List Id). Requires (env_of c.args.names.now) c.args.types.now l c.args.required.now.items c.args.required.now.items) (sym (no_handles c.args.ty.now c.in-Some.found (sym c.primitive.ensures ∙ c.in-Some.is))) (requires_none (env_of c.args.names.now) c.args.types.now c.args.required.now.items)
+pub read-returns-in-Primitive-clause-handled : goal.read-returns-in-Primitive-clause-handled
+read-returns-in-Primitive-clause-handled t c = rw c.in-Primitive.is (requires_none (env_of c.args.names.now) c.args.types.now c.args.required.now.items)
 
 pub read-returns-in-Own-clause-read : goal.read-returns-in-Own-clause-read
 read-returns-in-Own-clause-read t c = rw c.in-Own.is (tt, resolved_word c.args.types.now (env_of c.args.names.now) c.args.given.now c.in-Own.id c.in_ok-resource.resource c.in_ok-resource.ensures.found)
