@@ -26,10 +26,10 @@ use Rattle.wit_arena.specs.Functions.{placed_functions}
 use Rattle.wit_syntax.proofs.Sides.{functions_imported}
 use Rattle.wit_arena.proofs.FreeNames.{free_of, free_keyed}
 use Rattle.wit_arena.proofs.Stating.{stated_placed}
-use Rattle.wit_arena.specs.Package.{IsInterfaceOf, interface_functions}
+use Rattle.wit_arena.specs.Package.{interface_functions}
 use Rattle.wit_arena.specs.Whole.{Ordered, owner_at, taking_meeting, all_meetings, declarations}
 use Rattle.wit_arena.specs.Resolving.{Names, Cell, Required, cell, cells, Defines, decls_of}
-use Rattle.wit_arena.specs.Resolved.{AddsDeclared, AddsInterfaces, AddsForeign, AreUsableUses}
+use Rattle.wit_arena.specs.Resolved.{IsInterfaceOf, AddsDeclared, AddsInterfaces, AddsForeign, AreUsableUses}
 use Rattle.wit_syntax.proofs.Lists.{at_front, at_back, append-cancel}
 use Rattle.wit_syntax.proofs.Turns.{at_part}
 use Rattle.wit_arena.proofs.Adding.{Behind, adds_behind}

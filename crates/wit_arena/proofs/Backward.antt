@@ -1,9 +1,9 @@
 -- Types that refer only backwards, in the words of the data model.
-use Rattle.std.proofs.Common.{ℕ, ◌≤◌, List, [], ◌∷◌, ◌++◌, Option, Some, None, All, inl, inr, refl, arith}
+use Rattle.std.proofs.Common.{ℕ, ◌≤◌, List, [], ◌∷◌, ◌++◌, Option, Some, None, All, arith}
 use Rattle.std.specs.Prelude.{map}
 use Rattle.std.specs.List.{filter_map, cons_option}
 use Rattle.std.specs.Option.{option_to_list}
-use Rattle.std.proofs.lemmas.List.Elements.{All-nil, All-cons}
+use Rattle.std.proofs.lemmas.List.Elements.{All-nil, All-cons, All-head, All-tail}
 use Rattle.wit_types.specs.declared.types.«Type».{«Type» as Ty}
 use Rattle.wit_types.specs.declared.types.«Type».TheVariants as type
 use Rattle.wit_types.specs.declared.types.Field.{Field}
@@ -11,14 +11,16 @@ use Rattle.wit_types.specs.declared.types.Case.{Case}
 use Rattle.wit_types.specs.declared.types.Handle.TheVariants as handle
 use Rattle.wit_types.specs.declared.types.TypeDefKind.{TypeDefKind}
 use Rattle.wit_types.specs.declared.types.TypeDefKind.TheVariants as kind
-use Rattle.wit_types.specs.Types.{place_of, places_to, rank, IsBelow as IsKindBelow}
+use Rattle.wit_types.specs.Types.{place_of, places_to, rank, IsBelow as IsKindBelow, IsBackward}
+use Rattle.wit_tree.specs.declared.tree.PackageFile.{PackageFile}
+use Rattle.wit_model.specs.declared.unresolved.UnresolvedPackage.{UnresolvedPackage}
 use Rattle.wit_arena.specs.Kind.{kind_of}
 use Rattle.wit_arena.specs.Package.{IsBelow}
-use Rattle.wit_arena.proofs.Parts.{HasPart}
+use Rattle.wit_arena.specs.Faithful.{IsFaithful}
 
 -- each of these is below
 abbrev AreBelow : ℕ → List Ty → Type 0
-AreBelow n ts = (part : Ty) → HasPart ts part → IsBelow n part
+AreBelow n ts = All (IsBelow n) ts
 
 place_below : (n : ℕ) (t : Ty) → IsBelow n t → places_to (place_of t) ≤ n
 place_below n type.Bool h = omega arith
@@ -37,48 +39,58 @@ place_below n type.String h = omega arith
 place_below n type.ErrorContext h = omega arith
 place_below n (type.Id i) h = omega (arith, h)
 
+first_below : (n : ℕ) (t : Ty) (ts : List Ty) → AreBelow n (t ∷ ts) → rank (Some t) ≤ n
+first_below n t ts h = place_below n t (All-head (IsBelow n) t ts h)
+
 slot_below : (n : ℕ) (s : Option Ty) → AreBelow n (option_to_list s) → rank s ≤ n
 slot_below n None h = omega arith
-slot_below n (Some t) h = place_below n t (h t (inl refl))
+slot_below n (Some t) h = first_below n t [] h
 
 fields_below : (n : ℕ) (fs : List Field) → AreBelow n (map (λ f. f.ty) fs) → All (λ s. rank s ≤ n) (map (λ f. Some f.ty) fs)
 fields_below n [] h = All-nil (λ s. rank s ≤ n)
-fields_below n (f ∷ fs) h = All-cons (λ s. rank s ≤ n) (Some f.ty) (map (λ f. Some f.ty) fs) (place_below n f.ty (h f.ty (inl refl))) (fields_below n fs (λ part has. h part (inr has)))
+fields_below n (f ∷ fs) h =
+    let ts = map (λ (f : Field). f.ty) fs in
+    All-cons (λ s. rank s ≤ n) (Some f.ty) (map (λ f. Some f.ty) fs) (first_below n f.ty ts h) (fields_below n fs (All-tail (IsBelow n) f.ty ts h))
 
 types_below : (n : ℕ) (ts : List Ty) → AreBelow n ts → All (λ s. rank s ≤ n) (map (λ t. Some t) ts)
 types_below n [] h = All-nil (λ s. rank s ≤ n)
-types_below n (t ∷ ts) h = All-cons (λ s. rank s ≤ n) (Some t) (map (λ t. Some t) ts) (place_below n t (h t (inl refl))) (types_below n ts (λ part has. h part (inr has)))
+types_below n (t ∷ ts) h = All-cons (λ s. rank s ≤ n) (Some t) (map (λ t. Some t) ts) (first_below n t ts h) (types_below n ts (All-tail (IsBelow n) t ts h))
 
 case_below : (n : ℕ) (s : Option Ty) (ss : List (Option Ty)) (ts : List Ty) → AreBelow n (cons_option s ts) → (AreBelow n ts → All (λ x. rank x ≤ n) ss) → All (λ x. rank x ≤ n) (s ∷ ss)
 case_below n None ss ts h rest = All-cons (λ s. rank s ≤ n) None ss (omega arith) (rest h)
-case_below n (Some t) ss ts h rest = All-cons (λ s. rank s ≤ n) (Some t) ss (place_below n t (h t (inl refl))) (rest (λ part has. h part (inr has)))
+case_below n (Some t) ss ts h rest = All-cons (λ s. rank s ≤ n) (Some t) ss (first_below n t ts h) (rest (All-tail (IsBelow n) t ts h))
 
 cases_below : (n : ℕ) (cs : List Case) → AreBelow n (filter_map (λ c. c.ty) cs) → All (λ s. rank s ≤ n) (map (λ c. c.ty) cs)
 cases_below n [] h = All-nil (λ s. rank s ≤ n)
 cases_below n (c ∷ cs) h = case_below n c.ty (map (λ c. c.ty) cs) (filter_map (λ c. c.ty) cs) h (cases_below n cs)
 
+last_below : (n : ℕ) (s : Option Ty) → AreBelow n (option_to_list s) → All (λ s. rank s ≤ n) (s ∷ [])
+last_below n s h = All-cons (λ s. rank s ≤ n) s [] (slot_below n s h) (All-nil (λ s. rank s ≤ n))
+
 both_below : (n : ℕ) (a b : Option Ty) → AreBelow n (option_to_list a ++ option_to_list b) → All (λ s. rank s ≤ n) (a ∷ b ∷ [])
-both_below n None b h = All-cons (λ s. rank s ≤ n) None (b ∷ []) (omega arith) (All-cons (λ s. rank s ≤ n) b [] (slot_below n b h) (All-nil (λ s. rank s ≤ n)))
-both_below n (Some t) b h = All-cons (λ s. rank s ≤ n) (Some t) (b ∷ []) (place_below n t (h t (inl refl))) (All-cons (λ s. rank s ≤ n) b [] (slot_below n b (λ part has. h part (inr has))) (All-nil (λ s. rank s ≤ n)))
+both_below n None b h = All-cons (λ s. rank s ≤ n) None (b ∷ []) (omega arith) (last_below n b h)
+both_below n (Some t) b h = All-cons (λ s. rank s ≤ n) (Some t) (b ∷ []) (first_below n t (option_to_list b) h) (last_below n b (All-tail (IsBelow n) t (option_to_list b) h))
 
-one_below : (n : ℕ) (t : Ty) → AreBelow n (t ∷ []) → All (λ s. rank s ≤ n) (Some t ∷ [])
-one_below n t h = All-cons (λ s. rank s ≤ n) (Some t) [] (place_below n t (h t (inl refl))) (All-nil (λ s. rank s ≤ n))
-
-pub kind_below : (n : ℕ) (k : TypeDefKind) → ((part : Ty) → HasPart (kind_of k).parts part → IsBelow n part) → IsKindBelow n k
+-- the slots of a kind, and the place of a handle's resource, are below where the parts are
+kind_below : (n : ℕ) (k : TypeDefKind) → AreBelow n (kind_of k).parts → IsKindBelow n k
 kind_below n (kind.Record r) h = (fields_below n r.fields h, omega arith)
 kind_below n kind.Resource h = (All-nil (λ s. rank s ≤ n), omega arith)
-kind_below n (kind.Handle (handle.Own i)) h = (All-nil (λ s. rank s ≤ n), place_below n (type.Id i) (h (type.Id i) (inl refl)))
-kind_below n (kind.Handle (handle.Borrow i)) h = (All-nil (λ s. rank s ≤ n), place_below n (type.Id i) (h (type.Id i) (inl refl)))
+kind_below n (kind.Handle (handle.Own i)) h = (All-nil (λ s. rank s ≤ n), first_below n (type.Id i) [] h)
+kind_below n (kind.Handle (handle.Borrow i)) h = (All-nil (λ s. rank s ≤ n), first_below n (type.Id i) [] h)
 kind_below n (kind.Flags f) h = (All-nil (λ s. rank s ≤ n), omega arith)
 kind_below n (kind.Tuple t) h = (types_below n t.types h, omega arith)
 kind_below n (kind.Variant v) h = (cases_below n v.cases h, omega arith)
 kind_below n (kind.Enum e) h = (All-nil (λ s. rank s ≤ n), omega arith)
-kind_below n (kind.Option t) h = (one_below n t h, omega arith)
+kind_below n (kind.Option t) h = (last_below n (Some t) h, omega arith)
 kind_below n (kind.Result r) h = (both_below n r.ok r.err h, omega arith)
-kind_below n (kind.List t) h = (one_below n t h, omega arith)
-kind_below n (kind.Map a b) h = (All-cons (λ s. rank s ≤ n) (Some a) (Some b ∷ []) (place_below n a (h a (inl refl))) (one_below n b (λ part has. h part (inr has))), omega arith)
-kind_below n (kind.FixedLengthList t size) h = (one_below n t h, omega arith)
-kind_below n (kind.Future t) h = (All-cons (λ s. rank s ≤ n) t [] (slot_below n t h) (All-nil (λ s. rank s ≤ n)), omega arith)
-kind_below n (kind.Stream t) h = (All-cons (λ s. rank s ≤ n) t [] (slot_below n t h) (All-nil (λ s. rank s ≤ n)), omega arith)
-kind_below n (kind.Type_ t) h = (one_below n t h, omega arith)
+kind_below n (kind.List t) h = (last_below n (Some t) h, omega arith)
+kind_below n (kind.Map a b) h = (both_below n (Some a) (Some b) h, omega arith)
+kind_below n (kind.FixedLengthList t size) h = (last_below n (Some t) h, omega arith)
+kind_below n (kind.Future t) h = (last_below n t h, omega arith)
+kind_below n (kind.Stream t) h = (last_below n t h, omega arith)
+kind_below n (kind.Type_ t) h = (last_below n (Some t) h, omega arith)
 kind_below n kind.Unknown h = (All-nil (λ s. rank s ≤ n), omega arith)
+
+-- so the ids of a package that files make are below the places of their entries
+pub ids_backward : (files : List PackageFile) (p : UnresolvedPackage) → IsFaithful files p → IsBackward p.types
+ids_backward files p is k d at = kind_below k d.kind (is.backward k d at)

@@ -1,6 +1,7 @@
 -- Where each type stands at its place, its tree is the same at every depth.
 use Rattle.std.proofs.Common.{◌≡◌, ℕ, zero, suc, true, List, [], ◌∷◌, map, Option, Some, refl, sym, ap, ◌∙◌, subst, inl, inr, arith}
 use Rattle.std.specs.Prelude.{slice_get}
+use Rattle.std.specs.Option.{option_map_or}
 use Rattle.std.specs.Str.{bytes_eq}
 use Rattle.wit_values.specs.declared.span.Span.{Span}
 use Rattle.wit_tree.specs.declared.tree.PackageFile.{PackageFile}
@@ -14,7 +15,7 @@ use Rattle.wit_types.specs.declared.types.TypeOwner.{TypeOwner}
 use Rattle.wit_syntax.specs.Form.{Form}
 use Rattle.wit_arena.specs.Kind.{kind_of}
 use Rattle.wit_type_tree.specs.declared.types.Primitive.{Primitive}
-use Rattle.wit_syntax.specs.Node.{Tree, Head, Leaf, Named, Unnamed, node_map, primitive_type}
+use Rattle.wit_syntax.specs.Node.{Tree, Head, Leaf, Named, Unnamed, Nothing, node_map, primitive_type}
 use Rattle.wit_syntax.specs.Shape.{Shape, Shapes}
 use Rattle.wit_syntax.specs.Shape as shape
 use Rattle.wit_syntax.specs.Notes.{Notes, AreNotes}
@@ -23,7 +24,7 @@ use Rattle.wit_syntax.specs.Source.{ScopeName, local_name, meaning, head, named_
 use Rattle.wit_syntax.specs.Trees.{scope, source_tree}
 use Rattle.wit_arena.specs.Expr.{expr_of, exprs_of, name_exprs, Exprs}
 use Rattle.wit_arena.specs.Meet.{Key, Def, Whole, IsAt, AreAt, Decl, Decls, decl_of, IsKeyed}
-use Rattle.wit_arena.specs.Package.{package_tree, node_at, entry_head, entry_node, owner_of}
+use Rattle.wit_arena.specs.Package.{package_tree, entry_head, entry_node, owner_of}
 use Rattle.wit_arena.specs.Resolving.{decls_of}
 use Rattle.wit_syntax.specs.Scope.{AreDistinct}
 use Rattle.wit_syntax.proofs.Lists.{map_at}
@@ -97,7 +98,7 @@ module _ (files : List PackageFile) (decls : Decls) (ks : List Key) (p : Unresol
       let found = meaning_found (scope files s) k x.0 name here.distinct x.1 called in
       let told : AreNotes (name_notes x.0) e.0.docs e.0.stability e.0.external_id = subst (λ (y : Notes). AreNotes y e.0.docs e.0.stability e.0.external_id) (sym (ap (λ (y : Decl). y.notes) x.2)) it.notes in
       let heads = head_agrees s name x.0 e.0 called span own told in
-      ap (λ (o : Option TypeDef). node_map (package_tree p n) (node_at p o)) e.1
+      ap (λ (o : Option TypeDef). node_map (package_tree p n) (option_map_or (λ (e : TypeDef). entry_node p e.name e) o Nothing)) e.1
       ∙ ap (λ (o : Option (List ℕ)). node_map (package_tree p n) (entry_node p o e.0)) it.name
       ∙ ap (λ (y : Head). named_of n y (kind_of e.0.kind).form (map (package_tree p n) (kind_of e.0.kind).parts)) heads
       ∙ ap (λ (y : Form). named_of n (head s x.0) y (map (package_tree p n) (kind_of e.0.kind).parts)) form
@@ -109,7 +110,7 @@ module _ (files : List PackageFile) (decls : Decls) (ks : List Key) (p : Unresol
       let e = entry_of_key decls ks p.types m i (Whole form (exprs_of s parts)) there in
       let it = m.each i (Whole form (exprs_of s parts)) e.0 there e.1 in
       let inner = parts_agree n agree s parts (kind_of e.0.kind).parts (all_at_untaken i ks (exprs_of s parts) (kind_of e.0.kind).parts it.parts) in
-      ap (λ (o : Option TypeDef). node_map (package_tree p n) (node_at p o)) e.1
+      ap (λ (o : Option TypeDef). node_map (package_tree p n) (option_map_or (λ (e : TypeDef). entry_node p e.name e) o Nothing)) e.1
       ∙ ap (λ (o : Option (List ℕ)). node_map (package_tree p n) (entry_node p o e.0)) it.name
       ∙ ap (λ (x : Form). unnamed_of n x (map (package_tree p n) (kind_of e.0.kind).parts)) it.form
       ∙ ap (λ (x : List (Tree n)). unnamed_of n form x) inner

@@ -15,7 +15,7 @@ use Rattle.wit_syntax.specs.Source.{ScopeName, Place, local_name, local_id, firs
 use Rattle.wit_syntax.specs.Trees.{scope}
 use Rattle.wit_arena.specs.Expr.{Expr, Exprs, expr_of}
 use Rattle.wit_arena.specs.Meet.{Key, Def, Whole, Meeting, keys, IsAt, Decls, IsEntry}
-use Rattle.wit_arena.specs.Package.{owner_of, names_of, functions_of, function_types}
+use Rattle.wit_arena.specs.Package.{owner_of, names_of, functions_of, function_types, IsBelow}
 use Rattle.std.proofs.lemmas.Option.{slice_get_within}
 use Rattle.wit_functions.specs.declared.function.Function.{Function}
 use Rattle.wit_syntax.specs.Function.{SourceFunction, signature}
@@ -32,7 +32,7 @@ use Rattle.wit_arena.specs.Resolving.{Names}
 use Rattle.wit_syntax.proofs.Names.{lookup-place}
 use Rattle.wit_arena.proofs.Places.{Grown, at_injective, at_functional}
 use Rattle.wit_arena.proofs.Meeting.{Has, meets_from, once_of}
-use Rattle.wit_arena.proofs.Backward.{kind_below}
+use Rattle.wit_arena.proofs.Parts.{all_parts}
 use Rattle.wit_arena.proofs.Shape.{key_of, backward, interned}
 use Rattle.wit_arena.proofs.Forms.{met_anonymous, name_anonymous}
 use Rattle.wit_arena.proofs.Depth.{IsScope, same_tree}
@@ -271,7 +271,7 @@ module _ (files : List PackageFile) (decls : Decls) (written : List Meeting) (cs
 
       pub faithful : IsFaithful files p
       faithful = record {
-        backward = λ i e at. kind_below i e.kind (λ part has. backward decls ks p.types d.meeting.keyed i e part (record { is = at }) has);
+        backward = λ i e at. all_parts (IsBelow i) (kind_of e.kind).parts (λ part has. backward decls ks p.types d.meeting.keyed i e part (record { is = at }) has);
         interned = λ i j e f ati atj. interned decls ks p.types d.meeting.keyed i j e f (record { is = ati }) (record { is = atj });
         formed = formed;
         front = front;

@@ -9,7 +9,8 @@ use Rattle.wit_syntax.specs.Scope.{rows_of, local_names}
 use Rattle.wit_syntax.specs.Signature.{IsUnpairedSetter}
 use Rattle.wit_syntax.specs.Source.{scope_names}
 use Rattle.wit_arena.specs.Functions.{placed_functions}
-use Rattle.wit_arena.specs.Package.{IsInterfaceOf, interface_functions}
+use Rattle.wit_arena.specs.Package.{interface_functions}
+use Rattle.wit_arena.specs.Resolved.{IsInterfaceOf}
 use Rattle.wit_arena.specs.Whole.{Ordered, turned}
 use Rattle.wit_arena.proofs.Standing.{DoneScope, turn_of}
 

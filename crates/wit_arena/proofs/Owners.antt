@@ -2,7 +2,7 @@
 use Rattle.std.proofs.Common.{◌≡◌, ℕ, ◌+◌, true, false, List, [], ◌∷◌, ◌++◌, length, Option, Some, None, inl, inr, refl, sym, ap, ◌∙◌, arith, length-append}
 use Rattle.std.specs.Prelude.{slice_get, map}
 use Rattle.std.specs.List.{flat_map}
-use Rattle.std.specs.Option.{option_map, option_map_or, unwrap_or, option_or}
+use Rattle.std.specs.Option.{option_map, option_map_or, option_and_then, unwrap_or, option_or}
 use Rattle.std.proofs.lemmas.List.{length-map}
 use Rattle.std.proofs.lemmas.Option.{slice_get_within, slice_get-map}
 use Rattle.wit_names.specs.Label.{is_label}
@@ -22,7 +22,7 @@ use Rattle.wit_arena.specs.Meet.{Meeting}
 use Rattle.wit_syntax.specs.Function.{functions}
 use Rattle.wit_tree.specs.declared.tree.WorldSide.TheVariants.{Imported, Exported}
 use Rattle.wit_syntax.specs.Sides.{inline_items}
-use Rattle.wit_arena.specs.Package.{owner_of, names_of, functions_of, inline_owner, named_interface, interface_owner, named_world, world_owner, interface_functions, import_types, world_types, item_functions, keyed, world_functions, interface_items, interfaces_from, world_interfaces}
+use Rattle.wit_arena.specs.Package.{owner_of, names_of, functions_of, inline_owner, named_interface, named_world, interface_functions, import_types, world_types, item_functions, keyed, world_functions, interface_items, interfaces_from, world_interfaces}
 use Rattle.wit_arena.specs.Whole.{Ordered, own_item, Turned, item_of, all_turns, all_inside, all_meetings, NamesOthers}
 use Rattle.wit_arena.specs.Resolving.{Cell, Required, cell}
 use Rattle.wit_arena.specs.Resolved.{WorldArenas, AddsForeign}
@@ -109,11 +109,17 @@ module _ (files : List PackageFile) (is ws : List Item) (interfaces : AreOfSort 
   world_behind t w at = ap (slice_get p.worlds) (world_place t) ∙ ap (λ (l : List World). slice_get l (length wfront + t)) worlds_are_all ∙ at_back wfront ys t w at
 
   -- an entry by what the package calls it
+  abbrev interface_owner : ℕ → Option Interface → Option Address
+  interface_owner t o = option_and_then (λ (x : Interface). named_interface p t x.name) o
+
+  abbrev world_owner : ℕ → Option World → Option Address
+  world_owner t o = option_and_then (λ (x : World). named_world p t x.name) o
+
   interface_by : (t : ℕ) (i : Interface) (name : Option (List ℕ)) → slice_get p.interfaces t ≡ Some i → i.name ≡ name → owner_of p (owner.Interface t) ≡ named_interface p t name
-  interface_by t i name at is = ap (interface_owner p t) at ∙ ap (named_interface p t) is
+  interface_by t i name at is = ap (interface_owner t) at ∙ ap (named_interface p t) is
 
   world_by : (t : ℕ) (w : World) (name : List ℕ) → slice_get p.worlds t ≡ Some w → w.name ≡ name → owner_of p (owner.World t) ≡ named_world p t name
-  world_by t w name at is = ap (world_owner p t) at ∙ ap (named_world p t) is
+  world_by t w name at is = ap (world_owner t) at ∙ ap (named_world p t) is
 
   -- a scope in front, by what the package calls it, with its names
   front_called : (t : ℕ) (c : DoneScope) → slice_get ahead t ≡ Some c → (owner_of p c.owner ≡ Some c.address) × (names_of p c.owner ≡ c.types) × (functions_of p c.owner ≡ c.stated)
@@ -299,13 +305,13 @@ module _ (files : List PackageFile) (is ws : List Item) (interfaces : AreOfSort 
   owner_is : (o : TypeOwner) (s : Address) (k : ℕ) (c : DoneScope) → slice_get scopes k ≡ Some c → c.owner ≡ o → owner_of p o ≡ Some s → IsOwnerOf scopes o s
   owner_is o s k c at whose called = record { place = k; cell = c; at = at; whose = whose; scope = scope_injective c.address s (sym (called_at k c at) ∙ ap (owner_of p) whose ∙ called) }
 
-  interface_owned : (t : ℕ) (s : Address) (o : Option Interface) → slice_get p.interfaces t ≡ o → interface_owner p t o ≡ Some s → IsOwnerOf scopes (owner.Interface t) s
+  interface_owned : (t : ℕ) (s : Address) (o : Option Interface) → slice_get p.interfaces t ≡ o → interface_owner t o ≡ Some s → IsOwnerOf scopes (owner.Interface t) s
   interface_owned t s None there h = absurd (let wrong : None ≡ Some s = h in let f : ⊥ = cc in f)
-  interface_owned t s (Some i) there h = let c = some_interface t i there in owner_is (owner.Interface t) s c.0 c.1 c.2 c.3 (ap (interface_owner p t) there ∙ h)
+  interface_owned t s (Some i) there h = let c = some_interface t i there in owner_is (owner.Interface t) s c.0 c.1 c.2 c.3 (ap (interface_owner t) there ∙ h)
 
-  world_owned : (t : ℕ) (s : Address) (o : Option World) → slice_get p.worlds t ≡ o → world_owner p t o ≡ Some s → IsOwnerOf scopes (owner.World t) s
+  world_owned : (t : ℕ) (s : Address) (o : Option World) → slice_get p.worlds t ≡ o → world_owner t o ≡ Some s → IsOwnerOf scopes (owner.World t) s
   world_owned t s None there h = absurd (let wrong : None ≡ Some s = h in let f : ⊥ = cc in f)
-  world_owned t s (Some w) there h = let c = some_world t w there in owner_is (owner.World t) s c.0 c.1 c.2 c.3 (ap (world_owner p t) there ∙ h)
+  world_owned t s (Some w) there h = let c = some_world t w there in owner_is (owner.World t) s c.0 c.1 c.2 c.3 (ap (world_owner t) there ∙ h)
 
   all_owners : (o : TypeOwner) (s : Address) → owner_of p o ≡ Some s → IsOwnerOf scopes o s
   all_owners (owner.Interface t) s h = interface_owned t s (slice_get p.interfaces t) refl h

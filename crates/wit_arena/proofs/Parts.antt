@@ -1,6 +1,7 @@
 -- The types of parts, by their places.
-use Rattle.std.proofs.Common.{◌≡◌, ℕ, zero, suc, [], ◌∷◌, List, Some, subst, ◌⊎◌}
+use Rattle.std.proofs.Common.{◌≡◌, ℕ, zero, suc, [], ◌∷◌, List, Some, All, subst, ◌⊎◌, inl, inr, refl}
 use Rattle.std.specs.Prelude.{slice_get}
+use Rattle.std.proofs.lemmas.List.Elements.{All-nil, All-cons}
 use Rattle.wit_types.specs.declared.types.«Type».{«Type» as Ty}
 use Rattle.wit_syntax.specs.Shape.{Shapes, End, More}
 use Rattle.wit_syntax.specs.Address.{Address}
@@ -12,6 +13,11 @@ use Rattle.wit_arena.specs.Meet.{Key, IsAt, AreAt}
 abbrev pub HasPart : List Ty → Ty → Type 0
 HasPart [] part = ⊥
 HasPart (t ∷ ts) part = (t ≡ part) ⊎ HasPart ts part
+
+-- what holds of each that is one of these holds of all of them
+pub all_parts : (P : Ty → Type 0) (ts : List Ty) → ((part : Ty) → HasPart ts part → P part) → All P ts
+all_parts P [] h = All-nil P
+all_parts P (t ∷ ts) h = All-cons P t ts (h t (inl refl)) (all_parts P ts (λ part has. h part (inr has)))
 
 -- a part and its type
 pub part_type : (ks : List Key) (s : Address) (xs : Shapes) (ts : List Ty) (j : ℕ) (x : Place) (t : Ty) → AreAt ks (exprs_of s xs) ts → slice_get (placed s xs) j ≡ Some x → slice_get ts j ≡ Some t → IsAt ks (expr_of x.0 x.1) t

@@ -1,6 +1,7 @@
 -- Where each type stands at its place, so do those below it, by one path.
 use Rattle.std.proofs.Common.{◌≡◌, ℕ, suc, List, [], ◌∷◌, Option, Some, None, inl, inr, refl, sym, ap, ◌∙◌, subst}
 use Rattle.std.specs.Prelude.{slice_get}
+use Rattle.std.specs.Option.{option_map_or}
 use Rattle.wit_values.specs.declared.span.Span.{Span}
 use Rattle.wit_type_tree.specs.declared.leaves.Id.{Id}
 use Rattle.wit_tree.specs.declared.tree.PackageFile.{PackageFile}
@@ -9,6 +10,7 @@ use Rattle.wit_types.specs.declared.types.«Type».{«Type» as Ty}
 use Rattle.wit_types.specs.declared.types.«Type».TheVariants as type
 use Rattle.wit_types.specs.declared.types.TypeDef.{TypeDef}
 use Rattle.wit_syntax.specs.Form.{Form}
+use Rattle.wit_syntax.specs.Node.{Nothing}
 use Rattle.wit_syntax.specs.Shape.{Shape, Shapes}
 use Rattle.wit_syntax.specs.Shape as shape
 use Rattle.wit_syntax.specs.Address.{Address}
@@ -17,7 +19,7 @@ use Rattle.wit_syntax.specs.Trees.{scope, source_node}
 use Rattle.wit_arena.specs.Kind.{kind_of}
 use Rattle.wit_arena.specs.Expr.{Exprs, expr_of, exprs_of, name_exprs}
 use Rattle.wit_arena.specs.Meet.{Key, Def, Whole, Meeting, keys, IsAt, AreAt, Decls}
-use Rattle.wit_arena.specs.Package.{package_node, node_at, entry_node}
+use Rattle.wit_arena.specs.Package.{package_node, entry_node}
 use Rattle.wit_arena.specs.Faithful.{node_parts, StandsBelow}
 use Rattle.wit_arena.specs.Resolving.{met, all_met}
 use Rattle.wit_arena.proofs.Primitives.{primitive_node}
@@ -35,7 +37,7 @@ entry_parts p None e = refl
 entry_parts p (Some name) e = refl
 
 pub type_parts : (p : UnresolvedPackage) (i : ℕ) (e : TypeDef) → slice_get p.types i ≡ Some e → node_parts (package_node p (type.Id i)) ≡ (kind_of e.kind).parts
-type_parts p i e at = ap (λ (o : Option TypeDef). node_parts (node_at p o)) at ∙ entry_parts p e.name e
+type_parts p i e at = ap (λ (o : Option TypeDef). node_parts (option_map_or (λ (e : TypeDef). entry_node p e.name e) o Nothing)) at ∙ entry_parts p e.name e
 
 module _ (files : List PackageFile) (decls : Decls) (written : List Meeting) (cs : List DoneScope) (p : UnresolvedPackage) (d : IsDone files decls written cs p.types) where
   abbrev ks : List Key

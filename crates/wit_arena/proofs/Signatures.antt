@@ -17,7 +17,7 @@ use Rattle.wit_syntax.specs.Address.{Address}
 use Rattle.wit_syntax.specs.Function.{Role, Freestanding, Method, Static, Constructor, OnSide, SourceParam, SourceFunction, all_params, signature}
 use Rattle.wit_arena.specs.Functions.{IsKind, AreParams, IsResult, IsFunction, AreFunctions}
 use Rattle.wit_arena.specs.Expr.{Exprs, expr_of, exprs_of}
-use Rattle.wit_arena.specs.Meet.{Key, Def, Whole, Meeting, keys, Meets, IsAt, shape_meetings, shapes_meetings, function_meetings, all_function_meetings}
+use Rattle.wit_arena.specs.Meet.{Key, Def, Whole, Meeting, keys, Meets, IsAt, shape_meetings, shapes_meetings, all_function_meetings}
 use Rattle.wit_arena.specs.Package.{function_types}
 use Rattle.wit_arena.specs.Resolving.{Cell, Env, env_of, met, all_met, AreNames, AreKnown}
 use Rattle.wit_arena.specs.Adding.{gathered}
@@ -76,7 +76,7 @@ pub record IsInFunctions (s : Address) (fns : List SourceFunction) (form : Form)
 
 pub whole_in_functions : (s : Address) (fns : List SourceFunction) (form : Form) (parts : Exprs) → Has (keys (all_function_meetings s fns)) (Whole form parts) → IsInFunctions s fns form parts
 whole_in_functions s [] form parts h = absurd h
-whole_in_functions s (fn ∷ fns) form parts h = elim (has_either (keys (function_meetings s fn)) (keys (all_function_meetings s fns)) (Whole form parts) (subst (λ (ks : List Key). Has ks (Whole form parts)) (keys-append (function_meetings s fn) (all_function_meetings s fns)) h)) [
+whole_in_functions s (fn ∷ fns) form parts h = elim (has_either (keys (flat_map (shape_meetings s Unknown) (signature fn))) (keys (all_function_meetings s fns)) (Whole form parts) (subst (λ (ks : List Key). Has ks (Whole form parts)) (keys-append (flat_map (shape_meetings s Unknown) (signature fn)) (all_function_meetings s fns)) h)) [
   | inl first ↦ (let it = whole_in_shapes s (signature fn) form parts first in record { index = 0; fn = fn; among = refl; position = it.0; shape = it.1; written = it.2; has = it.3 })
   | inr rest ↦ (let it = whole_in_functions s fns form parts rest in record { index = suc it.index; fn = it.fn; among = it.among; position = it.position; shape = it.shape; written = it.written; has = it.has })
 ]

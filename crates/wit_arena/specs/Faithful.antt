@@ -1,12 +1,11 @@
 -- What holds of a resolved package: each written type has one at its position, with its tree, and nothing else stands there.
-use Rattle.std.specs.Prelude.{◌≡◌, ◌↔◌, ◌<◌, ℕ, List, [], ◌∷◌, ◌++◌, length, Some, None, slice_get, Contains}
+use Rattle.std.specs.Prelude.{◌≡◌, ◌↔◌, ◌<◌, ℕ, All, List, [], ◌∷◌, ◌++◌, length, Some, None, slice_get, Contains}
 use Rattle.wit_tree.specs.declared.tree.PackageFile.{PackageFile}
 use Rattle.wit_functions.specs.declared.function.Function.{Function}
 use Rattle.wit_types.specs.declared.types.«Type».{«Type» as Ty}
 use Rattle.wit_types.specs.declared.types.«Type».TheVariants.{Id}
 use Rattle.wit_types.specs.declared.types.TypeDef.{TypeDef}
 use Rattle.wit_types.specs.declared.types.TypeOwner.{TypeOwner}
-use Rattle.wit_types.specs.Types.{IsBackward}
 use Rattle.wit_model.specs.declared.unresolved.UnresolvedPackage.{UnresolvedPackage}
 use Rattle.wit_syntax.specs.Form.{Form, OwnForm, AliasForm, ResourceForm, UnknownForm, RecordForm, FlagsForm, VariantForm, EnumForm}
 use Rattle.wit_syntax.specs.Shape.{Shape, Word}
@@ -18,7 +17,7 @@ use Rattle.wit_syntax.specs.Function.{SourceFunction, signature}
 use Rattle.wit_syntax.specs.Sides.{function_key}
 use Rattle.wit_arena.specs.Kind.{kind_of}
 use Rattle.wit_arena.specs.Expr.{expr_of}
-use Rattle.wit_arena.specs.Package.{owner_of, names_of, functions_of, function_types, package_node, package_tree}
+use Rattle.wit_arena.specs.Package.{owner_of, names_of, functions_of, function_types, package_node, package_tree, IsBelow}
 use Rattle.wit_arena.specs.Meet.{Def, Meeting, keys, IsAt, IsMeeting}
 use Rattle.wit_arena.specs.Whole.{functions_at, all_inside, interface_addresses, world_addresses, declarations, AreFirstMeetings}
 
@@ -64,7 +63,7 @@ IsAnonymousForm _ = Unit {0}
 -- Types refer only backwards, equal unnamed types are one, nothing is unreached, and every written type is, at its position, the tree that
 -- lexical scope gives it.
 pub record IsFaithful (files : List PackageFile) (p : UnresolvedPackage) : Type 0 where
-  pub backward : IsBackward p.types
+  pub backward : (i : ℕ) (e : TypeDef) → slice_get p.types i ≡ Some e → All (IsBelow i) (kind_of e.kind).parts
   pub interned : (i j : ℕ) (e f : TypeDef) → slice_get p.types i ≡ Some e → slice_get p.types j ≡ Some f → e.name ≡ None → f.name ≡ None → e.kind ≡ f.kind → i ≡ j
   -- an unnamed entry has a form that a type can have without a name: it is no own handle, no other word for a type, no resource
   pub formed : (i : ℕ) (e : TypeDef) → slice_get p.types i ≡ Some e → e.name ≡ None → IsAnonymousForm (kind_of e.kind).form

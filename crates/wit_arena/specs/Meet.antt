@@ -62,12 +62,9 @@ name_meetings s x = parts_meetings s x ++ record { key = Def s (local_name x); s
 abbrev pub all_name_meetings : Address → List ScopeName → List Meeting
 all_name_meetings s xs = flat_map (name_meetings s) xs
 
--- what is met in a function: in its parameters, and then in its result; they stand in no definition
-abbrev pub function_meetings : Address → SourceFunction → List Meeting
-function_meetings s fn = flat_map (shape_meetings s Unknown) (signature fn)
-
+-- what is met in functions: of each in its parameters, and then in its result; they stand in no definition
 abbrev pub all_function_meetings : Address → List SourceFunction → List Meeting
-all_function_meetings s fns = flat_map (function_meetings s) fns
+all_function_meetings s fns = flat_map (λ (fn : SourceFunction). flat_map (shape_meetings s Unknown) (signature fn)) fns
 
 abbrev pub IsMet : List Key → Key → Type 0
 IsMet ks k = (i : ℕ) × (slice_get ks i ≡ Some k)

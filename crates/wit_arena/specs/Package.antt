@@ -1,7 +1,7 @@
 -- What types of a package mean: the arenas unfolded, whose names are by what the package calls them, and what an interface says.
 use Rattle.std.specs.Prelude.{◌≡◌, ℕ, suc, ◌<◌, Bool, true, false, nat_eq, List, [], ◌∷◌, ◌++◌, Option, Some, None, map, find, slice_get}
 use Rattle.std.specs.List.{flat_map, filter}
-use Rattle.std.specs.Option.{option_map, option_map_or, option_or, option_to_list}
+use Rattle.std.specs.Option.{option_map, option_map_or, option_and_then, option_or, option_to_list}
 use Rattle.wit_functions.specs.declared.function.Function.{Function}
 use Rattle.wit_functions.specs.declared.function.Param.{Param}
 use Rattle.wit_type_tree.specs.declared.leaves.Id.{Id}
@@ -23,7 +23,6 @@ use Rattle.wit_types.specs.declared.types.TypeOwner.{TypeOwner}
 use Rattle.wit_types.specs.declared.types.TypeOwner.TheVariants as owner
 use Rattle.wit_arena.specs.Kind.{kind_of}
 use Rattle.wit_syntax.specs.Address.{Address, InterfaceNamed, WorldNamed, InlineAt, ForeignNamed}
-use Rattle.wit_syntax.specs.Source.{Item, item_id, item_notes, declared_name}
 use Rattle.wit_syntax.specs.Foreign.{ForeignVisit}
 use Rattle.wit_syntax.specs.Node.{Head, Node, Leaf, Named, Unnamed, Nothing, Tree, unfolded}
 use Rattle.wit_tree.specs.declared.tree.WorldSide.{WorldSide}
@@ -76,23 +75,15 @@ abbrev pub named_interface : UnresolvedPackage → ℕ → Option (List ℕ) →
 named_interface p place None = option_or (foreign_owner p (entry.Interface place)) (inline_owner p place)
 named_interface p place (Some name) = Some (InterfaceNamed name)
 
-abbrev pub interface_owner : UnresolvedPackage → ℕ → Option Interface → Option Address
-interface_owner p place None = None
-interface_owner p place (Some i) = named_interface p place i.name
-
 -- a world goes by its name; one whose name is empty is another package's
 abbrev pub named_world : UnresolvedPackage → ℕ → List ℕ → Option Address
 named_world p place [] = foreign_owner p (entry.World place)
 named_world p place (c ∷ cs) = Some (WorldNamed (c ∷ cs))
 
-abbrev pub world_owner : UnresolvedPackage → ℕ → Option World → Option Address
-world_owner p place None = None
-world_owner p place (Some w) = named_world p place w.name
-
 -- an owner by what the package calls it
 abbrev pub owner_of : UnresolvedPackage → TypeOwner → Option Address
-owner_of p (owner.Interface i) = interface_owner p i (slice_get p.interfaces i)
-owner_of p (owner.World w) = world_owner p w (slice_get p.worlds w)
+owner_of p (owner.Interface i) = option_and_then (λ (x : Interface). named_interface p i x.name) (slice_get p.interfaces i)
+owner_of p (owner.World w) = option_and_then (λ (x : World). named_world p w x.name) (slice_get p.worlds w)
 owner_of p owner.None = None
 
 -- the type that an import is, under its name
@@ -145,13 +136,9 @@ abbrev pub entry_node : UnresolvedPackage → Option (List ℕ) → TypeDef → 
 entry_node p None e = Unnamed (kind_of e.kind).form (kind_of e.kind).parts
 entry_node p (Some name) e = Named (entry_head p name e) (kind_of e.kind).form (kind_of e.kind).parts
 
-abbrev pub node_at : UnresolvedPackage → Option TypeDef → Node Ty
-node_at p None = Nothing
-node_at p (Some e) = entry_node p e.name e
-
 -- one level of a type of the package
 abbrev pub package_node : UnresolvedPackage → Ty → Node Ty
-package_node p (type.Id i) = node_at p (slice_get p.types i)
+package_node p (type.Id i) = option_map_or (λ (e : TypeDef). entry_node p e.name e) (slice_get p.types i) Nothing
 package_node p t = Leaf t
 
 -- the tree of a type, to n levels
@@ -175,10 +162,6 @@ pub record IsInterface (name : Option (List ℕ)) (span : Span) (n : Notes) (i :
   pub stability : i.stability ≡ n.stability
   pub no_package : i.package ≡ None
   pub no_source : i.clone_of ≡ None
-
--- it is the one of an item
-abbrev pub IsInterfaceOf : Item → Interface → Type 0
-IsInterfaceOf item i = IsInterface (declared_name item.declared) (item_id item).span (item_notes item) i
 
 -- a world of the arena is the declared one of a name and these notes, apart from its imports, exports and includes
 pub record IsWorld (called : List ℕ) (at : Span) (n : Notes) (w : World) : Type 0 where

@@ -16,12 +16,12 @@ use Rattle.wit_syntax.specs.Address.{Address, WorldNamed}
 use Rattle.wit_syntax.specs.Notes.{notes, no_docs, IsBrokenStability}
 use Rattle.wit_model.specs.declared.world.WorldKey.{WorldKey}
 use Rattle.wit_model.specs.declared.world.WorldItem.{WorldItem}
-use Rattle.wit_syntax.specs.Source.{leads, Item, item_id, item_notes, declared_attributes, address, is_world, ScopeName, scope_names, meaning, Taking, first_takings}
+use Rattle.wit_syntax.specs.Source.{leads, Item, declared_name, item_id, item_notes, declared_attributes, address, is_world, ScopeName, scope_names, meaning, Taking, first_takings}
 use Rattle.wit_syntax.specs.Foreign.{visited, foreign_interfaces, foreign_worlds}
 use Rattle.wit_arena.specs.Meet.{keys}
 use Rattle.wit_syntax.specs.Fault.{Fault}
 use Rattle.wit_arena.specs.OneByOne.{OneByOne}
-use Rattle.wit_arena.specs.Package.{IsInterfaceOf, IsWorld, IsForeignWorld}
+use Rattle.wit_arena.specs.Package.{IsInterface, IsWorld, IsForeignWorld}
 use Rattle.wit_syntax.specs.Scope.{uses, includes, interfaces_of, worlds_of, rows_of, in_order, defined, in_turn, AreDistinct}
 use Rattle.wit_functions.specs.declared.function.Function.{Function}
 use Rattle.wit_syntax.specs.Function.{SourceFunction, functions as item_functions, signature, name_types, written_types, all_types, item_types}
@@ -53,6 +53,10 @@ pub record AddsScope (old new : List TypeDef) (cs : List Cell) (o : TypeOwner) (
 pub record AddsBehind (old new : List TypeDef) (item : Item) (order : List ℕ) (names : Names) (fs : List Function) (rs : List Required) : Type 0 where
   pub adds : AddsFunctions old new (address item) names (item_functions item) fs
   pub ended : AreEnded (env_of names) new (all_handles (all_types (in_turn (scope_names item) order) (item_functions item))) rs
+
+-- an interface of the arena is the one of an item, apart from its types and functions
+abbrev pub IsInterfaceOf : Item → Interface → Type 0
+IsInterfaceOf item i = IsInterface (declared_name item.declared) (item_id item).span (item_notes item) i
 
 -- what an interface adds to the arena of types, where it stands at this place, and these are the scopes that it may use
 pub record AddsInterface (cs : List Cell) (place : ℕ) (old new : List TypeDef) (added : Interface) (rs : List Required) (item : Item) : Type 0 where

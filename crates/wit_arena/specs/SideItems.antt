@@ -15,7 +15,7 @@ use Rattle.wit_functions.specs.Setters.{placed}
 use Rattle.wit_model.specs.Worlds.{function_of}
 use Rattle.wit_syntax.specs.Address.{Address}
 use Rattle.wit_syntax.specs.Crossing.{same_side}
-use Rattle.wit_syntax.specs.Notes.{Notes, notes, docs_of, no_docs, stability_of, external_id_of}
+use Rattle.wit_syntax.specs.Notes.{docs_of, no_docs, stability_of, external_id_of}
 use Rattle.wit_syntax.specs.Source.{TopName, path_id, path_scope}
 use Rattle.wit_syntax.specs.Sides.{role_side, Link, SideItem, SideFunction, SideLink, SideInline}
 use Rattle.wit_arena.specs.Functions.{function_item}
@@ -30,13 +30,9 @@ abbrev pub link_span : Option Id → UsePath → Span
 link_span None path = (path_id path).span
 link_span (Some id) path = id.span
 
--- what is told of it
-abbrev pub link_notes : Link → Notes
-link_notes link = notes (docs_of link.docs) link.attributes
-
--- an interface that is imported or exported, at its place
+-- an interface that is imported or exported, at its place, with what is told of it there
 abbrev pub link_item : Link → ℕ → WorldKey × WorldItem
-link_item link place = (link_key link.name place, item.Interface place (link_notes link).stability (link_notes link).external_id (link_notes link).docs (link_span link.name link.path))
+link_item link place = (link_key link.name place, item.Interface place (stability_of link.attributes) (external_id_of link.attributes) (docs_of link.docs) (link_span link.name link.path))
 
 -- an interface that is written there, at its place: what is told of it is told of the interface, but for the name that it has elsewhere
 abbrev pub inline_entry : Extern → Id → ℕ → WorldKey × WorldItem

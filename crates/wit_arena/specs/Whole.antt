@@ -27,7 +27,7 @@ use Rattle.wit_model.specs.declared.unresolved.UnresolvedPackage.{UnresolvedPack
 use Rattle.std.specs.List.{flat_map, filter_map, prefix_len}
 use Rattle.wit_syntax.specs.Shape.{all_handles}
 use Rattle.wit_syntax.specs.Address.{Address, same_address}
-use Rattle.wit_syntax.specs.Source.{path_id, leads, TopName, Item, item_id, item_notes, address, included_scope, ScopeName, all_items, item_at, scope_names, local_name, local_id, Taking, takings, first_takings}
+use Rattle.wit_syntax.specs.Source.{path_id, leads, TopName, Item, declared_name, item_id, item_notes, address, included_scope, ScopeName, all_items, item_at, scope_names, local_name, local_id, Taking, takings, first_takings}
 use Rattle.wit_syntax.specs.Trees.{scope}
 use Rattle.wit_syntax.specs.Foreign.{ForeignVisit, visited_package, visited, same_item, foreign_interfaces, foreign_worlds, foreign_packages, items_of_package, visits_of}
 use Rattle.wit_functions.specs.declared.function.Function.{Function}
@@ -45,7 +45,7 @@ use Rattle.wit_syntax.specs.Sides.{SideItem, SideFunction, SideLink, SideInline,
 use Rattle.wit_arena.specs.Meet.{Key, Def, Meeting, keys, all_name_meetings, all_function_meetings, Decls, decl_of, IsMeeting}
 use Rattle.wit_arena.specs.OneByOne.{OneByOne}
 use Rattle.wit_arena.specs.FirstMeetings.{AreFirst}
-use Rattle.wit_arena.specs.Package.{IsInterface, IsInterfaceOf, IsWorld, IsForeignWorld, world_types}
+use Rattle.wit_arena.specs.Package.{IsInterface, IsWorld, IsForeignWorld, world_types}
 
 -- an item, with an order of its names
 pub record Ordered : Type 0 where
@@ -144,7 +144,7 @@ pub record HasTypes (ks : List Key) (t : Turned) (types : List (List ℕ × ℕ)
 
 -- an interface of files, with its names in turn, and its functions
 pub record IsResolvedInterface (ks : List Key) (o : Ordered) (i : Interface) : Type 0 where
-  pub says : IsInterfaceOf o.item i
+  pub says : IsInterface (declared_name o.item.declared) (item_id o.item).span (item_notes o.item) i
   pub types : HasTypes ks (turned o) i.types
   pub functions : (fs : List Function) × OneByOne (IsFunction ks (address o.item)) (item_functions o.item) fs × (i.functions ≡ placed_functions fs)
 

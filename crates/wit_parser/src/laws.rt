@@ -2,6 +2,8 @@
 ghost use Rattle.std.specs.Prelude.{List, [], ◌∷◌};
 ghost use Rattle.wit_tree.specs.declared.tree.PackageFile.{PackageFile as TheFile};
 ghost use Rattle.wit_syntax.specs.Splitting.{IsJoined, IsSplit};
+ghost use Rattle.wit_types.specs.Types.{IsBackward};
+ghost use Rattle.wit_arena.specs.Faithful.{IsFaithful};
 ghost use Rattle.wit_arena.specs.Splitting.{HaveSameMeetings, HaveSamePackages};
 ghost use Rattle.wit_arena.specs.Whole.{IsPackage};
 ghost use Rattle.wit_parser.specs.Ids.{AreIdsWithin};
@@ -18,6 +20,12 @@ pub fn functions_have_marks(package: &UnresolvedPackage)
 /// Each id of a package that files make is the place of an entry: `Arena::get` can be called of it.
 pub fn ids_are_within(package: &UnresolvedPackage)
     ensures { (files : List TheFile) → IsPackage files «package».now → AreIdsWithin «package».now }
+{}
+
+/// The ids of a package that files make point backward, as `is_backward` tells it:
+/// `Function::find_futures_and_streams` can be called over its types.
+pub fn ids_point_backward(package: &UnresolvedPackage)
+    ensures { (files : List TheFile) → IsFaithful files «package».now → IsBackward «package».now.types }
 {}
 
 /// Where files have no `use` at the top and exactly one header, it does not matter that they are

@@ -9,7 +9,6 @@ ghost use Rattle.wit_items.specs.Headers.{header_at, have_docs as the_docs};
 ghost use Rattle.wit_type_tree.specs.Refusal.{IsWantOfMemory};
 ghost use Rattle.wit_contents.specs.Between.{IsMade};
 ghost use Rattle.wit_parser.specs.Stray.{IsNesting, IsStray};
-ghost use Rattle.wit_types.specs.Types.{IsBackward};
 ghost use Rattle.wit_arena.specs.Whole.{first_docs, IsPackage};
 ghost use Rattle.wit_arena.specs.Faithful.{IsFaithful, HasArena};
 
@@ -243,7 +242,6 @@ impl<'a> Resolver<'a> {
         ensures package { IfOk result (IsPackage self.entry.files.items) }
         ensures arena { IfOk result (HasArena self.entry.files.items) }
         ensures faithful { IfOk result (IsFaithful self.entry.files.items) }
-        ensures backward { IfOk result (λ p. IsBackward p.types) }
         ensures refused { IfErr result (Refused (IsBroken self.entry.files.items)) }
     {
         self.resolve_pushed(alloc)

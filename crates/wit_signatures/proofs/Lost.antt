@@ -3,12 +3,12 @@ use Rattle.std.proofs.Common.{◌≡◌, ◌<◌, ◌≤◌, ◌+◌, ℕ, List,
 use Rattle.std.specs.Prelude.{slice_get}
 use Rattle.std.proofs.lemmas.Bool.{cases_lt}
 use Rattle.wit_values.specs.declared.span.Span.{Span}
-use Rattle.wit_type_tree.specs.Refusal.{span_of, name_of}
 use Rattle.wit_type_tree.specs.declared.error.ParseError.{ParseError}
+use Rattle.wit_type_tree.specs.declared.error.ParseErrorKind.{ParseErrorKind}
 use Rattle.wit_type_tree.specs.declared.types.«Type».{«Type» as Written}
 use Rattle.wit_type_tree.specs.declared.types.«Type».TheVariants as written
 use Rattle.wit_types.specs.declared.types.TypeDef.{TypeDef}
-use Rattle.wit_syntax.specs.Fault.{Fault, fault_of}
+use Rattle.wit_syntax.specs.Fault.{Fault, fault_of, told}
 use Rattle.wit_syntax.specs.Function.{Role, Freestanding, Method, Static, Constructor, OnSide, SourceFunction}
 use Rattle.wit_syntax.specs.Bodies.{IsBrokenForm, IsBrokenType}
 use Rattle.wit_syntax.specs.Broken.{Refused}
@@ -60,14 +60,14 @@ broken_type-rule : (t : Written) (f : Fault) → IsBrokenType t f → f.rule ≡
 broken_type-rule t f h is = broken_form-rule h.t f h.broken is
 
 -- under the number of a missing type a refusal is one of a name
-unknown_in : (env : Env) (es : List TypeDef) (t : Written) (e : ParseError) → e.rule ≡ 15 → Refused (IsWrongType env es t) e → IsUnknown env (words (shape_of t)) (fault_of e)
-unknown_in env es t e is (inl want) = absurd (let it = want.rule in let f : ⊥ = omega arith in f)
+unknown_in : (env : Env) (es : List TypeDef) (t : Written) (e : ParseError) → (fault_of e).rule ≡ 15 → Refused (IsWrongType env es t) e → IsUnknown env (words (shape_of t)) (fault_of e)
+unknown_in env es t e is (inl want) = absurd (let same : (fault_of e).rule ≡ e.rule = ap (λ (k : ParseErrorKind). (told e.rule k).rule) want.kind in let it = want.rule in let f : ⊥ = omega arith in f)
 unknown_in env es t e is (inr (inl broken)) = absurd (broken_type-rule t (fault_of e) broken is)
 unknown_in env es t e is (inr (inr (inl unknown))) = unknown
 unknown_in env es t e is (inr (inr (inr handle))) = absurd (let it = ap (λ (x : Fault). x.rule) handle.is in let f : ⊥ = omega arith in f)
 
 -- and that name is lost in the signature
-pub refused_lost : (env : Env) (es : List TypeDef) (fns : List SourceFunction) (k : ℕ) (t : Written) (e r : ParseError) (span : Span) (name : List ℕ) → e.rule ≡ 15 → span_of e.kind ≡ span → name_of e.kind ≡ Some name → Refused (IsWrongType env es t) e → Refused (IsLostAt fns k span name) r → Refused (IsWrongInSignature env es fns k t) r
+pub refused_lost : (env : Env) (es : List TypeDef) (fns : List SourceFunction) (k : ℕ) (t : Written) (e r : ParseError) (span : Span) (name : List ℕ) → (fault_of e).rule ≡ 15 → (fault_of e).span ≡ span → (fault_of e).name ≡ Some name → Refused (IsWrongType env es t) e → Refused (IsLostAt fns k span name) r → Refused (IsWrongInSignature env es fns k t) r
 refused_lost env es fns k t e r span name is there called wrong (inl want) = inl want
 refused_lost env es fns k t e r span name is there called wrong (inr lost) =
     let u = unknown_in env es t e is wrong in

@@ -1,10 +1,13 @@
 -- Faults: what a refusal tells, without its words.
-use Rattle.std.specs.Prelude.{ℕ, List, Option, Some, None, codes}
+use Rattle.std.specs.Prelude.{ℕ, List, Option, Some, None, string_bytes, codes}
+use Rattle.std.specs.Option.{option_map}
 use Rattle.wit_values.specs.declared.span.Span.{Span}
 use Rattle.wit_type_tree.specs.declared.leaves.Id.{Id}
 use Rattle.wit_type_tree.specs.declared.error.ParseError.{ParseError}
-use Rattle.wit_type_tree.specs.Refusal.{span_of, name_of, Sort, Said, Missing, Cyclic, sort_of}
-use Rattle.wit_syntax.specs.Hint.{hint_of, type_hint}
+use Rattle.wit_type_tree.specs.declared.error.ParseErrorKind.{ParseErrorKind}
+use Rattle.wit_type_tree.specs.declared.error.ParseErrorKind.TheVariants.{Syntax, ItemNotFound, TypeCycle, OutOfMemory}
+use Rattle.wit_type_tree.specs.Refusal.{Sort, Said, Missing, Cyclic, Wanting}
+use Rattle.wit_syntax.specs.Hint.{type_hint}
 
 -- the number of a rule, a place, the name that it is about, where it is about one, which kind of refusal it is, and the hint that it gives, where it gives one
 pub record Fault : Type 0 where
@@ -14,20 +17,31 @@ pub record Fault : Type 0 where
   pub sort : Sort
   pub hint : Option (List ℕ)
 
-abbrev pub fault_of : ParseError → Fault
-fault_of e = record { rule = e.rule; span = span_of e.kind; name = name_of e.kind; sort = sort_of e.kind; hint = hint_of e.kind }
-
 -- a rule is broken at a span, and it is about no name
 abbrev pub fault : ℕ → Span → Fault
 fault number span = record { rule = number; span = span; name = None; sort = Said; hint = None }
 
+-- it is about a name: one of this sort of refusals, with this hint
+abbrev pub fault_about : ℕ → Span → List ℕ → Sort → Option (List ℕ) → Fault
+fault_about number span name sort hint = record { rule = number; span = span; name = Some name; sort = sort; hint = hint }
+
+-- what a refusal of a number tells, by its kind; want of memory has no place
+abbrev pub told : ℕ → ParseErrorKind → Fault
+told number (Syntax span message) = fault number span
+told number (ItemNotFound span name sort hint) = fault_about number span (string_bytes name) (Missing (string_bytes sort)) (option_map string_bytes hint)
+told number (TypeCycle span name sort) = fault_about number span (string_bytes name) (Cyclic (string_bytes sort)) None
+told number OutOfMemory = record { rule = number; span = record { start = 0; end = 0 }; name = None; sort = Wanting; hint = None }
+
+abbrev pub fault_of : ParseError → Fault
+fault_of e = told e.rule e.kind
+
 -- a name stands for nothing of a sort, where it is written
 abbrev pub missing_at : ℕ → List ℕ → Id → Fault
-missing_at number sort id = record { rule = number; span = id.span; name = Some id.name.now; sort = Missing sort; hint = None }
+missing_at number sort id = fault_about number id.span id.name.now (Missing sort) None
 
 -- a name stands for something of a sort that depends on itself, where it is written
 abbrev pub cyclic_at : ℕ → List ℕ → Id → Fault
-cyclic_at number sort id = record { rule = number; span = id.span; name = Some id.name.now; sort = Cyclic sort; hint = None }
+cyclic_at number sort id = fault_about number id.span id.name.now (Cyclic sort) None
 
 -- what is missing: an interface or world
 abbrev pub item_word : List ℕ
@@ -39,7 +53,7 @@ type_word = codes "type"
 
 -- a name stands for no type, where it is written; one that types had once gets a hint
 abbrev pub missing_type_at : Id → Fault
-missing_type_at id = record { rule = 15; span = id.span; name = Some id.name.now; sort = Missing type_word; hint = type_hint id.name.now }
+missing_type_at id = fault_about 15 id.span id.name.now (Missing type_word) (type_hint id.name.now)
 
 -- a name of an interface
 abbrev pub name_word : List ℕ

@@ -13,12 +13,6 @@ span_of (ItemNotFound span name kind hint) = span
 span_of (TypeCycle span name kind) = span
 span_of OutOfMemory = record { start = 0; end = 0 }
 
--- the name that it is about, where its kind has one
-abbrev pub name_of : ParseErrorKind → Option (List ℕ)
-name_of (ItemNotFound span name kind hint) = Some (string_bytes name)
-name_of (TypeCycle span name kind) = Some (string_bytes name)
-name_of _ = None
-
 -- which kind of refusal it is: a broken rule in words, a name that stands for nothing of a sort, or a thing of a sort that depends on itself
 pub data Sort : Type 0 where
   Said : Sort
@@ -26,12 +20,6 @@ pub data Sort : Type 0 where
   Cyclic : (sort : List ℕ) → Sort
   -- want of memory
   Wanting : Sort
-
-abbrev pub sort_of : ParseErrorKind → Sort
-sort_of (Syntax span message) = Said
-sort_of (ItemNotFound span name kind hint) = Missing (string_bytes kind)
-sort_of (TypeCycle span name kind) = Cyclic (string_bytes kind)
-sort_of OutOfMemory = Wanting
 
 -- memory was wanted
 pub record IsWantOfMemory (e : ParseError) : Type 0 where

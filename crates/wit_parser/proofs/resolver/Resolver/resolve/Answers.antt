@@ -1,5 +1,4 @@
 use Rattle.std.proofs.lemmas.Result.{IfOk-weaker}
-use Rattle.wit_types.specs.Types.{IsBackward}
 use Rattle.wit_arena.specs.Whole.{IsPackage}
 use Rattle.wit_arena.specs.Faithful.{IsFaithful, HasArena}
 use Rattle.wit_contents.specs.Between.{IsMade}
@@ -23,8 +22,3 @@ pub returns-clause-faithful : goal.returns-clause-faithful
 returns-clause-faithful c =
     let files = c.args.self.files.items in
     IfOk-weaker c.resolve_pushed.result (IsMade files) (IsFaithful files) (λ p made. made.faithful) c.resolve_pushed.ensures.made
-
-pub returns-clause-backward : goal.returns-clause-backward
-returns-clause-backward c =
-    let files = c.args.self.files.items in
-    IfOk-weaker c.resolve_pushed.result (IsMade files) (λ p. IsBackward p.types) (λ p made. made.faithful.backward) c.resolve_pushed.ensures.made
