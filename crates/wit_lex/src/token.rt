@@ -1,5 +1,6 @@
 //! Tokens.
-ghost use Rattle.std.specs.Prelude.{◌≡◌, ◌<◌, ◌≤◌, ◌-◌, length, slice_index, IfOk, IfErr};
+ghost use Rattle.std.specs.Prelude.{◌≡◌, ◌<◌, ◌≤◌, ◌-◌, [], length, slice_index, IfOk, IfErr, OnOk, OnErr};
+ghost use Rattle.wit_lex.specs.declared.kind.Kind.TheVariants.{End};
 ghost use Rattle.wit_lex.specs.Blanks.{IsFirst};
 ghost use Rattle.wit_lex.specs.Faults.{IsNoToken, IsUnread, IsWithin};
 ghost use Rattle.wit_lex.specs.Starts.{IsEnd, IsNoStart};
@@ -50,6 +51,21 @@ fn token_end(bytes: &[u8], start: usize) -> usize
     start
 }
 
+/// The token that says that the text ends at a place.
+fn end_at<'a>(start: usize) -> Token<'a>
+    ensures kind { result.kind ≡ End }
+    ensures start { result.start ≡ start }
+    ensures end { result.end ≡ start }
+    ensures text { result.text.now ≡ [] }
+{
+    Token {
+        kind: Kind::End,
+        start,
+        end: start,
+        text: "",
+    }
+}
+
 /// The token at a place.
 fn token_at<'a>(source: &'a str, start: usize) -> ReadResult<Token<'a>>
     requires within { start < length source.now }
@@ -87,8 +103,36 @@ fn token_at<'a>(source: &'a str, start: usize) -> ReadResult<Token<'a>>
     })
 }
 
+impl<'a> Token<'a> {
+    /// Becomes the token behind the blanks from a place on; behind a refusal it is as it was.
+    ///
+    /// It is written where it stands: each token of a source goes through here.
+    #[inline(never)]
+    pub fn advance(&mut self, source: &'a str, from: usize) -> ReadResult<()>
+        requires within { from ≤ length source.now }
+        ensures token { OnOk result (IsToken source.now self.new) }
+        ensures found { OnOk result (IsFound source.now self.new.start self.new.end self.new.text.now self.new.kind) }
+        ensures onward { OnOk result (from ≤ self.new.start) }
+        ensures first { OnOk result (IsFirst source.now from self.new.start) }
+        ensures kept { OnErr result (self.new ≡ self.old) }
+        ensures refused { IfErr result (IsWithin source.now) }
+        ensures unread { IfErr result (IsUnread source.now from) }
+    {
+        let bytes = source.as_bytes();
+        let start = match skip_blanks(bytes, from) {
+            Ok(start) => start,
+            Err(start) => return Err(ReadError::Fault(ReadFault::Comment, start, start + 2)),
+        };
+        if start == bytes.len() {
+            *self = end_at(start);
+            return Ok(());
+        }
+        *self = token_at(source, start)?;
+        Ok(())
+    }
+}
+
 /// The token behind the blanks from a place on.
-#[inline(never)]
 pub fn next_token<'a>(source: &'a str, from: usize) -> ReadResult<Token<'a>>
     requires within { from ≤ length source.now }
     ensures token { IfOk result (λ t. IsToken source.now t) }
@@ -98,18 +142,7 @@ pub fn next_token<'a>(source: &'a str, from: usize) -> ReadResult<Token<'a>>
     ensures refused { IfErr result (IsWithin source.now) }
     ensures unread { IfErr result (IsUnread source.now from) }
 {
-    let bytes = source.as_bytes();
-    let start = match skip_blanks(bytes, from) {
-        Ok(start) => start,
-        Err(start) => return Err(ReadError::Fault(ReadFault::Comment, start, start + 2)),
-    };
-    if start == bytes.len() {
-        return Ok(Token {
-            kind: Kind::End,
-            start,
-            end: start,
-            text: "",
-        });
-    }
-    token_at(source, start)
+    let mut token = end_at(from);
+    token.advance(source, from)?;
+    Ok(token)
 }

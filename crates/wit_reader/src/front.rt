@@ -7,7 +7,6 @@ use crate::room::add;
 use wit_lex::docs::docs_behind;
 use wit_lex::fault::ReadResult;
 use wit_lex::kind::Kind;
-use wit_lex::token::next_token;
 use wit_tree::tree::{Attribute, Docs};
 
 /// What stands in front of an item.
@@ -30,7 +29,7 @@ impl<'a> Reader<'a> {
             self.before = end;
             return Ok(docs);
         }
-        self.token = next_token(self.source, end)?;
+        self.token.advance(self.source, end)?;
         self.before = end;
         Ok(docs)
     }

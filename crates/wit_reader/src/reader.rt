@@ -9,7 +9,7 @@ use std::alloc::Global;
 use wit_lex::fault::{ReadError, ReadFault, ReadResult, span_at};
 use wit_lex::kind::Kind;
 use wit_lex::scan::without_escape;
-use wit_lex::token::{Token, next_token};
+use wit_lex::token::Token;
 use wit_lex::word::Word;
 use wit_tree::Span;
 use wit_tree::tree::Id;
@@ -76,7 +76,7 @@ impl<'a> Reader<'a> {
             return Err(self.refuse(ReadFault::Token));
         }
         let end = self.token.end;
-        self.token = next_token(self.source, end)?;
+        self.token.advance(self.source, end)?;
         self.before = end;
         Ok(())
     }

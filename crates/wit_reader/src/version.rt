@@ -69,7 +69,7 @@ impl<'a> Reader<'a> {
         let end = self.find_version_end()?;
         match parse_version(self.alloc, cut(self.source, start, end))? {
             Some(version) => {
-                self.token = next_token(self.source, end)?;
+                self.token.advance(self.source, end)?;
                 self.before = end;
                 Ok((span_at(self.offset, start, end), version))
             }
