@@ -1,14 +1,14 @@
 -- What a writer holds after a text was written.
-use Rattle.std.specs.Prelude.{◌≡◌, ℕ, List, Option, Result, Ok, Err, take}
+use Rattle.std.specs.Prelude.{◌≡◌, ℕ, ◌<◌, List, Option, Result, Ok, Err, length, take}
 use Rattle.std.specs.Io.KnownBytes.{Appends, Keeps}
 use Rattle.wit_listing.specs.declared.fault.RunFault.{RunFault}
 use Rattle.wit_listing.specs.declared.fault.RunFault.TheVariants.{Output, Memory}
 
--- a beginning of the text went out
+-- a beginning of the text went out, and not the whole
 abbrev pub IsCutShort : Option (List ℕ) → Option (List ℕ) → List ℕ → Type 0
-IsCutShort old new text = (n : ℕ) × Appends old new (take n text)
+IsCutShort old new text = (n : ℕ) × (n < length text) × Appends old new (take n text)
 
--- a text that is as described went out; after a failed write a beginning of it, for want of memory nothing
+-- a text that is as described went out; after a failed write a beginning of it and not the whole, for want of memory nothing
 abbrev pub IsWritten : (List ℕ → Type 0) → Option (List ℕ) → Option (List ℕ) → Result (Unit {0}) RunFault → Type 0
 IsWritten IsText old new (Ok _) = (text : List ℕ) × IsText text × Appends old new text
 IsWritten IsText old new (Err Output) = (text : List ℕ) × IsText text × IsCutShort old new text

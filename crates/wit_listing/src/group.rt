@@ -41,8 +41,8 @@ fn listing_of(
 /// each its name, its types, its interfaces, its worlds, and what it names of other packages, a line for
 /// each and for what it holds.
 ///
-/// Where a write fails or takes no byte, a beginning of the listing went out; for want of memory,
-/// nothing.
+/// Where a write fails or takes no byte, a beginning of the listing went out, and not the whole; for
+/// want of memory, nothing.
 pub fn listing<W: Write>(
     alloc: Global,
     main: &UnresolvedPackage,

@@ -1,12 +1,12 @@
 //! Writing a text out.
-ghost use Rattle.std.specs.Prelude.{◌≡◌, MatchResult, ℕ, take};
+ghost use Rattle.std.specs.Prelude.{◌≡◌, ◌<◌, MatchResult, ℕ, length, take};
 ghost use Rattle.std.specs.Io.KnownBytes.{Appends};
 ghost use Rattle.wit_listing.specs.Output.{IsCutShort};
 
 use crate::fault::RunFault;
 use std::io::Write;
 
-/// Writes a text; where a write fails or takes no byte, a beginning of it.
+/// Writes a text; where a write fails or takes no byte, a beginning of it and not the whole.
 pub fn put<W: Write>(out: &mut W, text: &[u8]) -> Result<(), RunFault>
     ensures { MatchResult result (λ _. Appends (W.contents out.old) (W.contents out.new) text.now) (λ fault. (fault ≡ RunFault.Output) × IsCutShort (W.contents out.old) (W.contents out.new) text.now) }
 {

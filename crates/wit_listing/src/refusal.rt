@@ -72,8 +72,8 @@ fn line_of(alloc: Global, map: &SourceMap, fault: &ParseError) -> Result<String,
 ///
 /// `PATH` is the source in which the refusal's span lies, `SLICE` what stands there up to its first
 /// LF or CR. Where it lies in no source, and for the numbers 4, 45 and 52, `PATH` is `-` and
-/// `SLICE` empty. Where a write fails or takes no byte, a beginning of the line went out; for want
-/// of memory, nothing.
+/// `SLICE` empty. Where a write fails or takes no byte, a beginning of the line went out, and
+/// not the whole; for want of memory, nothing.
 pub fn error_line<W: Write>(
     alloc: Global,
     map: &SourceMap,

@@ -32,7 +32,7 @@ appends_kept (Some xs) (Some ys) (Some zs) text p q = q ∙ p
 pub written_kept : {A : Type 0} (told : A) (IsText : List ℕ → Type 0) (a b c : Option (List ℕ)) (result : Result A RunFault) →
     IsWrittenAs told IsText a b result → Keeps b c → IsWrittenAs told IsText a c result
 written_kept told IsText a b c (Ok answer) w q = (w.0, w.1, w.2, appends_kept a b c w.1 w.3 q)
-written_kept told IsText a b c (Err Output) w q = (w.0, w.1, (w.2.0, appends_kept a b c (take w.2.0 w.0) w.2.1 q))
+written_kept told IsText a b c (Err Output) w q = (w.0, w.1, (w.2.0, w.2.1, appends_kept a b c (take w.2.0 w.0) w.2.2 q))
 written_kept told IsText a b c (Err Memory) w q = keeps_then a b c w q
 
 pub run_kept : (sources : List Source) (a b c : Option (List ℕ)) (result : Result Bool RunFault) → IsRun sources a b result → Keeps b c → IsRun sources a c result
