@@ -1,6 +1,13 @@
-mod LastHeader
-mod WrittenMarks
 mod FunctionMarks
-mod TypeIds
-mod SideIds
 mod Ids
+mod LastHeader
+mod OneKind
+mod OneList
+mod SideIds
+mod TypeIds
+mod WrittenMarks
+mod OneFunction
+mod OneArena
+mod OneScope
+mod OneWorld
+mod OnePackage
