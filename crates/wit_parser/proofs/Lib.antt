@@ -1,13 +1,13 @@
-mod FunctionMarks
-mod Ids
 mod LastHeader
-mod OneKind
-mod OneList
-mod SideIds
-mod TypeIds
 mod WrittenMarks
+mod FunctionMarks
+mod TypeIds
+mod SideIds
+mod Ids
+mod OneList
+mod OneKind
 mod OneFunction
 mod OneArena
 mod OneScope
 mod OneWorld
-mod OnePackage
+pub mod OnePackage
