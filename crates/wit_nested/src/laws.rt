@@ -4,7 +4,8 @@ ghost use Rattle.std.specs.List.{AllZip};
 ghost use Rattle.wit_tree.specs.declared.tree.NestedPackage.{NestedPackage as TheNested};
 ghost use Rattle.wit_tree.specs.declared.tree.PackageFile.{PackageFile as TheFile};
 ghost use Rattle.wit_model.specs.declared.unresolved.UnresolvedPackage.{UnresolvedPackage as ThePackage};
-ghost use Rattle.wit_nested.specs.Nested.{IsMadeByNested, IsMadeOf};
+ghost use Rattle.wit_arena.specs.Faithful.{IsMadeOf};
+ghost use Rattle.wit_nested.specs.Nested.{IsMadeByNested};
 
 /// Files make one main package, and the packages that are nested in them one list of packages: those
 /// of two groups of the same files are equal, and so are the orders of their maps.

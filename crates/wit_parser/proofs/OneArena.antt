@@ -1,5 +1,5 @@
 -- One arena of types is the list of some first meetings.
-use Rattle.std.proofs.Common.{◌≡◌, ◌<◌, ℕ, List, [], ◌∷◌, length, take, Option, Some, None, refl, sym, ap, ◌∙◌, subst, arith}
+use Rattle.std.proofs.Common.{◌≡◌, ℕ, List, length, take, Option, Some, sym, ap, ◌∙◌, subst, arith}
 use Rattle.std.specs.Prelude.{slice_get, map}
 use Rattle.std.specs.Option.{option_map}
 use Rattle.std.proofs.lemmas.List.{length-map}
@@ -12,12 +12,11 @@ use Rattle.wit_types.specs.declared.types.TypeDefKind.{TypeDefKind}
 use Rattle.wit_types.specs.declared.types.TypeOwner.{TypeOwner}
 use Rattle.wit_syntax.specs.Address.{Address}
 use Rattle.wit_syntax.specs.Form.{Form}
-use Rattle.wit_syntax.specs.Notes.{AreNotes}
 use Rattle.wit_syntax.specs.Repeats.{AllDiffer}
-use Rattle.wit_syntax.proofs.Lists.{at_within, at_take, map_at}
+use Rattle.wit_syntax.proofs.Lists.{at_within, at_take}
 use Rattle.wit_arena.specs.Expr.{Exprs}
 use Rattle.wit_arena.specs.Kind.{kind_of}
-use Rattle.wit_arena.specs.Meet.{Key, Def, Whole, Meeting, keys, spans, Decl, Decls, IsNamedEntry, IsUnnamedEntry, IsEntry, IsKeyed, IsSettled, IsMeeting, AreAt, settled}
+use Rattle.wit_arena.specs.Meet.{Key, Def, Whole, Meeting, keys, spans, Decl, Decls, IsNamedEntry, IsUnnamedEntry, IsEntry, IsSettled, IsMeeting, AreAt, settled}
 use Rattle.wit_arena.proofs.Places.{all_at_functional}
 use Rattle.wit_parser.proofs.OneKind.{one_kind}
 use Rattle.wit_parser.proofs.OneList.{same_by_fronts}

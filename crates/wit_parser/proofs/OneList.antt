@@ -1,5 +1,5 @@
 -- Lists that agree at each place are one list.
-use Rattle.std.proofs.Common.{◌≡◌, ◌<◌, ℕ, zero, suc, List, [], ◌∷◌, ◌++◌, length, Option, Some, None, refl, sym, ap, ◌∙◌, arith, append_assoc}
+use Rattle.std.proofs.Common.{◌≡◌, ℕ, List, [], ◌∷◌, ◌++◌, length, Some, refl, sym, ap, ◌∙◌, arith, append_assoc}
 use Rattle.std.specs.Prelude.{slice_get, take, map}
 use Rattle.std.proofs.lemmas.Option.{slice_get_within}
 use Rattle.wit_syntax.proofs.Lists.{take_seam, at_within}

@@ -1,9 +1,9 @@
 -- The names of a scope and what is behind them stand in a package in one way: its types, what it has on its sides, and its includes.
-use Rattle.std.proofs.Common.{◌≡◌, ◌<◌, ℕ, List, [], ◌∷◌, length, Option, Some, None, refl, sym, ap, ◌∙◌, subst, arith}
+use Rattle.std.proofs.Common.{◌≡◌, ℕ, List, [], ◌∷◌, length, Some, sym, ap, ◌∙◌}
 use Rattle.std.specs.Prelude.{slice_get, map}
 use Rattle.std.specs.Option.{option_map}
 use Rattle.std.proofs.lemmas.List.{length-map}
-use Rattle.std.proofs.lemmas.Option.{slice_get_within, slice_get-map}
+use Rattle.std.proofs.lemmas.Option.{slice_get-map}
 use Rattle.wit_values.specs.declared.span.Span.{Span}
 use Rattle.wit_types.specs.declared.stability.Stability.{Stability}
 use Rattle.wit_tree.specs.declared.tree.Include.{Include}
@@ -16,7 +16,7 @@ use Rattle.wit_model.specs.declared.world.WorldKey.{WorldKey}
 use Rattle.wit_syntax.specs.Address.{Address}
 use Rattle.wit_syntax.specs.Repeats.{AllDiffer}
 use Rattle.wit_syntax.specs.Sides.{role_side, SideItem, SideFunction, SideLink, SideInline}
-use Rattle.wit_syntax.specs.Source.{Item, TopName, ScopeName, local_name, path_scope}
+use Rattle.wit_syntax.specs.Source.{Item, TopName, path_scope}
 use Rattle.wit_arena.specs.Functions.{function_item}
 use Rattle.wit_arena.specs.Meet.{Key, Def}
 use Rattle.wit_arena.specs.SideItems.{AreSideItems, put_on, link_item, inline_entry}
