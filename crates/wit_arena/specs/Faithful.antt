@@ -19,7 +19,8 @@ use Rattle.wit_arena.specs.Kind.{kind_of}
 use Rattle.wit_arena.specs.Expr.{expr_of}
 use Rattle.wit_arena.specs.Package.{owner_of, names_of, functions_of, function_types, package_node, package_tree, IsBelow}
 use Rattle.wit_arena.specs.Meet.{Def, Meeting, keys, IsAt, IsMeeting}
-use Rattle.wit_arena.specs.Whole.{functions_at, all_inside, interface_addresses, world_addresses, declarations, AreFirstMeetings}
+use Rattle.wit_syntax.specs.Broken.{IsLegal}
+use Rattle.wit_arena.specs.Whole.{functions_at, all_inside, interface_addresses, world_addresses, declarations, AreFirstMeetings, IsPackage}
 
 -- the parts of one level
 abbrev pub node_parts : {X : Type 0} → Node X → List X
@@ -90,3 +91,10 @@ pub record HasArena (files : List PackageFile) (p : UnresolvedPackage) : Type 0 
   pub entries : IsMeeting (declarations files (interface_addresses files (first.interfaces ++ all_inside first.worlds)) (world_addresses files first.worlds)) met p.types
   pub names : (o : TypeOwner) (s : Address) (k : ℕ) (name : List ℕ) (id : ℕ) → owner_of p o ≡ Some s → slice_get (names_of p o) k ≡ Some (name, id) → slice_get (keys met) id ≡ Some (Def s name)
   pub positions : (x : Place) (ty : Ty) → HasType files p x ty → IsAt (keys met) (expr_of x.0 x.1) ty
+
+-- files break no rule, and this is the package that they make
+pub record IsMadeOf (files : List PackageFile) (p : UnresolvedPackage) : Type 0 where
+  pub legal : IsLegal files
+  pub whole : IsPackage files p
+  pub arena : HasArena files p
+  pub faithful : IsFaithful files p

@@ -27,7 +27,7 @@ use Rattle.wit_syntax.specs.Foreign.{visited, foreign_interfaces, foreign_worlds
 use Rattle.wit_arena.specs.Resolved.{AddsForeign, AddsInterfaces, AreLegalScopes, AreLegalSides, AreSoundScopes, AreUsableUses, IsWrongAmong, IsWrongWorldAmong}
 use Rattle.wit_arena.specs.Resolving.{Names, Required, cells, IsIndex}
 use Rattle.wit_arena.specs.Whole.{NamesOthers, first_docs, IsPackage}
-use Rattle.wit_arena.specs.Faithful.{IsFaithful, HasArena}
+use Rattle.wit_arena.specs.Faithful.{IsFaithful, HasArena, IsMadeOf}
 use Rattle.wit_syntax.proofs.Inline.{inline_items_none}
 use Rattle.wit_syntax.proofs.Kept.{behind_one, kept_has}
 use Rattle.wit_syntax.proofs.Lists.{flat_map_at, flat_map_has}
@@ -35,7 +35,7 @@ use Rattle.wit_arena.proofs.Resolved.{scopes_legal as legal_scopes, files_legal 
 use Rattle.wit_contents.specs.BetweenInterfaces.{IsWrongNow}
 use Rattle.wit_contents.specs.BetweenWorlds.{IsWrongWorldNow}
 use Rattle.wit_type_tree.specs.declared.error.ParseError.{ParseError}
-use Rattle.wit_contents.specs.Between.{AddsFiles, IsMade}
+use Rattle.wit_contents.specs.Between.{AddsFiles}
 
 -- a scope of some items is an interface among them, or stands with their worlds: in an interface none is written
 pub scope_sorted : (items : List Item) (k : ℕ) (w : Item) → slice_get (flat_map with_inline items) k ≡ Some w → ((i : ℕ) × (slice_get (interfaces_of items) i ≡ Some w)) ⊎ ((i : ℕ) × (slice_get (flat_map with_inline (worlds_of items)) i ≡ Some w))
@@ -106,6 +106,6 @@ module _ (files : List PackageFile) (es : List TypeDef) (all : List Interface) (
     files_arena = arena_by files a.places a.order a.names a.uses a.first a.middle es a.front a.is a.worlds_front a.arenas a.irs a.wrs a.foreign a.interfaces a.worlds p types (interfaces ∙ a.interface_arena) (worlds ∙ a.world_arena) others a.sided
 
 -- files that make a package break no rule
-pub made_legal : (files : List PackageFile) (r : Result UnresolvedPackage ParseError) → IfOk r (IsMade files) → OnOk r (IsLegal files)
+pub made_legal : (files : List PackageFile) (r : Result UnresolvedPackage ParseError) → IfOk r (IsMadeOf files) → OnOk r (IsLegal files)
 made_legal files (Ok p) made = made.legal
 made_legal files (Err e) made = tt

@@ -6,7 +6,6 @@ use Rattle.wit_tree.specs.declared.tree.PackageFile.{PackageFile}
 use Rattle.wit_graph.specs.Table.{IsOrder}
 use Rattle.wit_types.specs.declared.types.TypeDef.{TypeDef}
 use Rattle.wit_model.specs.declared.foreign.ForeignItems.{ForeignItems}
-use Rattle.wit_model.specs.declared.unresolved.UnresolvedPackage.{UnresolvedPackage}
 use Rattle.wit_model.specs.declared.interface.Interface.{Interface}
 use Rattle.wit_model.specs.declared.world.World.{World}
 use Rattle.wit_syntax.specs.Source.{Item, all_items, first_takings}
@@ -14,11 +13,10 @@ use Rattle.wit_syntax.specs.Scope.{in_order, item_rows, interfaces_of, worlds_of
 use Rattle.wit_syntax.specs.Sides.{with_inline}
 use Rattle.wit_syntax.specs.Fault.{Fault}
 use Rattle.wit_syntax.specs.Notes.{IsBrokenNotes}
-use Rattle.wit_syntax.specs.Broken.{IsBrokenNames, IsLegal}
+use Rattle.wit_syntax.specs.Broken.{IsBrokenNames}
 use Rattle.wit_syntax.specs.Foreign.{visited, foreign_interfaces, foreign_packages, foreign_worlds}
 use Rattle.wit_arena.specs.Resolving.{Required}
-use Rattle.wit_arena.specs.Whole.{dep, IsPackage}
-use Rattle.wit_arena.specs.Faithful.{IsFaithful, HasArena}
+use Rattle.wit_arena.specs.Whole.{dep}
 use Rattle.wit_arena.specs.Resolved.{WorldArenas, front_worlds, AddsForeign, AddsInterfaces, AddsWorlds, AreLegalSides, AreSoundScopes, AreUsableLinks, AreUsableUses, HaveLegalStability}
 
 -- behind what stands in front, the items of files were added in the least dependency-first order of their table, all interfaces before all
@@ -56,10 +54,3 @@ pub record MakeContents (files : List PackageFile) (es : List TypeDef) (is : Lis
   pub deps : foreign.deps ≡ map (dep files) (foreign_packages files)
   pub spans : foreign.dep_spans ≡ map (λ v. v.of.span) (foreign_packages files)
   pub unknown : foreign.unknown_type_spans ≡ map (λ t. t.id.span) (first_takings files)
-
--- files break no rule, and this is the package that they make
-pub record IsMade (files : List PackageFile) (p : UnresolvedPackage) : Type 0 where
-  pub legal : IsLegal files
-  pub whole : IsPackage files p
-  pub arena : HasArena files p
-  pub faithful : IsFaithful files p

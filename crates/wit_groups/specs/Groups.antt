@@ -15,7 +15,8 @@ use Rattle.wit_bundle.specs.Paths.{IsByPath}
 use Rattle.wit_model.specs.declared.unresolved.UnresolvedPackage.{UnresolvedPackage}
 use Rattle.wit_syntax.specs.Fault.{Fault, fault_of}
 use Rattle.wit_syntax.specs.Broken.{IsBroken, Refused}
-use Rattle.wit_nested.specs.Nested.{GrowByNested, IsMadeOf, IsUnfit}
+use Rattle.wit_arena.specs.Faithful.{IsMadeOf}
+use Rattle.wit_nested.specs.Nested.{GrowByNested, IsUnfit}
 use Rattle.wit_nested.specs.Names.{AreNamedApart, IsRepeatedPackage}
 
 -- marks stand in the source, one behind the other

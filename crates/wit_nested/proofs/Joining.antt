@@ -5,7 +5,7 @@ use Rattle.wit_type_tree.specs.declared.error.ParseError.{ParseError}
 use Rattle.wit_model.specs.declared.unresolved.UnresolvedPackage.{UnresolvedPackage}
 use Rattle.wit_syntax.specs.Broken.{IsBroken, Refused}
 use Rattle.wit_syntax.proofs.Refusing.{refused_weaker}
-use Rattle.wit_nested.specs.Nested.{IsMadeOf}
+use Rattle.wit_arena.specs.Faithful.{IsMadeOf}
 use Rattle.wit_nested.specs.Names.{IsRepeatedPackage, IsUnjoined}
 use Rattle.wit_nested.specs.Names.IsUnjoined.{Broken, Repeated}
 

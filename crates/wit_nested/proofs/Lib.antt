@@ -4,3 +4,4 @@ pub mod Joining
 pub mod Making
 pub mod Names
 pub mod Naming
+pub mod OneGroup

@@ -6,7 +6,7 @@ use Rattle.wit_model.specs.declared.unresolved.UnresolvedPackage.{UnresolvedPack
 use Rattle.wit_syntax.specs.Fault.{Fault, fault}
 use Rattle.wit_syntax.specs.Broken.{IsBroken}
 use Rattle.wit_syntax.specs.Repeats.{AllDiffer}
-use Rattle.wit_nested.specs.Nested.{IsMadeOf}
+use Rattle.wit_arena.specs.Faithful.{IsMadeOf}
 
 -- the names of packages, with their versions
 abbrev pub package_names : List UnresolvedPackage → List PackageName

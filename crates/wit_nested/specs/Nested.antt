@@ -7,20 +7,12 @@ use Rattle.wit_tree.specs.declared.tree.PackageFile.{PackageFile}
 use Rattle.wit_tree.specs.declared.tree.SourceFile.{SourceFile}
 use Rattle.wit_model.specs.declared.unresolved.UnresolvedPackage.{UnresolvedPackage}
 use Rattle.wit_syntax.specs.Fault.{Fault, fault}
-use Rattle.wit_syntax.specs.Broken.{IsBroken, IsDocumentedTwice, IsLegal, IsOtherPackage}
-use Rattle.wit_arena.specs.Whole.{IsPackage}
-use Rattle.wit_arena.specs.Faithful.{IsFaithful, HasArena}
+use Rattle.wit_syntax.specs.Broken.{IsBroken, IsDocumentedTwice, IsOtherPackage}
+use Rattle.wit_arena.specs.Faithful.{IsMadeOf}
 
 -- a nested package as a file of its own: its name is the header
 abbrev pub file_of : NestedPackage → PackageFile
 file_of n = record { package_id = Some n.name; decl_list = n.decl_list }
-
--- files break no rule, and this is the package that they make
-pub record IsMadeOf (files : List PackageFile) (p : UnresolvedPackage) : Type 0 where
-  pub legal : IsLegal files
-  pub whole : IsPackage files p
-  pub arena : HasArena files p
-  pub faithful : IsFaithful files p
 
 -- no package is nested in a nested one, and this is the package that it makes as a file of its own
 pub record IsMadeByNested (n : NestedPackage) (p : UnresolvedPackage) : Type 0 where

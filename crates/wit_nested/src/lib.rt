@@ -1,6 +1,7 @@
 //! The resolver of a group: of the main package, and of the packages that are nested in its sources.
 #![tactic(auto)]
 
+pub mod laws;
 mod nested;
 mod repeats;
 pub mod resolver;

@@ -2,7 +2,8 @@
 ghost use Rattle.std.specs.Prelude.{◌≡◌, ◌++◌, ◌∷◌, [], IfErr, IfOk, OnErr, OnOk};
 ghost use Rattle.wit_syntax.specs.Fault.{Fault};
 ghost use Rattle.wit_syntax.specs.Broken.{Refused};
-ghost use Rattle.wit_nested.specs.Nested.{GrowByNested, IsMadeOf, IsUnfit};
+ghost use Rattle.wit_arena.specs.Faithful.{IsMadeOf};
+ghost use Rattle.wit_nested.specs.Nested.{GrowByNested, IsUnfit};
 ghost use Rattle.wit_nested.specs.Names.{AreNamedApart, IsUnjoined};
 
 use crate::nested::{alone, resolve_all};

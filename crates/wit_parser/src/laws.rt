@@ -1,13 +1,18 @@
 //! What holds of all resolved packages, and of the files that make them.
-ghost use Rattle.std.specs.Prelude.{List, [], ◌∷◌};
+ghost use Rattle.std.specs.Prelude.{◌≡◌, List, [], ◌∷◌};
 ghost use Rattle.wit_tree.specs.declared.tree.PackageFile.{PackageFile as TheFile};
 ghost use Rattle.wit_syntax.specs.Splitting.{IsJoined, IsSplit};
+<<<<<<< HEAD
 ghost use Rattle.wit_types.specs.Types.{IsBackward};
 ghost use Rattle.wit_arena.specs.Faithful.{IsFaithful};
+=======
+ghost use Rattle.wit_syntax.specs.Broken.{IsLegal};
+>>>>>>> 5359a5d3f0db02978a9450a13f75b3e985e9b6e2
 ghost use Rattle.wit_arena.specs.Splitting.{HaveSameMeetings, HaveSamePackages};
 ghost use Rattle.wit_arena.specs.Whole.{IsPackage};
 ghost use Rattle.wit_parser.specs.Ids.{AreIdsWithin};
 ghost use Rattle.wit_parser.specs.Marks.{HaveMarks};
+ghost use Rattle.wit_model.specs.declared.unresolved.UnresolvedPackage.{UnresolvedPackage as ThePackage};
 
 use wit_model::UnresolvedPackage;
 
@@ -31,9 +36,17 @@ pub fn ids_point_backward(package: &UnresolvedPackage)
 /// Where files have no `use` at the top and exactly one header, it does not matter that they are
 /// split: the one file with that header and all their declarations, in order, has the same visits to
 /// other packages, is legal exactly if they are, and has the same scopes, trees and orders; what is
-/// first met in it is first met in them; and a package that it makes is one that they make.
+/// first met in it is first met in them; and a package that it makes is one that they make, and where
+/// they are legal the only one.
 pub fn splitting()
     ensures same { (files : List TheFile) (one : TheFile) → IsJoined files one → IsSplit files (one ∷ []) }
     ensures meetings { (files : List TheFile) (one : TheFile) → IsJoined files one → HaveSameMeetings files (one ∷ []) }
     ensures packages { (files : List TheFile) (one : TheFile) → IsJoined files one → HaveSamePackages files (one ∷ []) }
+    ensures equal { (files : List TheFile) (one : TheFile) (p q : ThePackage) → IsJoined files one → IsLegal files → IsPackage files p → IsPackage (one ∷ []) q → p ≡ q }
+{}
+
+/// Legal files make one package: two that they make are equal in all that a package holds, and so in
+/// the orders of its maps.
+pub fn one_package()
+    ensures { (files : List TheFile) (p q : ThePackage) → IsLegal files → IsPackage files p → IsPackage files q → p ≡ q }
 {}

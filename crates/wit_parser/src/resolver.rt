@@ -7,10 +7,9 @@ ghost use Rattle.wit_syntax.specs.Fault.{Fault};
 ghost use Rattle.wit_syntax.specs.Broken.{IsMismatch, IsBroken, IsLegal, Refused, headers, last_header};
 ghost use Rattle.wit_items.specs.Headers.{header_at, have_docs as the_docs};
 ghost use Rattle.wit_type_tree.specs.Refusal.{IsWantOfMemory};
-ghost use Rattle.wit_contents.specs.Between.{IsMade};
 ghost use Rattle.wit_parser.specs.Stray.{IsNesting, IsStray};
 ghost use Rattle.wit_arena.specs.Whole.{first_docs, IsPackage};
-ghost use Rattle.wit_arena.specs.Faithful.{IsFaithful, HasArena};
+ghost use Rattle.wit_arena.specs.Faithful.{IsFaithful, HasArena, IsMadeOf};
 
 use std::alloc::{AllocError, Global};
 use wit_contents::contents::resolve_contents;
@@ -96,7 +95,7 @@ fn resolve_named(
     header: &tree::PackageName<'_>,
 ) -> ParseResult<UnresolvedPackage>
     requires header { last_header files.now ≡ Some header.now }
-    ensures made { IfOk result (IsMade files.now) }
+    ensures made { IfOk result (IsMadeOf files.now) }
     ensures refused { IfErr result (Refused (IsBroken files.now)) }
 {
     let made = resolve_contents(alloc, files)?;
@@ -141,7 +140,7 @@ impl<'a> Resolver<'a> {
 
     /// The package that the files make.
     fn resolve_pushed(&self, alloc: Global) -> ParseResult<UnresolvedPackage>
-        ensures made { IfOk result (IsMade self.now.files.items) }
+        ensures made { IfOk result (IsMadeOf self.now.files.items) }
         ensures refused { IfErr result (Refused (IsBroken self.now.files.items)) }
     {
         let header = match self.last_header() {

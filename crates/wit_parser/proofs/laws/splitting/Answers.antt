@@ -1,6 +1,7 @@
 use Rattle.wit_syntax.proofs.Joined.{joined_split}
 use Rattle.wit_arena.proofs.JoinedMeetings.{joined_meetings}
 use Rattle.wit_arena.proofs.JoinedPackage.{joined_packages}
+use Rattle.wit_parser.proofs.OnePackage.{one_package}
 use Rattle.wit_parser.proofs.laws.splitting.Goals as goal
 
 pub returns-clause-same : goal.returns-clause-same
@@ -11,3 +12,6 @@ returns-clause-meetings c = joined_meetings
 
 pub returns-clause-packages : goal.returns-clause-packages
 returns-clause-packages c = joined_packages
+
+pub returns-clause-equal : goal.returns-clause-equal
+returns-clause-equal c files one p q joined legal is_p is_q = one_package files p q legal is_p ((joined_packages files one joined q).1 is_q)

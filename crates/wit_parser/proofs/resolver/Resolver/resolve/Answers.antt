@@ -1,7 +1,6 @@
 use Rattle.std.proofs.lemmas.Result.{IfOk-weaker}
 use Rattle.wit_arena.specs.Whole.{IsPackage}
-use Rattle.wit_arena.specs.Faithful.{IsFaithful, HasArena}
-use Rattle.wit_contents.specs.Between.{IsMade}
+use Rattle.wit_arena.specs.Faithful.{IsFaithful, HasArena, IsMadeOf}
 use Rattle.wit_contents.proofs.Files.{made_legal}
 use Rattle.wit_parser.proofs.resolver.Resolver.resolve.Goals as goal
 
@@ -11,14 +10,23 @@ returns-clause-legal c = made_legal c.args.self.files.items c.resolve_pushed.res
 pub returns-clause-package : goal.returns-clause-package
 returns-clause-package c =
     let files = c.args.self.files.items in
-    IfOk-weaker c.resolve_pushed.result (IsMade files) (IsPackage files) (λ p made. made.whole) c.resolve_pushed.ensures.made
+    IfOk-weaker c.resolve_pushed.result (IsMadeOf files) (IsPackage files) (λ p made. made.whole) c.resolve_pushed.ensures.made
 
 pub returns-clause-arena : goal.returns-clause-arena
 returns-clause-arena c =
     let files = c.args.self.files.items in
-    IfOk-weaker c.resolve_pushed.result (IsMade files) (HasArena files) (λ p made. made.arena) c.resolve_pushed.ensures.made
+    IfOk-weaker c.resolve_pushed.result (IsMadeOf files) (HasArena files) (λ p made. made.arena) c.resolve_pushed.ensures.made
 
 pub returns-clause-faithful : goal.returns-clause-faithful
 returns-clause-faithful c =
     let files = c.args.self.files.items in
+<<<<<<< HEAD
     IfOk-weaker c.resolve_pushed.result (IsMade files) (IsFaithful files) (λ p made. made.faithful) c.resolve_pushed.ensures.made
+=======
+    IfOk-weaker c.resolve_pushed.result (IsMadeOf files) (IsFaithful files) (λ p made. made.faithful) c.resolve_pushed.ensures.made
+
+pub returns-clause-backward : goal.returns-clause-backward
+returns-clause-backward c =
+    let files = c.args.self.files.items in
+    IfOk-weaker c.resolve_pushed.result (IsMadeOf files) (λ p. IsBackward p.types) (λ p made. made.faithful.backward) c.resolve_pushed.ensures.made
+>>>>>>> 5359a5d3f0db02978a9450a13f75b3e985e9b6e2

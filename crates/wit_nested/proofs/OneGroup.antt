@@ -1,0 +1,23 @@
+-- The same files make the same packages.
+use Rattle.std.proofs.Common.{◌≡◌, List, [], ◌∷◌, refl}
+use Rattle.std.specs.List.{AllZip}
+use Rattle.wit_tree.specs.declared.tree.NestedPackage.{NestedPackage}
+use Rattle.wit_tree.specs.declared.tree.PackageFile.{PackageFile}
+use Rattle.wit_model.specs.declared.unresolved.UnresolvedPackage.{UnresolvedPackage}
+use Rattle.wit_arena.specs.Faithful.{IsMadeOf}
+use Rattle.wit_parser.proofs.OnePackage.{one_package}
+use Rattle.wit_nested.specs.Nested.{file_of, IsMadeByNested}
+
+pub one_main : (files : List PackageFile) (p q : UnresolvedPackage) → IsMadeOf files p → IsMadeOf files q → p ≡ q
+one_main files p q a b = one_package files p q a.legal a.whole b.whole
+
+pub one_nested : (ns : List NestedPackage) (ps qs : List UnresolvedPackage) → AllZip IsMadeByNested ns ps → AllZip IsMadeByNested ns qs → ps ≡ qs
+one_nested [] [] [] a b = refl
+one_nested [] [] (q ∷ qs) a b = absurd b
+one_nested [] (p ∷ ps) qs a b = absurd a
+one_nested (n ∷ ns) [] qs a b = absurd a
+one_nested (n ∷ ns) (p ∷ ps) [] a b = absurd b
+one_nested (n ∷ ns) (p ∷ ps) (q ∷ qs) a b =
+    let first : p ≡ q = one_main (file_of n ∷ []) p q a.0.made b.0.made in
+    let rest : ps ≡ qs = one_nested ns ps qs a.1 b.1 in
+    cc

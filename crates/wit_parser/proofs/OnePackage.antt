@@ -1,0 +1,260 @@
+-- Legal files make one package.
+use Rattle.std.proofs.Common.{◌≡◌, ℕ, suc, List, [], ◌∷◌, ◌++◌, Option, Some, None, inl, inr, refl, sym, ap, ◌∙◌, subst, arith, Contains}
+use Rattle.std.specs.Prelude.{slice_get, map, not}
+use Rattle.std.specs.List.{filter_map, flat_map}
+use Rattle.std.specs.Option.{option_map, option_map_or}
+use Rattle.std.proofs.lemmas.List.{map-append}
+use Rattle.std.proofs.lemmas.Option.{slice_get_within}
+use Rattle.semver.specs.Identifiers.{parts_of}
+use Rattle.wit_values.specs.ReleaseText.{release_parts}
+use Rattle.wit_values.specs.declared.release.Release.{Release}
+use Rattle.wit_values.specs.declared.span.Span.{Span}
+use Rattle.wit_type_tree.specs.declared.leaves.Id.{Id}
+use Rattle.wit_tree.specs.declared.tree.PackageFile.{PackageFile}
+use Rattle.wit_tree.specs.declared.tree.PackageName.{PackageName as Header}
+use Rattle.wit_package_names.specs.declared.package_name.PackageName.{PackageName}
+use Rattle.wit_types.specs.declared.docs.Docs.{Docs}
+use Rattle.wit_types.specs.declared.stability.Stability.{Stability}
+use Rattle.wit_types.specs.declared.types.TypeDef.{TypeDef}
+use Rattle.wit_model.specs.declared.ast_item.AstItem.{AstItem}
+use Rattle.wit_model.specs.declared.interface.Interface.{Interface}
+use Rattle.wit_model.specs.declared.unresolved.UnresolvedPackage.{UnresolvedPackage}
+use Rattle.wit_model.specs.declared.world.World.{World}
+use Rattle.wit_syntax.specs.Address.{Address, InterfaceNamed, WorldNamed, InlineAt, ForeignNamed, same_address}
+use Rattle.wit_syntax.specs.Broken.{DefinedTwice, Names, Scope, IsLegal}
+use Rattle.wit_syntax.specs.Bodies.{IsSecond}
+use Rattle.wit_syntax.specs.Ends.{AtResource, AtForeign}
+use Rattle.wit_syntax.specs.Fault.{Fault, fault}
+use Rattle.wit_syntax.specs.Foreign.{visited, foreign_interfaces, foreign_worlds}
+use Rattle.wit_syntax.specs.Repeats.{AllDiffer}
+use Rattle.wit_syntax.specs.Scope.{AreDistinct, used, defined, in_order, interfaces_of, worlds_of}
+use Rattle.wit_syntax.specs.Sides.{all_scopes, inline_items}
+use Rattle.wit_syntax.specs.Source.{Item, address, is_world, local_id, local_name, scope_names, all_items, item_at}
+use Rattle.wit_syntax.specs.Trees.{scope}
+use Rattle.wit_syntax.proofs.Lists.{at_within, map_at, map_map}
+use Rattle.wit_syntax.proofs.Found.{contains_at, find_at}
+use Rattle.wit_syntax.proofs.Legal.{three_ways}
+use Rattle.wit_syntax.proofs.Repeated.{differ_at, differ_by}
+use Rattle.wit_syntax.proofs.Turns.{distinct_names, distinct_none}
+use Rattle.wit_arena.specs.Meet.{Key, Def, Meeting, keys, Decl, decl_of, IsMeeting}
+use Rattle.wit_arena.specs.OneByOne.{OneByOne}
+use Rattle.wit_arena.specs.Package.{IsForeignWorld}
+use Rattle.wit_arena.specs.Whole.{Ordered, OrderedWorld, AreOrdered, item_of, own_item, all_inside, all_turns, owner_at, declarations, turn_handles, interface_addresses, world_addresses, HandleRequires, AreRequired, IsForeignInterface, IsResolvedInterface, IsResolvedWorld, IsPackage}
+use Rattle.wit_arena.proofs.Ends.{ends_one}
+use Rattle.wit_arena.proofs.Added.{inside_of, interface_list, world_list, all_addresses}
+use Rattle.wit_arena.proofs.Interfaces.{AreAddresses, AreItems, interfaces_sort, worlds_sort, items_kept}
+use Rattle.wit_arena.proofs.Itemizing.{are_items}
+use Rattle.wit_arena.proofs.JoinedOnce.{interfaces_once, worlds_once, first_once}
+use Rattle.wit_arena.proofs.Resolved.{distinct_items}
+use Rattle.wit_arena.proofs.Takings.{taken_distinct}
+use Rattle.wit_arena.proofs.Laid.{ordered_addresses}
+use Rattle.wit_parser.proofs.OneArena.{HaveOne, one_arena}
+use Rattle.wit_parser.proofs.OneList.{same_by_places, one_by_one}
+use Rattle.wit_parser.proofs.OneWorld.{one_foreign_interface, one_foreign_world, one_interface, one_world}
+
+-- where nothing stands behind another of its key, no two have one
+all_differ : {X : Type 0} (key : X → List ℕ) (told : X → Fault) (xs : List X) → ((f : Fault) → IsSecond key told xs f → ⊥) → AllDiffer (map key xs)
+all_differ key told xs never = differ_by key xs (λ i j x y at_x at_y same. elim (three_ways i j) [
+  | inl before ↦ absurd (never (told y) (record { later = y; repeated = record { first = i; second = j; earlier = x; before = before; at_first = at_x; at_second = at_y; same = same }; is = refl }))
+  | inr rest ↦ elim rest [
+    | inl one ↦ one
+    | inr behind ↦ absurd (never (told x) (record { later = x; repeated = record { first = j; second = i; earlier = y; before = behind; at_first = at_y; at_second = at_x; same = sym same }; is = refl }))
+  ]
+])
+
+module _ (files : List PackageFile) (legal : IsLegal files) where
+  -- the names of an item differ
+  names_differ : (i : Item) → Contains (all_scopes files) i → AreDistinct (scope_names i)
+  names_differ i among = distinct_names (scope_names i) (all_differ local_name (λ x. fault 14 (local_id x).span) (used (scope_names i) ++ defined (scope_names i)) (λ f second. legal f (Scope i among (DefinedTwice second))))
+
+  found_differ : (o : Option Item) → ((i : Item) → o ≡ Some i → Contains (all_scopes files) i) → AreDistinct (option_map_or scope_names o [])
+  found_differ None among = distinct_none
+  found_differ (Some i) among = names_differ i (among i refl)
+
+  at_address : (s : Address) → AreDistinct (option_map_or scope_names (item_at (all_scopes files) s) [])
+  at_address s = found_differ (item_at (all_scopes files) s) (λ i found. (let it = find_at (λ (w : Item). same_address (address w) s) (all_scopes files) i found in contains_at (all_scopes files) it.0 i it.1))
+
+  -- and so do those of each scope
+  scope_differs : (s : Address) → AreDistinct (scope files s)
+  scope_differs (InterfaceNamed name) = at_address (InterfaceNamed name)
+  scope_differs (WorldNamed name) = at_address (WorldNamed name)
+  scope_differs (InlineAt world side place) = at_address (InlineAt world side place)
+  scope_differs (ForeignNamed p name) = taken_distinct files (ForeignNamed p name)
+
+  have_one : (is ws : List Address) → HaveOne (declarations files is ws)
+  have_one is ws = record { one = one }
+    where
+      one : (s : Address) (i j : ℕ) (d e : Decl) → slice_get (declarations files is ws s) i ≡ Some d → slice_get (declarations files is ws s) j ≡ Some e → d.name ≡ e.name → d ≡ e
+      one s i j d e at_d at_e same =
+          let x = map_at (decl_of (owner_at is ws s) s) (scope files s) i d at_d in
+          let y = map_at (decl_of (owner_at is ws s) s) (scope files s) j e at_e in
+          let names : local_name x.0 ≡ local_name y.0 = ap (λ (z : Decl). z.name) x.2 ∙ same ∙ sym (ap (λ (z : Decl). z.name) y.2) in
+          let place : i ≡ j = differ_at local_name (scope files s) (scope_differs s) i j x.0 y.0 x.1 y.1 names in
+          let both : Some d ≡ Some e = sym at_d ∙ ap (slice_get (declarations files is ws s)) place ∙ at_e in
+          cc
+
+  -- the addresses of interfaces and of worlds differ, in the order of the table
+  module _ (os : List Ordered) (ws : List OrderedWorld) (ordered : AreOrdered files os ws) where
+    abbrev all : List Item
+    all = in_order (all_items files) ordered.places
+
+    are_all : AreItems files all
+    are_all = are_items files ordered.places ordered.item_order (distinct_items files (λ f broken. legal f (Names broken)))
+
+    listed : AreAddresses (interface_list files (interfaces_of all) (inside_of (worlds_of all))) (world_list files (worlds_of all))
+    listed = all_addresses files (interfaces_of all) (worlds_of all) (interfaces_sort all) (worlds_sort all) (items_kept files (λ i. not (is_world i)) all are_all) (items_kept files is_world all are_all)
+
+    inside_items : (vs : List OrderedWorld) → ((t : ℕ) (w : OrderedWorld) → slice_get vs t ≡ Some w → map item_of w.inside ≡ inline_items w.own.item) → map item_of (all_inside vs) ≡ inside_of (map own_item vs)
+    inside_items [] inside = refl
+    inside_items (v ∷ vs) inside = map-append item_of v.inside (all_inside vs) ∙ ap (λ l. l ++ map item_of (all_inside vs)) (inside 0 v refl) ∙ ap (λ l. inline_items v.own.item ++ l) (inside_items vs (λ t. inside (suc t)))
+
+    interfaces_are : interface_list files (interfaces_of all) (inside_of (worlds_of all)) ≡ interface_addresses files (os ++ all_inside ws)
+    interfaces_are =
+        let inside = inside_items ws ordered.inside ∙ ap inside_of ordered.all_worlds in
+        let items = map-append item_of os (all_inside ws) ∙ ap (λ l. l ++ map item_of (all_inside ws)) ordered.all_interfaces ∙ ap (λ l. interfaces_of all ++ l) inside in
+        ap (λ l. map visited (foreign_interfaces files) ++ l) (ordered_addresses (os ++ all_inside ws) (interfaces_of all ++ inside_of (worlds_of all)) items)
+
+    worlds_are : world_list files (worlds_of all) ≡ world_addresses files ws
+    worlds_are = ap (λ l. map visited (foreign_worlds files) ++ l) (ap (map address) (sym ordered.all_worlds) ∙ map_map address own_item ws)
+
+    interfaces_differ : AllDiffer (interface_addresses files (os ++ all_inside ws))
+    interfaces_differ = subst (λ (l : List Address). AllDiffer l) interfaces_are listed.interfaces
+
+    worlds_differ : AllDiffer (world_addresses files ws)
+    worlds_differ = subst (λ (l : List Address). AllDiffer l) worlds_are listed.worlds
+
+-- a version is told by its parts
+abbrev release : ℕ → ℕ → ℕ → List ℕ → List ℕ → Release
+release major minor patch pre build = record { major = major; minor = minor; patch = patch; pre = pre; build = build }
+
+one_version : (a b : Option Release) → option_map release_parts a ≡ option_map release_parts b → a ≡ b
+one_version None None same = refl
+one_version None (Some b) same = absurd (let f : ⊥ = cc in f)
+one_version (Some a) None same = absurd (let f : ⊥ = cc in f)
+one_version (Some a) (Some b) same =
+    let parts : release_parts a ≡ release_parts b = cc in
+    let major : a.major ≡ b.major = ap (λ x. x.0) parts in
+    let minor : a.minor ≡ b.minor = ap (λ x. x.1) parts in
+    let patch : a.patch ≡ b.patch = ap (λ x. x.2) parts in
+    let pre : a.pre ≡ b.pre = ap (λ x. x.3) parts in
+    let build : a.build ≡ b.build = ap (λ x. x.4) parts in
+    let all : release a.major a.minor a.patch a.pre a.build ≡ release b.major b.minor b.patch b.pre b.build = cc in
+    ap Some all
+
+abbrev name_of : List ℕ → List ℕ → Option Release → PackageName
+name_of namespace name version = record { namespace = namespace; name = name; version = version }
+
+one_name : (a b : PackageName) → a.namespace ≡ b.namespace → a.name ≡ b.name → a.version ≡ b.version → a ≡ b
+one_name a b namespace name version = (let same : name_of a.namespace a.name a.version ≡ name_of b.namespace b.name b.version = cc in same)
+
+-- a name in a handle requires one thing
+one_requires : (files : List PackageFile) (ks : List Key) → AllDiffer ks → (h : Address × Id) (r q : Option (ℕ × Span)) → HandleRequires files ks h r → HandleRequires files ks h q → r ≡ q
+one_requires files ks differ h None None a b = refl
+one_requires files ks differ h None (Some q) a b = (let end : AtResource ≡ AtForeign b.0 b.1 = ends_one files h.0 h.1 AtResource (AtForeign b.0 b.1) a b.2 in absurd (let f : ⊥ = cc in f))
+one_requires files ks differ h (Some r) None a b = (let end : AtForeign a.0 a.1 ≡ AtResource = ends_one files h.0 h.1 (AtForeign a.0 a.1) AtResource a.2 b in absurd (let f : ⊥ = cc in f))
+one_requires files ks differ h (Some (i, span)) (Some (j, other)) a b =
+    let end : AtForeign a.0 a.1 ≡ AtForeign b.0 b.1 = ends_one files h.0 h.1 (AtForeign a.0 a.1) (AtForeign b.0 b.1) a.2 b.2 in
+    let scopes : a.0 ≡ b.0 = cc in
+    let names : a.1 ≡ b.1 = cc in
+    let place : i ≡ j = differ.differ i j (Def b.0 b.1) (a.3 ∙ ap (λ s. Some (Def s a.1)) scopes ∙ ap (λ n. Some (Def b.0 n)) names) b.3 in
+    let spans : span ≡ other = a.4 ∙ sym b.4 in
+    cc
+
+one_required : (files : List PackageFile) (ks : List Key) → AllDiffer ks → (hs : List (Address × Id)) (rs qs : List (ℕ × Span)) → AreRequired files ks hs rs → AreRequired files ks hs qs → rs ≡ qs
+one_required files ks differ hs rs qs a b = a.all ∙ ap (filter_map (λ r. r)) (same_by_places a.each b.each (a.count ∙ sym b.count) agree) ∙ sym b.all
+  where
+    agree : (k : ℕ) (r q : Option (ℕ × Span)) → slice_get a.each k ≡ Some r → slice_get b.each k ≡ Some q → r ≡ q
+    agree k r q at_r at_q =
+        let lt = slice_get_within a.each k r at_r in
+        let count = a.count in
+        let h = at_within hs k (omega (arith, lt, count)) in
+        one_requires files ks differ h.0 r q (a.says k h.0 r h.1 at_r) (b.says k h.0 q h.1 at_q)
+
+-- what holds over these meetings and scopes holds over the same ones
+onward : (P : List Meeting → List Ordered → List OrderedWorld → Type 0) (met more : List Meeting) (is js : List Ordered) (ws vs : List OrderedWorld) → met ≡ more → is ≡ js → ws ≡ vs → P met is ws → P more js vs
+onward P met more is js ws vs same same_is same_ws h = subst (λ (l : List OrderedWorld). P more js l) same_ws (subst (λ (l : List Ordered). P more l ws) same_is (subst (λ (l : List Meeting). P l is ws) same h))
+
+abbrev package_of : PackageName → List World → List Interface → List TypeDef → List (PackageName × List (List ℕ × (AstItem × List Stability))) → Docs → Span → List Span → List Span → List (ℕ × Span) → UnresolvedPackage
+package_of name worlds interfaces types deps docs span unknown dep_spans required = record { name = name; worlds = worlds; interfaces = interfaces; types = types; foreign_deps = deps; docs = docs; name_span = span; unknown_type_spans = unknown; foreign_dep_spans = dep_spans; required_resource_types = required }
+
+-- packages of equal parts are one
+same_package : (p q : UnresolvedPackage) → p.name ≡ q.name → p.worlds ≡ q.worlds → p.interfaces ≡ q.interfaces → p.types ≡ q.types → p.foreign_deps ≡ q.foreign_deps → p.docs ≡ q.docs → p.name_span ≡ q.name_span → p.unknown_type_spans ≡ q.unknown_type_spans → p.foreign_dep_spans ≡ q.foreign_dep_spans → p.required_resource_types ≡ q.required_resource_types → p ≡ q
+same_package p q name worlds interfaces types deps docs span unknown dep_spans required =
+    let same : package_of p.name p.worlds p.interfaces p.types p.foreign_deps p.docs p.name_span p.unknown_type_spans p.foreign_dep_spans p.required_resource_types ≡ package_of q.name q.worlds q.interfaces q.types q.foreign_deps q.docs q.name_span q.unknown_type_spans q.foreign_dep_spans q.required_resource_types = cc in
+    same
+
+module _ (files : List PackageFile) (p q : UnresolvedPackage) (legal : IsLegal files) (a : IsPackage files p) (b : IsPackage files q) where
+  abbrev met : List Meeting
+  met = b.met
+
+  abbrev is : List Ordered
+  is = b.first.interfaces
+
+  abbrev ws : List OrderedWorld
+  ws = b.first.worlds
+
+  abbrev interface_places : List Ordered → List OrderedWorld → List Address
+  interface_places os vs = interface_addresses files (os ++ all_inside vs)
+
+  -- what holds of the one package holds over what is first met in the other
+  as_of : (P : List Meeting → List Ordered → List OrderedWorld → Type 0) → P a.met a.first.interfaces a.first.worlds → P met is ws
+  as_of P h =
+      onward P a.met met a.first.interfaces is a.first.worlds ws
+          (first_once files a.met met a.first b.first)
+          (interfaces_once files a.first.interfaces is a.first.worlds ws a.first.ordered b.first.ordered)
+          (worlds_once files a.first.interfaces is a.first.worlds ws a.first.ordered b.first.ordered) h
+
+  differ : AllDiffer (keys met)
+  differ = b.meeting.keyed.once
+
+  types_once : p.types ≡ q.types
+  types_once = one_arena (declarations files (interface_places is ws) (world_addresses files ws)) (have_one files legal (interface_places is ws) (world_addresses files ws)) met p.types q.types (as_of (λ m os vs. IsMeeting (declarations files (interface_places os vs) (world_addresses files vs)) m p.types) a.meeting) b.meeting
+
+  foreign_once : a.foreign_front ≡ b.foreign_front
+  foreign_once = one_by_one (IsForeignInterface files (keys met)) (foreign_interfaces files) a.foreign_front b.foreign_front (one_foreign_interface (keys met) differ files) (as_of (λ m os vs. OneByOne (IsForeignInterface files (keys m)) (foreign_interfaces files) a.foreign_front) a.are_foreign_interfaces) b.are_foreign_interfaces
+
+  own_once : a.own_interfaces ≡ b.own_interfaces
+  own_once = one_by_one (IsResolvedInterface (keys met)) (is ++ all_inside ws) a.own_interfaces b.own_interfaces (one_interface (keys met) differ) (as_of (λ m os vs. OneByOne (IsResolvedInterface (keys m)) (os ++ all_inside vs) a.own_interfaces) a.are_interfaces) b.are_interfaces
+
+  interfaces_are_one : p.interfaces ≡ q.interfaces
+  interfaces_are_one = a.interface_arena ∙ ap (λ l. l ++ a.own_interfaces) foreign_once ∙ ap (λ l. b.foreign_front ++ l) own_once ∙ sym b.interface_arena
+
+  front_once : a.worlds_front ≡ b.worlds_front
+  front_once = one_by_one IsForeignWorld (foreign_worlds files) a.worlds_front b.worlds_front one_foreign_world a.are_foreign_worlds b.are_foreign_worlds
+
+  own_worlds_once : a.own_worlds ≡ b.own_worlds
+  own_worlds_once =
+      let places = interfaces_differ files legal is ws b.first.ordered in
+      let world_places = worlds_differ files legal is ws b.first.ordered in
+      one_by_one (IsResolvedWorld (keys met) (interface_places is ws) (world_addresses files ws)) ws a.own_worlds b.own_worlds (one_world (keys met) differ (interface_places is ws) (world_addresses files ws) places world_places) (as_of (λ m os vs. OneByOne (IsResolvedWorld (keys m) (interface_places os vs) (world_addresses files vs)) vs a.own_worlds) a.are_worlds) b.are_worlds
+
+  worlds_are_one : p.worlds ≡ q.worlds
+  worlds_are_one = a.world_arena ∙ ap (λ l. l ++ a.own_worlds) front_once ∙ ap (λ l. b.worlds_front ++ l) own_worlds_once ∙ sym b.world_arena
+
+  required_once : p.required_resource_types ≡ q.required_resource_types
+  required_once = one_required files (keys met) differ (flat_map turn_handles (all_turns is ws)) p.required_resource_types q.required_resource_types (as_of (λ m os vs. AreRequired files (keys m) (flat_map turn_handles (all_turns os vs)) p.required_resource_types) a.required) b.required
+
+  name_once : p.name ≡ q.name
+  name_once =
+      let both : Some a.header ≡ Some b.header = sym a.last ∙ b.last in
+      let header : a.header ≡ b.header = cc in
+      one_name p.name q.name
+          (a.namespace ∙ ap (λ (h : Header). h.namespace.name.now) header ∙ sym b.namespace)
+          (a.name ∙ ap (λ (h : Header). h.name.name.now) header ∙ sym b.name)
+          (one_version p.name.version q.name.version (a.version ∙ ap (λ (h : Header). option_map parts_of h.version) header ∙ sym b.version))
+
+  span_once : p.name_span ≡ q.name_span
+  span_once =
+      let both : Some a.header ≡ Some b.header = sym a.last ∙ b.last in
+      let header : a.header ≡ b.header = cc in
+      a.name_span ∙ ap (λ (h : Header). h.span) header ∙ sym b.name_span
+
+  pub one_package : p ≡ q
+  one_package =
+      same_package p q name_once worlds_are_one interfaces_are_one types_once
+          (a.others.deps ∙ sym b.others.deps)
+          (a.docs ∙ sym b.docs)
+          span_once
+          (a.others.unknown ∙ sym b.others.unknown)
+          (a.others.spans ∙ sym b.others.spans)
+          required_once
