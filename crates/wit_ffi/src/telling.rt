@@ -34,11 +34,11 @@ pub(crate) fn tell(alloc: Global, bytes: &[u8]) -> Told
     };
     let mut told: Vec<u8> = Vec::new(alloc);
     match answer_text(alloc, text, &mut told) {
-        Ok(true) => Told {
+        Ok(Some(_)) => Told {
             status: MADE,
             bytes: told,
         },
-        Ok(false) => Told {
+        Ok(None) => Told {
             status: REFUSED,
             bytes: told,
         },

@@ -1,7 +1,8 @@
 -- What was written stays written where a writer keeps what it holds.
 use Rattle.std.proofs.Common.{◌≡◌, ℕ, List, ◌∙◌, refl, take}
-use Rattle.std.specs.Prelude.{Bool, true, false, Option, Some, None, IfSome, Result, Ok, Err}
+use Rattle.std.specs.Prelude.{Bool, Option, Some, None, IfSome, is_some, Result, Ok, Err}
 use Rattle.std.specs.Io.KnownBytes.{Appends, Keeps}
+use Rattle.wit_groups.specs.declared.group.UnresolvedPackageGroup.{UnresolvedPackageGroup}
 use Rattle.wit_listing.specs.declared.fault.RunFault.{RunFault}
 use Rattle.wit_listing.specs.declared.fault.RunFault.TheVariants.{Output, Memory}
 use Rattle.wit_listing.specs.Output.{IsWrittenAs}
@@ -35,11 +36,11 @@ written_kept told IsText a b c (Ok answer) w q = (w.0, w.1, w.2, appends_kept a 
 written_kept told IsText a b c (Err Output) w q = (w.0, w.1, (w.2.0, w.2.1, appends_kept a b c (take w.2.0 w.0) w.2.2 q))
 written_kept told IsText a b c (Err Memory) w q = keeps_then a b c w q
 
-pub run_kept : (sources : List Source) (a b c : Option (List ℕ)) (result : Result Bool RunFault) → IsRun sources a b result → Keeps b c → IsRun sources a c result
-run_kept sources a b c result (Group main nested group written) q = Group main nested group (written_kept _ _ a b c result written q)
+pub run_kept : (sources : List Source) (a b c : Option (List ℕ)) (result : Result (Option UnresolvedPackageGroup) RunFault) → IsRun sources a b result → Keeps b c → IsRun sources a c result
+run_kept sources a b c result (Group group is kept written) q = Group group is kept (written_kept _ _ a b c result written q)
 run_kept sources a b c result (Refusal e refused written) q = Refusal e refused (written_kept _ _ a b c result written q)
 
-pub answered_kept : (text : List ℕ) (a b c : Option (List ℕ)) (result : Result Bool RunFault) → IsAnswered text a b result → Keeps b c → IsAnswered text a c result
+pub answered_kept : (text : List ℕ) (a b c : Option (List ℕ)) (result : Result (Option UnresolvedPackageGroup) RunFault) → IsAnswered text a b result → Keeps b c → IsAnswered text a c result
 answered_kept text a b c result (Ran on) q = Ran (record {
   sources = on.sources;
   are = on.are;
@@ -55,12 +56,13 @@ answered_kept text a b c result (TooMuch much) q = TooMuch (record {
 answered_kept text a b c result (GivenUp up) q = GivenUp (record { is = up.is; keeps = keeps_then a b c up.keeps q })
 
 -- an answer that went out whole
-pub ended : (E : Type 0) (text : List ℕ) (a b : Option (List ℕ)) (listed : Bool) → IsAnswered text a b (Ok listed) → IsEnded text a b (status_of {E = E} (Ok listed))
-ended E text a b true answered = Listed answered
-ended E text a b false answered = Refused answered
+pub ended : (E : Type 0) (text : List ℕ) (a b : Option (List ℕ)) (listed : Option UnresolvedPackageGroup) → IsAnswered text a b (Ok listed) →
+    IsEnded text a b (status_of {E = E} (Ok (is_some listed)))
+ended E text a b (Some group) answered = Listed group answered
+ended E text a b None answered = Refused answered
 
 -- one that may not have
-pub failed : {E : Type 0} (text : List ℕ) (a b : Option (List ℕ)) (result : Result Bool RunFault) (r : Result Bool E) (e : E) → r ≡ Err e →
+pub failed : {E : Type 0} (text : List ℕ) (a b : Option (List ℕ)) (result : Result (Option UnresolvedPackageGroup) RunFault) (r : Result Bool E) (e : E) → r ≡ Err e →
     IsAnswered text a b result → IsEnded text a b (status_of r)
 failed text a b result r e is answered = rw is (Failed result answered)
 

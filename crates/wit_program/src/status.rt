@@ -4,9 +4,9 @@ ghost use Rattle.std.specs.Process.{exit_status};
 ghost use Rattle.wit_program.specs.Status.{IsEnded, status_of};
 
 use std::alloc::Global;
-use std::io;
 use std::io::{Read, Write};
 use std::process::ExitCode;
+use std::{io, mem};
 use wit_tool::answer_text;
 
 /// The status: 0 after a listing, 1 after the line of a refusal, 2 where neither was written whole.
@@ -21,12 +21,17 @@ pub fn exit_code(answered: io::Result<bool>) -> ExitCode
 }
 
 /// Answers a text and pushes out what the writer holds back; answers whether it was a listing.
+///
+/// The group that was listed is not dropped: the program ends behind this, and the system takes all
+/// its memory back at once.
 fn answer_whole<W: Write>(alloc: Global, text: &str, out: &mut W) -> io::Result<bool>
     ensures { IsEnded text.now (W.contents out.old) (W.contents out.new) (status_of result) }
 {
     let listed = answer_text(alloc, text, out)?;
+    let is_listing = listed.is_some();
+    mem::forget(listed);
     out.flush()?;
-    Ok(listed)
+    Ok(is_listing)
 }
 
 /// Answers all that a reader gives.

@@ -22,7 +22,7 @@ fn told(alloc: Global, listed: bool, out: &[u8]) -> Result<String> {
 pub fn listing(alloc: Global, map: SourceMap) -> Result<String> {
     let mut out: Vec<u8> = Vec::new(alloc);
     let listed = run(alloc, map, &mut out).map_err(io::Error::from)?;
-    told(alloc, listed, out.as_slice())
+    told(alloc, listed.is_some(), out.as_slice())
 }
 
 /// What the view of this name writes of what sources come to, or the line of their refusal.

@@ -5,11 +5,12 @@ use crate::running::run;
 use std::alloc::Global;
 use std::io::Write;
 use wit_bundle::bundle;
+use wit_groups::UnresolvedPackageGroup;
 use wit_lex::SourceMap;
 use wit_listing::{RunFault, error_line};
 
 /// Writes the listing of the package that the sources of a text make, and of those that are nested in
-/// it, or the line of the refusal, and answers whether it was a listing.
+/// it, or the line of the refusal, and answers the group that was listed, if one was.
 ///
 /// A line that begins with `=== ` starts a source, whose path is the rest of that line. What stands in
 /// front of the first such line is the source `stdin.wit`, if it is not empty. Where the sources are too
@@ -19,7 +20,11 @@ use wit_listing::{RunFault, error_line};
 ///
 /// - `Output`: a write failed or took no byte. What went out is a beginning of the text.
 /// - `Memory`: a growth was refused outside the package. Nothing went out.
-pub fn answer_text<W: Write>(alloc: Global, text: &str, out: &mut W) -> Result<bool, RunFault>
+pub fn answer_text<W: Write>(
+    alloc: Global,
+    text: &str,
+    out: &mut W,
+) -> Result<Option<UnresolvedPackageGroup>, RunFault>
     ensures { IsAnswered text.now (W.contents out.old) (W.contents out.new) result }
 {
     match bundle(alloc, text) {
@@ -29,7 +34,7 @@ pub fn answer_text<W: Write>(alloc: Global, text: &str, out: &mut W) -> Result<b
                 return Err(RunFault::Memory);
             }
             error_line(alloc, &SourceMap::new(alloc), &fault, out)?;
-            Ok(false)
+            Ok(None)
         }
     }
 }

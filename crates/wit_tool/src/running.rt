@@ -1,5 +1,5 @@
 //! From sources to what is written of them.
-ghost use Rattle.std.specs.Prelude.{◌≡◌, true};
+ghost use Rattle.std.specs.Prelude.{◌≡◌};
 ghost use Rattle.wit_listing.specs.Listing.{listing_text};
 ghost use Rattle.wit_listing.specs.Output.{IsWritten};
 ghost use Rattle.wit_tool.specs.Run.{IsListed, IsRefusalWritten, IsRun};
@@ -29,45 +29,49 @@ pub fn listing<W: Write>(
     wit_listing::listing(alloc, &group.main, group.nested.as_slice(), out)
 }
 
-/// Writes the listing of a group, and answers that it is one.
+/// Writes the listing of a group, and answers the group.
 fn list<W: Write>(
     alloc: Global,
-    group: &UnresolvedPackageGroup,
+    group: UnresolvedPackageGroup,
     out: &mut W,
-) -> Result<bool, RunFault>
-    ensures { IsListed group.now.main group.now.nested (W.contents out.old) (W.contents out.new) result }
+) -> Result<Option<UnresolvedPackageGroup>, RunFault>
+    ensures { IsListed group (W.contents out.old) (W.contents out.new) result }
 {
-    listing(alloc, group, out)?;
-    Ok(true)
+    listing(alloc, &group, out)?;
+    Ok(Some(group))
 }
 
-/// Writes the line of a refusal, and answers that it is no listing.
+/// Writes the line of a refusal, and answers that no group was listed.
 fn refuse<W: Write>(
     alloc: Global,
     map: &SourceMap,
     fault: &ParseError,
     out: &mut W,
-) -> Result<bool, RunFault>
+) -> Result<Option<UnresolvedPackageGroup>, RunFault>
     ensures { IsRefusalWritten map.now.sources.items fault.now (W.contents out.old) (W.contents out.new) result }
 {
     error_line(alloc, map, fault, out)?;
-    Ok(false)
+    Ok(None)
 }
 
 /// Reads the map's sources, by path, byte by byte, those of one path as they were pushed; resolves
 /// them as one package, and each package that is nested in them by itself, and writes the listing of
-/// all, or the line of the refusal. Answers whether it was a listing.
+/// all, or the line of the refusal. Answers the group that was listed, if one was.
 ///
 /// # Errors
 ///
 /// - `Output`: a write failed or took no byte. What went out is a beginning of the text.
 /// - `Memory`: a growth was refused while the text was made. Nothing went out. Where memory was
 ///   wanted in reading or resolving, that is a refusal, and its line is written.
-pub fn run<W: Write>(alloc: Global, map: SourceMap, out: &mut W) -> Result<bool, RunFault>
+pub fn run<W: Write>(
+    alloc: Global,
+    map: SourceMap,
+    out: &mut W,
+) -> Result<Option<UnresolvedPackageGroup>, RunFault>
     ensures { IsRun map.sources.items (W.contents out.old) (W.contents out.new) result }
 {
     match UnresolvedPackageGroup::from_sources(alloc, map) {
-        Ok(group) => list(alloc, &group, out),
+        Ok(group) => list(alloc, group, out),
         Err((map, fault)) => refuse(alloc, &map, &fault, out),
     }
 }

@@ -14,4 +14,4 @@ returns-in_err-flush g c =
     failed _ _ _ c.answer_text.result c.from_residual-in_err-flush.result p.0 p.1 (answered_kept _ _ _ _ _ c.answer_text.ensures c.flush.ensures.bytes)
 
 pub returns : goal.returns
-returns g c = ended Error _ _ _ c.in_ok-listed.listed (answered_kept _ _ _ _ _ c.in_ok-listed.ensures c.flush.ensures.bytes)
+returns g c = rw c.is_some-is_listing.ensures (ended Error _ _ _ c.in_ok-listed.listed (answered_kept _ _ _ _ _ c.in_ok-listed.ensures c.flush.ensures.bytes))
