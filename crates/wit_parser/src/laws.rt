@@ -2,12 +2,9 @@
 ghost use Rattle.std.specs.Prelude.{◌≡◌, List, [], ◌∷◌};
 ghost use Rattle.wit_tree.specs.declared.tree.PackageFile.{PackageFile as TheFile};
 ghost use Rattle.wit_syntax.specs.Splitting.{IsJoined, IsSplit};
-<<<<<<< HEAD
+ghost use Rattle.wit_syntax.specs.Broken.{IsLegal};
 ghost use Rattle.wit_types.specs.Types.{IsBackward};
 ghost use Rattle.wit_arena.specs.Faithful.{IsFaithful};
-=======
-ghost use Rattle.wit_syntax.specs.Broken.{IsLegal};
->>>>>>> 5359a5d3f0db02978a9450a13f75b3e985e9b6e2
 ghost use Rattle.wit_arena.specs.Splitting.{HaveSameMeetings, HaveSamePackages};
 ghost use Rattle.wit_arena.specs.Whole.{IsPackage};
 ghost use Rattle.wit_parser.specs.Ids.{AreIdsWithin};

@@ -20,13 +20,4 @@ returns-clause-arena c =
 pub returns-clause-faithful : goal.returns-clause-faithful
 returns-clause-faithful c =
     let files = c.args.self.files.items in
-<<<<<<< HEAD
-    IfOk-weaker c.resolve_pushed.result (IsMade files) (IsFaithful files) (λ p made. made.faithful) c.resolve_pushed.ensures.made
-=======
     IfOk-weaker c.resolve_pushed.result (IsMadeOf files) (IsFaithful files) (λ p made. made.faithful) c.resolve_pushed.ensures.made
-
-pub returns-clause-backward : goal.returns-clause-backward
-returns-clause-backward c =
-    let files = c.args.self.files.items in
-    IfOk-weaker c.resolve_pushed.result (IsMadeOf files) (λ p. IsBackward p.types) (λ p made. made.faithful.backward) c.resolve_pushed.ensures.made
->>>>>>> 5359a5d3f0db02978a9450a13f75b3e985e9b6e2
