@@ -41,13 +41,13 @@ module _ (decls : Decls) (have : HaveOne decls) (ks : List Key) (differ : AllDif
       let form = a.form ∙ ap (λ (d : Decl). d.form) decl ∙ sym b.form in
       let parts = all_at_functional ks differ b.decl.parts (kind_of e.kind).parts (kind_of f.kind).parts (subst (λ (d : Decl). AreAt ks d.parts (kind_of e.kind).parts) decl a.parts) b.parts in
       same_entry e f
-          (a.name ∙ sym b.name)
-          (one_kind e.kind f.kind form parts)
-          (a.owner ∙ ap (λ (d : Decl). d.owner) decl ∙ sym b.owner)
-          (a.notes.docs ∙ ap (λ (d : Decl). d.notes.docs) decl ∙ sym b.notes.docs)
-          (a.notes.stability ∙ ap (λ (d : Decl). d.notes.stability) decl ∙ sym b.notes.stability)
-          span
-          (a.notes.external_id ∙ ap (λ (d : Decl). d.notes.external_id) decl ∙ sym b.notes.external_id)
+      (a.name ∙ sym b.name)
+      (one_kind e.kind f.kind form parts)
+      (a.owner ∙ ap (λ (d : Decl). d.owner) decl ∙ sym b.owner)
+      (a.notes.docs ∙ ap (λ (d : Decl). d.notes.docs) decl ∙ sym b.notes.docs)
+      (a.notes.stability ∙ ap (λ (d : Decl). d.notes.stability) decl ∙ sym b.notes.stability)
+      span
+      (a.notes.external_id ∙ ap (λ (d : Decl). d.notes.external_id) decl ∙ sym b.notes.external_id)
 
   one_unnamed : (form : Form) (parts : Exprs) (e f : TypeDef) → e.span ≡ f.span → (e.kind ≡ f.kind → e.stability ≡ f.stability) → IsUnnamedEntry ks form parts e → IsUnnamedEntry ks form parts f → e ≡ f
   one_unnamed form parts e f span stable a b =
@@ -79,7 +79,7 @@ one_arena decls have ms es fs a b = same_by_fronts es fs (a.keyed.count ∙ sym 
         let span_f : slice_get (spans ms) k ≡ Some f.span = ap (λ l. slice_get l k) (sym b.spans) ∙ slice_get-map (λ (x : TypeDef). x.span) fs k ∙ ap (option_map (λ (x : TypeDef). x.span)) at_f in
         let span : e.span ≡ f.span = (let both : Some e.span ≡ Some f.span = sym span_e ∙ span_f in cc) in
         one_entry decls have (take k (keys ms)) (taken_differ (keys ms) k a.keyed.once) (take k es) m.0 e f span
-            (a.keyed.each k m.0.key e key at_e)
-            (b.keyed.each k m.0.key f key at_f)
-            (a.settled k m.0 e m.1 at_e)
-            (subst (λ (l : List TypeDef). IsSettled l m.0.given m.0.key f) (sym front) (b.settled k m.0 f m.1 at_f))
+        (a.keyed.each k m.0.key e key at_e)
+        (b.keyed.each k m.0.key f key at_f)
+        (a.settled k m.0 e m.1 at_e)
+        (subst (λ (l : List TypeDef). IsSettled l m.0.given m.0.key f) (sym front) (b.settled k m.0 f m.1 at_f))

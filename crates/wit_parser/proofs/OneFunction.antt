@@ -60,14 +60,14 @@ module _ (ks : List Key) (differ : AllDiffer ks) (s : Address) where
   pub one_function : (w : SourceFunction) (f g : Function) → IsFunction ks s w f → IsFunction ks s w g → f ≡ g
   one_function w f g a b =
       same_function f g
-          (a.name ∙ sym b.name)
-          (one_kind w.role f.kind g.kind a.kind b.kind)
-          (one_by_one (IsParam ks s) (all_params w) f.params g.params one_param a.params b.params)
-          (one_result w.result f.result g.result a.result b.result)
-          (a.notes.docs ∙ sym b.notes.docs)
-          (a.notes.stability ∙ sym b.notes.stability)
-          (a.span ∙ sym b.span)
-          (a.notes.external_id ∙ sym b.notes.external_id)
+      (a.name ∙ sym b.name)
+      (one_kind w.role f.kind g.kind a.kind b.kind)
+      (one_by_one (IsParam ks s) (all_params w) f.params g.params one_param a.params b.params)
+      (one_result w.result f.result g.result a.result b.result)
+      (a.notes.docs ∙ sym b.notes.docs)
+      (a.notes.stability ∙ sym b.notes.stability)
+      (a.span ∙ sym b.span)
+      (a.notes.external_id ∙ sym b.notes.external_id)
 
   pub one_functions : (ws : List SourceFunction) (fs gs : List Function) → OneByOne (IsFunction ks s) ws fs → OneByOne (IsFunction ks s) ws gs → fs ≡ gs
   one_functions ws fs gs a b = one_by_one (IsFunction ks s) ws fs gs one_function a b

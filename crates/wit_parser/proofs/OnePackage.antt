@@ -200,9 +200,9 @@ module _ (files : List PackageFile) (p q : UnresolvedPackage) (legal : IsLegal f
   as_of : (P : List Meeting → List Ordered → List OrderedWorld → Type 0) → P a.met a.first.interfaces a.first.worlds → P met is ws
   as_of P h =
       onward P a.met met a.first.interfaces is a.first.worlds ws
-          (first_once files a.met met a.first b.first)
-          (interfaces_once files a.first.interfaces is a.first.worlds ws a.first.ordered b.first.ordered)
-          (worlds_once files a.first.interfaces is a.first.worlds ws a.first.ordered b.first.ordered) h
+      (first_once files a.met met a.first b.first)
+      (interfaces_once files a.first.interfaces is a.first.worlds ws a.first.ordered b.first.ordered)
+      (worlds_once files a.first.interfaces is a.first.worlds ws a.first.ordered b.first.ordered) h
 
   differ : AllDiffer (keys met)
   differ = b.meeting.keyed.once
@@ -239,9 +239,9 @@ module _ (files : List PackageFile) (p q : UnresolvedPackage) (legal : IsLegal f
       let both : Some a.header ≡ Some b.header = sym a.last ∙ b.last in
       let header : a.header ≡ b.header = cc in
       one_name p.name q.name
-          (a.namespace ∙ ap (λ (h : Header). h.namespace.name.now) header ∙ sym b.namespace)
-          (a.name ∙ ap (λ (h : Header). h.name.name.now) header ∙ sym b.name)
-          (one_version p.name.version q.name.version (a.version ∙ ap (λ (h : Header). option_map parts_of h.version) header ∙ sym b.version))
+      (a.namespace ∙ ap (λ (h : Header). h.namespace.name.now) header ∙ sym b.namespace)
+      (a.name ∙ ap (λ (h : Header). h.name.name.now) header ∙ sym b.name)
+      (one_version p.name.version q.name.version (a.version ∙ ap (λ (h : Header). option_map parts_of h.version) header ∙ sym b.version))
 
   span_once : p.name_span ≡ q.name_span
   span_once =
@@ -252,9 +252,9 @@ module _ (files : List PackageFile) (p q : UnresolvedPackage) (legal : IsLegal f
   pub one_package : p ≡ q
   one_package =
       same_package p q name_once worlds_are_one interfaces_are_one types_once
-          (a.others.deps ∙ sym b.others.deps)
-          (a.docs ∙ sym b.docs)
-          span_once
-          (a.others.unknown ∙ sym b.others.unknown)
-          (a.others.spans ∙ sym b.others.spans)
-          required_once
+      (a.others.deps ∙ sym b.others.deps)
+      (a.docs ∙ sym b.docs)
+      span_once
+      (a.others.unknown ∙ sym b.others.unknown)
+      (a.others.spans ∙ sym b.others.spans)
+      required_once

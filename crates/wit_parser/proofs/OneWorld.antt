@@ -88,6 +88,6 @@ module _ (ks : List Key) (differ : AllDiffer ks) where
     one_world o w v a b =
         let types = one_types ks differ (turned o.own) (world_types w) (world_types v) a.types b.types in
         same_world (item_id o.own.item).name.now (item_id o.own.item).span (item_notes o.own.item) w v a.says b.says
-            (one_imports (addresses o.inside) o.own w v a.sides b.sides types)
-            (one_exports (addresses o.inside) o.own w v a.sides b.sides)
-            (one_includes worlds world_places o.own.item w.includes v.includes a.includes b.includes)
+        (one_imports (addresses o.inside) o.own w v a.sides b.sides types)
+        (one_exports (addresses o.inside) o.own w v a.sides b.sides)
+        (one_includes worlds world_places o.own.item w.includes v.includes a.includes b.includes)
