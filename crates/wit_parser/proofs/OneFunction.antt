@@ -1,6 +1,5 @@
 -- A written function stands for one function of a package, where no key is met twice.
 use Rattle.std.proofs.Common.{◌≡◌, ℕ, List, Option, Some, None, sym, ap, ◌∙◌}
-use Rattle.std.specs.Prelude.{slice_get}
 use Rattle.wit_values.specs.declared.span.Span.{Span}
 use Rattle.wit_types.specs.declared.docs.Docs.{Docs}
 use Rattle.wit_types.specs.declared.stability.Stability.{Stability}
@@ -33,14 +32,11 @@ same_function f g name kind params result docs stability span id =
     same
 
 module _ (ks : List Key) (differ : AllDiffer ks) (s : Address) where
-  one_place : (k : Key) (i j : ℕ) → slice_get ks i ≡ Some k → slice_get ks j ≡ Some k → i ≡ j
-  one_place k i j at_i at_j = differ.differ i j k at_i at_j
-
   pub one_kind : (role : Role) (k l : FunctionKind) → IsKind ks s role k → IsKind ks s role l → k ≡ l
   one_kind (Freestanding id form) k l a b = a ∙ sym b
-  one_kind (Method of form) k l a b = a.1 ∙ ap (method_kind form) (one_place (Def s of.name.now) a.0 b.0 a.2 b.2) ∙ sym b.1
-  one_kind (Static of form) k l a b = a.1 ∙ ap (static_kind form) (one_place (Def s of.name.now) a.0 b.0 a.2 b.2) ∙ sym b.1
-  one_kind (Constructor of) k l a b = a.1 ∙ ap kind.Constructor (one_place (Def s of.name.now) a.0 b.0 a.2 b.2) ∙ sym b.1
+  one_kind (Method of form) k l a b = a.1 ∙ ap (method_kind form) (differ.differ a.0 b.0 (Def s of.name.now) a.2 b.2) ∙ sym b.1
+  one_kind (Static of form) k l a b = a.1 ∙ ap (static_kind form) (differ.differ a.0 b.0 (Def s of.name.now) a.2 b.2) ∙ sym b.1
+  one_kind (Constructor of) k l a b = a.1 ∙ ap kind.Constructor (differ.differ a.0 b.0 (Def s of.name.now) a.2 b.2) ∙ sym b.1
   one_kind (OnSide side id form) k l a b = a ∙ sym b
 
   one_param : (w : SourceParam) (p q : Param) → IsParam ks s w p → IsParam ks s w q → p ≡ q

@@ -1,6 +1,6 @@
 -- Lists that agree at each place are one list.
 use Rattle.std.proofs.Common.{◌≡◌, ℕ, List, [], ◌∷◌, ◌++◌, length, Some, refl, sym, ap, ◌∙◌, arith, append_assoc}
-use Rattle.std.specs.Prelude.{slice_get, take, map}
+use Rattle.std.specs.Prelude.{slice_get, take}
 use Rattle.std.proofs.lemmas.Option.{slice_get_within}
 use Rattle.wit_syntax.proofs.Lists.{take_seam, at_within}
 use Rattle.wit_arena.specs.OneByOne.{OneByOne}
@@ -39,10 +39,3 @@ one_by_one {X} {Y} Holds xs ys zs one a b = same_by_places ys zs (a.count ∙ sy
         let count = a.count in
         let x = at_within xs k (omega (arith, lt, count)) in
         one x.0 y z (a.each k x.0 y x.1 at_y) (b.each k x.0 z x.1 at_z)
-
--- lists are one where their first and second parts are
-pub same_pairs : {A B : Type 0} (xs ys : List (A × B)) → map (λ e. e.0) xs ≡ map (λ e. e.0) ys → map (λ e. e.1) xs ≡ map (λ e. e.1) ys → xs ≡ ys
-same_pairs [] [] a b = refl
-same_pairs [] (y ∷ ys) a b = absurd (let f : ⊥ = cc in f)
-same_pairs (x ∷ xs) [] a b = absurd (let f : ⊥ = cc in f)
-same_pairs ((n, i) ∷ xs) ((m, j) ∷ ys) a b = (let rest = same_pairs xs ys (let it : map (λ e. e.0) xs ≡ map (λ e. e.0) ys = cc in it) (let it : map (λ e. e.1) xs ≡ map (λ e. e.1) ys = cc in it) in cc)

@@ -40,9 +40,6 @@ one_types ks differ t xs ys a b =
         cc
 
 module _ (interfaces : List Address) (differ : AllDiffer interfaces) (top : List TopName) (side : WorldSide) where
-  one_place : (s : Address) (i j : ℕ) → slice_get interfaces i ≡ Some s → slice_get interfaces j ≡ Some s → i ≡ j
-  one_place s i j at_i at_j = differ.differ i j s at_i at_j
-
   -- what stands on a side
   pub one_side : (written : List SideItem) (fs : List Function) (ss : List Address) (xs ys : List (WorldKey × WorldItem)) → AreSideItems interfaces top side written fs ss xs → AreSideItems interfaces top side written fs ss ys → xs ≡ ys
   one_side [] fs ss xs ys a b = a ∙ sym b
@@ -50,11 +47,11 @@ module _ (interfaces : List Address) (differ : AllDiffer interfaces) (top : List
   one_side (SideFunction fn ∷ written) (f ∷ fs) ss xs ys a b =
       a.1 ∙ ap (put_on side (role_side fn.role) (function_item f)) (one_side written fs ss a.0 b.0 a.2 b.2) ∙ sym b.1
   one_side (SideLink link ∷ written) fs ss xs ys a b =
-      let place : a.0 ≡ b.0 = one_place (path_scope top link.path) a.0 b.0 a.2 b.2 in
+      let place : a.0 ≡ b.0 = differ.differ a.0 b.0 (path_scope top link.path) a.2 b.2 in
       a.3 ∙ ap (λ n. put_on side link.side (link_item link n) a.1) place ∙ ap (put_on side link.side (link_item link b.0)) (one_side written fs ss a.1 b.1 a.4 b.4) ∙ sym b.3
   one_side (SideInline x name items ∷ written) fs [] xs ys a b = absurd a
   one_side (SideInline x name items ∷ written) fs (s ∷ ss) xs ys a b =
-      let place : a.0 ≡ b.0 = one_place s a.0 b.0 a.2 b.2 in
+      let place : a.0 ≡ b.0 = differ.differ a.0 b.0 s a.2 b.2 in
       a.3 ∙ ap (λ n. put_on side x.side (inline_entry x name n) a.1) place ∙ ap (put_on side x.side (inline_entry x name b.0)) (one_side written fs ss a.1 b.1 a.4 b.4) ∙ sym b.3
 
 abbrev include : Stability → ℕ → List IncludeName → Span → WorldInclude
