@@ -17,17 +17,17 @@ use Rattle.wit_types.specs.declared.types.TypeDef.{TypeDef}
 use Rattle.wit_types.specs.declared.types.TypeOwner.{TypeOwner}
 use Rattle.wit_syntax.specs.Form.{Form, ResourceForm, AliasForm, UnknownForm}
 use Rattle.wit_arena.specs.Kind.{kind_of}
-use Rattle.wit_syntax.specs.Node.{Head, Node, Leaf, Named, Unnamed, Nothing, node_map, unfolded, primitive_type}
-use Rattle.wit_syntax.specs.Shape.{Shapes, Prim, Word, one, written_body, body_of}
+use Rattle.wit_syntax.specs.Node.{primitive_type}
+use Rattle.wit_syntax.specs.Shape.{Shape, Shapes, Prim, Word, More, one, written_body, body_of}
 use Rattle.wit_syntax.specs.Address.{Address}
-use Rattle.wit_syntax.specs.Source.{ScopeName, Used, Defined, Taken, Place, local_name, meaning, head, placed, name_form, name_body, name_scope, name_parts, named_node}
-use Rattle.wit_syntax.specs.Trees.{scope, source_node, source_tree}
+use Rattle.wit_syntax.specs.Source.{ScopeName, Used, Defined, Taken, local_name, meaning, name_form, name_body, name_scope}
+use Rattle.wit_syntax.specs.Trees.{scope}
 use Rattle.wit_arena.specs.Expr.{Exprs, exprs_of, name_exprs}
 use Rattle.wit_arena.specs.Meet.{Key, Def, AreAt, Decl, Decls, decl_of, IsKeyed}
 use Rattle.wit_arena.proofs.Parts.{HasPart}
 use Rattle.wit_arena.specs.Resolving.{decls_of}
 use Rattle.wit_syntax.specs.Scope.{AreDistinct}
-use Rattle.wit_syntax.specs.Ends.{End, AtResource, AtForeign, Elsewhere, named_end, node_end, tree_end, EndsAt}
+use Rattle.wit_syntax.specs.Ends.{End, AtResource, AtForeign, Elsewhere, named_end, meant_end, shape_end, EndsAt}
 use Rattle.wit_arena.specs.EntryEnds.{EntryEnd, IsResource, IsUnknown, IsOther, part_end, kind_end, found_end, entry_end}
 use Rattle.wit_syntax.proofs.Lists.{at_front, at_within, map_at}
 use Rattle.wit_arena.proofs.Places.{all_at_untaken}
@@ -38,26 +38,24 @@ use Rattle.wit_arena.proofs.Depth.{meaning_found}
 abbrev Agreeing : {X : Type 0} → (X → Option End) → (X → Option End) → Type 0
 Agreeing {X} f g = (x : X) (a b : End) → f x ≡ Some a → g x ≡ Some b → a ≡ b
 
-form_one : {X Y Z : Type 0} (p : X → Y) (q : X → Z) (f : Y → Option End) (g : Z → Option End) → Agreeing (λ x. f (p x)) (λ x. g (q x)) → (top : Head) (form : Form) (parts : List X) (a b : End) → named_end f top form (map p parts) ≡ Some a → named_end g top form (map q parts) ≡ Some b → a ≡ b
-form_one p q f g agree top AliasForm [] a b h k = absurd (let f : ⊥ = cc in f)
-form_one p q f g agree top AliasForm (y ∷ ys) a b h k = agree y a b h k
-form_one p q f g agree top _ parts a b h k = cc
+named_one : (f g : Shape → Option End) → Agreeing f g → (s : Address) (name : List ℕ) (form : Form) (xs : Shapes) (a b : End) → named_end f s name form xs ≡ Some a → named_end g s name form xs ≡ Some b → a ≡ b
+named_one f g agree s name AliasForm (More x xs) a b h k = agree x a b h k
+named_one f g agree s name _ xs a b h k = cc
 
-node_one : {X Y Z : Type 0} (p : X → Y) (q : X → Z) (f : Y → Option End) (g : Z → Option End) → Agreeing (λ x. f (p x)) (λ x. g (q x)) → (x : Node X) (a b : End) → node_end f (node_map p x) ≡ Some a → node_end g (node_map q x) ≡ Some b → a ≡ b
-node_one p q f g agree (Leaf primitive) a b h k = cc
-node_one p q f g agree (Unnamed form parts) a b h k = cc
-node_one p q f g agree Nothing a b h k = absurd (let f : ⊥ = cc in f)
-node_one p q f g agree (Named top form parts) a b h k = form_one p q f g agree top form parts a b h k
+meant_one : (f g : Address → Shape → Option End) → ((s : Address) → Agreeing (f s) (g s)) → (s : Address) (x : Option ScopeName) (a b : End) → meant_end f s x ≡ Some a → meant_end g s x ≡ Some b → a ≡ b
+meant_one f g agree s None a b h k = absurd (let f : ⊥ = cc in f)
+meant_one f g agree s (Some x) a b h k = named_one (f (name_scope s x)) (g (name_scope s x)) (agree (name_scope s x)) s (local_name x) (name_form x) (name_body x).parts a b h k
 
--- where a thing's tree ends does not depend on its levels
-unfolded_one : {X : Type 0} (step : X → Node X) (n m : ℕ) (x : X) (a b : End) → tree_end n (unfolded step n x) ≡ Some a → tree_end m (unfolded step m x) ≡ Some b → a ≡ b
-unfolded_one step zero m x a b h k = absurd (let f : ⊥ = cc in f)
-unfolded_one step (suc n) zero x a b h k = absurd (let f : ⊥ = cc in f)
-unfolded_one step (suc n) (suc m) x a b h k = node_one (unfolded step n) (unfolded step m) (tree_end n) (tree_end m) (unfolded_one step n m) (step x) a b h k
+-- where a written type ends does not depend on the number of steps
+shape_one : (files : List PackageFile) (n m : ℕ) (s : Address) → Agreeing (shape_end files n s) (shape_end files m s)
+shape_one files zero m s x a b h k = absurd (let f : ⊥ = cc in f)
+shape_one files (suc n) zero s x a b h k = absurd (let f : ⊥ = cc in f)
+shape_one files (suc n) (suc m) s (Word id) a b h k = meant_one (shape_end files n) (shape_end files m) (shape_one files n m) s (meaning (scope files s) id.name.now) a b h k
+shape_one files (suc n) (suc m) s _ a b h k = cc
 
 -- a name has one end
 pub ends_one : (files : List PackageFile) (s : Address) (id : Id) (a b : End) → EndsAt files s id a → EndsAt files s id b → a ≡ b
-ends_one files s id a b p q = unfolded_one (source_node files) p.levels q.levels (s, Word id) a b p.is q.is
+ends_one files s id a b p q = shape_one files p.steps q.steps s (Word id) a b p.is q.is
 
 -- so it does in a grown arena
 pub entry_end-same : (n : ℕ) (es more : List TypeDef) (i : ℕ) → i < length es → entry_end n (es ++ more) i ≡ entry_end n es i
@@ -115,29 +113,29 @@ EndIs files ks s id IsOther = EndsAt files s id Elsewhere
 record Means (files : List PackageFile) (s : Address) (id : Id) (x : ScopeName) : Type 0 where
   found : meaning (scope files s) id.name.now ≡ Some x
 
--- where a name of a scope ends, in so many levels of its parts
-abbrev ends_in : List PackageFile → ℕ → Address → ScopeName → Form → List Place → Option End
-ends_in files n s x form parts = named_end (tree_end n) (head s x) form (map (source_tree files n) parts)
+-- where a name of a scope ends, in so many steps behind it
+abbrev ends_in : List PackageFile → ℕ → Address → ScopeName → Form → Shapes → Option End
+ends_in files n s x form xs = named_end (shape_end files n (name_scope s x)) s (local_name x) form xs
 
-ends_named : (files : List PackageFile) (s : Address) (id : Id) (x : ScopeName) (n : ℕ) (end : End) → Means files s id x → ends_in files n s x (name_form x) (name_parts s x) ≡ Some end → EndsAt files s id end
+ends_named : (files : List PackageFile) (s : Address) (id : Id) (x : ScopeName) (n : ℕ) (end : End) → Means files s id x → ends_in files n s x (name_form x) (name_body x).parts ≡ Some end → EndsAt files s id end
 ends_named files s id x n end means is = record {
-  levels = suc n;
-  is = ap (λ (o : Option ScopeName). node_end (tree_end n) (node_map (source_tree files n) (named_node s o))) means.found ∙ is;
+  steps = suc n;
+  is = ap (meant_end (shape_end files n) s) means.found ∙ is;
 }
 
 -- it ends by its form
-ends_formed : (files : List PackageFile) (s : Address) (id : Id) (x : ScopeName) (form : Form) (end : End) → Means files s id x → form ≡ name_form x → ends_in files zero s x form (name_parts s x) ≡ Some end → EndsAt files s id end
-ends_formed files s id x form end means same is = ends_named files s id x zero end means (ap (λ (f : Form). ends_in files zero s x f (name_parts s x)) (sym same) ∙ is)
+ends_formed : (files : List PackageFile) (s : Address) (id : Id) (x : ScopeName) (form : Form) (end : End) → Means files s id x → form ≡ name_form x → ends_in files zero s x form (name_body x).parts ≡ Some end → EndsAt files s id end
+ends_formed files s id x form end means same is = ends_named files s id x zero end means (ap (λ (f : Form). ends_in files zero s x f (name_body x).parts) (sym same) ∙ is)
 
 -- another word for what its one part is
-ends_part : (files : List PackageFile) (s : Address) (id : Id) (x : ScopeName) (y : Shapes) (n : ℕ) (end : End) → Means files s id x → AliasForm ≡ name_form x → (name_body x).parts ≡ y → ends_in files n s x AliasForm (placed (name_scope s x) y) ≡ Some end → EndsAt files s id end
+ends_part : (files : List PackageFile) (s : Address) (id : Id) (x : ScopeName) (y : Shapes) (n : ℕ) (end : End) → Means files s id x → AliasForm ≡ name_form x → (name_body x).parts ≡ y → ends_in files n s x AliasForm y ≡ Some end → EndsAt files s id end
 ends_part files s id x y n end means same parts is = ends_named files s id x n end means (
-    ap (λ (f : Form). ends_in files n s x f (name_parts s x)) (sym same)
-    ∙ ap (λ (xs : Shapes). ends_in files n s x AliasForm (placed (name_scope s x) xs)) parts
+    ap (λ (f : Form). ends_in files n s x f (name_body x).parts) (sym same)
+    ∙ ap (ends_in files n s x AliasForm) parts
     ∙ is)
 
 ends_through : (files : List PackageFile) (s : Address) (id : Id) (x : ScopeName) (word : Id) (end : End) → Means files s id x → AliasForm ≡ name_form x → (name_body x).parts ≡ one (Word word) → EndsAt files (name_scope s x) word end → EndsAt files s id end
-ends_through files s id x word end means same parts h = ends_part files s id x (one (Word word)) h.levels end means same parts h.is
+ends_through files s id x word end means same parts h = ends_part files s id x (one (Word word)) h.steps end means same parts h.is
 
 end_through : (files : List PackageFile) (ks : List Key) (s : Address) (id : Id) (x : ScopeName) (word : Id) (e : EntryEnd) → Means files s id x → AliasForm ≡ name_form x → (name_body x).parts ≡ one (Word word) → EndIs files ks (name_scope s x) word e → EndIs files ks s id e
 end_through files ks s id x word IsResource means same parts h = ends_through files s id x word AtResource means same parts h
@@ -198,7 +196,7 @@ module _ (files : List PackageFile) (decls : Decls) (ks : List Key) (es : List T
       let here : IsResource ≡ e = cc in
       subst (EndIs files ks s id) here (ends_formed files s id x ResourceForm AtResource means same refl)
 
-  end_other : (s : Address) (id : Id) (x : ScopeName) (form : Form) (e : EntryEnd) → Means files s id x → form ≡ name_form x → ends_in files zero s x form (name_parts s x) ≡ Some Elsewhere → Some IsOther ≡ Some e → EndIs files ks s id e
+  end_other : (s : Address) (id : Id) (x : ScopeName) (form : Form) (e : EntryEnd) → Means files s id x → form ≡ name_form x → ends_in files zero s x form (name_body x).parts ≡ Some Elsewhere → Some IsOther ≡ Some e → EndIs files ks s id e
   end_other s id x form e means same ends is =
       let here : IsOther ≡ e = cc in
       subst (EndIs files ks s id) here (ends_formed files s id x form Elsewhere means same ends)

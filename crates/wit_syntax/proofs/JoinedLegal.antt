@@ -1,5 +1,5 @@
 -- Files that declare the same break a rule both or neither.
-use Rattle.std.proofs.Common.{◌≡◌, List, [], ◌∷◌, take, Some, None, refl, sym, ap, ◌∙◌, subst}
+use Rattle.std.proofs.Common.{◌≡◌, ℕ, zero, suc, List, [], ◌∷◌, take, Option, Some, None, refl, sym, ap, ◌∙◌, subst}
 use Rattle.std.specs.Prelude.{Contains}
 use Rattle.std.specs.List.{flat_map}
 use Rattle.std.specs.Option.{option_map_or}
@@ -7,12 +7,14 @@ use Rattle.wit_tree.specs.declared.tree.PackageFile.{PackageFile}
 use Rattle.wit_type_tree.specs.declared.leaves.Id.{Id}
 use Rattle.wit_type_tree.specs.declared.types.«Type».{«Type» as Written}
 use Rattle.wit_syntax.specs.Address.{Address}
-use Rattle.wit_syntax.specs.Ends.{End, Elsewhere, tree_end, EndsAt, IsNoResource}
+use Rattle.wit_syntax.specs.Ends.{End, Elsewhere, named_end, meant_end, shape_end, EndsAt, IsNoResource}
 use Rattle.wit_syntax.specs.Fault.{Fault, missing_at, item_word}
 use Rattle.wit_syntax.specs.Foreign.{ForeignVisit}
 use Rattle.wit_syntax.specs.Function.{functions, all_types}
-use Rattle.wit_syntax.specs.Shape.{Word}
-use Rattle.wit_syntax.specs.Source.{TopName, Item, address, all_items, ScopeName, scope_names, parts, path_scope}
+use Rattle.wit_syntax.specs.Form.{Form, AliasForm}
+use Rattle.wit_syntax.specs.Shape.{Shape, Shapes, Word, More}
+use Rattle.wit_syntax.specs.Source.{TopName, Item, address, all_items, ScopeName, scope_names, parts, path_scope, local_name, meaning, name_form, name_body, name_scope}
+use Rattle.wit_syntax.specs.Trees.{scope}
 use Rattle.wit_syntax.specs.Sides.{SideItem, SideFunction, SideLink, SideInline, side_items, items_on, bare_scope, IsFoldedTwice, IsCrossedTwice, IsLinkedTwice, IsBrokenSides, FoldedTwice, CrossedTwice, LinkedTwice, LinkNotes, InlineNotes, all_scopes}
 use Rattle.wit_syntax.specs.Broken
 use Rattle.wit_syntax.specs.Broken.{IsHeaderless, IsMissingName, IsBrokenScope, IsBrokenItems, IsBrokenNames, IsHandleBroken, IsBroken, IsLegal}
@@ -21,7 +23,7 @@ use Rattle.wit_syntax.proofs.JoinedTargets.{AreThemselves, used_same}
 use Rattle.wit_syntax.proofs.JoinedItems.{retop, names_same, twin_among}
 use Rattle.wit_syntax.proofs.JoinedFiles.{AreAlike, no_use_in_file, items_twins, visits_same}
 use Rattle.wit_syntax.proofs.JoinedOrders.{missing_edge_onward, cyclic_edge_onward}
-use Rattle.wit_syntax.proofs.JoinedTrees.{scopes_twins, tree_alike}
+use Rattle.wit_syntax.proofs.JoinedTrees.{scopes_twins, scope_alike}
 use Rattle.wit_syntax.proofs.JoinedNames.{top_repeated, repeated_onward}
 use Rattle.wit_syntax.proofs.JoinedUses.{missing_use_onward, world_used_onward, interface_included_onward, missing_name_onward}
 
@@ -53,9 +55,23 @@ module _ (i : Item) (top : List TopName) (own : AreThemselves i.top) (other : Ar
   scope_onward : (f : Fault) → IsBrokenScope (scope_names i) (functions i) f → IsBrokenScope (scope_names (retop top i)) (functions (retop top i)) f
   scope_onward f h = subst (λ (xs : List ScopeName). IsBrokenScope xs (functions i) f) twin_names h
 
+-- a name ends where it does wherever its parts end alike
+named_by : (f g : Shape → Option End) → ((x : Shape) → f x ≡ g x) → (s : Address) (name : List ℕ) (form : Form) (xs : Shapes) → named_end f s name form xs ≡ named_end g s name form xs
+named_by f g same s name AliasForm (More x xs) = same x
+named_by f g same s name _ xs = refl
+
+meant_by : (f g : Address → Shape → Option End) → ((s : Address) (x : Shape) → f s x ≡ g s x) → (s : Address) (x : Option ScopeName) → meant_end f s x ≡ meant_end g s x
+meant_by f g same s None = refl
+meant_by f g same s (Some x) = named_by (f (name_scope s x)) (g (name_scope s x)) (same (name_scope s x)) s (local_name x) (name_form x) (name_body x).parts
+
 module _ (files others : List PackageFile) (a : AreAlike files others) where
+  ends_alike : (n : ℕ) (s : Address) (x : Shape) → shape_end files n s x ≡ shape_end others n s x
+  ends_alike zero s x = refl
+  ends_alike (suc n) s (Word id) = meant_by (shape_end files n) (shape_end others n) (ends_alike n) s (meaning (scope files s) id.name.now) ∙ ap (λ (xs : List ScopeName). meant_end (shape_end others n) s (meaning xs id.name.now)) (scope_alike files others a s)
+  ends_alike (suc n) s _ = refl
+
   pub ends_onward : (s : Address) (id : Id) (end : End) → EndsAt files s id end → EndsAt others s id end
-  ends_onward s id end h = record { levels = h.levels; is = sym (ap (tree_end h.levels) (tree_alike files others a h.levels (s, Word id))) ∙ h.is }
+  ends_onward s id end h = record { steps = h.steps; is = sym (ends_alike h.steps s (Word id)) ∙ h.is }
 
   no_resource_onward : (s : Address) (types : List Written) (f : Fault) → IsNoResource files s types f → IsNoResource others s types f
   no_resource_onward s types f h = record { id = h.id; among = h.among; ends = ends_onward s h.id Elsewhere h.ends; is = h.is }

@@ -1,15 +1,14 @@
 -- Where names end, through uses and definitions that are other words for a type.
-use Rattle.std.specs.Prelude.{◌≡◌, ℕ, zero, suc, List, [], ◌∷◌, Option, Some, None, Contains}
-use Rattle.std.specs.Option.{option_map}
+use Rattle.std.specs.Prelude.{◌≡◌, ℕ, zero, suc, List, Option, Some, None, Contains}
 use Rattle.wit_type_tree.specs.declared.leaves.Id.{Id}
 use Rattle.wit_tree.specs.declared.tree.PackageFile.{PackageFile}
 use Rattle.wit_type_tree.specs.declared.types.«Type».{«Type» as Written}
 use Rattle.wit_syntax.specs.Form.{Form, AliasForm, ResourceForm, UnknownForm}
 use Rattle.wit_syntax.specs.Address.{Address}
-use Rattle.wit_syntax.specs.Node.{Head, Node, Leaf, Named, Unnamed, Nothing, Tree}
-use Rattle.wit_syntax.specs.Shape.{Word, all_handles}
+use Rattle.wit_syntax.specs.Shape.{Shape, Shapes, Word, More, End as NoParts, all_handles}
+use Rattle.wit_syntax.specs.Source.{ScopeName, local_name, meaning, name_form, name_body, name_scope}
 use Rattle.wit_syntax.specs.Fault.{Fault, fault}
-use Rattle.wit_syntax.specs.Trees.{source_tree}
+use Rattle.wit_syntax.specs.Trees.{scope}
 
 -- a resource, a name of another package, or anything else
 pub data End : Type 0 where
@@ -17,29 +16,29 @@ pub data End : Type 0 where
   AtForeign : (scope : Address) (name : List ℕ) → End
   Elsewhere : End
 
--- where a named type ends, where `ends` tells where its parts do: another word for a type where that ends; of a name of another package
--- nothing is known but whose it is
-abbrev pub named_end : {X : Type 0} → (X → Option End) → Head → Form → List X → Option End
-named_end ends head AliasForm [] = None
-named_end ends head AliasForm (t ∷ ts) = ends t
-named_end ends head ResourceForm parts = Some AtResource
-named_end ends head UnknownForm parts = option_map (λ s. AtForeign s head.name) head.owner
-named_end ends head form parts = Some Elsewhere
+-- where a name of a scope ends, by its form and its parts, where `ends` tells where these do: another word for a type where that ends; of
+-- a name of another package nothing is known but whose it is
+abbrev pub named_end : (Shape → Option End) → Address → List ℕ → Form → Shapes → Option End
+named_end ends s name AliasForm NoParts = None
+named_end ends s name AliasForm (More x xs) = ends x
+named_end ends s name ResourceForm xs = Some AtResource
+named_end ends s name UnknownForm xs = Some (AtForeign s name)
+named_end ends s name form xs = Some Elsewhere
 
-abbrev pub node_end : {X : Type 0} → (X → Option End) → Node X → Option End
-node_end ends Nothing = None
-node_end ends (Named head form parts) = named_end ends head form parts
-node_end ends _ = Some Elsewhere
+abbrev pub meant_end : (Address → Shape → Option End) → Address → Option ScopeName → Option End
+meant_end ends s None = None
+meant_end ends s (Some x) = named_end (ends (name_scope s x)) s (local_name x) (name_form x) (name_body x).parts
 
--- where a tree of so many levels ends, if it has enough of them
-abbrev pub tree_end : (n : ℕ) → Tree n → Option End
-tree_end zero t = None
-tree_end (suc n) t = node_end (tree_end n) t
+-- where a written type of a scope ends, in at most so many steps
+abbrev pub shape_end : List PackageFile → ℕ → Address → Shape → Option End
+shape_end files zero s x = None
+shape_end files (suc n) s (Word id) = meant_end (shape_end files n) s (meaning (scope files s) id.name.now)
+shape_end files (suc n) s x = Some Elsewhere
 
 -- a name of a scope ends there
 pub record EndsAt (files : List PackageFile) (s : Address) (id : Id) (end : End) : Type 0 where
-  pub levels : ℕ
-  pub is : tree_end levels (source_tree files levels (s, Word id)) ≡ Some end
+  pub steps : ℕ
+  pub is : shape_end files steps s (Word id) ≡ Some end
 
 -- a name in a handle ends at no resource
 pub record IsNoResource (files : List PackageFile) (s : Address) (types : List Written) (f : Fault) : Type 0 where
