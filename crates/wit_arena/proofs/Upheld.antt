@@ -14,14 +14,14 @@ use Rattle.wit_syntax.specs.Source.{address, Item, ScopeName, meaning, scope_nam
 use Rattle.wit_syntax.specs.Trees as source
 use Rattle.wit_graph.specs.Table.{IsOrder}
 use Rattle.wit_syntax.specs.Shape.{words, all_handles}
-use Rattle.wit_syntax.specs.Function.{SourceFunction, functions, signature, all_types}
+use Rattle.wit_syntax.specs.Function.{SourceFunction, functions, signature, all_types, item_types}
 use Rattle.wit_syntax.specs.Scope.{rows_of, in_turn}
 use Rattle.wit_syntax.specs.Foreign.{visited, foreign_interfaces}
-use Rattle.wit_syntax.specs.Ends.{AtResource, AtForeign, Elsewhere, EndsAt}
+use Rattle.wit_syntax.specs.Ends.{AtResource, AtForeign, Elsewhere, EndsAt, IsNoResource}
 use Rattle.wit_arena.specs.Meet.{Key, Meeting, keys, Decls}
 use Rattle.wit_syntax.specs.Fault.{Fault}
 use Rattle.wit_syntax.specs.Signature.{IsUnpairedSetter}
-use Rattle.wit_syntax.specs.Broken.{IsMissingName, IsHandleBroken, IsSetterAlone}
+use Rattle.wit_syntax.specs.Broken.{IsMissingName, IsSetterAlone}
 use Rattle.wit_arena.specs.Whole.{Ordered, own_item, Turned, item_of, turned, all_turns, all_inside, all_meetings, turn_handles, HandleRequires, AreRequired}
 use Rattle.wit_arena.specs.Resolving.{Required}
 use Rattle.wit_arena.specs.Resolved.{WorldArenas}
@@ -84,7 +84,7 @@ module _ (files : List PackageFile) (declares : Decls) (written : List Meeting) 
         signature_meant files declares written cs es d h.place h.scope k fn id h.at (ap (λ (l : List SourceFunction). slice_get l k) (sym own) ∙ at) among (ap (λ (l : List ScopeName). meaning l id.name.now) (sym own_names) ∙ missing)
 
     -- its handles name resources
-    pub handles_stated : (f : Fault) → IsHandleBroken files w f → ⊥
+    pub handles_stated : (f : Fault) → IsNoResource files (address w) (item_types w) f → ⊥
     handles_stated f g =
         let handles = all_handles (all_types (in_turn (scope_names w) h.order) (functions w)) in
         let required : AreRequired files (keys d.met) (map (in_scope (address w)) handles) h.scope.required = subst (λ (t : Turned). AreRequired files (keys d.met) (turn_handles t) h.scope.required) h.same (d.required h.place h.scope h.at) in

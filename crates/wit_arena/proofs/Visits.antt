@@ -19,7 +19,7 @@ use Rattle.wit_package_names.specs.declared.package_name.PackageName.{PackageNam
 use Rattle.wit_syntax.specs.Address.{Address, ForeignNamed, package_of, same_address, is_foreign}
 use Rattle.wit_syntax.specs.Crossing.{extern_paths, inline_uses}
 use Rattle.wit_syntax.specs.Source.{Local, Foreign, path_target, Defining, Using, Including, Doing, Crossing, TopName, top_name, top_names, top_text, top_named, top_target, leads, Part, Item, declared_items, file_items, all_items, address, parts, TheInterface, TheWorld}
-use Rattle.wit_syntax.specs.Foreign.{ForeignVisit, visited, path_visits, part_visits, extern_visits, side_visits, visits_in, declared_visits, declaration_visits, file_visits, foreign_visits, same_item, foreign_items, is_foreign_world, foreign_interfaces, foreign_worlds, foreign_at}
+use Rattle.wit_syntax.specs.Foreign.{ForeignVisit, visited, path_visits, part_visits, extern_visits, side_visits, visits_in, declaration_visits, file_visits, foreign_visits, same_item, foreign_items, is_foreign_world, foreign_interfaces, foreign_worlds, foreign_at}
 use Rattle.wit_syntax.specs.Scope.{use_path, use_paths, part_uses, uses}
 use Rattle.wit_syntax.specs.Broken.{is_world_at}
 use Rattle.wit_arena.specs.Resolved.{AreUsableUses}
@@ -138,12 +138,12 @@ pub record IsOrigin (files : List PackageFile) (w : Item) : Type 0 where
   pub index : ℕ
   pub among : slice_get file.decl_list.items.items index ≡ Some declaration
   pub top : w.top ≡ top_names file
-  pub visits : declaration_visits declaration ≡ declared_visits w.declared
+  pub visits : declaration_visits declaration ≡ visits_in (parts w)
 
-declared_item : (top : List TopName) (a : AstItem) (j : ℕ) (w : Item) → slice_get (declared_items top a) j ≡ Some w → (w.top ≡ top) × (declaration_visits a ≡ declared_visits w.declared)
-declared_item top (ast.Interface i) zero w at = (let same : record { top = top; declared = TheInterface i } ≡ w = cc in (ap (λ (x : Item). x.top) (sym same), ap (λ (x : Item). declared_visits x.declared) same))
+declared_item : (top : List TopName) (a : AstItem) (j : ℕ) (w : Item) → slice_get (declared_items top a) j ≡ Some w → (w.top ≡ top) × (declaration_visits a ≡ visits_in (parts w))
+declared_item top (ast.Interface i) zero w at = (let same : record { top = top; declared = TheInterface i } ≡ w = cc in (ap (λ (x : Item). x.top) (sym same), ap (λ (x : Item). visits_in (parts x)) same))
 declared_item top (ast.Interface i) (suc j) w at = absurd (let f : ⊥ = cc in f)
-declared_item top (ast.World i) zero w at = (let same : record { top = top; declared = TheWorld i } ≡ w = cc in (ap (λ (x : Item). x.top) (sym same), ap (λ (x : Item). declared_visits x.declared) same))
+declared_item top (ast.World i) zero w at = (let same : record { top = top; declared = TheWorld i } ≡ w = cc in (ap (λ (x : Item). x.top) (sym same), ap (λ (x : Item). visits_in (parts x)) same))
 declared_item top (ast.World i) (suc j) w at = absurd (let f : ⊥ = cc in f)
 declared_item top (ast.Use u) j w at = absurd (let f : ⊥ = cc in f)
 

@@ -16,12 +16,12 @@ use Rattle.wit_syntax.specs.Address.{Address}
 use Rattle.wit_syntax.specs.Source.{address, Item, all_items, ScopeName, local_name, scope_names}
 use Rattle.wit_syntax.specs.Trees.{scope}
 use Rattle.wit_syntax.specs.Foreign.{visited, foreign_interfaces}
+use Rattle.wit_syntax.specs.Ends.{IsNoResource}
 use Rattle.wit_syntax.specs.Function.{item_types}
 use Rattle.wit_syntax.specs.Scope.{in_turn, AreDistinct}
 use Rattle.wit_syntax.specs.Sides.{side_items, inline_items}
 use Rattle.wit_syntax.specs.Fault.{Fault}
 use Rattle.wit_arena.specs.Meet.{Def, Meeting, keys, Decl, Decls, IsAmong, decl_of, all_name_meetings}
-use Rattle.wit_syntax.specs.Broken.{IsHandleBroken}
 use Rattle.wit_arena.specs.Whole.{own_item, Turned, item_of, turned, all_meetings, all_turns}
 use Rattle.wit_arena.specs.Resolving.{Names, Cell, Required, env_of, cells, AreNames, AreKnown, IsDefined, decls_of}
 use Rattle.wit_arena.specs.Resolved.{WorldArenas, AddsScope, AddsSides, AddsForeign, AreUsableUses, IsWrongHandleNow}
@@ -114,7 +114,7 @@ module _ (files : List PackageFile) (declares : Decls) (written : List Meeting) 
           subst (λ (z : Address). IsDeclared files declares z) (sym same) (record { distinct = subst AreDistinct (sym names_are) h.distinct; whose = o; own = own }))
     ]
 
-    pub handle_wrong : IsHandleBroken files w f
+    pub handle_wrong : IsNoResource files (address w) (item_types w) f
     handle_wrong = defined_broken-more files declares d.met h.mid h.more s [] h.names some defined met_declared (item_types w) f h.wrong
 
 module _ (files : List PackageFile) (is ws : List Item) (interfaces : AreOfSort false is) (worlds : AreOfSort true ws) (is_items : AreItems files is) (ws_items : AreItems files ws) (uses : AreUsableUses files (all_items files)) (es : List TypeDef) (front : List Interface) (wfront : List World) (foreign : AddsForeign files es front wfront) where
@@ -122,7 +122,7 @@ module _ (files : List PackageFile) (is ws : List Item) (interfaces : AreOfSort 
   fore = map visited (foreign_interfaces files)
 
   -- of an interface that comes next
-  pub interface_handle : (us : List Item) (old : List TypeDef) (xs : List Interface) (rs : List Required) (w : Item) → slice_get is (length us) ≡ Some w → (d : InterfacesDone files is ws front us old xs rs) → (f : Fault) → IsWrongHandleNow old (cells fore (front ++ xs)) (owner.Interface (length (front ++ xs))) w f → IsHandleBroken files w f
+  pub interface_handle : (us : List Item) (old : List TypeDef) (xs : List Interface) (rs : List Required) (w : Item) → slice_get is (length us) ≡ Some w → (d : InterfacesDone files is ws front us old xs rs) → (f : Fault) → IsWrongHandleNow old (cells fore (front ++ xs)) (owner.Interface (length (front ++ xs))) w f → IsNoResource files (address w) (item_types w) f
   interface_handle us old xs rs w there d f h =
       let cs = front_scopes files front ++ d.scopes in
       let long : length us ≡ length d.ordered = sym (ap length d.all) ∙ length-map d.ordered item_of in
@@ -148,7 +148,7 @@ module _ (files : List PackageFile) (is ws : List Item) (interfaces : AreOfSort 
     known_before = among_more resolved (front_scopes files front ++ d.scopes) (flat_map scopes_of e.scopes) (cells_among files is ws interfaces worlds is_items ws_items uses es front wfront foreign xs d.scopes d.laid.types)
 
     -- of a world
-    pub world_handle : (f : Fault) → IsWrongHandleNow old resolved (owner.World (length a.worlds)) w f → IsHandleBroken files w f
+    pub world_handle : (f : Fault) → IsWrongHandleNow old resolved (owner.World (length a.worlds)) w f → IsNoResource files (address w) (item_types w) f
     world_handle f h =
         let written = all_meetings files (all_turns d.ordered e.ordered) in
         let place : length e.own ≡ length us = e.laid.count ∙ length-map e.ordered own_order ∙ sym (length-map e.ordered own_item) ∙ ap length e.all in
@@ -186,7 +186,7 @@ module _ (files : List PackageFile) (is ws : List Item) (interfaces : AreOfSort 
           let less = early.1 in
           omega (arith, place, less)
 
-      pub inline_handle : (f : Fault) → IsWrongHandleNow mid resolved (owner.Interface (length (front ++ xs) + length now)) inner f → IsHandleBroken files inner f
+      pub inline_handle : (f : Fault) → IsWrongHandleNow mid resolved (owner.Interface (length (front ++ xs) + length now)) inner f → IsNoResource files (address inner) (item_types inner) f
       inline_handle f h =
           let o = owner.Interface (length (front ++ xs) + length now) in
           let scopes = (before ++ own_scope ∷ []) ++ sided.scopes in

@@ -35,15 +35,12 @@ enum_case_member c = record { name = c.name; docs = c.docs; span = c.span }
 abbrev pub payloads : List Case → List Ty
 payloads cs = filter_map (λ c. c.ty) cs
 
-abbrev pub handle_kind : Handle → Kind
-handle_kind (Own r) = record { form = OwnForm; parts = Id r ∷ [] }
-handle_kind (Borrow r) = record { form = BorrowForm; parts = Id r ∷ [] }
-
 -- the form and the parts of a type of the arena
 abbrev pub kind_of : TypeDefKind → Kind
 kind_of (kind.Record r) = record { form = RecordForm (map field_member r.fields); parts = map (λ f. f.ty) r.fields }
 kind_of kind.Resource = record { form = ResourceForm; parts = [] }
-kind_of (kind.Handle h) = handle_kind h
+kind_of (kind.Handle (Own r)) = record { form = OwnForm; parts = Id r ∷ [] }
+kind_of (kind.Handle (Borrow r)) = record { form = BorrowForm; parts = Id r ∷ [] }
 kind_of (kind.Flags f) = record { form = FlagsForm (map flag_member f.flags); parts = [] }
 kind_of (kind.Tuple t) = record { form = TupleForm; parts = t.types }
 kind_of (kind.Variant v) = record { form = VariantForm (map case_member v.cases); parts = payloads v.cases }

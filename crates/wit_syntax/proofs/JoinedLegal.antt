@@ -10,14 +10,14 @@ use Rattle.wit_syntax.specs.Address.{Address}
 use Rattle.wit_syntax.specs.Ends.{End, Elsewhere, named_end, meant_end, shape_end, EndsAt, IsNoResource}
 use Rattle.wit_syntax.specs.Fault.{Fault, missing_at, item_word}
 use Rattle.wit_syntax.specs.Foreign.{ForeignVisit}
-use Rattle.wit_syntax.specs.Function.{functions, all_types}
+use Rattle.wit_syntax.specs.Function.{functions, all_types, item_types}
 use Rattle.wit_syntax.specs.Form.{Form, AliasForm}
 use Rattle.wit_syntax.specs.Shape.{Shape, Shapes, Word, More}
 use Rattle.wit_syntax.specs.Source.{TopName, Item, address, all_items, ScopeName, scope_names, parts, path_scope, local_name, meaning, name_form, name_body, name_scope}
 use Rattle.wit_syntax.specs.Trees.{scope}
 use Rattle.wit_syntax.specs.Sides.{SideItem, SideFunction, SideLink, SideInline, side_items, items_on, bare_scope, IsFoldedTwice, IsCrossedTwice, IsLinkedTwice, IsBrokenSides, FoldedTwice, CrossedTwice, LinkedTwice, LinkNotes, InlineNotes, all_scopes}
 use Rattle.wit_syntax.specs.Broken
-use Rattle.wit_syntax.specs.Broken.{IsHeaderless, IsMissingName, IsBrokenScope, IsBrokenItems, IsBrokenNames, IsHandleBroken, IsBroken, IsLegal}
+use Rattle.wit_syntax.specs.Broken.{IsHeaderless, IsMissingName, IsBrokenScope, IsBrokenItems, IsBrokenNames, IsBroken, IsLegal}
 use Rattle.wit_syntax.proofs.JoinedLists.{flat_map_by}
 use Rattle.wit_syntax.proofs.JoinedTargets.{AreThemselves, used_same}
 use Rattle.wit_syntax.proofs.JoinedItems.{retop, names_same, twin_among}
@@ -76,7 +76,7 @@ module _ (files others : List PackageFile) (a : AreAlike files others) where
   no_resource_onward : (s : Address) (types : List Written) (f : Fault) → IsNoResource files s types f → IsNoResource others s types f
   no_resource_onward s types f h = record { id = h.id; among = h.among; ends = ends_onward s h.id Elsewhere h.ends; is = h.is }
 
-  handle_onward : (i : Item) (top : List TopName) → AreThemselves i.top → AreThemselves top → (f : Fault) → IsHandleBroken files i f → IsHandleBroken others (retop top i) f
+  handle_onward : (i : Item) (top : List TopName) → AreThemselves i.top → AreThemselves top → (f : Fault) → IsNoResource files (address i) (item_types i) f → IsNoResource others (address (retop top i)) (item_types (retop top i)) f
   handle_onward i top own other f h = subst (λ (xs : List ScopeName). IsNoResource others (address i) (all_types xs (functions i)) f) (twin_names i top own other) (no_resource_onward (address i) (all_types (scope_names i) (functions i)) f h)
 
   items_onward : (f : Fault) → IsBrokenItems files f → (g : Fault) × IsBrokenItems others g

@@ -183,10 +183,6 @@ pub data IsBrokenUse (files : List PackageFile) (i : Item) (f : Fault) : Type 0 
   MissingUse : IsMissingUse files i f → IsBrokenUse files i f
   WorldUsed : IsWorldUsed files i f → IsBrokenUse files i f
 
--- a handle in a definition of an item, or in a function of it, names no resource
-abbrev pub IsHandleBroken : List PackageFile → Item → Fault → Type 0
-IsHandleBroken files i f = IsNoResource files (address i) (item_types i) f
-
 -- a setter has no getter on its side of an item that includes nothing: where a world is included, the getter may come with it
 pub record IsSetterAlone (i : Item) (f : Fault) : Type 0 where
   pub closed : includes i ≡ []
@@ -205,7 +201,7 @@ pub data IsBroken (files : List PackageFile) (f : Fault) : Type 0 where
   MissingName : (i : Item) → Contains (all_scopes files) i → IsMissingName files (scope_names i) f → IsBroken files f
   Scope : (i : Item) → Contains (all_scopes files) i → IsBrokenScope (scope_names i) (functions i) f → IsBroken files f
   Sides : (i : Item) → Contains (all_scopes files) i → IsBrokenSides i f → IsBroken files f
-  Handle : (i : Item) → Contains (all_scopes files) i → IsHandleBroken files i f → IsBroken files f
+  Handle : (i : Item) → Contains (all_scopes files) i → IsNoResource files (address i) (item_types i) f → IsBroken files f
   Setter : (i : Item) → Contains (all_scopes files) i → IsSetterAlone i f → IsBroken files f
 
 -- no rule is broken

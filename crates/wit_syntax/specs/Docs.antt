@@ -1,6 +1,7 @@
 -- The text of docs: the comments without their marks, without the blanks that they have in common, line by line.
 use Rattle.std.specs.Prelude.{ℕ, zero, suc, ◌==◌, ◌-◌, ◌&&◌, not, Bool, List, [], ◌∷◌, ◌++◌, Option, Some, None, codes, take, filter, length, map, min, nat_eq, unwrap_or, if◌then◌else◌}
 use Rattle.std.specs.Char.{is_ascii_whitespace}
+use Rattle.std.specs.Option.{option_map_or}
 use Rattle.std.specs.Cmp.Lexicographic.{pointwise}
 use Rattle.std.specs.List.{ends_with, flat_map, reduce, take_while}
 use Rattle.std.specs.Str.{trim_end}
@@ -16,14 +17,10 @@ abbrev pub behind_slashes : List ℕ → List ℕ
 behind_slashes [] = []
 behind_slashes (b ∷ text) = if b == 47 then behind_slashes text else b ∷ text
 
--- behind a front `/**` the text without a `*/` at its end; without that front, behind all slashes
-abbrev pub within_marks : List ℕ → Option (List ℕ) → List ℕ
-within_marks comment None = behind_slashes comment
-within_marks comment (Some rest) = without_end (codes "*/") rest
-
--- a comment without its marks; `/**/` is empty
+-- a comment without its marks: behind a front `/**` the text without a `*/` at its end, without that front behind all slashes; `/**/` is
+-- empty
 abbrev pub unmarked : List ℕ → List ℕ
-unmarked comment = if pointwise nat_eq comment (codes "/**/") then [] else within_marks comment (behind (codes "/**") comment)
+unmarked comment = if pointwise nat_eq comment (codes "/**/") then [] else option_map_or (without_end (codes "*/")) (behind (codes "/**") comment) (behind_slashes comment)
 
 -- what a comment says: neither its marks nor the white space at its end
 abbrev pub said : List ℕ → List ℕ

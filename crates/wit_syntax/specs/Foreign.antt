@@ -54,12 +54,9 @@ side_visits side _ = []
 abbrev pub visits_in : List Part → List ForeignVisit
 visits_in ps = flat_map part_visits ps ++ (flat_map (side_visits Imported) ps ++ flat_map (side_visits Exported) ps)
 
-abbrev pub declared_visits : Declared → List ForeignVisit
-declared_visits d = visits_in (declared_parts d)
-
 abbrev pub declaration_visits : AstItem → List ForeignVisit
-declaration_visits (ast.Interface i) = declared_visits (TheInterface i)
-declaration_visits (ast.World w) = declared_visits (TheWorld w)
+declaration_visits (ast.Interface i) = visits_in (declared_parts (TheInterface i))
+declaration_visits (ast.World w) = visits_in (declared_parts (TheWorld w))
 declaration_visits (ast.Use u) = path_visits u.attributes.items false u.item
 
 abbrev pub file_visits : PackageFile → List ForeignVisit

@@ -1,6 +1,6 @@
 -- Notes: what the docs and the attributes in front of a thing tell of it, and what breaks the rules of attributes.
 use Rattle.std.specs.Prelude.{◌≡◌, ◌≢◌, ℕ, ◌⊎◌, true, List, [], ◌∷◌, take, Option, Some, None, map, slice_get}
-use Rattle.std.specs.Option.{option_map}
+use Rattle.std.specs.Option.{option_map, option_map_or}
 use Rattle.semver.specs.declared.Version.{Version}
 use Rattle.wit_values.specs.declared.release.Release.{Release}
 use Rattle.wit_type_tree.specs.declared.leaves.Docs.{Docs as Comments}
@@ -28,19 +28,10 @@ no_docs = record { contents = None }
 abbrev pub deprecation : List Attribute → Option Release
 deprecation xs = option_map release_of (told_version Deprecated xs)
 
--- behind a feature, where one is told; else nothing is known
-abbrev pub unstable_of : Option (List ℕ) → Option Release → Stability
-unstable_of None deprecated = stability.Unknown
-unstable_of (Some feature) deprecated = stability.Unstable feature deprecated
-
--- stable since a version, where one is told
-abbrev pub stable_of : Option Version → Option (List ℕ) → Option Release → Stability
-stable_of None feature deprecated = unstable_of feature deprecated
-stable_of (Some since) feature deprecated = stability.Stable (release_of since) deprecated
-
--- the stability that attributes tell: `@since` that a thing is stable, `@unstable` that it is not, each with `@deprecated` or without; where neither is there, nothing
+-- the stability that attributes tell: `@since` that a thing is stable, else `@unstable` that it is not, each with `@deprecated` or without;
+-- where neither is there, nothing
 abbrev pub stability_of : List Attribute → Stability
-stability_of xs = stable_of (told_version Since xs) (told_text Unstable xs) (deprecation xs)
+stability_of xs = option_map_or (λ (since : Version). stability.Stable (release_of since) (deprecation xs)) (told_version Since xs) (option_map_or (λ (feature : List ℕ). stability.Unstable feature (deprecation xs)) (told_text Unstable xs) stability.Unknown)
 
 -- the name elsewhere that attributes tell, if they do
 abbrev pub external_id_of : List Attribute → Option (List ℕ)

@@ -111,14 +111,11 @@ pub record IsGetterGiven (fn : SourceFunction) (f : Fault) : Type 0 where
   pub at : slice_get fn.params 0 ≡ Some first
   pub is : f ≡ fault 36 first.span
 
-abbrev pub param_span : SourceParam → Span
-param_span p = p.span
-
 -- a setter has not just one parameter
 pub record IsSetterGiven (fn : SourceFunction) (f : Fault) : Type 0 where
   pub setter : role_form fn.role ≡ form.Setter
   pub other : length fn.params ≡ 1 → ⊥
-  pub is : f ≡ fault 37 (option_map_or param_span (slice_get fn.params 1) fn.word)
+  pub is : f ≡ fault 37 (option_map_or (λ (p : SourceParam). p.span) (slice_get fn.params 1) fn.word)
 
 abbrev pub param_key : SourceParam → List ℕ
 param_key p = folded p.name
