@@ -1,5 +1,5 @@
 -- What is met anew, one after another, is what is met first.
-use Rattle.std.proofs.Common.{◌≡◌, ◌↔◌, ℕ, zero, suc, ◌+◌, ◌-◌, ◌<◌, ◌≤◌, List, [], ◌∷◌, ◌++◌, length, Some, inl, inr, refl, sym, ap, ◌∙◌, subst, arith, append_assoc, append-nil, zero-add, add-zero, le_refl}
+use Rattle.std.proofs.Common.{◌≡◌, ℕ, zero, suc, ◌+◌, ◌-◌, ◌<◌, ◌≤◌, List, [], ◌∷◌, ◌++◌, length, Some, inl, inr, refl, sym, ap, ◌∙◌, subst, arith, append_assoc, append-nil, zero-add, add-zero, le_refl}
 use Rattle.std.specs.Prelude.{slice_get, map}
 use Rattle.std.specs.Option.{option_map}
 use Rattle.std.proofs.lemmas.Bool.Decides.{leb_tells}
@@ -196,6 +196,3 @@ module _ (all : List Meeting) where
 
   pub meets_of_first : (met : List Meeting) → AreFirst all met → Meets [] all met
   meets_of_first met h = meets_next 0 all [] met h.places (λ i. ap (slice_get all) (sym (zero-add i))) h.rising h.are h.new (λ k none. absurd (let it = none.1 in let f : ⊥ = cc in f)) h.whole
-
-  pub meets-first : (met : List Meeting) → Meets [] all met ↔ AreFirst all met
-  meets-first met = (first_of_meets met, meets_of_first met)

@@ -17,7 +17,7 @@ use Rattle.wit_syntax.specs.Scope.{interfaces_of, worlds_of}
 use Rattle.wit_syntax.specs.Repeats.{AllDiffer}
 use Rattle.wit_arena.specs.Whole.{place_at, owner_at, functions_at}
 use Rattle.wit_syntax.specs.Function.{functions}
-use Rattle.wit_syntax.specs.Sides.{inline_items, with_inline, all_scopes}
+use Rattle.wit_syntax.specs.Sides.{inline_items, all_scopes}
 use Rattle.wit_syntax.proofs.Lists.{at_split, map_at, flat_map_at}
 use Rattle.wit_syntax.proofs.Addresses.{same_address-itself, same_address-equal}
 use Rattle.wit_syntax.proofs.Repeated.{differ_join}
@@ -25,7 +25,7 @@ use Rattle.wit_syntax.proofs.Kept.{kept_at, kept_differ}
 use Rattle.wit_syntax.proofs.Tables.{none_if}
 use Rattle.wit_syntax.proofs.Found.{find_at, find_passes}
 use Rattle.wit_syntax.proofs.Inline.{is_inside}
-use Rattle.wit_syntax.proofs.Scopes.{AreDeclared, all_declared, addresses_differ, inline_differ, scopes_differ, scope_item_at, inside_one}
+use Rattle.wit_syntax.proofs.Scopes.{AreDeclared, all_declared, addresses_differ, inline_differ, scope_item_at, inside_one}
 
 -- the only one that passes stands behind those that fail
 pub prefix_len-only : {X : Type 0} (p : X → Bool) (xs : List X) (t : ℕ) (x : X) → slice_get xs t ≡ Some x → p x ≡ true → ((i : ℕ) (y : X) → slice_get xs i ≡ Some y → p y ≡ true → i ≡ t) → prefix_len (λ y. not (p y)) xs ≡ t
@@ -64,12 +64,6 @@ module _ (files : List PackageFile) (ws : List Item) (items : AreItems files ws)
       let it = find_at (λ (i : Item). bytes_eq (item_name i) (item_name w)) (all_items files) w (items.found t w at) in
       all_declared files it.0 w it.1
 
-  -- each stands at its address, with those that are written in it
-  with_found : (k : ℕ) (i : Item) → slice_get (flat_map with_inline ws) k ≡ Some i → item_at (all_scopes files) (address i) ≡ Some i
-  with_found k i at =
-      let it = flat_map_at with_inline ws k i at in
-      scope_item_at (all_items files) it.1 it.3.0 i (all_declared files) (items.found it.0 it.1 it.2) it.3.1
-
   pub item_scopes : AreScopes files ws
   item_scopes = record {
     found = λ t w at. scope_item_at (all_items files) w 0 w (all_declared files) (items.found t w at) refl;
@@ -83,9 +77,6 @@ module _ (files : List PackageFile) (ws : List Item) (items : AreItems files ws)
         scope_item_at (all_items files) it.1 (suc it.3.0) i (all_declared files) (items.found it.0 it.1 it.2) it.3.1);
     unique = inline_differ ws items_declared items.unique;
   }
-
-  pub with_scopes : AreScopes files (flat_map with_inline ws)
-  with_scopes = record { found = with_found; unique = scopes_differ ws items_declared items.unique }
 
 -- the address of a declared interface and what it is called, and the address of a world
 declared_at_interface : (a : Declared) → is_inside (declared_address a) ≡ false → is_declared_world a ≡ false → declared_address a ≡ InterfaceNamed (declared_id a).name.now

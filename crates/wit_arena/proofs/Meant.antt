@@ -1,5 +1,5 @@
 -- What names mean in a scope, and what its table has for them.
-use Rattle.std.proofs.Common.{◌≡◌, ℕ, true, List, Option, Some, None, IsSome, sym, ap, ◌∙◌, subst}
+use Rattle.std.proofs.Common.{◌≡◌, ℕ, List, Option, Some, None, IsSome, sym, ap, ◌∙◌, subst}
 use Rattle.std.specs.Prelude.{slice_get, map}
 use Rattle.std.specs.Option.{option_map}
 use Rattle.std.specs.Str.{bytes_eq}
@@ -9,8 +9,8 @@ use Rattle.wit_syntax.specs.Source.{ScopeName, local_name, meaning}
 use Rattle.wit_syntax.specs.Scope.{rows_of, in_turn, local_names}
 use Rattle.wit_arena.specs.Resolving.{Names, env_of}
 use Rattle.wit_syntax.proofs.Lists.{map_at}
-use Rattle.wit_syntax.proofs.Names.{name_equal, name_itself, lookup-place}
-use Rattle.wit_syntax.proofs.Found.{find_passes, find_some, find_at}
+use Rattle.wit_syntax.proofs.Names.{name_equal}
+use Rattle.wit_syntax.proofs.Found.{find_passes, find_at}
 use Rattle.wit_arena.proofs.Leading.{option_cases}
 use Rattle.wit_syntax.proofs.Turns.{in_turn_has}
 use Rattle.wit_arena.proofs.Using.{lookup-listed}
@@ -31,18 +31,6 @@ module _ (xs ys : List ScopeName) (types : Names) (listed : map (λ p. p.0) type
   -- what stands in it is one of them
   listed_at : (k id : ℕ) → slice_get types k ≡ Some (name, id) → (x : ScopeName) × (slice_get ys k ≡ Some x) × (local_name x ≡ name)
   listed_at k id at = map_at local_name ys k name (ap (λ (l : List (List ℕ)). slice_get l k) (sym listed) ∙ slice_get-map (λ (q : List ℕ × ℕ). q.0) types k ∙ ap (option_map (λ (q : List ℕ × ℕ). q.0)) at)
-
-  -- and it lacks what means nothing
-  pub nothing_lacks : ((i : ℕ) (x : ScopeName) → slice_get ys i ≡ Some x → (p : ℕ) × (slice_get xs p ≡ Some x)) → meaning xs name ≡ None → env_of types name ≡ None
-  nothing_lacks among missing = option_cases (env_of types name) (env_of types name ≡ None) (λ id found. absurd (
-      let k = lookup-place types name id found in
-      let x = listed_at k.0 id k.1 in
-      let p = among k.0 x.0 x.1 in
-      let hit : bytes_eq (local_name x.0) name ≡ true = ap (λ (n : List ℕ). bytes_eq n name) x.2 ∙ name_itself name in
-      let it = find_some (λ (y : ScopeName). bytes_eq (local_name y) name) xs p.0 x.0 p.1 hit in
-      let wrong : None ≡ Some it.0 = sym missing ∙ it.1 in
-      let f : ⊥ = cc in
-      f)) (λ none. none)
 
 -- so it is of the names of a scope as they were resolved
 pub free_unmeant : (xs : List ScopeName) (order : List ℕ) (types : Names) (name : List ℕ) → IsOrder (rows_of xs) order → map (λ p. p.0) types ≡ local_names (in_turn xs order) → env_of types name ≡ None → meaning xs name ≡ None

@@ -22,7 +22,6 @@ use Rattle.wit_arena.specs.Whole.{HandleRequires, AreRequired}
 use Rattle.wit_arena.specs.Resolving.{Env, Names, env_of, AreNames, Required, AreEnded, IsWrongHandle, IsDefined}
 use Rattle.wit_arena.proofs.Places.{Grown, key_grown}
 use Rattle.wit_syntax.proofs.Lists.{at_front, at_back, at_split, flat_map_at, flat_map_has}
-use Rattle.wit_syntax.proofs.Found.{at_contains}
 use Rattle.wit_arena.proofs.Written.{handles_at}
 use Rattle.wit_arena.proofs.Ends.{EndIs, IsDeclared, ends_one, entry_end-more, end_source, end_source-more}
 
@@ -118,16 +117,6 @@ module _ (files : List PackageFile) (decls : Decls) (ks : List Key) (es : List T
       f
   none_elsewhere (x ∷ ids) rs (suc j) id (place, steps, stands, inl own) at wrong = none_elsewhere ids rs j id own.1 at wrong
   none_elsewhere (x ∷ ids) rs (suc j) id (place, steps, stands, inr far) at wrong = none_elsewhere ids far.1 j id far.4 at wrong
-
-  -- where names in handles are ended, none of them is wrong
-  pub ended_legal : (ids : List Id) (rs : List Required) (types : List Written) (f : Fault) → AreEnded env es ids rs → ((id : Id) → Contains (all_handles types) id → Contains ids id) → IsNoResource files s types f → ⊥
-  ended_legal ids rs types f h among wrong =
-      let at = at_contains ids wrong.id (among wrong.id wrong.among) in
-      none_elsewhere ids rs at.0 wrong.id h at.1 wrong.ends
-
-  -- a wrong one is so in the files
-  pub wrong_broken : (types : List Written) (f : Fault) → IsWrongHandle env es (all_handles types) f → IsNoResource files s types f
-  wrong_broken types f h = record { id = h.id; among = h.among; ends = told h.place h.steps h.id IsOther h.stands h.other; is = h.is }
 
 -- one of theirs is in one of them
 pub handle_of : (ts : List Written) (id : Id) → Contains (all_handles ts) id → (i : ℕ) × (t : Written) × (slice_get ts i ≡ Some t) × Contains (handles t) id

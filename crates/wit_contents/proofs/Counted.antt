@@ -2,20 +2,11 @@
 use Rattle.std.proofs.Common.{◌≡◌, ℕ, ◌<◌, ◌≤◌, Bool, true, false, cond, List, [], ◌∷◌, length, ap, arith}
 use Rattle.std.specs.List.{flat_map, filter}
 use Rattle.wit_tree.specs.declared.tree.WorldSide.{WorldSide}
-use Rattle.wit_tree.specs.declared.tree.WorldSide.TheVariants.{Imported, Exported}
 use Rattle.wit_syntax.specs.Crossing.{same_side}
 use Rattle.wit_syntax.specs.Sides.{SideItem, SideFunction, SideLink, SideInline, is_interface, item_inline, item_side, items_on}
 use Rattle.wit_links.specs.declared.inside.Counts.{Counts}
 use Rattle.wit_links.specs.declared.inside.Met.{Met}
-use Rattle.wit_links.specs.Inside.{IsMet, counted, met_on}
-
--- nothing was met at first
-pub met_none : (m : Met) → m.imports ≡ counted [] → m.exports ≡ counted [] → IsMet [] m
-met_none m imports exports = record { on = on }
-  where
-    on : (side : WorldSide) → met_on side m ≡ counted (items_on side [])
-    on Imported = imports
-    on Exported = exports
+use Rattle.wit_links.specs.Inside.{IsMet, met_on}
 
 -- on a side there are no more than on both, and no more that are written there
 kept_either : (b : Bool) (x : SideItem) (kept xs : List SideItem) → length kept ≤ length xs → length (cond b (x ∷ kept) kept) ≤ length (x ∷ xs)

@@ -25,7 +25,7 @@ use Rattle.wit_rules.specs.Held.{across_of}
 use Rattle.wit_signatures.specs.Taken.{name_key, IsTwiceAmong}
 use Rattle.wit_externs.specs.Clash.{item_names, names_of_items, IsCrossedAmong, IsClash, Folded, Crossed, IsCrossed}
 use Rattle.wit_externs.proofs.Named.{again_twice, twice_front, keys_more}
-use Rattle.wit_externs.proofs.Steps.{kept_split, kept_next, kept_one, kept_nothing}
+use Rattle.wit_externs.proofs.Steps.{kept_split, kept_next, kept_one}
 
 -- what a role says of sides
 pub side_imported : (role : Role) → across_of role ≡ None → role_side role ≡ Imported
@@ -68,9 +68,6 @@ stands_on s x = same_side s (item_side x)
 -- the name of an item is all that it adds to a side, and one without a name adds nothing
 pub item_on : (s side : WorldSide) (x : SideItem) (n : Name) → item_side x ≡ side → item_names x ≡ n ∷ [] → only_on s side n ≡ names_of_items (items_on s (x ∷ []))
 item_on s side x n there named = ap (λ (t : WorldSide). only_on s t n) (sym there) ∙ kept_one item_names (stands_on s) x (n ∷ []) named
-
-pub nameless_on : (s : WorldSide) (x : SideItem) (old new : List Name) → item_names x ≡ [] → new ≡ old → new ≡ old ++ names_of_items (items_on s (x ∷ []))
-nameless_on s x old new none same = same ∙ sym (append-nil old) ∙ ap (λ (l : List Name). old ++ l) (kept_nothing item_names (stands_on s) x none)
 
 -- of what a definition says of its result, as the name of an item
 pub item_defined : {T E : Type 0} (r : Result T E) (x : SideItem) (side : WorldSide) (old new : WorldSide → List Name) (name : List ℕ) (span : Span) → item_side x ≡ side → item_names x ≡ (name, span) ∷ [] → OnOk r ((s : WorldSide) → new s ≡ old s ++ only_on s side (name, span)) → OnOk r ((s : WorldSide) → new s ≡ old s ++ names_of_items (items_on s (x ∷ [])))

@@ -117,9 +117,6 @@ done_all first now scope i fs a b le h =
     let same = length-map scope.functions.now function_behind in
     subst (λ (fns : List SourceFunction). AreDone first now scope fns fs a b) (take_all i (functions_behind scope) (omega (arith, le, same))) h
 
-pub done_whole : (first now : List TypeDef) (scope : FunctionScope) (xs : List SideItem) (i : ℕ) (fs : List Function) (a b : List Required) → flat_map item_function xs ≡ functions_behind scope → length xs ≤ i → AreDone first now scope (functions_to i xs) fs a b → AreDone first now scope (functions_behind scope) fs a b
-done_whole first now scope xs i fs a b all le h = subst (λ (fns : List SourceFunction). AreDone first now scope fns fs a b) (ap (flat_map item_function) (take_all i xs le) ∙ all) h
-
 -- a refusal of one of them
 pub refused_among : (env : Env) (es : List TypeDef) (xs : List ScopeName) (fns : List SourceFunction) (k : ℕ) (fn : SourceFunction) (e : ParseError) → slice_get fns k ≡ Some fn → Refused (IsWrongFunction env es xs fns k fn) e → Refused (IsWrongFunctionAmong env es xs fns) e
 refused_among env es xs fns k fn e at refused = refused_weaker (IsWrongFunction env es xs fns k fn) (IsWrongFunctionAmong env es xs fns) e (λ f wrong. record { place = k; fn = fn; at = at; wrong = wrong }) refused

@@ -1,5 +1,5 @@
 -- Interfaces on the sides of a scope, and what may be wrong with one more that stands there.
-use Rattle.std.proofs.Common.{◌≡◌, ◌≤◌, ℕ, ◌+◌, Bool, true, false, not, List, [], ◌∷◌, ◌++◌, length, take, drop, Option, Some, None, Contains, inl, inr, refl, sym, ap, ◌∙◌, subst}
+use Rattle.std.proofs.Common.{◌≡◌, ◌≤◌, ℕ, ◌+◌, Bool, true, false, not, List, [], ◌∷◌, ◌++◌, length, take, drop, Option, Some, Contains, inl, inr, refl, sym, ap, ◌∙◌, subst}
 use Rattle.std.specs.Prelude.{slice_get, MatchBool, Result, Ok, Err, OnOk}
 use Rattle.std.specs.List.{list_any}
 use Rattle.std.specs.Option.{option_map_or}
@@ -31,7 +31,7 @@ use Rattle.wit_externs.specs.Held.{extern_behind, externs_behind, held_on}
 use Rattle.wit_externs.specs.Clash.{names_of_items}
 use Rattle.wit_externs.specs.Links.{led_places, bare_place, bare_places, IsRightLink, AreRightLinks, AreNotedInside, IsWrongAmong, Clashes, LinkedAgain, WrongLink, WrongInside}
 use Rattle.wit_externs.specs.Next.{only_place, IsWrongNext, NextClashes, NextLinked, NextNoted, NextWrong}
-use Rattle.wit_externs.proofs.Steps.{taken_next, at_middle, kept_split, kept_next, kept_one, kept_nothing}
+use Rattle.wit_externs.proofs.Steps.{taken_next, at_middle, kept_split, kept_next, kept_nothing}
 use Rattle.wit_externs.proofs.Clashing.{clash_whole}
 use Rattle.wit_externs.proofs.HeldAt.{behind_at}
 
@@ -70,12 +70,6 @@ inserted eq same itself ks keys k false told is = Contains-list_any eq same ks k
 -- what a link adds to a side: its place where it has no name of its own, else nothing
 pub bare_named : (l : HeldLink) (own : Id) → l.name ≡ Some own → bare_place (held.Link l) ≡ []
 bare_named l own named = ap (λ (n : Option Id). option_map_or (λ (id : Id). []) n (led_places l.led)) named
-
-bare_is : (l : HeldLink) (id : ℕ) → l.name ≡ None → l.led ≡ led.Interface id → bare_place (held.Link l) ≡ id ∷ []
-bare_is l id bare leads = ap (λ (n : Option Id). option_map_or (λ (own : Id). []) n (led_places l.led)) bare ∙ ap led_places leads
-
-pub bare_on : (s : WorldSide) (l : HeldLink) (id : ℕ) → l.name ≡ None → l.led ≡ led.Interface id → only_place s l.side id ≡ bare_places (held_on s (held.Link l ∷ []))
-bare_on s l id bare leads = kept_one bare_place (stands_on s) (held.Link l) (id ∷ []) (bare_is l id bare leads)
 
 pub nothing_on : (s : WorldSide) (h : HeldExtern) (old new : List ℕ) → bare_place h ≡ [] → new ≡ old → new ≡ old ++ bare_places (held_on s (h ∷ []))
 nothing_on s h old new none same = same ∙ sym (append-nil old) ∙ ap (λ (l : List ℕ). old ++ l) (kept_nothing bare_place (stands_on s) h none)

@@ -6,10 +6,9 @@ use Rattle.indexmap.specs.IndexMap.{insert_entry}
 use Rattle.wit_functions.specs.declared.function.Function.{Function}
 use Rattle.wit_model.specs.declared.world.WorldKey.{WorldKey}
 use Rattle.wit_model.specs.declared.world.WorldKey.TheVariants as key
-use Rattle.wit_model.specs.declared.world.WorldItem.{WorldItem}
 use Rattle.wit_model.specs.declared.world.WorldItem.TheVariants as item
 use Rattle.wit_model.specs.contracts.world.WorldKeyPartialEq.TheImpl.{eq-value as key_test}
-use Rattle.wit_arena.specs.Functions.{by_name, function_item}
+use Rattle.wit_arena.specs.Functions.{by_name}
 use Rattle.wit_syntax.specs.Repeats.{AllDiffer}
 use Rattle.wit_arena.proofs.FunctionNames.{made_name}
 use Rattle.wit_syntax.proofs.Names.{name_cases}
@@ -26,7 +25,3 @@ key_cases name (key.Name other) = elim (name_cases name other) [
   | inr apart ↦ inr apart
 ]
 key_cases name (key.Interface id) = inr refl
-
--- a function more on a side of a world is an entry more, where keys differ
-pub function_item_next : (items : List (WorldKey × WorldItem)) (fs rest : List Function) (f : Function) → AllDiffer (map (λ i. i.0) items ++ map (λ g. (function_item g).0) (fs ++ f ∷ rest)) → insert_entry key_test.it (items ++ map function_item fs) (key.Name f.name) (item.Function f) ≡ items ++ map function_item (fs ++ f ∷ [])
-function_item_next items fs rest f differ = inserted_next key_test.it (λ g. (function_item g).0) (λ g. (function_item g).1) items fs rest f (λ d. key_cases f.name d.0) differ

@@ -102,10 +102,6 @@ links_within front is top hs enough placed = record {
       subst (λ n. place < n) (addresses_count front is enough) lt);
 }
 
--- what none of these leads to, and what those lead to that stay, and one more
-pub led_none : (files : List PackageFile) (front : List Address) (by_name : Names) (top : List TopName) → AreLed files front by_name top []
-led_none files front by_name top = record { each = λ l among. absurd (let lt = among.1 in let f : ⊥ = omega arith in f) }
-
 pub led_kept : (files : List PackageFile) (front : List Address) (by_name : Names) (top : List TopName) (old new : List HeldExtern) → ((l : HeldLink) → Contains new (held.Link l) → Contains old (held.Link l)) → AreLed files front by_name top old → AreLed files front by_name top new
 led_kept files front by_name top old new kept are = record { each = λ l among. are.each l (kept l among) }
 

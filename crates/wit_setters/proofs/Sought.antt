@@ -1,6 +1,5 @@
 -- An entry that passes is sought from the front of a list.
-use native.Mathlib.Decide.{dec_lt}
-use Rattle.std.proofs.Common.{◌≡◌, ℕ, zero, suc, ◌+◌, ◌<◌, ◌≤◌, Bool, true, false, ◌||◌, List, [], ◌∷◌, length, slice_get, Some, refl, sym, ap, ◌∙◌, arith, unwrap_or}
+use Rattle.std.proofs.Common.{◌≡◌, ℕ, zero, suc, ◌<◌, ◌≤◌, Bool, true, false, ◌||◌, List, [], ◌∷◌, length, slice_get, Some, refl, ap, ◌∙◌, arith, unwrap_or}
 use Rattle.std.specs.List.{list_any}
 
 same_entry : {A : Type 0} {x y : A} → Some x ≡ Some y → x ≡ y
@@ -26,9 +25,3 @@ module _ {E : Type 0} (p : E → Bool) where
   list_any-here [] i e at hit = absurd (let f : ⊥ = cc in f)
   list_any-here (x ∷ es) zero e at hit = ap (λ b. b || list_any p es) (ap p (same_entry at) ∙ hit)
   list_any-here (x ∷ es) (suc i) e at hit = ap (λ b. p x || b) (list_any-here es i e at hit) ∙ or-true (p x)
-
-  pub none_next : (es : List E) (i : ℕ) (e : E) → NoneBefore es i → slice_get es i ≡ Some e → p e ≡ false → NoneBefore es (i + 1)
-  none_next es i e none at miss j f l found = elim (dec_lt j i) [
-    | yes before ↦ none j f before found
-    | no here ↦ let same : j ≡ i = omega (arith, l, here) in ap (λ r. p (unwrap_or r f)) (sym found ∙ ap (slice_get es) same ∙ at) ∙ miss
-  ]

@@ -1,7 +1,6 @@
 pub mod Lists
 pub mod Names
 pub mod Addresses
-pub mod Seen
 pub mod Refusing
 pub mod Repeated
 pub mod Kept

@@ -149,10 +149,6 @@ declared_at files s w found =
     let outside : is_inside s ≡ false = ap is_inside (sym (same_address-equal (address w) s (find_passes test (all_items files) w found))) ∙ all_declared files it.0 w it.1 in
     first_at (all_items files) s w (all_declared files) outside found
 
--- an item of all scopes is declared, or is written in one that is
-pub all_scopes_at : (files : List PackageFile) (k : ℕ) (i : Item) → slice_get (all_scopes files) k ≡ Some i → (t : ℕ) × (w : Item) × (slice_get (all_items files) t ≡ Some w) × ((j : ℕ) × (slice_get (with_inline w) j ≡ Some i))
-all_scopes_at files k i at = flat_map_at with_inline (all_items files) k i at
-
 module _ (files : List PackageFile) where
   -- a declared item is one of all scopes, and so is one that is written in it
   pub scopes_declared : (w : Item) → Contains (all_items files) w → Contains (all_scopes files) w
@@ -180,8 +176,3 @@ module _ (files : List PackageFile) where
 
   -- where the names of items differ, no two of all scopes have one address, and each stands at its own
   module _ (d : AllDiffer (map item_name (all_items files))) where
-    pub all_scopes_differ : AllDiffer (map address (all_scopes files))
-    all_scopes_differ = scopes_differ (all_items files) (all_declared files) d
-
-    pub all_scopes_item : (i : Item) → Contains (all_scopes files) i → item_at (all_scopes files) (address i) ≡ Some i
-    all_scopes_item i is = (let k = at_contains (all_scopes files) i is in item_at_its (all_scopes files) k.0 i all_scopes_differ k.1)

@@ -4,7 +4,6 @@ use Rattle.std.specs.Prelude.{slice_get, map}
 use Rattle.std.specs.List.{filter, flat_map}
 use Rattle.std.proofs.lemmas.Bool.{cases_Bool, cond-true, cond-false}
 use Rattle.std.proofs.lemmas.List.{map-append}
-use Rattle.std.proofs.lemmas.List.Elements.{filter-append}
 use Rattle.wit_type_tree.specs.declared.leaves.Id.{Id}
 use Rattle.wit_type_tree.specs.declared.types.TypeBody.{TypeBody}
 use Rattle.wit_type_tree.specs.declared.types.TypeBody.TheVariants as body
@@ -13,7 +12,7 @@ use Rattle.wit_type_tree.specs.declared.types.ResourceFunc.TheVariants as resour
 use Rattle.wit_tree.specs.declared.tree.InterfaceItem.{InterfaceItem}
 use Rattle.wit_tree.specs.declared.tree.InterfaceItem.TheVariants as interface_item
 use Rattle.wit_tree.specs.declared.tree.WorldSide.{WorldSide}
-use Rattle.wit_tree.specs.declared.tree.WorldSide.TheVariants.{Imported, Exported}
+use Rattle.wit_tree.specs.declared.tree.WorldSide.TheVariants.{Imported}
 use Rattle.wit_syntax.specs.Source.{Declared, TheInterface, TheWorld, TheInline, is_declared_world, declared_parts, interface_part, Item, is_world}
 use Rattle.wit_syntax.specs.Function.{SourceFunction, free_function, resource_function, definition_functions, part_functions, functions}
 use Rattle.wit_syntax.specs.Crossing.{same_side}
@@ -21,7 +20,6 @@ use Rattle.wit_syntax.specs.Signature.{Called, function_called}
 use Rattle.wit_syntax.specs.Sides.{role_side, on_side, SideItem, SideFunction, part_items, side_items, item_link, links, items_on, item_called}
 use Rattle.wit_syntax.proofs.Lists.{flat_map_at, map_at}
 use Rattle.wit_syntax.proofs.Kept.{kept_has}
-use Rattle.wit_syntax.proofs.Addresses.{side_itself}
 
 -- a test keeps all that pass it, and nothing of those that fail it
 pub kept_all : {X : Type 0} (test : X → Bool) (xs : List X) → ((i : ℕ) (x : X) → slice_get xs i ≡ Some x → test x ≡ true) → filter test xs ≡ xs
@@ -53,16 +51,6 @@ kept_both test (z ∷ zs) (suc i) (suc j) x y before at_x at_y pass_x pass_y =
           (it.0, it.1, lt, ap (λ l. slice_get l it.0) kept ∙ it.3, ap (λ l. slice_get l it.1) kept ∙ it.4))
     ]
 
--- those of two lists, one behind the other, and one more
-pub on_side-append : (side : WorldSide) (xs ys : List SourceFunction) → on_side side (xs ++ ys) ≡ on_side side xs ++ on_side side ys
-on_side-append side xs ys = filter-append (λ fn. same_side side (role_side fn.role)) xs ys
-
-pub on_side-here : (side : WorldSide) (fn : SourceFunction) (fns : List SourceFunction) → role_side fn.role ≡ side → on_side side (fn ∷ fns) ≡ fn ∷ on_side side fns
-on_side-here side fn fns is = cond-true (same_side side (role_side fn.role)) (fn ∷ on_side side fns) (on_side side fns) (ap (same_side side) is ∙ side_itself side)
-
-pub on_side-past : (side : WorldSide) (fn : SourceFunction) (fns : List SourceFunction) → same_side side (role_side fn.role) ≡ false → on_side side (fn ∷ fns) ≡ on_side side fns
-on_side-past side fn fns other = cond-false (same_side side (role_side fn.role)) (fn ∷ on_side side fns) (on_side side fns) other
-
 -- all functions of an interface are imported
 resource_imported : (r : Id) (g : ResourceFunc) → role_side (resource_function r g).role ≡ Imported
 resource_imported r (resource.Method f) = refl
@@ -93,9 +81,6 @@ interface_side items k fn at =
 
 pub interface_imported : (items : List InterfaceItem) → on_side Imported (flat_map part_functions (map interface_part items)) ≡ flat_map part_functions (map interface_part items)
 interface_imported items = kept_all (λ fn. same_side Imported (role_side fn.role)) (flat_map part_functions (map interface_part items)) (λ k fn at. ap (same_side Imported) (interface_side items k fn at))
-
-pub interface_exported : (items : List InterfaceItem) → on_side Exported (flat_map part_functions (map interface_part items)) ≡ []
-interface_exported items = kept_none (λ fn. same_side Exported (role_side fn.role)) (flat_map part_functions (map interface_part items)) (λ k fn at. ap (same_side Exported) (interface_side items k fn at))
 
 -- so they are where the item is an interface
 declared_imported : (d : Declared) → is_declared_world d ≡ false → (k : ℕ) (fn : SourceFunction) → slice_get (flat_map part_functions (declared_parts d)) k ≡ Some fn → role_side fn.role ≡ Imported

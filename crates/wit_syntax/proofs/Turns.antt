@@ -53,20 +53,11 @@ is_used-true (Used from attributes n) h own = (from, attributes, n, refl)
 is_used-true (Defined d) h own = absurd (let f : ⊥ = cc in f)
 is_used-true (Taken attributes id) h own = absurd (own attributes id refl)
 
-is_defined-true : (x : ScopeName) → is_defined x ≡ true → (d : Definition) × (x ≡ Defined d)
-is_defined-true (Used from attributes n) h = absurd (let f : ⊥ = cc in f)
-is_defined-true (Defined d) h = (d, refl)
-is_defined-true (Taken attributes id) h = absurd (let f : ⊥ = cc in f)
-
 -- a used name is one that is used, where none is taken
 pub used_is : (xs : List ScopeName) → AreOwn xs → (i : ℕ) (x : ScopeName) → slice_get (used xs) i ≡ Some x → (from : Address) × (attributes : List Attribute) × (n : UseName) × (x ≡ Used from attributes n)
 used_is xs own i x at =
     let it = kept_at is_used xs i x at in
     is_used-true x it.2 (λ attributes id same. own it.0 attributes id (it.1 ∙ ap Some same))
-
--- and a defined one is a definition
-pub defined_is : (xs : List ScopeName) (i : ℕ) (x : ScopeName) → slice_get (defined xs) i ≡ Some x → (d : Definition) × (x ≡ Defined d)
-defined_is xs i x at = is_defined-true x (kept_at is_defined xs i x at).2
 
 -- a name of a scope is used or defined
 pub either_at : (xs : List ScopeName) (p : ℕ) (x : ScopeName) → slice_get xs p ≡ Some x → ((i : ℕ) × (slice_get (used xs) i ≡ Some x)) ⊎ ((i : ℕ) × (slice_get (defined xs) i ≡ Some x))

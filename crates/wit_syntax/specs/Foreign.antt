@@ -1,5 +1,5 @@
 -- What files name of other packages.
-use Rattle.std.specs.Prelude.{if◌then◌else◌, Bool, true, false, not, List, [], ◌∷◌, ◌++◌, Option, find}
+use Rattle.std.specs.Prelude.{Bool, true, false, not, List, [], ◌∷◌, ◌++◌, Option, find, if◌then◌else◌}
 use Rattle.std.specs.List.{flat_map, filter}
 use Rattle.wit_type_tree.specs.declared.leaves.Id.{Id}
 use Rattle.wit_type_tree.specs.declared.leaves.Attribute.{Attribute}
@@ -16,7 +16,7 @@ use Rattle.wit_tree.specs.declared.tree.WorldSide.TheVariants.{Imported, Exporte
 use Rattle.wit_syntax.specs.Crossing.{same_side, extern_paths, inline_uses}
 use Rattle.wit_syntax.specs.Address.{Address, ForeignNamed, package_of, same_package, same_address}
 use Rattle.wit_syntax.specs.Repeats.{firsts}
-use Rattle.wit_syntax.specs.Source.{Declared, TheInterface, TheWorld, declared_parts, Part, Defining, Using, Including, Doing, Crossing}
+use Rattle.wit_syntax.specs.Source.{TheInterface, TheWorld, declared_parts, Part, Using, Including, Crossing}
 
 -- a path with a package, the attributes in front of it, and whether it wants a world
 pub record ForeignVisit : Type 0 where

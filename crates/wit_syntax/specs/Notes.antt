@@ -11,7 +11,6 @@ use Rattle.wit_type_tree.specs.Attributes.{attribute_span, is_of, first_of, told
 use Rattle.wit_types.specs.declared.docs.Docs.{Docs}
 use Rattle.wit_types.specs.declared.stability.Stability.{Stability}
 use Rattle.wit_types.specs.declared.stability.Stability.TheVariants as stability
-use Rattle.wit_types.specs.declared.types.TypeDef.{TypeDef}
 use Rattle.wit_syntax.specs.Address.{release_of}
 use Rattle.wit_syntax.specs.Docs.{docs_text}
 use Rattle.wit_syntax.specs.Fault.{Fault, fault}

@@ -1,17 +1,13 @@
 -- What items add, one after another, where each requires something behind what was required before.
-use Rattle.std.proofs.Common.{List, [], ◌∷◌, ◌++◌, ap, ◌∙◌, sym, append_assoc}
-use Rattle.std.proofs.lemmas.List.{append-nil}
+use Rattle.std.proofs.Common.{List, [], ◌∷◌, ◌++◌, ap, ◌∙◌, append_assoc}
 use Rattle.wit_types.specs.declared.types.TypeDef.{TypeDef}
 use Rattle.wit_syntax.specs.Source.{Item}
 use Rattle.wit_arena.specs.Resolving.{Required}
 use Rattle.wit_arena.specs.Resolved.{AddsEach}
-use Rattle.wit_arena.proofs.Adding.{adds_append, adds_one, adds_none}
+use Rattle.wit_arena.proofs.Adding.{adds_append, adds_one}
 use Rattle.wit_uses.specs.Between.{Emits}
 
 module _ {X : Type 0} (Adds : List TypeDef → List TypeDef → X → X → List Required → Item → Type 0) where
-  -- no item requires anything
-  pub emits_none : (es : List TypeDef) (is : X) (rs : List Required) → Emits rs rs (λ own. AddsEach Adds es es is is own [])
-  emits_none es is rs = record { own = []; list = sym (append-nil rs); holds = adds_none Adds es is }
 
   -- one item behind others
   pub emits_more : (a b c : List TypeDef) (i j k : X) (rs ss ts : List Required) (ws : List Item) (w : Item) → Emits rs ss (λ own. AddsEach Adds a b i j own ws) → Emits ss ts (λ own. Adds b c j k own w) → Emits rs ts (λ own. AddsEach Adds a c i k own (ws ++ w ∷ []))
