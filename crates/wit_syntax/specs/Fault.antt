@@ -21,7 +21,7 @@ pub record Fault : Type 0 where
 abbrev pub fault : ℕ → Span → Fault
 fault number span = record { rule = number; span = span; name = None; sort = Said; hint = None }
 
--- it is about a name: one of this sort of refusals, with this hint
+-- a rule is broken at a span, and it is about this name: whether it is missing or in a cycle, and a hint for it, if there is one
 abbrev pub fault_about : ℕ → Span → List ℕ → Sort → Option (List ℕ) → Fault
 fault_about number span name sort hint = record { rule = number; span = span; name = Some name; sort = sort; hint = hint }
 
