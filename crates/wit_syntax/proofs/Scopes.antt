@@ -173,6 +173,3 @@ module _ (files : List PackageFile) where
         | inl own ↦ inl (subst (λ (w : Item). Contains (all_items files) w) own (contains_at (all_items files) it.0 it.1 it.2))
         | inr inside ↦ inr (it.1, contains_at (all_items files) it.0 it.1 it.2, contains_at (inline_items it.1) inside.0 i inside.1)
       ]
-
-  -- where the names of items differ, no two of all scopes have one address, and each stands at its own
-  module _ (d : AllDiffer (map item_name (all_items files))) where
