@@ -18,9 +18,6 @@ module _ {X : Type 0} (Adds : List TypeDef → List TypeDef → X → X → List
   pub adds_one : (a b : List TypeDef) (i j : X) (rs : List Required) (w : Item) → Adds a b i j rs w → AddsEach Adds a b i j rs (w ∷ [])
   adds_one a b i j rs w p = (b, j, rs, [], sym (append-nil rs), p, (refl, refl, refl))
 
-  pub adds_none : (a : List TypeDef) (i : X) → AddsEach Adds a a i i [] []
-  adds_none a i = (refl, refl, refl)
-
 -- behind entries that stand before, where each item adds one
 module _ {X : Type 0} (Adds : List TypeDef → List TypeDef → List X → List X → List Required → Item → Type 0) (grows : (old new : List TypeDef) (xs xs' : List X) (rs : List Required) (w : Item) → Adds old new xs xs' rs w → (x : X) × (xs' ≡ xs ++ x ∷ [])) (front : List X) where
   abbrev pub Behind : List TypeDef → List TypeDef → List X → List X → List Required → Item → Type 0

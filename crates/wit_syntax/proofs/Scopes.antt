@@ -68,9 +68,6 @@ module _ (of : Item → List Item) (outer : (w : Item) → is_inside (address w)
       let same : item_name v.1 ≡ item_name w = sym (outer v.1 (own (suc v.0) v.1 v.2) v.3.0 j.0 v.3.1) ∙ ap outer_name (j.2 ∙ sym i.2) ∙ outer w (own 0 w refl) a i.0 i.1 in
       differ_head item_name w ws d v.0 v.1 v.2 same)))
 
-pub scopes_differ : (ws : List Item) → AreDeclared ws → AllDiffer (map item_name ws) → AllDiffer (map address (flat_map with_inline ws))
-scopes_differ ws own d = all_differ with_inline with_outer with_inline_differ ws own d
-
 pub inline_differ : (ws : List Item) → AreDeclared ws → AllDiffer (map item_name ws) → AllDiffer (map address (flat_map inline_items ws))
 inline_differ ws own d = all_differ inline_items (λ w own j i at. inline_outer w j i at) (λ w own. inline_items_differ w) ws own d
 
