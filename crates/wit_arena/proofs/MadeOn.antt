@@ -1,12 +1,12 @@
 -- Functions of a package that stand on a side.
-use Rattle.std.proofs.Common.{◌≡◌, ℕ, zero, suc, Bool, true, false, List, [], ◌∷◌, length, Some, inl, inr, refl, sym, ap, ◌∙◌, arith}
-use Rattle.std.specs.Prelude.{slice_get, map}
+use Rattle.std.proofs.Common.{◌≡◌, ℕ, zero, suc, Bool, true, false, List, [], ◌∷◌, Some, inl, inr, refl, sym, ap, ◌∙◌}
+use Rattle.std.specs.Prelude.{slice_get}
 use Rattle.std.proofs.lemmas.Bool.{cases_Bool, cond-true, cond-false}
 use Rattle.wit_tree.specs.declared.tree.WorldSide.{WorldSide}
 use Rattle.wit_functions.specs.declared.function.Function.{Function}
 use Rattle.wit_syntax.specs.Function.{SourceFunction}
 use Rattle.wit_syntax.specs.Crossing.{same_side}
-use Rattle.wit_syntax.specs.Sides.{role_side, on_side}
+use Rattle.wit_syntax.specs.Sides.{role_side}
 use Rattle.wit_arena.specs.Functions.{made_on}
 use Rattle.wit_syntax.proofs.Kept.{behind_one}
 use Rattle.wit_syntax.proofs.Addresses.{side_itself, same_side-equal}
@@ -54,14 +54,3 @@ made_on_pair side (x ∷ fns) (g ∷ fs) k f at = elim (cases_Bool (stands_on si
 
 pub made_on_from : (side : WorldSide) (fns : List SourceFunction) (fs : List Function) (k : ℕ) (f : Function) → slice_get (made_on side fns fs) k ≡ Some f → (j : ℕ) × (slice_get fs j ≡ Some f)
 made_on_from side fns fs k f at = let it = made_on_pair side fns fs k f at in (it.0, it.3)
-
--- where each function has what its written one has, so have those on a side, one by one
-pub made_on_same : {Y : Type 0} (side : WorldSide) (of : SourceFunction → Y) (has : Function → Y) (fns : List SourceFunction) (fs : List Function) → length fs ≡ length fns → ((k : ℕ) (fn : SourceFunction) (f : Function) → slice_get fns k ≡ Some fn → slice_get fs k ≡ Some f → has f ≡ of fn) → map has (made_on side fns fs) ≡ map of (on_side side fns)
-made_on_same side of has [] fs count each = refl
-made_on_same side of has (fn ∷ fns) [] count each = absurd (let wrong : ⊥ = omega (arith, count) in wrong)
-made_on_same {Y} side of has (fn ∷ fns) (f ∷ fs) count each =
-    let rest : map has (made_on side fns fs) ≡ map of (on_side side fns) = made_on_same side of has fns fs (omega (arith, count)) (λ k. each (suc k)) in
-    elim (cases_Bool (stands_on side fn)) [
-      | inl hit ↦ ap (map has) (made_on-here side fn fns f fs hit) ∙ ap (λ (y : Y). y ∷ map has (made_on side fns fs)) (each 0 fn f refl refl) ∙ ap (λ (l : List Y). of fn ∷ l) rest ∙ sym (ap (map of) (cond-true (stands_on side fn) (fn ∷ on_side side fns) (on_side side fns) hit))
-      | inr miss ↦ ap (map has) (made_on-past side fn fns f fs miss) ∙ rest ∙ sym (ap (map of) (cond-false (stands_on side fn) (fn ∷ on_side side fns) (on_side side fns) miss))
-    ]

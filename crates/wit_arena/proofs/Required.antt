@@ -13,7 +13,6 @@ use Rattle.wit_syntax.specs.Source.{ScopeName}
 use Rattle.wit_syntax.specs.Shape.{handles, all_handles}
 use Rattle.wit_syntax.specs.Fault.{Fault}
 use Rattle.wit_syntax.specs.Function.{SourceFunction, name_types, written_types, all_types}
-use Rattle.wit_syntax.specs.Ends.{AtResource, AtForeign, Elsewhere, EndsAt}
 use Rattle.wit_arena.specs.EntryEnds.{EntryEnd, IsResource, IsOther, entry_end}
 use Rattle.wit_arena.specs.EntryEnds as ends
 use Rattle.wit_arena.specs.Meet.{Key, Def, Meeting, keys, Decls, IsKeyed}
@@ -23,7 +22,7 @@ use Rattle.wit_arena.specs.Resolving.{Env, Names, env_of, AreNames, Required, Ar
 use Rattle.wit_arena.proofs.Places.{Grown, key_grown}
 use Rattle.wit_syntax.proofs.Lists.{at_front, at_back, at_split, flat_map_at, flat_map_has}
 use Rattle.wit_arena.proofs.Written.{handles_at}
-use Rattle.wit_arena.proofs.Ends.{EndIs, IsDeclared, ends_one, entry_end-more, end_source, end_source-more}
+use Rattle.wit_arena.proofs.Ends.{EndIs, IsDeclared, entry_end-more, end_source, end_source-more}
 
 -- those of names, and of further ones
 pub ended_append : (env : Env) (es : List TypeDef) (ids more : List Id) (rs new : List Required) → AreEnded env es ids rs → AreEnded env es more new → AreEnded env es (ids ++ more) (rs ++ new)
@@ -100,23 +99,6 @@ module _ (files : List PackageFile) (decls : Decls) (ks : List Key) (es : List T
   ended_required (id ∷ ids) rs (place, steps, stands, inr far) =
       let it = told place steps id (ends.IsUnknown far.0) stands far.2 in
       subst (AreRequired files ks (map (in_scope s) (id ∷ ids))) (sym far.3) (required_more files ks (s, id) (Some (far.0, id.span)) (map (in_scope s) ids) far.1 (it.0, it.1, it.3, it.2, refl) (ended_required ids far.1 far.4))
-
-  -- none of these ends elsewhere
-  none_elsewhere : (ids : List Id) (rs : List Required) (j : ℕ) (id : Id) → AreEnded env es ids rs → slice_get ids j ≡ Some id → EndsAt files s id Elsewhere → ⊥
-  none_elsewhere [] rs j id h at wrong = let f : ⊥ = cc in f
-  none_elsewhere (x ∷ ids) rs zero id (place, steps, stands, inl own) at wrong =
-      let here : x ≡ id = cc in
-      let two = ends_one files s id AtResource Elsewhere (subst (λ (y : Id). EndsAt files s y AtResource) here (told place steps x IsResource stands own.0)) wrong in
-      let f : ⊥ = cc in
-      f
-  none_elsewhere (x ∷ ids) rs zero id (place, steps, stands, inr far) at wrong =
-      let here : x ≡ id = cc in
-      let it = told place steps x (ends.IsUnknown far.0) stands far.2 in
-      let two = ends_one files s id (AtForeign it.0 it.1) Elsewhere (subst (λ (y : Id). EndsAt files s y (AtForeign it.0 it.1)) here it.3) wrong in
-      let f : ⊥ = cc in
-      f
-  none_elsewhere (x ∷ ids) rs (suc j) id (place, steps, stands, inl own) at wrong = none_elsewhere ids rs j id own.1 at wrong
-  none_elsewhere (x ∷ ids) rs (suc j) id (place, steps, stands, inr far) at wrong = none_elsewhere ids far.1 j id far.4 at wrong
 
 -- one of theirs is in one of them
 pub handle_of : (ts : List Written) (id : Id) → Contains (all_handles ts) id → (i : ℕ) × (t : Written) × (slice_get ts i ≡ Some t) × Contains (handles t) id

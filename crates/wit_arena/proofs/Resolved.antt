@@ -32,7 +32,6 @@ use Rattle.wit_arena.specs.Whole.{own_item, Turned, turn_handles, all_turns, all
 use Rattle.wit_arena.specs.Faithful.{IsFaithful, HasArena}
 use Rattle.wit_arena.specs.Resolved.{WorldArenas, front_worlds, AddsInterfaces, AddsWorlds, AddsForeign, AreLegalScopes, AreLegalSides, AreUsableUses, AreUsableLinks, AreSoundScopes, IsBrokenItemStability, OwnStability, OfInclude, HaveLegalStability}
 use Rattle.wit_syntax.proofs.Lists.{at_within, flat_map_at, flat_map_has, map_at}
-use Rattle.wit_syntax.proofs.Headers.{some_header}
 use Rattle.wit_syntax.proofs.Turns.{at_part}
 use Rattle.wit_syntax.proofs.Repeated.{differ_by, differ_none}
 use Rattle.wit_syntax.proofs.Kept.{kept_at}
@@ -252,11 +251,7 @@ module _ (files : List PackageFile) (places : List ℕ) (order : IsOrder (item_r
   -- no rule is broken, where the scopes are legal by themselves, what stands on the sides, the paths of links, the stability of items and the
   -- notes of their uses
   pub files_legal : AreLegalScopes scopes_in_order → AreLegalSides scopes_in_order → AreUsableLinks files ws_items → HaveLegalStability in_turns → ((i : Item) → Contains (all_items files) i → (u : WrittenUse) → Contains (uses_of i) u → (f : Fault) → IsBrokenNotes u.attributes.items f → ⊥) → (header : Header) → last_header files ≡ Some header → IsLegal files
-  files_legal scopes sides usable stability notes header last f (Headerless h) =
-      let it = some_header files header last in
-      let wrong : None ≡ Some header = sym (h.none it.0 it.1 it.2) ∙ it.3 in
-      let g : ⊥ = cc in
-      g
+  files_legal scopes sides usable stability notes header last f (Headerless none h) = absurd (let g : ⊥ = cc in g)
   files_legal scopes sides usable stability notes header last f (Names h) = names f h
   files_legal scopes sides usable stability notes header last f (ItemStability i among h) = stability_told stability i among f (OwnStability h)
   files_legal scopes sides usable stability notes header last f (UseNotes i among u used h) = notes i among u used f h

@@ -133,7 +133,7 @@ module _ (ptr : Ptr) (alloc : Global) where
   one_scope i among = one_among item i among
 
   legal : IsLegal files
-  legal f (Headerless h) = let none = h.none 0 file refl in let f : ⊥ = cc in f
+  legal f (Headerless none h) = absurd (let f : ⊥ = cc in f)
   legal f (Names h) = names_pass f h
   legal f (ItemStability i among h) = no_stability f (subst (λ (x : Item). IsBrokenStability (declared_attributes x.declared) f) (sym (one_item i among)) h)
   legal f (UseNotes i among u used h) =

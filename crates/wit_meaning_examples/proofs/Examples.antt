@@ -229,7 +229,7 @@ module _ (ptr : Ptr) (alloc : Global) where
 
   -- no file has a header
   none_refused : IsBroken [] (fault 4 (at 0 0))
-  none_refused = Headerless (record { none = λ i file there. absurd (let f : ⊥ = cc in f); is = refl })
+  none_refused = Headerless refl refl
 
   -- interface i { type b = list<t>; type t = u8; }
   abbrev in_list : Id

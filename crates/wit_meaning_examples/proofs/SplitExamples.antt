@@ -251,7 +251,7 @@ module _ (ptr : Ptr) (alloc : Global) where
   no_use_notes f u used h = no_notes f (subst (λ (u : WrittenUse). IsBrokenNotes u.attributes.items f) (sym (one_among use_x u used)) h)
 
   legal : IsLegal files
-  legal f (Headerless h) = let none = h.none 0 a_file refl in let f : ⊥ = cc in f
+  legal f (Headerless none h) = absurd (let f : ⊥ = cc in f)
   legal f (Names h) = names_pass f h
   legal f (ItemStability w among h) = each_item (λ (w : Item). IsBrokenStability (declared_attributes w.declared) f → ⊥) (no_stability f) (no_stability f) w among h
   legal f (UseNotes w among u used h) = each_item (λ (w : Item). Contains (uses w) u → ⊥) (none_among u) (λ used. no_use_notes f u used h) w among used

@@ -1,5 +1,5 @@
 -- The first of each in a list, where what is the same has the same key.
-use Rattle.std.proofs.Common.{◌≡◌, ℕ, zero, suc, Bool, true, false, not, cond, List, [], ◌∷◌, ◌++◌, Some, ◌⊎◌, inl, inr, refl, sym, ap, ◌∙◌}
+use Rattle.std.proofs.Common.{◌≡◌, ℕ, zero, suc, Bool, true, false, not, List, [], ◌∷◌, ◌++◌, Some, ◌⊎◌, inl, inr, refl, sym, ap, ◌∙◌}
 use Rattle.std.specs.Prelude.{slice_get, map}
 use Rattle.std.specs.List.{filter}
 use Rattle.std.proofs.lemmas.Bool.{both_ways, cases_Bool, cond-true, cond-false, not-true, not_from_true, not_from_false}
@@ -8,40 +8,6 @@ use Rattle.std.proofs.lemmas.List.Elements.{filter-append}
 use Rattle.wit_syntax.specs.Repeats.{AllDiffer, firsts}
 use Rattle.wit_syntax.proofs.Repeated.{differ_none}
 use Rattle.wit_syntax.proofs.Kept.{behind_one, kept_at, kept_has, kept_differ, differ_cons}
-
--- a test keeps the first, or not
-filter-hit : {X : Type 0} (test : X → Bool) (x : X) (xs : List X) → test x ≡ true → filter test (x ∷ xs) ≡ x ∷ filter test xs
-filter-hit test x xs hit = cond-true (test x) (x ∷ filter test xs) (filter test xs) hit
-
-filter-miss : {X : Type 0} (test : X → Bool) (x : X) (xs : List X) → test x ≡ false → filter test (x ∷ xs) ≡ filter test xs
-filter-miss test x xs miss = cond-false (test x) (x ∷ filter test xs) (filter test xs) miss
-
--- what one test keeps of what another keeps, where all that passes the one passes the other
-filter-through : {X : Type 0} (test other : X → Bool) (xs : List X) → ((x : X) → test x ≡ true → other x ≡ true) → filter test (filter other xs) ≡ filter test xs
-filter-through test other [] through = refl
-filter-through test other (x ∷ xs) through = elim (cases_Bool (other x)) [
-  | inl hit ↦ ap (filter test) (filter-hit other x xs hit) ∙ ap (λ l. cond (test x) (x ∷ l) l) (filter-through test other xs through)
-  | inr miss ↦ elim (cases_Bool (test x)) [
-    | inl wrong ↦ absurd (both_ways (other x) miss (through x wrong))
-    | inr none ↦ ap (filter test) (filter-miss other x xs miss) ∙ filter-through test other xs through ∙ sym (filter-miss test x xs none)
-  ]
-]
-
--- two tests, one after the other, in either order
-filter-swap : {X : Type 0} (test other : X → Bool) (xs : List X) → filter test (filter other xs) ≡ filter other (filter test xs)
-filter-swap test other [] = refl
-filter-swap test other (x ∷ xs) =
-    let rest = filter-swap test other xs in
-    elim (cases_Bool (test x)) [
-      | inl hit ↦ elim (cases_Bool (other x)) [
-        | inl both ↦ ap (filter test) (filter-hit other x xs both) ∙ filter-hit test x (filter other xs) hit ∙ ap (λ l. x ∷ l) rest ∙ sym (ap (filter other) (filter-hit test x xs hit) ∙ filter-hit other x (filter test xs) both)
-        | inr one ↦ ap (filter test) (filter-miss other x xs one) ∙ rest ∙ sym (ap (filter other) (filter-hit test x xs hit) ∙ filter-miss other x (filter test xs) one)
-      ]
-      | inr miss ↦ elim (cases_Bool (other x)) [
-        | inl one ↦ ap (filter test) (filter-hit other x xs one) ∙ filter-miss test x (filter other xs) miss ∙ rest ∙ sym (ap (filter other) (filter-miss test x xs miss))
-        | inr none ↦ ap (filter test) (filter-miss other x xs none) ∙ rest ∙ sym (ap (filter other) (filter-miss test x xs miss))
-      ]
-    ]
 
 -- one of a list is the same as this one
 pub record IsListed {X : Type 0} (same : X → X → Bool) (xs : List X) (x : X) : Type 0 where
@@ -83,19 +49,6 @@ module _ {X : Type 0} (same : X → X → Bool) where
       none_of : (y : X) (xs : List X) (x : X) → same y x ≡ false → IsUnlisted same xs x → IsUnlisted same (y ∷ xs) x
       none_of y xs x miss rest zero z at = (let here : y ≡ z = cc in ap (λ w. same w x) (sym here) ∙ miss)
       none_of y xs x miss rest (suc i) z at = rest i z at
-
-  -- what a test keeps of the first of each, where it is one for what is the same
-  pub filter-firsts : (test : X → Bool) → ((x y : X) → same x y ≡ true → test x ≡ test y) → (xs : List X) → filter test (firsts same xs) ≡ firsts same (filter test xs)
-  filter-firsts test respects [] = refl
-  filter-firsts test respects (x ∷ xs) =
-      let other = λ (y : X). not (same x y) in
-      elim (cases_Bool (test x)) [
-        | inl hit ↦ filter-hit test x (filter other (firsts same xs)) hit ∙ ap (λ l. x ∷ l) (filter-swap test other (firsts same xs) ∙ ap (filter other) (filter-firsts test respects xs)) ∙ sym (ap (firsts same) (filter-hit test x xs hit))
-        | inr miss ↦ filter-miss test x (filter other (firsts same xs)) miss ∙ filter-through test other (firsts same xs) (λ y passes. elim (cases_Bool (same x y)) [
-          | inl one ↦ absurd (both_ways (test y) (sym (respects x y one) ∙ miss) passes)
-          | inr two ↦ not_from_false (same x y) two
-        ]) ∙ filter-firsts test respects xs ∙ sym (ap (firsts same) (filter-miss test x xs miss))
-      ]
 
   module _ {K : Type 0} (key : X → K) (from : (x y : X) → key x ≡ key y → same x y ≡ true) (equal : (x y : X) → same x y ≡ true → key x ≡ key y) where
     -- each of the list is the same as a listed one

@@ -28,17 +28,6 @@ pub not_both : (b : Bool) → IsTrue b → b ≡ false → ⊥
 not_both true h k = let f : ⊥ = cc in f
 not_both false h k = let f : ⊥ = cc in f
 
--- a header that is the last one stands in some file
-pub some_header : (fs : List PackageFile) (h : Header) → last_header fs ≡ Some h → (i : ℕ) × (f : PackageFile) × (slice_get fs i ≡ Some f) × (f.package_id ≡ Some h)
-some_header [] h e = absurd (let wrong : ⊥ = cc in wrong)
-some_header (f ∷ fs) h e = elim (header_cases (last_header fs)) [
-  | inl none ↦ (0, f, refl, sym (ap (λ o. option_or o f.package_id) none) ∙ e)
-  | inr some ↦ (
-      let same : Some some.0 ≡ Some h = sym (ap (λ o. option_or o f.package_id) some.1) ∙ e in
-      let it = some_header fs h (some.1 ∙ same) in
-      (suc it.0, it.1, it.2, it.3))
-]
-
 -- where no header is the last one, no file has one
 pub no_header : (fs : List PackageFile) → last_header fs ≡ None → (i : ℕ) (f : PackageFile) → slice_get fs i ≡ Some f → f.package_id ≡ None
 no_header [] e i f at = absurd (let wrong : ⊥ = cc in wrong)

@@ -17,7 +17,8 @@ use Rattle.wit_syntax.specs.Source.{TopName, Item, address, all_items, ScopeName
 use Rattle.wit_syntax.specs.Trees.{scope}
 use Rattle.wit_syntax.specs.Sides.{SideItem, SideFunction, SideLink, SideInline, side_items, items_on, bare_scope, IsFoldedTwice, IsCrossedTwice, IsLinkedTwice, IsBrokenSides, FoldedTwice, CrossedTwice, LinkedTwice, LinkNotes, InlineNotes, all_scopes}
 use Rattle.wit_syntax.specs.Broken
-use Rattle.wit_syntax.specs.Broken.{IsHeaderless, IsMissingName, IsBrokenScope, IsBrokenItems, IsBrokenNames, IsBroken, IsLegal}
+use Rattle.wit_syntax.specs.Broken.{last_header, IsMissingName, IsBrokenScope, IsBrokenItems, IsBrokenNames, IsBroken, IsLegal}
+use Rattle.wit_syntax.proofs.Headers.{no_header}
 use Rattle.wit_syntax.proofs.JoinedLists.{flat_map_by}
 use Rattle.wit_syntax.proofs.JoinedTargets.{AreThemselves, used_same}
 use Rattle.wit_syntax.proofs.JoinedItems.{retop, names_same, twin_among}
@@ -93,11 +94,11 @@ module _ (files others : List PackageFile) (a : AreAlike files others) where
   names_onward f (Broken.AttributedTopUse file among h) = absurd (no_use_in_file files a.left.no_use file among h.u h.among)
   names_onward f (Broken.MissingOriginal file among h) = absurd (no_use_in_file files a.left.no_use file among h.u h.among)
 
-  headerless : (f : Fault) → IsHeaderless files f → ⊥
-  headerless f h = (let none : None ≡ Some a.left.header = sym (h.none a.left.place a.left.file a.left.at) ∙ a.left.headed in let wrong : ⊥ = cc in wrong)
+  headerless : last_header files ≡ None → ⊥
+  headerless h = (let none : None ≡ Some a.left.header = sym (no_header files h a.left.place a.left.file a.left.at) ∙ a.left.headed in let wrong : ⊥ = cc in wrong)
 
   broken_onward : (f : Fault) → IsBroken files f → (g : Fault) × IsBroken others g
-  broken_onward f (Broken.Headerless h) = absurd (headerless f h)
+  broken_onward f (Broken.Headerless none h) = absurd (headerless none)
   broken_onward f (Broken.Names h) = (let it = names_onward f h in (it.0, Broken.Names it.1))
   broken_onward f (Broken.ItemStability i is h) =
       let t = twin_among (all_items files) (all_items others) (items_twins files others a) i is in

@@ -1,7 +1,6 @@
 -- Setters of an interface: all its functions stand on one side, and it includes nothing.
 use Rattle.std.proofs.Common.{◌≡◌, false, List, [], ◌∷◌, map, Contains, refl, sym, ap, subst}
 use Rattle.std.specs.List.{flat_map}
-use Rattle.wit_tree.specs.declared.tree.Include.{Include}
 use Rattle.wit_tree.specs.declared.tree.InterfaceItem.{InterfaceItem}
 use Rattle.wit_tree.specs.declared.tree.InterfaceItem.TheVariants as interface_item
 use Rattle.wit_tree.specs.declared.tree.WorldSide.{WorldSide}

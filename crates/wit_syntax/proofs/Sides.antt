@@ -1,5 +1,5 @@
 -- The functions that stand on a side.
-use Rattle.std.proofs.Common.{◌≡◌, ℕ, zero, suc, ◌<◌, Bool, true, false, List, [], ◌∷◌, ◌++◌, Some, inl, inr, refl, sym, ap, ◌∙◌, subst, arith}
+use Rattle.std.proofs.Common.{◌≡◌, ℕ, zero, suc, Bool, true, false, List, [], ◌∷◌, ◌++◌, Some, inl, inr, refl, sym, ap, ◌∙◌, subst}
 use Rattle.std.specs.Prelude.{slice_get, map}
 use Rattle.std.specs.List.{filter, flat_map}
 use Rattle.std.proofs.lemmas.Bool.{cases_Bool, cond-true, cond-false}
@@ -19,7 +19,6 @@ use Rattle.wit_syntax.specs.Crossing.{same_side}
 use Rattle.wit_syntax.specs.Signature.{Called, function_called}
 use Rattle.wit_syntax.specs.Sides.{role_side, on_side, SideItem, SideFunction, part_items, side_items, item_link, links, items_on, item_called}
 use Rattle.wit_syntax.proofs.Lists.{flat_map_at, map_at}
-use Rattle.wit_syntax.proofs.Kept.{kept_has}
 
 -- a test keeps all that pass it, and nothing of those that fail it
 pub kept_all : {X : Type 0} (test : X → Bool) (xs : List X) → ((i : ℕ) (x : X) → slice_get xs i ≡ Some x → test x ≡ true) → filter test xs ≡ xs
@@ -29,27 +28,6 @@ kept_all test (x ∷ xs) pass = cond-true (test x) (x ∷ filter test xs) (filte
 pub kept_none : {X : Type 0} (test : X → Bool) (xs : List X) → ((i : ℕ) (x : X) → slice_get xs i ≡ Some x → test x ≡ false) → filter test xs ≡ []
 kept_none test [] fail = refl
 kept_none test (x ∷ xs) fail = cond-false (test x) (x ∷ filter test xs) (filter test xs) (fail 0 x refl) ∙ kept_none test xs (λ i. fail (suc i))
-
--- two that pass it stand in what is kept as they stand in the list
-pub kept_both : {X : Type 0} (test : X → Bool) (xs : List X) (i j : ℕ) (x y : X) → i < j → slice_get xs i ≡ Some x → slice_get xs j ≡ Some y → test x ≡ true → test y ≡ true → (a : ℕ) × (b : ℕ) × (a < b) × (slice_get (filter test xs) a ≡ Some x) × (slice_get (filter test xs) b ≡ Some y)
-kept_both test [] i j x y before at_x at_y pass_x pass_y = absurd (let f : ⊥ = cc in f)
-kept_both test (z ∷ zs) i zero x y before at_x at_y pass_x pass_y = absurd (let f : ⊥ = omega (arith, before) in f)
-kept_both test (z ∷ zs) zero (suc j) x y before at_x at_y pass_x pass_y =
-    let here : z ≡ x = cc in
-    let kept : filter test (z ∷ zs) ≡ z ∷ filter test zs = cond-true (test z) (z ∷ filter test zs) (filter test zs) (ap test here ∙ pass_x) in
-    let later = kept_has test zs j y pass_y at_y in
-    (0, suc later.0, omega arith, ap (λ l. slice_get l 0) kept ∙ ap Some here, ap (λ l. slice_get l (suc later.0)) kept ∙ later.1)
-kept_both test (z ∷ zs) (suc i) (suc j) x y before at_x at_y pass_x pass_y =
-    let it = kept_both test zs i j x y (omega (arith, before)) at_x at_y pass_x pass_y in
-    let lt = it.2 in
-    elim (cases_Bool (test z)) [
-      | inl hit ↦ (
-          let kept : filter test (z ∷ zs) ≡ z ∷ filter test zs = cond-true (test z) (z ∷ filter test zs) (filter test zs) hit in
-          (suc it.0, suc it.1, omega (arith, lt), ap (λ l. slice_get l (suc it.0)) kept ∙ it.3, ap (λ l. slice_get l (suc it.1)) kept ∙ it.4))
-      | inr miss ↦ (
-          let kept : filter test (z ∷ zs) ≡ filter test zs = cond-false (test z) (z ∷ filter test zs) (filter test zs) miss in
-          (it.0, it.1, lt, ap (λ l. slice_get l it.0) kept ∙ it.3, ap (λ l. slice_get l it.1) kept ∙ it.4))
-    ]
 
 -- all functions of an interface are imported
 resource_imported : (r : Id) (g : ResourceFunc) → role_side (resource_function r g).role ≡ Imported

@@ -31,11 +31,6 @@ use Rattle.wit_syntax.specs.Signature.{IsNoType, IsBrokenFunction, IsUnpairedSet
 use Rattle.wit_syntax.specs.Ends.{IsNoResource}
 use Rattle.wit_syntax.specs.Scope.{use_paths, include_paths, uses, includes, item_rows, rows_of, used, defined}
 
--- no file has a header
-pub record IsHeaderless (files : List PackageFile) (f : Fault) : Type 0 where
-  pub none : (i : ℕ) (file : PackageFile) → slice_get files i ≡ Some file → file.package_id ≡ None
-  pub is : f ≡ fault 4 (record { start = 0; end = 0 })
-
 -- the path of a `use` at the top of a file is the name of none of these items
 pub record IsMissingOriginal (items : List Item) (declarations : List AstItem) (f : Fault) : Type 0 where
   pub u : ToplevelUse
@@ -191,7 +186,8 @@ pub record IsSetterAlone (i : Item) (f : Fault) : Type 0 where
 
 -- what is wrong with files
 pub data IsBroken (files : List PackageFile) (f : Fault) : Type 0 where
-  Headerless : IsHeaderless files f → IsBroken files f
+  -- no file has a header
+  Headerless : last_header files ≡ None → f ≡ fault 4 (record { start = 0; end = 0 }) → IsBroken files f
   Names : IsBrokenNames files f → IsBroken files f
   ItemStability : (i : Item) → Contains (all_items files) i → IsBrokenStability (declared_attributes i.declared) f → IsBroken files f
   UseNotes : (i : Item) → Contains (all_items files) i → (u : WrittenUse) → Contains (uses i) u → IsBrokenNotes u.attributes.items f → IsBroken files f

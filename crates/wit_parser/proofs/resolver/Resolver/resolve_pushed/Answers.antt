@@ -3,7 +3,7 @@ use Rattle.std.specs.Option.{option_copied}
 use Rattle.wit_tree.specs.declared.tree.PackageFile.{PackageFile}
 use Rattle.wit_syntax.specs.Fault.{fault}
 use Rattle.wit_syntax.specs.Broken.{Headerless, last_header}
-use Rattle.wit_syntax.proofs.Headers.{no_header, span_of_ends}
+use Rattle.wit_syntax.proofs.Headers.{span_of_ends}
 use Rattle.wit_parser.proofs.resolver.Resolver.resolve_pushed.Goals as goal
 
 pub returns-in-None-clause-refused : goal.returns-in-None-clause-refused
@@ -13,7 +13,7 @@ returns-in-None-clause-refused c =
     let at : c.default.result ≡ record { start = 0; end = 0 } = span_of_ends c.default.result 0 0 c.default.ensures.0 c.default.ensures.1 in
     elim c.refuse.ensures [
       | inl memory ↦ inl memory
-      | inr says ↦ inr (Headerless (record { none = no_header files none; is = says ∙ ap (fault 4) at }))
+      | inr says ↦ inr (Headerless none (says ∙ ap (fault 4) at))
     ]
 
 pub resolve_named-requires : goal.resolve_named-requires
