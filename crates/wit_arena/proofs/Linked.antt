@@ -65,11 +65,11 @@ module _ (files : List PackageFile) (i : Item) (of_uses : (u : Use) → Contains
   ]
 
   pub no_broken_use : (f : Fault) → IsBrokenUse files i f → ⊥
-  no_broken_use f (MissingUse h) =
-      let wrong : None ≡ Some false = sym (ap (is_world_at files) h.local ∙ ap (option_map is_world) h.missing) ∙ usable_path h.path h.among in
+  no_broken_use f (MissingUse path id among local missing is) =
+      let wrong : None ≡ Some false = sym (ap (is_world_at files) local ∙ ap (option_map is_world) missing) ∙ usable_path path among in
       let g : ⊥ = cc in
       g
-  no_broken_use f (WorldUsed h) =
-      let wrong : Some true ≡ Some false = sym h.other ∙ usable_path h.path h.among in
+  no_broken_use f (WorldUsed path among world is) =
+      let wrong : Some true ≡ Some false = sym world ∙ usable_path path among in
       let g : ⊥ = cc in
       g

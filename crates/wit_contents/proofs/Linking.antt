@@ -1,7 +1,6 @@
 -- The links of a world, as they are held: where they lead, and what is wrong with them.
-use Rattle.std.proofs.Common.{◌≡◌, ℕ, ◌+◌, zero, suc, false, List, [], ◌∷◌, ◌++◌, length, Option, Some, None, inl, inr, refl, sym, ap, ◌∙◌, subst, Contains}
+use Rattle.std.proofs.Common.{◌≡◌, ℕ, ◌+◌, zero, suc, false, List, [], ◌∷◌, ◌++◌, length, Some, None, inl, inr, refl, sym, ap, ◌∙◌, subst, Contains}
 use Rattle.std.specs.Prelude.{map, slice_get}
-use Rattle.std.specs.List.{flat_map}
 use Rattle.std.specs.Option.{option_map}
 use Rattle.std.proofs.lemmas.Option.{slice_get-map}
 use Rattle.wit_tree.specs.declared.tree.Extern.{Extern}
@@ -13,7 +12,7 @@ use Rattle.wit_types.specs.declared.types.TypeDef.{TypeDef}
 use Rattle.wit_types.specs.declared.types.TypeOwner.{TypeOwner}
 use Rattle.wit_model.specs.declared.interface.Interface.{Interface}
 use Rattle.wit_syntax.specs.Address.{Address}
-use Rattle.wit_syntax.specs.Broken.{is_world_at, IsBrokenUse, MissingUse, WorldUsed}
+use Rattle.wit_syntax.specs.Broken.{is_world_at, MissingUse, WorldUsed}
 use Rattle.wit_syntax.specs.Crossing.{extern_paths, inline_uses}
 use Rattle.wit_syntax.specs.Fault.{Fault}
 use Rattle.wit_syntax.specs.Function.{SourceFunction}
@@ -87,17 +86,12 @@ held_at i hs l same among =
 pub lost_link : (files : List PackageFile) (front : List Address) (old : List TypeDef) (cs : List Cell) (count : ℕ) (inside : List Interface) (by_name worlds : Names) (o : TypeOwner) (i : Item) (hs : List HeldExtern) (f : Fault) → side_items i ≡ externs_behind hs → AreLed files front by_name i.top hs → IsLinkLost hs f → IsWrongWorld files old cs count inside by_name worlds o i f
 lost_link files front old cs count inside by_name worlds o i hs f same are (LostAtWorld l among lead is) =
     let at = held_at i hs l same among in
-    WrongWorldUse (WorldUsed (record {
-      path = l.path.now;
-      among = link_path i at.0 (link_behind l) at.1;
-      other = subst (λ (d : Led). IsLed files front by_name i.top l.path.now d) lead (are.each l among);
-      is = is;
-    }))
+    WrongWorldUse (WorldUsed l.path.now (link_path i at.0 (link_behind l) at.1) (subst (λ (d : Led). IsLed files front by_name i.top l.path.now d) lead (are.each l among)) is)
 lost_link files front old cs count inside by_name worlds o i hs f same are (LostAtNothing l id among lead is) =
     let at = held_at i hs l same among in
     let lost : IsLostAt files by_name i.top l.path.now id = subst (λ (d : Led). IsLed files front by_name i.top l.path.now d) lead (are.each l among) in
     elim lost.1 [
-      | inl missing ↦ WrongWorldUse (MissingUse (record { path = l.path.now; id = id; among = link_path i at.0 (link_behind l) at.1; local = lost.0; missing = missing; is = is }))
+      | inl missing ↦ WrongWorldUse (MissingUse l.path.now id (link_path i at.0 (link_behind l) at.1) lost.0 missing is)
       | inr unresolved ↦ (
           let p = flat_map_has item_link (side_items i) at.0 0 (SideLink (link_behind l)) (link_behind l) at.1 refl in
           LostLink (record { link = link_behind l; id = id; among = contains_at (links i) p.0 (link_behind l) p.1; local = lost.0; usable = unresolved.0; lost = unresolved.1; is = is }))

@@ -56,8 +56,8 @@ filed_item files i filed = record {
 
 -- one that leads to no interface breaks a rule
 pub unusable_use : (files : List PackageFile) (i : Item) (path : UsePath) (f : Fault) → Contains (use_paths i) path → IsUnusable files i.top path f → IsBrokenUse files i f
-unusable_use files i path f among (Nowhere h) = MissingUse (record { path = path; id = h.id; among = among; local = h.local; missing = h.missing; is = h.is })
-unusable_use files i path f among (AtWorld h) = WorldUsed (record { path = path; among = among; other = h.other; is = h.is })
+unusable_use files i path f among (Nowhere h) = MissingUse path h.id among h.local h.missing h.is
+unusable_use files i path f among (AtWorld h) = WorldUsed path among h.other h.is
 
 -- what one of a list alone brings is among what the list brings
 pub declared_among : {X A : Type 0} (of : X → List A) (xs : List X) (i : ℕ) (x : X) (a : A) → slice_get xs i ≡ Some x → of x ≡ a ∷ [] → Contains (flat_map of xs) a

@@ -1,5 +1,5 @@
 -- A file breaks no rule where a path has the name of its own package: that the path leads to an item of another package, and not to the interface around it.
-use Rattle.std.proofs.Common.{◌≡◌, ℕ, zero, suc, List, [], ◌∷◌, map, Some, inl, refl, sym, ap, ◌∙◌, subst}
+use Rattle.std.proofs.Common.{◌≡◌, ℕ, zero, suc, List, [], ◌∷◌, map, Some, inl, sym, ap, ◌∙◌, subst}
 use Rattle.std.specs.Prelude.{codes, slice_get, Contains}
 use Rattle.std.specs.declared.alloc.Global.{Global}
 use denote.RawPtr.{Ptr}
@@ -82,14 +82,14 @@ module _ (ptr : Ptr) (alloc : Global) where
 
   -- its only path leads to another package, and to no world there
   use_passes : (f : Fault) → IsBrokenUse files item f → ⊥
-  use_passes f (MissingUse h) =
-      let same = one_among (use_own ptr alloc).from h.path h.among in
-      let leads_there = ap (leads item.top) same ∙ h.local in
+  use_passes f (MissingUse path id among local missing is) =
+      let same = one_among (use_own ptr alloc).from path among in
+      let leads_there = ap (leads item.top) same ∙ local in
       let f : ⊥ = cc in
       f
-  use_passes f (WorldUsed h) =
-      let same = one_among (use_own ptr alloc).from h.path h.among in
-      let there = ap (λ (path : UsePath). is_world_at files (leads item.top path)) same ∙ h.other in
+  use_passes f (WorldUsed path among world is) =
+      let same = one_among (use_own ptr alloc).from path among in
+      let there = ap (λ (path : UsePath). is_world_at files (leads item.top path)) same ∙ world in
       let f : ⊥ = cc in
       f
 

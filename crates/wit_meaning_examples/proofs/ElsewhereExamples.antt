@@ -133,7 +133,7 @@ module _ (ptr : Ptr) (alloc : Global) where
     is_world = refl
 
     used_refused : IsBroken (both_file ∷ []) (fault 10 (at 50 51))
-    used_refused = Use both_item (0, lit< tt, refl) (WorldUsed (record { path = used_path; among = (0, lit< tt, refl); other = refl; is = refl }))
+    used_refused = Use both_item (0, lit< tt, refl) (WorldUsed used_path (0, lit< tt, refl) refl refl)
 
   -- package foo:foo; interface i { use foo:foo/i.{t}; }
   module _ where

@@ -132,7 +132,7 @@ module _ (ptr : Ptr) (alloc : Global) where
 
   -- @unstable(feature = f) @since(version = 1.0.0)
   both_told : IsBrokenStability (unstable (at 0 22) ∷ since 1 (at 23 46) ∷ []) (fault 33 (at 23 46))
-  both_told = SinceAndUnstable (record { since = _; first = refl; unstable = λ none. (let f : ⊥ = cc in f); is = refl })
+  both_told = SinceAndUnstable _ refl (λ none. (let f : ⊥ = cc in f)) refl
 
   -- @external-id("x") @external-id("y")
   abbrev x_and_y : List Attribute
@@ -143,7 +143,7 @@ module _ (ptr : Ptr) (alloc : Global) where
 
   -- @deprecated(version = 2.0.0)
   deprecated_alone : IsBrokenStability (deprecated (at 0 28) ∷ []) (fault 34 (at 0 28))
-  deprecated_alone = DeprecatedAlone (record { deprecated = _; first = refl; no_since = refl; no_unstable = refl; is = refl })
+  deprecated_alone = DeprecatedAlone _ refl refl refl refl
 
   -- one comment
   abbrev comment : List ℕ → Span → Comments

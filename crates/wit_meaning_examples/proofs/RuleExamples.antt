@@ -81,7 +81,7 @@ module _ (ptr : Ptr) (alloc : Global) where
         f
 
     later_refused : IsBroken (file_of ptr alloc later ∷ []) (record { rule = 29; span = at 42 43; name = Some (codes "g"); sort = Missing (codes "name"); hint = None })
-    later_refused = in_scope ptr alloc later _ (Function 0 _ refl (MissingInSignature (record { id = g_id (at 42 43); among = (0, lit< tt, refl); missing = refl; told = OfNothing not_entered refl })))
+    later_refused = in_scope ptr alloc later _ (Function 0 _ refl (MissingInSignature (g_id (at 42 43)) (0, lit< tt, refl) refl (OfNothing not_entered refl)))
 
   -- x: get(v: u8) -> u8;
   abbrev given : Interface

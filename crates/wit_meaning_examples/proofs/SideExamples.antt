@@ -75,8 +75,8 @@ no_stability : (f : Fault) → IsBrokenStability [] f → ⊥
 no_stability f (SinceTwice h) = no_attribute h.place h.later h.at
 no_stability f (DeprecatedTwice h) = no_attribute h.place h.later h.at
 no_stability f (UnstableTwice h) = no_attribute h.place h.later h.at
-no_stability f (SinceAndUnstable h) = none-some h.since h.first
-no_stability f (DeprecatedAlone h) = none-some h.deprecated h.first
+no_stability f (SinceAndUnstable since first unstable is) = none-some since first
+no_stability f (DeprecatedAlone deprecated first no_since no_unstable is) = none-some deprecated first
 
 pub no_notes : (f : Fault) → IsBrokenNotes [] f → ⊥
 no_notes f (inl h) = no_stability f h
@@ -185,7 +185,7 @@ module _ (ptr : Ptr) (alloc : Global) where
     none_in : (side : WorldSide) (name word : Span) (k : ℕ) (f : Fault) → IsBrokenFunction [] fns k (plain side name word) f → ⊥
     none_in side name word k f (BrokenNotes h) = no_notes f h
     none_in side name word k f (BrokenTypes h) = none_among h.t h.among
-    none_in side name word k f (MissingInSignature h) = none_among h.id h.among
+    none_in side name word k f (MissingInSignature id among missing told) = none_among id among
     none_in side name word k f (GetterGiven h) = let wrong = h.getter in let g : ⊥ = cc in g
     none_in side name word k f (SetterGiven h) = let wrong = h.setter in let g : ⊥ = cc in g
     none_in side name word k f (DuplicateParam h) = let wrong = h.repeated.at_first in let g : ⊥ = cc in g

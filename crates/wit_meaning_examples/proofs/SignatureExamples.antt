@@ -276,12 +276,8 @@ module _ (ptr : Ptr) (alloc : Global) where
   itself = i_of (FuncItem (func_of (f_id (at 31 32)) (at 34 38) form.Plain (param (x_id (at 39 40)) (written.Name (f_id (at 42 43)))) None) ∷ []) (lit< tt)
 
   itself_refused : IsBroken (file_of itself ∷ []) (fault 28 (at 42 43))
-  itself_refused = in_scope itself (fault 28 (at 42 43)) (Function 0 _ refl (MissingInSignature (record {
-    id = f_id (at 42 43);
-    among = (0, lit< tt, refl);
-    missing = refl;
-    told = OfFunction (record { place = 0; entered = _; id = f_id (at 31 32); form = form.Plain; before = lit≤ tt; at = refl; role = refl; same = refl }) refl;
-  })))
+  itself_refused = in_scope itself (fault 28 (at 42 43)) (Function 0 _ refl (MissingInSignature (f_id (at 42 43)) (0, lit< tt, refl) refl
+      (OfFunction (record { place = 0; entered = _; id = f_id (at 31 32); form = form.Plain; before = lit≤ tt; at = refl; role = refl; same = refl }) refl)))
 
   -- type t = f; f: func();
   abbrev behind_name : Interface

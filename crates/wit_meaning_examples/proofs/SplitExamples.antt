@@ -148,20 +148,20 @@ module _ (ptr : Ptr) (alloc : Global) where
 
   -- the path of i leads to another package, and to no world there
   use_passes : (f : Fault) → IsBrokenUse files i_item f → ⊥
-  use_passes f (MissingUse h) =
-      let same = one_among use_x.from h.path h.among in
-      let there = ap (leads i_item.top) same ∙ h.local in
+  use_passes f (MissingUse path id among local missing is) =
+      let same = one_among use_x.from path among in
+      let there = ap (leads i_item.top) same ∙ local in
       let f : ⊥ = cc in
       f
-  use_passes f (WorldUsed h) =
-      let same = one_among use_x.from h.path h.among in
-      let there = ap (λ (path : UsePath). is_world_at files (leads i_item.top path)) same ∙ h.other in
+  use_passes f (WorldUsed path among world is) =
+      let same = one_among use_x.from path among in
+      let there = ap (λ (path : UsePath). is_world_at files (leads i_item.top path)) same ∙ world in
       let f : ⊥ = cc in
       f
 
   no_use : (f : Fault) → IsBrokenUse files x_item f → ⊥
-  no_use f (MissingUse h) = none_among h.path h.among
-  no_use f (WorldUsed h) = none_among h.path h.among
+  no_use f (MissingUse path id among local missing is) = none_among path among
+  no_use f (WorldUsed path among world is) = none_among path among
 
   -- what i uses is of no item of these files, and x uses nothing
   from_other : (n : ScopeName) → Contains (scope_names i_item) n → (from : Address) (attributes : List Attribute) (u : UseName) → n ≡ Used from attributes u → (target : Item) → item_at (all_items files) from ≡ Some target → ⊥

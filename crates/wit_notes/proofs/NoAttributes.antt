@@ -14,8 +14,8 @@ unbroken : (f : Fault) → IsBrokenStability [] f → ⊥
 unbroken f (SinceTwice h) = none_at h.place h.later h.at
 unbroken f (DeprecatedTwice h) = none_at h.place h.later h.at
 unbroken f (UnstableTwice h) = none_at h.place h.later h.at
-unbroken f (SinceAndUnstable h) = none-some h.since h.first
-unbroken f (DeprecatedAlone h) = none-some h.deprecated h.first
+unbroken f (SinceAndUnstable since first unstable is) = none-some since first
+unbroken f (DeprecatedAlone deprecated first no_since no_unstable is) = none-some deprecated first
 
 unbroken_notes : (f : Fault) → IsBrokenNotes [] f → ⊥
 unbroken_notes f h = elim h [

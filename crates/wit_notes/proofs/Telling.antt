@@ -126,8 +126,8 @@ legal-together xs each apart backed f broken = elim broken [
   | SinceTwice t ↦ no_twice 30 Since xs f each.since t
   | DeprecatedTwice t ↦ no_twice 31 Deprecated xs f each.deprecated t
   | UnstableTwice t ↦ no_twice 32 Unstable xs f each.unstable t
-  | SinceAndUnstable t ↦ elim apart [ inl none ↦ none-some t.since (sym none ∙ t.first) | inr none ↦ t.unstable none ]
-  | DeprecatedAlone t ↦ backed (λ none. none-some t.deprecated (sym none ∙ t.first)) t.no_since t.no_unstable
+  | SinceAndUnstable since first unstable is ↦ elim apart [ inl none ↦ none-some since (sym none ∙ first) | inr none ↦ unstable none ]
+  | DeprecatedAlone deprecated first no_since no_unstable is ↦ backed (λ none. none-some deprecated (sym none ∙ first)) no_since no_unstable
 ]
 
 -- what a test for some attribute tells

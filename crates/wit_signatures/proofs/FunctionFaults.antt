@@ -39,8 +39,8 @@ wrong_type env es xs fns k h t f names among (LostName name) = by_case name.lost
     missing = names.unmeant name.id.name.now name.free
 
     by_case : IsLostAt fns k name.id.span name.id.name.now f → IsWrongFunction env es xs fns k (function_behind h) f
-    by_case (AtFunction entered is) = inl (MissingInSignature (record { id = name.id; among = word; missing = missing; told = OfFunction entered is }))
-    by_case (AtNothing other is) = inl (MissingInSignature (record { id = name.id; among = word; missing = missing; told = OfNothing other is }))
+    by_case (AtFunction entered is) = inl (MissingInSignature name.id word missing (OfFunction entered is))
+    by_case (AtNothing other is) = inl (MissingInSignature name.id word missing (OfNothing other is))
 
 -- with one of those of its parameters
 wrong_param_type : (env : Env) (es : List TypeDef) (xs : List ScopeName) (fns : List SourceFunction) (k : ℕ) (h : HeldFunction) (f : Fault) → AreAllNames env xs → IsWrongInSignatures env es fns k (function_behind h).param_types f → IsWrongFunction env es xs fns k (function_behind h) f
@@ -132,7 +132,7 @@ no_duplicate fn (Some k) front count few long written told none distinct f h =
 pub legal_function : (xs : List ScopeName) (fns : List SourceFunction) (k : ℕ) (fn : SourceFunction) → slice_get fns k ≡ Some fn → ((f : Fault) → IsBrokenNotes fn.attributes f → ⊥) → IsLegalSignature xs fn → (f : Fault) → IsBrokenFunction xs fns k fn f → IsNameless xs fns
 legal_function xs fns k fn at notes legal f (BrokenNotes h) = absurd (notes f h)
 legal_function xs fns k fn at notes legal f (BrokenTypes h) = absurd (legal.types f h)
-legal_function xs fns k fn at notes legal f (MissingInSignature h) = record { k = k; fn = fn; at = at; id = h.id; among = h.among; missing = h.missing }
+legal_function xs fns k fn at notes legal f (MissingInSignature id among missing told) = record { k = k; fn = fn; at = at; id = id; among = among; missing = missing }
 legal_function xs fns k fn at notes legal f (GetterGiven h) = absurd (legal.getter f h)
 legal_function xs fns k fn at notes legal f (SetterGiven h) = absurd (legal.setter f h)
 legal_function xs fns k fn at notes legal f (DuplicateParam h) = absurd (legal.distinct f h)

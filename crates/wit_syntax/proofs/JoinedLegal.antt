@@ -26,7 +26,7 @@ use Rattle.wit_syntax.proofs.JoinedFiles.{AreAlike, no_use_in_file, items_twins,
 use Rattle.wit_syntax.proofs.JoinedOrders.{missing_edge_onward, cyclic_edge_onward}
 use Rattle.wit_syntax.proofs.JoinedTrees.{scopes_twins, scope_alike}
 use Rattle.wit_syntax.proofs.JoinedNames.{top_repeated, repeated_onward}
-use Rattle.wit_syntax.proofs.JoinedUses.{missing_use_onward, world_used_onward, interface_included_onward, missing_name_onward}
+use Rattle.wit_syntax.proofs.JoinedUses.{use_onward, interface_included_onward, missing_name_onward}
 
 -- what is wrong on the sides of an item is wrong on those of its twin
 module _ (a b : List TopName) (own : AreThemselves a) (other : AreThemselves b) where
@@ -109,13 +109,10 @@ module _ (files others : List PackageFile) (a : AreAlike files others) where
   broken_onward f (Broken.IncludeStability i is n among h) =
       let t = twin_among (all_items files) (all_items others) (items_twins files others a) i is in
       (f, Broken.IncludeStability (retop t.top i) t.among n among h)
-  broken_onward f (Broken.Use i is (Broken.MissingUse h)) =
+  broken_onward f (Broken.Use i is h) =
       let t = twin_among (all_items files) (all_items others) (items_twins files others a) i is in
-      let it = missing_use_onward files others a i t.top t.own t.other f h in
-      (it.0, Broken.Use (retop t.top i) t.among (Broken.MissingUse it.1))
-  broken_onward f (Broken.Use i is (Broken.WorldUsed h)) =
-      let t = twin_among (all_items files) (all_items others) (items_twins files others a) i is in
-      (f, Broken.Use (retop t.top i) t.among (Broken.WorldUsed (world_used_onward files others a i t.top t.own t.other f h)))
+      let it = use_onward files others a i t.top t.own t.other f h in
+      (it.0, Broken.Use (retop t.top i) t.among it.1)
   broken_onward f (Broken.InterfaceIncluded i is h) =
       let t = twin_among (all_items files) (all_items others) (items_twins files others a) i is in
       (f, Broken.InterfaceIncluded (retop t.top i) t.among (interface_included_onward files others a i t.top t.own t.other f h))

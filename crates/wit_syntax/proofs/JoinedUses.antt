@@ -11,7 +11,7 @@ use Rattle.wit_syntax.specs.Fault.{Fault, missing_at, item_word}
 use Rattle.wit_syntax.specs.Foreign.{ForeignVisit, visited, same_item, foreign_visits, is_foreign_world}
 use Rattle.wit_syntax.specs.Repeats.{firsts}
 use Rattle.wit_syntax.specs.Source.{TopName, Target, Local, Foreign, leads, Declared, is_declared_world, Item, is_world, address, parts, all_items, item_named, item_at, ScopeName, scope_names, meaning}
-use Rattle.wit_syntax.specs.Broken.{is_world_at, IsMissingUse, IsWorldUsed, IsInterfaceIncluded, IsMissingName}
+use Rattle.wit_syntax.specs.Broken.{is_world_at, IsBrokenUse, MissingUse, WorldUsed, IsInterfaceIncluded, IsMissingName}
 use Rattle.wit_syntax.specs.Splitting.{declared_of}
 use Rattle.wit_syntax.proofs.Found.{find_at}
 use Rattle.wit_syntax.proofs.JoinedTargets.{AreThemselves, IsSameTarget, leads_same, local_from}
@@ -63,14 +63,12 @@ module _ (files others : List PackageFile) (a : AreAlike files others) where
     world_led : (from : UsePath) → is_world_at files (leads i.top from) ≡ is_world_at others (leads top from)
     world_led from = world_at_alike (leads i.top from) (leads top from) (leads_same i.top top own other from)
 
-    pub missing_use_onward : (f : Fault) → IsMissingUse files i f → (g : Fault) × IsMissingUse others (retop top i) g
-    missing_use_onward f h =
-        let to = local_from (leads i.top h.path) (leads top h.path) h.id (leads_same i.top top own other h.path) h.local in
-        let here : item_named (all_items files) to.0.name.now ≡ None = ap (item_named (all_items files)) to.2 ∙ h.missing in
-        (missing_at 7 item_word to.0, record { path = h.path; id = to.0; among = h.among; local = to.1; missing = unnamed_onward (all_items files) (all_items others) (items_twins files others a) to.0.name.now here; is = refl })
-
-    pub world_used_onward : (f : Fault) → IsWorldUsed files i f → IsWorldUsed others (retop top i) f
-    world_used_onward f h = record { path = h.path; among = h.among; other = sym (world_led h.path) ∙ h.other; is = h.is }
+    pub use_onward : (f : Fault) → IsBrokenUse files i f → (g : Fault) × IsBrokenUse others (retop top i) g
+    use_onward f (MissingUse path id among local missing is) =
+        let to = local_from (leads i.top path) (leads top path) id (leads_same i.top top own other path) local in
+        let here : item_named (all_items files) to.0.name.now ≡ None = ap (item_named (all_items files)) to.2 ∙ missing in
+        (missing_at 7 item_word to.0, MissingUse path to.0 among to.1 (unnamed_onward (all_items files) (all_items others) (items_twins files others a) to.0.name.now here) refl)
+    use_onward f (WorldUsed path among world is) = (f, WorldUsed path among (sym (world_led path) ∙ world) is)
 
     pub interface_included_onward : (f : Fault) → IsInterfaceIncluded files i f → IsInterfaceIncluded others (retop top i) f
     interface_included_onward f h = record { path = h.path; among = h.among; other = sym (world_led h.path) ∙ h.other; is = h.is }

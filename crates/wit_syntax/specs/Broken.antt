@@ -109,22 +109,6 @@ abbrev pub is_world_at : List PackageFile → Target → Option Bool
 is_world_at files (Local id) = option_map is_world (item_named (all_items files) id.name.now)
 is_world_at files (Foreign p id) = option_map is_foreign_world (foreign_at files (ForeignNamed p id.name.now))
 
--- the path of a `use` leads to no item
-pub record IsMissingUse (files : List PackageFile) (i : Item) (f : Fault) : Type 0 where
-  pub path : UsePath
-  pub id : Id
-  pub among : Contains (use_paths i) path
-  pub local : leads i.top path ≡ Local id
-  pub missing : item_named (all_items files) id.name.now ≡ None
-  pub is : f ≡ missing_at 7 item_word id
-
--- the path of a `use` leads to a world
-pub record IsWorldUsed (files : List PackageFile) (i : Item) (f : Fault) : Type 0 where
-  pub path : UsePath
-  pub among : Contains (use_paths i) path
-  pub other : is_world_at files (leads i.top path) ≡ Some true
-  pub is : f ≡ fault 10 (path_id path).span
-
 -- the path of an include leads to an interface
 pub record IsInterfaceIncluded (files : List PackageFile) (i : Item) (f : Fault) : Type 0 where
   pub path : UsePath
@@ -173,10 +157,12 @@ pub data IsBrokenNames (files : List PackageFile) (f : Fault) : Type 0 where
   AttributedTopUse : (file : PackageFile) → Contains files file → IsAttributedTopUse file.decl_list.items.items f → IsBrokenNames files f
   MissingOriginal : (file : PackageFile) → Contains files file → IsMissingOriginal (all_items files) file.decl_list.items.items f → IsBrokenNames files f
 
--- what is wrong with where a `use` of an item leads
+-- what is wrong with where the path of a `use` of an item leads
 pub data IsBrokenUse (files : List PackageFile) (i : Item) (f : Fault) : Type 0 where
-  MissingUse : IsMissingUse files i f → IsBrokenUse files i f
-  WorldUsed : IsWorldUsed files i f → IsBrokenUse files i f
+  -- it leads to no item
+  MissingUse : (path : UsePath) (id : Id) → Contains (use_paths i) path → leads i.top path ≡ Local id → item_named (all_items files) id.name.now ≡ None → f ≡ missing_at 7 item_word id → IsBrokenUse files i f
+  -- it leads to a world
+  WorldUsed : (path : UsePath) → Contains (use_paths i) path → is_world_at files (leads i.top path) ≡ Some true → f ≡ fault 10 (path_id path).span → IsBrokenUse files i f
 
 -- a setter has no getter on its side of an item that includes nothing: where a world is included, the getter may come with it
 pub record IsSetterAlone (i : Item) (f : Fault) : Type 0 where

@@ -72,28 +72,15 @@ pub record IsTwice (number : ℕ) (kind : AttributeKind) (xs : List Attribute) (
   pub behind : first_of kind (take place xs) ≢ None
   pub is : f ≡ fault number (attribute_span later)
 
--- `@since` and `@unstable` stand together
-pub record IsSinceAndUnstable (xs : List Attribute) (f : Fault) : Type 0 where
-  pub since : Attribute
-  pub first : first_of Since xs ≡ Some since
-  pub unstable : first_of Unstable xs ≢ None
-  pub is : f ≡ fault 33 (attribute_span since)
-
--- `@deprecated` stands without `@since` and without `@unstable`
-pub record IsDeprecatedAlone (xs : List Attribute) (f : Fault) : Type 0 where
-  pub deprecated : Attribute
-  pub first : first_of Deprecated xs ≡ Some deprecated
-  pub no_since : first_of Since xs ≡ None
-  pub no_unstable : first_of Unstable xs ≡ None
-  pub is : f ≡ fault 34 (attribute_span deprecated)
-
 -- what is wrong with attributes that tell a stability
 pub data IsBrokenStability (xs : List Attribute) (f : Fault) : Type 0 where
   SinceTwice : IsTwice 30 Since xs f → IsBrokenStability xs f
   DeprecatedTwice : IsTwice 31 Deprecated xs f → IsBrokenStability xs f
   UnstableTwice : IsTwice 32 Unstable xs f → IsBrokenStability xs f
-  SinceAndUnstable : IsSinceAndUnstable xs f → IsBrokenStability xs f
-  DeprecatedAlone : IsDeprecatedAlone xs f → IsBrokenStability xs f
+  -- `@since` and `@unstable` stand together
+  SinceAndUnstable : (since : Attribute) → first_of Since xs ≡ Some since → first_of Unstable xs ≢ None → f ≡ fault 33 (attribute_span since) → IsBrokenStability xs f
+  -- `@deprecated` stands without `@since` and without `@unstable`
+  DeprecatedAlone : (deprecated : Attribute) → first_of Deprecated xs ≡ Some deprecated → first_of Since xs ≡ None → first_of Unstable xs ≡ None → f ≡ fault 34 (attribute_span deprecated) → IsBrokenStability xs f
 
 -- what is wrong with attributes that tell a stability and an external id
 abbrev pub IsBrokenNotes : List Attribute → Fault → Type 0

@@ -97,13 +97,6 @@ pub data IsNoType (IsFunction : Type 0) (of_function of_nothing f : Fault) : Typ
   OfFunction : IsFunction → f ≡ of_function → IsNoType IsFunction of_function of_nothing f
   OfNothing : (IsFunction → ⊥) → f ≡ of_nothing → IsNoType IsFunction of_function of_nothing f
 
--- a name in a signature is none of the scope
-pub record IsMissingInSignature (xs : List ScopeName) (fs : List SourceFunction) (k : ℕ) (fn : SourceFunction) (f : Fault) : Type 0 where
-  pub id : Id
-  pub among : Contains (flat_map words (signature fn)) id
-  pub missing : meaning xs id.name.now ≡ None
-  pub told : IsNoType (IsEntered fs k id.name.now) (fault 28 id.span) (missing_at 29 name_word id) f
-
 -- a getter has a parameter
 pub record IsGetterGiven (fn : SourceFunction) (f : Fault) : Type 0 where
   pub getter : role_form fn.role ≡ form.Getter
@@ -167,7 +160,8 @@ pub record IsConstructorOfOther (xs : List ScopeName) (fn : SourceFunction) (f :
 pub data IsBrokenFunction (xs : List ScopeName) (fs : List SourceFunction) (k : ℕ) (fn : SourceFunction) (f : Fault) : Type 0 where
   BrokenNotes : IsBrokenNotes fn.attributes f → IsBrokenFunction xs fs k fn f
   BrokenTypes : IsBrokenPart (written_types fn) f → IsBrokenFunction xs fs k fn f
-  MissingInSignature : IsMissingInSignature xs fs k fn f → IsBrokenFunction xs fs k fn f
+  -- a name in its signature is none of the scope
+  MissingInSignature : (id : Id) → Contains (flat_map words (signature fn)) id → meaning xs id.name.now ≡ None → IsNoType (IsEntered fs k id.name.now) (fault 28 id.span) (missing_at 29 name_word id) f → IsBrokenFunction xs fs k fn f
   GetterGiven : IsGetterGiven fn f → IsBrokenFunction xs fs k fn f
   SetterGiven : IsSetterGiven fn f → IsBrokenFunction xs fs k fn f
   DuplicateParam : IsDuplicateParam fn f → IsBrokenFunction xs fs k fn f

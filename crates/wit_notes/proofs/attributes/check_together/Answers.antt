@@ -16,7 +16,7 @@ returns-then-is_some-clause-refused c =
     let unstable = told-some Unstable xs c.first_of-unstable.result c.first_of-unstable.ensures (sym c.is_some.ensures ∙ c.if-is_some.true) in
     elim c.refuse.ensures [
       | inl memory ↦ inl memory
-      | inr says ↦ inr (SinceAndUnstable (record { since = since; first = first; unstable = unstable; is = says ∙ ap (fault 33) c.span_of.ensures }))
+      | inr says ↦ inr (SinceAndUnstable since first unstable (says ∙ ap (fault 33) c.span_of.ensures))
     ]
 
 pub returns-in-Some-clause-legal : goal.returns-in-Some-clause-legal
@@ -42,7 +42,7 @@ returns-in-Some-first_of-clause-refused c =
     let no_unstable = told-none Unstable xs c.first_of-unstable.result c.first_of-unstable.ensures (sym c.is_some-2.ensures ∙ c.if-is_some-2.false) in
     elim c.refuse-in-Some-first_of.ensures [
       | inl memory ↦ inl memory
-      | inr says ↦ inr (DeprecatedAlone (record { deprecated = deprecated; first = first; no_since = none; no_unstable = no_unstable; is = says ∙ ap (fault 34) c.span_of-in-Some-first_of.ensures }))
+      | inr says ↦ inr (DeprecatedAlone deprecated first none no_unstable (says ∙ ap (fault 34) c.span_of-in-Some-first_of.ensures))
     ]
 
 pub returns-in-None-clause-legal : goal.returns-in-None-clause-legal
