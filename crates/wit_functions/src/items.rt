@@ -8,7 +8,7 @@ ghost use Rattle.wit_functions.specs.Setters.{setters_placed};
 ghost use Rattle.wit_functions.specs.Told.{HaveOwnNames, goes};
 
 use crate::function::Function;
-use crate::order::{Standing, in_order};
+use crate::order::{Standing, put_in_order};
 use crate::placed::order_of;
 use crate::told::Told;
 use std::alloc::{AllocError, Global};
@@ -43,6 +43,7 @@ pub fn behind_getters<T: Told>(alloc: Global, items: Vec<T>) -> Result<Vec<T>, A
 {
     let order = new_order(alloc, &items)?;
     let standing = Standing::new(alloc, items.len())?;
-    let placed = in_order(items, standing, order);
-    Ok(placed)
+    let mut items = items;
+    put_in_order(&mut items, standing, order);
+    Ok(items)
 }

@@ -1,13 +1,47 @@
-//! The entries of a map, put into another order.
-ghost use Rattle.std.specs.Prelude.{◌≡◌, ◌<◌, ℕ, List, IfNone, IfOk, IfSome, length};
-ghost use Rattle.indexmap.specs.IndexMap.{index_map_len};
+//! Entries put into another order.
+ghost use Rattle.std.specs.Prelude.{◌≡◌, ◌<◌, List, IfNone, IfOk, IfSome, length, swap};
 ghost use Rattle.wit_functions.specs.Order.{AreFirst, AreStanding, IsExchange, IsOrder};
 
 use indexmap::IndexMap;
 use std::alloc::{AllocError, Global};
 use std::hash::Hash;
 
-/// Where the entries of a map stand, each told by the place where it stood at first.
+/// Entries at places, two of which may change places.
+pub trait Entries {
+    ghost use Rattle.std.specs.Prelude.{List};
+
+    ghost Entry: { Type 0 };
+
+    ghost entries: { Self → List Entry };
+
+    /// Lets the entries at two places change places.
+    fn exchange(&mut self, one: usize, other: usize)
+        requires one { one < length (entries self.old) }
+        requires other { other < length (entries self.old) }
+        ensures { entries self.new ≡ swap (entries self.old) one other };
+}
+
+impl<T> Entries for Vec<T> {
+    ghost Entry = { T };
+
+    ghost entries = { λ items. items.items };
+
+    fn exchange(&mut self, one: usize, other: usize) {
+        self.swap(one, other);
+    }
+}
+
+impl<K: Eq + Hash, V> Entries for IndexMap<K, V> {
+    ghost Entry = { K × V };
+
+    ghost entries = { λ map. map.entries };
+
+    fn exchange(&mut self, one: usize, other: usize) {
+        self.swap_indices(one, other);
+    }
+}
+
+/// Where entries stand, each told by the place where it stood at first.
 #[derive(Drop)]
 pub(crate) struct Standing {
     /// The entry at each place.
@@ -73,38 +107,17 @@ impl Standing {
     }
 }
 
-/// Puts the entries of a map, which stand at their first places, into another order.
-pub(crate) fn put_in_order<K: Eq + Hash, V>(
-    map: &mut IndexMap<K, V>,
-    standing: Standing,
-    order: Vec<usize>,
-)
-    requires stands { AreStanding (index_map_len map.old) standing.entries.items standing.places.items }
+/// Puts entries, which stand at their first places, into another order.
+pub(crate) fn put_in_order<E: Entries>(entries: &mut E, standing: Standing, order: Vec<usize>)
+    requires stands { AreStanding (length (E.entries entries.old)) standing.entries.items standing.places.items }
     requires first { AreFirst standing.entries.items }
-    ensures { (now : List (K × V)) → IsOrder map.old.entries order.items now → map.new.entries ≡ now }
+    ensures { (now : List E.Entry) → IsOrder (E.entries entries.old) order.items now → E.entries entries.new ≡ now }
 {
     let mut standing = standing;
     for place in 0..order.len() {
         match standing.bring(place, order[place]) {
-            Some(from) => map.swap_indices(place, from),
+            Some(from) => entries.exchange(place, from),
             None => {}
         }
     }
-}
-
-/// Items, which stand at their first places, in another order.
-pub(crate) fn in_order<T: Drop>(items: Vec<T>, standing: Standing, order: Vec<usize>) -> Vec<T>
-    requires stands { AreStanding (length items.items) standing.entries.items standing.places.items }
-    requires first { AreFirst standing.entries.items }
-    ensures { (now : List T) → IsOrder items.items order.items now → result.items ≡ now }
-{
-    let mut items = items;
-    let mut standing = standing;
-    for place in 0..order.len() {
-        match standing.bring(place, order[place]) {
-            Some(from) => items.swap(place, from),
-            None => {}
-        }
-    }
-    items
 }

@@ -8,22 +8,10 @@ use Rattle.wit_lex.specs.declared.kind.Kind.TheVariants as kind
 use Rattle.wit_lex.specs.declared.token.Token.{Token}
 use Rattle.wit_lex.specs.declared.word.Word.{Word}
 use Rattle.wit_lex.specs.declared.word.Word.TheVariants as word
+use Rattle.wit_reader.specs.Primitives.{is_primitive}
 
+-- the word of a type that is made of others, of a handle, or of a primitive type
 abbrev pub word_begins_type : Word → Bool
-word_begins_type word.Bool = true
-word_begins_type word.U8 = true
-word_begins_type word.U16 = true
-word_begins_type word.U32 = true
-word_begins_type word.U64 = true
-word_begins_type word.S8 = true
-word_begins_type word.S16 = true
-word_begins_type word.S32 = true
-word_begins_type word.S64 = true
-word_begins_type word.F32 = true
-word_begins_type word.F64 = true
-word_begins_type word.Char = true
-word_begins_type word.String = true
-word_begins_type word.ErrorContext = true
 word_begins_type word.List = true
 word_begins_type word.Map = true
 word_begins_type word.Option = true
@@ -33,7 +21,7 @@ word_begins_type word.Future = true
 word_begins_type word.Stream = true
 word_begins_type word.Own = true
 word_begins_type word.Borrow = true
-word_begins_type other = false
+word_begins_type other = is_primitive other
 
 abbrev pub kind_begins_type : Kind → Bool
 kind_begins_type kind.Name = true

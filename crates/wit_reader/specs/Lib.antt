@@ -2,4 +2,5 @@ pub mod Attributes
 pub mod Deeper
 pub mod Fronts
 pub mod Headers
+pub mod Primitives
 pub mod Reading

@@ -1,14 +1,17 @@
 //! Primitive types.
 ghost use Rattle.std.specs.Prelude.{◌≡◌, IfSome};
+ghost use Rattle.std.specs.Option.{is_some};
 ghost use Rattle.wit_type_tree.specs.Marks.{primitive_word};
 ghost use Rattle.wit_lex.specs.Words.{word_text};
+ghost use Rattle.wit_reader.specs.Primitives.{is_primitive};
 
 use wit_lex::word::Word;
 use wit_tree::tree::Primitive;
 
-/// The primitive type of a word.
+/// The primitive type of a word, if the word is one's.
 pub fn primitive(word: Word) -> Option<Primitive>
-    ensures { IfSome result (λ p. primitive_word p ≡ word_text word) }
+    ensures word { IfSome result (λ p. primitive_word p ≡ word_text word) }
+    ensures known { is_some result ≡ is_primitive word }
 {
     match word {
         Word::Bool => Some(Primitive::Bool),

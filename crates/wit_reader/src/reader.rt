@@ -1,7 +1,8 @@
 //! A reader goes through the tokens of a source, one after the other.
-ghost use Rattle.std.specs.Prelude.{◌≡◌, ◌+◌, ◌<◌, ◌≤◌, ◌^◌, [], ◌∷◌, length, IfOk, OnOk, IfErr, IsTrue};
+ghost use Rattle.std.specs.Prelude.{◌≡◌, ◌+◌, ◌<◌, ◌≤◌, ◌^◌, [], ◌∷◌, length, IfOk, OnOk, IfErr, IsTrue, ◌↔◌};
 ghost use Rattle.wit_type_tree.specs.Marks.{named, spelled, told};
 ghost use Rattle.wit_lex.specs.declared.fault.ReadError.TheVariants.{Fault};
+ghost use Rattle.wit_lex.specs.declared.kind.Kind.TheVariants.{Word as WordKind};
 ghost use Rattle.wit_lex.specs.Tokens.{IsToken};
 ghost use Rattle.wit_lex.specs.Words.{word_text};
 
@@ -51,13 +52,16 @@ impl<'a> Reader<'a> {
     }
 
     /// Whether the token is of this kind.
-    pub fn at(&self, kind: Kind) -> bool {
+    pub fn at(&self, kind: Kind) -> bool
+        ensures { IsTrue result ↔ (self.now.token.kind ≡ kind) }
+    {
         self.token.kind == kind
     }
 
     /// Whether the token is this word of the grammar.
     pub fn at_word(&self, word: Word) -> bool
-        ensures { IsTrue result → self.now.token.text.now ≡ word_text word }
+        ensures known { IsTrue result ↔ (self.now.token.kind ≡ WordKind word) }
+        ensures text { IsTrue result → self.now.token.text.now ≡ word_text word }
     {
         match self.token.kind {
             Kind::Word(found) => found == word,

@@ -20,32 +20,18 @@ pub const MOST_NESTED: u8 = 100;
 fn begins_type(word: Word) -> bool
     ensures { result ≡ word_begins_type word }
 {
-    matches!(
-        word,
-        Word::Bool
-            | Word::U8
-            | Word::U16
-            | Word::U32
-            | Word::U64
-            | Word::S8
-            | Word::S16
-            | Word::S32
-            | Word::S64
-            | Word::F32
-            | Word::F64
-            | Word::Char
-            | Word::String
-            | Word::ErrorContext
-            | Word::List
-            | Word::Map
-            | Word::Option
-            | Word::Result
-            | Word::Tuple
-            | Word::Future
-            | Word::Stream
-            | Word::Own
-            | Word::Borrow
-    )
+    match word {
+        Word::List
+        | Word::Map
+        | Word::Option
+        | Word::Result
+        | Word::Tuple
+        | Word::Future
+        | Word::Stream
+        | Word::Own
+        | Word::Borrow => true,
+        _ => primitive(word).is_some(),
+    }
 }
 
 /// The list of these items, of a fixed length where one was found.

@@ -8,4 +8,4 @@ pub returns : goal.returns
 returns g c = λ names.
     let tells = g.T.Told.tells in
     let order = c.in_ok-order.order.items in
-    c.in_order-placed.ensures (setters_placed (goes tells) c.args.items.items) (subst (λ l. HaveOwnNames tells l → IsOrder l order (setters_placed (goes tells) l)) c.deref.ensures.value c.in_ok-order.ensures names)
+    c.put_in_order.ensures (setters_placed (goes tells) c.args.items.items) (subst (λ l. HaveOwnNames tells l → IsOrder l order (setters_placed (goes tells) l)) c.deref.ensures.value c.in_ok-order.ensures names)

@@ -4,7 +4,7 @@ use Rattle.wit_functions.proofs.order.put_in_order.Given as goal
 
 abbrev pub invariant-loop-place : goal.invariant-loop-place
 invariant-loop-place g l = record {
-  same : length l.map.entries ≡ length l.standing.entries.items;
+  same : length (g.E.Entries.entries l.entries) ≡ length l.standing.entries.items;
   stands : AreStanding (length l.standing.entries.items) l.standing.entries.items l.standing.places.items;
-  brought : (now : List _) → IsOrder l.initial.map.entries l.order.items now → AreBrought l.initial.map.entries l.map.entries l.order.items l.standing.entries.items l.place;
+  brought : (now : List _) → IsOrder (g.E.Entries.entries l.initial.entries) l.order.items now → AreBrought (g.E.Entries.entries l.initial.entries) (g.E.Entries.entries l.entries) l.order.items l.standing.entries.items l.place;
 }
