@@ -4,3 +4,4 @@ pub mod Reading
 pub mod Settled
 pub mod Told
 pub mod Requiring
+pub mod Behind

@@ -1,5 +1,5 @@
 //! The types of a package, while they are made: each unnamed one once.
-ghost use Rattle.std.specs.Prelude.{◌≡◌, ℕ, Some, [], ◌∷◌, ◌++◌, ◌↔◌, length, IsTrue, IfOk, OnOk, OnErr, IfErr, IfSome, IfNone};
+ghost use Rattle.std.specs.Prelude.{◌≡◌, ◌+◌, ℕ, Some, [], ◌∷◌, ◌++◌, ◌↔◌, length, IsTrue, IfOk, OnOk, OnErr, IfErr, IfSome, IfNone};
 ghost use Rattle.wit_type_tree.specs.Refusal.{IsWantOfMemory};
 ghost use Rattle.wit_types.specs.declared.types.TypeDef.{TypeDef};
 ghost use Rattle.wit_arena.specs.Meet.{settled as the_settled};
@@ -7,6 +7,7 @@ ghost use Rattle.wit_arena.specs.Package.{At};
 ghost use Rattle.wit_arena.specs.Resolving.{IsUnnamedOf, IsInterned, named, unnamed};
 ghost use Rattle.wit_intern.specs.Keys.{key_of};
 ghost use Rattle.wit_notes.specs.Notes.{notes_behind};
+ghost use Rattle.wit_entries.specs.Behind.{inner_of};
 ghost use Rattle.wit_entries.specs.Known.{AreKnown, IsSet};
 ghost use Rattle.wit_entries.specs.Places.{digests_at, keys_at};
 ghost use Rattle.wit_entries.specs.Told.{EndsAt};
@@ -21,7 +22,7 @@ use wit_intern::InternKey;
 use wit_notes::Notes;
 use wit_tree::{ParseResult, Span};
 use wit_types::{
-    Arena, Docs, Stability, TypeDef, TypeDefKind, TypeId, TypeOwner, TypePlace, is_same_kind,
+    Arena, Docs, Stability, Type, TypeDef, TypeDefKind, TypeId, TypeOwner, TypePlace, is_same_kind,
 };
 use wit_values::{Rare, Text};
 
@@ -92,6 +93,30 @@ fn confirmed(types: &Arena<TypeDef, TypePlace>, id: TypeId, kind: &TypeDefKind) 
         }
     }
     None
+}
+
+/// The type that a list or an option is made of, unless that is a primitive.
+fn inner_of(kind: &TypeDefKind) -> Option<TypeId>
+    ensures { result ≡ inner_of kind.now }
+{
+    match kind {
+        TypeDefKind::List(Type::Id(id)) | TypeDefKind::Option(Type::Id(id)) => Some(*id),
+        _ => None,
+    }
+}
+
+/// The unnamed type of a kind, if it stands right behind the type that it is made of: there it was
+/// added if that was new too.
+fn find_behind(types: &Arena<TypeDef, TypePlace>, kind: &TypeDefKind) -> Option<TypeId>
+    ensures found { IfSome result (λ i. (e : TypeDef) × At types.now i e × IsUnnamedOf kind.now e) }
+    ensures none { IfNone result ((i : ℕ) (e : TypeDef) → inner_of kind.now ≡ Some i → At types.now (i + 1) e → IsUnnamedOf kind.now e → ⊥) }
+{
+    let inner = inner_of(kind)?.index();
+    let len = types.len();
+    if inner >= len || inner + 1 >= len {
+        return None;
+    }
+    confirmed(types, types.id_at(inner + 1), kind)
 }
 
 /// Sets a place at a key, if there is a key.
@@ -230,11 +255,12 @@ impl Entries {
         Ok(id)
     }
 
-    /// The unnamed type of a kind; a new entry, written at `span` in a definition of the stability
-    /// `given`, only if there is none.
+    /// The unnamed type of a kind, which is looked for by its key; a new entry, written at `span` in a
+    /// definition of the stability `given`, only if there is none.
     ///
     /// The error is want of memory.
-    pub fn intern(
+    #[inline(never)]
+    fn intern_keyed(
         &mut self,
         kind: TypeDefKind,
         given: &Stability,
@@ -249,6 +275,28 @@ impl Entries {
             return Ok(id);
         }
         let id = self.add_unnamed(key, kind, given, span)?;
+        Ok(id)
+    }
+
+    /// The unnamed type of a kind; a new entry, written at `span` in a definition of the stability
+    /// `given`, only if there is none.
+    ///
+    /// The error is want of memory. Types that are nested one in the other are mostly found at once, each
+    /// right behind the one in it.
+    pub fn intern(
+        &mut self,
+        kind: TypeDefKind,
+        given: &Stability,
+        span: Span,
+    ) -> ParseResult<TypeId>
+        ensures interned { IfOk result (λ id. IsInterned self.old self.new kind given.now span id) }
+        ensures grown { IsGrown self.old self.new }
+        ensures refused { IfErr result IsWantOfMemory }
+    {
+        if let Some(id) = find_behind(&self.arena, &kind) {
+            return Ok(id);
+        }
+        let id = self.intern_keyed(kind, given, span)?;
         Ok(id)
     }
 }

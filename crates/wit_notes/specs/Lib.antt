@@ -1,3 +1,4 @@
 pub mod Indents
 pub mod Kinds
 pub mod Notes
+pub mod Plain

@@ -1,9 +1,12 @@
 //! The text of docs.
-ghost use Rattle.std.specs.Prelude.{◌≡◌, ◌++◌, IfOk, IsTrue, OnOk, map, string_bytes};
+ghost use Rattle.std.specs.Prelude.{◌≡◌, ◌++◌, IfNone, IfOk, IfSome, IsTrue, OnOk, map, string_bytes};
+ghost use Rattle.std.specs.List.{All};
+ghost use Rattle.std.specs.Option.{option_copied};
 ghost use Rattle.std.specs.Str.{trim_end};
-ghost use Rattle.wit_syntax.specs.Docs.{behind_slashes, common_indent, ended, ended_lines, indent, joined, said, unmarked, without_end, without_last_lines, without_spaces};
+ghost use Rattle.wit_syntax.specs.Docs.{behind_slashes, behind_spaces, common_indent, ended, ended_lines, indent, joined, said, unmarked, without_end, without_last_lines, without_spaces};
 ghost use Rattle.wit_syntax.specs.Notes.{docs_of};
 ghost use Rattle.wit_notes.specs.Indents.{written_indent};
+ghost use Rattle.wit_notes.specs.Plain.{HasNoReturn, IsIndented, IsPushed, all_lines, ends_in_line, first_indent};
 
 use memchr::memchr;
 use std::alloc::{AllocError, Global};
@@ -102,20 +105,58 @@ fn common_indent(comments: &[&str]) -> usize
         .unwrap_or(0)
 }
 
-/// The text without this many spaces in front, where it begins with them.
-fn without_spaces(text: &str, count: usize) -> &str
-    ensures { result.now ≡ without_spaces count text.now }
+/// The indent of the first of what those comments say that say something; 0 where none does.
+fn first_indent(comments: &[&str]) -> usize
+    ensures { result ≡ first_indent (map (λ c. said c.now) comments.now) }
+{
+    for comment in comments {
+        if let Some(indent) = said_indent(comment) {
+            return indent;
+        }
+    }
+    0
+}
+
+/// The text behind this many spaces, where it begins with them.
+fn behind_spaces(text: &str, count: usize) -> Option<&str>
+    ensures { option_copied result ≡ behind_spaces count text.now }
 {
     let mut rest = text;
     let mut left = count;
     while left > 0 {
         match rest.strip_prefix(' ') {
             Some(less) => rest = less,
-            None => return text,
+            None => return None,
         }
         left -= 1;
     }
-    rest
+    Some(rest)
+}
+
+/// The text without this many spaces in front, where it begins with them.
+fn without_spaces(text: &str, count: usize) -> &str
+    ensures { result.now ≡ without_spaces count text.now }
+{
+    match behind_spaces(text, count) {
+        Some(rest) => rest,
+        None => text,
+    }
+}
+
+/// The text without this many spaces in front, where it begins with them; none if it says something
+/// and its indent is less.
+fn unindented(text: &str, count: usize) -> Option<&str>
+    ensures text { IfSome result (λ rest. rest.now ≡ without_spaces count text.now) }
+    ensures some { IfSome result (λ _. IsIndented count text.now) }
+    ensures none { IfNone result (IsIndented count text.now → ⊥) }
+{
+    if let Some(rest) = behind_spaces(text, count) {
+        return Some(rest);
+    }
+    if text.is_empty() || count <= indent(text) {
+        return Some(text);
+    }
+    None
 }
 
 /// Adds a line and its LF.
@@ -157,15 +198,77 @@ fn room(comments: &[&str]) -> usize {
     room
 }
 
-/// What comments say, joined. It is found twice, which costs less than a list of it.
-fn joined(alloc: Global, comments: &[&str]) -> Result<String, AllocError>
-    ensures { IfOk result (λ text. string_bytes text ≡ joined (map (λ c. said c.now) comments.now)) }
+/// Whether a text ends with an LF.
+fn ends_in_line(text: &str) -> bool
+    ensures { result ≡ ends_in_line text.now }
 {
-    let count = common_indent(comments);
+    let bytes = text.as_bytes();
+    let len = bytes.len();
+    if len == 0 {
+        return false;
+    }
+    bytes[len - 1] == b'\n'
+}
+
+/// Adds a text with an LF behind it: these are its lines, unless a CR stands in it. Only one that ends
+/// with an LF, as nothing that a comment says does, is looked through.
+fn push_plain(text: &mut String, added: &str) -> Result<(), AllocError>
+    ensures { OnOk result (IsPushed (string_bytes text.old) (string_bytes text.new) added.now) }
+{
+    if ends_in_line(added) {
+        return push_lines(text, added);
+    }
+    push_line(text, added)
+}
+
+/// What comments say, line by line without this many spaces, unless a CR stands in it; none if the
+/// indent of one is less.
+fn plain_lines(alloc: Global, comments: &[&str], count: usize) -> Result<Option<String>, AllocError>
+    ensures lines { IfOk result (λ found. IfSome found (λ text. HasNoReturn (string_bytes text) → string_bytes text ≡ all_lines count (map (λ c. said c.now) comments.now))) }
+    ensures some { IfOk result (λ found. IfSome found (λ _. All (λ c. IsIndented count (said c.now)) comments.now)) }
+    ensures none { IfOk result (λ found. IfNone found (All (λ c. IsIndented count (said c.now)) comments.now → ⊥)) }
+{
+    let mut text = String::with_capacity(alloc, room(comments))?;
+    for comment in comments {
+        match unindented(said(comment), count) {
+            Some(added) => push_plain(&mut text, added)?,
+            None => return Ok(None),
+        }
+    }
+    Ok(Some(text))
+}
+
+/// What comments say, line by line without this many spaces.
+fn all_lines(alloc: Global, comments: &[&str], count: usize) -> Result<String, AllocError>
+    ensures { IfOk result (λ text. string_bytes text ≡ all_lines count (map (λ c. said c.now) comments.now)) }
+{
     let mut text = String::with_capacity(alloc, room(comments))?;
     for comment in comments {
         push_lines(&mut text, without_spaces(said(comment), count))?;
     }
+    Ok(text)
+}
+
+/// What comments say, line by line without the spaces that they have in common.
+///
+/// The indent of the first is mostly the least, and a CR stands in few: so what is written while this is
+/// found out is mostly what is wanted, and else is written anew.
+fn common_lines(alloc: Global, comments: &[&str]) -> Result<String, AllocError>
+    ensures { IfOk result (λ text. string_bytes text ≡ all_lines (common_indent (map (λ c. said c.now) comments.now)) (map (λ c. said c.now) comments.now)) }
+{
+    if let Some(text) = plain_lines(alloc, comments, first_indent(comments))? {
+        if memchr(b'\r', text.as_str().as_bytes()).is_none() {
+            return Ok(text);
+        }
+    }
+    all_lines(alloc, comments, common_indent(comments))
+}
+
+/// What comments say, joined.
+fn joined(alloc: Global, comments: &[&str]) -> Result<String, AllocError>
+    ensures { IfOk result (λ text. string_bytes text ≡ joined (map (λ c. said c.now) comments.now)) }
+{
+    let mut text = common_lines(alloc, comments)?;
     drop_last_lines(&mut text);
     Ok(text)
 }

@@ -2,7 +2,7 @@ use Rattle.std.proofs.Common.{◌≡◌}
 use denote.Text.{Utf8}
 use denote.Shadow.{shadow}
 use Rattle.wit_syntax.specs.Docs.{behind_spaces}
-use Rattle.wit_notes.proofs.comments.without_spaces.Given as goal
+use Rattle.wit_notes.proofs.comments.behind_spaces.Given as goal
 
 abbrev pub invariant-loop-left : goal.invariant-loop-left
 invariant-loop-left l = shadow (Utf8 l.rest) × (behind_spaces l.count l.text ≡ behind_spaces l.left l.rest)

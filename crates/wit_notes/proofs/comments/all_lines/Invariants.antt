@@ -1,7 +1,7 @@
 use Rattle.std.proofs.Common.{◌≡◌, map, take, string_bytes}
 use Rattle.std.specs.List.{flat_map}
 use Rattle.wit_syntax.specs.Docs.{ended_lines, said, without_spaces}
-use Rattle.wit_notes.proofs.comments.joined.Given as goal
+use Rattle.wit_notes.proofs.comments.all_lines.Given as goal
 
 abbrev pub invariant-loop-comment : goal.invariant-loop-comment
 invariant-loop-comment l = string_bytes l.text ≡ flat_map (λ t. ended_lines (without_spaces l.count t)) (map (λ m. said m.now) (take l.comment-index l.comments))

@@ -1,0 +1,19 @@
+use Rattle.std.proofs.Common.{◌≡◌, ◌<◌, ◌∙◌, ℕ, List, [], ap, subst, sym, length, get_or, string_bytes, arith}
+use denote.Ref.{Bor}
+use Rattle.wit_syntax.specs.Docs.{said, without_spaces}
+use Rattle.wit_notes.specs.Plain.{IsIndented}
+use Rattle.wit_notes.proofs.Plain.{indented-next, lines-next}
+use Rattle.wit_notes.proofs.comments.plain_lines.Goals as goal
+
+pub loop-comment-preserved : goal.loop-comment-preserved
+loop-comment-preserved c =
+    let comments = c.args.comments.now in
+    let at = c.loop-comment.comment-index in
+    let d : Bor (List ℕ) = record { ref_ptr = (0, 0); now = [] } in
+    let lt : at < length comments = c.loop-comment-test.true in
+    let text = c.in-Some.ensures.text ∙ ap (without_spaces c.args.count) c.said.ensures in
+    let indented : IsIndented c.args.count (said (get_or comments at d).now) = subst (IsIndented c.args.count) c.said.ensures c.in-Some.ensures.some in
+    record {
+      lines = lines-next c.args.count comments at d (string_bytes c.loop-comment.text) (string_bytes c.push_plain.new.text) c.in-Some.added.now lt c.in_ok-push_plain-in-Some.ensures text c.loop-comment.invariant.lines;
+      indented = indented-next c.args.count comments at d lt c.loop-comment.invariant.indented indented;
+    }
