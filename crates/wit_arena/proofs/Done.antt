@@ -76,14 +76,14 @@ pub record AddsDone (files : List PackageFile) (decls : Decls) (cs : List DoneSc
   pub ended : AreEnded (env_of c.types) es' (all_handles (all_types c.names c.functions)) c.required
 
 -- a name that is met in a scope is one of its names
-met_in_turn : (s : Address) (xs : List ScopeName) (fns : List SourceFunction) (t : Address) (name : List ℕ) → Has (keys (all_name_meetings s xs ++ all_function_meetings s fns)) (Def t name) → Has (keys (all_name_meetings s xs)) (Def t name)
+pub met_in_turn : (s : Address) (xs : List ScopeName) (fns : List SourceFunction) (t : Address) (name : List ℕ) → Has (keys (all_name_meetings s xs ++ all_function_meetings s fns)) (Def t name) → Has (keys (all_name_meetings s xs)) (Def t name)
 met_in_turn s xs fns t name h = elim (has_either (keys (all_name_meetings s xs)) (keys (all_function_meetings s fns)) (Def t name) (subst (λ (l : List Key). Has l (Def t name)) (keys-append (all_name_meetings s xs) (all_function_meetings s fns)) h)) [
   | inl named ↦ named
   | inr other ↦ absurd (no_name_in_functions s fns t name other)
 ]
 
 -- an unnamed type that is met there is in one of its names, or in one of its functions
-whole_in_turn : (s : Address) (xs : List ScopeName) (fns : List SourceFunction) (form : Form) (parts : Exprs) → Has (keys (all_name_meetings s xs ++ all_function_meetings s fns)) (Whole form parts) → Has (keys (all_name_meetings s xs)) (Whole form parts) ⊎ IsInFunctions s fns form parts
+pub whole_in_turn : (s : Address) (xs : List ScopeName) (fns : List SourceFunction) (form : Form) (parts : Exprs) → Has (keys (all_name_meetings s xs ++ all_function_meetings s fns)) (Whole form parts) → Has (keys (all_name_meetings s xs)) (Whole form parts) ⊎ IsInFunctions s fns form parts
 whole_in_turn s xs fns form parts h = elim (has_either (keys (all_name_meetings s xs)) (keys (all_function_meetings s fns)) (Whole form parts) (subst (λ (l : List Key). Has l (Whole form parts)) (keys-append (all_name_meetings s xs) (all_function_meetings s fns)) h)) [
   | inl named ↦ inl named
   | inr other ↦ inr (whole_in_functions s fns form parts other)

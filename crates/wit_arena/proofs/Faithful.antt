@@ -38,7 +38,7 @@ use Rattle.wit_arena.proofs.Forms.{met_anonymous, name_anonymous}
 use Rattle.wit_arena.proofs.Depth.{IsScope, same_tree}
 use Rattle.wit_arena.proofs.Positions.{type_parts, means, below_at, leads, all_lead}
 use Rattle.wit_syntax.specs.Sides.{role_side, FunctionKey, function_key}
-use Rattle.wit_arena.proofs.Standing.{DoneScope, IsWholeOf, IsInSignatureOf, IsDone}
+use Rattle.wit_arena.proofs.Standing.{DoneScope, IsWholeOf, IsInSignatureOf, IsStanding}
 use Rattle.wit_arena.proofs.Stated.{has_types, function_at, named_at, entry_of, owner_at_name, parts_at}
 use Rattle.wit_arena.proofs.Takings.{taking_key}
 use Rattle.wit_arena.proofs.Unknowns.{unknown_front}
@@ -58,7 +58,7 @@ pub record AreOwners (p : UnresolvedPackage) (cs : List DoneScope) : Type 0 wher
   pub functions : (t : ℕ) (c : DoneScope) → slice_get cs t ≡ Some c → functions_of p c.owner ≡ c.stated
   pub all : (o : TypeOwner) (s : Address) → owner_of p o ≡ Some s → IsOwnerOf cs o s
 
-module _ (files : List PackageFile) (decls : Decls) (written : List Meeting) (cs : List DoneScope) (p : UnresolvedPackage) (d : IsDone files decls written cs p.types) (owners : AreOwners p cs) where
+module _ (files : List PackageFile) (decls : Decls) (written : List Meeting) (cs : List DoneScope) (p : UnresolvedPackage) (d : IsStanding files decls written cs p.types) (owners : AreOwners p cs) where
   abbrev ks : List Key
   ks = keys d.met
 

@@ -25,7 +25,7 @@ use Rattle.wit_syntax.specs.Foreign.{ForeignVisit, visited_package, visited, for
 use Rattle.wit_arena.specs.Expr.{Exprs}
 use Rattle.wit_arena.specs.Meet.{Key, Def, Whole, Meeting, keys, Decls, decl_of, IsEntry, IsNamedEntry, IsSettled, IsMeeting}
 use Rattle.wit_syntax.specs.Repeats.{AllDiffer}
-use Rattle.wit_arena.specs.Whole.{owner_at, taking_meeting, functions_at, turn_handles, AreRequired}
+use Rattle.wit_arena.specs.Whole.{owner_at, taking_meeting, functions_at, turn_handles, AreRequired, IsForeignInterface}
 use Rattle.wit_arena.specs.Resolving.{cell_at, cells, env_of, AreNames, decls_of}
 use Rattle.wit_arena.specs.Resolved.{foreign_type, AddsForeign, AreUsableUses}
 use Rattle.wit_syntax.proofs.Lists.{at_front, at_within, map_at, map_map}
@@ -150,13 +150,13 @@ no_item [] p name = refl
 no_item (i ∷ is) p name = rw (not_declared i.declared p name) (no_item is p name)
 
 -- so nothing is known of functions of another package's items
-no_functions_at : (files : List PackageFile) (p : PackageName) (name : List ℕ) → functions_at files (ForeignNamed p name) ≡ []
+pub no_functions_at : (files : List PackageFile) (p : PackageName) (name : List ℕ) → functions_at files (ForeignNamed p name) ≡ []
 no_functions_at files p name = ap (λ (o : Option Item). option_map_or functions o []) (no_item (all_scopes files) p name)
 
-nothing_stated : AreStated [] [] []
+pub nothing_stated : AreStated [] [] []
 nothing_stated = record { has = λ k fn f at. absurd (let f : ⊥ = cc in f); from = λ place key f at. absurd (let f : ⊥ = cc in f) }
 
-no_functions : (ks : List Key) (s : Address) → AreFunctions ks s [] []
+pub no_functions : (ks : List Key) (s : Address) → AreFunctions ks s [] []
 no_functions ks s = record { count = refl; each = λ k fn f at. absurd (let f : ⊥ = cc in f) }
 
 -- what is taken holds no type
@@ -168,13 +168,45 @@ nothing_required : (files : List PackageFile) (ks : List Key) (s : Address) (ts 
 nothing_required files ks s ts = subst (λ (types : List Written). AreRequired files ks (map (λ id. (s, id)) (all_handles (types ++ []))) []) (sym (no_types_taken ts)) (required_none files ks)
 
 -- nothing unnamed is taken
-no_whole_taken : (ts : List Taking) (form : Form) (parts : Exprs) → Has (keys (map taking_meeting ts)) (Whole form parts) → ⊥
+pub no_whole_taken : (ts : List Taking) (form : Form) (parts : Exprs) → Has (keys (map taking_meeting ts)) (Whole form parts) → ⊥
 no_whole_taken [] form parts h = h
 no_whole_taken (t ∷ ts) form parts h = elim h [ inl here ↦ (let f : ⊥ = cc in f) | inr rest ↦ no_whole_taken ts form parts rest ]
 
 -- what is taken is named, so nothing has to be settled of it
 taken_settled : (ts : List Taking) (es : List TypeDef) (i : ℕ) (m : Meeting) (e : TypeDef) → slice_get (map taking_meeting ts) i ≡ Some m → slice_get es i ≡ Some e → IsSettled (take i es) m.given m.key e
 taken_settled ts es i m e at there = let t = map_at taking_meeting ts i m at in subst (λ (x : Meeting). IsSettled (take i es) x.given x.key e) t.2 tt
+
+-- the scope of an interface in front has its names in turn
+pub front_interface_done : (files : List PackageFile) (ks : List Key) (i : ℕ) (v : ForeignVisit) (x : Interface) → IsForeignInterface files ks v x → IsDoneScope files (interface_scope files i v x)
+front_interface_done files ks i v x is = record {
+  turn = record { distinct = taken_distinct files (visited v); differ = taken_distinct files (visited v); among = λ k y yat. (k, yat); has = λ k y yat. (k, yat) };
+  listed = is.types.names;
+  functions = sym (no_functions_at files (visited_package v) v.id.name.now);
+  stated = rw is.functions nothing_stated;
+}
+
+-- where uses lead to interfaces, nothing is taken from a world
+module _ (files : List PackageFile) (uses : AreUsableUses files (all_items files)) where
+  -- what is first taken is taken from an interface
+  first_from : (j : ℕ) (t : Taking) → slice_get (first_takings files) j ≡ Some t → (i : ℕ) × (v : ForeignVisit) × (slice_get (foreign_interfaces files) i ≡ Some v) × (visited v ≡ t.from)
+  first_from j t at = let k = firsts_at same_taking (takings files) j t at in taken_from files uses k.0 t k.1
+
+  none_from_world : (i : ℕ) (w : ForeignVisit) → slice_get (foreign_worlds files) i ≡ Some w → (j : ℕ) (t : Taking) → slice_get (first_takings files) j ≡ Some t → t.from ≡ visited w → ⊥
+  none_from_world i w at j t there same = let v = first_from j t there in interface_apart files v.0 i v.1 w v.2 at (v.3 ∙ same)
+
+  -- so the scope of a world in front has no name
+  pub front_world_done : (i : ℕ) (w : ForeignVisit) → slice_get (foreign_worlds files) i ≡ Some w → IsDoneScope files (world_scope i w)
+  front_world_done i w at = record {
+    turn = record {
+      distinct = taken_distinct files (visited w);
+      differ = differ_none;
+      among = λ k y yat. absurd (let f : ⊥ = cc in f);
+      has = λ k y yat. (let t = taken_name_at files (visited w) k y yat in absurd (none_from_world i w at t.0 t.1 t.2 t.3));
+    };
+    listed = refl;
+    functions = sym (no_functions_at files (visited_package w) w.id.name.now);
+    stated = nothing_stated;
+  }
 
 -- What is taken is met once, and its entries are those of the scopes that it is taken from; `decls` declares each of these scopes by the
 -- owner that the front alone gives it.
@@ -196,36 +228,6 @@ module _ (files : List PackageFile) (uses : AreUsableUses files (all_items files
 
   taking_of : (j : ℕ) (k : Key) → slice_get (keys met) j ≡ Some k → (t : Taking) × (slice_get ts j ≡ Some t) × (taking_key t ≡ k)
   taking_of j k at = map_at taking_key ts j k (ap (λ l. slice_get l j) (sym (keys-takings ts)) ∙ at)
-
-  -- what is first taken is taken from an interface
-  first_from : (j : ℕ) (t : Taking) → slice_get ts j ≡ Some t → (i : ℕ) × (v : ForeignVisit) × (slice_get visits i ≡ Some v) × (visited v ≡ t.from)
-  first_from j t at = let k = firsts_at same_taking (takings files) j t at in taken_from files uses k.0 t k.1
-
-  -- nothing is taken from a world
-  none_from_world : (i : ℕ) (w : ForeignVisit) → slice_get (foreign_worlds files) i ≡ Some w → (j : ℕ) (t : Taking) → slice_get ts j ≡ Some t → t.from ≡ visited w → ⊥
-  none_from_world i w at j t there same = let v = first_from j t there in interface_apart files v.0 i v.1 w v.2 at (v.3 ∙ same)
-
-  -- a scope in front has its names in turn
-  interface_done : (i : ℕ) (v : ForeignVisit) (x : Interface) → slice_get visits i ≡ Some v → slice_get front i ≡ Some x → IsDoneScope files (interface_scope files i v x)
-  interface_done i v x at there = record {
-    turn = record { distinct = taken_distinct files (visited v); differ = taken_distinct files (visited v); among = λ k y yat. (k, yat); has = λ k y yat. (k, yat) };
-    listed = (adds.interfaces.each i v x at there).types.names;
-    functions = sym (no_functions_at files (visited_package v) v.id.name.now);
-    stated = rw (adds.interfaces.each i v x at there).functions nothing_stated;
-  }
-
-  world_done : (i : ℕ) (w : ForeignVisit) → slice_get (foreign_worlds files) i ≡ Some w → IsDoneScope files (world_scope i w)
-  world_done i w at = record {
-    turn = record {
-      distinct = taken_distinct files (visited w);
-      differ = differ_none;
-      among = λ k y yat. absurd (let f : ⊥ = cc in f);
-      has = λ k y yat. (let t = taken_name_at files (visited w) k y yat in absurd (none_from_world i w at t.0 t.1 t.2 t.3));
-    };
-    listed = refl;
-    functions = sym (no_functions_at files (visited_package w) w.id.name.now);
-    stated = nothing_stated;
-  }
 
   -- a name that is taken from an interface stands among its types
   pub taken_listed : (i : ℕ) (v : ForeignVisit) (x : Interface) → slice_get visits i ≡ Some v → slice_get front i ≡ Some x → (j : ℕ) (t : Taking) → slice_get ts j ≡ Some t → t.from ≡ visited v → IsSome (env_of x.types t.id.name.now)
@@ -250,7 +252,7 @@ module _ (files : List PackageFile) (uses : AreUsableUses files (all_items files
     has = λ j name key. (
         let t = taking_of j (Def (visited w) name) key in
         let from : t.0.from ≡ visited w = (let same = t.2 in cc) in
-        absurd (none_from_world i w at j t.0 t.1 from));
+        absurd (none_from_world files uses i w at j t.0 t.1 from));
   }
 
   front_differ : AllDiffer (map done_address (front_scopes files front))
@@ -261,7 +263,7 @@ module _ (files : List PackageFile) (uses : AreUsableUses files (all_items files
     taken_entry : (ks : List Key) (j : ℕ) (t : Taking) → slice_get ts j ≡ Some t → IsNamedEntry decls ks t.from t.id.name.now (foreign_type files t)
     taken_entry ks j t at =
         let s = t.from in
-        let v = first_from j t at in
+        let v = first_from files uses j t at in
         let o = owner.Interface v.0 in
         let k = taken_has files s j t at refl in
         let names : scope files s ≡ taken_names files s = ap (scope files) (sym v.3) ∙ ap (taken_names files) v.3 in
@@ -301,7 +303,7 @@ module _ (files : List PackageFile) (uses : AreUsableUses files (all_items files
         let t = taking_of j (Def s name) key in
         let from : t.0.from ≡ s = (let same = t.2 in cc) in
         let called : t.0.id.name.now ≡ name = (let same = t.2 in cc) in
-        let v = first_from j t.0 t.1 in
+        let v = first_from files uses j t.0 t.1 in
         let lt = slice_get_within visits v.0 v.1 v.2 in
         let count = adds.interfaces.count in
         let x = at_within front v.0 (omega arith) in
@@ -323,8 +325,8 @@ module _ (files : List PackageFile) (uses : AreUsableUses files (all_items files
       meets = takings_met files;
       meeting = taken_meeting;
       each = λ t c at. elim (front_at files front adds.interfaces.count t c at) [
-        | FrontInterface i v x v_at x_at is ↦ subst (IsDoneScope files) (sym is) (interface_done i v x v_at x_at)
-        | FrontWorld i w w_at is ↦ subst (IsDoneScope files) (sym is) (world_done i w w_at)
+        | FrontInterface i v x v_at x_at is ↦ subst (IsDoneScope files) (sym is) (front_interface_done files (keys met) i v x (adds.interfaces.each i v x v_at x_at))
+        | FrontWorld i w w_at is ↦ subst (IsDoneScope files) (sym is) (front_world_done files uses i w w_at)
       ];
       own = λ t c at. elim (front_at files front adds.interfaces.count t c at) [
         | FrontInterface i v x v_at x_at is ↦ subst (λ (b : DoneScope). decls b.address ≡ decls_of b.owner b.address (scope files b.address)) (sym is) (interfaces_own i v v_at)

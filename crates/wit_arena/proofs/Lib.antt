@@ -65,6 +65,14 @@ pub mod Packaged
 pub mod Linked
 pub mod Resolved
 pub mod FirstMeetings
+pub mod LegalScopes
+pub mod KnownItems
+pub mod KnownInline
+pub mod KnownScopes
+pub mod KnownOwners
+pub mod KnownTurns
+pub mod KnownStanding
+pub mod OfPackage
 pub mod JoinedTurns
 pub mod JoinedWorlds
 pub mod JoinedOnce

@@ -37,7 +37,7 @@ use Rattle.wit_arena.specs.Resolving.{Names, Required, cell}
 use Rattle.wit_arena.specs.Resolved.{WorldArenas, AddsForeign}
 use Rattle.wit_syntax.proofs.Lists.{at_front, at_back, map_map}
 use Rattle.wit_syntax.proofs.Turns.{at_part}
-use Rattle.wit_arena.proofs.Standing.{DoneScope, turn_of}
+use Rattle.wit_arena.proofs.Standing.{DoneScope, turn_of, standing}
 use Rattle.wit_arena.proofs.Front.{interface_scope, front_scopes}
 use Rattle.wit_arena.proofs.Laid.{done_required, required_in_turn, ordered_addresses, scope_at, scope_of_entry}
 use Rattle.wit_arena.proofs.Added.{inside_of, interface_list, world_list, decls, InterfacesDone}
@@ -76,14 +76,14 @@ module _ (files : List PackageFile) (is ws : List Item) (interfaces : AreOfSort 
   written = all_meetings files (all_turns d.ordered e.ordered)
 
   pub faithful_package : ((t : ℕ) (c : DoneScope) → slice_get scopes t ≡ Some c → AllDiffer (map function_key c.functions)) → IsFaithful files p
-  faithful_package apart = faithful files (decls files is ws) written scopes p e.done (owners files is ws interfaces worlds is_items ws_items start middle front xs wfront foreign irs wrs p a d e interface_arena world_arena others) apart (takings_front files (meetings (all_turns d.ordered e.ordered)) e.done.met e.done.meets) (ap length others.unknown ∙ length-map (first_takings files) (λ t. t.id.span))
+  faithful_package apart = faithful files (decls files is ws) written scopes p (standing e.done) (owners files is ws interfaces worlds is_items ws_items start middle front xs wfront foreign irs wrs p a d e interface_arena world_arena others) apart (takings_front files (meetings (all_turns d.ordered e.ordered)) e.done.met e.done.meets) (ap length others.unknown ∙ length-map (first_takings files) (λ t. t.id.span))
 
   abbrev met_keys : List Key
   met_keys = keys e.done.met
 
   -- the names of an entry's types
   types_at : (k : ℕ) (c : DoneScope) (t : Turned) (types : Names) → slice_get scopes k ≡ Some c → turn_of c ≡ t → c.types ≡ types → HasTypes met_keys t types
-  types_at k c t types at same are = subst (λ (x : Turned). HasTypes met_keys x types) same (subst (λ (x : Names). HasTypes met_keys (turn_of c) x) are (has_types files (decls files is ws) written scopes p.types e.done k c at))
+  types_at k c t types at same are = subst (λ (x : Turned). HasTypes met_keys x types) same (subst (λ (x : Names). HasTypes met_keys (turn_of c) x) are (has_types files (decls files is ws) written scopes p.types (standing e.done) k c at))
 
   interface_types_at : (t : ℕ) (o : Ordered) (i : Interface) → slice_get d.ordered t ≡ Some o → slice_get xs t ≡ Some i → HasTypes met_keys (turned o) i.types
   interface_types_at t o i at there =
@@ -231,8 +231,8 @@ module _ (files : List PackageFile) (is ws : List Item) (interfaces : AreOfSort 
     met = e.done.met;
     first = first_met places order in_order_interfaces in_order_worlds;
     entries = met_addresses;
-    names = name_at files (decls files is ws) written scopes p e.done (owners files is ws interfaces worlds is_items ws_items start middle front xs wfront foreign irs wrs p a d e interface_arena world_arena others);
-    positions = type_at files (decls files is ws) written scopes p e.done (owners files is ws interfaces worlds is_items ws_items start middle front xs wfront foreign irs wrs p a d e interface_arena world_arena others) apart;
+    names = name_at files (decls files is ws) written scopes p (standing e.done) (owners files is ws interfaces worlds is_items ws_items start middle front xs wfront foreign irs wrs p a d e interface_arena world_arena others);
+    positions = type_at files (decls files is ws) written scopes p (standing e.done) (owners files is ws interfaces worlds is_items ws_items start middle front xs wfront foreign irs wrs p a d e interface_arena world_arena others) apart;
   }
 
   pub package_of : p.required_resource_types ≡ irs ++ wrs → (header : Header) (places : List ℕ) → IsOrder (item_rows files) places → is ≡ interfaces_of (in_order (all_items files) places) → ws ≡ worlds_of (in_order (all_items files) places) → last_header files ≡ Some header → p.name.namespace ≡ header.namespace.name.now → p.name.name ≡ header.name.name.now → option_map release_parts p.name.version ≡ option_map parts_of header.version → p.name_span ≡ header.span → p.docs ≡ first_docs (headers files) → IsPackage files p

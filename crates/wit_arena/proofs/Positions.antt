@@ -28,7 +28,7 @@ use Rattle.wit_arena.proofs.Meeting.{Has, has_either}
 use Rattle.wit_arena.proofs.Shape.{entry_of_key}
 use Rattle.wit_arena.proofs.Depth.{meaning_found}
 use Rattle.wit_arena.proofs.Parts.{part_type}
-use Rattle.wit_arena.proofs.Standing.{DoneScope, IsDone}
+use Rattle.wit_arena.proofs.Standing.{DoneScope, IsStanding}
 use Rattle.wit_arena.proofs.Stated.{entry_of, parts_at}
 
 -- an entry has the parts of its kind
@@ -39,7 +39,7 @@ entry_parts p (Some name) e = refl
 pub type_parts : (p : UnresolvedPackage) (i : ℕ) (e : TypeDef) → slice_get p.types i ≡ Some e → node_parts (package_node p (type.Id i)) ≡ (kind_of e.kind).parts
 type_parts p i e at = ap (λ (o : Option TypeDef). node_parts (option_map_or (λ (e : TypeDef). entry_node p e.name e) o Nothing)) at ∙ entry_parts p e.name e
 
-module _ (files : List PackageFile) (decls : Decls) (written : List Meeting) (cs : List DoneScope) (p : UnresolvedPackage) (d : IsDone files decls written cs p.types) where
+module _ (files : List PackageFile) (decls : Decls) (written : List Meeting) (cs : List DoneScope) (p : UnresolvedPackage) (d : IsStanding files decls written cs p.types) where
   abbrev ks : List Key
   ks = keys d.met
 

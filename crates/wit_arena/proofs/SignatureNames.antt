@@ -19,7 +19,7 @@ use Rattle.wit_arena.specs.Kind.{kind_of}
 use Rattle.wit_arena.proofs.Places.{all_at_untaken}
 use Rattle.wit_arena.proofs.Shape.{entry_of_key}
 use Rattle.wit_arena.proofs.Signatures.{function_typed, type_of}
-use Rattle.wit_arena.proofs.Standing.{DoneScope, IsDone}
+use Rattle.wit_arena.proofs.Standing.{DoneScope, IsDone, standing}
 use Rattle.wit_arena.proofs.Stated.{meaning_at, function_at}
 
 none_in : (id : Id) → Contains [] id → ⊥
@@ -63,10 +63,10 @@ word_in (x ∷ xs) id among = elim (Contains-append_cases (words x) (flat_map wo
 -- a name in a signature of a scope that is done means something
 pub signature_meant : (files : List PackageFile) (decls : Decls) (written : List Meeting) (cs : List DoneScope) (es : List TypeDef) (d : IsDone files decls written cs es) (t : ℕ) (c : DoneScope) (k : ℕ) (fn : SourceFunction) (id : Id) → slice_get cs t ≡ Some c → slice_get c.functions k ≡ Some fn → Contains (flat_map words (signature fn)) id → meaning (scope files c.address) id.name.now ≡ None → ⊥
 signature_meant files decls written cs es d t c k fn id at fn_at among missing =
-    let f = function_at files decls written cs es d t c k fn at fn_at in
+    let f = function_at files decls written cs es (standing d) t c k fn at fn_at in
     let x = word_in (signature fn) id among in
     let typed = function_typed (keys d.met) c.address fn f.0 f.2 in
     let ty = type_of typed x.0 x.1 x.2 in
     let j = word_met decls (keys d.met) es d.meeting.keyed c.address id x.1 ty.0 (typed.each x.0 x.1 ty.0 x.2 ty.1) x.3 in
-    let it = meaning_at files decls written cs es d j.0 c.address id.name.now j.1 in
+    let it = meaning_at files decls written cs es (standing d) j.0 c.address id.name.now j.1 in
     not_both (meaning (scope files c.address) id.name.now) it.0 missing it.1

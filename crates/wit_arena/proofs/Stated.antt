@@ -29,14 +29,14 @@ use Rattle.wit_syntax.proofs.Scopes.{declared_at}
 use Rattle.wit_arena.proofs.Interfaces.{scope_at}
 use Rattle.wit_arena.proofs.Shape.{entry_of_key}
 use Rattle.wit_arena.proofs.Depth.{meaning_found}
-use Rattle.wit_arena.proofs.Standing.{DoneScope, turn_of, IsDone}
+use Rattle.wit_arena.proofs.Standing.{DoneScope, turn_of, IsStanding}
 
 -- where a name of a scope stands that is the only part
 used_key : (ks : List Key) (s : Address) (name : List ℕ) (ts : List Ty) → AreAt ks (one (Use s name)) ts → (j : ℕ) × (slice_get ks j ≡ Some (Def s name))
 used_key ks s name [] h = absurd h
 used_key ks s name (t ∷ ts) h = (h.0.0, h.0.2)
 
-module _ (files : List PackageFile) (decls : Decls) (written : List Meeting) (cs : List DoneScope) (es : List TypeDef) (d : IsDone files decls written cs es) where
+module _ (files : List PackageFile) (decls : Decls) (written : List Meeting) (cs : List DoneScope) (es : List TypeDef) (d : IsStanding files decls written cs es) where
   abbrev ks : List Key
   ks = keys d.met
 

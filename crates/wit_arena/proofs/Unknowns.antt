@@ -23,7 +23,7 @@ use Rattle.wit_arena.proofs.Meeting.{meets_grown}
 use Rattle.wit_syntax.proofs.Firsts.{firsts_at}
 use Rattle.wit_arena.proofs.Shape.{key_of}
 use Rattle.wit_arena.proofs.Forms.{body_known}
-use Rattle.wit_arena.proofs.Standing.{DoneScope, IsDone}
+use Rattle.wit_arena.proofs.Standing.{DoneScope, IsStanding}
 use Rattle.wit_arena.proofs.Stated.{decl_at}
 use Rattle.wit_arena.proofs.Itemizing.{own_names}
 use Rattle.wit_arena.proofs.Takings.{taking_key, keys-takings, takings_met, taken_at, taken_name_at}
@@ -71,7 +71,7 @@ unknown_taken (Used from attributes n) h = absurd (let f : ⊥ = cc in f)
 unknown_taken (Defined d) h = absurd (body_known d.body h)
 unknown_taken (Taken attributes id) h = (attributes, id, refl)
 
-module _ (files : List PackageFile) (decls : Decls) (written : List Meeting) (cs : List DoneScope) (es : List TypeDef) (d : IsDone files decls written cs es) (front : Grown (map taking_key (first_takings files)) (keys d.met)) (formed : (j : ℕ) (e : TypeDef) → slice_get es j ≡ Some e → e.name ≡ None → IsAnonymousForm (kind_of e.kind).form) where
+module _ (files : List PackageFile) (decls : Decls) (written : List Meeting) (cs : List DoneScope) (es : List TypeDef) (d : IsStanding files decls written cs es) (front : Grown (map taking_key (first_takings files)) (keys d.met)) (formed : (j : ℕ) (e : TypeDef) → slice_get es j ≡ Some e → e.name ≡ None → IsAnonymousForm (kind_of e.kind).form) where
   abbrev ks : List Key
   ks = keys d.met
 

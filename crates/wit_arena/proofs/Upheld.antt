@@ -31,7 +31,7 @@ use Rattle.wit_syntax.proofs.Kept.{behind_one}
 use Rattle.wit_syntax.proofs.Turns.{in_turn_has}
 use Rattle.wit_arena.proofs.Ends.{ends_one}
 use Rattle.wit_arena.proofs.Required.{in_scope, handle_turned}
-use Rattle.wit_arena.proofs.Standing.{DoneScope, turn_of, IsDone}
+use Rattle.wit_arena.proofs.Standing.{DoneScope, turn_of, IsDone, standing}
 use Rattle.wit_arena.proofs.Interfaces.{AreItems, item_scopes, inline_scopes, scope_of}
 use Rattle.wit_arena.proofs.Leading.{same_some}
 use Rattle.wit_arena.proofs.Front.{front_scopes}
@@ -75,7 +75,7 @@ module _ (files : List PackageFile) (declares : Decls) (written : List Meeting) 
 
     -- what is used in it is a name of the interface that it comes from
     pub names_stated : (f : Fault) → IsMissingName files (scope_names w) f → ⊥
-    names_stated f g = stated files declares written cs es d h.place h.scope f h.at (subst (λ (l : List ScopeName). IsMissingName files l f) own_names g)
+    names_stated f g = stated files declares written cs es (standing d) h.place h.scope f h.at (subst (λ (l : List ScopeName). IsMissingName files l f) own_names g)
 
     -- a name in a signature means something in it
     pub names_meant : (k : ℕ) (fn : SourceFunction) (id : Id) → slice_get (functions w) k ≡ Some fn → Contains (flat_map words (signature fn)) id → meaning (scope_names w) id.name.now ≡ None → ⊥

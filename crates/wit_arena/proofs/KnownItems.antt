@@ -1,0 +1,112 @@
+-- The items of a package in their orders: each stands at its address, and no two stand at one.
+use Rattle.std.proofs.Common.{◌≡◌, ℕ, suc, ◌+◌, List, [], ◌∷◌, ◌++◌, length, Option, Some, refl, sym, ap, ◌∙◌, subst, Contains}
+use Rattle.std.specs.Prelude.{slice_get, map, not}
+use Rattle.std.specs.Option.{option_map, option_map_or}
+use Rattle.std.proofs.lemmas.List.{map-append}
+use Rattle.std.proofs.lemmas.Option.{slice_get-map}
+use Rattle.wit_graph.specs.Table.{IsOrder}
+use Rattle.wit_tree.specs.declared.tree.PackageFile.{PackageFile}
+use Rattle.wit_syntax.specs.Address.{Address}
+use Rattle.wit_syntax.specs.Broken.{Names, Sides, IsLegal}
+use Rattle.wit_syntax.specs.Foreign.{visited, foreign_interfaces, foreign_worlds}
+use Rattle.wit_syntax.specs.Function.{SourceFunction, functions}
+use Rattle.wit_syntax.specs.Repeats.{AllDiffer}
+use Rattle.wit_syntax.specs.Scope.{rows_of, in_order, interfaces_of, worlds_of}
+use Rattle.wit_syntax.specs.Sides.{FoldedTwice, all_scopes, function_key, inline_items, side_items}
+use Rattle.wit_syntax.specs.Source.{Item, ScopeName, address, all_items, is_world, item_at, scope_names}
+use Rattle.wit_syntax.specs.Trees.{scope}
+use Rattle.wit_syntax.proofs.Legal.{functions_differ, functions_items}
+use Rattle.wit_syntax.proofs.Lists.{at_front, at_back, map_map}
+use Rattle.wit_arena.specs.Whole.{Ordered, OrderedWorld, AreOrdered, item_of, own_item, all_inside, functions_at, interface_addresses, ordered_names, world_addresses}
+use Rattle.wit_arena.proofs.Added.{inside_of, interface_list, world_list, all_addresses}
+use Rattle.wit_arena.proofs.DoneWorlds.{own_order}
+use Rattle.wit_arena.proofs.Interfaces.{AreAddresses, AreItems, interfaces_sort, worlds_sort, items_kept, item_scopes, inline_scopes, scope_at}
+use Rattle.wit_arena.proofs.Itemizing.{are_items}
+use Rattle.wit_arena.proofs.Laid.{ordered_addresses, in_turn_is}
+use Rattle.wit_arena.proofs.LegalScopes.{distinct_items, names_differ, scope_among}
+use Rattle.wit_arena.proofs.Standing.{IsTurn}
+
+-- an item stands at its address, and has the order of the table of its names
+pub record IsItem (files : List PackageFile) (o : Ordered) : Type 0 where
+  pub found : item_at (all_scopes files) (address o.item) ≡ Some o.item
+  pub least : IsOrder (rows_of (scope_names o.item)) o.order
+
+module _ (files : List PackageFile) (legal : IsLegal files) where
+  -- so the scope at its address has its names, each once, and its functions, no two of one side and name
+  module _ (o : Ordered) (it : IsItem files o) where
+    pub scope_is : scope files (address o.item) ≡ scope_names o.item
+    scope_is = scope_at files (address o.item) o.item it.found
+
+    pub functions_are : functions_at files (address o.item) ≡ functions o.item
+    functions_are = ap (λ (i : Option Item). option_map_or functions i []) it.found
+
+    among : Contains (all_scopes files) o.item
+    among = scope_among files legal (address o.item) o.item it.found
+
+    pub turn_is : IsTurn (scope files (address o.item)) (ordered_names o)
+    turn_is = subst (λ (l : List ScopeName). IsTurn l (ordered_names o)) (sym scope_is) (in_turn_is (scope_names o.item) o.order it.least (names_differ files legal o.item among))
+
+    pub functions_apart : AllDiffer (map function_key (functions o.item))
+    functions_apart = subst (λ (l : List SourceFunction). AllDiffer (map function_key l)) (sym (functions_items o.item)) (functions_differ (scope_names o.item) (side_items o.item) o.order it.least (λ f twice. legal f (Sides o.item among (FoldedTwice twice))))
+
+  -- the interfaces and the worlds of files in the order of their table
+  module _ (os : List Ordered) (ws : List OrderedWorld) (ordered : AreOrdered files os ws) where
+    abbrev all : List Item
+    all = in_order (all_items files) ordered.places
+
+    are_all : AreItems files all
+    are_all = are_items files ordered.places ordered.item_order (distinct_items files (λ f broken. legal f (Names broken)))
+
+    pub are_interfaces : AreItems files (interfaces_of all)
+    are_interfaces = items_kept files (λ (i : Item). not (is_world i)) all are_all
+
+    pub are_worlds : AreItems files (worlds_of all)
+    are_worlds = items_kept files is_world all are_all
+
+    inside_items : (vs : List OrderedWorld) → ((t : ℕ) (w : OrderedWorld) → slice_get vs t ≡ Some w → map item_of w.inside ≡ inline_items w.own.item) → map item_of (all_inside vs) ≡ inside_of (map own_item vs)
+    inside_items [] inside = refl
+    inside_items (v ∷ vs) inside = map-append item_of v.inside (all_inside vs) ∙ ap (λ l. l ++ map item_of (all_inside vs)) (inside 0 v refl) ∙ ap (λ l. inline_items v.own.item ++ l) (inside_items vs (λ t. inside (suc t)))
+
+    pub inside_are : map item_of (all_inside ws) ≡ inside_of (worlds_of all)
+    inside_are = inside_items ws ordered.inside ∙ ap inside_of ordered.all_worlds
+
+    interfaces_are : interface_list files (interfaces_of all) (inside_of (worlds_of all)) ≡ interface_addresses files (os ++ all_inside ws)
+    interfaces_are =
+        let items = map-append item_of os (all_inside ws) ∙ ap (λ l. l ++ map item_of (all_inside ws)) ordered.all_interfaces ∙ ap (λ l. interfaces_of all ++ l) inside_are in
+        ap (λ l. map visited (foreign_interfaces files) ++ l) (ordered_addresses (os ++ all_inside ws) (interfaces_of all ++ inside_of (worlds_of all)) items)
+
+    worlds_are : world_list files (worlds_of all) ≡ world_addresses files ws
+    worlds_are = ap (λ l. map visited (foreign_worlds files) ++ l) (ap (map address) (sym ordered.all_worlds) ∙ map_map address own_item ws)
+
+    -- no two addresses of interfaces and of worlds are one
+    pub addresses_are : AreAddresses (interface_addresses files (os ++ all_inside ws)) (world_addresses files ws)
+    addresses_are = subst (λ (l : List Address). AreAddresses l (world_addresses files ws)) interfaces_are (subst (λ (l : List Address). AreAddresses (interface_list files (interfaces_of all) (inside_of (worlds_of all))) l) worlds_are (all_addresses files (interfaces_of all) (worlds_of all) (interfaces_sort all) (worlds_sort all) are_interfaces are_worlds))
+
+    -- where the item of an order stands
+    pub interface_place : (t : ℕ) (o : Ordered) → slice_get os t ≡ Some o → slice_get (interfaces_of all) t ≡ Some o.item
+    interface_place t o at = ap (λ (l : List Item). slice_get l t) (sym ordered.all_interfaces) ∙ slice_get-map item_of os t ∙ ap (option_map item_of) at
+
+    pub world_place : (t : ℕ) (w : OrderedWorld) → slice_get ws t ≡ Some w → slice_get (worlds_of all) t ≡ Some w.own.item
+    world_place t w at = ap (λ (l : List Item). slice_get l t) (sym ordered.all_worlds) ∙ slice_get-map own_item ws t ∙ ap (option_map own_item) at
+
+    pub inside_place : (t : ℕ) (o : Ordered) → slice_get (all_inside ws) t ≡ Some o → slice_get (inside_of (worlds_of all)) t ≡ Some o.item
+    inside_place t o at = ap (λ (l : List Item). slice_get l t) (sym inside_are) ∙ slice_get-map item_of (all_inside ws) t ∙ ap (option_map item_of) at
+
+    -- each of them is an item
+    pub interface_item : (t : ℕ) (o : Ordered) → slice_get os t ≡ Some o → IsItem files o
+    interface_item t o at = record {
+      found = (item_scopes files (interfaces_of all) are_interfaces).found t o.item (interface_place t o at);
+      least = ordered.least t o (at_front os (map own_order ws ++ all_inside ws) t o at);
+    }
+
+    pub world_item : (t : ℕ) (w : OrderedWorld) → slice_get ws t ≡ Some w → IsItem files w.own
+    world_item t w at = record {
+      found = (item_scopes files (worlds_of all) are_worlds).found t w.own.item (world_place t w at);
+      least = ordered.least (length os + t) w.own (at_back os (map own_order ws ++ all_inside ws) t w.own (at_front (map own_order ws) (all_inside ws) t w.own (slice_get-map own_order ws t ∙ ap (option_map own_order) at)));
+    }
+
+    pub inside_item : (t : ℕ) (o : Ordered) → slice_get (all_inside ws) t ≡ Some o → IsItem files o
+    inside_item t o at = record {
+      found = (inline_scopes files (worlds_of all) are_worlds).found t o.item (inside_place t o at);
+      least = ordered.least (length os + (length (map own_order ws) + t)) o (at_back os (map own_order ws ++ all_inside ws) (length (map own_order ws) + t) o (at_back (map own_order ws) (all_inside ws) t o at));
+    }

@@ -1,0 +1,111 @@
+-- What files that break no rule say of names and of uses: no two names of a scope are one, and uses lead to interfaces.
+use Rattle.std.proofs.Common.{◌≡◌, ℕ, zero, suc, true, false, List, [], ◌++◌, Option, Some, None, inl, inr, refl, sym, ap, ◌∙◌, Contains}
+use Rattle.std.specs.Prelude.{slice_get, map}
+use Rattle.std.specs.Option.{option_map, option_map_or}
+use Rattle.std.proofs.lemmas.Bool.{cases_Bool}
+use Rattle.std.proofs.lemmas.Option.{slice_get-map}
+use Rattle.wit_tree.specs.declared.tree.PackageFile.{PackageFile}
+use Rattle.wit_tree.specs.declared.tree.Use.{Use as WrittenUse}
+use Rattle.wit_syntax.specs.Address.{Address, InterfaceNamed, WorldNamed, InlineAt, ForeignNamed, same_address}
+use Rattle.wit_syntax.specs.Bodies.{IsSecond}
+use Rattle.wit_syntax.specs.Broken.{is_world_at, IsBrokenNames, DuplicateItem, Items, DefinedTwice, MissingUse, WorldUsed, Scope, Use, IsLegal}
+use Rattle.wit_syntax.specs.Crossing.{extern_paths, inline_uses}
+use Rattle.wit_syntax.specs.Fault.{Fault, fault, missing_at, item_word}
+use Rattle.wit_syntax.specs.Foreign.{is_foreign_world, foreign_at}
+use Rattle.wit_syntax.specs.Repeats.{AllDiffer}
+use Rattle.wit_syntax.specs.Scope.{AreDistinct, used, defined, use_path, use_paths, part_uses, uses}
+use Rattle.wit_syntax.specs.Sides.{all_scopes}
+use Rattle.wit_syntax.specs.Source.{Part, Defining, Using, Including, Doing, Crossing, Target, Local, Foreign, Item, address, all_items, item_at, item_id, item_name, item_named, is_world, leads, local_id, local_name, parts, path_id, scope_names}
+use Rattle.wit_syntax.specs.Trees.{scope}
+use Rattle.wit_syntax.proofs.Found.{at_contains, contains_at, find_at}
+use Rattle.wit_syntax.proofs.Legal.{three_ways}
+use Rattle.wit_syntax.proofs.Lists.{at_front, flat_map_at, flat_map_has}
+use Rattle.wit_syntax.proofs.Repeated.{differ_by}
+use Rattle.wit_syntax.proofs.Turns.{distinct_names, distinct_none}
+use Rattle.wit_arena.specs.Resolved.{AreUsableUses}
+use Rattle.wit_arena.proofs.Takings.{taken_distinct}
+use Rattle.wit_arena.proofs.Visits.{visit_listed, foreign_at-visited, leads_visited}
+
+-- where nothing stands behind another of its key, no two have one
+pub all_differ : {X : Type 0} (key : X → List ℕ) (told : X → Fault) (xs : List X) → ((f : Fault) → IsSecond key told xs f → ⊥) → AllDiffer (map key xs)
+all_differ key told xs never = differ_by key xs (λ i j x y at_x at_y same. elim (three_ways i j) [
+  | inl before ↦ absurd (never (told y) (record { later = y; repeated = record { first = i; second = j; earlier = x; before = before; at_first = at_x; at_second = at_y; same = same }; is = refl }))
+  | inr rest ↦ elim rest [
+    | inl one ↦ one
+    | inr behind ↦ absurd (never (told x) (record { later = x; repeated = record { first = j; second = i; earlier = y; before = behind; at_first = at_y; at_second = at_x; same = sym same }; is = refl }))
+  ]
+])
+
+-- where no rule about names is broken, the names of items differ
+pub distinct_items : (files : List PackageFile) → ((f : Fault) → IsBrokenNames files f → ⊥) → AllDiffer (map item_name (all_items files))
+distinct_items files legal = all_differ item_name (λ (i : Item). fault 5 (item_id i).span) (all_items files) (λ f second. legal f (Items (DuplicateItem second)))
+
+-- the path of a `use` of a part is one of it
+path_of_use : (x : Part) (j : ℕ) (u : WrittenUse) → slice_get (part_uses x) j ≡ Some u → (i : ℕ) × (slice_get (use_path x) i ≡ Some u.from)
+path_of_use (Defining d) j u at = absurd (let f : ⊥ = cc in f)
+path_of_use (Using y) zero u at = (0, (let same : y ≡ u = cc in ap (λ (z : WrittenUse). Some z.from) same))
+path_of_use (Using y) (suc j) u at = absurd (let f : ⊥ = cc in f)
+path_of_use (Including n) j u at = absurd (let f : ⊥ = cc in f)
+path_of_use (Doing g) j u at = absurd (let f : ⊥ = cc in f)
+path_of_use (Crossing x) j u at = (j, at_front (map (λ (u : WrittenUse). u.from) (inline_uses x.kind)) (extern_paths x.kind) j u.from (slice_get-map (λ (u : WrittenUse). u.from) (inline_uses x.kind) j ∙ ap (option_map (λ (u : WrittenUse). u.from)) at))
+
+-- so it is one of its item
+path_among : (w : Item) (u : WrittenUse) → Contains (uses w) u → Contains (use_paths w) u.from
+path_among w u used =
+    let k = at_contains (uses w) u used in
+    let it = flat_map_at part_uses (parts w) k.0 u k.1 in
+    let own = path_of_use it.1 it.3.0 u it.3.1 in
+    let n = flat_map_has use_path (parts w) it.0 own.0 it.1 u.from it.2 own.1 in
+    contains_at (use_paths w) n.0 u.from n.1
+
+module _ (files : List PackageFile) (legal : IsLegal files) where
+  -- the names of an item differ
+  pub names_differ : (i : Item) → Contains (all_scopes files) i → AreDistinct (scope_names i)
+  names_differ i among = distinct_names (scope_names i) (all_differ local_name (λ x. fault 14 (local_id x).span) (used (scope_names i) ++ defined (scope_names i)) (λ f second. legal f (Scope i among (DefinedTwice second))))
+
+  -- what stands at an address is a scope of the files
+  pub scope_among : (s : Address) (i : Item) → item_at (all_scopes files) s ≡ Some i → Contains (all_scopes files) i
+  scope_among s i found = (let it = find_at (λ (w : Item). same_address (address w) s) (all_scopes files) i found in contains_at (all_scopes files) it.0 i it.1)
+
+  found_differ : (o : Option Item) → ((i : Item) → o ≡ Some i → Contains (all_scopes files) i) → AreDistinct (option_map_or scope_names o [])
+  found_differ None among = distinct_none
+  found_differ (Some i) among = names_differ i (among i refl)
+
+  at_address : (s : Address) → AreDistinct (option_map_or scope_names (item_at (all_scopes files) s) [])
+  at_address s = found_differ (item_at (all_scopes files) s) (scope_among s)
+
+  -- and so do those of each scope
+  pub scope_differs : (s : Address) → AreDistinct (scope files s)
+  scope_differs (InterfaceNamed name) = at_address (InterfaceNamed name)
+  scope_differs (WorldNamed name) = at_address (WorldNamed name)
+  scope_differs (InlineAt world side place) = at_address (InlineAt world side place)
+  scope_differs (ForeignNamed p name) = taken_distinct files (ForeignNamed p name)
+
+  -- no `use` leads to a world
+  no_world_used : (w : Item) (u : WrittenUse) → Contains (all_items files) w → Contains (uses w) u → is_world_at files (leads w.top u.from) ≡ Some true → ⊥
+  no_world_used w u among used to = legal (fault 10 (path_id u.from).span) (Use w among (WorldUsed (record { path = u.from; among = path_among w u used; other = to; is = refl })))
+
+  -- where a `use` leads to a name, an item of that name stands there, and it is an interface
+  local_use : (w : Item) (u : WrittenUse) → Contains (all_items files) w → Contains (uses w) u → (t : Target) → leads w.top u.from ≡ t → (o : Option Item) → is_world_at files t ≡ option_map is_world o → (o ≡ None → ⊥) → is_world_at files t ≡ Some false
+  local_use w u among used t lead None at missing = absurd (missing refl)
+  local_use w u among used t lead (Some i) at missing = elim (cases_Bool (is_world i)) [
+    | inl world ↦ absurd (no_world_used w u among used (ap (is_world_at files) lead ∙ at ∙ ap Some world))
+    | inr other ↦ at ∙ ap Some other
+  ]
+
+  use_leads : (w : Item) (u : WrittenUse) → Contains (all_items files) w → Contains (uses w) u → (t : Target) → leads w.top u.from ≡ t → is_world_at files t ≡ Some false
+  use_leads w u among used (Local id) lead = local_use w u among used (Local id) lead (item_named (all_items files) id.name.now) refl (λ none. legal (missing_at 7 item_word id) (Use w among (MissingUse (record { path = u.from; id = id; among = path_among w u used; local = lead; missing = none; is = refl }))))
+  use_leads w u among used (Foreign p id) lead =
+      let q = at_contains (all_items files) w among in
+      let here = leads_visited files q.0 w u p id q.1 used lead in
+      let it = visit_listed files here.place here.v here.at in
+      let v = it.1 in
+      let found : is_world_at files (Foreign p id) ≡ Some (is_foreign_world v) = ap (λ (s : Address). option_map is_foreign_world (foreign_at files s)) (sym (it.3 ∙ here.is)) ∙ ap (option_map is_foreign_world) (foreign_at-visited files it.0 v it.2) in
+      elim (cases_Bool (is_foreign_world v)) [
+        | inl world ↦ absurd (no_world_used w u among used (ap (is_world_at files) lead ∙ found ∙ ap Some world))
+        | inr other ↦ found ∙ ap Some other
+      ]
+
+  -- the path of each `use` leads to an interface
+  pub uses_lead : AreUsableUses files (all_items files)
+  uses_lead = record { usable = λ w u among used. use_leads w u among used (leads w.top u.from) refl }
