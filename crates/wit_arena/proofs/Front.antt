@@ -106,7 +106,7 @@ world_scope_from n (u ∷ vs) zero v at =
     ap (λ x. Some (world_scope n x)) one ∙ ap (λ m. Some (world_scope m v)) (let same : n ≡ n + 0 = omega arith in same)
 world_scope_from n (u ∷ vs) (suc t) v at = world_scope_from (suc n) vs t v at ∙ ap (λ m. Some (world_scope m v)) (let same : suc n + t ≡ n + suc t = omega arith in same)
 
-pub world_scope_at : (vs : List ForeignVisit) (t : ℕ) (v : ForeignVisit) → slice_get vs t ≡ Some v → slice_get (world_scopes 0 vs) t ≡ Some (world_scope t v)
+world_scope_at : (vs : List ForeignVisit) (t : ℕ) (v : ForeignVisit) → slice_get vs t ≡ Some v → slice_get (world_scopes 0 vs) t ≡ Some (world_scope t v)
 world_scope_at vs t v at = world_scope_from 0 vs t v at ∙ ap (λ m. Some (world_scope m v)) (let same : 0 + t ≡ t = omega arith in same)
 
 pub map-world_scopes : (n : ℕ) (vs : List ForeignVisit) → map done_address (world_scopes n vs) ≡ map visited vs
