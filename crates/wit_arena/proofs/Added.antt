@@ -113,7 +113,7 @@ module _ (files : List PackageFile) (is ws : List Item) where
     world_declared t s at = declared_by files is ws s (owner.World t) (world_owner_at (interface_list files is (inside_of ws)) (world_list files ws) all_addresses t s at)
 
     -- the items of the package stand behind those of others, those that are written in worlds behind the declared ones
-    pub listed_item : (t : ℕ) (w : Item) → slice_get (is ++ inside_of ws) t ≡ Some w → slice_get (interface_list files is (inside_of ws)) (length (map visited (foreign_interfaces files)) + t) ≡ Some (address w)
+    listed_item : (t : ℕ) (w : Item) → slice_get (is ++ inside_of ws) t ≡ Some w → slice_get (interface_list files is (inside_of ws)) (length (map visited (foreign_interfaces files)) + t) ≡ Some (address w)
     listed_item t w at = at_back (map visited (foreign_interfaces files)) (map address (is ++ inside_of ws)) t (address w) (slice_get-map address (is ++ inside_of ws) t ∙ ap (option_map address) at)
 
     pub item_declared : (t : ℕ) (w : Item) → slice_get is t ≡ Some w → decls files is ws (address w) ≡ decls_of (InterfaceOwner files t) (address w) (scope files (address w))

@@ -1,39 +1,35 @@
 -- From scopes that are done to names and functions that are, one by one, and back.
-use Rattle.std.proofs.Common.{◌≡◌, ℕ, zero, suc, List, [], ◌∷◌, ◌++◌, length, map, Some, ◌⊎◌, inl, inr, refl, sym, ap, ◌∙◌, subst, arith}
+use Rattle.std.proofs.Common.{◌≡◌, ℕ, zero, suc, List, [], ◌∷◌, ◌++◌, length, map, Some, inl, inr, sym, ap, ◌∙◌, subst}
 use Rattle.std.specs.Prelude.{slice_get}
 use Rattle.std.specs.List.{flat_map}
 use Rattle.std.specs.Option.{option_map}
 use Rattle.std.proofs.lemmas.List.{map-append}
-use Rattle.std.proofs.lemmas.Option.{slice_get_within, slice_get-map}
+use Rattle.std.proofs.lemmas.Option.{slice_get-map}
 use Rattle.wit_tree.specs.declared.tree.PackageFile.{PackageFile}
 use Rattle.wit_types.specs.declared.types.TypeDef.{TypeDef}
 use Rattle.wit_functions.specs.declared.function.Function.{Function}
 use Rattle.wit_syntax.specs.Address.{Address}
-use Rattle.wit_syntax.specs.Form.{Form}
 use Rattle.wit_syntax.specs.Function.{SourceFunction}
 use Rattle.wit_syntax.specs.Repeats.{AllDiffer}
 use Rattle.wit_syntax.specs.Source.{local_name}
 use Rattle.wit_syntax.specs.Trees.{scope}
-use Rattle.wit_syntax.proofs.Kept.{behind_one}
-use Rattle.wit_syntax.proofs.Lists.{at_front, at_seam, at_either, at_within, map_at, flat_map_at, flat_map_has}
+use Rattle.wit_syntax.proofs.Lists.{at_front, at_seam, at_either, map_at, flat_map_at}
 use Rattle.wit_syntax.proofs.Repeated.{differ_more}
-use Rattle.wit_arena.specs.Expr.{Exprs}
 use Rattle.wit_arena.specs.Functions.{IsFunction, AreFunctions}
-use Rattle.wit_arena.specs.Meet.{Key, Def, Whole, Meeting, keys, Decl, Decls, IsAmong, all_name_meetings}
+use Rattle.wit_arena.specs.Meet.{Def, Meeting, keys, Decl, Decls, IsAmong, all_name_meetings}
 use Rattle.wit_arena.specs.Resolving.{Cell, env_of, AreNames, AreKnown, AreNew, IsDefined, Defines, decls_of}
 use Rattle.wit_arena.proofs.Defining.{name_met_in, known_kept}
-use Rattle.wit_arena.proofs.Doing.{DoneFunction, done_functions, scope_functions, AreDoneNames, IsInFunctionOf, IsDoing, AreWhole}
+use Rattle.wit_arena.proofs.Doing.{DoneFunction, done_functions, scope_functions, AreDoneNames, IsDoing, AreWhole}
 use Rattle.wit_arena.proofs.Done.{turned_among}
-use Rattle.wit_arena.proofs.Meeting.{Has, has_either, keys-append, meets_append, meets_from, meets_grown}
-use Rattle.wit_arena.proofs.Signatures.{IsInFunctions, function_grown}
-use Rattle.wit_arena.proofs.Standing.{DoneScope, done_address, cell_of, IsTurn, IsNameOf, IsWholeOf, IsInSignatureOf, IsDone}
-use Rattle.wit_arena.proofs.Wholes.{whole_in_names}
+use Rattle.wit_arena.proofs.Meeting.{meets_append, meets_from, meets_grown}
+use Rattle.wit_arena.proofs.Signatures.{function_grown}
+use Rattle.wit_arena.proofs.Standing.{DoneScope, done_address, cell_of, IsTurn, IsNameOf, IsDone}
 
 -- a function with the one that was made of it
 abbrev pub done_function : Address → SourceFunction → Function → DoneFunction
 done_function s fn f = record { address = s; fn = fn; made = f }
 
-pub done_function_at : (s : Address) (fns : List SourceFunction) (fs : List Function) (k : ℕ) (fn : SourceFunction) (f : Function) → slice_get fns k ≡ Some fn → slice_get fs k ≡ Some f → slice_get (done_functions s fns fs) k ≡ Some (done_function s fn f)
+done_function_at : (s : Address) (fns : List SourceFunction) (fs : List Function) (k : ℕ) (fn : SourceFunction) (f : Function) → slice_get fns k ≡ Some fn → slice_get fs k ≡ Some f → slice_get (done_functions s fns fs) k ≡ Some (done_function s fn f)
 done_function_at s [] fs k fn f at there = absurd (let wrong : ⊥ = cc in wrong)
 done_function_at s (x ∷ fns) [] k fn f at there = absurd (let wrong : ⊥ = cc in wrong)
 done_function_at s (x ∷ fns) (g ∷ fs) zero fn f at there =
@@ -59,17 +55,6 @@ done_function_from s (x ∷ fns) (f ∷ fs) (suc k) g at =
     record { whose = it.whose; written = it.written; made_at = it.made_at }
 
 module _ (files : List PackageFile) (decls : Decls) (written : List Meeting) (cs : List DoneScope) (es : List TypeDef) (d : IsDone files decls written cs es) where
-  function_inside : (form : Form) (parts : Exprs) → IsInSignatureOf cs form parts → IsInFunctionOf (flat_map scope_functions cs) form parts
-  function_inside form parts it =
-      let c = it.cell in
-      let i = it.inside in
-      let count = (d.made it.place c it.at).count in
-      let lt = slice_get_within c.functions i.index i.fn i.among in
-      let f = at_within c.made i.index (omega (arith, lt, count)) in
-      let g = done_function c.address i.fn f.0 in
-      let k = flat_map_has scope_functions cs it.place i.index c g it.at (done_function_at c.address c.functions c.made i.index i.fn f.0 i.among f.1) in
-      record { place = k.0; function = g; at = k.1; inside = record { index = 0; fn = i.fn; among = refl; position = i.position; shape = i.shape; written = i.written; has = i.has } }
-
   function_made : (k : ℕ) (g : DoneFunction) → slice_get (flat_map scope_functions cs) k ≡ Some g → IsFunction (keys d.met) g.address g.fn g.made
   function_made k g at =
       let it = flat_map_at scope_functions cs k g at in
@@ -87,21 +72,10 @@ module _ (files : List PackageFile) (decls : Decls) (written : List Meeting) (cs
     stand = d.stand;
     before = d.before;
     unique = d.unique;
-    wholes = λ form parts h. elim (d.wholes form parts h) [ inl it ↦ inl it | inr it ↦ inr (function_inside form parts it) ];
     made = function_made;
   }
 
 module _ (files : List PackageFile) (decls : Decls) (written : List Meeting) (cs : List DoneScope) (gs : List DoneFunction) (es : List TypeDef) (d : IsDoing files decls written cs gs es) (w : AreWhole files cs gs (keys d.met)) where
-  signature_inside : (form : Form) (parts : Exprs) → IsInFunctionOf gs form parts → IsInSignatureOf cs form parts
-  signature_inside form parts it =
-      let g = it.function in
-      let e = w.each it.place g it.at in
-      let c = e.2 in
-      let one = done_function_from c.address c.functions c.made e.1 g e.4 in
-      let i = subst (λ (s : Address). IsInFunctions s (g.fn ∷ []) form parts) one.whose it.inside in
-      let same : g.fn ≡ i.fn = elim (behind_one g.fn [] i.index i.fn i.among) [ inl here ↦ here | inr none ↦ absurd (let at = none.1 in let f : ⊥ = cc in f) ] in
-      record { place = e.0; cell = c; at = e.3; inside = record { index = e.1; fn = i.fn; among = one.written ∙ ap Some same; position = i.position; shape = i.shape; written = i.written; has = i.has } }
-
   functions_made : (t : ℕ) (c : DoneScope) → slice_get cs t ≡ Some c → AreFunctions (keys d.met) c.address c.functions c.made
   functions_made t c at = record {
     count = w.count t c at;
@@ -121,7 +95,6 @@ module _ (files : List PackageFile) (decls : Decls) (written : List Meeting) (cs
     stand = d.stand;
     before = d.before;
     unique = d.unique;
-    wholes = λ form parts h. elim (d.wholes form parts h) [ inl it ↦ inl it | inr it ↦ inr (signature_inside form parts it) ];
     made = functions_made;
     required = w.required;
   }
@@ -170,17 +143,6 @@ module _ (files : List PackageFile) (decls : Decls) (written : List Meeting) (cs
         record { place = length cs; cell = c; at = at_seam cs c; scope = sym it.0; index = it.1.0; x = it.1.1; among = it.1.2; called = it.1.3 })
   ]
 
-  wholes_among : (form : Form) (parts : Exprs) → Has (keys (written ++ named)) (Whole form parts) → IsWholeOf all form parts ⊎ IsInFunctionOf gs form parts
-  wholes_among form parts h = elim (has_either (keys written) (keys named) (Whole form parts) (subst (λ (l : List Key). Has l (Whole form parts)) (keys-append written named) h)) [
-    | inl old ↦ elim (d.wholes form parts old) [
-      | inl it ↦ inl (record { place = it.place; cell = it.cell; at = at_front cs (c ∷ []) it.place it.cell it.at; index = it.index; x = it.x; among = it.among; has = it.has })
-      | inr it ↦ inr it
-    ]
-    | inr new ↦ (
-        let it = whole_in_names s c.names form parts new in
-        inl (record { place = length cs; cell = c; at = at_seam cs c; index = it.0; x = it.1; among = it.2; has = it.3 }))
-  ]
-
   -- the names of one scope more
   pub names_doing : IsDoing files decls (written ++ named) all gs es'
   names_doing = record {
@@ -201,6 +163,5 @@ module _ (files : List PackageFile) (decls : Decls) (written : List Meeting) (cs
     ];
     before = named_among;
     unique = subst AllDiffer (sym (map-append done_address cs (c ∷ []))) (differ_more (map done_address cs) s d.unique (λ i at. (let b = map_at done_address cs i s at in fresh i b.0 b.1 b.2)));
-    wholes = wholes_among;
     made = λ k g at. function_grown (meets_grown named d.met defined.now defined.meets) g.address g.fn g.made (d.made k g at);
   }

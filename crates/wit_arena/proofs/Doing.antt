@@ -1,24 +1,20 @@
 -- What stands while scopes are being resolved: names of scopes first, and then functions of them, one by one.
-use Rattle.std.proofs.Common.{◌≡◌, ℕ, List, [], ◌∷◌, length, map, Some, ◌⊎◌}
+use Rattle.std.proofs.Common.{◌≡◌, ℕ, List, [], ◌∷◌, length, map, Some}
 use Rattle.std.specs.Prelude.{slice_get}
 use Rattle.wit_tree.specs.declared.tree.PackageFile.{PackageFile}
 use Rattle.wit_types.specs.declared.types.TypeDef.{TypeDef}
 use Rattle.wit_functions.specs.declared.function.Function.{Function}
 use Rattle.wit_syntax.specs.Address.{Address}
-use Rattle.wit_syntax.specs.Form.{Form}
 use Rattle.wit_syntax.specs.Repeats.{AllDiffer}
 use Rattle.wit_syntax.specs.Function.{SourceFunction}
 use Rattle.wit_syntax.specs.Scope.{local_names}
 use Rattle.wit_syntax.specs.Trees.{scope}
-use Rattle.wit_arena.specs.Expr.{Exprs}
 use Rattle.wit_arena.specs.Functions.{IsFunction}
-use Rattle.wit_arena.specs.Meet.{Key, Def, Whole, Meeting, keys, Meets, Decls, IsMeeting}
+use Rattle.wit_arena.specs.Meet.{Key, Def, Meeting, keys, Meets, Decls, IsMeeting}
 use Rattle.wit_arena.specs.Resolving.{env_of, AreNames, decls_of}
 use Rattle.wit_arena.specs.Whole.{functions_at, turn_handles, AreRequired}
-use Rattle.wit_arena.proofs.Meeting.{Has}
 use Rattle.wit_arena.proofs.FreeNames.{AreStated}
-use Rattle.wit_arena.proofs.Signatures.{IsInFunctions}
-use Rattle.wit_arena.proofs.Standing.{DoneScope, done_address, turn_of, IsTurn, IsNameOf, IsWholeOf}
+use Rattle.wit_arena.proofs.Standing.{DoneScope, done_address, turn_of, IsTurn, IsNameOf}
 
 -- a function of a scope, and the one of the package that was made of it
 pub record DoneFunction : Type 0 where
@@ -41,13 +37,6 @@ pub record AreDoneNames (files : List PackageFile) (c : DoneScope) : Type 0 wher
   pub turn : IsTurn (scope files c.address) c.names
   pub listed : map (λ p. p.0) c.types ≡ local_names c.names
 
--- an unnamed type is written in one of these functions
-pub record IsInFunctionOf (gs : List DoneFunction) (form : Form) (parts : Exprs) : Type 0 where
-  pub place : ℕ
-  pub function : DoneFunction
-  pub at : slice_get gs place ≡ Some function
-  pub inside : IsInFunctions function.address (function.fn ∷ []) form parts
-
 -- The names of these scopes are done, and these functions of them: the arena is the list of first meetings of what is written.
 pub record IsDoing (files : List PackageFile) (decls : Decls) (written : List Meeting) (cs : List DoneScope) (gs : List DoneFunction) (es : List TypeDef) : Type 0 where
   pub met : List Meeting
@@ -58,7 +47,6 @@ pub record IsDoing (files : List PackageFile) (decls : Decls) (written : List Me
   pub stand : (t : ℕ) (c : DoneScope) → slice_get cs t ≡ Some c → AreNames (keys met) c.address (env_of c.types)
   pub before : (j : ℕ) (s : Address) (name : List ℕ) → slice_get (keys met) j ≡ Some (Def s name) → IsNameOf cs s name
   pub unique : AllDiffer (map done_address cs)
-  pub wholes : (form : Form) (parts : Exprs) → Has (keys written) (Whole form parts) → IsWholeOf cs form parts ⊎ IsInFunctionOf gs form parts
   pub made : (k : ℕ) (g : DoneFunction) → slice_get gs k ≡ Some g → IsFunction (keys met) g.address g.fn g.made
 
 -- These are all functions of these scopes, and what the handles of each require is told, where these keys were met.
@@ -67,5 +55,4 @@ pub record AreWhole (files : List PackageFile) (cs : List DoneScope) (gs : List 
   pub stated : (t : ℕ) (c : DoneScope) → slice_get cs t ≡ Some c → AreStated c.functions c.made c.stated
   pub count : (t : ℕ) (c : DoneScope) → slice_get cs t ≡ Some c → length c.made ≡ length c.functions
   pub made : (t k : ℕ) (c : DoneScope) (g : DoneFunction) → slice_get cs t ≡ Some c → slice_get (scope_functions c) k ≡ Some g → (j : ℕ) × (slice_get gs j ≡ Some g)
-  pub each : (j : ℕ) (g : DoneFunction) → slice_get gs j ≡ Some g → (t : ℕ) × (k : ℕ) × (c : DoneScope) × (slice_get cs t ≡ Some c) × (slice_get (scope_functions c) k ≡ Some g)
   pub required : (t : ℕ) (c : DoneScope) → slice_get cs t ≡ Some c → AreRequired files ks (turn_handles (turn_of c)) c.required

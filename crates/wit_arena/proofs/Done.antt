@@ -1,5 +1,5 @@
 -- Scopes that are done, one after another.
-use Rattle.std.proofs.Common.{◌≡◌, ℕ, List, [], ◌∷◌, ◌++◌, length, Some, ◌⊎◌, inl, inr, sym, ap, ◌∙◌, subst}
+use Rattle.std.proofs.Common.{◌≡◌, ℕ, List, [], ◌∷◌, ◌++◌, length, Some, inl, inr, sym, ap, ◌∙◌, subst}
 use Rattle.std.specs.Prelude.{slice_get, map}
 use Rattle.std.specs.Option.{option_map}
 use Rattle.std.proofs.lemmas.List.{map-append}
@@ -10,9 +10,7 @@ use Rattle.wit_types.specs.declared.types.TypeOwner.{TypeOwner}
 use Rattle.wit_syntax.specs.Address.{Address}
 use Rattle.wit_syntax.specs.Source.{ScopeName, local_name}
 use Rattle.wit_syntax.specs.Trees.{scope}
-use Rattle.wit_arena.specs.Meet.{Key, Def, Whole, Meeting, keys, Decl, Decls, IsAmong, decl_of, Meets, all_name_meetings, all_function_meetings}
-use Rattle.wit_syntax.specs.Form.{Form}
-use Rattle.wit_arena.specs.Expr.{Exprs}
+use Rattle.wit_arena.specs.Meet.{Key, Def, Meeting, keys, Decl, Decls, IsAmong, decl_of, Meets, all_name_meetings, all_function_meetings}
 use Rattle.wit_syntax.specs.Shape.{all_handles}
 use Rattle.wit_syntax.specs.Function.{SourceFunction, all_types}
 use Rattle.wit_arena.specs.Whole.{functions_at, turn_meetings, turn_handles, AreRequired}
@@ -22,12 +20,11 @@ use Rattle.wit_syntax.proofs.Lists.{at_front, at_seam, at_either, map_at}
 use Rattle.wit_syntax.proofs.Repeated.{differ_more}
 use Rattle.wit_arena.proofs.Meeting.{Has, has_either, keys-append, meets_append, meets_from, meets_grown}
 use Rattle.wit_arena.proofs.FreeNames.{AreStated}
-use Rattle.wit_arena.proofs.Signatures.{no_name_in_functions, names_beside, known_beside, IsInFunctions, whole_in_functions, functions_grown}
+use Rattle.wit_arena.proofs.Signatures.{no_name_in_functions, names_beside, known_beside, functions_grown}
 use Rattle.wit_arena.proofs.Ends.{IsDeclared}
 use Rattle.wit_arena.proofs.Required.{required_grown, ended_required}
 use Rattle.wit_arena.proofs.Defining.{name_met_in, known_kept}
-use Rattle.wit_arena.proofs.Wholes.{whole_in_names}
-use Rattle.wit_arena.proofs.Standing.{DoneScope, done_address, turn_of, cell_of, IsTurn, IsDoneScope, IsNameOf, IsWholeOf, IsInSignatureOf, IsDone}
+use Rattle.wit_arena.proofs.Standing.{DoneScope, done_address, turn_of, cell_of, IsTurn, IsDoneScope, IsNameOf, IsDone}
 
 -- the names in turn are declared where those of the scope are
 pub turned_among : (o : TypeOwner) (s : Address) (xs ys : List ScopeName) → IsTurn xs ys → (d : Decl) → IsAmong (decls_of o s ys) d → IsAmong (decls_of o s xs) d
@@ -80,13 +77,6 @@ pub met_in_turn : (s : Address) (xs : List ScopeName) (fns : List SourceFunction
 met_in_turn s xs fns t name h = elim (has_either (keys (all_name_meetings s xs)) (keys (all_function_meetings s fns)) (Def t name) (subst (λ (l : List Key). Has l (Def t name)) (keys-append (all_name_meetings s xs) (all_function_meetings s fns)) h)) [
   | inl named ↦ named
   | inr other ↦ absurd (no_name_in_functions s fns t name other)
-]
-
--- an unnamed type that is met there is in one of its names, or in one of its functions
-pub whole_in_turn : (s : Address) (xs : List ScopeName) (fns : List SourceFunction) (form : Form) (parts : Exprs) → Has (keys (all_name_meetings s xs ++ all_function_meetings s fns)) (Whole form parts) → Has (keys (all_name_meetings s xs)) (Whole form parts) ⊎ IsInFunctions s fns form parts
-whole_in_turn s xs fns form parts h = elim (has_either (keys (all_name_meetings s xs)) (keys (all_function_meetings s fns)) (Whole form parts) (subst (λ (l : List Key). Has l (Whole form parts)) (keys-append (all_name_meetings s xs) (all_function_meetings s fns)) h)) [
-  | inl named ↦ inl named
-  | inr other ↦ inr (whole_in_functions s fns form parts other)
 ]
 
 module _ (files : List PackageFile) (decls : Decls) (written : List Meeting) (cs : List DoneScope) (es es' : List TypeDef) (c : DoneScope) (d : IsDone files decls written cs es) (fresh : (t : ℕ) (b : DoneScope) → slice_get cs t ≡ Some b → b.address ≡ c.address → ⊥) (a : AddsDone files decls cs es es' c) where
@@ -152,20 +142,6 @@ module _ (files : List PackageFile) (decls : Decls) (written : List Meeting) (cs
   own_required : AreRequired files (keys now) (turn_handles (turn_of c)) c.required
   own_required = ended_required files decls (keys now) es' functions_added.meeting.keyed (λ j t name at. declared_scope files decls all t name each_done own_done (before_done j t name at)) s (env_of c.types) own_stand (all_handles (all_types c.names c.functions)) c.required a.ended
 
-  wholes_done : (form : Form) (parts : Exprs) → Has (keys (written ++ ks)) (Whole form parts) → IsWholeOf all form parts ⊎ IsInSignatureOf all form parts
-  wholes_done form parts h = elim (has_either (keys written) (keys ks) (Whole form parts) (subst (λ (l : List Key). Has l (Whole form parts)) (keys-append written ks) h)) [
-    | inl old ↦ elim (d.wholes form parts old) [
-      | inl it ↦ inl (record { place = it.place; cell = it.cell; at = at_front cs (c ∷ []) it.place it.cell it.at; index = it.index; x = it.x; among = it.among; has = it.has })
-      | inr it ↦ inr (record { place = it.place; cell = it.cell; at = at_front cs (c ∷ []) it.place it.cell it.at; inside = it.inside })
-    ]
-    | inr new ↦ elim (whole_in_turn s c.names c.functions form parts new) [
-      | inl named ↦ (
-          let it = whole_in_names s c.names form parts named in
-          inl (record { place = length cs; cell = c; at = at_seam cs c; index = it.0; x = it.1; among = it.2; has = it.3 }))
-      | inr inside ↦ inr (record { place = length cs; cell = c; at = at_seam cs c; inside = inside })
-    ]
-  ]
-
   -- one scope more
   pub done_more : IsDone files decls (written ++ turn_meetings (turn_of c)) all es'
   done_more = record {
@@ -180,7 +156,6 @@ module _ (files : List PackageFile) (decls : Decls) (written : List Meeting) (cs
     ];
     before = before_done;
     unique = subst AllDiffer (sym (map-append done_address cs (c ∷ []))) (differ_more (map done_address cs) s d.unique (λ i at. (let b = map_at done_address cs i s at in fresh i b.0 b.1 b.2)));
-    wholes = wholes_done;
     made = λ t b at. elim (at_either cs c t b at) [
       | inl old ↦ functions_grown (meets_grown ks d.met now met_behind) b.address b.functions b.made (d.made t b old)
       | inr new ↦ rw new.1 functions_added.are

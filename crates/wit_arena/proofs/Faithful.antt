@@ -58,7 +58,7 @@ pub record AreOwners (p : UnresolvedPackage) (cs : List DoneScope) : Type 0 wher
   pub functions : (t : ℕ) (c : DoneScope) → slice_get cs t ≡ Some c → functions_of p c.owner ≡ c.stated
   pub all : (o : TypeOwner) (s : Address) → owner_of p o ≡ Some s → IsOwnerOf cs o s
 
-module _ (files : List PackageFile) (decls : Decls) (written : List Meeting) (cs : List DoneScope) (p : UnresolvedPackage) (d : IsStanding files decls written cs p.types) (owners : AreOwners p cs) where
+module _ (files : List PackageFile) (decls : Decls) (written : List Meeting) (cs : List DoneScope) (p : UnresolvedPackage) (d : IsStanding files decls written cs p.types) (owners : AreOwners p cs) (wholes : (form : Form) (parts : Exprs) → Has (keys written) (Whole form parts) → IsWholeOf cs form parts ⊎ IsInSignatureOf cs form parts) where
   abbrev ks : List Key
   ks = keys d.met
 
@@ -85,7 +85,7 @@ module _ (files : List PackageFile) (decls : Decls) (written : List Meeting) (cs
       let k = key_of decls ks p.types d.meeting.keyed j e at in
       let w = whole_key j k.0 e (d.meeting.keyed.each j k.0 e k.1 at) none in
       let there : slice_get ks j ≡ Some (Whole (kind_of e.kind).form w.0) = k.1 ∙ ap Some w.1 in
-      (w.0, there, d.wholes (kind_of e.kind).form w.0 (was_met j (kind_of e.kind).form w.0 there))
+      (w.0, there, wholes (kind_of e.kind).form w.0 (was_met j (kind_of e.kind).form w.0 there))
 
   -- the function of a scope that one of the package is
   at_made : (t : ℕ) (c : DoneScope) → slice_get cs t ≡ Some c → (k : ℕ) (f : Function) → slice_get c.made k ≡ Some f → (j : ℕ) × (fn : SourceFunction) × (slice_get c.functions j ≡ Some fn) × (j ≡ k) × IsFunction ks c.address fn f

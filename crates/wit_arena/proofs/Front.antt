@@ -11,7 +11,6 @@ use Rattle.wit_types.specs.declared.types.TypeOwner.{TypeOwner}
 use Rattle.wit_types.specs.declared.types.TypeOwner.TheVariants as owner
 use Rattle.wit_model.specs.declared.interface.Interface.{Interface}
 use Rattle.wit_model.specs.declared.world.World.{World}
-use Rattle.wit_syntax.specs.Form.{Form}
 use Rattle.wit_type_tree.specs.declared.types.«Type».{«Type» as Written}
 use Rattle.wit_package_names.specs.declared.package_name.PackageName.{PackageName}
 use Rattle.wit_syntax.specs.Shape.{all_handles}
@@ -22,8 +21,7 @@ use Rattle.wit_syntax.specs.Source.{Declared, TheInterface, TheWorld, TheInline,
 use Rattle.wit_syntax.specs.Sides.{all_scopes}
 use Rattle.wit_syntax.specs.Trees.{scope}
 use Rattle.wit_syntax.specs.Foreign.{ForeignVisit, visited_package, visited, foreign_interfaces, foreign_worlds}
-use Rattle.wit_arena.specs.Expr.{Exprs}
-use Rattle.wit_arena.specs.Meet.{Key, Def, Whole, Meeting, keys, Decls, decl_of, IsEntry, IsNamedEntry, IsSettled, IsMeeting}
+use Rattle.wit_arena.specs.Meet.{Key, Def, Meeting, keys, Decls, decl_of, IsEntry, IsNamedEntry, IsSettled, IsMeeting}
 use Rattle.wit_syntax.specs.Repeats.{AllDiffer}
 use Rattle.wit_arena.specs.Whole.{owner_at, taking_meeting, functions_at, turn_handles, AreRequired, IsForeignInterface}
 use Rattle.wit_arena.specs.Resolving.{cell_at, cells, env_of, AreNames, decls_of}
@@ -34,7 +32,6 @@ use Rattle.wit_syntax.proofs.Repeated.{differ_none, differ_join}
 use Rattle.wit_syntax.proofs.Firsts.{firsts_at}
 use Rattle.wit_syntax.proofs.Found.{some_of}
 use Rattle.wit_arena.proofs.Using.{lookup-listed}
-use Rattle.wit_arena.proofs.Meeting.{Has}
 use Rattle.wit_arena.proofs.FreeNames.{free_keyed, AreStated}
 use Rattle.wit_arena.specs.Package.{interface_functions}
 use Rattle.wit_tree.specs.declared.tree.WorldSide.TheVariants.{Imported}
@@ -106,7 +103,7 @@ world_scope_from n (u ∷ vs) zero v at =
     ap (λ x. Some (world_scope n x)) one ∙ ap (λ m. Some (world_scope m v)) (let same : n ≡ n + 0 = omega arith in same)
 world_scope_from n (u ∷ vs) (suc t) v at = world_scope_from (suc n) vs t v at ∙ ap (λ m. Some (world_scope m v)) (let same : suc n + t ≡ n + suc t = omega arith in same)
 
-pub world_scope_at : (vs : List ForeignVisit) (t : ℕ) (v : ForeignVisit) → slice_get vs t ≡ Some v → slice_get (world_scopes 0 vs) t ≡ Some (world_scope t v)
+world_scope_at : (vs : List ForeignVisit) (t : ℕ) (v : ForeignVisit) → slice_get vs t ≡ Some v → slice_get (world_scopes 0 vs) t ≡ Some (world_scope t v)
 world_scope_at vs t v at = world_scope_from 0 vs t v at ∙ ap (λ m. Some (world_scope m v)) (let same : 0 + t ≡ t = omega arith in same)
 
 pub map-world_scopes : (n : ℕ) (vs : List ForeignVisit) → map done_address (world_scopes n vs) ≡ map visited vs
@@ -166,11 +163,6 @@ no_types_taken (t ∷ ts) = no_types_taken ts
 
 nothing_required : (files : List PackageFile) (ks : List Key) (s : Address) (ts : List Taking) → AreRequired files ks (turn_handles (record { address = s; names = map taken ts; functions = [] })) []
 nothing_required files ks s ts = subst (λ (types : List Written). AreRequired files ks (map (λ id. (s, id)) (all_handles (types ++ []))) []) (sym (no_types_taken ts)) (required_none files ks)
-
--- nothing unnamed is taken
-pub no_whole_taken : (ts : List Taking) (form : Form) (parts : Exprs) → Has (keys (map taking_meeting ts)) (Whole form parts) → ⊥
-no_whole_taken [] form parts h = h
-no_whole_taken (t ∷ ts) form parts h = elim h [ inl here ↦ (let f : ⊥ = cc in f) | inr rest ↦ no_whole_taken ts form parts rest ]
 
 -- what is taken is named, so nothing has to be settled of it
 taken_settled : (ts : List Taking) (es : List TypeDef) (i : ℕ) (m : Meeting) (e : TypeDef) → slice_get (map taking_meeting ts) i ≡ Some m → slice_get es i ≡ Some e → IsSettled (take i es) m.given m.key e
@@ -338,7 +330,6 @@ module _ (files : List PackageFile) (uses : AreUsableUses files (all_items files
       ];
       before = taken_before;
       unique = front_differ;
-      wholes = λ form parts h. absurd (no_whole_taken (takings files) form parts h);
       made = λ t c at. elim (front_at files front adds.interfaces.count t c at) [
         | FrontInterface i v x v_at x_at is ↦ subst (λ (b : DoneScope). AreFunctions (keys met) b.address b.functions b.made) (sym is) (no_functions (keys met) (visited v))
         | FrontWorld i w w_at is ↦ subst (λ (b : DoneScope). AreFunctions (keys met) b.address b.functions b.made) (sym is) (no_functions (keys met) (visited w))

@@ -23,9 +23,8 @@ use Rattle.wit_arena.specs.Package.{names_of}
 use Rattle.wit_arena.specs.Resolving.{Names, AreNames, all_met, decls_of, env_of, met}
 use Rattle.wit_arena.specs.Whole.{Ordered, OrderedWorld, Turned, addresses, all_inside, all_meetings, all_turns, declarations, interface_addresses, meetings, owner_at, taking_meeting, turn_meetings, world_addresses, IsPackage}
 use Rattle.wit_arena.proofs.Defining.{name_met_in}
-use Rattle.wit_arena.proofs.Done.{met_in_turn, whole_in_turn}
+use Rattle.wit_arena.proofs.Done.{met_in_turn}
 use Rattle.wit_arena.proofs.FirstMeetings.{meets_of_first}
-use Rattle.wit_arena.proofs.Front.{no_whole_taken}
 use Rattle.wit_arena.proofs.KnownScopes.{IsKnown}
 use Rattle.wit_arena.proofs.KnownTurns.{scopes, known_at, interface_cell, turn_part}
 use Rattle.wit_arena.proofs.LegalScopes.{uses_lead}
@@ -33,12 +32,17 @@ use Rattle.wit_arena.proofs.Meeting.{Has, has_either, keys-append, meets_from}
 use Rattle.wit_arena.proofs.Standing.{DoneScope, IsNameOf, IsInSignatureOf, IsWholeOf, IsStanding}
 use Rattle.wit_arena.proofs.Takings.{taking_key, taking-from, taking-equal, taken_from, taken_has}
 use Rattle.wit_arena.proofs.Using.{lookup-listed}
-use Rattle.wit_arena.proofs.Wholes.{whole_in_names}
+use Rattle.wit_arena.proofs.Wholes.{whole_in_names, whole_in_turn}
 
 -- a name that is met in what is taken is taken
 taking_of : (ts : List Taking) (s : Address) (name : List ℕ) → Has (keys (map taking_meeting ts)) (Def s name) → (j : ℕ) × (t : Taking) × (slice_get ts j ≡ Some t) × (taking_key t ≡ Def s name)
 taking_of [] s name h = absurd h
 taking_of (t ∷ ts) s name h = elim h [ inl here ↦ (0, t, refl, here) | inr rest ↦ (let it = taking_of ts s name rest in (suc it.0, it.1, it.2, it.3)) ]
+
+-- nothing unnamed is taken
+no_whole_taken : (ts : List Taking) (form : Form) (parts : Exprs) → Has (keys (map taking_meeting ts)) (Whole form parts) → ⊥
+no_whole_taken [] form parts h = h
+no_whole_taken (t ∷ ts) form parts h = elim h [ inl here ↦ (let f : ⊥ = cc in f) | inr rest ↦ no_whole_taken ts form parts rest ]
 
 -- what is met in scopes is met in one of them
 turn_of_meeting : (ts : List Turned) (k : Key) → Has (keys (meetings ts)) k → (i : ℕ) × (t : Turned) × (slice_get ts i ≡ Some t) × Has (keys (turn_meetings t)) k
@@ -170,6 +174,5 @@ module _ (files : List PackageFile) (legal : IsLegal files) (p : UnresolvedPacka
     own = λ t c at. ap (λ (o : TypeOwner). decls_of o c.address (scope files c.address)) (known t c at).whose;
     stand = stand;
     before = before;
-    wholes = wholes;
     made = λ t c at. (known t c at).made;
   }

@@ -75,13 +75,6 @@ module _ {X : Type 0} {Owner : ℕ → TypeOwner} {Says : Ordered → X → Type
   pub scope_of_entry : (t : ℕ) (x : X) → slice_get xs t ≡ Some x → (c : DoneScope) × (slice_get cs t ≡ Some c) × (cell_of c ≡ entry_cell x)
   scope_of_entry t x at = map_at cell_of cs t (entry_cell x) (ap (λ (y : List Cell). slice_get y t) l.types ∙ slice_get-map entry_cell xs t ∙ ap (option_map entry_cell) at)
 
-  -- the item of an entry
-  pub item_of_entry : (t : ℕ) (x : X) → slice_get xs t ≡ Some x → (o : Ordered) × (slice_get os t ≡ Some o)
-  item_of_entry t x at =
-      let lt = slice_get_within xs t x at in
-      let count = l.count in
-      at_within os t (omega arith)
-
   -- the entry of an item
   pub entry_of_item : (t : ℕ) (o : Ordered) → slice_get os t ≡ Some o → (x : X) × (slice_get xs t ≡ Some x)
   entry_of_item t o at =

@@ -59,8 +59,7 @@ pub mod Meant
 pub mod Upheld
 pub mod Finished
 pub mod Deps
-pub mod InlineCalled
-pub mod Owners
+pub mod Among
 pub mod Packaged
 pub mod Linked
 pub mod Resolved

@@ -21,7 +21,7 @@ use Rattle.wit_arena.specs.Faithful.{IsFaithful, HasArena}
 use Rattle.wit_arena.specs.Package.{owner_of, named_interface, named_world}
 use Rattle.wit_arena.specs.Whole.{Ordered, OrderedWorld, addresses, all_inside, all_turns, interface_addresses, meetings, world_addresses, IsPackage}
 use Rattle.wit_arena.proofs.Faithful.{IsOwnerOf, AreOwners, name_at, type_at, faithful}
-use Rattle.wit_arena.proofs.KnownStanding.{decls, written, meets, stands}
+use Rattle.wit_arena.proofs.KnownStanding.{decls, written, meets, wholes, stands}
 use Rattle.wit_arena.proofs.KnownTurns.{scopes, known_at, interface_cell, world_cell}
 use Rattle.wit_arena.proofs.Standing.{DoneScope}
 use Rattle.wit_arena.proofs.Unknowns.{takings_front}
@@ -108,13 +108,13 @@ module _ (files : List PackageFile) (legal : IsLegal files) (p : UnresolvedPacka
     met = h.met;
     first = h.first;
     entries = h.meeting;
-    names = name_at files (decls files legal p h) (written files legal p h) cs p (stands files legal p h) owners;
-    positions = type_at files (decls files legal p h) (written files legal p h) cs p (stands files legal p h) owners apart;
+    names = name_at files (decls files legal p h) (written files legal p h) cs p (stands files legal p h) owners (wholes files legal p h);
+    positions = type_at files (decls files legal p h) (written files legal p h) cs p (stands files legal p h) owners (wholes files legal p h) apart;
   }
 
   -- and it is faithful to them
   faithful_to : IsFaithful files p
-  faithful_to = faithful files (decls files legal p h) (written files legal p h) cs p (stands files legal p h) owners apart (takings_front files (meetings (all_turns os ws)) h.met (meets files legal p h)) (ap length h.others.unknown ∙ length-map (first_takings files) (λ t. t.id.span))
+  faithful_to = faithful files (decls files legal p h) (written files legal p h) cs p (stands files legal p h) owners (wholes files legal p h) apart (takings_front files (meetings (all_turns os ws)) h.met (meets files legal p h)) (ap length h.others.unknown ∙ length-map (first_takings files) (λ t. t.id.span))
 
 pub arena_of_package : (files : List PackageFile) (p : UnresolvedPackage) → IsLegal files → IsPackage files p → HasArena files p
 arena_of_package files p legal is = arena files legal p is

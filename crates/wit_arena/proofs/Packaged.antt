@@ -1,5 +1,5 @@
 -- What follows for a package once all interfaces and all worlds are done.
-use Rattle.std.proofs.Common.{◌≡◌, ℕ, ◌+◌, true, false, List, ◌++◌, length, Some, ◌⊎◌, inl, inr, refl, sym, ap, ◌∙◌, subst, append_assoc, length-append}
+use Rattle.std.proofs.Common.{◌≡◌, ℕ, ◌+◌, List, ◌++◌, length, Some, ◌⊎◌, inl, inr, refl, sym, ap, ◌∙◌, subst, append_assoc, length-append}
 use Rattle.std.specs.Prelude.{slice_get, map}
 use Rattle.std.specs.List.{flat_map}
 use Rattle.std.specs.Option.{option_map}
@@ -17,22 +17,20 @@ use Rattle.wit_graph.specs.Table.{IsOrder}
 use Rattle.semver.specs.Identifiers.{parts_of}
 use Rattle.wit_values.specs.ReleaseText.{release_parts}
 use Rattle.wit_syntax.specs.Address.{Address}
-use Rattle.wit_syntax.specs.Source.{address, Item, ScopeName, all_items, first_takings, scope_names}
+use Rattle.wit_syntax.specs.Source.{address, Item, ScopeName, all_items, scope_names}
 use Rattle.wit_syntax.specs.Foreign.{ForeignVisit, visited, foreign_interfaces, foreign_worlds}
 use Rattle.wit_arena.specs.Meet.{Meeting, Key, keys, IsMeeting}
-use Rattle.wit_syntax.specs.Repeats.{AllDiffer}
 use Rattle.wit_functions.specs.declared.function.Function.{Function}
 use Rattle.wit_syntax.specs.Function.{functions}
 use Rattle.wit_tree.specs.declared.tree.WorldSide.TheVariants.{Imported, Exported}
-use Rattle.wit_syntax.specs.Sides.{function_key, side_items, inline_items}
+use Rattle.wit_syntax.specs.Sides.{side_items, inline_items}
 use Rattle.wit_arena.specs.Functions.{AreFunctions, placed_functions}
 use Rattle.wit_arena.specs.SideItems.{AreSideItems, settled}
 use Rattle.wit_syntax.specs.Scope.{includes, item_rows, rows_of, in_order, interfaces_of, worlds_of}
 use Rattle.wit_syntax.specs.Broken.{headers, last_header}
 use Rattle.wit_arena.specs.Package.{world_types}
 use Rattle.wit_arena.specs.OneByOne.{OneByOne}
-use Rattle.wit_arena.specs.Whole.{Ordered, OrderedWorld, AreOrdered, own_item, Turned, item_of, ordered_names, turned, world_turns, all_turns, all_inside, turn_handles, AreRequired, meetings, all_meetings, type_imports, addresses, interface_addresses, world_addresses, declarations, HasTypes, AreIncludes, HasSides, foreign_turned, NamesOthers, first_docs, IsPackage, IsResolvedInterface, IsResolvedWorld, IsForeignInterface, AreFirstMeetings}
-use Rattle.wit_arena.specs.Faithful.{IsFaithful, HasArena}
+use Rattle.wit_arena.specs.Whole.{Ordered, OrderedWorld, AreOrdered, own_item, Turned, item_of, ordered_names, turned, world_turns, all_turns, all_inside, turn_handles, AreRequired, all_meetings, type_imports, addresses, interface_addresses, world_addresses, declarations, HasTypes, AreIncludes, HasSides, foreign_turned, NamesOthers, first_docs, IsPackage, IsResolvedInterface, IsResolvedWorld, IsForeignInterface, AreFirstMeetings}
 use Rattle.wit_arena.specs.Resolving.{Names, Required, cell}
 use Rattle.wit_arena.specs.Resolved.{WorldArenas, AddsForeign}
 use Rattle.wit_syntax.proofs.Lists.{at_front, at_back, map_map}
@@ -42,21 +40,17 @@ use Rattle.wit_arena.proofs.Front.{interface_scope, front_scopes}
 use Rattle.wit_arena.proofs.Laid.{done_required, required_in_turn, ordered_addresses, scope_at, scope_of_entry}
 use Rattle.wit_arena.proofs.Added.{inside_of, interface_list, world_list, decls, InterfacesDone}
 use Rattle.wit_arena.proofs.Inside.{IsInside, inside_at, inside_count}
-use Rattle.wit_arena.proofs.Interfaces.{AreItems, AreOfSort}
 use Rattle.wit_arena.proofs.DoneWorlds.{world_cell, AreWorldsDone, own_order, scopes_of, all_within}
 use Rattle.wit_arena.proofs.Required.{both_parts, required_append}
 use Rattle.wit_arena.proofs.Stated.{has_types}
-use Rattle.wit_arena.proofs.Faithful.{name_at, type_at, faithful}
 use Rattle.wit_arena.proofs.FirstMeetings.{first_of_meets}
-use Rattle.wit_arena.proofs.Unknowns.{takings_front}
-use Rattle.wit_arena.proofs.Owners.{types_of_cell, worlds_are_all, front_interface_at, world_scope_among, inside_scope_among, inside_entry, owners}
+use Rattle.wit_arena.proofs.Among.{types_of_cell, front_interface_at, world_scope_among, inside_scope_among, inside_entry}
 
--- what the package is, over these owners
 -- an interface of another package over other keys
 foreign_interface_over : {files : List PackageFile} {ks more : List Key} (v : ForeignVisit) (i : Interface) → IsForeignInterface files ks v i → HasTypes more (foreign_turned files v) i.types → IsForeignInterface files more v i
 foreign_interface_over v i h types = record { says = h.says; types = types; functions = h.functions }
 
-module _ (files : List PackageFile) (is ws : List Item) (interfaces : AreOfSort false is) (worlds : AreOfSort true ws) (is_items : AreItems files is) (ws_items : AreItems files ws) (start middle : List TypeDef) (front xs : List Interface) (wfront : List World) (foreign : AddsForeign files start front wfront) (irs wrs : List Required) (p : UnresolvedPackage) (a : WorldArenas) (d : InterfacesDone files is ws front is middle xs irs) (e : AreWorldsDone files is ws wfront d.ordered (front_scopes files front ++ d.scopes) ws p.types a wrs) (interface_arena : p.interfaces ≡ (front ++ xs) ++ a.inside) (world_arena : p.worlds ≡ a.worlds) (others : NamesOthers files p) where
+module _ (files : List PackageFile) (is ws : List Item) (start middle : List TypeDef) (front xs : List Interface) (wfront : List World) (foreign : AddsForeign files start front wfront) (irs wrs : List Required) (p : UnresolvedPackage) (a : WorldArenas) (d : InterfacesDone files is ws front is middle xs irs) (e : AreWorldsDone files is ws wfront d.ordered (front_scopes files front ++ d.scopes) ws p.types a wrs) (interface_arena : p.interfaces ≡ (front ++ xs) ++ a.inside) (world_arena : p.worlds ≡ a.worlds) (others : NamesOthers files p) where
   abbrev ahead : List DoneScope
   ahead = front_scopes files front
 
@@ -74,9 +68,6 @@ module _ (files : List PackageFile) (is ws : List Item) (interfaces : AreOfSort 
 
   abbrev written : List Meeting
   written = all_meetings files (all_turns d.ordered e.ordered)
-
-  pub faithful_package : ((t : ℕ) (c : DoneScope) → slice_get scopes t ≡ Some c → AllDiffer (map function_key c.functions)) → IsFaithful files p
-  faithful_package apart = faithful files (decls files is ws) written scopes p (standing e.done) (owners files is ws interfaces worlds is_items ws_items start middle front xs wfront foreign irs wrs p a d e interface_arena world_arena others) apart (takings_front files (meetings (all_turns d.ordered e.ordered)) e.done.met e.done.meets) (ap length others.unknown ∙ length-map (first_takings files) (λ t. t.id.span))
 
   abbrev met_keys : List Key
   met_keys = keys e.done.met
@@ -104,7 +95,7 @@ module _ (files : List PackageFile) (is ws : List Item) (interfaces : AreOfSort 
       let j = scope_of_entry e.laid t w there in
       let both : Some c.0 ≡ Some j.0 = sym c.1 ∙ j.1 in
       let one : c.0 ≡ j.0 = cc in
-      let k = world_scope_among files is ws interfaces worlds is_items ws_items start middle front xs wfront foreign irs wrs p a d e interface_arena world_arena others t c.0 c.1 in
+      let k = world_scope_among files is ws middle p.types front xs wfront irs wrs a d e t c.0 c.1 in
       types_at k.0 c.0 (turned o.own) (world_types w) k.1 c.2 (ap (λ (x : DoneScope). x.types) one ∙ sym (types_of_cell j.0 (world_cell w) (sym j.2)))
 
   -- the functions of an entry
@@ -132,7 +123,7 @@ module _ (files : List PackageFile) (is ws : List Item) (interfaces : AreOfSort 
   world_makes t o w at there =
       let own = o.own in
       let c = scope_at e.laid t own (own_order_at t o at) in
-      let k = world_scope_among files is ws interfaces worlds is_items ws_items start middle front xs wfront foreign irs wrs p a d e interface_arena world_arena others t c.0 c.1 in
+      let k = world_scope_among files is ws middle p.types front xs wfront irs wrs a d e t c.0 c.1 in
       let j = scope_of_entry e.laid t w there in
       let both : Some c.0 ≡ Some j.0 = sym c.1 ∙ j.1 in
       let one : c.0 ≡ j.0 = cc in
@@ -152,14 +143,14 @@ module _ (files : List PackageFile) (is ws : List Item) (interfaces : AreOfSort 
       }
 
   foreign_interface_is : (t : ℕ) (v : ForeignVisit) (i : Interface) → slice_get (foreign_interfaces files) t ≡ Some v → slice_get front t ≡ Some i → IsForeignInterface files met_keys v i
-  foreign_interface_is t v i at there = foreign_interface_over v i (foreign.interfaces.each t v i at there) (types_at t (interface_scope files t v i) (foreign_turned files v) i.types (front_interface_at files is ws interfaces worlds is_items ws_items start middle front xs wfront foreign irs wrs p a d e interface_arena world_arena others t v i at there) refl refl)
+  foreign_interface_is t v i at there = foreign_interface_over v i (foreign.interfaces.each t v i at there) (types_at t (interface_scope files t v i) (foreign_turned files v) i.types (front_interface_at files is ws middle p.types front xs wfront irs wrs a d e t v i at there) refl refl)
 
   -- an entry is that of a declared interface, or of one that is written in a world
   entry_either : (t : ℕ) (o : Ordered) (i : Interface) → slice_get (d.ordered ++ all_inside e.ordered) t ≡ Some o → slice_get (xs ++ a.inside) t ≡ Some i → ((slice_get d.ordered t ≡ Some o) × (slice_get xs t ≡ Some i)) ⊎ ((k : ℕ) × (c : DoneScope) × (slice_get (all_within e.scopes) k ≡ Some c) × IsInside ((length ss + length is) + k) o c i)
   entry_either t o i at there = elim (both_parts d.ordered (all_inside e.ordered) xs a.inside d.laid.count t o i at there) [
     | inl own ↦ inl own
     | inr far ↦ (
-        let h = inside_entry files is ws interfaces worlds is_items ws_items start middle front xs wfront foreign irs wrs p a d e interface_arena world_arena others far.0 i far.2 in
+        let h = inside_entry files is ws middle p.types front xs wfront irs wrs a d e far.0 i far.2 in
         let both : Some h.0.o ≡ Some o = sym h.0.at_o ∙ far.1 in
         let one : h.0.o ≡ o = cc in
         inr (far.0, h.0.c, h.0.at_c, subst (λ (x : Ordered). IsInside ((length ss + length is) + far.0) x h.0.c i) one (subst (λ (x : Interface). IsInside ((length ss + length is) + far.0) h.0.o h.0.c x) h.1 h.0.holds)))
@@ -171,7 +162,7 @@ module _ (files : List PackageFile) (is ws : List Item) (interfaces : AreOfSort 
     each = λ t o i at there. elim (entry_either t o i at there) [
       | inl h ↦ record { says = d.laid.says t o i h.0 h.1; types = interface_types_at t o i h.0 h.1; functions = interface_makes t o i h.0 h.1 }
       | inr h ↦ (
-          let k = inside_scope_among files is ws interfaces worlds is_items ws_items start middle front xs wfront foreign irs wrs p a d e interface_arena world_arena others h.0 h.1 h.2 in
+          let k = inside_scope_among files is ws middle p.types front xs wfront irs wrs a d e h.0 h.1 h.2 in
           record { says = h.3.says; types = types_at k.0 h.1 (turned o) i.types k.1 h.3.turn h.3.types; functions = (h.1.made, functions_made k.0 h.1 o k.1 h.3.turn, h.3.stand) })
     ];
   }
@@ -226,15 +217,6 @@ module _ (files : List PackageFile) (is ws : List Item) (interfaces : AreOfSort 
     first = first_of_meets written e.done.met e.done.meets;
   }
 
-  pub arena_package : ((t : ℕ) (c : DoneScope) → slice_get scopes t ≡ Some c → AllDiffer (map function_key c.functions)) → (places : List ℕ) → IsOrder (item_rows files) places → is ≡ interfaces_of (in_order (all_items files) places) → ws ≡ worlds_of (in_order (all_items files) places) → HasArena files p
-  arena_package apart places order in_order_interfaces in_order_worlds = record {
-    met = e.done.met;
-    first = first_met places order in_order_interfaces in_order_worlds;
-    entries = met_addresses;
-    names = name_at files (decls files is ws) written scopes p (standing e.done) (owners files is ws interfaces worlds is_items ws_items start middle front xs wfront foreign irs wrs p a d e interface_arena world_arena others);
-    positions = type_at files (decls files is ws) written scopes p (standing e.done) (owners files is ws interfaces worlds is_items ws_items start middle front xs wfront foreign irs wrs p a d e interface_arena world_arena others) apart;
-  }
-
   pub package_of : p.required_resource_types ≡ irs ++ wrs → (header : Header) (places : List ℕ) → IsOrder (item_rows files) places → is ≡ interfaces_of (in_order (all_items files) places) → ws ≡ worlds_of (in_order (all_items files) places) → last_header files ≡ Some header → p.name.namespace ≡ header.namespace.name.now → p.name.name ≡ header.name.name.now → option_map release_parts p.name.version ≡ option_map parts_of header.version → p.name_span ≡ header.span → p.docs ≡ first_docs (headers files) → IsPackage files p
   package_of requires header places order in_order_interfaces in_order_worlds last namespace name version span docs = record {
     header = header;
@@ -255,7 +237,7 @@ module _ (files : List PackageFile) (is ws : List Item) (interfaces : AreOfSort 
     are_interfaces = interfaces_are;
     worlds_front = wfront;
     own_worlds = ys;
-    world_arena = (worlds_are_all files is ws interfaces worlds is_items ws_items start middle front xs wfront foreign irs wrs p a d e interface_arena world_arena others);
+    world_arena = world_arena ∙ e.arena;
     are_foreign_worlds = foreign.worlds;
     are_worlds = worlds_are;
     required = subst (AreRequired files met_keys (flat_map turn_handles (all_turns d.ordered e.ordered))) (sym requires) required_of;

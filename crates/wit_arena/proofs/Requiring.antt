@@ -10,14 +10,11 @@ use Rattle.wit_syntax.specs.Repeats.{AllDiffer}
 use Rattle.wit_syntax.specs.Source.{address}
 use Rattle.wit_syntax.specs.Trees.{scope}
 use Rattle.wit_syntax.proofs.Lists.{at_front, at_back, at_seam}
-use Rattle.wit_syntax.specs.Form.{Form}
-use Rattle.wit_arena.specs.Expr.{Exprs, name_exprs}
-use Rattle.wit_arena.specs.Meet.{Whole, Meeting, keys, Decls}
-use Rattle.wit_arena.specs.Resolving.{env_of, Required, cell, all_met, AreNames, decls_of}
+use Rattle.wit_arena.specs.Meet.{Meeting, keys, Decls}
+use Rattle.wit_arena.specs.Resolving.{env_of, Required, cell, AreNames, decls_of}
 use Rattle.wit_arena.proofs.Added.{decls}
 use Rattle.wit_arena.proofs.Doing.{DoneFunction, AreDoneNames, IsDoing}
-use Rattle.wit_arena.proofs.Meeting.{Has}
-use Rattle.wit_arena.proofs.Standing.{DoneScope, done_address, IsNameOf, IsWholeOf}
+use Rattle.wit_arena.proofs.Standing.{DoneScope, done_address, IsNameOf}
 use Rattle.wit_arena.proofs.DoneWorlds.{one_of_three}
 
 -- a scope with other requirements
@@ -61,20 +58,6 @@ module _ (files : List PackageFile) (decls : Decls) (written : List Meeting) (fi
     }
   ]
 
-  whole_requiring : (form : Form) (parts : Exprs) → IsWholeOf was form parts → IsWholeOf now form parts
-  whole_requiring form parts it = elim (in_both c (requiring c rs) it.place it.cell it.at) [
-    | inl h ↦ record { place = h.0; cell = it.cell; at = h.1; index = it.index; x = it.x; among = it.among; has = it.has }
-    | inr is ↦ record {
-      place = length first;
-      cell = requiring c rs;
-      at = here_now;
-      index = it.index;
-      x = it.x;
-      among = ap (λ (b : DoneScope). slice_get b.names it.index) (sym is) ∙ it.among;
-      has = subst (λ (b : DoneScope). Has (all_met (name_exprs b.address it.x)) (Whole form parts)) is it.has;
-    }
-  ]
-
   addresses_requiring : map done_address was ≡ map done_address now
   addresses_requiring = of c ∙ sym (of (requiring c rs))
     where
@@ -101,6 +84,5 @@ module _ (files : List PackageFile) (decls : Decls) (written : List Meeting) (fi
     ];
     before = λ j s name at. name_requiring s name (d.before j s name at);
     unique = subst AllDiffer addresses_requiring d.unique;
-    wholes = λ form parts h. elim (d.wholes form parts h) [ inl it ↦ inl (whole_requiring form parts it) | inr it ↦ inr it ];
     made = d.made;
   }

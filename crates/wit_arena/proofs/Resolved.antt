@@ -1,5 +1,5 @@
 -- Files whose interfaces and then worlds were added: no rule is broken, and they are a package that is faithful to them.
-use Rattle.std.proofs.Common.{◌≡◌, ◌<◌, ℕ, suc, Bool, true, false, not, List, [], ◌++◌, Some, None, map, inl, inr, refl, sym, ap, ◌∙◌, subst, arith, Contains}
+use Rattle.std.proofs.Common.{◌≡◌, ℕ, true, false, List, [], ◌++◌, Some, None, map, inl, inr, refl, sym, ap, ◌∙◌, subst, arith, Contains}
 use Rattle.std.specs.Prelude.{slice_get}
 use Rattle.std.specs.Option.{option_map}
 use Rattle.std.proofs.lemmas.Bool.{cases_Bool}
@@ -17,33 +17,27 @@ use Rattle.wit_types.specs.declared.types.TypeDef.{TypeDef}
 use Rattle.wit_model.specs.declared.unresolved.UnresolvedPackage.{UnresolvedPackage}
 use Rattle.wit_graph.specs.Table.{IsOrder}
 use Rattle.wit_syntax.specs.Address.{Address, WorldNamed, ForeignNamed}
-use Rattle.wit_syntax.specs.Source.{address, Target, Local, Foreign, leads, item_id, item_named, included_scope, is_world, Item, all_items, item_name, scope_names}
+use Rattle.wit_syntax.specs.Source.{address, Target, Local, Foreign, leads, item_named, included_scope, is_world, Item, all_items, item_name}
 use Rattle.wit_syntax.specs.Foreign.{visited, is_foreign_world, foreign_interfaces, foreign_worlds, foreign_at}
 use Rattle.wit_syntax.specs.Scope.{in_order, uses as uses_of, include_paths, includes, item_rows, interfaces_of, worlds_of}
-use Rattle.std.specs.List.{filter, flat_map}
-use Rattle.wit_arena.specs.Meet.{Meeting, keys}
+use Rattle.std.specs.List.{flat_map}
+use Rattle.wit_arena.specs.Meet.{Meeting}
 use Rattle.wit_arena.specs.Resolving.{Required}
-use Rattle.wit_syntax.specs.Fault.{Fault, fault}
+use Rattle.wit_syntax.specs.Fault.{Fault}
 use Rattle.wit_syntax.specs.Notes.{IsBrokenNotes}
-use Rattle.wit_syntax.specs.Bodies.{IsSecond}
-use Rattle.wit_syntax.specs.Broken.{is_world_at, IsInterfaceIncluded, IsBrokenNames, DuplicateItem, Items, Headerless, Names, ItemStability, UseNotes, IncludeStability, Use, InterfaceIncluded, MissingName, Scope, Sides, Handle, Setter, IsSetterAlone, IsLegal, headers, last_header}
+use Rattle.wit_syntax.specs.Broken.{is_world_at, IsInterfaceIncluded, IsBrokenNames, Headerless, Names, ItemStability, UseNotes, IncludeStability, Use, InterfaceIncluded, MissingName, Scope, Sides, Handle, Setter, IsSetterAlone, IsLegal, headers, last_header}
 use Rattle.wit_syntax.specs.Repeats.{AllDiffer}
-use Rattle.wit_arena.specs.Whole.{own_item, Turned, turn_handles, all_turns, all_meetings, AreRequired, AreIncludes, NamesOthers, first_docs, IsPackage}
-use Rattle.wit_arena.specs.Faithful.{IsFaithful, HasArena}
+use Rattle.wit_arena.specs.Whole.{own_item, all_turns, all_meetings, AreIncludes, NamesOthers, first_docs, IsPackage}
 use Rattle.wit_arena.specs.Resolved.{WorldArenas, front_worlds, AddsInterfaces, AddsWorlds, AddsForeign, AreLegalScopes, AreLegalSides, AreUsableUses, AreUsableLinks, AreSoundScopes, IsBrokenItemStability, OwnStability, OfInclude, HaveLegalStability}
 use Rattle.wit_syntax.proofs.Lists.{at_within, flat_map_at, flat_map_has, map_at}
 use Rattle.wit_syntax.proofs.Turns.{at_part}
-use Rattle.wit_syntax.proofs.Repeated.{differ_by, differ_none}
-use Rattle.wit_syntax.proofs.Kept.{kept_at}
-use Rattle.wit_syntax.specs.Function.{SourceFunction, functions}
 use Rattle.wit_syntax.proofs.Setters.{among_alone}
-use Rattle.wit_syntax.specs.Sides.{function_key, side_items, Link, links, inline_items, with_inline, all_scopes, FoldedTwice}
+use Rattle.wit_syntax.specs.Sides.{Link, links, inline_items, with_inline, all_scopes}
 use Rattle.wit_syntax.proofs.Sides.{links_none}
 use Rattle.wit_syntax.proofs.Inline.{inline_items_none, inline_interface}
 use Rattle.wit_syntax.proofs.Scopes.{scopes_either}
-use Rattle.wit_syntax.proofs.Legal.{three_ways, functions_differ, functions_items}
 use Rattle.wit_arena.proofs.Standing.{DoneScope}
-use Rattle.wit_arena.proofs.Front.{front_scopes, front_at, FrontInterface, FrontWorld}
+use Rattle.wit_arena.proofs.Front.{front_scopes}
 use Rattle.wit_syntax.proofs.Found.{at_contains, contains_at}
 use Rattle.wit_arena.proofs.Interfaces.{AreItems, AreOfSort, world_address, interfaces_sort, worlds_sort}
 use Rattle.wit_arena.proofs.Itemizing.{items_within, item_index}
@@ -52,26 +46,13 @@ use Rattle.wit_arena.proofs.Visits.{world_visit, foreign_at-visited, visited_for
 use Rattle.wit_arena.proofs.Linked.{no_broken_use}
 use Rattle.wit_arena.proofs.Leading.{include_at, interface_includes_none}
 use Rattle.wit_arena.proofs.Laid.{entry_of_item}
-use Rattle.wit_arena.proofs.Upheld.{IsWholeItem, IsScopeOf, interface_done, world_done, inline_done, names_stated, handles_stated, names_meant, interface_paired, world_paired, inline_paired, interface_whose, world_whose}
+use Rattle.wit_arena.proofs.Upheld.{IsWholeItem, interface_done, world_done, inline_done, names_stated, handles_stated, names_meant, interface_paired, world_paired, inline_paired}
 use Rattle.wit_arena.proofs.Added.{inside_of, world_list, decls, InterfacesDone, interfaces_done}
 use Rattle.wit_arena.proofs.DoneWorlds.{scopes_of, own_order, AreWorldsDone}
 use Rattle.wit_arena.proofs.Worlds.{worlds_done}
 use Rattle.wit_arena.proofs.Finished.{are_interfaces, are_worlds, interface_at, world_at}
-use Rattle.wit_arena.proofs.Packaged.{arena_package, faithful_package, required_of, package_of}
-
--- an item whose name an earlier one has is declared twice
-twice : (files : List PackageFile) (i j : ℕ) (x y : Item) → i < j → slice_get (all_items files) i ≡ Some x → slice_get (all_items files) j ≡ Some y → item_name x ≡ item_name y → IsSecond item_name (λ (w : Item). fault 5 (item_id w).span) (all_items files) (fault 5 (item_id y).span)
-twice files i j x y before at_x at_y same = record { later = y; repeated = record { first = i; second = j; earlier = x; before = before; at_first = at_x; at_second = at_y; same = same }; is = refl }
-
--- where no rule about names is broken, the names of items differ
-pub distinct_items : (files : List PackageFile) → ((f : Fault) → IsBrokenNames files f → ⊥) → AllDiffer (map item_name (all_items files))
-distinct_items files legal = differ_by item_name (all_items files) (λ i j x y at_x at_y same. elim (three_ways i j) [
-  | inl before ↦ absurd (legal (fault 5 (item_id y).span) (Items (DuplicateItem (twice files i j x y before at_x at_y same))))
-  | inr rest ↦ elim rest [
-    | inl one ↦ one
-    | inr behind ↦ absurd (legal (fault 5 (item_id x).span) (Items (DuplicateItem (twice files j i y x behind at_y at_x (sym same)))))
-  ]
-])
+use Rattle.wit_arena.proofs.LegalScopes.{distinct_items}
+use Rattle.wit_arena.proofs.Packaged.{package_of}
 
 world_named : (a b : List ℕ) → WorldNamed a ≡ WorldNamed b → a ≡ b
 world_named a b h = cc
@@ -273,46 +254,4 @@ module _ (files : List PackageFile) (places : List ℕ) (order : IsOrder (item_r
     interface_arena = interfaces ∙ ap (λ (l : List Interface). l ++ a.inside) is_done.1
 
     pub files_package : p.required_resource_types ≡ irs ++ wrs → (header : Header) → last_header files ≡ Some header → p.name.namespace ≡ header.namespace.name.now → p.name.name ≡ header.name.name.now → option_map release_parts p.name.version ≡ option_map parts_of header.version → p.name_span ≡ header.span → p.docs ≡ first_docs (headers files) → IsPackage files p
-    files_package requires header last namespace name version span docs = package_of files is_items ws_items is_sort ws_sort (are_interfaces files places order differ) (are_worlds files places order differ) es middle front is_done.0 wfront foreign irs wrs p a is_done.2 package_worlds interface_arena worlds others requires header places order refl refl last namespace name version span docs
-
-    -- what handles require of other packages: first those of interfaces, then those of worlds
-    pub files_required : AreRequired files (keys package_worlds.done.met) (flat_map turn_handles (all_turns is_done.2.ordered package_worlds.ordered)) (irs ++ wrs)
-    files_required = required_of files is_items ws_items is_sort ws_sort (are_interfaces files places order differ) (are_worlds files places order differ) es middle front is_done.0 wfront foreign irs wrs p a is_done.2 package_worlds interface_arena worlds others
-
-    -- no two functions of a scope of these items go by one side and name
-    apart_in : AreLegalSides scopes_in_order → (ws : List Item) (c : DoneScope) → ((t : ℕ) (w : Item) → slice_get ws t ≡ Some w → (k : ℕ) × (slice_get scopes_in_order k ≡ Some w)) → IsScopeOf ws c → AllDiffer (map function_key c.functions)
-    apart_in sides ws c among h =
-        let o = h.ordered in
-        let k = among h.place o.item h.at in
-        subst (λ (x : Turned). AllDiffer (map function_key x.functions)) h.same (subst (λ (l : List SourceFunction). AllDiffer (map function_key l)) (sym (functions_items o.item)) (functions_differ (scope_names o.item) (side_items o.item) o.order h.least (λ f twice. sides.legal k.0 o.item f k.1 (FoldedTwice twice))))
-
-    -- an item of a sort stands among all, and so does one that is written in a world
-    kept_among : (test : Item → Bool) (t : ℕ) (w : Item) → slice_get (filter test in_turns) t ≡ Some w → (k : ℕ) × (slice_get scopes_in_order k ≡ Some w)
-    kept_among test t w at = (let q = kept_at test in_turns t w at in flat_map_has with_inline in_turns q.0 0 w w q.1 refl)
-
-    inside_among : (t : ℕ) (w : Item) → slice_get (inside_of ws_items) t ≡ Some w → (k : ℕ) × (slice_get scopes_in_order k ≡ Some w)
-    inside_among t w at =
-        let it = flat_map_at inline_items ws_items t w at in
-        let q = kept_at is_world in_turns it.0 it.1 it.2 in
-        flat_map_has with_inline in_turns q.0 (suc it.3.0) it.1 w q.1 it.3.1
-
-    functions_apart : AreLegalSides scopes_in_order → (t : ℕ) (c : DoneScope) → slice_get ((front_scopes files front ++ is_done.2.scopes) ++ flat_map scopes_of package_worlds.scopes) t ≡ Some c → AllDiffer (map function_key c.functions)
-    functions_apart sides t c at = elim (at_part (front_scopes files front ++ is_done.2.scopes) (flat_map scopes_of package_worlds.scopes) t c at) [
-      | inl h ↦ elim (at_part (front_scopes files front) is_done.2.scopes h.0 c h.1) [
-        | inl g ↦ elim (front_at files front foreign.interfaces.count g.0 c g.1) [
-          | FrontInterface k v i v_at i_at is ↦ subst (λ (b : DoneScope). AllDiffer (map function_key b.functions)) (sym is) differ_none
-          | FrontWorld k v v_at is ↦ subst (λ (b : DoneScope). AllDiffer (map function_key b.functions)) (sym is) differ_none
-        ]
-        | inr g ↦ apart_in sides is_items c (kept_among (λ (i : Item). not (is_world i))) (interface_whose files is_items ws_items middle p.types front is_done.0 wfront a irs wrs is_done.2 package_worlds g.0 c g.1)
-      ]
-      | inr h ↦ elim (world_whose files is_items ws_items middle p.types front is_done.0 wfront a irs wrs is_done.2 package_worlds h.0 c h.1) [
-        | inl own ↦ apart_in sides ws_items c (kept_among is_world) own
-        | inr inside ↦ apart_in sides (inside_of ws_items) c inside_among inside
-      ]
-    ]
-
-    pub files_faithful : AreLegalSides scopes_in_order → IsFaithful files p
-    files_faithful sides = faithful_package files is_items ws_items is_sort ws_sort (are_interfaces files places order differ) (are_worlds files places order differ) es middle front is_done.0 wfront foreign irs wrs p a is_done.2 package_worlds interface_arena worlds others (functions_apart sides)
-
-    pub files_arena : AreLegalSides scopes_in_order → HasArena files p
-    files_arena sides = arena_package files is_items ws_items is_sort ws_sort (are_interfaces files places order differ) (are_worlds files places order differ) es middle front is_done.0 wfront foreign irs wrs p a is_done.2 package_worlds interface_arena worlds others (functions_apart sides) places order refl refl
+    files_package requires header last namespace name version span docs = package_of files is_items ws_items es middle front is_done.0 wfront foreign irs wrs p a is_done.2 package_worlds interface_arena worlds others requires header places order refl refl last namespace name version span docs

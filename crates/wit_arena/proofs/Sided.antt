@@ -1,9 +1,8 @@
 -- What stands on the sides of a world is done, one after another: its functions, and the interfaces that are written there.
-use Rattle.std.proofs.Common.{◌≡◌, ℕ, suc, ◌+◌, false, List, [], ◌∷◌, ◌++◌, length, map, Some, ◌⊎◌, inl, inr, refl, sym, ap, ◌∙◌, subst, append_assoc, arith, length-append}
+use Rattle.std.proofs.Common.{◌≡◌, ℕ, suc, ◌+◌, false, List, [], ◌∷◌, ◌++◌, length, map, Some, inl, inr, refl, sym, ap, ◌∙◌, subst, append_assoc, arith, length-append}
 use Rattle.std.specs.Prelude.{slice_get}
 use Rattle.std.specs.List.{flat_map}
 use Rattle.std.proofs.lemmas.List.{append-nil, map-append}
-use Rattle.std.proofs.lemmas.Option.{slice_get_within}
 use Rattle.wit_tree.specs.declared.tree.Extern.{Extern}
 use Rattle.wit_type_tree.specs.declared.leaves.Id.{Id}
 use Rattle.wit_tree.specs.declared.tree.InterfaceItem.{InterfaceItem}
@@ -14,7 +13,6 @@ use Rattle.wit_types.specs.declared.types.TypeOwner.TheVariants as owner
 use Rattle.wit_functions.specs.declared.function.Function.{Function}
 use Rattle.wit_model.specs.declared.interface.Interface.{Interface}
 use Rattle.wit_syntax.specs.Address.{Address}
-use Rattle.wit_syntax.specs.Form.{Form}
 use Rattle.wit_syntax.specs.Function.{SourceFunction, functions, written_types, all_types}
 use Rattle.wit_syntax.specs.Repeats.{AllDiffer}
 use Rattle.wit_syntax.specs.Scope.{in_turn}
@@ -23,27 +21,26 @@ use Rattle.wit_syntax.specs.Sides.{SideItem, SideFunction, Link, SideLink, SideI
 use Rattle.wit_syntax.specs.Source.{address, Item, is_world, ScopeName, scope_names}
 use Rattle.wit_syntax.specs.Trees.{scope}
 use Rattle.wit_syntax.proofs.Kept.{behind_one, differ_head, differ_tail}
-use Rattle.wit_syntax.proofs.Lists.{at_front, at_back, at_seam, at_either, at_within}
+use Rattle.wit_syntax.proofs.Lists.{at_front, at_back, at_seam, at_either}
 use Rattle.wit_syntax.proofs.Sides.{functions_imported}
 use Rattle.wit_syntax.proofs.Turns.{at_part}
-use Rattle.wit_arena.specs.Expr.{Exprs}
 use Rattle.wit_arena.specs.Functions.{IsFunction}
-use Rattle.wit_arena.specs.Meet.{Key, Def, Whole, Meeting, keys, Meets, Decls, all_name_meetings, all_function_meetings}
+use Rattle.wit_arena.specs.Meet.{Key, Def, Meeting, keys, Meets, Decls, all_name_meetings, all_function_meetings}
 use Rattle.wit_arena.specs.Package.{interface_functions}
 use Rattle.wit_arena.specs.Resolving.{env_of, Cell, Required, HasFunctions, AddsFunctions, AreEnded, decls_of}
 use Rattle.wit_arena.specs.Resolved.{AddsInterface, AddsFunction, AddsSides}
 use Rattle.wit_arena.specs.Whole.{Ordered, Turned, item_of, turned, functions_at, function_turn, side_turns, turn_meetings, meetings, turn_handles, AreRequired}
 use Rattle.wit_arena.proofs.Added.{defines_wider}
-use Rattle.wit_arena.proofs.Begun.{done_function, done_function_at, done_function_from, names_doing}
-use Rattle.wit_arena.proofs.Doing.{DoneFunction, done_functions, scope_functions, IsInFunctionOf, IsDoing}
+use Rattle.wit_arena.proofs.Begun.{done_function, done_function_from, names_doing}
+use Rattle.wit_arena.proofs.Doing.{DoneFunction, done_functions, scope_functions, IsDoing}
 use Rattle.wit_arena.proofs.DoneWorlds.{all_handles-append, doing_declared}
 use Rattle.wit_arena.proofs.FreeNames.{AreStated}
 use Rattle.wit_arena.proofs.Inside.{IsInside, AreInside}
 use Rattle.wit_arena.proofs.Laid.{laid_scope, in_turn_is}
-use Rattle.wit_arena.proofs.Meeting.{Has, has_either, keys-append, meets_append, meets_from, meets_grown, meets_longer}
+use Rattle.wit_arena.proofs.Meeting.{meets_append, meets_from, meets_grown, meets_longer}
 use Rattle.wit_arena.proofs.Required.{in_scope, ended_required, required_none, required_append, required_grown}
-use Rattle.wit_arena.proofs.Signatures.{IsInFunctions, function_grown, names_beside, no_name_in_functions, whole_in_functions}
-use Rattle.wit_arena.proofs.Standing.{DoneScope, turn_of, cell_of, IsTurn, IsWholeOf}
+use Rattle.wit_arena.proofs.Signatures.{function_grown, names_beside, no_name_in_functions}
+use Rattle.wit_arena.proofs.Standing.{DoneScope, turn_of, cell_of, IsTurn}
 use Rattle.wit_arena.proofs.Stating.{stated_placed}
 
 module _ (files : List PackageFile) (decls : Decls) (written : List Meeting) (cs : List DoneScope) (gs : List DoneFunction) (es es' : List TypeDef) (d : IsDoing files decls written cs gs es) (t : ℕ) (c : DoneScope) (at_c : slice_get cs t ≡ Some c) (fns : List SourceFunction) (fs : List Function) (adds : AddsFunctions es es' c.address c.types fns fs) where
@@ -61,27 +58,6 @@ module _ (files : List PackageFile) (decls : Decls) (written : List Meeting) (cs
 
   pub functions_count : length fs ≡ length fns
   functions_count = added.are.count
-
-  function_among : (form : Form) (parts : Exprs) → IsInFunctions s fns form parts → IsInFunctionOf (gs ++ more) form parts
-  function_among form parts i =
-      let lt = slice_get_within fns i.index i.fn i.among in
-      let count = functions_count in
-      let f = at_within fs i.index (omega (arith, lt, count)) in
-      record {
-        place = length gs + i.index;
-        function = done_function s i.fn f.0;
-        at = at_back gs more i.index (done_function s i.fn f.0) (done_function_at s fns fs i.index i.fn f.0 i.among f.1);
-        inside = record { index = 0; fn = i.fn; among = refl; position = i.position; shape = i.shape; written = i.written; has = i.has };
-      }
-
-  wholes_among : (form : Form) (parts : Exprs) → Has (keys (written ++ behind)) (Whole form parts) → IsWholeOf cs form parts ⊎ IsInFunctionOf (gs ++ more) form parts
-  wholes_among form parts h = elim (has_either (keys written) (keys behind) (Whole form parts) (subst (λ (l : List Key). Has l (Whole form parts)) (keys-append written behind) h)) [
-    | inl old ↦ elim (d.wholes form parts old) [
-      | inl it ↦ inl it
-      | inr it ↦ inr (record { place = it.place; function = it.function; at = at_front gs more it.place it.function it.at; inside = it.inside })
-    ]
-    | inr new ↦ inr (function_among form parts (whole_in_functions s fns form parts new))
-  ]
 
   all_made : (k : ℕ) (g : DoneFunction) → slice_get (gs ++ more) k ≡ Some g → IsFunction (keys added.now) g.address g.fn g.made
   all_made k g at = elim (at_part gs more k g at) [
@@ -105,7 +81,6 @@ module _ (files : List PackageFile) (decls : Decls) (written : List Meeting) (cs
       | inr new ↦ absurd (no_name_in_functions s fns x name new)
     ];
     unique = d.unique;
-    wholes = wholes_among;
     made = all_made;
   }
 
@@ -148,7 +123,6 @@ pub record AreSided (files : List PackageFile) (decls : Decls) (written : List M
   pub count : length fs ≡ length (flat_map item_function xs)
   pub own : (k : ℕ) (g : DoneFunction) → slice_get (done_functions s (flat_map item_function xs) fs) k ≡ Some g → (j : ℕ) × (slice_get more j ≡ Some g)
   pub within : (t k : ℕ) (c : DoneScope) (g : DoneFunction) → slice_get scopes t ≡ Some c → slice_get (scope_functions c) k ≡ Some g → (j : ℕ) × (slice_get more j ≡ Some g)
-  pub each : (j : ℕ) (g : DoneFunction) → slice_get more j ≡ Some g → ((k : ℕ) × (slice_get (done_functions s (flat_map item_function xs) fs) k ≡ Some g)) ⊎ ((t : ℕ) × (k : ℕ) × (c : DoneScope) × (slice_get scopes t ≡ Some c) × (slice_get (scope_functions c) k ≡ Some g))
   pub whole : (t : ℕ) (c : DoneScope) → slice_get scopes t ≡ Some c → IsScopeWhole files c
   pub own_required : List Required
   pub told : (met : List Meeting) → Meets [] (written ++ meetings (side_turns s xs ordered)) met → AreTold files (keys met) s xs (side_turns s xs ordered) scopes own_required rs
@@ -169,7 +143,6 @@ sided_none files decls written cs gs place s es is inside d = record {
   count = refl;
   own = λ k g at. absurd (let f : ⊥ = cc in f);
   within = λ t k c g at there. absurd (let f : ⊥ = cc in f);
-  each = λ j g at. absurd (let f : ⊥ = cc in f);
   whole = λ t c at. absurd (let f : ⊥ = cc in f);
   own_required = [];
   told = λ met meets. record { each = λ t c at. absurd (let f : ⊥ = cc in f); by_functions = required_none files (keys met); in_all = required_none files (keys met) };
@@ -223,10 +196,6 @@ module _ (files : List PackageFile) (decls : Decls) (written : List Meeting) (cs
         | inr later ↦ (let it = r.own later.0 g later.1 in (suc it.0, it.1))
       ];
       within = λ k j b g at there. (let it = r.within k j b g at there in (suc it.0, it.1));
-      each = λ j g at. elim (behind_one one r.more j g at) [
-        | inl here ↦ inl (0, ap Some here)
-        | inr later ↦ elim (r.each later.0 g later.1) [ inl it ↦ inl (suc it.0, it.1) | inr it ↦ inr it ]
-      ];
       whole = r.whole;
       own_required = own ++ r.own_required;
       told = told_function;
@@ -248,7 +217,6 @@ sided_link files decls written cs gs place s new is is' fs rs link xs inside r =
   count = r.count;
   own = r.own;
   within = r.within;
-  each = r.each;
   whole = r.whole;
   own_required = r.own_required;
   told = λ met meets. (let it = r.told met meets in record { each = it.each; by_functions = it.by_functions; in_all = it.in_all });
@@ -327,12 +295,6 @@ module _ (files : List PackageFile) (decls : Decls) (written : List Meeting) (cs
       | inr later ↦ front_more g (r.within later.0 j c g later.1 there)
     ]
 
-    each_inline : (j : ℕ) (g : DoneFunction) → slice_get (scope_functions b ++ r.more) j ≡ Some g → ((k : ℕ) × (slice_get (done_functions s (flat_map item_function xs) fs) k ≡ Some g)) ⊎ ((t : ℕ) × (k : ℕ) × (c : DoneScope) × (slice_get all t ≡ Some c) × (slice_get (scope_functions c) k ≡ Some g))
-    each_inline j g at = elim (at_part (scope_functions b) r.more j g at) [
-      | inl h ↦ inr (0, h.0, b, refl, h.1)
-      | inr h ↦ elim (r.each h.0 g h.1) [ inl it ↦ inl it | inr it ↦ inr (suc it.0, it.1, it.2, it.3, it.4) ]
-    ]
-
     pub sided_inline : AreSided files decls written cs gs place s new is is' fs (own ++ rest) (SideInline x name items ∷ xs) (i ∷ inside)
     sided_inline = record {
       ordered = o ∷ r.ordered;
@@ -348,7 +310,6 @@ module _ (files : List PackageFile) (decls : Decls) (written : List Meeting) (cs
       count = r.count;
       own = λ k g at. front_more g (r.own k g at);
       within = within_inline;
-      each = each_inline;
       whole = λ k c at. elim (behind_one b r.scopes k c at) [
         | inl same ↦ subst (λ (y : DoneScope). IsScopeWhole files y) same inline_whole
         | inr later ↦ r.whole later.0 c later.1

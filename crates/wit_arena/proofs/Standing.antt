@@ -1,5 +1,5 @@
 -- What stands once some scopes are done.
-use Rattle.std.proofs.Common.{◌≡◌, ℕ, List, [], Some, ◌⊎◌}
+use Rattle.std.proofs.Common.{◌≡◌, ℕ, List, [], Some}
 use Rattle.std.specs.Prelude.{slice_get, map}
 use Rattle.wit_tree.specs.declared.tree.PackageFile.{PackageFile}
 use Rattle.wit_types.specs.declared.types.TypeDef.{TypeDef}
@@ -96,7 +96,6 @@ pub record IsDone (files : List PackageFile) (decls : Decls) (written : List Mee
   pub stand : (t : ℕ) (c : DoneScope) → slice_get cs t ≡ Some c → AreNames (keys met) c.address (env_of c.types)
   pub before : (j : ℕ) (s : Address) (name : List ℕ) → slice_get (keys met) j ≡ Some (Def s name) → IsNameOf cs s name
   pub unique : AllDiffer (map done_address cs)
-  pub wholes : (form : Form) (parts : Exprs) → Has (keys written) (Whole form parts) → IsWholeOf cs form parts ⊎ IsInSignatureOf cs form parts
   pub made : (t : ℕ) (c : DoneScope) → slice_get cs t ≡ Some c → AreFunctions (keys met) c.address c.functions c.made
   pub required : (t : ℕ) (c : DoneScope) → slice_get cs t ≡ Some c → AreRequired files (keys met) (turn_handles (turn_of c)) c.required
 
@@ -109,8 +108,7 @@ pub record IsStanding (files : List PackageFile) (decls : Decls) (written : List
   pub own : (t : ℕ) (c : DoneScope) → slice_get cs t ≡ Some c → decls c.address ≡ decls_of c.owner c.address (scope files c.address)
   pub stand : (t : ℕ) (c : DoneScope) → slice_get cs t ≡ Some c → AreNames (keys met) c.address (env_of c.types)
   pub before : (j : ℕ) (s : Address) (name : List ℕ) → slice_get (keys met) j ≡ Some (Def s name) → IsNameOf cs s name
-  pub wholes : (form : Form) (parts : Exprs) → Has (keys written) (Whole form parts) → IsWholeOf cs form parts ⊎ IsInSignatureOf cs form parts
   pub made : (t : ℕ) (c : DoneScope) → slice_get cs t ≡ Some c → AreFunctions (keys met) c.address c.functions c.made
 
 abbrev pub standing : {files : List PackageFile} {decls : Decls} {written : List Meeting} {cs : List DoneScope} {es : List TypeDef} → IsDone files decls written cs es → IsStanding files decls written cs es
-standing d = record { met = d.met; meets = d.meets; meeting = d.meeting; each = d.each; own = d.own; stand = d.stand; before = d.before; wholes = d.wholes; made = d.made }
+standing d = record { met = d.met; meets = d.meets; meeting = d.meeting; each = d.each; own = d.own; stand = d.stand; before = d.before; made = d.made }

@@ -1,5 +1,5 @@
 -- Rules that hold once all scopes are done.
-use Rattle.std.proofs.Common.{◌≡◌, ℕ, ◌+◌, List, ◌++◌, length, map, Option, Some, None, ◌⊎◌, inl, inr, sym, ap, ◌∙◌, subst, arith, Contains}
+use Rattle.std.proofs.Common.{◌≡◌, ℕ, ◌+◌, List, ◌++◌, length, map, Option, Some, None, sym, ap, ◌∙◌, subst, arith, Contains}
 use Rattle.std.specs.Prelude.{slice_get}
 use Rattle.std.specs.List.{flat_map}
 use Rattle.std.specs.Option.{option_map}
@@ -25,9 +25,8 @@ use Rattle.wit_syntax.specs.Broken.{IsMissingName, IsSetterAlone}
 use Rattle.wit_arena.specs.Whole.{Ordered, own_item, Turned, item_of, turned, all_turns, all_inside, all_meetings, turn_handles, HandleRequires, AreRequired}
 use Rattle.wit_arena.specs.Resolving.{Required}
 use Rattle.wit_arena.specs.Resolved.{WorldArenas}
-use Rattle.wit_syntax.proofs.Lists.{at_front, at_back, at_within, map_at, flat_map_at, flat_map_has}
+use Rattle.wit_syntax.proofs.Lists.{at_front, at_back, at_within, map_at}
 use Rattle.wit_syntax.proofs.Found.{at_contains}
-use Rattle.wit_syntax.proofs.Kept.{behind_one}
 use Rattle.wit_syntax.proofs.Turns.{in_turn_has}
 use Rattle.wit_arena.proofs.Ends.{ends_one}
 use Rattle.wit_arena.proofs.Required.{in_scope, handle_turned}
@@ -35,10 +34,10 @@ use Rattle.wit_arena.proofs.Standing.{DoneScope, turn_of, IsDone, standing}
 use Rattle.wit_arena.proofs.Interfaces.{AreItems, item_scopes, inline_scopes, scope_of}
 use Rattle.wit_arena.proofs.Leading.{same_some}
 use Rattle.wit_arena.proofs.Front.{front_scopes}
-use Rattle.wit_arena.proofs.Laid.{scope_at, ordered_at, entry_of}
-use Rattle.wit_arena.proofs.Inside.{HasInside, inside_at, inside_scopes-count}
+use Rattle.wit_arena.proofs.Laid.{scope_at, entry_of}
+use Rattle.wit_arena.proofs.Inside.{HasInside, inside_at}
 use Rattle.wit_arena.proofs.Added.{decls, inside_of, InterfacesDone}
-use Rattle.wit_arena.proofs.DoneWorlds.{DoneWorld, own_scope, scopes_of, all_within, own_order, AreWorldsDone, own_among, within_among}
+use Rattle.wit_arena.proofs.DoneWorlds.{scopes_of, all_within, own_order, AreWorldsDone, own_among, within_among}
 use Rattle.wit_arena.proofs.Stated.{stated}
 use Rattle.wit_arena.proofs.SignatureNames.{signature_meant}
 
@@ -90,14 +89,6 @@ module _ (files : List PackageFile) (declares : Decls) (written : List Meeting) 
         let required : AreRequired files (keys d.met) (map (in_scope (address w)) handles) h.scope.required = subst (λ (t : Turned). AreRequired files (keys d.met) (turn_handles t) h.scope.required) h.same (d.required h.place h.scope h.at) in
         let at = at_contains handles g.id (handle_turned (scope_names w) (in_turn (scope_names w) h.order) (functions w) (in_turn_has (scope_names w) h.order h.least) g.id g.among) in
         required_ends files (keys d.met) (address w) handles h.scope.required at.0 g.id required at.1 g.ends
-
--- a scope is that of one of these items, in an order of its names
-pub record IsScopeOf (ws : List Item) (c : DoneScope) : Type 0 where
-  pub place : ℕ
-  pub ordered : Ordered
-  pub at : slice_get ws place ≡ Some ordered.item
-  pub least : IsOrder (rows_of (scope_names ordered.item)) ordered.order
-  pub same : turned ordered ≡ turn_of c
 
 module _ (files : List PackageFile) (is ws : List Item) (middle es : List TypeDef) (front xs : List Interface) (wfront : List World) (a : WorldArenas) (irs wrs : List Required) (d : InterfacesDone files is ws front is middle xs irs) (e : AreWorldsDone files is ws wfront d.ordered (front_scopes files front ++ d.scopes) ws es a wrs) where
   abbrev before : List DoneScope
@@ -204,24 +195,3 @@ module _ (files : List PackageFile) (is ws : List Item) (middle es : List TypeDe
           let it = has_inside in
           let same : functions w ≡ it.c.functions = ap functions (sym is_item) ∙ sym (ap (λ (x : Turned). x.functions) it.holds.turn) in
           it.holds.paired f (subst (λ (l : List SourceFunction). IsUnpairedSetter l f) same g)
-
-  -- each scope of a declared interface is an item's
-  pub interface_whose : (t : ℕ) (c : DoneScope) → slice_get d.scopes t ≡ Some c → IsScopeOf is c
-  interface_whose t c at = (let o = ordered_at d.laid t c at in record { place = t; ordered = o.0; at = d.laid.front t o.0 o.1; least = d.laid.least t o.0 o.1; same = o.2 })
-
-  -- and each of a world, or in a world
-  pub world_whose : (k : ℕ) (c : DoneScope) → slice_get (flat_map scopes_of e.scopes) k ≡ Some c → IsScopeOf ws c ⊎ IsScopeOf (inside_of ws) c
-  world_whose k c at =
-      let b = flat_map_at scopes_of e.scopes k c at in
-      elim (behind_one b.1.own b.1.inside b.3.0 c b.3.1) [
-        | inl own ↦ (
-            let o = ordered_at e.laid b.0 c (slice_get-map own_scope e.scopes b.0 ∙ ap (option_map own_scope) b.2 ∙ ap Some own) in
-            inl (record { place = b.0; ordered = o.0; at = e.laid.front b.0 o.0 o.1; least = e.laid.least b.0 o.0 o.1; same = o.2 }))
-        | inr inside ↦ (
-            let q = flat_map_has (λ (v : DoneWorld). v.inside) e.scopes b.0 inside.0 b.1 c b.2 inside.1 in
-            let lt = slice_get_within (all_within e.scopes) q.0 c q.1 in
-            let long = inside_scopes-count start (all_inside e.ordered) (all_within e.scopes) a.inside e.laid_inside in
-            let it = inside_at start (all_inside e.ordered) (all_within e.scopes) a.inside e.laid_inside q.0 (omega arith) in
-            let one = same_some (slice_get (all_within e.scopes) q.0) it.c c it.at_c q.1 in
-            inr (record { place = q.0; ordered = it.o; at = ap (λ (l : List Item). slice_get l q.0) (sym e.inside) ∙ slice_get-map item_of (all_inside e.ordered) q.0 ∙ ap (option_map item_of) it.at_o; least = it.holds.least; same = sym it.holds.turn ∙ ap turn_of one }))
-      ]

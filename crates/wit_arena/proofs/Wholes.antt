@@ -1,14 +1,16 @@
--- Where unnamed types are met in names of scopes.
-use Rattle.std.proofs.Common.{◌≡◌, ℕ, suc, List, [], ◌∷◌, Some, inl, inr, refl, subst}
+-- Where unnamed types are met in scopes.
+use Rattle.std.proofs.Common.{◌≡◌, ℕ, suc, List, [], ◌∷◌, ◌++◌, Some, ◌⊎◌, inl, inr, refl, subst}
 use Rattle.std.specs.Prelude.{slice_get}
 use Rattle.wit_syntax.specs.Form.{Form}
 use Rattle.wit_syntax.specs.Address.{Address}
 use Rattle.wit_syntax.specs.Source.{ScopeName, local_name}
+use Rattle.wit_syntax.specs.Function.{SourceFunction}
 use Rattle.wit_arena.specs.Expr.{Exprs, name_exprs}
-use Rattle.wit_arena.specs.Meet.{Key, Def, Whole, keys, name_meetings, parts_meetings, all_name_meetings}
+use Rattle.wit_arena.specs.Meet.{Key, Def, Whole, keys, name_meetings, parts_meetings, all_name_meetings, all_function_meetings}
 use Rattle.wit_arena.specs.Resolving.{all_met}
 use Rattle.wit_arena.proofs.Meeting.{Has, has_either, keys-append}
 use Rattle.wit_arena.proofs.Defining.{name_keys, parts_keys}
+use Rattle.wit_arena.proofs.Signatures.{IsInFunctions, whole_in_functions}
 
 -- an unnamed type that is met in a name is met in its parts
 whole_in_name : (s : Address) (x : ScopeName) (form : Form) (parts : Exprs) → Has (keys (name_meetings s x)) (Whole form parts) → Has (all_met (name_exprs s x)) (Whole form parts)
@@ -23,4 +25,11 @@ whole_in_names s [] form parts h = absurd h
 whole_in_names s (x ∷ xs) form parts h = elim (has_either (keys (name_meetings s x)) (keys (all_name_meetings s xs)) (Whole form parts) (subst (λ (ks : List Key). Has ks (Whole form parts)) (keys-append (name_meetings s x) (all_name_meetings s xs)) h)) [
   | inl first ↦ (0, x, refl, whole_in_name s x form parts first)
   | inr rest ↦ (let it = whole_in_names s xs form parts rest in (suc it.0, it.1, it.2, it.3))
+]
+
+-- an unnamed type that is met there is in one of its names, or in one of its functions
+pub whole_in_turn : (s : Address) (xs : List ScopeName) (fns : List SourceFunction) (form : Form) (parts : Exprs) → Has (keys (all_name_meetings s xs ++ all_function_meetings s fns)) (Whole form parts) → Has (keys (all_name_meetings s xs)) (Whole form parts) ⊎ IsInFunctions s fns form parts
+whole_in_turn s xs fns form parts h = elim (has_either (keys (all_name_meetings s xs)) (keys (all_function_meetings s fns)) (Whole form parts) (subst (λ (l : List Key). Has l (Whole form parts)) (keys-append (all_name_meetings s xs) (all_function_meetings s fns)) h)) [
+  | inl named ↦ inl named
+  | inr other ↦ inr (whole_in_functions s fns form parts other)
 ]

@@ -20,8 +20,7 @@ use Rattle.wit_syntax.specs.Source.{address, Item, all_items, ScopeName, scope_n
 use Rattle.wit_syntax.specs.Trees.{scope}
 use Rattle.wit_syntax.specs.Foreign.{visited, foreign_interfaces, foreign_worlds}
 use Rattle.wit_syntax.specs.Scope.{in_turn, includes, local_names}
-use Rattle.wit_syntax.proofs.Lists.{at_front, at_back, at_seam, at_either, flat_map_at, flat_map_has}
-use Rattle.wit_syntax.proofs.Turns.{at_part}
+use Rattle.wit_syntax.proofs.Lists.{at_front, at_back, at_seam, at_either, flat_map_has}
 use Rattle.wit_syntax.proofs.Legal.{functions_items}
 use Rattle.wit_arena.specs.Meet.{Meeting, keys, Meets, all_name_meetings}
 use Rattle.wit_arena.specs.Package.{import_types, world_functions}
@@ -168,15 +167,6 @@ module _ (files : List PackageFile) (is ws : List Item) (interfaces : AreOfSort 
         ]
       ]
 
-      made_each : (j : ℕ) (g : DoneFunction) → slice_get (made_before ++ sided.more) j ≡ Some g → (t : ℕ) × (k : ℕ) × (x : DoneScope) × (slice_get all_scopes_now t ≡ Some x) × (slice_get (scope_functions x) k ≡ Some g)
-      made_each j g at = elim (at_part made_before sided.more j g at) [
-        | inl h ↦ (let it = flat_map_at scope_functions first h.0 g h.1 in (it.0, it.3.0, it.1, at_front (first ++ closed ∷ []) sided.scopes it.0 it.1 (at_front first (closed ∷ []) it.0 it.1 it.2), it.3.1))
-        | inr h ↦ elim (sided.each h.0 g h.1) [
-          | inl own ↦ (length first, own.0, closed, at_front (first ++ closed ∷ []) sided.scopes (length first) closed (at_seam first closed), by_items own.0 ∙ own.1)
-          | inr far ↦ (length (first ++ closed ∷ []) + far.0, far.1, far.2, at_back (first ++ closed ∷ []) sided.scopes far.0 far.2 far.3, far.4)
-        ]
-      ]
-
       -- of each scope this holds, where it does of those before, of this one, and of those that are written in it
       of_each : (P : DoneScope → Type 0) → ((k : ℕ) (x : DoneScope) → slice_get first k ≡ Some x → P x) → P closed → ((k : ℕ) (x : DoneScope) → slice_get sided.scopes k ≡ Some x → P x) → (t : ℕ) (x : DoneScope) → slice_get all_scopes_now t ≡ Some x → P x
       of_each P old own far t x at = elim (one_of_three first sided.scopes closed t x at) [
@@ -190,7 +180,6 @@ module _ (files : List PackageFile) (is ws : List Item) (interfaces : AreOfSort 
         stated = of_each (λ (x : DoneScope). AreStated x.functions x.made x.stated) (λ k x at. (e.done.each k x at).stated) stated_all (λ k x at. (sided.whole k x at).stated);
         count = of_each (λ (x : DoneScope). length x.made ≡ length x.functions) (λ k x at. (e.done.made k x at).count) (sided.count ∙ ap length (sym (functions_items w))) (λ k x at. (sided.whole k x at).count);
         made = made_among;
-        each = made_each;
         required = of_each (λ (x : DoneScope). AreRequired files (keys doing.met) (turn_handles (turn_of x)) x.required) (λ k x at. required_grown files grown_before (turn_handles (turn_of x)) x.required (e.done.required k x at)) own_required told.each;
       }
 

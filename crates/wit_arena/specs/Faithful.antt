@@ -96,5 +96,3 @@ pub record HasArena (files : List PackageFile) (p : UnresolvedPackage) : Type 0 
 pub record IsMadeOf (files : List PackageFile) (p : UnresolvedPackage) : Type 0 where
   pub legal : IsLegal files
   pub whole : IsPackage files p
-  pub arena : HasArena files p
-  pub faithful : IsFaithful files p

@@ -27,11 +27,11 @@ use Rattle.wit_syntax.specs.Foreign.{visited, foreign_interfaces, foreign_worlds
 use Rattle.wit_arena.specs.Resolved.{AddsForeign, AddsInterfaces, AreLegalScopes, AreLegalSides, AreSoundScopes, AreUsableUses, IsWrongAmong, IsWrongWorldAmong}
 use Rattle.wit_arena.specs.Resolving.{Names, Required, cells, IsIndex}
 use Rattle.wit_arena.specs.Whole.{NamesOthers, first_docs, IsPackage}
-use Rattle.wit_arena.specs.Faithful.{IsFaithful, HasArena, IsMadeOf}
+use Rattle.wit_arena.specs.Faithful.{IsMadeOf}
 use Rattle.wit_syntax.proofs.Inline.{inline_items_none}
 use Rattle.wit_syntax.proofs.Kept.{behind_one, kept_has}
 use Rattle.wit_syntax.proofs.Lists.{flat_map_at, flat_map_has}
-use Rattle.wit_arena.proofs.Resolved.{scopes_legal as legal_scopes, files_legal as legal_by, files_package as package_by, files_faithful as faithful_by, files_arena as arena_by}
+use Rattle.wit_arena.proofs.Resolved.{scopes_legal as legal_scopes, files_legal as legal_by, files_package as package_by}
 use Rattle.wit_contents.specs.BetweenInterfaces.{IsWrongNow}
 use Rattle.wit_contents.specs.BetweenWorlds.{IsWrongWorldNow}
 use Rattle.wit_type_tree.specs.declared.error.ParseError.{ParseError}
@@ -98,12 +98,6 @@ module _ (files : List PackageFile) (es : List TypeDef) (all : List Interface) (
   module _ (p : UnresolvedPackage) (types : p.types ≡ es) (interfaces : p.interfaces ≡ all) (worlds : p.worlds ≡ ws) (others : NamesOthers files p) where
     pub files_package : p.required_resource_types ≡ rs → (header : Header) → last_header files ≡ Some header → p.name.namespace ≡ header.namespace.name.now → p.name.name ≡ header.name.name.now → option_map release_parts p.name.version ≡ option_map parts_of header.version → p.name_span ≡ header.span → p.docs ≡ first_docs (headers files) → IsPackage files p
     files_package required header last namespace name version span docs = package_by files a.places a.order a.names a.uses a.first a.middle es a.front a.is a.worlds_front a.arenas a.irs a.wrs a.foreign a.interfaces a.worlds p types (interfaces ∙ a.interface_arena) (worlds ∙ a.world_arena) others (required ∙ a.requires) header last namespace name version span docs
-
-    pub files_faithful : IsFaithful files p
-    files_faithful = faithful_by files a.places a.order a.names a.uses a.first a.middle es a.front a.is a.worlds_front a.arenas a.irs a.wrs a.foreign a.interfaces a.worlds p types (interfaces ∙ a.interface_arena) (worlds ∙ a.world_arena) others a.sided
-
-    pub files_arena : HasArena files p
-    files_arena = arena_by files a.places a.order a.names a.uses a.first a.middle es a.front a.is a.worlds_front a.arenas a.irs a.wrs a.foreign a.interfaces a.worlds p types (interfaces ∙ a.interface_arena) (worlds ∙ a.world_arena) others a.sided
 
 -- files that make a package break no rule
 pub made_legal : (files : List PackageFile) (r : Result UnresolvedPackage ParseError) → IfOk r (IsMadeOf files) → OnOk r (IsLegal files)

@@ -14,7 +14,7 @@ use Rattle.wit_syntax.specs.Fault.{Fault}
 use Rattle.wit_syntax.specs.Broken.{IsBroken, IsDocumentedTwice, IsLegal, IsOtherPackage, Refused}
 use Rattle.wit_syntax.proofs.Refusing.{refused_weaker}
 use Rattle.wit_arena.specs.Whole.{IsPackage}
-use Rattle.wit_arena.specs.Faithful.{IsFaithful, HasArena, IsMadeOf}
+use Rattle.wit_arena.specs.Faithful.{IsMadeOf}
 use Rattle.wit_parser.specs.Stray.{IsNesting, IsStray}
 use Rattle.wit_nested.specs.Nested.{GrowByNested, IsBrokenAmong, IsBrokenNested, IsMadeByNested, IsUnfit, file_of}
 use Rattle.wit_nested.specs.Nested.IsBrokenNested.{Inner, Alone}
@@ -51,12 +51,12 @@ alone n s old files none is grown = grown ∙ (ap (λ fs. fs ++ s.file ∷ []) n
 
 -- the package of one
 pub one_made : (n : NestedPackage) (s : SourceFile) (old files : List PackageFile) (r : Result UnresolvedPackage ParseError) → old ≡ [] → IsSourceOf n s → files ≡ old ++ s.file ∷ [] →
-    ((f : Fault) → IsStray old s f → ⊥) → OnOk r (IsLegal files) → IfOk r (IsPackage files) → IfOk r (HasArena files) → IfOk r (IsFaithful files) → IfOk r (IsMadeByNested n)
-one_made n s old files (Ok p) none is grown fits legal whole arena faithful = record {
+    ((f : Fault) → IsStray old s f → ⊥) → OnOk r (IsLegal files) → IfOk r (IsPackage files) → IfOk r (IsMadeByNested n)
+one_made n s old files (Ok p) none is grown fits legal whole = record {
   flat = sym is.inner ∙ ap (map (λ (i : NestedPackage). i.name)) (none_nested s.nested.items (λ f nesting. fits f (inr (inr nesting))));
-  made = subst (λ fs. IsMadeOf fs p) (alone n s old files none is grown) (record { legal = legal; whole = whole; arena = arena; faithful = faithful });
+  made = subst (λ fs. IsMadeOf fs p) (alone n s old files none is grown) (record { legal = legal; whole = whole });
 }
-one_made n s old files (Err e) none is grown fits legal whole arena faithful = tt
+one_made n s old files (Err e) none is grown fits legal whole = tt
 
 -- one that breaks a rule
 pub one_broken : (n : NestedPackage) (s : SourceFile) (old files : List PackageFile) (r : Result UnresolvedPackage ParseError) → old ≡ [] → IsSourceOf n s → files ≡ old ++ s.file ∷ [] →

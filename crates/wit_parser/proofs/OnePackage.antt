@@ -1,9 +1,8 @@
 -- Legal files make one package.
-use Rattle.std.proofs.Common.{◌≡◌, ℕ, suc, List, [], ◌∷◌, ◌++◌, Option, Some, None, inl, inr, refl, sym, ap, ◌∙◌, subst, arith, Contains}
-use Rattle.std.specs.Prelude.{slice_get, map, not}
+use Rattle.std.proofs.Common.{◌≡◌, ℕ, List, ◌++◌, Option, Some, None, refl, sym, ap, ◌∙◌, subst, arith}
+use Rattle.std.specs.Prelude.{slice_get}
 use Rattle.std.specs.List.{filter_map, flat_map}
-use Rattle.std.specs.Option.{option_map, option_map_or}
-use Rattle.std.proofs.lemmas.List.{map-append}
+use Rattle.std.specs.Option.{option_map}
 use Rattle.std.proofs.lemmas.Option.{slice_get_within}
 use Rattle.semver.specs.Identifiers.{parts_of}
 use Rattle.wit_values.specs.ReleaseText.{release_parts}
@@ -20,67 +19,29 @@ use Rattle.wit_model.specs.declared.ast_item.AstItem.{AstItem}
 use Rattle.wit_model.specs.declared.interface.Interface.{Interface}
 use Rattle.wit_model.specs.declared.unresolved.UnresolvedPackage.{UnresolvedPackage}
 use Rattle.wit_model.specs.declared.world.World.{World}
-use Rattle.wit_syntax.specs.Address.{Address, InterfaceNamed, WorldNamed, InlineAt, ForeignNamed, same_address}
-use Rattle.wit_syntax.specs.Broken.{DefinedTwice, Names, Scope, IsLegal}
-use Rattle.wit_syntax.specs.Bodies.{IsSecond}
+use Rattle.wit_syntax.specs.Address.{Address}
+use Rattle.wit_syntax.specs.Broken.{IsLegal}
 use Rattle.wit_syntax.specs.Ends.{AtResource, AtForeign}
-use Rattle.wit_syntax.specs.Fault.{Fault, fault}
-use Rattle.wit_syntax.specs.Foreign.{visited, foreign_interfaces, foreign_worlds}
+use Rattle.wit_syntax.specs.Foreign.{foreign_interfaces, foreign_worlds}
 use Rattle.wit_syntax.specs.Repeats.{AllDiffer}
-use Rattle.wit_syntax.specs.Scope.{AreDistinct, used, defined, in_order, interfaces_of, worlds_of}
-use Rattle.wit_syntax.specs.Sides.{all_scopes, inline_items}
-use Rattle.wit_syntax.specs.Source.{Item, address, is_world, local_id, local_name, scope_names, all_items, item_at}
+use Rattle.wit_syntax.specs.Source.{local_name}
 use Rattle.wit_syntax.specs.Trees.{scope}
-use Rattle.wit_syntax.proofs.Lists.{at_within, map_at, map_map}
-use Rattle.wit_syntax.proofs.Found.{contains_at, find_at}
-use Rattle.wit_syntax.proofs.Legal.{three_ways}
-use Rattle.wit_syntax.proofs.Repeated.{differ_at, differ_by}
-use Rattle.wit_syntax.proofs.Turns.{distinct_names, distinct_none}
+use Rattle.wit_syntax.proofs.Lists.{at_within, map_at}
+use Rattle.wit_syntax.proofs.Repeated.{differ_at}
 use Rattle.wit_arena.specs.Meet.{Key, Def, Meeting, keys, Decl, decl_of, IsMeeting}
 use Rattle.wit_arena.specs.OneByOne.{OneByOne}
 use Rattle.wit_arena.specs.Package.{IsForeignWorld}
-use Rattle.wit_arena.specs.Whole.{Ordered, OrderedWorld, AreOrdered, item_of, own_item, all_inside, all_turns, owner_at, declarations, turn_handles, interface_addresses, world_addresses, HandleRequires, AreRequired, IsForeignInterface, IsResolvedInterface, IsResolvedWorld, IsPackage}
+use Rattle.wit_arena.specs.Whole.{Ordered, OrderedWorld, all_inside, all_turns, owner_at, declarations, turn_handles, interface_addresses, world_addresses, HandleRequires, AreRequired, IsForeignInterface, IsResolvedInterface, IsResolvedWorld, IsPackage}
 use Rattle.wit_arena.proofs.Ends.{ends_one}
-use Rattle.wit_arena.proofs.Added.{inside_of, interface_list, world_list, all_addresses}
-use Rattle.wit_arena.proofs.Interfaces.{AreAddresses, AreItems, interfaces_sort, worlds_sort, items_kept}
-use Rattle.wit_arena.proofs.Itemizing.{are_items}
 use Rattle.wit_arena.proofs.JoinedOnce.{interfaces_once, worlds_once, first_once}
-use Rattle.wit_arena.proofs.Resolved.{distinct_items}
-use Rattle.wit_arena.proofs.Takings.{taken_distinct}
-use Rattle.wit_arena.proofs.Laid.{ordered_addresses}
+use Rattle.wit_arena.proofs.KnownItems.{addresses_are}
+use Rattle.wit_arena.proofs.LegalScopes.{scope_differs}
 use Rattle.wit_parser.proofs.OneArena.{HaveOne, one_arena}
 use Rattle.wit_parser.proofs.OneList.{same_by_places, one_by_one}
 use Rattle.wit_parser.proofs.OneWorld.{one_foreign_interface, one_foreign_world, one_interface, one_world}
 
--- where nothing stands behind another of its key, no two have one
-all_differ : {X : Type 0} (key : X → List ℕ) (told : X → Fault) (xs : List X) → ((f : Fault) → IsSecond key told xs f → ⊥) → AllDiffer (map key xs)
-all_differ key told xs never = differ_by key xs (λ i j x y at_x at_y same. elim (three_ways i j) [
-  | inl before ↦ absurd (never (told y) (record { later = y; repeated = record { first = i; second = j; earlier = x; before = before; at_first = at_x; at_second = at_y; same = same }; is = refl }))
-  | inr rest ↦ elim rest [
-    | inl one ↦ one
-    | inr behind ↦ absurd (never (told x) (record { later = x; repeated = record { first = j; second = i; earlier = y; before = behind; at_first = at_y; at_second = at_x; same = sym same }; is = refl }))
-  ]
-])
-
+-- of each name of a scope there is one declaration
 module _ (files : List PackageFile) (legal : IsLegal files) where
-  -- the names of an item differ
-  names_differ : (i : Item) → Contains (all_scopes files) i → AreDistinct (scope_names i)
-  names_differ i among = distinct_names (scope_names i) (all_differ local_name (λ x. fault 14 (local_id x).span) (used (scope_names i) ++ defined (scope_names i)) (λ f second. legal f (Scope i among (DefinedTwice second))))
-
-  found_differ : (o : Option Item) → ((i : Item) → o ≡ Some i → Contains (all_scopes files) i) → AreDistinct (option_map_or scope_names o [])
-  found_differ None among = distinct_none
-  found_differ (Some i) among = names_differ i (among i refl)
-
-  at_address : (s : Address) → AreDistinct (option_map_or scope_names (item_at (all_scopes files) s) [])
-  at_address s = found_differ (item_at (all_scopes files) s) (λ i found. (let it = find_at (λ (w : Item). same_address (address w) s) (all_scopes files) i found in contains_at (all_scopes files) it.0 i it.1))
-
-  -- and so do those of each scope
-  scope_differs : (s : Address) → AreDistinct (scope files s)
-  scope_differs (InterfaceNamed name) = at_address (InterfaceNamed name)
-  scope_differs (WorldNamed name) = at_address (WorldNamed name)
-  scope_differs (InlineAt world side place) = at_address (InlineAt world side place)
-  scope_differs (ForeignNamed p name) = taken_distinct files (ForeignNamed p name)
-
   have_one : (is ws : List Address) → HaveOne (declarations files is ws)
   have_one is ws = record { one = one }
     where
@@ -89,39 +50,9 @@ module _ (files : List PackageFile) (legal : IsLegal files) where
           let x = map_at (decl_of (owner_at is ws s) s) (scope files s) i d at_d in
           let y = map_at (decl_of (owner_at is ws s) s) (scope files s) j e at_e in
           let names : local_name x.0 ≡ local_name y.0 = ap (λ (z : Decl). z.name) x.2 ∙ same ∙ sym (ap (λ (z : Decl). z.name) y.2) in
-          let place : i ≡ j = differ_at local_name (scope files s) (scope_differs s) i j x.0 y.0 x.1 y.1 names in
+          let place : i ≡ j = differ_at local_name (scope files s) (scope_differs files legal s) i j x.0 y.0 x.1 y.1 names in
           let both : Some d ≡ Some e = sym at_d ∙ ap (slice_get (declarations files is ws s)) place ∙ at_e in
           cc
-
-  -- the addresses of interfaces and of worlds differ, in the order of the table
-  module _ (os : List Ordered) (ws : List OrderedWorld) (ordered : AreOrdered files os ws) where
-    abbrev all : List Item
-    all = in_order (all_items files) ordered.places
-
-    are_all : AreItems files all
-    are_all = are_items files ordered.places ordered.item_order (distinct_items files (λ f broken. legal f (Names broken)))
-
-    listed : AreAddresses (interface_list files (interfaces_of all) (inside_of (worlds_of all))) (world_list files (worlds_of all))
-    listed = all_addresses files (interfaces_of all) (worlds_of all) (interfaces_sort all) (worlds_sort all) (items_kept files (λ i. not (is_world i)) all are_all) (items_kept files is_world all are_all)
-
-    inside_items : (vs : List OrderedWorld) → ((t : ℕ) (w : OrderedWorld) → slice_get vs t ≡ Some w → map item_of w.inside ≡ inline_items w.own.item) → map item_of (all_inside vs) ≡ inside_of (map own_item vs)
-    inside_items [] inside = refl
-    inside_items (v ∷ vs) inside = map-append item_of v.inside (all_inside vs) ∙ ap (λ l. l ++ map item_of (all_inside vs)) (inside 0 v refl) ∙ ap (λ l. inline_items v.own.item ++ l) (inside_items vs (λ t. inside (suc t)))
-
-    interfaces_are : interface_list files (interfaces_of all) (inside_of (worlds_of all)) ≡ interface_addresses files (os ++ all_inside ws)
-    interfaces_are =
-        let inside = inside_items ws ordered.inside ∙ ap inside_of ordered.all_worlds in
-        let items = map-append item_of os (all_inside ws) ∙ ap (λ l. l ++ map item_of (all_inside ws)) ordered.all_interfaces ∙ ap (λ l. interfaces_of all ++ l) inside in
-        ap (λ l. map visited (foreign_interfaces files) ++ l) (ordered_addresses (os ++ all_inside ws) (interfaces_of all ++ inside_of (worlds_of all)) items)
-
-    worlds_are : world_list files (worlds_of all) ≡ world_addresses files ws
-    worlds_are = ap (λ l. map visited (foreign_worlds files) ++ l) (ap (map address) (sym ordered.all_worlds) ∙ map_map address own_item ws)
-
-    interfaces_differ : AllDiffer (interface_addresses files (os ++ all_inside ws))
-    interfaces_differ = subst (λ (l : List Address). AllDiffer l) interfaces_are listed.interfaces
-
-    worlds_differ : AllDiffer (world_addresses files ws)
-    worlds_differ = subst (λ (l : List Address). AllDiffer l) worlds_are listed.worlds
 
 -- a version is told by its parts
 abbrev release : ℕ → ℕ → ℕ → List ℕ → List ℕ → Release
@@ -224,9 +155,8 @@ module _ (files : List PackageFile) (p q : UnresolvedPackage) (legal : IsLegal f
 
   own_worlds_once : a.own_worlds ≡ b.own_worlds
   own_worlds_once =
-      let places = interfaces_differ files legal is ws b.first.ordered in
-      let world_places = worlds_differ files legal is ws b.first.ordered in
-      one_by_one (IsResolvedWorld (keys met) (interface_places is ws) (world_addresses files ws)) ws a.own_worlds b.own_worlds (one_world (keys met) differ (interface_places is ws) (world_addresses files ws) places world_places) (as_of (λ m os vs. OneByOne (IsResolvedWorld (keys m) (interface_places os vs) (world_addresses files vs)) vs a.own_worlds) a.are_worlds) b.are_worlds
+      let places = addresses_are files legal is ws b.first.ordered in
+      one_by_one (IsResolvedWorld (keys met) (interface_places is ws) (world_addresses files ws)) ws a.own_worlds b.own_worlds (one_world (keys met) differ (interface_places is ws) (world_addresses files ws) places.interfaces places.worlds) (as_of (λ m os vs. OneByOne (IsResolvedWorld (keys m) (interface_places os vs) (world_addresses files vs)) vs a.own_worlds) a.are_worlds) b.are_worlds
 
   worlds_are_one : p.worlds ≡ q.worlds
   worlds_are_one = a.world_arena ∙ ap (λ l. l ++ a.own_worlds) front_once ∙ ap (λ l. b.worlds_front ++ l) own_worlds_once ∙ sym b.world_arena

@@ -4,7 +4,7 @@ ghost use Rattle.wit_tree.specs.declared.tree.PackageFile.{PackageFile as TheFil
 ghost use Rattle.wit_syntax.specs.Splitting.{IsJoined, IsSplit};
 ghost use Rattle.wit_syntax.specs.Broken.{IsLegal};
 ghost use Rattle.wit_types.specs.Types.{IsBackward};
-ghost use Rattle.wit_arena.specs.Faithful.{IsFaithful};
+ghost use Rattle.wit_arena.specs.Faithful.{IsFaithful, HasArena};
 ghost use Rattle.wit_arena.specs.Splitting.{HaveSameMeetings, HaveSamePackages};
 ghost use Rattle.wit_arena.specs.Whole.{IsPackage};
 ghost use Rattle.wit_parser.specs.Ids.{AreIdsWithin};
@@ -24,10 +24,18 @@ pub fn ids_are_within(package: &UnresolvedPackage)
     ensures { (files : List TheFile) → IsPackage files «package».now → AreIdsWithin «package».now }
 {}
 
-/// The ids of a package that files make point backward, as `is_backward` tells it:
+/// The ids of a package that legal files make point backward, as `is_backward` tells it:
 /// `Function::find_futures_and_streams` can be called over its types.
 pub fn ids_point_backward(package: &UnresolvedPackage)
-    ensures { (files : List TheFile) → IsFaithful files «package».now → IsBackward «package».now.types }
+    ensures { (files : List TheFile) → IsLegal files → IsPackage files «package».now → IsBackward «package».now.types }
+{}
+
+/// What else `Resolver::resolve` says of a package follows from its being the one that legal files make:
+/// its arena of types is what is first met in the files, and each written type has one at its position,
+/// with the tree that lexical scope gives it.
+pub fn packages_are_faithful(package: &UnresolvedPackage)
+    ensures arena { (files : List TheFile) → IsLegal files → IsPackage files «package».now → HasArena files «package».now }
+    ensures faithful { (files : List TheFile) → IsLegal files → IsPackage files «package».now → IsFaithful files «package».now }
 {}
 
 /// Where files have no `use` at the top and exactly one header, it does not matter that they are

@@ -10,7 +10,7 @@ use Rattle.wit_syntax.specs.Sides.{with_inline}
 use Rattle.wit_arena.specs.Resolving.{Required, cells, IsIndex}
 use Rattle.wit_arena.specs.Resolved.{WorldArenas, front_worlds, AddsInterfaces, AddsWorlds, AreLegalSides, AreSoundScopes, AreUsableLinks, HaveLegalStability}
 use Rattle.wit_syntax.proofs.Refusing.{refused_weaker}
-use Rattle.wit_arena.proofs.Resolved.{distinct_items}
+use Rattle.wit_arena.proofs.LegalScopes.{distinct_items}
 use Rattle.wit_arena.proofs.Finished.{broken_among, broken_world_among}
 use Rattle.wit_items.specs.Items.{item_behind, others_of}
 use Rattle.wit_item_names.specs.Interfaces.{front_of}

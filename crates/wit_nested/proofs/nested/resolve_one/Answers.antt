@@ -10,7 +10,7 @@ returns-in_err-push-clause-refused c =
 pub returns-clause-made : goal.returns-clause-made
 returns-clause-made c =
     let r = c.resolve.ensures in
-    one_made c.args.inner c.in_ok-source.source c.new-resolver.result.files.items c.push.new.self.files.items c.resolve.result c.new-resolver.ensures c.in_ok-source.ensures c.in_ok-push.ensures.ok c.in_ok-push.ensures.accepted r.legal r.«package» r.arena r.faithful
+    one_made c.args.inner c.in_ok-source.source c.new-resolver.result.files.items c.push.new.self.files.items c.resolve.result c.new-resolver.ensures c.in_ok-source.ensures c.in_ok-push.ensures.ok c.in_ok-push.ensures.accepted r.legal r.«package»
 
 pub returns-clause-refused : goal.returns-clause-refused
 returns-clause-refused c =

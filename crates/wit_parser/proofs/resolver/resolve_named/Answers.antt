@@ -5,7 +5,7 @@ use Rattle.wit_values.specs.ReleaseText.{release_parts}
 use Rattle.wit_package_names.specs.declared.package_name.PackageName.{PackageName}
 use Rattle.wit_arena.specs.Whole.{NamesOthers}
 use Rattle.wit_contents.specs.Between.{MakeContents}
-use Rattle.wit_contents.proofs.Files.{files_legal, files_package, files_faithful, files_arena}
+use Rattle.wit_contents.proofs.Files.{files_legal, files_package}
 use Rattle.wit_parser.proofs.resolver.resolve_named.Goals as goal
 
 pub returns-clause-made : goal.returns-clause-made
@@ -26,8 +26,6 @@ returns-clause-made c =
           (ap (λ (m : PackageName). option_map release_parts m.version) e.name ∙ n.version)
           e.name_span
           (e.docs ∙ n.docs);
-      arena = files_arena files _ _ _ _ made.added p e.types e.interfaces e.worlds others;
-      faithful = files_faithful files _ _ _ _ made.added p e.types e.interfaces e.worlds others;
     }
 
 pub returns-in_err-contents-clause-refused : goal.returns-in_err-contents-clause-refused

@@ -14,4 +14,4 @@ returns-in_err-check_names-clause-refused c =
     let again = rw c.deref.ensures.value at c.in_err-check_names.ensures.refused in
     rw
     (p.1, p.2)
-    (repeated_package c.args.self.main.files.items c.in_ok-made.made c.args.self.nested.items _ (record { legal = made.legal; whole = made.«package»; arena = made.arena; faithful = made.faithful }) again)
+    (repeated_package c.args.self.main.files.items c.in_ok-made.made c.args.self.nested.items _ (record { legal = made.legal; whole = made.«package» }) again)

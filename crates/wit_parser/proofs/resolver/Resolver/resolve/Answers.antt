@@ -1,6 +1,7 @@
 use Rattle.std.proofs.lemmas.Result.{IfOk-weaker}
 use Rattle.wit_arena.specs.Whole.{IsPackage}
 use Rattle.wit_arena.specs.Faithful.{IsFaithful, HasArena, IsMadeOf}
+use Rattle.wit_arena.proofs.OfPackage.{arena_of_package, faithful_of_package}
 use Rattle.wit_contents.proofs.Files.{made_legal}
 use Rattle.wit_parser.proofs.resolver.Resolver.resolve.Goals as goal
 
@@ -15,9 +16,9 @@ returns-clause-package c =
 pub returns-clause-arena : goal.returns-clause-arena
 returns-clause-arena c =
     let files = c.args.self.files.items in
-    IfOk-weaker c.resolve_pushed.result (IsMadeOf files) (HasArena files) (λ p made. made.arena) c.resolve_pushed.ensures.made
+    IfOk-weaker c.resolve_pushed.result (IsMadeOf files) (HasArena files) (λ p made. arena_of_package files p made.legal made.whole) c.resolve_pushed.ensures.made
 
 pub returns-clause-faithful : goal.returns-clause-faithful
 returns-clause-faithful c =
     let files = c.args.self.files.items in
-    IfOk-weaker c.resolve_pushed.result (IsMadeOf files) (IsFaithful files) (λ p made. made.faithful) c.resolve_pushed.ensures.made
+    IfOk-weaker c.resolve_pushed.result (IsMadeOf files) (IsFaithful files) (λ p made. faithful_of_package files p made.legal made.whole) c.resolve_pushed.ensures.made
