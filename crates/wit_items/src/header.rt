@@ -3,10 +3,11 @@ ghost use Rattle.std.specs.Prelude.{◌≡◌, ◌↔◌, ◌++◌, List, IsTrue
 ghost use Rattle.std.specs.Option.{option_map, option_to_list};
 ghost use Rattle.semver.specs.Identifiers.{parts_of};
 ghost use Rattle.wit_tree.specs.declared.tree.PackageName.{PackageName as Header};
+ghost use Rattle.wit_syntax.specs.Address.{package_of};
 ghost use Rattle.wit_syntax.specs.Fault.{Fault};
 ghost use Rattle.wit_syntax.specs.Broken.{IsSamePackage, IsSecondDocs, Refused, headers};
 ghost use Rattle.wit_arena.specs.Whole.{first_docs};
-ghost use Rattle.wit_items.specs.Headers.{is_documented, have_docs};
+ghost use Rattle.wit_items.specs.Headers.{is_documented, have_docs, mismatch};
 
 use semver::Version;
 use std::alloc::{AllocError, Global};
@@ -55,7 +56,9 @@ pub fn mismatch(
     alloc: Global,
     current: &tree::PackageName<'_>,
     previous: &tree::PackageName<'_>,
-) -> Result<String, AllocError> {
+) -> Result<String, AllocError>
+    ensures { IfOk result (λ words. string_bytes words ≡ mismatch (package_of current.now) (package_of previous.now)) }
+{
     let current = package_name(alloc, current)?;
     let previous = package_name(alloc, previous)?;
     format!(in alloc;
