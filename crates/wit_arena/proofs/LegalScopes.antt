@@ -83,7 +83,7 @@ module _ (files : List PackageFile) (legal : IsLegal files) where
 
   -- no `use` leads to a world
   no_world_used : (w : Item) (u : WrittenUse) → Contains (all_items files) w → Contains (uses w) u → is_world_at files (leads w.top u.from) ≡ Some true → ⊥
-  no_world_used w u among used to = legal (fault 10 (path_id u.from).span) (Use w among (WorldUsed (record { path = u.from; among = path_among w u used; other = to; is = refl })))
+  no_world_used w u among used to = legal (fault 10 (path_id u.from).span) (Use w among (WorldUsed u.from (path_among w u used) to refl))
 
   -- where a `use` leads to a name, an item of that name stands there, and it is an interface
   local_use : (w : Item) (u : WrittenUse) → Contains (all_items files) w → Contains (uses w) u → (t : Target) → leads w.top u.from ≡ t → (o : Option Item) → is_world_at files t ≡ option_map is_world o → (o ≡ None → ⊥) → is_world_at files t ≡ Some false
@@ -94,7 +94,7 @@ module _ (files : List PackageFile) (legal : IsLegal files) where
   ]
 
   use_leads : (w : Item) (u : WrittenUse) → Contains (all_items files) w → Contains (uses w) u → (t : Target) → leads w.top u.from ≡ t → is_world_at files t ≡ Some false
-  use_leads w u among used (Local id) lead = local_use w u among used (Local id) lead (item_named (all_items files) id.name.now) refl (λ none. legal (missing_at 7 item_word id) (Use w among (MissingUse (record { path = u.from; id = id; among = path_among w u used; local = lead; missing = none; is = refl }))))
+  use_leads w u among used (Local id) lead = local_use w u among used (Local id) lead (item_named (all_items files) id.name.now) refl (λ none. legal (missing_at 7 item_word id) (Use w among (MissingUse u.from id (path_among w u used) lead none refl)))
   use_leads w u among used (Foreign p id) lead =
       let q = at_contains (all_items files) w among in
       let here = leads_visited files q.0 w u p id q.1 used lead in
