@@ -259,29 +259,6 @@ impl Entries {
         Ok(id)
     }
 
-    /// The unnamed type of a kind, which is looked for by its key; a new entry, written at `span` in a
-    /// definition of the stability `given`, only if there is none.
-    ///
-    /// The error is want of memory.
-    #[inline(never)]
-    fn intern_keyed(
-        &mut self,
-        kind: TypeDefKind,
-        given: &Stability,
-        span: Span,
-    ) -> ParseResult<TypeId>
-        ensures interned { IfOk result (λ id. IsInterned self.old self.new kind given.now span id) }
-        ensures grown { IsGrown self.old self.new }
-        ensures refused { IfErr result IsWantOfMemory }
-    {
-        let key = InternKey::of(&kind)?;
-        if let Some(id) = self.find(&key, &kind) {
-            return Ok(id);
-        }
-        let id = self.add_unnamed(key, kind, given, span)?;
-        Ok(id)
-    }
-
     /// The unnamed type of a kind; a new entry, written at `span` in a definition of the stability
     /// `given`, only if there is none.
     ///
@@ -297,9 +274,14 @@ impl Entries {
         ensures grown { IsGrown self.old self.new }
         ensures refused { IfErr result IsWantOfMemory }
     {
-        match find_behind(&self.arena, &kind) {
-            Some(id) => Ok(id),
-            None => self.intern_keyed(kind, given, span),
+        if let Some(id) = find_behind(&self.arena, &kind) {
+            return Ok(id);
         }
+        let key = InternKey::of(&kind)?;
+        if let Some(id) = self.find(&key, &kind) {
+            return Ok(id);
+        }
+        let id = self.add_unnamed(key, kind, given, span)?;
+        Ok(id)
     }
 }
