@@ -1,5 +1,5 @@
 //! The types of a package, while they are made: each unnamed one once.
-ghost use Rattle.std.specs.Prelude.{◌≡◌, ◌+◌, ℕ, Some, [], ◌∷◌, ◌++◌, ◌↔◌, length, IsTrue, IfOk, OnOk, OnErr, IfErr, IfSome, IfNone};
+ghost use Rattle.std.specs.Prelude.{◌≡◌, ◌+◌, ℕ, None, Some, [], ◌∷◌, ◌++◌, ◌↔◌, length, IsTrue, IfOk, OnOk, OnErr, IfErr, IfSome, IfNone};
 ghost use Rattle.wit_type_tree.specs.Refusal.{IsWantOfMemory};
 ghost use Rattle.wit_types.specs.declared.types.TypeDef.{TypeDef};
 ghost use Rattle.wit_arena.specs.Meet.{settled as the_settled};
@@ -105,18 +105,22 @@ fn inner_of(kind: &TypeDefKind) -> Option<TypeId>
     }
 }
 
-/// The unnamed type of a kind, if it stands right behind the type that it is made of: there it was
-/// added if that was new too.
+/// The unnamed type of a kind, if it stands right behind the unnamed type that it is made of: there it
+/// was added if that was new too.
 fn find_behind(types: &Arena<TypeDef, TypePlace>, kind: &TypeDefKind) -> Option<TypeId>
     ensures found { IfSome result (λ i. (e : TypeDef) × At types.now i e × IsUnnamedOf kind.now e) }
-    ensures none { IfNone result ((i : ℕ) (e : TypeDef) → inner_of kind.now ≡ Some i → At types.now (i + 1) e → IsUnnamedOf kind.now e → ⊥) }
+    ensures none { IfNone result ((i : ℕ) (inner e : TypeDef) → inner_of kind.now ≡ Some i → At types.now i inner → inner.name ≡ None → At types.now (i + 1) e → IsUnnamedOf kind.now e → ⊥) }
 {
-    let inner = inner_of(kind)?.index();
+    let inner = inner_of(kind)?;
+    let place = inner.index();
     let len = types.len();
-    if inner >= len || inner + 1 >= len {
+    if place >= len || place + 1 >= len {
         return None;
     }
-    confirmed(types, types.id_at(inner + 1), kind)
+    if types.get(inner).name.is_some() {
+        return None;
+    }
+    confirmed(types, types.id_at(place + 1), kind)
 }
 
 /// Sets a place at a key, if there is a key.
@@ -255,29 +259,6 @@ impl Entries {
         Ok(id)
     }
 
-    /// The unnamed type of a kind, which is looked for by its key; a new entry, written at `span` in a
-    /// definition of the stability `given`, only if there is none.
-    ///
-    /// The error is want of memory.
-    #[inline(never)]
-    fn intern_keyed(
-        &mut self,
-        kind: TypeDefKind,
-        given: &Stability,
-        span: Span,
-    ) -> ParseResult<TypeId>
-        ensures interned { IfOk result (λ id. IsInterned self.old self.new kind given.now span id) }
-        ensures grown { IsGrown self.old self.new }
-        ensures refused { IfErr result IsWantOfMemory }
-    {
-        let key = InternKey::of(&kind)?;
-        if let Some(id) = self.find(&key, &kind) {
-            return Ok(id);
-        }
-        let id = self.add_unnamed(key, kind, given, span)?;
-        Ok(id)
-    }
-
     /// The unnamed type of a kind; a new entry, written at `span` in a definition of the stability
     /// `given`, only if there is none.
     ///
@@ -296,7 +277,11 @@ impl Entries {
         if let Some(id) = find_behind(&self.arena, &kind) {
             return Ok(id);
         }
-        let id = self.intern_keyed(kind, given, span)?;
+        let key = InternKey::of(&kind)?;
+        if let Some(id) = self.find(&key, &kind) {
+            return Ok(id);
+        }
+        let id = self.add_unnamed(key, kind, given, span)?;
         Ok(id)
     }
 }

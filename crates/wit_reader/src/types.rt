@@ -185,9 +185,10 @@ impl<'a> Reader<'a> {
     {
         let span = self.read_word(Word::List)?;
         self.expect(Kind::OpenAngle)?;
-        let boxed = self.read_boxed(left)?;
-        let (item, size) = beside(boxed, self.read_size())?;
-        Ok(list(span, item, size))
+        let ty = self.read_type(left)?;
+        let (item, size) = beside(ty, self.read_size())?;
+        let boxed = Box::new(self.alloc, item)?;
+        Ok(list(span, boxed, size))
     }
 
     /// Reads `map<type, type>`.
@@ -331,9 +332,10 @@ impl<'a> Reader<'a> {
         ensures read { IfOk result (λ t. IsRead self.old (type_marks t.value) self.new) }
         ensures refused { IfErr result (λ e. IsRefused self.old e) }
     {
-        let boxed = self.read_boxed(left)?;
-        let closed = self.closed(boxed, close)?;
-        Ok(closed)
+        let ty = self.read_type(left)?;
+        let closed = self.closed(ty, close)?;
+        let boxed = Box::new(self.alloc, closed)?;
+        Ok(boxed)
     }
 
     /// Reads a type, and boxes it.

@@ -1,4 +1,4 @@
-use Rattle.std.proofs.Common.{◌≡◌, ◌∙◌, sym, None, lit<, refl}
+use Rattle.std.proofs.Common.{◌≡◌, ◌∙◌, sym, None, lit<}
 use Rattle.std.proofs.lemmas.Str.Pattern.{strip_prefix_char}
 use Rattle.wit_syntax.specs.Docs.{behind_spaces}
 use Rattle.wit_notes.proofs.Texts.{spaces-none}

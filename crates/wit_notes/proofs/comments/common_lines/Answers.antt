@@ -1,8 +1,8 @@
-use Rattle.std.proofs.Common.{◌≡◌, ◌∙◌, ℕ, List, sym, ap, not, true, false, is_some, map, string_bytes}
+use Rattle.std.proofs.Common.{◌≡◌, ◌∙◌, ℕ, List, ap, not, true, false, is_some, map, string_bytes}
 use denote.Ref.{Bor}
 use Rattle.memchr.specs.Find.{IsFirstByte, is_byte}
 use Rattle.wit_syntax.specs.Docs.{said}
-use Rattle.wit_notes.specs.Plain.{HasNoReturn, all_lines}
+use Rattle.wit_notes.specs.Plain.{all_lines}
 use Rattle.wit_notes.proofs.Plain.{first-common, no_return-found}
 use Rattle.wit_notes.proofs.comments.common_lines.Goals as goal
 

@@ -1,4 +1,4 @@
-use Rattle.std.proofs.Common.{◌≡◌, ◌<◌, ◌-◌, ◌==◌, ap, length, slice_index, arith}
+use Rattle.std.proofs.Common.{◌≡◌, ◌<◌, ◌-◌, ◌==◌, length, slice_index, arith}
 use Rattle.wit_notes.specs.Plain.{ends_in_line}
 use Rattle.wit_notes.proofs.Plain.{last-line}
 use Rattle.wit_notes.proofs.comments.ends_in_line.Goals as goal

@@ -1,4 +1,4 @@
-use Rattle.std.proofs.Common.{◌≡◌, ◌<◌, ◌∙◌, ℕ, List, [], ap, subst, sym, length, get_or, string_bytes, arith}
+use Rattle.std.proofs.Common.{◌<◌, ◌∙◌, ℕ, List, [], ap, subst, length, get_or, string_bytes}
 use denote.Ref.{Bor}
 use Rattle.wit_syntax.specs.Docs.{said, without_spaces}
 use Rattle.wit_notes.specs.Plain.{IsIndented}

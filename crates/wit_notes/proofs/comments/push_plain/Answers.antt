@@ -1,5 +1,5 @@
-use Rattle.std.proofs.Common.{rules, ◌≡◌, ◌∙◌, sym, false, OnOk, Result, string_bytes}
-use Rattle.wit_notes.specs.Plain.{IsPushed, ends_in_line}
+use Rattle.std.proofs.Common.{rules, ◌≡◌, ◌∙◌, sym, false}
+use Rattle.wit_notes.specs.Plain.{ends_in_line}
 use Rattle.wit_notes.proofs.Plain.{pushed-lines, pushed-plain}
 use Rattle.wit_notes.proofs.comments.push_plain.Goals as goal
 

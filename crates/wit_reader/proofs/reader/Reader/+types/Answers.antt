@@ -5,8 +5,8 @@ use Rattle.wit_reader.proofs.reader.Reader.+types.Goals as goal
 
 pub read_list-returns-clause-read : goal.read_list-returns-clause-read
 read_list-returns-clause-read t c =
-    same_marks (rw c.in_ok-item.ensures.both.0 at c.list.ensures)
-    (then c.in_ok-span.ensures.read (skip c.in_ok-expect.ensures.read (then c.in_ok-boxed.ensures.read (rw c.in_ok-item.ensures.both.1 at c.read_size.ensures.read))))
+    same_marks (rw (c.in_ok-boxed.ensures.ok, c.in_ok-item.ensures.both.0) at c.list.ensures)
+    (then c.in_ok-span.ensures.read (skip c.in_ok-expect.ensures.read (then c.in_ok-ty.ensures.read (rw c.in_ok-item.ensures.both.1 at c.read_size.ensures.read))))
 
 pub read_map-returns-clause-read : goal.read_map-returns-clause-read
 read_map-returns-clause-read t c =
@@ -44,4 +44,4 @@ pub read_payload-returns-clause-read : goal.read_payload-returns-clause-read
 read_payload-returns-clause-read t c = on (skip c.in_ok-bump.ensures.read c.in_ok-payload.ensures.read)
 
 pub read_boxed_before-returns-clause-read : goal.read_boxed_before-returns-clause-read
-read_boxed_before-returns-clause-read t c = rw c.in_ok-closed.ensures.value (close c.in_ok-boxed.ensures.read c.in_ok-closed.ensures.read)
+read_boxed_before-returns-clause-read t c = rw (c.in_ok-boxed.ensures.ok, c.in_ok-closed.ensures.value) (close c.in_ok-ty.ensures.read c.in_ok-closed.ensures.read)
