@@ -1,5 +1,5 @@
 //! Names of what stands on the sides of a scope.
-ghost use Rattle.std.specs.Prelude.{◌≡◌, ◌⊎◌, ◌++◌, ◌∷◌, [], IfErr, IsTrue, OnOk, map};
+ghost use Rattle.std.specs.Prelude.{◌≡◌, ◌⊎◌, ◌++◌, ◌∷◌, [], IfErr, IsTrue, OnOk, map, IfOk, codes, string_bytes};
 ghost use Rattle.wit_names.specs.Mangled.{is_mangled};
 ghost use Rattle.wit_tree.specs.declared.tree.WorldSide.{WorldSide};
 ghost use Rattle.wit_syntax.specs.Broken.{Refused};
@@ -10,6 +10,7 @@ ghost use Rattle.wit_rules.specs.Held.{function_behind};
 ghost use Rattle.wit_sides.specs.Sides.{only_on, taken_on};
 ghost use Rattle.wit_signatures.specs.Taken.{name_key, name_of_made, name_of_function};
 ghost use Rattle.wit_externs.specs.Clash.{IsClash, names_of_items, IsCrossed};
+ghost use Rattle.wit_externs.specs.Words.{conflict, side_word};
 
 use crate::held::HeldExtern;
 use std::alloc::{AllocError, Global};
@@ -64,12 +65,21 @@ fn sort_of(
     "func"
 }
 
-/// The words for an import or an export that has the name of something on its side.
-fn conflict(alloc: Global, side: WorldSide, name: &str, what: &str) -> Result<String, AllocError> {
-    let word = match side {
+/// The word that stands for a side.
+fn side_word(side: WorldSide) -> &'static str
+    ensures { result.now ≡ side_word side }
+{
+    match side {
         WorldSide::Imported => "import",
         WorldSide::Exported => "export",
-    };
+    }
+}
+
+/// The words for an import or an export that has the name of something on its side.
+fn conflict(alloc: Global, side: WorldSide, name: &str, what: &str) -> Result<String, AllocError>
+    ensures { IfOk result (λ words. string_bytes words ≡ conflict side name.now what.now) }
+{
+    let word = side_word(side);
     format!(in alloc; "{word} `{name}` conflicts with prior {what} of same name")
 }
 

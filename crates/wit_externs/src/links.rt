@@ -3,6 +3,7 @@ ghost use Rattle.std.specs.Prelude.{◌≡◌, ◌++◌, ◌∷◌, [], Contains
 ghost use Rattle.std.specs.Map.{keys_of};
 ghost use Rattle.wit_syntax.specs.Broken.{Refused};
 ghost use Rattle.wit_externs.specs.Next.{IsLinked, linked_on, only_place};
+ghost use Rattle.wit_externs.specs.Words.{repeated};
 
 use std::alloc::{AllocError, Global};
 use wit_refusals::refusal::refuse;
@@ -35,7 +36,9 @@ fn insert(links: &mut Table<usize, ()>, interface: usize) -> Result<bool, AllocE
 }
 
 /// The words for an interface that stands on a side again.
-fn repeated(side: WorldSide) -> &'static str {
+fn repeated(side: WorldSide) -> &'static str
+    ensures { result.now ≡ repeated side }
+{
     match side {
         WorldSide::Imported => "interface cannot be imported more than once",
         WorldSide::Exported => "interface cannot be exported more than once",

@@ -1,5 +1,5 @@
 //! Includes of worlds.
-ghost use Rattle.std.specs.Prelude.{◌≡◌, ◌<◌, ◌≤◌, ◌⊎◌, IfErr, IfOk, OnOk, length, map, true};
+ghost use Rattle.std.specs.Prelude.{◌≡◌, ◌<◌, ◌≤◌, ◌⊎◌, ◌++◌, IfErr, IfOk, OnOk, length, map, true, codes, string_bytes};
 ghost use Rattle.std.specs.List.{flat_map};
 ghost use Rattle.std.specs.Option.{option_copied};
 ghost use Rattle.wit_syntax.specs.Source.{leads, TheWorld, Including, world_part, declared_parts, is_declared_world};
@@ -54,7 +54,9 @@ fn renames(alloc: Global, names: &[tree::IncludeName<'_>]) -> Result<Row<Include
 }
 
 /// The words for an include of an interface.
-fn not_a_world(alloc: Global, name: &str) -> Result<String, AllocError> {
+fn not_a_world(alloc: Global, name: &str) -> Result<String, AllocError>
+    ensures { IfOk result (λ words. string_bytes words ≡ codes "name `" ++ (name.now ++ codes "` is defined as an interface, not a world")) }
+{
     format!(in alloc; "name `{name}` is defined as an interface, not a world")
 }
 

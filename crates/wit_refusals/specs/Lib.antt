@@ -2,3 +2,4 @@ pub mod Digests
 pub mod Lent
 pub mod Names
 pub mod Scope
+pub mod Words

@@ -7,6 +7,7 @@ pub mod name_scope;
 pub mod refusal;
 pub mod repeats;
 pub mod unique_names;
+pub mod words;
 
 pub use name_scope::NameScope;
 pub use unique_names::check_unique_names;

@@ -1,5 +1,5 @@
 //! The names of a scope, which differ once folded.
-ghost use Rattle.std.specs.Prelude.{◌≡◌, ◌⊎◌, ◌++◌, ◌∷◌, [], ◌↔◌, ℕ, IfErr, IfOk, IsTrue, OnErr, OnOk};
+ghost use Rattle.std.specs.Prelude.{◌≡◌, ◌⊎◌, ◌++◌, ◌∷◌, [], ◌↔◌, ℕ, IfErr, IfOk, IsTrue, OnErr, OnOk, codes, string_bytes};
 ghost use Rattle.wit_names.specs.Mangled.{is_mangled};
 ghost use Rattle.wit_names.specs.Setter.{getter_of, is_setter};
 ghost use Rattle.wit_syntax.specs.Broken.{Refused};
@@ -10,6 +10,7 @@ ghost use Rattle.wit_refusals.specs.Scope.{HasName, IsKeyed, names_of, spelled, 
 
 use crate::getters::is_getter_name;
 use crate::refusal::refuse_in;
+use crate::words::clash;
 use std::alloc::{AllocError, Global};
 use std::marker::Model;
 use wit_names::{Folded, getter_for_setter, is_setter};
@@ -73,15 +74,6 @@ fn other_spelling(alloc: Global, key: &Folded, name: &str) -> Result<Option<Text
     }
 }
 
-/// The words for a name that an earlier one has.
-fn conflict(alloc: Global, earlier: &str, name: &str) -> Result<String, AllocError> {
-    if earlier == name {
-        format!(in alloc; "duplicate name `{name}`")
-    } else {
-        format!(in alloc; "name `{name}` conflicts with previous name `{earlier}`")
-    }
-}
-
 /// The refusal of a name whose key that at a place has.
 fn defined_again(
     alloc: Global,
@@ -93,8 +85,8 @@ fn defined_again(
     ensures { IsWantOfMemory result ⊎ (fault_of result ≡ fault 17 span) }
 {
     let words = match names.get_index(place) {
-        Some((key, earlier)) => conflict(alloc, earlier.spelled(key), name),
-        None => conflict(alloc, name, name),
+        Some((key, earlier)) => clash(alloc, "name", earlier.spelled(key), name),
+        None => clash(alloc, "name", name, name),
     };
     refuse_in(17, span, words)
 }
@@ -126,6 +118,13 @@ fn is_getter_at(names: &Table<Folded, DefinedName>, place: usize, setter: &str) 
     }
 }
 
+/// The words for a setter whose getter is missing.
+fn lone_setter(alloc: Global, setter: &str, getter: &str) -> Result<String, AllocError>
+    ensures { IfOk result (λ words. string_bytes words ≡ codes "setter `" ++ (setter.now ++ (codes "` has no corresponding getter `" ++ (getter.now ++ codes "`")))) }
+{
+    format!(in alloc; "setter `{setter}` has no corresponding getter `{getter}`")
+}
+
 /// Refuses a setter at a place without the getter of its spelling, which mostly stands before it.
 fn check_setter(
     alloc: Global,
@@ -148,7 +147,7 @@ fn check_setter(
     if has_name(alloc, names, getter.as_str())? {
         return Ok(());
     }
-    let words = format!(in alloc; "setter `{name}` has no corresponding getter `{getter}`");
+    let words = lone_setter(alloc, name, getter.as_str());
     Err(refuse_in(18, span, words))
 }
 

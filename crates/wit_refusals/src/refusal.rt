@@ -1,7 +1,7 @@
 //! Refusals of a broken rule.
-ghost use Rattle.std.specs.Prelude.{◌≡◌, ◌⊎◌, IfOk, None, Some, string_bytes};
+ghost use Rattle.std.specs.Prelude.{◌≡◌, ◌⊎◌, ◌++◌, IfErr, IfOk, None, Some, codes, string_bytes};
 ghost use Rattle.std.specs.Option.{option_map};
-ghost use Rattle.wit_type_tree.specs.Refusal.{IsWantOfMemory, IsItemNotFound, IsTypeCycle};
+ghost use Rattle.wit_type_tree.specs.Refusal.{IsWantOfMemory, IsItemNotFound, IsTypeCycle, kind_text};
 ghost use Rattle.wit_syntax.specs.Fault.{fault, fault_of, missing_at, missing_type_at, cyclic_at, type_word};
 ghost use Rattle.wit_syntax.specs.Hint.{hint_of, renamed, type_hint};
 
@@ -14,7 +14,9 @@ use wit_values::Span;
 #[cold]
 #[inline(never)]
 pub fn refuse_in(rule: u8, span: Span, words: Result<String, AllocError>) -> ParseError
-    ensures { IsWantOfMemory result ⊎ (fault_of result ≡ fault rule span) }
+    ensures fault { IsWantOfMemory result ⊎ (fault_of result ≡ fault rule span) }
+    ensures words { IfOk words (λ text. kind_text result.kind ≡ string_bytes text) }
+    ensures wanting { IfErr words (λ _. IsWantOfMemory result) }
 {
     match words {
         Ok(message) => ParseError::new_syntax(span, message).with_rule(rule),
@@ -61,15 +63,20 @@ pub fn refuse_missing(alloc: Global, rule: u8, sort: &str, id: Id<'_>) -> ParseE
     }
 }
 
+/// The words for a name that leads to a world where an interface is wanted.
+fn a_world(alloc: Global, name: &str) -> Result<String, AllocError>
+    ensures { IfOk result (λ words. string_bytes words ≡ codes "name `" ++ (name.now ++ codes "` is defined as a world, not an interface")) }
+{
+    format!(in alloc; "name `{name}` is defined as a world, not an interface")
+}
+
 /// A name that leads to a world where an interface is wanted.
 #[cold]
 #[inline(never)]
 pub fn refuse_world(alloc: Global, id: Id<'_>) -> ParseError
     ensures { IsWantOfMemory result ⊎ (fault_of result ≡ fault 10 id.entry.span) }
 {
-    let name = id.name;
-    let words = format!(in alloc; "name `{name}` is defined as a world, not an interface");
-    refuse_in(10, id.span, words)
+    refuse_in(10, id.span, a_world(alloc, id.name))
 }
 
 /// The words for a type that has another name now.

@@ -5,6 +5,7 @@ ghost use Rattle.wit_refusals.specs.Names.{IsFirstSecond, IsSecond};
 
 use crate::refusal::refuse_in;
 use crate::repeats::first_folded_repeat;
+use crate::words::clash;
 use std::alloc::{AllocError, Global};
 use wit_type_tree::ParseResult;
 use wit_type_tree::leaves::Id;
@@ -20,15 +21,6 @@ fn spelled<'a>(alloc: Global, names: &[Id<'a>]) -> Result<Vec<&'a str>, AllocErr
     Ok(texts)
 }
 
-/// The words for a name that an earlier one has.
-fn conflict(alloc: Global, desc: &str, earlier: &str, later: &str) -> Result<String, AllocError> {
-    if earlier == later {
-        format!(in alloc; "duplicate {desc} `{earlier}`")
-    } else {
-        format!(in alloc; "{desc} `{later}` conflicts with previous {desc} `{earlier}`")
-    }
-}
-
 /// Refuses the first name that is an earlier one once case is folded. `desc` says what the names
 /// are of: `field`, `flag` or `case`.
 ///
@@ -42,7 +34,7 @@ pub fn check_unique_names(alloc: Global, desc: &str, names: &[Id<'_>]) -> ParseR
         Some((first, second)) => {
             let earlier = &names[first];
             let later = &names[second];
-            let words = conflict(alloc, desc, earlier.name, later.name);
+            let words = clash(alloc, desc, earlier.name, later.name);
             Err(refuse_in(25, later.span, words))
         }
         None => Ok(()),

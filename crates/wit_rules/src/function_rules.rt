@@ -15,6 +15,7 @@ use crate::held::HeldFunction;
 use std::alloc::{AllocError, Global};
 use wit_refusals::refusal::{refuse, refuse_in};
 use wit_refusals::repeats::first_folded_repeat;
+use wit_refusals::words::defined_twice;
 use wit_tree::tree::{FuncForm, Id, Type};
 use wit_tree::{ParseError, ParseResult, Span};
 use wit_values::TextTable;
@@ -110,16 +111,11 @@ pub fn repeated_param(
     }
 }
 
-/// The words for a parameter whose name an earlier one has.
-fn defined_twice(alloc: Global, name: &str) -> Result<String, AllocError> {
-    format!(in alloc; "param `{name}` is defined more than once")
-}
-
 /// The refusal of a parameter whose name an earlier one has (E38).
 pub fn refuse_param(alloc: Global, name: Id<'_>) -> ParseError
     ensures { IsWantOfMemory result ⊎ (fault_of result ≡ fault 38 name.entry.span) }
 {
-    refuse_in(38, name.span, defined_twice(alloc, name.name))
+    refuse_in(38, name.span, defined_twice(alloc, "param", name.name))
 }
 
 /// Refuses a getter without a result (E39).

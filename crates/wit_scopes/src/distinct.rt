@@ -10,6 +10,7 @@ use crate::scope_name::{DefinedName, UsedName, local_of};
 use std::alloc::{AllocError, Global};
 use wit_refusals::refusal::refuse;
 use wit_refusals::repeats::first_repeat;
+use wit_refusals::words::defined_twice;
 use wit_tree::ParseResult;
 use wit_tree::tree::Id;
 
@@ -52,11 +53,6 @@ fn texts<'a>(alloc: Global, ids: &[Id<'a>]) -> Result<Vec<&'a str>, AllocError>
     Ok(texts)
 }
 
-/// The words for a name that an earlier one has.
-pub fn defined_twice(alloc: Global, name: &str) -> Result<String, AllocError> {
-    format!(in alloc; "name `{name}` is defined more than once")
-}
-
 /// Refuses a name that an earlier one has.
 pub fn check_unique_names(alloc: Global, ids: &[Id<'_>]) -> ParseResult<()>
     ensures legal { OnOk result (AllDiffer (map (λ id. id.name.now) ids.now)) }
@@ -69,7 +65,7 @@ pub fn check_unique_names(alloc: Global, ids: &[Id<'_>]) -> ParseResult<()>
     match first_repeat(alloc, &texts)? {
         Some((_, second)) => {
             let later = &ids[second];
-            let message = defined_twice(alloc, later.name)?;
+            let message = defined_twice(alloc, "name", later.name)?;
             Err(refuse(alloc, 14, later.span, message.as_str()))
         }
         None => Ok(()),

@@ -1,5 +1,5 @@
 //! Types in signatures.
-ghost use Rattle.std.specs.Prelude.{◌≡◌, ◌<◌, ◌↔◌, List, None, IfOk, IfErr, IsTrue, OnOk, length, map};
+ghost use Rattle.std.specs.Prelude.{◌≡◌, ◌<◌, ◌↔◌, ◌++◌, List, None, IfOk, IfErr, IsTrue, OnOk, length, map, codes, string_bytes};
 ghost use Rattle.wit_type_tree.specs.Refusal.{IsItemNotFound};
 ghost use Rattle.wit_type_tree.specs.declared.types.«Type».{«Type» as Written};
 ghost use Rattle.wit_types.specs.declared.types.TypeDef.{TypeDef};
@@ -53,7 +53,9 @@ fn is_entered(functions: &[HeldFunction<'_, '_>], place: usize, name: &str) -> b
 }
 
 /// The words for a function that is used as a type.
-fn function_as_type(alloc: Global, name: &str) -> Result<String, AllocError> {
+fn function_as_type(alloc: Global, name: &str) -> Result<String, AllocError>
+    ensures { IfOk result (λ words. string_bytes words ≡ codes "cannot use function `" ++ (name.now ++ codes "` as a type")) }
+{
     format!(in alloc; "cannot use function `{name}` as a type")
 }
 

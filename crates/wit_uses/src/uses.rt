@@ -1,5 +1,5 @@
 //! Names that a scope uses from interfaces.
-ghost use Rattle.std.specs.Prelude.{◌≡◌, ◌≤◌, ◌↔◌, List, [], Contains, length, map, OnOk, IfOk, IfErr, IsTrue};
+ghost use Rattle.std.specs.Prelude.{◌≡◌, ◌≤◌, ◌↔◌, [], ◌++◌, List, Contains, length, map, OnOk, IfOk, IfErr, IsTrue, codes, string_bytes};
 ghost use Rattle.std.specs.List.{flat_map};
 ghost use Rattle.std.specs.Option.{option_copied, option_to_list};
 ghost use Rattle.wit_type_tree.specs.Refusal.{IsWantOfMemory};
@@ -25,7 +25,7 @@ use wit_model::{Function, FunctionKind, Interface};
 use wit_names::front::behind;
 use wit_notes::told_notes;
 use wit_refusals::refusal::{refuse, refuse_in, refuse_missing};
-use wit_scopes::distinct::defined_twice;
+use wit_refusals::words::defined_twice;
 use wit_scopes::scope_name::{Source, UsedName, local_of};
 use wit_tree::tree::Id;
 use wit_tree::{ParseError, ParseResult};
@@ -94,7 +94,9 @@ fn has_function(functions: &TextTable<Function>, name: &str) -> bool
 }
 
 /// The words for a function that is used as a name.
-fn function_used(alloc: Global, name: &str) -> Result<String, AllocError> {
+fn function_used(alloc: Global, name: &str) -> Result<String, AllocError>
+    ensures { IfOk result (λ words. string_bytes words ≡ codes "cannot import function `" ++ (name.now ++ codes "`")) }
+{
     format!(in alloc; "cannot import function `{name}`")
 }
 
@@ -136,7 +138,7 @@ fn resolve_use<'f, 'a>(
     };
     let local = local_of(name);
     if scope.names.get(local.name).is_some() {
-        let message = defined_twice(alloc, local.name)?;
+        let message = defined_twice(alloc, "name", local.name)?;
         return Err(refuse(alloc, 14, local.span, message.as_str()));
     }
     let notes = told_notes(alloc, used.attributes)?;

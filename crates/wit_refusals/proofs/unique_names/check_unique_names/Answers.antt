@@ -20,7 +20,7 @@ returns-in-Some-clause-refused c =
     let d : AllDiffer (take second (map key names)) = subst (λ ks. AllDiffer (take second ks)) keys (rw c.in-Some.is at c.in_ok-first.ensures.first) in
     let x = map_at key names second r.x r.at_second in
     let at : slice_get names second ≡ Some later = slice_get-get_or names second later (slice_get_within names second x.0 x.1) ∙ ap Some (sym c.index-names-second.is) in
-    elim c.refuse_in.ensures [
+    elim c.refuse_in.ensures.fault [
       | inl memory ↦ inl memory
       | inr says ↦ inr (record { place = second; later = later; at = at; second = second-repeat names first second r; first = λ i lt s. no_second-take names second i d lt s; is = says })
     ]

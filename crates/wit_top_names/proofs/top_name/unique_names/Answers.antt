@@ -16,7 +16,7 @@ returns-then-is_some-clause-refused c =
     let v = copied_some c.get_by.result (sym c.is_some.ensures ∙ c.if-is_some.true) in
     let p = present (map top_behind (take i c.args.names.now)) c.loop-name.found (top_text t) v.0 c.loop-name.invariant.named.finds (sym c.get_by.ensures ∙ v.1) in
     let there = at_take xs i p.0 p.1 (ap (λ (l : List TopName). slice_get l p.0) (take-map top_behind i c.args.names.now) ∙ p.2) in
-    elim c.refuse_in.ensures [
+    elim c.refuse_in.ensures.fault [
       | inl memory ↦ inl memory
       | inr says ↦ inr (record { later = t; repeated = record { first = p.0; second = i; earlier = p.1; before = there.1; at_first = there.0; at_second = at; same = p.3 }; is = says })
     ]

@@ -1,0 +1,42 @@
+//! The words of refusals of a name that stands twice.
+ghost use Rattle.std.specs.Prelude.{◌≡◌, IfOk, string_bytes};
+ghost use Rattle.wit_refusals.specs.Words.{clash, conflicting, defined_twice, duplicate};
+
+use std::alloc::{AllocError, Global};
+
+/// The words for a name that an earlier one is. `desc` says what they are names of.
+pub fn defined_twice(alloc: Global, desc: &str, name: &str) -> Result<String, AllocError>
+    ensures { IfOk result (λ words. string_bytes words ≡ defined_twice desc.now name.now) }
+{
+    format!(in alloc; "{desc} `{name}` is defined more than once")
+}
+
+/// The words for a name that is spelled as an earlier one.
+fn duplicate(alloc: Global, desc: &str, name: &str) -> Result<String, AllocError>
+    ensures { IfOk result (λ words. string_bytes words ≡ duplicate desc.now name.now) }
+{
+    format!(in alloc; "duplicate {desc} `{name}`")
+}
+
+/// The words for a name that differs from an earlier one in case alone.
+fn conflicting(alloc: Global, desc: &str, earlier: &str, later: &str) -> Result<String, AllocError>
+    ensures { IfOk result (λ words. string_bytes words ≡ conflicting desc.now earlier.now later.now) }
+{
+    format!(in alloc; "{desc} `{later}` conflicts with previous {desc} `{earlier}`")
+}
+
+/// The words for a name that an earlier one is once case is folded. `desc` says what they are names of.
+pub(crate) fn clash(
+    alloc: Global,
+    desc: &str,
+    earlier: &str,
+    later: &str,
+) -> Result<String, AllocError>
+    ensures { IfOk result (λ words. string_bytes words ≡ clash desc.now earlier.now later.now) }
+{
+    if earlier == later {
+        duplicate(alloc, desc, earlier)
+    } else {
+        conflicting(alloc, desc, earlier, later)
+    }
+}
