@@ -27,7 +27,7 @@ use Rattle.wit_syntax.proofs.Sides.{functions_imported}
 use Rattle.wit_arena.specs.Functions.{AreFunctions}
 use Rattle.wit_arena.specs.Meet.{Key, keys}
 use Rattle.wit_arena.specs.Package.{owner_of, names_of, functions_of, inline_owner, named_interface, named_world, interface_functions, interface_items, interfaces_from, import_types, item_functions, keyed, world_functions, world_interfaces, world_types}
-use Rattle.wit_arena.specs.Whole.{Ordered, OrderedWorld, addresses, all_inside, interface_addresses, owner_at, world_addresses, HasTypes, IsPackage}
+use Rattle.wit_arena.specs.Whole.{Ordered, OrderedWorld, all_inside, interface_addresses, owner_at, world_addresses, HasTypes, IsPackage}
 use Rattle.wit_arena.proofs.Deps.{foreign_interface_owner, foreign_world_owner}
 use Rattle.wit_arena.proofs.Front.{interface_scope, world_scope, front_interface_done, front_world_done, no_functions}
 use Rattle.wit_arena.proofs.Interfaces.{AreAddresses, interface_owner_at, world_owner_at}

@@ -13,11 +13,10 @@ use Rattle.wit_model.specs.declared.world.World.{World}
 use Rattle.wit_types.specs.declared.types.TypeDef.{TypeDef}
 use Rattle.wit_syntax.specs.Address.{Address}
 use Rattle.wit_syntax.specs.Function.{SourceFunction, functions, name_types, written_types}
-use Rattle.wit_syntax.specs.Shape.{all_handles, handles}
+use Rattle.wit_syntax.specs.Shape.{all_handles}
 use Rattle.wit_type_tree.specs.declared.types.«Type».{«Type» as Written}
 use Rattle.wit_syntax.specs.Sides.{FunctionKey, item_function, side_items, inline_items}
 use Rattle.wit_syntax.specs.Source.{address, Item, all_items, ScopeName, scope_names}
-use Rattle.wit_syntax.specs.Trees.{scope}
 use Rattle.wit_syntax.specs.Foreign.{visited, foreign_interfaces, foreign_worlds}
 use Rattle.wit_syntax.specs.Scope.{in_turn, includes, local_names}
 use Rattle.wit_syntax.proofs.Lists.{at_front, at_back, at_seam, at_either, flat_map_has}

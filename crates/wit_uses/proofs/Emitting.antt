@@ -8,7 +8,6 @@ use Rattle.wit_arena.proofs.Adding.{adds_append, adds_one}
 use Rattle.wit_uses.specs.Between.{Emits}
 
 module _ {X : Type 0} (Adds : List TypeDef → List TypeDef → X → X → List Required → Item → Type 0) where
-
   -- one item behind others
   pub emits_more : (a b c : List TypeDef) (i j k : X) (rs ss ts : List Required) (ws : List Item) (w : Item) → Emits rs ss (λ own. AddsEach Adds a b i j own ws) → Emits ss ts (λ own. Adds b c j k own w) → Emits rs ts (λ own. AddsEach Adds a c i k own (ws ++ w ∷ []))
   emits_more a b c i j k rs ss ts ws w p q = record {

@@ -1,4 +1,4 @@
-use Rattle.std.proofs.Common.{◌∙◌, sym, ap, Some}
+use Rattle.std.proofs.Common.{◌∙◌, sym, ap}
 use Rattle.std.specs.Option.{option_copied}
 use Rattle.wit_syntax.specs.Docs.{behind_spaces}
 use Rattle.wit_notes.proofs.Plain.{spaces-indent}

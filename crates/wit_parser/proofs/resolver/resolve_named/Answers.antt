@@ -1,4 +1,4 @@
-use Rattle.std.proofs.Common.{inl, sym, ap, ◌∙◌}
+use Rattle.std.proofs.Common.{inl, ap, ◌∙◌}
 use Rattle.std.specs.Option.{option_map}
 use Rattle.std.proofs.lemmas.Result.{err_from_is_err_and}
 use Rattle.wit_values.specs.ReleaseText.{release_parts}
