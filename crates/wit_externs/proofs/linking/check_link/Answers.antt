@@ -1,5 +1,8 @@
 use Rattle.std.proofs.Common.{inl, inr}
-use Rattle.wit_externs.specs.Links.{AtNothing}
+use Rattle.std.proofs.lemmas.Result.{err_from_is_err_and}
+use Rattle.wit_syntax.specs.Notes.{IsBrokenNotes}
+use Rattle.wit_syntax.proofs.Refusing.{refused_weaker}
+use Rattle.wit_externs.specs.Links.{IsWrongLink, WrongNotes, AtNothing}
 use Rattle.wit_externs.proofs.linking.check_link.Goals as goal
 
 pub returns-in-Nothing-clause-refused : goal.returns-in-Nothing-clause-refused
@@ -7,3 +10,8 @@ returns-in-Nothing-clause-refused c = elim c.refuse_missing.ensures [
   | inl memory ↦ inl memory
   | inr is ↦ inr (AtNothing c.in-Nothing.id c.in-Nothing.is is)
 ]
+
+pub returns-in_err-check_notes-clause-refused : goal.returns-in_err-check_notes-clause-refused
+returns-in_err-check_notes-clause-refused c =
+    let p = err_from_is_err_and c.from_residual.result c.from_residual.ensures.1 in
+    rw (p.1, p.2) (refused_weaker (IsBrokenNotes c.args.link.now.attributes.now) (IsWrongLink c.args.link.now) _ (λ f h. WrongNotes h) c.in_err-check_notes.ensures.refused)
