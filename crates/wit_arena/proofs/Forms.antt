@@ -1,13 +1,13 @@
 -- What is met in a type without a name: forms that an unnamed type can have.
 use Rattle.std.proofs.Common.{◌≡◌, List, [], ◌∷◌, inl, inr, subst}
-use Rattle.wit_type_tree.specs.declared.types.«Type».{«Type» as Written, Held-Type-Future-1 as Held, None', Some', Row_of-Type, end_of-Type, more_of-Type}
+use Rattle.wit_type_tree.specs.declared.types.«Type».{«Type» as Written, None', Some', Row_of-Type, end_of-Type, more_of-Type}
 use Rattle.wit_type_tree.specs.declared.types.ResultTypes.{ResultTypes, Neither, Ok', Err', Both'}
 use Rattle.wit_type_tree.specs.declared.types.«Type».TheVariants as written
 use Rattle.wit_type_tree.specs.declared.types.TypeBody.{TypeBody}
 use Rattle.wit_type_tree.specs.declared.types.TypeBody.TheVariants.{Record, Flags, Variant, Enum, Resource, Plain}
 use Rattle.wit_type_tree.specs.Parts.{field_types, case_types}
 use Rattle.wit_syntax.specs.Form.{Form, UnknownForm}
-use Rattle.wit_syntax.specs.Shape.{Shape, Shapes, shape_of, result_shapes, held_shape, row_shapes, all_shapes, head, written_body, body_of}
+use Rattle.wit_syntax.specs.Shape.{Shape, Shapes, shape_of, result_shapes, row_shapes, all_shapes, head, written_body, body_of}
 use Rattle.wit_syntax.specs.Shape as shape
 use Rattle.wit_syntax.specs.Address.{Address}
 use Rattle.wit_syntax.specs.Source.{ScopeName, Used, Defined, Taken}
@@ -41,18 +41,16 @@ mutual
   written_anonymous (written.Option' span p t) = (tt, (written_anonymous t, tt))
   written_anonymous (written.Result span of) = (tt, result_anonymous of)
   written_anonymous (written.Tuple' span shape ts) = (tt, row_anonymous ts)
-  written_anonymous (written.Future' span t) = (tt, held_anonymous t)
-  written_anonymous (written.Stream' span t) = (tt, held_anonymous t)
+  written_anonymous (written.Future' span None') = (tt, tt)
+  written_anonymous (written.Future' span (Some' p t)) = (tt, (written_anonymous t, tt))
+  written_anonymous (written.Stream' span None') = (tt, tt)
+  written_anonymous (written.Stream' span (Some' p t)) = (tt, (written_anonymous t, tt))
 
   result_anonymous : (of : ResultTypes) → AllAnonymous (result_shapes of)
   result_anonymous Neither = tt
   result_anonymous (Ok' p t) = (written_anonymous t, tt)
   result_anonymous (Err' p t) = (written_anonymous t, tt)
   result_anonymous (Both' p t q u) = (written_anonymous t, (written_anonymous u, tt))
-
-  held_anonymous : (t : Held) → AllAnonymous (held_shape t)
-  held_anonymous None' = tt
-  held_anonymous (Some' p t) = (written_anonymous t, tt)
 
   row_anonymous : {m : _} (ts : Row_of-Type m) → AllAnonymous (row_shapes ts)
   row_anonymous end_of-Type = tt

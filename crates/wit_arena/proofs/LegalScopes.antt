@@ -29,10 +29,10 @@ use Rattle.wit_arena.proofs.Visits.{visit_listed, foreign_at-visited, leads_visi
 -- where nothing stands behind another of its key, no two have one
 pub all_differ : {X : Type 0} (key : X → List ℕ) (told : X → Fault) (xs : List X) → ((f : Fault) → IsSecond key told xs f → ⊥) → AllDiffer (map key xs)
 all_differ key told xs never = differ_by key xs (λ i j x y at_x at_y same. elim (three_ways i j) [
-  | inl before ↦ absurd (never (told y) (record { later = y; repeated = record { first = i; second = j; earlier = x; before = before; at_first = at_x; at_second = at_y; same = same }; is = refl }))
+  | inl before ↦ absurd (never (told y) (y, (i, j, before, x, at_x, at_y, same), refl))
   | inr rest ↦ elim rest [
     | inl one ↦ one
-    | inr behind ↦ absurd (never (told x) (record { later = x; repeated = record { first = j; second = i; earlier = y; before = behind; at_first = at_y; at_second = at_x; same = sym same }; is = refl }))
+    | inr behind ↦ absurd (never (told x) (x, (j, i, behind, y, at_y, at_x, sym same), refl))
   ]
 ])
 

@@ -15,7 +15,7 @@ use Rattle.wit_syntax.specs.Shape.{Shape, Word, shape_of}
 use Rattle.wit_syntax.specs.Address.{Address}
 use Rattle.wit_syntax.specs.Source.{Item, item_at, Part, Defining, Using, Including, Doing, Crossing, parts}
 use Rattle.wit_syntax.specs.Sides.{all_scopes}
-use Rattle.wit_syntax.specs.Function.{Role, SourceParam, SourceFunction, all_params, written_param, self_param, function_with, free_function, resource_function, definition_functions, part_functions, functions, signature, function_of, side_function}
+use Rattle.wit_syntax.specs.Function.{Role, SourceParam, SourceFunction, all_params, written_param, self_param, free_function, resource_function, definition_functions, part_functions, functions, signature, function_of, side_function}
 use Rattle.wit_arena.specs.Whole.{functions_at}
 use Rattle.wit_syntax.proofs.Lists.{at_split, map_at, flat_map_at}
 use Rattle.wit_arena.proofs.Forms.{AreAnonymous, written_anonymous}
@@ -27,7 +27,6 @@ use Rattle.wit_syntax.proofs.Externs.{extern_at}
 -- of a function
 record IsPlain (fn : SourceFunction) : Type 0 where
   given : (k : ℕ) (p : SourceParam) → slice_get fn.given k ≡ Some p → AreAnonymous p.shape
-  params : (k : ℕ) (p : SourceParam) → slice_get fn.params k ≡ Some p → AreAnonymous p.shape
   result : (x : Shape) → fn.result ≡ Some x → AreAnonymous x
 
 plain_result : (o : Option Shape) → ((x : Shape) → o ≡ Some x → AreAnonymous x) → (k : ℕ) (x : Shape) → slice_get (option_to_list o) k ≡ Some x → AreAnonymous x
@@ -35,21 +34,21 @@ plain_result None h k x at = absurd (let f : ⊥ = cc in f)
 plain_result (Some y) h zero x at = h x at
 plain_result (Some y) h (suc k) x at = absurd (let f : ⊥ = cc in f)
 
-plain_signature : (fn : SourceFunction) → IsPlain fn → (k : ℕ) (x : Shape) → slice_get (signature fn) k ≡ Some x → AreAnonymous x
-plain_signature fn h k x at = elim (at_split (map (λ (p : SourceParam). p.shape) (all_params fn)) (option_to_list fn.result) k x at) [
-  | inl front ↦ (
-      let p = map_at (λ (p : SourceParam). p.shape) (all_params fn) k x front in
-      subst AreAnonymous p.2 (elim (at_split fn.given fn.params k p.0 p.1) [
-        | inl g ↦ h.given k p.0 g
-        | inr g ↦ h.params g.0 p.0 g.2
-      ]))
-  | inr back ↦ plain_result fn.result h.result back.0 x back.2
-]
-
 plain_params : (ps : List Param) (k : ℕ) (p : SourceParam) → slice_get (map written_param ps) k ≡ Some p → AreAnonymous p.shape
 plain_params ps k p at =
     let q = map_at written_param ps k p at in
     subst (λ (x : SourceParam). AreAnonymous x.shape) q.2 (written_anonymous q.0.ty)
+
+plain_signature : (fn : SourceFunction) → IsPlain fn → (k : ℕ) (x : Shape) → slice_get (signature fn) k ≡ Some x → AreAnonymous x
+plain_signature fn h k x at = elim (at_split (map (λ (p : SourceParam). p.shape) (all_params fn)) (option_to_list fn.result) k x at) [
+  | inl front ↦ (
+      let p = map_at (λ (p : SourceParam). p.shape) (all_params fn) k x front in
+      subst AreAnonymous p.2 (elim (at_split fn.given (map written_param fn.func.params.items) k p.0 p.1) [
+        | inl g ↦ h.given k p.0 g
+        | inr g ↦ plain_params fn.func.params.items g.0 p.0 g.2
+      ]))
+  | inr back ↦ plain_result fn.result h.result back.0 x back.2
+]
 
 plain_written : (t : Option Written) (x : Shape) → option_map shape_of t ≡ Some x → AreAnonymous x
 plain_written None x h = absurd (let f : ⊥ = cc in f)
@@ -60,9 +59,9 @@ plain_made r None x h = let same : Word r ≡ x = cc in subst AreAnonymous same 
 plain_made r (Some t) x h = let same : shape_of t ≡ x = cc in subst AreAnonymous same (written_anonymous t)
 
 plain_of : (name : List ℕ) (role : Role) (given : List SourceParam) (docs : Docs) (attributes : List Attribute) (id : Id) (f : Func) → ((k : ℕ) (p : SourceParam) → slice_get given k ≡ Some p → AreAnonymous p.shape) → IsPlain (function_of name role given docs attributes id f)
-plain_of name role given docs attributes id f h = record { given = h; params = plain_params f.params.items; result = plain_written f.result }
+plain_of name role given docs attributes id f h = record { given = h; result = plain_written f.result }
 
-plain_with : (name : List ℕ) (role : Role) (given : List SourceParam) (f : NamedFunc) → ((k : ℕ) (p : SourceParam) → slice_get given k ≡ Some p → AreAnonymous p.shape) → IsPlain (function_with name role given f)
+plain_with : (name : List ℕ) (role : Role) (given : List SourceParam) (f : NamedFunc) → ((k : ℕ) (p : SourceParam) → slice_get given k ≡ Some p → AreAnonymous p.shape) → IsPlain (function_of name role given f.docs f.attributes.items f.name f.func)
 plain_with name role given f h = plain_of name role given f.docs f.attributes.items f.name f.func h
 
 none_given : (k : ℕ) (p : SourceParam) → slice_get [] k ≡ Some p → AreAnonymous p.shape
@@ -75,7 +74,7 @@ one_given q h (suc k) p at = absurd (let f : ⊥ = cc in f)
 plain_resource : (r : Id) (g : ResourceFunc) → IsPlain (resource_function r g)
 plain_resource r (resource.Method f) = plain_with (resource_function r (resource.Method f)).name (resource_function r (resource.Method f)).role (resource_function r (resource.Method f)).given f (one_given (self_param r f.func.span) (tt, (tt, tt)))
 plain_resource r (resource.Static f) = plain_with (resource_function r (resource.Static f)).name (resource_function r (resource.Static f)).role [] f none_given
-plain_resource r (resource.Constructor docs attributes span params result) = record { given = none_given; params = plain_params params.items; result = plain_made r result }
+plain_resource r (resource.Constructor docs attributes span params result) = record { given = none_given; result = plain_made r result }
 
 plain_definition : (r : Id) (b : TypeBody) (k : ℕ) (fn : SourceFunction) → slice_get (definition_functions r b) k ≡ Some fn → IsPlain fn
 plain_definition r (body.Resource funcs) k fn at =

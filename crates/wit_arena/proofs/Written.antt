@@ -6,20 +6,20 @@ use Rattle.std.proofs.lemmas.List.Elements.{Contains-append_left, Contains-appen
 use Rattle.std.specs.declared.alloc.Global.{Global}
 use Rattle.wit_values.specs.declared.span.Span.{Span}
 use Rattle.wit_type_tree.specs.declared.leaves.Id.{Id}
-use Rattle.wit_type_tree.specs.declared.types.«Type».{«Type» as Written, Held-Type-Future-1 as Held, None', Some', Row_of-Type, end_of-Type, more_of-Type}
+use Rattle.wit_type_tree.specs.declared.types.«Type».{«Type» as Written, None', Some', Row_of-Type, end_of-Type, more_of-Type}
 use Rattle.wit_type_tree.specs.declared.types.ResultTypes.{ResultTypes, Neither, Ok', Err', Both'}
 use Rattle.wit_type_tree.specs.declared.types.«Type».TheVariants as written
 use Rattle.wit_type_tree.proofs.Rows.{tuple_types}
-use Rattle.wit_type_tree.specs.Parts.{result_types, held_types, row_types, part_types}
+use Rattle.wit_type_tree.specs.Parts.{result_types, row_types, part_types}
 use Rattle.wit_types.specs.declared.stability.Stability.{Stability}
 use Rattle.wit_types.specs.declared.types.TypeDef.{TypeDef}
-use Rattle.wit_syntax.specs.Shape.{Shape, Prim, Word, Of, Shapes, End, More, shape_of, result_shapes, held_shape, row_shapes, all_shapes, head, words, all_words, handles, result_handles, held_handles, row_handles, all_handles}
+use Rattle.wit_syntax.specs.Shape.{Shape, Prim, Word, Of, Shapes, End, More, shape_of, result_shapes, row_shapes, all_shapes, head, words, all_words, handles, row_handles, all_handles}
 use Rattle.wit_syntax.specs.Address.{Address}
 use Rattle.wit_arena.specs.Expr.{joined, expr_of, exprs_of}
 use Rattle.wit_arena.specs.Expr as exprs
 use Rattle.wit_arena.specs.Meet.{shape_meetings, shapes_meetings}
 use Rattle.wit_syntax.specs.Fault.{Fault}
-use Rattle.wit_syntax.specs.Bodies.{IsBrokenForm, StandsIn, IsBrokenType, IsBrokenPart}
+use Rattle.wit_syntax.specs.Bodies.{IsBrokenForm, IsBrokenType, Itself, Inside, IsBrokenPart}
 use Rattle.wit_arena.specs.Resolving.{Env, IsWrongWord, IsWrongType, AreWrongTypes}
 use Rattle.wit_syntax.proofs.Found.{contains_at}
 
@@ -32,10 +32,6 @@ result_shapes-all Neither = refl
 result_shapes-all (Ok' p t) = refl
 result_shapes-all (Err' p t) = refl
 result_shapes-all (Both' p t q u) = refl
-
-held_shape-all : (t : Held) → held_shape t ≡ all_shapes (held_types t)
-held_shape-all None' = refl
-held_shape-all (Some' p t) = refl
 
 -- the parts of a shape
 abbrev pub inner : Shape → Shapes
@@ -51,8 +47,10 @@ IsOfTypes t = Unit {0}
 pub inner-parts : (t : Written) → IsOfTypes t → inner (shape_of t) ≡ all_shapes (part_types t)
 inner-parts (written.Result span of) h = result_shapes-all of
 inner-parts (written.Tuple' span shape ts) h = row_shapes-all ts
-inner-parts (written.Future' span t) h = held_shape-all t
-inner-parts (written.Stream' span t) h = held_shape-all t
+inner-parts (written.Future' span None') h = refl
+inner-parts (written.Future' span (Some' p t)) h = refl
+inner-parts (written.Stream' span None') h = refl
+inner-parts (written.Stream' span (Some' p t)) h = refl
 inner-parts (written.Borrow span id) h = absurd h
 inner-parts _ h = refl
 
@@ -106,16 +104,6 @@ handles_at [] i t id at h = absurd (let wrong : ⊥ = cc in wrong)
 handles_at (u ∷ ts) zero t id at h = let same : u ≡ t = cc in Contains-append_left (handles u) (all_handles ts) id (rw same h)
 handles_at (u ∷ ts) (suc i) t id at h = Contains-append_right (handles u) (all_handles ts) id (handles_at ts i t id at h)
 
-result_handles-all : (of : ResultTypes) → result_handles of ≡ all_handles (result_types of)
-result_handles-all Neither = refl
-result_handles-all (Ok' p t) = sym (append-nil (handles t))
-result_handles-all (Err' p t) = sym (append-nil (handles t))
-result_handles-all (Both' p t q u) = ap (λ (l : List Id). handles t ++ l) (sym (append-nil (handles u)))
-
-held_handles-all : (t : Held) → held_handles t ≡ all_handles (held_types t)
-held_handles-all None' = refl
-held_handles-all (Some' p t) = sym (append-nil (handles t))
-
 row_handles-all : {m : _} (ts : Row_of-Type m) → row_handles ts ≡ all_handles (row_types ts)
 row_handles-all end_of-Type = refl
 row_handles-all (more_of-Type t rest) = ap (λ (l : List Id). handles t ++ l) (row_handles-all rest)
@@ -134,10 +122,15 @@ handles-parts (written.List' span p t) h = sym (append-nil (handles t))
 handles-parts (written.FixedLengthList' span p t size) h = sym (append-nil (handles t))
 handles-parts (written.Map' span p key q value) h = ap (λ (l : List Id). handles key ++ l) (sym (append-nil (handles value)))
 handles-parts (written.Option' span p t) h = sym (append-nil (handles t))
-handles-parts (written.Result span of) h = result_handles-all of
+handles-parts (written.Result span Neither) h = refl
+handles-parts (written.Result span (Ok' p t)) h = sym (append-nil (handles t))
+handles-parts (written.Result span (Err' p t)) h = sym (append-nil (handles t))
+handles-parts (written.Result span (Both' p t q u)) h = ap (λ (l : List Id). handles t ++ l) (sym (append-nil (handles u)))
 handles-parts (written.Tuple' span shape ts) h = row_handles-all ts
-handles-parts (written.Future' span t) h = held_handles-all t
-handles-parts (written.Stream' span t) h = held_handles-all t
+handles-parts (written.Future' span None') h = refl
+handles-parts (written.Future' span (Some' p t)) h = sym (append-nil (handles t))
+handles-parts (written.Stream' span None') h = refl
+handles-parts (written.Stream' span (Some' p t)) h = sym (append-nil (handles t))
 handles-parts _ h = refl
 
 -- those in its parts are among those in the whole
@@ -152,27 +145,27 @@ word_wider env es ids hs jds gs f p q (inl unknown) = inl (record { id = unknown
 word_wider env es ids hs jds gs f p q (inr handle) = inr (record { id = handle.id; among = q handle.id handle.among; place = handle.place; stands = handle.stands; steps = handle.steps; other = handle.other; is = handle.is })
 
 pub wrong_at : (env : Env) (es : List TypeDef) (ts : List Written) (i : ℕ) (t : Written) (f : Fault) → slice_get ts i ≡ Some t → IsWrongType env es t f → AreWrongTypes env es ts f
-wrong_at env es ts i t f at (inl broken) = inl (record { t = t; among = contains_at ts i t at; broken = broken })
+wrong_at env es ts i t f at (inl broken) = inl (t, contains_at ts i t at, broken)
 wrong_at env es ts i t f at (inr word) = inr (word_wider env es (words (shape_of t)) (handles t) (all_words (all_shapes ts)) (all_handles ts) f (λ id h. words_at ts i t id at h) (λ id h. handles_at ts i t id at h) word)
 
 -- what is wrong with some of the types is wrong with all
 pub wrong_left : (env : Env) (es : List TypeDef) (ts us : List Written) (f : Fault) → AreWrongTypes env es ts f → AreWrongTypes env es (ts ++ us) f
-wrong_left env es ts us f (inl broken) = inl (record { t = broken.t; among = Contains-append_left ts us broken.t broken.among; broken = broken.broken })
+wrong_left env es ts us f (inl broken) = inl (broken.0, Contains-append_left ts us broken.0 broken.1, broken.2)
 wrong_left env es ts us f (inr word) = inr (word_wider env es (all_words (all_shapes ts)) (all_handles ts) (all_words (all_shapes (ts ++ us))) (all_handles (ts ++ us)) f
     (λ id h. subst (λ ids. Contains ids id) (sym (all_words-append ts us)) (Contains-append_left (all_words (all_shapes ts)) (all_words (all_shapes us)) id h))
     (λ id h. subst (λ ids. Contains ids id) (sym (all_handles-append ts us)) (Contains-append_left (all_handles ts) (all_handles us) id h)) word)
 
 pub wrong_right : (env : Env) (es : List TypeDef) (ts us : List Written) (f : Fault) → AreWrongTypes env es us f → AreWrongTypes env es (ts ++ us) f
-wrong_right env es ts us f (inl broken) = inl (record { t = broken.t; among = Contains-append_right ts us broken.t broken.among; broken = broken.broken })
+wrong_right env es ts us f (inl broken) = inl (broken.0, Contains-append_right ts us broken.0 broken.1, broken.2)
 wrong_right env es ts us f (inr word) = inr (word_wider env es (all_words (all_shapes us)) (all_handles us) (all_words (all_shapes (ts ++ us))) (all_handles (ts ++ us)) f
     (λ id h. subst (λ ids. Contains ids id) (sym (all_words-append ts us)) (Contains-append_right (all_words (all_shapes ts)) (all_words (all_shapes us)) id h))
     (λ id h. subst (λ ids. Contains ids id) (sym (all_handles-append ts us)) (Contains-append_right (all_handles ts) (all_handles us) id h)) word)
 
 broken_in : (t : Written) (f : Fault) → IsBrokenPart (part_types t) f → IsBrokenType t f
-broken_in t f h = record { level = suc h.broken.level; t = h.broken.t; stands = (h.t, h.among, h.broken.stands); broken = h.broken.broken }
+broken_in t f h = Inside h.1 h.2
 
 pub broken_here : (t : Written) (f : Fault) → IsBrokenForm t f → IsBrokenType t f
-broken_here t f h = record { level = zero; t = t; stands = refl; broken = h }
+broken_here t f h = Itself h
 
 -- what is wrong with the parts of a type is wrong with the type
 pub wrong_inside : (env : Env) (es : List TypeDef) (t : Written) (f : Fault) → AreWrongTypes env es (part_types t) f → IsWrongType env es t f
@@ -187,12 +180,12 @@ none_in : (t : Written) → Contains [] t → ⊥
 none_in t (k, lt, is) = omega arith
 
 pub legal_none : AreLegal []
-legal_none f h = none_in h.t h.among
+legal_none f h = none_in h.0 h.1
 
 pub legal_more : (ts us : List Written) → AreLegal ts → AreLegal us → AreLegal (ts ++ us)
-legal_more ts us p q f h = elim (Contains-append_cases ts us h.t h.among) [
-  | inl left ↦ p f (record { t = h.t; among = left; broken = h.broken })
-  | inr right ↦ q f (record { t = h.t; among = right; broken = h.broken })
+legal_more ts us p q f h = elim (Contains-append_cases ts us h.0 h.1) [
+  | inl left ↦ p f (h.0, left, h.2)
+  | inr right ↦ q f (h.0, right, h.2)
 ]
 
 the_one : (t u : Written) → Contains (t ∷ []) u → t ≡ u
@@ -200,12 +193,9 @@ the_one t u (zero, lt, is) = is
 the_one t u (suc k, lt, is) = absurd (let wrong : ⊥ = omega arith in wrong)
 
 pub legal_one : (t : Written) → ((f : Fault) → IsBrokenType t f → ⊥) → AreLegal (t ∷ [])
-legal_one t p f h = p f (subst (λ u. IsBrokenType u f) (sym (the_one t h.t h.among)) h.broken)
-
-legal_below : (n : ℕ) (t u : Written) (f : Fault) → ((x : Fault) → IsBrokenForm t x → ⊥) → AreLegal (part_types t) → StandsIn n t u → IsBrokenForm u f → ⊥
-legal_below zero t u f own parts same broken = own f (subst (λ x. IsBrokenForm x f) same broken)
-legal_below (suc n) t u f own parts s broken = parts f (record { t = s.0; among = s.1; broken = record { level = n; t = u; stands = s.2; broken = broken } })
+legal_one t p f h = p f (subst (λ u. IsBrokenType u f) (sym (the_one t h.0 h.1)) h.2)
 
 -- a type is legal where it is itself and its parts are
 pub legal_whole : (t : Written) → ((f : Fault) → IsBrokenForm t f → ⊥) → AreLegal (part_types t) → (f : Fault) → IsBrokenType t f → ⊥
-legal_whole t own parts f h = legal_below h.level t h.t f own parts h.stands h.broken
+legal_whole t own parts f (Itself broken) = own f broken
+legal_whole t own parts f (Inside {t = part} among broken) = parts f (part, among, broken)

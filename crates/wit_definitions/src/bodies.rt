@@ -1,10 +1,10 @@
 //! Bodies of definitions, as kinds of entries.
-ghost use Rattle.std.specs.Prelude.{◌≡◌, ◌⊎◌, [], map, IfOk, IfErr, OnOk};
+ghost use Rattle.std.specs.Prelude.{◌≡◌, ◌⊎◌, [], is_some, map, IfOk, IfErr, OnOk};
 ghost use Rattle.std.specs.Option.{option_to_list};
 ghost use Rattle.wit_type_tree.specs.Parts.{field_types, case_types, body_types};
 ghost use Rattle.wit_syntax.specs.Form.{RecordForm, FlagsForm, VariantForm, EnumForm};
 ghost use Rattle.wit_arena.specs.Kind.{kind_of, field_member, flag_member, case_member, enum_case_member, payloads};
-ghost use Rattle.wit_syntax.specs.Shape.{member, written_field, written_flag, written_case, written_enum_case, written_body, body_of, handles, all_handles};
+ghost use Rattle.wit_syntax.specs.Shape.{member, written_body, body_of, handles, all_handles};
 ghost use Rattle.wit_syntax.specs.Address.{Address};
 ghost use Rattle.wit_arena.specs.Expr.{exprs_of};
 ghost use Rattle.wit_arena.specs.Meet.{shapes_meetings};
@@ -31,7 +31,7 @@ use wit_values::{Row, Text, TextTable};
 
 /// A field of this type.
 fn field(alloc: Global, field: &tree::Field<'_>, ty: Type) -> Result<Field, AllocError>
-    ensures member { IfOk result (λ r. field_member r ≡ written_field field.now) }
+    ensures member { IfOk result (λ r. field_member r ≡ member field.now.docs field.now.name) }
     ensures ty { IfOk result (λ r. r.ty ≡ ty) }
 {
     Ok(Field {
@@ -52,7 +52,7 @@ fn resolve_fields(
     fields: &[tree::Field<'_>],
 ) -> ParseResult<Row<Field>>
     ensures types { IfOk result (λ r. AreTypes types.old types.new (env_of names.now) given.now (field_types fields.now) (map (λ f. f.ty) r)) }
-    ensures members { IfOk result (λ r. map field_member r ≡ map written_field fields.now) }
+    ensures members { IfOk result (λ r. map field_member r ≡ map (λ x. member x.docs x.name) fields.now) }
     ensures legal { OnOk result ((f : Fault) → IsBrokenPart (field_types fields.now) f → ⊥) }
     ensures handled { OnOk result (Requires (env_of names.now) types.new (all_handles (field_types fields.now)) required.old.items required.new.items) }
     ensures grown { IsGrown types.old types.new }
@@ -77,7 +77,7 @@ fn resolve_record(
     fields: &[tree::Field<'_>],
 ) -> ParseResult<TypeDefKind>
     ensures types { IfOk result (λ r. AreTypes types.old types.new (env_of names.now) given.now (field_types fields.now) (kind_of r).parts) }
-    ensures form { IfOk result (λ r. (kind_of r).form ≡ RecordForm (map written_field fields.now)) }
+    ensures form { IfOk result (λ r. (kind_of r).form ≡ RecordForm (map (λ x. member x.docs x.name) fields.now)) }
     ensures list { OnOk result ((f : Fault) → AreBroken 19 (λ x. x.name) fields.now span f → ⊥) }
     ensures legal { OnOk result ((f : Fault) → IsBrokenPart (field_types fields.now) f → ⊥) }
     ensures handled { OnOk result (Requires (env_of names.now) types.new (all_handles (field_types fields.now)) required.old.items required.new.items) }
@@ -91,7 +91,7 @@ fn resolve_record(
 
 /// A flag.
 fn flag(alloc: Global, flag: &tree::Flag<'_>) -> Result<Flag, AllocError>
-    ensures { IfOk result (λ r. flag_member r ≡ written_flag flag.now) }
+    ensures { IfOk result (λ r. flag_member r ≡ member flag.now.docs flag.now.name) }
 {
     Ok(Flag {
         name: Text::from_str(alloc, flag.name.name)?,
@@ -102,7 +102,7 @@ fn flag(alloc: Global, flag: &tree::Flag<'_>) -> Result<Flag, AllocError>
 
 /// Flags, in their order.
 fn flags(alloc: Global, flags: &[tree::Flag<'_>]) -> Result<Row<Flag>, AllocError>
-    ensures { IfOk result (λ r. map flag_member r ≡ map written_flag flags.now) }
+    ensures { IfOk result (λ r. map flag_member r ≡ map (λ x. member x.docs x.name) flags.now) }
 {
     let mut made = Vec::with_capacity(alloc, flags.len())?;
     for written in flags {
@@ -113,7 +113,7 @@ fn flags(alloc: Global, flags: &[tree::Flag<'_>]) -> Result<Row<Flag>, AllocErro
 
 /// The kind of flags.
 fn resolve_flags(alloc: Global, span: Span, written: &[tree::Flag<'_>]) -> ParseResult<TypeDefKind>
-    ensures form { IfOk result (λ r. (kind_of r).form ≡ FlagsForm (map written_flag written.now)) }
+    ensures form { IfOk result (λ r. (kind_of r).form ≡ FlagsForm (map (λ x. member x.docs x.name) written.now)) }
     ensures parts { IfOk result (λ r. (kind_of r).parts ≡ []) }
     ensures list { OnOk result ((f : Fault) → AreBroken 20 (λ x. x.name) written.now span f ⊎ IsFlagTooMany written.now f → ⊥) }
     ensures refused { IfErr result (Refused (λ f. AreBroken 20 (λ x. x.name) written.now span f ⊎ IsFlagTooMany written.now f)) }
@@ -146,7 +146,7 @@ fn resolve_case(
     written: &tree::Case<'_>,
 ) -> ParseResult<Case>
     ensures types { IfOk result (λ r. AreTypes types.old types.new (env_of names.now) given.now (option_to_list written.now.ty) (option_to_list r.ty)) }
-    ensures member { IfOk result (λ r. case_member r ≡ written_case written.now) }
+    ensures member { IfOk result (λ r. case_member r ≡ (member written.now.docs written.now.name, is_some written.now.ty)) }
     ensures legal { OnOk result ((f : Fault) → IsBrokenPart (option_to_list written.now.ty) f → ⊥) }
     ensures handled { OnOk result (Requires (env_of names.now) types.new (all_handles (option_to_list written.now.ty)) required.old.items required.new.items) }
     ensures grown { IsGrown types.old types.new }
@@ -171,7 +171,7 @@ fn resolve_cases(
     cases: &[tree::Case<'_>],
 ) -> ParseResult<Row<Case>>
     ensures types { IfOk result (λ r. AreTypes types.old types.new (env_of names.now) given.now (case_types cases.now) (payloads r)) }
-    ensures members { IfOk result (λ r. map case_member r ≡ map written_case cases.now) }
+    ensures members { IfOk result (λ r. map case_member r ≡ map (λ c. (member c.docs c.name, is_some c.ty)) cases.now) }
     ensures legal { OnOk result ((f : Fault) → IsBrokenPart (case_types cases.now) f → ⊥) }
     ensures handled { OnOk result (Requires (env_of names.now) types.new (all_handles (case_types cases.now)) required.old.items required.new.items) }
     ensures grown { IsGrown types.old types.new }
@@ -196,7 +196,7 @@ fn resolve_variant(
     cases: &[tree::Case<'_>],
 ) -> ParseResult<TypeDefKind>
     ensures types { IfOk result (λ r. AreTypes types.old types.new (env_of names.now) given.now (case_types cases.now) (kind_of r).parts) }
-    ensures form { IfOk result (λ r. (kind_of r).form ≡ VariantForm (map written_case cases.now)) }
+    ensures form { IfOk result (λ r. (kind_of r).form ≡ VariantForm (map (λ c. (member c.docs c.name, is_some c.ty)) cases.now)) }
     ensures list { OnOk result ((f : Fault) → AreBroken 23 (λ x. x.name) cases.now span f → ⊥) }
     ensures legal { OnOk result ((f : Fault) → IsBrokenPart (case_types cases.now) f → ⊥) }
     ensures handled { OnOk result (Requires (env_of names.now) types.new (all_handles (case_types cases.now)) required.old.items required.new.items) }
@@ -210,7 +210,7 @@ fn resolve_variant(
 
 /// A case of an enum.
 fn enum_case(alloc: Global, case: &tree::EnumCase<'_>) -> Result<EnumCase, AllocError>
-    ensures { IfOk result (λ r. enum_case_member r ≡ written_enum_case case.now) }
+    ensures { IfOk result (λ r. enum_case_member r ≡ member case.now.docs case.now.name) }
 {
     Ok(EnumCase {
         name: Text::from_str(alloc, case.name.name)?,
@@ -221,7 +221,7 @@ fn enum_case(alloc: Global, case: &tree::EnumCase<'_>) -> Result<EnumCase, Alloc
 
 /// The cases of an enum, in their order.
 fn enum_cases(alloc: Global, cases: &[tree::EnumCase<'_>]) -> Result<Row<EnumCase>, AllocError>
-    ensures { IfOk result (λ r. map enum_case_member r ≡ map written_enum_case cases.now) }
+    ensures { IfOk result (λ r. map enum_case_member r ≡ map (λ x. member x.docs x.name) cases.now) }
 {
     let mut made = Vec::with_capacity(alloc, cases.len())?;
     for written in cases {
@@ -236,7 +236,7 @@ fn resolve_enum(
     span: Span,
     written: &[tree::EnumCase<'_>],
 ) -> ParseResult<TypeDefKind>
-    ensures form { IfOk result (λ r. (kind_of r).form ≡ EnumForm (map written_enum_case written.now)) }
+    ensures form { IfOk result (λ r. (kind_of r).form ≡ EnumForm (map (λ x. member x.docs x.name) written.now)) }
     ensures parts { IfOk result (λ r. (kind_of r).parts ≡ []) }
     ensures list { OnOk result ((f : Fault) → AreBroken 24 (λ x. x.name) written.now span f → ⊥) }
     ensures refused { IfErr result (Refused (AreBroken 24 (λ x. x.name) written.now span)) }

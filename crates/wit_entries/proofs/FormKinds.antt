@@ -91,5 +91,5 @@ words-written t = words-head (shape_of t)
 
 -- what is wrong with a type is wrong with a definition that is the type
 pub wrong_plain : (env : Env) (es : List TypeDef) (t : Written) (f : Fault) → IsWrongType env es t f → IsWrongBody env es (Plain t) f
-wrong_plain env es t f (inl broken) = inl (inr (record { t = t; among = (0, omega arith, refl); broken = broken }))
+wrong_plain env es t f (inl broken) = inl (inr (t, (0, omega arith, refl), broken))
 wrong_plain env es t f (inr word) = inr (subst (λ (l : List Id). IsWrongWord env es l (all_handles (t ∷ [])) f) (sym (words-written t)) (subst (λ (l : List Id). IsWrongWord env es (words (shape_of t)) l f) (sym (append-nil (handles t))) word))

@@ -14,34 +14,34 @@ use Rattle.wit_signatures.specs.Taken.{name_key, IsTwiceAmong}
 
 -- a name whose key is taken stands twice among all
 pub again_twice : (names : List Name) (name : List ℕ) (span : Span) (f : Fault) → IsDefinedAgain names name span f → IsTwiceAmong (names ++ (name, span) ∷ []) f
-again_twice names name span f h = record {
-  later = (name, span);
-  repeated = record {
-    first = h.taken.place;
-    second = length names;
-    earlier = h.taken.earlier;
-    before = slice_get_within names h.taken.place h.taken.earlier h.taken.at;
-    at_first = at_front names ((name, span) ∷ []) h.taken.place h.taken.earlier h.taken.at;
-    at_second = at_seam names (name, span);
-    same = h.taken.same;
-  };
-  is = h.is;
-}
+again_twice names name span f h = (
+  (name, span),
+  (
+    h.taken.place,
+    length names,
+    slice_get_within names h.taken.place h.taken.earlier h.taken.at,
+    h.taken.earlier,
+    at_front names ((name, span) ∷ []) h.taken.place h.taken.earlier h.taken.at,
+    at_seam names (name, span),
+    h.taken.same,
+  ),
+  h.is,
+)
 
 pub twice_front : (names more : List Name) (f : Fault) → IsTwiceAmong names f → IsTwiceAmong (names ++ more) f
-twice_front names more f h = record {
-  later = h.later;
-  repeated = record {
-    first = h.repeated.first;
-    second = h.repeated.second;
-    earlier = h.repeated.earlier;
-    before = h.repeated.before;
-    at_first = at_front names more h.repeated.first h.repeated.earlier h.repeated.at_first;
-    at_second = at_front names more h.repeated.second h.later h.repeated.at_second;
-    same = h.repeated.same;
-  };
-  is = h.is;
-}
+twice_front names more f h = (
+  h.0,
+  (
+    h.1.0,
+    h.1.1,
+    h.1.2,
+    h.1.3,
+    at_front names more h.1.0 h.1.3 h.1.4,
+    at_front names more h.1.1 h.0 h.1.5,
+    h.1.6,
+  ),
+  h.2,
+)
 
 -- the next of the items that are defined
 names_more : {X : Type 0} (name : X → Name) (old : List Name) (xs : List X) (i : ℕ) (x : X) → i < length xs → x ≡ get_or xs i x → old ++ map name (take (i + 1) xs) ≡ (old ++ map name (take i xs)) ++ name x ∷ []

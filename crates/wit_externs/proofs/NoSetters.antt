@@ -20,8 +20,8 @@ use Rattle.wit_externs.specs.Setters.{is_form, sets}
 -- so none of them is one without its getter
 pub none_alone : (fns : List SourceFunction) → list_any sets fns ≡ false → (f : Fault) → IsUnpairedSetter fns f → ⊥
 none_alone fns none f u =
-    let there = at_contains fns u.fn u.among in
-    let found : list_any sets fns ≡ true = list_any-found sets fns there.0 u.fn there.1 (ap is_form u.setter) in
+    let there = at_contains fns u.0 u.1 in
+    let found : list_any sets fns ≡ true = list_any-found sets fns there.0 u.0 there.1 (ap is_form u.2) in
     (let wrong : false ≡ true = sym none ∙ found in cc)
 
 pub any-held : (hs : List HeldFunction) → list_any sets (map function_behind hs) ≡ list_any (λ h. sets (function_behind h)) hs

@@ -8,7 +8,7 @@ use Rattle.wit_type_tree.specs.declared.leaves.Id.{Id}
 use Rattle.wit_type_tree.specs.declared.types.FuncForm.TheVariants as form
 use Rattle.wit_syntax.specs.Fault.{Fault, fault}
 use Rattle.wit_syntax.specs.Function.{SourceFunction}
-use Rattle.wit_syntax.specs.Signature.{role_form, IsUnpairedSetter}
+use Rattle.wit_syntax.specs.Signature.{IsUnpairedSetter}
 use Rattle.wit_syntax.proofs.Found.{at_contains, contains_at}
 use Rattle.wit_refusals.specs.Names.{Name, IsLoneSetter, IsFirstLoneSetter}
 use Rattle.wit_rules.specs.declared.held.HeldFunction.{HeldFunction}
@@ -35,27 +35,27 @@ pub record AreNamed (names : List Name) (fns : List SourceFunction) : Type 0 whe
 
 module _ (names : List Name) (fns : List SourceFunction) (are : AreNamed names fns) where
   -- a setter among the functions goes by the name of one
-  sets_at : (j : ℕ) (fn : SourceFunction) → slice_get fns j ≡ Some fn → role_form fn.role ≡ form.Setter → is_setter fn.name ≡ true
+  sets_at : (j : ℕ) (fn : SourceFunction) → slice_get fns j ≡ Some fn → fn.func.form ≡ form.Setter → is_setter fn.name ≡ true
   sets_at j fn at setter =
       let h = are.held j fn at in
-      subst (λ (g : SourceFunction). is_setter g.name ≡ true) h.1 (sets_behind h.0 (subst (λ (g : SourceFunction). role_form g.role ≡ form.Setter) (sym h.1) setter))
+      subst (λ (g : SourceFunction). is_setter g.name ≡ true) h.1 (sets_behind h.0 (subst (λ (g : SourceFunction). g.func.form ≡ form.Setter) (sym h.1) setter))
 
-  setter_at : (j : ℕ) (fn : SourceFunction) → slice_get fns j ≡ Some fn → is_setter fn.name ≡ true → role_form fn.role ≡ form.Setter
+  setter_at : (j : ℕ) (fn : SourceFunction) → slice_get fns j ≡ Some fn → is_setter fn.name ≡ true → fn.func.form ≡ form.Setter
   setter_at j fn at sets =
       let h = are.held j fn at in
-      subst (λ (g : SourceFunction). role_form g.role ≡ form.Setter) h.1 (setter_behind h.0 (subst (λ (g : SourceFunction). is_setter g.name ≡ true) (sym h.1) sets))
+      subst (λ (g : SourceFunction). g.func.form ≡ form.Setter) h.1 (setter_behind h.0 (subst (λ (g : SourceFunction). is_setter g.name ≡ true) (sym h.1) sets))
 
   -- a setter without its getter among the functions is one among all names
   pub lone_setter : (f : Fault) → IsUnpairedSetter fns f → (i : ℕ) × IsLoneSetter names i
   lone_setter f u =
-      let there = at_contains fns u.fn u.among in
-      let sets = sets_at there.0 u.fn there.1 u.setter in
-      let own = are.has there.0 u.fn there.1 in
-      let none : (i : ℕ) (span : Span) → slice_get names i ≡ Some (getter_of u.fn.name, span) → ⊥ = λ i span at. elim (are.from i (getter_of u.fn.name, span) at) [
-        | inl g ↦ u.none g.1 (contains_at fns g.0 g.1 g.2) (ap (λ (n : Name). n.0) g.3)
-        | inr id ↦ getter_no_id id.0 u.fn.name sets (ap (λ (n : Name). n.0) id.1)
+      let there = at_contains fns u.0 u.1 in
+      let sets = sets_at there.0 u.0 there.1 u.2 in
+      let own = are.has there.0 u.0 there.1 in
+      let none : (i : ℕ) (span : Span) → slice_get names i ≡ Some (getter_of u.0.name, span) → ⊥ = λ i span at. elim (are.from i (getter_of u.0.name, span) at) [
+        | inl g ↦ u.3 g.1 (contains_at fns g.0 g.1 g.2) (ap (λ (n : Name). n.0) g.3)
+        | inr id ↦ getter_no_id id.0 u.0.name sets (ap (λ (n : Name). n.0) id.1)
       ] in
-      (own.0, record { setter = name_of_function u.fn; at = own.1; sets = sets; none = none })
+      (own.0, record { setter = name_of_function u.0; at = own.1; sets = sets; none = none })
 
   -- and the first one among all names is one among the functions
   pub unpaired_setter : (f : Fault) → IsFirstLoneSetter names f → IsUnpairedSetter fns f
@@ -65,15 +65,14 @@ module _ (names : List Name) (fns : List SourceFunction) (are : AreNamed names f
         | inr id ↦ absurd (setter_no_id id.0 lone.setter.0 lone.sets (ap (λ (n : Name). n.0) id.1))
         | inl g ↦ (
             let named : g.1.name ≡ lone.setter.0 = ap (λ (n : Name). n.0) g.3 in
-            let sets : is_setter g.1.name ≡ true = subst (λ n. is_setter n ≡ true) (sym named) lone.sets in
-            record {
-              fn = g.1;
-              among = contains_at fns g.0 g.1 g.2;
-              setter = setter_at g.0 g.1 g.2 sets;
-              none = λ other among same. (
+            let sets : is_setter g.1.name ≡ true = subst (λ n. is_setter n ≡ true) (sym named) lone.sets in (
+              g.1,
+              contains_at fns g.0 g.1 g.2,
+              setter_at g.0 g.1 g.2 sets,
+              λ other among same. (
                   let there = at_contains fns other among in
                   let it = are.has there.0 other there.1 in
-                  lone.none it.0 other.span (it.1 ∙ ap (λ (n : List ℕ). Some (n, other.span)) (same ∙ ap getter_of named)));
-              is = l.is ∙ ap (λ (n : Name). fault 18 n.1) (sym g.3);
-            })
+                  lone.none it.0 other.span (it.1 ∙ ap (λ (n : List ℕ). Some (n, other.span)) (same ∙ ap getter_of named))),
+              l.is ∙ ap (λ (n : Name). fault 18 n.1) (sym g.3),
+            ))
       ]

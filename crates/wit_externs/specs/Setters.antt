@@ -3,7 +3,6 @@ use Rattle.std.specs.Prelude.{Bool, true, false}
 use Rattle.wit_type_tree.specs.declared.types.FuncForm.{FuncForm}
 use Rattle.wit_type_tree.specs.declared.types.FuncForm.TheVariants as form
 use Rattle.wit_syntax.specs.Function.{SourceFunction}
-use Rattle.wit_syntax.specs.Signature.{role_form}
 
 -- whether a form is that of a setter
 abbrev pub is_form : FuncForm → Bool
@@ -14,4 +13,4 @@ is_form form.Setter = true
 
 -- whether it is a setter
 abbrev pub sets : SourceFunction → Bool
-sets fn = is_form (role_form fn.role)
+sets fn = is_form fn.func.form

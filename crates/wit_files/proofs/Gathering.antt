@@ -130,10 +130,10 @@ broken_order files rs same f (inr h) = CyclicItem (subst (λ (l : List Row). IsC
 
 -- where names differ and the items have an order, no rule about items is broken
 pub legal_items : (files : List PackageFile) (places : List ℕ) → AllDiffer (map item_name (all_items files)) → AreDistinctTops files → IsOrder (item_rows files) places → (f : Fault) → IsBrokenItems files f → ⊥
-legal_items files places differ tops order f (DuplicateItem h) = no_repeat item_name (all_items files) h.later differ h.repeated
+legal_items files places differ tops order f (DuplicateItem h) = no_repeat item_name (all_items files) h.0 differ h.1
 legal_items files places differ tops order f (DuplicateTopName file among h) =
     let p = at_contains files file among in
-    no_repeat top_text (top_names file) h.later (tops.differ p.0 file p.1) h.repeated
+    no_repeat top_text (top_names file) h.0 (tops.differ p.0 file p.1) h.1
 legal_items files places differ tops order f (MissingItem h) = no_missing_edge (missing_at 7 item_word) (item_rows files) places f order h
 legal_items files places differ tops order f (CyclicItem h) = no_cyclic_edge 8 item_word (item_rows files) places f order h
 

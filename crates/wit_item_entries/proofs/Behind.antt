@@ -34,15 +34,15 @@ use Rattle.wit_item_entries.proofs.Handled.{handle_wider}
 use Rattle.wit_uses.proofs.Behind.{all_taken, called, called_item}
 
 repeated_called : (names : List Name) (later : Name) → IsRepeated name_key names later → IsRepeated called_key (map called names) (called later)
-repeated_called names later h = record {
-  first = h.first;
-  second = h.second;
-  earlier = called h.earlier;
-  before = h.before;
-  at_first = slice_get-map called names h.first ∙ ap (option_map called) h.at_first;
-  at_second = slice_get-map called names h.second ∙ ap (option_map called) h.at_second;
-  same = h.same;
-}
+repeated_called names later h = (
+  h.0,
+  h.1,
+  h.2,
+  called h.3,
+  slice_get-map called names h.0 ∙ ap (option_map called) h.4,
+  slice_get-map called names h.1 ∙ ap (option_map called) h.5,
+  h.6,
+)
 
 -- a name of a scope, or of what stands behind its names, that is taken on a side is one once folded
 twice_folded : (side : WorldSide) (xs : List ScopeName) (items : List SideItem) (ids : List Id) (f : Fault) → IsTurn xs ids → IsTwiceAmong (all_on side ids items) f → IsFoldedTwice xs items f
@@ -50,11 +50,11 @@ twice_folded side xs items ids f t h = record {
   side = side;
   order = t.order;
   least = t.least;
-  twice = record {
-    later = called h.later;
-    repeated = subst (λ (cs : List Called). IsRepeated called_key cs (called h.later)) (all_taken side xs (items_on side items) t.order ids t.are) (repeated_called (all_on side ids items) h.later h.repeated);
-    is = h.is;
-  };
+  twice = (
+    called h.0,
+    subst (λ (cs : List Called). IsRepeated called_key cs (called h.0)) (all_taken side xs (items_on side items) t.order ids t.are) (repeated_called (all_on side ids items) h.0 h.1),
+    h.2,
+  );
 }
 
 -- the name of an import or an export that is taken on its side is one
@@ -95,19 +95,19 @@ wrong_clash env es xs fns ids before f t are h = elim (clash_broken xs (map Side
 
 -- a name that stands twice does so with more behind it
 twice_front : (names more : List Name) (f : Fault) → IsTwiceAmong names f → IsTwiceAmong (names ++ more) f
-twice_front names more f h = record {
-  later = h.later;
-  repeated = record {
-    first = h.repeated.first;
-    second = h.repeated.second;
-    earlier = h.repeated.earlier;
-    before = h.repeated.before;
-    at_first = at_front names more h.repeated.first h.repeated.earlier h.repeated.at_first;
-    at_second = at_front names more h.repeated.second h.later h.repeated.at_second;
-    same = h.repeated.same;
-  };
-  is = h.is;
-}
+twice_front names more f h = (
+  h.0,
+  (
+    h.1.0,
+    h.1.1,
+    h.1.2,
+    h.1.3,
+    at_front names more h.1.0 h.1.3 h.1.4,
+    at_front names more h.1.1 h.0 h.1.5,
+    h.1.6,
+  ),
+  h.2,
+)
 
 -- so a name of a scope that stands twice by itself is one once folded
 pub front_folded : (xs : List ScopeName) (items : List SideItem) (ids : List Id) (f : Fault) → IsTurn xs ids → IsTwiceAmong (map name_of_id ids) f → IsFoldedTwice xs items f

@@ -25,7 +25,7 @@ none_in fn (k, lt, is) = omega arith
 
 -- none of them is a setter without its getter
 pub none_unpaired : (hs : List HeldFunction) → length hs ≡ 0 → (f : Fault) → IsUnpairedSetter (map function_behind hs) f → ⊥
-none_unpaired hs none f h = none_in h.fn (subst (λ (l : List HeldFunction). Contains (map function_behind l) h.fn) (nil_from_length hs none) h.among)
+none_unpaired hs none f h = none_in h.0 (subst (λ (l : List HeldFunction). Contains (map function_behind l) h.0) (nil_from_length hs none) h.1)
 
 alone : (side : WorldSide) (xs : List ScopeName) (ids : List Id) → IsTurn xs ids → list_any (λ (id : Id). list_any is_ascii_uppercase id.name.now) ids ≡ false → AllDiffer (map name_key (names_on side (map name_of_id ids) ++ []))
 alone Imported xs ids t lower = turn_keys xs ids t lower

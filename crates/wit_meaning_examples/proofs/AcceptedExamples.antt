@@ -72,8 +72,8 @@ module _ (ptr : Ptr) (alloc : Global) where
   no_top_use u among = let same = one_among _ (ast.Use u) among in let f : ⊥ = cc in f
 
   names_pass : (f : Fault) → IsBrokenNames files f → ⊥
-  names_pass f (Items (DuplicateItem h)) = no_repeat item_name (all_items files) h.later (one_differs (codes "i")) h.repeated
-  names_pass f (Items (DuplicateTopName g among h)) = no_repeat top_text (top_names g) h.later (subst (λ (x : PackageFile). AllDiffer (map top_text (top_names x))) (one_file g among) (one_differs (codes "i"))) h.repeated
+  names_pass f (Items (DuplicateItem h)) = no_repeat item_name (all_items files) h.0 (one_differs (codes "i")) h.1
+  names_pass f (Items (DuplicateTopName g among h)) = no_repeat top_text (top_names g) h.0 (subst (λ (x : PackageFile). AllDiffer (map top_text (top_names x))) (one_file g among) (one_differs (codes "i"))) h.1
   names_pass f (Items (MissingItem h)) = no_missing_edge (missing_at 7 item_word) (item_rows files) (0 ∷ []) f (one_order (codes "i")) h
   names_pass f (Items (CyclicItem h)) = no_cyclic_edge 8 item_word (item_rows files) (0 ∷ []) f (one_order (codes "i")) h
   names_pass f (ForeignStability v among h) = no_stability f (subst (λ (x : ForeignVisit). IsBrokenStability x.attributes f) (sym (one_among (visit ptr alloc) v among)) h)
@@ -111,7 +111,7 @@ module _ (ptr : Ptr) (alloc : Global) where
       f
 
   scope_passes : (f : Fault) → IsBrokenScope names (functions item) f → ⊥
-  scope_passes f (DefinedTwice h) = no_repeat local_name names h.later (one_differs (codes "t")) h.repeated
+  scope_passes f (DefinedTwice h) = no_repeat local_name names h.0 (one_differs (codes "t")) h.1
   scope_passes f (MissingType h) = no_missing_edge missing_type_at (rows_of names) (0 ∷ []) f (one_order (codes "t")) h
   scope_passes f (CyclicType h) = no_cyclic_edge 16 type_word (rows_of names) (0 ∷ []) f (one_order (codes "t")) h
   scope_passes f (Notes d among h) = none_defined d among
@@ -146,4 +146,4 @@ module _ (ptr : Ptr) (alloc : Global) where
   legal f (Scope i among h) = scope_passes f (subst (λ (x : Item). IsBrokenScope (scope_names x) (functions x) f) (sym (one_scope i among)) h)
   legal f (Sides i among h) = sides_pass f (subst (λ (x : Item). IsBrokenSides x f) (sym (one_scope i among)) h)
   legal f (Handle i among h) = none_among h.id (subst (λ (x : Item). Contains (all_handles (item_types x)) h.id) (sym (one_scope i among)) h.among)
-  legal f (Setter i among h) = none_among h.alone.fn (subst (λ (x : Item). Contains (on_side h.side (functions x)) h.alone.fn) (sym (one_scope i among)) h.alone.among)
+  legal f (Setter i among h) = none_among h.alone.0 (subst (λ (x : Item). Contains (on_side h.side (functions x)) h.alone.0) (sym (one_scope i among)) h.alone.1)

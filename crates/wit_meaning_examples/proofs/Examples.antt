@@ -225,7 +225,7 @@ module _ (ptr : Ptr) (alloc : Global) where
   twice = record { docs = no_comments; name = id (codes "a") (at 9 10) refl; ty = written.Primitive (at 12 14) primitive.U8 } ∷ record { docs = no_comments; name = id (codes "A") (at 16 17) refl; ty = written.Primitive (at 19 21) primitive.U8 } ∷ []
 
   twice_refused : IsDuplicateName (map (λ x. x.name) twice) (fault 25 (at 16 17))
-  twice_refused = record { later = id (codes "A") (at 16 17) refl; repeated = record { first = 0; second = 1; earlier = id (codes "a") (at 9 10) refl; before = lit< tt; at_first = refl; at_second = refl; same = refl }; is = refl }
+  twice_refused = (id (codes "A") (at 16 17) refl, (0, 1, lit< tt, id (codes "a") (at 9 10) refl, refl, refl, refl), refl)
 
   -- no file has a header
   none_refused : IsBroken [] (fault 4 (at 0 0))
@@ -373,7 +373,7 @@ module _ (ptr : Ptr) (alloc : Global) where
 
     -- use z as x; interface x {}
     twice_on_top : IsSecond top_text (λ (n : TopName). fault 6 n.id.span) (record { id = id (codes "x") (at 9 10) refl; target = Local (id (codes "z") (at 4 5) refl) } ∷ record { id = id (codes "x") (at 22 23) refl; target = Local (id (codes "x") (at 22 23) refl) } ∷ []) (fault 6 (at 22 23))
-    twice_on_top = record { later = record { id = id (codes "x") (at 22 23) refl; target = Local (id (codes "x") (at 22 23) refl) }; repeated = record { first = 0; second = 1; earlier = record { id = id (codes "x") (at 9 10) refl; target = Local (id (codes "z") (at 4 5) refl) }; before = lit< tt; at_first = refl; at_second = refl; same = refl }; is = refl }
+    twice_on_top = (record { id = id (codes "x") (at 22 23) refl; target = Local (id (codes "x") (at 22 23) refl) }, (0, 1, lit< tt, record { id = id (codes "x") (at 9 10) refl; target = Local (id (codes "z") (at 4 5) refl) }, refl, refl, refl), refl)
 
     -- use x as y; use y as z;
     abbrev of_an_alias : ToplevelUse

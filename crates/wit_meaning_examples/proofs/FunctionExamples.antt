@@ -45,7 +45,7 @@ use Rattle.wit_arena.specs.Expr.{Expr, Prim, Use, Of, End, More, one}
 use Rattle.wit_arena.specs.Meet.{Key, Def, Whole, Meeting}
 use Rattle.wit_syntax.specs.Shape.{Word, all_handles}
 use Rattle.wit_syntax.specs.Shape as shape
-use Rattle.wit_syntax.specs.Function.{Freestanding, Method, Static, Constructor, SourceParam, SourceFunction, constructor_of, resource_function, free_function, functions, free_names, item_types, signature}
+use Rattle.wit_syntax.specs.Function.{Freestanding, Method, Static, Constructor, SourceParam, SourceFunction, resource_function, free_function, functions, free_names, item_types, signature}
 use Rattle.wit_arena.specs.Functions.{IsParam, AreParams, IsFunction, AreFunctions, placed_functions}
 use Rattle.wit_syntax.specs.Sides.{FunctionKey}
 use Rattle.wit_arena.specs.Package.{package_tree, functions_of, function_types}
@@ -227,7 +227,7 @@ module _ (ptr : Ptr) (alloc : Global) where
   placed = refl
 
   -- each is the written one
-  is_constructor : IsFunction ks in_i (constructor_of r.name (no_comments ptr alloc) [] (at 44 55) (n_u32 ∷ []) None) made_constructor
+  is_constructor : IsFunction ks in_i (resource_function r.name (resource.Constructor (no_comments ptr alloc) (untold ptr alloc) (at 44 55) (vec ptr alloc (n_u32 ∷ []) (lit< tt)) None)) made_constructor
   is_constructor = record { name = refl; kind = (0, refl, refl); params = params_are ks in_i _ _ refl (record { name = refl; span = refl; type = refl }, tt); result = (0, refl, refl); span = refl; notes = record { docs = refl; stability = refl; external_id = refl } }
 
   is_method : IsFunction ks in_i (resource_function r.name (resource.Method method_m)) made_method

@@ -74,9 +74,9 @@ module _ (ptr : Ptr) (alloc : Global) where
     -- g is no name yet where it is written
     not_entered : IsEntered (functions (item_of ptr alloc later)) 0 (codes "g") → ⊥
     not_entered e =
-        let first : e.place ≡ 0 = (let before = e.before in omega arith) in
-        let there : slice_get (functions (item_of ptr alloc later)) 0 ≡ Some e.entered = ap (slice_get (functions (item_of ptr alloc later))) (sym first) ∙ e.at in
-        let wrong : false ≡ true = ap is_named_g there ∙ ap is_role_g e.role ∙ ap (λ n. bytes_eq n (codes "g")) e.same in
+        let first : e.0 ≡ 0 = (let before = e.1 in omega arith) in
+        let there : slice_get (functions (item_of ptr alloc later)) 0 ≡ Some e.2 = ap (slice_get (functions (item_of ptr alloc later))) (sym first) ∙ e.3 in
+        let wrong : false ≡ true = ap is_named_g there ∙ ap is_role_g e.6 ∙ ap (λ n. bytes_eq n (codes "g")) e.7 in
         let f : ⊥ = cc in
         f
 
@@ -88,7 +88,7 @@ module _ (ptr : Ptr) (alloc : Global) where
   given = i_of ptr alloc (FuncItem (func_of ptr alloc (x_id ptr alloc (at 31 32)) (at 34 37) form.Getter (v_u8 ptr alloc (at 38 39) (at 41 43)) (Some (written.Primitive (at 48 50) primitive.U8))) ∷ []) (lit< tt)
 
   given_refused : IsBroken (file_of ptr alloc given ∷ []) (fault 36 (at 38 39))
-  given_refused = in_scope ptr alloc given (fault 36 (at 38 39)) (Function 0 _ refl (GetterGiven (record { getter = refl; first = _; at = refl; is = refl })))
+  given_refused = in_scope ptr alloc given (fault 36 (at 38 39)) (Function 0 _ refl (GetterGiven (refl, _, refl, refl)))
 
   -- x: set(); x: get() -> u8;
   abbrev bare : Interface
@@ -96,7 +96,7 @@ module _ (ptr : Ptr) (alloc : Global) where
 
   -- at the function's word
   bare_refused : IsBroken (file_of ptr alloc bare ∷ []) (fault 37 (at 34 37))
-  bare_refused = in_scope ptr alloc bare (fault 37 (at 34 37)) (Function 0 _ refl (SetterGiven (record { setter = refl; other = λ (none : 0 ≡ 1). (let f : ⊥ = cc in f); is = refl })))
+  bare_refused = in_scope ptr alloc bare (fault 37 (at 34 37)) (Function 0 _ refl (SetterGiven (refl, λ (none : 0 ≡ 1). (let f : ⊥ = cc in f), refl)))
 
   -- x: set(v: u8, t: u8); x: get() -> u8;
   abbrev double : Interface
@@ -108,28 +108,28 @@ module _ (ptr : Ptr) (alloc : Global) where
   }) ∷ FuncItem (getter (at 53 54) (at 56 59) (at 65 67)) ∷ []) (lit< tt)
 
   double_refused : IsBroken (file_of ptr alloc double ∷ []) (fault 37 (at 45 46))
-  double_refused = in_scope ptr alloc double (fault 37 (at 45 46)) (Function 0 _ refl (SetterGiven (record { setter = refl; other = λ (two : 2 ≡ 1). (let f : ⊥ = cc in f); is = refl })))
+  double_refused = in_scope ptr alloc double (fault 37 (at 45 46)) (Function 0 _ refl (SetterGiven (refl, λ (two : 2 ≡ 1). (let f : ⊥ = cc in f), refl)))
 
   -- x: get();
   abbrev silent : Interface
   silent = i_of ptr alloc (FuncItem (func ptr alloc (x_id ptr alloc (at 31 32)) (at 34 37) form.Getter None) ∷ []) (lit< tt)
 
   silent_refused : IsBroken (file_of ptr alloc silent ∷ []) (fault 39 (at 34 37))
-  silent_refused = in_scope ptr alloc silent (fault 39 (at 34 37)) (Function 0 _ refl (GetterWithoutResult (record { getter = refl; none = refl; is = refl })))
+  silent_refused = in_scope ptr alloc silent (fault 39 (at 34 37)) (Function 0 _ refl (GetterWithoutResult (refl, refl, refl)))
 
   -- resource r { constructor() -> u8; }
   abbrev making : Written → Interface
   making t = i_of ptr alloc (TypeItem (resource_of ptr alloc (r_id ptr alloc (at 40 41)) (resource.Constructor (no_comments ptr alloc) (untold ptr alloc) (at 44 55) (vec ptr alloc [] (lit< tt)) (Some t) ∷ []) (lit< tt)) ∷ []) (lit< tt)
 
   plain_refused : IsBroken (file_of ptr alloc (making (written.Primitive (at 61 63) primitive.U8)) ∷ []) (fault 41 (at 61 63))
-  plain_refused = in_scope ptr alloc (making (written.Primitive (at 61 63) primitive.U8)) (fault 41 (at 61 63)) (Function 0 _ refl (ConstructorWithoutResult (record { of = r_id ptr alloc (at 40 41); constructs = refl; t = _; result = refl; none = refl; is = refl })))
+  plain_refused = in_scope ptr alloc (making (written.Primitive (at 61 63) primitive.U8)) (fault 41 (at 61 63)) (Function 0 _ refl (ConstructorWithoutResult (r_id ptr alloc (at 40 41), refl, _, refl, refl, refl)))
 
   -- resource r { constructor() -> result; }
   abbrev empty : Written
   empty = written.Result (at 61 67) Neither
 
   empty_refused : IsBroken (file_of ptr alloc (making empty) ∷ []) (fault 42 (at 61 67))
-  empty_refused = in_scope ptr alloc (making empty) (fault 42 (at 61 67)) (Function 0 _ refl (ConstructorOfOther (record { of = r_id ptr alloc (at 40 41); constructs = refl; t = _; result = refl; ok = None; gives = refl; other = λ u (some : None ≡ Some u) is. (let f : ⊥ = cc in f); is = refl })))
+  empty_refused = in_scope ptr alloc (making empty) (fault 42 (at 61 67)) (Function 0 _ refl (ConstructorOfOther (r_id ptr alloc (at 40 41), refl, _, refl, None, refl, λ u (some : None ≡ Some u) is. (let f : ⊥ = cc in f), refl)))
 
   -- type t = result<u8>; x: set(v: u8) -> t; x: get() -> u8;
   module _ where
@@ -140,7 +140,7 @@ module _ (ptr : Ptr) (alloc : Global) where
     called = i_of ptr alloc (TypeItem some_ok ∷ FuncItem (func_of ptr alloc (x_id ptr alloc (at 52 53)) (at 55 58) form.Setter (v_u8 ptr alloc (at 59 60) (at 62 64)) (Some (written.Name (t_id ptr alloc (at 69 70))))) ∷ FuncItem (getter (at 72 73) (at 75 78) (at 84 86)) ∷ []) (lit< tt)
 
     called_refused : IsBroken (file_of ptr alloc called ∷ []) (fault 40 (at 69 70))
-    called_refused = in_scope ptr alloc called (fault 40 (at 69 70)) (Function 0 _ refl (SetterWithResult (record { setter = refl; t = _; result = refl; other = λ (same : Some (Some (written.Primitive (at 47 49) primitive.U8)) ≡ Some None). (let f : ⊥ = cc in f); is = refl })))
+    called_refused = in_scope ptr alloc called (fault 40 (at 69 70)) (Function 0 _ refl (SetterWithResult (refl, _, refl, λ (same : Some (Some (written.Primitive (at 47 49) primitive.U8)) ≡ Some None). (let f : ⊥ = cc in f), refl)))
 
   -- type t = result; type f = t;
   abbrev words : List ScopeName
@@ -186,13 +186,13 @@ module _ (ptr : Ptr) (alloc : Global) where
     alone = record {
       closed = refl;
       side = Imported;
-      alone = record {
-        fn = _;
-        among = (1, lit< tt, refl);
-        setter = refl;
-        none = λ g among same. (let it = at_contains (functions item) g among in no_getter it.0 g it.1 same);
-        is = refl;
-      };
+      alone = (
+        _,
+        (1, lit< tt, refl),
+        refl,
+        λ g among same. (let it = at_contains (functions item) g among in no_getter it.0 g it.1 same),
+        refl,
+      );
     }
 
     abbrev types : List TypeDef

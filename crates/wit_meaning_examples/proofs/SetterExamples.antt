@@ -82,11 +82,11 @@ module _ (ptr : Ptr) (alloc : Global) where
   alone_refused = Setter item (0, lit< tt, refl) (record {
     closed = refl;
     side = Exported;
-    alone = record {
-      fn = _;
-      among = (0, lit< tt, refl);
-      setter = refl;
-      none = λ g among same. (let it = at_contains (on_side Exported (functions item)) g among in no_getter it.0 g it.1 same);
-      is = refl;
-    };
+    alone = (
+      _,
+      (0, lit< tt, refl),
+      refl,
+      λ g among same. (let it = at_contains (on_side Exported (functions item)) g among in no_getter it.0 g it.1 same),
+      refl,
+    );
   })

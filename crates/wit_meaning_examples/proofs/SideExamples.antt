@@ -120,11 +120,11 @@ module _ (ptr : Ptr) (alloc : Global) where
       side = Imported;
       order = [];
       least = no_rows;
-      twice = record {
-        later = record { name = codes "F"; span = at 52 53 };
-        repeated = record { first = 0; second = 1; earlier = record { name = codes "f"; span = at 34 35 }; before = lit< tt; at_first = refl; at_second = refl; same = refl };
-        is = refl;
-      };
+      twice = (
+        record { name = codes "F"; span = at 52 53 },
+        (0, 1, lit< tt, record { name = codes "f"; span = at 34 35 }, refl, refl, refl),
+        refl,
+      );
     }))
 
   -- import f: func(); import f: func();
@@ -186,13 +186,13 @@ module _ (ptr : Ptr) (alloc : Global) where
     none_in side name word k f (BrokenNotes h) = no_notes f h
     none_in side name word k f (BrokenTypes h) = none_among h.t h.among
     none_in side name word k f (MissingInSignature id among missing told) = none_among id among
-    none_in side name word k f (GetterGiven h) = let wrong = h.getter in let g : ⊥ = cc in g
-    none_in side name word k f (SetterGiven h) = let wrong = h.setter in let g : ⊥ = cc in g
-    none_in side name word k f (DuplicateParam h) = let wrong = h.repeated.at_first in let g : ⊥ = cc in g
-    none_in side name word k f (GetterWithoutResult h) = let wrong = h.getter in let g : ⊥ = cc in g
-    none_in side name word k f (SetterWithResult h) = let wrong = h.setter in let g : ⊥ = cc in g
-    none_in side name word k f (ConstructorWithoutResult h) = let wrong = h.constructs in let g : ⊥ = cc in g
-    none_in side name word k f (ConstructorOfOther h) = let wrong = h.constructs in let g : ⊥ = cc in g
+    none_in side name word k f (GetterGiven h) = let wrong = h.0 in let g : ⊥ = cc in g
+    none_in side name word k f (SetterGiven h) = let wrong = h.0 in let g : ⊥ = cc in g
+    none_in side name word k f (DuplicateParam h) = let wrong = h.1.4 in let g : ⊥ = cc in g
+    none_in side name word k f (GetterWithoutResult h) = let wrong = h.0 in let g : ⊥ = cc in g
+    none_in side name word k f (SetterWithResult h) = let wrong = h.0 in let g : ⊥ = cc in g
+    none_in side name word k f (ConstructorWithoutResult h) = let wrong = h.1 in let g : ⊥ = cc in g
+    none_in side name word k f (ConstructorOfOther h) = let wrong = h.1 in let g : ⊥ = cc in g
 
     none_at : (k : ℕ) (fn : SourceFunction) → slice_get fns k ≡ Some fn → (f : Fault) → IsBrokenFunction [] fns k fn f → ⊥
     none_at zero fn at_k f h = none_in Imported (at 34 35) (at 37 41) 0 f (subst (λ (x : SourceFunction). IsBrokenFunction [] fns 0 x f) (let same : fn ≡ plain Imported (at 34 35) (at 37 41) = cc in same) h)
@@ -201,7 +201,7 @@ module _ (ptr : Ptr) (alloc : Global) where
 
     -- the scope breaks no rule
     none_broken : (f : Fault) → IsBrokenScope (scope_names (item_of passing)) fns f → ⊥
-    none_broken f (DefinedTwice h) = let wrong = h.repeated.at_first in let g : ⊥ = cc in g
+    none_broken f (DefinedTwice h) = let wrong = h.1.4 in let g : ⊥ = cc in g
     none_broken f (MissingType h) = let wrong = h.edge.1 in let g : ⊥ = cc in g
     none_broken f (CyclicType h) = let wrong = h.edge.1 in let g : ⊥ = cc in g
     none_broken f (Notes d among h) = none_among (Defined d) among

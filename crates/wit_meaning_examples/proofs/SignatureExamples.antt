@@ -163,11 +163,11 @@ module _ (ptr : Ptr) (alloc : Global) where
       side = Imported;
       order = 0 ∷ [];
       least = one_order (codes "r");
-      twice = record {
-        later = record { name = codes "[method]r.r"; span = at 44 45 };
-        repeated = record { first = 0; second = 1; earlier = record { name = codes "r"; span = at 40 41 }; before = lit< tt; at_first = refl; at_second = refl; same = refl };
-        is = refl;
-      };
+      twice = (
+        record { name = codes "[method]r.r"; span = at 44 45 },
+        (0, 1, lit< tt, record { name = codes "r"; span = at 40 41 }, refl, refl, refl),
+        refl,
+      );
     }))
 
   -- resource r { constructor(); }
@@ -220,13 +220,13 @@ module _ (ptr : Ptr) (alloc : Global) where
     unpaired_refused = Setter (item_of unpaired) (0, lit< tt, refl) (record {
       closed = refl;
       side = Imported;
-      alone = record {
-        fn = _;
-        among = (1, lit< tt, refl);
-        setter = refl;
-        none = λ g among same. (let there = at_contains fns g among in no_getter there.0 g there.1 (ap (λ n. bytes_eq n (codes "[static][get]r.x")) same));
-        is = refl;
-      };
+      alone = (
+        _,
+        (1, lit< tt, refl),
+        refl,
+        λ g among same. (let there = at_contains fns g among in no_getter there.0 g there.1 (ap (λ n. bytes_eq n (codes "[static][get]r.x")) same)),
+        refl,
+      );
     })
 
   -- resource r { constructor() -> result<own<r>>; }
@@ -246,7 +246,7 @@ module _ (ptr : Ptr) (alloc : Global) where
     gives_r = refl
 
     written_as_r : IsWrittenAs (r_id (at 40 41)) (written.Own (at 68 71) (r_id (at 72 73)))
-    written_as_r = record { word = r_id (at 72 73); shape = refl; same = refl }
+    written_as_r = (r_id (at 72 73), refl, refl)
 
   -- resource r { constructor() -> result<a>; } type a = r;
   module _ where
@@ -269,7 +269,7 @@ module _ (ptr : Ptr) (alloc : Global) where
         f
 
     other_refused : IsBroken (file_of other ∷ []) (fault 42 (at 68 69))
-    other_refused = in_scope other (fault 42 (at 68 69)) (Function 0 _ refl (ConstructorOfOther (record { of = r_id (at 40 41); constructs = refl; t = _; result = refl; ok = Some (written.Name in_a); gives = refl; other = not_r; is = refl })))
+    other_refused = in_scope other (fault 42 (at 68 69)) (Function 0 _ refl (ConstructorOfOther (r_id (at 40 41), refl, _, refl, Some (written.Name in_a), refl, not_r, refl)))
 
   -- f: func(x: f);
   abbrev itself : Interface
@@ -277,7 +277,7 @@ module _ (ptr : Ptr) (alloc : Global) where
 
   itself_refused : IsBroken (file_of itself ∷ []) (fault 28 (at 42 43))
   itself_refused = in_scope itself (fault 28 (at 42 43)) (Function 0 _ refl (MissingInSignature (f_id (at 42 43)) (0, lit< tt, refl) refl
-      (OfFunction (record { place = 0; entered = _; id = f_id (at 31 32); form = form.Plain; before = lit≤ tt; at = refl; role = refl; same = refl }) refl)))
+      (OfFunction (0, lit≤ tt, _, refl, f_id (at 31 32), form.Plain, refl, refl) refl)))
 
   -- type t = f; f: func();
   abbrev behind_name : Interface
@@ -291,7 +291,7 @@ module _ (ptr : Ptr) (alloc : Global) where
   two_selves = i_of (TypeItem (resource_of (r_id (at 40 41)) (resource.Method (func_of (m_id (at 44 45)) (at 47 51) form.Plain (param (id ptr alloc (codes "self") (at 52 56) refl) (written.Primitive (at 58 60) primitive.U8)) None) ∷ []) (lit< tt)) ∷ []) (lit< tt)
 
   two_selves_refused : IsBroken (file_of two_selves ∷ []) (fault 38 (at 52 56))
-  two_selves_refused = in_scope two_selves (fault 38 (at 52 56)) (Function 0 _ refl (DuplicateParam (record { later = _; repeated = record { first = 0; second = 1; earlier = _; before = lit< tt; at_first = refl; at_second = refl; same = refl }; is = refl })))
+  two_selves_refused = in_scope two_selves (fault 38 (at 52 56)) (Function 0 _ refl (DuplicateParam (_, (0, 1, lit< tt, _, refl, refl, refl), refl)))
 
   -- x: set(v: u8) -> result<_, u8>; x: get() -> u8;
   module _ where
@@ -316,7 +316,7 @@ module _ (ptr : Ptr) (alloc : Global) where
 
     -- x: set(v: u8) -> result<u8>; x: get() -> u8;
     setter_refused : IsBroken (file_of refusing ∷ []) (fault 40 (at 48 54))
-    setter_refused = in_scope refusing (fault 40 (at 48 54)) (Function 0 _ refl (SetterWithResult (record { setter = refl; t = some_ok; result = refl; other = λ (same : Some (Some (written.Primitive (at 55 57) primitive.U8)) ≡ Some None). (let f : ⊥ = cc in f); is = refl })))
+    setter_refused = in_scope refusing (fault 40 (at 48 54)) (Function 0 _ refl (SetterWithResult (refl, some_ok, refl, λ (same : Some (Some (written.Primitive (at 55 57) primitive.U8)) ≡ Some None). (let f : ⊥ = cc in f), refl)))
 
   -- package foo:foo; interface a { f: func(); } interface b { use a.{f}; }
   module _ where

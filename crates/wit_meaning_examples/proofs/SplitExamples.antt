@@ -23,7 +23,7 @@ use Rattle.wit_tree.specs.declared.tree.UsePath.TheVariants as path
 use Rattle.wit_tree.specs.declared.tree.WorldSide.{WorldSide}
 use Rattle.wit_tree.specs.declared.tree.WorldSide.TheVariants.{Imported, Exported}
 use Rattle.wit_syntax.specs.Address.{Address, ForeignNamed}
-use Rattle.wit_syntax.specs.Bodies.{IsBrokenBody, StandsIn, IsBrokenForm}
+use Rattle.wit_syntax.specs.Bodies.{IsBrokenBody, IsBrokenType, Itself, Inside}
 use Rattle.wit_syntax.specs.Broken.{headers, DuplicateItem, DuplicateTopName, MissingItem, CyclicItem, IsBrokenNames, Items, ForeignStability, AttributedTopUse, MissingOriginal, is_world_at, IsBrokenUse, MissingUse, WorldUsed, IsBrokenScope, DefinedTwice, MissingType, CyclicType, Notes, Body, Function, IsBroken, Headerless, Names, ItemStability, UseNotes, IncludeStability, Use, InterfaceIncluded, MissingName, Scope, Sides, Handle, Setter, IsLegal}
 use Rattle.wit_syntax.specs.Fault.{Fault, fault, missing_at, missing_type_at, item_word, type_word}
 use Rattle.wit_syntax.specs.Foreign.{ForeignVisit}
@@ -103,7 +103,7 @@ module _ (ptr : Ptr) (alloc : Global) where
 
   -- in it x is twice at the top
   one_refused : IsBroken (one ∷ []) (fault 6 (at 59 60))
-  one_refused = Names (Items (DuplicateTopName one (0, lit< tt, refl) (record { later = _; repeated = record { first = 0; second = 1; earlier = _; before = lit< tt; at_first = refl; at_second = refl; same = refl }; is = refl })))
+  one_refused = Names (Items (DuplicateTopName one (0, lit< tt, refl) (_, (0, 1, lit< tt, _, refl, refl, refl), refl)))
 
   abbrev x_item : Item
   x_item = record { top = top_names a_file; declared = TheInterface x }
@@ -135,8 +135,8 @@ module _ (ptr : Ptr) (alloc : Global) where
       ]
 
   names_pass : (f : Fault) → IsBrokenNames files f → ⊥
-  names_pass f (Items (DuplicateItem h)) = no_repeat item_name (all_items files) h.later (two_differ (codes "x") (codes "i") x_and_i) h.repeated
-  names_pass f (Items (DuplicateTopName g among h)) = no_repeat top_text (top_names g) h.later (tops g among) h.repeated
+  names_pass f (Items (DuplicateItem h)) = no_repeat item_name (all_items files) h.0 (two_differ (codes "x") (codes "i") x_and_i) h.1
+  names_pass f (Items (DuplicateTopName g among h)) = no_repeat top_text (top_names g) h.0 (tops g among) h.1
   names_pass f (Items (MissingItem h)) = no_missing_edge (missing_at 7 item_word) (item_rows files) (0 ∷ 1 ∷ []) f (apart_order (codes "x") (codes "i")) h
   names_pass f (Items (CyclicItem h)) = no_cyclic_edge 8 item_word (item_rows files) (0 ∷ 1 ∷ []) f (apart_order (codes "x") (codes "i")) h
   names_pass f (ForeignStability v among h) = no_stability f (subst (λ (v : ForeignVisit). IsBrokenStability v.attributes f) (sym (one_among visit v among)) h)
@@ -193,16 +193,16 @@ module _ (ptr : Ptr) (alloc : Global) where
   only_definition d among = let same = one_among (Defined t) (Defined d) among in cc
 
   -- nothing stands in u8
-  u8_passes : (f : Fault) (level : ℕ) (part : Written) → StandsIn level (written.Primitive (at 40 42) primitive.U8) part → IsBrokenForm part f → ⊥
-  u8_passes f zero part stands broken = subst (λ (w : Written). IsBrokenForm w f) stands broken
-  u8_passes f (suc n) part stands broken = none_among stands.0 stands.1
+  u8_passes : (f : Fault) → IsBrokenType (written.Primitive (at 40 42) primitive.U8) f → ⊥
+  u8_passes f (Itself broken) = broken
+  u8_passes f (Inside {t = part} among broken) = none_among part among
 
   body_passes : (f : Fault) → IsBrokenBody t.body f → ⊥
   body_passes f (inl h) = h
-  body_passes f (inr h) = u8_passes f h.broken.level h.broken.t (subst (λ (w : Written). StandsIn h.broken.level w h.broken.t) (sym (one_among (written.Primitive (at 40 42) primitive.U8) h.t h.among)) h.broken.stands) h.broken.broken
+  body_passes f (inr h) = u8_passes f (subst (λ (w : Written). IsBrokenType w f) (sym (one_among (written.Primitive (at 40 42) primitive.U8) h.0 h.1)) h.2)
 
   x_passes : (f : Fault) → IsBrokenScope (scope_names x_item) (functions x_item) f → ⊥
-  x_passes f (DefinedTwice h) = no_repeat local_name (scope_names x_item) h.later (one_differs (codes "t")) h.repeated
+  x_passes f (DefinedTwice h) = no_repeat local_name (scope_names x_item) h.0 (one_differs (codes "t")) h.1
   x_passes f (MissingType h) = no_missing_edge missing_type_at (rows_of (scope_names x_item)) (0 ∷ []) f (one_order (codes "t")) h
   x_passes f (CyclicType h) = no_cyclic_edge 16 type_word (rows_of (scope_names x_item)) (0 ∷ []) f (one_order (codes "t")) h
   x_passes f (Notes d among h) = no_notes f (subst (λ (d : TypeDef). IsBrokenNotes d.attributes.items f) (sym (only_definition d among)) h)
@@ -210,7 +210,7 @@ module _ (ptr : Ptr) (alloc : Global) where
   x_passes f (Function k fn at h) = let f : ⊥ = cc in f
 
   i_passes : (f : Fault) → IsBrokenScope (scope_names i_item) (functions i_item) f → ⊥
-  i_passes f (DefinedTwice h) = no_repeat local_name (scope_names i_item) h.later (one_differs (codes "t")) h.repeated
+  i_passes f (DefinedTwice h) = no_repeat local_name (scope_names i_item) h.0 (one_differs (codes "t")) h.1
   i_passes f (MissingType h) = no_missing_edge missing_type_at (rows_of (scope_names i_item)) (0 ∷ []) f (one_order (codes "t")) h
   i_passes f (CyclicType h) = no_cyclic_edge 16 type_word (rows_of (scope_names i_item)) (0 ∷ []) f (one_order (codes "t")) h
   i_passes f (Notes d among h) = no_definition d among
@@ -262,7 +262,7 @@ module _ (ptr : Ptr) (alloc : Global) where
   legal f (Scope w among h) = each_item (λ (w : Item). IsBrokenScope (scope_names w) (functions w) f → ⊥) (x_passes f) (i_passes f) w among h
   legal f (Sides w among h) = each_item (λ (w : Item). IsBrokenSides w f → ⊥) (x_sides f) (i_sides f) w among h
   legal f (Handle w among h) = each_item (λ (w : Item). Contains (all_handles (item_types w)) h.id → ⊥) (none_among h.id) (none_among h.id) w among h.among
-  legal f (Setter w among h) = each_item (λ (w : Item). Contains (on_side h.side (functions w)) h.alone.fn → ⊥) (none_among h.alone.fn) (none_among h.alone.fn) w among h.alone.among
+  legal f (Setter w among h) = each_item (λ (w : Item). Contains (on_side h.side (functions w)) h.alone.0 → ⊥) (none_among h.alone.0) (none_among h.alone.0) w among h.alone.1
 
   -- so a law of files that are joined is false if it allows a `use` at the top
   no_law : ((files : List PackageFile) (one : PackageFile) (own : Header) → headers files ≡ own ∷ [] → one.package_id ≡ Some own → file_declarations one ≡ declarations files → IsLegal files ↔ IsLegal (one ∷ [])) → ⊥

@@ -8,30 +8,29 @@ use Rattle.wit_refusals.specs.Names.{IsSecond, IsFirstSecond}
 pub duplicate : (names : List Id) (f : Fault) → IsFirstSecond names f → IsDuplicateName names f
 duplicate names f h =
     let there : Some h.second.later ≡ Some h.later = sym h.second.at_second ∙ h.at in
-    let same : h.second.later ≡ h.later = cc in
-    record {
-      later = h.later;
-      repeated = record {
-        first = h.second.first;
-        second = h.place;
-        earlier = h.second.earlier;
-        before = h.second.before;
-        at_first = h.second.at_first;
-        at_second = h.at;
-        same = h.second.same ∙ ap (λ (id : Id). folded id.name.now) same;
-      };
-      is = h.is;
-    }
+    let same : h.second.later ≡ h.later = cc in (
+      h.later,
+      (
+        h.second.first,
+        h.place,
+        h.second.before,
+        h.second.earlier,
+        h.second.at_first,
+        h.at,
+        h.second.same ∙ ap (λ (id : Id). folded id.name.now) same,
+      ),
+      h.is,
+    )
 
 pub no_duplicate : (names : List Id) → ((i : ℕ) → IsSecond names i → ⊥) → (f : Fault) → IsDuplicateName names f → ⊥
-no_duplicate names none f h = none h.repeated.second (record {
-  first = h.repeated.first;
-  before = h.repeated.before;
-  earlier = h.repeated.earlier;
-  later = h.later;
-  at_first = h.repeated.at_first;
-  at_second = h.repeated.at_second;
-  same = h.repeated.same;
+no_duplicate names none f h = none h.1.1 (record {
+  first = h.1.0;
+  before = h.1.2;
+  earlier = h.1.3;
+  later = h.0;
+  at_first = h.1.4;
+  at_second = h.1.5;
+  same = h.1.6;
 })
 
 -- a list that was found not to be empty

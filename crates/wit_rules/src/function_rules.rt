@@ -2,11 +2,12 @@
 ghost use Rattle.std.specs.Prelude.{◌≡◌, ◌⊎◌, ◌↔◌, List, Some, None, IfErr, IfNone, IfOk, IfSome, IsTrue, OnOk, map};
 ghost use Rattle.wit_type_tree.specs.Refusal.{IsWantOfMemory};
 ghost use Rattle.wit_type_tree.specs.declared.types.FuncForm.TheVariants.{Getter, Setter};
+ghost use Rattle.wit_syntax.specs.Bodies.{folded};
 ghost use Rattle.wit_syntax.specs.Fault.{Fault, fault, fault_of};
 ghost use Rattle.wit_syntax.specs.Source.{ScopeName};
 ghost use Rattle.wit_syntax.specs.Broken.{Refused};
 ghost use Rattle.wit_syntax.specs.Function.{all_params, Constructor};
-ghost use Rattle.wit_syntax.specs.Signature.{role_form, param_key, ok_span as the_ok_span, IsWrittenAs, IsGetterGiven, IsSetterGiven, IsDuplicateParam, IsGetterWithoutResult, IsSetterWithResult, IsConstructorWithoutResult, IsConstructorOfOther};
+ghost use Rattle.wit_syntax.specs.Signature.{ok_span as the_ok_span, IsWrittenAs, IsGetterGiven, IsSetterGiven, IsDuplicateParam, IsGetterWithoutResult, IsSetterWithResult, IsConstructorWithoutResult, IsConstructorOfOther};
 ghost use Rattle.wit_rules.specs.Held.{function_behind};
 ghost use Rattle.wit_rules.specs.Signatures.{AreResults, IsRepeatedAt, IsBrokenResult};
 
@@ -32,7 +33,7 @@ const CONSTRUCTOR_OK: &str = "the `ok` type must be the resource being construct
 
 /// Refuses a getter with a parameter (E36).
 fn check_getter(alloc: Global, function: HeldFunction<'_, '_>) -> ParseResult<()>
-    requires { role_form (function_behind function).role ≡ Getter }
+    requires { (function_behind function).func.form ≡ Getter }
     ensures legal { OnOk result ((f : Fault) → IsGetterGiven (function_behind function.entry) f → ⊥) }
     ensures refused { IfErr result (Refused (IsGetterGiven (function_behind function.entry))) }
 {
@@ -47,7 +48,7 @@ fn check_getter(alloc: Global, function: HeldFunction<'_, '_>) -> ParseResult<()
 
 /// Refuses a setter that has not just one parameter (E37).
 fn check_setter(alloc: Global, function: HeldFunction<'_, '_>) -> ParseResult<()>
-    requires { role_form (function_behind function).role ≡ Setter }
+    requires { (function_behind function).func.form ≡ Setter }
     ensures legal { OnOk result ((f : Fault) → IsSetterGiven (function_behind function.entry) f → ⊥) }
     ensures refused { IfErr result (Refused (IsSetterGiven (function_behind function.entry))) }
 {
@@ -98,7 +99,7 @@ pub fn repeated_param(
     alloc: Global,
     function: HeldFunction<'_, '_>,
 ) -> Result<Option<usize>, AllocError>
-    ensures some { IfOk result (λ found. IfSome found (λ place. IsRepeatedAt param_key (all_params (function_behind function.entry)) place)) }
+    ensures some { IfOk result (λ found. IfSome found (λ place. IsRepeatedAt (λ p. folded p.name) (all_params (function_behind function.entry)) place)) }
     ensures none { IfOk result (λ found. IfNone found ((f : Fault) → IsDuplicateParam (function_behind function.entry) f → ⊥)) }
 {
     if function.param_count() < 2 {
@@ -120,7 +121,7 @@ pub fn refuse_param(alloc: Global, name: Id<'_>) -> ParseError
 
 /// Refuses a getter without a result (E39).
 pub fn check_returns(alloc: Global, function: HeldFunction<'_, '_>) -> ParseResult<()>
-    requires { (function_behind function).result_type ≡ None }
+    requires { (function_behind function).func.result ≡ None }
     ensures legal { OnOk result ((f : Fault) → IsGetterWithoutResult (function_behind function.entry) f → ⊥) }
     ensures refused { IfErr result (Refused (IsGetterWithoutResult (function_behind function.entry))) }
 {
@@ -140,8 +141,8 @@ fn check_setter_result<'t, 'a>(
     function: HeldFunction<'t, 'a>,
     ty: &'t Type<'a>,
 ) -> ParseResult<()>
-    requires form { role_form (function_behind function).role ≡ Setter }
-    requires result { (function_behind function).result_type ≡ Some ty.now }
+    requires form { (function_behind function).func.form ≡ Setter }
+    requires result { (function_behind function).func.result ≡ Some ty.now }
     ensures legal { OnOk result ((xs : List ScopeName) → AreResults results.now xs → (f : Fault) → IsSetterWithResult xs (function_behind function.entry) f → ⊥) }
     ensures refused { IfErr result (λ e. (xs : List ScopeName) → AreResults results.now xs → Refused (IsSetterWithResult xs (function_behind function.entry)) e) }
 {
@@ -184,7 +185,7 @@ fn check_made<'t, 'a>(
     ty: &'t Type<'a>,
 ) -> ParseResult<()>
     requires role { (function_behind function).role ≡ Constructor resource }
-    requires result { (function_behind function).result_type ≡ Some ty.now }
+    requires result { (function_behind function).func.result ≡ Some ty.now }
     ensures result { OnOk result ((xs : List ScopeName) → AreResults results.now xs → (f : Fault) → IsConstructorWithoutResult xs (function_behind function.entry) f → ⊥) }
     ensures ok { OnOk result ((xs : List ScopeName) → AreResults results.now xs → (f : Fault) → IsConstructorOfOther xs (function_behind function.entry) f → ⊥) }
     ensures refused { IfErr result (λ e. (xs : List ScopeName) → AreResults results.now xs → Refused (λ f. IsConstructorWithoutResult xs (function_behind function.entry) f ⊎ IsConstructorOfOther xs (function_behind function.entry) f) e) }
@@ -206,7 +207,7 @@ pub fn check_result<'t, 'a>(
     function: HeldFunction<'t, 'a>,
     ty: &'t Type<'a>,
 ) -> ParseResult<()>
-    requires { (function_behind function).result_type ≡ Some ty.now }
+    requires { (function_behind function).func.result ≡ Some ty.now }
     ensures legal { OnOk result ((xs : List ScopeName) → AreResults results.now xs → (f : Fault) → IsBrokenResult xs (function_behind function.entry) f → ⊥) }
     ensures refused { IfErr result (λ e. (xs : List ScopeName) → AreResults results.now xs → Refused (IsBrokenResult xs (function_behind function.entry)) e) }
 {

@@ -2,7 +2,6 @@
 ghost use Rattle.std.specs.Prelude.{◌≡◌, ◌++◌, length, map, IfOk, string_bytes};
 ghost use Rattle.std.specs.Option.{option_map};
 ghost use Rattle.wit_syntax.specs.Function.{accessor, all_params, dotted, resource_function, written_param};
-ghost use Rattle.wit_syntax.specs.Signature.{role_form};
 ghost use Rattle.wit_syntax.specs.Sides.{role_side};
 ghost use Rattle.wit_rules.specs.Held.{function_behind, owner_of, given_of, made_of, across_of};
 
@@ -169,7 +168,7 @@ impl<'t, 'a> HeldFunction<'t, 'a> {
 
     /// The form of the word that begins its signature; that of a constructor is plain.
     pub fn form(self) -> FuncForm
-        ensures { result ≡ role_form (function_behind self.entry).role }
+        ensures { result ≡ (function_behind self.entry).func.form }
     {
         match self {
             HeldFunction::Free(f) => f.func.form,
@@ -193,7 +192,7 @@ impl<'t, 'a> HeldFunction<'t, 'a> {
 
     /// The place of the word that begins its signature.
     pub fn word(self) -> Span
-        ensures { result ≡ (function_behind self.entry).word }
+        ensures { result ≡ (function_behind self.entry).func.span }
     {
         match self {
             HeldFunction::Free(f) => f.func.span,
@@ -205,8 +204,7 @@ impl<'t, 'a> HeldFunction<'t, 'a> {
 
     /// Its written parameters.
     pub fn params(self) -> &'t [Param<'a>]
-        ensures params { map written_param result.now ≡ (function_behind self.entry).params }
-        ensures types { map (λ p. p.ty) result.now ≡ (function_behind self.entry).param_types }
+        ensures { result.now ≡ (function_behind self.entry).func.params.items }
     {
         match self {
             HeldFunction::Free(f) => &f.func.params,
@@ -233,7 +231,7 @@ impl<'t, 'a> HeldFunction<'t, 'a> {
 
     /// The type that is written as its result, if one is.
     pub fn result(self) -> Option<&'t Type<'a>>
-        ensures { option_map (λ t. t.now) result ≡ (function_behind self.entry).result_type }
+        ensures { option_map (λ t. t.now) result ≡ (function_behind self.entry).func.result }
     {
         match self {
             HeldFunction::Free(f) => f.func.result.as_ref(),

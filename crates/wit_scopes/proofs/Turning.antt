@@ -120,9 +120,9 @@ broken_definition xs ds f o b fns =
 
 unmapped : (key : Id → List ℕ) (zs : List ScopeName) (later : Id) → IsRepeated key (map local_id zs) later → (x : ScopeName) × IsRepeated (λ y. key (local_id y)) zs x × (local_id x ≡ later)
 unmapped key zs later r =
-    let a = map_at local_id zs r.first r.earlier r.at_first in
-    let b = map_at local_id zs r.second later r.at_second in
-    (b.0, record { first = r.first; second = r.second; earlier = a.0; before = r.before; at_first = a.1; at_second = b.1; same = ap key a.2 ∙ r.same ∙ sym (ap key b.2) }, b.2)
+    let a = map_at local_id zs r.0 r.3 r.4 in
+    let b = map_at local_id zs r.1 later r.5 in
+    (b.0, (r.0, r.1, r.2, a.0, a.1, b.1, ap key a.2 ∙ r.6 ∙ sym (ap key b.2)), b.2)
 
 abbrev text : Id → List ℕ
 text id = id.name.now
@@ -130,8 +130,8 @@ text id = id.name.now
 -- a text that stands twice
 pub broken_twice : (xs : List ScopeName) (ids : List Id) (f : Fault) → ids ≡ map local_id (used xs ++ defined xs) → IsRepeatedId 14 text ids f → (fns : List SourceFunction) → IsBrokenScope xs fns f
 broken_twice xs ids f are h fns =
-    let u = unmapped text (used xs ++ defined xs) h.later (subst (λ l. IsRepeated text l h.later) are h.repeated) in
-    DefinedTwice (record { later = u.0; repeated = u.1; is = h.is ∙ ap (λ (id : Id). fault 14 id.span) (sym u.2) })
+    let u = unmapped text (used xs ++ defined xs) h.0 (subst (λ l. IsRepeated text l h.0) are h.1) in
+    DefinedTwice (u.0, u.1, h.2 ∙ ap (λ (id : Id). fault 14 id.span) (sym u.2))
 
 -- where texts differ, the names do
 pub differ_names : (xs : List ScopeName) (ids : List Id) → ids ≡ map local_id (used xs ++ defined xs) → AllDiffer (map text ids) → AllDiffer (map local_name (used xs ++ defined xs))
@@ -143,7 +143,7 @@ turn_differs xs ds names o are distinct = rw (are, o.are) (subst AllDiffer (map-
 
 -- where the names and the definitions break no rule, functions do
 pub legal_unfolded : (xs ds : List ScopeName) (ids : List Id) → AreOrdered xs ds → ids ≡ map local_id (used xs ++ defined xs) → AllDiffer (map text ids) → AreLegalNotes ds → AreLegalBodies ds → (fns : List SourceFunction) (f : Fault) → IsBrokenScope xs fns f → IsOfFunctions xs fns f
-legal_unfolded xs ds ids o are distinct notes bodies fns f (DefinedTwice h) = absurd (no_repeat local_name (used xs ++ defined xs) h.later (differ_names xs ids are distinct) h.repeated)
+legal_unfolded xs ds ids o are distinct notes bodies fns f (DefinedTwice h) = absurd (no_repeat local_name (used xs ++ defined xs) h.0 (differ_names xs ids are distinct) h.1)
 legal_unfolded xs ds ids o are distinct notes bodies fns f (MissingType h) = absurd (no_missing_edge missing_type_at (rows_of xs) o.order f o.least h)
 legal_unfolded xs ds ids o are distinct notes bodies fns f (CyclicType h) = absurd (no_cyclic_edge 16 type_word (rows_of xs) o.order f o.least h)
 legal_unfolded xs ds ids o are distinct notes bodies fns f (Notes d among broken) = absurd (

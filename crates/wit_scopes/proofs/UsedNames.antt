@@ -32,16 +32,15 @@ repeated_used xs names i from attributes n at listed some =
     let p = lookup-place names (local_name x) v.0 v.1 in
     let named : slice_get (local_names front) p.0 ≡ Some (local_name x) = ap (λ (l : List (List ℕ)). slice_get l p.0) (sym listed) ∙ slice_get-map (λ (q : List ℕ × ℕ). q.0) names p.0 ∙ ap (option_map (λ (q : List ℕ × ℕ). q.0)) p.1 in
     let e = map_at local_name front p.0 (local_name x) named in
-    let there = at_take (used xs) i p.0 e.0 e.1 in
-    record {
-      first = p.0;
-      second = i;
-      earlier = e.0;
-      before = there.1;
-      at_first = at_front (used xs) (defined xs) p.0 e.0 there.0;
-      at_second = at_front (used xs) (defined xs) i x at;
-      same = e.2;
-    }
+    let there = at_take (used xs) i p.0 e.0 e.1 in (
+      p.0,
+      i,
+      there.1,
+      e.0,
+      at_front (used xs) (defined xs) p.0 e.0 there.0,
+      at_front (used xs) (defined xs) i x at,
+      e.2,
+    )
 
 -- one that is no name of its interface's types is that of a function there, or of nothing
 pub unstated_name : (cs : List Cell) (by_name : Names) (from : Address) (n : UseName) (target : Cell) (f : Fault) → IsFound cs from target → env_of target.types n.name.name.now ≡ None → IsUnstated target.functions n.name f → IsWrongName cs by_name from n f
@@ -51,7 +50,7 @@ unstated_name cs by_name from n target f found free (AtNothing other is) = Unsta
 -- what is wrong with a used name is wrong with its scope
 pub wrong_used : (cs : List Cell) (by_name names : Names) (xs : List ScopeName) (i : ℕ) (from : Address) (attributes : List Attribute) (n : UseName) → slice_get (used xs) i ≡ Some (Used from attributes n) → map (λ p. p.0) names ≡ local_names (take i (used xs)) → (f : Fault) → IsWrongUse cs by_name names from attributes n f → (fns : List SourceFunction) → IsWrongScope cs by_name xs fns f
 wrong_used cs by_name names xs i from attributes n at listed f (Wrong w) fns = (let p = used_at xs i (Used from attributes n) at in WrongName from attributes n (contains_at xs p.0 (Used from attributes n) p.1) w)
-wrong_used cs by_name names xs i from attributes n at listed f (Taken some says) fns = WrongItself (DefinedTwice (record { later = Used from attributes n; repeated = repeated_used xs names i from attributes n at listed some; is = says }))
+wrong_used cs by_name names xs i from attributes n at listed f (Taken some says) fns = WrongItself (DefinedTwice (Used from attributes n, repeated_used xs names i from attributes n at listed some, says))
 
 -- the used ones of some names, one name more
 pub used_more : (xs : List Held) (i : ℕ) (x : Held) → slice_get xs i ≡ Some x → used (map name_behind (take (i + 1) xs)) ≡ used (map name_behind (take i xs)) ++ used (name_behind x ∷ [])

@@ -7,7 +7,7 @@ use Rattle.wit_syntax.specs.Source.{ScopeName, Defined, local_id, local_name}
 use Rattle.wit_syntax.specs.Scope.{needed_ids, rows_of, in_order, used, defined}
 use Rattle.wit_syntax.specs.Fault.{Fault, fault, missing_at, name_word}
 use Rattle.wit_syntax.specs.Notes.{IsBrokenNotes}
-use Rattle.wit_syntax.specs.Bodies.{IsRepeated, IsBrokenBody}
+use Rattle.wit_syntax.specs.Bodies.{IsSecond, IsBrokenBody}
 use Rattle.wit_syntax.specs.Function.{SourceFunction}
 use Rattle.wit_syntax.specs.Signature.{IsBrokenFunction}
 use Rattle.wit_arena.specs.Resolving.{Env, HasNames}
@@ -56,7 +56,5 @@ pub data IsOfFunctions (xs : List ScopeName) (fns : List SourceFunction) (f : Fa
   OfFunction : (k : ℕ) (fn : SourceFunction) → slice_get fns k ≡ Some fn → IsBrokenFunction xs fns k fn f → IsOfFunctions xs fns f
 
 -- an earlier one of these names has the key of a later one
-pub record IsRepeatedId (number : ℕ) (key : Id → List ℕ) (ids : List Id) (f : Fault) : Type 0 where
-  pub later : Id
-  pub repeated : IsRepeated key ids later
-  pub is : f ≡ fault number later.span
+abbrev pub IsRepeatedId : ℕ → (Id → List ℕ) → List Id → Fault → Type 0
+IsRepeatedId number key ids f = IsSecond key (λ (id : Id). fault number id.span) ids f

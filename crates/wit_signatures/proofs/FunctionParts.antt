@@ -85,22 +85,22 @@ result_one : (old new : List TypeDef) (env : Env) (x : Shape) (t : Ty) → IsRes
 result_one old new env x t is = record { types = λ s. shapes_one old new s env x t (is s) }
 
 -- where nothing is written as the result, none of its rules is broken
-pub no_result : (xs : List ScopeName) (fn : SourceFunction) (f : Fault) → fn.result_type ≡ None → IsBrokenResult xs fn f → ⊥
-no_result xs fn f none (inl h) = none-some h.t (sym none ∙ h.result)
-no_result xs fn f none (inr (inl h)) = none-some h.t (sym none ∙ h.result)
-no_result xs fn f none (inr (inr h)) = none-some h.t (sym none ∙ h.result)
+pub no_result : (xs : List ScopeName) (fn : SourceFunction) (f : Fault) → fn.func.result ≡ None → IsBrokenResult xs fn f → ⊥
+no_result xs fn f none (inl h) = none-some h.1 (sym none ∙ h.2)
+no_result xs fn f none (inr (inl h)) = none-some h.2 (sym none ∙ h.3)
+no_result xs fn f none (inr (inr h)) = none-some h.2 (sym none ∙ h.3)
 
 -- a written result stands for a type
-pub result_behind : (old new : List TypeDef) (env : Env) (h : HeldFunction) (t : Written) (ty : Ty) → (function_behind h).result_type ≡ Some t → IsResolved old new env Unknown (shape_of t) ty → IsResultOver old new env (function_behind h).result (Some ty)
+pub result_behind : (old new : List TypeDef) (env : Env) (h : HeldFunction) (t : Written) (ty : Ty) → (function_behind h).func.result ≡ Some t → IsResolved old new env Unknown (shape_of t) ty → IsResultOver old new env (function_behind h).result (Some ty)
 result_behind old new env h t ty written is = subst (λ (x : Option Shape). IsResultOver old new env x (Some ty)) (sym (result_shape h t written)) (result_one old new env (shape_of t) ty is)
 
 -- a method is given its resource, and no other function is given anything
-given_resource : (h : HeldFunction) (r : Id) → given_of (function_behind h).role ≡ Some r → (function_behind h).given ≡ self_param r (function_behind h).word ∷ []
+given_resource : (h : HeldFunction) (r : Id) → given_of (function_behind h).role ≡ Some r → (function_behind h).given ≡ self_param r (function_behind h).func.span ∷ []
 given_resource (held.Free f) r is = absurd (let x : ⊥ = cc in x)
 given_resource (held.Across side docs attributes name f) r is = absurd (let x : ⊥ = cc in x)
 given_resource (held.Of of f) r is = by f.now is
   where
-    by : (g : ResourceFunc) → given_of (resource_function of g).role ≡ Some r → (resource_function of g).given ≡ self_param r (resource_function of g).word ∷ []
+    by : (g : ResourceFunc) → given_of (resource_function of g).role ≡ Some r → (resource_function of g).given ≡ self_param r (resource_function of g).func.span ∷ []
     by (resource.Method m) is = let same : of ≡ r = cc in ap (λ (x : Id). self_param x m.func.span ∷ []) same
     by (resource.Static m) is = absurd (let x : ⊥ = cc in x)
     by (resource.Constructor docs attributes span params result) is = absurd (let x : ⊥ = cc in x)
@@ -115,7 +115,7 @@ given_nothing (held.Of of f) is = by f.now is
     by (resource.Static m) is = refl
     by (resource.Constructor docs attributes span params result) is = refl
 
-pub given_one : (old new : List TypeDef) (env : Env) (h : HeldFunction) (r : Id) (word : Span) (p : Param) (before ps : List Param) → given_of (function_behind h).role ≡ Some r → word ≡ (function_behind h).word → before ≡ [] → ps ≡ before ++ p ∷ [] → SaysParam (self_param r word) p → IsResolved old new env Unknown (self_param r word).shape p.ty → AreParamsOver old new env (function_behind h).given ps
+pub given_one : (old new : List TypeDef) (env : Env) (h : HeldFunction) (r : Id) (word : Span) (p : Param) (before ps : List Param) → given_of (function_behind h).role ≡ Some r → word ≡ (function_behind h).func.span → before ≡ [] → ps ≡ before ++ p ∷ [] → SaysParam (self_param r word) p → IsResolved old new env Unknown (self_param r word).shape p.ty → AreParamsOver old new env (function_behind h).given ps
 given_one old new env h r word p before ps given there empty pushed says is =
     let only : ps ≡ p ∷ [] = pushed ∙ ap (λ (l : List Param). l ++ p ∷ []) empty in
     let written : self_param r word ∷ [] ≡ (function_behind h).given = ap (λ (at : Span). self_param r at ∷ []) there ∙ sym (given_resource h r given) in

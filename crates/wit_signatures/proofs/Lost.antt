@@ -10,7 +10,7 @@ use Rattle.wit_type_tree.specs.declared.types.«Type».TheVariants as written
 use Rattle.wit_types.specs.declared.types.TypeDef.{TypeDef}
 use Rattle.wit_syntax.specs.Fault.{Fault, fault_of, told}
 use Rattle.wit_syntax.specs.Function.{Role, Freestanding, Method, Static, Constructor, OnSide, SourceFunction}
-use Rattle.wit_syntax.specs.Bodies.{IsBrokenForm, IsBrokenType}
+use Rattle.wit_syntax.specs.Bodies.{IsBrokenForm, IsBrokenType, Itself, Inside}
 use Rattle.wit_syntax.specs.Broken.{Refused}
 use Rattle.wit_syntax.specs.Signature.{IsEntered}
 use Rattle.wit_syntax.specs.Shape.{shape_of, words}
@@ -35,7 +35,7 @@ none_free-more fns i j name fn next at own h = record {
 
 -- a function by itself at a place, or before it, is entered there
 entered_as : (fns : List SourceFunction) (i k : ℕ) (fn : SourceFunction) (role : Role) (name : List ℕ) → i ≤ k → slice_get fns i ≡ Some fn → fn.role ≡ role → IsFree role name → IsEntered fns k name
-entered_as fns i k fn (Freestanding id form) name le at is free = record { place = i; entered = fn; id = id; form = form; before = le; at = at; role = is; same = free }
+entered_as fns i k fn (Freestanding id form) name le at is free = (i, le, fn, at, id, form, is, free)
 entered_as fns i k fn (Method of form) name le at is free = absurd free
 entered_as fns i k fn (Static of form) name le at is free = absurd free
 entered_as fns i k fn (Constructor of) name le at is free = absurd free
@@ -47,17 +47,18 @@ entered_at fns i k fn name le at free = entered_as fns i k fn fn.role name le at
 -- where none is, none is entered
 pub none_entered : (fns : List SourceFunction) (i k : ℕ) (name : List ℕ) → k < i → NoneFree fns i name → IsEntered fns k name → ⊥
 none_entered fns i k name lt h e =
-    let before = e.before in
-    h.none e.place e.entered (omega arith) e.at (subst (λ (r : Role). IsFree r name) (sym e.role) e.same)
+    let before = e.1 in
+    h.none e.0 e.2 (omega arith) e.3 (subst (λ (r : Role). IsFree r name) (sym e.6) e.7)
 
 -- no rule of forms has the number of a missing type
 broken_form-rule : (t : Written) (f : Fault) → IsBrokenForm t f → f.rule ≡ 15 → ⊥
-broken_form-rule (written.Tuple' span shape ts) f h is = let it = ap (λ (x : Fault). x.rule) h.is in omega arith
-broken_form-rule (written.Map' span p key q value) f h is = let it = ap (λ (x : Fault). x.rule) h.is in omega arith
+broken_form-rule (written.Tuple' span shape ts) f h is = let it = ap (λ (x : Fault). x.rule) h.1 in omega arith
+broken_form-rule (written.Map' span p key q value) f h is = let it = ap (λ (x : Fault). x.rule) h.1 in omega arith
 broken_form-rule t f h is = h
 
 broken_type-rule : (t : Written) (f : Fault) → IsBrokenType t f → f.rule ≡ 15 → ⊥
-broken_type-rule t f h is = broken_form-rule h.t f h.broken is
+broken_type-rule t f (Itself broken) is = broken_form-rule t f broken is
+broken_type-rule t f (Inside {t = part} among broken) is = broken_type-rule part f broken is
 
 -- under the number of a missing type a refusal is one of a name
 unknown_in : (env : Env) (es : List TypeDef) (t : Written) (e : ParseError) → (fault_of e).rule ≡ 15 → Refused (IsWrongType env es t) e → IsUnknown env (words (shape_of t)) (fault_of e)

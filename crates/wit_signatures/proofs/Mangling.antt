@@ -16,7 +16,6 @@ use Rattle.wit_names.specs.Setter.{getter_of, is_setter, with_front}
 use Rattle.wit_names.proofs.Labels.{is_mangled-label}
 use Rattle.wit_names.proofs.MadeNames.{is_dotted-labels, is_mangled-get, is_mangled-set, is_mangled-constructor, is_mangled-method, is_mangled-method_get, is_mangled-method_set, is_mangled-static, is_mangled-static_get, is_mangled-static_set, is_setter-set, is_setter-method, is_setter-static}
 use Rattle.wit_syntax.specs.Function.{accessor, dotted, resource_function}
-use Rattle.wit_syntax.specs.Signature.{role_form}
 use Rattle.wit_rules.specs.declared.held.HeldFunction.{HeldFunction}
 use Rattle.wit_rules.specs.declared.held.HeldFunction.TheVariants.{Free, Of, Across}
 use Rattle.wit_rules.specs.Held.{function_behind}
@@ -126,12 +125,12 @@ set_static Setter text letter h = is_setter-static text h
 letter-dotted : (r f : Id) → starts_with_letter (dotted r f) ≡ true
 letter-dotted r f = rw (dotted_bytes r f) (letter-append r.name.now (46 ∷ f.name.now) (letter-label r.name.now r.label))
 
-set_resource : (r : Id) (f : ResourceFunc) → is_setter (resource_function r f).name ≡ is_set (role_form (resource_function r f).role)
+set_resource : (r : Id) (f : ResourceFunc) → is_setter (resource_function r f).name ≡ is_set (resource_function r f).func.form
 set_resource r (resource.Method f) = set_method f.func.form (dotted r f.name) (letter-dotted r f.name) (is_dotted-ids r f.name)
 set_resource r (resource.Static f) = set_static f.func.form (dotted r f.name) (letter-dotted r f.name) (is_dotted-ids r f.name)
 set_resource r (resource.Constructor docs attributes span params result) = refl
 
-set_behind : (h : HeldFunction) → is_setter (function_behind h).name ≡ is_set (role_form (function_behind h).role)
+set_behind : (h : HeldFunction) → is_setter (function_behind h).name ≡ is_set (function_behind h).func.form
 set_behind (Free f) = set_free f.now.func.form f.now.name.name.now f.now.name.label
 set_behind (Of r f) = set_resource r f.now
 set_behind (Across side docs attributes name f) = set_free f.now.form name.name.now name.label
@@ -143,8 +142,8 @@ set_form Getter h = (let wrong : false ≡ true = h in cc)
 set_form Setter h = refl
 
 -- a function is a setter exactly where its name is that of one
-pub setter_behind : (h : HeldFunction) → IsTrue (is_setter (function_behind h).name) → role_form (function_behind h).role ≡ Setter
-setter_behind h sets = set_form (role_form (function_behind h).role) (sym (set_behind h) ∙ sets)
+pub setter_behind : (h : HeldFunction) → IsTrue (is_setter (function_behind h).name) → (function_behind h).func.form ≡ Setter
+setter_behind h sets = set_form (function_behind h).func.form (sym (set_behind h) ∙ sets)
 
-pub sets_behind : (h : HeldFunction) → role_form (function_behind h).role ≡ Setter → IsTrue (is_setter (function_behind h).name)
+pub sets_behind : (h : HeldFunction) → (function_behind h).func.form ≡ Setter → IsTrue (is_setter (function_behind h).name)
 sets_behind h setter = set_behind h ∙ ap is_set setter

@@ -1,9 +1,9 @@
 -- The names of a scope, of which no two on one side may have one key.
-use Rattle.std.specs.Prelude.{◌≡◌, ℕ, List}
+use Rattle.std.specs.Prelude.{ℕ, List}
 use Rattle.wit_names.specs.Folded.{folded_key}
 use Rattle.wit_type_tree.specs.declared.leaves.Id.{Id}
 use Rattle.wit_functions.specs.declared.function.Function.{Function}
-use Rattle.wit_syntax.specs.Bodies.{IsRepeated}
+use Rattle.wit_syntax.specs.Bodies.{IsSecond}
 use Rattle.wit_syntax.specs.Fault.{Fault, fault}
 use Rattle.wit_syntax.specs.Function.{SourceFunction}
 use Rattle.wit_refusals.specs.Names.{Name}
@@ -22,7 +22,5 @@ abbrev pub name_key : Name → List ℕ
 name_key n = folded_key n.0
 
 -- an earlier one of these names has the key of a later one
-pub record IsTwiceAmong (names : List Name) (f : Fault) : Type 0 where
-  pub later : Name
-  pub repeated : IsRepeated name_key names later
-  pub is : f ≡ fault 17 later.1
+abbrev pub IsTwiceAmong : List Name → Fault → Type 0
+IsTwiceAmong names f = IsSecond name_key (λ (n : Name). fault 17 n.1) names f

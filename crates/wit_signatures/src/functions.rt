@@ -205,10 +205,10 @@ fn all_params<'t, 'a>(
     requires owner { HasOwner (env_of scope.names.now) (owner_of (function_behind function).role) }
     ensures params { IfOk result (λ ps. AreParamsOver types.old types.new (env_of scope.entry.names.now) (the_params (function_behind function.entry)) ps.items) }
     ensures distinct { OnOk result ((f : Fault) → IsDuplicateParam (function_behind function.entry) f → ⊥) }
-    ensures legal { OnOk result ((f : Fault) → IsBrokenPart (function_behind function.entry).param_types f → ⊥) }
-    ensures handled { OnOk result (Requires (env_of scope.entry.names.now) types.new (all_handles (function_behind function.entry).param_types) required.old.items required.new.items) }
+    ensures legal { OnOk result ((f : Fault) → IsBrokenPart (map (λ p. p.ty) (function_behind function.entry).func.params.items) f → ⊥) }
+    ensures handled { OnOk result (Requires (env_of scope.entry.names.now) types.new (all_handles (map (λ p. p.ty) (function_behind function.entry).func.params.items)) required.old.items required.new.items) }
     ensures grown { IsGrown types.old types.new }
-    ensures refused { IfErr result (Refused (λ f. IsDuplicateParam (function_behind function.entry) f ⊎ IsWrongInSignatures (env_of scope.entry.names.now) types.new (functions_behind scope.entry) place (function_behind function.entry).param_types f)) }
+    ensures refused { IfErr result (Refused (λ f. IsDuplicateParam (function_behind function.entry) f ⊎ IsWrongInSignatures (env_of scope.entry.names.now) types.new (functions_behind scope.entry) place (map (λ p. p.ty) (function_behind function.entry).func.params.items) f)) }
 {
     let repeated = repeated_param(alloc, function)?;
     let mut params = given_params(alloc, scope.names, function, types)?;
@@ -234,7 +234,7 @@ fn made_result(
     function: HeldFunction<'_, '_>,
 ) -> ParseResult<Option<Type>>
     requires owner { HasOwner (env_of names.now) (owner_of (function_behind function).role) }
-    requires none { (function_behind function).result_type ≡ None }
+    requires none { (function_behind function).func.result ≡ None }
     ensures result { IfOk result (λ r. (es : List Entry) → IsResultOver es es (env_of names.now) (function_behind function.entry).result r) }
     ensures legal { OnOk result ((f : Fault) → IsGetterWithoutResult (function_behind function.entry) f → ⊥) }
     ensures refused { IfErr result (Refused (IsGetterWithoutResult (function_behind function.entry))) }
@@ -259,10 +259,10 @@ fn resolve_result<'t, 'a>(
     requires owner { HasOwner (env_of scope.names.now) (owner_of (function_behind function).role) }
     ensures result { IfOk result (IsResultOver types.old types.new (env_of scope.entry.names.now) (function_behind function.entry).result) }
     ensures returns { OnOk result ((xs : List ScopeName) → IsScopeOf scope.entry xs → (f : Fault) → IsBrokenReturn xs (function_behind function.entry) f → ⊥) }
-    ensures legal { OnOk result ((f : Fault) → IsBrokenPart (option_to_list (function_behind function.entry).result_type) f → ⊥) }
-    ensures handled { OnOk result (Requires (env_of scope.entry.names.now) types.new (all_handles (option_to_list (function_behind function.entry).result_type)) required.old.items required.new.items) }
+    ensures legal { OnOk result ((f : Fault) → IsBrokenPart (option_to_list (function_behind function.entry).func.result) f → ⊥) }
+    ensures handled { OnOk result (Requires (env_of scope.entry.names.now) types.new (all_handles (option_to_list (function_behind function.entry).func.result)) required.old.items required.new.items) }
     ensures grown { IsGrown types.old types.new }
-    ensures refused { IfErr result (λ e. (xs : List ScopeName) → IsScopeOf scope.entry xs → Refused (λ f. IsBrokenReturn xs (function_behind function.entry) f ⊎ IsWrongInSignatures (env_of scope.entry.names.now) types.new (functions_behind scope.entry) place (option_to_list (function_behind function.entry).result_type) f) e) }
+    ensures refused { IfErr result (λ e. (xs : List ScopeName) → IsScopeOf scope.entry xs → Refused (λ f. IsBrokenReturn xs (function_behind function.entry) f ⊎ IsWrongInSignatures (env_of scope.entry.names.now) types.new (functions_behind scope.entry) place (option_to_list (function_behind function.entry).func.result) f) e) }
 {
     match function.result() {
         Some(written) => {

@@ -32,37 +32,36 @@ tops_of_items top (ast.Use u ∷ ds) none = absurd (none u (contains_at (ast.Use
 
 pub top_repeated : (files : List PackageFile) (file : PackageFile) (f : Fault) → HasNoUse (declarations files) → Contains files file → IsSecond top_text (λ (n : TopName). fault 6 n.id.span) (top_names file) f → (g : Fault) × IsSecond item_name (λ (i : Item). fault 5 (item_id i).span) (all_items files) g
 top_repeated files file f none is h =
-    let r = h.repeated in
+    let r = h.1 in
     let same : map top_id (top_names file) ≡ map item_id (file_items file) = tops_of_items (top_names file) (file_declarations file) (no_use_in_file files none file is) in
-    let x = matched item_id top_id (file_items file) (top_names file) (sym same) r.first r.earlier r.at_first in
-    let y = matched item_id top_id (file_items file) (top_names file) (sym same) r.second h.later r.at_second in
+    let x = matched item_id top_id (file_items file) (top_names file) (sym same) r.0 r.3 r.4 in
+    let y = matched item_id top_id (file_items file) (top_names file) (sym same) r.1 h.0 r.5 in
     let place = at_contains files file is in
     let from = flat_map_from file_items files place.0 file place.1 in
-    let before = r.before in (
+    let before = r.2 in (
       fault 5 (item_id y.0).span,
-      record {
-        later = y.0;
-        repeated = record {
-          first = from.0 + r.first;
-          second = from.0 + r.second;
-          earlier = x.0;
-          before = omega (arith, before);
-          at_first = from.1 r.first x.0 x.1;
-          at_second = from.1 r.second y.0 y.1;
-          same = ap id_text x.2 ∙ r.same ∙ sym (ap id_text y.2);
-        };
-        is = refl;
-      },
+      (
+        y.0,
+        (
+          from.0 + r.0,
+          from.0 + r.1,
+          omega (arith, before),
+          x.0,
+          from.1 r.0 x.0 x.1,
+          from.1 r.1 y.0 y.1,
+          ap id_text x.2 ∙ r.6 ∙ sym (ap id_text y.2),
+        ),
+        refl,
+      ),
     )
 
 -- an item whose name stands twice among items is one whose name does among their twins
 pub repeated_onward : (is js : List Item) (f : Fault) → AreTwins is js → IsSecond item_name (λ (i : Item). fault 5 (item_id i).span) is f → IsSecond item_name (λ (i : Item). fault 5 (item_id i).span) js f
 repeated_onward is js f t h =
-    let r = h.repeated in
-    let x = twin_at is js t r.first r.earlier r.at_first in
-    let y = twin_at is js t r.second h.later r.at_second in
-    record {
-      later = retop y.0 h.later;
-      repeated = record { first = r.first; second = r.second; earlier = retop x.0 r.earlier; before = r.before; at_first = x.2; at_second = y.2; same = r.same };
-      is = h.is;
-    }
+    let r = h.1 in
+    let x = twin_at is js t r.0 r.3 r.4 in
+    let y = twin_at is js t r.1 h.0 r.5 in (
+      retop y.0 h.0,
+      (r.0, r.1, r.2, retop x.0 r.3, x.2, y.2, r.6),
+      h.2,
+    )

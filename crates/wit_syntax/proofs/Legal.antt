@@ -43,7 +43,7 @@ no_cyclic_edge number sort rs places f order h = no_cycle (Leads rs) (length rs)
 pub no_fold : (xs : List ScopeName) (items : List SideItem) (order : List ℕ) (f : Fault) → IsOrder (rows_of xs) order → ((side : WorldSide) → AllDiffer (map called_key (side_called side xs items order))) → IsFoldedTwice xs items f → ⊥
 no_fold xs items order f least differ h =
     let same : h.order ≡ order = (one_answer (rows_of xs)).one h.order order h.least least in
-    no_repeat called_key (side_called h.side xs items order) h.twice.later (differ h.side) (subst (λ places. IsRepeated called_key (side_called h.side xs items places) h.twice.later) same h.twice.repeated)
+    no_repeat called_key (side_called h.side xs items order) h.twice.0 (differ h.side) (subst (λ places. IsRepeated called_key (side_called h.side xs items places) h.twice.0) same h.twice.1)
 
 -- what stands at a place is the first behind those before it
 at_drop : {X : Type 0} (xs : List X) (n : ℕ) (x : X) → slice_get xs n ≡ Some x → slice_get (drop n xs) 0 ≡ Some x
@@ -154,19 +154,19 @@ function_twice xs items order least i j x y before at_x at_y same =
       side = side;
       order = order;
       least = least;
-      twice = record {
-        later = function_called y;
-        repeated = record {
-          first = length names + it.0;
-          second = length names + it.1;
-          earlier = function_called x;
-          before = omega (arith, lt);
-          at_first = at_back names ours it.0 (function_called x) it.3;
-          at_second = at_back names ours it.1 (function_called y) it.4;
-          same = ap folded_key name;
-        };
-        is = refl;
-      };
+      twice = (
+        function_called y,
+        (
+          length names + it.0,
+          length names + it.1,
+          omega (arith, lt),
+          function_called x,
+          at_back names ours it.0 (function_called x) it.3,
+          at_back names ours it.1 (function_called y) it.4,
+          ap folded_key name,
+        ),
+        refl,
+      );
     }
 
 -- so the functions of legal sides go by different sides or names

@@ -15,13 +15,13 @@ pub repeated_key : {X : Type 0} (key : X → List ℕ) (xs : List X) (first seco
 repeated_key key xs first second later r at =
     let one = map_at key xs first r.x r.at_first in
     let other : Some r.x ≡ Some (key later) = sym r.at_second ∙ key_at key xs second later at in
-    record { first = first; second = second; earlier = one.0; before = r.before; at_first = one.1; at_second = at; same = one.2 ∙ (let same : r.x ≡ key later = cc in same) }
+    (first, second, r.before, one.0, one.1, at, one.2 ∙ (let same : r.x ≡ key later = cc in same))
 
 -- where all keys differ, no item has the key of an earlier one
 pub no_repeat : {X : Type 0} (key : X → List ℕ) (xs : List X) (later : X) → AllDiffer (map key xs) → IsRepeated key xs later → ⊥
 no_repeat key xs later d r =
-    let same = d.differ r.first r.second (key r.earlier) (key_at key xs r.first r.earlier r.at_first) (key_at key xs r.second later r.at_second ∙ ap Some (sym r.same)) in
-    let before = r.before in
+    let same = d.differ r.0 r.1 (key r.3) (key_at key xs r.0 r.3 r.4) (key_at key xs r.1 later r.5 ∙ ap Some (sym r.6)) in
+    let before = r.2 in
     omega arith
 
 -- where all keys differ, items of one key are one item

@@ -52,4 +52,4 @@ among_alone i own f h = go h.side h.alone
   where
     go : (side : WorldSide) → IsUnpairedSetter (on_side side (functions i)) f → IsUnpairedSetter (functions i) f
     go Imported alone = subst (λ (l : List SourceFunction). IsUnpairedSetter l f) (all_imported i own) alone
-    go Exported alone = absurd (let at = at_contains [] alone.fn (subst (λ (l : List SourceFunction). Contains l alone.fn) (none_exported i own) alone.among) in let g : ⊥ = (let wrong = at.1 in cc) in g)
+    go Exported alone = absurd (let at = at_contains [] alone.0 (subst (λ (l : List SourceFunction). Contains l alone.0) (none_exported i own) alone.1) in let g : ⊥ = (let wrong = at.1 in cc) in g)

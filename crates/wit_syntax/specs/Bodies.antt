@@ -1,5 +1,5 @@
 -- The rules of what is written in definitions, and what it is that breaks each.
-use Rattle.std.specs.Prelude.{◌≡◌, ℕ, zero, suc, ◌<◌, ◌⊎◌, List, [], map, Some, Contains, slice_get}
+use Rattle.std.specs.Prelude.{◌≡◌, ℕ, ◌<◌, ◌⊎◌, List, [], map, Some, Contains, slice_get}
 use Rattle.std.specs.Option.{option_map}
 use Rattle.std.specs.Char.{to_ascii_lowercase}
 use Rattle.wit_values.specs.declared.span.Span.{Span}
@@ -22,25 +22,16 @@ abbrev pub folded : List ℕ → List ℕ
 folded name = map to_ascii_lowercase name
 
 -- an earlier item of a list has the key of a later one
-pub record IsRepeated {X : Type 0} (key : X → List ℕ) (xs : List X) (later : X) : Type 0 where
-  pub first : ℕ
-  pub second : ℕ
-  pub earlier : X
-  pub before : first < second
-  pub at_first : slice_get xs first ≡ Some earlier
-  pub at_second : slice_get xs second ≡ Some later
-  pub same : key earlier ≡ key later
+abbrev pub IsRepeated : {X : Type 0} → (X → List ℕ) → List X → X → Type 0
+IsRepeated {X} key xs later = (first second : ℕ) × (first < second) × (earlier : X) × (slice_get xs first ≡ Some earlier) × (slice_get xs second ≡ Some later) × (key earlier ≡ key later)
 
 -- an earlier item of a list has the key of a later one, of which a fault is told
-pub record IsSecond {X : Type 0} (key : X → List ℕ) (told : X → Fault) (xs : List X) (f : Fault) : Type 0 where
-  pub later : X
-  pub repeated : IsRepeated key xs later
-  pub is : f ≡ told later
+abbrev pub IsSecond : {X : Type 0} → (X → List ℕ) → (X → Fault) → List X → Fault → Type 0
+IsSecond {X} key told xs f = (later : X) × IsRepeated key xs later × (f ≡ told later)
 
 -- a list has nothing in it, and the fault of this number tells of it
-pub record IsEmpty {X : Type 0} (number : ℕ) (xs : List X) (span : Span) (f : Fault) : Type 0 where
-  pub none : xs ≡ []
-  pub is : f ≡ fault number span
+abbrev pub IsEmpty : {X : Type 0} → ℕ → List X → Span → Fault → Type 0
+IsEmpty number xs span f = (xs ≡ []) × (f ≡ fault number span)
 
 -- a flag is the thirty-third
 abbrev pub IsFlagTooMany : List Flag → Fault → Type 0
@@ -63,9 +54,8 @@ IsKey (written.Primitive span p) = CanBeKey p
 IsKey _ = ⊥
 
 -- a map's key is written as another type
-pub record IsInvalidKey (key : Written) (span : Span) (f : Fault) : Type 0 where
-  pub other : IsKey key → ⊥
-  pub is : f ≡ fault 26 span
+abbrev pub IsInvalidKey : Written → Span → Fault → Type 0
+IsInvalidKey key span f = (IsKey key → ⊥) × (f ≡ fault 26 span)
 
 -- what is wrong with a written type apart from its parts
 abbrev pub IsBrokenForm : Written → Fault → Type 0
@@ -73,28 +63,18 @@ IsBrokenForm (written.Tuple' span shape ts) f = IsEmpty 22 (row_types ts) span f
 IsBrokenForm (written.Map' span p key q value) f = IsInvalidKey key span f
 IsBrokenForm t f = ⊥
 
--- a type stands in another one, so many levels down
-abbrev pub StandsIn : ℕ → Written → Written → Type 0
-StandsIn zero whole t = t ≡ whole
-StandsIn (suc n) whole t = (part : Written) × Contains (part_types whole) part × StandsIn n part t
-
--- something is wrong with a written type, or with one that stands in it
-pub record IsBrokenType (whole : Written) (f : Fault) : Type 0 where
-  pub level : ℕ
-  pub t : Written
-  pub stands : StandsIn level whole t
-  pub broken : IsBrokenForm t f
+-- something is wrong with a written type apart from its parts, or with a part
+pub data IsBrokenType : Written → Fault → Type 0 where
+  Itself : {t : Written} {f : Fault} → IsBrokenForm t f → IsBrokenType t f
+  Inside : {whole t : Written} {f : Fault} → Contains (part_types whole) t → IsBrokenType t f → IsBrokenType whole f
 
 -- with one of these types
-pub record IsBrokenPart (types : List Written) (f : Fault) : Type 0 where
-  pub t : Written
-  pub among : Contains types t
-  pub broken : IsBrokenType t f
+abbrev pub IsBrokenPart : List Written → Fault → Type 0
+IsBrokenPart types f = (t : Written) × Contains types t × IsBrokenType t f
 
 -- what is wrong with fields, flags or cases: there is none, and the fault of this number tells of it, or a name repeats
-pub data AreBroken {X : Type 0} (number : ℕ) (name : X → Id) (xs : List X) (span : Span) (f : Fault) : Type 0 where
-  Empty : IsEmpty number xs span f → AreBroken number name xs span f
-  Repeating : IsDuplicateName (map name xs) f → AreBroken number name xs span f
+abbrev pub AreBroken : {X : Type 0} → ℕ → (X → Id) → List X → Span → Fault → Type 0
+AreBroken number name xs span f = IsEmpty number xs span f ⊎ IsDuplicateName (map name xs) f
 
 -- what is wrong with the fields, flags or cases of a body
 abbrev pub IsBrokenList : TypeBody → Fault → Type 0

@@ -11,20 +11,9 @@ pub record Member : Type 0 where
 
 -- everything of a type but its parts
 pub data Form : Type 0 where
-  RecordForm : (fields : List Member) → Form
-  ResourceForm : Form
-  OwnForm : Form
-  BorrowForm : Form
-  FlagsForm : (flags : List Member) → Form
-  TupleForm : Form
+  RecordForm FlagsForm EnumForm : (members : List Member) → Form
   VariantForm : (cases : List (Member × Bool)) → Form
-  EnumForm : (cases : List Member) → Form
-  OptionForm : Form
   ResultForm : (has_ok has_err : Bool) → Form
-  ListForm : Form
-  MapForm : Form
+  FutureForm StreamForm : (has_payload : Bool) → Form
   FixedLengthListForm : (size : ℕ) → Form
-  FutureForm : (has_payload : Bool) → Form
-  StreamForm : (has_payload : Bool) → Form
-  AliasForm : Form
-  UnknownForm : Form
+  ListForm MapForm TupleForm OptionForm OwnForm BorrowForm ResourceForm AliasForm UnknownForm : Form

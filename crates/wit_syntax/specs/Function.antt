@@ -29,8 +29,7 @@ use Rattle.wit_syntax.specs.Source.{Item, Part, Defining, Using, Including, Doin
 -- what a function is: by itself in an interface, of a resource, or by itself on a side of a world
 pub data Role : Type 0 where
   Freestanding : (id : Id) (form : FuncForm) → Role
-  Method : (of : Id) (form : FuncForm) → Role
-  Static : (of : Id) (form : FuncForm) → Role
+  Method Static : (of : Id) (form : FuncForm) → Role
   Constructor : (of : Id) → Role
   OnSide : (side : WorldSide) (id : Id) (form : FuncForm) → Role
 
@@ -40,18 +39,15 @@ pub record SourceParam : Type 0 where
   pub span : Span
   pub shape : Shape
 
--- A function: its mangled name, the places of its written name and of the word that begins its signature, what it is first given, its
--- written parameters, and its result; and the types, the docs and the attributes as they are written.
+-- A function: its mangled name, what it is, the place of its written name, what it is first given, the signature that is written behind
+-- its name, its result, and its docs and attributes.
 pub record SourceFunction : Type 0 where
   pub name : List ℕ
   pub role : Role
   pub span : Span
-  pub word : Span
   pub given : List SourceParam
-  pub params : List SourceParam
+  pub func : Func
   pub result : Option Shape
-  pub param_types : List Written
-  pub result_type : Option Written
   pub docs : Docs
   pub attributes : List Attribute
 
@@ -59,13 +55,17 @@ pub record SourceFunction : Type 0 where
 abbrev pub function_notes : SourceFunction → Notes
 function_notes f = notes (docs_of f.docs) f.attributes
 
+-- a parameter as it is written
+abbrev pub written_param : Param → SourceParam
+written_param p = record { name = p.name.name.now; span = p.name.span; shape = shape_of p.ty }
+
 -- all its parameters
 abbrev pub all_params : SourceFunction → List SourceParam
-all_params f = f.given ++ f.params
+all_params f = f.given ++ map written_param f.func.params.items
 
 -- the types that are written in it, in order
 abbrev pub written_types : SourceFunction → List Written
-written_types f = f.param_types ++ option_to_list f.result_type
+written_types f = map (λ p. p.ty) f.func.params.items ++ option_to_list f.func.result
 
 -- the mark of an accessor
 abbrev pub accessor : FuncForm → List ℕ
@@ -77,36 +77,18 @@ accessor _ = []
 abbrev pub dotted : Id → Id → List ℕ
 dotted r f = r.name.now ++ codes "." ++ f.name.now
 
-abbrev pub written_param : Param → SourceParam
-written_param p = record { name = p.name.name.now; span = p.name.span; shape = shape_of p.ty }
-
 -- a method is first given its resource, lent, where the function stands
 abbrev pub self_param : Id → Span → SourceParam
 self_param r span = record { name = codes "self"; span = span; shape = Of span BorrowForm (one (Word r)) }
 
--- a function whose mangled name, role and first parameters are these, and these the docs and the attributes, its written name and what
--- stands behind that
+-- a function whose mangled name, role and first parameters are these, and these the docs and the attributes, its written name and the
+-- signature behind that
 abbrev pub function_of : List ℕ → Role → List SourceParam → Docs → List Attribute → Id → Func → SourceFunction
-function_of name role given docs attributes id f = record {
-  name = name;
-  role = role;
-  span = id.span;
-  word = f.span;
-  given = given;
-  params = map written_param f.params.items;
-  result = option_map shape_of f.result;
-  param_types = map (λ p. p.ty) f.params.items;
-  result_type = f.result;
-  docs = docs;
-  attributes = attributes;
-}
-
-abbrev pub function_with : List ℕ → Role → List SourceParam → NamedFunc → SourceFunction
-function_with name role given f = function_of name role given f.docs f.attributes.items f.name f.func
+function_of name role given docs attributes id f = record { name = name; role = role; span = id.span; given = given; func = f; result = option_map shape_of f.result; docs = docs; attributes = attributes }
 
 -- a function of an interface
 abbrev pub free_function : NamedFunc → SourceFunction
-free_function f = function_with (accessor f.func.form ++ f.name.name.now) (Freestanding f.name f.func.form) [] f
+free_function f = function_of (accessor f.func.form ++ f.name.name.now) (Freestanding f.name f.func.form) [] f.docs f.attributes.items f.name f.func
 
 -- a function on a side of a world
 abbrev pub side_function : WorldSide → Docs → List Attribute → Id → Func → SourceFunction
@@ -118,26 +100,14 @@ extern_functions x (extern.Func name f) = side_function x.side x.docs x.attribut
 extern_functions x _ = []
 
 -- a constructor without a result makes its resource
-abbrev pub constructor_of : Id → Docs → List Attribute → Span → List Param → Option Written → SourceFunction
-constructor_of r docs attributes span params result = record {
-  name = codes "[constructor]" ++ r.name.now;
-  role = Constructor r;
-  span = span;
-  word = span;
-  given = [];
-  params = map written_param params;
-  result = Some (option_map_or shape_of result (Word r));
-  param_types = map (λ p. p.ty) params;
-  result_type = result;
-  docs = docs;
-  attributes = attributes;
-}
+abbrev pub constructor_of : Id → Docs → List Attribute → Func → SourceFunction
+constructor_of r docs attributes f = record { name = codes "[constructor]" ++ r.name.now; role = Constructor r; span = f.span; given = []; func = f; result = Some (option_map_or shape_of f.result (Word r)); docs = docs; attributes = attributes }
 
 -- a function of a resource
 abbrev pub resource_function : Id → ResourceFunc → SourceFunction
-resource_function r (resource.Method f) = function_with (codes "[method]" ++ accessor f.func.form ++ dotted r f.name) (Method r f.func.form) (self_param r f.func.span ∷ []) f
-resource_function r (resource.Static f) = function_with (codes "[static]" ++ accessor f.func.form ++ dotted r f.name) (Static r f.func.form) [] f
-resource_function r (resource.Constructor docs attributes span params result) = constructor_of r docs attributes.items span params.items result
+resource_function r (resource.Method f) = function_of (codes "[method]" ++ accessor f.func.form ++ dotted r f.name) (Method r f.func.form) (self_param r f.func.span ∷ []) f.docs f.attributes.items f.name f.func
+resource_function r (resource.Static f) = function_of (codes "[static]" ++ accessor f.func.form ++ dotted r f.name) (Static r f.func.form) [] f.docs f.attributes.items f.name f.func
+resource_function r (resource.Constructor docs attributes span params result) = constructor_of r docs attributes.items (record { span = span; form = form.Plain; params = params; result = result })
 
 -- the functions of a definition: those of a resource
 abbrev pub definition_functions : Id → TypeBody → List SourceFunction

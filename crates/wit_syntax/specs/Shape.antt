@@ -3,7 +3,7 @@ use Rattle.std.specs.Prelude.{Bool, true, false, List, [], ◌∷◌, ◌++◌, 
 use Rattle.wit_values.specs.declared.span.Span.{Span}
 use Rattle.wit_type_tree.specs.declared.leaves.Id.{Id}
 use Rattle.wit_type_tree.specs.declared.types.Primitive.{Primitive}
-use Rattle.wit_type_tree.specs.declared.types.«Type».{«Type» as Written, Held-Type-Future-1 as Held, None', Some', Row_of-Type, end_of-Type, more_of-Type}
+use Rattle.wit_type_tree.specs.declared.types.«Type».{«Type» as Written, None', Some', Row_of-Type, end_of-Type, more_of-Type}
 use Rattle.wit_type_tree.specs.declared.types.«Type».TheVariants as written
 use Rattle.wit_type_tree.specs.declared.types.ResultTypes.{ResultTypes, Neither, Ok', Err', Both'}
 use Rattle.wit_type_tree.specs.declared.types.Field.{Field}
@@ -31,11 +31,6 @@ mutual
 abbrev pub one : Shape → Shapes
 one x = More x End
 
--- whether there is a type
-abbrev pub is_held : Held → Bool
-is_held None' = false
-is_held (Some' p t) = true
-
 -- the shape of a written type; a part that is left out is told by the form
 abbrev mutual
   pub shape_of : Written → Shape
@@ -47,8 +42,10 @@ abbrev mutual
   shape_of (written.Option' span p t) = Of span OptionForm (one (shape_of t))
   shape_of (written.Result span of) = Of span (ResultForm (is_some (ok_type of)) (is_some (err_type of))) (result_shapes of)
   shape_of (written.Tuple' span shape ts) = Of span TupleForm (row_shapes ts)
-  shape_of (written.Future' span t) = Of span (FutureForm (is_held t)) (held_shape t)
-  shape_of (written.Stream' span t) = Of span (StreamForm (is_held t)) (held_shape t)
+  shape_of (written.Future' span None') = Of span (FutureForm false) End
+  shape_of (written.Future' span (Some' p t)) = Of span (FutureForm true) (one (shape_of t))
+  shape_of (written.Stream' span None') = Of span (StreamForm false) End
+  shape_of (written.Stream' span (Some' p t)) = Of span (StreamForm true) (one (shape_of t))
   -- a resource that is owned is written as the resource
   shape_of (written.Own span id) = Word id
   shape_of (written.Borrow span id) = Of span BorrowForm (one (Word id))
@@ -59,11 +56,6 @@ abbrev mutual
   result_shapes (Ok' p t) = one (shape_of t)
   result_shapes (Err' p t) = one (shape_of t)
   result_shapes (Both' p t q u) = More (shape_of t) (one (shape_of u))
-
-  -- that of a type, where there is one
-  pub held_shape : Held → Shapes
-  held_shape None' = End
-  held_shape (Some' p t) = one (shape_of t)
 
   -- those of types in a row
   pub row_shapes : {m : _} → Row_of-Type m → Shapes
@@ -83,8 +75,7 @@ pub record Body : Type 0 where
 -- an unnamed type stands under a name with its own form and parts; a name or a primitive gets another word
 abbrev pub head : Shape → Body
 head (Of span form parts) = record { form = form; parts = parts }
-head (Prim p) = record { form = AliasForm; parts = one (Prim p) }
-head (Word id) = record { form = AliasForm; parts = one (Word id) }
+head x = record { form = AliasForm; parts = one x }
 
 -- what a type that is written under a name says: a handle that owns is one there
 abbrev pub written_body : Written → Body
@@ -95,24 +86,12 @@ written_body t = head (shape_of t)
 abbrev pub member : Comments → Id → Member
 member docs id = record { name = id.name.now; docs = docs_of docs; span = id.span }
 
-abbrev pub written_field : Field → Member
-written_field f = member f.docs f.name
-
-abbrev pub written_flag : Flag → Member
-written_flag f = member f.docs f.name
-
-abbrev pub written_case : Case → Member × Bool
-written_case c = (member c.docs c.name, is_some c.ty)
-
-abbrev pub written_enum_case : EnumCase → Member
-written_enum_case c = member c.docs c.name
-
 -- what a definition says
 abbrev pub body_of : TypeBody → Body
-body_of (Record span fields) = record { form = RecordForm (map written_field fields.items); parts = all_shapes (field_types fields.items) }
-body_of (Flags span flags) = record { form = FlagsForm (map written_flag flags.items); parts = End }
-body_of (Variant span cases) = record { form = VariantForm (map written_case cases.items); parts = all_shapes (case_types cases.items) }
-body_of (Enum span cases) = record { form = EnumForm (map written_enum_case cases.items); parts = End }
+body_of (Record span fields) = record { form = RecordForm (map (λ (f : Field). member f.docs f.name) fields.items); parts = all_shapes (field_types fields.items) }
+body_of (Flags span flags) = record { form = FlagsForm (map (λ (f : Flag). member f.docs f.name) flags.items); parts = End }
+body_of (Variant span cases) = record { form = VariantForm (map (λ (c : Case). (member c.docs c.name, is_some c.ty)) cases.items); parts = all_shapes (case_types cases.items) }
+body_of (Enum span cases) = record { form = EnumForm (map (λ (c : EnumCase). member c.docs c.name) cases.items); parts = End }
 body_of (Resource funcs) = record { form = ResourceForm; parts = End }
 body_of (Plain t) = written_body t
 
@@ -136,21 +115,13 @@ abbrev mutual
   handles (written.FixedLengthList' span p t size) = handles t
   handles (written.Map' span p key q value) = handles key ++ handles value
   handles (written.Option' span p t) = handles t
-  handles (written.Result span of) = result_handles of
+  handles (written.Result span (Ok' p t)) = handles t
+  handles (written.Result span (Err' p t)) = handles t
+  handles (written.Result span (Both' p t q u)) = handles t ++ handles u
   handles (written.Tuple' span shape ts) = row_handles ts
-  handles (written.Future' span t) = held_handles t
-  handles (written.Stream' span t) = held_handles t
+  handles (written.Future' span (Some' p t)) = handles t
+  handles (written.Stream' span (Some' p t)) = handles t
   handles _ = []
-
-  pub result_handles : ResultTypes → List Id
-  result_handles Neither = []
-  result_handles (Ok' p t) = handles t
-  result_handles (Err' p t) = handles t
-  result_handles (Both' p t q u) = handles t ++ handles u
-
-  pub held_handles : Held → List Id
-  held_handles None' = []
-  held_handles (Some' p t) = handles t
 
   pub row_handles : {m : _} → Row_of-Type m → List Id
   row_handles end_of-Type = []

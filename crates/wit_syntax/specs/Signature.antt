@@ -7,6 +7,7 @@ use Rattle.wit_names.specs.Folded.{folded_key}
 use Rattle.wit_names.specs.Setter.{getter_of}
 use Rattle.wit_type_tree.specs.declared.leaves.Id.{Id}
 use Rattle.wit_type_tree.specs.declared.types.FuncForm.{FuncForm}
+use Rattle.wit_type_tree.specs.declared.types.Param.{Param}
 use Rattle.wit_type_tree.specs.declared.types.FuncForm.TheVariants as form
 use Rattle.wit_type_tree.specs.declared.types.TypeBody.{TypeBody}
 use Rattle.wit_type_tree.specs.declared.types.TypeBody.TheVariants as body
@@ -16,7 +17,7 @@ use Rattle.wit_type_tree.specs.Parts.{ok_type}
 use Rattle.wit_syntax.specs.Fault.{Fault, fault, missing_at, name_word}
 use Rattle.wit_syntax.specs.Shape.{Word, shape_of, words}
 use Rattle.wit_syntax.specs.Source.{ScopeName, Defined, local_id, local_name, meaning}
-use Rattle.wit_syntax.specs.Function.{Role, Freestanding, Method, Static, Constructor, OnSide, SourceParam, SourceFunction, all_params, written_types, signature}
+use Rattle.wit_syntax.specs.Function.{Freestanding, Constructor, SourceParam, SourceFunction, all_params, written_types, signature}
 use Rattle.wit_syntax.specs.Notes.{IsBrokenNotes}
 use Rattle.wit_syntax.specs.Bodies.{folded, IsSecond, IsBrokenPart}
 
@@ -34,13 +35,6 @@ function_called fn = record { name = fn.name; span = fn.span }
 -- the key by which names of a scope are told apart
 abbrev pub called_key : Called → List ℕ
 called_key c = folded_key c.name
-
-abbrev pub role_form : Role → FuncForm
-role_form (Freestanding id form) = form
-role_form (Method of form) = form
-role_form (Static of form) = form
-role_form (Constructor of) = form.Plain
-role_form (OnSide side id form) = form
 
 -- where a written type stands
 abbrev pub type_span : Written → Span
@@ -76,21 +70,12 @@ result_ok xs (written.Name id) = meant_ok (meaning xs id.name.now)
 result_ok xs t = ok_of t
 
 -- a type is written as a name, or as a handle that owns it
-pub record IsWrittenAs (id : Id) (t : Written) : Type 0 where
-  pub word : Id
-  pub shape : shape_of t ≡ Word word
-  pub same : word.name.now ≡ id.name.now
+abbrev pub IsWrittenAs : Id → Written → Type 0
+IsWrittenAs id t = (word : Id) × (shape_of t ≡ Word word) × (word.name.now ≡ id.name.now)
 
 -- the freestanding function of a name is this one of an interface's functions or one before it
-pub record IsEntered (fs : List SourceFunction) (k : ℕ) (name : List ℕ) : Type 0 where
-  pub place : ℕ
-  pub entered : SourceFunction
-  pub id : Id
-  pub form : FuncForm
-  pub before : place ≤ k
-  pub at : slice_get fs place ≡ Some entered
-  pub role : entered.role ≡ Freestanding id form
-  pub same : id.name.now ≡ name
+abbrev pub IsEntered : List SourceFunction → ℕ → List ℕ → Type 0
+IsEntered fs k name = (place : ℕ) × (place ≤ k) × (fn : SourceFunction) × (slice_get fs place ≡ Some fn) × (id : Id) × (form : FuncForm) × (fn.role ≡ Freestanding id form) × (id.name.now ≡ name)
 
 -- a name that stands for no type is that of a function, or of nothing: a fault tells of the one, another of the other
 pub data IsNoType (IsFunction : Type 0) (of_function of_nothing f : Fault) : Type 0 where
@@ -98,47 +83,28 @@ pub data IsNoType (IsFunction : Type 0) (of_function of_nothing f : Fault) : Typ
   OfNothing : (IsFunction → ⊥) → f ≡ of_nothing → IsNoType IsFunction of_function of_nothing f
 
 -- a getter has a parameter
-pub record IsGetterGiven (fn : SourceFunction) (f : Fault) : Type 0 where
-  pub getter : role_form fn.role ≡ form.Getter
-  pub first : SourceParam
-  pub at : slice_get fn.params 0 ≡ Some first
-  pub is : f ≡ fault 36 first.span
+abbrev pub IsGetterGiven : SourceFunction → Fault → Type 0
+IsGetterGiven fn f = (fn.func.form ≡ form.Getter) × (first : Param) × (slice_get fn.func.params.items 0 ≡ Some first) × (f ≡ fault 36 first.name.span)
 
 -- a setter has not just one parameter
-pub record IsSetterGiven (fn : SourceFunction) (f : Fault) : Type 0 where
-  pub setter : role_form fn.role ≡ form.Setter
-  pub other : length fn.params ≡ 1 → ⊥
-  pub is : f ≡ fault 37 (option_map_or (λ (p : SourceParam). p.span) (slice_get fn.params 1) fn.word)
-
-abbrev pub param_key : SourceParam → List ℕ
-param_key p = folded p.name
+abbrev pub IsSetterGiven : SourceFunction → Fault → Type 0
+IsSetterGiven fn f = (fn.func.form ≡ form.Setter) × (length fn.func.params.items ≡ 1 → ⊥) × (f ≡ fault 37 (option_map_or (λ (p : Param). p.name.span) (slice_get fn.func.params.items 1) fn.func.span))
 
 -- an earlier parameter has the name once case is folded
 abbrev pub IsDuplicateParam : SourceFunction → Fault → Type 0
-IsDuplicateParam fn f = IsSecond param_key (λ (p : SourceParam). fault 38 p.span) (all_params fn) f
+IsDuplicateParam fn f = IsSecond (λ (p : SourceParam). folded p.name) (λ (p : SourceParam). fault 38 p.span) (all_params fn) f
 
 -- a getter gives nothing
-pub record IsGetterWithoutResult (fn : SourceFunction) (f : Fault) : Type 0 where
-  pub getter : role_form fn.role ≡ form.Getter
-  pub none : fn.result_type ≡ None
-  pub is : f ≡ fault 39 fn.word
+abbrev pub IsGetterWithoutResult : SourceFunction → Fault → Type 0
+IsGetterWithoutResult fn f = (fn.func.form ≡ form.Getter) × (fn.func.result ≡ None) × (f ≡ fault 39 fn.func.span)
 
 -- a setter gives something where all is well
-pub record IsSetterWithResult (xs : List ScopeName) (fn : SourceFunction) (f : Fault) : Type 0 where
-  pub setter : role_form fn.role ≡ form.Setter
-  pub t : Written
-  pub result : fn.result_type ≡ Some t
-  pub other : result_ok xs t ≡ Some None → ⊥
-  pub is : f ≡ fault 40 (type_span t)
+abbrev pub IsSetterWithResult : List ScopeName → SourceFunction → Fault → Type 0
+IsSetterWithResult xs fn f = (fn.func.form ≡ form.Setter) × (t : Written) × (fn.func.result ≡ Some t) × (result_ok xs t ≡ Some None → ⊥) × (f ≡ fault 40 (type_span t))
 
 -- what a constructor gives is no result
-pub record IsConstructorWithoutResult (xs : List ScopeName) (fn : SourceFunction) (f : Fault) : Type 0 where
-  pub of : Id
-  pub constructs : fn.role ≡ Constructor of
-  pub t : Written
-  pub result : fn.result_type ≡ Some t
-  pub none : result_ok xs t ≡ None
-  pub is : f ≡ fault 41 (type_span t)
+abbrev pub IsConstructorWithoutResult : List ScopeName → SourceFunction → Fault → Type 0
+IsConstructorWithoutResult xs fn f = (of : Id) × (fn.role ≡ Constructor of) × (t : Written) × (fn.func.result ≡ Some t) × (result_ok xs t ≡ None) × (f ≡ fault 41 (type_span t))
 
 -- what a result gives where all is well, where it is written there, else the whole
 abbrev pub ok_span : Written → Span
@@ -146,15 +112,9 @@ ok_span (written.Result span of) = option_map_or type_span (ok_type of) span
 ok_span t = type_span t
 
 -- a constructor's result gives something else than its resource
-pub record IsConstructorOfOther (xs : List ScopeName) (fn : SourceFunction) (f : Fault) : Type 0 where
-  pub of : Id
-  pub constructs : fn.role ≡ Constructor of
-  pub t : Written
-  pub result : fn.result_type ≡ Some t
-  pub ok : Option Written
-  pub gives : result_ok xs t ≡ Some ok
-  pub other : (u : Written) → ok ≡ Some u → IsWrittenAs of u → ⊥
-  pub is : f ≡ fault 42 (ok_span t)
+abbrev pub IsConstructorOfOther : List ScopeName → SourceFunction → Fault → Type 0
+IsConstructorOfOther xs fn f = (of : Id) × (fn.role ≡ Constructor of) × (t : Written) × (fn.func.result ≡ Some t)
+    × (ok : Option Written) × (result_ok xs t ≡ Some ok) × ((u : Written) → ok ≡ Some u → IsWrittenAs of u → ⊥) × (f ≡ fault 42 (ok_span t))
 
 -- what is wrong with a function at a place among those of a scope
 pub data IsBrokenFunction (xs : List ScopeName) (fs : List SourceFunction) (k : ℕ) (fn : SourceFunction) (f : Fault) : Type 0 where
@@ -171,9 +131,5 @@ pub data IsBrokenFunction (xs : List ScopeName) (fs : List SourceFunction) (k : 
   ConstructorOfOther : IsConstructorOfOther xs fn f → IsBrokenFunction xs fs k fn f
 
 -- a setter has no getter of its spelling
-pub record IsUnpairedSetter (fs : List SourceFunction) (f : Fault) : Type 0 where
-  pub fn : SourceFunction
-  pub among : Contains fs fn
-  pub setter : role_form fn.role ≡ form.Setter
-  pub none : (g : SourceFunction) → Contains fs g → g.name ≡ getter_of fn.name → ⊥
-  pub is : f ≡ fault 18 fn.span
+abbrev pub IsUnpairedSetter : List SourceFunction → Fault → Type 0
+IsUnpairedSetter fs f = (fn : SourceFunction) × Contains fs fn × (fn.func.form ≡ form.Setter) × ((g : SourceFunction) → Contains fs g → g.name ≡ getter_of fn.name → ⊥) × (f ≡ fault 18 fn.span)

@@ -101,14 +101,13 @@ uses_right_more is ds d uses one = record {
 -- an item whose name stands twice
 pub duplicate_item : (is : List Item) (f : Fault) → IsRepeatedName 5 (map item_top is) f → IsSecond item_name (λ (i : Item). fault 5 (item_id i).span) is f
 duplicate_item is f h =
-    let r = h.repeated in
-    let a = map_at item_top is r.first r.earlier r.at_first in
-    let b = map_at item_top is r.second h.later r.at_second in
-    record {
-      later = b.0;
-      repeated = record { first = r.first; second = r.second; earlier = a.0; before = r.before; at_first = a.1; at_second = b.1; same = ap top_text a.2 ∙ r.same ∙ sym (ap top_text b.2) };
-      is = h.is ∙ ap (λ (t : TopName). fault 5 t.id.span) (sym b.2);
-    }
+    let r = h.1 in
+    let a = map_at item_top is r.0 r.3 r.4 in
+    let b = map_at item_top is r.1 h.0 r.5 in (
+      b.0,
+      (r.0, r.1, r.2, a.0, a.1, b.1, ap top_text a.2 ∙ r.6 ∙ sym (ap top_text b.2)),
+      h.2 ∙ ap (λ (t : TopName). fault 5 t.id.span) (sym b.2),
+    )
 
 missing_original : (is : List Item) (ds : List AstItem) (i : ℕ) (u : ToplevelUse) (f : Fault) → slice_get ds i ≡ Some (ToplevelItem u) → IsLostTarget is (path_target u.item) f → IsMissingOriginal is ds f
 missing_original is ds i u f at h = record { u = u; id = h.id; among = contains_at ds i (ToplevelItem u) at; local = h.local; missing = h.undeclared.missing; is = h.undeclared.is }

@@ -1,7 +1,8 @@
 use Rattle.std.proofs.Common.{◌≡◌, map, take}
+use Rattle.wit_type_tree.specs.declared.types.Flag.{Flag as WrittenFlag}
 use Rattle.wit_arena.specs.Kind.{flag_member}
-use Rattle.wit_syntax.specs.Shape.{written_flag}
+use Rattle.wit_syntax.specs.Shape.{member}
 use Rattle.wit_definitions.proofs.bodies.flags.Given as goal
 
 abbrev pub invariant-loop-written : goal.invariant-loop-written
-invariant-loop-written l = map flag_member l.made.items ≡ map written_flag (take l.written-index l.flags)
+invariant-loop-written l = map flag_member l.made.items ≡ map (λ (x : WrittenFlag). member x.docs x.name) (take l.written-index l.flags)

@@ -1,5 +1,5 @@
 use Rattle.std.proofs.Common.{◌≡◌, [], ◌∷◌, ◌++◌, ◌+◌, Some, take, sym, ap, ◌∙◌, subst}
-use Rattle.std.specs.Prelude.{map}
+use Rattle.std.specs.Prelude.{is_some, map}
 use Rattle.std.specs.Option.{option_to_list}
 use Rattle.std.proofs.lemmas.List.{map-append, take_more, take_all}
 use Rattle.std.proofs.lemmas.Option.{slice_get-get_or}
@@ -8,7 +8,7 @@ use Rattle.wit_type_tree.specs.declared.types.Case.{Case as WrittenCase}
 use Rattle.wit_type_tree.specs.Parts.{case_types}
 use Rattle.wit_types.specs.declared.types.Case.{Case}
 use Rattle.wit_arena.specs.Kind.{case_member, payloads}
-use Rattle.wit_syntax.specs.Shape.{written_case}
+use Rattle.wit_syntax.specs.Shape.{member}
 use Rattle.wit_arena.specs.Resolving.{env_of, AreWrongTypes}
 use Rattle.wit_syntax.proofs.Lists.{filter_map_more}
 use Rattle.wit_syntax.proofs.Refusing.{refused_weaker}
@@ -30,7 +30,7 @@ loop-written-preserved c =
     let types : payloads c.push.new.self.items ≡ payloads out ++ option_to_list made.ty = ap payloads c.in_ok-push.ensures.items ∙ filter_map_more (λ (x : Case). x.ty) out made in
     record {
       types = rw (written, types) (types_then c.args.given.now (case_types (take i cs)) (option_to_list case.ty) c.loop-written.invariant.types c.in_ok-case.ensures.types);
-      members = ap (map case_member) c.in_ok-push.ensures.items ∙ map-append case_member out (made ∷ []) ∙ ap (λ ms. ms ++ case_member made ∷ []) c.loop-written.invariant.members ∙ ap (λ m. map written_case (take i cs) ++ m ∷ []) c.in_ok-case.ensures.member ∙ sym (map-append written_case (take i cs) (case ∷ [])) ∙ ap (map written_case) (sym taken);
+      members = ap (map case_member) c.in_ok-push.ensures.items ∙ map-append case_member out (made ∷ []) ∙ ap (λ ms. ms ++ case_member made ∷ []) c.loop-written.invariant.members ∙ ap (λ m. map (λ (c : WrittenCase). (member c.docs c.name, is_some c.ty)) (take i cs) ++ m ∷ []) c.in_ok-case.ensures.member ∙ sym (map-append (λ (c : WrittenCase). (member c.docs c.name, is_some c.ty)) (take i cs) (case ∷ [])) ∙ ap (map (λ (c : WrittenCase). (member c.docs c.name, is_some c.ty))) (sym taken);
       legal = subst AreLegal (sym written) (legal_more (case_types (take i cs)) (option_to_list case.ty) c.loop-written.invariant.legal c.in_ok-case.ensures.legal);
       handled = rw written (requires_types (env_of c.args.names.now) _ _ (case_types (take i cs)) (option_to_list case.ty) _ _ _ c.in_ok-case.ensures.grown c.loop-written.invariant.handled c.in_ok-case.ensures.handled);
       grown = grown_then _ _ _ c.loop-written.invariant.grown c.in_ok-case.ensures.grown;

@@ -1,7 +1,8 @@
-use Rattle.std.proofs.Common.{◌≡◌, map, take}
+use Rattle.std.proofs.Common.{◌≡◌, is_some, map, take}
 use Rattle.wit_type_tree.specs.Parts.{case_types}
+use Rattle.wit_type_tree.specs.declared.types.Case.{Case as WrittenCase}
 use Rattle.wit_arena.specs.Kind.{case_member, payloads}
-use Rattle.wit_syntax.specs.Shape.{written_case, all_handles}
+use Rattle.wit_syntax.specs.Shape.{member, all_handles}
 use Rattle.wit_arena.specs.Resolving.{env_of}
 use Rattle.wit_arena.proofs.Written.{AreLegal}
 use Rattle.wit_entries.specs.Reading.{AreTypes}
@@ -11,7 +12,7 @@ use Rattle.wit_definitions.proofs.bodies.resolve_cases.Given as goal
 abbrev pub invariant-loop-written : goal.invariant-loop-written
 invariant-loop-written l = record {
   types : AreTypes l.fn.types l.types (env_of l.names) l.given (case_types (take l.written-index l.cases)) (payloads l.resolved.items);
-  members : map case_member l.resolved.items ≡ map written_case (take l.written-index l.cases);
+  members : map case_member l.resolved.items ≡ map (λ (c : WrittenCase). (member c.docs c.name, is_some c.ty)) (take l.written-index l.cases);
   legal : AreLegal (case_types (take l.written-index l.cases));
   handled : Requires (env_of l.names) l.types (all_handles (case_types (take l.written-index l.cases))) l.fn.required.items l.required.items;
   grown : IsGrown l.fn.types l.types;

@@ -8,7 +8,7 @@ use Rattle.wit_type_tree.specs.declared.types.Field.{Field as WrittenField}
 use Rattle.wit_type_tree.specs.Parts.{field_types}
 use Rattle.wit_types.specs.declared.types.Field.{Field}
 use Rattle.wit_arena.specs.Kind.{field_member}
-use Rattle.wit_syntax.specs.Shape.{written_field}
+use Rattle.wit_syntax.specs.Shape.{member}
 use Rattle.wit_arena.specs.Resolving.{env_of, IsWrongType, AreWrongTypes}
 use Rattle.wit_syntax.proofs.Refusing.{refused_weaker}
 use Rattle.wit_arena.proofs.Written.{AreLegal, legal_one, legal_more, wrong_at}
@@ -28,7 +28,7 @@ loop-written-preserved c =
     let types : map (λ (x : Field). x.ty) c.push.new.self.items ≡ map (λ (x : Field). x.ty) out ++ c.in_ok-ty.ty ∷ [] = ap (map (λ (x : Field). x.ty)) c.in_ok-push.ensures.items ∙ map-append (λ (x : Field). x.ty) out (made ∷ []) ∙ ap (λ t. map (λ (x : Field). x.ty) out ++ t ∷ []) c.in_ok-field.ensures.ty in
     record {
       types = rw (written, types) (types_then c.args.given.now (field_types (take i fs)) (f.ty ∷ []) c.loop-written.invariant.types (types_one c.args.given.now f.ty c.in_ok-ty.ensures.resolved));
-      members = ap (map field_member) c.in_ok-push.ensures.items ∙ map-append field_member out (made ∷ []) ∙ ap (λ ms. ms ++ field_member made ∷ []) c.loop-written.invariant.members ∙ ap (λ m. map written_field (take i fs) ++ m ∷ []) c.in_ok-field.ensures.member ∙ sym (map-append written_field (take i fs) (f ∷ [])) ∙ ap (map written_field) (sym taken);
+      members = ap (map field_member) c.in_ok-push.ensures.items ∙ map-append field_member out (made ∷ []) ∙ ap (λ ms. ms ++ field_member made ∷ []) c.loop-written.invariant.members ∙ ap (λ m. map (λ (x : WrittenField). member x.docs x.name) (take i fs) ++ m ∷ []) c.in_ok-field.ensures.member ∙ sym (map-append (λ (x : WrittenField). member x.docs x.name) (take i fs) (f ∷ [])) ∙ ap (map (λ (x : WrittenField). member x.docs x.name)) (sym taken);
       legal = subst AreLegal (sym written) (legal_more (field_types (take i fs)) (f.ty ∷ []) c.loop-written.invariant.legal (legal_one f.ty c.in_ok-ty.ensures.legal));
       handled = rw written (requires_types (env_of c.args.names.now) _ _ (field_types (take i fs)) (f.ty ∷ []) _ _ _ c.in_ok-ty.ensures.grown c.loop-written.invariant.handled (requires_one (env_of c.args.names.now) _ f.ty _ _ c.in_ok-ty.ensures.handled));
       grown = grown_then _ _ _ c.loop-written.invariant.grown c.in_ok-ty.ensures.grown;

@@ -9,14 +9,14 @@ use Rattle.wit_rules.proofs.function_rules.check_made.Goals.{in_default-ok-via-i
 pub returns-in_default-clause-refused : goal.returns-in_default-clause-refused
 returns-in_default-clause-refused c = λ xs are. elim c.refuse.ensures [
   | inl memory ↦ inl memory
-  | inr says ↦ inr (inl (record {
-    of = c.args.resource;
-    constructs = c.requires.role;
-    t = c.args.ty.now;
-    result = c.requires.result;
-    none = sym (c.in_default.ensures xs are);
-    is = says ∙ ap (fault 41) c.span_of.ensures;
-  }))
+  | inr says ↦ inr (inl (
+    c.args.resource,
+    c.requires.role,
+    c.args.ty.now,
+    c.requires.result,
+    sym (c.in_default.ensures xs are),
+    says ∙ ap (fault 41) c.span_of.ensures,
+  ))
 ]
 
 pub returns-in_default-ok-clause-refused : goal.returns-in_default-ok-clause-refused
@@ -36,14 +36,14 @@ returns-in_default-ok-clause-refused c =
     ] in
     λ xs are. elim c.refuse-in_default-ok.ensures [
       | inl memory ↦ inl memory
-      | inr says ↦ inr (inr (record {
-        of = resource;
-        constructs = c.requires.role;
-        t = c.args.ty.now;
-        result = c.requires.result;
-        ok = ok;
-        gives = sym (c.in-Some.ensures xs are);
-        other = other;
-        is = says ∙ ap (fault 42) c.ok_span.ensures;
-      }))
+      | inr says ↦ inr (inr (
+        resource,
+        c.requires.role,
+        c.args.ty.now,
+        c.requires.result,
+        ok,
+        sym (c.in-Some.ensures xs are),
+        other,
+        says ∙ ap (fault 42) c.ok_span.ensures,
+      ))
     ]

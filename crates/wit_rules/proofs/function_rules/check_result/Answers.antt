@@ -11,12 +11,11 @@ use Rattle.wit_rules.proofs.function_rules.check_result.Goals as goal
 
 pub returns-in-Setter-clause-legal : goal.returns-in-Setter-clause-legal
 returns-in-Setter-clause-legal c =
-    let role = (function_behind c.args.function).role in
     on_ok_weaker c.check_setter_result.result (λ legal xs are f broken. elim broken [
       | inl setter ↦ legal xs are f setter
       | inr made ↦ elim made [
-        | inl h ↦ no_setter role (h.of, h.constructs) (sym c.in-Setter.ensures)
-        | inr h ↦ no_setter role (h.of, h.constructs) (sym c.in-Setter.ensures)
+        | inl h ↦ no_setter c.args.function h.0 h.1 (sym c.in-Setter.ensures)
+        | inr h ↦ no_setter c.args.function h.0 h.1 (sym c.in-Setter.ensures)
       ]
     ]) c.check_setter_result.ensures.legal
 

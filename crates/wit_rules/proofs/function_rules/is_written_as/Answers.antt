@@ -10,9 +10,9 @@ returns-in-Name c =
     let id = c.in-Name.id in
     let name = c.args.name in
     let shape : shape_of c.args.ty.now ≡ Word id = elim c.in-Name.is [ inl e ↦ ap shape_of e | inr own ↦ ap shape_of own.1 ] in (
-      λ t. record { word = id; shape = shape; same = name_equal id.name.now name.name.now (sym c.eq.ensures ∙ t) },
+      λ t. (id, shape, name_equal id.name.now name.name.now (sym c.eq.ensures ∙ t)),
       λ written. (
-          let words : Word id ≡ Word written.word = sym shape ∙ written.shape in
-          let word : id ≡ written.word = cc in
-          c.eq.ensures ∙ ap (λ (n : List ℕ). pointwise nat_eq n name.name.now) (ap (λ (i : Id). i.name.now) word ∙ written.same) ∙ name_itself name.name.now),
+          let words : Word id ≡ Word written.0 = sym shape ∙ written.1 in
+          let word : id ≡ written.0 = cc in
+          c.eq.ensures ∙ ap (λ (n : List ℕ). pointwise nat_eq n name.name.now) (ap (λ (i : Id). i.name.now) word ∙ written.2) ∙ name_itself name.name.now),
     )

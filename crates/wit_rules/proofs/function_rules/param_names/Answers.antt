@@ -1,6 +1,7 @@
 use Rattle.std.proofs.Common.{List, ◌++◌, map, ap, sym, ◌∙◌, arith}
 use Rattle.std.proofs.lemmas.List.{take_all}
 use Rattle.wit_type_tree.specs.declared.types.Param.{Param}
+use Rattle.wit_syntax.specs.Function.{written_param}
 use Rattle.wit_rules.specs.Held.{function_behind}
 use Rattle.wit_rules.proofs.FunctionRules.{names-append}
 use Rattle.wit_rules.proofs.function_rules.param_names.Goals as goal
@@ -11,4 +12,4 @@ returns c =
     let params = c.params-params.result.now in
     c.loop-param.invariant
     ∙ ap (λ (ps : List Param). map (λ p. p.name) fn.given ++ map (λ p. p.name.name.now) ps) (take_all c.loop-param.param-index params (omega arith))
-    ∙ sym (names-append fn.given fn.params params c.params-params.ensures.params)
+    ∙ sym (names-append fn.given (map written_param fn.func.params.items) params (ap (map written_param) c.params-params.ensures))

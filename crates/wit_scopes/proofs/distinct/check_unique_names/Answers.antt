@@ -10,7 +10,7 @@ returns-in-Some-clause-refused c =
     let r : IsRepeatAt keys c.in-Some.field-0-0 c.in-Some.second = rw c.in-Some.is at c.in_ok-second.ensures.some in
     elim c.refuse.ensures [
       | inl memory ↦ inl memory
-      | inr says ↦ inr (record { later = c.index-ids-second.result; repeated = named_twice (λ id. id.name.now) c.args.ids.now keys c.in-Some.field-0-0 c.in-Some.second c.index-ids-second.result keyed r c.index-ids-second.is; is = says })
+      | inr says ↦ inr (c.index-ids-second.result, named_twice (λ id. id.name.now) c.args.ids.now keys c.in-Some.field-0-0 c.in-Some.second c.index-ids-second.result keyed r c.index-ids-second.is, says)
     ]
 
 pub returns-clause-legal : goal.returns-clause-legal

@@ -19,17 +19,17 @@ returns-in_err-ty-in-Some-clause-refused c =
     let p = err_from_is_err_and c.from_residual.result c.from_residual.ensures.1 in
     let t = c.in-Some.written.now in
     let fn = function_behind c.args.function in
-    let among : Contains (option_to_list fn.result_type) t = contains_at (option_to_list fn.result_type) 0 t (option_has fn.result_type t (sym c.in-Some.ensures)) in
+    let among : Contains (option_to_list fn.func.result) t = contains_at (option_to_list fn.func.result) 0 t (option_has fn.func.result t (sym c.in-Some.ensures)) in
     let env = env_of c.args.scope.names.now in
     let fns = functions_behind c.args.scope in
     let types = c.resolve_in_signature.new.types in
-    rw (p.1, p.2) (λ xs scope. refused_weaker (IsWrongInSignature env types fns c.args.place t) (λ (f : Fault). IsBrokenReturn xs fn f ⊎ IsWrongInSignatures env types fns c.args.place (option_to_list fn.result_type) f) _ (λ f wrong. inr (t, among, wrong)) c.in_err-ty-in-Some.ensures.refused)
+    rw (p.1, p.2) (λ xs scope. refused_weaker (IsWrongInSignature env types fns c.args.place t) (λ (f : Fault). IsBrokenReturn xs fn f ⊎ IsWrongInSignatures env types fns c.args.place (option_to_list fn.func.result) f) _ (λ f wrong. inr (t, among, wrong)) c.in_err-ty-in-Some.ensures.refused)
 
 pub returns-in_err-check_result-in-Some-clause-refused : goal.returns-in_err-check_result-in-Some-clause-refused
 returns-in_err-check_result-in-Some-clause-refused c =
     let p = err_from_is_err_and c.from_residual-in_err-check_result-in-Some.result c.from_residual-in_err-check_result-in-Some.ensures.1 in
     let fn = function_behind c.args.function in
-    rw (p.1, p.2) (λ xs scope. refused_weaker (IsBrokenResult xs fn) (λ (f : Fault). IsBrokenReturn xs fn f ⊎ IsWrongInSignatures (env_of c.args.scope.names.now) c.resolve_in_signature.new.types (functions_behind c.args.scope) c.args.place (option_to_list fn.result_type) f) _ (λ f wrong. inl (inr wrong)) (c.in_err-check_result-in-Some.ensures.refused xs scope.results))
+    rw (p.1, p.2) (λ xs scope. refused_weaker (IsBrokenResult xs fn) (λ (f : Fault). IsBrokenReturn xs fn f ⊎ IsWrongInSignatures (env_of c.args.scope.names.now) c.resolve_in_signature.new.types (functions_behind c.args.scope) c.args.place (option_to_list fn.func.result) f) _ (λ f wrong. inl (inr wrong)) (c.in_err-check_result-in-Some.ensures.refused xs scope.results))
 
 pub returns-in_ok-check_result-in-Some-clause-result : goal.returns-in_ok-check_result-in-Some-clause-result
 returns-in_ok-check_result-in-Some-clause-result c = result_behind c.args.types.now c.resolve_in_signature.new.types (env_of c.args.scope.names.now) c.args.function c.in-Some.written.now c.in_ok-ty-in-Some.ty (sym c.in-Some.ensures) c.in_ok-ty-in-Some.ensures.resolved

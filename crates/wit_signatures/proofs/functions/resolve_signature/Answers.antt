@@ -39,11 +39,11 @@ returns-clause-legal c = λ xs scope.
       getter = c.in_ok-check_given.ensures.getter;
       setter = c.in_ok-check_given.ensures.setter;
       distinct = c.in_ok-params.ensures.distinct;
-      types = legal_more fn.param_types (option_to_list fn.result_type) c.in_ok-params.ensures.legal c.in_ok-result.ensures.legal;
+      types = legal_more (map (λ p. p.ty) fn.func.params.items) (option_to_list fn.func.result) c.in_ok-params.ensures.legal c.in_ok-result.ensures.legal;
       returns = c.in_ok-result.ensures.returns xs scope;
     }
 
 pub returns-clause-handled : goal.returns-clause-handled
 returns-clause-handled c =
     let fn = function_behind c.args.function in
-    requires_types (env_of c.args.scope.names.now) c.all_params.new.types c.resolve_result.new.types fn.param_types (option_to_list fn.result_type) c.args.required.now.items c.all_params.new.required.items c.resolve_result.new.required.items c.in_ok-result.ensures.grown c.in_ok-params.ensures.handled c.in_ok-result.ensures.handled
+    requires_types (env_of c.args.scope.names.now) c.all_params.new.types c.resolve_result.new.types (map (λ p. p.ty) fn.func.params.items) (option_to_list fn.func.result) c.args.required.now.items c.all_params.new.required.items c.resolve_result.new.required.items c.in_ok-result.ensures.grown c.in_ok-params.ensures.handled c.in_ok-result.ensures.handled

@@ -18,7 +18,7 @@ returns-then-is_some-clause-refused c =
     let there = at_take xs i p.0 p.1 (ap (λ (l : List TopName). slice_get l p.0) (take-map top_behind i c.args.names.now) ∙ p.2) in
     elim c.refuse_in.ensures.fault [
       | inl memory ↦ inl memory
-      | inr says ↦ inr (record { later = t; repeated = record { first = p.0; second = i; earlier = p.1; before = there.1; at_first = there.0; at_second = at; same = p.3 }; is = says })
+      | inr says ↦ inr (t, (p.0, i, there.1, p.1, there.0, at, p.3), says)
     ]
 
 pub loop-name-preserved : goal.loop-name-preserved
