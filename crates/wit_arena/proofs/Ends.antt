@@ -6,7 +6,7 @@ use Rattle.std.proofs.lemmas.Option.{slice_get_within}
 use Rattle.wit_type_tree.specs.declared.leaves.Id.{Id}
 use Rattle.wit_type_tree.specs.declared.types.Primitive.{Primitive}
 use Rattle.wit_type_tree.specs.declared.types.Primitive.TheVariants as primitive
-use Rattle.wit_type_tree.specs.declared.types.«Type».{«Type» as Written}
+use Rattle.wit_type_tree.specs.declared.types.«Type».{«Type» as Written, None'}
 use Rattle.wit_type_tree.specs.declared.types.«Type».TheVariants as written
 use Rattle.wit_type_tree.specs.declared.types.TypeBody.{TypeBody}
 use Rattle.wit_type_tree.specs.declared.types.TypeBody.TheVariants.{Plain}
@@ -87,6 +87,8 @@ IsWord xs = ((p : Primitive) × (xs ≡ one (Prim p))) ⊎ ((id : Id) × (xs ≡
 alias_written : (t : Written) → (written_body t).form ≡ AliasForm → IsWord (written_body t).parts
 alias_written (written.Primitive span p) h = inl (p, refl)
 alias_written (written.Name id) h = inr (id, refl)
+alias_written (written.Future' span None') h = absurd (let f : ⊥ = cc in f)
+alias_written (written.Stream' span None') h = absurd (let f : ⊥ = cc in f)
 alias_written _ h = absurd (let f : ⊥ = cc in f)
 
 alias_defined : (b : TypeBody) → (body_of b).form ≡ AliasForm → IsWord (body_of b).parts

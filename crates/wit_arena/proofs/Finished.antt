@@ -22,7 +22,7 @@ use Rattle.wit_syntax.specs.Foreign.{visited, foreign_interfaces, foreign_worlds
 use Rattle.wit_syntax.specs.Scope.{in_order, item_rows, interfaces_of, worlds_of, include_paths}
 use Rattle.wit_syntax.specs.Sides.{inline_items, all_scopes}
 use Rattle.wit_arena.specs.Meet.{Def, keys}
-use Rattle.wit_syntax.specs.Function.{SourceFunction, functions, free_names}
+use Rattle.wit_syntax.specs.Function.{SourceFunction, functions}
 use Rattle.wit_arena.specs.Functions.{AreFunctions}
 use Rattle.std.specs.List.{filter}
 use Rattle.wit_types.specs.declared.types.TypeOwner.TheVariants as owner
@@ -43,7 +43,7 @@ use Rattle.wit_arena.proofs.Indexing.{cells-append, front_cell, worlds_at-append
 use Rattle.wit_arena.proofs.Standing.{DoneScope, cell_of, IsDoneScope}
 use Rattle.wit_arena.proofs.Meant.{lacks_nothing}
 use Rattle.wit_syntax.proofs.Kept.{kept_has, kept_next}
-use Rattle.wit_arena.proofs.FreeNames.{free_of, AreStated, free_stated, stated_free}
+use Rattle.wit_arena.proofs.FreeNames.{free_of, AreStated, free_stated, stated_free, free_names}
 use Rattle.wit_arena.proofs.Stability.{stability_broken, inline_stability}
 use Rattle.wit_arena.proofs.WrongHandles.{interface_handle, world_handle, inline_handle}
 use Rattle.wit_arena.proofs.Interfaces.{AreItems, AreOfSort, item_scopes, scope_of, interface_address, items_kept, interfaces_sort, worlds_sort}

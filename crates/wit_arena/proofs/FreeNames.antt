@@ -14,7 +14,7 @@ use Rattle.wit_functions.specs.declared.function.Function.{Function}
 use Rattle.wit_functions.specs.declared.function.FunctionKind.{FunctionKind}
 use Rattle.wit_syntax.specs.Address.{Address}
 use Rattle.wit_syntax.specs.Source.{Item, Part, Defining, Using, Including, Doing, Crossing, parts}
-use Rattle.wit_syntax.specs.Function.{Role, Freestanding, Method, Static, Constructor, OnSide, SourceFunction, accessor, free_function, resource_function, definition_functions, part_functions, functions, role_names, free_names}
+use Rattle.wit_syntax.specs.Function.{Role, Freestanding, Method, Static, Constructor, OnSide, SourceFunction, accessor, free_function, resource_function, definition_functions, part_functions, functions, role_names}
 use Rattle.wit_arena.specs.Functions.{freestanding_kind, method_kind, static_kind, IsKind, IsFunction, AreFunctions, freestanding_names}
 use Rattle.wit_tree.specs.declared.tree.WorldSide.{WorldSide}
 use Rattle.wit_syntax.specs.Sides.{role_side, FunctionKey}
@@ -67,6 +67,10 @@ no_static form.Plain r name = refl
 no_static form.Async r name = refl
 no_static form.Getter r name = refl
 no_static form.Setter r name = refl
+
+-- the names of an item's functions that are no resource's
+abbrev pub free_names : Item → List (List ℕ)
+free_names i = flat_map (λ fn. role_names fn.role) (functions i)
 
 free_role : (ks : List Key) (s : Address) (role : Role) (k : FunctionKind) (name : List ℕ) → IsCalled role name → IsKind ks s role k → freestanding_names k name ≡ role_names role
 free_role ks s (Freestanding id form) k name called is = ap (λ x. freestanding_names x name) is ∙ ap (freestanding_names (freestanding_kind form)) called ∙ free_kind form id.name.now

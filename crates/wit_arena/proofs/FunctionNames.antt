@@ -13,12 +13,12 @@ use Rattle.wit_syntax.specs.Function.{SourceFunction}
 use Rattle.wit_arena.specs.Functions.{by_name}
 use Rattle.wit_syntax.specs.Repeats.{AllDiffer}
 use Rattle.wit_syntax.specs.Scope.{in_turn}
-use Rattle.wit_syntax.specs.Signature.{Called, name_called, function_called, called_key}
+use Rattle.wit_syntax.specs.Signature.{Called, name_called}
 use Rattle.wit_tree.specs.declared.tree.WorldSide.{WorldSide}
 use Rattle.wit_syntax.specs.Sides.{on_side, names_on, SideFunction, side_called}
 use Rattle.wit_syntax.proofs.Lists.{at_back}
 use Rattle.wit_syntax.proofs.Names.{name_cases}
-use Rattle.wit_syntax.proofs.Repeated.{differ_at, differ_by}
+use Rattle.wit_syntax.proofs.Repeated.{differ_at, differ_by, called_key, function_called}
 use Rattle.wit_syntax.proofs.Kept.{differ_head, differ_tail}
 use Rattle.wit_syntax.proofs.Legal.{function_name}
 use Rattle.wit_syntax.proofs.Sides.{called_functions}

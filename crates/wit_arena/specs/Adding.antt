@@ -10,12 +10,12 @@ use Rattle.wit_functions.specs.declared.function.FunctionKind.TheVariants as kin
 use Rattle.wit_functions.specs.declared.function.Param.{Param}
 use Rattle.wit_syntax.specs.Shape.{Shape, Shapes, End, More}
 use Rattle.wit_syntax.specs.Address.{Address}
-use Rattle.wit_syntax.specs.Function.{Role, Freestanding, Method, Static, Constructor, OnSide, SourceParam, SourceFunction, all_params, function_notes}
+use Rattle.wit_syntax.specs.Function.{Role, Freestanding, Method, Static, Constructor, OnSide, SourceParam, SourceFunction, all_params}
 use Rattle.wit_arena.specs.Functions.{freestanding_kind, method_kind, static_kind}
 use Rattle.wit_arena.specs.Expr.{exprs_of}
 use Rattle.wit_arena.specs.Meet.{shape_meetings}
 use Rattle.wit_arena.specs.Resolving.{Env, AreResolved}
-use Rattle.wit_syntax.specs.Notes.{AreNotes}
+use Rattle.wit_syntax.specs.Notes.{AreNotes, notes, docs_of}
 
 -- shapes, one after another
 abbrev pub gathered : List Shape → Shapes
@@ -45,4 +45,4 @@ pub record SaysFunction (env : Env) (fn : SourceFunction) (f : Function) : Type 
   pub count : length f.params ≡ length (all_params fn)
   pub params : (k : ℕ) (w : SourceParam) (p : Param) → slice_get (all_params fn) k ≡ Some w → slice_get f.params k ≡ Some p → SaysParam w p
   pub span : f.span ≡ fn.span
-  pub notes : AreNotes (function_notes fn) f.docs f.stability f.external_id
+  pub notes : AreNotes (notes (docs_of fn.docs) fn.attributes) f.docs f.stability f.external_id

@@ -19,10 +19,10 @@ use Rattle.wit_syntax.specs.Shape.{Shape}
 use Rattle.wit_tree.specs.declared.tree.WorldSide.{WorldSide}
 use Rattle.wit_syntax.specs.Crossing.{same_side}
 use Rattle.wit_syntax.specs.Sides.{role_side}
-use Rattle.wit_syntax.specs.Function.{Role, Freestanding, Method, Static, Constructor, OnSide, SourceParam, SourceFunction, all_params, function_notes}
+use Rattle.wit_syntax.specs.Function.{Role, Freestanding, Method, Static, Constructor, OnSide, SourceParam, SourceFunction, all_params}
 use Rattle.wit_arena.specs.Expr.{expr_of}
 use Rattle.wit_arena.specs.Meet.{Key, Def, IsAt}
-use Rattle.wit_syntax.specs.Notes.{AreNotes}
+use Rattle.wit_syntax.specs.Notes.{AreNotes, notes, docs_of}
 use Rattle.wit_arena.specs.OneByOne.{OneByOne}
 
 abbrev pub freestanding_kind : FuncForm → FunctionKind
@@ -74,7 +74,7 @@ pub record IsFunction (ks : List Key) (s : Address) (written : SourceFunction) (
   pub params : OneByOne (IsParam ks s) (all_params written) f.params
   pub result : IsResult ks s written.result f.result
   pub span : f.span ≡ written.span
-  pub notes : AreNotes (function_notes written) f.docs f.stability f.external_id
+  pub notes : AreNotes (notes (docs_of written.docs) written.attributes) f.docs f.stability f.external_id
 
 -- these are the functions of a scope, in source order
 abbrev pub AreFunctions : List Key → Address → List SourceFunction → List Function → Type 0

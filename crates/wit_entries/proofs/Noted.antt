@@ -10,7 +10,7 @@ use Rattle.wit_types.specs.declared.types.TypeOwner.{TypeOwner}
 use Rattle.wit_syntax.specs.Address.{Address}
 use Rattle.wit_arena.specs.Expr.{exprs_of}
 use Rattle.wit_arena.specs.Kind.{kind_of}
-use Rattle.wit_syntax.specs.Function.{SourceFunction, function_notes}
+use Rattle.wit_syntax.specs.Function.{SourceFunction}
 use Rattle.wit_arena.specs.Meet.{shapes_meetings}
 use Rattle.wit_syntax.specs.Notes.{Notes, notes, docs_of, AreNotes}
 use Rattle.wit_arena.specs.Resolving.{Cell, Names, env_of, AreResolved, IsAdded, Defines}
@@ -25,7 +25,7 @@ told_of : (n : Made) (docs own : Docs) (attributes of : List Attribute) → note
 told_of n docs own attributes of told same_docs same_attributes = told ∙ ap (λ (d : Docs). notes (docs_of d) attributes) same_docs ∙ ap (notes (docs_of own)) same_attributes
 
 -- these are the notes that the docs and the attributes of a function tell
-pub noted_as : (fn : SourceFunction) (n : Made) (docs : Docs) (attributes : List Attribute) → notes_behind n ≡ notes (docs_of docs) attributes → docs ≡ fn.docs → attributes ≡ fn.attributes → AreNotes (function_notes fn) n.docs n.stability n.external_id
+pub noted_as : (fn : SourceFunction) (n : Made) (docs : Docs) (attributes : List Attribute) → notes_behind n ≡ notes (docs_of docs) attributes → docs ≡ fn.docs → attributes ≡ fn.attributes → AreNotes (notes (docs_of fn.docs) fn.attributes) n.docs n.stability n.external_id
 noted_as fn n docs attributes told same_docs same_attributes =
     let all = told_of n docs fn.docs attributes fn.attributes told same_docs same_attributes in
     record {

@@ -12,7 +12,7 @@ use Rattle.wit_syntax.specs.Shape.{all_handles}
 use Rattle.wit_syntax.specs.Source.{ScopeName, local_id}
 use Rattle.wit_syntax.specs.Scope.{in_turn, local_names}
 use Rattle.wit_syntax.specs.Function.{SourceFunction, written_types}
-use Rattle.wit_syntax.specs.Signature.{Called, called_key, name_called}
+use Rattle.wit_syntax.specs.Signature.{Called, name_called}
 use Rattle.wit_tree.specs.declared.tree.WorldSide.{WorldSide}
 use Rattle.wit_tree.specs.declared.tree.WorldSide.TheVariants.{Imported}
 use Rattle.wit_syntax.specs.Sides.{SideItem, SideFunction, item_called, items_on, names_on, IsFoldedTwice, IsCrossedTwice}
@@ -32,6 +32,7 @@ use Rattle.wit_uses.specs.Behind.{IsTurn}
 use Rattle.wit_item_entries.specs.Behind.{IsWrongFunctions, BrokenFunction, BrokenNames, CrossedNames, HandleOfOther}
 use Rattle.wit_item_entries.proofs.Handled.{handle_wider}
 use Rattle.wit_uses.proofs.Behind.{all_taken, called, called_item}
+use Rattle.wit_syntax.proofs.Repeated.{called_key}
 
 repeated_called : (names : List Name) (later : Name) → IsRepeated name_key names later → IsRepeated called_key (map called names) (called later)
 repeated_called names later h = (

@@ -45,7 +45,7 @@ use Rattle.wit_arena.specs.Expr.{Expr, Prim, Use, Of, End, More, one}
 use Rattle.wit_arena.specs.Meet.{Key, Def, Whole, Meeting}
 use Rattle.wit_syntax.specs.Shape.{Word, all_handles}
 use Rattle.wit_syntax.specs.Shape as shape
-use Rattle.wit_syntax.specs.Function.{Freestanding, Method, Static, Constructor, SourceParam, SourceFunction, resource_function, free_function, functions, free_names, item_types, signature}
+use Rattle.wit_syntax.specs.Function.{Freestanding, Method, Static, Constructor, SourceParam, SourceFunction, resource_function, free_function, functions, item_types, signature, role_names}
 use Rattle.wit_arena.specs.Functions.{IsParam, AreParams, IsFunction, AreFunctions, placed_functions}
 use Rattle.wit_syntax.specs.Sides.{FunctionKey}
 use Rattle.wit_arena.specs.Package.{package_tree, functions_of, function_types}
@@ -127,7 +127,7 @@ module _ (ptr : Ptr) (alloc : Global) where
   keys_of_names : map (λ (g : SourceFunction). folded_key g.name) (functions item) ≡ (codes "[constructor]r" ∷ codes "r.m" ∷ codes "r.s" ∷ codes "f" ∷ [])
   keys_of_names = refl
 
-  free : free_names item ≡ (codes "f" ∷ [])
+  free : flat_map (λ fn. role_names fn.role) (functions item) ≡ (codes "f" ∷ [])
   free = refl
 
   -- a function is no body, so the resource needs no name

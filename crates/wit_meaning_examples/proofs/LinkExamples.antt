@@ -24,13 +24,12 @@ use Rattle.wit_syntax.specs.Address.{InterfaceNamed}
 use Rattle.wit_syntax.specs.Fault.{Fault, fault}
 use Rattle.wit_syntax.specs.Notes.{IsBrokenNotes}
 use Rattle.wit_syntax.specs.Repeats.{AllDiffer}
-use Rattle.wit_syntax.specs.Signature.{called_key}
 use Rattle.wit_syntax.specs.Source.{top_names, TheWorld, Item, path_scope}
 use Rattle.wit_syntax.specs.Sides.{SideItem, SideLink, Link, side_items, links, items_on, side_called, bare_scope, IsBrokenSides, FoldedTwice, CrossedTwice, LinkedTwice, LinkNotes, InlineNotes}
 use Rattle.wit_syntax.specs.Broken.{IsBroken, Sides}
 use Rattle.wit_syntax.proofs.Found.{at_contains}
 use Rattle.wit_syntax.proofs.Legal.{no_fold, no_crossed}
-use Rattle.wit_syntax.proofs.Repeated.{differ_none}
+use Rattle.wit_syntax.proofs.Repeated.{differ_none, called_key}
 use Rattle.wit_meaning_examples.proofs.Examples.{at, id, vec, no_comments, untold, header}
 use Rattle.wit_meaning_examples.proofs.SideExamples.{no_rows, none_among, no_notes}
 

@@ -30,8 +30,8 @@ use Rattle.wit_syntax.specs.Fault.{Fault, fault}
 use Rattle.wit_syntax.specs.Notes.{no_docs, IsBrokenStability, SinceTwice, DeprecatedTwice, UnstableTwice, SinceAndUnstable, DeprecatedAlone, IsBrokenNotes}
 use Rattle.wit_syntax.specs.Repeats.{AllDiffer}
 use Rattle.wit_syntax.specs.Source.{top_names, TheWorld, Item, Defined, scope_names}
-use Rattle.wit_syntax.specs.Function.{SourceFunction, side_function, functions, free_names}
-use Rattle.wit_syntax.specs.Signature.{called_key, IsBrokenFunction, BrokenNotes, BrokenTypes, MissingInSignature, GetterGiven, SetterGiven, DuplicateParam, GetterWithoutResult, SetterWithResult, ConstructorWithoutResult, ConstructorOfOther}
+use Rattle.wit_syntax.specs.Function.{SourceFunction, side_function, functions, role_names}
+use Rattle.wit_syntax.specs.Signature.{IsBrokenFunction, BrokenNotes, BrokenTypes, MissingInSignature, GetterGiven, SetterGiven, DuplicateParam, GetterWithoutResult, SetterWithResult, ConstructorWithoutResult, ConstructorOfOther}
 use Rattle.wit_syntax.specs.Sides.{SideItem, SideFunction, SideLink, Link, side_items, items_on, side_called, IsFoldedTwice, IsCrossedTwice, IsBrokenSides, FoldedTwice, CrossedTwice, LinkedTwice, LinkNotes, InlineNotes}
 use Rattle.wit_syntax.specs.Broken.{IsBrokenScope, DefinedTwice, MissingType, CyclicType, Notes, Body, Function, IsBroken, Sides}
 use Rattle.wit_syntax.proofs.Found.{at_contains}
@@ -40,6 +40,8 @@ use Rattle.wit_arena.specs.Functions.{function_item, made_on}
 use Rattle.wit_arena.specs.Package.{functions_of}
 use Rattle.wit_meaning_examples.proofs.Examples.{at, id, vec, no_comments, untold, header}
 use Rattle.wit_meaning_examples.proofs.SignatureExamples.{one_order}
+use Rattle.std.specs.List.{flat_map}
+use Rattle.wit_syntax.proofs.Repeated.{called_key}
 
 -- a scope without names has one order
 pub no_rows : IsOrder [] []
@@ -160,7 +162,7 @@ module _ (ptr : Ptr) (alloc : Global) where
     abbrev items : List SideItem
     items = side_items (item_of passing)
 
-    free : free_names (item_of passing) ≡ (codes "f" ∷ codes "f" ∷ [])
+    free : flat_map (λ fn. role_names fn.role) (functions (item_of passing)) ≡ (codes "f" ∷ codes "f" ∷ [])
     free = refl
 
     -- one stands on each side
@@ -184,7 +186,7 @@ module _ (ptr : Ptr) (alloc : Global) where
     -- a function without parameters and result breaks no rule of functions
     none_in : (side : WorldSide) (name word : Span) (k : ℕ) (f : Fault) → IsBrokenFunction [] fns k (plain side name word) f → ⊥
     none_in side name word k f (BrokenNotes h) = no_notes f h
-    none_in side name word k f (BrokenTypes h) = none_among h.t h.among
+    none_in side name word k f (BrokenTypes h) = none_among h.0 h.1
     none_in side name word k f (MissingInSignature id among missing told) = none_among id among
     none_in side name word k f (GetterGiven h) = let wrong = h.0 in let g : ⊥ = cc in g
     none_in side name word k f (SetterGiven h) = let wrong = h.0 in let g : ⊥ = cc in g

@@ -40,15 +40,17 @@ use Rattle.wit_arena.specs.Expr.{Use, one}
 use Rattle.wit_arena.specs.Meet.{Def, Whole}
 use Rattle.wit_syntax.specs.Fault.{Fault, fault}
 use Rattle.wit_syntax.specs.Shape.{Shape, Word, shape_of}
-use Rattle.wit_syntax.specs.Function.{SourceFunction, functions, free_names}
+use Rattle.wit_syntax.specs.Function.{SourceFunction, functions, role_names}
 use Rattle.wit_arena.specs.Functions.{placed_functions}
-use Rattle.wit_syntax.specs.Signature.{Called, called_key, OfFunction, MissingInSignature, DuplicateParam, SetterWithResult, ConstructorOfOther, IsWrittenAs, result_ok}
+use Rattle.wit_syntax.specs.Signature.{Called, OfFunction, MissingInSignature, DuplicateParam, SetterWithResult, ConstructorOfOther, IsWrittenAs, result_ok}
 use Rattle.wit_tree.specs.declared.tree.WorldSide.TheVariants.{Imported}
 use Rattle.wit_syntax.specs.Sides.{side_items, all_scopes, side_called, FoldedTwice}
 use Rattle.wit_syntax.specs.Broken.{IsBrokenScope, MissingType, Function, IsBroken, Scope, Sides, MissingName, Setter}
 use Rattle.wit_arena.specs.Whole.{turned, meetings}
 use Rattle.wit_syntax.proofs.Found.{contains_at, at_contains}
 use Rattle.wit_meaning_examples.proofs.Examples.{at, id, vec, no_comments, untold, header}
+use Rattle.std.specs.List.{flat_map}
+use Rattle.wit_syntax.proofs.Repeated.{called_key}
 
 -- a scope of one name that needs none has one order
 abbrev pub alone : List ℕ → List Row
@@ -192,7 +194,7 @@ module _ (ptr : Ptr) (alloc : Global) where
   names_of_setting = refl
 
   -- by their written names
-  free_of_setting : free_names (item_of setting) ≡ (codes "x" ∷ codes "f" ∷ codes "x" ∷ [])
+  free_of_setting : flat_map (λ fn. role_names fn.role) (functions (item_of setting)) ≡ (codes "x" ∷ codes "f" ∷ codes "x" ∷ [])
   free_of_setting = refl
 
   -- resource r { x: get() -> u8; x: static set(v: u8); }
@@ -264,7 +266,7 @@ module _ (ptr : Ptr) (alloc : Global) where
     not_r : (u : Written) → Some (written.Name in_a) ≡ Some u → IsWrittenAs (r_id (at 40 41)) u → ⊥
     not_r u here is =
         let same : written.Name in_a ≡ u = cc in
-        let wrong : false ≡ true = ap (λ (t : Written). is_word_r (shape_of t)) same ∙ ap is_word_r is.shape ∙ ap (λ n. bytes_eq n (codes "r")) is.same in
+        let wrong : false ≡ true = ap (λ (t : Written). is_word_r (shape_of t)) same ∙ ap is_word_r is.1 ∙ ap (λ n. bytes_eq n (codes "r")) is.2 in
         let f : ⊥ = cc in
         f
 

@@ -33,12 +33,11 @@ use Rattle.wit_syntax.specs.Repeats.{AllDiffer}
 use Rattle.wit_syntax.specs.Scope.{include_paths, includes, item_rows, rows_of, uses}
 use Rattle.wit_syntax.specs.Shape.{all_handles}
 use Rattle.wit_syntax.specs.Sides.{all_scopes, on_side, side_items, IsBrokenSides, FoldedTwice, CrossedTwice, LinkedTwice, LinkNotes, InlineNotes, side_called}
-use Rattle.wit_syntax.specs.Signature.{called_key}
 use Rattle.wit_syntax.specs.Source.{Item, ScopeName, Used, Defined, TheInterface, leads, all_items, declared_attributes, item_at, item_name, local_name, path_target, scope_names, top_names, top_text}
 use Rattle.wit_syntax.specs.Splitting.{declarations, file_declarations}
 use Rattle.wit_syntax.proofs.Found.{at_contains}
 use Rattle.wit_syntax.proofs.Legal.{no_missing_edge, no_cyclic_edge, no_fold, no_crossed}
-use Rattle.wit_syntax.proofs.Repeated.{differ_none, no_repeat}
+use Rattle.wit_syntax.proofs.Repeated.{differ_none, no_repeat, called_key}
 use Rattle.wit_meaning_examples.proofs.Examples.{at, id, vec, no_comments, untold, header}
 use Rattle.wit_meaning_examples.proofs.SideExamples.{none_among, no_notes, one_differs}
 use Rattle.wit_meaning_examples.proofs.SignatureExamples.{one_order}

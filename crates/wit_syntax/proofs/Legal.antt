@@ -20,13 +20,13 @@ use Rattle.wit_syntax.specs.Fault.{Fault, fault}
 use Rattle.wit_syntax.specs.Scope.{rows_of, in_turn}
 use Rattle.wit_syntax.specs.Bodies.{IsRepeated}
 use Rattle.wit_syntax.specs.Function.{SourceFunction, definition_functions, extern_functions, part_functions, functions}
-use Rattle.wit_syntax.specs.Signature.{Called, called_key, name_called, function_called}
+use Rattle.wit_syntax.specs.Signature.{Called, name_called}
 use Rattle.wit_tree.specs.declared.tree.WorldSide.{WorldSide}
 use Rattle.wit_syntax.specs.Crossing.{same_side}
 use Rattle.wit_syntax.specs.Sides.{role_side, function_key, names_on, SideItem, SideFunction, SideLink, SideInline, extern_items, part_items, side_items, item_function, item_side, items_on, item_called, side_called, IsFoldedTwice, IsCrossedTwice}
 use Rattle.wit_syntax.specs.Broken.{IsMissingEdge, IsCyclicEdge}
 use Rattle.wit_syntax.specs.Repeats.{AllDiffer}
-use Rattle.wit_syntax.proofs.Repeated.{no_repeat, differ_by, differ_at}
+use Rattle.wit_syntax.proofs.Repeated.{no_repeat, differ_by, differ_at, called_key, function_called}
 use Rattle.wit_syntax.proofs.Lists.{at_front, at_back, flat_map_has}
 use Rattle.wit_syntax.proofs.Found.{at_contains}
 use Rattle.wit_syntax.proofs.Addresses.{side_itself}

@@ -5,7 +5,17 @@ use Rattle.std.specs.Option.{option_map}
 use Rattle.std.proofs.lemmas.Option.{slice_get-map}
 use Rattle.wit_syntax.specs.Bodies.{IsRepeated}
 use Rattle.wit_syntax.specs.Repeats.{IsRepeatAt, AllDiffer}
+use Rattle.wit_syntax.specs.Signature.{Called}
+use Rattle.wit_syntax.specs.Function.{SourceFunction}
+use Rattle.wit_names.specs.Folded.{folded_key}
 use Rattle.wit_syntax.proofs.Lists.{at_either, at_split, map_at}
+
+-- a function by its name, and the key by which names of a scope are told apart
+abbrev pub function_called : SourceFunction → Called
+function_called fn = record { name = fn.name; span = fn.span }
+
+abbrev pub called_key : Called → List ℕ
+called_key c = folded_key c.name
 
 pub key_at : {X : Type 0} (key : X → List ℕ) (xs : List X) (i : ℕ) (x : X) → slice_get xs i ≡ Some x → slice_get (map key xs) i ≡ Some (key x)
 key_at key xs i x h = slice_get-map key xs i ∙ ap (option_map key) h

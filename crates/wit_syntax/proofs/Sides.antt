@@ -16,9 +16,10 @@ use Rattle.wit_tree.specs.declared.tree.WorldSide.TheVariants.{Imported}
 use Rattle.wit_syntax.specs.Source.{Declared, TheInterface, TheWorld, TheInline, is_declared_world, declared_parts, interface_part, Item, is_world}
 use Rattle.wit_syntax.specs.Function.{SourceFunction, free_function, resource_function, definition_functions, part_functions, functions}
 use Rattle.wit_syntax.specs.Crossing.{same_side}
-use Rattle.wit_syntax.specs.Signature.{Called, function_called}
+use Rattle.wit_syntax.specs.Signature.{Called}
 use Rattle.wit_syntax.specs.Sides.{role_side, on_side, SideItem, SideFunction, part_items, side_items, item_link, links, items_on, item_called}
 use Rattle.wit_syntax.proofs.Lists.{flat_map_at, map_at}
+use Rattle.wit_syntax.proofs.Repeated.{function_called}
 
 -- a test keeps all that pass it, and nothing of those that fail it
 pub kept_all : {X : Type 0} (test : X → Bool) (xs : List X) → ((i : ℕ) (x : X) → slice_get xs i ≡ Some x → test x ≡ true) → filter test xs ≡ xs

@@ -1,6 +1,6 @@
 -- The rules, and what it is that breaks each.
 use Rattle.std.specs.Prelude.{◌≡◌, ◌≢◌, ℕ, ◌⊎◌, Bool, true, false, List, [], ◌∷◌, ◌++◌, Option, Some, None, Contains, slice_get}
-use Rattle.std.specs.List.{filter_map}
+use Rattle.std.specs.List.{filter_map, flat_map}
 use Rattle.std.specs.Option.{option_map, option_or}
 use Rattle.semver.specs.Identifiers.{parts_of}
 use Rattle.wit_type_tree.specs.declared.error.ParseError.{ParseError}
@@ -25,7 +25,7 @@ use Rattle.wit_syntax.specs.Fault.{Fault, fault_of, fault, missing_at, missing_t
 use Rattle.wit_syntax.specs.Address.{Address, ForeignNamed}
 use Rattle.wit_syntax.specs.Source.{path_id, Target, Local, Foreign, path_target, leads, TopName, top_names, top_text, Item, item_id, item_name, declared_attributes, is_world, all_items, item_named, item_at, ScopeName, Used, Defined, local_id, local_name, scope_names, meaning, address}
 use Rattle.wit_syntax.specs.Foreign.{ForeignVisit, foreign_visits, is_foreign_world, foreign_at}
-use Rattle.wit_syntax.specs.Function.{SourceFunction, functions, free_names, item_types}
+use Rattle.wit_syntax.specs.Function.{SourceFunction, functions, item_types, role_names}
 use Rattle.wit_syntax.specs.Sides.{on_side, all_scopes, IsBrokenSides}
 use Rattle.wit_syntax.specs.Signature.{IsNoType, IsBrokenFunction, IsUnpairedSetter}
 use Rattle.wit_syntax.specs.Ends.{IsNoResource}
@@ -125,7 +125,7 @@ pub record IsMissingName (files : List PackageFile) (xs : List ScopeName) (f : F
   pub target : Item
   pub declared : item_at (all_items files) from ≡ Some target
   pub missing : meaning (scope_names target) n.name.name.now ≡ None
-  pub told : IsNoType (Contains (free_names target) n.name.name.now) (fault 13 n.name.span) (missing_at 12 name_word n.name) f
+  pub told : IsNoType (Contains (flat_map (λ fn. role_names fn.role) (functions target)) n.name.name.now) (fault 13 n.name.span) (missing_at 12 name_word n.name) f
 
 -- what is wrong with a scope by itself, where it has these functions
 pub data IsBrokenScope (xs : List ScopeName) (fns : List SourceFunction) (f : Fault) : Type 0 where

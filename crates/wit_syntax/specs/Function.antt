@@ -23,7 +23,6 @@ use Rattle.wit_type_tree.specs.declared.types.ResourceFunc.TheVariants as resour
 use Rattle.wit_type_tree.specs.Parts.{body_types}
 use Rattle.wit_syntax.specs.Form.{BorrowForm}
 use Rattle.wit_syntax.specs.Shape.{Shape, Word, Of, one, shape_of}
-use Rattle.wit_syntax.specs.Notes.{Notes, notes, docs_of}
 use Rattle.wit_syntax.specs.Source.{Item, Part, Defining, Using, Including, Doing, Crossing, parts, ScopeName, Used, Defined, Taken, scope_names}
 
 -- what a function is: by itself in an interface, of a resource, or by itself on a side of a world
@@ -50,10 +49,6 @@ pub record SourceFunction : Type 0 where
   pub result : Option Shape
   pub docs : Docs
   pub attributes : List Attribute
-
--- what is told of it
-abbrev pub function_notes : SourceFunction → Notes
-function_notes f = notes (docs_of f.docs) f.attributes
 
 -- a parameter as it is written
 abbrev pub written_param : Param → SourceParam
@@ -130,9 +125,6 @@ abbrev pub role_names : Role → List (List ℕ)
 role_names (Freestanding id form) = id.name.now ∷ []
 role_names (OnSide side id form) = id.name.now ∷ []
 role_names _ = []
-
-abbrev pub free_names : Item → List (List ℕ)
-free_names i = flat_map (λ f. role_names f.role) (functions i)
 
 -- the types that are written in a name of a scope: those of a definition's body
 abbrev pub name_types : ScopeName → List Written

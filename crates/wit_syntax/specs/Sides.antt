@@ -23,7 +23,8 @@ use Rattle.wit_syntax.specs.Bodies.{IsSecond}
 use Rattle.wit_syntax.specs.Source.{TopName, path_id, path_scope, TheInline, Part, Defining, Using, Including, Doing, Crossing, Item, item_name, parts, all_items, ScopeName, scope_names}
 use Rattle.wit_syntax.specs.Scope.{rows_of, in_turn}
 use Rattle.wit_syntax.specs.Function.{Role, Freestanding, Method, Static, Constructor, OnSide, SourceFunction, definition_functions, free_function, side_function}
-use Rattle.wit_syntax.specs.Signature.{Called, called_key, name_called, function_called}
+use Rattle.wit_syntax.specs.Signature.{Called, name_called}
+use Rattle.wit_names.specs.Folded.{folded_key}
 
 -- the side that a function of a role stands on
 abbrev pub role_side : Role → WorldSide
@@ -144,7 +145,7 @@ id_called None = []
 id_called (Some id) = record { name = id.name.now; span = id.span } ∷ []
 
 abbrev pub item_called : SideItem → List Called
-item_called (SideFunction fn) = function_called fn ∷ []
+item_called (SideFunction fn) = record { name = fn.name; span = fn.span } ∷ []
 item_called (SideLink link) = id_called link.name
 item_called (SideInline x name items) = id_called (Some name)
 
@@ -162,7 +163,7 @@ pub record IsFoldedTwice (xs : List ScopeName) (items : List SideItem) (f : Faul
   pub side : WorldSide
   pub order : List ℕ
   pub least : IsOrder (rows_of xs) order
-  pub twice : IsSecond called_key (λ (c : Called). fault 17 c.span) (side_called side xs items order) f
+  pub twice : IsSecond (λ (c : Called). folded_key c.name) (λ (c : Called). fault 17 c.span) (side_called side xs items order) f
 
 -- what a world imports or exports under a name
 abbrev pub IsCrossing : SideItem → Type 0

@@ -3,7 +3,6 @@ use Rattle.std.specs.Prelude.{◌≡◌, ℕ, ◌≤◌, List, length, Option, S
 use Rattle.std.specs.List.{flat_map}
 use Rattle.std.specs.Option.{option_map_or}
 use Rattle.wit_values.specs.declared.span.Span.{Span}
-use Rattle.wit_names.specs.Folded.{folded_key}
 use Rattle.wit_names.specs.Setter.{getter_of}
 use Rattle.wit_type_tree.specs.declared.leaves.Id.{Id}
 use Rattle.wit_type_tree.specs.declared.types.FuncForm.{FuncForm}
@@ -28,13 +27,6 @@ pub record Called : Type 0 where
 
 abbrev pub name_called : ScopeName → Called
 name_called x = record { name = local_name x; span = (local_id x).span }
-
-abbrev pub function_called : SourceFunction → Called
-function_called fn = record { name = fn.name; span = fn.span }
-
--- the key by which names of a scope are told apart
-abbrev pub called_key : Called → List ℕ
-called_key c = folded_key c.name
 
 -- where a written type stands
 abbrev pub type_span : Written → Span

@@ -7,13 +7,14 @@ use Rattle.wit_type_tree.specs.declared.leaves.Id.{Id}
 use Rattle.wit_syntax.specs.Repeats.{AllDiffer}
 use Rattle.wit_syntax.specs.Source.{ScopeName, local_id}
 use Rattle.wit_syntax.specs.Scope.{in_turn}
-use Rattle.wit_syntax.specs.Signature.{Called, called_key, name_called}
+use Rattle.wit_syntax.specs.Signature.{Called, name_called}
 use Rattle.wit_tree.specs.declared.tree.WorldSide.{WorldSide}
 use Rattle.wit_tree.specs.declared.tree.WorldSide.TheVariants.{Imported, Exported}
 use Rattle.wit_syntax.specs.Sides.{SideItem, SideFunction, SideLink, SideInline, id_called, item_called, items_on, names_on, side_called}
 use Rattle.wit_refusals.specs.Names.{Name}
 use Rattle.wit_signatures.specs.Taken.{name_of_id, name_key}
 use Rattle.wit_externs.specs.Clash.{item_names, names_of_items, all_on}
+use Rattle.wit_syntax.proofs.Repeated.{called_key}
 
 -- a name as it is called
 abbrev pub called : Name → Called
