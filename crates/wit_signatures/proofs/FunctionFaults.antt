@@ -1,6 +1,6 @@
 -- What is wrong with a function, from what is wrong with its parts.
 use Rattle.std.proofs.Common.{◌≡◌, ◌⊎◌, ◌≤◌, ◌+◌, ℕ, List, length, Option, Some, None, IfSome, IfNone, inl, inr, refl, sym, ap, ◌∙◌, subst, Contains, arith, length-append}
-use Rattle.std.specs.Prelude.{slice_get}
+use Rattle.std.specs.Prelude.{slice_get, map}
 use Rattle.std.specs.List.{flat_map}
 use Rattle.std.specs.Option.{option_to_list}
 use Rattle.std.proofs.lemmas.List.Elements.{Contains-append_left, Contains-append_right}
@@ -71,7 +71,7 @@ abbrev pub IsRepeatTold : SourceFunction → Option ℕ → Type 0
 IsRepeatTold fn found = IfSome found (λ place. IsRepeatedAt (λ (p : SourceParam). folded p.name) (all_params fn) place)
 
 -- a parameter that is refused is a repeated one
-refused_duplicate : (fn : SourceFunction) (found : Option ℕ) (front : ℕ) (ws : List SourceParam) (f : Fault) → front ≡ length fn.given → ws ≡ (map written_param fn.func.params.items) → IsRepeatTold fn found → IsRefusedParam found front ws f → IsDuplicateParam fn f
+refused_duplicate : (fn : SourceFunction) (found : Option ℕ) (front : ℕ) (ws : List SourceParam) (f : Fault) → front ≡ length fn.given → ws ≡ map written_param fn.func.params.items → IsRepeatTold fn found → IsRefusedParam found front ws f → IsDuplicateParam fn f
 refused_duplicate fn None front ws f long same told h = absurd (let wrong = h.same in let x : ⊥ = cc in x)
 refused_duplicate fn (Some place) front ws f long same told h =
     let here : place ≡ front + h.place = same_Some place (front + h.place) h.same in
@@ -84,11 +84,11 @@ refused_duplicate fn (Some place) front ws f long same told h =
     )
 
 -- what is wrong with one of the written parameters
-wrong_written : (env : Env) (es : List TypeDef) (fns : List SourceFunction) (k : ℕ) (fn : SourceFunction) (found : Option ℕ) (front : ℕ) (ws : List SourceParam) (ts : List Written) (f : Fault) → front ≡ length fn.given → ws ≡ (map written_param fn.func.params.items) → ts ≡ (map (λ p. p.ty) fn.func.params.items) → IsRepeatTold fn found → IsRefusedParam found front ws f ⊎ IsWrongInSignatures env es fns k ts f → IsDuplicateParam fn f ⊎ IsWrongInSignatures env es fns k (map (λ p. p.ty) fn.func.params.items) f
+wrong_written : (env : Env) (es : List TypeDef) (fns : List SourceFunction) (k : ℕ) (fn : SourceFunction) (found : Option ℕ) (front : ℕ) (ws : List SourceParam) (ts : List Written) (f : Fault) → front ≡ length fn.given → ws ≡ map written_param fn.func.params.items → ts ≡ map (λ p. p.ty) fn.func.params.items → IsRepeatTold fn found → IsRefusedParam found front ws f ⊎ IsWrongInSignatures env es fns k ts f → IsDuplicateParam fn f ⊎ IsWrongInSignatures env es fns k (map (λ p. p.ty) fn.func.params.items) f
 wrong_written env es fns k fn found front ws ts f long same types told (inl refused) = inl (refused_duplicate fn found front ws f long same told refused)
 wrong_written env es fns k fn found front ws ts f long same types told (inr wrong) = inr (subst (λ (l : List Written). IsWrongInSignatures env es fns k l f) types wrong)
 
-pub refused_written : (env : Env) (es : List TypeDef) (fns : List SourceFunction) (k : ℕ) (fn : SourceFunction) (found : Option ℕ) (front : ℕ) (ws : List SourceParam) (ts : List Written) (e : ParseError) → front ≡ length fn.given → ws ≡ (map written_param fn.func.params.items) → ts ≡ (map (λ p. p.ty) fn.func.params.items) → IsRepeatTold fn found → Refused (λ f. IsRefusedParam found front ws f ⊎ IsWrongInSignatures env es fns k ts f) e → Refused (λ f. IsDuplicateParam fn f ⊎ IsWrongInSignatures env es fns k (map (λ p. p.ty) fn.func.params.items) f) e
+pub refused_written : (env : Env) (es : List TypeDef) (fns : List SourceFunction) (k : ℕ) (fn : SourceFunction) (found : Option ℕ) (front : ℕ) (ws : List SourceParam) (ts : List Written) (e : ParseError) → front ≡ length fn.given → ws ≡ map written_param fn.func.params.items → ts ≡ map (λ p. p.ty) fn.func.params.items → IsRepeatTold fn found → Refused (λ f. IsRefusedParam found front ws f ⊎ IsWrongInSignatures env es fns k ts f) e → Refused (λ f. IsDuplicateParam fn f ⊎ IsWrongInSignatures env es fns k (map (λ p. p.ty) fn.func.params.items) f) e
 refused_written env es fns k fn found front ws ts e long same types told refused = refused_weaker (λ (f : Fault). IsRefusedParam found front ws f ⊎ IsWrongInSignatures env es fns k ts f) (λ (f : Fault). IsDuplicateParam fn f ⊎ IsWrongInSignatures env es fns k (map (λ p. p.ty) fn.func.params.items) f) e (λ f wrong. wrong_written env es fns k fn found front ws ts f long same types told wrong) refused
 
 -- what is wrong with the parameters

@@ -7,15 +7,11 @@ use Rattle.std.proofs.lemmas.List.Elements.{Contains-append_left, Contains-appen
 use Rattle.std.proofs.lemmas.Option.{slice_get-map}
 use Rattle.wit_type_tree.specs.declared.leaves.Id.{Id}
 use Rattle.wit_type_tree.specs.declared.types.Param.{Param}
-use Rattle.wit_type_tree.specs.declared.leaves.Attribute.{Attribute}
-use Rattle.wit_type_tree.specs.declared.leaves.Docs.{Docs}
-use Rattle.wit_type_tree.specs.declared.types.Func.{Func}
-use Rattle.wit_type_tree.specs.declared.types.NamedFunc.{NamedFunc}
 use Rattle.wit_type_tree.specs.declared.types.ResourceFunc.{ResourceFunc}
 use Rattle.wit_type_tree.specs.declared.types.ResourceFunc.TheVariants as resource
 use Rattle.wit_type_tree.specs.declared.types.«Type».{«Type» as Written}
 use Rattle.wit_syntax.specs.Shape.{Shape, Word, shape_of, words, handles, all_handles}
-use Rattle.wit_syntax.specs.Function.{Role, SourceParam, SourceFunction, all_params, written_param, written_types, signature, resource_function}
+use Rattle.wit_syntax.specs.Function.{SourceParam, SourceFunction, all_params, written_param, written_types, signature, resource_function}
 use Rattle.wit_syntax.proofs.Lists.{map_map, map_at, flat_map_has, at_front, at_back, at_split}
 use Rattle.wit_syntax.proofs.Found.{contains_at, at_contains}
 use Rattle.wit_rules.specs.declared.held.HeldFunction.{HeldFunction}

@@ -2,7 +2,9 @@ use Rattle.std.proofs.Common.{◌≡◌, false, true, None, Some, inl, inr, ap, 
 use Rattle.std.specs.Option.{option_map}
 use Rattle.wit_type_tree.specs.declared.types.«Type».{«Type» as Written}
 use Rattle.wit_syntax.specs.Fault.{fault}
-use Rattle.wit_syntax.specs.Signature.{IsWrittenAs}
+use Rattle.wit_type_tree.specs.declared.leaves.Id.{Id}
+use Rattle.wit_syntax.specs.Function.{Constructor}
+use Rattle.wit_syntax.specs.Signature.{result_ok, IsWrittenAs}
 use Rattle.wit_rules.proofs.function_rules.check_made.Goals as goal
 use Rattle.wit_rules.proofs.function_rules.check_made.Goals.{in_default-ok-via-in-Some-ok+else-is_written_as, in_default-ok-via-in_default-ok}
 
@@ -47,3 +49,14 @@ returns-in_default-ok-clause-refused c =
         says ∙ ap (fault 42) c.ok_span.ensures,
       ))
     ]
+
+pub returns-in-Some-ok-clause-ok : goal.returns-in-Some-ok-clause-ok
+returns-in-Some-ok-clause-ok c = λ xs are f h.
+    let made : Constructor h.0 ≡ Constructor c.args.resource = sym h.1 ∙ c.requires.role in
+    let resource : h.0 ≡ c.args.resource = cc in
+    let written : Some h.2 ≡ Some c.args.ty.now = sym h.3 ∙ c.requires.result in
+    let type : h.2 ≡ c.args.ty.now = cc in
+    let gives : Some h.4 ≡ Some (option_map (λ t. t.now) c.in-Some.ok) = sym h.5 ∙ ap (result_ok xs) type ∙ sym (c.in-Some.ensures xs are) in
+    let ok : h.4 ≡ option_map (λ t. t.now) c.in-Some.ok = cc in
+    let told = c.is_written_as.ensures.0 c.if-is_written_as.true in
+    h.6 c.in-Some-ok.ok.now (ok ∙ ap (option_map (λ t. t.now)) c.in-Some-ok.is) (subst (λ (id : Id). IsWrittenAs id c.in-Some-ok.ok.now) (sym resource) told)
