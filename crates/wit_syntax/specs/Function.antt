@@ -96,7 +96,8 @@ extern_functions x _ = []
 
 -- a constructor without a result makes its resource
 abbrev pub constructor_of : Id → Docs → List Attribute → Func → SourceFunction
-constructor_of r docs attributes f = record { name = codes "[constructor]" ++ r.name.now; role = Constructor r; span = f.span; given = []; func = f; result = Some (option_map_or shape_of f.result (Word r)); docs = docs; attributes = attributes }
+constructor_of r docs attributes f =
+    record { name = codes "[constructor]" ++ r.name.now; role = Constructor r; span = f.span; given = []; func = f; result = Some (option_map_or shape_of f.result (Word r)); docs = docs; attributes = attributes }
 
 -- a function of a resource
 abbrev pub resource_function : Id → ResourceFunc → SourceFunction
