@@ -1,5 +1,5 @@
 -- A written type as a shape: a primitive, a name, or a form over parts.
-use Rattle.std.specs.Prelude.{Bool, true, false, List, [], ◌∷◌, ◌++◌, map, is_some}
+use Rattle.std.specs.Prelude.{true, false, List, [], ◌∷◌, ◌++◌, map, is_some}
 use Rattle.wit_values.specs.declared.span.Span.{Span}
 use Rattle.wit_type_tree.specs.declared.leaves.Id.{Id}
 use Rattle.wit_type_tree.specs.declared.types.Primitive.{Primitive}
