@@ -21,7 +21,7 @@ use Rattle.wit_syntax.specs.Function.{functions, name_types}
 use Rattle.wit_syntax.specs.Shape.{all_handles, handles}
 use Rattle.wit_type_tree.specs.declared.types.«Type».{«Type» as Written}
 use Rattle.wit_syntax.specs.Sides.{FunctionKey, side_items, inline_items, SideItem, SideFunction, SideLink, SideInline, item_inline, inline_behind}
-use Rattle.wit_syntax.specs.Source.{address, Item, item_id, item_notes, TopName, leads, ScopeName, included_scope}
+use Rattle.wit_syntax.specs.Source.{address, Item, TopName, leads, ScopeName, included_scope, about, declared_notes}
 use Rattle.wit_syntax.specs.Trees.{scope}
 use Rattle.wit_syntax.specs.Foreign.{visited, foreign_interfaces}
 use Rattle.wit_syntax.specs.Scope.{includes, local_names}
@@ -49,7 +49,7 @@ use Rattle.wit_arena.proofs.Stating.{world_types-all}
 
 -- a world of the arena is the item, with its includes, where the worlds have these addresses
 pub record SaysWorld (worlds : List Address) (o : Ordered) (w : World) : Type 0 where
-  pub says : IsWorld (item_id o.item).name.now (item_id o.item).span (item_notes o.item) w
+  pub says : IsWorld (about o.item.declared).id.name.now (about o.item.declared).id.span (declared_notes o.item.declared) w
   pub includes : AreIncludes worlds o.item w.includes
 
 -- it has the types of a scope as its imports, and then, on its sides, what the item has there, each setter behind its getter where nothing is

@@ -17,7 +17,7 @@ use Rattle.wit_syntax.specs.Shape.{all_handles}
 use Rattle.wit_syntax.specs.Function.{functions, name_types}
 use Rattle.wit_arena.specs.Functions.{AreFunctions}
 use Rattle.wit_syntax.specs.Address.{Address, ForeignNamed, same_address}
-use Rattle.wit_syntax.specs.Source.{Declared, TheInterface, TheWorld, TheInline, declared_address, Item, all_items, item_at, Taken, taken, local_name, Taking, takings, same_taking, first_takings, taken_names}
+use Rattle.wit_syntax.specs.Source.{Declared, TheInterface, TheWorld, TheInline, Item, all_items, item_at, Taken, taken, local_name, Taking, takings, same_taking, first_takings, taken_names, about}
 use Rattle.wit_syntax.specs.Sides.{all_scopes}
 use Rattle.wit_syntax.specs.Trees.{scope}
 use Rattle.wit_syntax.specs.Foreign.{ForeignVisit, visited_package, visited, foreign_interfaces, foreign_worlds}
@@ -137,7 +137,7 @@ front_at files front count t c at = elim (at_part (interface_scopes files 0 (for
 ]
 
 -- no declared item is of another package
-not_declared : (d : Declared) (p : PackageName) (name : List ℕ) → same_address (declared_address d) (ForeignNamed p name) ≡ false
+not_declared : (d : Declared) (p : PackageName) (name : List ℕ) → same_address (about d).address (ForeignNamed p name) ≡ false
 not_declared (TheInterface i) p name = refl
 not_declared (TheWorld w) p name = refl
 not_declared (TheInline world place x own items) p name = refl

@@ -20,7 +20,7 @@ use Rattle.wit_package_names.specs.declared.package_name.PackageName.{PackageNam
 use Rattle.wit_graph.specs.Table.{Row, target, IsEdge, Leads, IsOrder}
 use Rattle.wit_graph.proofs.Tables.{slice_get-take}
 use Rattle.wit_syntax.specs.Address.{Address, InterfaceNamed, ForeignNamed, is_foreign}
-use Rattle.wit_syntax.specs.Source.{TopName, Declared, TheInterface, TheWorld, TheInline, is_declared_world, Part, Defining, Using, Including, Doing, Crossing, interface_part, declared_parts, Target, Local, Foreign, leads, used_scope, path_scope, Item, Used, all_items, item_name, is_world, parts, item_named, scope_names, taking, takings}
+use Rattle.wit_syntax.specs.Source.{TopName, Declared, TheInterface, TheWorld, TheInline, Part, Defining, Using, Including, Doing, Crossing, interface_part, Target, Local, Foreign, leads, used_scope, path_scope, Item, Used, all_items, item_name, is_world, parts, item_named, scope_names, taking, takings, about}
 use Rattle.wit_syntax.specs.Foreign.{ForeignVisit, visited, foreign_interfaces}
 use Rattle.wit_syntax.specs.Scope.{in_order, use_path, include_path, use_paths, include_paths, needed_path, local_target, item_row, item_rows, uses, part_includes, includes}
 use Rattle.wit_syntax.specs.Sides.{with_inline, all_scopes}
@@ -61,12 +61,12 @@ kept_early test xs places n t q x lt at there passes =
     kept_has test (in_order xs (take n places)) it.0 x passes it.1
 
 -- an interface needs its uses, and a world its includes
-needed_of_interface : (a : Declared) → is_declared_world a ≡ false → needed_path a ≡ use_path
+needed_of_interface : (a : Declared) → (about a).is_world ≡ false → needed_path a ≡ use_path
 needed_of_interface (TheInterface i) h = refl
 needed_of_interface (TheWorld w) h = absurd (let f : ⊥ = cc in f)
 needed_of_interface (TheInline world place x name items) h = refl
 
-needed_of_world : (a : Declared) → is_declared_world a ≡ true → needed_path a ≡ include_path
+needed_of_world : (a : Declared) → (about a).is_world ≡ true → needed_path a ≡ include_path
 needed_of_world (TheInterface i) h = absurd (let f : ⊥ = cc in f)
 needed_of_world (TheWorld w) h = refl
 needed_of_world (TheInline world place x name items) h = absurd (let f : ⊥ = cc in f)
@@ -107,7 +107,7 @@ none_included (interface_item.Func f ∷ items) path h = none_included items pat
 pub interface_includes_none : (w : Item) → is_world w ≡ false → (path : UsePath) → Contains (include_paths w) path → ⊥
 interface_includes_none w h path among = of_declared w.declared h among
   where
-    of_declared : (a : Declared) → is_declared_world a ≡ false → Contains (flat_map include_path (declared_parts a)) path → ⊥
+    of_declared : (a : Declared) → (about a).is_world ≡ false → Contains (flat_map include_path (about a).parts) path → ⊥
     of_declared (TheInterface i) h among = none_included i.items.items path among
     of_declared (TheWorld w) h among = let f : ⊥ = cc in f
     of_declared (TheInline world place x name items) h among = none_included items path among

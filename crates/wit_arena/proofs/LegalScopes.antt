@@ -15,7 +15,7 @@ use Rattle.wit_syntax.specs.Foreign.{is_foreign_world, foreign_at}
 use Rattle.wit_syntax.specs.Repeats.{AllDiffer}
 use Rattle.wit_syntax.specs.Scope.{AreDistinct, used, defined, use_path, use_paths, part_uses, uses}
 use Rattle.wit_syntax.specs.Sides.{all_scopes}
-use Rattle.wit_syntax.specs.Source.{Part, Defining, Using, Including, Doing, Crossing, Target, Local, Foreign, Item, address, all_items, item_at, item_id, item_name, item_named, is_world, leads, local_id, local_name, parts, path_id, scope_names}
+use Rattle.wit_syntax.specs.Source.{Part, Defining, Using, Including, Doing, Crossing, Target, Local, Foreign, Item, address, all_items, item_at, item_name, item_named, is_world, leads, local_id, local_name, parts, path_id, scope_names, about}
 use Rattle.wit_syntax.specs.Trees.{scope}
 use Rattle.wit_syntax.proofs.Found.{at_contains, contains_at, find_at}
 use Rattle.wit_syntax.proofs.Legal.{three_ways}
@@ -38,7 +38,7 @@ all_differ key told xs never = differ_by key xs (λ i j x y at_x at_y same. elim
 
 -- where no rule about names is broken, the names of items differ
 pub distinct_items : (files : List PackageFile) → ((f : Fault) → IsBrokenNames files f → ⊥) → AllDiffer (map item_name (all_items files))
-distinct_items files legal = all_differ item_name (λ (i : Item). fault 5 (item_id i).span) (all_items files) (λ f second. legal f (Items (DuplicateItem second)))
+distinct_items files legal = all_differ item_name (λ (i : Item). fault 5 (about i.declared).id.span) (all_items files) (λ f second. legal f (Items (DuplicateItem second)))
 
 -- the path of a `use` of a part is one of it
 path_of_use : (x : Part) (j : ℕ) (u : WrittenUse) → slice_get (part_uses x) j ≡ Some u → (i : ℕ) × (slice_get (use_path x) i ≡ Some u.from)

@@ -27,7 +27,7 @@ use Rattle.wit_model.specs.declared.unresolved.UnresolvedPackage.{UnresolvedPack
 use Rattle.std.specs.List.{flat_map, filter_map, prefix_len}
 use Rattle.wit_syntax.specs.Shape.{all_handles}
 use Rattle.wit_syntax.specs.Address.{Address, same_address}
-use Rattle.wit_syntax.specs.Source.{path_id, leads, TopName, Item, declared_name, item_id, item_notes, address, included_scope, ScopeName, all_items, item_at, scope_names, local_name, local_id, Taking, takings, first_takings}
+use Rattle.wit_syntax.specs.Source.{path_id, leads, TopName, Item, address, included_scope, ScopeName, all_items, item_at, scope_names, local_name, local_id, Taking, takings, first_takings, about, declared_notes}
 use Rattle.wit_syntax.specs.Trees.{scope}
 use Rattle.wit_syntax.specs.Foreign.{ForeignVisit, visited_package, visited, same_item, foreign_interfaces, foreign_worlds, foreign_packages, items_of_package, visits_of}
 use Rattle.wit_functions.specs.declared.function.Function.{Function}
@@ -144,7 +144,7 @@ pub record HasTypes (ks : List Key) (t : Turned) (types : List (List ℕ × ℕ)
 
 -- an interface of files, with its names in turn, and its functions
 pub record IsResolvedInterface (ks : List Key) (o : Ordered) (i : Interface) : Type 0 where
-  pub says : IsInterface (declared_name o.item.declared) (item_id o.item).span (item_notes o.item) i
+  pub says : IsInterface (about o.item.declared).called (about o.item.declared).id.span (declared_notes o.item.declared) i
   pub types : HasTypes ks (turned o) i.types
   pub functions : (fs : List Function) × OneByOne (IsFunction ks (address o.item)) (item_functions o.item) fs × (i.functions ≡ placed_functions fs)
 
@@ -184,7 +184,7 @@ pub record HasSides (ks : List Key) (interfaces inside : List Address) (o : Orde
 -- A world of files, with its names in turn as its imports, and then the functions and interfaces that it imports, with those that it exports,
 -- and with its includes, where the interfaces and the worlds have these addresses.
 pub record IsResolvedWorld (ks : List Key) (interfaces worlds : List Address) (o : OrderedWorld) (w : World) : Type 0 where
-  pub says : IsWorld (item_id o.own.item).name.now (item_id o.own.item).span (item_notes o.own.item) w
+  pub says : IsWorld (about o.own.item.declared).id.name.now (about o.own.item.declared).id.span (declared_notes o.own.item.declared) w
   pub types : HasTypes ks (turned o.own) (world_types w)
   pub sides : HasSides ks interfaces (addresses o.inside) o.own w
   pub includes : AreIncludes worlds o.own.item w.includes

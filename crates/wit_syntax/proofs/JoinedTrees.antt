@@ -9,7 +9,7 @@ use Rattle.wit_syntax.specs.Address.{Address, InterfaceNamed, WorldNamed, Inline
 use Rattle.wit_syntax.specs.Node.{Node, Leaf, Named, Unnamed, Nothing, node_map, unfolded}
 use Rattle.wit_syntax.specs.Repeats.{firsts}
 use Rattle.wit_syntax.specs.Shape.{Prim, Word, Of}
-use Rattle.wit_syntax.specs.Source.{Declared, declared_id, declared_address, Item, address, all_items, item_named, item_at, ScopeName, scope_names, Taking, takings, item_takings, taken, taken_names, same_taking, meaning, Place, named_node}
+use Rattle.wit_syntax.specs.Source.{Declared, Item, address, all_items, item_named, item_at, ScopeName, scope_names, Taking, takings, item_takings, taken, taken_names, same_taking, meaning, Place, named_node, about}
 use Rattle.wit_syntax.specs.Sides.{all_scopes}
 use Rattle.wit_syntax.specs.Splitting.{declared_of}
 use Rattle.wit_syntax.specs.Trees.{scope, source_node, source_tree}
@@ -22,12 +22,12 @@ use Rattle.wit_syntax.proofs.JoinedFiles.{AreAlike, items_twins}
 module _ (is js : List Item) (t : AreTwins is js) where
   pub named_same : (name : List ℕ) → option_map declared_of (item_named is name) ≡ option_map declared_of (item_named js name)
   named_same name =
-      let test = λ (d : Declared). bytes_eq (declared_id d).name.now name in
+      let test = λ (d : Declared). bytes_eq (about d).id.name.now name in
       find-map test declared_of is ∙ ap (find test) t.same ∙ sym (find-map test declared_of js)
 
   pub at_same : (s : Address) → option_map declared_of (item_at is s) ≡ option_map declared_of (item_at js s)
   at_same s =
-      let test = λ (d : Declared). same_address (declared_address d) s in
+      let test = λ (d : Declared). same_address (about d).address s in
       find-map test declared_of is ∙ ap (find test) t.same ∙ sym (find-map test declared_of js)
 
 -- so the names of an address are the same

@@ -16,7 +16,7 @@ use Rattle.wit_tree.specs.declared.tree.WorldSide.TheVariants.{Imported, Exporte
 use Rattle.wit_syntax.specs.Crossing.{same_side, extern_paths, inline_uses}
 use Rattle.wit_syntax.specs.Address.{Address, ForeignNamed, package_of, same_package, same_address}
 use Rattle.wit_syntax.specs.Repeats.{firsts}
-use Rattle.wit_syntax.specs.Source.{TheInterface, TheWorld, declared_parts, Part, Using, Including, Crossing}
+use Rattle.wit_syntax.specs.Source.{TheInterface, TheWorld, Part, Using, Including, Crossing, about}
 
 -- a path with a package, the attributes in front of it, and whether it wants a world
 pub record ForeignVisit : Type 0 where
@@ -55,8 +55,8 @@ abbrev pub visits_in : List Part → List ForeignVisit
 visits_in ps = flat_map part_visits ps ++ (flat_map (side_visits Imported) ps ++ flat_map (side_visits Exported) ps)
 
 abbrev pub declaration_visits : AstItem → List ForeignVisit
-declaration_visits (ast.Interface i) = visits_in (declared_parts (TheInterface i))
-declaration_visits (ast.World w) = visits_in (declared_parts (TheWorld w))
+declaration_visits (ast.Interface i) = visits_in (about (TheInterface i)).parts
+declaration_visits (ast.World w) = visits_in (about (TheWorld w)).parts
 declaration_visits (ast.Use u) = path_visits u.attributes.items false u.item
 
 abbrev pub file_visits : PackageFile → List ForeignVisit

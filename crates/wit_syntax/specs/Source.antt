@@ -6,6 +6,7 @@ use Rattle.std.specs.Str.{bytes_eq}
 use Rattle.wit_values.specs.declared.span.Span.{Span}
 use Rattle.wit_type_tree.specs.declared.leaves.Id.{Id}
 use Rattle.wit_type_tree.specs.declared.leaves.Attribute.{Attribute}
+use Rattle.wit_type_tree.specs.declared.leaves.Docs.{Docs as Comments}
 use Rattle.wit_type_tree.specs.declared.types.TypeDef.{TypeDef}
 use Rattle.wit_tree.specs.declared.tree.InterfaceItem.{InterfaceItem}
 use Rattle.wit_tree.specs.declared.tree.InterfaceItem.TheVariants as interface_item
@@ -57,38 +58,6 @@ pub data Declared : Type 0 where
   TheWorld : (w : World) → Declared
   TheInline : (world : List ℕ) (place : ℕ) (x : Extern) (name : Id) (items : List InterfaceItem) → Declared
 
-abbrev pub declared_id : Declared → Id
-declared_id (TheInterface i) = i.name
-declared_id (TheWorld w) = w.name
-declared_id (TheInline world place x name items) = name
-
--- the name that it goes by: one that is written in a world has none
-abbrev pub declared_name : Declared → Option (List ℕ)
-declared_name (TheInterface i) = Some i.name.name.now
-declared_name (TheWorld w) = Some w.name.name.now
-declared_name (TheInline world place x name items) = None
-
--- what is told of an item
-abbrev pub declared_notes : Declared → Notes
-declared_notes (TheInterface i) = notes (docs_of i.docs) i.attributes.items
-declared_notes (TheWorld w) = notes (docs_of w.docs) w.attributes.items
-declared_notes (TheInline world place x name items) = notes (docs_of x.docs) x.attributes.items
-
-abbrev pub declared_attributes : Declared → List Attribute
-declared_attributes (TheInterface i) = i.attributes.items
-declared_attributes (TheWorld w) = w.attributes.items
-declared_attributes (TheInline world place x name items) = x.attributes.items
-
--- the scope of an item
-abbrev pub declared_address : Declared → Address
-declared_address (TheInterface i) = InterfaceNamed i.name.name.now
-declared_address (TheWorld w) = WorldNamed w.name.name.now
-declared_address (TheInline world place x name items) = InlineAt world x.side place
-
-abbrev pub is_declared_world : Declared → Bool
-is_declared_world (TheWorld w) = true
-is_declared_world _ = false
-
 -- a part of an item
 pub data Part : Type 0 where
   Defining : (d : TypeDef) → Part
@@ -108,11 +77,24 @@ world_part (world_item.Use u) = Using u
 world_part (world_item.Include i) = Including i
 world_part (world_item.Extern x) = Crossing x
 
--- the parts of an item, in source order
-abbrev pub declared_parts : Declared → List Part
-declared_parts (TheInterface i) = map interface_part i.items.items
-declared_parts (TheWorld w) = map world_part w.items.items
-declared_parts (TheInline world place x name items) = map interface_part items
+-- what is told of an item: its name where it is written, and the name that it goes by, which an interface that is written in a world has not; its
+-- docs and attributes; its scope; whether it is a world; and its parts, in source order
+pub record About : Type 0 where
+  pub id : Id
+  pub called : Option (List ℕ)
+  pub docs : Comments
+  pub attributes : List Attribute
+  pub address : Address
+  pub is_world : Bool
+  pub parts : List Part
+
+abbrev pub about : Declared → About
+about (TheInterface i) = record { id = i.name; called = Some i.name.name.now; docs = i.docs; attributes = i.attributes.items; address = InterfaceNamed i.name.name.now; is_world = false; parts = map interface_part i.items.items }
+about (TheWorld w) = record { id = w.name; called = Some w.name.name.now; docs = w.docs; attributes = w.attributes.items; address = WorldNamed w.name.name.now; is_world = true; parts = map world_part w.items.items }
+about (TheInline world place x name items) = record { id = name; called = None; docs = x.docs; attributes = x.attributes.items; address = InlineAt world x.side place; is_world = false; parts = map interface_part items }
+
+abbrev pub declared_notes : Declared → Notes
+declared_notes d = notes (docs_of (about d).docs) (about d).attributes
 
 -- a name at the top of a file, and what it stands for: a declared item for itself, a `use` for what its path says
 pub record TopName : Type 0 where
@@ -164,24 +146,18 @@ file_items f = flat_map (declared_items (top_names f)) f.decl_list.items.items
 abbrev pub all_items : List PackageFile → List Item
 all_items files = flat_map file_items files
 
-abbrev pub item_id : Item → Id
-item_id i = declared_id i.declared
-
-abbrev pub item_notes : Item → Notes
-item_notes i = declared_notes i.declared
-
 abbrev pub item_name : Item → List ℕ
-item_name i = (item_id i).name.now
+item_name i = (about i.declared).id.name.now
 
 -- the scope of an item
 abbrev pub address : Item → Address
-address i = declared_address i.declared
+address i = (about i.declared).address
 
 abbrev pub is_world : Item → Bool
-is_world i = is_declared_world i.declared
+is_world i = (about i.declared).is_world
 
 abbrev pub parts : Item → List Part
-parts i = declared_parts i.declared
+parts i = (about i.declared).parts
 
 -- the first item of a name
 abbrev pub item_named : List Item → List ℕ → Option Item

@@ -14,7 +14,7 @@ use Rattle.wit_type_tree.specs.declared.leaves.Id.{Id}
 use Rattle.wit_tree.specs.declared.tree.UsePath.{UsePath}
 use Rattle.wit_tree.specs.declared.tree.PackageFile.{PackageFile}
 use Rattle.wit_graph.specs.Table.{place_of}
-use Rattle.wit_syntax.specs.Source.{TopName, Target, path_target, leads, declared_items, top_names, top_text, Item, file_items, all_items, item_id, item_name, item_named}
+use Rattle.wit_syntax.specs.Source.{TopName, Target, path_target, leads, declared_items, top_names, top_text, Item, file_items, all_items, item_name, item_named, about}
 use Rattle.wit_syntax.specs.Scope.{local_target, item_row}
 use Rattle.wit_syntax.specs.Fault.{Fault, fault}
 use Rattle.wit_syntax.specs.Bodies.{IsSecond}
@@ -99,7 +99,7 @@ uses_right_more is ds d uses one = record {
 }
 
 -- an item whose name stands twice
-pub duplicate_item : (is : List Item) (f : Fault) → IsRepeatedName 5 (map item_top is) f → IsSecond item_name (λ (i : Item). fault 5 (item_id i).span) is f
+pub duplicate_item : (is : List Item) (f : Fault) → IsRepeatedName 5 (map item_top is) f → IsSecond item_name (λ (i : Item). fault 5 (about i.declared).id.span) is f
 duplicate_item is f h =
     let r = h.repeated in
     let a = map_at item_top is r.first r.earlier r.at_first in

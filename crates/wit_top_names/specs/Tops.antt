@@ -8,7 +8,7 @@ use Rattle.wit_top_names.specs.declared.top_name.TopName.{TopName as Held}
 use Rattle.wit_top_names.specs.declared.top_name.Target.{Target as HeldTarget}
 use Rattle.wit_top_names.specs.declared.top_name.Target.TheVariants as held
 use Rattle.wit_syntax.specs.Address.{package_of}
-use Rattle.wit_syntax.specs.Source.{Target, Local, Foreign, TopName, itself, top_named, top_target, Item, item_id, item_named}
+use Rattle.wit_syntax.specs.Source.{Target, Local, Foreign, TopName, itself, top_named, top_target, Item, item_named, about}
 
 -- where a path leads, as it is held
 abbrev pub target_behind : HeldTarget → Target
@@ -21,7 +21,7 @@ top_behind t = record { id = t.id; target = target_behind t.target }
 
 -- a declared item as a name that stands for itself
 abbrev pub item_top : Item → TopName
-item_top i = itself (item_id i)
+item_top i = itself (about i.declared).id
 
 -- names in their order, each with what it stands for
 abbrev pub Named : Type 0
