@@ -11,7 +11,7 @@ use Rattle.wit_syntax.specs.Bodies.{IsSecond}
 use Rattle.wit_syntax.specs.Broken.{is_world_at, IsBrokenNames, DuplicateItem, Items, DefinedTwice, MissingUse, WorldUsed, Scope, Use, IsLegal}
 use Rattle.wit_syntax.specs.Crossing.{extern_paths, inline_uses}
 use Rattle.wit_syntax.specs.Fault.{Fault, fault, missing_at, item_word}
-use Rattle.wit_syntax.specs.Foreign.{is_foreign_world, foreign_at}
+use Rattle.wit_syntax.specs.Foreign.{foreign_at, ForeignVisit}
 use Rattle.wit_syntax.specs.Repeats.{AllDiffer}
 use Rattle.wit_syntax.specs.Scope.{AreDistinct, used, defined, use_path, use_paths, part_uses, uses}
 use Rattle.wit_syntax.specs.Sides.{all_scopes}
@@ -100,8 +100,8 @@ module _ (files : List PackageFile) (legal : IsLegal files) where
       let here = leads_visited files q.0 w u p id q.1 used lead in
       let it = visit_listed files here.place here.v here.at in
       let v = it.1 in
-      let found : is_world_at files (Foreign p id) ≡ Some (is_foreign_world v) = ap (λ (s : Address). option_map is_foreign_world (foreign_at files s)) (sym (it.3 ∙ here.is)) ∙ ap (option_map is_foreign_world) (foreign_at-visited files it.0 v it.2) in
-      elim (cases_Bool (is_foreign_world v)) [
+      let found : is_world_at files (Foreign p id) ≡ Some v.wants_world = ap (λ (s : Address). option_map (λ (v : ForeignVisit). v.wants_world) (foreign_at files s)) (sym (it.3 ∙ here.is)) ∙ ap (option_map (λ (v : ForeignVisit). v.wants_world)) (foreign_at-visited files it.0 v it.2) in
+      elim (cases_Bool v.wants_world) [
         | inl world ↦ absurd (no_world_used w u among used (ap (is_world_at files) lead ∙ found ∙ ap Some world))
         | inr other ↦ found ∙ ap Some other
       ]

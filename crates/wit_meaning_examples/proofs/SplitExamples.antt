@@ -34,7 +34,7 @@ use Rattle.wit_syntax.specs.Scope.{include_paths, includes, item_rows, rows_of, 
 use Rattle.wit_syntax.specs.Shape.{all_handles}
 use Rattle.wit_syntax.specs.Sides.{all_scopes, on_side, side_items, IsBrokenSides, FoldedTwice, CrossedTwice, LinkedTwice, LinkNotes, InlineNotes, side_called}
 use Rattle.wit_syntax.specs.Signature.{called_key}
-use Rattle.wit_syntax.specs.Source.{Item, ScopeName, Used, Defined, TheInterface, leads, all_items, item_at, item_name, local_name, path_target, scope_names, top_names, top_text, about}
+use Rattle.wit_syntax.specs.Source.{Item, ScopeName, Used, Defined, TheInterface, leads, all_items, item_at, item_name, local_name, scope_names, top_names, top_text, about}
 use Rattle.wit_syntax.specs.Splitting.{declarations, file_declarations}
 use Rattle.wit_syntax.proofs.Found.{at_contains}
 use Rattle.wit_syntax.proofs.Legal.{no_missing_edge, no_cyclic_edge, no_fold, no_crossed}
@@ -142,7 +142,7 @@ module _ (ptr : Ptr) (alloc : Global) where
   names_pass f (ForeignStability v among h) = no_stability f (subst (λ (v : ForeignVisit). IsBrokenStability v.attributes f) (sym (one_among visit v among)) h)
   names_pass f (AttributedTopUse g among h) = h.attributed (ap (λ (u : ToplevelUse). u.attributes.items) (sym (top_use g among h.u h.among)))
   names_pass f (MissingOriginal g among h) =
-      let there = ap (λ (u : ToplevelUse). path_target u.item) (top_use g among h.u h.among) ∙ h.local in
+      let there = ap (λ (u : ToplevelUse). leads [] u.item) (top_use g among h.u h.among) ∙ h.local in
       let f : ⊥ = cc in
       f
 

@@ -8,7 +8,7 @@ use Rattle.wit_tree.specs.declared.tree.PackageFile.{PackageFile}
 use Rattle.wit_package_names.specs.declared.package_name.PackageName.{PackageName}
 use Rattle.wit_syntax.specs.Address.{Address, ForeignNamed, same_address}
 use Rattle.wit_syntax.specs.Fault.{Fault, missing_at, item_word}
-use Rattle.wit_syntax.specs.Foreign.{ForeignVisit, visited, same_item, foreign_visits, is_foreign_world}
+use Rattle.wit_syntax.specs.Foreign.{ForeignVisit, visited, same_item, foreign_visits}
 use Rattle.wit_syntax.specs.Repeats.{firsts}
 use Rattle.wit_syntax.specs.Source.{TopName, Target, Local, Foreign, leads, Declared, Item, is_world, address, parts, all_items, item_named, item_at, ScopeName, scope_names, meaning, about}
 use Rattle.wit_syntax.specs.Broken.{is_world_at, IsBrokenUse, MissingUse, WorldUsed, IsInterfaceIncluded, IsMissingName}
@@ -48,7 +48,7 @@ module _ (is js : List Item) (t : AreTwins is js) where
   world_onward name = world_declared (item_named is name) ∙ ap (option_map (λ (d : Declared). (about d).is_world)) (named_same is js t name) ∙ sym (world_declared (item_named js name))
 
 abbrev foreign_world : List ForeignVisit → PackageName → List ℕ → Option Bool
-foreign_world vs p name = option_map is_foreign_world (find (λ (v : ForeignVisit). same_address (visited v) (ForeignNamed p name)) (firsts same_item vs))
+foreign_world vs p name = option_map (λ (v : ForeignVisit). v.wants_world) (find (λ (v : ForeignVisit). same_address (visited v) (ForeignNamed p name)) (firsts same_item vs))
 
 module _ (files others : List PackageFile) (a : AreAlike files others) where
   -- what stands where paths lead is a world in both or in neither

@@ -23,8 +23,8 @@ use Rattle.wit_syntax.specs.Notes.{IsBrokenStability, IsBrokenNotes}
 use Rattle.wit_syntax.specs.Bodies.{IsSecond, IsBrokenBody}
 use Rattle.wit_syntax.specs.Fault.{Fault, fault_of, fault, missing_at, missing_type_at, cyclic_at, item_word, type_word, name_word}
 use Rattle.wit_syntax.specs.Address.{Address, ForeignNamed}
-use Rattle.wit_syntax.specs.Source.{path_id, Target, Local, Foreign, path_target, leads, TopName, top_names, top_text, Item, item_name, is_world, all_items, item_named, item_at, ScopeName, Used, Defined, local_id, local_name, scope_names, meaning, address, about}
-use Rattle.wit_syntax.specs.Foreign.{ForeignVisit, foreign_visits, is_foreign_world, foreign_at}
+use Rattle.wit_syntax.specs.Source.{path_id, Target, Local, Foreign, leads, TopName, top_names, top_text, Item, item_name, is_world, all_items, item_named, item_at, ScopeName, Used, Defined, local_id, local_name, scope_names, meaning, address, about}
+use Rattle.wit_syntax.specs.Foreign.{ForeignVisit, foreign_visits, foreign_at}
 use Rattle.wit_syntax.specs.Function.{SourceFunction, functions, free_names, item_types}
 use Rattle.wit_syntax.specs.Sides.{on_side, all_scopes, IsBrokenSides}
 use Rattle.wit_syntax.specs.Signature.{IsNoType, IsBrokenFunction, IsUnpairedSetter}
@@ -36,7 +36,7 @@ pub record IsMissingOriginal (items : List Item) (declarations : List AstItem) (
   pub u : ToplevelUse
   pub id : Id
   pub among : Contains declarations (ToplevelItem u)
-  pub local : path_target u.item ≡ Local id
+  pub local : leads [] u.item ≡ Local id
   pub missing : item_named items id.name.now ≡ None
   pub is : f ≡ missing_at 7 item_word id
 
@@ -107,7 +107,7 @@ pub record IsCyclicEdge (number : ℕ) (sort : List ℕ) (rs : List Row) (f : Fa
 -- whether what stands where a path leads is a world, if something stands there
 abbrev pub is_world_at : List PackageFile → Target → Option Bool
 is_world_at files (Local id) = option_map is_world (item_named (all_items files) id.name.now)
-is_world_at files (Foreign p id) = option_map is_foreign_world (foreign_at files (ForeignNamed p id.name.now))
+is_world_at files (Foreign p id) = option_map (λ (v : ForeignVisit). v.wants_world) (foreign_at files (ForeignNamed p id.name.now))
 
 -- the path of an include leads to an interface
 pub record IsInterfaceIncluded (files : List PackageFile) (i : Item) (f : Fault) : Type 0 where
