@@ -1,5 +1,5 @@
 //! Names at the top of files, and what paths lead to.
-ghost use Rattle.std.specs.Prelude.{◌≡◌, ◌++◌, List, IsSome, map, IfOk, IfErr, OnOk, codes, string_bytes};
+ghost use Rattle.std.specs.Prelude.{◌≡◌, ◌++◌, List, [], IsSome, map, IfOk, IfErr, OnOk, codes, string_bytes};
 ghost use Rattle.wit_syntax.specs.Source.{TopName as Top, Item, itself as the_itself, top_name as the_name, top_names as the_names, top_text, leads as the_leads, file_items, all_items, item_name, item_named};
 ghost use Rattle.wit_syntax.specs.Scope.{local_target};
 ghost use Rattle.wit_syntax.specs.Broken.{IsBrokenItems, Refused};
