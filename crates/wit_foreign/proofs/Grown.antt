@@ -63,7 +63,7 @@ entry_stays vs x u world interface = go u.wants_world refl
     go false e = ap (λ b. if b then entry.World (foreign_place (worlds_in (more vs x)) u) else entry.Interface (foreign_place (interfaces_in (more vs x)) u)) e ∙ (ap entry.Interface (place_stays no_world vs x u (interface (ap not e))) ∙ sym (ap (λ b. if b then entry.World (foreign_place (worlds_in vs) u) else entry.Interface (foreign_place (interfaces_in vs) u)) e))
 
 entries_stay : (vs : List ForeignVisit) (x : ForeignVisit) → Each (λ u. entry_in (more vs x) u ≡ entry_in vs u) (items_of vs)
-entries_stay vs x = each_map (λ u. (u.wants_world ≡ true → list_any (λ w. same_item w u) (worlds_in vs) ≡ true) × (no_world u ≡ true → list_any (λ w. same_item w u) (interfaces_in vs) ≡ true)) (λ u. entry_in (more vs x) u ≡ entry_in vs u) (items_of vs) (λ u h. entry_stays vs x u h.0 h.1) (each_both (λ u. u.wants_world ≡ true → list_any (λ w. same_item w u) (worlds_in vs) ≡ true) (λ u. no_world u ≡ true → list_any (λ w. same_item w u) (interfaces_in vs) ≡ true) (items_of vs) (each_found same_item item_itself (items_of vs).wants_world) (each_found same_item item_itself no_world (items_of vs)))
+entries_stay vs x = each_map (λ u. (u.wants_world ≡ true → list_any (λ w. same_item w u) (worlds_in vs) ≡ true) × (no_world u ≡ true → list_any (λ w. same_item w u) (interfaces_in vs) ≡ true)) (λ u. entry_in (more vs x) u ≡ entry_in vs u) (items_of vs) (λ u h. entry_stays vs x u h.0 h.1) (each_both (λ u. u.wants_world ≡ true → list_any (λ w. same_item w u) (worlds_in vs) ≡ true) (λ u. no_world u ≡ true → list_any (λ w. same_item w u) (interfaces_in vs) ≡ true) (items_of vs) (each_found same_item item_itself (λ (v : ForeignVisit). v.wants_world) (items_of vs)) (each_found same_item item_itself no_world (items_of vs)))
 
 -- the stability of each visit of an item
 abbrev stabilities : List ForeignVisit → ForeignVisit → List Stability
