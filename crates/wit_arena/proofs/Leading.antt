@@ -22,7 +22,7 @@ use Rattle.wit_graph.proofs.Tables.{slice_get-take}
 use Rattle.wit_syntax.specs.Address.{Address, InterfaceNamed, ForeignNamed, is_foreign}
 use Rattle.wit_syntax.specs.Source.{TopName, Declared, TheInterface, TheWorld, TheInline, Part, Defining, Using, Including, Doing, Crossing, interface_part, Target, Local, Foreign, leads, path_scope, Item, Used, all_items, item_name, is_world, parts, item_named, scope_names, taking, takings, about, target_scope}
 use Rattle.wit_syntax.specs.Foreign.{ForeignVisit, visited, foreign_interfaces}
-use Rattle.wit_syntax.specs.Scope.{in_order, use_path, include_path, use_paths, include_paths, needed_paths, local_target, item_row, item_rows, uses, part_includes, includes}
+use Rattle.wit_syntax.specs.Scope.{in_order, include_path, use_paths, include_paths, needed_paths, local_target, item_row, item_rows, uses, part_includes, includes}
 use Rattle.wit_syntax.specs.Sides.{with_inline, all_scopes}
 use Rattle.wit_syntax.specs.Broken.{is_world_at}
 use Rattle.wit_arena.specs.Resolved.{AreUsableUses}
