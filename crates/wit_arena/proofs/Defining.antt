@@ -15,7 +15,7 @@ use Rattle.wit_types.specs.declared.types.TypeOwner.{TypeOwner}
 use Rattle.wit_types.specs.declared.types.«Type».TheVariants as type
 use Rattle.wit_arena.specs.Kind.{kind_of}
 use Rattle.wit_syntax.specs.Address.{Address}
-use Rattle.wit_syntax.specs.Source.{ScopeName, Used, Defined, local_name, name_span, name_form, name_body, name_scope, name_notes, name_stability}
+use Rattle.wit_syntax.specs.Source.{ScopeName, Used, Defined, local_name, about_name}
 use Rattle.wit_arena.specs.Expr.{Exprs, End, exprs_of, name_exprs}
 use Rattle.wit_arena.specs.Meet.{Key, Def, Meeting, keys, IsMet, Meets, Decl, Decls, IsAmong, decl_of, IsMeeting, shapes_meetings, parts_meetings, name_meetings, all_name_meetings}
 use Rattle.wit_arena.specs.Resolving.{all_met, Names, Cell, env_of, Env, AreNames, AreKnown, IsExtended, AreResolved, IsAdded, IsUsed, Defines, AreNew, decls_of, named}
@@ -28,6 +28,7 @@ use Rattle.std.proofs.lemmas.Grind.{flat_map-append}
 use Rattle.wit_syntax.specs.Shape.{body_of}
 use Rattle.wit_arena.proofs.Keys.{keys-shapes}
 use Rattle.wit_arena.proofs.Places.{key_grown}
+use Rattle.std.specs.Option.{unwrap_or}
 
 -- a name that was not met is free
 pub name_free : (ks : List Key) (s : Address) (env : Env) (name : List ℕ) → AreNames ks s env → (IsMet ks (Def s name) → ⊥) → env name ≡ None
@@ -57,12 +58,12 @@ names_added ks s names name place is fresh at_end = record {
 }
 
 -- a name over parts that were resolved
-defines_from : (old mid new : List TypeDef) (cs : List Cell) (o : TypeOwner) (s : Address) (names names' : Names) (x : ScopeName) (kind : TypeDefKind) (es : Exprs) → keys (parts_meetings s x) ≡ all_met es → ((decls : Decls) (ms : List Meeting) → IsMeeting decls ms old → AreNames (keys ms) s (env_of names) → AreKnown (keys ms) s cs → IsExtended decls ms mid (parts_meetings s x) (name_exprs s x) (kind_of kind).parts) → (kind_of kind).form ≡ name_form x → IsAdded mid new o names names' (local_name x) (name_notes x) (name_span x) kind → Defines old new cs o s names names' (x ∷ [])
+defines_from : (old mid new : List TypeDef) (cs : List Cell) (o : TypeOwner) (s : Address) (names names' : Names) (x : ScopeName) (kind : TypeDefKind) (es : Exprs) → keys (parts_meetings s x) ≡ all_met es → ((decls : Decls) (ms : List Meeting) → IsMeeting decls ms old → AreNames (keys ms) s (env_of names) → AreKnown (keys ms) s cs → IsExtended decls ms mid (parts_meetings s x) (name_exprs s x) (kind_of kind).parts) → (kind_of kind).form ≡ (about_name x).body.form → IsAdded mid new o names names' (local_name x) (about_name x).notes (about_name x).span kind → Defines old new cs o s names names' (x ∷ [])
 defines_from old mid new cs o s names names' x kind es keys_of p form a = record {
   from = λ decls ms among distinct anew known m stand. (
       let name = local_name x in
       let more = parts_meetings s x in
-      let it : Meeting = record { key = Def s name; span = name_span x; given = name_stability x } in
+      let it : Meeting = record { key = Def s name; span = (about_name x).span; given = (about_name x).notes.stability } in
       let y = p decls ms m stand known in
       let kept = names_kept ms y.now more s (env_of names) es keys_of y.meets stand in
       let fresh : IsMet (keys y.now) (Def s name) → ⊥ = λ was. elim (meets_from more ms y.now y.meets was.0 (Def s name) was.1) [
@@ -75,14 +76,14 @@ defines_from old mid new cs o s names names' x kind es keys_of p form a = record
       record {
         now = y.now ++ it ∷ [];
         meets = subst (λ l. Meets ms l (y.now ++ it ∷ [])) (sym (append-nil (more ++ it ∷ []))) (meets_append more (it ∷ []) ms y.now (y.now ++ it ∷ []) y.meets (inr (fresh, refl)));
-        meeting = subst (IsMeeting decls (y.now ++ it ∷ [])) (sym a.last) (meeting_more it (named o name kind (name_notes x) (name_span x)) y.meeting fresh (record { decl = decl_of o s x; among = among (decl_of o s x) (0, refl); same = refl; name = refl; span = refl; owner = refl; form = form; parts = y.at; notes = record { docs = refl; stability = refl; external_id = refl } }) refl tt);
+        meeting = subst (IsMeeting decls (y.now ++ it ∷ [])) (sym a.last) (meeting_more it (named o name kind (about_name x).notes (about_name x).span) y.meeting fresh (record { decl = decl_of o s x; among = among (decl_of o s x) (0, refl); same = refl; name = refl; span = refl; owner = refl; form = form; parts = y.at; notes = record { docs = refl; stability = refl; external_id = refl } }) refl tt);
         stand = rw (a.inserted, keys-append y.now (it ∷ [])) (names_added (keys y.now) s names name (length mid) kept fresh count);
         listed = ap (map (λ p. p.0)) a.inserted ∙ names-insert_entry names name (length mid) free;
       });
 }
 
 -- a definition over parts that were resolved
-pub defines_one : (old mid new : List TypeDef) (cs : List Cell) (o : TypeOwner) (s : Address) (names names' : Names) (d : Definition) (kind : TypeDefKind) → AreResolved old mid s (env_of names) (shapes_meetings s (name_stability (Defined d)) (body_of d.body).parts) (exprs_of s (body_of d.body).parts) (kind_of kind).parts → (kind_of kind).form ≡ (body_of d.body).form → IsAdded mid new o names names' d.name.name.now (name_notes (Defined d)) d.name.span kind → Defines old new cs o s names names' (Defined d ∷ [])
+pub defines_one : (old mid new : List TypeDef) (cs : List Cell) (o : TypeOwner) (s : Address) (names names' : Names) (d : Definition) (kind : TypeDefKind) → AreResolved old mid s (env_of names) (shapes_meetings s (about_name (Defined d)).notes.stability (body_of d.body).parts) (exprs_of s (body_of d.body).parts) (kind_of kind).parts → (kind_of kind).form ≡ (body_of d.body).form → IsAdded mid new o names names' d.name.name.now (about_name (Defined d)).notes d.name.span kind → Defines old new cs o s names names' (Defined d ∷ [])
 defines_one old mid new cs o s names names' d kind p form a = defines_from old mid new cs o s names names' (Defined d) kind (exprs_of s (body_of d.body).parts) p.same (λ decls ms m stand known. p.from decls ms m stand) form a
 
 -- the names of a scope stand for their places, however it is called
@@ -102,10 +103,10 @@ defines_used old new cs o s names names' from attributes n u =
 
 -- what is met in the parts of a name of a scope are the unnamed expressions in them
 pub parts_keys : (s : Address) (x : ScopeName) → keys (parts_meetings s x) ≡ all_met (name_exprs s x)
-parts_keys s x = keys-shapes (name_scope s x) (name_stability x) (name_body x).parts
+parts_keys s x = keys-shapes (unwrap_or (about_name x).from s) (about_name x).notes.stability (about_name x).body.parts
 
 pub name_keys : (s : Address) (x : ScopeName) → keys (name_meetings s x) ≡ keys (parts_meetings s x) ++ Def s (local_name x) ∷ []
-name_keys s x = keys-append (parts_meetings s x) (record { key = Def s (local_name x); span = name_span x; given = name_stability x } ∷ [])
+name_keys s x = keys-append (parts_meetings s x) (record { key = Def s (local_name x); span = (about_name x).span; given = (about_name x).notes.stability } ∷ [])
 
 -- a name that is met in names of a scope is one of them
 pub name_met_in : (s : Address) (xs : List ScopeName) (t : Address) (name : List ℕ) → Has (keys (all_name_meetings s xs)) (Def t name) → (t ≡ s) × ((i : ℕ) × (x : ScopeName) × (slice_get xs i ≡ Some x) × (local_name x ≡ name))

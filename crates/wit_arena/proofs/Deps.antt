@@ -1,7 +1,7 @@
 -- Whose the items of other packages are, by what a package names of others.
 use Rattle.std.proofs.Common.{◌≡◌, ◌≤◌, ℕ, suc, Bool, true, List, [], ◌∷◌, length, Some, None, ◌⊎◌, inl, inr, refl, sym, ap, ◌∙◌, arith, eqb-true, eq-eqb}
 use Rattle.std.specs.Prelude.{slice_get, map, find, not, if◌then◌else◌}
-use Rattle.std.specs.List.{flat_map}
+use Rattle.std.specs.List.{flat_map, filter}
 use Rattle.std.specs.Option.{option_map}
 use Rattle.std.proofs.lemmas.Bool.{cases_Bool}
 use Rattle.std.proofs.lemmas.Option.{slice_get_within, slice_get-map}
@@ -11,8 +11,8 @@ use Rattle.wit_model.specs.declared.ast_item.AstItem.TheVariants as entry
 use Rattle.wit_package_names.specs.declared.package_name.PackageName.{PackageName}
 use Rattle.wit_model.specs.declared.unresolved.UnresolvedPackage.{UnresolvedPackage}
 use Rattle.wit_types.specs.declared.stability.Stability.{Stability}
-use Rattle.wit_syntax.specs.Address.{Address, ForeignNamed, same_package}
-use Rattle.wit_syntax.specs.Foreign.{ForeignVisit, visited_package, visited, same_item, foreign_visits, foreign_items, is_foreign_world, foreign_interfaces, foreign_worlds, foreign_packages, items_of_package}
+use Rattle.wit_syntax.specs.Address.{Address, ForeignNamed, same_package, package_of}
+use Rattle.wit_syntax.specs.Foreign.{ForeignVisit, visited, same_item, foreign_visits, foreign_items, foreign_interfaces, foreign_worlds, foreign_packages}
 use Rattle.wit_arena.specs.Package.{dep_items, same_entry, foreign_owner}
 use Rattle.wit_syntax.specs.Repeats.{AllDiffer}
 use Rattle.wit_arena.specs.Whole.{foreign_place, foreign_entry, dep_item, dep}
@@ -60,9 +60,9 @@ module _ (files : List PackageFile) where
 
   -- an item is an interface or a world
   pub item_sort : (q : ℕ) (v : ForeignVisit) → slice_get (foreign_items files) q ≡ Some v → ((t : ℕ) × (slice_get (foreign_interfaces files) t ≡ Some v)) ⊎ ((t : ℕ) × (slice_get (foreign_worlds files) t ≡ Some v))
-  item_sort q v at = elim (cases_Bool (is_foreign_world v)) [
-    | inl world ↦ inr (kept_has is_foreign_world (foreign_items files) q v world at)
-    | inr other ↦ inl (kept_has (λ u. not (is_foreign_world u)) (foreign_items files) q v (ap not other) at)
+  item_sort q v at = elim (cases_Bool v.wants_world) [
+    | inl world ↦ inr (kept_has (λ (v : ForeignVisit). v.wants_world) (foreign_items files) q v world at)
+    | inr other ↦ inl (kept_has (λ u. not u.wants_world) (foreign_items files) q v (ap not other) at)
   ]
 
   one_at : (vs : List ForeignVisit) (s t : ℕ) (u v : ForeignVisit) → s ≡ t → slice_get vs s ≡ Some u → slice_get vs t ≡ Some v → u ≡ v
@@ -92,21 +92,21 @@ module _ (files : List PackageFile) where
   dep_listed whose own k v at = mapped (dep_address whose) (map (dep_item files) own) k (dep_item files v) (mapped (dep_item files) own k v at)
 
   -- and what is listed of a package is an item of it
-  item_listed : (whose : PackageName) (k : ℕ) (e : AstItem × Address) → slice_get (dep_items (whose, map (dep_item files) (items_of_package files whose))) k ≡ Some e → (q : ℕ) × (v : ForeignVisit) × (slice_get (foreign_items files) q ≡ Some v) × (e ≡ (foreign_entry files v, visited v))
+  item_listed : (whose : PackageName) (k : ℕ) (e : AstItem × Address) → slice_get (dep_items (whose, map (dep_item files) (filter (λ u. same_package (package_of u.of) whose) (foreign_items files)))) k ≡ Some e → (q : ℕ) × (v : ForeignVisit) × (slice_get (foreign_items files) q ≡ Some v) × (e ≡ (foreign_entry files v, visited v))
   item_listed whose k e at =
-      let own = items_of_package files whose in
+      let own = filter (λ u. same_package (package_of u.of) whose) (foreign_items files) in
       let x = map_at (dep_address whose) (map (dep_item files) own) k e at in
       let v = map_at (dep_item files) own k x.0 x.1 in
-      let q = kept_at (λ y. same_package (visited_package y) whose) (foreign_items files) k v.0 v.1 in
-      let same = same_package-equal (visited_package v.0) whose q.2 in
+      let q = kept_at (λ y. same_package (package_of y.of) whose) (foreign_items files) k v.0 v.1 in
+      let same = same_package-equal (package_of v.0.of) whose q.2 in
       let is : e ≡ (foreign_entry files v.0, ForeignNamed whose v.0.id.name.now) = sym x.2 ∙ ap (dep_address whose) (sym v.2) in
       (q.0, v.0, q.1, is ∙ ap (λ (z : PackageName). (foreign_entry files v.0, ForeignNamed z v.0.id.name.now)) (sym same))
 
   -- the package of an item is named
-  package_of_item : (q : ℕ) (v : ForeignVisit) → slice_get (foreign_items files) q ≡ Some v → (j : ℕ) × (u : ForeignVisit) × (slice_get (foreign_packages files) j ≡ Some u) × (visited_package u ≡ visited_package v)
+  package_of_item : (q : ℕ) (v : ForeignVisit) → slice_get (foreign_items files) q ≡ Some v → (j : ℕ) × (u : ForeignVisit) × (slice_get (foreign_packages files) j ≡ Some u) × (package_of u.of ≡ package_of v.of)
   package_of_item q v at =
       let i = firsts_at same_item (foreign_visits files) q v at in
-      firsts_has (λ (a b : ForeignVisit). same_package (visited_package a) (visited_package b)) visited_package (λ a b h. same_package-from (visited_package a) (visited_package b) h) (λ a b h. same_package-equal (visited_package a) (visited_package b) h) (foreign_visits files) i.0 v i.1
+      firsts_has (λ (a b : ForeignVisit). same_package (package_of a.of) (package_of b.of)) (λ (v : ForeignVisit). package_of v.of) (λ a b h. same_package-from (package_of a.of) (package_of b.of) h) (λ a b h. same_package-equal (package_of a.of) (package_of b.of) h) (foreign_visits files) i.0 v i.1
 
   module _ (p : UnresolvedPackage) (deps : p.foreign_deps ≡ map (dep files) (foreign_packages files)) where
     abbrev Dep : Type 0
@@ -119,10 +119,10 @@ module _ (files : List PackageFile) where
     listed_has : (q : ℕ) (v : ForeignVisit) → slice_get (foreign_items files) q ≡ Some v → (k : ℕ) × (s : Address) × (slice_get listed k ≡ Some (foreign_entry files v, s))
     listed_has q v at =
         let u = package_of_item q v at in
-        let whose = visited_package u.1 in
-        let k = kept_has (λ x. same_package (visited_package x) whose) (foreign_items files) q v (same_package-from (visited_package v) whose (sym u.3)) at in
+        let whose = package_of u.1.of in
+        let k = kept_has (λ x. same_package (package_of x.of) whose) (foreign_items files) q v (same_package-from (package_of v.of) whose (sym u.3)) at in
         let there : slice_get p.foreign_deps u.0 ≡ Some (dep files u.1) = ap (λ (l : List Dep). slice_get l u.0) deps ∙ mapped (dep files) (foreign_packages files) u.0 u.1 u.2 in
-        let n = flat_map_has dep_items p.foreign_deps u.0 k.0 (dep files u.1) (foreign_entry files v, ForeignNamed whose v.id.name.now) there (dep_listed whose (items_of_package files whose) k.0 v k.1) in
+        let n = flat_map_has dep_items p.foreign_deps u.0 k.0 (dep files u.1) (foreign_entry files v, ForeignNamed whose v.id.name.now) there (dep_listed whose (filter (λ u. same_package (package_of u.of) whose) (foreign_items files)) k.0 v k.1) in
         (n.0, ForeignNamed whose v.id.name.now, n.1)
 
     -- and what is listed is an item, under its entry and at its address
@@ -130,7 +130,7 @@ module _ (files : List PackageFile) where
     listed_at k e at =
         let d = flat_map_at dep_items p.foreign_deps k e at in
         let u = map_at (dep files) (foreign_packages files) d.0 d.1 (ap (λ (l : List Dep). slice_get l d.0) (sym deps) ∙ d.2) in
-        item_listed (visited_package u.0) d.3.0 e (ap (λ (z : Dep). slice_get (dep_items z) d.3.0) u.2 ∙ d.3.1)
+        item_listed (package_of u.0.of) d.3.0 e (ap (λ (z : Dep). slice_get (dep_items z) d.3.0) u.2 ∙ d.3.1)
 
     -- the package calls an item by its address
     pub foreign_owner-entry : (q : ℕ) (v : ForeignVisit) → slice_get (foreign_items files) q ≡ Some v → foreign_owner p (foreign_entry files v) ≡ Some (visited v)

@@ -1,7 +1,7 @@
 -- Where each type stands at its place, its tree is the same at every depth.
 use Rattle.std.proofs.Common.{◌≡◌, ℕ, zero, suc, true, List, [], ◌∷◌, map, Option, Some, refl, sym, ap, ◌∙◌, subst, inl, inr, arith}
 use Rattle.std.specs.Prelude.{slice_get}
-use Rattle.std.specs.Option.{option_map_or}
+use Rattle.std.specs.Option.{option_map_or, unwrap_or}
 use Rattle.std.specs.Str.{bytes_eq}
 use Rattle.wit_values.specs.declared.span.Span.{Span}
 use Rattle.wit_tree.specs.declared.tree.PackageFile.{PackageFile}
@@ -20,7 +20,7 @@ use Rattle.wit_syntax.specs.Shape.{Shape, Shapes}
 use Rattle.wit_syntax.specs.Shape as shape
 use Rattle.wit_syntax.specs.Notes.{Notes, AreNotes}
 use Rattle.wit_syntax.specs.Address.{Address}
-use Rattle.wit_syntax.specs.Source.{ScopeName, local_name, meaning, head, named_node, name_form, name_body, name_scope, name_span, name_notes, placed}
+use Rattle.wit_syntax.specs.Source.{ScopeName, local_name, meaning, head, named_node, placed, about_name}
 use Rattle.wit_syntax.specs.Trees.{scope, source_tree}
 use Rattle.wit_arena.specs.Expr.{expr_of, exprs_of, name_exprs, Exprs}
 use Rattle.wit_arena.specs.Meet.{Key, Def, Whole, IsAt, AreAt, Decl, Decls, decl_of, IsKeyed}
@@ -73,14 +73,14 @@ module _ (files : List PackageFile) (decls : Decls) (ks : List Key) (p : Unresol
   parts_agree n agree s (shape.More x xs) [] h = absurd h
 
   -- the heads agree
-  head_agrees : (s : Address) (called : List ℕ) (x : ScopeName) (e : TypeDef) → local_name x ≡ called → e.span ≡ name_span x → owner_of p e.owner ≡ Some s → AreNotes (name_notes x) e.docs e.stability e.external_id → entry_head p called e ≡ head s x
+  head_agrees : (s : Address) (called : List ℕ) (x : ScopeName) (e : TypeDef) → local_name x ≡ called → e.span ≡ (about_name x).span → owner_of p e.owner ≡ Some s → AreNotes (about_name x).notes e.docs e.stability e.external_id → entry_head p called e ≡ head s x
   head_agrees s called x e name span own told =
       ap (λ (o : Option Address). made o called e.span e.docs e.stability e.external_id) own
       ∙ ap (λ (n : List ℕ). made (Some s) n e.span e.docs e.stability e.external_id) (sym name)
       ∙ ap (λ (z : Span). made (Some s) (local_name x) z e.docs e.stability e.external_id) span
-      ∙ ap (λ (z : Docs). made (Some s) (local_name x) (name_span x) z e.stability e.external_id) told.docs
-      ∙ ap (λ (z : Stability). made (Some s) (local_name x) (name_span x) (name_notes x).docs z e.external_id) told.stability
-      ∙ ap (λ (z : Option (List ℕ)). made (Some s) (local_name x) (name_span x) (name_notes x).docs (name_notes x).stability z) told.external_id
+      ∙ ap (λ (z : Docs). made (Some s) (local_name x) (about_name x).span z e.stability e.external_id) told.docs
+      ∙ ap (λ (z : Stability). made (Some s) (local_name x) (about_name x).span (about_name x).notes.docs z e.external_id) told.stability
+      ∙ ap (λ (z : Option (List ℕ)). made (Some s) (local_name x) (about_name x).span (about_name x).notes.docs (about_name x).notes.stability z) told.external_id
 
   name_agrees : (n : ℕ) → Agree n → (s : Address) (name : List ℕ) (i : ℕ) → slice_get ks i ≡ Some (Def s name) → package_tree p (suc n) (type.Id i) ≡ node_map (source_tree files n) (named_node s (meaning (scope files s) name))
   name_agrees n agree s name i there =
@@ -90,19 +90,19 @@ module _ (files : List PackageFile) (decls : Decls) (ks : List Key) (p : Unresol
       let k = it.among.0 in
       let x = map_at (decl_of here.whose s) (scope files s) k it.decl (ap (λ (l : List Decl). slice_get l k) (sym here.own) ∙ it.among.1) in
       let called : local_name x.0 ≡ name = ap (λ (y : Decl). y.name) x.2 ∙ it.same in
-      let span : e.0.span ≡ name_span x.0 = it.span ∙ sym (ap (λ (y : Decl). y.span) x.2) in
+      let span : e.0.span ≡ (about_name x.0).span = it.span ∙ sym (ap (λ (y : Decl). y.span) x.2) in
       let own : owner_of p e.0.owner ≡ Some s = ap (owner_of p) (it.owner ∙ sym (ap (λ (y : Decl). y.owner) x.2)) ∙ here.called in
-      let form : (kind_of e.0.kind).form ≡ name_form x.0 = it.form ∙ sym (ap (λ (y : Decl). y.form) x.2) in
+      let form : (kind_of e.0.kind).form ≡ (about_name x.0).body.form = it.form ∙ sym (ap (λ (y : Decl). y.form) x.2) in
       let parts : AreAt ks (name_exprs s x.0) (kind_of e.0.kind).parts = subst (λ (y : Exprs). AreAt ks y (kind_of e.0.kind).parts) (sym (ap (λ (y : Decl). y.parts) x.2)) (all_at_untaken i ks it.decl.parts (kind_of e.0.kind).parts it.parts) in
-      let inner = parts_agree n agree (name_scope s x.0) (name_body x.0).parts (kind_of e.0.kind).parts parts in
+      let inner = parts_agree n agree (unwrap_or (about_name x.0).from s) (about_name x.0).body.parts (kind_of e.0.kind).parts parts in
       let found = meaning_found (scope files s) k x.0 name here.distinct x.1 called in
-      let told : AreNotes (name_notes x.0) e.0.docs e.0.stability e.0.external_id = subst (λ (y : Notes). AreNotes y e.0.docs e.0.stability e.0.external_id) (sym (ap (λ (y : Decl). y.notes) x.2)) it.notes in
+      let told : AreNotes (about_name x.0).notes e.0.docs e.0.stability e.0.external_id = subst (λ (y : Notes). AreNotes y e.0.docs e.0.stability e.0.external_id) (sym (ap (λ (y : Decl). y.notes) x.2)) it.notes in
       let heads = head_agrees s name x.0 e.0 called span own told in
       ap (λ (o : Option TypeDef). node_map (package_tree p n) (option_map_or (λ (e : TypeDef). entry_node p e.name e) o Nothing)) e.1
       ∙ ap (λ (o : Option (List ℕ)). node_map (package_tree p n) (entry_node p o e.0)) it.name
       ∙ ap (λ (y : Head). named_of n y (kind_of e.0.kind).form (map (package_tree p n) (kind_of e.0.kind).parts)) heads
       ∙ ap (λ (y : Form). named_of n (head s x.0) y (map (package_tree p n) (kind_of e.0.kind).parts)) form
-      ∙ ap (λ (y : List (Tree n)). named_of n (head s x.0) (name_form x.0) y) inner
+      ∙ ap (λ (y : List (Tree n)). named_of n (head s x.0) (about_name x.0).body.form y) inner
       ∙ sym (ap (λ (o : Option ScopeName). node_map (source_tree files n) (named_node s o)) found)
 
   whole_agrees : (n : ℕ) → Agree n → (s : Address) (form : Form) (parts : Shapes) (i : ℕ) → slice_get ks i ≡ Some (Whole form (exprs_of s parts)) → package_tree p (suc n) (type.Id i) ≡ node_map (source_tree files n) (Unnamed form (placed s parts))

@@ -21,7 +21,7 @@ use Rattle.wit_syntax.specs.Function.{functions, name_types}
 use Rattle.wit_syntax.specs.Shape.{all_handles, handles}
 use Rattle.wit_type_tree.specs.declared.types.«Type».{«Type» as Written}
 use Rattle.wit_syntax.specs.Sides.{FunctionKey, side_items, inline_items, SideItem, SideFunction, SideLink, SideInline, item_inline, inline_behind}
-use Rattle.wit_syntax.specs.Source.{address, Item, item_id, item_notes, TopName, leads, ScopeName, included_scope}
+use Rattle.wit_syntax.specs.Source.{address, Item, TopName, leads, ScopeName, about, declared_notes, target_scope}
 use Rattle.wit_syntax.specs.Trees.{scope}
 use Rattle.wit_syntax.specs.Foreign.{visited, foreign_interfaces}
 use Rattle.wit_syntax.specs.Scope.{includes, local_names}
@@ -49,7 +49,7 @@ use Rattle.wit_arena.proofs.Stating.{world_types-all}
 
 -- a world of the arena is the item, with its includes, where the worlds have these addresses
 pub record SaysWorld (worlds : List Address) (o : Ordered) (w : World) : Type 0 where
-  pub says : IsWorld (item_id o.item).name.now (item_id o.item).span (item_notes o.item) w
+  pub says : IsWorld (about o.item.declared).id.name.now (about o.item.declared).id.span (declared_notes o.item.declared) w
   pub includes : AreIncludes worlds o.item w.includes
 
 -- it has the types of a scope as its imports, and then, on its sides, what the item has there, each setter behind its getter where nothing is
@@ -104,7 +104,7 @@ pub record AreWorldsDone (files : List PackageFile) (is ws : List Item) (wfront 
 
 -- an include that leads to one of some worlds leads to it among more of them
 pub include_wider : (some all : List Address) (top : List TopName) (written : Include) (i : WorldInclude) → ((t : ℕ) (a : Address) → slice_get some t ≡ Some a → slice_get all t ≡ Some a) → IsInclude some top written i → IsInclude all top written i
-include_wider some all top written i wider h = record { stability = h.stability; place = wider i.id (included_scope (leads top written.from)) h.place; names = h.names; span = h.span }
+include_wider some all top written i wider h = record { stability = h.stability; place = wider i.id (target_scope WorldNamed (leads top written.from)) h.place; names = h.names; span = h.span }
 
 pub includes_wider : (some all : List Address) (item : Item) (is : List WorldInclude) → ((t : ℕ) (a : Address) → slice_get some t ≡ Some a → slice_get all t ≡ Some a) → AreIncludes some item is → AreIncludes all item is
 includes_wider some all item is wider h = record {

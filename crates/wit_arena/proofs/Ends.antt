@@ -20,7 +20,7 @@ use Rattle.wit_arena.specs.Kind.{kind_of}
 use Rattle.wit_syntax.specs.Node.{primitive_type}
 use Rattle.wit_syntax.specs.Shape.{Shape, Shapes, Prim, Word, More, one, written_body, body_of}
 use Rattle.wit_syntax.specs.Address.{Address}
-use Rattle.wit_syntax.specs.Source.{ScopeName, Used, Defined, Taken, local_name, meaning, name_form, name_body, name_scope}
+use Rattle.wit_syntax.specs.Source.{ScopeName, Used, Defined, Taken, local_name, meaning, about_name}
 use Rattle.wit_syntax.specs.Trees.{scope}
 use Rattle.wit_arena.specs.Expr.{Exprs, exprs_of, name_exprs}
 use Rattle.wit_arena.specs.Meet.{Key, Def, AreAt, Decl, Decls, decl_of, IsKeyed}
@@ -33,6 +33,7 @@ use Rattle.wit_syntax.proofs.Lists.{at_front, at_within, map_at}
 use Rattle.wit_arena.proofs.Places.{all_at_untaken}
 use Rattle.wit_arena.proofs.Shape.{entry_of_key, backward}
 use Rattle.wit_arena.proofs.Depth.{meaning_found}
+use Rattle.std.specs.Option.{unwrap_or}
 
 -- two ways to tell where something ends never differ
 abbrev Agreeing : {X : Type 0} → (X → Option End) → (X → Option End) → Type 0
@@ -44,7 +45,7 @@ named_one f g agree s name _ xs a b h k = cc
 
 meant_one : (f g : Address → Shape → Option End) → ((s : Address) → Agreeing (f s) (g s)) → (s : Address) (x : Option ScopeName) (a b : End) → meant_end f s x ≡ Some a → meant_end g s x ≡ Some b → a ≡ b
 meant_one f g agree s None a b h k = absurd (let f : ⊥ = cc in f)
-meant_one f g agree s (Some x) a b h k = named_one (f (name_scope s x)) (g (name_scope s x)) (agree (name_scope s x)) s (local_name x) (name_form x) (name_body x).parts a b h k
+meant_one f g agree s (Some x) a b h k = named_one (f (unwrap_or (about_name x).from s)) (g (unwrap_or (about_name x).from s)) (agree (unwrap_or (about_name x).from s)) s (local_name x) (about_name x).body.form (about_name x).body.parts a b h k
 
 -- where a written type ends does not depend on the number of steps
 shape_one : (files : List PackageFile) (n m : ℕ) (s : Address) → Agreeing (shape_end files n s) (shape_end files m s)
@@ -95,7 +96,7 @@ alias_defined : (b : TypeBody) → (body_of b).form ≡ AliasForm → IsWord (bo
 alias_defined (Plain t) h = alias_written t h
 alias_defined _ h = absurd (let f : ⊥ = cc in f)
 
-alias_named : (x : ScopeName) → name_form x ≡ AliasForm → IsWord (name_body x).parts
+alias_named : (x : ScopeName) → (about_name x).body.form ≡ AliasForm → IsWord (about_name x).body.parts
 alias_named (Used from attributes n) h = inr (n.name, refl)
 alias_named (Defined d) h = alias_defined d.body h
 alias_named (Taken attributes id) h = absurd (let f : ⊥ = cc in f)
@@ -117,29 +118,29 @@ record Means (files : List PackageFile) (s : Address) (id : Id) (x : ScopeName) 
 
 -- where a name of a scope ends, in so many steps behind it
 abbrev ends_in : List PackageFile → ℕ → Address → ScopeName → Form → Shapes → Option End
-ends_in files n s x form xs = named_end (shape_end files n (name_scope s x)) s (local_name x) form xs
+ends_in files n s x form xs = named_end (shape_end files n (unwrap_or (about_name x).from s)) s (local_name x) form xs
 
-ends_named : (files : List PackageFile) (s : Address) (id : Id) (x : ScopeName) (n : ℕ) (end : End) → Means files s id x → ends_in files n s x (name_form x) (name_body x).parts ≡ Some end → EndsAt files s id end
+ends_named : (files : List PackageFile) (s : Address) (id : Id) (x : ScopeName) (n : ℕ) (end : End) → Means files s id x → ends_in files n s x (about_name x).body.form (about_name x).body.parts ≡ Some end → EndsAt files s id end
 ends_named files s id x n end means is = record {
   steps = suc n;
   is = ap (meant_end (shape_end files n) s) means.found ∙ is;
 }
 
 -- it ends by its form
-ends_formed : (files : List PackageFile) (s : Address) (id : Id) (x : ScopeName) (form : Form) (end : End) → Means files s id x → form ≡ name_form x → ends_in files zero s x form (name_body x).parts ≡ Some end → EndsAt files s id end
-ends_formed files s id x form end means same is = ends_named files s id x zero end means (ap (λ (f : Form). ends_in files zero s x f (name_body x).parts) (sym same) ∙ is)
+ends_formed : (files : List PackageFile) (s : Address) (id : Id) (x : ScopeName) (form : Form) (end : End) → Means files s id x → form ≡ (about_name x).body.form → ends_in files zero s x form (about_name x).body.parts ≡ Some end → EndsAt files s id end
+ends_formed files s id x form end means same is = ends_named files s id x zero end means (ap (λ (f : Form). ends_in files zero s x f (about_name x).body.parts) (sym same) ∙ is)
 
 -- another word for what its one part is
-ends_part : (files : List PackageFile) (s : Address) (id : Id) (x : ScopeName) (y : Shapes) (n : ℕ) (end : End) → Means files s id x → AliasForm ≡ name_form x → (name_body x).parts ≡ y → ends_in files n s x AliasForm y ≡ Some end → EndsAt files s id end
+ends_part : (files : List PackageFile) (s : Address) (id : Id) (x : ScopeName) (y : Shapes) (n : ℕ) (end : End) → Means files s id x → AliasForm ≡ (about_name x).body.form → (about_name x).body.parts ≡ y → ends_in files n s x AliasForm y ≡ Some end → EndsAt files s id end
 ends_part files s id x y n end means same parts is = ends_named files s id x n end means (
-    ap (λ (f : Form). ends_in files n s x f (name_body x).parts) (sym same)
+    ap (λ (f : Form). ends_in files n s x f (about_name x).body.parts) (sym same)
     ∙ ap (ends_in files n s x AliasForm) parts
     ∙ is)
 
-ends_through : (files : List PackageFile) (s : Address) (id : Id) (x : ScopeName) (word : Id) (end : End) → Means files s id x → AliasForm ≡ name_form x → (name_body x).parts ≡ one (Word word) → EndsAt files (name_scope s x) word end → EndsAt files s id end
+ends_through : (files : List PackageFile) (s : Address) (id : Id) (x : ScopeName) (word : Id) (end : End) → Means files s id x → AliasForm ≡ (about_name x).body.form → (about_name x).body.parts ≡ one (Word word) → EndsAt files (unwrap_or (about_name x).from s) word end → EndsAt files s id end
 ends_through files s id x word end means same parts h = ends_part files s id x (one (Word word)) h.steps end means same parts h.is
 
-end_through : (files : List PackageFile) (ks : List Key) (s : Address) (id : Id) (x : ScopeName) (word : Id) (e : EntryEnd) → Means files s id x → AliasForm ≡ name_form x → (name_body x).parts ≡ one (Word word) → EndIs files ks (name_scope s x) word e → EndIs files ks s id e
+end_through : (files : List PackageFile) (ks : List Key) (s : Address) (id : Id) (x : ScopeName) (word : Id) (e : EntryEnd) → Means files s id x → AliasForm ≡ (about_name x).body.form → (about_name x).body.parts ≡ one (Word word) → EndIs files ks (unwrap_or (about_name x).from s) word e → EndIs files ks s id e
 end_through files ks s id x word IsResource means same parts h = ends_through files s id x word AtResource means same parts h
 end_through files ks s id x word (IsUnknown place) means same parts h = (h.0, h.1, h.2, ends_through files s id x word (AtForeign h.0 h.1) means same parts h.3)
 end_through files ks s id x word IsOther means same parts h = ends_through files s id x word Elsewhere means same parts h
@@ -166,7 +167,7 @@ module _ (files : List PackageFile) (decls : Decls) (ks : List Key) (es : List T
   Told n = (i : ℕ) (s : Address) (id : Id) (e : EntryEnd) → slice_get ks i ≡ Some (Def s id.name.now) → entry_end n es i ≡ Some e → EndIs files ks s id e
 
   -- the one part of another word for a type is a primitive
-  end_primitive : (n : ℕ) (s : Address) (id : Id) (x : ScopeName) (p : Primitive) (parts : List Ty) (e : EntryEnd) → Means files s id x → AliasForm ≡ name_form x → (name_body x).parts ≡ one (Prim p) → AreAt ks (exprs_of (name_scope s x) (one (Prim p))) parts → part_end (entry_end n es) parts ≡ Some e → EndIs files ks s id e
+  end_primitive : (n : ℕ) (s : Address) (id : Id) (x : ScopeName) (p : Primitive) (parts : List Ty) (e : EntryEnd) → Means files s id x → AliasForm ≡ (about_name x).body.form → (about_name x).body.parts ≡ one (Prim p) → AreAt ks (exprs_of (unwrap_or (about_name x).from s) (one (Prim p))) parts → part_end (entry_end n es) parts ≡ Some e → EndIs files ks s id e
   end_primitive n s id x p [] e means same word at is = absurd at
   end_primitive n s id x p (t ∷ ts) e means same word at is =
       let other : Some IsOther ≡ Some e = sym (part_primitive (entry_end n es) p ts) ∙ ap (λ (u : Ty). part_end (entry_end n es) (u ∷ ts)) (sym at.0) ∙ is in
@@ -174,36 +175,36 @@ module _ (files : List PackageFile) (decls : Decls) (ks : List Key) (es : List T
       subst (EndIs files ks s id) here (ends_part files s id x (one (Prim p)) (suc zero) Elsewhere means same word refl)
 
   -- or a name
-  end_word : (n : ℕ) → Told n → (s : Address) (id : Id) (x : ScopeName) (word : Id) (parts : List Ty) (e : EntryEnd) → Means files s id x → AliasForm ≡ name_form x → (name_body x).parts ≡ one (Word word) → AreAt ks (exprs_of (name_scope s x) (one (Word word))) parts → part_end (entry_end n es) parts ≡ Some e → EndIs files ks s id e
+  end_word : (n : ℕ) → Told n → (s : Address) (id : Id) (x : ScopeName) (word : Id) (parts : List Ty) (e : EntryEnd) → Means files s id x → AliasForm ≡ (about_name x).body.form → (about_name x).body.parts ≡ one (Word word) → AreAt ks (exprs_of (unwrap_or (about_name x).from s) (one (Word word))) parts → part_end (entry_end n es) parts ≡ Some e → EndIs files ks s id e
   end_word n told s id x word [] e means same is_word at is = absurd at
   end_word n told s id x word (t ∷ ts) e means same is_word at is =
       let there : entry_end n es at.0.0 ≡ Some e = ap (λ (u : Ty). part_end (entry_end n es) (u ∷ ts)) (sym at.0.1) ∙ is in
-      end_through files ks s id x word e means same is_word (told at.0.0 (name_scope s x) word e at.0.2 there)
+      end_through files ks s id x word e means same is_word (told at.0.0 (unwrap_or (about_name x).from s) word e at.0.2 there)
 
-  end_alias : (n : ℕ) → Told n → (s : Address) (id : Id) (x : ScopeName) (parts : List Ty) (e : EntryEnd) → Means files s id x → AliasForm ≡ name_form x → AreAt ks (name_exprs s x) parts → part_end (entry_end n es) parts ≡ Some e → EndIs files ks s id e
+  end_alias : (n : ℕ) → Told n → (s : Address) (id : Id) (x : ScopeName) (parts : List Ty) (e : EntryEnd) → Means files s id x → AliasForm ≡ (about_name x).body.form → AreAt ks (name_exprs s x) parts → part_end (entry_end n es) parts ≡ Some e → EndIs files ks s id e
   end_alias n told s id x parts e means same at is = elim (alias_named x (sym same)) [
-    | inl p ↦ end_primitive n s id x p.0 parts e means same p.1 (subst (λ (xs : Shapes). AreAt ks (exprs_of (name_scope s x) xs) parts) p.1 at) is
-    | inr w ↦ end_word n told s id x w.0 parts e means same w.1 (subst (λ (xs : Shapes). AreAt ks (exprs_of (name_scope s x) xs) parts) w.1 at) is
+    | inl p ↦ end_primitive n s id x p.0 parts e means same p.1 (subst (λ (xs : Shapes). AreAt ks (exprs_of (unwrap_or (about_name x).from s) xs) parts) p.1 at) is
+    | inr w ↦ end_word n told s id x w.0 parts e means same w.1 (subst (λ (xs : Shapes). AreAt ks (exprs_of (unwrap_or (about_name x).from s) xs) parts) w.1 at) is
   ]
 
   -- a name of another package
-  end_unknown : (i : ℕ) (s : Address) (id : Id) (x : ScopeName) (e : EntryEnd) → Means files s id x → UnknownForm ≡ name_form x → local_name x ≡ id.name.now → slice_get ks i ≡ Some (Def s id.name.now) → Some (IsUnknown i) ≡ Some e → EndIs files ks s id e
+  end_unknown : (i : ℕ) (s : Address) (id : Id) (x : ScopeName) (e : EntryEnd) → Means files s id x → UnknownForm ≡ (about_name x).body.form → local_name x ≡ id.name.now → slice_get ks i ≡ Some (Def s id.name.now) → Some (IsUnknown i) ≡ Some e → EndIs files ks s id e
   end_unknown i s id x e means same called at is =
       let here : IsUnknown i ≡ e = cc in
       let foreign : Some (AtForeign s (local_name x)) ≡ Some (AtForeign s id.name.now) = ap (λ (n : List ℕ). Some (AtForeign s n)) called in
       subst (EndIs files ks s id) here (s, id.name.now, at, ends_formed files s id x UnknownForm (AtForeign s id.name.now) means same foreign)
 
-  end_resource : (s : Address) (id : Id) (x : ScopeName) (e : EntryEnd) → Means files s id x → ResourceForm ≡ name_form x → Some IsResource ≡ Some e → EndIs files ks s id e
+  end_resource : (s : Address) (id : Id) (x : ScopeName) (e : EntryEnd) → Means files s id x → ResourceForm ≡ (about_name x).body.form → Some IsResource ≡ Some e → EndIs files ks s id e
   end_resource s id x e means same is =
       let here : IsResource ≡ e = cc in
       subst (EndIs files ks s id) here (ends_formed files s id x ResourceForm AtResource means same refl)
 
-  end_other : (s : Address) (id : Id) (x : ScopeName) (form : Form) (e : EntryEnd) → Means files s id x → form ≡ name_form x → ends_in files zero s x form (name_body x).parts ≡ Some Elsewhere → Some IsOther ≡ Some e → EndIs files ks s id e
+  end_other : (s : Address) (id : Id) (x : ScopeName) (form : Form) (e : EntryEnd) → Means files s id x → form ≡ (about_name x).body.form → ends_in files zero s x form (about_name x).body.parts ≡ Some Elsewhere → Some IsOther ≡ Some e → EndIs files ks s id e
   end_other s id x form e means same ends is =
       let here : IsOther ≡ e = cc in
       subst (EndIs files ks s id) here (ends_formed files s id x form Elsewhere means same ends)
 
-  end_formed : (n : ℕ) → Told n → (i : ℕ) (s : Address) (id : Id) (x : ScopeName) (form : Form) (parts : List Ty) (e : EntryEnd) → Means files s id x → form ≡ name_form x → local_name x ≡ id.name.now → AreAt ks (name_exprs s x) parts → slice_get ks i ≡ Some (Def s id.name.now) → kind_end (entry_end n es) i form parts ≡ Some e → EndIs files ks s id e
+  end_formed : (n : ℕ) → Told n → (i : ℕ) (s : Address) (id : Id) (x : ScopeName) (form : Form) (parts : List Ty) (e : EntryEnd) → Means files s id x → form ≡ (about_name x).body.form → local_name x ≡ id.name.now → AreAt ks (name_exprs s x) parts → slice_get ks i ≡ Some (Def s id.name.now) → kind_end (entry_end n es) i form parts ≡ Some e → EndIs files ks s id e
   end_formed n told i s id x AliasForm parts e means same called at key is = end_alias n told s id x parts e means same at is
   end_formed n told i s id x ResourceForm parts e means same called at key is = end_resource s id x e means same is
   end_formed n told i s id x UnknownForm parts e means same called at key is = end_unknown i s id x e means same called key is
@@ -225,7 +226,7 @@ module _ (files : List PackageFile) (decls : Decls) (ks : List Key) (es : List T
       let k = it.among.0 in
       let x = map_at (decl_of here.whose s) (scope files s) k it.decl (ap (λ (l : List Decl). slice_get l k) (sym here.own) ∙ it.among.1) in
       let called : local_name x.0 ≡ id.name.now = ap (λ (d : Decl). d.name) x.2 ∙ it.same in
-      let form : (kind_of entry.0.kind).form ≡ name_form x.0 = it.form ∙ sym (ap (λ (d : Decl). d.form) x.2) in
+      let form : (kind_of entry.0.kind).form ≡ (about_name x.0).body.form = it.form ∙ sym (ap (λ (d : Decl). d.form) x.2) in
       let parts : AreAt ks (name_exprs s x.0) (kind_of entry.0.kind).parts = subst (λ (y : Exprs). AreAt ks y (kind_of entry.0.kind).parts) (sym (ap (λ (d : Decl). d.parts) x.2)) (all_at_untaken i ks it.decl.parts (kind_of entry.0.kind).parts it.parts) in
       let means : Means files s id x.0 = record { found = meaning_found (scope files s) k x.0 id.name.now here.distinct x.1 called } in
       let before : kind_end (entry_end n (take i es)) i (kind_of entry.0.kind).form (kind_of entry.0.kind).parts ≡ Some e = ap (found_end (entry_end n (take i es)) i) (sym entry.1) ∙ is in

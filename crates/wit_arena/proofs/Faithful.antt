@@ -11,7 +11,7 @@ use Rattle.wit_syntax.specs.Form.{Form, UnknownForm}
 use Rattle.wit_arena.specs.Kind.{kind_of}
 use Rattle.wit_syntax.specs.Shape.{Shape, Word}
 use Rattle.wit_syntax.specs.Address.{Address}
-use Rattle.wit_syntax.specs.Source.{ScopeName, Place, local_name, local_id, first_takings, name_body, name_scope, named_node}
+use Rattle.wit_syntax.specs.Source.{ScopeName, Place, local_name, local_id, first_takings, named_node, about_name}
 use Rattle.wit_syntax.specs.Trees.{scope}
 use Rattle.wit_arena.specs.Expr.{Expr, Exprs, expr_of}
 use Rattle.wit_arena.specs.Meet.{Key, Def, Whole, Meeting, keys, IsAt, Decls, IsEntry}
@@ -42,6 +42,7 @@ use Rattle.wit_arena.proofs.Standing.{DoneScope, IsWholeOf, IsInSignatureOf, IsS
 use Rattle.wit_arena.proofs.Stated.{has_types, function_at, named_at, entry_of, owner_at_name, parts_at}
 use Rattle.wit_arena.proofs.Takings.{taking_key}
 use Rattle.wit_arena.proofs.Unknowns.{unknown_front}
+use Rattle.std.specs.Option.{unwrap_or}
 
 -- an owner is that of one of these scopes
 pub record IsOwnerOf (cs : List DoneScope) (o : TypeOwner) (s : Address) : Type 0 where
@@ -123,7 +124,7 @@ module _ (files : List PackageFile) (decls : Decls) (written : List Meeting) (cs
       let q = (d.each w.place c w.at).turn.among w.index x w.among in
       let top = entry_of files decls written cs p.types d id.0 s (local_name x) id.2 in
       let inner = parts_at files decls written cs p.types d w.place c q.0 x id.0 top.0 w.at q.1 id.2 top.1 in
-      let one = all_lead files decls written cs p d (name_scope s x) (name_body x).parts (kind_of top.0.kind).parts j form parts inner there w.has in
+      let one = all_lead files decls written cs p d (unwrap_or (about_name x).from s) (about_name x).body.parts (kind_of top.0.kind).parts j form parts inner there w.has in
       let found = ap (λ (o : Option ScopeName). node_parts (named_node s o)) (means files decls written cs p d w.place c w.index x (local_name x) w.at w.among refl) in (
         one.leads.inner,
         record {

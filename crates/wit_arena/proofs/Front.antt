@@ -16,11 +16,11 @@ use Rattle.wit_package_names.specs.declared.package_name.PackageName.{PackageNam
 use Rattle.wit_syntax.specs.Shape.{all_handles}
 use Rattle.wit_syntax.specs.Function.{functions, name_types}
 use Rattle.wit_arena.specs.Functions.{AreFunctions}
-use Rattle.wit_syntax.specs.Address.{Address, ForeignNamed, same_address}
-use Rattle.wit_syntax.specs.Source.{Declared, TheInterface, TheWorld, TheInline, declared_address, Item, all_items, item_at, Taken, taken, local_name, Taking, takings, same_taking, first_takings, taken_names}
+use Rattle.wit_syntax.specs.Address.{Address, ForeignNamed, same_address, package_of}
+use Rattle.wit_syntax.specs.Source.{Declared, TheInterface, TheWorld, TheInline, Item, all_items, item_at, Taken, local_name, Taking, takings, same_taking, first_takings, taken_names, about}
 use Rattle.wit_syntax.specs.Sides.{all_scopes}
 use Rattle.wit_syntax.specs.Trees.{scope}
-use Rattle.wit_syntax.specs.Foreign.{ForeignVisit, visited_package, visited, foreign_interfaces, foreign_worlds}
+use Rattle.wit_syntax.specs.Foreign.{ForeignVisit, visited, foreign_interfaces, foreign_worlds}
 use Rattle.wit_arena.specs.Meet.{Key, Def, Meeting, keys, Decls, decl_of, IsEntry, IsNamedEntry, IsSettled, IsMeeting}
 use Rattle.wit_syntax.specs.Repeats.{AllDiffer}
 use Rattle.wit_arena.specs.Whole.{owner_at, taking_meeting, functions_at, turn_handles, AreRequired, IsForeignInterface}
@@ -137,7 +137,7 @@ front_at files front count t c at = elim (at_part (interface_scopes files 0 (for
 ]
 
 -- no declared item is of another package
-not_declared : (d : Declared) (p : PackageName) (name : List ℕ) → same_address (declared_address d) (ForeignNamed p name) ≡ false
+not_declared : (d : Declared) (p : PackageName) (name : List ℕ) → same_address (about d).address (ForeignNamed p name) ≡ false
 not_declared (TheInterface i) p name = refl
 not_declared (TheWorld w) p name = refl
 not_declared (TheInline world place x own items) p name = refl
@@ -157,11 +157,11 @@ pub no_functions : (ks : List Key) (s : Address) → AreFunctions ks s [] []
 no_functions ks s = record { count = refl; each = λ k fn f at. absurd (let f : ⊥ = cc in f) }
 
 -- what is taken holds no type
-no_types_taken : (ts : List Taking) → flat_map name_types (map taken ts) ≡ []
+no_types_taken : (ts : List Taking) → flat_map name_types (map (λ (t : Taking). Taken t.attributes t.id) ts) ≡ []
 no_types_taken [] = refl
 no_types_taken (t ∷ ts) = no_types_taken ts
 
-nothing_required : (files : List PackageFile) (ks : List Key) (s : Address) (ts : List Taking) → AreRequired files ks (turn_handles (record { address = s; names = map taken ts; functions = [] })) []
+nothing_required : (files : List PackageFile) (ks : List Key) (s : Address) (ts : List Taking) → AreRequired files ks (turn_handles (record { address = s; names = map (λ (t : Taking). Taken t.attributes t.id) ts; functions = [] })) []
 nothing_required files ks s ts = subst (λ (types : List Written). AreRequired files ks (map (λ id. (s, id)) (all_handles (types ++ []))) []) (sym (no_types_taken ts)) (required_none files ks)
 
 -- what is taken is named, so nothing has to be settled of it
@@ -173,7 +173,7 @@ pub front_interface_done : (files : List PackageFile) (ks : List Key) (i : ℕ) 
 front_interface_done files ks i v x is = record {
   turn = record { distinct = taken_distinct files (visited v); differ = taken_distinct files (visited v); among = λ k y yat. (k, yat); has = λ k y yat. (k, yat) };
   listed = is.types.names;
-  functions = sym (no_functions_at files (visited_package v) v.id.name.now);
+  functions = sym (no_functions_at files (package_of v.of) v.id.name.now);
   stated = rw is.functions nothing_stated;
 }
 
@@ -196,7 +196,7 @@ module _ (files : List PackageFile) (uses : AreUsableUses files (all_items files
       has = λ k y yat. (let t = taken_name_at files (visited w) k y yat in absurd (none_from_world i w at t.0 t.1 t.2 t.3));
     };
     listed = refl;
-    functions = sym (no_functions_at files (visited_package w) w.id.name.now);
+    functions = sym (no_functions_at files (package_of w.of) w.id.name.now);
     stated = nothing_stated;
   }
 

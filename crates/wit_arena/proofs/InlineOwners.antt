@@ -13,11 +13,11 @@ use Rattle.wit_functions.specs.declared.function.Function.{Function}
 use Rattle.wit_model.specs.declared.world.World.{World}
 use Rattle.wit_model.specs.declared.world.WorldKey.{WorldKey}
 use Rattle.wit_model.specs.declared.world.WorldItem.{WorldItem}
-use Rattle.wit_syntax.specs.Address.{Address, InlineAt}
+use Rattle.wit_syntax.specs.Address.{Address, InlineAt, InterfaceNamed}
 use Rattle.wit_syntax.specs.Crossing.{same_side}
 use Rattle.wit_syntax.specs.Function.{SourceFunction}
 use Rattle.wit_syntax.specs.Sides.{role_side, Link, SideItem, SideFunction, SideLink, SideInline, is_interface, item_side, interfaces_on, side_items, inline_behind, inline_items}
-use Rattle.wit_syntax.specs.Source.{Target, Local, Foreign, leads, path_scope, used_scope, Item, item_name, address, ScopeName}
+use Rattle.wit_syntax.specs.Source.{Target, Local, Foreign, leads, path_scope, Item, item_name, address, ScopeName, target_scope}
 use Rattle.wit_syntax.proofs.Addresses.{same_side-equal, side_itself}
 use Rattle.wit_syntax.proofs.Inline.{is_inside, interfaces_on-append}
 use Rattle.wit_syntax.proofs.Lists.{at_front, at_back}
@@ -109,7 +109,7 @@ module _ (world : List ℕ) (side : WorldSide) (before : List SideItem) (x : Sid
   put_first j e hit at = (j, ap (λ l. slice_get l j) (put_here hit) ∙ at_front (interface_at world side (on side before) z) later j e at)
 
 -- no path leads to an interface that is written in a world
-used_outside : (t : Target) → is_inside (used_scope t) ≡ false
+used_outside : (t : Target) → is_inside (target_scope InterfaceNamed t) ≡ false
 used_outside (Local id) = refl
 used_outside (Foreign p id) = refl
 

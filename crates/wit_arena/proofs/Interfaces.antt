@@ -11,7 +11,7 @@ use Rattle.std.proofs.lemmas.Option.{slice_get_within, slice_get-get_or}
 use Rattle.wit_tree.specs.declared.tree.PackageFile.{PackageFile}
 use Rattle.wit_types.specs.declared.types.TypeOwner.TheVariants as owner
 use Rattle.wit_syntax.specs.Address.{Address, InterfaceNamed, WorldNamed, InlineAt, ForeignNamed, same_address, is_foreign}
-use Rattle.wit_syntax.specs.Source.{Declared, TheInterface, TheWorld, TheInline, declared_id, declared_name, declared_address, is_declared_world, address, Item, all_items, item_name, is_world, item_named, item_at, scope_names}
+use Rattle.wit_syntax.specs.Source.{Declared, TheInterface, TheWorld, TheInline, address, Item, all_items, item_name, is_world, item_named, item_at, scope_names, about}
 use Rattle.wit_syntax.specs.Trees.{scope}
 use Rattle.wit_syntax.specs.Scope.{interfaces_of, worlds_of}
 use Rattle.wit_syntax.specs.Repeats.{AllDiffer}
@@ -79,17 +79,17 @@ module _ (files : List PackageFile) (ws : List Item) (items : AreItems files ws)
   }
 
 -- the address of a declared interface and what it is called, and the address of a world
-declared_at_interface : (a : Declared) → is_inside (declared_address a) ≡ false → is_declared_world a ≡ false → declared_address a ≡ InterfaceNamed (declared_id a).name.now
+declared_at_interface : (a : Declared) → is_inside (about a).address ≡ false → (about a).is_world ≡ false → (about a).address ≡ InterfaceNamed (about a).id.name.now
 declared_at_interface (TheInterface i) own h = refl
 declared_at_interface (TheWorld w) own h = absurd (let f : ⊥ = cc in f)
 declared_at_interface (TheInline world place x name items) own h = absurd (let f : ⊥ = cc in f)
 
-called_interface : (a : Declared) → is_inside (declared_address a) ≡ false → declared_name a ≡ Some (declared_id a).name.now
+called_interface : (a : Declared) → is_inside (about a).address ≡ false → (about a).called ≡ Some (about a).id.name.now
 called_interface (TheInterface i) own = refl
 called_interface (TheWorld w) own = refl
 called_interface (TheInline world place x name items) own = absurd (let f : ⊥ = cc in f)
 
-declared_at_world : (a : Declared) → is_declared_world a ≡ true → declared_address a ≡ WorldNamed (declared_id a).name.now
+declared_at_world : (a : Declared) → (about a).is_world ≡ true → (about a).address ≡ WorldNamed (about a).id.name.now
 declared_at_world (TheInterface i) h = absurd (let f : ⊥ = cc in f)
 declared_at_world (TheWorld w) h = refl
 declared_at_world (TheInline world place x name items) h = absurd (let f : ⊥ = cc in f)
@@ -101,14 +101,14 @@ module _ (files : List PackageFile) (ws : List Item) (items : AreItems files ws)
   pub interface_address : is_world w ≡ false → address w ≡ InterfaceNamed (item_name w)
   interface_address h = own_interface_address w (items_declared files ws items t w at) h
 
-  pub declared_called : declared_name w.declared ≡ Some (item_name w)
+  pub declared_called : (about w.declared).called ≡ Some (item_name w)
   declared_called = called_interface w.declared (items_declared files ws items t w at)
 
 pub world_address : (w : Item) → is_world w ≡ true → address w ≡ WorldNamed (item_name w)
 world_address w h = declared_at_world w.declared h
 
 -- it is of no other package
-own_declared : (a : Declared) → is_foreign (declared_address a) ≡ false
+own_declared : (a : Declared) → is_foreign (about a).address ≡ false
 own_declared (TheInterface i) = refl
 own_declared (TheWorld w) = refl
 own_declared (TheInline world place x name items) = refl

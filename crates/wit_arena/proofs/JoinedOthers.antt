@@ -12,8 +12,8 @@ use Rattle.wit_model.specs.declared.ast_item.AstItem.{AstItem}
 use Rattle.wit_model.specs.declared.ast_item.AstItem.TheVariants as entry
 use Rattle.wit_model.specs.declared.interface.Interface.{Interface}
 use Rattle.wit_model.specs.declared.unresolved.UnresolvedPackage.{UnresolvedPackage}
-use Rattle.wit_syntax.specs.Address.{Address, same_package, same_address}
-use Rattle.wit_syntax.specs.Foreign.{ForeignVisit, visited_package, visited, same_item, is_foreign_world, foreign_interfaces, foreign_worlds}
+use Rattle.wit_syntax.specs.Address.{Address, same_package, same_address, package_of}
+use Rattle.wit_syntax.specs.Foreign.{ForeignVisit, visited, same_item, foreign_interfaces, foreign_worlds}
 use Rattle.wit_syntax.specs.Notes.{stability_of}
 use Rattle.wit_syntax.specs.Repeats.{firsts}
 use Rattle.wit_syntax.specs.Source.{ScopeName, Taking, same_taking}
@@ -31,13 +31,13 @@ abbrev items_by : List ForeignVisit → List ForeignVisit
 items_by vs = firsts same_item vs
 
 abbrev interfaces_by : List ForeignVisit → List ForeignVisit
-interfaces_by vs = filter (λ v. not (is_foreign_world v)) (items_by vs)
+interfaces_by vs = filter (λ v. not v.wants_world) (items_by vs)
 
 abbrev worlds_by : List ForeignVisit → List ForeignVisit
-worlds_by vs = filter is_foreign_world (items_by vs)
+worlds_by vs = filter (λ (v : ForeignVisit). v.wants_world) (items_by vs)
 
 abbrev packages_by : List ForeignVisit → List ForeignVisit
-packages_by vs = firsts (λ a b. same_package (visited_package a) (visited_package b)) vs
+packages_by vs = firsts (λ a b. same_package (package_of a.of) (package_of b.of)) vs
 
 abbrev entry_by : List ForeignVisit → ForeignVisit → AstItem
 entry_by vs v = if v.wants_world then entry.World (foreign_place (worlds_by vs) v) else entry.Interface (foreign_place (interfaces_by vs) v)
@@ -46,7 +46,7 @@ abbrev item_by : List ForeignVisit → ForeignVisit → List ℕ × (AstItem × 
 item_by vs v = (v.id.name.now, (entry_by vs v, map (λ u. stability_of u.attributes) (filter (λ u. same_address (visited u) (visited v)) vs)))
 
 abbrev dep_by : List ForeignVisit → ForeignVisit → PackageName × List (List ℕ × (AstItem × List Stability))
-dep_by vs v = (visited_package v, map (item_by vs) (filter (λ u. same_package (visited_package u) (visited_package v)) (items_by vs)))
+dep_by vs v = (package_of v.of, map (item_by vs) (filter (λ u. same_package (package_of u.of) (package_of v.of)) (items_by vs)))
 
 -- declarations that are the same of each scope make the same meeting
 entry_again : (d e : Decls) → ((s : Address) → d s ≡ e s) → (ks : List Key) (k : Key) (t : TypeDef) → IsEntry d ks k t → IsEntry e ks k t

@@ -14,7 +14,7 @@ use Rattle.wit_model.specs.declared.unresolved.UnresolvedPackage.{UnresolvedPack
 use Rattle.wit_syntax.specs.Address.{Address}
 use Rattle.wit_syntax.specs.Foreign.{ForeignVisit, visited, foreign_interfaces, foreign_worlds}
 use Rattle.wit_syntax.specs.Function.{functions}
-use Rattle.wit_syntax.specs.Source.{declared_id, declared_name, declared_notes, declared_address, address}
+use Rattle.wit_syntax.specs.Source.{declared_notes, address, about}
 use Rattle.wit_syntax.specs.Splitting.{IsJoined}
 use Rattle.wit_syntax.proofs.Lists.{map_map}
 use Rattle.wit_syntax.proofs.JoinedItems.{bare, ArePlain}
@@ -34,10 +34,10 @@ use Rattle.wit_arena.proofs.JoinedSides.{sides_onward, includes_onward}
 use Rattle.wit_arena.proofs.JoinedOthers.{others_onward, foreign_interfaces_same, foreign_worlds_same, foreign_onward, declarations_same, meeting_again, required_onward}
 
 abbrev told_address : Told → Address
-told_address x = declared_address x.0
+told_address x = (about x.0).address
 
 abbrev world_address : ToldWorld → Address
-world_address w = declared_address w.0.0
+world_address w = (about w.0.0).address
 
 addresses_told : (os : List Ordered) → addresses os ≡ map told_address (map told os)
 addresses_told os = sym (map_map told_address told os)
@@ -56,9 +56,9 @@ interfaces_onward ks os qs is same h = record {
       let it = matched told told os qs same t q at in
       let is_one = h.each t it.0 i it.1 there in
       record {
-        says = subst (λ (x : Told). IsInterface (declared_name x.0) (declared_id x.0).span (declared_notes x.0) i) it.2 is_one.says;
+        says = subst (λ (x : Told). IsInterface (about x.0).called (about x.0).id.span (declared_notes x.0) i) it.2 is_one.says;
         types = subst (λ (x : Told). HasTypes ks (turned_of x) i.types) it.2 is_one.types;
-        functions = subst (λ (x : Told). (fs : List Function) × AreFunctions ks (declared_address x.0) (functions (bare x.0)) fs × (i.functions ≡ placed_functions fs)) it.2 is_one.functions;
+        functions = subst (λ (x : Told). (fs : List Function) × AreFunctions ks (about x.0).address (functions (bare x.0)) fs × (i.functions ≡ placed_functions fs)) it.2 is_one.functions;
       });
 }
 
@@ -83,7 +83,7 @@ module _ (ks : List Key) (interfaces worlds : List Address) (ws vs : List Ordere
         let it = like t v at in
         let is_one = h.each t it.0 w it.1 there in
         record {
-          says = subst (λ (x : Told). IsWorld (declared_id x.0).name.now (declared_id x.0).span (declared_notes x.0) w) (ap own_told it.2) is_one.says;
+          says = subst (λ (x : Told). IsWorld (about x.0).id.name.now (about x.0).id.span (declared_notes x.0) w) (ap own_told it.2) is_one.says;
           types = subst (λ (x : Told). HasTypes ks (turned_of x) (world_types w)) (ap own_told it.2) is_one.types;
           sides = sides_of_like it.0 v w t it.1 at it.2 is_one.sides;
           includes = includes_onward worlds it.0.own v.own w.includes (left t it.0.own.item (slice_get-map own_item ws t ∙ ap (option_map own_item) it.1)) (right t v.own.item (slice_get-map own_item vs t ∙ ap (option_map own_item) at)) (ap own_told it.2) is_one.includes;

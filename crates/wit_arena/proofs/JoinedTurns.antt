@@ -4,7 +4,7 @@ use Rattle.std.specs.Prelude.{slice_get, map}
 use Rattle.std.specs.List.{filter, cons_option}
 use Rattle.std.specs.Option.{option_map}
 use Rattle.std.proofs.lemmas.Option.{slice_get-map}
-use Rattle.wit_syntax.specs.Source.{Declared, is_declared_world, Item, ScopeName, scope_names}
+use Rattle.wit_syntax.specs.Source.{Declared, Item, ScopeName, scope_names, about}
 use Rattle.wit_syntax.specs.Scope.{in_order, interfaces_of, worlds_of}
 use Rattle.wit_syntax.specs.Splitting.{declared_of}
 use Rattle.wit_syntax.proofs.Kept.{behind_one, kept_at}
@@ -53,10 +53,10 @@ module _ (is js : List Item) (t : AreTwins is js) where
   }
 
   pub twin_interfaces : AreTwins (interfaces_of is) (interfaces_of js)
-  twin_interfaces = twins_kept (λ (d : Declared). not (is_declared_world d))
+  twin_interfaces = twins_kept (λ (d : Declared). not (about d).is_world)
 
   pub twin_worlds : AreTwins (worlds_of is) (worlds_of js)
-  twin_worlds = twins_kept is_declared_world
+  twin_worlds = twins_kept (λ (d : Declared). (about d).is_world)
 
 -- the same orders over other items
 -- the same orders over other items

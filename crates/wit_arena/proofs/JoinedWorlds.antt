@@ -5,7 +5,7 @@ use Rattle.std.specs.List.{flat_map}
 use Rattle.std.proofs.lemmas.List.{map-append}
 use Rattle.wit_syntax.specs.Address.{Address}
 use Rattle.wit_syntax.specs.Function.{functions}
-use Rattle.wit_syntax.specs.Source.{declared_address, Item, address}
+use Rattle.wit_syntax.specs.Source.{Item, address, about}
 use Rattle.wit_syntax.specs.Scope.{in_turn}
 use Rattle.wit_syntax.specs.Sides.{SideItem, SideFunction, SideLink, SideInline, side_items, inline_items}
 use Rattle.wit_syntax.proofs.Lists.{map_map}
@@ -75,7 +75,7 @@ reworlded_inside (w ∷ ws) (j ∷ js) has t (suc k) v at = reworlded_inside ws 
 
 -- what is resolved is told by that
 abbrev pub turned_of : Told → Turned
-turned_of x = record { address = declared_address x.0; names = in_turn x.1 x.2; functions = functions (bare x.0) }
+turned_of x = record { address = (about x.0).address; names = in_turn x.1 x.2; functions = functions (bare x.0) }
 
 abbrev side_turned : Address → List SideItem → List Turned → List Turned
 side_turned s [] ts = []
@@ -92,7 +92,7 @@ side_turns_told s (SideInline x name items ∷ xs) [] = side_turns_told s xs []
 side_turns_told s (SideInline x name items ∷ xs) (o ∷ os) = ap (λ (l : List Turned). turned o ∷ l) (side_turns_told s xs os)
 
 abbrev world_turned : ToldWorld → List Turned
-world_turned w = names_turn (declared_address w.0.0) (in_turn w.0.1 w.0.2) ∷ side_turned (declared_address w.0.0) (side_items (bare w.0.0)) (map turned_of w.1)
+world_turned w = names_turn (about w.0.0).address (in_turn w.0.1 w.0.2) ∷ side_turned (about w.0.0).address (side_items (bare w.0.0)) (map turned_of w.1)
 
 world_turns_told : (w : OrderedWorld) → world_turns w ≡ world_turned (told_world w)
 world_turns_told w =

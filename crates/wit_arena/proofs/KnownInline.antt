@@ -15,7 +15,7 @@ use Rattle.wit_syntax.specs.Address.{Address, InlineAt}
 use Rattle.wit_syntax.specs.Repeats.{AllDiffer}
 use Rattle.wit_syntax.specs.Scope.{includes}
 use Rattle.wit_syntax.specs.Sides.{interfaces_on, side_items, inline_items}
-use Rattle.wit_syntax.specs.Source.{Item, item_name, address, declared_name}
+use Rattle.wit_syntax.specs.Source.{Item, item_name, address, about}
 use Rattle.wit_syntax.proofs.Found.{find_at, find_passes, find_some}
 use Rattle.wit_syntax.proofs.Inline.{is_inside, inline_items_at, inline_inside}
 use Rattle.wit_syntax.proofs.Lists.{at_back, at_within, flat_map_at, flat_map_has}
@@ -33,7 +33,7 @@ pub record IsWrittenAt (w i : Item) : Type 0 where
   pub side : WorldSide
   pub place : ℕ
   pub stands : address i ≡ InlineAt (item_name w) side place
-  pub unnamed : declared_name i.declared ≡ None
+  pub unnamed : (about i.declared).called ≡ None
 
 pub written_at : (w : Item) (k : ℕ) (i : Item) → slice_get (inline_items w) k ≡ Some i → IsWrittenAt w i
 written_at w k i at =
@@ -42,7 +42,7 @@ written_at w k i at =
       side = it.x.side;
       place = length (interfaces_on it.x.side (take it.place (side_items w)));
       stands = ap address (sym it.is);
-      unnamed = ap (λ (v : Item). declared_name v.declared) (sym it.is);
+      unnamed = ap (λ (v : Item). (about v.declared).called) (sym it.is);
     }
 
 module _ (ks : List Key) (interfaces worlds : List Address) (p : UnresolvedPackage) (front own : List World) (arena : p.worlds ≡ front ++ own) (none : (t : ℕ) (w : World) → slice_get front t ≡ Some w → world_interfaces w ≡ []) (ws : List OrderedWorld) (written : (t : ℕ) (o : OrderedWorld) → slice_get ws t ≡ Some o → map item_of o.inside ≡ inline_items o.own.item) (are : OneByOne (IsResolvedWorld ks interfaces worlds) ws own) where

@@ -16,7 +16,7 @@ use Rattle.wit_syntax.specs.Foreign.{visited, foreign_interfaces, foreign_worlds
 use Rattle.wit_syntax.specs.Function.{SourceFunction, functions}
 use Rattle.wit_syntax.specs.Scope.{includes, in_order, interfaces_of}
 use Rattle.wit_syntax.specs.Sides.{inline_items, side_items}
-use Rattle.wit_syntax.specs.Source.{Item, address, all_items, item_id, item_name}
+use Rattle.wit_syntax.specs.Source.{Item, address, all_items, item_name, about}
 use Rattle.wit_syntax.proofs.Inline.{inline_interface}
 use Rattle.wit_syntax.proofs.Legal.{functions_items}
 use Rattle.wit_syntax.proofs.Lists.{at_front, at_back, at_split, at_within, map_at, flat_map_at}
@@ -128,7 +128,7 @@ module _ (files : List PackageFile) (legal : IsLegal files) (p : UnresolvedPacka
       let is = h.are_worlds.each t o w at there in
       let s = is.sides in
       let here = own_world files legal p h t w there in
-      let id = item_id item in
+      let id = (about item.declared).id in
       let sort = (worlds_sort all).each t item (world_place files legal os ws h.first.ordered t o at) in
       let stated = subst (λ (l : List SourceFunction). AreStated l s.functions (world_functions w)) (sym (functions_items item)) (stated_settled interfaces item.top (ordered_names o.own) (world_types w) (side_items item) s.functions (addresses o.inside) (includes item) s.imported s.exported w s.imports s.exports s.are_imported s.are_exported) in
       record {

@@ -1,6 +1,6 @@
 -- Where the paths of items lead.
 use Rattle.std.proofs.Common.{◌≡◌, ℕ, zero, suc, ◌<◌, Bool, true, false, List, [], ◌∷◌, ◌++◌, take, drop, Option, Some, None, ◌⊎◌, inl, inr, refl, sym, ap, ◌∙◌, subst, arith, Contains}
-use Rattle.std.specs.Prelude.{slice_get, slice_index, map}
+use Rattle.std.specs.Prelude.{if◌then◌else◌, slice_get, slice_index, map}
 use Rattle.std.specs.List.{filter, flat_map}
 use Rattle.std.specs.Option.{option_map}
 use Rattle.std.specs.Str.{bytes_eq}
@@ -20,9 +20,9 @@ use Rattle.wit_package_names.specs.declared.package_name.PackageName.{PackageNam
 use Rattle.wit_graph.specs.Table.{Row, target, IsEdge, Leads, IsOrder}
 use Rattle.wit_graph.proofs.Tables.{slice_get-take}
 use Rattle.wit_syntax.specs.Address.{Address, InterfaceNamed, ForeignNamed, is_foreign}
-use Rattle.wit_syntax.specs.Source.{TopName, Declared, TheInterface, TheWorld, TheInline, is_declared_world, Part, Defining, Using, Including, Doing, Crossing, interface_part, declared_parts, Target, Local, Foreign, leads, used_scope, path_scope, Item, Used, all_items, item_name, is_world, parts, item_named, scope_names, taking, takings}
+use Rattle.wit_syntax.specs.Source.{TopName, Declared, TheInterface, TheWorld, TheInline, Part, Defining, Using, Including, Doing, Crossing, interface_part, Target, Local, Foreign, leads, path_scope, Item, Used, all_items, item_name, is_world, parts, item_named, scope_names, taking, takings, about, target_scope}
 use Rattle.wit_syntax.specs.Foreign.{ForeignVisit, visited, foreign_interfaces}
-use Rattle.wit_syntax.specs.Scope.{in_order, use_path, include_path, use_paths, include_paths, needed_path, local_target, item_row, item_rows, uses, part_includes, includes}
+use Rattle.wit_syntax.specs.Scope.{in_order, include_path, use_paths, include_paths, needed_paths, local_target, item_row, item_rows, uses, part_includes, includes}
 use Rattle.wit_syntax.specs.Sides.{with_inline, all_scopes}
 use Rattle.wit_syntax.specs.Broken.{is_world_at}
 use Rattle.wit_arena.specs.Resolved.{AreUsableUses}
@@ -61,25 +61,11 @@ kept_early test xs places n t q x lt at there passes =
     kept_has test (in_order xs (take n places)) it.0 x passes it.1
 
 -- an interface needs its uses, and a world its includes
-needed_of_interface : (a : Declared) → is_declared_world a ≡ false → needed_path a ≡ use_path
-needed_of_interface (TheInterface i) h = refl
-needed_of_interface (TheWorld w) h = absurd (let f : ⊥ = cc in f)
-needed_of_interface (TheInline world place x name items) h = refl
+pub paths_of_interface : (w : Item) → is_world w ≡ false → needed_paths w ≡ use_paths w
+paths_of_interface w h = ap (λ (world : Bool). if world then include_paths w else use_paths w) h
 
-needed_of_world : (a : Declared) → is_declared_world a ≡ true → needed_path a ≡ include_path
-needed_of_world (TheInterface i) h = absurd (let f : ⊥ = cc in f)
-needed_of_world (TheWorld w) h = refl
-needed_of_world (TheInline world place x name items) h = absurd (let f : ⊥ = cc in f)
-
--- the paths to items that have to come before an item
-abbrev pub paths : Item → List UsePath
-paths w = flat_map (needed_path w.declared) (parts w)
-
-pub paths_of_interface : (w : Item) → is_world w ≡ false → paths w ≡ use_paths w
-paths_of_interface w h = ap (λ (of : Part → List UsePath). flat_map of (parts w)) (needed_of_interface w.declared h)
-
-pub paths_of_world : (w : Item) → is_world w ≡ true → paths w ≡ include_paths w
-paths_of_world w h = ap (λ (of : Part → List UsePath). flat_map of (parts w)) (needed_of_world w.declared h)
+pub paths_of_world : (w : Item) → is_world w ≡ true → needed_paths w ≡ include_paths w
+paths_of_world w h = ap (λ (world : Bool). if world then include_paths w else use_paths w) h
 
 -- the path of an include is that of one of the includes
 include_of : (ps : List Part) (k : ℕ) (path : UsePath) → slice_get (flat_map include_path ps) k ≡ Some path → (i : Include) × (slice_get (flat_map part_includes ps) k ≡ Some i) × (path ≡ i.from)
@@ -107,7 +93,7 @@ none_included (interface_item.Func f ∷ items) path h = none_included items pat
 pub interface_includes_none : (w : Item) → is_world w ≡ false → (path : UsePath) → Contains (include_paths w) path → ⊥
 interface_includes_none w h path among = of_declared w.declared h among
   where
-    of_declared : (a : Declared) → is_declared_world a ≡ false → Contains (flat_map include_path (declared_parts a)) path → ⊥
+    of_declared : (a : Declared) → (about a).is_world ≡ false → Contains (flat_map include_path (about a).parts) path → ⊥
     of_declared (TheInterface i) h among = none_included i.items.items path among
     of_declared (TheWorld w) h among = let f : ⊥ = cc in f
     of_declared (TheInline world place x name items) h among = none_included items path among
@@ -145,10 +131,10 @@ module _ (files : List PackageFile) where
       (before.index, b.0, v.0, below, m, v.1, v.2)
 
   -- what a path of an item that has to come before it leads to stands before it in the order
-  pub needed_before : (places : List ℕ) → IsOrder (item_rows files) places → (k p : ℕ) (w : Item) (path : UsePath) (id : Id) → slice_get places k ≡ Some p → slice_get all p ≡ Some w → Contains (paths w) path → leads w.top path ≡ Local id → (t : ℕ) × (q : ℕ) × (v : Item) × (t < k) × (slice_get places t ≡ Some q) × (slice_get all q ≡ Some v) × (id.name.now ≡ item_name v)
+  pub needed_before : (places : List ℕ) → IsOrder (item_rows files) places → (k p : ℕ) (w : Item) (path : UsePath) (id : Id) → slice_get places k ≡ Some p → slice_get all p ≡ Some w → Contains (needed_paths w) path → leads w.top path ≡ Local id → (t : ℕ) × (q : ℕ) × (v : Item) × (t < k) × (slice_get places t ≡ Some q) × (slice_get all q ≡ Some v) × (id.name.now ≡ item_name v)
   needed_before places order k p w path id next at among lead =
-      let i = at_contains (paths w) path among in
-      let j = flat_map_has (λ (x : UsePath). local_target (leads w.top x)) (paths w) i.0 0 path id i.1 (ap (λ (t : Target). slice_get (local_target t) 0) lead) in
+      let i = at_contains (needed_paths w) path among in
+      let j = flat_map_has (λ (x : UsePath). local_target (leads w.top x)) (needed_paths w) i.0 0 path id i.1 (ap (λ (t : Target). slice_get (local_target t) 0) lead) in
       edge_before places order k p j.0 id next (item_row w, item_row_at files p w at, j.1)
 
   -- the item of a name is the one at a place that has it
@@ -210,7 +196,7 @@ module _ (files : List PackageFile) where
     foreign_use : (q : ℕ) (w : Item) (u : Use) (j : ℕ) (n : UseName) (p : PackageName) (id : Id) → slice_get all q ≡ Some w → Contains (uses w) u → slice_get u.names.items j ≡ Some n → leads w.top u.from ≡ Foreign p id → IsForeignUse (path_scope w.top u.from) n
     foreign_use q w u j n p id at among name lead =
         let v = used_interface_visit files usable q w u p id at among lead in
-        let from : path_scope w.top u.from ≡ ForeignNamed p id.name.now = ap used_scope lead in
+        let from : path_scope w.top u.from ≡ ForeignNamed p id.name.now = ap (target_scope InterfaceNamed) lead in
         let t = taking_has files q w u j n at among name (ap is_foreign from) in
         record { place = v.0; v = v.1; at = v.2; is = v.3 ∙ sym from; attributes = u.attributes.items; index = t.0; taken = t.1 }
 
@@ -228,7 +214,7 @@ module _ (files : List PackageFile) where
             option_cases (item_named all id.name.now) (IsOwnUse from ⊎ IsForeignUse from n) (λ v found. (
             let p = find_at (λ (x : Item). bytes_eq (item_name x) id.name.now) all v found in
             let called = name_equal (item_name v) id.name.now (find_passes (λ (x : Item). bytes_eq (item_name x) id.name.now) all v found) in
-            inl (record { place = p.0; item = v; at = p.1; sort = used_is_interface w v u id own used lead found; is = is ∙ ap used_scope lead ∙ ap InterfaceNamed (sym called) })))
+            inl (record { place = p.0; item = v; at = p.1; sort = used_is_interface w v u id own used lead found; is = is ∙ ap (target_scope InterfaceNamed) lead ∙ ap InterfaceNamed (sym called) })))
             (λ none. absurd (
             let wrong : None ≡ Some false = sym (ap (option_map is_world) none) ∙ used_leads w u id own used lead in
             let f : ⊥ = cc in
@@ -247,5 +233,5 @@ module _ (files : List PackageFile) where
             let b = needed_before places order k p w u.from id next at (subst (λ (l : List UsePath). Contains l u.from) (sym (paths_of_interface w sort)) (use_path_at w m u part)) lead in
             let found = named_at differ id.name.now b.1 b.2 b.5 b.6 in
             let right = used_is_interface w b.2 u id (contains_at all p w at) (use_at w m u part) lead found in
-            inl (record { own = record { place = b.1; item = b.2; at = b.5; sort = right; is = is ∙ ap used_scope lead ∙ ap InterfaceNamed b.6 }; index = b.0; before = b.3; at = b.4 })
+            inl (record { own = record { place = b.1; item = b.2; at = b.5; sort = right; is = is ∙ ap (target_scope InterfaceNamed) lead ∙ ap InterfaceNamed b.6 }; index = b.0; before = b.3; at = b.4 })
         by_target m u j part name is (Foreign q id) lead = inr (subst (λ (s : Address). IsForeignUse s n) (sym is) (foreign_use p w u j n q id at (use_at w m u part) name lead))

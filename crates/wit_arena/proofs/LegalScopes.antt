@@ -11,11 +11,11 @@ use Rattle.wit_syntax.specs.Bodies.{IsSecond}
 use Rattle.wit_syntax.specs.Broken.{is_world_at, IsBrokenNames, DuplicateItem, Items, DefinedTwice, MissingUse, WorldUsed, Scope, Use, IsLegal}
 use Rattle.wit_syntax.specs.Crossing.{extern_paths, inline_uses}
 use Rattle.wit_syntax.specs.Fault.{Fault, fault, missing_at, item_word}
-use Rattle.wit_syntax.specs.Foreign.{is_foreign_world, foreign_at}
+use Rattle.wit_syntax.specs.Foreign.{foreign_at, ForeignVisit}
 use Rattle.wit_syntax.specs.Repeats.{AllDiffer}
 use Rattle.wit_syntax.specs.Scope.{AreDistinct, used, defined, use_path, use_paths, part_uses, uses}
 use Rattle.wit_syntax.specs.Sides.{all_scopes}
-use Rattle.wit_syntax.specs.Source.{Part, Defining, Using, Including, Doing, Crossing, Target, Local, Foreign, Item, address, all_items, item_at, item_id, item_name, item_named, is_world, leads, local_id, local_name, parts, path_id, scope_names}
+use Rattle.wit_syntax.specs.Source.{Part, Defining, Using, Including, Doing, Crossing, Target, Local, Foreign, Item, address, all_items, item_at, item_name, item_named, is_world, leads, local_id, local_name, parts, path_id, scope_names, about}
 use Rattle.wit_syntax.specs.Trees.{scope}
 use Rattle.wit_syntax.proofs.Found.{at_contains, contains_at, find_at}
 use Rattle.wit_syntax.proofs.Legal.{three_ways}
@@ -38,7 +38,7 @@ all_differ key told xs never = differ_by key xs (λ i j x y at_x at_y same. elim
 
 -- where no rule about names is broken, the names of items differ
 pub distinct_items : (files : List PackageFile) → ((f : Fault) → IsBrokenNames files f → ⊥) → AllDiffer (map item_name (all_items files))
-distinct_items files legal = all_differ item_name (λ (i : Item). fault 5 (item_id i).span) (all_items files) (λ f second. legal f (Items (DuplicateItem second)))
+distinct_items files legal = all_differ item_name (λ (i : Item). fault 5 (about i.declared).id.span) (all_items files) (λ f second. legal f (Items (DuplicateItem second)))
 
 -- the path of a `use` of a part is one of it
 path_of_use : (x : Part) (j : ℕ) (u : WrittenUse) → slice_get (part_uses x) j ≡ Some u → (i : ℕ) × (slice_get (use_path x) i ≡ Some u.from)
@@ -100,8 +100,8 @@ module _ (files : List PackageFile) (legal : IsLegal files) where
       let here = leads_visited files q.0 w u p id q.1 used lead in
       let it = visit_listed files here.place here.v here.at in
       let v = it.1 in
-      let found : is_world_at files (Foreign p id) ≡ Some (is_foreign_world v) = ap (λ (s : Address). option_map is_foreign_world (foreign_at files s)) (sym (it.3 ∙ here.is)) ∙ ap (option_map is_foreign_world) (foreign_at-visited files it.0 v it.2) in
-      elim (cases_Bool (is_foreign_world v)) [
+      let found : is_world_at files (Foreign p id) ≡ Some v.wants_world = ap (λ (s : Address). option_map (λ (v : ForeignVisit). v.wants_world) (foreign_at files s)) (sym (it.3 ∙ here.is)) ∙ ap (option_map (λ (v : ForeignVisit). v.wants_world)) (foreign_at-visited files it.0 v it.2) in
+      elim (cases_Bool v.wants_world) [
         | inl world ↦ absurd (no_world_used w u among used (ap (is_world_at files) lead ∙ found ∙ ap Some world))
         | inr other ↦ found ∙ ap Some other
       ]

@@ -1,7 +1,7 @@
 -- Where each type stands at its place, so do those below it, by one path.
 use Rattle.std.proofs.Common.{◌≡◌, ℕ, suc, List, [], ◌∷◌, Option, Some, None, inl, inr, refl, sym, ap, ◌∙◌, subst}
 use Rattle.std.specs.Prelude.{slice_get}
-use Rattle.std.specs.Option.{option_map_or}
+use Rattle.std.specs.Option.{option_map_or, unwrap_or}
 use Rattle.wit_values.specs.declared.span.Span.{Span}
 use Rattle.wit_type_tree.specs.declared.leaves.Id.{Id}
 use Rattle.wit_tree.specs.declared.tree.PackageFile.{PackageFile}
@@ -14,7 +14,7 @@ use Rattle.wit_syntax.specs.Node.{Nothing}
 use Rattle.wit_syntax.specs.Shape.{Shape, Shapes}
 use Rattle.wit_syntax.specs.Shape as shape
 use Rattle.wit_syntax.specs.Address.{Address}
-use Rattle.wit_syntax.specs.Source.{ScopeName, Place, local_name, meaning, name_body, name_scope, named_node, placed}
+use Rattle.wit_syntax.specs.Source.{ScopeName, Place, local_name, meaning, named_node, placed, about_name}
 use Rattle.wit_syntax.specs.Trees.{scope, source_node}
 use Rattle.wit_arena.specs.Kind.{kind_of}
 use Rattle.wit_arena.specs.Expr.{Exprs, expr_of, exprs_of, name_exprs}
@@ -68,8 +68,8 @@ module _ (files : List PackageFile) (decls : Decls) (written : List Meeting) (cs
       let parts : AreAt ks (name_exprs s x) (kind_of e.0.kind).parts = subst (λ (z : Address). AreAt ks (name_exprs z x) (kind_of e.0.kind).parts) it.scope (parts_at files decls written cs p.types d it.place c q.0 x i e.0 it.at q.1 there e.1) in
       let found : meaning (scope files s) id.name.now ≡ Some x = ap (λ (z : Address). meaning (scope files z) id.name.now) (sym it.scope) ∙ means it.place c it.index x id.name.now it.at it.among it.called in
       record {
-        scope = name_scope s x;
-        parts = (name_body x).parts;
+        scope = unwrap_or (about_name x).from s;
+        parts = (about_name x).body.parts;
         source = ap (λ (o : Option ScopeName). node_parts (named_node s o)) found;
         are = subst (AreAt ks (name_exprs s x)) (sym (type_parts p i e.0 e.1)) parts;
       }

@@ -17,8 +17,8 @@ use Rattle.wit_types.specs.declared.types.TypeDef.{TypeDef}
 use Rattle.wit_model.specs.declared.unresolved.UnresolvedPackage.{UnresolvedPackage}
 use Rattle.wit_graph.specs.Table.{IsOrder}
 use Rattle.wit_syntax.specs.Address.{Address, WorldNamed, ForeignNamed}
-use Rattle.wit_syntax.specs.Source.{address, Target, Local, Foreign, leads, item_named, included_scope, is_world, Item, all_items, item_name}
-use Rattle.wit_syntax.specs.Foreign.{visited, is_foreign_world, foreign_interfaces, foreign_worlds, foreign_at}
+use Rattle.wit_syntax.specs.Source.{address, Target, Local, Foreign, leads, item_named, is_world, Item, all_items, item_name, target_scope}
+use Rattle.wit_syntax.specs.Foreign.{visited, foreign_interfaces, foreign_worlds, foreign_at, ForeignVisit}
 use Rattle.wit_syntax.specs.Scope.{in_order, uses as uses_of, include_paths, includes, item_rows, interfaces_of, worlds_of}
 use Rattle.std.specs.List.{flat_map}
 use Rattle.wit_arena.specs.Meet.{Meeting}
@@ -59,7 +59,7 @@ world_named a b h = cc
 
 -- where an include leads, to a world
 module _ (files : List PackageFile) (ws : List Item) (items : AreItems files ws) (worlds : AreOfSort true ws) where
-  own_world : (j : ℕ) (t : Target) → slice_get (map address ws) j ≡ Some (included_scope t) → is_world_at files t ≡ Some true
+  own_world : (j : ℕ) (t : Target) → slice_get (map address ws) j ≡ Some (target_scope WorldNamed t) → is_world_at files t ≡ Some true
   own_world j (Local id) at =
       let v = map_at address ws j (WorldNamed id.name.now) at in
       let sort = worlds.each j v.0 v.1 in
@@ -70,7 +70,7 @@ module _ (files : List PackageFile) (ws : List Item) (items : AreItems files ws)
       let f : ⊥ = cc in
       f)
 
-  foreign_world : (j : ℕ) (t : Target) → slice_get (map visited (foreign_worlds files)) j ≡ Some (included_scope t) → is_world_at files t ≡ Some true
+  foreign_world : (j : ℕ) (t : Target) → slice_get (map visited (foreign_worlds files)) j ≡ Some (target_scope WorldNamed t) → is_world_at files t ≡ Some true
   foreign_world j (Local id) at = absurd (
       let wrong : true ≡ false = sym (visited_foreign (foreign_worlds files) j (WorldNamed id.name.now) at) in
       let f : ⊥ = cc in
@@ -78,10 +78,10 @@ module _ (files : List PackageFile) (ws : List Item) (items : AreItems files ws)
   foreign_world j (Foreign p id) at =
       let v = map_at visited (foreign_worlds files) j (ForeignNamed p id.name.now) at in
       let q = world_visit files j v.0 v.1 in
-      ap (λ (s : Address). option_map is_foreign_world (foreign_at files s)) (sym v.2) ∙ ap (option_map is_foreign_world) (foreign_at-visited files q.0 v.0 q.1) ∙ ap Some q.2
+      ap (λ (s : Address). option_map (λ (v : ForeignVisit). v.wants_world) (foreign_at files s)) (sym v.2) ∙ ap (option_map (λ (v : ForeignVisit). v.wants_world)) (foreign_at-visited files q.0 v.0 q.1) ∙ ap Some q.2
 
-  included_world : (j : ℕ) (t : Target) → slice_get (world_list files ws) j ≡ Some (included_scope t) → is_world_at files t ≡ Some true
-  included_world j t at = elim (at_part (map visited (foreign_worlds files)) (map address ws) j (included_scope t) at) [
+  included_world : (j : ℕ) (t : Target) → slice_get (world_list files ws) j ≡ Some (target_scope WorldNamed t) → is_world_at files t ≡ Some true
+  included_world j t at = elim (at_part (map visited (foreign_worlds files)) (map address ws) j (target_scope WorldNamed t) at) [
     | inl h ↦ foreign_world h.0 t h.1
     | inr h ↦ own_world h.0 t h.1
   ]
@@ -93,7 +93,7 @@ module _ (files : List PackageFile) (ws : List Item) (items : AreItems files ws)
       let count = says.count in
       let lt = slice_get_within (includes w) k.0 k.1 k.2 in
       let i = at_within is k.0 (omega arith) in
-      included_world i.0.id (leads w.top path) ((says.each k.0 k.1 i.0 k.2 i.1).place ∙ ap (λ (x : UsePath). Some (included_scope (leads w.top x))) (sym k.3))
+      included_world i.0.id (leads w.top path) ((says.each k.0 k.1 i.0 k.2 i.1).place ∙ ap (λ (x : UsePath). Some (target_scope WorldNamed (leads w.top x))) (sym k.3))
 
 module _ (files : List PackageFile) (places : List ℕ) (order : IsOrder (item_rows files) places) (names : (f : Fault) → IsBrokenNames files f → ⊥) (uses : AreUsableUses files (all_items files)) (es middle new : List TypeDef) (front is : List Interface) (wfront : List World) (a : WorldArenas) (irs wrs : List Required) (foreign : AddsForeign files es front wfront) (added : AddsInterfaces (map visited (foreign_interfaces files)) es middle front is irs (interfaces_of (in_order (all_items files) places))) (more : AddsWorlds (map visited (foreign_interfaces files)) (map visited (foreign_worlds files)) is middle new (front_worlds wfront) a wrs (worlds_of (in_order (all_items files) places))) where
   abbrev differ : AllDiffer (map item_name (all_items files))

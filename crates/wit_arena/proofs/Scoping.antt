@@ -11,7 +11,7 @@ use Rattle.wit_graph.specs.Table.{Row, target, IsEdge, Leads, IsOrder}
 use Rattle.wit_graph.proofs.Tables.{slice_get-take}
 use Rattle.wit_syntax.specs.Source.{ScopeName, Defined, local_name}
 use Rattle.wit_syntax.specs.Fault.{Fault}
-use Rattle.wit_syntax.specs.Scope.{needed_ids, row_of, rows_of, in_order}
+use Rattle.wit_syntax.specs.Scope.{needed_ids, rows_of, in_order}
 use Rattle.wit_syntax.specs.Bodies.{IsBrokenBody}
 use Rattle.wit_syntax.specs.Notes.{IsBrokenNotes}
 use Rattle.wit_arena.specs.Resolving.{AreLegalBodies, AreLegalNotes, Env, Names, env_of, HasNames, IsStored}
@@ -20,6 +20,7 @@ use Rattle.wit_syntax.proofs.Names.{name_itself, lookup-insert_entry}
 use Rattle.wit_syntax.proofs.Tables.{place_of-Some}
 use Rattle.wit_syntax.proofs.Orders.{in_order_has}
 use Rattle.wit_syntax.proofs.Found.{at_contains, some_of}
+use Rattle.wit_syntax.proofs.Rows.{row_of}
 
 pub row_at : (xs : List ScopeName) (i : ℕ) (x : ScopeName) → slice_get xs i ≡ Some x → slice_get (rows_of xs) i ≡ Some (row_of x)
 row_at xs i x at = slice_get-map row_of xs i ∙ ap (option_map row_of) at

@@ -6,7 +6,7 @@ use Rattle.wit_tree.specs.declared.tree.InterfaceItem.{InterfaceItem}
 use Rattle.wit_tree.specs.declared.tree.InterfaceItem.TheVariants as interface_item
 use Rattle.wit_tree.specs.declared.tree.PackageFile.{PackageFile}
 use Rattle.wit_syntax.specs.Fault.{Fault}
-use Rattle.wit_syntax.specs.Source.{declared_attributes, interface_part, Item, all_items}
+use Rattle.wit_syntax.specs.Source.{interface_part, Item, all_items, about}
 use Rattle.wit_syntax.specs.Scope.{part_includes, includes}
 use Rattle.wit_syntax.specs.Notes.{IsBrokenStability}
 use Rattle.wit_syntax.specs.Sides.{SideInline, side_items, item_inline, inline_externs, inline_items, IsBrokenSides, InlineNotes}
@@ -27,7 +27,7 @@ pub inline_stability : (w : Item) (k : ℕ) (i : Item) → slice_get (inline_ite
 inline_stability w k i at f (OwnStability h) =
     let it = inline_items_at w k i at in
     let x = flat_map_has item_inline (side_items w) it.place 0 (SideInline it.x it.name it.items) it.x it.at refl in
-    InlineNotes it.x (contains_at (inline_externs w) x.0 it.x x.1) (inl (subst (λ (v : Item). IsBrokenStability (declared_attributes v.declared) f) (sym it.is) h))
+    InlineNotes it.x (contains_at (inline_externs w) x.0 it.x x.1) (inl (subst (λ (v : Item). IsBrokenStability (about v.declared).attributes f) (sym it.is) h))
 inline_stability w k i at f (OfInclude n among h) =
     let it = inline_items_at w k i at in
     absurd (none_included it.items n (subst (λ (v : Item). Contains (includes v) n) (sym it.is) among))

@@ -14,9 +14,9 @@ use Rattle.wit_tree.specs.declared.tree.PackageFile.{PackageFile}
 use Rattle.wit_tree.specs.declared.tree.WorldSide.{WorldSide}
 use Rattle.wit_tree.specs.declared.tree.WorldSide.TheVariants.{Imported, Exported}
 use Rattle.wit_package_names.specs.declared.package_name.PackageName.{PackageName}
-use Rattle.wit_syntax.specs.Address.{Address, same_address, is_foreign}
+use Rattle.wit_syntax.specs.Address.{Address, same_address, is_foreign, InterfaceNamed}
 use Rattle.wit_syntax.specs.Crossing.{same_side, inline_uses}
-use Rattle.wit_syntax.specs.Source.{TopName, Target, Local, Foreign, leads, used_scope, path_scope, Part, Defining, Using, Including, Doing, Crossing, Item, all_items, parts, ScopeName, Taken, local_name, Taking, taking, use_takings, part_takings, side_takings, takings_in, item_takings, takings, same_taking, first_takings, taken, taken_names}
+use Rattle.wit_syntax.specs.Source.{TopName, Target, Local, Foreign, leads, path_scope, Part, Defining, Using, Including, Doing, Crossing, Item, all_items, parts, ScopeName, Taken, local_name, Taking, taking, use_takings, part_takings, takings, same_taking, first_takings, taken_names, target_scope, at_side, walk}
 use Rattle.wit_syntax.specs.Foreign.{ForeignVisit, visited, foreign_interfaces}
 use Rattle.wit_arena.specs.Resolved.{AreUsableUses}
 use Rattle.wit_arena.specs.Meet.{Key, Def, Meeting, keys, Meets}
@@ -31,6 +31,8 @@ use Rattle.wit_syntax.proofs.Kept.{kept_at, kept_has, kept_differ}
 use Rattle.wit_syntax.proofs.Firsts.{firsts_at, firsts_has, firsts_differ, firsts-more}
 use Rattle.wit_syntax.proofs.Found.{at_contains}
 use Rattle.wit_arena.proofs.Visits.{side_has, side_at, part_use_at, use_at, used_interface_visit}
+use Rattle.wit_tree.specs.declared.tree.Extern.{Extern}
+use Rattle.wit_syntax.proofs.JoinedItems.{item_takings}
 
 -- a name of a scope, as it is met
 abbrev pub taking_key : Taking → Key
@@ -90,10 +92,10 @@ taken_at files k t at =
     let w = flat_map_at item_takings (all_items files) k t at in
     let top = w.1.top in
     let ps = parts w.1 in
-    let kept = kept_at (λ (x : Taking). is_foreign x.from) (takings_in top ps) w.3.0 t w.3.1 in
-    elim (side_at (flat_map (part_takings top) ps) (λ side. flat_map (side_takings top side) ps) kept.0 t kept.1) [
+    let kept = kept_at (λ (x : Taking). is_foreign x.from) (walk (part_takings top) (λ (x : Extern). flat_map (use_takings top) (inline_uses x.kind)) ps) w.3.0 t w.3.1 in
+    elim (side_at (flat_map (part_takings top) ps) (λ side. flat_map (at_side (λ (x : Extern). flat_map (use_takings top) (inline_uses x.kind)) side) ps) kept.0 t kept.1) [
       | inl own ↦ (let m = flat_map_at (part_takings top) ps own.0 t own.1 in of_part w.0 w.1 w.2 m.0 m.1 m.2 m.3.0 m.3.1 kept.2)
-      | inr inside ↦ (let m = flat_map_at (side_takings top inside.0) ps inside.1 t inside.2 in of_side inside.0 w.0 w.1 w.2 m.0 m.1 m.2 m.3.0 m.3.1 kept.2)
+      | inr inside ↦ (let m = flat_map_at (at_side (λ (x : Extern). flat_map (use_takings top) (inline_uses x.kind)) inside.0) ps inside.1 t inside.2 in of_side inside.0 w.0 w.1 w.2 m.0 m.1 m.2 m.3.0 m.3.1 kept.2)
     ]
   where
     of_use : (p : ℕ) (w : Item) → slice_get (all_items files) p ≡ Some w → (u : Use) → Contains (uses w) u → (j : ℕ) → slice_get (use_takings w.top u) j ≡ Some t → is_foreign t.from ≡ true → IsTakenAt files t
@@ -111,7 +113,7 @@ taken_at files k t at =
     none_taken : (j : ℕ) → slice_get [] j ≡ Some t → IsTakenAt files t
     none_taken j is = absurd (let f : ⊥ = cc in f)
 
-    of_side : (side : WorldSide) (p : ℕ) (w : Item) → slice_get (all_items files) p ≡ Some w → (m : ℕ) (part : Part) → slice_get (parts w) m ≡ Some part → (j : ℕ) → slice_get (side_takings w.top side part) j ≡ Some t → is_foreign t.from ≡ true → IsTakenAt files t
+    of_side : (side : WorldSide) (p : ℕ) (w : Item) → slice_get (all_items files) p ≡ Some w → (m : ℕ) (part : Part) → slice_get (parts w) m ≡ Some part → (j : ℕ) → slice_get (at_side (λ (x : Extern). flat_map (use_takings w.top) (inline_uses x.kind)) side part) j ≡ Some t → is_foreign t.from ≡ true → IsTakenAt files t
     of_side side p w here m (Defining d) there j is foreign = absurd (let f : ⊥ = cc in f)
     of_side side p w here m (Using u) there j is foreign = absurd (let f : ⊥ = cc in f)
     of_side side p w here m (Including i) there j is foreign = absurd (let f : ⊥ = cc in f)
@@ -125,20 +127,20 @@ taken_at files k t at =
     ]
 
 -- what a `use` of a part takes stands among what is taken in an item
-taking_in : (top : List TopName) (ps : List Part) (m : ℕ) (x : Part) (i : ℕ) (u : Use) (j : ℕ) (t : Taking) → slice_get ps m ≡ Some x → slice_get (part_uses x) i ≡ Some u → slice_get (use_takings top u) j ≡ Some t → (k : ℕ) × (slice_get (takings_in top ps) k ≡ Some t)
+taking_in : (top : List TopName) (ps : List Part) (m : ℕ) (x : Part) (i : ℕ) (u : Use) (j : ℕ) (t : Taking) → slice_get ps m ≡ Some x → slice_get (part_uses x) i ≡ Some u → slice_get (use_takings top u) j ≡ Some t → (k : ℕ) × (slice_get (walk (part_takings top) (λ (x : Extern). flat_map (use_takings top) (inline_uses x.kind)) ps) k ≡ Some t)
 taking_in top ps m (Defining d) i u j t part at takes = absurd (let f : ⊥ = cc in f)
 taking_in top ps m (Using y) zero u j t part at takes =
     let same : y ≡ u = cc in
     let inner = flat_map_has (part_takings top) ps m j (Using y) t part (ap (λ (z : Use). slice_get (use_takings top z) j) same ∙ takes) in
-    (inner.0, at_front (flat_map (part_takings top) ps) (flat_map (side_takings top Imported) ps ++ flat_map (side_takings top Exported) ps) inner.0 t inner.1)
+    (inner.0, at_front (flat_map (part_takings top) ps) (flat_map (at_side (λ (x : Extern). flat_map (use_takings top) (inline_uses x.kind)) Imported) ps ++ flat_map (at_side (λ (x : Extern). flat_map (use_takings top) (inline_uses x.kind)) Exported) ps) inner.0 t inner.1)
 taking_in top ps m (Using y) (suc i) u j t part at takes = absurd (let f : ⊥ = cc in f)
 taking_in top ps m (Including y) i u j t part at takes = absurd (let f : ⊥ = cc in f)
 taking_in top ps m (Doing g) i u j t part at takes = absurd (let f : ⊥ = cc in f)
 taking_in top ps m (Crossing x) i u j t part at takes =
     let own = flat_map_has (use_takings top) (inline_uses x.kind) i j u t at takes in
-    let here : slice_get (side_takings top x.side (Crossing x)) own.0 ≡ Some t = ap (λ (b : Bool). slice_get (cond b (flat_map (use_takings top) (inline_uses x.kind)) []) own.0) (side_itself x.side) ∙ own.1 in
-    let on_side = flat_map_has (side_takings top x.side) ps m own.0 (Crossing x) t part here in
-    side_has (flat_map (part_takings top) ps) (λ side. flat_map (side_takings top side) ps) x.side on_side.0 t on_side.1
+    let here : slice_get (at_side (λ (x : Extern). flat_map (use_takings top) (inline_uses x.kind)) x.side (Crossing x)) own.0 ≡ Some t = ap (λ (b : Bool). slice_get (cond b (flat_map (use_takings top) (inline_uses x.kind)) []) own.0) (side_itself x.side) ∙ own.1 in
+    let on_side = flat_map_has (at_side (λ (x : Extern). flat_map (use_takings top) (inline_uses x.kind)) x.side) ps m own.0 (Crossing x) t part here in
+    side_has (flat_map (part_takings top) ps) (λ side. flat_map (at_side (λ (x : Extern). flat_map (use_takings top) (inline_uses x.kind)) side) ps) x.side on_side.0 t on_side.1
 
 -- what is used from another package is taken
 pub taking_has : (files : List PackageFile) (q : ℕ) (w : Item) (u : Use) (j : ℕ) (n : UseName) → slice_get (all_items files) q ≡ Some w → Contains (uses w) u → slice_get u.names.items j ≡ Some n → is_foreign (path_scope w.top u.from) ≡ true → (k : ℕ) × (slice_get (takings files) k ≡ Some (taking (path_scope w.top u.from) u.attributes.items n))
@@ -148,11 +150,11 @@ taking_has files q w u j n at among name foreign =
     let i = at_contains (uses w) u among in
     let x = flat_map_at part_uses (parts w) i.0 u i.1 in
     let inner = taking_in w.top (parts w) x.0 x.1 x.3.0 u j (taking s xs n) x.2 x.3.1 (slice_get-map (taking s xs) u.names.items j ∙ ap (option_map (taking s xs)) name) in
-    let kept = kept_has (λ (y : Taking). is_foreign y.from) (takings_in w.top (parts w)) inner.0 (taking s xs n) foreign inner.1 in
+    let kept = kept_has (λ (y : Taking). is_foreign y.from) (walk (part_takings w.top) (λ (x : Extern). flat_map (use_takings w.top) (inline_uses x.kind)) (parts w)) inner.0 (taking s xs n) foreign inner.1 in
     flat_map_has item_takings (all_items files) q kept.0 w (taking s xs n) at kept.1
 
 -- a scope of another package is used where a path leads there
-pub foreign_target : (t : Target) → is_foreign (used_scope t) ≡ true → (p : PackageName) × (id : Id) × (t ≡ Foreign p id)
+pub foreign_target : (t : Target) → is_foreign (target_scope InterfaceNamed t) ≡ true → (p : PackageName) × (id : Id) × (t ≡ Foreign p id)
 foreign_target (Local id) h = absurd (let f : ⊥ = cc in f)
 foreign_target (Foreign p id) h = (p, id, refl)
 
@@ -163,7 +165,7 @@ taken_from files usable k t at =
     let from : t.from ≡ path_scope it.item.top it.part.from = ap (λ (x : Taking). x.from) it.is in
     let to = foreign_target (leads it.item.top it.part.from) (sym (ap is_foreign from) ∙ it.foreign) in
     let v = used_interface_visit files usable it.place it.item it.part to.0 to.1 it.at it.among to.2 in
-    (v.0, v.1, v.2, v.3 ∙ sym (from ∙ ap used_scope to.2))
+    (v.0, v.1, v.2, v.3 ∙ sym (from ∙ ap (target_scope InterfaceNamed) to.2))
 
 module _ (files : List PackageFile) where
   pub takings_differ : AllDiffer (map taking_key (first_takings files))
@@ -177,12 +179,12 @@ module _ (files : List PackageFile) where
     pub taken_has : (j : ℕ) (t : Taking) → slice_get (first_takings files) j ≡ Some t → t.from ≡ s → (k : ℕ) × (slice_get (taken_names files s) k ≡ Some (Taken t.attributes t.id))
     taken_has j t at from =
         let k = kept_has test (first_takings files) j t (same_address-from t.from s from) at in
-        (k.0, slice_get-map taken (filter test (first_takings files)) k.0 ∙ ap (option_map taken) k.1)
+        (k.0, slice_get-map (λ (t : Taking). Taken t.attributes t.id) (filter test (first_takings files)) k.0 ∙ ap (option_map (λ (t : Taking). Taken t.attributes t.id)) k.1)
 
     -- and a name of it is taken
     pub taken_name_at : (k : ℕ) (x : ScopeName) → slice_get (taken_names files s) k ≡ Some x → (j : ℕ) × (t : Taking) × (slice_get (first_takings files) j ≡ Some t) × (t.from ≡ s) × (x ≡ Taken t.attributes t.id)
     taken_name_at k x at =
-        let t = map_at taken (filter test (first_takings files)) k x at in
+        let t = map_at (λ (t : Taking). Taken t.attributes t.id) (filter test (first_takings files)) k x at in
         let it = kept_at test (first_takings files) k t.0 t.1 in
         (it.0, t.0, it.1, same_address-equal t.0.from s it.2, sym t.2)
 
@@ -190,8 +192,8 @@ module _ (files : List PackageFile) where
     pub taken_distinct : AreDistinct (taken_names files s)
     taken_distinct = differ_by local_name (taken_names files s) (λ i j x y at_i at_j same. (
         let front = filter test (first_takings files) in
-        let t = map_at taken front i x at_i in
-        let u = map_at taken front j y at_j in
+        let t = map_at (λ (t : Taking). Taken t.attributes t.id) front i x at_i in
+        let u = map_at (λ (t : Taking). Taken t.attributes t.id) front j y at_j in
         let a = same_address-equal t.0.from s (kept_at test (first_takings files) i t.0 t.1).2 in
         let b = same_address-equal u.0.from s (kept_at test (first_takings files) j u.0 u.1).2 in
         let names : t.0.id.name.now ≡ u.0.id.name.now = ap local_name t.2 ∙ same ∙ sym (ap local_name u.2) in

@@ -11,7 +11,7 @@ use Rattle.wit_types.specs.declared.types.TypeDef.{TypeDef}
 use Rattle.wit_syntax.specs.Form.{UnknownForm}
 use Rattle.wit_arena.specs.Kind.{kind_of}
 use Rattle.wit_syntax.specs.Address.{Address, InterfaceNamed, WorldNamed, InlineAt, ForeignNamed, is_foreign}
-use Rattle.wit_syntax.specs.Source.{Item, item_at, ScopeName, Used, Defined, Taken, local_name, scope_names, Taking, takings, same_taking, first_takings, name_form}
+use Rattle.wit_syntax.specs.Source.{Item, item_at, ScopeName, Used, Defined, Taken, local_name, scope_names, Taking, takings, same_taking, first_takings, about_name}
 use Rattle.wit_syntax.specs.Trees.{scope}
 use Rattle.wit_syntax.specs.Sides.{all_scopes}
 use Rattle.wit_arena.specs.Meet.{Key, Def, Whole, Meeting, keys, Meets, Decl, Decls}
@@ -66,7 +66,7 @@ own_name files (InlineAt world side place) k attributes id own at = own_in (item
 own_name files (ForeignNamed p name) k attributes id own at = let f : ⊥ = cc in f
 
 -- only what is taken has an unknown form
-unknown_taken : (x : ScopeName) → name_form x ≡ UnknownForm → (attributes : List Attribute) × (id : Id) × (x ≡ Taken attributes id)
+unknown_taken : (x : ScopeName) → (about_name x).body.form ≡ UnknownForm → (attributes : List Attribute) × (id : Id) × (x ≡ Taken attributes id)
 unknown_taken (Used from attributes n) h = absurd (let f : ⊥ = cc in f)
 unknown_taken (Defined d) h = absurd (body_known d.body h)
 unknown_taken (Taken attributes id) h = (attributes, id, refl)
@@ -79,7 +79,7 @@ module _ (files : List PackageFile) (decls : Decls) (written : List Meeting) (cs
   ts = first_takings files
 
   -- the entry of a name that was met has the form of a name of its scope
-  name_at : (i : ℕ) (s : Address) (name : List ℕ) (e : TypeDef) → slice_get ks i ≡ Some (Def s name) → slice_get es i ≡ Some e → (k : ℕ) × (x : ScopeName) × (slice_get (scope files s) k ≡ Some x) × ((kind_of e.kind).form ≡ name_form x) × (local_name x ≡ name)
+  name_at : (i : ℕ) (s : Address) (name : List ℕ) (e : TypeDef) → slice_get ks i ≡ Some (Def s name) → slice_get es i ≡ Some e → (k : ℕ) × (x : ScopeName) × (slice_get (scope files s) k ≡ Some x) × ((kind_of e.kind).form ≡ (about_name x).body.form) × (local_name x ≡ name)
   name_at i s name e here there =
       let of = d.before i s name here in
       let c = of.cell in
@@ -97,7 +97,7 @@ module _ (files : List PackageFile) (decls : Decls) (written : List Meeting) (cs
   front_unknown j t e at there =
       let x = name_at j t.from t.id.name.now e (taken_key_at j t at) there in
       let y = foreign_name files t.from x.0 x.1 (first_foreign files j t at) x.2 in
-      x.3 ∙ ap name_form y.4
+      x.3 ∙ ap (λ (x : ScopeName). (about_name x).body.form) y.4
 
   -- a name of another package's scope stands in front
   foreign_front : (i : ℕ) (s : Address) (name : List ℕ) (k : ℕ) (x : ScopeName) → slice_get ks i ≡ Some (Def s name) → is_foreign s ≡ true → slice_get (scope files s) k ≡ Some x → local_name x ≡ name → i < length ts

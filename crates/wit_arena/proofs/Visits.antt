@@ -18,8 +18,8 @@ use Rattle.wit_tree.specs.declared.tree.WorldSide.TheVariants.{Imported, Exporte
 use Rattle.wit_package_names.specs.declared.package_name.PackageName.{PackageName}
 use Rattle.wit_syntax.specs.Address.{Address, ForeignNamed, package_of, same_address, is_foreign}
 use Rattle.wit_syntax.specs.Crossing.{extern_paths, inline_uses}
-use Rattle.wit_syntax.specs.Source.{Local, Foreign, path_target, Defining, Using, Including, Doing, Crossing, TopName, top_name, top_names, top_text, top_named, top_target, leads, Part, Item, declared_items, file_items, all_items, address, parts, TheInterface, TheWorld}
-use Rattle.wit_syntax.specs.Foreign.{ForeignVisit, visited, path_visits, part_visits, extern_visits, side_visits, visits_in, declaration_visits, file_visits, foreign_visits, same_item, foreign_items, is_foreign_world, foreign_interfaces, foreign_worlds, foreign_at}
+use Rattle.wit_syntax.specs.Source.{Local, Foreign, Defining, Using, Including, Doing, Crossing, TopName, top_name, top_names, top_text, leads, Part, Item, declared_items, file_items, all_items, address, parts, TheInterface, TheWorld, at_side, walk}
+use Rattle.wit_syntax.specs.Foreign.{ForeignVisit, visited, path_visits, part_visits, extern_visits, declaration_visits, file_visits, foreign_visits, same_item, foreign_items, foreign_interfaces, foreign_worlds, foreign_at}
 use Rattle.wit_syntax.specs.Scope.{use_path, use_paths, part_uses, uses}
 use Rattle.wit_syntax.specs.Broken.{is_world_at}
 use Rattle.wit_arena.specs.Resolved.{AreUsableUses}
@@ -54,17 +54,17 @@ module _ (files : List PackageFile) where
   visits_differ = firsts_differ same_item visited visit-from visit-equal (foreign_visits files)
 
   pub interfaces_differ : AllDiffer (map visited (foreign_interfaces files))
-  interfaces_differ = kept_differ visited (λ v. not (is_foreign_world v)) (foreign_items files) visits_differ
+  interfaces_differ = kept_differ visited (λ v. not v.wants_world) (foreign_items files) visits_differ
 
   pub worlds_differ : AllDiffer (map visited (foreign_worlds files))
-  worlds_differ = kept_differ visited is_foreign_world (foreign_items files) visits_differ
+  worlds_differ = kept_differ visited (λ (v : ForeignVisit). v.wants_world) (foreign_items files) visits_differ
 
   -- an interface among them, and a world
-  pub interface_visit : (t : ℕ) (v : ForeignVisit) → slice_get (foreign_interfaces files) t ≡ Some v → (p : ℕ) × (slice_get (foreign_items files) p ≡ Some v) × (is_foreign_world v ≡ false)
-  interface_visit t v at = let it = kept_at (λ u. not (is_foreign_world u)) (foreign_items files) t v at in (it.0, it.1, not-true (is_foreign_world v) it.2)
+  pub interface_visit : (t : ℕ) (v : ForeignVisit) → slice_get (foreign_interfaces files) t ≡ Some v → (p : ℕ) × (slice_get (foreign_items files) p ≡ Some v) × (v.wants_world ≡ false)
+  interface_visit t v at = let it = kept_at (λ u. not u.wants_world) (foreign_items files) t v at in (it.0, it.1, not-true v.wants_world it.2)
 
-  pub world_visit : (t : ℕ) (v : ForeignVisit) → slice_get (foreign_worlds files) t ≡ Some v → (p : ℕ) × (slice_get (foreign_items files) p ≡ Some v) × (is_foreign_world v ≡ true)
-  world_visit t v at = kept_at is_foreign_world (foreign_items files) t v at
+  pub world_visit : (t : ℕ) (v : ForeignVisit) → slice_get (foreign_worlds files) t ≡ Some v → (p : ℕ) × (slice_get (foreign_items files) p ≡ Some v) × (v.wants_world ≡ true)
+  world_visit t v at = kept_at (λ (v : ForeignVisit). v.wants_world) (foreign_items files) t v at
 
   -- visits of one item that are listed are one
   pub visit_once : (p q : ℕ) (u v : ForeignVisit) → slice_get (foreign_items files) p ≡ Some u → slice_get (foreign_items files) q ≡ Some v → visited u ≡ visited v → u ≡ v
@@ -79,7 +79,7 @@ module _ (files : List PackageFile) where
       let p = interface_visit i u at_u in
       let q = world_visit j v at_v in
       let one = visit_once p.0 q.0 u v p.1 q.1 same in
-      let wrong : false ≡ true = sym p.2 ∙ ap is_foreign_world one ∙ q.2 in
+      let wrong : false ≡ true = sym p.2 ∙ ap (λ (v : ForeignVisit). v.wants_world) one ∙ q.2 in
       let f : ⊥ = cc in
       f
 
@@ -138,12 +138,12 @@ pub record IsOrigin (files : List PackageFile) (w : Item) : Type 0 where
   pub index : ℕ
   pub among : slice_get file.decl_list.items.items index ≡ Some declaration
   pub top : w.top ≡ top_names file
-  pub visits : declaration_visits declaration ≡ visits_in (parts w)
+  pub visits : declaration_visits declaration ≡ walk part_visits extern_visits (parts w)
 
-declared_item : (top : List TopName) (a : AstItem) (j : ℕ) (w : Item) → slice_get (declared_items top a) j ≡ Some w → (w.top ≡ top) × (declaration_visits a ≡ visits_in (parts w))
-declared_item top (ast.Interface i) zero w at = (let same : record { top = top; declared = TheInterface i } ≡ w = cc in (ap (λ (x : Item). x.top) (sym same), ap (λ (x : Item). visits_in (parts x)) same))
+declared_item : (top : List TopName) (a : AstItem) (j : ℕ) (w : Item) → slice_get (declared_items top a) j ≡ Some w → (w.top ≡ top) × (declaration_visits a ≡ walk part_visits extern_visits (parts w))
+declared_item top (ast.Interface i) zero w at = (let same : record { top = top; declared = TheInterface i } ≡ w = cc in (ap (λ (x : Item). x.top) (sym same), ap (λ (x : Item). walk part_visits extern_visits (parts x)) same))
 declared_item top (ast.Interface i) (suc j) w at = absurd (let f : ⊥ = cc in f)
-declared_item top (ast.World i) zero w at = (let same : record { top = top; declared = TheWorld i } ≡ w = cc in (ap (λ (x : Item). x.top) (sym same), ap (λ (x : Item). visits_in (parts x)) same))
+declared_item top (ast.World i) zero w at = (let same : record { top = top; declared = TheWorld i } ≡ w = cc in (ap (λ (x : Item). x.top) (sym same), ap (λ (x : Item). walk part_visits extern_visits (parts x)) same))
 declared_item top (ast.World i) (suc j) w at = absurd (let f : ⊥ = cc in f)
 declared_item top (ast.Use u) j w at = absurd (let f : ⊥ = cc in f)
 
@@ -167,7 +167,7 @@ pub record IsVisited (files : List PackageFile) (p : PackageName) (id : Id) : Ty
   pub at : slice_get (foreign_visits files) place ≡ Some v
   pub is : visited v ≡ ForeignNamed p id.name.now
 
-foreign_path : (attributes : List Attribute) (world : Bool) (from : UsePath) (p : PackageName) (id : Id) → path_target from ≡ Foreign p id → (v : ForeignVisit) × (slice_get (path_visits attributes world from) 0 ≡ Some v) × (visited v ≡ ForeignNamed p id.name.now)
+foreign_path : (attributes : List Attribute) (world : Bool) (from : UsePath) (p : PackageName) (id : Id) → leads [] from ≡ Foreign p id → (v : ForeignVisit) × (slice_get (path_visits attributes world from) 0 ≡ Some v) × (visited v ≡ ForeignNamed p id.name.now)
 foreign_path attributes world (path.Id other) p id h = absurd (let f : ⊥ = cc in f)
 foreign_path attributes world (path.Package of other) p id h =
     let whose : package_of of ≡ p = cc in
@@ -180,24 +180,24 @@ foreign_top (ast.Interface i) p id h = absurd (let wrong : Local i.name ≡ Fore
 foreign_top (ast.World w) p id h = absurd (let wrong : Local w.name ≡ Foreign p id = h in let f : ⊥ = cc in f)
 foreign_top (ast.Use u) p id h = foreign_path u.attributes.items false u.item p id h
 
-top_leads : (o : Option TopName) (other : Id) (p : PackageName) (id : Id) → option_map_or top_target o (Local other) ≡ Foreign p id → (t : TopName) × (o ≡ Some t) × (t.target ≡ Foreign p id)
+top_leads : (o : Option TopName) (other : Id) (p : PackageName) (id : Id) → option_map_or (λ (t : TopName). t.target) o (Local other) ≡ Foreign p id → (t : TopName) × (o ≡ Some t) × (t.target ≡ Foreign p id)
 top_leads None other p id h = absurd (let f : ⊥ = cc in f)
 top_leads (Some t) other p id h = (t, refl, h)
 
 -- where a path leads to another package, whose visit is one of an item, what it leads to is visited
-pub path_among : (files : List PackageFile) (q : ℕ) (w : Item) (attributes : List Attribute) (world : Bool) (from : UsePath) (p : PackageName) (id : Id) → slice_get (all_items files) q ≡ Some w → ((v : ForeignVisit) → slice_get (path_visits attributes world from) 0 ≡ Some v → (n : ℕ) × (slice_get (visits_in (parts w)) n ≡ Some v)) → leads w.top from ≡ Foreign p id → IsVisited files p id
+pub path_among : (files : List PackageFile) (q : ℕ) (w : Item) (attributes : List Attribute) (world : Bool) (from : UsePath) (p : PackageName) (id : Id) → slice_get (all_items files) q ≡ Some w → ((v : ForeignVisit) → slice_get (path_visits attributes world from) 0 ≡ Some v → (n : ℕ) × (slice_get (walk part_visits extern_visits (parts w)) n ≡ Some v)) → leads w.top from ≡ Foreign p id → IsVisited files p id
 path_among files q w attributes world from p id at among lead = by_path (item_origin files q w at) from refl lead
   where
     by_path : IsOrigin files w → (to : UsePath) → from ≡ to → leads w.top to ≡ Foreign p id → IsVisited files p id
     by_path origin (path.Id other) same h =
-        let t = top_leads (top_named w.top other.name.now) other p id h in
+        let t = top_leads (find (λ (each : TopName). bytes_eq (top_text each) other.name.now) w.top) other p id h in
         let j = find_at (λ (y : TopName). bytes_eq (top_text y) other.name.now) w.top t.0 t.1 in
         let a = map_at top_name origin.file.decl_list.items.items j.0 t.0 (ap (λ (l : List TopName). slice_get l j.0) (sym origin.top) ∙ j.1) in
         let v = foreign_top a.0 p id (ap (λ (y : TopName). y.target) a.2 ∙ t.2) in
         let n = declaration_visited files origin.place j.0 0 origin.file a.0 v.0 origin.at a.1 v.1 in
         record { place = n.0; v = v.0; at = n.1; is = v.2 }
     by_path origin (path.Package of other) same h =
-        let v = foreign_path attributes world from p id (ap path_target same ∙ h) in
+        let v = foreign_path attributes world from p id (ap (leads []) same ∙ h) in
         let inner = among v.0 v.1 in
         let n = declaration_visited files origin.place origin.index inner.0 origin.file origin.declaration v.0 origin.at origin.among (ap (λ (l : List ForeignVisit). slice_get l inner.0) origin.visits ∙ inner.1) in
         record { place = n.0; v = v.0; at = n.1; is = v.2 }
@@ -206,7 +206,7 @@ path_among files q w attributes world from p id at among lead = by_path (item_or
 pub path_visited : (files : List PackageFile) (q : ℕ) (w : Item) (m : ℕ) (x : Part) (attributes : List Attribute) (world : Bool) (from : UsePath) (p : PackageName) (id : Id) → slice_get (all_items files) q ≡ Some w → slice_get (parts w) m ≡ Some x → part_visits x ≡ path_visits attributes world from → leads w.top from ≡ Foreign p id → IsVisited files p id
 path_visited files q w m x attributes world from p id at part visits lead = path_among files q w attributes world from p id at (λ v first. (
     let inner = flat_map_has part_visits (parts w) m 0 x v part (ap (λ (l : List ForeignVisit). slice_get l 0) visits ∙ first) in
-    (inner.0, at_front (flat_map part_visits (parts w)) (flat_map (side_visits Imported) (parts w) ++ flat_map (side_visits Exported) (parts w)) inner.0 v inner.1))) lead
+    (inner.0, at_front (flat_map part_visits (parts w)) (flat_map (at_side extern_visits Imported) (parts w) ++ flat_map (at_side extern_visits Exported) (parts w)) inner.0 v inner.1))) lead
 
 -- what stands for a side stands behind a front, and the other way round
 pub side_has : {Y : Type 0} (front : List Y) (of : WorldSide → List Y) (side : WorldSide) (j : ℕ) (y : Y) → slice_get (of side) j ≡ Some y → (k : ℕ) × (slice_get (front ++ (of Imported ++ of Exported)) k ≡ Some y)
@@ -223,12 +223,12 @@ side_at front of k y at = elim (at_part front (of Imported ++ of Exported) k y a
 ]
 
 -- the visit of a `use` of a part is one of the item's
-use_visited : (ps : List Part) (m : ℕ) (x : Part) (j : ℕ) (u : Use) (v : ForeignVisit) → slice_get ps m ≡ Some x → slice_get (part_uses x) j ≡ Some u → slice_get (path_visits u.attributes.items false u.from) 0 ≡ Some v → (n : ℕ) × (slice_get (visits_in ps) n ≡ Some v)
+use_visited : (ps : List Part) (m : ℕ) (x : Part) (j : ℕ) (u : Use) (v : ForeignVisit) → slice_get ps m ≡ Some x → slice_get (part_uses x) j ≡ Some u → slice_get (path_visits u.attributes.items false u.from) 0 ≡ Some v → (n : ℕ) × (slice_get (walk part_visits extern_visits ps) n ≡ Some v)
 use_visited ps m (Defining d) j u v part at first = absurd (let f : ⊥ = cc in f)
 use_visited ps m (Using y) zero u v part at first =
     let same : y ≡ u = cc in
     let inner = flat_map_has part_visits ps m 0 (Using y) v part (ap (λ (z : Use). slice_get (path_visits z.attributes.items false z.from) 0) same ∙ first) in
-    (inner.0, at_front (flat_map part_visits ps) (flat_map (side_visits Imported) ps ++ flat_map (side_visits Exported) ps) inner.0 v inner.1)
+    (inner.0, at_front (flat_map part_visits ps) (flat_map (at_side extern_visits Imported) ps ++ flat_map (at_side extern_visits Exported) ps) inner.0 v inner.1)
 use_visited ps m (Using y) (suc j) u v part at first = absurd (let f : ⊥ = cc in f)
 use_visited ps m (Including i) j u v part at first = absurd (let f : ⊥ = cc in f)
 use_visited ps m (Doing g) j u v part at first = absurd (let f : ⊥ = cc in f)
@@ -236,9 +236,9 @@ use_visited ps m (Crossing x) j u v part at first =
     let visits = λ (z : Use). path_visits z.attributes.items false z.from in
     let own = flat_map_has visits (inline_uses x.kind) j 0 u v at first in
     let there = at_front (flat_map visits (inline_uses x.kind)) (flat_map (path_visits x.attributes.items false) (extern_paths x.kind)) own.0 v own.1 in
-    let here : slice_get (side_visits x.side (Crossing x)) own.0 ≡ Some v = ap (λ (b : Bool). slice_get (cond b (extern_visits x) []) own.0) (side_itself x.side) ∙ there in
-    let on_side = flat_map_has (side_visits x.side) ps m own.0 (Crossing x) v part here in
-    side_has (flat_map part_visits ps) (λ side. flat_map (side_visits side) ps) x.side on_side.0 v on_side.1
+    let here : slice_get (at_side extern_visits x.side (Crossing x)) own.0 ≡ Some v = ap (λ (b : Bool). slice_get (cond b (extern_visits x) []) own.0) (side_itself x.side) ∙ there in
+    let on_side = flat_map_has (at_side extern_visits x.side) ps m own.0 (Crossing x) v part here in
+    side_has (flat_map part_visits ps) (λ side. flat_map (at_side extern_visits side) ps) x.side on_side.0 v on_side.1
 
 -- so where the path of a `use` of an item leads to another package, what it leads to is visited
 pub leads_visited : (files : List PackageFile) (q : ℕ) (w : Item) (u : Use) (p : PackageName) (id : Id) → slice_get (all_items files) q ≡ Some w → Contains (uses w) u → leads w.top u.from ≡ Foreign p id → IsVisited files p id
@@ -264,11 +264,11 @@ used_interface_visit files usable q w u p id at among lead =
     let it = visit_listed files here.place here.v here.at in
     let v = it.1 in
     let is : visited v ≡ ForeignNamed p id.name.now = it.3 ∙ here.is in
-    let found : is_world_at files (leads w.top u.from) ≡ Some (is_foreign_world v) = ap (is_world_at files) lead ∙ ap (λ s. option_map is_foreign_world (foreign_at files s)) (sym is) ∙ ap (option_map is_foreign_world) (foreign_at-visited files it.0 v it.2) in
-    elim (cases_Bool (is_foreign_world v)) [
+    let found : is_world_at files (leads w.top u.from) ≡ Some v.wants_world = ap (is_world_at files) lead ∙ ap (λ s. option_map (λ (v : ForeignVisit). v.wants_world) (foreign_at files s)) (sym is) ∙ ap (option_map (λ (v : ForeignVisit). v.wants_world)) (foreign_at-visited files it.0 v it.2) in
+    elim (cases_Bool v.wants_world) [
       | inl wrong ↦ absurd (
           let both : Some true ≡ Some false = sym (found ∙ ap Some wrong) ∙ usable.usable w u (contains_at (all_items files) q w at) among in
           let f : ⊥ = cc in
           f)
-      | inr right ↦ (let k = kept_has (λ x. not (is_foreign_world x)) (foreign_items files) it.0 v (ap not right) it.2 in (k.0, v, k.1, is))
+      | inr right ↦ (let k = kept_has (λ x. not x.wants_world) (foreign_items files) it.0 v (ap not right) it.2 in (k.0, v, k.1, is))
     ]

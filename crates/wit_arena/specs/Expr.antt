@@ -5,7 +5,8 @@ use Rattle.wit_type_tree.specs.declared.types.Primitive.{Primitive}
 use Rattle.wit_syntax.specs.Shape.{Shape, Shapes}
 use Rattle.wit_syntax.specs.Shape as shape
 use Rattle.wit_syntax.specs.Address.{Address}
-use Rattle.wit_syntax.specs.Source.{ScopeName, name_body, name_scope}
+use Rattle.wit_syntax.specs.Source.{ScopeName, about_name}
+use Rattle.std.specs.Option.{unwrap_or}
 
 -- a primitive, a name of a scope, or a form over parts
 mutual
@@ -38,4 +39,4 @@ abbrev mutual
 
 -- the parts of a name of a scope: a used name has one, its original
 abbrev pub name_exprs : Address → ScopeName → Exprs
-name_exprs s x = exprs_of (name_scope s x) (name_body x).parts
+name_exprs s x = exprs_of (unwrap_or (about_name x).from s) (about_name x).body.parts

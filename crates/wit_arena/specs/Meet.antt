@@ -4,7 +4,7 @@ use Rattle.wit_values.specs.declared.span.Span.{Span}
 use Rattle.std.specs.List.{flat_map}
 use Rattle.wit_types.specs.declared.stability.Stability.{Stability}
 use Rattle.wit_types.specs.declared.stability.Stability.TheVariants.{Unknown}
-use Rattle.std.specs.Option.{option_map_or}
+use Rattle.std.specs.Option.{option_map_or, unwrap_or}
 use Rattle.wit_types.specs.declared.types.«Type».{«Type» as Ty}
 use Rattle.wit_types.specs.declared.types.«Type».TheVariants as type
 use Rattle.wit_types.specs.declared.types.TypeDef.{TypeDef}
@@ -19,7 +19,7 @@ use Rattle.wit_syntax.specs.Shape.{Shape, Shapes}
 use Rattle.wit_syntax.specs.Shape as shape
 use Rattle.wit_syntax.specs.Notes.{Notes, AreNotes, no_docs, first_known}
 use Rattle.wit_syntax.specs.Address.{Address}
-use Rattle.wit_syntax.specs.Source.{ScopeName, local_name, name_form, name_span, name_body, name_scope, name_notes, name_stability}
+use Rattle.wit_syntax.specs.Source.{ScopeName, local_name, about_name}
 use Rattle.wit_syntax.specs.Function.{SourceFunction, signature}
 use Rattle.wit_arena.specs.Expr.{Expr, Prim, Use, Of, Exprs, End, More, exprs_of, name_exprs}
 
@@ -53,11 +53,11 @@ abbrev mutual
 
 -- what is met in the parts of a name of a scope; the original of a used name was met before
 abbrev pub parts_meetings : Address → ScopeName → List Meeting
-parts_meetings s x = shapes_meetings (name_scope s x) (name_stability x) (name_body x).parts
+parts_meetings s x = shapes_meetings (unwrap_or (about_name x).from s) (about_name x).notes.stability (about_name x).body.parts
 
 -- what is met in a name of a scope: its parts, and then itself
 abbrev pub name_meetings : Address → ScopeName → List Meeting
-name_meetings s x = parts_meetings s x ++ record { key = Def s (local_name x); span = name_span x; given = name_stability x } ∷ []
+name_meetings s x = parts_meetings s x ++ record { key = Def s (local_name x); span = (about_name x).span; given = (about_name x).notes.stability } ∷ []
 
 abbrev pub all_name_meetings : Address → List ScopeName → List Meeting
 all_name_meetings s xs = flat_map (name_meetings s) xs
@@ -96,7 +96,7 @@ pub record Decl : Type 0 where
   pub parts : Exprs
 
 abbrev pub decl_of : TypeOwner → Address → ScopeName → Decl
-decl_of o s x = record { name = local_name x; span = name_span x; owner = o; notes = name_notes x; form = name_form x; parts = name_exprs s x }
+decl_of o s x = record { name = local_name x; span = (about_name x).span; owner = o; notes = (about_name x).notes; form = (about_name x).body.form; parts = name_exprs s x }
 
 abbrev pub IsAmong : List Decl → Decl → Type 0
 IsAmong ds d = (k : ℕ) × (slice_get ds k ≡ Some d)

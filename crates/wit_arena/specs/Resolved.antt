@@ -16,7 +16,7 @@ use Rattle.wit_syntax.specs.Address.{Address, WorldNamed}
 use Rattle.wit_syntax.specs.Notes.{notes, no_docs, IsBrokenStability}
 use Rattle.wit_model.specs.declared.world.WorldKey.{WorldKey}
 use Rattle.wit_model.specs.declared.world.WorldItem.{WorldItem}
-use Rattle.wit_syntax.specs.Source.{leads, Item, declared_name, item_id, item_notes, declared_attributes, address, is_world, ScopeName, scope_names, meaning, Taking, first_takings}
+use Rattle.wit_syntax.specs.Source.{leads, Item, address, is_world, ScopeName, scope_names, meaning, Taking, first_takings, about, declared_notes}
 use Rattle.wit_syntax.specs.Foreign.{visited, foreign_interfaces, foreign_worlds}
 use Rattle.wit_arena.specs.Meet.{keys}
 use Rattle.wit_syntax.specs.Fault.{Fault}
@@ -56,7 +56,7 @@ pub record AddsBehind (old new : List TypeDef) (item : Item) (order : List ℕ) 
 
 -- an interface of the arena is the one of an item, apart from its types and functions
 abbrev pub IsInterfaceOf : Item → Interface → Type 0
-IsInterfaceOf item i = IsInterface (declared_name item.declared) (item_id item).span (item_notes item) i
+IsInterfaceOf item i = IsInterface (about item.declared).called (about item.declared).id.span (declared_notes item.declared) i
 
 -- what an interface adds to the arena of types, where it stands at this place, and these are the scopes that it may use
 pub record AddsInterface (cs : List Cell) (place : ℕ) (old new : List TypeDef) (added : Interface) (rs : List Required) (item : Item) : Type 0 where
@@ -109,7 +109,7 @@ pub record AddsWorld (foreign others : List Address) (is : List Interface) (old 
   pub added : World
   pub last : b.worlds ≡ a.worlds ++ added ∷ []
   pub more : b.addresses ≡ a.addresses ++ map address (inline_items item)
-  pub says : IsWorld (item_id item).name.now (item_id item).span (item_notes item) added
+  pub says : IsWorld (about item.declared).id.name.now (about item.declared).id.span (declared_notes item.declared) added
   pub types : Names
   pub middle : List TypeDef
   pub adds : AddsScope old middle (cells foreign is) (owner.World (length a.worlds)) (scope_names item) types
@@ -176,7 +176,7 @@ pub record AreSoundScopes (items : List Item) : Type 0 where
 
 -- what is wrong with the stability that the attributes of an item tell, or those of its includes
 pub data IsBrokenItemStability (item : Item) (f : Fault) : Type 0 where
-  OwnStability : IsBrokenStability (declared_attributes item.declared) f → IsBrokenItemStability item f
+  OwnStability : IsBrokenStability (about item.declared).attributes f → IsBrokenItemStability item f
   OfInclude : (n : Include) → Contains (includes item) n → IsBrokenStability n.attributes.items f → IsBrokenItemStability item f
 
 -- nothing is wrong with the stability of these items

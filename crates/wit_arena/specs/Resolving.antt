@@ -26,7 +26,7 @@ use Rattle.wit_types.specs.declared.types.TypeOwner.TheVariants as owner
 use Rattle.wit_model.specs.declared.interface.Interface.{Interface}
 use Rattle.wit_syntax.specs.Address.{Address, InterfaceNamed, WorldNamed, ForeignNamed}
 use Rattle.wit_syntax.specs.Source.{path_id, Target, Local, Foreign, leads, Item, ScopeName, Used, Defined, local_id, local_name}
-use Rattle.wit_syntax.specs.Foreign.{is_foreign_world, foreign_at}
+use Rattle.wit_syntax.specs.Foreign.{foreign_at, ForeignVisit}
 use Rattle.wit_syntax.specs.Scope.{include_paths, AreDistinct, local_names}
 use Rattle.wit_syntax.specs.Shape.{shape_of, all_shapes, words, all_words, handles, all_handles, body_of}
 use Rattle.wit_syntax.specs.Notes.{Notes, notes, no_docs, IsBrokenNotes}
@@ -253,7 +253,7 @@ pub record IsWorldIndex (worlds : List Address) (by_name : Names) : Type 0 where
 -- no world stands where a path leads: of the package none that was resolved, of another package an interface
 abbrev pub IsNoWorld : List PackageFile → Names → Target → Type 0
 IsNoWorld files by_name (Local id) = env_of by_name id.name.now ≡ None
-IsNoWorld files by_name (Foreign p id) = option_map is_foreign_world (foreign_at files (ForeignNamed p id.name.now)) ≡ Some false
+IsNoWorld files by_name (Foreign p id) = option_map (λ (v : ForeignVisit). v.wants_world) (foreign_at files (ForeignNamed p id.name.now)) ≡ Some false
 
 -- an include of an item leads to an interface of another package, or to no world that was resolved
 pub record IsLostInclude (files : List PackageFile) (by_name : Names) (item : Item) (f : Fault) : Type 0 where

@@ -24,12 +24,12 @@ use Rattle.wit_types.specs.declared.types.TypeOwner.{TypeOwner}
 use Rattle.wit_types.specs.declared.types.TypeOwner.TheVariants as owner
 use Rattle.wit_graph.specs.Table.{IsOrder}
 use Rattle.wit_model.specs.declared.unresolved.UnresolvedPackage.{UnresolvedPackage}
-use Rattle.std.specs.List.{flat_map, filter_map, prefix_len}
+use Rattle.std.specs.List.{flat_map, filter_map, prefix_len, filter}
 use Rattle.wit_syntax.specs.Shape.{all_handles}
-use Rattle.wit_syntax.specs.Address.{Address, same_address}
-use Rattle.wit_syntax.specs.Source.{path_id, leads, TopName, Item, declared_name, item_id, item_notes, address, included_scope, ScopeName, all_items, item_at, scope_names, local_name, local_id, Taking, takings, first_takings}
+use Rattle.wit_syntax.specs.Address.{Address, same_address, WorldNamed, package_of, same_package}
+use Rattle.wit_syntax.specs.Source.{path_id, leads, TopName, Item, address, ScopeName, all_items, item_at, scope_names, local_name, local_id, Taking, takings, first_takings, about, declared_notes, target_scope}
 use Rattle.wit_syntax.specs.Trees.{scope}
-use Rattle.wit_syntax.specs.Foreign.{ForeignVisit, visited_package, visited, same_item, foreign_interfaces, foreign_worlds, foreign_packages, items_of_package, visits_of}
+use Rattle.wit_syntax.specs.Foreign.{ForeignVisit, visited, same_item, foreign_interfaces, foreign_worlds, foreign_packages, foreign_visits, foreign_items}
 use Rattle.wit_functions.specs.declared.function.Function.{Function}
 use Rattle.wit_syntax.specs.Function.{SourceFunction, functions as item_functions, all_types}
 use Rattle.wit_syntax.specs.Ends.{AtResource, AtForeign, EndsAt}
@@ -144,7 +144,7 @@ pub record HasTypes (ks : List Key) (t : Turned) (types : List (List ℕ × ℕ)
 
 -- an interface of files, with its names in turn, and its functions
 pub record IsResolvedInterface (ks : List Key) (o : Ordered) (i : Interface) : Type 0 where
-  pub says : IsInterface (declared_name o.item.declared) (item_id o.item).span (item_notes o.item) i
+  pub says : IsInterface (about o.item.declared).called (about o.item.declared).id.span (declared_notes o.item.declared) i
   pub types : HasTypes ks (turned o) i.types
   pub functions : (fs : List Function) × OneByOne (IsFunction ks (address o.item)) (item_functions o.item) fs × (i.functions ≡ placed_functions fs)
 
@@ -161,7 +161,7 @@ renamed n = record { name = n.name.name.now; as_ = n.as_.name.now }
 -- an include, where the worlds have these addresses
 pub record IsInclude (worlds : List Address) (top : List TopName) (written : Include) (i : WorldInclude) : Type 0 where
   pub stability : i.stability ≡ stability_of written.attributes.items
-  pub place : slice_get worlds i.id ≡ Some (included_scope (leads top written.from))
+  pub place : slice_get worlds i.id ≡ Some (target_scope WorldNamed (leads top written.from))
   pub names : i.names ≡ map renamed written.names.items
   pub span : i.span ≡ (path_id written.from).span
 
@@ -184,7 +184,7 @@ pub record HasSides (ks : List Key) (interfaces inside : List Address) (o : Orde
 -- A world of files, with its names in turn as its imports, and then the functions and interfaces that it imports, with those that it exports,
 -- and with its includes, where the interfaces and the worlds have these addresses.
 pub record IsResolvedWorld (ks : List Key) (interfaces worlds : List Address) (o : OrderedWorld) (w : World) : Type 0 where
-  pub says : IsWorld (item_id o.own.item).name.now (item_id o.own.item).span (item_notes o.own.item) w
+  pub says : IsWorld (about o.own.item.declared).id.name.now (about o.own.item.declared).id.span (declared_notes o.own.item.declared) w
   pub types : HasTypes ks (turned o.own) (world_types w)
   pub sides : HasSides ks interfaces (addresses o.inside) o.own w
   pub includes : AreIncludes worlds o.own.item w.includes
@@ -242,11 +242,11 @@ foreign_entry files v = if v.wants_world then entry.World (foreign_place (foreig
 
 -- the item by its name, with its entry and the stability of each of its visits
 abbrev pub dep_item : List PackageFile → ForeignVisit → List ℕ × (AstItem × List Stability)
-dep_item files v = (v.id.name.now, (foreign_entry files v, map (λ u. stability_of u.attributes) (visits_of files (visited v))))
+dep_item files v = (v.id.name.now, (foreign_entry files v, map (λ u. stability_of u.attributes) (filter (λ u. same_address (visited u) (visited v)) (foreign_visits files))))
 
 -- a package with its items
 abbrev pub dep : List PackageFile → ForeignVisit → PackageName × List (List ℕ × (AstItem × List Stability))
-dep files v = (visited_package v, map (dep_item files) (items_of_package files (visited_package v)))
+dep files v = (package_of v.of, map (dep_item files) (filter (λ u. same_package (package_of u.of) (package_of v.of)) (foreign_items files)))
 
 -- what the package names of others: each of them in the order of its first visit, with its items in the order of theirs, and the types
 -- that are taken from them in the order of their first uses

@@ -10,7 +10,7 @@ use Rattle.wit_model.specs.declared.ast_item.AstItem.{AstItem}
 use Rattle.wit_model.specs.declared.ast_item.AstItem.TheVariants as entry
 use Rattle.wit_model.specs.declared.interface.Interface.{Interface}
 use Rattle.wit_model.specs.declared.world.World.{World}
-use Rattle.wit_syntax.specs.Foreign.{ForeignVisit, visited, is_foreign_world, foreign_items, foreign_interfaces, foreign_worlds}
+use Rattle.wit_syntax.specs.Foreign.{ForeignVisit, visited, foreign_items, foreign_interfaces, foreign_worlds}
 use Rattle.wit_arena.specs.Whole.{foreign_place}
 use Rattle.wit_arena.specs.Resolving.{Names, cells, IsIndex, IsWorldIndex}
 use Rattle.wit_arena.specs.Resolved.{AddsForeign, worlds_at}
@@ -33,7 +33,7 @@ pub front_visits : (files : List PackageFile) (vs : List Held) → map foreign_b
 front_visits files vs h = sym (map_map visited foreign_behind vs) ∙ ap (map visited) h
 
 abbrev entry_by : List ForeignVisit → ForeignVisit → AstItem
-entry_by vs v = if v.wants_world then entry.World (foreign_place (filter is_foreign_world vs) v) else entry.Interface (foreign_place (filter (λ u. not (is_foreign_world u)) vs) v)
+entry_by vs v = if v.wants_world then entry.World (foreign_place (filter (λ (v : ForeignVisit). v.wants_world) vs) v) else entry.Interface (foreign_place (filter (λ u. not u.wants_world) vs) v)
 
 module _ (files : List PackageFile) (es : List TypeDef) (is : List Interface) (ws : List World) (adds : AddsForeign files es is ws) where
   -- nothing in front goes by a name

@@ -21,7 +21,7 @@ use Rattle.wit_syntax.specs.Function.{functions}
 use Rattle.wit_syntax.specs.Scope.{in_turn, includes}
 use Rattle.wit_syntax.specs.Sides.{IsBrokenSides, SideItem, inline_items, item_inline, side_items}
 use Rattle.wit_syntax.specs.Notes.{IsBrokenStability}
-use Rattle.wit_syntax.specs.Source.{Item, ScopeName, address, declared_attributes, item_id, item_notes, local_id, scope_names}
+use Rattle.wit_syntax.specs.Source.{Item, ScopeName, address, local_id, scope_names, about, declared_notes}
 use Rattle.wit_syntax.proofs.Inline.{length-inline_behind}
 use Rattle.wit_syntax.proofs.Lists.{at_back}
 use Rattle.wit_arena.specs.Resolving.{Cell, Names, Required, cells}
@@ -73,7 +73,7 @@ module _ (foreign : List Address) (is inside : List Interface) (ss : List Addres
       subst (λ (xs : List SideItem). AreSideItems all item.top side xs fs us (entries_on side hs fs ids)) (sym same) (entries_are all item.top side hs fs ids us (links_wider (interfaces_at foreign is) (ss ++ us) item.top hs placed) right made count (inline_places hs ids same count follow))
 
 -- what its names and what stands on its sides add, with what was put there, and its includes
-pub parts_are : (foreign others : List Address) (is : List Interface) (old mid new : List TypeDef) (ws : List World) (inside now : List Interface) (ss : List Address) (item : Item) (p : WorldParts) (types kept : Names) (turn held : List Id) (own : List Required) (fs : List Function) (ids : List ℕ) (hs : List HeldExtern) (closed : Bool) → length (interfaces_at foreign is) ≡ length is → length ss ≡ length inside → AddsTurn old mid (cells foreign is) (owner.World (length ws)) (scope_names item) types turn own → Emits own p.required.items (λ rs. AddsSides (cells foreign is) (length is) (address item) types mid new inside now fs rs (side_items item) (inline_items item)) → length now ≡ length inside + length (inline_items item) → side_items item ≡ externs_behind hs → AreLinksPlaced (interfaces_at foreign is) item.top hs → AreRightLinks hs → AreMade hs fs → length ids ≡ length (flat_map item_inline (externs_behind hs)) → AreConsecutive (length is + length inside) ids → held ≡ turn → kept ≡ types → ((xs : List ScopeName) (is : List Include) → held ≡ map local_id xs → closed ≡ none_of is → p.sides.imports ≡ settled is (type_imports xs kept ++ entries_on Imported hs fs ids)) → ((is : List Include) → closed ≡ none_of is → p.sides.exports ≡ settled is (entries_on Exported hs fs ids)) → closed ≡ none_of (includes item) → ((f : Fault) → IsSetterAlone item f → ⊥) → AreOf (item_notes item) p.notes → AreIncludes (worlds_at others ws) item p.includes → AreWorldParts foreign others is old new ws inside now ss item p
+pub parts_are : (foreign others : List Address) (is : List Interface) (old mid new : List TypeDef) (ws : List World) (inside now : List Interface) (ss : List Address) (item : Item) (p : WorldParts) (types kept : Names) (turn held : List Id) (own : List Required) (fs : List Function) (ids : List ℕ) (hs : List HeldExtern) (closed : Bool) → length (interfaces_at foreign is) ≡ length is → length ss ≡ length inside → AddsTurn old mid (cells foreign is) (owner.World (length ws)) (scope_names item) types turn own → Emits own p.required.items (λ rs. AddsSides (cells foreign is) (length is) (address item) types mid new inside now fs rs (side_items item) (inline_items item)) → length now ≡ length inside + length (inline_items item) → side_items item ≡ externs_behind hs → AreLinksPlaced (interfaces_at foreign is) item.top hs → AreRightLinks hs → AreMade hs fs → length ids ≡ length (flat_map item_inline (externs_behind hs)) → AreConsecutive (length is + length inside) ids → held ≡ turn → kept ≡ types → ((xs : List ScopeName) (is : List Include) → held ≡ map local_id xs → closed ≡ none_of is → p.sides.imports ≡ settled is (type_imports xs kept ++ entries_on Imported hs fs ids)) → ((is : List Include) → closed ≡ none_of is → p.sides.exports ≡ settled is (entries_on Exported hs fs ids)) → closed ≡ none_of (includes item) → ((f : Fault) → IsSetterAlone item f → ⊥) → AreOf (declared_notes item.declared) p.notes → AreIncludes (worlds_at others ws) item p.includes → AreWorldParts foreign others is old new ws inside now ss item p
 parts_are foreign others is old mid new ws inside now ss item p types kept turn held own fs ids hs closed counted known names emits grown same placed right made count follow lent stored imports exports shut paired told included =
     let order = names.adds.order in
     let us = map address (inline_items item) in
@@ -101,12 +101,12 @@ parts_are foreign others is old mid new ws inside now ss item p types kept turn 
     }
 
 -- the world that has them is added
-pub world_adds : (foreign others : List Address) (is : List Interface) (old new : List TypeDef) (ws ws' : List World) (inside now : List Interface) (ss : List Address) (item : Item) (p : WorldParts) → AreWorldParts foreign others is old new ws inside now ss item p → IsAddedWorld ws ws' (item_id item) (notes_behind p.notes) p.sides.imports p.sides.exports p.includes → AddsWorld foreign others is old new (arenas ws inside ss) (arenas ws' now (ss ++ map address (inline_items item))) p.required.items item
+pub world_adds : (foreign others : List Address) (is : List Interface) (old new : List TypeDef) (ws ws' : List World) (inside now : List Interface) (ss : List Address) (item : Item) (p : WorldParts) → AreWorldParts foreign others is old new ws inside now ss item p → IsAddedWorld ws ws' (about item.declared).id (notes_behind p.notes) p.sides.imports p.sides.exports p.includes → AddsWorld foreign others is old new (arenas ws inside ss) (arenas ws' now (ss ++ map address (inline_items item))) p.required.items item
 world_adds foreign others is old new ws ws' inside now ss item p parts a = record {
   added = a.added;
   last = a.last;
   more = refl;
-  says = world_told (item_id item).name.now (item_id item).span (item_notes item) p.notes a.added parts.told a.says;
+  says = world_told (about item.declared).id.name.now (about item.declared).id.span (declared_notes item.declared) p.notes a.added parts.told a.says;
   types = parts.types;
   middle = parts.middle;
   adds = parts.adds;
@@ -151,6 +151,6 @@ pub body_item : (old : List TypeDef) (cs : List Cell) (by_name : Names) (o p : T
 body_item old cs by_name o p i j e whose same h = subst (λ (x : TypeOwner). Refused (IsWrongBody old cs by_name x j) e) whose (subst (λ (x : Item). Refused (IsWrongBody old cs by_name o x) e) same h)
 
 -- nothing is wrong with the stability of a world, where nothing is with its own attributes nor with its includes
-pub world_stable : (w : Item) → ((f : Fault) → IsBrokenStability (declared_attributes w.declared) f → ⊥) → AreStable (includes w) → (f : Fault) → IsBrokenItemStability w f → ⊥
+pub world_stable : (w : Item) → ((f : Fault) → IsBrokenStability (about w.declared).attributes f → ⊥) → AreStable (includes w) → (f : Fault) → IsBrokenItemStability w f → ⊥
 world_stable w own stable f (OwnStability h) = own f h
 world_stable w own stable f (OfInclude i among h) = stable.each i among f h

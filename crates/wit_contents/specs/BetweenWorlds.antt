@@ -12,7 +12,7 @@ use Rattle.wit_model.specs.declared.world.WorldInclude.{WorldInclude}
 use Rattle.wit_model.specs.declared.world.WorldKey.{WorldKey}
 use Rattle.wit_model.specs.declared.world.WorldItem.{WorldItem}
 use Rattle.wit_syntax.specs.Address.{Address}
-use Rattle.wit_syntax.specs.Source.{address, Item, is_world, item_notes, scope_names}
+use Rattle.wit_syntax.specs.Source.{address, Item, is_world, scope_names, declared_notes}
 use Rattle.wit_syntax.specs.Scope.{in_order, in_turn, includes, worlds_of}
 use Rattle.wit_syntax.specs.Broken.{IsSetterAlone}
 use Rattle.wit_syntax.specs.Fault.{Fault}
@@ -45,7 +45,7 @@ arenas ws inside ss = record { worlds = ws; inside = inside; addresses = ss }
 -- These are the parts of a world, which it adds to the arena of types and brings to that of worlds, where these are the declared interfaces, and
 -- at first those at these addresses; the interfaces that are written in it stand behind those that were written before it.
 pub record AreWorldParts (foreign others : List Address) (is : List Interface) (old new : List TypeDef) (ws : List World) (inside now : List Interface) (ss : List Address) (item : Item) (p : WorldParts) : Type 0 where
-  pub told : AreOf (item_notes item) p.notes
+  pub told : AreOf (declared_notes item.declared) p.notes
   pub types : Names
   pub middle : List TypeDef
   pub adds : AddsScope old middle (cells foreign is) (owner.World (length ws)) (scope_names item) types

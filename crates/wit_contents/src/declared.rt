@@ -1,7 +1,7 @@
 //! Declared interfaces, one after another.
 ghost use Rattle.std.specs.Prelude.{◌≡◌, ◌<◌, ◌≤◌, ◌++◌, ◌∷◌, [], false, All, Some, length, IfErr, OnOk, map};
 ghost use Rattle.wit_types.specs.declared.types.TypeOwner.TheVariants.{Interface as InterfaceOwner};
-ghost use Rattle.wit_syntax.specs.Source.{declared_attributes, declared_name, is_world, item_id, scope_names as the_names};
+ghost use Rattle.wit_syntax.specs.Source.{is_world, scope_names as the_names, about};
 ghost use Rattle.wit_syntax.specs.Notes.{IsBrokenStability};
 ghost use Rattle.wit_syntax.specs.Scope.{in_order, interfaces_of};
 ghost use Rattle.wit_syntax.specs.Function.{functions as the_functions};
@@ -61,7 +61,7 @@ fn resolve_interface<'a>(
     interfaces: &mut Interfaces<'_, '_, '_>,
     id: Id<'a>,
 ) -> ParseResult<()>
-    requires id { (id ≡ item_id (item_behind item.now)) × (Some id.name.now ≡ declared_name (item_behind item.now).declared) }
+    requires id { (id ≡ (about (item_behind item.now).declared).id) × (Some id.name.now ≡ (about (item_behind item.now).declared).called) }
     requires sort { is_world (item_behind item.now) ≡ false }
     requires named { names_behind item.now ≡ the_names (item_behind item.now) }
     requires placed { AreNamesPlaced (front_of interfaces.old.foreign.now) item.now.names.items }
@@ -70,7 +70,7 @@ fn resolve_interface<'a>(
     ensures foreign { OnOk result (interfaces.new.foreign ≡ interfaces.old.foreign) }
     ensures added { OnOk result (Emits required.old.items required.new.items (λ rs. AddsDeclared (front_of interfaces.old.foreign.now) types.old types.new interfaces.old.arena interfaces.new.arena rs (item_behind item.now))) }
     ensures index { OnOk result (IsIndex (cells_of interfaces.new) interfaces.new.by_name) }
-    ensures stable { OnOk result ((f : Fault) → IsBrokenStability (declared_attributes (item_behind item.now).declared) f → ⊥) }
+    ensures stable { OnOk result ((f : Fault) → IsBrokenStability (about (item_behind item.now).declared).attributes f → ⊥) }
     ensures sound { OnOk result ((f : Fault) → IsBrokenScope (the_names (item_behind item.now)) (the_functions (item_behind item.now)) f → IsNameless (the_names (item_behind item.now)) (the_functions (item_behind item.now))) }
     ensures sided { OnOk result ((f : Fault) → IsBrokenSides (item_behind item.now) f → ⊥) }
     ensures refused { IfErr result (Refused (IsWrongInterface types.old (cells_of interfaces.old) interfaces.old.by_name (InterfaceOwner (length interfaces.old.arena)) (item_behind item.now))) }

@@ -4,7 +4,7 @@ ghost use Rattle.wit_types.specs.declared.types.TypeDef.{TypeDef};
 ghost use Rattle.wit_types.specs.declared.types.TypeOwner.{TypeOwner as Owner};
 ghost use Rattle.wit_types.specs.declared.types.TypeOwner.TheVariants.{Interface as InterfaceOwner};
 ghost use Rattle.wit_functions.specs.declared.function.Function.{Function as TheFunction};
-ghost use Rattle.wit_syntax.specs.Source.{declared_attributes, declared_name, is_world, item_id, scope_names as the_names};
+ghost use Rattle.wit_syntax.specs.Source.{is_world, scope_names as the_names, about};
 ghost use Rattle.wit_syntax.specs.Notes.{IsBrokenStability};
 ghost use Rattle.wit_syntax.specs.Function.{functions as the_functions};
 ghost use Rattle.wit_syntax.specs.Sides.{IsBrokenSides};
@@ -101,14 +101,14 @@ pub fn interface_of<'a>(
     span: Span,
 ) -> ParseResult<Interface>
     requires sort { is_world (scope_item item.now) ≡ false }
-    requires called { name ≡ declared_name (scope_item item.now).declared }
-    requires stands { span ≡ (item_id (scope_item item.now)).span }
+    requires called { name ≡ (about (scope_item item.now).declared).called }
+    requires stands { span ≡ (about (scope_item item.now).declared).id.span }
     requires named { map name_behind item.now.names.now ≡ the_names (scope_item item.now) }
     requires placed { AreNamesPlaced (front_of interfaces.now.foreign.now) item.now.names.now }
     requires front { length interfaces.now.foreign.now ≤ length interfaces.now.arena }
     requires index { IsIndex (cells_of interfaces.now) interfaces.now.by_name }
     ensures adds { IfOk result (λ added. Emits required.old.items required.new.items (λ rs. AddsInterface (cells_of interfaces.now) place types.old types.new added rs (scope_item item.now))) }
-    ensures stable { OnOk result ((f : Fault) → IsBrokenStability (declared_attributes (scope_item item.now).declared) f → ⊥) }
+    ensures stable { OnOk result ((f : Fault) → IsBrokenStability (about (scope_item item.now).declared).attributes f → ⊥) }
     ensures sound { OnOk result ((f : Fault) → IsBrokenScope (the_names (scope_item item.now)) (the_functions (scope_item item.now)) f → IsNameless (the_names (scope_item item.now)) (the_functions (scope_item item.now))) }
     ensures sided { OnOk result ((f : Fault) → IsBrokenSides (scope_item item.now) f → ⊥) }
     ensures grown { OnOk result (IsGrown types.old types.new) }

@@ -12,7 +12,7 @@ ghost use Rattle.wit_syntax.specs.Repeats.{AllDiffer};
 ghost use Rattle.wit_syntax.specs.Scope.{includes};
 ghost use Rattle.wit_syntax.specs.Sides.{IsBrokenSides, inline_items, item_function, item_inline, items_on, side_items};
 ghost use Rattle.wit_syntax.specs.Signature.{IsBrokenFunction};
-ghost use Rattle.wit_syntax.specs.Source.{Item as TheItem, ScopeName as TheName, address, declared_attributes, declared_name as the_name, is_world, item_id, item_name, scope_names as the_names};
+ghost use Rattle.wit_syntax.specs.Source.{Item as TheItem, ScopeName as TheName, address, is_world, item_name, scope_names as the_names, about};
 ghost use Rattle.wit_arena.specs.Resolving.{IsIndex, env_of, names_in};
 ghost use Rattle.wit_arena.specs.Resolved.{AddsSides, AreLegalSides, AreSoundScopes, IsNameless, IsWrongInterface};
 ghost use Rattle.wit_entries.specs.Requiring.{IsGrown};
@@ -107,8 +107,8 @@ fn resolve_inline<'f, 'a>(
     span: Span,
 ) -> ParseResult<InterfaceId>
     requires sort { is_world (scope_item scope.now) ≡ false }
-    requires called { the_name (scope_item scope.now).declared ≡ None }
-    requires stands { span ≡ (item_id (scope_item scope.now)).span }
+    requires called { (about (scope_item scope.now).declared).called ≡ None }
+    requires stands { span ≡ (about (scope_item scope.now).declared).id.span }
     requires named { lent_names scope.now ≡ the_names (scope_item scope.now) }
     requires placed { AreNamesPlaced (front_of interfaces.now.foreign.now) scope.now.names.now }
     requires front { length interfaces.now.foreign.now ≤ length interfaces.now.arena }
@@ -116,7 +116,7 @@ fn resolve_inline<'f, 'a>(
     ensures id { IfOk result (λ id. id ≡ length interfaces.now.arena + length inside.old) }
     ensures adds { OnOk result (AddsInside (cells_of interfaces.now) (length interfaces.now.arena) types.old types.new inside.old inside.new required.old.items required.new.items (scope_item scope.now)) }
     ensures grown { OnOk result (IsGrown types.old types.new) }
-    ensures stable { OnOk result ((f : Fault) → IsBrokenStability (declared_attributes (scope_item scope.now).declared) f → ⊥) }
+    ensures stable { OnOk result ((f : Fault) → IsBrokenStability (about (scope_item scope.now).declared).attributes f → ⊥) }
     ensures sound { OnOk result ((f : Fault) → IsBrokenScope (the_names (scope_item scope.now)) (the_functions (scope_item scope.now)) f → IsNameless (the_names (scope_item scope.now)) (the_functions (scope_item scope.now))) }
     ensures sided { OnOk result ((f : Fault) → IsBrokenSides (scope_item scope.now) f → ⊥) }
     ensures refused { IfErr result (Refused (IsWrongInterface types.old (cells_of interfaces.now) interfaces.now.by_name (InterfaceOwner (length interfaces.now.arena + length inside.old)) (scope_item scope.now))) }

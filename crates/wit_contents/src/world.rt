@@ -2,7 +2,7 @@
 ghost use Rattle.std.specs.Prelude.{◌≡◌, ◌<◌, ◌≤◌, ◌+◌, ◌++◌, ◌∷◌, [], List, All, Contains, Some, false, true, length, IfOk, IfErr, OnOk, map};
 ghost use Rattle.wit_type_tree.specs.Refusal.{IsWantOfMemory};
 ghost use Rattle.wit_syntax.specs.Address.{Address};
-ghost use Rattle.wit_syntax.specs.Source.{address, declared_attributes, declared_parts, is_world, item_notes as the_notes, leads, scope_names as the_names};
+ghost use Rattle.wit_syntax.specs.Source.{address, is_world, leads, scope_names as the_names, about, declared_notes};
 ghost use Rattle.wit_syntax.specs.Function.{SourceFunction};
 ghost use Rattle.wit_syntax.specs.Notes.{IsBrokenStability};
 ghost use Rattle.wit_syntax.specs.Scope.{in_order, part_includes, worlds_of};
@@ -119,8 +119,8 @@ fn world_head<'f, 'a>(
     requires placed { AreNamesPlaced (front_of interfaces.now.foreign.now) item.now.names.items }
     requires front { length interfaces.now.foreign.now ≤ length interfaces.now.arena }
     requires index { IsIndex (cells_of interfaces.now) interfaces.now.by_name }
-    ensures told { IfOk result (λ head. AreOf (the_notes (item_behind item.now)) head.notes) }
-    ensures stable { OnOk result ((f : Fault) → IsBrokenStability (declared_attributes (item_behind item.now).declared) f → ⊥) }
+    ensures told { IfOk result (λ head. AreOf (declared_notes (item_behind item.now).declared) head.notes) }
+    ensures stable { OnOk result ((f : Fault) → IsBrokenStability (about (item_behind item.now).declared).attributes f → ⊥) }
     ensures adds { IfOk result (λ head. AddsTurn types.old types.new (cells_of interfaces.now) owner (the_names (item_behind item.now)) head.names.types head.names.turn.items head.names.required.items) }
     ensures legal { OnOk result ((fns : List SourceFunction) (f : Fault) → IsBrokenScope (the_names (item_behind item.now)) fns f → IsOfFunctions (the_names (item_behind item.now)) fns f) }
     ensures refused { IfErr result (Refused (IsWrongBody types.old (cells_of interfaces.now) interfaces.now.by_name owner (item_behind item.now))) }
@@ -155,8 +155,8 @@ fn world_content<'f, 'a>(
     requires entries { AreEntriesOf files.now worlds.now.entries.now }
     requires worlds_front { length (others_of files.now) ≤ length worlds.now.arena }
     requires worlds_index { IsWorldIndex (worlds_at (others_of files.now) worlds.now.arena) worlds.now.by_name }
-    ensures parts { IfOk result (λ content. (ss : List Address) (before : List TheType) (notes : TheNotes) → length ss ≡ length inside.old → AddsTurn before types.old (cells_of interfaces.now) (WorldOwner (length worlds.now.arena)) (the_names (item_behind item.now)) names.old.types names.old.turn.items names.old.required.items → AreOf (the_notes (item_behind item.now)) notes → AreWorldParts (front_of interfaces.now.foreign.now) (others_of files.now) interfaces.now.arena before types.new worlds.now.arena inside.old inside.new ss (item_behind item.now) (record { notes = notes; required = names.new.required; sides = content.sides; includes = content.includes })) }
-    ensures stable { OnOk result (AreStable (flat_map part_includes (declared_parts (declared_behind item.now.declared)))) }
+    ensures parts { IfOk result (λ content. (ss : List Address) (before : List TheType) (notes : TheNotes) → length ss ≡ length inside.old → AddsTurn before types.old (cells_of interfaces.now) (WorldOwner (length worlds.now.arena)) (the_names (item_behind item.now)) names.old.types names.old.turn.items names.old.required.items → AreOf (declared_notes (item_behind item.now).declared) notes → AreWorldParts (front_of interfaces.now.foreign.now) (others_of files.now) interfaces.now.arena before types.new worlds.now.arena inside.old inside.new ss (item_behind item.now) (record { notes = notes; required = names.new.required; sides = content.sides; includes = content.includes })) }
+    ensures stable { OnOk result (AreStable (flat_map part_includes (about (declared_behind item.now.declared)).parts)) }
     ensures sound { OnOk result (((fns : List SourceFunction) (f : Fault) → IsBrokenScope (the_names (item_behind item.now)) fns f → IsOfFunctions (the_names (item_behind item.now)) fns f) → AreSoundScopes (with_inline (item_behind item.now))) }
     ensures sided { OnOk result (AreLegalSides (with_inline (item_behind item.now))) }
     ensures linked { OnOk result ((link : Link) → Contains (links (item_behind item.now)) link → is_world_at files.now (leads (item_behind item.now).top link.path) ≡ Some false) }

@@ -15,7 +15,7 @@ use Rattle.wit_arena.specs.Meet.{shapes_meetings}
 use Rattle.wit_syntax.specs.Notes.{Notes, notes, docs_of, AreNotes}
 use Rattle.wit_arena.specs.Resolving.{Cell, Names, env_of, AreResolved, IsAdded, Defines}
 use Rattle.wit_syntax.specs.Shape.{body_of}
-use Rattle.wit_syntax.specs.Source.{Defined, name_notes}
+use Rattle.wit_syntax.specs.Source.{Defined, about_name}
 use Rattle.wit_arena.proofs.Defining.{defines_one}
 use Rattle.wit_notes.specs.Notes.{notes_behind}
 use Rattle.wit_notes.specs.declared.notes.Notes.{Notes as Made}
@@ -37,7 +37,7 @@ noted_as fn n docs attributes told same_docs same_attributes =
 -- a definition is met with its notes, and what is in its body with its stability
 pub defines_noted : (old mid new : List TypeDef) (cs : List Cell) (o : TypeOwner) (s : Address) (names names' : Names) (d : Definition) (kind : TypeDefKind) (n : Made) (attributes : List Attribute) → notes_behind n ≡ notes (docs_of d.docs) attributes → attributes ≡ d.attributes.items → AreResolved old mid s (env_of names) (shapes_meetings s n.stability (body_of d.body).parts) (exprs_of s (body_of d.body).parts) (kind_of kind).parts → (kind_of kind).form ≡ (body_of d.body).form → IsAdded mid new o names names' d.name.name.now (notes_behind n) d.name.span kind → Defines old new cs o s names names' (Defined d ∷ [])
 defines_noted old mid new cs o s names names' d kind n attributes told same parts form added =
-    let all : notes_behind n ≡ name_notes (Defined d) = told ∙ ap (notes (docs_of d.docs)) same in
+    let all : notes_behind n ≡ (about_name (Defined d)).notes = told ∙ ap (notes (docs_of d.docs)) same in
     let body = body_of d.body in
     defines_one old mid new cs o s names names' d kind
     (subst (λ (given : Stability). AreResolved old mid s (env_of names) (shapes_meetings s given body.parts) (exprs_of s body.parts) (kind_of kind).parts) (ap (λ (m : Notes). m.stability) all) parts)

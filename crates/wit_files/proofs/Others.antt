@@ -25,9 +25,9 @@ use Rattle.wit_tree.specs.declared.tree.AstItem.{AstItem}
 use Rattle.wit_tree.specs.declared.tree.AstItem.TheVariants as ast
 use Rattle.wit_tree.specs.declared.tree.PackageFile.{PackageFile}
 use Rattle.wit_syntax.specs.Address.{Address, same_version, same_address}
-use Rattle.wit_syntax.specs.Source.{Part, interface_part, world_part}
+use Rattle.wit_syntax.specs.Source.{Part, interface_part, world_part, at_side}
 use Rattle.wit_syntax.specs.Crossing.{same_side, extern_paths, item_uses, inline_uses}
-use Rattle.wit_syntax.specs.Foreign.{ForeignVisit, visited, path_visits, part_visits as the_part_visits, side_visits, declaration_visits, file_visits, same_item}
+use Rattle.wit_syntax.specs.Foreign.{ForeignVisit, visited, path_visits, part_visits as the_part_visits, declaration_visits, file_visits, same_item, part_visits, extern_visits}
 use Rattle.wit_syntax.specs.Repeats.{firsts}
 use Rattle.wit_syntax.proofs.Lists.{map_at}
 use Rattle.wit_syntax.proofs.Addresses.{same_address-from, same_address-equal}
@@ -83,7 +83,7 @@ of_kind attributes (extern.Path path) = refl
 of_kind attributes (extern.Func name f) = refl
 of_kind attributes (extern.NamedPath name path) = refl
 
-of_side_part : (side : WorldSide) (p : WorldItem) → flat_map foreign_of (side_part_visits side p) ≡ side_visits side (world_part p)
+of_side_part : (side : WorldSide) (p : WorldItem) → flat_map foreign_of (side_part_visits side p) ≡ at_side extern_visits side (world_part p)
 of_side_part side (world_item.TypeDef d) = refl
 of_side_part side (world_item.Extern x) = elim (cases_Bool (same_side side x.side)) [
   | inl on ↦ rw on (of_kind x.attributes.items x.kind)
@@ -93,7 +93,7 @@ of_side_part side (world_item.Use u) = refl
 of_side_part side (world_item.Include i) = refl
 
 -- nothing of an interface stands on a side of a world
-no_side : (side : WorldSide) (xs : List InterfaceItem) → flat_map (side_visits side) (map interface_part xs) ≡ []
+no_side : (side : WorldSide) (xs : List InterfaceItem) → flat_map (at_side extern_visits side) (map interface_part xs) ≡ []
 no_side side [] = refl
 no_side side (interface_item.TypeDef d ∷ xs) = no_side side xs
 no_side side (interface_item.Use u ∷ xs) = no_side side xs
@@ -111,10 +111,10 @@ of_item (ast.Interface i) =
     let ps = map interface_part i.items.items in
     of_parts interface_part (part_visits (Some i.name)) the_part_visits (of_part (Some i.name)) i.items.items
     ∙ sym (append-nil (flat_map the_part_visits ps))
-    ∙ ap (λ l. flat_map the_part_visits ps ++ l) (sym (ap (λ l. l ++ flat_map (side_visits Exported) ps) (no_side Imported i.items.items) ∙ no_side Exported i.items.items))
+    ∙ ap (λ l. flat_map the_part_visits ps ++ l) (sym (ap (λ l. l ++ flat_map (at_side extern_visits Exported) ps) (no_side Imported i.items.items) ∙ no_side Exported i.items.items))
 of_item (ast.World w) =
     let xs = w.items.items in
-    three_parts foreign_of (flat_map (world_part_visits w.name) xs) (flat_map (side_part_visits Imported) xs) (flat_map (side_part_visits Exported) xs) _ _ _ (of_parts world_part (world_part_visits w.name) the_part_visits (of_world_part w.name) xs) (of_parts world_part (side_part_visits Imported) (side_visits Imported) (of_side_part Imported) xs) (of_parts world_part (side_part_visits Exported) (side_visits Exported) (of_side_part Exported) xs)
+    three_parts foreign_of (flat_map (world_part_visits w.name) xs) (flat_map (side_part_visits Imported) xs) (flat_map (side_part_visits Exported) xs) _ _ _ (of_parts world_part (world_part_visits w.name) the_part_visits (of_world_part w.name) xs) (of_parts world_part (side_part_visits Imported) (at_side extern_visits Imported) (of_side_part Imported) xs) (of_parts world_part (side_part_visits Exported) (at_side extern_visits Exported) (of_side_part Exported) xs)
 of_item (ast.Use u) = append-nil (path_visits u.attributes.items false u.item)
 
 -- those of the paths of a file are its paths with a package

@@ -8,8 +8,8 @@ use Rattle.std.proofs.lemmas.List.{map-append, length-map}
 use Rattle.wit_values.specs.declared.span.Span.{Span}
 use Rattle.wit_model.specs.declared.ast_item.AstItem.{AstItem}
 use Rattle.wit_model.specs.declared.ast_item.AstItem.TheVariants as entry
-use Rattle.wit_syntax.specs.Address.{same_package}
-use Rattle.wit_syntax.specs.Foreign.{ForeignVisit, visited_package, is_foreign_world}
+use Rattle.wit_syntax.specs.Address.{same_package, package_of}
+use Rattle.wit_syntax.specs.Foreign.{ForeignVisit}
 use Rattle.wit_foreign.specs.declared.deps.Deps.{Deps}
 use Rattle.wit_foreign.specs.Kept.{table_more, interfaces_in, worlds_in, packages_of, table_in, visit_stability, entry_next, row_in}
 use Rattle.wit_foreign.specs.Growing.{AreDeps}
@@ -22,7 +22,7 @@ abbrev nothing : List (Unit {0})
 nothing = []
 
 -- a visit is counted with its kind if its item is new
-worlds_counted : (known : Bool) (x : ForeignVisit) → length (cond (not known) (cond x.wants_world one nothing) nothing) ≡ length (filter is_foreign_world (cond known [] (x ∷ [])))
+worlds_counted : (known : Bool) (x : ForeignVisit) → length (cond (not known) (cond x.wants_world one nothing) nothing) ≡ length (filter (λ (v : ForeignVisit). v.wants_world) (cond known [] (x ∷ [])))
 worlds_counted true x = refl
 worlds_counted false x = go x.wants_world
   where
@@ -30,7 +30,7 @@ worlds_counted false x = go x.wants_world
     go true = refl
     go false = refl
 
-interfaces_counted : (known : Bool) (x : ForeignVisit) → length (cond (not known) (cond x.wants_world nothing one) nothing) ≡ length (filter (λ v. not (is_foreign_world v)) (cond known [] (x ∷ [])))
+interfaces_counted : (known : Bool) (x : ForeignVisit) → length (cond (not known) (cond x.wants_world nothing one) nothing) ≡ length (filter (λ v. not v.wants_world) (cond known [] (x ∷ [])))
 interfaces_counted true x = refl
 interfaces_counted false x = go x.wants_world
   where
@@ -50,8 +50,8 @@ noted false x = refl
 -- how a visit changes what there is
 pub record Adds (x : ForeignVisit) (fresh : Bool) (e : AstItem) (d d' : Deps) : Type 0 where
   pub entry_is : e ≡ if x.wants_world then entry.World (length d.worlds) else entry.Interface (length d.interfaces)
-  pub fresh_is : fresh ≡ not (is_some (lookup (pointwise nat_eq x.id.name.now) (unwrap_or (lookup (same_package (visited_package x)) d.packages) [])))
-  pub packages : d'.packages ≡ table_more d.packages (visited_package x) x.id.name.now e (visit_stability x)
+  pub fresh_is : fresh ≡ not (is_some (lookup (pointwise nat_eq x.id.name.now) (unwrap_or (lookup (same_package (package_of x.of)) d.packages) [])))
+  pub packages : d'.packages ≡ table_more d.packages (package_of x.of) x.id.name.now e (visit_stability x)
   pub spans : d'.spans ≡ d.spans ++ cond (nat_lt (length d.spans) (length d'.packages)) (x.of.span ∷ []) []
   pub interfaces : d'.interfaces ≡ d.interfaces ++ cond fresh (cond x.wants_world nothing one) nothing
   pub worlds : d'.worlds ≡ d.worlds ++ cond fresh (cond x.wants_world one nothing) nothing
@@ -60,11 +60,11 @@ pub record Adds (x : ForeignVisit) (fresh : Bool) (e : AstItem) (d d' : Deps) : 
 pub deps_more : (vs : List ForeignVisit) (x : ForeignVisit) (fresh : Bool) (e : AstItem) (d d' : Deps) → Adds x fresh e d d' → AreDeps vs d → AreDeps (vs ++ x ∷ []) d'
 deps_more vs x fresh e d d' adds are =
     let entry_same : e ≡ entry_next vs x = adds.entry_is ∙ (λ i. if x.wants_world then entry.World (are.worlds i) else entry.Interface (are.interfaces i)) in
-    let table : d'.packages ≡ table_in (vs ++ x ∷ []) = adds.packages ∙ ((λ i. table_more (are.packages i) (visited_package x) x.id.name.now (entry_same i) (visit_stability x)) ∙ sym (table_in-more vs x)) in
-    let new : fresh ≡ not (is_known vs x) = adds.fresh_is ∙ (ap (λ t. not (is_some (lookup (pointwise nat_eq x.id.name.now) (unwrap_or (lookup (same_package (visited_package x)) t) [])))) are.packages ∙ ap not (is_known-lookup vs x)) in
+    let table : d'.packages ≡ table_in (vs ++ x ∷ []) = adds.packages ∙ ((λ i. table_more (are.packages i) (package_of x.of) x.id.name.now (entry_same i) (visit_stability x)) ∙ sym (table_in-more vs x)) in
+    let new : fresh ≡ not (is_known vs x) = adds.fresh_is ∙ (ap (λ t. not (is_some (lookup (pointwise nat_eq x.id.name.now) (unwrap_or (lookup (same_package (package_of x.of)) t) [])))) are.packages ∙ ap not (is_known-lookup vs x)) in
     let span : ForeignVisit → Span = λ v. v.of.span in
     let spans_len : length d.spans ≡ length (packages_of vs) = ap (λ (l : List Span). length l) are.spans ∙ length-map (packages_of vs) span in
-    let packages_len : length d'.packages ≡ length (packages_of vs) + length (cond (is_named vs x) [] (x ∷ [])) = ap length table ∙ (length-map (packages_of (vs ++ x ∷ [])) (λ v. (visited_package v, row_in (vs ++ x ∷ []) (visited_package v))) ∙ (ap length (packages_of-more vs x) ∙ length-append (packages_of vs) (cond (is_named vs x) [] (x ∷ [])))) in
+    let packages_len : length d'.packages ≡ length (packages_of vs) + length (cond (is_named vs x) [] (x ∷ [])) = ap length table ∙ (length-map (packages_of (vs ++ x ∷ [])) (λ v. (package_of v.of, row_in (vs ++ x ∷ []) (package_of v.of))) ∙ (ap length (packages_of-more vs x) ∙ length-append (packages_of vs) (cond (is_named vs x) [] (x ∷ [])))) in
     let is_longer : nat_lt (length d.spans) (length d'.packages) ≡ not (is_named vs x) = (λ i. nat_lt (spans_len i) (packages_len i)) ∙ longer (is_named vs x) (length (packages_of vs)) x in
     let back : cond (nat_lt (length d.spans) (length d'.packages)) (x.of.span ∷ []) [] ≡ map span (cond (is_named vs x) [] (x ∷ [])) = ap (λ b. cond b (x.of.span ∷ []) []) is_longer ∙ noted (is_named vs x) x in
     let spans_are : d'.spans ≡ map span (packages_of (vs ++ x ∷ [])) = adds.spans ∙ ((λ i. are.spans i ++ back i) ∙ (sym (map-append span (packages_of vs) (cond (is_named vs x) [] (x ∷ []))) ∙ sym (ap (map span) (packages_of-more vs x)))) in
@@ -73,9 +73,9 @@ deps_more vs x fresh e d d' adds are =
     let interfaces_are : length d'.interfaces ≡ length (interfaces_in (vs ++ x ∷ [])) =
     ap (λ (l : List (Unit {0})). length l) adds.interfaces ∙ (length-append d.interfaces is_more
     ∙ ((λ i. are.interfaces i + (ap (λ b. length (cond b (cond x.wants_world nothing one) nothing)) new ∙ interfaces_counted (is_known vs x) x) i)
-    ∙ (sym (length-append (interfaces_in vs) (filter (λ v. not (is_foreign_world v)) (cond (is_known vs x) [] (x ∷ [])))) ∙ sym (ap length (interfaces_in-more vs x))))) in
+    ∙ (sym (length-append (interfaces_in vs) (filter (λ v. not v.wants_world) (cond (is_known vs x) [] (x ∷ [])))) ∙ sym (ap length (interfaces_in-more vs x))))) in
     let worlds_are : length d'.worlds ≡ length (worlds_in (vs ++ x ∷ [])) =
     ap (λ (l : List (Unit {0})). length l) adds.worlds ∙ (length-append d.worlds ws_more
     ∙ ((λ i. are.worlds i + (ap (λ b. length (cond b (cond x.wants_world one nothing) nothing)) new ∙ worlds_counted (is_known vs x) x) i)
-    ∙ (sym (length-append (worlds_in vs) (filter is_foreign_world (cond (is_known vs x) [] (x ∷ [])))) ∙ sym (ap length (worlds_in-more vs x))))) in
+    ∙ (sym (length-append (worlds_in vs) (filter (λ (v : ForeignVisit). v.wants_world) (cond (is_known vs x) [] (x ∷ [])))) ∙ sym (ap length (worlds_in-more vs x))))) in
     record { packages = table; spans = spans_are; interfaces = interfaces_are; worlds = worlds_are }

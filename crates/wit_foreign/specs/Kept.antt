@@ -9,10 +9,10 @@ use Rattle.wit_types.specs.declared.stability.Stability.{Stability}
 use Rattle.wit_model.specs.declared.ast_item.AstItem.{AstItem}
 use Rattle.wit_model.specs.declared.ast_item.AstItem.TheVariants as entry
 use Rattle.wit_package_names.specs.declared.package_name.PackageName.{PackageName}
-use Rattle.wit_syntax.specs.Address.{same_package, same_address}
+use Rattle.wit_syntax.specs.Address.{same_package, same_address, package_of}
 use Rattle.wit_syntax.specs.Notes.{stability_of}
 use Rattle.wit_syntax.specs.Repeats.{firsts}
-use Rattle.wit_syntax.specs.Foreign.{ForeignVisit, visited_package, visited, same_item, is_foreign_world}
+use Rattle.wit_syntax.specs.Foreign.{ForeignVisit, visited, same_item}
 use Rattle.wit_arena.specs.Whole.{foreign_place}
 
 abbrev pub Visited : Type 0
@@ -39,13 +39,13 @@ abbrev pub items_of : List ForeignVisit → List ForeignVisit
 items_of vs = firsts same_item vs
 
 abbrev pub interfaces_in : List ForeignVisit → List ForeignVisit
-interfaces_in vs = filter (λ v. not (is_foreign_world v)) (items_of vs)
+interfaces_in vs = filter (λ v. not v.wants_world) (items_of vs)
 
 abbrev pub worlds_in : List ForeignVisit → List ForeignVisit
-worlds_in vs = filter is_foreign_world (items_of vs)
+worlds_in vs = filter (λ (v : ForeignVisit). v.wants_world) (items_of vs)
 
 abbrev pub packages_of : List ForeignVisit → List ForeignVisit
-packages_of vs = firsts (λ a b. same_package (visited_package a) (visited_package b)) vs
+packages_of vs = firsts (λ a b. same_package (package_of a.of) (package_of b.of)) vs
 
 -- the entry of an item of visits
 abbrev pub entry_in : List ForeignVisit → ForeignVisit → AstItem
@@ -61,11 +61,11 @@ item_in vs v = (entry_in vs v, map visit_stability (filter (λ u. same_address (
 
 -- the items of a package
 abbrev pub row_in : List ForeignVisit → PackageName → Items
-row_in vs p = map (λ v. (v.id.name.now, item_in vs v)) (filter (λ v. same_package (visited_package v) p) (items_of vs))
+row_in vs p = map (λ v. (v.id.name.now, item_in vs v)) (filter (λ v. same_package (package_of v.of) p) (items_of vs))
 
 -- the packages of visits, each with its items
 abbrev pub table_in : List ForeignVisit → List (PackageName × Items)
-table_in vs = map (λ v. (visited_package v, row_in vs (visited_package v))) (packages_of vs)
+table_in vs = map (λ v. (package_of v.of, row_in vs (package_of v.of))) (packages_of vs)
 
 -- the entry that the item of a visit gets if it is new
 abbrev pub entry_next : List ForeignVisit → ForeignVisit → AstItem

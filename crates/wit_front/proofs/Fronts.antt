@@ -14,7 +14,7 @@ use Rattle.wit_model.specs.declared.ast_item.AstItem.TheVariants as entry
 use Rattle.wit_syntax.specs.Address.{Address, same_address}
 use Rattle.wit_syntax.specs.Source.{Taking}
 use Rattle.wit_syntax.specs.Repeats.{AllDiffer}
-use Rattle.wit_syntax.specs.Foreign.{ForeignVisit, visited, same_item, is_foreign_world}
+use Rattle.wit_syntax.specs.Foreign.{ForeignVisit, visited, same_item}
 use Rattle.wit_arena.specs.Whole.{foreign_place}
 use Rattle.wit_arena.specs.Resolving.{Names}
 use Rattle.wit_syntax.proofs.Lists.{at_front}
@@ -51,19 +51,19 @@ entries-more i w (u ∷ us) v =
 
 -- one interface more
 pub interfaces-more : (vs : List ForeignVisit) (v : ForeignVisit) → v.wants_world ≡ false → interfaces_among (vs ++ v ∷ []) ≡ interfaces_among vs ++ v ∷ []
-interfaces-more vs v h = filter-append (λ (u : ForeignVisit). not (is_foreign_world u)) vs (v ∷ []) ∙ ap (λ (b : Bool). interfaces_among vs ++ cond (not b) (v ∷ []) []) h
+interfaces-more vs v h = filter-append (λ (u : ForeignVisit). not u.wants_world) vs (v ∷ []) ∙ ap (λ (b : Bool). interfaces_among vs ++ cond (not b) (v ∷ []) []) h
 
 -- a world is no interface more
 pub interfaces-same : (vs : List ForeignVisit) (v : ForeignVisit) → v.wants_world ≡ true → interfaces_among (vs ++ v ∷ []) ≡ interfaces_among vs
-interfaces-same vs v h = filter-append (λ (u : ForeignVisit). not (is_foreign_world u)) vs (v ∷ []) ∙ ap (λ (b : Bool). interfaces_among vs ++ cond (not b) (v ∷ []) []) h ∙ append-nil (interfaces_among vs)
+interfaces-same vs v h = filter-append (λ (u : ForeignVisit). not u.wants_world) vs (v ∷ []) ∙ ap (λ (b : Bool). interfaces_among vs ++ cond (not b) (v ∷ []) []) h ∙ append-nil (interfaces_among vs)
 
 -- one world more
 pub worlds-more : (vs : List ForeignVisit) (v : ForeignVisit) → v.wants_world ≡ true → worlds_among (vs ++ v ∷ []) ≡ worlds_among vs ++ v ∷ []
-worlds-more vs v h = filter-append is_foreign_world vs (v ∷ []) ∙ ap (λ (b : Bool). worlds_among vs ++ cond b (v ∷ []) []) h
+worlds-more vs v h = filter-append (λ (v : ForeignVisit). v.wants_world) vs (v ∷ []) ∙ ap (λ (b : Bool). worlds_among vs ++ cond b (v ∷ []) []) h
 
 -- an interface is no world more
 pub worlds-same : (vs : List ForeignVisit) (v : ForeignVisit) → v.wants_world ≡ false → worlds_among (vs ++ v ∷ []) ≡ worlds_among vs
-worlds-same vs v h = filter-append is_foreign_world vs (v ∷ []) ∙ ap (λ (b : Bool). worlds_among vs ++ cond b (v ∷ []) []) h ∙ append-nil (worlds_among vs)
+worlds-same vs v h = filter-append (λ (v : ForeignVisit). v.wants_world) vs (v ∷ []) ∙ ap (λ (b : Bool). worlds_among vs ++ cond b (v ∷ []) []) h ∙ append-nil (worlds_among vs)
 
 -- what is taken from a scope, with one name more
 pub taken-more : (n : ℕ) (s : Address) (ts : List Taking) (t : Taking) → taken_from n s (ts ++ t ∷ []) ≡ taken_from n s ts ++ (if same_address t.from s then (t.id.name.now, n + length ts) ∷ [] else [])
@@ -185,11 +185,11 @@ module _ (us : List ForeignVisit) (v : ForeignVisit) (vs : List ForeignVisit) (d
       let all = us ++ v ∷ vs in
       elim (cases_Bool v.wants_world) [
         | inl hit ↦ (
-            let whole : worlds_among all ≡ worlds_among us ++ v ∷ worlds_among vs = filter-append is_foreign_world us (v ∷ vs) ∙ ap (λ (b : Bool). worlds_among us ++ cond b (v ∷ worlds_among vs) (worlds_among vs)) hit in
-            let place : foreign_place (worlds_among all) v ≡ w = ap (λ (l : List ForeignVisit). foreign_place l v) whole ∙ foreign_place-seam (worlds_among us) v (worlds_among vs) (none_before is_foreign_world) in
+            let whole : worlds_among all ≡ worlds_among us ++ v ∷ worlds_among vs = filter-append (λ (v : ForeignVisit). v.wants_world) us (v ∷ vs) ∙ ap (λ (b : Bool). worlds_among us ++ cond b (v ∷ worlds_among vs) (worlds_among vs)) hit in
+            let place : foreign_place (worlds_among all) v ≡ w = ap (λ (l : List ForeignVisit). foreign_place l v) whole ∙ foreign_place-seam (worlds_among us) v (worlds_among vs) (none_before (λ (v : ForeignVisit). v.wants_world)) in
             ap (λ (b : Bool). if b then entry.World w else entry.Interface i) hit ∙ ap entry.World (sym place) ∙ sym (ap (λ (b : Bool). if b then entry.World (foreign_place (worlds_among all) v) else entry.Interface (foreign_place (interfaces_among all) v)) hit))
         | inr miss ↦ (
-            let test = λ (u : ForeignVisit). not (is_foreign_world u) in
+            let test = λ (u : ForeignVisit). not u.wants_world in
             let whole : interfaces_among all ≡ interfaces_among us ++ v ∷ interfaces_among vs = filter-append test us (v ∷ vs) ∙ ap (λ (b : Bool). interfaces_among us ++ cond (not b) (v ∷ interfaces_among vs) (interfaces_among vs)) miss in
             let place : foreign_place (interfaces_among all) v ≡ i = ap (λ (l : List ForeignVisit). foreign_place l v) whole ∙ foreign_place-seam (interfaces_among us) v (interfaces_among vs) (none_before test) in
             ap (λ (b : Bool). if b then entry.World w else entry.Interface i) miss ∙ ap entry.Interface (sym place) ∙ sym (ap (λ (b : Bool). if b then entry.World (foreign_place (worlds_among all) v) else entry.Interface (foreign_place (interfaces_among all) v)) miss))

@@ -23,7 +23,7 @@ use Rattle.wit_model.specs.declared.ast_item.AstItem.TheVariants as entry
 use Rattle.wit_model.specs.declared.interface.Interface.{Interface}
 use Rattle.wit_model.specs.declared.world.World.{World}
 use Rattle.wit_syntax.specs.Address.{Address, same_address}
-use Rattle.wit_syntax.specs.Source.{Taking, taking, same_taking, takings, first_takings, local_name, taken}
+use Rattle.wit_syntax.specs.Source.{Taking, taking, same_taking, takings, first_takings, local_name, Taken}
 use Rattle.wit_syntax.specs.Notes.{notes, no_docs}
 use Rattle.wit_syntax.specs.Repeats.{firsts}
 use Rattle.wit_syntax.specs.Foreign.{ForeignVisit, visited, foreign_items, foreign_interfaces, foreign_worlds}
@@ -207,7 +207,7 @@ module _ (files : List PackageFile) (es : List TypeDef) (a : ForeignArenas) (don
   -- the names of an interface of another package are those that are taken from it
   has_types : (v : ForeignVisit) → HasTypes (keys (map taking_meeting all)) (foreign_turned files v) (taken_from 0 (visited v) all)
   has_types v = record {
-    names = names-taken_from 0 (visited v) all ∙ sym (map_map local_name taken (filter (λ t. same_address t.from (visited v)) all));
+    names = names-taken_from 0 (visited v) all ∙ sym (map_map local_name (λ (t : Taking). Taken t.attributes t.id) (filter (λ t. same_address t.from (visited v)) all));
     places = λ k name id at. (
         let it = taken_from-at 0 (visited v) all k name id at in
         let u = it.2 in

@@ -15,7 +15,7 @@ use Rattle.wit_tree.specs.declared.tree.WorldSide.{WorldSide}
 use Rattle.wit_tree.specs.declared.tree.WorldSide.TheVariants.{Imported, Exported}
 use Rattle.wit_syntax.specs.Address.{Address, is_foreign}
 use Rattle.wit_syntax.specs.Crossing.{same_side, item_uses, inline_uses}
-use Rattle.wit_syntax.specs.Source.{Item, TopName, path_scope, interface_part, Part, Defining, Using, Including, Doing, Crossing, parts, part_names, scope_names, ScopeName, Used, Taking, taking, use_takings, part_takings, side_takings, item_takings, all_items, takings}
+use Rattle.wit_syntax.specs.Source.{Item, TopName, path_scope, interface_part, Part, Defining, Using, Including, Doing, Crossing, parts, part_names, scope_names, ScopeName, Used, Taking, taking, use_takings, part_takings, all_items, takings, at_side}
 use Rattle.wit_scopes.specs.Front.{AreNamesPlaced}
 use Rattle.wit_items.specs.declared.items.Item.{Item as HeldItem}
 use Rattle.wit_items.specs.Front.{AreItemsPlaced}
@@ -24,6 +24,8 @@ use Rattle.wit_item_names.specs.Inside.{written_items, side_uses}
 use Rattle.wit_items.specs.Inside.{inside_behind, names_written}
 use Rattle.wit_item_names.proofs.Written.{items_names, uses_written, names_written_in}
 use Rattle.wit_front.specs.Front.{name_takings, names_takings, held_takings}
+use Rattle.wit_tree.specs.declared.tree.Extern.{Extern}
+use Rattle.wit_syntax.proofs.JoinedItems.{item_takings}
 
 -- those from other packages
 abbrev foreign : List Taking → List Taking
@@ -66,7 +68,7 @@ interfaces_taken top (xs ∷ ls) =
     ap (λ (l : List Taking). l ++ flat_map names_takings (map (items_names top) ls)) first ∙ ap (λ (l : List Taking). foreign (flat_map (use_takings top) own) ++ l) (interfaces_taken top ls) ∙ sym (foreign-append (flat_map (use_takings top) own) (flat_map (use_takings top) rest)) ∙ ap foreign (sym (flat_map-append (use_takings top) own rest))
 
 -- those of a side are those of the uses that are written there
-side_part : (top : List TopName) (side : WorldSide) (p : Part) → side_takings top side p ≡ flat_map (use_takings top) (side_uses side p)
+side_part : (top : List TopName) (side : WorldSide) (p : Part) → at_side (λ (x : Extern). flat_map (use_takings top) (inline_uses x.kind)) side p ≡ flat_map (use_takings top) (side_uses side p)
 side_part top side (Defining d) = refl
 side_part top side (Using u) = refl
 side_part top side (Including i) = refl
@@ -76,23 +78,23 @@ side_part top side (Crossing x) = elim (cases_Bool (same_side side x.side)) [
   | inr there ↦ rw there refl
 ]
 
-side_parts : (top : List TopName) (side : WorldSide) (ps : List Part) → flat_map (side_takings top side) ps ≡ flat_map (use_takings top) (flat_map (flat_map item_uses) (flat_map (written_items side) ps))
+side_parts : (top : List TopName) (side : WorldSide) (ps : List Part) → flat_map (at_side (λ (x : Extern). flat_map (use_takings top) (inline_uses x.kind)) side) ps ≡ flat_map (use_takings top) (flat_map (flat_map item_uses) (flat_map (written_items side) ps))
 side_parts top side [] = refl
 side_parts top side (p ∷ ps) =
     let all : List (List InterfaceItem) → List Use = flat_map (flat_map item_uses) in
     let own = written_items side p in
     let rest = flat_map (written_items side) ps in
     let first = side_part top side p ∙ ap (flat_map (use_takings top)) (uses_written side p) in
-    ap (λ (l : List Taking). l ++ flat_map (side_takings top side) ps) first ∙ ap (λ (l : List Taking). flat_map (use_takings top) (all own) ++ l) (side_parts top side ps) ∙ sym (flat_map-append (use_takings top) (all own) (all rest)) ∙ ap (flat_map (use_takings top)) (sym (flat_map-append (flat_map item_uses) own rest))
+    ap (λ (l : List Taking). l ++ flat_map (at_side (λ (x : Extern). flat_map (use_takings top) (inline_uses x.kind)) side) ps) first ∙ ap (λ (l : List Taking). flat_map (use_takings top) (all own) ++ l) (side_parts top side ps) ∙ sym (flat_map-append (use_takings top) (all own) (all rest)) ∙ ap (flat_map (use_takings top)) (sym (flat_map-append (flat_map item_uses) own rest))
 
-written_takings : (w : Item) (side : WorldSide) → flat_map names_takings (names_written side w) ≡ foreign (flat_map (side_takings w.top side) (parts w))
+written_takings : (w : Item) (side : WorldSide) → flat_map names_takings (names_written side w) ≡ foreign (flat_map (at_side (λ (x : Extern). flat_map (use_takings w.top) (inline_uses x.kind)) side) (parts w))
 written_takings w side = ap (flat_map names_takings) (names_written_in w.top side (parts w)) ∙ interfaces_taken w.top (flat_map (written_items side) (parts w)) ∙ ap foreign (sym (side_parts w.top side (parts w)))
 
 -- those of an item
 item-takings : (w : Item) → names_takings (scope_names w) ++ (flat_map names_takings (names_written Imported w) ++ flat_map names_takings (names_written Exported w)) ≡ item_takings w
 item-takings w =
     let own = flat_map (part_takings w.top) (parts w) in
-    let on : WorldSide → List Taking = λ side. flat_map (side_takings w.top side) (parts w) in
+    let on : WorldSide → List Taking = λ side. flat_map (at_side (λ (x : Extern). flat_map (use_takings w.top) (inline_uses x.kind)) side) (parts w) in
     let exported = flat_map names_takings (names_written Exported w) in
     let sides = ap (λ (l : List Taking). l ++ exported) (written_takings w Imported) ∙ ap (λ (l : List Taking). foreign (on Imported) ++ l) (written_takings w Exported) ∙ sym (foreign-append (on Imported) (on Exported)) in
     ap (λ (l : List Taking). l ++ (flat_map names_takings (names_written Imported w) ++ exported)) (parts-takings w.top (parts w)) ∙ ap (λ (l : List Taking). foreign own ++ l) sides ∙ sym (foreign-append own (on Imported ++ on Exported))

@@ -14,7 +14,7 @@ use Rattle.wit_syntax.specs.Address.{Address, same_address, is_foreign}
 use Rattle.wit_syntax.specs.Source.{ScopeName, Used, Defined, Taken, Taking, taking, same_taking, first_takings}
 use Rattle.wit_syntax.specs.Notes.{notes, no_docs}
 use Rattle.wit_syntax.specs.Repeats.{AllDiffer, firsts}
-use Rattle.wit_syntax.specs.Foreign.{ForeignVisit, visited, is_foreign_world, foreign_items, foreign_interfaces}
+use Rattle.wit_syntax.specs.Foreign.{ForeignVisit, visited, foreign_items, foreign_interfaces}
 use Rattle.wit_arena.specs.Whole.{foreign_entry, owner_at}
 use Rattle.wit_arena.specs.Resolving.{Names, named}
 use Rattle.wit_arena.specs.Resolved.{AddsForeign}
@@ -39,10 +39,10 @@ bare_world span = record { name = []; imports = []; exports = []; «package» = 
 
 -- the interfaces among items, and the worlds
 abbrev pub interfaces_among : List ForeignVisit → List ForeignVisit
-interfaces_among vs = filter (λ v. not (is_foreign_world v)) vs
+interfaces_among vs = filter (λ v. not v.wants_world) vs
 
 abbrev pub worlds_among : List ForeignVisit → List ForeignVisit
-worlds_among vs = filter is_foreign_world vs
+worlds_among vs = filter (λ (v : ForeignVisit). v.wants_world) vs
 
 -- the addresses of the interfaces
 abbrev pub addresses_among : List ForeignVisit → List Address

@@ -7,7 +7,7 @@ use Rattle.wit_type_tree.specs.declared.leaves.Id.{Id}
 use Rattle.wit_tree.specs.declared.tree.WorldSide.TheVariants.{Imported}
 use Rattle.wit_syntax.specs.Crossing.{same_side}
 use Rattle.wit_syntax.specs.Fault.{Fault}
-use Rattle.wit_syntax.specs.Source.{Declared, TheInterface, TheWorld, TheInline, declared_parts, is_declared_world, Item, ScopeName, is_world, scope_names}
+use Rattle.wit_syntax.specs.Source.{Declared, TheInterface, TheWorld, TheInline, Item, ScopeName, is_world, scope_names, about}
 use Rattle.wit_syntax.specs.Function.{SourceFunction, functions, part_functions}
 use Rattle.wit_syntax.specs.Sides.{Link, SideItem, SideFunction, SideLink, item_side, item_inline, inline_externs, items_on, links, on_side, role_side, side_items, IsLinkedTwice, IsBrokenSides, FoldedTwice, CrossedTwice, LinkedTwice, LinkNotes, InlineNotes}
 use Rattle.wit_syntax.proofs.Found.{at_contains}
@@ -25,7 +25,7 @@ use Rattle.wit_uses.specs.Behind.{IsTurn}
 use Rattle.wit_item_entries.specs.Body.{IsHeldBy}
 use Rattle.wit_uses.proofs.Behind.{differ_called}
 
-declared_imported : (d : Declared) → is_declared_world d ≡ false → on_side Imported (flat_map part_functions (declared_parts d)) ≡ flat_map part_functions (declared_parts d)
+declared_imported : (d : Declared) → (about d).is_world ≡ false → on_side Imported (flat_map part_functions (about d).parts) ≡ flat_map part_functions (about d).parts
 declared_imported (TheInterface x) sort = interface_imported x.items.items
 declared_imported (TheWorld w) sort = absurd (let f : ⊥ = cc in f)
 declared_imported (TheInline world place x name items) sort = interface_imported items
@@ -34,12 +34,12 @@ pub all_imported : (item : Item) → is_world item ≡ false → on_side Importe
 all_imported item sort = declared_imported item.declared sort
 
 -- an item that is held by an interface is that
-pub declared_interface : (item : Item) (d : Declared) (names : List HeldName) → IsHeldBy item d names → is_declared_world d ≡ false → is_world item ≡ false
-declared_interface item d names own sort = ap is_declared_world own.declared ∙ sort
+pub declared_interface : (item : Item) (d : Declared) (names : List HeldName) → IsHeldBy item d names → (about d).is_world ≡ false → is_world item ≡ false
+declared_interface item d names own sort = ap (λ (x : Declared). (about x).is_world) own.declared ∙ sort
 
 -- and the functions that are written in it are its own
-pub declared_functions : (item : Item) (d : Declared) (names : List HeldName) (all ws : List HeldFunction) → IsHeldBy item d names → ws ≡ all → map function_behind all ≡ flat_map part_functions (declared_parts d) → map function_behind ws ≡ functions item
-declared_functions item d names all ws own same are = ap (map function_behind) same ∙ are ∙ ap (λ (x : Declared). flat_map part_functions (declared_parts x)) (sym own.declared)
+pub declared_functions : (item : Item) (d : Declared) (names : List HeldName) (all ws : List HeldFunction) → IsHeldBy item d names → ws ≡ all → map function_behind all ≡ flat_map part_functions (about d).parts → map function_behind ws ≡ functions item
+declared_functions item d names all ws own same are = ap (map function_behind) same ∙ are ∙ ap (λ (x : Declared). flat_map part_functions (about x).parts) (sym own.declared)
 
 -- among functions there is no path of an interface, and nothing is written there
 no_path : (fns : List SourceFunction) (k : ℕ) (link : Link) → slice_get (map SideFunction fns) k ≡ Some (SideLink link) → ⊥

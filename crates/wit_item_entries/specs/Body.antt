@@ -6,7 +6,7 @@ use Rattle.wit_types.specs.declared.types.TypeOwner.{TypeOwner}
 use Rattle.wit_functions.specs.declared.function.Function.{Function}
 use Rattle.wit_syntax.specs.Fault.{Fault, fault, missing_at, item_word}
 use Rattle.wit_syntax.specs.Notes.{IsBrokenStability}
-use Rattle.wit_syntax.specs.Source.{Declared, Item, declared_attributes, local_id, path_id, scope_names}
+use Rattle.wit_syntax.specs.Source.{Declared, Item, local_id, path_id, scope_names, about}
 use Rattle.wit_syntax.specs.Scope.{in_turn}
 use Rattle.wit_syntax.specs.Function.{functions}
 use Rattle.wit_syntax.specs.Sides.{side_items, IsBrokenSides}
@@ -36,7 +36,7 @@ pub record AddsBody (old new : List TypeDef) (cs : List Cell) (o : TypeOwner) (i
 
 -- what is wrong with an item, by what was resolved before, whichever it is
 pub data IsWrongBody (old : List TypeDef) (cs : List Cell) (by_name : Names) (o : TypeOwner) (item : Item) (f : Fault) : Type 0 where
-  WrongNotes : IsBrokenStability (declared_attributes item.declared) f → IsWrongBody old cs by_name o item f
+  WrongNotes : IsBrokenStability (about item.declared).attributes f → IsWrongBody old cs by_name o item f
   WrongNames : IsWrongScope cs by_name (scope_names item) (functions item) f → IsWrongBody old cs by_name o item f
   WrongHandles : IsWrongHandleNow old cs o item f → IsWrongBody old cs by_name o item f
   WrongSides : IsBrokenSides item f → IsWrongBody old cs by_name o item f

@@ -10,7 +10,7 @@ ghost use Rattle.wit_syntax.specs.Fault.{Fault};
 ghost use Rattle.wit_syntax.specs.Function.{SourceFunction, functions as the_functions, part_functions};
 ghost use Rattle.wit_syntax.specs.Notes.{IsBrokenStability};
 ghost use Rattle.wit_syntax.specs.Sides.{IsBrokenSides, SideFunction};
-ghost use Rattle.wit_syntax.specs.Source.{Item as TheItem, declared_attributes, declared_parts, is_declared_world, item_notes as the_notes, scope_names as the_names};
+ghost use Rattle.wit_syntax.specs.Source.{Item as TheItem, scope_names as the_names, about, declared_notes};
 ghost use Rattle.wit_arena.specs.Resolving.{Cell, IsIndex, Names, names_in};
 ghost use Rattle.wit_arena.specs.Resolved.{IsNameless};
 ghost use Rattle.wit_entries.specs.Requiring.{IsGrown};
@@ -73,8 +73,8 @@ pub fn resolve_head<'a>(
     requires placed { AreNamesPlaced (front_of interfaces.now.foreign.now) item.now.names.now }
     requires front { length interfaces.now.foreign.now ≤ length interfaces.now.arena }
     requires index { IsIndex (cells_of interfaces.now) interfaces.now.by_name }
-    ensures told { IfOk result (λ head. AreOf (the_notes (scope_item item.now)) head.notes) }
-    ensures stable { OnOk result ((f : Fault) → IsBrokenStability (declared_attributes (scope_item item.now).declared) f → ⊥) }
+    ensures told { IfOk result (λ head. AreOf (declared_notes (scope_item item.now).declared) head.notes) }
+    ensures stable { OnOk result ((f : Fault) → IsBrokenStability (about (scope_item item.now).declared).attributes f → ⊥) }
     ensures adds { IfOk result (λ head. AddsTurn types.old types.new (cells_of interfaces.now) owner (the_names (scope_item item.now)) head.names.types head.names.turn.items head.names.required.items) }
     ensures legal { OnOk result ((fns : List SourceFunction) (f : Fault) → IsBrokenScope (the_names (scope_item item.now)) fns f → IsOfFunctions (the_names (scope_item item.now)) fns f) }
     ensures grown { OnOk result (IsGrown types.old types.new) }
@@ -93,13 +93,13 @@ pub fn resolve_item_functions<'t, 'a>(
     types: &mut Entries,
     names: &mut ResolvedNames<'a>,
 ) -> ParseResult<ItemFunctions<'t, 'a>>
-    requires sort { is_declared_world (declared_behind declared) ≡ false }
+    requires sort { (about (declared_behind declared)).is_world ≡ false }
     requires of { (i : TheItem) × IsHeldBy i (declared_behind declared) held.now }
     requires listed { names_in names.old.types ≡ map (λ id. id.name.now) names.old.turn.items }
     requires turn { IsTurn (map name_behind held.now) names.old.turn.items }
     ensures types { OnOk result (names.new.types ≡ names.old.types) }
     ensures turn { OnOk result (names.new.turn ≡ names.old.turn) }
-    ensures written { IfOk result (λ own. map function_behind own.written.items ≡ flat_map part_functions (declared_parts (declared_behind declared.entry))) }
+    ensures written { IfOk result (λ own. map function_behind own.written.items ≡ flat_map part_functions (about (declared_behind declared.entry)).parts) }
     ensures adds { IfOk result (λ own. (i : TheItem) → IsHeldBy i (declared_behind declared.entry) held.now → (old : List TypeDef) (cs : List Cell) (o : Owner) → AddsTurn old types.old cs o (the_names i) names.old.types names.old.turn.items names.old.required.items → AddsBody old types.new cs o i names.old.types names.old.turn.items own.functions.items names.new.required.items) }
     ensures taken { IfOk result (λ own. 0 < length own.written.items → (s : WorldSide) → taken_on s own.taken ≡ all_on s names.old.turn.items (map SideFunction (map function_behind own.written.items))) }
     ensures sound { OnOk result ((i : TheItem) → IsHeldBy i (declared_behind declared.entry) held.now → ((f : Fault) → IsBrokenScope (the_names i) (the_functions i) f → IsOfFunctions (the_names i) (the_functions i) f) → (f : Fault) → IsBrokenScope (the_names i) (the_functions i) f → IsNameless (the_names i) (the_functions i)) }

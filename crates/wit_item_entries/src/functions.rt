@@ -4,7 +4,7 @@ ghost use Rattle.std.specs.Cmp.Lexicographic.{pointwise};
 ghost use Rattle.std.specs.List.{flat_map};
 ghost use Rattle.indexmap.specs.IndexMap.{insert_entry};
 ghost use Rattle.wit_syntax.specs.Repeats.{AllDiffer};
-ghost use Rattle.wit_syntax.specs.Source.{interface_part, is_declared_world, declared_parts, local_name};
+ghost use Rattle.wit_syntax.specs.Source.{interface_part, local_name, about};
 ghost use Rattle.wit_syntax.specs.Function.{definition_functions, part_functions};
 ghost use Rattle.wit_arena.specs.Functions.{placed_functions};
 ghost use Rattle.wit_rules.specs.Held.{function_behind};
@@ -60,7 +60,7 @@ pub fn interface_functions<'t, 'a>(
     alloc: Global,
     declared: &Declared<'t, 'a>,
 ) -> Result<Vec<HeldFunction<'t, 'a>>, AllocError>
-    ensures { IfOk result (λ functions. is_declared_world (declared_behind declared.now) ≡ false → map function_behind functions.items ≡ flat_map part_functions (declared_parts (declared_behind declared.now))) }
+    ensures { IfOk result (λ functions. (about (declared_behind declared.now)).is_world ≡ false → map function_behind functions.items ≡ flat_map part_functions (about (declared_behind declared.now)).parts) }
 {
     match declared {
         Declared::Interface(interface) => items_functions(alloc, &interface.items),

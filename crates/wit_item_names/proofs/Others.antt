@@ -16,9 +16,9 @@ use Rattle.wit_package_names.specs.declared.package_name.PackageName.{PackageNam
 use Rattle.wit_model.specs.declared.ast_item.AstItem.{AstItem}
 use Rattle.wit_model.specs.declared.ast_item.AstItem.TheVariants as entry
 use Rattle.wit_model.specs.declared.world.World.{World}
-use Rattle.wit_syntax.specs.Address.{Address, ForeignNamed, same_address}
-use Rattle.wit_syntax.specs.Source.{Target, Local, Foreign, leads, included_scope, Item, Part, Defining, Using, Including, Doing, Crossing, parts, all_items}
-use Rattle.wit_syntax.specs.Foreign.{ForeignVisit, visited, path_visits, part_visits, extern_visits, side_visits, visits_in, same_item, foreign_at, foreign_items, foreign_interfaces, foreign_worlds, is_foreign_world}
+use Rattle.wit_syntax.specs.Address.{Address, ForeignNamed, same_address, WorldNamed}
+use Rattle.wit_syntax.specs.Source.{Target, Local, Foreign, leads, Item, Part, Defining, Using, Including, Doing, Crossing, parts, all_items, target_scope, at_side, walk}
+use Rattle.wit_syntax.specs.Foreign.{ForeignVisit, visited, path_visits, part_visits, extern_visits, same_item, foreign_at, foreign_items, foreign_interfaces, foreign_worlds}
 use Rattle.wit_syntax.specs.Crossing.{extern_paths, inline_uses}
 use Rattle.wit_syntax.specs.Scope.{use_path}
 use Rattle.wit_arena.specs.Whole.{foreign_place, foreign_entry}
@@ -100,13 +100,13 @@ found_item files s v h =
 interface_place : (files : List PackageFile) (s : Address) (v : ForeignVisit) → foreign_at files s ≡ Some v → v.wants_world ≡ false → slice_get (map visited (foreign_interfaces files)) (foreign_place (foreign_interfaces files) v) ≡ Some s
 interface_place files s v h sort =
     let it = found_item files s v h in
-    let k = kept_has (λ u. not (is_foreign_world u)) (foreign_items files) it.0 v (ap not sort) it.1 in
+    let k = kept_has (λ u. not u.wants_world) (foreign_items files) it.0 v (ap not sort) it.1 in
     place_listed (foreign_interfaces files) k.0 v k.1 ∙ ap Some it.2
 
 world_place : (files : List PackageFile) (s : Address) (v : ForeignVisit) → foreign_at files s ≡ Some v → v.wants_world ≡ true → slice_get (map visited (foreign_worlds files)) (foreign_place (foreign_worlds files) v) ≡ Some s
 world_place files s v h sort =
     let it = found_item files s v h in
-    let k = kept_has is_foreign_world (foreign_items files) it.0 v sort it.1 in
+    let k = kept_has (λ (v : ForeignVisit). v.wants_world) (foreign_items files) it.0 v sort it.1 in
     place_listed (foreign_worlds files) k.0 v k.1 ∙ ap Some it.2
 
 entry_interface : (files : List PackageFile) (v : ForeignVisit) → v.wants_world ≡ false → foreign_entry files v ≡ entry.Interface (foreign_place (foreign_interfaces files) v)
@@ -119,7 +119,7 @@ entry_world files v sort = ap (λ (b : Bool). cond b (entry.World (foreign_place
 pub interface_found : (files : List PackageFile) (p : PackageName) (id : Id) (i : ℕ) → interface_entry (entry_at files (Foreign p id)) ≡ Some i → (is_world_at files (Foreign p id) ≡ Some false) × (slice_get (map visited (foreign_interfaces files)) i ≡ Some (ForeignNamed p id.name.now))
 interface_found files p id i h = of_entry (foreign_at files (named p id)) refl h
   where
-    of_entry : (o : Option ForeignVisit) → foreign_at files (named p id) ≡ o → interface_entry (option_map (foreign_entry files) o) ≡ Some i → (option_map is_foreign_world (foreign_at files (named p id)) ≡ Some false) × (slice_get (map visited (foreign_interfaces files)) i ≡ Some (named p id))
+    of_entry : (o : Option ForeignVisit) → foreign_at files (named p id) ≡ o → interface_entry (option_map (foreign_entry files) o) ≡ Some i → (option_map (λ (v : ForeignVisit). v.wants_world) (foreign_at files (named p id)) ≡ Some false) × (slice_get (map visited (foreign_interfaces files)) i ≡ Some (named p id))
     of_entry None found is = absurd (let f : ⊥ = cc in f)
     of_entry (Some v) found is = elim (cases_Bool v.wants_world) [
       | inl world ↦ absurd (
@@ -129,13 +129,13 @@ interface_found files p id i h = of_entry (foreign_at files (named p id)) refl h
       | inr sort ↦ (
           let both : Some (foreign_place (foreign_interfaces files) v) ≡ Some i = ap (λ e. interface_entry (Some e)) (sym (entry_interface files v sort)) ∙ is in
           let place : foreign_place (foreign_interfaces files) v ≡ i = cc in
-          (ap (option_map is_foreign_world) found ∙ ap Some sort, ap (slice_get (map visited (foreign_interfaces files))) (sym place) ∙ interface_place files (named p id) v found sort))
+          (ap (option_map (λ (v : ForeignVisit). v.wants_world)) found ∙ ap Some sort, ap (slice_get (map visited (foreign_interfaces files))) (sym place) ∙ interface_place files (named p id) v found sort))
     ]
 
 -- where none stands there, the path leads to a world, if it leads to an item that is visited
 pub interface_missing : (files : List PackageFile) (p : PackageName) (id : Id) (v : ForeignVisit) → foreign_at files (ForeignNamed p id.name.now) ≡ Some v → interface_entry (entry_at files (Foreign p id)) ≡ None → is_world_at files (Foreign p id) ≡ Some true
 interface_missing files p id v found h = elim (cases_Bool v.wants_world) [
-  | inl world ↦ ap (option_map is_foreign_world) found ∙ ap Some world
+  | inl world ↦ ap (option_map (λ (v : ForeignVisit). v.wants_world)) found ∙ ap Some world
   | inr sort ↦ absurd (
       let wrong : Some (foreign_place (foreign_interfaces files) v) ≡ None = ap (λ e. interface_entry (Some e)) (sym (entry_interface files v sort)) ∙ ap (λ o. interface_entry (option_map (foreign_entry files) o)) (sym found) ∙ h in
       let f : ⊥ = cc in
@@ -143,7 +143,7 @@ interface_missing files p id v found h = elim (cases_Bool v.wants_world) [
 ]
 
 -- the address of a world that stands where a path leads
-pub world_found : (files : List PackageFile) (by_name : Names) (ws : List World) (t : Target) (w : ℕ) → IsWorldIndex (worlds_at (map visited (foreign_worlds files)) ws) by_name → length (map visited (foreign_worlds files)) ≤ length ws → world_at files by_name t ≡ Some w → slice_get (worlds_at (map visited (foreign_worlds files)) ws) w ≡ Some (included_scope t)
+pub world_found : (files : List PackageFile) (by_name : Names) (ws : List World) (t : Target) (w : ℕ) → IsWorldIndex (worlds_at (map visited (foreign_worlds files)) ws) by_name → length (map visited (foreign_worlds files)) ≤ length ws → world_at files by_name t ≡ Some w → slice_get (worlds_at (map visited (foreign_worlds files)) ws) w ≡ Some (target_scope WorldNamed t)
 world_found files by_name ws (Local id) w index enough h = index.stands id.name.now w h
 world_found files by_name ws (Foreign p id) w index enough h = of_entry (foreign_at files (named p id)) refl h
   where
@@ -176,7 +176,7 @@ world_missing files by_name (Foreign p id) found h =
           let wrong : Some (foreign_place (foreign_worlds files) v.0) ≡ None = ap (λ e. world_entry (Some e)) (sym (entry_world files v.0 world)) ∙ ap (λ o. world_entry (option_map (foreign_entry files) o)) (sym v.1) ∙ h in
           let f : ⊥ = cc in
           f)
-      | inr sort ↦ ap (option_map is_foreign_world) v.1 ∙ ap Some sort
+      | inr sort ↦ ap (option_map (λ (v : ForeignVisit). v.wants_world)) v.1 ∙ ap Some sort
     ]
 
 -- what files visit is an item of the package that it is of
@@ -195,16 +195,16 @@ part_visited files place part attributes world from h visits p id lead =
     visited_here files p id (path_visited files q.0 item m.0 part attributes world from p id q.1 m.1 visits lead)
 
 -- the visit of an import or an export by its path is one of its item's
-crossing_visited : (ps : List Part) (m : ℕ) (x : Extern) (j : ℕ) (from : UsePath) (v : ForeignVisit) → slice_get ps m ≡ Some (Crossing x) → slice_get (extern_paths x.kind) j ≡ Some from → slice_get (path_visits x.attributes.items false from) 0 ≡ Some v → (n : ℕ) × (slice_get (visits_in ps) n ≡ Some v)
+crossing_visited : (ps : List Part) (m : ℕ) (x : Extern) (j : ℕ) (from : UsePath) (v : ForeignVisit) → slice_get ps m ≡ Some (Crossing x) → slice_get (extern_paths x.kind) j ≡ Some from → slice_get (path_visits x.attributes.items false from) 0 ≡ Some v → (n : ℕ) × (slice_get (walk part_visits extern_visits ps) n ≡ Some v)
 crossing_visited ps m x j from v part at first =
     let of_use : WrittenUse → List ForeignVisit = λ u. path_visits u.attributes.items false u.from in
     let of_path : UsePath → List ForeignVisit = path_visits x.attributes.items false in
     let own = flat_map_has of_path (extern_paths x.kind) j 0 from v at first in
     let there = at_back (flat_map of_use (inline_uses x.kind)) (flat_map of_path (extern_paths x.kind)) own.0 v own.1 in
     let place = length (flat_map of_use (inline_uses x.kind)) + own.0 in
-    let here : slice_get (side_visits x.side (Crossing x)) place ≡ Some v = ap (λ (b : Bool). slice_get (cond b (extern_visits x) []) place) (side_itself x.side) ∙ there in
-    let on_side = flat_map_has (side_visits x.side) ps m place (Crossing x) v part here in
-    side_has (flat_map part_visits ps) (λ side. flat_map (side_visits side) ps) x.side on_side.0 v on_side.1
+    let here : slice_get (at_side extern_visits x.side (Crossing x)) place ≡ Some v = ap (λ (b : Bool). slice_get (cond b (extern_visits x) []) place) (side_itself x.side) ∙ there in
+    let on_side = flat_map_has (at_side extern_visits x.side) ps m place (Crossing x) v part here in
+    side_has (flat_map part_visits ps) (λ side. flat_map (at_side extern_visits side) ps) x.side on_side.0 v on_side.1
 
 -- where a path of an item that wants an interface leads to another package, that item is visited
 wanted_in : (files : List PackageFile) (q : ℕ) (w : Item) (m : ℕ) (x : Part) (j : ℕ) (from : UsePath) (p : PackageName) (id : Id) → slice_get (all_items files) q ≡ Some w → slice_get (parts w) m ≡ Some x → slice_get (use_path x) j ≡ Some from → leads w.top from ≡ Foreign p id → IsVisited files p id

@@ -9,7 +9,7 @@ use Rattle.std.proofs.lemmas.List.Elements.{Contains-append_cases}
 use Rattle.wit_tree.specs.declared.tree.Use.{Use as WrittenUse}
 use Rattle.wit_tree.specs.declared.tree.UsePath.{UsePath}
 use Rattle.wit_tree.specs.declared.tree.PackageFile.{PackageFile}
-use Rattle.wit_syntax.specs.Source.{TopName, Declared, declared_parts, Part, Defining, Using, Including, Doing, Crossing, parts}
+use Rattle.wit_syntax.specs.Source.{TopName, Declared, Part, Defining, Using, Including, Doing, Crossing, parts, about}
 use Rattle.wit_syntax.specs.Scope.{use_path, part_uses, uses}
 use Rattle.wit_syntax.specs.Crossing.{extern_paths, inline_uses}
 use Rattle.wit_syntax.specs.Fault.{Fault}
@@ -75,13 +75,13 @@ path_of_use ps u among =
     let it = flat_map_has use_path ps p.0 p.3.0 p.1 u.from p.2 (use_path_of p.1 p.3.0 u p.3.1) in
     contains_at (flat_map use_path ps) it.0 u.from it.1
 
-pub use_has_path : (files : List PackageFile) (place : ℕ) (d : Declared) (u : WrittenUse) → HasItem files place d → Contains (flat_map part_uses (declared_parts d)) u → HasPath files place u.from
-use_has_path files place d u item among = record { declared = d; item = item; among = path_of_use (declared_parts d) u among }
+pub use_has_path : (files : List PackageFile) (place : ℕ) (d : Declared) (u : WrittenUse) → HasItem files place d → Contains (flat_map part_uses (about d).parts) u → HasPath files place u.from
+use_has_path files place d u item among = record { declared = d; item = item; among = path_of_use (about d).parts u among }
 
 -- a path of a part of an item that wants an interface is one of the item
 pub part_path : (files : List PackageFile) (place : ℕ) (part : Part) (path : UsePath) → use_path part ≡ path ∷ [] → HasPart files place part → HasPath files place path
 part_path files place part path wants h =
-    let ps = declared_parts h.declared in
+    let ps = (about h.declared).parts in
     let m = at_contains ps part h.among in
     let it = flat_map_has use_path ps m.0 0 part path m.1 (ap (λ (l : List UsePath). slice_get l 0) wants) in
     record { declared = h.declared; item = h.item; among = contains_at (flat_map use_path ps) it.0 path it.1 }

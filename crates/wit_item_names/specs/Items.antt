@@ -9,7 +9,7 @@ use Rattle.wit_tree.specs.declared.tree.PackageFile.{PackageFile}
 use Rattle.wit_model.specs.declared.ast_item.AstItem.{AstItem}
 use Rattle.wit_model.specs.declared.ast_item.AstItem.TheVariants as entry
 use Rattle.wit_syntax.specs.Address.{ForeignNamed}
-use Rattle.wit_syntax.specs.Source.{Target, Local, Foreign, leads, path_id, path_scope, TopName, Declared, declared_parts, Part, Defining, Using, Including, Doing, Crossing, item_named, all_items}
+use Rattle.wit_syntax.specs.Source.{Target, Local, Foreign, leads, path_id, path_scope, TopName, Declared, Part, Defining, Using, Including, Doing, Crossing, item_named, all_items, about}
 use Rattle.wit_syntax.specs.Scope.{use_path, uses}
 use Rattle.wit_syntax.specs.Foreign.{visited, foreign_at, foreign_items, foreign_interfaces}
 use Rattle.wit_arena.specs.Whole.{foreign_entry}
@@ -51,13 +51,13 @@ pub record HasItem (files : List PackageFile) (place : ℕ) (d : Declared) : Typ
 pub record HasPart (files : List PackageFile) (place : ℕ) (part : Part) : Type 0 where
   pub declared : Declared
   pub item : HasItem files place declared
-  pub among : Contains (declared_parts declared) part
+  pub among : Contains (about declared).parts part
 
 -- this is a path of such an item that wants an interface
 pub record HasPath (files : List PackageFile) (place : ℕ) (path : UsePath) : Type 0 where
   pub declared : Declared
   pub item : HasItem files place declared
-  pub among : Contains (flat_map use_path (declared_parts declared)) path
+  pub among : Contains (flat_map use_path (about declared).parts) path
 
 -- the place of a declared item that is found, and that of one of another package
 abbrev pub item_place : Option Found → Option ℕ

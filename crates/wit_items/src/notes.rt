@@ -3,7 +3,7 @@ ghost use Rattle.std.specs.Prelude.{◌≡◌, IfErr, IfOk, OnOk};
 ghost use Rattle.wit_syntax.specs.Broken.{Refused};
 ghost use Rattle.wit_syntax.specs.Fault.{Fault};
 ghost use Rattle.wit_syntax.specs.Notes.{IsBrokenStability, docs_of, stability_of};
-ghost use Rattle.wit_syntax.specs.Source.{declared_attributes, declared_notes};
+ghost use Rattle.wit_syntax.specs.Source.{declared_notes, about};
 ghost use Rattle.wit_items.specs.Items.{declared_behind};
 ghost use Rattle.wit_items.specs.Told.{AreOf};
 
@@ -40,8 +40,8 @@ fn told(
 /// What is told of an item; refuses attributes that break a rule of stability.
 pub fn item_notes(alloc: Global, declared: &Declared<'_, '_>) -> ParseResult<ItemNotes>
     ensures told { IfOk result (AreOf (declared_notes (declared_behind declared.now))) }
-    ensures legal { OnOk result ((f : Fault) → IsBrokenStability (declared_attributes (declared_behind declared.now)) f → ⊥) }
-    ensures refused { IfErr result (Refused (IsBrokenStability (declared_attributes (declared_behind declared.now)))) }
+    ensures legal { OnOk result ((f : Fault) → IsBrokenStability (about (declared_behind declared.now)).attributes f → ⊥) }
+    ensures refused { IfErr result (Refused (IsBrokenStability (about (declared_behind declared.now)).attributes)) }
 {
     match declared {
         Declared::Interface(interface) => told(alloc, &interface.docs, &interface.attributes),

@@ -13,7 +13,7 @@ use Rattle.wit_model.specs.declared.interface.Interface.{Interface}
 use Rattle.wit_syntax.specs.Address.{Address, InterfaceNamed, WorldNamed, InlineAt, ForeignNamed, package_of, same_address, is_foreign}
 use Rattle.wit_syntax.specs.Broken.{is_world_at}
 use Rattle.wit_syntax.specs.Foreign.{visited, foreign_interfaces}
-use Rattle.wit_syntax.specs.Source.{Target, Local, leads, path_scope, used_scope, TopName}
+use Rattle.wit_syntax.specs.Source.{Target, Local, leads, path_scope, TopName, target_scope}
 use Rattle.wit_syntax.proofs.Addresses.{same_address-equal}
 use Rattle.wit_syntax.proofs.Found.{contains_at}
 use Rattle.wit_syntax.proofs.Lists.{at_front as before}
@@ -51,7 +51,7 @@ source_local by_name (held_source.Foreign p of name) none = absurd (let f : ⊥ 
 
 -- a path to an interface that is not resolved
 pub led_lost : (files : List PackageFile) (front : List Address) (by_name : Names) (top : List TopName) (path : UsePath) (id : Id) → leads top path ≡ Local id → is_world_at files (leads top path) ≡ Some false → interface_place front by_name (path_scope top path) ≡ None → IsLostAt files by_name top path id
-led_lost files front by_name top path id local usable none = (local, inr (ap (is_world_at files) (sym local) ∙ usable, ap (λ (t : Target). interface_place front by_name (used_scope t)) (sym local) ∙ none))
+led_lost files front by_name top path id local usable none = (local, inr (ap (is_world_at files) (sym local) ∙ usable, ap (λ (t : Target). interface_place front by_name (target_scope InterfaceNamed t)) (sym local) ∙ none))
 
 -- the interfaces of other packages stand in front
 at_front : (ss : List Address) (is : List Interface) (t : ℕ) (s : Address) → length ss ≤ length is → slice_get ss t ≡ Some s → slice_get (interfaces_at ss is) t ≡ Some s

@@ -4,7 +4,7 @@ ghost use Rattle.std.specs.List.{flat_map};
 ghost use Rattle.wit_syntax.specs.Address.{is_foreign};
 ghost use Rattle.wit_syntax.specs.Function.{definition_functions};
 ghost use Rattle.wit_syntax.specs.Sides.{SideFunction, extern_items, extern_link, part_items};
-ghost use Rattle.wit_syntax.specs.Source.{TheWorld, Crossing, Local, declared_parts, is_declared_world, leads, path_scope, world_part};
+ghost use Rattle.wit_syntax.specs.Source.{TheWorld, Crossing, Local, leads, path_scope, world_part, about};
 ghost use Rattle.wit_externs.specs.Held.{extern_behind, externs_behind, link_behind};
 ghost use Rattle.wit_externs.specs.declared.held.HeldLink.{HeldLink as TheLink};
 ghost use Rattle.wit_externs.specs.declared.held.HeldExtern.TheVariants.{Link as TheHeld};
@@ -209,11 +209,11 @@ pub fn declared_externs<'f, 'a>(
     interfaces: &Interfaces<'_, 'f, 'a>,
     place: usize,
 ) -> Result<Vec<HeldExtern<'f, 'a>>, AllocError>
-    requires sort { is_declared_world (declared_behind declared.now) ≡ true }
+    requires sort { (about (declared_behind declared.now)).is_world ≡ true }
     requires item { HasItem files.now place (declared_behind declared.now) }
     requires entries { AreEntriesOf files.now entries.now }
     requires others { front_of interfaces.now.foreign.now ≡ interfaces_of_others files.now }
-    ensures behind { IfOk result (λ externs. externs_behind externs.items ≡ flat_map part_items (declared_parts (declared_behind declared.now))) }
+    ensures behind { IfOk result (λ externs. externs_behind externs.items ≡ flat_map part_items (about (declared_behind declared.now)).parts) }
     ensures led { IfOk result (λ externs. AreLed files.now (front_of interfaces.now.foreign.now) interfaces.now.by_name (top_at files.now place) externs.items) }
 {
     let world = declared_world(declared);

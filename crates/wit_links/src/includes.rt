@@ -2,7 +2,7 @@
 ghost use Rattle.std.specs.Prelude.{◌≡◌, ◌<◌, ◌≤◌, ◌⊎◌, ◌++◌, IfErr, IfOk, OnOk, length, map, true, codes, string_bytes};
 ghost use Rattle.std.specs.List.{flat_map};
 ghost use Rattle.std.specs.Option.{option_copied};
-ghost use Rattle.wit_syntax.specs.Source.{leads, TheWorld, Including, world_part, declared_parts, is_declared_world};
+ghost use Rattle.wit_syntax.specs.Source.{leads, TheWorld, Including, world_part, about};
 ghost use Rattle.wit_syntax.specs.Scope.{part_includes};
 ghost use Rattle.wit_syntax.specs.Notes.{IsBrokenStability};
 ghost use Rattle.wit_syntax.specs.Fault.{Fault};
@@ -172,13 +172,13 @@ pub fn declared_includes<'f, 'a>(
     worlds: &Worlds<'_>,
     place: usize,
 ) -> ParseResult<Row<WorldInclude>>
-    requires sort { is_declared_world (declared_behind declared.now) ≡ true }
+    requires sort { (about (declared_behind declared.now)).is_world ≡ true }
     requires item { HasItem files.now place (declared_behind declared.now) }
     requires entries { AreEntriesOf files.now worlds.now.entries.now }
     requires front { length (others_of files.now) ≤ length worlds.now.arena }
     requires index { IsWorldIndex (worlds_at (others_of files.now) worlds.now.arena) worlds.now.by_name }
     ensures are { IfOk result (λ includes. AreIncludes (worlds_at (others_of files.now) worlds.now.arena) (record { top = top_at files.now place; declared = declared_behind declared.now }) includes) }
-    ensures stable { OnOk result (AreStable (flat_map part_includes (declared_parts (declared_behind declared.now)))) }
+    ensures stable { OnOk result (AreStable (flat_map part_includes (about (declared_behind declared.now)).parts)) }
     ensures refused { IfErr result (Refused (λ f. IsBrokenItemStability (record { top = top_at files.now place; declared = declared_behind declared.now }) f ⊎ IsLostInclude files.now worlds.now.by_name (record { top = top_at files.now place; declared = declared_behind declared.now }) f)) }
 {
     match declared {

@@ -2,7 +2,7 @@
 ghost use Rattle.std.specs.Prelude.{◌≡◌, ◌<◌, ◌+◌, ◌++◌, ◌∷◌, [], List, Some, length, map, slice_get, true};
 ghost use Rattle.wit_tree.specs.declared.tree.WorldSide.{WorldSide as TheSide};
 ghost use Rattle.wit_syntax.specs.Address.{Address};
-ghost use Rattle.wit_syntax.specs.Source.{TheWorld, declared_id, is_declared_world, item_name};
+ghost use Rattle.wit_syntax.specs.Source.{TheWorld, item_name, about};
 ghost use Rattle.std.specs.List.{filter};
 ghost use Rattle.wit_syntax.specs.Sides.{SideItem, inline_item, is_interface, item_inline, item_side};
 ghost use Rattle.wit_externs.specs.declared.held.HeldExtern.TheVariants.{Inline as TheHeld};
@@ -21,7 +21,7 @@ use wit_tree::tree::{Id, World, WorldSide};
 
 /// The name of a declared item.
 pub fn declared_name<'a>(declared: &Declared<'_, 'a>) -> Id<'a>
-    ensures { result ≡ declared_id (declared_behind declared.now) }
+    ensures { result ≡ (about (declared_behind declared.now)).id }
 {
     match declared {
         Declared::Interface(interface) => interface.name,
@@ -32,7 +32,7 @@ pub fn declared_name<'a>(declared: &Declared<'_, 'a>) -> Id<'a>
 
 /// The world that a declared item is.
 pub(crate) fn declared_world<'f, 'a>(declared: &Declared<'f, 'a>) -> &'f World<'a>
-    requires { is_declared_world (declared_behind declared.now) ≡ true }
+    requires { (about (declared_behind declared.now)).is_world ≡ true }
     ensures { declared_behind declared.now ≡ TheWorld result.now }
 {
     match declared {

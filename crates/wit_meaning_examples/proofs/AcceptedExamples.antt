@@ -20,7 +20,7 @@ use Rattle.wit_syntax.specs.Repeats.{AllDiffer}
 use Rattle.wit_syntax.specs.Scope.{include_paths, includes, item_rows, rows_of, uses}
 use Rattle.wit_syntax.specs.Shape.{all_handles}
 use Rattle.wit_syntax.specs.Sides.{all_scopes, on_side, side_items, IsBrokenSides, FoldedTwice, CrossedTwice, LinkedTwice, LinkNotes, InlineNotes, side_called}
-use Rattle.wit_syntax.specs.Source.{Item, ScopeName, Used, Defined, Taken, leads, all_items, declared_attributes, item_at, item_name, local_name, scope_names, top_names, top_text}
+use Rattle.wit_syntax.specs.Source.{Item, ScopeName, Used, Defined, Taken, leads, all_items, item_at, item_name, local_name, scope_names, top_names, top_text, about}
 use Rattle.wit_syntax.proofs.Found.{at_contains}
 use Rattle.wit_syntax.proofs.Legal.{no_missing_edge, no_cyclic_edge, no_fold, no_crossed}
 use Rattle.wit_syntax.proofs.Repeated.{differ_none, no_repeat, called_key}
@@ -134,7 +134,7 @@ module _ (ptr : Ptr) (alloc : Global) where
   legal : IsLegal files
   legal f (Headerless none h) = absurd (let f : ⊥ = cc in f)
   legal f (Names h) = names_pass f h
-  legal f (ItemStability i among h) = no_stability f (subst (λ (x : Item). IsBrokenStability (declared_attributes x.declared) f) (sym (one_item i among)) h)
+  legal f (ItemStability i among h) = no_stability f (subst (λ (x : Item). IsBrokenStability (about x.declared).attributes f) (sym (one_item i among)) h)
   legal f (UseNotes i among u used h) =
       let own = subst (λ (x : Item). Contains (uses x) u) (sym (one_item i among)) used in
       no_notes f (subst (λ (x : WrittenUse). IsBrokenNotes x.attributes.items f) (sym (one_among (use_own ptr alloc) u own)) h)

@@ -35,7 +35,7 @@ use Rattle.wit_syntax.specs.Form.{ListForm}
 use Rattle.wit_arena.specs.Meet.{Def, Whole, Meeting, name_meetings, settled, IsSettled}
 use Rattle.wit_syntax.specs.Notes.{docs_of, no_docs, stability_of, external_id_of, AreNotes, first_known, IsBrokenStability, SinceTwice, SinceAndUnstable, DeprecatedAlone, IsBrokenNotes}
 use Rattle.wit_arena.specs.Resolving.{named, unnamed}
-use Rattle.wit_syntax.specs.Source.{Defined, name_notes}
+use Rattle.wit_syntax.specs.Source.{Defined, about_name}
 use Rattle.wit_meaning_examples.proofs.Examples.{at, id, vec, no_comments}
 
 abbrev version : ℕ → Version
@@ -114,9 +114,9 @@ module _ (ptr : Ptr) (alloc : Global) where
     inner_settled = refl
 
     abbrev outer : TypeDef
-    outer = named (owner.Interface 0) (codes "x") (kind.List (type.Id 0)) (name_notes (Defined x)) (at 60 61)
+    outer = named (owner.Interface 0) (codes "x") (kind.List (type.Id 0)) (about_name (Defined x)).notes (at 60 61)
 
-    outer_noted : AreNotes (name_notes (Defined x)) outer.docs outer.stability outer.external_id
+    outer_noted : AreNotes (about_name (Defined x)).notes outer.docs outer.stability outer.external_id
     outer_noted = record { docs = refl; stability = refl; external_id = refl }
 
     -- in a signature a list has the stability of its items, where that is known

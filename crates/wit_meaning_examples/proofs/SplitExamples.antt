@@ -33,7 +33,7 @@ use Rattle.wit_syntax.specs.Repeats.{AllDiffer}
 use Rattle.wit_syntax.specs.Scope.{include_paths, includes, item_rows, rows_of, uses}
 use Rattle.wit_syntax.specs.Shape.{all_handles}
 use Rattle.wit_syntax.specs.Sides.{all_scopes, on_side, side_items, IsBrokenSides, FoldedTwice, CrossedTwice, LinkedTwice, LinkNotes, InlineNotes, side_called}
-use Rattle.wit_syntax.specs.Source.{Item, ScopeName, Used, Defined, TheInterface, leads, all_items, declared_attributes, item_at, item_name, local_name, path_target, scope_names, top_names, top_text}
+use Rattle.wit_syntax.specs.Source.{Item, ScopeName, Used, Defined, TheInterface, leads, all_items, item_at, item_name, local_name, scope_names, top_names, top_text, about}
 use Rattle.wit_syntax.specs.Splitting.{declarations, file_declarations}
 use Rattle.wit_syntax.proofs.Found.{at_contains}
 use Rattle.wit_syntax.proofs.Legal.{no_missing_edge, no_cyclic_edge, no_fold, no_crossed}
@@ -141,7 +141,7 @@ module _ (ptr : Ptr) (alloc : Global) where
   names_pass f (ForeignStability v among h) = no_stability f (subst (λ (v : ForeignVisit). IsBrokenStability v.attributes f) (sym (one_among visit v among)) h)
   names_pass f (AttributedTopUse g among h) = h.attributed (ap (λ (u : ToplevelUse). u.attributes.items) (sym (top_use g among h.u h.among)))
   names_pass f (MissingOriginal g among h) =
-      let there = ap (λ (u : ToplevelUse). path_target u.item) (top_use g among h.u h.among) ∙ h.local in
+      let there = ap (λ (u : ToplevelUse). leads [] u.item) (top_use g among h.u h.among) ∙ h.local in
       let f : ⊥ = cc in
       f
 
@@ -252,7 +252,7 @@ module _ (ptr : Ptr) (alloc : Global) where
   legal : IsLegal files
   legal f (Headerless none h) = absurd (let f : ⊥ = cc in f)
   legal f (Names h) = names_pass f h
-  legal f (ItemStability w among h) = each_item (λ (w : Item). IsBrokenStability (declared_attributes w.declared) f → ⊥) (no_stability f) (no_stability f) w among h
+  legal f (ItemStability w among h) = each_item (λ (w : Item). IsBrokenStability (about w.declared).attributes f → ⊥) (no_stability f) (no_stability f) w among h
   legal f (UseNotes w among u used h) = each_item (λ (w : Item). Contains (uses w) u → ⊥) (none_among u) (λ used. no_use_notes f u used h) w among used
   legal f (IncludeStability w among n included h) = each_item (λ (w : Item). Contains (includes w) n → ⊥) (none_among n) (none_among n) w among included
   legal f (Use w among h) = each_item (λ (w : Item). IsBrokenUse files w f → ⊥) (no_use f) (use_passes f) w among h

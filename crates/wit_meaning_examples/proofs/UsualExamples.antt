@@ -60,7 +60,7 @@ use Rattle.wit_syntax.specs.Docs.{joined}
 use Rattle.wit_syntax.specs.Scope.{in_order, item_rows, rows_of}
 use Rattle.wit_syntax.specs.Shape.{Shape, Word}
 use Rattle.wit_syntax.specs.Sides.{side_items}
-use Rattle.wit_syntax.specs.Source.{TheInterface, TheWorld, Item, item_notes, all_items, Used, Defined, scope_names, takings, top_names}
+use Rattle.wit_syntax.specs.Source.{TheInterface, TheWorld, Item, all_items, Used, Defined, scope_names, takings, top_names, declared_notes}
 use Rattle.wit_syntax.specs.Trees.{source_tree}
 use Rattle.wit_arena.specs.Expr.{End, More, Of, Prim, Use, one}
 use Rattle.wit_arena.specs.Functions.{function_item}
@@ -250,7 +250,7 @@ module _ (ptr : Ptr) (alloc : Global) where
   abbrev told : Notes
   told = record { docs = record { contents = Some (codes "Streams.") }; stability = Stable release None; external_id = None }
 
-  told_of_streams : item_notes streams_item ≡ told
+  told_of_streams : declared_notes streams_item.declared ≡ told
   told_of_streams = ap (λ (text : List ℕ). notes (record { contents = Some (joined (text ∷ [])) }) streams.attributes.items) trimmed
 
   -- w has streams at its place, and run

@@ -1,7 +1,7 @@
 -- The ids of a package are places of entries of its arenas.
 use Rattle.std.proofs.Common.{◌≡◌, ◌<◌, ◌≤◌, ℕ, ◌+◌, List, ◌++◌, length, map, take, Option, Some, None, refl, sym, ap, ◌∙◌, subst, arith, inl, inr, length-append}
 use Rattle.std.specs.Prelude.{slice_get}
-use Rattle.std.specs.List.{flat_map}
+use Rattle.std.specs.List.{flat_map, filter}
 use Rattle.std.specs.Option.{option_map, option_or, unwrap_or}
 use Rattle.std.proofs.lemmas.List.{length-map}
 use Rattle.std.proofs.lemmas.List.Quantifiers.{position-Some}
@@ -18,12 +18,12 @@ use Rattle.wit_model.specs.declared.interface.Interface.{Interface}
 use Rattle.wit_model.specs.declared.world.World.{World}
 use Rattle.wit_model.specs.declared.world.WorldInclude.{WorldInclude}
 use Rattle.wit_model.specs.declared.unresolved.UnresolvedPackage.{UnresolvedPackage}
-use Rattle.wit_syntax.specs.Address.{Address, same_address, same_package}
-use Rattle.wit_syntax.specs.Foreign.{ForeignVisit, visited, visited_package, foreign_items, foreign_interfaces, foreign_worlds, foreign_packages, items_of_package}
+use Rattle.wit_syntax.specs.Address.{Address, same_address, same_package, WorldNamed, package_of}
+use Rattle.wit_syntax.specs.Foreign.{ForeignVisit, visited, foreign_items, foreign_interfaces, foreign_worlds, foreign_packages}
 use Rattle.wit_syntax.specs.Function.{functions}
 use Rattle.wit_syntax.specs.Scope.{includes}
 use Rattle.wit_syntax.specs.Sides.{side_items}
-use Rattle.wit_syntax.specs.Source.{Item, address, included_scope, leads}
+use Rattle.wit_syntax.specs.Source.{Item, address, leads, target_scope}
 use Rattle.wit_syntax.specs.Trees.{scope}
 use Rattle.wit_arena.specs.Kind.{kind_of}
 use Rattle.wit_arena.specs.Meet.{Key, Def, Whole, keys, decl_of, IsEntry, IsKeyed}
@@ -108,7 +108,7 @@ module _ (p : UnresolvedPackage) (ks : List Key) (types : length p.types ≡ len
       let count = are.count in
       let written = at_within (includes item) k (omega arith) in
       let is_one = are.each k written.0 i written.1 at in
-      let placed = slice_get_within ws i.id (included_scope (leads item.top written.0.from)) is_one.place in
+      let placed = slice_get_within ws i.id (target_scope WorldNamed (leads item.top written.0.from)) is_one.place in
       omega (arith, placed, worlds)
 
   -- the worlds of the package, and those of other packages
@@ -152,8 +152,8 @@ module _ (files : List PackageFile) (p : UnresolvedPackage) (interfaces : length
 
   dep_within : (v : ForeignVisit) (j : ℕ) (x : List ℕ × (AstItem × List Stability)) → slice_get (dep files v).1 j ≡ Some x → IsForeignWithin p x.1.0
   dep_within v j x at =
-      let u = map_at (dep_item files) (items_of_package files (visited_package v)) j x at in
-      let it = kept_at (λ (w : ForeignVisit). same_package (visited_package w) (visited_package v)) (foreign_items files) j u.0 u.1 in
+      let u = map_at (dep_item files) (filter (λ u. same_package (package_of u.of) (package_of v.of)) (foreign_items files)) j x at in
+      let it = kept_at (λ (w : ForeignVisit). same_package (package_of w.of) (package_of v.of)) (foreign_items files) j u.0 u.1 in
       subst (IsForeignWithin p) (ap (λ (y : List ℕ × (AstItem × List Stability)). y.1.0) u.2) (item_within it.0 u.0 it.1)
 
 -- as many addresses as entries

@@ -18,7 +18,7 @@ use Rattle.wit_syntax.specs.Notes.{Notes, no_notes}
 use Rattle.wit_syntax.specs.Repeats.{AllDiffer}
 use Rattle.wit_syntax.specs.Scope.{includes}
 use Rattle.wit_syntax.specs.Sides.{side_items}
-use Rattle.wit_syntax.specs.Source.{item_id, item_notes, declared_name, address}
+use Rattle.wit_syntax.specs.Source.{address, about, declared_notes}
 use Rattle.wit_arena.specs.Functions.{placed_functions}
 use Rattle.wit_arena.specs.Meet.{Key}
 use Rattle.wit_arena.specs.Package.{IsInterface, IsWorld, IsForeignWorld, world_types}
@@ -66,7 +66,7 @@ module _ (ks : List Key) (differ : AllDiffer ks) where
   pub one_interface : (o : Ordered) (i j : Interface) → IsResolvedInterface ks o i → IsResolvedInterface ks o j → i ≡ j
   one_interface o i j a b =
       let functions = one_functions ks differ (address o.item) (item_functions o.item) a.functions.0 b.functions.0 a.functions.1 b.functions.1 in
-      same_interface (declared_name o.item.declared) (item_id o.item).span (item_notes o.item) i j a.says b.says (one_types ks differ (turned o) i.types j.types a.types b.types) (a.functions.2 ∙ ap placed_functions functions ∙ sym b.functions.2)
+      same_interface (about o.item.declared).called (about o.item.declared).id.span (declared_notes o.item.declared) i j a.says b.says (one_types ks differ (turned o) i.types j.types a.types b.types) (a.functions.2 ∙ ap placed_functions functions ∙ sym b.functions.2)
 
   module _ (interfaces worlds : List Address) (places : AllDiffer interfaces) (world_places : AllDiffer worlds) where
     one_exports : (inside : List Address) (o : Ordered) (w v : World) (a : HasSides ks interfaces inside o w) (b : HasSides ks interfaces inside o v) → w.exports ≡ v.exports
@@ -87,7 +87,7 @@ module _ (ks : List Key) (differ : AllDiffer ks) where
     pub one_world : (o : OrderedWorld) (w v : World) → IsResolvedWorld ks interfaces worlds o w → IsResolvedWorld ks interfaces worlds o v → w ≡ v
     one_world o w v a b =
         let types = one_types ks differ (turned o.own) (world_types w) (world_types v) a.types b.types in
-        same_world (item_id o.own.item).name.now (item_id o.own.item).span (item_notes o.own.item) w v a.says b.says
+        same_world (about o.own.item.declared).id.name.now (about o.own.item.declared).id.span (declared_notes o.own.item.declared) w v a.says b.says
         (one_imports (addresses o.inside) o.own w v a.sides b.sides types)
         (one_exports (addresses o.inside) o.own w v a.sides b.sides)
         (one_includes worlds world_places o.own.item w.includes v.includes a.includes b.includes)

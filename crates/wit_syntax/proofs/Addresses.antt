@@ -7,7 +7,7 @@ use Rattle.wit_package_names.specs.declared.package_name.PackageName.{PackageNam
 use Rattle.wit_tree.specs.declared.tree.WorldSide.{WorldSide}
 use Rattle.wit_tree.specs.declared.tree.WorldSide.TheVariants.{Imported, Exported}
 use Rattle.wit_syntax.specs.Crossing.{same_side}
-use Rattle.wit_syntax.specs.Address.{Address, InterfaceNamed, WorldNamed, InlineAt, ForeignNamed, same_release, same_version, same_package, same_address}
+use Rattle.wit_syntax.specs.Address.{Address, InterfaceNamed, WorldNamed, InlineAt, ForeignNamed, same_version, same_package, same_address}
 use Rattle.wit_syntax.proofs.Names.{name_itself, name_equal}
 
 number_itself : (n : ℕ) → nat_eq n n ≡ true
@@ -19,10 +19,10 @@ number_equal m n h = eqb-true m n h
 abbrev release : ℕ → ℕ → ℕ → List ℕ → List ℕ → Release
 release major minor patch pre build = record { major = major; minor = minor; patch = patch; pre = pre; build = build }
 
-pub same_release-itself : (a : Release) → same_release a a ≡ true
+same_release-itself : (a : Release) → same_version (Some a) (Some a) ≡ true
 same_release-itself a = and_from (nat_eq a.major a.major) _ (number_itself a.major) (and_from (nat_eq a.minor a.minor) _ (number_itself a.minor) (and_from (nat_eq a.patch a.patch) _ (number_itself a.patch) (and_from (bytes_eq a.pre a.pre) (bytes_eq a.build a.build) (name_itself a.pre) (name_itself a.build))))
 
-pub same_release-equal : (a b : Release) → same_release a b ≡ true → a ≡ b
+same_release-equal : (a b : Release) → same_version (Some a) (Some b) ≡ true → a ≡ b
 same_release-equal a b h =
     let one = and_parts (nat_eq a.major b.major) _ h in
     let two = and_parts (nat_eq a.minor b.minor) _ one.1 in

@@ -2,7 +2,7 @@
 use Rattle.std.proofs.Common.{◌≡◌, List, [], ◌∷◌}
 use Rattle.wit_tree.specs.declared.tree.UsePath.{UsePath}
 use Rattle.wit_tree.specs.declared.tree.PackageFile.{PackageFile}
-use Rattle.wit_syntax.specs.Source.{used_scope, included_scope, leads, Item}
+use Rattle.wit_syntax.specs.Source.{leads, Item, target_scope}
 use Rattle.wit_syntax.specs.Scope.{use_paths, include_paths}
 use Rattle.wit_syntax.specs.Sides.{all_scopes}
 use Rattle.wit_syntax.specs.Splitting.{IsJoined, used_scopes, included_scopes, IsSplit}
@@ -13,13 +13,14 @@ use Rattle.wit_syntax.proofs.JoinedFiles.{AreAlike, alike_back, items_twins, vis
 use Rattle.wit_syntax.proofs.JoinedOrders.{order_onward}
 use Rattle.wit_syntax.proofs.JoinedTrees.{scopes_twins, scope_alike, tree_alike}
 use Rattle.wit_syntax.proofs.JoinedLegal.{legal_back}
+use Rattle.wit_syntax.specs.Address.{InterfaceNamed, WorldNamed}
 
 -- the scopes that the paths of an item lead to are told by what it declares
 used_told : (i : Item) → AreThemselves i.top → used_scopes i ≡ used_scopes (bare i.declared)
-used_told i own = map_by (λ (path : UsePath). used_scope (leads i.top path)) (λ (path : UsePath). used_scope (leads [] path)) (used_same i.top [] own no_names) (use_paths i)
+used_told i own = map_by (λ (path : UsePath). target_scope InterfaceNamed (leads i.top path)) (λ (path : UsePath). target_scope InterfaceNamed (leads [] path)) (used_same i.top [] own no_names) (use_paths i)
 
 included_told : (i : Item) → AreThemselves i.top → included_scopes i ≡ included_scopes (bare i.declared)
-included_told i own = map_by (λ (path : UsePath). included_scope (leads i.top path)) (λ (path : UsePath). included_scope (leads [] path)) (included_same i.top [] own no_names) (include_paths i)
+included_told i own = map_by (λ (path : UsePath). target_scope WorldNamed (leads i.top path)) (λ (path : UsePath). target_scope WorldNamed (leads [] path)) (included_same i.top [] own no_names) (include_paths i)
 
 pub alike_split : (files others : List PackageFile) → AreAlike files others → IsSplit files others
 alike_split files others a =

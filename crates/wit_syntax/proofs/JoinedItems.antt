@@ -8,7 +8,7 @@ use Rattle.wit_tree.specs.declared.tree.Use.{Use}
 use Rattle.wit_graph.proofs.Tables.{matched}
 use Rattle.wit_syntax.specs.Address.{Address, is_foreign}
 use Rattle.wit_syntax.specs.Crossing.{same_side, inline_uses}
-use Rattle.wit_syntax.specs.Source.{TopName, Declared, TheInline, Part, Defining, Using, Including, Doing, Crossing, Item, item_name, parts, Used, part_names, scope_names, Taking, taking, use_takings, part_takings, side_takings, takings_in, item_takings}
+use Rattle.wit_syntax.specs.Source.{TopName, Declared, TheInline, Part, Defining, Using, Including, Doing, Crossing, Item, item_name, parts, Used, part_names, scope_names, Taking, taking, use_takings, part_takings, at_side, walk}
 use Rattle.wit_syntax.specs.Sides.{SideItem, SideFunction, SideLink, SideInline, interfaces_on, side_items, inline_behind, inline_items, with_inline}
 use Rattle.wit_syntax.specs.Splitting.{declared_of}
 use Rattle.wit_syntax.proofs.Lists.{flat_map_at}
@@ -16,6 +16,7 @@ use Rattle.wit_syntax.proofs.Found.{contains_at, at_contains}
 use Rattle.wit_syntax.proofs.Inline.{with_uses}
 use Rattle.wit_syntax.proofs.JoinedLists.{flat_map_by, map-flat_map}
 use Rattle.wit_syntax.proofs.JoinedTargets.{AreThemselves, used_same}
+use Rattle.wit_tree.specs.declared.tree.Extern.{Extern}
 
 -- an item with other names at the top of its file
 abbrev pub retop : List TopName → Item → Item
@@ -82,23 +83,27 @@ module _ (a b : List TopName) (own : AreThemselves a) (other : AreThemselves b) 
   part_takings_same (Doing f) = refl
   part_takings_same (Crossing x) = refl
 
-  side_takings_same : (side : WorldSide) (p : Part) → side_takings a side p ≡ side_takings b side p
+  side_takings_same : (side : WorldSide) (p : Part) → at_side (λ (x : Extern). flat_map (use_takings a) (inline_uses x.kind)) side p ≡ at_side (λ (x : Extern). flat_map (use_takings b) (inline_uses x.kind)) side p
   side_takings_same side (Defining d) = refl
   side_takings_same side (Using u) = refl
   side_takings_same side (Including i) = refl
   side_takings_same side (Doing f) = refl
   side_takings_same side (Crossing x) = ap (λ (l : List Taking). if same_side side x.side then l else []) (flat_map_by (use_takings a) (use_takings b) use_takings_same (inline_uses x.kind))
 
-  pub takings_same : (ps : List Part) → takings_in a ps ≡ takings_in b ps
+  pub takings_same : (ps : List Part) → walk (part_takings a) (λ (x : Extern). flat_map (use_takings a) (inline_uses x.kind)) ps ≡ walk (part_takings b) (λ (x : Extern). flat_map (use_takings b) (inline_uses x.kind)) ps
   takings_same ps =
       let first = flat_map_by (part_takings a) (part_takings b) part_takings_same ps in
-      let second = flat_map_by (side_takings a Imported) (side_takings b Imported) (side_takings_same Imported) ps in
-      let third = flat_map_by (side_takings a Exported) (side_takings b Exported) (side_takings_same Exported) ps in
-      ap (λ (l : List Taking). l ++ (flat_map (side_takings a Imported) ps ++ flat_map (side_takings a Exported) ps)) first ∙ ap (λ (l : List Taking). flat_map (part_takings b) ps ++ (l ++ flat_map (side_takings a Exported) ps)) second ∙ ap (λ (l : List Taking). flat_map (part_takings b) ps ++ (flat_map (side_takings b Imported) ps ++ l)) third
+      let second = flat_map_by (at_side (λ (x : Extern). flat_map (use_takings a) (inline_uses x.kind)) Imported) (at_side (λ (x : Extern). flat_map (use_takings b) (inline_uses x.kind)) Imported) (side_takings_same Imported) ps in
+      let third = flat_map_by (at_side (λ (x : Extern). flat_map (use_takings a) (inline_uses x.kind)) Exported) (at_side (λ (x : Extern). flat_map (use_takings b) (inline_uses x.kind)) Exported) (side_takings_same Exported) ps in
+      ap (λ (l : List Taking). l ++ (flat_map (at_side (λ (x : Extern). flat_map (use_takings a) (inline_uses x.kind)) Imported) ps ++ flat_map (at_side (λ (x : Extern). flat_map (use_takings a) (inline_uses x.kind)) Exported) ps)) first ∙ ap (λ (l : List Taking). flat_map (part_takings b) ps ++ (l ++ flat_map (at_side (λ (x : Extern). flat_map (use_takings a) (inline_uses x.kind)) Exported) ps)) second ∙ ap (λ (l : List Taking). flat_map (part_takings b) ps ++ (flat_map (at_side (λ (x : Extern). flat_map (use_takings b) (inline_uses x.kind)) Imported) ps ++ l)) third
 
 -- so the names of an item, and what it takes from other packages, are those of what it declares
 pub names_of_bare : (i : Item) → AreThemselves i.top → scope_names i ≡ scope_names (bare i.declared)
 names_of_bare i own = names_same i.top [] own no_names (parts i)
+
+-- what an item takes
+abbrev pub item_takings : Item → List Taking
+item_takings i = filter (λ (t : Taking). is_foreign t.from) (walk (part_takings i.top) (λ (x : Extern). flat_map (use_takings i.top) (inline_uses x.kind)) (parts i))
 
 pub takings_of_bare : (i : Item) → AreThemselves i.top → item_takings i ≡ item_takings (bare i.declared)
 takings_of_bare i own = ap (filter (λ (t : Taking). is_foreign t.from)) (takings_same i.top [] own no_names (parts i))

@@ -2,7 +2,7 @@
 use Rattle.std.proofs.Common.{◌≡◌, ℕ, zero, suc, List, [], ◌∷◌, take, Option, Some, None, refl, sym, ap, ◌∙◌, subst}
 use Rattle.std.specs.Prelude.{Contains}
 use Rattle.std.specs.List.{flat_map}
-use Rattle.std.specs.Option.{option_map_or}
+use Rattle.std.specs.Option.{option_map_or, unwrap_or}
 use Rattle.wit_tree.specs.declared.tree.PackageFile.{PackageFile}
 use Rattle.wit_type_tree.specs.declared.leaves.Id.{Id}
 use Rattle.wit_type_tree.specs.declared.types.«Type».{«Type» as Written}
@@ -13,7 +13,7 @@ use Rattle.wit_syntax.specs.Foreign.{ForeignVisit}
 use Rattle.wit_syntax.specs.Function.{functions, all_types, item_types}
 use Rattle.wit_syntax.specs.Form.{Form, AliasForm}
 use Rattle.wit_syntax.specs.Shape.{Shape, Shapes, Word, More}
-use Rattle.wit_syntax.specs.Source.{TopName, Item, address, all_items, ScopeName, scope_names, parts, path_scope, local_name, meaning, name_form, name_body, name_scope}
+use Rattle.wit_syntax.specs.Source.{TopName, Item, address, all_items, ScopeName, scope_names, parts, path_scope, local_name, meaning, about_name}
 use Rattle.wit_syntax.specs.Trees.{scope}
 use Rattle.wit_syntax.specs.Sides.{SideItem, SideFunction, SideLink, SideInline, side_items, items_on, bare_scope, IsFoldedTwice, IsCrossedTwice, IsLinkedTwice, IsBrokenSides, FoldedTwice, CrossedTwice, LinkedTwice, LinkNotes, InlineNotes, all_scopes}
 use Rattle.wit_syntax.specs.Broken
@@ -63,7 +63,7 @@ named_by f g same s name _ xs = refl
 
 meant_by : (f g : Address → Shape → Option End) → ((s : Address) (x : Shape) → f s x ≡ g s x) → (s : Address) (x : Option ScopeName) → meant_end f s x ≡ meant_end g s x
 meant_by f g same s None = refl
-meant_by f g same s (Some x) = named_by (f (name_scope s x)) (g (name_scope s x)) (same (name_scope s x)) s (local_name x) (name_form x) (name_body x).parts
+meant_by f g same s (Some x) = named_by (f (unwrap_or (about_name x).from s)) (g (unwrap_or (about_name x).from s)) (same (unwrap_or (about_name x).from s)) s (local_name x) (about_name x).body.form (about_name x).body.parts
 
 module _ (files others : List PackageFile) (a : AreAlike files others) where
   ends_alike : (n : ℕ) (s : Address) (x : Shape) → shape_end files n s x ≡ shape_end others n s x

@@ -8,7 +8,7 @@ use Rattle.wit_tree.specs.declared.tree.AstItem.TheVariants as ast
 use Rattle.wit_tree.specs.declared.tree.PackageFile.{PackageFile}
 use Rattle.wit_graph.proofs.Tables.{matched}
 use Rattle.wit_syntax.specs.Fault.{Fault, fault}
-use Rattle.wit_syntax.specs.Source.{TopName, top_name, top_names, top_text, Item, item_id, item_name, declared_items, file_items, all_items}
+use Rattle.wit_syntax.specs.Source.{TopName, top_name, top_names, top_text, Item, item_name, declared_items, file_items, all_items, about}
 use Rattle.wit_syntax.specs.Bodies.{IsSecond}
 use Rattle.wit_syntax.specs.Splitting.{file_declarations, declarations}
 use Rattle.wit_syntax.proofs.Found.{contains_at, at_contains}
@@ -24,22 +24,22 @@ no_use_behind a ds none u among = (let it = at_contains ds (ast.Use u) among in 
 abbrev top_id : TopName → Id
 top_id t = t.id
 
-tops_of_items : (top : List TopName) (ds : List AstItem) → HasNoUse ds → map top_id (map top_name ds) ≡ map item_id (flat_map (declared_items top) ds)
+tops_of_items : (top : List TopName) (ds : List AstItem) → HasNoUse ds → map top_id (map top_name ds) ≡ map (λ (i : Item). (about i.declared).id) (flat_map (declared_items top) ds)
 tops_of_items top [] none = refl
 tops_of_items top (ast.Interface i ∷ ds) none = ap (λ (l : List Id). i.name ∷ l) (tops_of_items top ds (no_use_behind (ast.Interface i) ds none))
 tops_of_items top (ast.World w ∷ ds) none = ap (λ (l : List Id). w.name ∷ l) (tops_of_items top ds (no_use_behind (ast.World w) ds none))
 tops_of_items top (ast.Use u ∷ ds) none = absurd (none u (contains_at (ast.Use u ∷ ds) 0 (ast.Use u) refl))
 
-pub top_repeated : (files : List PackageFile) (file : PackageFile) (f : Fault) → HasNoUse (declarations files) → Contains files file → IsSecond top_text (λ (n : TopName). fault 6 n.id.span) (top_names file) f → (g : Fault) × IsSecond item_name (λ (i : Item). fault 5 (item_id i).span) (all_items files) g
+pub top_repeated : (files : List PackageFile) (file : PackageFile) (f : Fault) → HasNoUse (declarations files) → Contains files file → IsSecond top_text (λ (n : TopName). fault 6 n.id.span) (top_names file) f → (g : Fault) × IsSecond item_name (λ (i : Item). fault 5 (about i.declared).id.span) (all_items files) g
 top_repeated files file f none is h =
     let r = h.1 in
-    let same : map top_id (top_names file) ≡ map item_id (file_items file) = tops_of_items (top_names file) (file_declarations file) (no_use_in_file files none file is) in
-    let x = matched item_id top_id (file_items file) (top_names file) (sym same) r.0 r.3 r.4 in
-    let y = matched item_id top_id (file_items file) (top_names file) (sym same) r.1 h.0 r.5 in
+    let same : map top_id (top_names file) ≡ map (λ (i : Item). (about i.declared).id) (file_items file) = tops_of_items (top_names file) (file_declarations file) (no_use_in_file files none file is) in
+    let x = matched (λ (i : Item). (about i.declared).id) top_id (file_items file) (top_names file) (sym same) r.0 r.3 r.4 in
+    let y = matched (λ (i : Item). (about i.declared).id) top_id (file_items file) (top_names file) (sym same) r.1 h.0 r.5 in
     let place = at_contains files file is in
     let from = flat_map_from file_items files place.0 file place.1 in
     let before = r.2 in (
-      fault 5 (item_id y.0).span,
+      fault 5 (about y.0.declared).id.span,
       (
         y.0,
         (
@@ -56,7 +56,7 @@ top_repeated files file f none is h =
     )
 
 -- an item whose name stands twice among items is one whose name does among their twins
-pub repeated_onward : (is js : List Item) (f : Fault) → AreTwins is js → IsSecond item_name (λ (i : Item). fault 5 (item_id i).span) is f → IsSecond item_name (λ (i : Item). fault 5 (item_id i).span) js f
+pub repeated_onward : (is js : List Item) (f : Fault) → AreTwins is js → IsSecond item_name (λ (i : Item). fault 5 (about i.declared).id.span) is f → IsSecond item_name (λ (i : Item). fault 5 (about i.declared).id.span) js f
 repeated_onward is js f t h =
     let r = h.1 in
     let x = twin_at is js t r.0 r.3 r.4 in

@@ -12,8 +12,8 @@ use Rattle.wit_graph.specs.Laws.{NeedsAll, HaveSameEdges}
 use Rattle.wit_graph.proofs.Tables.{matched}
 use Rattle.wit_graph.proofs.SameEdges.{one_answer, same_edges, missing_onward, cyclic_onward}
 use Rattle.wit_syntax.specs.Fault.{Fault, cyclic_at}
-use Rattle.wit_syntax.specs.Source.{TopName, Item, item_name, parts, leads, all_items}
-use Rattle.wit_syntax.specs.Scope.{needed_path, local_target, needed_items, item_row, item_rows}
+use Rattle.wit_syntax.specs.Source.{TopName, Item, item_name, leads, all_items}
+use Rattle.wit_syntax.specs.Scope.{needed_paths, local_target, item_row, item_rows}
 use Rattle.wit_syntax.specs.Broken.{IsMissingEdge, IsCyclicEdge}
 use Rattle.wit_syntax.proofs.Lists.{map_map, map_at}
 use Rattle.wit_syntax.proofs.JoinedLists.{flat_map_by, map-flat_map}
@@ -25,9 +25,12 @@ use Rattle.wit_syntax.proofs.JoinedFiles.{AreAlike, items_twins}
 abbrev needed_texts : List TopName → UsePath → List (List ℕ)
 needed_texts top from = map id_text (local_target (leads top from))
 
+abbrev needed_items : Item → List Id
+needed_items i = (item_row i).needs
+
 needs_same : (i : Item) (top : List TopName) → AreThemselves i.top → AreThemselves top → map id_text (needed_items i) ≡ map id_text (needed_items (retop top i))
 needs_same i top own other =
-    let paths = flat_map (needed_path i.declared) (parts i) in
+    let paths = needed_paths i in
     let a = λ (from : UsePath). local_target (leads i.top from) in
     let b = λ (from : UsePath). local_target (leads top from) in
     map-flat_map id_text a paths ∙ flat_map_by (needed_texts i.top) (needed_texts top) (λ from. local_by (leads i.top from) (leads top from) (leads_same i.top top own other from)) paths ∙ sym (map-flat_map id_text b paths)

@@ -1,13 +1,13 @@
 -- Where paths lead in files in which each name at the top stands for itself: where they say.
 use Rattle.std.proofs.Common.{◌≡◌, ℕ, List, [], ◌∷◌, Option, Some, None, refl, sym, ap, ◌∙◌, subst}
-use Rattle.std.specs.Prelude.{slice_get, map}
+use Rattle.std.specs.Prelude.{slice_get, map, find}
 use Rattle.std.specs.Option.{option_map_or}
 use Rattle.std.specs.Str.{bytes_eq}
 use Rattle.wit_type_tree.specs.declared.leaves.Id.{Id}
 use Rattle.wit_tree.specs.declared.tree.UsePath.{UsePath}
 use Rattle.wit_tree.specs.declared.tree.UsePath.TheVariants as path
 use Rattle.wit_syntax.specs.Address.{InterfaceNamed, WorldNamed}
-use Rattle.wit_syntax.specs.Source.{TopName, top_text, top_target, top_named, Target, Local, Foreign, leads, used_scope, included_scope, path_scope}
+use Rattle.wit_syntax.specs.Source.{TopName, top_text, Target, Local, Foreign, leads, path_scope, target_scope}
 use Rattle.wit_syntax.specs.Scope.{local_target}
 use Rattle.wit_syntax.proofs.Names.{name_equal}
 use Rattle.wit_syntax.proofs.Found.{find_at, find_passes}
@@ -23,7 +23,7 @@ IsSameTarget (Foreign p a) (Foreign q b) = (p ≡ q) × (a ≡ b)
 IsSameTarget (Local a) (Foreign q b) = ⊥
 IsSameTarget (Foreign p a) (Local b) = ⊥
 
-found_itself : (top : List TopName) (id : Id) (o : Option TopName) → AreThemselves top → top_named top id.name.now ≡ o → (other : Id) × (option_map_or top_target o (Local id) ≡ Local other) × (other.name.now ≡ id.name.now)
+found_itself : (top : List TopName) (id : Id) (o : Option TopName) → AreThemselves top → find (λ (each : TopName). bytes_eq (top_text each) id.name.now) top ≡ o → (other : Id) × (option_map_or (λ (t : TopName). t.target) o (Local id) ≡ Local other) × (other.name.now ≡ id.name.now)
 found_itself top id None own is = (id, refl, refl)
 found_itself top id (Some t) own is =
     let test = λ (u : TopName). bytes_eq (top_text u) id.name.now in
@@ -32,7 +32,7 @@ found_itself top id (Some t) own is =
 
 -- a name leads to the item of it
 pub leads_itself : (top : List TopName) → AreThemselves top → (id : Id) → (other : Id) × (leads top (path.Id id) ≡ Local other) × (other.name.now ≡ id.name.now)
-leads_itself top own id = found_itself top id (top_named top id.name.now) own refl
+leads_itself top own id = found_itself top id (find (λ (each : TopName). bytes_eq (top_text each) id.name.now) top) own refl
 
 -- so a path leads to the same in two such files
 pub leads_same : (a b : List TopName) → AreThemselves a → AreThemselves b → (from : UsePath) → IsSameTarget (leads a from) (leads b from)
@@ -44,15 +44,15 @@ leads_same a b own other (path.Id id) =
 leads_same a b own other (path.Package p id) = (refl, refl)
 
 -- the scope that is used there, and the one that is included, are the same
-pub used_by : (t u : Target) → IsSameTarget t u → used_scope t ≡ used_scope u
+pub used_by : (t u : Target) → IsSameTarget t u → target_scope InterfaceNamed t ≡ target_scope InterfaceNamed u
 used_by (Local a) (Local b) same = ap InterfaceNamed same
-used_by (Foreign p a) (Foreign q b) same = ap (λ x. used_scope (Foreign x a)) same.0 ∙ ap (λ x. used_scope (Foreign q x)) same.1
+used_by (Foreign p a) (Foreign q b) same = ap (λ x. target_scope InterfaceNamed (Foreign x a)) same.0 ∙ ap (λ x. target_scope InterfaceNamed (Foreign q x)) same.1
 used_by (Local a) (Foreign q b) same = absurd same
 used_by (Foreign p a) (Local b) same = absurd same
 
-pub included_by : (t u : Target) → IsSameTarget t u → included_scope t ≡ included_scope u
+pub included_by : (t u : Target) → IsSameTarget t u → target_scope WorldNamed t ≡ target_scope WorldNamed u
 included_by (Local a) (Local b) same = ap WorldNamed same
-included_by (Foreign p a) (Foreign q b) same = ap (λ x. included_scope (Foreign x a)) same.0 ∙ ap (λ x. included_scope (Foreign q x)) same.1
+included_by (Foreign p a) (Foreign q b) same = ap (λ x. target_scope WorldNamed (Foreign x a)) same.0 ∙ ap (λ x. target_scope WorldNamed (Foreign q x)) same.1
 included_by (Local a) (Foreign q b) same = absurd same
 included_by (Foreign p a) (Local b) same = absurd same
 
@@ -78,5 +78,5 @@ module _ (a b : List TopName) (own : AreThemselves a) (other : AreThemselves b) 
   pub used_same : (from : UsePath) → path_scope a from ≡ path_scope b from
   used_same from = used_by (leads a from) (leads b from) (leads_same a b own other from)
 
-  pub included_same : (from : UsePath) → included_scope (leads a from) ≡ included_scope (leads b from)
+  pub included_same : (from : UsePath) → target_scope WorldNamed (leads a from) ≡ target_scope WorldNamed (leads b from)
   included_same from = included_by (leads a from) (leads b from) (leads_same a b own other from)

@@ -9,25 +9,25 @@ use Rattle.wit_syntax.specs.Address.{Address, InterfaceNamed, WorldNamed, Inline
 use Rattle.wit_syntax.specs.Node.{Node, Leaf, Named, Unnamed, Nothing, node_map, unfolded}
 use Rattle.wit_syntax.specs.Repeats.{firsts}
 use Rattle.wit_syntax.specs.Shape.{Prim, Word, Of}
-use Rattle.wit_syntax.specs.Source.{Declared, declared_id, declared_address, Item, address, all_items, item_named, item_at, ScopeName, scope_names, Taking, takings, item_takings, taken, taken_names, same_taking, meaning, Place, named_node}
+use Rattle.wit_syntax.specs.Source.{Declared, Item, address, all_items, item_named, item_at, ScopeName, scope_names, Taking, takings, taken_names, same_taking, meaning, Place, named_node, about, Taken}
 use Rattle.wit_syntax.specs.Sides.{all_scopes}
 use Rattle.wit_syntax.specs.Splitting.{declared_of}
 use Rattle.wit_syntax.specs.Trees.{scope, source_node, source_tree}
 use Rattle.wit_syntax.proofs.Found.{find_at}
 use Rattle.wit_syntax.proofs.JoinedLists.{map_by, find-map}
-use Rattle.wit_syntax.proofs.JoinedItems.{bare, ArePlain, AreTwins, twins_inside, names_of_bare, takings_of_bare, twins_become}
+use Rattle.wit_syntax.proofs.JoinedItems.{bare, ArePlain, AreTwins, twins_inside, names_of_bare, takings_of_bare, twins_become, item_takings}
 use Rattle.wit_syntax.proofs.JoinedFiles.{AreAlike, items_twins}
 
 -- what is found among twins by what is declared declares the same
 module _ (is js : List Item) (t : AreTwins is js) where
   pub named_same : (name : List ℕ) → option_map declared_of (item_named is name) ≡ option_map declared_of (item_named js name)
   named_same name =
-      let test = λ (d : Declared). bytes_eq (declared_id d).name.now name in
+      let test = λ (d : Declared). bytes_eq (about d).id.name.now name in
       find-map test declared_of is ∙ ap (find test) t.same ∙ sym (find-map test declared_of js)
 
   pub at_same : (s : Address) → option_map declared_of (item_at is s) ≡ option_map declared_of (item_at js s)
   at_same s =
-      let test = λ (d : Declared). same_address (declared_address d) s in
+      let test = λ (d : Declared). same_address (about d).address s in
       find-map test declared_of is ∙ ap (find test) t.same ∙ sym (find-map test declared_of js)
 
 -- so the names of an address are the same
@@ -62,7 +62,7 @@ module _ (files others : List PackageFile) (a : AreAlike files others) where
   takings_alike = twins_become item_takings takings_of_bare (all_items files) (all_items others) (items_twins files others a)
 
   taken_alike : (s : Address) → taken_names files s ≡ taken_names others s
-  taken_alike s = ap (λ (ts : List Taking). map taken (filter (λ (t : Taking). same_address t.from s) (firsts same_taking ts))) takings_alike
+  taken_alike s = ap (λ (ts : List Taking). map (λ (t : Taking). Taken t.attributes t.id) (filter (λ (t : Taking). same_address t.from s) (firsts same_taking ts))) takings_alike
 
   pub scope_alike : (s : Address) → scope files s ≡ scope others s
   scope_alike (InterfaceNamed name) = names_at (all_scopes files) (all_scopes others) scopes_twins (InterfaceNamed name)

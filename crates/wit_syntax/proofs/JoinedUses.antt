@@ -8,9 +8,9 @@ use Rattle.wit_tree.specs.declared.tree.PackageFile.{PackageFile}
 use Rattle.wit_package_names.specs.declared.package_name.PackageName.{PackageName}
 use Rattle.wit_syntax.specs.Address.{Address, ForeignNamed, same_address}
 use Rattle.wit_syntax.specs.Fault.{Fault, missing_at, item_word}
-use Rattle.wit_syntax.specs.Foreign.{ForeignVisit, visited, same_item, foreign_visits, is_foreign_world}
+use Rattle.wit_syntax.specs.Foreign.{ForeignVisit, visited, same_item, foreign_visits}
 use Rattle.wit_syntax.specs.Repeats.{firsts}
-use Rattle.wit_syntax.specs.Source.{TopName, Target, Local, Foreign, leads, Declared, is_declared_world, Item, is_world, address, parts, all_items, item_named, item_at, ScopeName, scope_names, meaning}
+use Rattle.wit_syntax.specs.Source.{TopName, Target, Local, Foreign, leads, Declared, Item, is_world, address, parts, all_items, item_named, item_at, ScopeName, scope_names, meaning, about}
 use Rattle.wit_syntax.specs.Broken.{is_world_at, IsBrokenUse, MissingUse, WorldUsed, IsInterfaceIncluded, IsMissingName}
 use Rattle.wit_syntax.specs.Splitting.{declared_of}
 use Rattle.wit_syntax.proofs.Found.{find_at}
@@ -28,7 +28,7 @@ some_declared : (o : Option Item) (d : Declared) → option_map declared_of o �
 some_declared None d is = absurd (let f : ⊥ = cc in f)
 some_declared (Some i) d is = (i, refl, cc)
 
-world_declared : (o : Option Item) → option_map is_world o ≡ option_map is_declared_world (option_map declared_of o)
+world_declared : (o : Option Item) → option_map is_world o ≡ option_map (λ (d : Declared). (about d).is_world) (option_map declared_of o)
 world_declared None = refl
 world_declared (Some i) = refl
 
@@ -45,10 +45,10 @@ module _ (is js : List Item) (t : AreTwins is js) where
       (j.0.top, t.left one.0 i one.1, t.right two.0 j.0 two.1, j.1 ∙ ap (λ (d : Declared). Some (record { top = j.0.top; declared = d })) j.2)
 
   world_onward : (name : List ℕ) → option_map is_world (item_named is name) ≡ option_map is_world (item_named js name)
-  world_onward name = world_declared (item_named is name) ∙ ap (option_map is_declared_world) (named_same is js t name) ∙ sym (world_declared (item_named js name))
+  world_onward name = world_declared (item_named is name) ∙ ap (option_map (λ (d : Declared). (about d).is_world)) (named_same is js t name) ∙ sym (world_declared (item_named js name))
 
 abbrev foreign_world : List ForeignVisit → PackageName → List ℕ → Option Bool
-foreign_world vs p name = option_map is_foreign_world (find (λ (v : ForeignVisit). same_address (visited v) (ForeignNamed p name)) (firsts same_item vs))
+foreign_world vs p name = option_map (λ (v : ForeignVisit). v.wants_world) (find (λ (v : ForeignVisit). same_address (visited v) (ForeignNamed p name)) (firsts same_item vs))
 
 module _ (files others : List PackageFile) (a : AreAlike files others) where
   -- what stands where paths lead is a world in both or in neither

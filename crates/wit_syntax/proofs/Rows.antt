@@ -13,12 +13,16 @@ use Rattle.wit_syntax.proofs.Tables.{place_of-Some, none_if}
 use Rattle.wit_syntax.proofs.Orders.{take_next}
 use Rattle.std.proofs.lemmas.Option.{slice_get-map}
 use Rattle.wit_tree.specs.declared.tree.PackageFile.{PackageFile}
-use Rattle.wit_syntax.specs.Source.{Item, all_items}
-use Rattle.wit_syntax.specs.Scope.{item_row, item_rows}
+use Rattle.wit_syntax.specs.Source.{Item, all_items, ScopeName, local_name}
+use Rattle.wit_syntax.specs.Scope.{needed_ids, item_row, item_rows}
 use Rattle.std.specs.Option.{option_map}
 
 abbrev row : List ℕ → List Id → Row
 row name needs = record { name = name; needs = needs }
+
+-- a name of a scope with the names in its body
+abbrev pub row_of : ScopeName → Row
+row_of x = record { name = local_name x; needs = needed_ids x }
 
 -- the next row of a table, of a name that it has not
 pub rows_more : {X : Type 0} (of : X → Row) (xs : List X) (n : ℕ) (x : X) (old new : List (Bor (List ℕ) × Vec Id Global)) (k : Bor (List ℕ)) (v : Vec Id Global) → slice_get xs n ≡ Some x → map entry_row old ≡ map of (take n xs) → place_of (map of (take n xs)) (of x).name ≡ None → new ≡ insert_entry key_eq old k v → k.now ≡ (of x).name → v.items ≡ (of x).needs → map entry_row new ≡ map of (take (n + 1) xs)

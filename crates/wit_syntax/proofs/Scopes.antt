@@ -10,7 +10,7 @@ use Rattle.wit_tree.specs.declared.tree.AstItem.{AstItem}
 use Rattle.wit_tree.specs.declared.tree.AstItem.TheVariants as ast
 use Rattle.wit_syntax.specs.Address.{Address, same_address}
 use Rattle.wit_syntax.specs.Repeats.{AllDiffer}
-use Rattle.wit_syntax.specs.Source.{TopName, top_names, Declared, TheInterface, TheWorld, TheInline, declared_id, declared_address, Item, address, item_name, declared_items, file_items, all_items, item_named, item_at}
+use Rattle.wit_syntax.specs.Source.{TopName, top_names, Declared, TheInterface, TheWorld, TheInline, Item, address, item_name, declared_items, file_items, all_items, item_named, item_at, about}
 use Rattle.wit_syntax.specs.Sides.{inline_items, with_inline, all_scopes}
 use Rattle.wit_syntax.proofs.Lists.{map_at, flat_map_at, flat_map_has}
 use Rattle.wit_syntax.proofs.Names.{name_itself}
@@ -38,7 +38,7 @@ all_declared files t w at =
     let item = flat_map_at (declared_items (top_names file.1)) file.1.decl_list.items.items file.3.0 w file.3.1 in
     declared_in_file (top_names file.1) item.1 item.3.0 w item.3.1
 
-declared_outer : (d : Declared) → is_inside (declared_address d) ≡ false → outer_name (declared_address d) ≡ (declared_id d).name.now
+declared_outer : (d : Declared) → is_inside (about d).address ≡ false → outer_name (about d).address ≡ (about d).id.name.now
 declared_outer (TheInterface i) h = refl
 declared_outer (TheWorld w) h = refl
 declared_outer (TheInline world place x name items) h = absurd (let f : ⊥ = cc in f)

@@ -12,7 +12,7 @@ use Rattle.wit_syntax.specs.Function.{SourceFunction, functions}
 use Rattle.wit_syntax.specs.Scope.{part_includes, includes}
 use Rattle.wit_syntax.specs.Sides.{role_side, on_side}
 use Rattle.wit_syntax.specs.Signature.{IsUnpairedSetter}
-use Rattle.wit_syntax.specs.Source.{Declared, TheInterface, TheWorld, TheInline, declared_parts, interface_part, is_declared_world, Item, is_world}
+use Rattle.wit_syntax.specs.Source.{Declared, TheInterface, TheWorld, TheInline, interface_part, Item, is_world, about}
 use Rattle.wit_syntax.proofs.Found.{at_contains}
 use Rattle.wit_syntax.proofs.Sides.{kept_all, kept_none, functions_imported}
 
@@ -22,7 +22,7 @@ parts_include (interface_item.TypeDef d ∷ items) = parts_include items
 parts_include (interface_item.Use u ∷ items) = parts_include items
 parts_include (interface_item.Func g ∷ items) = parts_include items
 
-declared_includes : (d : Declared) → is_declared_world d ≡ false → flat_map part_includes (declared_parts d) ≡ []
+declared_includes : (d : Declared) → (about d).is_world ≡ false → flat_map part_includes (about d).parts ≡ []
 declared_includes (TheInterface i) own = parts_include i.items.items
 declared_includes (TheWorld w) own = absurd (let f : ⊥ = cc in f)
 declared_includes (TheInline world place x name items) own = parts_include items

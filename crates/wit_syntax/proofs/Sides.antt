@@ -13,7 +13,7 @@ use Rattle.wit_tree.specs.declared.tree.InterfaceItem.{InterfaceItem}
 use Rattle.wit_tree.specs.declared.tree.InterfaceItem.TheVariants as interface_item
 use Rattle.wit_tree.specs.declared.tree.WorldSide.{WorldSide}
 use Rattle.wit_tree.specs.declared.tree.WorldSide.TheVariants.{Imported}
-use Rattle.wit_syntax.specs.Source.{Declared, TheInterface, TheWorld, TheInline, is_declared_world, declared_parts, interface_part, Item, is_world}
+use Rattle.wit_syntax.specs.Source.{Declared, TheInterface, TheWorld, TheInline, interface_part, Item, is_world, about}
 use Rattle.wit_syntax.specs.Function.{SourceFunction, free_function, resource_function, definition_functions, part_functions, functions}
 use Rattle.wit_syntax.specs.Crossing.{same_side}
 use Rattle.wit_syntax.specs.Signature.{Called}
@@ -62,7 +62,7 @@ pub interface_imported : (items : List InterfaceItem) → on_side Imported (flat
 interface_imported items = kept_all (λ fn. same_side Imported (role_side fn.role)) (flat_map part_functions (map interface_part items)) (λ k fn at. ap (same_side Imported) (interface_side items k fn at))
 
 -- so they are where the item is an interface
-declared_imported : (d : Declared) → is_declared_world d ≡ false → (k : ℕ) (fn : SourceFunction) → slice_get (flat_map part_functions (declared_parts d)) k ≡ Some fn → role_side fn.role ≡ Imported
+declared_imported : (d : Declared) → (about d).is_world ≡ false → (k : ℕ) (fn : SourceFunction) → slice_get (flat_map part_functions (about d).parts) k ≡ Some fn → role_side fn.role ≡ Imported
 declared_imported (TheInterface i) own k fn at = interface_side i.items.items k fn at
 declared_imported (TheWorld w) own k fn at = absurd (let f : ⊥ = cc in f)
 declared_imported (TheInline world place x name items) own k fn at = interface_side items k fn at
@@ -91,7 +91,7 @@ interface_functions (i ∷ items) =
     one (interface_item.Use u) = refl
     one (interface_item.Func g) = refl
 
-declared_functions : (d : Declared) → is_declared_world d ≡ false → flat_map part_items (declared_parts d) ≡ map SideFunction (flat_map part_functions (declared_parts d))
+declared_functions : (d : Declared) → (about d).is_world ≡ false → flat_map part_items (about d).parts ≡ map SideFunction (flat_map part_functions (about d).parts)
 declared_functions (TheInterface i) own = interface_functions i.items.items
 declared_functions (TheWorld w) own = absurd (let f : ⊥ = cc in f)
 declared_functions (TheInline world place x name items) own = interface_functions items

@@ -10,12 +10,13 @@ use Rattle.wit_type_tree.specs.declared.leaves.Id.{Id}
 use Rattle.wit_graph.specs.Table.{IsOrder}
 use Rattle.wit_syntax.specs.Address.{Address}
 use Rattle.wit_syntax.specs.Source.{ScopeName, Used, Defined, Taken, local_name}
-use Rattle.wit_syntax.specs.Scope.{row_of, rows_of, in_order, is_defined, used, defined, in_turn, AreDistinct}
+use Rattle.wit_syntax.specs.Scope.{rows_of, in_order, is_defined, used, defined, in_turn, AreDistinct}
 use Rattle.wit_syntax.specs.Repeats.{AllDiffer}
 use Rattle.wit_syntax.proofs.Lists.{at_front, at_back}
 use Rattle.wit_syntax.proofs.Repeated.{differ_none, differ_at, differ_by}
 use Rattle.wit_syntax.proofs.Kept.{kept_at, kept_has, differ_cons, differ_head, differ_tail, kept_differ}
 use Rattle.wit_syntax.proofs.Orders.{order_within, in_order_at, in_order_has, index_of, index_once}
+use Rattle.wit_syntax.proofs.Rows.{row_of}
 
 -- what stands in two lists, one behind the other, stands in one of them
 pub at_part : {X : Type 0} (xs ys : List X) (i : ℕ) (x : X) → slice_get (xs ++ ys) i ≡ Some x → ((j : ℕ) × (slice_get xs j ≡ Some x)) ⊎ ((j : ℕ) × (slice_get ys j ≡ Some x))

@@ -13,8 +13,7 @@ use Rattle.wit_syntax.specs.Crossing.{same_side}
 -- a scope: the declared interface, or the declared world, of a name; the interface that is written in a world, at a place on a side of it; or
 -- the item of a name in another package
 pub data Address : Type 0 where
-  InterfaceNamed : (name : List ℕ) → Address
-  WorldNamed : (name : List ℕ) → Address
+  InterfaceNamed WorldNamed : (name : List ℕ) → Address
   InlineAt : (world : List ℕ) (side : WorldSide) (place : ℕ) → Address
   ForeignNamed : (of : PackageName) (name : List ℕ) → Address
 
@@ -26,16 +25,11 @@ release_of v = record { major = v.major; minor = v.minor; patch = v.patch; pre =
 abbrev pub package_of : Written → PackageName
 package_of p = record { namespace = p.namespace.name.now; name = p.name.name.now; version = option_map release_of p.version }
 
--- whether two versions are one, to their builds
-abbrev pub same_release : Release → Release → Bool
-same_release a b = nat_eq a.major b.major && (nat_eq a.minor b.minor && (nat_eq a.patch b.patch && (bytes_eq a.pre b.pre && bytes_eq a.build b.build)))
-
--- whether both versions are one, or both are absent
+-- whether both versions are one, to their builds, or both are absent
 abbrev pub same_version : Option Release → Option Release → Bool
 same_version None None = true
-same_version (Some a) (Some b) = same_release a b
-same_version None (Some b) = false
-same_version (Some a) None = false
+same_version (Some a) (Some b) = nat_eq a.major b.major && (nat_eq a.minor b.minor && (nat_eq a.patch b.patch && (bytes_eq a.pre b.pre && bytes_eq a.build b.build)))
+same_version _ _ = false
 
 -- whether two packages are one
 abbrev pub same_package : PackageName → PackageName → Bool

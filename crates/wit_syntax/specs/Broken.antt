@@ -23,8 +23,8 @@ use Rattle.wit_syntax.specs.Notes.{IsBrokenStability, IsBrokenNotes}
 use Rattle.wit_syntax.specs.Bodies.{IsSecond, IsBrokenBody}
 use Rattle.wit_syntax.specs.Fault.{Fault, fault_of, fault, missing_at, missing_type_at, cyclic_at, item_word, type_word, name_word}
 use Rattle.wit_syntax.specs.Address.{Address, ForeignNamed}
-use Rattle.wit_syntax.specs.Source.{path_id, Target, Local, Foreign, path_target, leads, TopName, top_names, top_text, Item, item_id, item_name, declared_attributes, is_world, all_items, item_named, item_at, ScopeName, Used, Defined, local_id, local_name, scope_names, meaning, address}
-use Rattle.wit_syntax.specs.Foreign.{ForeignVisit, foreign_visits, is_foreign_world, foreign_at}
+use Rattle.wit_syntax.specs.Source.{path_id, Target, Local, Foreign, leads, TopName, top_names, top_text, Item, item_name, is_world, all_items, item_named, item_at, ScopeName, Used, Defined, local_id, local_name, scope_names, meaning, address, about}
+use Rattle.wit_syntax.specs.Foreign.{ForeignVisit, foreign_visits, foreign_at}
 use Rattle.wit_syntax.specs.Function.{SourceFunction, functions, item_types, role_names}
 use Rattle.wit_syntax.specs.Sides.{on_side, all_scopes, IsBrokenSides}
 use Rattle.wit_syntax.specs.Signature.{IsNoType, IsBrokenFunction, IsUnpairedSetter}
@@ -36,7 +36,7 @@ pub record IsMissingOriginal (items : List Item) (declarations : List AstItem) (
   pub u : ToplevelUse
   pub id : Id
   pub among : Contains declarations (ToplevelItem u)
-  pub local : path_target u.item ≡ Local id
+  pub local : leads [] u.item ≡ Local id
   pub missing : item_named items id.name.now ≡ None
   pub is : f ≡ missing_at 7 item_word id
 
@@ -107,7 +107,7 @@ pub record IsCyclicEdge (number : ℕ) (sort : List ℕ) (rs : List Row) (f : Fa
 -- whether what stands where a path leads is a world, if something stands there
 abbrev pub is_world_at : List PackageFile → Target → Option Bool
 is_world_at files (Local id) = option_map is_world (item_named (all_items files) id.name.now)
-is_world_at files (Foreign p id) = option_map is_foreign_world (foreign_at files (ForeignNamed p id.name.now))
+is_world_at files (Foreign p id) = option_map (λ (v : ForeignVisit). v.wants_world) (foreign_at files (ForeignNamed p id.name.now))
 
 -- the path of an include leads to an interface
 pub record IsInterfaceIncluded (files : List PackageFile) (i : Item) (f : Fault) : Type 0 where
@@ -138,7 +138,7 @@ pub data IsBrokenScope (xs : List ScopeName) (fns : List SourceFunction) (f : Fa
 
 -- what is wrong with the names of the items that files declare, with those at the top of each, and with what paths of items lead to
 pub data IsBrokenItems (files : List PackageFile) (f : Fault) : Type 0 where
-  DuplicateItem : IsSecond item_name (λ (i : Item). fault 5 (item_id i).span) (all_items files) f → IsBrokenItems files f
+  DuplicateItem : IsSecond item_name (λ (i : Item). fault 5 (about i.declared).id.span) (all_items files) f → IsBrokenItems files f
   DuplicateTopName : (file : PackageFile) → Contains files file → IsSecond top_text (λ (n : TopName). fault 6 n.id.span) (top_names file) f → IsBrokenItems files f
   MissingItem : IsMissingEdge (missing_at 7 item_word) (item_rows files) f → IsBrokenItems files f
   CyclicItem : IsCyclicEdge 8 item_word (item_rows files) f → IsBrokenItems files f
@@ -175,7 +175,7 @@ pub data IsBroken (files : List PackageFile) (f : Fault) : Type 0 where
   -- no file has a header
   Headerless : last_header files ≡ None → f ≡ fault 4 (record { start = 0; end = 0 }) → IsBroken files f
   Names : IsBrokenNames files f → IsBroken files f
-  ItemStability : (i : Item) → Contains (all_items files) i → IsBrokenStability (declared_attributes i.declared) f → IsBroken files f
+  ItemStability : (i : Item) → Contains (all_items files) i → IsBrokenStability (about i.declared).attributes f → IsBroken files f
   UseNotes : (i : Item) → Contains (all_items files) i → (u : WrittenUse) → Contains (uses i) u → IsBrokenNotes u.attributes.items f → IsBroken files f
   IncludeStability : (i : Item) → Contains (all_items files) i → (n : Include) → Contains (includes i) n → IsBrokenStability n.attributes.items f → IsBroken files f
   Use : (i : Item) → Contains (all_items files) i → IsBrokenUse files i f → IsBroken files f

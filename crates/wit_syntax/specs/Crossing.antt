@@ -13,9 +13,8 @@ use Rattle.wit_tree.specs.declared.tree.WorldSide.TheVariants.{Imported, Exporte
 -- whether two sides are one
 abbrev pub same_side : WorldSide → WorldSide → Bool
 same_side Imported Imported = true
-same_side Imported Exported = false
-same_side Exported Imported = false
 same_side Exported Exported = true
+same_side _ _ = false
 
 -- the path of an interface that is imported or exported by it, perhaps under a name of its own
 abbrev pub extern_paths : ExternKind → List UsePath

@@ -6,9 +6,10 @@ use Rattle.wit_type_tree.specs.declared.types.«Type».{«Type» as Written}
 use Rattle.wit_syntax.specs.Form.{Form, AliasForm, ResourceForm, UnknownForm}
 use Rattle.wit_syntax.specs.Address.{Address}
 use Rattle.wit_syntax.specs.Shape.{Shape, Shapes, Word, More, End as NoParts, all_handles}
-use Rattle.wit_syntax.specs.Source.{ScopeName, local_name, meaning, name_form, name_body, name_scope}
+use Rattle.wit_syntax.specs.Source.{ScopeName, local_name, meaning, about_name}
 use Rattle.wit_syntax.specs.Fault.{Fault, fault}
 use Rattle.wit_syntax.specs.Trees.{scope}
+use Rattle.std.specs.Option.{unwrap_or}
 
 -- a resource, a name of another package, or anything else
 pub data End : Type 0 where
@@ -27,7 +28,7 @@ named_end ends s name form xs = Some Elsewhere
 
 abbrev pub meant_end : (Address → Shape → Option End) → Address → Option ScopeName → Option End
 meant_end ends s None = None
-meant_end ends s (Some x) = named_end (ends (name_scope s x)) s (local_name x) (name_form x) (name_body x).parts
+meant_end ends s (Some x) = named_end (ends (unwrap_or (about_name x).from s)) s (local_name x) (about_name x).body.form (about_name x).body.parts
 
 -- where a written type of a scope ends, in at most so many steps
 abbrev pub shape_end : List PackageFile → ℕ → Address → Shape → Option End

@@ -1,5 +1,5 @@
 -- What each name of a scope needs, and each item, as tables whose orders are those in which they are resolved.
-use Rattle.std.specs.Prelude.{ℕ, Bool, true, false, not, List, [], ◌∷◌, ◌++◌, map, slice_get}
+use Rattle.std.specs.Prelude.{if◌then◌else◌, ℕ, Bool, true, false, not, List, [], ◌∷◌, ◌++◌, map, slice_get}
 use Rattle.wit_type_tree.specs.declared.leaves.Id.{Id}
 use Rattle.std.specs.List.{flat_map, filter, filter_map}
 use Rattle.wit_tree.specs.declared.tree.Include.{Include}
@@ -9,7 +9,7 @@ use Rattle.wit_tree.specs.declared.tree.PackageFile.{PackageFile}
 use Rattle.wit_graph.specs.Table.{Row}
 use Rattle.wit_syntax.specs.Crossing.{extern_paths, inline_uses}
 use Rattle.wit_syntax.specs.Shape.{all_words, body_of}
-use Rattle.wit_syntax.specs.Source.{Target, Local, Foreign, leads, ScopeName, Used, Defined, Taken, local_name, Declared, TheInterface, TheWorld, TheInline, Part, Defining, Using, Including, Doing, Crossing, Item, item_name, is_world, parts, all_items}
+use Rattle.wit_syntax.specs.Source.{Target, Local, Foreign, leads, ScopeName, Used, Defined, Taken, local_name, Part, Defining, Using, Including, Doing, Crossing, Item, item_name, is_world, parts, all_items}
 use Rattle.wit_syntax.specs.Repeats.{AllDiffer}
 
 -- the names that a name of a scope needs: those in a definition's body; a used name needs none of its own scope
@@ -17,12 +17,9 @@ abbrev pub needed_ids : ScopeName → List Id
 needed_ids (Defined d) = all_words (body_of d.body).parts
 needed_ids _ = []
 
-abbrev pub row_of : ScopeName → Row
-row_of x = record { name = local_name x; needs = needed_ids x }
-
 -- the table of a scope: each of its names with the names in its body
 abbrev pub rows_of : List ScopeName → List Row
-rows_of xs = map row_of xs
+rows_of xs = map (λ x. record { name = local_name x; needs = needed_ids x }) xs
 
 -- a list in an order of its places
 abbrev pub in_order : {X : Type 0} → List X → List ℕ → List X
@@ -50,10 +47,13 @@ use_path (Using u) = u.from ∷ []
 use_path (Crossing x) = map (λ u. u.from) (inline_uses x.kind) ++ extern_paths x.kind
 use_path _ = []
 
--- the path of a part that is an include
+abbrev pub part_includes : Part → List Include
+part_includes (Including i) = i ∷ []
+part_includes _ = []
+
+-- the paths of includes in a part
 abbrev pub include_path : Part → List UsePath
-include_path (Including i) = i.from ∷ []
-include_path _ = []
+include_path p = map (λ (i : Include). i.from) (part_includes p)
 
 -- the paths of an item to interfaces
 abbrev pub use_paths : Item → List UsePath
@@ -63,22 +63,18 @@ use_paths i = flat_map use_path (parts i)
 abbrev pub include_paths : Item → List UsePath
 include_paths i = flat_map include_path (parts i)
 
--- the path of a part to an item that has to come before: of an interface that of a `use`, of a world that of an include
-abbrev pub needed_path : Declared → Part → List UsePath
-needed_path (TheWorld w) = include_path
-needed_path _ = use_path
+-- the paths to items that have to come before: of an interface those of uses, of a world those of includes
+abbrev pub needed_paths : Item → List UsePath
+needed_paths i = if is_world i then include_paths i else use_paths i
 
 -- the name of an item of the package that a path leads to
 abbrev pub local_target : Target → List Id
 local_target (Local id) = id ∷ []
 local_target (Foreign p id) = []
 
--- the names of the items that an item needs
-abbrev pub needed_items : Item → List Id
-needed_items i = flat_map (λ path. local_target (leads i.top path)) (flat_map (needed_path i.declared) (parts i))
-
+-- an item with the names of the items that it needs
 abbrev pub item_row : Item → Row
-item_row i = record { name = item_name i; needs = needed_items i }
+item_row i = record { name = item_name i; needs = flat_map (λ path. local_target (leads i.top path)) (needed_paths i) }
 
 -- the table of the items of all files: each with the items that have to come before it
 abbrev pub item_rows : List PackageFile → List Row
@@ -100,10 +96,6 @@ part_uses _ = []
 -- the uses of an item, and of interfaces that are written in it, in source order
 abbrev pub uses : Item → List Use
 uses i = flat_map part_uses (parts i)
-
-abbrev pub part_includes : Part → List Include
-part_includes (Including i) = i ∷ []
-part_includes _ = []
 
 -- the includes of an item, in source order
 abbrev pub includes : Item → List Include

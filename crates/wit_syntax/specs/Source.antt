@@ -6,6 +6,7 @@ use Rattle.std.specs.Str.{bytes_eq}
 use Rattle.wit_values.specs.declared.span.Span.{Span}
 use Rattle.wit_type_tree.specs.declared.leaves.Id.{Id}
 use Rattle.wit_type_tree.specs.declared.leaves.Attribute.{Attribute}
+use Rattle.wit_type_tree.specs.declared.leaves.Docs.{Docs as Comments}
 use Rattle.wit_type_tree.specs.declared.types.TypeDef.{TypeDef}
 use Rattle.wit_tree.specs.declared.tree.InterfaceItem.{InterfaceItem}
 use Rattle.wit_tree.specs.declared.tree.InterfaceItem.TheVariants as interface_item
@@ -24,8 +25,7 @@ use Rattle.wit_tree.specs.declared.tree.AstItem.{AstItem}
 use Rattle.wit_tree.specs.declared.tree.AstItem.TheVariants as ast
 use Rattle.wit_tree.specs.declared.tree.PackageFile.{PackageFile}
 use Rattle.wit_package_names.specs.declared.package_name.PackageName.{PackageName}
-use Rattle.wit_types.specs.declared.stability.Stability.{Stability}
-use Rattle.wit_syntax.specs.Form.{Form, AliasForm, UnknownForm}
+use Rattle.wit_syntax.specs.Form.{AliasForm, UnknownForm}
 use Rattle.wit_tree.specs.declared.tree.WorldSide.{WorldSide}
 use Rattle.wit_tree.specs.declared.tree.WorldSide.TheVariants.{Imported, Exported}
 use Rattle.wit_syntax.specs.Address.{Address, InterfaceNamed, WorldNamed, InlineAt, ForeignNamed, package_of, same_address, is_foreign}
@@ -45,49 +45,12 @@ pub data Target : Type 0 where
   Local : (id : Id) → Target
   Foreign : (of : PackageName) (id : Id) → Target
 
--- what a path says by itself
-abbrev pub path_target : UsePath → Target
-path_target (path.Id id) = Local id
-path_target (path.Package p id) = Foreign (package_of p) id
-
 -- an item: a declared interface, a declared world, or an interface that is written where a world imports or exports it, under a name, at a
 -- place on its side
 pub data Declared : Type 0 where
   TheInterface : (i : Interface) → Declared
   TheWorld : (w : World) → Declared
   TheInline : (world : List ℕ) (place : ℕ) (x : Extern) (name : Id) (items : List InterfaceItem) → Declared
-
-abbrev pub declared_id : Declared → Id
-declared_id (TheInterface i) = i.name
-declared_id (TheWorld w) = w.name
-declared_id (TheInline world place x name items) = name
-
--- the name that it goes by: one that is written in a world has none
-abbrev pub declared_name : Declared → Option (List ℕ)
-declared_name (TheInterface i) = Some i.name.name.now
-declared_name (TheWorld w) = Some w.name.name.now
-declared_name (TheInline world place x name items) = None
-
--- what is told of an item
-abbrev pub declared_notes : Declared → Notes
-declared_notes (TheInterface i) = notes (docs_of i.docs) i.attributes.items
-declared_notes (TheWorld w) = notes (docs_of w.docs) w.attributes.items
-declared_notes (TheInline world place x name items) = notes (docs_of x.docs) x.attributes.items
-
-abbrev pub declared_attributes : Declared → List Attribute
-declared_attributes (TheInterface i) = i.attributes.items
-declared_attributes (TheWorld w) = w.attributes.items
-declared_attributes (TheInline world place x name items) = x.attributes.items
-
--- the scope of an item
-abbrev pub declared_address : Declared → Address
-declared_address (TheInterface i) = InterfaceNamed i.name.name.now
-declared_address (TheWorld w) = WorldNamed w.name.name.now
-declared_address (TheInline world place x name items) = InlineAt world x.side place
-
-abbrev pub is_declared_world : Declared → Bool
-is_declared_world (TheWorld w) = true
-is_declared_world _ = false
 
 -- a part of an item
 pub data Part : Type 0 where
@@ -108,43 +71,59 @@ world_part (world_item.Use u) = Using u
 world_part (world_item.Include i) = Including i
 world_part (world_item.Extern x) = Crossing x
 
--- the parts of an item, in source order
-abbrev pub declared_parts : Declared → List Part
-declared_parts (TheInterface i) = map interface_part i.items.items
-declared_parts (TheWorld w) = map world_part w.items.items
-declared_parts (TheInline world place x name items) = map interface_part items
+-- what is told of an item: its name where it is written, and the name that it goes by, which an interface that is written in a world has not; its
+-- docs and attributes; its scope; whether it is a world; and its parts, in source order
+pub record About : Type 0 where
+  pub id : Id
+  pub called : Option (List ℕ)
+  pub docs : Comments
+  pub attributes : List Attribute
+  pub address : Address
+  pub is_world : Bool
+  pub parts : List Part
 
--- a name at the top of a file, and what it stands for: a declared item for itself, a `use` for what its path says
+abbrev pub about : Declared → About
+about (TheInterface i) = record { id = i.name; called = Some i.name.name.now; docs = i.docs; attributes = i.attributes.items; address = InterfaceNamed i.name.name.now; is_world = false; parts = map interface_part i.items.items }
+about (TheWorld w) = record { id = w.name; called = Some w.name.name.now; docs = w.docs; attributes = w.attributes.items; address = WorldNamed w.name.name.now; is_world = true; parts = map world_part w.items.items }
+about (TheInline world place x name items) = record { id = name; called = None; docs = x.docs; attributes = x.attributes.items; address = InlineAt world x.side place; is_world = false; parts = map interface_part items }
+
+abbrev pub declared_notes : Declared → Notes
+declared_notes d = notes (docs_of (about d).docs) (about d).attributes
+
+-- what is brought by a part that is imported, or exported, on a side
+abbrev pub at_side : {X : Type 0} → (Extern → List X) → WorldSide → Part → List X
+at_side of side (Crossing x) = if same_side side x.side then of x else []
+at_side of side _ = []
+
+-- what parts bring: first what each does by itself, then what imports do, and then what exports do
+abbrev pub walk : {X : Type 0} → (Part → List X) → (Extern → List X) → List Part → List X
+walk own of ps = flat_map own ps ++ (flat_map (at_side of Imported) ps ++ flat_map (at_side of Exported) ps)
+
+-- a name at the top of a file, and what it stands for
 pub record TopName : Type 0 where
   pub id : Id
   pub target : Target
 
+abbrev pub top_text : TopName → List ℕ
+top_text t = t.id.name.now
+
+-- where a path leads in a file: a name leads to what the first at its top that goes by it stands for, every other path where it says
+abbrev pub leads : List TopName → UsePath → Target
+leads top (path.Id id) = option_map_or (λ (t : TopName). t.target) (find (λ t. bytes_eq (top_text t) id.name.now) top) (Local id)
+leads top (path.Package p id) = Foreign (package_of p) id
+
 abbrev pub itself : Id → TopName
 itself id = record { id = id; target = Local id }
 
+-- a declared item stands for itself, a `use` for what its path says where no name at the top is known
 abbrev pub top_name : AstItem → TopName
 top_name (ast.Interface i) = itself i.name
 top_name (ast.World w) = itself w.name
-top_name (ast.Use u) = record { id = unwrap_or u.as_ (path_id u.item); target = path_target u.item }
+top_name (ast.Use u) = record { id = unwrap_or u.as_ (path_id u.item); target = leads [] u.item }
 
 -- the names at the top of a file, in source order
 abbrev pub top_names : PackageFile → List TopName
 top_names f = map top_name f.decl_list.items.items
-
-abbrev pub top_text : TopName → List ℕ
-top_text t = t.id.name.now
-
--- the first of these that goes by a name
-abbrev pub top_named : List TopName → List ℕ → Option TopName
-top_named top name = find (λ t. bytes_eq (top_text t) name) top
-
-abbrev pub top_target : TopName → Target
-top_target t = t.target
-
--- where a path leads in a file: a name at its top leads where that stands for, every other path where it says
-abbrev pub leads : List TopName → UsePath → Target
-leads top (path.Id id) = option_map_or top_target (top_named top id.name.now) (Local id)
-leads top (path.Package p id) = Foreign (package_of p) id
 
 -- an item, with the names at the top of its file
 pub record Item : Type 0 where
@@ -164,24 +143,18 @@ file_items f = flat_map (declared_items (top_names f)) f.decl_list.items.items
 abbrev pub all_items : List PackageFile → List Item
 all_items files = flat_map file_items files
 
-abbrev pub item_id : Item → Id
-item_id i = declared_id i.declared
-
-abbrev pub item_notes : Item → Notes
-item_notes i = declared_notes i.declared
-
 abbrev pub item_name : Item → List ℕ
-item_name i = (item_id i).name.now
+item_name i = (about i.declared).id.name.now
 
 -- the scope of an item
 abbrev pub address : Item → Address
-address i = declared_address i.declared
+address i = (about i.declared).address
 
 abbrev pub is_world : Item → Bool
-is_world i = is_declared_world i.declared
+is_world i = (about i.declared).is_world
 
 abbrev pub parts : Item → List Part
-parts i = declared_parts i.declared
+parts i = (about i.declared).parts
 
 -- the first item of a name
 abbrev pub item_named : List Item → List ℕ → Option Item
@@ -191,18 +164,14 @@ item_named is name = find (λ i. bytes_eq (item_name i) name) is
 abbrev pub item_at : List Item → Address → Option Item
 item_at is s = find (λ i. same_address (address i) s) is
 
--- the scope that is used where a path leads there, and the one that is included
-abbrev pub used_scope : Target → Address
-used_scope (Local id) = InterfaceNamed id.name.now
-used_scope (Foreign p id) = ForeignNamed p id.name.now
-
-abbrev pub included_scope : Target → Address
-included_scope (Local id) = WorldNamed id.name.now
-included_scope (Foreign p id) = ForeignNamed p id.name.now
+-- the scope that a path leads to: of this package, the interface or the world of that name
+abbrev pub target_scope : (List ℕ → Address) → Target → Address
+target_scope named (Local id) = named id.name.now
+target_scope named (Foreign p id) = ForeignNamed p id.name.now
 
 -- the scope that the path of a `use` leads to
 abbrev pub path_scope : List TopName → UsePath → Address
-path_scope top from = used_scope (leads top from)
+path_scope top from = target_scope InterfaceNamed (leads top from)
 
 -- a name of a scope: one that is used from an interface, with the attributes of its `use`, or a definition; or, of an item of another package, one that is taken from it
 pub data ScopeName : Type 0 where
@@ -210,11 +179,24 @@ pub data ScopeName : Type 0 where
   Defined : (d : TypeDef) → ScopeName
   Taken : (attributes : List Attribute) (id : Id) → ScopeName
 
--- a used name goes by the name that `as` gives it, or by its own
+-- what is told of a name: what it goes by; where it stands; the scope that what it stands for is read in, if that is another; what it stands for;
+-- and its notes
+pub record AboutName : Type 0 where
+  pub id : Id
+  pub span : Span
+  pub from : Option Address
+  pub body : Body
+  pub notes : Notes
+
+-- a used name goes by the name that `as` gives it, or by its own; it stands where its original is written, and is another word for that; what a
+-- name of another package stands for is not known; both have the attributes of a `use`
+abbrev pub about_name : ScopeName → AboutName
+about_name (Used from attributes n) = record { id = unwrap_or n.as_ n.name; span = n.name.span; from = Some from; body = record { form = AliasForm; parts = one (Word n.name) }; notes = notes no_docs attributes }
+about_name (Defined d) = record { id = d.name; span = d.name.span; from = None; body = body_of d.body; notes = notes (docs_of d.docs) d.attributes.items }
+about_name (Taken attributes id) = record { id = id; span = id.span; from = None; body = record { form = UnknownForm; parts = End }; notes = notes no_docs attributes }
+
 abbrev pub local_id : ScopeName → Id
-local_id (Used from attributes n) = unwrap_or n.as_ n.name
-local_id (Defined d) = d.name
-local_id (Taken attributes id) = id
+local_id x = (about_name x).id
 
 abbrev pub local_name : ScopeName → List ℕ
 local_name x = (local_id x).name.now
@@ -245,22 +227,9 @@ abbrev pub part_takings : List TopName → Part → List Taking
 part_takings top (Using u) = use_takings top u
 part_takings top _ = []
 
--- those that are used in interfaces that are written on a side of a world
-abbrev pub side_takings : List TopName → WorldSide → Part → List Taking
-side_takings top side (Crossing x) = if same_side side x.side then flat_map (use_takings top) (inline_uses x.kind) else []
-side_takings top side _ = []
-
--- those that are used in parts: first those of their own, then those of imports, and then those of exports
-abbrev pub takings_in : List TopName → List Part → List Taking
-takings_in top ps = flat_map (part_takings top) ps ++ (flat_map (side_takings top Imported) ps ++ flat_map (side_takings top Exported) ps)
-
--- the names that an item uses from items of other packages
-abbrev pub item_takings : Item → List Taking
-item_takings i = filter (λ t. is_foreign t.from) (takings_in i.top (parts i))
-
--- those that all items use, in source order
+-- the names that all items use from items of other packages: of each item, those last that are used in interfaces that are written in it
 abbrev pub takings : List PackageFile → List Taking
-takings files = flat_map item_takings (all_items files)
+takings files = flat_map (λ (i : Item). filter (λ t. is_foreign t.from) (walk (part_takings i.top) (λ (x : Extern). flat_map (use_takings i.top) (inline_uses x.kind)) (parts i))) (all_items files)
 
 -- whether two of them are one name of one scope
 abbrev pub same_taking : Taking → Taking → Bool
@@ -270,12 +239,9 @@ same_taking a b = same_address a.from b.from && bytes_eq a.id.name.now b.id.name
 abbrev pub first_takings : List PackageFile → List Taking
 first_takings files = firsts same_taking (takings files)
 
-abbrev pub taken : Taking → ScopeName
-taken t = Taken t.attributes t.id
-
 -- the names that are taken from an item of another package
 abbrev pub taken_names : List PackageFile → Address → List ScopeName
-taken_names files s = map taken (filter (λ t. same_address t.from s) (first_takings files))
+taken_names files s = map (λ (t : Taking). Taken t.attributes t.id) (filter (λ t. same_address t.from s) (first_takings files))
 
 -- what a name stands for: the first that goes by it
 abbrev pub meaning : List ScopeName → List ℕ → Option ScopeName
@@ -289,42 +255,10 @@ abbrev pub placed : Address → Shapes → List Place
 placed s End = []
 placed s (More x xs) = (s, x) ∷ placed s xs
 
--- what a name of a scope stands for: a used name is another word for its original, and what another package's stands for is not known
-abbrev pub name_body : ScopeName → Body
-name_body (Used from attributes n) = record { form = AliasForm; parts = one (Word n.name) }
-name_body (Defined d) = body_of d.body
-name_body (Taken attributes id) = record { form = UnknownForm; parts = End }
-
--- the scope in which that is read: of a used name, the one that it comes from
-abbrev pub name_scope : Address → ScopeName → Address
-name_scope s (Used from attributes n) = from
-name_scope s _ = s
-
-abbrev pub name_form : ScopeName → Form
-name_form x = (name_body x).form
-
-abbrev pub name_parts : Address → ScopeName → List Place
-name_parts s x = placed (name_scope s x) (name_body x).parts
-
--- a used name stands where its original is written
-abbrev pub name_span : ScopeName → Span
-name_span (Used from attributes n) = n.name.span
-name_span (Defined d) = d.name.span
-name_span (Taken attributes id) = id.span
-
--- what is told of a name: of a used name, and of one that is taken, by the attributes of its `use`
-abbrev pub name_notes : ScopeName → Notes
-name_notes (Used from attributes n) = notes no_docs attributes
-name_notes (Defined d) = notes (docs_of d.docs) d.attributes.items
-name_notes (Taken attributes id) = notes no_docs attributes
-
-abbrev pub name_stability : ScopeName → Stability
-name_stability x = (name_notes x).stability
-
 -- a name of a scope, without what it stands for
 abbrev pub head : Address → ScopeName → Head
-head s x = record { owner = Some s; name = local_name x; span = name_span x; docs = (name_notes x).docs; stability = (name_notes x).stability; external_id = (name_notes x).external_id }
+head s x = record { owner = Some s; name = local_name x; span = (about_name x).span; docs = (about_name x).notes.docs; stability = (about_name x).notes.stability; external_id = (about_name x).notes.external_id }
 
 abbrev pub named_node : Address → Option ScopeName → Node Place
 named_node s None = Nothing
-named_node s (Some x) = Named (head s x) (name_form x) (name_parts s x)
+named_node s (Some x) = Named (head s x) (about_name x).body.form (placed (unwrap_or (about_name x).from s) (about_name x).body.parts)

@@ -7,8 +7,8 @@ use Rattle.wit_tree.specs.declared.tree.PackageFile.{PackageFile}
 use Rattle.wit_tree.specs.declared.tree.PackageName.{PackageName as Header}
 use Rattle.wit_tree.specs.declared.tree.ToplevelUse.{ToplevelUse}
 use Rattle.wit_graph.specs.Table.{IsOrder}
-use Rattle.wit_syntax.specs.Address.{Address}
-use Rattle.wit_syntax.specs.Source.{used_scope, included_scope, leads, Declared, Item, all_items, Place}
+use Rattle.wit_syntax.specs.Address.{Address, InterfaceNamed, WorldNamed}
+use Rattle.wit_syntax.specs.Source.{leads, Declared, Item, all_items, Place, target_scope}
 use Rattle.wit_syntax.specs.Scope.{use_paths, include_paths, item_rows}
 use Rattle.wit_syntax.specs.Sides.{all_scopes}
 use Rattle.wit_syntax.specs.Foreign.{foreign_visits}
@@ -37,10 +37,10 @@ declared_of i = i.declared
 
 -- the scopes that an item uses, and that it imports or exports by their paths, and those that it includes
 abbrev pub used_scopes : Item → List Address
-used_scopes i = map (λ path. used_scope (leads i.top path)) (use_paths i)
+used_scopes i = map (λ path. target_scope InterfaceNamed (leads i.top path)) (use_paths i)
 
 abbrev pub included_scopes : Item → List Address
-included_scopes i = map (λ path. included_scope (leads i.top path)) (include_paths i)
+included_scopes i = map (λ path. target_scope WorldNamed (leads i.top path)) (include_paths i)
 
 -- These files have the same visits to other packages, and break a rule both or neither; they have the same items and scopes, in order, which
 -- say the same, lead to the same, and have the same names, with the same trees; and their items have the same orders.

@@ -13,7 +13,7 @@ use Rattle.indexmap.specs.IndexMap.{insert_entry}
 use Rattle.wit_graph.proofs.Rows.{key_eq}
 use Rattle.wit_type_tree.specs.declared.leaves.Id.{Id}
 use Rattle.wit_tree.specs.declared.tree.UsePath.TheVariants as path
-use Rattle.wit_syntax.specs.Source.{TopName, Local, top_text, top_target, top_named, leads, Item, item_name, item_named}
+use Rattle.wit_syntax.specs.Source.{TopName, Local, top_text, leads, Item, item_name, item_named}
 use Rattle.wit_syntax.specs.Repeats.{AllDiffer}
 use Rattle.wit_syntax.proofs.Lists.{map_at, map_map}
 use Rattle.wit_syntax.proofs.Names.{name_equal, name_cases, name_itself}
@@ -29,7 +29,7 @@ found name es = lookup (λ key. bytes_eq name key.now) es
 
 -- each name finds what the first of these that goes by it stands for
 abbrev pub Finds : List TopName → Named → Type 0
-Finds top es = (name : List ℕ) → option_map target_behind (found name es) ≡ option_map top_target (top_named top name)
+Finds top es = (name : List ℕ) → option_map target_behind (found name es) ≡ option_map (λ (t : TopName). t.target) (find (λ (each : TopName). bytes_eq (top_text each) name) top)
 
 abbrev last_of : {V : Type 0} → Bool → V → Option V
 last_of b v = cond b (Some v) None
@@ -64,19 +64,19 @@ map_last : {X Y : Type 0} (f : X → Y) (b : Bool) (x : X) → option_map f (con
 map_last f true x = refl
 map_last f false x = refl
 
-named_more : (top : List TopName) (t : TopName) (name : List ℕ) → option_map top_target (top_named (top ++ t ∷ []) name) ≡ option_or (option_map top_target (top_named top name)) (last_of (bytes_eq (top_text t) name) (top_target t))
+named_more : (top : List TopName) (t : TopName) (name : List ℕ) → option_map (λ (t : TopName). t.target) (find (λ (each : TopName). bytes_eq (top_text each) name) (top ++ t ∷ [])) ≡ option_or (option_map (λ (t : TopName). t.target) (find (λ (each : TopName). bytes_eq (top_text each) name) top)) (last_of (bytes_eq (top_text t) name) (t.target))
 named_more top t name =
-    ap (option_map top_target) (find-append (λ (x : TopName). bytes_eq (top_text x) name) top (t ∷ [])) ∙ map_or top_target (top_named top name) (cond (bytes_eq (top_text t) name) (Some t) None) ∙ ap (option_or (option_map top_target (top_named top name))) (map_last top_target (bytes_eq (top_text t) name) t)
+    ap (option_map (λ (t : TopName). t.target)) (find-append (λ (x : TopName). bytes_eq (top_text x) name) top (t ∷ [])) ∙ map_or (λ (t : TopName). t.target) (find (λ (each : TopName). bytes_eq (top_text each) name) top) (cond (bytes_eq (top_text t) name) (Some t) None) ∙ ap (option_or (option_map (λ (t : TopName). t.target) (find (λ (each : TopName). bytes_eq (top_text each) name) top))) (map_last (λ (t : TopName). t.target) (bytes_eq (top_text t) name) t)
 
 -- a name more, put into the table that had it not
-pub finds_more : (top : List TopName) (es new : Named) (t : TopName) (k : Bor (List ℕ)) (v : Held) → Finds top es → k.now ≡ top_text t → target_behind v ≡ top_target t → found k.now es ≡ None → new ≡ insert_entry key_eq es k v → Finds (top ++ t ∷ []) new
+pub finds_more : (top : List TopName) (es new : Named) (t : TopName) (k : Bor (List ℕ)) (v : Held) → Finds top es → k.now ≡ top_text t → target_behind v ≡ t.target → found k.now es ≡ None → new ≡ insert_entry key_eq es k v → Finds (top ++ t ∷ []) new
 finds_more top es new t k v old key value none inserted name =
     let own : bytes_eq name k.now ≡ bytes_eq (top_text t) name = turned name k.now ∙ ap (λ x. bytes_eq x name) key in
     ap (λ es. option_map target_behind (found name es)) inserted
     ∙ ap (option_map target_behind) (found_more es k v name none)
     ∙ map_or target_behind (found name es) (last_of (bytes_eq name k.now) v)
     ∙ ap (λ o. option_or o (option_map target_behind (last_of (bytes_eq name k.now) v))) (old name)
-    ∙ ap (option_or (option_map top_target (top_named top name))) (map_last target_behind (bytes_eq name k.now) v ∙ ap (last_of (bytes_eq name k.now)) value ∙ ap (λ b. last_of b (top_target t)) own)
+    ∙ ap (option_or (option_map (λ (t : TopName). t.target) (find (λ (each : TopName). bytes_eq (top_text each) name) top))) (map_last target_behind (bytes_eq name k.now) v ∙ ap (last_of (bytes_eq name k.now)) value ∙ ap (λ b. last_of b (t.target)) own)
     ∙ sym (named_more top t name)
 
 pub copied_none : (o : Option (Bor Held)) → is_some o ≡ false → option_copied o ≡ None
@@ -118,13 +118,13 @@ unmapped_some f (Some x) y h = (x, refl)
 pub absent : (top : List TopName) (es : Named) (name : List ℕ) → Finds top es → found name es ≡ None → (i : ℕ) → slice_get (map top_text top) i ≡ Some name → ⊥
 absent top es name finds none i at =
     let t = map_at top_text top i name at in
-    find_none (λ (x : TopName). bytes_eq (top_text x) name) top (unmapped_none top_target (top_named top name) (sym (finds name) ∙ ap (option_map target_behind) none)) i t.0 t.1 (ap (λ n. bytes_eq n name) t.2 ∙ name_itself name)
+    find_none (λ (x : TopName). bytes_eq (top_text x) name) top (unmapped_none (λ (t : TopName). t.target) (find (λ (each : TopName). bytes_eq (top_text each) name) top) (sym (finds name) ∙ ap (option_map target_behind) none)) i t.0 t.1 (ap (λ n. bytes_eq n name) t.2 ∙ name_itself name)
 
 -- and one that is found is one of them
 pub present : (top : List TopName) (es : Named) (name : List ℕ) (v : Held) → Finds top es → found name es ≡ Some v → (i : ℕ) × (t : TopName) × (slice_get top i ≡ Some t) × (top_text t ≡ name)
 present top es name v finds some =
     let test : TopName → Bool = λ x. bytes_eq (top_text x) name in
-    let t = unmapped_some top_target (top_named top name) (target_behind v) (sym (finds name) ∙ ap (option_map target_behind) some) in
+    let t = unmapped_some (λ (t : TopName). t.target) (find (λ (each : TopName). bytes_eq (top_text each) name) top) (target_behind v) (sym (finds name) ∙ ap (option_map target_behind) some) in
     let at = find_at test top t.0 t.1 in
     (at.0, t.0, at.1, name_equal (top_text t.0) name (find_passes test top t.0 t.1))
 
@@ -135,27 +135,27 @@ differ_top top es t name finds differ key none =
 
 -- so a path that is a name leads to what is found
 pub leads_some : (top : List TopName) (es : Named) (id : Id) (v : Held) → Finds top es → found id.name.now es ≡ Some v → target_behind v ≡ leads top (path.Id id)
-leads_some top es id v finds some = go (top_named top id.name.now) (sym (finds id.name.now) ∙ ap (option_map target_behind) some)
+leads_some top es id v finds some = go (find (λ (each : TopName). bytes_eq (top_text each) id.name.now) top) (sym (finds id.name.now) ∙ ap (option_map target_behind) some)
   where
-    go : (o : Option TopName) → option_map top_target o ≡ Some (target_behind v) → target_behind v ≡ option_map_or top_target o (Local id)
+    go : (o : Option TopName) → option_map (λ (t : TopName). t.target) o ≡ Some (target_behind v) → target_behind v ≡ option_map_or (λ (t : TopName). t.target) o (Local id)
     go None h = absurd (none-some (target_behind v) h)
-    go (Some t) h = (let same : top_target t ≡ target_behind v = cc in sym same)
+    go (Some t) h = (let same : t.target ≡ target_behind v = cc in sym same)
 
 pub leads_none : (top : List TopName) (es : Named) (id : Id) → Finds top es → found id.name.now es ≡ None → Local id ≡ leads top (path.Id id)
-leads_none top es id finds none = go (top_named top id.name.now) (sym (finds id.name.now) ∙ ap (option_map target_behind) none)
+leads_none top es id finds none = go (find (λ (each : TopName). bytes_eq (top_text each) id.name.now) top) (sym (finds id.name.now) ∙ ap (option_map target_behind) none)
   where
-    go : (o : Option TopName) → option_map top_target o ≡ None → Local id ≡ option_map_or top_target o (Local id)
+    go : (o : Option TopName) → option_map (λ (t : TopName). t.target) o ≡ None → Local id ≡ option_map_or (λ (t : TopName). t.target) o (Local id)
     go None h = refl
-    go (Some t) h = absurd (none-some (top_target t) (sym h))
+    go (Some t) h = absurd (none-some (t.target) (sym h))
 
 mapped_some : {X Y : Type 0} (f : X → Y) (o : Option X) → is_some (option_map f o) ≡ is_some o
 mapped_some f None = refl
 mapped_some f (Some x) = refl
 
-named_as : (is : List Item) (name : List ℕ) → is_some (option_map top_target (top_named (map item_top is) name)) ≡ is_some (item_named is name)
+named_as : (is : List Item) (name : List ℕ) → is_some (option_map (λ (t : TopName). t.target) (find (λ (each : TopName). bytes_eq (top_text each) name) (map item_top is))) ≡ is_some (item_named is name)
 named_as is name =
     let first = find-map (λ (t : TopName). bytes_eq (top_text t) name) item_top is in
-    mapped_some top_target (top_named (map item_top is) name) ∙ ap is_some first ∙ mapped_some item_top (item_named is name)
+    mapped_some (λ (t : TopName). t.target) (find (λ (each : TopName). bytes_eq (top_text each) name) (map item_top is)) ∙ ap is_some first ∙ mapped_some item_top (item_named is name)
 
 -- a table of names finds the items among these names
 pub named_items : (is : List Item) (es : Named) (name : List ℕ) → Finds (map item_top is) es → is_some (found name es) ≡ is_some (item_named is name)

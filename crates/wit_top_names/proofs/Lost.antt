@@ -14,8 +14,8 @@ use Rattle.wit_type_tree.specs.declared.leaves.Id.{Id}
 use Rattle.wit_tree.specs.declared.tree.UsePath.{UsePath}
 use Rattle.wit_tree.specs.declared.tree.PackageFile.{PackageFile}
 use Rattle.wit_graph.specs.Table.{place_of}
-use Rattle.wit_syntax.specs.Source.{TopName, Target, path_target, leads, declared_items, top_names, top_text, Item, file_items, all_items, item_id, item_name, item_named}
-use Rattle.wit_syntax.specs.Scope.{local_target, item_row}
+use Rattle.wit_syntax.specs.Source.{TopName, Target, leads, declared_items, top_names, top_text, Item, file_items, all_items, item_name, item_named, about}
+use Rattle.wit_syntax.specs.Scope.{local_target, item_row, needed_paths}
 use Rattle.wit_syntax.specs.Fault.{Fault, fault}
 use Rattle.wit_syntax.specs.Bodies.{IsSecond}
 use Rattle.wit_syntax.specs.Broken.{IsMissingOriginal, IsBrokenItems, DuplicateTopName, MissingItem}
@@ -26,7 +26,7 @@ use Rattle.wit_syntax.proofs.Tables.{place_of-Some, none_if}
 use Rattle.wit_syntax.proofs.Found.{contains_at, at_contains}
 use Rattle.wit_syntax.proofs.Rows.{item_row_at}
 use Rattle.wit_top_names.specs.Tops.{item_top}
-use Rattle.wit_top_names.specs.Checks.{AreDistinctTops, AreRightUses, AreRightTops, IsRightUse, IsRepeatedName, IsLostTarget, IsLostAmong, needed_paths, IsWrongFile, WrongTop, WrongPath, IsWrongUse, Attributed, Lost, IsWrongTop, AttributedUse, MissingUse}
+use Rattle.wit_top_names.specs.Checks.{AreDistinctTops, AreRightUses, AreRightTops, IsRightUse, IsRepeatedName, IsLostTarget, IsLostAmong, IsWrongFile, WrongTop, WrongPath, IsWrongUse, Attributed, Lost, IsWrongTop, AttributedUse, MissingUse}
 use Rattle.wit_top_names.proofs.FirstNames.{find_none}
 
 -- what stands in a part stands in the whole
@@ -99,7 +99,7 @@ uses_right_more is ds d uses one = record {
 }
 
 -- an item whose name stands twice
-pub duplicate_item : (is : List Item) (f : Fault) → IsRepeatedName 5 (map item_top is) f → IsSecond item_name (λ (i : Item). fault 5 (item_id i).span) is f
+pub duplicate_item : (is : List Item) (f : Fault) → IsRepeatedName 5 (map item_top is) f → IsSecond item_name (λ (i : Item). fault 5 (about i.declared).id.span) is f
 duplicate_item is f h =
     let r = h.1 in
     let a = map_at item_top is r.0 r.3 r.4 in
@@ -109,7 +109,7 @@ duplicate_item is f h =
       h.2 ∙ ap (λ (t : TopName). fault 5 t.id.span) (sym b.2),
     )
 
-missing_original : (is : List Item) (ds : List AstItem) (i : ℕ) (u : ToplevelUse) (f : Fault) → slice_get ds i ≡ Some (ToplevelItem u) → IsLostTarget is (path_target u.item) f → IsMissingOriginal is ds f
+missing_original : (is : List Item) (ds : List AstItem) (i : ℕ) (u : ToplevelUse) (f : Fault) → slice_get ds i ≡ Some (ToplevelItem u) → IsLostTarget is (leads [] u.item) f → IsMissingOriginal is ds f
 missing_original is ds i u f at h = record { u = u; id = h.id; among = contains_at ds i (ToplevelItem u) at; local = h.local; missing = h.undeclared.missing; is = h.undeclared.is }
 
 -- what is wrong with a `use` at the top of a file is wrong there

@@ -7,8 +7,8 @@ use Rattle.wit_tree.specs.declared.tree.ToplevelUse.{ToplevelUse}
 use Rattle.wit_tree.specs.declared.tree.AstItem.{AstItem}
 use Rattle.wit_tree.specs.declared.tree.AstItem.TheVariants.{Use as ToplevelItem}
 use Rattle.wit_tree.specs.declared.tree.PackageFile.{PackageFile}
-use Rattle.wit_syntax.specs.Source.{TopName, Target, Local, path_target, leads, top_names, top_text, Item, parts, file_items, item_named}
-use Rattle.wit_syntax.specs.Scope.{needed_path, local_target}
+use Rattle.wit_syntax.specs.Source.{TopName, Target, Local, leads, top_names, top_text, Item, file_items, item_named}
+use Rattle.wit_syntax.specs.Scope.{needed_paths, local_target}
 use Rattle.wit_syntax.specs.Fault.{Fault, fault, missing_at, item_word}
 use Rattle.wit_syntax.specs.Bodies.{IsSecond}
 use Rattle.wit_syntax.specs.Broken.{IsMissingOriginal, IsAttributedTopUse}
@@ -41,10 +41,6 @@ pub record IsLostAmong (items : List Item) (top : List TopName) (paths : List Us
 abbrev pub edges_of : List TopName → List UsePath → List Id
 edges_of top paths = flat_map (λ path. local_target (leads top path)) paths
 
--- the paths of an item to items that have to come before it
-abbrev pub needed_paths : Item → List UsePath
-needed_paths w = flat_map (needed_path w.declared) (parts w)
-
 -- what is wrong with a file by itself: a name at its top stands twice, or a path of one of its items is lost
 pub data IsWrongFile (is : List Item) (file : PackageFile) (f : Fault) : Type 0 where
   WrongTop : IsRepeatedName 6 (top_names file) f → IsWrongFile is file f
@@ -61,12 +57,12 @@ IsDeclaredTarget is target = (id : Id) → target ≡ Local id → IsSome (item_
 -- a `use` at the top of a file has no attributes, and its path, by itself, is declared where it leads to a name
 pub record IsRightUse (is : List Item) (u : ToplevelUse) : Type 0 where
   pub plain : u.attributes.items ≡ []
-  pub declared : IsDeclaredTarget is (path_target u.item)
+  pub declared : IsDeclaredTarget is (leads [] u.item)
 
 -- it has attributes, or its path is lost
 pub data IsWrongUse (is : List Item) (u : ToplevelUse) (f : Fault) : Type 0 where
   Attributed : u.attributes.items ≢ [] → f ≡ fault 9 u.span → IsWrongUse is u f
-  Lost : IsLostTarget is (path_target u.item) f → IsWrongUse is u f
+  Lost : IsLostTarget is (leads [] u.item) f → IsWrongUse is u f
 
 -- each `use` among these declarations is right
 pub record AreRightUses (is : List Item) (declarations : List AstItem) : Type 0 where

@@ -1,5 +1,5 @@
 -- Names at the top of files that are held, and tables of names with what they stand for.
-use Rattle.std.specs.Prelude.{◌≡◌, ℕ, List}
+use Rattle.std.specs.Prelude.{◌≡◌, ℕ, List, find}
 use Rattle.std.specs.Option.{option_map, is_some}
 use Rattle.std.specs.Str.{bytes_eq}
 use Rattle.std.specs.Map.{lookup}
@@ -8,7 +8,7 @@ use Rattle.wit_top_names.specs.declared.top_name.TopName.{TopName as Held}
 use Rattle.wit_top_names.specs.declared.top_name.Target.{Target as HeldTarget}
 use Rattle.wit_top_names.specs.declared.top_name.Target.TheVariants as held
 use Rattle.wit_syntax.specs.Address.{package_of}
-use Rattle.wit_syntax.specs.Source.{Target, Local, Foreign, TopName, itself, top_named, top_target, Item, item_id, item_named}
+use Rattle.wit_syntax.specs.Source.{Target, Local, Foreign, TopName, itself, Item, item_named, about, top_text}
 
 -- where a path leads, as it is held
 abbrev pub target_behind : HeldTarget → Target
@@ -21,7 +21,7 @@ top_behind t = record { id = t.id; target = target_behind t.target }
 
 -- a declared item as a name that stands for itself
 abbrev pub item_top : Item → TopName
-item_top i = itself (item_id i)
+item_top i = itself (about i.declared).id
 
 -- names in their order, each with what it stands for
 abbrev pub Named : Type 0
@@ -29,7 +29,7 @@ Named = List (Bor (List ℕ) × HeldTarget)
 
 -- a name finds what the first of these that goes by it stands for
 pub record AreNamed (top : List TopName) (names : Named) : Type 0 where
-  pub finds : (name : List ℕ) → option_map target_behind (lookup (λ key. bytes_eq name key.now) names) ≡ option_map top_target (top_named top name)
+  pub finds : (name : List ℕ) → option_map target_behind (lookup (λ key. bytes_eq name key.now) names) ≡ option_map (λ (t : TopName). t.target) (find (λ (each : TopName). bytes_eq (top_text each) name) top)
 
 -- a name is there exactly where one of these items goes by it
 pub record AreDeclared {V : Type 0} (is : List Item) (names : List (Bor (List ℕ) × V)) : Type 0 where

@@ -1,6 +1,6 @@
 //! Names at the top of files, and what paths lead to.
-ghost use Rattle.std.specs.Prelude.{◌≡◌, ◌++◌, List, IsSome, map, IfOk, IfErr, OnOk, codes, string_bytes};
-ghost use Rattle.wit_syntax.specs.Source.{TopName as Top, Item, itself as the_itself, top_name as the_name, top_names as the_names, top_text, path_target as the_target, leads as the_leads, file_items, all_items, item_name, item_named};
+ghost use Rattle.std.specs.Prelude.{◌≡◌, ◌++◌, List, [], IsSome, map, IfOk, IfErr, OnOk, codes, string_bytes};
+ghost use Rattle.wit_syntax.specs.Source.{TopName as Top, Item, itself as the_itself, top_name as the_name, top_names as the_names, top_text, leads as the_leads, file_items, all_items, item_name, item_named};
 ghost use Rattle.wit_syntax.specs.Scope.{local_target};
 ghost use Rattle.wit_syntax.specs.Broken.{IsBrokenItems, Refused};
 ghost use Rattle.wit_syntax.specs.Repeats.{AllDiffer};
@@ -43,7 +43,7 @@ pub struct Paths<'n, 'f, 'a> {
 
 /// What a path says by itself.
 fn path_target<'f, 'a>(path: &'f UsePath<'a>) -> Target<'f, 'a>
-    ensures { target_behind result ≡ the_target path.now }
+    ensures { target_behind result ≡ the_leads [] path.now }
 {
     match path {
         UsePath::Id(id) => Target::Local(*id),
@@ -246,8 +246,8 @@ fn check_original<V>(
     declared: &Table<&str, V>,
     path: &UsePath<'_>,
 ) -> ParseResult<()>
-    ensures declared { OnOk result ((is : List Item) → AreDeclared is declared.now → IsDeclaredTarget is (the_target path.now)) }
-    ensures refused { IfErr result (λ e. (is : List Item) → AreDeclared is declared.now → Refused (IsLostTarget is (the_target path.now)) e) }
+    ensures declared { OnOk result ((is : List Item) → AreDeclared is declared.now → IsDeclaredTarget is (the_leads [] path.now)) }
+    ensures refused { IfErr result (λ e. (is : List Item) → AreDeclared is declared.now → Refused (IsLostTarget is (the_leads [] path.now)) e) }
 {
     match path {
         UsePath::Id(id) => check_declared(alloc, declared, *id)?,

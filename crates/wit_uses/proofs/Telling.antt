@@ -12,7 +12,7 @@ use Rattle.wit_model.specs.declared.interface.Interface.{Interface}
 use Rattle.wit_model.specs.declared.world.World.{World}
 use Rattle.wit_syntax.specs.Fault.{Fault}
 use Rattle.wit_syntax.specs.Notes.{Notes, IsBrokenStability}
-use Rattle.wit_syntax.specs.Source.{Declared, TheInterface, TheWorld, TheInline, declared_parts, declared_attributes, is_declared_world, interface_part, Item, is_world}
+use Rattle.wit_syntax.specs.Source.{Declared, TheInterface, TheWorld, TheInline, interface_part, Item, is_world, about}
 use Rattle.wit_syntax.specs.Scope.{part_includes, interfaces_of, worlds_of}
 use Rattle.wit_syntax.specs.Sides.{IsBrokenSides}
 use Rattle.wit_arena.specs.Package.{IsInterface, IsWorld}
@@ -36,13 +36,13 @@ no_include (interface_item.TypeDef d ∷ xs) i among = no_include xs i among
 no_include (interface_item.Use u ∷ xs) i among = no_include xs i among
 no_include (interface_item.Func g ∷ xs) i among = no_include xs i among
 
-interface_includes : (d : Declared) (i : Include) → is_declared_world d ≡ false → Contains (flat_map part_includes (declared_parts d)) i → ⊥
+interface_includes : (d : Declared) (i : Include) → (about d).is_world ≡ false → Contains (flat_map part_includes (about d).parts) i → ⊥
 interface_includes (TheInterface x) i sort among = no_include x.items.items i among
 interface_includes (TheWorld w) i sort among = let f : ⊥ = cc in f
 interface_includes (TheInline world place x name items) i sort among = no_include items i among
 
 -- so where nothing is wrong with its own attributes, nothing is
-pub interface_stable : (w : Item) → is_world w ≡ false → ((f : Fault) → IsBrokenStability (declared_attributes w.declared) f → ⊥) → (f : Fault) → IsBrokenItemStability w f → ⊥
+pub interface_stable : (w : Item) → is_world w ≡ false → ((f : Fault) → IsBrokenStability (about w.declared).attributes f → ⊥) → (f : Fault) → IsBrokenItemStability w f → ⊥
 interface_stable w sort own f (OwnStability h) = own f h
 interface_stable w sort own f (OfInclude i among h) = interface_includes w.declared i sort among
 

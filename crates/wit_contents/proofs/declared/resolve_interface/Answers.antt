@@ -6,7 +6,7 @@ use Rattle.wit_syntax.specs.Fault.{Fault}
 use Rattle.wit_syntax.specs.Function.{functions}
 use Rattle.wit_syntax.specs.Notes.{IsBrokenStability}
 use Rattle.wit_syntax.specs.Sides.{IsBrokenSides}
-use Rattle.wit_syntax.specs.Source.{Item, declared_attributes, declared_name, is_world, item_id, scope_names}
+use Rattle.wit_syntax.specs.Source.{Item, is_world, scope_names, about}
 use Rattle.wit_arena.specs.Resolved.{AddsInterface, IsNameless}
 use Rattle.wit_items.specs.Items.{item_behind}
 use Rattle.wit_items.specs.Interfaces.{cells_of}
@@ -17,10 +17,10 @@ pub interface_of-requires-clause-sort : goal.interface_of-requires-clause-sort
 interface_of-requires-clause-sort c = ap is_world c.scope-scope.ensures.item ∙ c.requires.sort
 
 pub interface_of-requires-clause-called : goal.interface_of-requires-clause-called
-interface_of-requires-clause-called c = ap Some c.in_ok-from_str.ensures ∙ c.requires.id.1 ∙ ap (λ (i : Item). declared_name i.declared) (sym c.scope-scope.ensures.item)
+interface_of-requires-clause-called c = ap Some c.in_ok-from_str.ensures ∙ c.requires.id.1 ∙ ap (λ (i : Item). (about i.declared).called) (sym c.scope-scope.ensures.item)
 
 pub interface_of-requires-clause-stands : goal.interface_of-requires-clause-stands
-interface_of-requires-clause-stands c = ap (λ (i : Id). i.span) c.requires.id.0 ∙ ap (λ (i : Item). (item_id i).span) (sym c.scope-scope.ensures.item)
+interface_of-requires-clause-stands c = ap (λ (i : Id). i.span) c.requires.id.0 ∙ ap (λ (i : Item). (about i.declared).id.span) (sym c.scope-scope.ensures.item)
 
 pub interface_of-requires-clause-named : goal.interface_of-requires-clause-named
 interface_of-requires-clause-named c = c.scope-scope.ensures.names ∙ c.requires.named ∙ ap scope_names (sym c.scope-scope.ensures.item)
@@ -50,7 +50,7 @@ returns-clause-added c =
     }
 
 pub returns-clause-stable : goal.returns-clause-stable
-returns-clause-stable c = subst (λ (i : Item). (f : Fault) → IsBrokenStability (declared_attributes i.declared) f → ⊥) c.scope-scope.ensures.item c.in_ok-interface.ensures.stable
+returns-clause-stable c = subst (λ (i : Item). (f : Fault) → IsBrokenStability (about i.declared).attributes f → ⊥) c.scope-scope.ensures.item c.in_ok-interface.ensures.stable
 
 pub returns-clause-sound : goal.returns-clause-sound
 returns-clause-sound c = subst (λ (i : Item). (f : Fault) → IsBrokenScope (scope_names i) (functions i) f → IsNameless (scope_names i) (functions i)) c.scope-scope.ensures.item c.in_ok-interface.ensures.sound

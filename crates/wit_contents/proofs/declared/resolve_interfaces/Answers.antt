@@ -6,7 +6,7 @@ use Rattle.std.proofs.lemmas.List.{length-append}
 use Rattle.wit_types.specs.declared.types.TypeDef.{TypeDef}
 use Rattle.wit_model.specs.declared.interface.Interface.{Interface}
 use Rattle.wit_syntax.specs.Address.{Address}
-use Rattle.wit_syntax.specs.Source.{Item, is_declared_world, is_world, scope_names}
+use Rattle.wit_syntax.specs.Source.{Item, is_world, scope_names, about}
 use Rattle.wit_syntax.specs.Scope.{in_order, interfaces_of}
 use Rattle.wit_arena.specs.Resolving.{Required, cells}
 use Rattle.wit_arena.specs.Resolved.{AddsDeclared, IsWrongInterface}
@@ -35,7 +35,7 @@ item_at : (items : List HeldItem) (places : List ℕ) (k : ℕ) (x : HeldItem) �
 item_at items places k x within lt is = slice_get-get_or items (get_or places k 0) x (within k 0 lt) ∙ ap Some (sym is)
 
 pub resolve_interface-requires-clause-sort : goal.resolve_interface-requires-clause-sort
-resolve_interface-requires-clause-sort c = ap (λ (d : HeldDeclared). is_declared_world (declared_behind d)) c.in-Interface.is
+resolve_interface-requires-clause-sort c = ap (λ (d : HeldDeclared). (about (declared_behind d)).is_world) c.in-Interface.is
 
 pub resolve_interface-requires-clause-placed : goal.resolve_interface-requires-clause-placed
 resolve_interface-requires-clause-placed c =
@@ -73,7 +73,7 @@ returns-in_err-resolve_interface-in-Interface-clause-refused c =
     let at : slice_get places i ≡ Some p = slice_get-get_or places i 0 c.loop-place-test.true in
     let within : p < length c.args.items.now = c.requires.within i 0 c.loop-place-test.true in
     let there : slice_get ws p ≡ Some w = read_map item_behind c.args.items.now p x within c.index-items-place.is in
-    let sort : is_world w ≡ false = ap (λ (d : HeldDeclared). is_declared_world (declared_behind d)) c.in-Interface.is in
+    let sort : is_world w ≡ false = ap (λ (d : HeldDeclared). (about (declared_behind d)).is_world) c.in-Interface.is in
     let foreign = front_of c.args.interfaces.now.foreign.now in
     rw (q.1, q.2) (refused_weaker (IsWrongInterface c.loop-place.types (cells foreign now.arena) now.by_name (OfInterface (length now.arena)) w) (IsWrongNow foreign c.args.types.now c.args.interfaces.now.arena ws places) _ (λ f h. record {
       count = i;
@@ -105,9 +105,9 @@ loop-place-preserved c =
     let before = c.loop-place.interfaces.arena in
     elim c.match-item.branch [
       | in-Interface+in_ok-resolve_interface-in-Interface b ↦ (
-          let sort : not (is_world w) ≡ true = ap (λ (d : HeldDeclared). not (is_declared_world (declared_behind d))) b.in-Interface.is in
+          let sort : not (is_world w) ≡ true = ap (λ (d : HeldDeclared). not (about (declared_behind d)).is_world) b.in-Interface.is in
           let more : interfaces_of (in_order ws (take (i + 1) places)) ≡ front ++ w ∷ [] = kept_next (λ v. not (is_world v)) ws places i p w at there sort in
-          let own : is_world w ≡ false = ap (λ (d : HeldDeclared). is_declared_world (declared_behind d)) b.in-Interface.is in
+          let own : is_world w ≡ false = ap (λ (d : HeldDeclared). (about (declared_behind d)).is_world) b.in-Interface.is in
           let e = b.in_ok-resolve_interface-in-Interface.ensures in
           let new = b.resolve_interface.new.interfaces.arena in
           let types = b.resolve_interface.new.types in
@@ -125,7 +125,7 @@ loop-place-preserved c =
             sided = rw more (sides_more front w was.sided e.sided);
           }))
       | in-World b ↦ (
-          let sort : not (is_world w) ≡ false = ap (λ (d : HeldDeclared). not (is_declared_world (declared_behind d))) b.in-World.is in
+          let sort : not (is_world w) ≡ false = ap (λ (d : HeldDeclared). not (about (declared_behind d)).is_world) b.in-World.is in
           let past : interfaces_of (in_order ws (take (i + 1) places)) ≡ front = kept_past (λ v. not (is_world v)) ws places i p w at there sort in
           rw (b.interfaces-is, b.types-is, b.required-is) (record { foreign = was.foreign; front = was.front; added = rw past was.added; index = was.index; sound = rw past was.sound; stable = rw past was.stable; sided = rw past was.sided }))
       | in-Inline b ↦ absurd (c.requires.outer.outer p w _ _ _ _ _ there (ap declared_behind b.in-Inline.is))

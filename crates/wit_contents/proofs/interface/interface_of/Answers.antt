@@ -1,7 +1,7 @@
 use Rattle.std.proofs.Common.{◌≡◌, List, ◌++◌, inl, refl, sym, ap, ◌∙◌, subst}
 use Rattle.std.proofs.lemmas.Result.{err_from_is_err_and}
 use Rattle.wit_types.specs.declared.types.TypeOwner.TheVariants.{Interface as OfInterface}
-use Rattle.wit_syntax.specs.Source.{declared_name, item_id, item_notes}
+use Rattle.wit_syntax.specs.Source.{about, declared_notes}
 use Rattle.wit_syntax.specs.Function.{functions}
 use Rattle.wit_syntax.proofs.Refusing.{refused_weaker}
 use Rattle.wit_arena.specs.Resolving.{Names, Required}
@@ -58,7 +58,7 @@ returns-clause-adds c =
       own = all;
       list = c.in_ok-add_required.ensures ∙ ap (λ (l : List Required). c.args.required.now.items ++ l) c.deref.ensures.value;
       holds = record {
-        says = interface_told (declared_name item.declared) (item_id item).span (item_notes item) c.in_ok-head.head.notes _ c.in_ok-head.ensures.told (record { called = c.requires.called; stands = c.requires.stands; docs = refl; stability = refl; no_package = refl; no_source = refl });
+        says = interface_told (about item.declared).called (about item.declared).id.span (declared_notes item.declared) c.in_ok-head.head.notes _ c.in_ok-head.ensures.told (record { called = c.requires.called; stands = c.requires.stands; docs = refl; stability = refl; no_package = refl; no_source = refl });
         middle = b.middle;
         adds = b.adds;
         functions = made.0;

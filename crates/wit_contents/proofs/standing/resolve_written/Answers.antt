@@ -5,7 +5,7 @@ use Rattle.wit_syntax.specs.Broken.{IsBrokenScope}
 use Rattle.wit_syntax.specs.Fault.{Fault}
 use Rattle.wit_syntax.specs.Function.{functions}
 use Rattle.wit_syntax.specs.Sides.{IsBrokenSides}
-use Rattle.wit_syntax.specs.Source.{Item, declared_name, is_world, item_id, scope_names}
+use Rattle.wit_syntax.specs.Source.{Item, is_world, scope_names, about}
 use Rattle.wit_syntax.proofs.Inline.{inlined}
 use Rattle.wit_syntax.proofs.Refusing.{refused_weaker}
 use Rattle.wit_arena.specs.Resolved.{IsNameless, IsWrongInterface}
@@ -29,14 +29,14 @@ resolve_inline-requires-clause-called c =
     let s = scope_item c.inside_scope-scope.result in
     let w = c.args.inline.now in
     let own : inlined (item_behind c.args.item.now) c.args.before.interfaces w.written.now w.name w.items.now ≡ s = head_same _ s c.inside_scope-scope.ensures.item in
-    ap (λ (i : Item). declared_name i.declared) (sym own)
+    ap (λ (i : Item). (about i.declared).called) (sym own)
 
 pub resolve_inline-requires-clause-stands : goal.resolve_inline-requires-clause-stands
 resolve_inline-requires-clause-stands c =
     let s = scope_item c.inside_scope-scope.result in
     let w = c.args.inline.now in
     let own : inlined (item_behind c.args.item.now) c.args.before.interfaces w.written.now w.name w.items.now ≡ s = head_same _ s c.inside_scope-scope.ensures.item in
-    ap (λ (i : Item). (item_id i).span) own
+    ap (λ (i : Item). (about i.declared).id.span) own
 
 pub resolve_inline-requires-clause-named : goal.resolve_inline-requires-clause-named
 resolve_inline-requires-clause-named c = c.requires.named (map name_behind c.inside_scope-scope.result.names.now) (scope_item c.inside_scope-scope.result) c.inside_scope-scope.ensures.named c.inside_scope-scope.ensures.item

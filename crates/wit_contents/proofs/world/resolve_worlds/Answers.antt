@@ -7,7 +7,7 @@ use Rattle.std.proofs.lemmas.Result.{err_from_is_err_and}
 use Rattle.wit_items.specs.declared.items.Item.{Item as HeldItem}
 use Rattle.wit_item_names.specs.Interfaces.{front_of}
 use Rattle.wit_items.specs.Interfaces.{cells_of}
-use Rattle.wit_syntax.specs.Source.{is_declared_world, is_world, scope_names}
+use Rattle.wit_syntax.specs.Source.{is_world, scope_names, about}
 use Rattle.wit_syntax.specs.Scope.{in_order, worlds_of}
 use Rattle.wit_syntax.specs.Sides.{with_inline}
 use Rattle.wit_items.specs.Inside.{inside_behind, names_written}
@@ -43,7 +43,7 @@ loop-place-init c = rw (c.make_room.ensures.inside, c.make_room.ensures.worlds) 
 })
 
 pub resolve_world-requires-clause-sort : goal.resolve_world-requires-clause-sort
-resolve_world-requires-clause-sort c = ap (λ (d : HeldDeclared). is_declared_world (declared_behind d)) c.in-World.is
+resolve_world-requires-clause-sort c = ap (λ (d : HeldDeclared). (about (declared_behind d)).is_world) c.in-World.is
 
 pub resolve_world-requires-clause-filed : goal.resolve_world-requires-clause-filed
 resolve_world-requires-clause-filed c = c.requires.filed.each _ c.index-items-place.result (item_at c.args.items.now c.args.places.now c.loop-place.place-index c.index-items-place.result c.requires.within c.loop-place-test.true c.index-items-place.is)
@@ -87,7 +87,7 @@ returns-in_err-resolve_world-in-World-clause-refused c =
     let at : slice_get places i ≡ Some p = slice_get-get_or places i 0 c.loop-place-test.true in
     let within : p < length c.args.items.now = c.requires.within i 0 c.loop-place-test.true in
     let there : slice_get ws p ≡ Some w = read_map item_behind c.args.items.now p x within c.index-items-place.is in
-    let sort : is_world w ≡ true = ap (λ (d : HeldDeclared). is_declared_world (declared_behind d)) c.in-World.is in
+    let sort : is_world w ≡ true = ap (λ (d : HeldDeclared). (about (declared_behind d)).is_world) c.in-World.is in
     let foreign = front_of c.args.interfaces.now.foreign.now in
     let files = c.args.files.now in
     let others = others_of files in
@@ -122,7 +122,7 @@ loop-place-preserved c =
     let before = c.loop-place.worlds.arena in
     elim c.match-item.branch [
       | in-World+in_ok-resolve_world-in-World b ↦ (
-          let sort : is_world w ≡ true = ap (λ (d : HeldDeclared). is_declared_world (declared_behind d)) b.in-World.is in
+          let sort : is_world w ≡ true = ap (λ (d : HeldDeclared). (about (declared_behind d)).is_world) b.in-World.is in
           let more : worlds_of (in_order ws (take (i + 1) places)) ≡ front ++ w ∷ [] = kept_next is_world ws places i p w at there sort in
           let e = b.in_ok-resolve_world-in-World.ensures in
           let new = b.resolve_world.new.worlds.arena in
@@ -143,11 +143,11 @@ loop-place-preserved c =
             linked = rw more (links_more c.args.files.now front w was.linked e.linked);
           }))
       | in-Interface b ↦ (
-          let sort : is_world w ≡ false = ap (λ (d : HeldDeclared). is_declared_world (declared_behind d)) b.in-Interface.is in
+          let sort : is_world w ≡ false = ap (λ (d : HeldDeclared). (about (declared_behind d)).is_world) b.in-Interface.is in
           let past : worlds_of (in_order ws (take (i + 1) places)) ≡ front = kept_past is_world ws places i p w at there sort in
           rw (b.worlds-is, b.types-is, b.required-is, b.inside-is) (record { entries = was.entries; front = was.front; added = rw past was.added; index = was.index; sound = rw past was.sound; stable = rw past was.stable; sided = rw past was.sided; linked = rw past was.linked }))
       | in-Inline b ↦ (
-          let sort : is_world w ≡ false = ap (λ (d : HeldDeclared). is_declared_world (declared_behind d)) b.in-Inline.is in
+          let sort : is_world w ≡ false = ap (λ (d : HeldDeclared). (about (declared_behind d)).is_world) b.in-Inline.is in
           let past : worlds_of (in_order ws (take (i + 1) places)) ≡ front = kept_past is_world ws places i p w at there sort in
           rw (b.worlds-is, b.types-is, b.required-is, b.inside-is) (record { entries = was.entries; front = was.front; added = rw past was.added; index = was.index; sound = rw past was.sound; stable = rw past was.stable; sided = rw past was.sided; linked = rw past was.linked }))
     ]

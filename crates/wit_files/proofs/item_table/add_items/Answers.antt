@@ -10,7 +10,8 @@ use Rattle.wit_graph.specs.Table.{rows}
 use Rattle.wit_syntax.specs.Source.{Item, TheInterface, TheWorld, top_names, declared_items, item_name}
 use Rattle.wit_syntax.specs.Repeats.{AllDiffer}
 use Rattle.wit_syntax.proofs.Refusing.{refused_weaker}
-use Rattle.wit_top_names.specs.Checks.{IsLostAmong, needed_paths, IsWrongFile}
+use Rattle.wit_syntax.specs.Scope.{needed_paths}
+use Rattle.wit_top_names.specs.Checks.{IsLostAmong, IsWrongFile}
 use Rattle.wit_top_names.proofs.Lost.{lost_item}
 use Rattle.wit_files.proofs.Gathering.{item_added}
 use Rattle.wit_files.proofs.item_table.add_items.Goals.{in-Interface+in_ok-interface_edges-in-Interface, in-World+in_ok-world_edges-in-World}

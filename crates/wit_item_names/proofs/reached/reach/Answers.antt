@@ -1,6 +1,6 @@
 use Rattle.std.proofs.Common.{◌≡◌, Some, None, sym, ap, ◌∙◌}
-use Rattle.wit_syntax.specs.Address.{package_of}
-use Rattle.wit_syntax.specs.Source.{Foreign, leads, used_scope}
+use Rattle.wit_syntax.specs.Address.{package_of, InterfaceNamed}
+use Rattle.wit_syntax.specs.Source.{Foreign, leads, target_scope}
 use Rattle.wit_syntax.specs.Broken.{is_world_at}
 use Rattle.wit_top_names.specs.Tops.{target_behind}
 use Rattle.wit_files.specs.FileNames.{top_at}
@@ -16,7 +16,7 @@ returns-in-Some c =
     let lead : leads (top_at files c.args.place) c.args.path.now ≡ Foreign p id = sym c.target.ensures ∙ ap target_behind c.in-Foreign.is in
     let is : interface_entry (entry_at files (Foreign p id)) ≡ Some c.in-Some.place = sym (ap interface_entry c.entry_there.ensures) ∙ sym c.interface_place.ensures ∙ c.in-Some.is in
     let found = interface_found files p id c.in-Some.place is in
-    (sym (ap used_scope lead), found.1, ap (is_world_at files) lead ∙ found.0)
+    (sym (ap (target_scope InterfaceNamed) lead), found.1, ap (is_world_at files) lead ∙ found.0)
 
 pub returns-in-None : goal.returns-in-None
 returns-in-None c =

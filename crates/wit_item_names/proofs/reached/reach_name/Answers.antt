@@ -1,8 +1,9 @@
 use Rattle.std.proofs.Common.{◌≡◌, Some, sym, ap, ◌∙◌}
-use Rattle.wit_syntax.specs.Source.{Target, leads, used_scope}
+use Rattle.wit_syntax.specs.Source.{Target, leads, target_scope}
 use Rattle.wit_files.specs.FileNames.{found_at, top_at}
 use Rattle.wit_item_names.proofs.Finding.{item_found, item_unfound, leads_nowhere, leads_to, leads_within}
 use Rattle.wit_item_names.proofs.reached.reach_name.Goals as goal
+use Rattle.wit_syntax.specs.Address.{InterfaceNamed}
 
 pub returns-in-None : goal.returns-in-None
 returns-in-None c =
@@ -31,4 +32,4 @@ returns c =
     let to : Target = leads (top_at files c.args.place) c.args.path.now in
     let looked : c.found.result ≡ found_at files to = c.found.ensures ∙ ap (found_at files) (sym c.requires.local) in
     let usable = leads_to files to c.args.name c.found.result _ _ c.requires.local looked (item_found c.found.result _ (sym c.item_place.ensures ∙ c.in-Some.is)) c.is_world.ensures ∙ ap Some c.if-is_world.false in
-    (sym (ap used_scope c.requires.local), tt, usable)
+    (sym (ap (target_scope InterfaceNamed) c.requires.local), tt, usable)

@@ -2,10 +2,10 @@ use Rattle.std.proofs.Common.{◌≡◌, ◌+◌, Some, ap, sym, ◌∙◌}
 use Rattle.std.specs.Prelude.{slice_get, map}
 use Rattle.std.proofs.lemmas.List.{take-map}
 use Rattle.wit_type_tree.specs.declared.leaves.Id.{Id}
-use Rattle.wit_syntax.specs.Scope.{row_of, rows_of}
+use Rattle.wit_syntax.specs.Scope.{rows_of}
 use Rattle.wit_scopes.specs.Held.{name_behind}
 use Rattle.wit_syntax.proofs.Lists.{read_map}
-use Rattle.wit_syntax.proofs.Rows.{rows_more, fresh_row}
+use Rattle.wit_syntax.proofs.Rows.{rows_more, fresh_row, row_of}
 use Rattle.wit_scopes.proofs.scope.scope_table.Goals as goal
 
 pub loop-name-preserved : goal.loop-name-preserved
