@@ -36,7 +36,7 @@ returns-in_ok-check_result-in-Some-clause-result c = result_behind c.args.types.
 
 pub returns-in_ok-check_result-in-Some-clause-returns : goal.returns-in_ok-check_result-in-Some-clause-returns
 returns-in_ok-check_result-in-Some-clause-returns c = λ xs scope f wrong. elim wrong [
-  | inl getter ↦ none-some c.in-Some.written.now (sym getter.none ∙ sym c.in-Some.ensures)
+  | inl getter ↦ none-some c.in-Some.written.now (sym getter.1 ∙ sym c.in-Some.ensures)
   | inr result ↦ c.in_ok-check_result-in-Some.ensures.legal xs scope.results f result
 ]
 
