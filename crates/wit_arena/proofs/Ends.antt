@@ -27,13 +27,14 @@ use Rattle.wit_arena.specs.Meet.{Key, Def, AreAt, Decl, Decls, decl_of, IsKeyed}
 use Rattle.wit_arena.proofs.Parts.{HasPart}
 use Rattle.wit_arena.specs.Resolving.{decls_of}
 use Rattle.wit_syntax.specs.Scope.{AreDistinct}
-use Rattle.wit_syntax.specs.Ends.{End, AtResource, AtForeign, Elsewhere, named_end, meant_end, shape_end, EndsAt}
+use Rattle.wit_syntax.specs.Ends.{End, AtResource, AtForeign, Elsewhere, named_end, shape_end, EndsAt}
 use Rattle.wit_arena.specs.EntryEnds.{EntryEnd, IsResource, IsUnknown, IsOther, part_end, kind_end, found_end, entry_end}
 use Rattle.wit_syntax.proofs.Lists.{at_front, at_within, map_at}
 use Rattle.wit_arena.proofs.Places.{all_at_untaken}
 use Rattle.wit_arena.proofs.Shape.{entry_of_key, backward}
 use Rattle.wit_arena.proofs.Depth.{meaning_found}
 use Rattle.std.specs.Option.{unwrap_or}
+use Rattle.wit_syntax.proofs.Ends.{meant_end}
 
 -- two ways to tell where something ends never differ
 abbrev Agreeing : {X : Type 0} → (X → Option End) → (X → Option End) → Type 0
@@ -56,7 +57,7 @@ shape_one files (suc n) (suc m) s _ a b h k = cc
 
 -- a name has one end
 pub ends_one : (files : List PackageFile) (s : Address) (id : Id) (a b : End) → EndsAt files s id a → EndsAt files s id b → a ≡ b
-ends_one files s id a b p q = shape_one files p.steps q.steps s (Word id) a b p.is q.is
+ends_one files s id a b p q = shape_one files p.0 q.0 s (Word id) a b p.1 q.1
 
 -- so it does in a grown arena
 pub entry_end-same : (n : ℕ) (es more : List TypeDef) (i : ℕ) → i < length es → entry_end n (es ++ more) i ≡ entry_end n es i
@@ -121,10 +122,7 @@ abbrev ends_in : List PackageFile → ℕ → Address → ScopeName → Form →
 ends_in files n s x form xs = named_end (shape_end files n (unwrap_or (about_name x).from s)) s (local_name x) form xs
 
 ends_named : (files : List PackageFile) (s : Address) (id : Id) (x : ScopeName) (n : ℕ) (end : End) → Means files s id x → ends_in files n s x (about_name x).body.form (about_name x).body.parts ≡ Some end → EndsAt files s id end
-ends_named files s id x n end means is = record {
-  steps = suc n;
-  is = ap (meant_end (shape_end files n) s) means.found ∙ is;
-}
+ends_named files s id x n end means is = (suc n, ap (meant_end (shape_end files n) s) means.found ∙ is)
 
 -- it ends by its form
 ends_formed : (files : List PackageFile) (s : Address) (id : Id) (x : ScopeName) (form : Form) (end : End) → Means files s id x → form ≡ (about_name x).body.form → ends_in files zero s x form (about_name x).body.parts ≡ Some end → EndsAt files s id end
@@ -138,7 +136,7 @@ ends_part files s id x y n end means same parts is = ends_named files s id x n e
     ∙ is)
 
 ends_through : (files : List PackageFile) (s : Address) (id : Id) (x : ScopeName) (word : Id) (end : End) → Means files s id x → AliasForm ≡ (about_name x).body.form → (about_name x).body.parts ≡ one (Word word) → EndsAt files (unwrap_or (about_name x).from s) word end → EndsAt files s id end
-ends_through files s id x word end means same parts h = ends_part files s id x (one (Word word)) h.steps end means same parts h.is
+ends_through files s id x word end means same parts h = ends_part files s id x (one (Word word)) h.0 end means same parts h.1
 
 end_through : (files : List PackageFile) (ks : List Key) (s : Address) (id : Id) (x : ScopeName) (word : Id) (e : EntryEnd) → Means files s id x → AliasForm ≡ (about_name x).body.form → (about_name x).body.parts ≡ one (Word word) → EndIs files ks (unwrap_or (about_name x).from s) word e → EndIs files ks s id e
 end_through files ks s id x word IsResource means same parts h = ends_through files s id x word AtResource means same parts h

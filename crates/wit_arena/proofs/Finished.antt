@@ -214,12 +214,12 @@ module _ (files : List PackageFile) (places : List ℕ) (order : IsOrder (item_r
       missing_own : (w : Item) → Contains (all_scopes files) w → (from : Address) (attributes : List Attribute) (n : UseName) → Contains (scope_names w) (Used from attributes n) → (j : ℕ) (target : Cell) → slice_get (map cell own) j ≡ Some target → target.address ≡ from → env_of target.types n.name.name.now ≡ None → (Contains target.functions n.name.name.now → ⊥) → (f : Fault) → f ≡ missing_at 12 name_word n.name → IsBroken files f
       missing_own w here_w from attributes n among j target at called none other f says =
           let t = target_of from n.name.name.now j target at called none in
-          MissingName w here_w (record { from = from; attributes = attributes; n = n; among = among; target = t.item; declared = t.declared; missing = t.missing; told = OfNothing (λ h. other (t.free h)) says })
+          MissingName w here_w from attributes n among t.item t.declared t.missing (OfNothing (λ h. other (t.free h)) says)
 
       function_own : (w : Item) → Contains (all_scopes files) w → (from : Address) (attributes : List Attribute) (n : UseName) → Contains (scope_names w) (Used from attributes n) → (j : ℕ) (target : Cell) → slice_get (map cell own) j ≡ Some target → target.address ≡ from → env_of target.types n.name.name.now ≡ None → Contains target.functions n.name.name.now → (f : Fault) → f ≡ fault 13 n.name.span → IsBroken files f
       function_own w here_w from attributes n among j target at called none function f says =
           let t = target_of from n.name.name.now j target at called none in
-          MissingName w here_w (record { from = from; attributes = attributes; n = n; among = among; target = t.item; declared = t.declared; missing = t.missing; told = OfFunction (t.stated function) says })
+          MissingName w here_w from attributes n among t.item t.declared t.missing (OfFunction (t.stated function) says)
 
       -- a name that is used was resolved in an interface of the package, or is taken from another one
       none_lacks : (from : Address) (n : UseName) (target : Cell) (found : IsFound (cells ss (front ++ own)) from target) → env_of target.types n.name.name.now ≡ None → IsResolvedUse vs from ⊎ IsForeignUse files from n → (j : ℕ) × (slice_get (map cell own) j ≡ Some target)
@@ -284,12 +284,7 @@ module _ (files : List PackageFile) (places : List ℕ) (order : IsOrder (item_r
       lost_leads path among (Foreign q id) lead lost = lost
 
       lost_include : (f : Fault) → IsLostInclude files by_name w f → IsBroken files f
-      lost_include f lost = InterfaceIncluded w (contains_at all p w at) (record {
-        path = lost.path;
-        among = lost.among;
-        other = lost_leads lost.path lost.among (leads w.top lost.path) refl lost.lost;
-        is = lost.is;
-      })
+      lost_include f lost = InterfaceIncluded w (contains_at all p w at) lost.path lost.among (lost_leads lost.path lost.among (leads w.top lost.path) refl lost.lost) lost.is
 
   module _ (uses : AreUsableUses files all) where
     -- what is wrong with an interface, once those before it in the order were resolved, is wrong with the files

@@ -15,7 +15,7 @@ use Rattle.wit_syntax.specs.Repeats.{AllDiffer}
 use Rattle.wit_syntax.specs.Scope.{in_turn}
 use Rattle.wit_syntax.specs.Signature.{Called, name_called}
 use Rattle.wit_tree.specs.declared.tree.WorldSide.{WorldSide}
-use Rattle.wit_syntax.specs.Sides.{on_side, names_on, SideFunction, side_called}
+use Rattle.wit_syntax.specs.Sides.{on_side, names_on, SideFunction, side_called, items_on}
 use Rattle.wit_syntax.proofs.Lists.{at_back}
 use Rattle.wit_syntax.proofs.Names.{name_cases}
 use Rattle.wit_syntax.proofs.Repeated.{differ_at, differ_by, called_key, function_called}
@@ -24,12 +24,12 @@ use Rattle.wit_syntax.proofs.Legal.{function_name}
 use Rattle.wit_syntax.proofs.Sides.{called_functions}
 
 -- where the keys on a side of a scope differ on which only functions stand behind names, so do the names of these
-pub names_differ : (side : WorldSide) (xs : List ScopeName) (fns : List SourceFunction) (order : List ℕ) → AllDiffer (map called_key (side_called side xs (map SideFunction fns) order)) → AllDiffer (map function_name (on_side side fns))
+pub names_differ : (side : WorldSide) (xs : List ScopeName) (fns : List SourceFunction) (order : List ℕ) → AllDiffer (map called_key (side_called side xs (items_on side (map SideFunction fns)) order)) → AllDiffer (map function_name (on_side side fns))
 names_differ side xs fns order keys = differ_by function_name (on_side side fns) (λ i j x y at_x at_y same. (
     let names = map name_called (names_on side (in_turn xs order)) in
     let ours = on_side side fns in
     let all = names ++ map function_called ours in
-    let whole : side_called side xs (map SideFunction fns) order ≡ all = ap (λ (l : List Called). names ++ l) (called_functions side fns) in
+    let whole : side_called side xs (items_on side (map SideFunction fns)) order ≡ all = ap (λ (l : List Called). names ++ l) (called_functions side fns) in
     let apart : AllDiffer (map called_key all) = subst (λ (l : List Called). AllDiffer (map called_key l)) whole keys in
     let places = differ_at called_key all apart (length names + i) (length names + j) (function_called x) (function_called y) (at_back names (map function_called ours) i (function_called x) (slice_get-map function_called ours i ∙ ap (option_map function_called) at_x)) (at_back names (map function_called ours) j (function_called y) (slice_get-map function_called ours j ∙ ap (option_map function_called) at_y)) (ap folded_key same) in
     omega arith))

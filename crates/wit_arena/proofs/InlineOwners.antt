@@ -16,10 +16,10 @@ use Rattle.wit_model.specs.declared.world.WorldItem.{WorldItem}
 use Rattle.wit_syntax.specs.Address.{Address, InlineAt, InterfaceNamed}
 use Rattle.wit_syntax.specs.Crossing.{same_side}
 use Rattle.wit_syntax.specs.Function.{SourceFunction}
-use Rattle.wit_syntax.specs.Sides.{role_side, Link, SideItem, SideFunction, SideLink, SideInline, is_interface, item_side, interfaces_on, side_items, inline_behind, inline_items}
+use Rattle.wit_syntax.specs.Sides.{role_side, Link, SideItem, SideFunction, SideLink, SideInline, is_interface, item_side, side_items, inline_behind, inline_items}
 use Rattle.wit_syntax.specs.Source.{Target, Local, Foreign, leads, path_scope, Item, item_name, address, ScopeName, target_scope}
 use Rattle.wit_syntax.proofs.Addresses.{same_side-equal, side_itself}
-use Rattle.wit_syntax.proofs.Inline.{is_inside, interfaces_on-append}
+use Rattle.wit_syntax.proofs.Inline.{is_inside, interfaces_on-append, interfaces_on}
 use Rattle.wit_syntax.proofs.Lists.{at_front, at_back}
 use Rattle.wit_syntax.proofs.Turns.{at_part}
 use Rattle.wit_arena.specs.Functions.{function_item}

@@ -14,10 +14,10 @@ use Rattle.wit_tree.specs.declared.tree.WorldSide.TheVariants.{Imported, Exporte
 use Rattle.wit_syntax.specs.Address.{Address, InlineAt}
 use Rattle.wit_syntax.specs.Repeats.{AllDiffer}
 use Rattle.wit_syntax.specs.Scope.{includes}
-use Rattle.wit_syntax.specs.Sides.{interfaces_on, side_items, inline_items}
+use Rattle.wit_syntax.specs.Sides.{side_items, inline_items}
 use Rattle.wit_syntax.specs.Source.{Item, item_name, address, about}
 use Rattle.wit_syntax.proofs.Found.{find_at, find_passes, find_some}
-use Rattle.wit_syntax.proofs.Inline.{is_inside, inline_items_at, inline_inside}
+use Rattle.wit_syntax.proofs.Inline.{is_inside, inline_items_at, inline_inside, interfaces_on}
 use Rattle.wit_syntax.proofs.Lists.{at_back, at_within, flat_map_at, flat_map_has}
 use Rattle.wit_syntax.proofs.Turns.{at_part}
 use Rattle.wit_arena.specs.Meet.{Key}

@@ -128,12 +128,7 @@ handle_turned xs ys fns has id h =
 
 -- also where the arena has grown since
 pub wrong_broken-more : (files : List PackageFile) (decls : Decls) (ks : List Key) (es more : List TypeDef) → IsKeyed decls ks es → ((j : ℕ) (t : Address) (name : List ℕ) → slice_get ks j ≡ Some (Def t name) → IsDeclared files decls t) → (s : Address) (env : Env) → AreNames ks s env → (types : List Written) (f : Fault) → IsWrongHandle env (es ++ more) (all_handles types) f → IsNoResource files s types f
-wrong_broken-more files decls ks es more m scopes s env names types f h = record {
-  id = h.id;
-  among = h.among;
-  ends = end_source-more files decls ks es more m scopes h.steps h.place s h.id IsOther (names.stands h.id.name.now h.place h.stands) h.other;
-  is = h.is;
-}
+wrong_broken-more files decls ks es more m scopes s env names types f h = (h.id, h.among, end_source-more files decls ks es more m scopes h.steps h.place s h.id IsOther (names.stands h.id.name.now h.place h.stands) h.other, h.is)
 
 pub defined_broken-more : (files : List PackageFile) (decls : Decls) (ms : List Meeting) (mid more : List TypeDef) (s : Address) (before names : Names) (xs : List ScopeName) (d : IsDefined decls ms mid s before names xs) → ((j : ℕ) (t : Address) (name : List ℕ) → slice_get (keys d.now) j ≡ Some (Def t name) → IsDeclared files decls t) → (types : List Written) (f : Fault) → IsWrongHandle (env_of names) (mid ++ more) (all_handles types) f → IsNoResource files s types f
 defined_broken-more files decls ms mid more s before names xs d scopes types f wrong = wrong_broken-more files decls (keys d.now) mid more d.meeting.keyed scopes s (env_of names) d.stand types f wrong

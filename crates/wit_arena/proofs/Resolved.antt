@@ -25,7 +25,7 @@ use Rattle.wit_arena.specs.Meet.{Meeting}
 use Rattle.wit_arena.specs.Resolving.{Required}
 use Rattle.wit_syntax.specs.Fault.{Fault}
 use Rattle.wit_syntax.specs.Notes.{IsBrokenNotes}
-use Rattle.wit_syntax.specs.Broken.{is_world_at, IsInterfaceIncluded, IsBrokenNames, Headerless, Names, ItemStability, UseNotes, IncludeStability, Use, InterfaceIncluded, MissingName, Scope, Sides, Handle, Setter, IsSetterAlone, IsLegal, headers, last_header}
+use Rattle.wit_syntax.specs.Broken.{is_world_at, IsBrokenNames, Headerless, Names, ItemStability, UseNotes, IncludeStability, Use, InterfaceIncluded, MissingName, Scope, Sides, Handle, Setter, IsSetterAlone, IsLegal, headers, last_header}
 use Rattle.wit_syntax.specs.Repeats.{AllDiffer}
 use Rattle.wit_arena.specs.Whole.{own_item, all_turns, all_meetings, AreIncludes, NamesOthers, first_docs, IsPackage}
 use Rattle.wit_arena.specs.Resolved.{WorldArenas, front_worlds, AddsInterfaces, AddsWorlds, AddsForeign, AreLegalScopes, AreLegalSides, AreUsableUses, AreUsableLinks, AreSoundScopes, IsBrokenItemStability, OwnStability, OfInclude, HaveLegalStability}
@@ -192,22 +192,22 @@ module _ (files : List PackageFile) (places : List ℕ) (order : IsOrder (item_r
   ]
 
   -- the include of a world leads to a world
-  world_included : (w : Item) → Contains (all_items files) w → is_world w ≡ true → (f : Fault) → IsInterfaceIncluded files w f → ⊥
-  world_included w among world f h =
+  world_included : (w : Item) → Contains (all_items files) w → is_world w ≡ true → (path : UsePath) → Contains (include_paths w) path → is_world_at files (leads w.top path) ≡ Some false → ⊥
+  world_included w among world path included other =
       let t = world_at files places order differ w world among in
       let o = map_at own_item ws_done.ordered t.0 w (ap (λ (l : List Item). slice_get l t.0) ws_done.all ∙ t.1) in
       let own : slice_get (map own_order ws_done.ordered) t.0 ≡ Some o.0.own = slice_get-map own_order ws_done.ordered t.0 ∙ ap (option_map own_order) o.1 in
       let x = entry_of_item ws_done.laid t.0 o.0.own own in
       let says = subst (λ (v : Item). AreIncludes (world_list files ws_items) v x.0.includes) o.2 (ws_done.laid.says t.0 o.0.own x.0 own x.1).includes in
-      let to_world = include_leads files ws_items (are_worlds files places order differ) ws_sort w x.0.includes h.path says h.among in
-      let wrong : Some true ≡ Some false = sym to_world ∙ h.other in
+      let to_world = include_leads files ws_items (are_worlds files places order differ) ws_sort w x.0.includes path says included in
+      let wrong : Some true ≡ Some false = sym to_world ∙ other in
       let g : ⊥ = cc in
       g
 
-  includes_stated : (w : Item) → Contains (all_items files) w → (f : Fault) → IsInterfaceIncluded files w f → ⊥
-  includes_stated w among f h = elim (cases_Bool (is_world w)) [
-    | inl world ↦ world_included w among world f h
-    | inr other ↦ interface_includes_none w other h.path h.among
+  includes_stated : (w : Item) → Contains (all_items files) w → (path : UsePath) → Contains (include_paths w) path → is_world_at files (leads w.top path) ≡ Some false → ⊥
+  includes_stated w among path included leads_to = elim (cases_Bool (is_world w)) [
+    | inl world ↦ world_included w among world path included leads_to
+    | inr other ↦ interface_includes_none w other path included
   ]
 
   -- the paths of an item lead to interfaces where those by which worlds import and export do: an interface has none
@@ -238,8 +238,8 @@ module _ (files : List PackageFile) (places : List ℕ) (order : IsOrder (item_r
   files_legal scopes sides usable stability notes header last f (UseNotes i among u used h) = notes i among u used f h
   files_legal scopes sides usable stability notes header last f (IncludeStability i among n included h) = stability_told stability i among f (OfInclude n included h)
   files_legal scopes sides usable stability notes header last f (Use i among h) = no_broken_use files i (λ u used. uses.usable i u among used) (λ link linked. link_usable usable i among link linked) f h
-  files_legal scopes sides usable stability notes header last f (InterfaceIncluded i among h) = includes_stated i among f h
-  files_legal scopes sides usable stability notes header last f (MissingName i among h) = names_stated files (decls files is_items ws_items) written scopes_done new ws_done.done i (item_done i among) f h
+  files_legal scopes sides usable stability notes header last f (InterfaceIncluded i among path included other told) = includes_stated i among path included other
+  files_legal scopes sides usable stability notes header last f (MissingName i among from attributes n used target declared missing told) = names_stated files (decls files is_items ws_items) written scopes_done new ws_done.done i (item_done i among) from attributes n target used declared missing
   files_legal scopes sides usable stability notes header last f (Handle i among h) = handles_stated files (decls files is_items ws_items) written scopes_done new ws_done.done i (item_done i among) f h
   files_legal scopes sides usable stability notes header last f (Setter i among h) = setter_paired i among f h
   files_legal scopes sides usable stability notes header last f (Sides i among h) = (let t = scope_index i among in sides.legal t.0 i f t.1 h)

@@ -1,5 +1,5 @@
 -- What is wrong with the stability of an item is wrong with the files, or with what a world has on its sides.
-use Rattle.std.proofs.Common.{◌≡◌, ℕ, List, [], ◌∷◌, Some, inl, refl, sym, subst, arith, Contains}
+use Rattle.std.proofs.Common.{◌≡◌, ℕ, List, [], ◌∷◌, Some, inl, sym, subst, arith, Contains}
 use Rattle.std.specs.Prelude.{slice_get, map}
 use Rattle.wit_tree.specs.declared.tree.Include.{Include}
 use Rattle.wit_tree.specs.declared.tree.InterfaceItem.{InterfaceItem}
@@ -9,11 +9,10 @@ use Rattle.wit_syntax.specs.Fault.{Fault}
 use Rattle.wit_syntax.specs.Source.{interface_part, Item, all_items, about}
 use Rattle.wit_syntax.specs.Scope.{part_includes, includes}
 use Rattle.wit_syntax.specs.Notes.{IsBrokenStability}
-use Rattle.wit_syntax.specs.Sides.{SideInline, side_items, item_inline, inline_externs, inline_items, IsBrokenSides, InlineNotes}
+use Rattle.wit_syntax.specs.Sides.{SideInline, side_items, inline_items, IsBrokenSides, InterfaceNotes}
 use Rattle.std.specs.List.{flat_map}
 use Rattle.wit_syntax.specs.Broken.{IsBroken, ItemStability, IncludeStability}
 use Rattle.wit_arena.specs.Resolved.{IsBrokenItemStability, OwnStability, OfInclude}
-use Rattle.wit_syntax.proofs.Lists.{flat_map_has}
 use Rattle.wit_syntax.proofs.Found.{contains_at}
 use Rattle.wit_syntax.proofs.Inline.{inline_items_at}
 
@@ -26,8 +25,7 @@ stability_broken files w here f (OfInclude n among h) = IncludeStability w here 
 pub inline_stability : (w : Item) (k : ℕ) (i : Item) → slice_get (inline_items w) k ≡ Some i → (f : Fault) → IsBrokenItemStability i f → IsBrokenSides w f
 inline_stability w k i at f (OwnStability h) =
     let it = inline_items_at w k i at in
-    let x = flat_map_has item_inline (side_items w) it.place 0 (SideInline it.x it.name it.items) it.x it.at refl in
-    InlineNotes it.x (contains_at (inline_externs w) x.0 it.x x.1) (inl (subst (λ (v : Item). IsBrokenStability (about v.declared).attributes f) (sym it.is) h))
+    InterfaceNotes (SideInline it.x it.name it.items) (contains_at (side_items w) it.place (SideInline it.x it.name it.items) it.at) (inl (subst (λ (v : Item). IsBrokenStability (about v.declared).attributes f) (sym it.is) h))
 inline_stability w k i at f (OfInclude n among h) =
     let it = inline_items_at w k i at in
     absurd (none_included it.items n (subst (λ (v : Item). Contains (includes v) n) (sym it.is) among))

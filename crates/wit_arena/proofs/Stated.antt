@@ -17,8 +17,6 @@ use Rattle.wit_syntax.specs.Source.{Item, all_items, item_at, ScopeName, Used, l
 use Rattle.wit_syntax.specs.Trees.{scope}
 use Rattle.wit_arena.specs.Expr.{Use, Exprs, one, name_exprs}
 use Rattle.wit_arena.specs.Meet.{Key, Def, Meeting, keys, AreAt, Decl, Decls, decl_of}
-use Rattle.wit_syntax.specs.Fault.{Fault}
-use Rattle.wit_syntax.specs.Broken.{IsMissingName}
 use Rattle.wit_arena.specs.Whole.{HasTypes}
 use Rattle.wit_syntax.proofs.Lists.{at_within, map_at}
 use Rattle.wit_syntax.proofs.Names.{lookup-at}
@@ -117,7 +115,7 @@ module _ (files : List PackageFile) (decls : Decls) (written : List Meeting) (cs
       used_key ks from n.name.name.now (kind_of e.0.kind).parts (parts_at t c k (Used from attributes n) id.0 e.0 at kat id.2 e.1)
 
   -- what is used in a scope means something where it comes from
-  stated_name : (t : ℕ) (c : DoneScope) (from : Address) (attributes : List Attribute) (n : UseName) (target : Item) → slice_get cs t ≡ Some c → Contains (scope files c.address) (Used from attributes n) → item_at (all_items files) from ≡ Some target → meaning (scope_names target) n.name.name.now ≡ None → ⊥
+  pub stated_name : (t : ℕ) (c : DoneScope) (from : Address) (attributes : List Attribute) (n : UseName) (target : Item) → slice_get cs t ≡ Some c → Contains (scope files c.address) (Used from attributes n) → item_at (all_items files) from ≡ Some target → meaning (scope_names target) n.name.name.now ≡ None → ⊥
   stated_name t c from attributes n target at among declared missing =
       let k = at_contains (scope files c.address) (Used from attributes n) among in
       let j = original_met t c k.0 from attributes n at k.1 in
@@ -127,7 +125,3 @@ module _ (files : List PackageFile) (decls : Decls) (written : List Meeting) (cs
       let wrong : None ≡ Some it.0 = sym missing ∙ sym same ∙ it.1 in
       let g : ⊥ = cc in
       g
-
-  -- so it is a name of the scope that it comes from, and no function's
-  pub stated : (t : ℕ) (c : DoneScope) (f : Fault) → slice_get cs t ≡ Some c → IsMissingName files (scope files c.address) f → ⊥
-  stated t c f at h = stated_name t c h.from h.attributes h.n h.target at h.among h.declared h.missing

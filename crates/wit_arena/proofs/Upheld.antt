@@ -5,12 +5,14 @@ use Rattle.std.specs.List.{flat_map}
 use Rattle.std.specs.Option.{option_map}
 use Rattle.std.proofs.lemmas.Option.{slice_get-map, slice_get_within}
 use Rattle.wit_type_tree.specs.declared.leaves.Id.{Id}
+use Rattle.wit_type_tree.specs.declared.leaves.Attribute.{Attribute}
 use Rattle.wit_tree.specs.declared.tree.PackageFile.{PackageFile}
+use Rattle.wit_tree.specs.declared.tree.UseName.{UseName}
 use Rattle.wit_model.specs.declared.interface.Interface.{Interface}
 use Rattle.wit_model.specs.declared.world.World.{World}
 use Rattle.wit_types.specs.declared.types.TypeDef.{TypeDef}
 use Rattle.wit_syntax.specs.Address.{Address}
-use Rattle.wit_syntax.specs.Source.{address, Item, ScopeName, meaning, scope_names}
+use Rattle.wit_syntax.specs.Source.{address, Item, ScopeName, meaning, scope_names, all_items, item_at, Used}
 use Rattle.wit_syntax.specs.Trees as source
 use Rattle.wit_graph.specs.Table.{IsOrder}
 use Rattle.wit_syntax.specs.Shape.{words, all_handles}
@@ -21,7 +23,7 @@ use Rattle.wit_syntax.specs.Ends.{AtResource, AtForeign, Elsewhere, EndsAt, IsNo
 use Rattle.wit_arena.specs.Meet.{Key, Meeting, keys, Decls}
 use Rattle.wit_syntax.specs.Fault.{Fault}
 use Rattle.wit_syntax.specs.Signature.{IsUnpairedSetter}
-use Rattle.wit_syntax.specs.Broken.{IsMissingName, IsSetterAlone}
+use Rattle.wit_syntax.specs.Broken.{IsSetterAlone}
 use Rattle.wit_arena.specs.Whole.{Ordered, own_item, Turned, item_of, turned, all_turns, all_inside, all_meetings, turn_handles, HandleRequires, AreRequired}
 use Rattle.wit_arena.specs.Resolving.{Required}
 use Rattle.wit_arena.specs.Resolved.{WorldArenas}
@@ -38,7 +40,7 @@ use Rattle.wit_arena.proofs.Laid.{scope_at, entry_of}
 use Rattle.wit_arena.proofs.Inside.{HasInside, inside_at}
 use Rattle.wit_arena.proofs.Added.{decls, inside_of, InterfacesDone}
 use Rattle.wit_arena.proofs.DoneWorlds.{scopes_of, all_within, own_order, AreWorldsDone, own_among, within_among}
-use Rattle.wit_arena.proofs.Stated.{stated}
+use Rattle.wit_arena.proofs.Stated.{stated_name}
 use Rattle.wit_arena.proofs.SignatureNames.{signature_meant}
 
 -- what is required ends at resources or in other packages, and none of it elsewhere
@@ -73,8 +75,8 @@ module _ (files : List PackageFile) (declares : Decls) (written : List Meeting) 
     own_names = sym h.names ∙ ap (source.scope files) (sym (ap (λ (x : Turned). x.address) h.same))
 
     -- what is used in it is a name of the interface that it comes from
-    pub names_stated : (f : Fault) → IsMissingName files (scope_names w) f → ⊥
-    names_stated f g = stated files declares written cs es (standing d) h.place h.scope f h.at (subst (λ (l : List ScopeName). IsMissingName files l f) own_names g)
+    pub names_stated : (from : Address) (attributes : List Attribute) (n : UseName) (target : Item) → Contains (scope_names w) (Used from attributes n) → item_at (all_items files) from ≡ Some target → meaning (scope_names target) n.name.name.now ≡ None → ⊥
+    names_stated from attributes n target among declared missing = stated_name files declares written cs es (standing d) h.place h.scope from attributes n target h.at (subst (λ (l : List ScopeName). Contains l (Used from attributes n)) own_names among) declared missing
 
     -- a name in a signature means something in it
     pub names_meant : (k : ℕ) (fn : SourceFunction) (id : Id) → slice_get (functions w) k ≡ Some fn → Contains (flat_map words (signature fn)) id → meaning (scope_names w) id.name.now ≡ None → ⊥
@@ -87,8 +89,8 @@ module _ (files : List PackageFile) (declares : Decls) (written : List Meeting) 
     handles_stated f g =
         let handles = all_handles (all_types (in_turn (scope_names w) h.order) (functions w)) in
         let required : AreRequired files (keys d.met) (map (in_scope (address w)) handles) h.scope.required = subst (λ (t : Turned). AreRequired files (keys d.met) (turn_handles t) h.scope.required) h.same (d.required h.place h.scope h.at) in
-        let at = at_contains handles g.id (handle_turned (scope_names w) (in_turn (scope_names w) h.order) (functions w) (in_turn_has (scope_names w) h.order h.least) g.id g.among) in
-        required_ends files (keys d.met) (address w) handles h.scope.required at.0 g.id required at.1 g.ends
+        let at = at_contains handles g.0 (handle_turned (scope_names w) (in_turn (scope_names w) h.order) (functions w) (in_turn_has (scope_names w) h.order h.least) g.0 g.1) in
+        required_ends files (keys d.met) (address w) handles h.scope.required at.0 g.0 required at.1 g.2
 
 module _ (files : List PackageFile) (is ws : List Item) (middle es : List TypeDef) (front xs : List Interface) (wfront : List World) (a : WorldArenas) (irs wrs : List Required) (d : InterfacesDone files is ws front is middle xs irs) (e : AreWorldsDone files is ws wfront d.ordered (front_scopes files front ++ d.scopes) ws es a wrs) where
   abbrev before : List DoneScope

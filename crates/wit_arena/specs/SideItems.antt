@@ -1,7 +1,10 @@
 -- What stands on the sides of a world in a package, behind types: functions, and interfaces at their places; and where its setters stand.
-use Rattle.std.specs.Prelude.{if◌then◌else◌, ◌≡◌, ℕ, List, [], ◌∷◌, Option, Some, None, slice_get}
+use Rattle.std.specs.Prelude.{◌≡◌, ℕ, List, [], ◌∷◌, Option, Some, slice_get, if◌then◌else◌}
+use Rattle.std.specs.Option.{option_map_or}
 use Rattle.wit_tree.specs.declared.tree.Extern.{Extern}
 use Rattle.wit_type_tree.specs.declared.leaves.Id.{Id}
+use Rattle.wit_type_tree.specs.declared.attribute_kind.AttributeKind.TheVariants.{ExternalId}
+use Rattle.wit_type_tree.specs.Attributes.{told_text}
 use Rattle.wit_tree.specs.declared.tree.Include.{Include}
 use Rattle.wit_tree.specs.declared.tree.UsePath.{UsePath}
 use Rattle.wit_tree.specs.declared.tree.WorldSide.{WorldSide}
@@ -15,28 +18,26 @@ use Rattle.wit_functions.specs.Setters.{placed}
 use Rattle.wit_model.specs.Worlds.{function_of}
 use Rattle.wit_syntax.specs.Address.{Address}
 use Rattle.wit_syntax.specs.Crossing.{same_side}
-use Rattle.wit_syntax.specs.Notes.{docs_of, no_docs, stability_of, external_id_of}
+use Rattle.wit_syntax.specs.Notes.{docs_of, no_docs, stability_of}
 use Rattle.wit_syntax.specs.Source.{TopName, path_id, path_scope}
 use Rattle.wit_syntax.specs.Sides.{role_side, Link, SideItem, SideFunction, SideLink, SideInline}
 use Rattle.wit_arena.specs.Functions.{function_item}
 
 -- an interface without a name of its own goes by its place
 abbrev pub link_key : Option Id → ℕ → WorldKey
-link_key None place = key.Interface place
-link_key (Some id) place = key.Name id.name.now
+link_key name place = option_map_or (λ (id : Id). key.Name id.name.now) name (key.Interface place)
 
 -- it stands where its name does, or else its path
 abbrev pub link_span : Option Id → UsePath → Span
-link_span None path = (path_id path).span
-link_span (Some id) path = id.span
+link_span name path = option_map_or (λ (id : Id). id.span) name (path_id path).span
 
 -- an interface that is imported or exported, at its place, with what is told of it there
 abbrev pub link_item : Link → ℕ → WorldKey × WorldItem
-link_item link place = (link_key link.name place, item.Interface place (stability_of link.attributes) (external_id_of link.attributes) (docs_of link.docs) (link_span link.name link.path))
+link_item link place = (link_key link.name place, item.Interface place (stability_of link.attributes) (told_text ExternalId link.attributes) (docs_of link.docs) (link_span link.name link.path))
 
 -- an interface that is written there, at its place: what is told of it is told of the interface, but for the name that it has elsewhere
 abbrev pub inline_entry : Extern → Id → ℕ → WorldKey × WorldItem
-inline_entry x name place = (key.Name name.name.now, item.Interface place (stability_of x.attributes.items) (external_id_of x.attributes.items) no_docs name.span)
+inline_entry x name place = (key.Name name.name.now, item.Interface place (stability_of x.attributes.items) (told_text ExternalId x.attributes.items) no_docs name.span)
 
 -- what stands on a side stands there in front of the others; what stands on the other one does not
 abbrev pub put_on : WorldSide → WorldSide → WorldKey × WorldItem → List (WorldKey × WorldItem) → List (WorldKey × WorldItem)
@@ -46,11 +47,10 @@ put_on side own x xs = if same_side side own then x ∷ xs else xs
 -- and those that are written there have those.
 abbrev pub AreSideItems : List Address → List TopName → WorldSide → List SideItem → List Function → List Address → List (WorldKey × WorldItem) → Type 0
 AreSideItems interfaces top side [] fs ss xs = xs ≡ []
-AreSideItems interfaces top side (SideFunction fn ∷ written) [] ss xs = ⊥
 AreSideItems interfaces top side (SideFunction fn ∷ written) (f ∷ fs) ss xs = (rest : List (WorldKey × WorldItem)) × (xs ≡ put_on side (role_side fn.role) (function_item f) rest) × AreSideItems interfaces top side written fs ss rest
 AreSideItems interfaces top side (SideLink link ∷ written) fs ss xs = (place : ℕ) × (rest : List (WorldKey × WorldItem)) × (slice_get interfaces place ≡ Some (path_scope top link.path)) × (xs ≡ put_on side link.side (link_item link place) rest) × AreSideItems interfaces top side written fs ss rest
-AreSideItems interfaces top side (SideInline x name items ∷ written) fs [] xs = ⊥
 AreSideItems interfaces top side (SideInline x name items ∷ written) fs (s ∷ ss) xs = (place : ℕ) × (rest : List (WorldKey × WorldItem)) × (slice_get interfaces place ≡ Some s) × (xs ≡ put_on side x.side (inline_entry x name place) rest) × AreSideItems interfaces top side written fs ss rest
+AreSideItems interfaces top side written fs ss xs = ⊥
 
 -- A side of a world with these includes: where there is none, each setter that is written before its getter stands directly behind it, as in
 -- an interface; with an include, whose getters may come, all stays as it is written.

@@ -23,11 +23,7 @@ module _ (i : Item) (items : List SideItem) (are : side_items i ≡ items) (clos
   there = functions_items i ∙ (λ k. flat_map item_function (are k))
 
   pub alone_closed : (side : WorldSide) (f : Fault) → closed ≡ true → IsUnpairedSetter (on_side side (flat_map item_function items)) f → IsSetterAlone i f
-  alone_closed side f shut alone = record {
-    closed = none_is (includes i) (sym same ∙ shut);
-    side = side;
-    alone = subst (λ (l : List SourceFunction). IsUnpairedSetter (on_side side l) f) (sym there) alone;
-  }
+  alone_closed side f shut alone = (none_is (includes i) (sym same ∙ shut), side, subst (λ (l : List SourceFunction). IsUnpairedSetter (on_side side l) f) (sym there) alone)
 
   pub none_alone : (closed ≡ true → (side : WorldSide) (f : Fault) → IsUnpairedSetter (on_side side (flat_map item_function items)) f → ⊥) → (f : Fault) → IsSetterAlone i f → ⊥
-  none_alone paired f h = paired (same ∙ (λ k. none_of (h.closed k))) h.side f (subst (λ (l : List SourceFunction). IsUnpairedSetter (on_side h.side l) f) there h.alone)
+  none_alone paired f h = paired (same ∙ (λ k. none_of (h.0 k))) h.1 f (subst (λ (l : List SourceFunction). IsUnpairedSetter (on_side h.1 l) f) there h.2)

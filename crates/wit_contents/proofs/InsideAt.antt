@@ -5,9 +5,9 @@ use Rattle.std.specs.List.{flat_map}
 use Rattle.wit_tree.specs.declared.tree.Extern.{Extern}
 use Rattle.wit_type_tree.specs.declared.leaves.Id.{Id}
 use Rattle.wit_tree.specs.declared.tree.InterfaceItem.{InterfaceItem}
-use Rattle.wit_syntax.specs.Sides.{SideItem, SideInline, inline_behind, inline_items, item_inline, interfaces_on, side_items}
+use Rattle.wit_syntax.specs.Sides.{SideItem, SideInline, inline_behind, inline_items, item_inline, side_items}
 use Rattle.wit_syntax.specs.Source.{Item}
-use Rattle.wit_syntax.proofs.Inline.{inlined, inline_behind-append, length-inline_behind}
+use Rattle.wit_syntax.proofs.Inline.{inlined, inline_behind-append, length-inline_behind, interfaces_on}
 use Rattle.wit_externs.specs.declared.held.HeldExtern.{HeldExtern}
 use Rattle.wit_externs.specs.declared.held.HeldExtern.TheVariants as held
 use Rattle.wit_externs.specs.declared.held.HeldInline.{HeldInline}

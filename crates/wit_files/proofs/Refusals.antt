@@ -20,11 +20,11 @@ same_edge rs i k a b x y =
 pub missing_edge : (told : Id → Fault) (other : ℕ) (sort : List ℕ) (rs : List Row) (i k : ℕ) (id : Id) (e : ParseError) → IsFirstMissing rs i k → IsEdge rs i k id → IsWantOfMemory e ⊎ (fault_of e ≡ told id) → Refused (λ f. IsMissingEdge told rs f ⊎ IsCyclicEdge other sort rs f) e
 missing_edge told other sort rs i k id e f edge says = elim says [
   | inl memory ↦ inl memory
-  | inr is ↦ inr (inl (record { place = i; index = k; id = f.id; edge = f.first.is; missing = f.first.holds; is = is ∙ ap told (same_edge rs i k id f.id edge f.first.is) }))
+  | inr is ↦ inr (inl (i, k, f.id, f.first.is, f.first.holds, is ∙ ap told (same_edge rs i k id f.id edge f.first.is)))
 ]
 
 pub cyclic_edge : (number : ℕ) (sort : List ℕ) (told : Id → Fault) (rs : List Row) (i k : ℕ) (id : Id) (e : ParseError) → IsFirstCyclic rs i k → IsEdge rs i k id → IsWantOfMemory e ⊎ (fault_of e ≡ cyclic_at number sort id) → Refused (λ f. IsMissingEdge told rs f ⊎ IsCyclicEdge number sort rs f) e
 cyclic_edge number sort told rs i k id e f edge says = elim says [
   | inl memory ↦ inl memory
-  | inr is ↦ inr (inr (record { place = i; index = k; id = f.id; edge = f.first.is; cyclic = f.first.holds; is = is ∙ ap (cyclic_at number sort) (same_edge rs i k id f.id edge f.first.is) }))
+  | inr is ↦ inr (inr (i, k, f.first.holds.1.0, f.id, f.first.is, f.first.holds.1.1, f.first.holds.0, f.first.holds.1.2, is ∙ ap (cyclic_at number sort) (same_edge rs i k id f.id edge f.first.is)))
 ]

@@ -5,11 +5,11 @@ ghost use Rattle.wit_graph.specs.Table.{rows, IsOrder};
 ghost use Rattle.wit_syntax.specs.Source.{Item as TheItem, top_names, top_text, file_items, all_items, item_name, is_world as is_the_world};
 ghost use Rattle.wit_syntax.specs.Scope.{item_row, item_rows};
 ghost use Rattle.wit_syntax.specs.Fault.{Fault};
-ghost use Rattle.wit_syntax.specs.Broken.{IsBrokenItems, IsBrokenNames, Refused};
+ghost use Rattle.wit_syntax.specs.Broken.{IsBrokenItems, IsBrokenNames, IsWrongTop, Refused};
 ghost use Rattle.wit_syntax.specs.Repeats.{AllDiffer};
 ghost use Rattle.wit_syntax.specs.Foreign.{foreign_visits as the_visits};
 ghost use Rattle.wit_top_names.specs.Tops.{AreDeclared};
-ghost use Rattle.wit_top_names.specs.Checks.{AreDistinctTops, AreLegalVisits, AreRightTops, IsBrokenVisit, IsWrongFile, IsWrongTop};
+ghost use Rattle.wit_top_names.specs.Checks.{AreDistinctTops, AreLegalVisits, AreRightTops, IsBrokenVisit, IsWrongFile};
 ghost use Rattle.wit_files.specs.Foreign.{foreign_behind, AreItemsOf};
 ghost use Rattle.wit_files.specs.FileNames.{AddsTop, AreTablesOf, AreDeclarationsOf};
 

@@ -47,16 +47,16 @@ repeated_called names later h = (
 
 -- a name of a scope, or of what stands behind its names, that is taken on a side is one once folded
 twice_folded : (side : WorldSide) (xs : List ScopeName) (items : List SideItem) (ids : List Id) (f : Fault) → IsTurn xs ids → IsTwiceAmong (all_on side ids items) f → IsFoldedTwice xs items f
-twice_folded side xs items ids f t h = record {
-  side = side;
-  order = t.order;
-  least = t.least;
-  twice = (
+twice_folded side xs items ids f t h = (
+  side,
+  t.order,
+  t.least,
+  (
     called h.0,
     subst (λ (cs : List Called). IsRepeated called_key cs (called h.0)) (all_taken side xs (items_on side items) t.order ids t.are) (repeated_called (all_on side ids items) h.0 h.1),
     h.2,
-  );
-}
+  ),
+)
 
 -- the name of an import or an export that is taken on its side is one
 crossed_twice : (side : WorldSide) (xs : List ScopeName) (items : List SideItem) (ids : List Id) (f : Fault) → IsTurn xs ids → IsCrossedAmong (names_on side (map name_of_id ids)) (items_on side items) f → IsCrossedTwice xs items f
@@ -66,21 +66,7 @@ crossed_twice side xs items ids f t h =
     let earlier : Called = record { name = h.name.0; span = h.taken.span } in
     let all = map name_called (names_on side (in_turn xs t.order)) ++ flat_map item_called front in
     let there : slice_get all h.taken.place ≡ Some earlier = ap (λ (l : List Called). slice_get l h.taken.place) (sym (all_taken side xs front t.order ids t.are)) ∙ slice_get-map called names h.taken.place ∙ ap (option_map called) h.taken.at in
-    record {
-      side = side;
-      order = t.order;
-      least = t.least;
-      place = h.place;
-      later = h.later;
-      at = h.at;
-      crosses = h.crosses;
-      called = called h.name;
-      named = sym (called_item h.later) ∙ ap (map called) h.named;
-      earlier = earlier;
-      among = contains_at all h.taken.place earlier there;
-      same = refl;
-      is = h.is;
-    }
+    (side, t.order, t.least, h.place, h.later, h.at, h.crosses, called h.name, sym (called_item h.later) ∙ ap (map called) h.named, earlier, contains_at all h.taken.place earlier there, refl, h.is)
 
 -- so names that clash behind those of a scope are such
 pub clash_broken : (xs : List ScopeName) (items : List SideItem) (ids : List Id) (before : WorldSide → List Name) (f : Fault) → IsTurn xs ids → ((side : WorldSide) → before side ≡ names_on side (map name_of_id ids)) → IsClash before items f → IsFoldedTwice xs items f ⊎ IsCrossedTwice xs items f

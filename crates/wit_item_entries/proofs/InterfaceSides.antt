@@ -1,5 +1,5 @@
 -- An interface has functions alone on its sides, and they stand where imports do.
-use Rattle.std.proofs.Common.{◌≡◌, ℕ, ◌∷◌, ◌++◌, [], List, map, Some, false, inl, inr, refl, sym, ap, ◌∙◌, Contains}
+use Rattle.std.proofs.Common.{◌≡◌, ℕ, ◌∷◌, ◌++◌, [], List, map, Some, false, inl, inr, refl, sym, ap, ◌∙◌, subst, Contains}
 use Rattle.std.specs.Prelude.{slice_get}
 use Rattle.std.specs.List.{flat_map}
 use Rattle.std.proofs.lemmas.Bool.{cases_Bool, cond-true, cond-false}
@@ -8,13 +8,15 @@ use Rattle.wit_tree.specs.declared.tree.WorldSide.TheVariants.{Imported}
 use Rattle.wit_syntax.specs.Crossing.{same_side}
 use Rattle.wit_syntax.specs.Fault.{Fault}
 use Rattle.wit_syntax.specs.Source.{Declared, TheInterface, TheWorld, TheInline, Item, ScopeName, is_world, scope_names, about}
+use Rattle.wit_syntax.specs.Notes.{IsBrokenNotes}
 use Rattle.wit_syntax.specs.Function.{SourceFunction, functions, part_functions}
-use Rattle.wit_syntax.specs.Sides.{Link, SideItem, SideFunction, SideLink, item_side, item_inline, inline_externs, items_on, links, on_side, role_side, side_items, IsLinkedTwice, IsBrokenSides, FoldedTwice, CrossedTwice, LinkedTwice, LinkNotes, InlineNotes}
+use Rattle.wit_syntax.specs.Sides.{Link, SideItem, SideFunction, SideLink, item_side, items_on, on_side, role_side, side_items, IsLinkedTwice, IsBrokenSides, FoldedTwice, CrossedTwice, LinkedTwice, InterfaceNotes, interface_attributes}
 use Rattle.wit_syntax.proofs.Found.{at_contains}
 use Rattle.wit_syntax.proofs.Kept.{kept_at}
 use Rattle.wit_syntax.proofs.Legal.{no_fold, no_crossed}
 use Rattle.wit_syntax.proofs.Lists.{map_at}
-use Rattle.wit_syntax.proofs.Sides.{interface_imported, links_none, side_items_functions}
+use Rattle.wit_syntax.proofs.Sides.{interface_imported, side_items_functions}
+use Rattle.wit_syntax.proofs.Unnoted.{unbroken_notes}
 use Rattle.wit_refusals.specs.Names.{Name}
 use Rattle.wit_rules.specs.declared.held.HeldFunction.{HeldFunction}
 use Rattle.wit_rules.specs.Held.{function_behind}
@@ -41,7 +43,7 @@ declared_interface item d names own sort = ap (λ (x : Declared). (about x).is_w
 pub declared_functions : (item : Item) (d : Declared) (names : List HeldName) (all ws : List HeldFunction) → IsHeldBy item d names → ws ≡ all → map function_behind all ≡ flat_map part_functions (about d).parts → map function_behind ws ≡ functions item
 declared_functions item d names all ws own same are = ap (map function_behind) same ∙ are ∙ ap (λ (x : Declared). flat_map part_functions (about x).parts) (sym own.declared)
 
--- among functions there is no path of an interface, and nothing is written there
+-- among functions there is no path of an interface
 no_path : (fns : List SourceFunction) (k : ℕ) (link : Link) → slice_get (map SideFunction fns) k ≡ Some (SideLink link) → ⊥
 no_path fns k link at =
     let it = map_at SideFunction fns k (SideLink link) at in
@@ -49,16 +51,12 @@ no_path fns k link at =
     let f : ⊥ = cc in
     f
 
-none_written : (fns : List SourceFunction) → flat_map item_inline (map SideFunction fns) ≡ []
-none_written [] = refl
-none_written (fn ∷ fns) = none_written fns
-
-none_in : {X : Type 0} (xs : List X) (x : X) → xs ≡ [] → Contains xs x → ⊥
-none_in xs x none among =
-    let it = at_contains xs x among in
-    let at = ap (λ l. slice_get l it.0) (sym none) ∙ it.1 in
-    let f : ⊥ = cc in
-    f
+-- and none has the attributes of an interface
+none_noted : (fns : List SourceFunction) (x : SideItem) → Contains (map SideFunction fns) x → (f : Fault) → IsBrokenNotes (interface_attributes x) f → ⊥
+none_noted fns x among f h =
+    let it = at_contains (map SideFunction fns) x among in
+    let at = map_at SideFunction fns it.0 x it.1 in
+    unbroken_notes f (subst (λ (y : SideItem). IsBrokenNotes (interface_attributes y) f) (sym at.2) h)
 
 names_functions : (fns : List SourceFunction) → names_of_items (items_on Imported (map SideFunction fns)) ≡ map name_of_function (on_side Imported fns)
 names_functions [] = refl
@@ -78,8 +76,8 @@ module _ (item : Item) (sort : is_world item ≡ false) where
 
   not_linked : (f : Fault) → IsLinkedTwice item.top (side_items item) f → ⊥
   not_linked f h =
-      let it = kept_at (λ (x : SideItem). same_side h.side (item_side x)) (side_items item) h.place (SideLink h.link) h.at in
-      no_path (functions item) it.0 h.link (ap (λ (l : List SideItem). slice_get l it.0) (sym (side_items_functions item sort)) ∙ it.1)
+      let it = kept_at (λ (x : SideItem). same_side h.0 (item_side x)) (side_items item) h.1 (SideLink h.3) h.5 in
+      no_path (functions item) it.0 h.3 (ap (λ (l : List SideItem). slice_get l it.0) (sym (side_items_functions item sort)) ∙ it.1)
 
   -- where what is taken on each side differs, nothing is wrong with the sides
   pub sides_sound : (ids : List Id) → IsTurn (scope_names item) ids → DifferOnSides ids (side_items item) → (f : Fault) → IsBrokenSides item f → ⊥
@@ -92,5 +90,4 @@ module _ (item : Item) (sort : is_world item ≡ false) where
       by (FoldedTwice h) = no_fold xs (side_items item) t.order f t.least (λ side. differ_called side xs (side_items item) t.order ids t.are (differ side)) h
       by (CrossedTwice h) = no_crossed xs (side_items item) t.order f t.least (λ side. differ_called side xs (side_items item) t.order ids t.are (differ side)) h
       by (LinkedTwice h) = not_linked f h
-      by (LinkNotes link among h) = none_in (links item) link (links_none item sort) among
-      by (InlineNotes x among h) = none_in (inline_externs item) x (ap (flat_map item_inline) (side_items_functions item sort) ∙ none_written (functions item)) among
+      by (InterfaceNotes x among h) = none_noted (functions item) x (subst (λ (l : List SideItem). Contains l x) (side_items_functions item sort) among) f h

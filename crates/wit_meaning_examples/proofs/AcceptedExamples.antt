@@ -11,7 +11,7 @@ use Rattle.wit_tree.specs.declared.tree.UsePath.{UsePath}
 use Rattle.wit_tree.specs.declared.tree.WorldSide.{WorldSide}
 use Rattle.wit_tree.specs.declared.tree.WorldSide.TheVariants.{Imported, Exported}
 use Rattle.wit_syntax.specs.Address.{Address}
-use Rattle.wit_syntax.specs.Broken.{DuplicateItem, DuplicateTopName, MissingItem, CyclicItem, IsBrokenNames, Items, ForeignStability, AttributedTopUse, MissingOriginal, is_world_at, IsBrokenUse, MissingUse, WorldUsed, IsBrokenScope, DefinedTwice, MissingType, CyclicType, Notes, Body, Function, Headerless, Names, ItemStability, UseNotes, IncludeStability, Use, InterfaceIncluded, MissingName, Scope, Sides, Handle, Setter, IsLegal}
+use Rattle.wit_syntax.specs.Broken.{DuplicateItem, DuplicateTopName, MissingItem, CyclicItem, IsBrokenNames, Items, ForeignStability, is_world_at, IsBrokenUse, MissingUse, WorldUsed, IsBrokenScope, DefinedTwice, MissingType, CyclicType, Notes, Body, Function, Headerless, Names, ItemStability, UseNotes, IncludeStability, Use, InterfaceIncluded, MissingName, Scope, Sides, Handle, Setter, IsLegal, TopUse, AttributedUse, LostUse}
 use Rattle.wit_syntax.specs.Fault.{Fault, missing_at, missing_type_at, item_word, type_word}
 use Rattle.wit_syntax.specs.Foreign.{ForeignVisit}
 use Rattle.wit_syntax.specs.Function.{functions, item_types}
@@ -19,12 +19,13 @@ use Rattle.wit_syntax.specs.Notes.{IsBrokenStability, IsBrokenNotes}
 use Rattle.wit_syntax.specs.Repeats.{AllDiffer}
 use Rattle.wit_syntax.specs.Scope.{include_paths, includes, item_rows, rows_of, uses}
 use Rattle.wit_syntax.specs.Shape.{all_handles}
-use Rattle.wit_syntax.specs.Sides.{all_scopes, on_side, side_items, IsBrokenSides, FoldedTwice, CrossedTwice, LinkedTwice, LinkNotes, InlineNotes, side_called}
+use Rattle.wit_syntax.specs.Sides.{all_scopes, on_side, side_items, IsBrokenSides, FoldedTwice, CrossedTwice, LinkedTwice, side_called, items_on, InterfaceNotes}
 use Rattle.wit_syntax.specs.Source.{Item, ScopeName, Used, Defined, Taken, leads, all_items, item_at, item_name, local_name, scope_names, top_names, top_text, about}
 use Rattle.wit_syntax.proofs.Found.{at_contains}
 use Rattle.wit_syntax.proofs.Legal.{no_missing_edge, no_cyclic_edge, no_fold, no_crossed}
 use Rattle.wit_syntax.proofs.Repeated.{differ_none, no_repeat, called_key}
-use Rattle.wit_meaning_examples.proofs.SideExamples.{none_among, no_notes, one_differs}
+use Rattle.wit_meaning_examples.proofs.SideExamples.{none_among, one_differs}
+use Rattle.wit_syntax.proofs.Unnoted.{unbroken_notes}
 use Rattle.wit_meaning_examples.proofs.SignatureExamples.{one_order}
 use Rattle.wit_meaning_examples.proofs.ElsewhereExamples.{own_file, i_item, use_own, visit, t_used, other}
 
@@ -39,7 +40,7 @@ one_among x y among =
     only (suc i) at = absurd (let f : ⊥ = cc in f)
 
 pub no_stability : (f : Fault) → IsBrokenStability [] f → ⊥
-no_stability f h = no_notes f (inl h)
+no_stability f h = unbroken_notes f (inl h)
 
 -- whether a name of a scope is defined there, and the scope that it is used from
 abbrev pub from_of : ScopeName → List Address
@@ -76,8 +77,8 @@ module _ (ptr : Ptr) (alloc : Global) where
   names_pass f (Items (MissingItem h)) = no_missing_edge (missing_at 7 item_word) (item_rows files) (0 ∷ []) f (one_order (codes "i")) h
   names_pass f (Items (CyclicItem h)) = no_cyclic_edge 8 item_word (item_rows files) (0 ∷ []) f (one_order (codes "i")) h
   names_pass f (ForeignStability v among h) = no_stability f (subst (λ (x : ForeignVisit). IsBrokenStability x.attributes f) (sym (one_among (visit ptr alloc) v among)) h)
-  names_pass f (AttributedTopUse g among h) = no_top_use h.u (subst (λ (x : PackageFile). Contains x.decl_list.items.items (ast.Use h.u)) (sym (one_file g among)) h.among)
-  names_pass f (MissingOriginal g among h) = no_top_use h.u (subst (λ (x : PackageFile). Contains x.decl_list.items.items (ast.Use h.u)) (sym (one_file g among)) h.among)
+  names_pass f (TopUse g among (AttributedUse u used attributed told)) = no_top_use u (subst (λ (x : PackageFile). Contains x.decl_list.items.items (ast.Use u)) (sym (one_file g among)) used)
+  names_pass f (TopUse g among (LostUse u used id local missing told)) = no_top_use u (subst (λ (x : PackageFile). Contains x.decl_list.items.items (ast.Use u)) (sym (one_file g among)) used)
 
   -- its only path leads to another package, and to no world there
   use_passes : (f : Fault) → IsBrokenUse files item f → ⊥
@@ -117,16 +118,15 @@ module _ (ptr : Ptr) (alloc : Global) where
   scope_passes f (Body d among h) = none_defined d among
   scope_passes f (Function k fn at h) = let f : ⊥ = cc in f
 
-  keys : (side : WorldSide) → AllDiffer (map called_key (side_called side names (side_items item) (0 ∷ [])))
+  keys : (side : WorldSide) → AllDiffer (map called_key (side_called side names (items_on side (side_items item)) (0 ∷ [])))
   keys Imported = one_differs (codes "t")
   keys Exported = differ_none
 
   sides_pass : (f : Fault) → IsBrokenSides item f → ⊥
   sides_pass f (FoldedTwice h) = no_fold names (side_items item) (0 ∷ []) f (one_order (codes "t")) keys h
   sides_pass f (CrossedTwice h) = no_crossed names (side_items item) (0 ∷ []) f (one_order (codes "t")) keys h
-  sides_pass f (LinkedTwice h) = let there = h.at in let f : ⊥ = cc in f
-  sides_pass f (LinkNotes link among h) = none_among link among
-  sides_pass f (InlineNotes x among h) = none_among x among
+  sides_pass f (LinkedTwice h) = let there = h.5 in let f : ⊥ = cc in f
+  sides_pass f (InterfaceNotes x among h) = none_among x among
 
   one_scope : (i : Item) → Contains (all_scopes files) i → item ≡ i
   one_scope i among = one_among item i among
@@ -137,12 +137,12 @@ module _ (ptr : Ptr) (alloc : Global) where
   legal f (ItemStability i among h) = no_stability f (subst (λ (x : Item). IsBrokenStability (about x.declared).attributes f) (sym (one_item i among)) h)
   legal f (UseNotes i among u used h) =
       let own = subst (λ (x : Item). Contains (uses x) u) (sym (one_item i among)) used in
-      no_notes f (subst (λ (x : WrittenUse). IsBrokenNotes x.attributes.items f) (sym (one_among (use_own ptr alloc) u own)) h)
+      unbroken_notes f (subst (λ (x : WrittenUse). IsBrokenNotes x.attributes.items f) (sym (one_among (use_own ptr alloc) u own)) h)
   legal f (IncludeStability i among n included h) = none_among n (subst (λ (x : Item). Contains (includes x) n) (sym (one_item i among)) included)
   legal f (Use i among h) = use_passes f (subst (λ (x : Item). IsBrokenUse files x f) (sym (one_item i among)) h)
-  legal f (InterfaceIncluded i among h) = none_among h.path (subst (λ (x : Item). Contains (include_paths x) h.path) (sym (one_item i among)) h.among)
-  legal f (MissingName i among h) = from_other h.from h.attributes h.n (subst (λ (x : Item). Contains (scope_names x) (Used h.from h.attributes h.n)) (sym (one_scope i among)) h.among) h.target h.declared
+  legal f (InterfaceIncluded i among path included leads_there told) = none_among path (subst (λ (x : Item). Contains (include_paths x) path) (sym (one_item i among)) included)
+  legal f (MissingName i among from attributes n used target declared missing told) = from_other from attributes n (subst (λ (x : Item). Contains (scope_names x) (Used from attributes n)) (sym (one_scope i among)) used) target declared
   legal f (Scope i among h) = scope_passes f (subst (λ (x : Item). IsBrokenScope (scope_names x) (functions x) f) (sym (one_scope i among)) h)
   legal f (Sides i among h) = sides_pass f (subst (λ (x : Item). IsBrokenSides x f) (sym (one_scope i among)) h)
-  legal f (Handle i among h) = none_among h.id (subst (λ (x : Item). Contains (all_handles (item_types x)) h.id) (sym (one_scope i among)) h.among)
-  legal f (Setter i among h) = none_among h.alone.0 (subst (λ (x : Item). Contains (on_side h.side (functions x)) h.alone.0) (sym (one_scope i among)) h.alone.1)
+  legal f (Handle i among h) = none_among h.0 (subst (λ (x : Item). Contains (all_handles (item_types x)) h.0) (sym (one_scope i among)) h.1)
+  legal f (Setter i among h) = none_among h.2.0 (subst (λ (x : Item). Contains (on_side h.1 (functions x)) h.2.0) (sym (one_scope i among)) h.2.1)

@@ -100,7 +100,7 @@ module _ (ptr : Ptr) (alloc : Global) where
     no_edge = refl
 
     included_refused : IsBroken (file ∷ []) (fault 11 (at 46 47))
-    included_refused = InterfaceIncluded item (0, lit< tt, refl) (record { path = included; among = (0, lit< tt, refl); other = refl; is = refl })
+    included_refused = InterfaceIncluded item (0, lit< tt, refl) included (0, lit< tt, refl) refl refl
 
   -- package foo:foo; world w { include a:b/c; use a:b/c.{t}; }
   module _ where

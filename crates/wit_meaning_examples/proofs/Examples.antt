@@ -48,7 +48,7 @@ use Rattle.wit_type_tree.specs.Refusal.{Missing, Cyclic}
 use Rattle.wit_syntax.specs.Fault.{fault, missing_type_at, type_word}
 use Rattle.wit_syntax.specs.Shape.{Word}
 use Rattle.wit_syntax.specs.Bodies.{folded, IsSecond, IsDuplicateName}
-use Rattle.wit_syntax.specs.Broken.{last_header, IsMissingEdge, IsCyclicEdge, IsMissingOriginal, IsBroken, Headerless}
+use Rattle.wit_syntax.specs.Broken.{last_header, IsMissingEdge, IsCyclicEdge, IsBroken, Headerless, IsWrongTop, LostUse}
 use Rattle.wit_arena.specs.Package.{package_tree}
 use Rattle.wit_arena.specs.Whole.{turned, meetings}
 use Rattle.wit_meaning_examples.proofs.SmallOrders.{two, three, two_order, three_order}
@@ -205,7 +205,7 @@ module _ (ptr : Ptr) (alloc : Global) where
   b_cyclic = (b_reaches, (0, refl, a_reaches))
 
   a_refused : IsCyclicEdge 16 type_word (rows_of around_names) (record { rule = 16; span = at 23 24; name = Some (codes "b"); sort = Cyclic (codes "type"); hint = None })
-  a_refused = record { place = 0; index = 0; id = in_a; edge = (record { name = codes "a"; needs = in_a ∷ [] }, refl, refl); cyclic = a_cyclic; is = refl }
+  a_refused = (0, 0, 1, in_a, (record { name = codes "a"; needs = in_a ∷ [] }, refl, refl), refl, a_reaches, b_reaches, refl)
 
   -- interface i { type t = u; }
   abbrev u : Id
@@ -218,7 +218,7 @@ module _ (ptr : Ptr) (alloc : Global) where
   u_missing = refl
 
   u_refused : IsMissingEdge missing_type_at (rows_of t_names) (record { rule = 15; span = at 23 24; name = Some (codes "u"); sort = Missing (codes "type"); hint = None })
-  u_refused = record { place = 0; index = 0; id = u; edge = (record { name = codes "t"; needs = u ∷ [] }, refl, refl); missing = u_missing; is = refl }
+  u_refused = (0, 0, u, (record { name = codes "t"; needs = u ∷ [] }, refl, refl), u_missing, refl)
 
   -- record { a: u8, A: u8 }
   abbrev twice : List WrittenField
@@ -379,5 +379,5 @@ module _ (ptr : Ptr) (alloc : Global) where
     abbrev of_an_alias : ToplevelUse
     of_an_alias = record { attributes = untold; span = at 12 15; item = path.Id (id (codes "y") (at 16 17) refl); as_ = Some (id (codes "z") (at 21 22) refl) }
 
-    original_missing : IsMissingOriginal (all_items two_files) (ToplevelItem alias ∷ ToplevelItem of_an_alias ∷ []) (record { rule = 7; span = at 16 17; name = Some (codes "y"); sort = Missing (codes "interface or world"); hint = None })
-    original_missing = record { u = of_an_alias; id = id (codes "y") (at 16 17) refl; among = (1, lit< tt, refl); local = refl; missing = refl; is = refl }
+    original_missing : IsWrongTop (all_items two_files) (ToplevelItem alias ∷ ToplevelItem of_an_alias ∷ []) (record { rule = 7; span = at 16 17; name = Some (codes "y"); sort = Missing (codes "interface or world"); hint = None })
+    original_missing = LostUse of_an_alias (1, lit< tt, refl) (id (codes "y") (at 16 17) refl) refl refl refl

@@ -168,14 +168,14 @@ module _ (ptr : Ptr) (alloc : Global) where
     end_of_a = refl
 
     a_ends : EndsAt files in_i (a_id (at 98 99)) AtResource
-    a_ends = record { steps = 2; is = refl }
+    a_ends = (2, refl)
 
     in_handles : turn_handles (turned ordered) ≡ ((in_i, r_id (at 73 74)) ∷ (in_i, a_id (at 87 88)) ∷ (in_i, a_id (at 98 99)) ∷ [])
     in_handles = refl
 
     -- nothing is required of other packages
     required : AreRequired files ks (turn_handles (turned ordered)) []
-    required = required_more files ks _ None _ [] (record { steps = 1; is = refl }) (required_more files ks _ None _ [] (record { steps = 2; is = refl }) (required_more files ks _ None _ [] (record { steps = 2; is = refl }) (required_none files ks)))
+    required = required_more files ks _ None _ [] (1, refl) (required_more files ks _ None _ [] (2, refl) (required_more files ks _ None _ [] (2, refl) (required_none files ks)))
 
   -- use a:b/c.{r}; f: func(x: borrow<r>);
   module _ where
@@ -217,7 +217,7 @@ module _ (ptr : Ptr) (alloc : Global) where
     end_of_used = refl
 
     used_ends : EndsAt user_files in_i (r_id (at 64 65)) (AtForeign in_c (codes "r"))
-    used_ends = record { steps = 2; is = refl }
+    used_ends = (2, refl)
 
     -- so that entry is required to be a resource, where the name is written in the handle
     user_required : AreRequired user_files user_keys (turn_handles (turned user_ordered)) ((0, at 64 65) ∷ [])
@@ -240,7 +240,7 @@ module _ (ptr : Ptr) (alloc : Global) where
     end_of_lent = refl
 
     lent_ends : EndsAt (file_of lender ∷ []) in_i (t_id (at 62 63)) Elsewhere
-    lent_ends = record { steps = 2; is = refl }
+    lent_ends = (2, refl)
 
     lent_refused : IsBroken (file_of lender ∷ []) (fault 27 (at 62 63))
-    lent_refused = Handle (item_of lender) (0, lit< tt, refl) (record { id = t_id (at 62 63); among = (0, lit< tt, refl); ends = lent_ends; is = refl })
+    lent_refused = Handle (item_of lender) (0, lit< tt, refl) (t_id (at 62 63), (0, lit< tt, refl), lent_ends, refl)

@@ -1,7 +1,6 @@
 -- Worked rows about interfaces that a world imports and exports by their paths.
 use Rattle.std.proofs.Common.{◌≡◌, ℕ, zero, suc, true, false, List, [], ◌∷◌, map, Option, Some, None, refl, sym, ap, ◌∙◌, subst, lit<, take, Contains}
 use Rattle.std.specs.Prelude.{codes, slice_get}
-use Rattle.std.specs.List.{flat_map}
 use Rattle.std.specs.Str.{bytes_eq}
 use Rattle.std.specs.declared.alloc.Global.{Global}
 use denote.RawPtr.{Ptr}
@@ -25,13 +24,14 @@ use Rattle.wit_syntax.specs.Fault.{Fault, fault}
 use Rattle.wit_syntax.specs.Notes.{IsBrokenNotes}
 use Rattle.wit_syntax.specs.Repeats.{AllDiffer}
 use Rattle.wit_syntax.specs.Source.{top_names, TheWorld, Item, path_scope}
-use Rattle.wit_syntax.specs.Sides.{SideItem, SideLink, Link, side_items, links, items_on, side_called, bare_scope, IsBrokenSides, FoldedTwice, CrossedTwice, LinkedTwice, LinkNotes, InlineNotes}
+use Rattle.wit_syntax.specs.Sides.{SideItem, SideLink, Link, side_items, items_on, side_called, IsBrokenSides, FoldedTwice, CrossedTwice, LinkedTwice, InterfaceNotes, interface_attributes}
 use Rattle.wit_syntax.specs.Broken.{IsBroken, Sides}
 use Rattle.wit_syntax.proofs.Found.{at_contains}
 use Rattle.wit_syntax.proofs.Legal.{no_fold, no_crossed}
 use Rattle.wit_syntax.proofs.Repeated.{differ_none, called_key}
+use Rattle.wit_syntax.proofs.Unnoted.{unbroken_notes}
 use Rattle.wit_meaning_examples.proofs.Examples.{at, id, vec, no_comments, untold, header}
-use Rattle.wit_meaning_examples.proofs.SideExamples.{no_rows, none_among, no_notes}
+use Rattle.wit_meaning_examples.proofs.SideExamples.{no_rows, none_among, attributes_of}
 
 -- two that differ
 pub two_differ : {X : Type 0} (x y : X) → (x ≡ y → ⊥) → AllDiffer (x ∷ y ∷ [])
@@ -53,11 +53,6 @@ named x y name same has none =
     let wrong : Some name ≡ None = sym has ∙ ap (λ (l : Link). l.name) one ∙ none in
     let f : ⊥ = cc in
     f
-
-attributes_of : (x y : Link) → Some x ≡ Some y → x.attributes ≡ [] → y.attributes ≡ []
-attributes_of x y same none =
-    let one : x ≡ y = cc in
-    ap (λ (l : Link). l.attributes) (sym one) ∙ none
 
 module _ (ptr : Ptr) (alloc : Global) where
   abbrev i_at : Span → Id
@@ -96,15 +91,7 @@ module _ (ptr : Ptr) (alloc : Global) where
 
     -- so it is imported twice
     twice_refused : IsBroken (file ∷ []) (fault 43 (at 71 72))
-    twice_refused = Sides item (1, lit< tt, refl) (LinkedTwice (record {
-      side = Imported;
-      place = 1;
-      link = link Imported None (j_at (at 71 72));
-      at = refl;
-      bare = refl;
-      among = (0, lit< tt, refl);
-      is = refl;
-    }))
+    twice_refused = Sides item (1, lit< tt, refl) (LinkedTwice (Imported, 1, link Imported None (i_at (at 61 62)), link Imported None (j_at (at 71 72)), (0, lit< tt, refl), refl, refl, refl, refl, refl))
 
   -- world w { import i; import a: i; import b: i; export i; }
   module _ where
@@ -127,31 +114,30 @@ module _ (ptr : Ptr) (alloc : Global) where
     items = side_items several_item
 
     -- two have names, on one side
-    keys : (side : WorldSide) → AllDiffer (map called_key (side_called side [] items []))
+    keys : (side : WorldSide) → AllDiffer (map called_key (side_called side [] (items_on side items) []))
     keys Imported = two_differ (codes "a") (codes "b") (λ same. (let wrong : true ≡ false = ap (bytes_eq (codes "a")) same in let f : ⊥ = cc in f))
     keys Exported = differ_none
 
     -- and one has none on each
-    bare_alone : (side : WorldSide) (place : ℕ) (own : Link) → slice_get (items_on side items) place ≡ Some (SideLink own) → own.name ≡ None → Contains (flat_map (bare_scope several_item.top) (take place (items_on side items))) (path_scope several_item.top own.path) → ⊥
-    bare_alone Imported zero own here bare among = none_among (path_scope several_item.top own.path) among
-    bare_alone Imported (suc zero) own here bare among = named (link Imported (Some a_id) (i_at (at 62 63))) own a_id here refl bare
-    bare_alone Imported (suc (suc zero)) own here bare among = named (link Imported (Some b_id) (i_at (at 75 76))) own b_id here refl bare
-    bare_alone Imported (suc (suc (suc place))) own here bare among = let f : ⊥ = cc in f
-    bare_alone Exported zero own here bare among = none_among (path_scope several_item.top own.path) among
-    bare_alone Exported (suc place) own here bare among = let f : ⊥ = cc in f
+    bare_alone : (side : WorldSide) (place : ℕ) (earlier own : Link) → Contains (take place (items_on side items)) (SideLink earlier) → slice_get (items_on side items) place ≡ Some (SideLink own) → own.name ≡ None → ⊥
+    bare_alone Imported zero earlier own among here bare = none_among (SideLink earlier) among
+    bare_alone Imported (suc zero) earlier own among here bare = named (link Imported (Some a_id) (i_at (at 62 63))) own a_id here refl bare
+    bare_alone Imported (suc (suc zero)) earlier own among here bare = named (link Imported (Some b_id) (i_at (at 75 76))) own b_id here refl bare
+    bare_alone Imported (suc (suc (suc place))) earlier own among here bare = let f : ⊥ = cc in f
+    bare_alone Exported zero earlier own among here bare = none_among (SideLink earlier) among
+    bare_alone Exported (suc place) earlier own among here bare = let f : ⊥ = cc in f
 
-    untold_link : (k : ℕ) (own : Link) → slice_get (links several_item) k ≡ Some own → own.attributes ≡ []
-    untold_link zero own here = attributes_of (link Imported None (i_at (at 49 50))) own here refl
-    untold_link (suc zero) own here = attributes_of (link Imported (Some a_id) (i_at (at 62 63))) own here refl
-    untold_link (suc (suc zero)) own here = attributes_of (link Imported (Some b_id) (i_at (at 75 76))) own here refl
-    untold_link (suc (suc (suc zero))) own here = attributes_of (link Exported None (i_at (at 85 86))) own here refl
-    untold_link (suc (suc (suc (suc k)))) own here = absurd (let f : ⊥ = cc in f)
+    untold_link : (k : ℕ) (x : SideItem) → slice_get items k ≡ Some x → interface_attributes x ≡ []
+    untold_link zero x here = attributes_of (SideLink (link Imported None (i_at (at 49 50)))) x here refl
+    untold_link (suc zero) x here = attributes_of (SideLink (link Imported (Some a_id) (i_at (at 62 63)))) x here refl
+    untold_link (suc (suc zero)) x here = attributes_of (SideLink (link Imported (Some b_id) (i_at (at 75 76)))) x here refl
+    untold_link (suc (suc (suc zero))) x here = attributes_of (SideLink (link Exported None (i_at (at 85 86)))) x here refl
+    untold_link (suc (suc (suc (suc k)))) x here = absurd (let f : ⊥ = cc in f)
 
     sides_pass : (f : Fault) → IsBrokenSides several_item f → ⊥
     sides_pass f (FoldedTwice h) = no_fold [] items [] f no_rows keys h
     sides_pass f (CrossedTwice h) = no_crossed [] items [] f no_rows keys h
-    sides_pass f (LinkedTwice h) = bare_alone h.side h.place h.link h.at h.bare h.among
-    sides_pass f (LinkNotes own among h) =
-        let it = at_contains (links several_item) own among in
-        no_notes f (subst (λ (l : List Attribute). IsBrokenNotes l f) (untold_link it.0 own it.1) h)
-    sides_pass f (InlineNotes x among h) = none_among x among
+    sides_pass f (LinkedTwice h) = bare_alone h.0 h.1 h.2 h.3 h.4 h.5 h.7
+    sides_pass f (InterfaceNotes x among h) =
+        let it = at_contains items x among in
+        unbroken_notes f (subst (λ (l : List Attribute). IsBrokenNotes l f) (untold_link it.0 x it.1) h)

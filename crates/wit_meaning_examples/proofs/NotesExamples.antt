@@ -12,6 +12,8 @@ use Rattle.wit_values.specs.declared.span.Span.{Span}
 use Rattle.wit_values.specs.declared.release.Release.{Release}
 use Rattle.wit_type_tree.specs.declared.leaves.Attribute.{Attribute}
 use Rattle.wit_type_tree.specs.declared.leaves.Attribute.TheVariants as attribute
+use Rattle.wit_type_tree.specs.declared.attribute_kind.AttributeKind.TheVariants.{ExternalId}
+use Rattle.wit_type_tree.specs.Attributes.{told_text}
 use Rattle.wit_tree.specs.declared.tree.AstItem.TheVariants.{Use as ToplevelItem}
 use Rattle.wit_type_tree.specs.declared.leaves.Docs.{Docs as Comments}
 use Rattle.wit_type_tree.specs.declared.types.Primitive.TheVariants as primitive
@@ -28,12 +30,12 @@ use Rattle.wit_types.specs.declared.types.TypeDef.{TypeDef}
 use Rattle.wit_types.specs.declared.types.TypeDefKind.TheVariants as kind
 use Rattle.wit_types.specs.declared.types.TypeOwner.TheVariants as owner
 use Rattle.wit_syntax.specs.Address.{Address, InterfaceNamed}
-use Rattle.wit_syntax.specs.Broken.{IsSecondDocs, IsAttributedTopUse}
+use Rattle.wit_syntax.specs.Broken.{IsSecondDocs, IsWrongTop, AttributedUse}
 use Rattle.wit_arena.specs.Expr.{Prim, one}
 use Rattle.wit_syntax.specs.Fault.{fault}
 use Rattle.wit_syntax.specs.Form.{ListForm}
 use Rattle.wit_arena.specs.Meet.{Def, Whole, Meeting, name_meetings, settled, IsSettled}
-use Rattle.wit_syntax.specs.Notes.{docs_of, no_docs, stability_of, external_id_of, AreNotes, first_known, IsBrokenStability, SinceTwice, SinceAndUnstable, DeprecatedAlone, IsBrokenNotes}
+use Rattle.wit_syntax.specs.Notes.{docs_of, no_docs, stability_of, AreNotes, first_known, IsBrokenStability, SinceTwice, SinceAndUnstable, DeprecatedAlone, IsBrokenNotes}
 use Rattle.wit_arena.specs.Resolving.{named, unnamed}
 use Rattle.wit_syntax.specs.Source.{Defined, about_name}
 use Rattle.wit_meaning_examples.proofs.Examples.{at, id, vec, no_comments}
@@ -85,7 +87,7 @@ module _ (ptr : Ptr) (alloc : Global) where
   nothing_told : stability_of [] ≡ Unknown
   nothing_told = refl
 
-  id_told : external_id_of (since 1 (at 31 54) ∷ attribute.ExternalId (at 55 72) (record { ref_ptr = (0, 0); now = codes "x" }) ∷ []) ≡ Some (codes "x")
+  id_told : told_text ExternalId (since 1 (at 31 54) ∷ attribute.ExternalId (at 55 72) (record { ref_ptr = (0, 0); now = codes "x" }) ∷ []) ≡ Some (codes "x")
   id_told = refl
 
   -- package foo:foo; interface i { @since(version = 1.0.0) type x = list<list<u8>>; }
@@ -128,7 +130,7 @@ module _ (ptr : Ptr) (alloc : Global) where
 
   -- @since(version = 1.0.0) @since(version = 2.0.0)
   since_twice : IsBrokenStability (since 1 (at 0 23) ∷ since 2 (at 24 47) ∷ []) (fault 30 (at 24 47))
-  since_twice = SinceTwice (record { place = 1; later = _; at = refl; of = refl; behind = λ none. (let f : ⊥ = cc in f); is = refl })
+  since_twice = SinceTwice (1, _, refl, refl, (λ none. (let f : ⊥ = cc in f)), refl)
 
   -- @unstable(feature = f) @since(version = 1.0.0)
   both_told : IsBrokenStability (unstable (at 0 22) ∷ since 1 (at 23 46) ∷ []) (fault 33 (at 23 46))
@@ -139,7 +141,7 @@ module _ (ptr : Ptr) (alloc : Global) where
   x_and_y = attribute.ExternalId (at 0 17) (record { ref_ptr = (0, 0); now = codes "x" }) ∷ attribute.ExternalId (at 18 35) (record { ref_ptr = (0, 0); now = codes "y" }) ∷ []
 
   id_twice : IsBrokenNotes x_and_y (fault 35 (at 18 35))
-  id_twice = inr (record { place = 1; later = _; at = refl; of = refl; behind = λ none. (let f : ⊥ = cc in f); is = refl })
+  id_twice = inr (1, _, refl, refl, (λ none. (let f : ⊥ = cc in f)), refl)
 
   -- @deprecated(version = 2.0.0)
   deprecated_alone : IsBrokenStability (deprecated (at 0 28) ∷ []) (fault 34 (at 0 28))
@@ -163,5 +165,5 @@ module _ (ptr : Ptr) (alloc : Global) where
   abbrev attributed : ToplevelUse
   attributed = record { span = at 24 27; attributes = vec ptr alloc (since 1 (at 0 23) ∷ []) (lit< tt); item = path.Id (id ptr alloc (codes "x") (at 28 29) refl); as_ = Some (id ptr alloc (codes "y") (at 33 34) refl) }
 
-  use_attributed : IsAttributedTopUse (ToplevelItem attributed ∷ []) (fault 9 (at 24 27))
-  use_attributed = record { u = _; among = (0, lit< tt, refl); attributed = λ none. (let f : ⊥ = cc in f); is = refl }
+  use_attributed : IsWrongTop [] (ToplevelItem attributed ∷ []) (fault 9 (at 24 27))
+  use_attributed = AttributedUse _ (0, lit< tt, refl) (λ none. (let f : ⊥ = cc in f)) refl

@@ -183,17 +183,17 @@ module _ (ptr : Ptr) (alloc : Global) where
     no_getter (suc (suc k)) g at same = let f : ⊥ = cc in f
 
     alone : IsSetterAlone item (fault 18 (at 55 56))
-    alone = record {
-      closed = refl;
-      side = Imported;
-      alone = (
+    alone = (
+      refl,
+      Imported,
+      (
         _,
         (1, lit< tt, refl),
         refl,
         λ g among same. (let it = at_contains (functions item) g among in no_getter it.0 g it.1 same),
         refl,
-      );
-    }
+      ),
+    )
 
     abbrev types : List TypeDef
     types = record { name = Some (codes "r"); kind = kind.Resource; owner = owner.World 0; docs = no_docs; stability = Unknown; span = at 36 37; external_id = None }

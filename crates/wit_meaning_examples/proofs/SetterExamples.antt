@@ -79,14 +79,14 @@ module _ (ptr : Ptr) (alloc : Global) where
   no_getter (suc k) g there same = absurd (let f : ⊥ = cc in f)
 
   alone_refused : IsBroken (file ∷ []) (fault 18 (at 57 58))
-  alone_refused = Setter item (0, lit< tt, refl) (record {
-    closed = refl;
-    side = Exported;
-    alone = (
+  alone_refused = Setter item (0, lit< tt, refl) (
+    refl,
+    Exported,
+    (
       _,
       (0, lit< tt, refl),
       refl,
       λ g among same. (let it = at_contains (on_side Exported (functions item)) g among in no_getter it.0 g it.1 same),
       refl,
-    );
-  })
+    ),
+  )

@@ -1,7 +1,6 @@
 -- Worked rows about functions that a world imports and exports.
-use Rattle.std.proofs.Common.{◌≡◌, ℕ, zero, suc, List, [], ◌∷◌, map, Some, None, inl, inr, refl, subst, arith, lit<, Contains}
+use Rattle.std.proofs.Common.{◌≡◌, ℕ, zero, suc, List, [], ◌∷◌, map, Some, None, refl, sym, ap, ◌∙◌, subst, arith, lit<, Contains}
 use Rattle.std.specs.Prelude.{codes, slice_get}
-use Rattle.std.proofs.lemmas.Option.{none-some}
 use Rattle.std.specs.declared.alloc.Global.{Global}
 use denote.RawPtr.{Ptr}
 use Rattle.wit_values.specs.declared.span.Span.{Span}
@@ -27,15 +26,16 @@ use Rattle.wit_functions.specs.declared.function.FunctionKind.TheVariants as fun
 use Rattle.wit_model.specs.declared.unresolved.UnresolvedPackage.{UnresolvedPackage}
 use Rattle.wit_graph.specs.Table.{IsOrder}
 use Rattle.wit_syntax.specs.Fault.{Fault, fault}
-use Rattle.wit_syntax.specs.Notes.{no_docs, IsBrokenStability, SinceTwice, DeprecatedTwice, UnstableTwice, SinceAndUnstable, DeprecatedAlone, IsBrokenNotes}
+use Rattle.wit_syntax.specs.Notes.{no_docs, IsBrokenNotes}
 use Rattle.wit_syntax.specs.Repeats.{AllDiffer}
 use Rattle.wit_syntax.specs.Source.{top_names, TheWorld, Item, Defined, scope_names}
 use Rattle.wit_syntax.specs.Function.{SourceFunction, side_function, functions, role_names}
 use Rattle.wit_syntax.specs.Signature.{IsBrokenFunction, BrokenNotes, BrokenTypes, MissingInSignature, GetterGiven, SetterGiven, DuplicateParam, GetterWithoutResult, SetterWithResult, ConstructorWithoutResult, ConstructorOfOther}
-use Rattle.wit_syntax.specs.Sides.{SideItem, SideFunction, SideLink, Link, side_items, items_on, side_called, IsFoldedTwice, IsCrossedTwice, IsBrokenSides, FoldedTwice, CrossedTwice, LinkedTwice, LinkNotes, InlineNotes}
+use Rattle.wit_syntax.specs.Sides.{SideItem, SideFunction, SideLink, Link, side_items, items_on, side_called, IsFoldedTwice, IsCrossedTwice, IsBrokenSides, FoldedTwice, CrossedTwice, LinkedTwice, InterfaceNotes, interface_attributes}
 use Rattle.wit_syntax.specs.Broken.{IsBrokenScope, DefinedTwice, MissingType, CyclicType, Notes, Body, Function, IsBroken, Sides}
 use Rattle.wit_syntax.proofs.Found.{at_contains}
 use Rattle.wit_syntax.proofs.Legal.{no_fold, no_crossed}
+use Rattle.wit_syntax.proofs.Unnoted.{unbroken_notes}
 use Rattle.wit_arena.specs.Functions.{function_item, made_on}
 use Rattle.wit_arena.specs.Package.{functions_of}
 use Rattle.wit_meaning_examples.proofs.Examples.{at, id, vec, no_comments, untold, header}
@@ -69,20 +69,11 @@ one_differs x = record { differ = differ }
 pub none_among : {X : Type 0} (x : X) → Contains [] x → ⊥
 none_among x h = let it = at_contains [] x h in let f : ⊥ = (let there = it.1 in cc) in f
 
-no_attribute : (place : ℕ) (a : Attribute) → slice_get [] place ≡ Some a → ⊥
-no_attribute place a there = let f : ⊥ = cc in f
-
--- no rule of attributes is broken where there are none
-no_stability : (f : Fault) → IsBrokenStability [] f → ⊥
-no_stability f (SinceTwice h) = no_attribute h.place h.later h.at
-no_stability f (DeprecatedTwice h) = no_attribute h.place h.later h.at
-no_stability f (UnstableTwice h) = no_attribute h.place h.later h.at
-no_stability f (SinceAndUnstable since first unstable is) = none-some since first
-no_stability f (DeprecatedAlone deprecated first no_since no_unstable is) = none-some deprecated first
-
-pub no_notes : (f : Fault) → IsBrokenNotes [] f → ⊥
-no_notes f (inl h) = no_stability f h
-no_notes f (inr h) = no_attribute h.place h.later h.at
+-- what is the same has the same attributes
+pub attributes_of : (x y : SideItem) → Some x ≡ Some y → interface_attributes x ≡ [] → interface_attributes y ≡ []
+attributes_of x y same none =
+    let one : x ≡ y = cc in
+    ap interface_attributes (sym one) ∙ none
 
 module _ (ptr : Ptr) (alloc : Global) where
   -- a function without parameters that a world imports or exports, where its name and `func` stand
@@ -114,20 +105,20 @@ module _ (ptr : Ptr) (alloc : Global) where
     abbrev folding : WrittenWorld
     folding = w (crossing Imported (id ptr alloc (codes "F") (at 52 53) refl) (at 55 59))
 
-    one_key : map called_key (side_called Imported [] (side_items (item_of folding)) []) ≡ (codes "f" ∷ codes "f" ∷ [])
+    one_key : map called_key (side_called Imported [] (items_on Imported (side_items (item_of folding))) []) ≡ (codes "f" ∷ codes "f" ∷ [])
     one_key = refl
 
     folding_refused : IsBroken (file_of folding ∷ []) (fault 17 (at 52 53))
-    folding_refused = Sides (item_of folding) (0, lit< tt, refl) (FoldedTwice (record {
-      side = Imported;
-      order = [];
-      least = no_rows;
-      twice = (
+    folding_refused = Sides (item_of folding) (0, lit< tt, refl) (FoldedTwice (
+      Imported,
+      [],
+      no_rows,
+      (
         record { name = codes "F"; span = at 52 53 },
         (0, 1, lit< tt, record { name = codes "f"; span = at 34 35 }, refl, refl, refl),
         refl,
-      );
-    }))
+      ),
+    ))
 
   -- import f: func(); import f: func();
   module _ where
@@ -135,21 +126,21 @@ module _ (ptr : Ptr) (alloc : Global) where
     repeating = w (crossing Imported (f_at (at 52 53)) (at 55 59))
 
     repeating_refused : IsBroken (file_of repeating ∷ []) (fault 44 (at 52 53))
-    repeating_refused = Sides (item_of repeating) (0, lit< tt, refl) (CrossedTwice (record {
-      side = Imported;
-      order = [];
-      least = no_rows;
-      place = 1;
-      later = SideFunction (plain Imported (at 52 53) (at 55 59));
-      at = refl;
-      crosses = (Imported, f_at (at 52 53), form.Plain, refl);
-      called = record { name = codes "f"; span = at 52 53 };
-      named = refl;
-      earlier = record { name = codes "f"; span = at 34 35 };
-      among = (0, lit< tt, refl);
-      same = refl;
-      is = refl;
-    }))
+    repeating_refused = Sides (item_of repeating) (0, lit< tt, refl) (CrossedTwice (
+      Imported,
+      [],
+      no_rows,
+      1,
+      SideFunction (plain Imported (at 52 53) (at 55 59)),
+      refl,
+      (Imported, f_at (at 52 53), form.Plain, refl),
+      record { name = codes "f"; span = at 52 53 },
+      refl,
+      record { name = codes "f"; span = at 34 35 },
+      (0, lit< tt, refl),
+      refl,
+      refl,
+    ))
 
   -- import f: func(); export f: func();
   module _ where
@@ -166,7 +157,7 @@ module _ (ptr : Ptr) (alloc : Global) where
     free = refl
 
     -- one stands on each side
-    keys_of : (side : WorldSide) → AllDiffer (map called_key (side_called side [] items []))
+    keys_of : (side : WorldSide) → AllDiffer (map called_key (side_called side [] (items_on side items) []))
     keys_of Imported = one_differs (codes "f")
     keys_of Exported = one_differs (codes "f")
 
@@ -176,16 +167,20 @@ module _ (ptr : Ptr) (alloc : Global) where
     no_link Exported zero link there = let g : ⊥ = cc in g
     no_link Exported (suc place) link there = let g : ⊥ = cc in g
 
+    untold_items : (k : ℕ) (x : SideItem) → slice_get items k ≡ Some x → interface_attributes x ≡ []
+    untold_items zero x there = attributes_of (SideFunction (plain Imported (at 34 35) (at 37 41))) x there refl
+    untold_items (suc zero) x there = attributes_of (SideFunction (plain Exported (at 52 53) (at 55 59))) x there refl
+    untold_items (suc (suc k)) x there = absurd (let f : ⊥ = cc in f)
+
     sides_pass : (f : Fault) → IsBrokenSides (item_of passing) f → ⊥
     sides_pass f (FoldedTwice h) = no_fold [] items [] f no_rows keys_of h
     sides_pass f (CrossedTwice h) = no_crossed [] items [] f no_rows keys_of h
-    sides_pass f (LinkedTwice h) = no_link h.side h.place h.link h.at
-    sides_pass f (LinkNotes link among h) = none_among link among
-    sides_pass f (InlineNotes x among h) = none_among x among
+    sides_pass f (LinkedTwice h) = no_link h.0 h.1 h.3 h.5
+    sides_pass f (InterfaceNotes x among h) = (let it = at_contains items x among in unbroken_notes f (subst (λ (l : List Attribute). IsBrokenNotes l f) (untold_items it.0 x it.1) h))
 
     -- a function without parameters and result breaks no rule of functions
     none_in : (side : WorldSide) (name word : Span) (k : ℕ) (f : Fault) → IsBrokenFunction [] fns k (plain side name word) f → ⊥
-    none_in side name word k f (BrokenNotes h) = no_notes f h
+    none_in side name word k f (BrokenNotes h) = unbroken_notes f h
     none_in side name word k f (BrokenTypes h) = none_among h.0 h.1
     none_in side name word k f (MissingInSignature id among missing told) = none_among id among
     none_in side name word k f (GetterGiven h) = let wrong = h.0 in let g : ⊥ = cc in g
@@ -204,8 +199,8 @@ module _ (ptr : Ptr) (alloc : Global) where
     -- the scope breaks no rule
     none_broken : (f : Fault) → IsBrokenScope (scope_names (item_of passing)) fns f → ⊥
     none_broken f (DefinedTwice h) = let wrong = h.1.4 in let g : ⊥ = cc in g
-    none_broken f (MissingType h) = let wrong = h.edge.1 in let g : ⊥ = cc in g
-    none_broken f (CyclicType h) = let wrong = h.edge.1 in let g : ⊥ = cc in g
+    none_broken f (MissingType h) = let wrong = h.3.1 in let g : ⊥ = cc in g
+    none_broken f (CyclicType h) = let wrong = h.4.1 in let g : ⊥ = cc in g
     none_broken f (Notes d among h) = none_among (Defined d) among
     none_broken f (Body d among h) = none_among (Defined d) among
     none_broken f (Function k fn at_k h) = none_at k fn at_k f h
@@ -251,27 +246,27 @@ module _ (ptr : Ptr) (alloc : Global) where
     clashing = beside (crossing Imported (f_at (at 47 48)) (at 50 54))
 
     clashing_refused : IsBroken (file_of clashing ∷ []) (fault 44 (at 47 48))
-    clashing_refused = Sides (item_of clashing) (0, lit< tt, refl) (CrossedTwice (record {
-      side = Imported;
-      order = 0 ∷ [];
-      least = one_order (codes "f");
-      place = 0;
-      later = SideFunction (plain Imported (at 47 48) (at 50 54));
-      at = refl;
-      crosses = (Imported, f_at (at 47 48), form.Plain, refl);
-      called = record { name = codes "f"; span = at 47 48 };
-      named = refl;
-      earlier = record { name = codes "f"; span = at 32 33 };
-      among = (0, lit< tt, refl);
-      same = refl;
-      is = refl;
-    }))
+    clashing_refused = Sides (item_of clashing) (0, lit< tt, refl) (CrossedTwice (
+      Imported,
+      0 ∷ [],
+      one_order (codes "f"),
+      0,
+      SideFunction (plain Imported (at 47 48) (at 50 54)),
+      refl,
+      (Imported, f_at (at 47 48), form.Plain, refl),
+      record { name = codes "f"; span = at 47 48 },
+      refl,
+      record { name = codes "f"; span = at 32 33 },
+      (0, lit< tt, refl),
+      refl,
+      refl,
+    ))
 
     -- export f: func();
     abbrev apart : WrittenWorld
     apart = beside (crossing Exported (f_at (at 47 48)) (at 50 54))
 
-    keys_apart : (side : WorldSide) → AllDiffer (map called_key (side_called side (scope_names (item_of apart)) (side_items (item_of apart)) (0 ∷ [])))
+    keys_apart : (side : WorldSide) → AllDiffer (map called_key (side_called side (scope_names (item_of apart)) (items_on side (side_items (item_of apart))) (0 ∷ [])))
     keys_apart Imported = one_differs (codes "f")
     keys_apart Exported = one_differs (codes "f")
 

@@ -44,7 +44,7 @@ use Rattle.wit_syntax.specs.Function.{SourceFunction, functions, role_names}
 use Rattle.wit_arena.specs.Functions.{placed_functions}
 use Rattle.wit_syntax.specs.Signature.{Called, OfFunction, MissingInSignature, DuplicateParam, SetterWithResult, ConstructorOfOther, IsWrittenAs, result_ok}
 use Rattle.wit_tree.specs.declared.tree.WorldSide.TheVariants.{Imported}
-use Rattle.wit_syntax.specs.Sides.{side_items, all_scopes, side_called, FoldedTwice}
+use Rattle.wit_syntax.specs.Sides.{side_items, all_scopes, side_called, FoldedTwice, items_on}
 use Rattle.wit_syntax.specs.Broken.{IsBrokenScope, MissingType, Function, IsBroken, Scope, Sides, MissingName, Setter}
 use Rattle.wit_arena.specs.Whole.{turned, meetings}
 use Rattle.wit_syntax.proofs.Found.{contains_at, at_contains}
@@ -152,7 +152,7 @@ module _ (ptr : Ptr) (alloc : Global) where
     clash = i_of (TypeItem (resource_of (r_id (at 40 41)) (resource.Method (func (r_id (at 44 45)) (at 47 51) form.Plain None) ∷ []) (lit< tt)) ∷ []) (lit< tt)
 
     abbrev clashing : List Called
-    clashing = side_called Imported (scope_names (item_of clash)) (side_items (item_of clash)) (0 ∷ [])
+    clashing = side_called Imported (scope_names (item_of clash)) (items_on Imported (side_items (item_of clash))) (0 ∷ [])
 
     clashing_names : map (λ (c : Called). c.name) clashing ≡ (codes "r" ∷ codes "[method]r.r" ∷ [])
     clashing_names = refl
@@ -161,29 +161,29 @@ module _ (ptr : Ptr) (alloc : Global) where
     one_key = refl
 
     clash_refused : IsBroken (file_of clash ∷ []) (fault 17 (at 44 45))
-    clash_refused = Sides (item_of clash) (0, lit< tt, refl) (FoldedTwice (record {
-      side = Imported;
-      order = 0 ∷ [];
-      least = one_order (codes "r");
-      twice = (
+    clash_refused = Sides (item_of clash) (0, lit< tt, refl) (FoldedTwice (
+      Imported,
+      0 ∷ [],
+      one_order (codes "r"),
+      (
         record { name = codes "[method]r.r"; span = at 44 45 },
         (0, 1, lit< tt, record { name = codes "r"; span = at 40 41 }, refl, refl, refl),
         refl,
-      );
-    }))
+      ),
+    ))
 
   -- resource r { constructor(); }
   abbrev maker : Interface
   maker = i_of (TypeItem (resource_of (r_id (at 40 41)) (resource.Constructor (no_comments ptr alloc) (untold ptr alloc) (at 44 55) (vec ptr alloc [] (lit< tt)) None ∷ []) (lit< tt)) ∷ []) (lit< tt)
 
-  two_keys : map called_key (side_called Imported (scope_names (item_of maker)) (side_items (item_of maker)) (0 ∷ [])) ≡ (codes "r" ∷ codes "[constructor]r" ∷ [])
+  two_keys : map called_key (side_called Imported (scope_names (item_of maker)) (items_on Imported (side_items (item_of maker))) (0 ∷ [])) ≡ (codes "r" ∷ codes "[constructor]r" ∷ [])
   two_keys = refl
 
   -- type x = u8; x: get() -> u8;
   abbrev getter_beside : Interface
   getter_beside = i_of (TypeItem (record { docs = no_comments ptr alloc; attributes = untold ptr alloc; name = x_id (at 36 37); body = Plain (written.Primitive (at 40 42) primitive.U8) }) ∷ FuncItem (func (x_id (at 44 45)) (at 47 50) form.Getter (Some (written.Primitive (at 56 58) primitive.U8))) ∷ []) (lit< tt)
 
-  keys_beside : map called_key (side_called Imported (scope_names (item_of getter_beside)) (side_items (item_of getter_beside)) (0 ∷ [])) ≡ (codes "x" ∷ codes "[get]x" ∷ [])
+  keys_beside : map called_key (side_called Imported (scope_names (item_of getter_beside)) (items_on Imported (side_items (item_of getter_beside))) (0 ∷ [])) ≡ (codes "x" ∷ codes "[get]x" ∷ [])
   keys_beside = refl
 
   -- x: set(v: u8); f: func(); x: get() -> u8;
@@ -219,17 +219,17 @@ module _ (ptr : Ptr) (alloc : Global) where
     no_getter (suc (suc k)) g there is = let f : ⊥ = cc in f
 
     unpaired_refused : IsBroken (file_of unpaired ∷ []) (fault 18 (at 60 61))
-    unpaired_refused = Setter (item_of unpaired) (0, lit< tt, refl) (record {
-      closed = refl;
-      side = Imported;
-      alone = (
+    unpaired_refused = Setter (item_of unpaired) (0, lit< tt, refl) (
+      refl,
+      Imported,
+      (
         _,
         (1, lit< tt, refl),
         refl,
         λ g among same. (let there = at_contains fns g among in no_getter there.0 g there.1 (ap (λ n. bytes_eq n (codes "[static][get]r.x")) same)),
         refl,
-      );
-    })
+      ),
+    )
 
   -- resource r { constructor() -> result<own<r>>; }
   module _ where
@@ -286,7 +286,7 @@ module _ (ptr : Ptr) (alloc : Global) where
   behind_name = i_of (TypeItem (record { docs = no_comments ptr alloc; attributes = untold ptr alloc; name = t_id (at 36 37); body = Plain (written.Name (f_id (at 40 41))) }) ∷ FuncItem (func (f_id (at 43 44)) (at 46 50) form.Plain None) ∷ []) (lit< tt)
 
   behind_name_refused : IsBroken (file_of behind_name ∷ []) (record { rule = 15; span = at 40 41; name = Some (codes "f"); sort = Missing (codes "type"); hint = None })
-  behind_name_refused = in_scope behind_name _ (MissingType (record { place = 0; index = 0; id = f_id (at 40 41); edge = (record { name = codes "t"; needs = f_id (at 40 41) ∷ [] }, refl, refl); missing = refl; is = refl }))
+  behind_name_refused = in_scope behind_name _ (MissingType (0, 0, f_id (at 40 41), (record { name = codes "t"; needs = f_id (at 40 41) ∷ [] }, refl, refl), refl, refl))
 
   -- resource r { m: func(self: u8); }
   abbrev two_selves : Interface
@@ -338,4 +338,4 @@ module _ (ptr : Ptr) (alloc : Global) where
     item_in_both i = record { top = top_names both; declared = TheInterface i }
 
     used_refused : IsBroken (both ∷ []) (fault 13 (at 65 66))
-    used_refused = MissingName (item_in_both b) (1, lit< tt, refl) (record { from = InterfaceNamed (codes "a"); attributes = []; n = used_f; among = (0, lit< tt, refl); target = item_in_both a; declared = refl; missing = refl; told = OfFunction (0, lit< tt, refl) refl })
+    used_refused = MissingName (item_in_both b) (1, lit< tt, refl) (InterfaceNamed (codes "a")) [] used_f (0, lit< tt, refl) (item_in_both a) refl refl (OfFunction (0, lit< tt, refl) refl)

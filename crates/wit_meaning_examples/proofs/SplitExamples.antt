@@ -24,7 +24,7 @@ use Rattle.wit_tree.specs.declared.tree.WorldSide.{WorldSide}
 use Rattle.wit_tree.specs.declared.tree.WorldSide.TheVariants.{Imported, Exported}
 use Rattle.wit_syntax.specs.Address.{Address, ForeignNamed}
 use Rattle.wit_syntax.specs.Bodies.{IsBrokenBody, IsBrokenType, Itself, Inside}
-use Rattle.wit_syntax.specs.Broken.{headers, DuplicateItem, DuplicateTopName, MissingItem, CyclicItem, IsBrokenNames, Items, ForeignStability, AttributedTopUse, MissingOriginal, is_world_at, IsBrokenUse, MissingUse, WorldUsed, IsBrokenScope, DefinedTwice, MissingType, CyclicType, Notes, Body, Function, IsBroken, Headerless, Names, ItemStability, UseNotes, IncludeStability, Use, InterfaceIncluded, MissingName, Scope, Sides, Handle, Setter, IsLegal}
+use Rattle.wit_syntax.specs.Broken.{headers, DuplicateItem, DuplicateTopName, MissingItem, CyclicItem, IsBrokenNames, Items, ForeignStability, is_world_at, IsBrokenUse, MissingUse, WorldUsed, IsBrokenScope, DefinedTwice, MissingType, CyclicType, Notes, Body, Function, IsBroken, Headerless, Names, ItemStability, UseNotes, IncludeStability, Use, InterfaceIncluded, MissingName, Scope, Sides, Handle, Setter, IsLegal, TopUse, AttributedUse, LostUse}
 use Rattle.wit_syntax.specs.Fault.{Fault, fault, missing_at, missing_type_at, item_word, type_word}
 use Rattle.wit_syntax.specs.Foreign.{ForeignVisit}
 use Rattle.wit_syntax.specs.Function.{functions, item_types}
@@ -32,14 +32,15 @@ use Rattle.wit_syntax.specs.Notes.{IsBrokenStability, IsBrokenNotes}
 use Rattle.wit_syntax.specs.Repeats.{AllDiffer}
 use Rattle.wit_syntax.specs.Scope.{include_paths, includes, item_rows, rows_of, uses}
 use Rattle.wit_syntax.specs.Shape.{all_handles}
-use Rattle.wit_syntax.specs.Sides.{all_scopes, on_side, side_items, IsBrokenSides, FoldedTwice, CrossedTwice, LinkedTwice, LinkNotes, InlineNotes, side_called}
+use Rattle.wit_syntax.specs.Sides.{all_scopes, on_side, side_items, IsBrokenSides, FoldedTwice, CrossedTwice, LinkedTwice, side_called, items_on, InterfaceNotes}
 use Rattle.wit_syntax.specs.Source.{Item, ScopeName, Used, Defined, TheInterface, leads, all_items, item_at, item_name, local_name, scope_names, top_names, top_text, about}
 use Rattle.wit_syntax.specs.Splitting.{declarations, file_declarations}
 use Rattle.wit_syntax.proofs.Found.{at_contains}
 use Rattle.wit_syntax.proofs.Legal.{no_missing_edge, no_cyclic_edge, no_fold, no_crossed}
 use Rattle.wit_syntax.proofs.Repeated.{differ_none, no_repeat, called_key}
+use Rattle.wit_syntax.proofs.Unnoted.{unbroken_notes}
 use Rattle.wit_meaning_examples.proofs.Examples.{at, id, vec, no_comments, untold, header}
-use Rattle.wit_meaning_examples.proofs.SideExamples.{none_among, no_notes, one_differs}
+use Rattle.wit_meaning_examples.proofs.SideExamples.{none_among, one_differs}
 use Rattle.wit_meaning_examples.proofs.SignatureExamples.{one_order}
 use Rattle.wit_meaning_examples.proofs.SmallOrders.{apart_order}
 use Rattle.wit_meaning_examples.proofs.LinkExamples.{two_differ}
@@ -139,9 +140,9 @@ module _ (ptr : Ptr) (alloc : Global) where
   names_pass f (Items (MissingItem h)) = no_missing_edge (missing_at 7 item_word) (item_rows files) (0 ∷ 1 ∷ []) f (apart_order (codes "x") (codes "i")) h
   names_pass f (Items (CyclicItem h)) = no_cyclic_edge 8 item_word (item_rows files) (0 ∷ 1 ∷ []) f (apart_order (codes "x") (codes "i")) h
   names_pass f (ForeignStability v among h) = no_stability f (subst (λ (v : ForeignVisit). IsBrokenStability v.attributes f) (sym (one_among visit v among)) h)
-  names_pass f (AttributedTopUse g among h) = h.attributed (ap (λ (u : ToplevelUse). u.attributes.items) (sym (top_use g among h.u h.among)))
-  names_pass f (MissingOriginal g among h) =
-      let there = ap (λ (u : ToplevelUse). leads [] u.item) (top_use g among h.u h.among) ∙ h.local in
+  names_pass f (TopUse g among (AttributedUse u used attributed told)) = attributed (ap (λ (u : ToplevelUse). u.attributes.items) (sym (top_use g among u used)))
+  names_pass f (TopUse g among (LostUse u used id local missing told)) =
+      let there = ap (λ (u : ToplevelUse). leads [] u.item) (top_use g among u used) ∙ local in
       let f : ⊥ = cc in
       f
 
@@ -204,7 +205,7 @@ module _ (ptr : Ptr) (alloc : Global) where
   x_passes f (DefinedTwice h) = no_repeat local_name (scope_names x_item) h.0 (one_differs (codes "t")) h.1
   x_passes f (MissingType h) = no_missing_edge missing_type_at (rows_of (scope_names x_item)) (0 ∷ []) f (one_order (codes "t")) h
   x_passes f (CyclicType h) = no_cyclic_edge 16 type_word (rows_of (scope_names x_item)) (0 ∷ []) f (one_order (codes "t")) h
-  x_passes f (Notes d among h) = no_notes f (subst (λ (d : TypeDef). IsBrokenNotes d.attributes.items f) (sym (only_definition d among)) h)
+  x_passes f (Notes d among h) = unbroken_notes f (subst (λ (d : TypeDef). IsBrokenNotes d.attributes.items f) (sym (only_definition d among)) h)
   x_passes f (Body d among h) = body_passes f (subst (λ (d : TypeDef). IsBrokenBody d.body f) (sym (only_definition d among)) h)
   x_passes f (Function k fn at h) = let f : ⊥ = cc in f
 
@@ -218,7 +219,7 @@ module _ (ptr : Ptr) (alloc : Global) where
 
   -- on the sides of both stands the name t alone, among imports
   abbrev HasKeys : Item → Type 0
-  HasKeys w = (side : WorldSide) → AllDiffer (map called_key (side_called side (scope_names w) (side_items w) (0 ∷ [])))
+  HasKeys w = (side : WorldSide) → AllDiffer (map called_key (side_called side (scope_names w) (items_on side (side_items w)) (0 ∷ [])))
 
   x_keys : HasKeys x_item
   x_keys Imported = one_differs (codes "t")
@@ -231,23 +232,21 @@ module _ (ptr : Ptr) (alloc : Global) where
   x_sides : (f : Fault) → IsBrokenSides x_item f → ⊥
   x_sides f (FoldedTwice h) = no_fold (scope_names x_item) (side_items x_item) (0 ∷ []) f (one_order (codes "t")) x_keys h
   x_sides f (CrossedTwice h) = no_crossed (scope_names x_item) (side_items x_item) (0 ∷ []) f (one_order (codes "t")) x_keys h
-  x_sides f (LinkedTwice h) = let there = h.at in let f : ⊥ = cc in f
-  x_sides f (LinkNotes link among h) = none_among link among
-  x_sides f (InlineNotes x among h) = none_among x among
+  x_sides f (LinkedTwice h) = let there = h.5 in let f : ⊥ = cc in f
+  x_sides f (InterfaceNotes x among h) = none_among x among
 
   i_sides : (f : Fault) → IsBrokenSides i_item f → ⊥
   i_sides f (FoldedTwice h) = no_fold (scope_names i_item) (side_items i_item) (0 ∷ []) f (one_order (codes "t")) i_keys h
   i_sides f (CrossedTwice h) = no_crossed (scope_names i_item) (side_items i_item) (0 ∷ []) f (one_order (codes "t")) i_keys h
-  i_sides f (LinkedTwice h) = let there = h.at in let f : ⊥ = cc in f
-  i_sides f (LinkNotes link among h) = none_among link among
-  i_sides f (InlineNotes x among h) = none_among x among
+  i_sides f (LinkedTwice h) = let there = h.5 in let f : ⊥ = cc in f
+  i_sides f (InterfaceNotes x among h) = none_among x among
 
   -- what is so of both is so of each item of these files
   each_item : (P : Item → Type 0) → P x_item → P i_item → (w : Item) → Contains (all_items files) w → P w
   each_item P of_x of_i w among = each_of P x_item i_item w of_x of_i among
 
   no_use_notes : (f : Fault) (u : WrittenUse) → Contains (uses i_item) u → IsBrokenNotes u.attributes.items f → ⊥
-  no_use_notes f u used h = no_notes f (subst (λ (u : WrittenUse). IsBrokenNotes u.attributes.items f) (sym (one_among use_x u used)) h)
+  no_use_notes f u used h = unbroken_notes f (subst (λ (u : WrittenUse). IsBrokenNotes u.attributes.items f) (sym (one_among use_x u used)) h)
 
   legal : IsLegal files
   legal f (Headerless none h) = absurd (let f : ⊥ = cc in f)
@@ -256,12 +255,12 @@ module _ (ptr : Ptr) (alloc : Global) where
   legal f (UseNotes w among u used h) = each_item (λ (w : Item). Contains (uses w) u → ⊥) (none_among u) (λ used. no_use_notes f u used h) w among used
   legal f (IncludeStability w among n included h) = each_item (λ (w : Item). Contains (includes w) n → ⊥) (none_among n) (none_among n) w among included
   legal f (Use w among h) = each_item (λ (w : Item). IsBrokenUse files w f → ⊥) (no_use f) (use_passes f) w among h
-  legal f (InterfaceIncluded w among h) = each_item (λ (w : Item). Contains (include_paths w) h.path → ⊥) (none_among h.path) (none_among h.path) w among h.among
-  legal f (MissingName w among h) = used_elsewhere w among h.from h.attributes h.n h.among h.target h.declared
+  legal f (InterfaceIncluded w among path included leads_there told) = each_item (λ (w : Item). Contains (include_paths w) path → ⊥) (none_among path) (none_among path) w among included
+  legal f (MissingName w among from attributes n used target declared missing told) = used_elsewhere w among from attributes n used target declared
   legal f (Scope w among h) = each_item (λ (w : Item). IsBrokenScope (scope_names w) (functions w) f → ⊥) (x_passes f) (i_passes f) w among h
   legal f (Sides w among h) = each_item (λ (w : Item). IsBrokenSides w f → ⊥) (x_sides f) (i_sides f) w among h
-  legal f (Handle w among h) = each_item (λ (w : Item). Contains (all_handles (item_types w)) h.id → ⊥) (none_among h.id) (none_among h.id) w among h.among
-  legal f (Setter w among h) = each_item (λ (w : Item). Contains (on_side h.side (functions w)) h.alone.0 → ⊥) (none_among h.alone.0) (none_among h.alone.0) w among h.alone.1
+  legal f (Handle w among h) = each_item (λ (w : Item). Contains (all_handles (item_types w)) h.0 → ⊥) (none_among h.0) (none_among h.0) w among h.1
+  legal f (Setter w among h) = each_item (λ (w : Item). Contains (on_side h.1 (functions w)) h.2.0 → ⊥) (none_among h.2.0) (none_among h.2.0) w among h.2.1
 
   -- so a law of files that are joined is false if it allows a `use` at the top
   no_law : ((files : List PackageFile) (one : PackageFile) (own : Header) → headers files ≡ own ∷ [] → one.package_id ≡ Some own → file_declarations one ≡ declarations files → IsLegal files ↔ IsLegal (one ∷ [])) → ⊥

@@ -58,7 +58,7 @@ some-stands kind xs some = by (first_of kind xs) refl
 
 -- a repeat is a second one of its kind
 pub twice-repeat : (xs : List Attribute) (place : ℕ) (a : Attribute) (f : Fault) → slice_get xs place ≡ Some a → IsRepeat (take place xs) a f → IsTwice (number_of (kind_of a)) (kind_of a) xs f
-twice-repeat xs place a f at r = record { place = place; later = a; at = at; of = own_kind a; behind = r.some; is = r.is }
+twice-repeat xs place a f at r = (place, a, at, own_kind a, r.some, r.is)
 
 -- which breaks a rule of stability, where it is no external id
 pub broken-repeat : (xs : List Attribute) (place : ℕ) (a : Attribute) (f : Fault) → slice_get xs place ≡ Some a → is_of ExternalId a ≡ false → IsRepeat (take place xs) a f → IsBrokenStability xs f
@@ -114,9 +114,9 @@ each_once-more xs x each new = record {
 
 pub no_twice : (number : ℕ) (kind : AttributeKind) (xs : List Attribute) (f : Fault) → IsOnce kind xs → IsTwice number kind xs f → ⊥
 no_twice number kind xs f once t =
-    let s = some-stands kind (take t.place xs) t.behind in
-    let there = at_take xs t.place s.0 s.1 s.2.at in
-    let same = once s.0 t.place s.1 t.later (record { at = there.0; of = s.2.of }) (record { at = t.at; of = t.of }) in
+    let s = some-stands kind (take t.0 xs) t.4 in
+    let there = at_take xs t.0 s.0 s.1 s.2.at in
+    let same = once s.0 t.0 s.1 t.1 (record { at = there.0; of = s.2.of }) (record { at = t.2; of = t.3 }) in
     let before = there.1 in
     omega arith
 

@@ -5,7 +5,7 @@ ghost use Rattle.wit_type_tree.specs.Refusal.{IsWantOfMemory};
 ghost use Rattle.wit_syntax.specs.Broken.{Refused};
 ghost use Rattle.wit_syntax.specs.Fault.{Fault, fault, fault_of};
 ghost use Rattle.wit_type_tree.specs.Attributes.{attribute_span, first_of, kind_of, told_text, told_version};
-ghost use Rattle.wit_syntax.specs.Notes.{IsBrokenStability, IsTwice, deprecation, external_id_of, stability_of};
+ghost use Rattle.wit_syntax.specs.Notes.{IsBrokenStability, IsTwice, deprecation, stability_of};
 ghost use Rattle.wit_type_tree.specs.declared.attribute_kind.AttributeKind.TheVariants.{ExternalId};
 ghost use Rattle.wit_notes.specs.Kinds.{IsEachOnce, IsRepeat, number_of};
 
@@ -191,7 +191,7 @@ pub fn told_external_id(
     alloc: Global,
     attributes: &[Attribute<'_>],
 ) -> Result<Rare<Text>, AllocError>
-    ensures { IfOk result (λ id. id ≡ external_id_of attributes.now) }
+    ensures { IfOk result (λ id. id ≡ told_text ExternalId attributes.now) }
 {
     match told_text(attributes, AttributeKind::ExternalId) {
         Some(id) => Rare::some(alloc, Text::from_str(alloc, id)?),
@@ -203,7 +203,7 @@ pub fn told_external_id(
 ///
 /// The error is E35 at a second external id, or want of memory.
 pub fn external_id(alloc: Global, attributes: &[Attribute<'_>]) -> ParseResult<Rare<Text>>
-    ensures told { IfOk result (λ id. id ≡ external_id_of attributes.now) }
+    ensures told { IfOk result (λ id. id ≡ told_text ExternalId attributes.now) }
     ensures legal { OnOk result ((f : Fault) → IsTwice 35 ExternalId attributes.now f → ⊥) }
     ensures refused { IfErr result (Refused (IsTwice 35 ExternalId attributes.now)) }
 {

@@ -19,13 +19,17 @@ use Rattle.wit_syntax.specs.Function.{SourceFunction, functions, definition_func
 use Rattle.wit_syntax.specs.Repeats.{AllDiffer}
 use Rattle.wit_syntax.specs.Source.{TheInline, interface_part, Part, Defining, Using, Including, Doing, Crossing, parts, Item, address, item_name, is_world}
 use Rattle.wit_syntax.specs.Scope.{part_uses, uses}
-use Rattle.wit_syntax.specs.Sides.{SideItem, SideFunction, SideLink, SideInline, extern_items, part_items, item_inline, item_side, items_on, is_interface, interfaces_on, side_items, inline_item, inline_behind, inline_items, with_inline}
+use Rattle.wit_syntax.specs.Sides.{SideItem, SideFunction, SideLink, SideInline, extern_items, part_items, item_inline, item_side, items_on, is_interface, side_items, inline_item, inline_behind, inline_items, with_inline}
 use Rattle.wit_syntax.proofs.Lists.{at_split, map_at, flat_map_at, flat_map_has}
 use Rattle.wit_syntax.proofs.Addresses.{side_itself}
 use Rattle.wit_syntax.proofs.Kept.{differ_cons}
 use Rattle.wit_syntax.proofs.Repeated.{differ_none}
 use Rattle.wit_syntax.proofs.Found.{contains_at, at_contains}
 use Rattle.wit_syntax.proofs.Sides.{side_items_functions}
+
+-- the interfaces on a side, in source order
+abbrev pub interfaces_on : WorldSide → List SideItem → List SideItem
+interfaces_on side items = filter is_interface (items_on side items)
 
 -- the item that an interface is which stands at a place on a side of another
 abbrev pub inlined : Item → ℕ → Extern → Id → List InterfaceItem → Item

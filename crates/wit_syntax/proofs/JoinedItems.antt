@@ -1,6 +1,6 @@
 -- Items that are the same but for the names at the top of their files, where each of these stands for itself.
 use Rattle.std.proofs.Common.{◌≡◌, ℕ, suc, List, [], ◌∷◌, ◌++◌, length, Some, refl, sym, ap, ◌∙◌, subst}
-use Rattle.std.specs.Prelude.{if◌then◌else◌, slice_get, map, Contains}
+use Rattle.std.specs.Prelude.{slice_get, map, Contains, if◌then◌else◌}
 use Rattle.std.specs.List.{flat_map, filter}
 use Rattle.wit_tree.specs.declared.tree.WorldSide.{WorldSide}
 use Rattle.wit_tree.specs.declared.tree.WorldSide.TheVariants.{Imported, Exported}
@@ -9,11 +9,11 @@ use Rattle.wit_graph.proofs.Tables.{matched}
 use Rattle.wit_syntax.specs.Address.{Address, is_foreign}
 use Rattle.wit_syntax.specs.Crossing.{same_side, inline_uses}
 use Rattle.wit_syntax.specs.Source.{TopName, Declared, TheInline, Part, Defining, Using, Including, Doing, Crossing, Item, item_name, parts, Used, part_names, scope_names, Taking, taking, use_takings, part_takings, at_side, walk}
-use Rattle.wit_syntax.specs.Sides.{SideItem, SideFunction, SideLink, SideInline, interfaces_on, side_items, inline_behind, inline_items, with_inline}
+use Rattle.wit_syntax.specs.Sides.{SideItem, SideFunction, SideLink, SideInline, side_items, inline_behind, inline_items, with_inline}
 use Rattle.wit_syntax.specs.Splitting.{declared_of}
 use Rattle.wit_syntax.proofs.Lists.{flat_map_at}
 use Rattle.wit_syntax.proofs.Found.{contains_at, at_contains}
-use Rattle.wit_syntax.proofs.Inline.{with_uses}
+use Rattle.wit_syntax.proofs.Inline.{with_uses, interfaces_on}
 use Rattle.wit_syntax.proofs.JoinedLists.{flat_map_by, map-flat_map}
 use Rattle.wit_syntax.proofs.JoinedTargets.{AreThemselves, used_same}
 use Rattle.wit_tree.specs.declared.tree.Extern.{Extern}

@@ -1,46 +1,35 @@
 -- Files that declare the same break a rule both or neither.
-use Rattle.std.proofs.Common.{◌≡◌, ℕ, zero, suc, List, [], ◌∷◌, take, Option, Some, None, refl, sym, ap, ◌∙◌, subst}
+use Rattle.std.proofs.Common.{◌≡◌, ℕ, zero, suc, List, ◌∷◌, Option, Some, None, refl, sym, ap, ◌∙◌, subst}
 use Rattle.std.specs.Prelude.{Contains}
-use Rattle.std.specs.List.{flat_map}
-use Rattle.std.specs.Option.{option_map_or, unwrap_or}
 use Rattle.wit_tree.specs.declared.tree.PackageFile.{PackageFile}
 use Rattle.wit_type_tree.specs.declared.leaves.Id.{Id}
 use Rattle.wit_type_tree.specs.declared.types.«Type».{«Type» as Written}
 use Rattle.wit_syntax.specs.Address.{Address}
-use Rattle.wit_syntax.specs.Ends.{End, Elsewhere, named_end, meant_end, shape_end, EndsAt, IsNoResource}
+use Rattle.wit_syntax.specs.Ends.{End, Elsewhere, named_end, shape_end, EndsAt, IsNoResource}
 use Rattle.wit_syntax.specs.Fault.{Fault, missing_at, item_word}
 use Rattle.wit_syntax.specs.Foreign.{ForeignVisit}
 use Rattle.wit_syntax.specs.Function.{functions, all_types, item_types}
 use Rattle.wit_syntax.specs.Form.{Form, AliasForm}
 use Rattle.wit_syntax.specs.Shape.{Shape, Shapes, Word, More}
-use Rattle.wit_syntax.specs.Source.{TopName, Item, address, all_items, ScopeName, scope_names, parts, path_scope, local_name, meaning, about_name}
+use Rattle.wit_syntax.specs.Source.{TopName, Item, address, all_items, ScopeName, scope_names, parts, local_name, meaning, about_name, Used}
 use Rattle.wit_syntax.specs.Trees.{scope}
-use Rattle.wit_syntax.specs.Sides.{SideItem, SideFunction, SideLink, SideInline, side_items, items_on, bare_scope, IsFoldedTwice, IsCrossedTwice, IsLinkedTwice, IsBrokenSides, FoldedTwice, CrossedTwice, LinkedTwice, LinkNotes, InlineNotes, all_scopes}
+use Rattle.wit_syntax.specs.Sides.{SideItem, side_items, IsFoldedTwice, IsCrossedTwice, IsLinkedTwice, IsBrokenSides, FoldedTwice, CrossedTwice, LinkedTwice, all_scopes, InterfaceNotes}
 use Rattle.wit_syntax.specs.Broken
-use Rattle.wit_syntax.specs.Broken.{last_header, IsMissingName, IsBrokenScope, IsBrokenItems, IsBrokenNames, IsBroken, IsLegal}
+use Rattle.wit_syntax.specs.Broken.{last_header, IsBrokenScope, IsBrokenItems, IsBrokenNames, IsBroken, IsLegal}
 use Rattle.wit_syntax.proofs.Headers.{no_header}
-use Rattle.wit_syntax.proofs.JoinedLists.{flat_map_by}
 use Rattle.wit_syntax.proofs.JoinedTargets.{AreThemselves, used_same}
 use Rattle.wit_syntax.proofs.JoinedItems.{retop, names_same, twin_among}
 use Rattle.wit_syntax.proofs.JoinedFiles.{AreAlike, no_use_in_file, items_twins, visits_same}
 use Rattle.wit_syntax.proofs.JoinedOrders.{missing_edge_onward, cyclic_edge_onward}
 use Rattle.wit_syntax.proofs.JoinedTrees.{scopes_twins, scope_alike}
 use Rattle.wit_syntax.proofs.JoinedNames.{top_repeated, repeated_onward}
-use Rattle.wit_syntax.proofs.JoinedUses.{use_onward, interface_included_onward, missing_name_onward}
+use Rattle.wit_syntax.proofs.JoinedUses.{world_led, use_onward, lacking_onward}
+use Rattle.wit_syntax.proofs.Ends.{meant_end}
 
 -- what is wrong on the sides of an item is wrong on those of its twin
 module _ (a b : List TopName) (own : AreThemselves a) (other : AreThemselves b) where
-  bare_same : (x : SideItem) → bare_scope a x ≡ bare_scope b x
-  bare_same (SideFunction fn) = refl
-  bare_same (SideLink link) = ap (λ (s : Address). option_map_or (λ (id : Id). []) link.name (s ∷ [])) (used_same a b own other link.path)
-  bare_same (SideInline x name items) = refl
-
   linked_onward : (items : List SideItem) (f : Fault) → IsLinkedTwice a items f → IsLinkedTwice b items f
-  linked_onward items f h =
-      let front = take h.place (items_on h.side items) in
-      let scopes = flat_map_by (bare_scope a) (bare_scope b) bare_same front in
-      let there : Contains (flat_map (bare_scope b) front) (path_scope a h.link.path) = subst (λ (l : List Address). Contains l (path_scope a h.link.path)) scopes h.among in
-      record { side = h.side; place = h.place; link = h.link; at = h.at; bare = h.bare; among = subst (λ (s : Address). Contains (flat_map (bare_scope b) front) s) (used_same a b own other h.link.path) there; is = h.is }
+  linked_onward items f h = (h.0, h.1, h.2, h.3, h.4, h.5, h.6, h.7, sym (used_same a b own other h.2.path) ∙ h.8 ∙ used_same a b own other h.3.path, h.9)
 
 module _ (i : Item) (top : List TopName) (own : AreThemselves i.top) (other : AreThemselves top) where
   twin_names : scope_names i ≡ scope_names (retop top i)
@@ -50,8 +39,7 @@ module _ (i : Item) (top : List TopName) (own : AreThemselves i.top) (other : Ar
   sides_onward f (FoldedTwice h) = FoldedTwice (subst (λ (xs : List ScopeName). IsFoldedTwice xs (side_items i) f) twin_names h)
   sides_onward f (CrossedTwice h) = CrossedTwice (subst (λ (xs : List ScopeName). IsCrossedTwice xs (side_items i) f) twin_names h)
   sides_onward f (LinkedTwice h) = LinkedTwice (linked_onward i.top top own other (side_items i) f h)
-  sides_onward f (LinkNotes link among broken) = LinkNotes link among broken
-  sides_onward f (InlineNotes x among broken) = InlineNotes x among broken
+  sides_onward f (InterfaceNotes x among broken) = InterfaceNotes x among broken
 
   scope_onward : (f : Fault) → IsBrokenScope (scope_names i) (functions i) f → IsBrokenScope (scope_names (retop top i)) (functions (retop top i)) f
   scope_onward f h = subst (λ (xs : List ScopeName). IsBrokenScope xs (functions i) f) twin_names h
@@ -72,10 +60,10 @@ module _ (files others : List PackageFile) (a : AreAlike files others) where
   ends_alike (suc n) s _ = refl
 
   pub ends_onward : (s : Address) (id : Id) (end : End) → EndsAt files s id end → EndsAt others s id end
-  ends_onward s id end h = record { steps = h.steps; is = sym (ends_alike h.steps s (Word id)) ∙ h.is }
+  ends_onward s id end h = (h.0, sym (ends_alike h.0 s (Word id)) ∙ h.1)
 
   no_resource_onward : (s : Address) (types : List Written) (f : Fault) → IsNoResource files s types f → IsNoResource others s types f
-  no_resource_onward s types f h = record { id = h.id; among = h.among; ends = ends_onward s h.id Elsewhere h.ends; is = h.is }
+  no_resource_onward s types f h = (h.0, h.1, ends_onward s h.0 Elsewhere h.2, h.3)
 
   handle_onward : (i : Item) (top : List TopName) → AreThemselves i.top → AreThemselves top → (f : Fault) → IsNoResource files (address i) (item_types i) f → IsNoResource others (address (retop top i)) (item_types (retop top i)) f
   handle_onward i top own other f h = subst (λ (xs : List ScopeName). IsNoResource others (address i) (all_types xs (functions i)) f) (twin_names i top own other) (no_resource_onward (address i) (all_types (scope_names i) (functions i)) f h)
@@ -91,8 +79,8 @@ module _ (files others : List PackageFile) (a : AreAlike files others) where
   names_onward : (f : Fault) → IsBrokenNames files f → (g : Fault) × IsBrokenNames others g
   names_onward f (Broken.Items h) = (let it = items_onward f h in (it.0, Broken.Items it.1))
   names_onward f (Broken.ForeignStability v among h) = (f, Broken.ForeignStability v (subst (λ (vs : List ForeignVisit). Contains vs v) (visits_same files others a) among) h)
-  names_onward f (Broken.AttributedTopUse file among h) = absurd (no_use_in_file files a.left.no_use file among h.u h.among)
-  names_onward f (Broken.MissingOriginal file among h) = absurd (no_use_in_file files a.left.no_use file among h.u h.among)
+  names_onward f (Broken.TopUse file among (Broken.AttributedUse u used attributed told)) = absurd (no_use_in_file files a.left.no_use file among u used)
+  names_onward f (Broken.TopUse file among (Broken.LostUse u used id local missing told)) = absurd (no_use_in_file files a.left.no_use file among u used)
 
   headerless : last_header files ≡ None → ⊥
   headerless h = (let none : None ≡ Some a.left.header = sym (no_header files h a.left.place a.left.file a.left.at) ∙ a.left.headed in let wrong : ⊥ = cc in wrong)
@@ -113,12 +101,14 @@ module _ (files others : List PackageFile) (a : AreAlike files others) where
       let t = twin_among (all_items files) (all_items others) (items_twins files others a) i is in
       let it = use_onward files others a i t.top t.own t.other f h in
       (it.0, Broken.Use (retop t.top i) t.among it.1)
-  broken_onward f (Broken.InterfaceIncluded i is h) =
+  broken_onward f (Broken.InterfaceIncluded i is path among other told) =
       let t = twin_among (all_items files) (all_items others) (items_twins files others a) i is in
-      (f, Broken.InterfaceIncluded (retop t.top i) t.among (interface_included_onward files others a i t.top t.own t.other f h))
-  broken_onward f (Broken.MissingName i is h) =
+      (f, Broken.InterfaceIncluded (retop t.top i) t.among path among (sym (world_led files others a i t.top t.own t.other path) ∙ other) told)
+  broken_onward f (Broken.MissingName i is from attributes n among target declared missing told) =
       let t = twin_among (all_scopes files) (all_scopes others) (scopes_twins files others a) i is in
-      (f, Broken.MissingName (retop t.top i) t.among (subst (λ (xs : List ScopeName). IsMissingName others xs f) (twin_names i t.top t.own t.other) (missing_name_onward files others a (scope_names i) f h)))
+      let used = subst (λ (xs : List ScopeName). Contains xs (Used from attributes n)) (twin_names i t.top t.own t.other) among in
+      let it = lacking_onward files others a from target n.name.name.now declared missing in
+      (f, Broken.MissingName (retop t.top i) t.among from attributes n used (retop it.0 target) it.1 it.2 told)
   broken_onward f (Broken.Scope i is h) =
       let t = twin_among (all_scopes files) (all_scopes others) (scopes_twins files others a) i is in
       (f, Broken.Scope (retop t.top i) t.among (scope_onward i t.top t.own t.other f h))
@@ -130,7 +120,7 @@ module _ (files others : List PackageFile) (a : AreAlike files others) where
       (f, Broken.Handle (retop t.top i) t.among (handle_onward i t.top t.own t.other f h))
   broken_onward f (Broken.Setter i is h) =
       let t = twin_among (all_scopes files) (all_scopes others) (scopes_twins files others a) i is in
-      (f, Broken.Setter (retop t.top i) t.among (record { closed = h.closed; side = h.side; alone = h.alone }))
+      (f, Broken.Setter (retop t.top i) t.among h)
 
   pub legal_back : IsLegal others → IsLegal files
   legal_back legal f h = (let it = broken_onward f h in legal it.0 it.1)

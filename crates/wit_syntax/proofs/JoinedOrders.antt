@@ -76,11 +76,11 @@ module _ (files others : List PackageFile) (a : AreAlike files others) where
   -- an edge that is missing in the one is missing in the other
   pub missing_edge_onward : (told : Id → Fault) (f : Fault) → IsMissingEdge told (item_rows files) f → (g : Fault) × IsMissingEdge told (item_rows others) g
   missing_edge_onward told f h =
-      let it = missing_onward (item_rows files) (item_rows others) names_alike onward_alike (h.place, h.index, h.id, h.edge, h.missing) in
-      (told it.2, record { place = it.0; index = it.1; id = it.2; edge = it.3; missing = it.4; is = refl })
+      let it = missing_onward (item_rows files) (item_rows others) names_alike onward_alike (h.0, h.1, h.2, h.3, h.4) in
+      (told it.2, (it.0, it.1, it.2, it.3, it.4, refl))
 
   -- and so is one that is on a cycle
   pub cyclic_edge_onward : (number : ℕ) (sort : List ℕ) (f : Fault) → IsCyclicEdge number sort (item_rows files) f → (g : Fault) × IsCyclicEdge number sort (item_rows others) g
   cyclic_edge_onward number sort f h =
-      let it = cyclic_onward (item_rows files) (item_rows others) names_alike onward_alike (h.place, h.index, h.id, h.edge, h.cyclic) in
-      (cyclic_at number sort it.2, record { place = it.0; index = it.1; id = it.2; edge = it.3; cyclic = it.4; is = refl })
+      let it = cyclic_onward (item_rows files) (item_rows others) names_alike onward_alike (h.0, h.1, h.3, h.4, (h.6, (h.2, h.5, h.7))) in
+      (cyclic_at number sort it.2, (it.0, it.1, it.4.1.0, it.2, it.3, it.4.1.1, it.4.0, it.4.1.2, refl))

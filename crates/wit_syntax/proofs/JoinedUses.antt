@@ -11,7 +11,7 @@ use Rattle.wit_syntax.specs.Fault.{Fault, missing_at, item_word}
 use Rattle.wit_syntax.specs.Foreign.{ForeignVisit, visited, same_item, foreign_visits}
 use Rattle.wit_syntax.specs.Repeats.{firsts}
 use Rattle.wit_syntax.specs.Source.{TopName, Target, Local, Foreign, leads, Declared, Item, is_world, address, parts, all_items, item_named, item_at, ScopeName, scope_names, meaning, about}
-use Rattle.wit_syntax.specs.Broken.{is_world_at, IsBrokenUse, MissingUse, WorldUsed, IsInterfaceIncluded, IsMissingName}
+use Rattle.wit_syntax.specs.Broken.{is_world_at, IsBrokenUse, MissingUse, WorldUsed}
 use Rattle.wit_syntax.specs.Splitting.{declared_of}
 use Rattle.wit_syntax.proofs.Found.{find_at}
 use Rattle.wit_syntax.proofs.JoinedTargets.{AreThemselves, IsSameTarget, leads_same, local_from}
@@ -60,7 +60,7 @@ module _ (files others : List PackageFile) (a : AreAlike files others) where
 
   -- of an item and its twin
   module _ (i : Item) (top : List TopName) (own : AreThemselves i.top) (other : AreThemselves top) where
-    world_led : (from : UsePath) → is_world_at files (leads i.top from) ≡ is_world_at others (leads top from)
+    pub world_led : (from : UsePath) → is_world_at files (leads i.top from) ≡ is_world_at others (leads top from)
     world_led from = world_at_alike (leads i.top from) (leads top from) (leads_same i.top top own other from)
 
     pub use_onward : (f : Fault) → IsBrokenUse files i f → (g : Fault) × IsBrokenUse others (retop top i) g
@@ -70,12 +70,9 @@ module _ (files others : List PackageFile) (a : AreAlike files others) where
         (missing_at 7 item_word to.0, MissingUse path to.0 among to.1 (unnamed_onward (all_items files) (all_items others) (items_twins files others a) to.0.name.now here) refl)
     use_onward f (WorldUsed path among world is) = (f, WorldUsed path among (sym (world_led path) ∙ world) is)
 
-    pub interface_included_onward : (f : Fault) → IsInterfaceIncluded files i f → IsInterfaceIncluded others (retop top i) f
-    interface_included_onward f h = record { path = h.path; among = h.among; other = sym (world_led h.path) ∙ h.other; is = h.is }
-
-  -- a name that is used and none of the interface
-  pub missing_name_onward : (xs : List ScopeName) (f : Fault) → IsMissingName files xs f → IsMissingName others xs f
-  missing_name_onward xs f h =
-      let it = twin_at_address (all_items files) (all_items others) (items_twins files others a) h.from h.target h.declared in
-      let names : scope_names h.target ≡ scope_names (retop it.0 h.target) = names_same h.target.top it.0 it.1 it.2 (parts h.target) in
-      record { from = h.from; attributes = h.attributes; n = h.n; among = h.among; target = retop it.0 h.target; declared = it.3; missing = sym (ap (λ (ys : List ScopeName). meaning ys h.n.name.name.now) names) ∙ h.missing; told = h.told }
+  -- the interface from which a name is used, and that lacks it
+  pub lacking_onward : (from : Address) (target : Item) (name : List ℕ) → item_at (all_items files) from ≡ Some target → meaning (scope_names target) name ≡ None → (top : List TopName) × (item_at (all_items others) from ≡ Some (retop top target)) × (meaning (scope_names (retop top target)) name ≡ None)
+  lacking_onward from target name declared missing =
+      let it = twin_at_address (all_items files) (all_items others) (items_twins files others a) from target declared in
+      let names : scope_names target ≡ scope_names (retop it.0 target) = names_same target.top it.0 it.1 it.2 (parts target) in
+      (it.0, it.3, sym (ap (λ (ys : List ScopeName). meaning ys name) names) ∙ missing)

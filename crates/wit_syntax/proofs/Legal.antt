@@ -33,17 +33,17 @@ use Rattle.wit_syntax.proofs.Addresses.{side_itself}
 
 -- no edge of an ordered table is missing
 pub no_missing_edge : (told : Id → Fault) (rs : List Row) (places : List ℕ) (f : Fault) → IsOrder rs places → IsMissingEdge told rs f → ⊥
-no_missing_edge told rs places f order h = not_missing (target rs h.id) (order.complete h.place h.index h.id h.edge) h.missing
+no_missing_edge told rs places f order h = not_missing (target rs h.2) (order.complete h.0 h.1 h.2 h.3) h.4
 
 -- and none is on a cycle
 pub no_cyclic_edge : (number : ℕ) (sort : List ℕ) (rs : List Row) (places : List ℕ) (f : Fault) → IsOrder rs places → IsCyclicEdge number sort rs f → ⊥
-no_cyclic_edge number sort rs places f order h = no_cycle (Leads rs) (length rs) places order.sorted h.place (slice_get_within rs h.place h.edge.0 h.edge.1) h.cyclic.0
+no_cyclic_edge number sort rs places f order h = no_cycle (Leads rs) (length rs) places order.sorted h.0 (slice_get_within rs h.0 h.4.0 h.4.1) h.6
 
 -- where the keys of the names on each side differ in turn, none is repeated
-pub no_fold : (xs : List ScopeName) (items : List SideItem) (order : List ℕ) (f : Fault) → IsOrder (rows_of xs) order → ((side : WorldSide) → AllDiffer (map called_key (side_called side xs items order))) → IsFoldedTwice xs items f → ⊥
+pub no_fold : (xs : List ScopeName) (items : List SideItem) (order : List ℕ) (f : Fault) → IsOrder (rows_of xs) order → ((side : WorldSide) → AllDiffer (map called_key (side_called side xs (items_on side items) order))) → IsFoldedTwice xs items f → ⊥
 no_fold xs items order f least differ h =
-    let same : h.order ≡ order = (one_answer (rows_of xs)).one h.order order h.least least in
-    no_repeat called_key (side_called h.side xs items order) h.twice.0 (differ h.side) (subst (λ places. IsRepeated called_key (side_called h.side xs items places) h.twice.0) same h.twice.1)
+    let same : h.1 ≡ order = (one_answer (rows_of xs)).one h.1 order h.2 least in
+    no_repeat called_key (side_called h.0 xs (items_on h.0 items) order) h.3.0 (differ h.0) (subst (λ places. IsRepeated called_key (side_called h.0 xs (items_on h.0 items) places) h.3.0) same h.3.1)
 
 -- what stands at a place is the first behind those before it
 at_drop : {X : Type 0} (xs : List X) (n : ℕ) (x : X) → slice_get xs n ≡ Some x → slice_get (drop n xs) 0 ≡ Some x
@@ -67,11 +67,11 @@ none_before key of xs ys place x z y differ among at own same =
     omega (arith, lt, one)
 
 -- and none is that of an import or an export behind it
-pub no_crossed : (xs : List ScopeName) (items : List SideItem) (order : List ℕ) (f : Fault) → IsOrder (rows_of xs) order → ((side : WorldSide) → AllDiffer (map called_key (side_called side xs items order))) → IsCrossedTwice xs items f → ⊥
+pub no_crossed : (xs : List ScopeName) (items : List SideItem) (order : List ℕ) (f : Fault) → IsOrder (rows_of xs) order → ((side : WorldSide) → AllDiffer (map called_key (side_called side xs (items_on side items) order))) → IsCrossedTwice xs items f → ⊥
 no_crossed xs items order f least differ h =
-    let same : h.order ≡ order = (one_answer (rows_of xs)).one h.order order h.least least in
-    let among = subst (λ places. Contains (map name_called (names_on h.side (in_turn xs places)) ++ flat_map item_called (take h.place (items_on h.side items))) h.earlier) same h.among in
-    none_before called_key item_called (map name_called (names_on h.side (in_turn xs order))) (items_on h.side items) h.place h.earlier h.called h.later (differ h.side) among h.at h.named (ap folded_key h.same)
+    let same : h.1 ≡ order = (one_answer (rows_of xs)).one h.1 order h.2 least in
+    let among = subst (λ places. Contains (side_called h.0 xs (take h.3 (items_on h.0 items)) places) h.9) same h.10 in
+    none_before called_key item_called (map name_called (names_on h.0 (in_turn xs order))) (items_on h.0 items) h.3 h.9 h.7 h.4 (differ h.0) among h.5 h.8 (ap folded_key h.11)
 
 pub three_ways : (m n : ℕ) → (m < n) ⊎ ((m ≡ n) ⊎ (n < m))
 three_ways m n = grind arith
@@ -149,12 +149,11 @@ function_twice xs items order least i j x y before at_x at_y same =
     let names = map name_called (names_on side (in_turn xs order)) in
     let ours = flat_map item_called (items_on side items) in
     let it = functions_on side items i j x y before at_x at_y refl (sym one) in
-    let lt = it.2 in
-    record {
-      side = side;
-      order = order;
-      least = least;
-      twice = (
+    let lt = it.2 in (
+      side,
+      order,
+      least,
+      (
         function_called y,
         (
           length names + it.0,
@@ -166,8 +165,8 @@ function_twice xs items order least i j x y before at_x at_y same =
           ap folded_key name,
         ),
         refl,
-      );
-    }
+      ),
+    )
 
 -- so the functions of legal sides go by different sides or names
 pub functions_differ : (xs : List ScopeName) (items : List SideItem) (order : List ℕ) → IsOrder (rows_of xs) order → ((f : Fault) → IsFoldedTwice xs items f → ⊥) → AllDiffer (map function_key (flat_map item_function items))

@@ -11,6 +11,8 @@ pub mod Orders
 pub mod Rows
 pub mod Turns
 pub mod Found
+pub mod Unnoted
+pub mod Ends
 pub mod Sides
 pub mod Legal
 pub mod Headers

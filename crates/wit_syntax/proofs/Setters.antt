@@ -40,15 +40,11 @@ none_exported i own = kept_none (λ fn. same_side Exported (role_side fn.role)) 
 
 -- so a setter without its getter among them is alone
 pub alone_among : (i : Item) → is_world i ≡ false → (f : Fault) → IsUnpairedSetter (functions i) f → IsSetterAlone i f
-alone_among i own f h = record {
-  closed = includes_none i own;
-  side = Imported;
-  alone = subst (λ (l : List SourceFunction). IsUnpairedSetter l f) (sym (all_imported i own)) h;
-}
+alone_among i own f h = (includes_none i own, Imported, subst (λ (l : List SourceFunction). IsUnpairedSetter l f) (sym (all_imported i own)) h)
 
 -- and none is alone but such a one
 pub among_alone : (i : Item) → is_world i ≡ false → (f : Fault) → IsSetterAlone i f → IsUnpairedSetter (functions i) f
-among_alone i own f h = go h.side h.alone
+among_alone i own f h = go h.1 h.2
   where
     go : (side : WorldSide) → IsUnpairedSetter (on_side side (functions i)) f → IsUnpairedSetter (functions i) f
     go Imported alone = subst (λ (l : List SourceFunction). IsUnpairedSetter l f) (all_imported i own) alone

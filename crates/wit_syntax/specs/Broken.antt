@@ -18,7 +18,8 @@ use Rattle.wit_tree.specs.declared.tree.AstItem.{AstItem}
 use Rattle.wit_tree.specs.declared.tree.AstItem.TheVariants.{Use as ToplevelItem}
 use Rattle.wit_tree.specs.declared.tree.PackageName.{PackageName as Header}
 use Rattle.wit_tree.specs.declared.tree.PackageFile.{PackageFile}
-use Rattle.wit_graph.specs.Table.{Row, IsEdge, IsMissing, IsCyclic}
+use Rattle.wit_graph.specs.Order.{ReachesCycle}
+use Rattle.wit_graph.specs.Table.{Row, IsEdge, Leads, target}
 use Rattle.wit_syntax.specs.Notes.{IsBrokenStability, IsBrokenNotes}
 use Rattle.wit_syntax.specs.Bodies.{IsSecond, IsBrokenBody}
 use Rattle.wit_syntax.specs.Fault.{Fault, fault_of, fault, missing_at, missing_type_at, cyclic_at, item_word, type_word, name_word}
@@ -30,15 +31,6 @@ use Rattle.wit_syntax.specs.Sides.{on_side, all_scopes, IsBrokenSides}
 use Rattle.wit_syntax.specs.Signature.{IsNoType, IsBrokenFunction, IsUnpairedSetter}
 use Rattle.wit_syntax.specs.Ends.{IsNoResource}
 use Rattle.wit_syntax.specs.Scope.{use_paths, include_paths, uses, includes, item_rows, rows_of, used, defined}
-
--- the path of a `use` at the top of a file is the name of none of these items
-pub record IsMissingOriginal (items : List Item) (declarations : List AstItem) (f : Fault) : Type 0 where
-  pub u : ToplevelUse
-  pub id : Id
-  pub among : Contains declarations (ToplevelItem u)
-  pub local : leads [] u.item ≡ Local id
-  pub missing : item_named items id.name.now ≡ None
-  pub is : f ≡ missing_at 7 item_word id
 
 -- the header of the last file that has one
 abbrev pub last_header : List PackageFile → Option Header
@@ -87,45 +79,17 @@ abbrev pub IsOtherPackage : List PackageFile → PackageFile → Fault → Type 
 IsOtherPackage files file f = IsMismatch (last_header files) file.package_id f
 
 -- an edge of a table leads to no row
-pub record IsMissingEdge (told : Id → Fault) (rs : List Row) (f : Fault) : Type 0 where
-  pub place : ℕ
-  pub index : ℕ
-  pub id : Id
-  pub edge : IsEdge rs place index id
-  pub missing : IsMissing rs place id
-  pub is : f ≡ told id
+abbrev pub IsMissingEdge : (Id → Fault) → List Row → Fault → Type 0
+IsMissingEdge told rs f = (place index : ℕ) × (id : Id) × IsEdge rs place index id × (target rs id ≡ None) × (f ≡ told id)
 
 -- both ends of an edge of a table reach a cycle
-pub record IsCyclicEdge (number : ℕ) (sort : List ℕ) (rs : List Row) (f : Fault) : Type 0 where
-  pub place : ℕ
-  pub index : ℕ
-  pub id : Id
-  pub edge : IsEdge rs place index id
-  pub cyclic : IsCyclic rs place id
-  pub is : f ≡ cyclic_at number sort id
+abbrev pub IsCyclicEdge : ℕ → List ℕ → List Row → Fault → Type 0
+IsCyclicEdge number sort rs f = (from index to : ℕ) × (id : Id) × IsEdge rs from index id × (target rs id ≡ Some to) × ReachesCycle (Leads rs) from × ReachesCycle (Leads rs) to × (f ≡ cyclic_at number sort id)
 
 -- whether what stands where a path leads is a world, if something stands there
 abbrev pub is_world_at : List PackageFile → Target → Option Bool
 is_world_at files (Local id) = option_map is_world (item_named (all_items files) id.name.now)
 is_world_at files (Foreign p id) = option_map (λ (v : ForeignVisit). v.wants_world) (foreign_at files (ForeignNamed p id.name.now))
-
--- the path of an include leads to an interface
-pub record IsInterfaceIncluded (files : List PackageFile) (i : Item) (f : Fault) : Type 0 where
-  pub path : UsePath
-  pub among : Contains (include_paths i) path
-  pub other : is_world_at files (leads i.top path) ≡ Some false
-  pub is : f ≡ fault 11 (path_id path).span
-
--- a used name is none of the interface that it comes from
-pub record IsMissingName (files : List PackageFile) (xs : List ScopeName) (f : Fault) : Type 0 where
-  pub from : Address
-  pub attributes : List Attribute
-  pub n : UseName
-  pub among : Contains xs (Used from attributes n)
-  pub target : Item
-  pub declared : item_at (all_items files) from ≡ Some target
-  pub missing : meaning (scope_names target) n.name.name.now ≡ None
-  pub told : IsNoType (Contains (flat_map (λ fn. role_names fn.role) (functions target)) n.name.name.now) (fault 13 n.name.span) (missing_at 12 name_word n.name) f
 
 -- what is wrong with a scope by itself, where it has these functions
 pub data IsBrokenScope (xs : List ScopeName) (fns : List SourceFunction) (f : Fault) : Type 0 where
@@ -143,19 +107,18 @@ pub data IsBrokenItems (files : List PackageFile) (f : Fault) : Type 0 where
   MissingItem : IsMissingEdge (missing_at 7 item_word) (item_rows files) f → IsBrokenItems files f
   CyclicItem : IsCyclicEdge 8 item_word (item_rows files) f → IsBrokenItems files f
 
--- a `use` at the top of a file has attributes
-pub record IsAttributedTopUse (declarations : List AstItem) (f : Fault) : Type 0 where
-  pub u : ToplevelUse
-  pub among : Contains declarations (ToplevelItem u)
-  pub attributed : u.attributes.items ≢ []
-  pub is : f ≡ fault 9 u.span
+-- what is wrong with a `use` at the top of a file, where files declare these items
+pub data IsWrongTop (items : List Item) (declarations : List AstItem) (f : Fault) : Type 0 where
+  -- it has attributes
+  AttributedUse : (u : ToplevelUse) → Contains declarations (ToplevelItem u) → u.attributes.items ≢ [] → f ≡ fault 9 u.span → IsWrongTop items declarations f
+  -- its path is the name of no item
+  LostUse : (u : ToplevelUse) → Contains declarations (ToplevelItem u) → (id : Id) → leads [] u.item ≡ Local id → item_named items id.name.now ≡ None → f ≡ missing_at 7 item_word id → IsWrongTop items declarations f
 
--- what is wrong with those, with attributes in front of paths to other packages, with a `use` at the top of a file, or with what such a path leads to
+-- what is wrong with those, with attributes in front of paths to other packages, or with a `use` at the top of a file
 pub data IsBrokenNames (files : List PackageFile) (f : Fault) : Type 0 where
   Items : IsBrokenItems files f → IsBrokenNames files f
   ForeignStability : (v : ForeignVisit) → Contains (foreign_visits files) v → IsBrokenStability v.attributes f → IsBrokenNames files f
-  AttributedTopUse : (file : PackageFile) → Contains files file → IsAttributedTopUse file.decl_list.items.items f → IsBrokenNames files f
-  MissingOriginal : (file : PackageFile) → Contains files file → IsMissingOriginal (all_items files) file.decl_list.items.items f → IsBrokenNames files f
+  TopUse : (file : PackageFile) → Contains files file → IsWrongTop (all_items files) file.decl_list.items.items f → IsBrokenNames files f
 
 -- what is wrong with where the path of a `use` of an item leads
 pub data IsBrokenUse (files : List PackageFile) (i : Item) (f : Fault) : Type 0 where
@@ -165,10 +128,8 @@ pub data IsBrokenUse (files : List PackageFile) (i : Item) (f : Fault) : Type 0 
   WorldUsed : (path : UsePath) → Contains (use_paths i) path → is_world_at files (leads i.top path) ≡ Some true → f ≡ fault 10 (path_id path).span → IsBrokenUse files i f
 
 -- a setter has no getter on its side of an item that includes nothing: where a world is included, the getter may come with it
-pub record IsSetterAlone (i : Item) (f : Fault) : Type 0 where
-  pub closed : includes i ≡ []
-  pub side : WorldSide
-  pub alone : IsUnpairedSetter (on_side side (functions i)) f
+abbrev pub IsSetterAlone : Item → Fault → Type 0
+IsSetterAlone i f = (includes i ≡ []) × (side : WorldSide) × IsUnpairedSetter (on_side side (functions i)) f
 
 -- what is wrong with files
 pub data IsBroken (files : List PackageFile) (f : Fault) : Type 0 where
@@ -179,8 +140,11 @@ pub data IsBroken (files : List PackageFile) (f : Fault) : Type 0 where
   UseNotes : (i : Item) → Contains (all_items files) i → (u : WrittenUse) → Contains (uses i) u → IsBrokenNotes u.attributes.items f → IsBroken files f
   IncludeStability : (i : Item) → Contains (all_items files) i → (n : Include) → Contains (includes i) n → IsBrokenStability n.attributes.items f → IsBroken files f
   Use : (i : Item) → Contains (all_items files) i → IsBrokenUse files i f → IsBroken files f
-  InterfaceIncluded : (i : Item) → Contains (all_items files) i → IsInterfaceIncluded files i f → IsBroken files f
-  MissingName : (i : Item) → Contains (all_scopes files) i → IsMissingName files (scope_names i) f → IsBroken files f
+  -- the path of an include leads to an interface
+  InterfaceIncluded : (i : Item) → Contains (all_items files) i → (path : UsePath) → Contains (include_paths i) path → is_world_at files (leads i.top path) ≡ Some false → f ≡ fault 11 (path_id path).span → IsBroken files f
+  -- a used name is none of the interface that it comes from
+  MissingName : (i : Item) → Contains (all_scopes files) i → (from : Address) (notes : List Attribute) (n : UseName) → Contains (scope_names i) (Used from notes n) → (target : Item) → item_at (all_items files) from ≡ Some target
+      → meaning (scope_names target) n.name.name.now ≡ None → IsNoType (Contains (flat_map (λ fn. role_names fn.role) (functions target)) n.name.name.now) (fault 13 n.name.span) (missing_at 12 name_word n.name) f → IsBroken files f
   Scope : (i : Item) → Contains (all_scopes files) i → IsBrokenScope (scope_names i) (functions i) f → IsBroken files f
   Sides : (i : Item) → Contains (all_scopes files) i → IsBrokenSides i f → IsBroken files f
   Handle : (i : Item) → Contains (all_scopes files) i → IsNoResource files (address i) (item_types i) f → IsBroken files f

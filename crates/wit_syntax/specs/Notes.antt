@@ -32,19 +32,15 @@ deprecation xs = option_map release_of (told_version Deprecated xs)
 abbrev pub stability_of : List Attribute → Stability
 stability_of xs = option_map_or (λ (since : Version). stability.Stable (release_of since) (deprecation xs)) (told_version Since xs) (option_map_or (λ (feature : List ℕ). stability.Unstable feature (deprecation xs)) (told_text Unstable xs) stability.Unknown)
 
--- the name elsewhere that attributes tell, if they do
-abbrev pub external_id_of : List Attribute → Option (List ℕ)
-external_id_of xs = told_text ExternalId xs
-
 -- what is told of a thing
 pub record Notes : Type 0 where
   pub docs : Docs
   pub stability : Stability
   pub external_id : Option (List ℕ)
 
--- by docs and attributes
+-- by docs and attributes: an external id is the name that the thing has elsewhere
 abbrev pub notes : Docs → List Attribute → Notes
-notes docs xs = record { docs = docs; stability = stability_of xs; external_id = external_id_of xs }
+notes docs xs = record { docs = docs; stability = stability_of xs; external_id = told_text ExternalId xs }
 
 -- nothing is told
 abbrev pub no_notes : Notes
@@ -60,17 +56,11 @@ pub record AreNotes (n : Notes) (d : Docs) (s : Stability) (id : Option (List �
 abbrev pub first_known : List Stability → Stability
 first_known [] = stability.Unknown
 first_known (stability.Unknown ∷ xs) = first_known xs
-first_known (stability.Unstable feature deprecated ∷ xs) = stability.Unstable feature deprecated
-first_known (stability.Stable since deprecated ∷ xs) = stability.Stable since deprecated
+first_known (known ∷ xs) = known
 
 -- an attribute stands behind another one of its kind
-pub record IsTwice (number : ℕ) (kind : AttributeKind) (xs : List Attribute) (f : Fault) : Type 0 where
-  pub place : ℕ
-  pub later : Attribute
-  pub at : slice_get xs place ≡ Some later
-  pub of : is_of kind later ≡ true
-  pub behind : first_of kind (take place xs) ≢ None
-  pub is : f ≡ fault number (attribute_span later)
+abbrev pub IsTwice : ℕ → AttributeKind → List Attribute → Fault → Type 0
+IsTwice number kind xs f = (place : ℕ) × (later : Attribute) × (slice_get xs place ≡ Some later) × (is_of kind later ≡ true) × (first_of kind (take place xs) ≢ None) × (f ≡ fault number (attribute_span later))
 
 -- what is wrong with attributes that tell a stability
 pub data IsBrokenStability (xs : List Attribute) (f : Fault) : Type 0 where

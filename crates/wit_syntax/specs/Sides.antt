@@ -15,14 +15,13 @@ use Rattle.wit_tree.specs.declared.tree.UsePath.{UsePath}
 use Rattle.wit_tree.specs.declared.tree.WorldSide.{WorldSide}
 use Rattle.wit_tree.specs.declared.tree.WorldSide.TheVariants.{Imported, Exported}
 use Rattle.wit_graph.specs.Table.{IsOrder}
-use Rattle.wit_syntax.specs.Address.{Address}
 use Rattle.wit_syntax.specs.Crossing.{same_side}
 use Rattle.wit_syntax.specs.Fault.{Fault, fault}
 use Rattle.wit_syntax.specs.Notes.{IsBrokenNotes}
 use Rattle.wit_syntax.specs.Bodies.{IsSecond}
-use Rattle.wit_syntax.specs.Source.{TopName, path_id, path_scope, TheInline, Part, Defining, Using, Including, Doing, Crossing, Item, item_name, parts, all_items, ScopeName, scope_names}
+use Rattle.wit_syntax.specs.Source.{TopName, path_id, path_scope, TheInline, Part, Defining, Doing, Crossing, Item, item_name, parts, all_items, ScopeName, scope_names}
 use Rattle.wit_syntax.specs.Scope.{rows_of, in_turn}
-use Rattle.wit_syntax.specs.Function.{Role, Freestanding, Method, Static, Constructor, OnSide, SourceFunction, definition_functions, free_function, side_function}
+use Rattle.wit_syntax.specs.Function.{Role, OnSide, SourceFunction, definition_functions, free_function, side_function}
 use Rattle.wit_syntax.specs.Signature.{Called, name_called}
 use Rattle.wit_names.specs.Folded.{folded_key}
 
@@ -81,7 +80,7 @@ abbrev pub item_function : SideItem → List SourceFunction
 item_function (SideFunction fn) = fn ∷ []
 item_function _ = []
 
--- the path of an interface that it is, if it is one
+-- the link that it is, if it is one
 abbrev pub item_link : SideItem → List Link
 item_link (SideLink link) = link ∷ []
 item_link _ = []
@@ -100,10 +99,6 @@ abbrev pub item_inline : SideItem → List Extern
 item_inline (SideInline x name items) = x ∷ []
 item_inline _ = []
 
--- the interfaces that are written in an item, in source order
-abbrev pub inline_externs : Item → List Extern
-inline_externs i = flat_map item_inline (side_items i)
-
 -- what stands on a side, in source order
 abbrev pub items_on : WorldSide → List SideItem → List SideItem
 items_on side items = filter (λ x. same_side side (item_side x)) items
@@ -113,10 +108,6 @@ abbrev pub is_interface : SideItem → Bool
 is_interface (SideFunction fn) = false
 is_interface _ = true
 
--- the interfaces on a side, in source order
-abbrev pub interfaces_on : WorldSide → List SideItem → List SideItem
-interfaces_on side items = filter is_interface (items_on side items)
-
 -- the item that an interface is which is written in another one, where this is its place among the interfaces of its side
 abbrev pub inline_item : Item → ℕ → SideItem → List Item
 inline_item i place (SideInline x name items) = record { top = i.top; declared = TheInline (item_name i) place x name items } ∷ []
@@ -125,7 +116,7 @@ inline_item i place _ = []
 -- the items that are interfaces which are written in an item, behind these: the place of each is how many interfaces stand before it on its side
 abbrev pub inline_behind : Item → List SideItem → List SideItem → List Item
 inline_behind i before [] = []
-inline_behind i before (x ∷ xs) = inline_item i (length (interfaces_on (item_side x) before)) x ++ inline_behind i (before ++ x ∷ []) xs
+inline_behind i before (x ∷ xs) = inline_item i (length (filter is_interface (items_on (item_side x) before))) x ++ inline_behind i (before ++ x ∷ []) xs
 
 -- the interfaces that are written in an item, in source order
 abbrev pub inline_items : Item → List Item
@@ -139,31 +130,24 @@ with_inline i = i ∷ inline_items i
 abbrev pub all_scopes : List PackageFile → List Item
 all_scopes files = flat_map with_inline (all_items files)
 
--- the name that it has: an interface may have none of its own
-abbrev pub id_called : Option Id → List Called
-id_called None = []
-id_called (Some id) = record { name = id.name.now; span = id.span } ∷ []
-
+-- the name that it has: an interface by its path may have none of its own
 abbrev pub item_called : SideItem → List Called
 item_called (SideFunction fn) = record { name = fn.name; span = fn.span } ∷ []
-item_called (SideLink link) = id_called link.name
-item_called (SideInline x name items) = id_called (Some name)
+item_called (SideLink link) = option_map_or (λ (id : Id). (record { name = id.name.now; span = id.span } ∷ [])) link.name []
+item_called (SideInline x name items) = record { name = name.name.now; span = name.span } ∷ []
 
 -- the names of types on a side: all are imported
 abbrev pub names_on : {X : Type 0} → WorldSide → List X → List X
 names_on Imported xs = xs
 names_on Exported xs = []
 
--- the names on a side as they are resolved: those of types in an order of their table, and then those of what stands behind them
+-- the names on a side as they are resolved: those of types in an order of their table, and then those of what stands there behind them
 abbrev pub side_called : WorldSide → List ScopeName → List SideItem → List ℕ → List Called
-side_called side xs items order = map name_called (names_on side (in_turn xs order)) ++ flat_map item_called (items_on side items)
+side_called side xs there order = map name_called (names_on side (in_turn xs order)) ++ flat_map item_called there
 
 -- an earlier name on a side has the key of a later one
-pub record IsFoldedTwice (xs : List ScopeName) (items : List SideItem) (f : Fault) : Type 0 where
-  pub side : WorldSide
-  pub order : List ℕ
-  pub least : IsOrder (rows_of xs) order
-  pub twice : IsSecond (λ (c : Called). folded_key c.name) (λ (c : Called). fault 17 c.span) (side_called side xs items order) f
+abbrev pub IsFoldedTwice : List ScopeName → List SideItem → Fault → Type 0
+IsFoldedTwice xs items f = (side : WorldSide) × (order : List ℕ) × IsOrder (rows_of xs) order × IsSecond (λ (c : Called). folded_key c.name) (λ (c : Called). fault 17 c.span) (side_called side xs (items_on side items) order) f
 
 -- what a world imports or exports under a name
 abbrev pub IsCrossing : SideItem → Type 0
@@ -171,40 +155,24 @@ IsCrossing (SideFunction fn) = (side : WorldSide) × (id : Id) × (form : FuncFo
 IsCrossing _ = ⊤
 
 -- an earlier name on a side is that of an import or an export
-pub record IsCrossedTwice (xs : List ScopeName) (items : List SideItem) (f : Fault) : Type 0 where
-  pub side : WorldSide
-  pub order : List ℕ
-  pub least : IsOrder (rows_of xs) order
-  pub place : ℕ
-  pub later : SideItem
-  pub at : slice_get (items_on side items) place ≡ Some later
-  pub crosses : IsCrossing later
-  pub called : Called
-  pub named : item_called later ≡ called ∷ []
-  pub earlier : Called
-  pub among : Contains (map name_called (names_on side (in_turn xs order)) ++ flat_map item_called (take place (items_on side items))) earlier
-  pub same : earlier.name ≡ called.name
-  pub is : f ≡ fault 44 called.span
-
--- the scope of the interface that is imported or exported by its path alone
-abbrev pub bare_scope : List TopName → SideItem → List Address
-bare_scope top (SideLink link) = option_map_or (λ id. []) link.name (path_scope top link.path ∷ [])
-bare_scope top _ = []
+abbrev pub IsCrossedTwice : List ScopeName → List SideItem → Fault → Type 0
+IsCrossedTwice xs items f = (side : WorldSide) × (order : List ℕ) × IsOrder (rows_of xs) order × (place : ℕ) × (later : SideItem) × (slice_get (items_on side items) place ≡ Some later) × IsCrossing later × (called : Called)
+    × (item_called later ≡ called ∷ []) × (earlier : Called) × Contains (side_called side xs (take place (items_on side items)) order) earlier × (earlier.name ≡ called.name) × (f ≡ fault 44 called.span)
 
 -- an earlier one on a side is the same interface, where both have no name of their own
-pub record IsLinkedTwice (top : List TopName) (items : List SideItem) (f : Fault) : Type 0 where
-  pub side : WorldSide
-  pub place : ℕ
-  pub link : Link
-  pub at : slice_get (items_on side items) place ≡ Some (SideLink link)
-  pub bare : link.name ≡ None
-  pub among : Contains (flat_map (bare_scope top) (take place (items_on side items))) (path_scope top link.path)
-  pub is : f ≡ fault 43 (path_id link.path).span
+abbrev pub IsLinkedTwice : List TopName → List SideItem → Fault → Type 0
+IsLinkedTwice top items f = (side : WorldSide) × (place : ℕ) × (earlier later : Link) × Contains (take place (items_on side items)) (SideLink earlier) × (slice_get (items_on side items) place ≡ Some (SideLink later))
+    × (earlier.name ≡ None) × (later.name ≡ None) × (path_scope top earlier.path ≡ path_scope top later.path) × (f ≡ fault 43 (path_id later.path).span)
+
+-- the attributes in front of an interface, by its path or written there; those of a function are told with it
+abbrev pub interface_attributes : SideItem → List Attribute
+interface_attributes (SideFunction fn) = []
+interface_attributes (SideLink link) = link.attributes
+interface_attributes (SideInline x name items) = x.attributes.items
 
 -- what is wrong with what stands on the sides of an item
 pub data IsBrokenSides (i : Item) (f : Fault) : Type 0 where
   FoldedTwice : IsFoldedTwice (scope_names i) (side_items i) f → IsBrokenSides i f
   CrossedTwice : IsCrossedTwice (scope_names i) (side_items i) f → IsBrokenSides i f
   LinkedTwice : IsLinkedTwice i.top (side_items i) f → IsBrokenSides i f
-  LinkNotes : (link : Link) → Contains (links i) link → IsBrokenNotes link.attributes f → IsBrokenSides i f
-  InlineNotes : (x : Extern) → Contains (inline_externs i) x → IsBrokenNotes x.attributes.items f → IsBrokenSides i f
+  InterfaceNotes : (x : SideItem) → Contains (side_items i) x → IsBrokenNotes (interface_attributes x) f → IsBrokenSides i f

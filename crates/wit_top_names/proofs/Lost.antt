@@ -18,7 +18,7 @@ use Rattle.wit_syntax.specs.Source.{TopName, Target, leads, declared_items, top_
 use Rattle.wit_syntax.specs.Scope.{local_target, item_row, needed_paths}
 use Rattle.wit_syntax.specs.Fault.{Fault, fault}
 use Rattle.wit_syntax.specs.Bodies.{IsSecond}
-use Rattle.wit_syntax.specs.Broken.{IsMissingOriginal, IsBrokenItems, DuplicateTopName, MissingItem}
+use Rattle.wit_syntax.specs.Broken.{IsBrokenItems, DuplicateTopName, MissingItem, IsWrongTop, AttributedUse, LostUse}
 use Rattle.wit_syntax.specs.Repeats.{AllDiffer}
 use Rattle.wit_syntax.proofs.Lists.{at_front, at_back, at_either, map_at}
 use Rattle.wit_syntax.proofs.Names.{name_itself}
@@ -26,7 +26,7 @@ use Rattle.wit_syntax.proofs.Tables.{place_of-Some, none_if}
 use Rattle.wit_syntax.proofs.Found.{contains_at, at_contains}
 use Rattle.wit_syntax.proofs.Rows.{item_row_at}
 use Rattle.wit_top_names.specs.Tops.{item_top}
-use Rattle.wit_top_names.specs.Checks.{AreDistinctTops, AreRightUses, AreRightTops, IsRightUse, IsRepeatedName, IsLostTarget, IsLostAmong, IsWrongFile, WrongTop, WrongPath, IsWrongUse, Attributed, Lost, IsWrongTop, AttributedUse, MissingUse}
+use Rattle.wit_top_names.specs.Checks.{AreDistinctTops, AreRightUses, AreRightTops, IsRightUse, IsRepeatedName, IsLostTarget, IsLostAmong, IsWrongFile, WrongTop, WrongPath, IsWrongUse, Attributed, Lost}
 use Rattle.wit_top_names.proofs.FirstNames.{find_none}
 
 -- what stands in a part stands in the whole
@@ -53,14 +53,7 @@ lost_path files p w f at h =
     let id = h.lost.id in
     let edges : UsePath → List Id = λ path. local_target (leads w.top path) in
     let e = at_flat edges (needed_paths w) k.0 0 h.path id k.1 (ap (λ (t : Target). slice_get (local_target t) 0) h.lost.local) in
-    MissingItem (record {
-      place = p;
-      index = e.0;
-      id = id;
-      edge = (item_row w, item_row_at files p w at, e.1);
-      missing = missing_row (all_items files) id.name.now h.lost.undeclared.missing;
-      is = h.lost.undeclared.is;
-    })
+    MissingItem (p, e.0, id, (item_row w, item_row_at files p w at, e.1), missing_row (all_items files) id.name.now h.lost.undeclared.missing, h.lost.undeclared.is)
 
 pub broken_file : (files : List PackageFile) (i : ℕ) (file : PackageFile) (f : Fault) → slice_get files i ≡ Some file → IsWrongFile (all_items files) file f → IsBrokenItems files f
 broken_file files i file f at (WrongTop h) = DuplicateTopName file (contains_at files i file at) h
@@ -109,22 +102,19 @@ duplicate_item is f h =
       h.2 ∙ ap (λ (t : TopName). fault 5 t.id.span) (sym b.2),
     )
 
-missing_original : (is : List Item) (ds : List AstItem) (i : ℕ) (u : ToplevelUse) (f : Fault) → slice_get ds i ≡ Some (ToplevelItem u) → IsLostTarget is (leads [] u.item) f → IsMissingOriginal is ds f
-missing_original is ds i u f at h = record { u = u; id = h.id; among = contains_at ds i (ToplevelItem u) at; local = h.local; missing = h.undeclared.missing; is = h.undeclared.is }
-
 -- what is wrong with a `use` at the top of a file is wrong there
 pub wrong_top : (is : List Item) (ds : List AstItem) (i : ℕ) (u : ToplevelUse) (f : Fault) → slice_get ds i ≡ Some (ToplevelItem u) → IsWrongUse is u f → IsWrongTop is ds f
-wrong_top is ds i u f at (Attributed some says) = AttributedUse (record { u = u; among = contains_at ds i (ToplevelItem u) at; attributed = some; is = says })
-wrong_top is ds i u f at (Lost lost) = MissingUse (missing_original is ds i u f at lost)
+wrong_top is ds i u f at (Attributed some says) = AttributedUse u (contains_at ds i (ToplevelItem u) at) some says
+wrong_top is ds i u f at (Lost lost) = LostUse u (contains_at ds i (ToplevelItem u) at) lost.id lost.local lost.undeclared.missing lost.undeclared.is
 
 -- where each `use` is right, nothing is wrong with one
 pub no_wrong_top : (is : List Item) (ds : List AstItem) (f : Fault) → AreRightUses is ds → IsWrongTop is ds f → ⊥
-no_wrong_top is ds f uses (AttributedUse h) =
-    let k = at_contains ds (ToplevelItem h.u) h.among in
-    h.attributed (uses.each k.0 h.u k.1).plain
-no_wrong_top is ds f uses (MissingUse h) =
-    let k = at_contains ds (ToplevelItem h.u) h.among in
-    let wrong : IsSome {T = Item} None = subst (λ (o : Option Item). IsSome o) h.missing ((uses.each k.0 h.u k.1).declared h.id h.local) in
+no_wrong_top is ds f uses (AttributedUse u among attributed says) =
+    let k = at_contains ds (ToplevelItem u) among in
+    attributed (uses.each k.0 u k.1).plain
+no_wrong_top is ds f uses (LostUse u among id local missing says) =
+    let k = at_contains ds (ToplevelItem u) among in
+    let wrong : IsSome {T = Item} None = subst (λ (o : Option Item). IsSome o) missing ((uses.each k.0 u k.1).declared id local) in
     cc
 
 -- a path that leads nowhere, alone

@@ -11,7 +11,7 @@ use Rattle.wit_syntax.specs.Source.{TopName, Target, Local, leads, top_names, to
 use Rattle.wit_syntax.specs.Scope.{needed_paths, local_target}
 use Rattle.wit_syntax.specs.Fault.{Fault, fault, missing_at, item_word}
 use Rattle.wit_syntax.specs.Bodies.{IsSecond}
-use Rattle.wit_syntax.specs.Broken.{IsMissingOriginal, IsAttributedTopUse}
+use Rattle.wit_syntax.specs.Broken.{IsWrongTop}
 use Rattle.wit_syntax.specs.Foreign.{ForeignVisit}
 use Rattle.wit_syntax.specs.Notes.{IsBrokenStability}
 use Rattle.wit_syntax.specs.Repeats.{AllDiffer}
@@ -67,11 +67,6 @@ pub data IsWrongUse (is : List Item) (u : ToplevelUse) (f : Fault) : Type 0 wher
 -- each `use` among these declarations is right
 pub record AreRightUses (is : List Item) (declarations : List AstItem) : Type 0 where
   pub each : (k : ℕ) (u : ToplevelUse) → slice_get declarations k ≡ Some (ToplevelItem u) → IsRightUse is u
-
--- what is wrong with one of them
-pub data IsWrongTop (is : List Item) (declarations : List AstItem) (f : Fault) : Type 0 where
-  AttributedUse : IsAttributedTopUse declarations f → IsWrongTop is declarations f
-  MissingUse : IsMissingOriginal is declarations f → IsWrongTop is declarations f
 
 -- nothing is wrong with those of each file
 pub record AreRightTops (is : List Item) (files : List PackageFile) : Type 0 where

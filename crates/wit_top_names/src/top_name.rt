@@ -2,10 +2,10 @@
 ghost use Rattle.std.specs.Prelude.{◌≡◌, ◌++◌, List, [], IsSome, map, IfOk, IfErr, OnOk, codes, string_bytes};
 ghost use Rattle.wit_syntax.specs.Source.{TopName as Top, Item, itself as the_itself, top_name as the_name, top_names as the_names, top_text, leads as the_leads, file_items, all_items, item_name, item_named};
 ghost use Rattle.wit_syntax.specs.Scope.{local_target};
-ghost use Rattle.wit_syntax.specs.Broken.{IsBrokenItems, Refused};
+ghost use Rattle.wit_syntax.specs.Broken.{IsBrokenItems, IsWrongTop, Refused};
 ghost use Rattle.wit_syntax.specs.Repeats.{AllDiffer};
 ghost use Rattle.wit_top_names.specs.Tops.{target_behind, top_behind, item_top, AreNamed, AreDeclared};
-ghost use Rattle.wit_top_names.specs.Checks.{AreRightUses, IsDeclaredTarget, IsRepeatedName, IsRightUse, IsUndeclared, IsLostTarget, IsWrongTop, IsWrongUse};
+ghost use Rattle.wit_top_names.specs.Checks.{AreRightUses, IsDeclaredTarget, IsRepeatedName, IsRightUse, IsUndeclared, IsLostTarget, IsWrongUse};
 
 use crate::declaration::declarations;
 use std::alloc::{AllocError, Global};

@@ -10,7 +10,7 @@ use Rattle.wit_syntax.specs.Scope.{in_turn}
 use Rattle.wit_syntax.specs.Signature.{Called, name_called}
 use Rattle.wit_tree.specs.declared.tree.WorldSide.{WorldSide}
 use Rattle.wit_tree.specs.declared.tree.WorldSide.TheVariants.{Imported, Exported}
-use Rattle.wit_syntax.specs.Sides.{SideItem, SideFunction, SideLink, SideInline, id_called, item_called, items_on, names_on, side_called}
+use Rattle.wit_syntax.specs.Sides.{SideItem, SideFunction, SideLink, SideInline, item_called, items_on, names_on, side_called}
 use Rattle.wit_refusals.specs.Names.{Name}
 use Rattle.wit_signatures.specs.Taken.{name_of_id, name_key}
 use Rattle.wit_externs.specs.Clash.{item_names, names_of_items, all_on}
@@ -20,7 +20,7 @@ use Rattle.wit_syntax.proofs.Repeated.{called_key}
 abbrev pub called : Name → Called
 called n = record { name = n.0; span = n.1 }
 
-called_id : (o : Option Id) → map called (option_map_or (λ id. name_of_id id ∷ []) o []) ≡ id_called o
+called_id : (o : Option Id) → map called (option_map_or (λ id. name_of_id id ∷ []) o []) ≡ option_map_or (λ (id : Id). (record { name = id.name.now; span = id.span } ∷ [])) o []
 called_id None = refl
 called_id (Some id) = refl
 
@@ -57,5 +57,5 @@ keys_called [] = refl
 keys_called (n ∷ ns) = ap (λ l. name_key n ∷ l) (keys_called ns)
 
 -- where the keys of what is taken on a side differ, so do those of all that is called there
-pub differ_called : (side : WorldSide) (xs : List ScopeName) (items : List SideItem) (order : List ℕ) (ids : List Id) → ids ≡ map local_id (in_turn xs order) → AllDiffer (map name_key (all_on side ids items)) → AllDiffer (map called_key (side_called side xs items order))
+pub differ_called : (side : WorldSide) (xs : List ScopeName) (items : List SideItem) (order : List ℕ) (ids : List Id) → ids ≡ map local_id (in_turn xs order) → AllDiffer (map name_key (all_on side ids items)) → AllDiffer (map called_key (side_called side xs (items_on side items) order))
 differ_called side xs items order ids are h = subst AllDiffer (sym (keys_called (all_on side ids items)) ∙ ap (map called_key) (all_taken side xs (items_on side items) order ids are)) h

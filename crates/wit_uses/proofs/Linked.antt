@@ -12,7 +12,7 @@ use Rattle.wit_syntax.specs.Fault.{Fault}
 use Rattle.wit_syntax.specs.Repeats.{AllDiffer}
 use Rattle.wit_syntax.specs.Crossing.{same_side}
 use Rattle.wit_syntax.specs.Source.{TopName, path_scope}
-use Rattle.wit_syntax.specs.Sides.{Link, SideItem, SideFunction, SideLink, SideInline, item_side, items_on, bare_scope, IsLinkedTwice}
+use Rattle.wit_syntax.specs.Sides.{Link, SideItem, SideLink, item_side, items_on, IsLinkedTwice}
 use Rattle.wit_syntax.proofs.Lists.{at_front, at_back, at_take, flat_map_at, flat_map_has, map_at}
 use Rattle.wit_syntax.proofs.Found.{at_contains, contains_at}
 use Rattle.wit_syntax.proofs.Kept.{kept_at}
@@ -75,22 +75,6 @@ bare_of (held.Inline i) m id at = absurd (let f : ⊥ = cc in f)
 bare_has : (l : HeldLink) (id : ℕ) → l.name ≡ None → l.led ≡ led.Interface id → slice_get (bare_place (held.Link l)) 0 ≡ Some id
 bare_has l id bare leads = ap (λ (o : Option Id). slice_get (option_map_or (λ x. []) o (led_places l.led)) 0) bare ∙ ap (λ (to : Led). slice_get (led_places to) 0) leads
 
--- the scope of a bare link is the one that its path leads to
-scope_bare : (name : Option Id) (to s : Address) (m : ℕ) → slice_get (option_map_or (λ x. []) name (to ∷ [])) m ≡ Some s → (name ≡ None) × (to ≡ s)
-scope_bare (Some x) to s m at = absurd (let f : ⊥ = cc in f)
-scope_bare None to s zero at = (refl, (let same : to ≡ s = cc in same))
-scope_bare None to s (suc m) at = absurd (let f : ⊥ = cc in f)
-
-scope_of : (top : List TopName) (x : SideItem) (m : ℕ) (s : Address) → slice_get (bare_scope top x) m ≡ Some s → (link : Link) × (x ≡ SideLink link) × (link.name ≡ None) × (path_scope top link.path ≡ s)
-scope_of top (SideFunction fn) m s at = absurd (let f : ⊥ = cc in f)
-scope_of top (SideLink link) m s at =
-    let it = scope_bare link.name (path_scope top link.path) s m at in
-    (link, refl, it.0, it.1)
-scope_of top (SideInline x name items) m s at = absurd (let f : ⊥ = cc in f)
-
-scope_has : (top : List TopName) (link : Link) → link.name ≡ None → slice_get (bare_scope top (SideLink link)) 0 ≡ Some (path_scope top link.path)
-scope_has top link bare = ap (λ (o : Option Id). slice_get (option_map_or (λ x. []) o (path_scope top link.path ∷ [])) 0) bare
-
 -- the link that is held where a link stands
 pub link_of : (h : HeldExtern) (link : Link) → extern_behind h ≡ SideLink link → (l : HeldLink) × (h ≡ held.Link l) × (link_behind l ≡ link)
 link_of (held.Function f) link is = absurd (let f : ⊥ = cc in f)
@@ -120,43 +104,40 @@ module _ (interfaces : List Address) (top : List TopName) (hs : List HeldExtern)
       let other = placed.called now.0 h.link h.id now.1 h.leads in
       let same : path_scope top l.path.now ≡ path_scope top h.link.path.now = cc in
       let stands : slice_get (externs_behind front) from.0 ≡ Some (SideLink (link_behind l)) = slice_get-map extern_behind front from.0 ∙ ap (option_map extern_behind) early in
-      let has = flat_map_has (bare_scope top) (externs_behind front) from.0 0 (SideLink (link_behind l)) (path_scope top h.link.path.now) stands (scope_has top (link_behind l) own.2 ∙ ap Some same) in
-      let items : take h.place (items_on h.side (externs_behind hs)) ≡ externs_behind front = ap (take h.place) (held_items h.side hs) ∙ take-map extern_behind h.place here in
-      record {
-        side = h.side;
-        place = h.place;
-        link = link_behind h.link;
-        at = ap (λ (l : List SideItem). slice_get l h.place) (held_items h.side hs) ∙ slice_get-map extern_behind here h.place ∙ ap (option_map extern_behind) h.at;
-        bare = h.bare;
-        among = subst (λ (l : List SideItem). Contains (flat_map (bare_scope top) l) (path_scope top h.link.path.now)) (sym items) (contains_at (flat_map (bare_scope top) (externs_behind front)) has.0 (path_scope top h.link.path.now) has.1);
-        is = h.is;
-      }
+      let items : take h.place (items_on h.side (externs_behind hs)) ≡ externs_behind front = ap (take h.place) (held_items h.side hs) ∙ take-map extern_behind h.place here in (
+        h.side,
+        h.place,
+        link_behind l,
+        link_behind h.link,
+        subst (λ (xs : List SideItem). Contains xs (SideLink (link_behind l))) (sym items) (contains_at (externs_behind front) from.0 (SideLink (link_behind l)) stands),
+        ap (λ (xs : List SideItem). slice_get xs h.place) (held_items h.side hs) ∙ slice_get-map extern_behind here h.place ∙ ap (option_map extern_behind) h.at,
+        own.2,
+        h.bare,
+        same,
+        h.is,
+      )
 
   -- where the places of bare links differ on a side, no two paths lead to one scope
   pub none_linked : AreRightLinks hs → ((side : WorldSide) → AllDiffer (bare_places (held_on side hs))) → (f : Fault) → IsLinkedTwice top (externs_behind hs) f → ⊥
   none_linked right apart f h =
-      let here = held_on h.side hs in
-      let items : items_on h.side (externs_behind hs) ≡ externs_behind here = held_items h.side hs in
-      let s = path_scope top h.link.path in
-      let it = at_contains (flat_map (bare_scope top) (take h.place (externs_behind here))) s (subst (λ (l : List SideItem). Contains (flat_map (bare_scope top) (take h.place l)) s) items h.among) in
-      let from = flat_map_at (bare_scope top) (take h.place (externs_behind here)) it.0 s it.1 in
-      let own = scope_of top from.1 from.3.0 s from.3.1 in
-      let early = at_take (externs_behind here) h.place from.0 from.1 from.2 in
-      let first = map_at extern_behind here from.0 from.1 early.0 in
-      let second = map_at extern_behind here h.place (SideLink h.link) (ap (λ (l : List SideItem). slice_get l h.place) (sym items) ∙ h.at) in
-      let a = link_of first.0 own.0 (first.2 ∙ own.1) in
-      let b = link_of second.0 h.link second.2 in
+      let here = held_on h.0 hs in
+      let items : items_on h.0 (externs_behind hs) ≡ externs_behind here = held_items h.0 hs in
+      let from = at_contains (take h.1 (externs_behind here)) (SideLink h.2) (subst (λ (l : List SideItem). Contains (take h.1 l) (SideLink h.2)) items h.4) in
+      let early = at_take (externs_behind here) h.1 from.0 (SideLink h.2) from.1 in
+      let first = map_at extern_behind here from.0 (SideLink h.2) early.0 in
+      let second = map_at extern_behind here h.1 (SideLink h.3) (ap (λ (l : List SideItem). slice_get l h.1) (sym items) ∙ h.5) in
+      let a = link_of first.0 h.2 first.2 in
+      let b = link_of second.0 h.3 second.2 in
       let at_a : slice_get here from.0 ≡ Some (held.Link a.0) = first.1 ∙ ap Some a.1 in
-      let at_b : slice_get here h.place ≡ Some (held.Link b.0) = second.1 ∙ ap Some b.1 in
-      let in_a = on_held h.side hs from.0 (held.Link a.0) at_a in
-      let in_b = on_held h.side hs h.place (held.Link b.0) at_b in
+      let at_b : slice_get here h.1 ≡ Some (held.Link b.0) = second.1 ∙ ap Some b.1 in
+      let in_a = on_held h.0 hs from.0 (held.Link a.0) at_a in
+      let in_b = on_held h.0 hs h.1 (held.Link b.0) at_b in
       let right_a = right.each in_a.0 a.0 in_a.1 in
       let right_b = right.each in_b.0 b.0 in_b.1 in
-      let scope_a : path_scope top a.0.path.now ≡ s = ap (λ (l : Link). path_scope top l.path) a.2 ∙ own.3 in
-      let scope_b : path_scope top b.0.path.now ≡ s = ap (λ (l : Link). path_scope top l.path) b.2 in
+      let scopes : path_scope top a.0.path.now ≡ path_scope top b.0.path.now = ap (λ (l : Link). path_scope top l.path) a.2 ∙ h.8 ∙ sym (ap (λ (l : Link). path_scope top l.path) b.2) in
       let same : right_a.place ≡ right_b.place =
-      placed.stands in_a.0 a.0 right_a.place in_a.1 right_a.leads ∙ ap placed.place (scope_a ∙ sym scope_b) ∙ sym (placed.stands in_b.0 b.0 right_b.place in_b.1 right_b.leads)
+      placed.stands in_a.0 a.0 right_a.place in_a.1 right_a.leads ∙ ap placed.place scopes ∙ sym (placed.stands in_b.0 b.0 right_b.place in_b.1 right_b.leads)
       in
-      let bare_a : a.0.name ≡ None = ap (λ (l : Link). l.name) a.2 ∙ own.2 in
-      let bare_b : b.0.name ≡ None = ap (λ (l : Link). l.name) b.2 ∙ h.bare in
-      brought_twice bare_place here from.0 h.place (held.Link a.0) (held.Link b.0) right_b.place early.1 at_a at_b (bare_has a.0 right_a.place bare_a right_a.leads ∙ ap Some same) (bare_has b.0 right_b.place bare_b right_b.leads) (apart h.side)
+      let bare_a : a.0.name ≡ None = ap (λ (l : Link). l.name) a.2 ∙ h.6 in
+      let bare_b : b.0.name ≡ None = ap (λ (l : Link). l.name) b.2 ∙ h.7 in
+      brought_twice bare_place here from.0 h.1 (held.Link a.0) (held.Link b.0) right_b.place early.1 at_a at_b (bare_has a.0 right_a.place bare_a right_a.leads ∙ ap Some same) (bare_has b.0 right_b.place bare_b right_b.leads) (apart h.0)

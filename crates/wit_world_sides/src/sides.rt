@@ -3,13 +3,15 @@
 ghost use Rattle.std.specs.Prelude.{◌≡◌, ◌<◌, ◌++◌, List, IfOk, OnOk, length, map};
 ghost use Rattle.std.specs.List.{flat_map};
 ghost use Rattle.indexmap.specs.IndexMap.{insert_entry};
+ghost use Rattle.wit_type_tree.specs.Attributes.{told_text};
+ghost use Rattle.wit_type_tree.specs.declared.attribute_kind.AttributeKind.TheVariants.{ExternalId};
 ghost use Rattle.wit_tree.specs.declared.tree.Include.{Include};
 ghost use Rattle.wit_tree.specs.declared.tree.WorldSide.{WorldSide as TheSide};
 ghost use Rattle.wit_tree.specs.declared.tree.WorldSide.TheVariants.{Imported, Exported};
 ghost use Rattle.wit_model.specs.declared.world.WorldKey.TheVariants.{Name};
 ghost use Rattle.wit_model.specs.declared.world.WorldItem.TheVariants.{Interface as InterfaceItem, Type_ as TypeItem};
 ghost use Rattle.wit_model.specs.contracts.world.WorldKeyPartialEq.TheImpl.{eq-value as key_test};
-ghost use Rattle.wit_syntax.specs.Notes.{external_id_of, stability_of};
+ghost use Rattle.wit_syntax.specs.Notes.{stability_of};
 ghost use Rattle.wit_syntax.specs.Repeats.{AllDiffer};
 ghost use Rattle.wit_syntax.specs.Sides.{item_function, item_inline};
 ghost use Rattle.wit_syntax.specs.Source.{ScopeName, local_id};
@@ -154,7 +156,7 @@ fn interface_item(
     docs: Docs,
     span: Span,
 ) -> Result<WorldItem, AllocError>
-    ensures { IfOk result (λ item. item ≡ InterfaceItem id (stability_of attributes.now) (external_id_of attributes.now) docs span) }
+    ensures { IfOk result (λ item. item ≡ InterfaceItem id (stability_of attributes.now) (told_text ExternalId attributes.now) docs span) }
 {
     if attributes.len() == 0 {
         return Ok(WorldItem::Interface {

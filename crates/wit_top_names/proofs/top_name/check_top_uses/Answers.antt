@@ -7,10 +7,11 @@ use Rattle.wit_tree.specs.declared.tree.ToplevelUse.{ToplevelUse}
 use Rattle.wit_tree.specs.declared.tree.AstItem.{AstItem}
 use Rattle.wit_tree.specs.declared.tree.AstItem.TheVariants.{Use as ToplevelItem}
 use Rattle.wit_syntax.proofs.Refusing.{refused_weaker}
-use Rattle.wit_top_names.specs.Checks.{IsRightUse, IsWrongUse, IsWrongTop}
+use Rattle.wit_top_names.specs.Checks.{IsRightUse, IsWrongUse}
 use Rattle.wit_top_names.proofs.Lost.{uses_right_more, wrong_top}
 use Rattle.wit_top_names.proofs.top_name.check_top_uses.Goals.{in-Use+in_ok-check_top_use, in_default}
 use Rattle.wit_top_names.proofs.top_name.check_top_uses.Goals as goal
+use Rattle.wit_syntax.specs.Broken.{IsWrongTop}
 
 pub returns-in_err-check_top_use-clause-refused : goal.returns-in_err-check_top_use-clause-refused
 returns-in_err-check_top_use-clause-refused g c =

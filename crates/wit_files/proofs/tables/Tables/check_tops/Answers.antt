@@ -4,9 +4,9 @@ use Rattle.std.proofs.lemmas.List.{take_more, take_all}
 use Rattle.std.proofs.lemmas.Option.{slice_get-get_or}
 use Rattle.std.proofs.lemmas.Result.{err_from_is_err_and}
 use Rattle.wit_syntax.specs.Source.{all_items}
-use Rattle.wit_syntax.specs.Broken.{IsBrokenNames}
+use Rattle.wit_syntax.specs.Broken.{IsBrokenNames, IsWrongTop}
 use Rattle.wit_syntax.proofs.Refusing.{refused_weaker}
-use Rattle.wit_top_names.specs.Checks.{AreRightTops, IsWrongTop}
+use Rattle.wit_top_names.specs.Checks.{AreRightTops}
 use Rattle.wit_top_names.proofs.Lost.{tops_right_none, tops_right_more}
 use Rattle.wit_files.proofs.Gathering.{broken_top}
 use Rattle.wit_files.proofs.tables.Tables.check_tops.Goals as goal
