@@ -1,5 +1,5 @@
 -- One arena of types is the list of some first meetings.
-use Rattle.std.proofs.Common.{◌≡◌, ℕ, List, length, take, Option, Some, sym, ap, ◌∙◌, subst, arith}
+use Rattle.std.proofs.Common.{◌≡◌, ℕ, List, length, take, Option, Some, sym, ap, ◌∙◌, subst, arith, None}
 use Rattle.std.specs.Prelude.{slice_get, map}
 use Rattle.std.specs.Option.{option_map}
 use Rattle.std.proofs.lemmas.List.{length-map}

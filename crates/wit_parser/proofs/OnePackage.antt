@@ -23,7 +23,7 @@ use Rattle.wit_syntax.specs.Broken.{IsLegal}
 use Rattle.wit_syntax.specs.Ends.{AtResource, AtForeign}
 use Rattle.wit_syntax.specs.Foreign.{foreign_interfaces, foreign_worlds}
 use Rattle.wit_syntax.specs.Repeats.{AllDiffer}
-use Rattle.wit_syntax.specs.Source.{local_name}
+use Rattle.wit_syntax.specs.Source.{local_name, ScopeName}
 use Rattle.wit_syntax.specs.Trees.{scope}
 use Rattle.wit_syntax.proofs.Repeated.{differ_at}
 use Rattle.wit_arena.specs.Meet.{Key, Def, Meeting, keys, IsMeeting}
